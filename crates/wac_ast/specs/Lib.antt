@@ -1,0 +1,15 @@
+pub mod Version
+pub mod Tree
+pub mod Tokens
+pub mod Grammar
+pub mod Reading
+pub mod Viable
+pub mod Possible
+pub mod Bodies
+pub mod Stopped
+pub mod Error
+pub mod Lookahead
+pub mod Answer
+pub mod Document
+pub mod Slices
+pub mod Views

@@ -1,0 +1,31 @@
+-- What a device of bytes does at a call. It counts its failures: the calls that moved no byte.
+use Rattle.std.specs.Prelude.{◌≡◌, ℕ, ◌+◌, ◌≤◌, ◌<◌, List, ◌++◌, length, take, Option, Some, None}
+use Rattle.std.specs.Io.KnownBytes.{Appends, Consumes, IsAtEnd, Keeps}
+
+-- a device over a writer or a reader
+pub record Device : Type 0 where
+  -- the bytes that it has moved, in order
+  pub moved : List ℕ
+  pub failures : ℕ
+  -- where they are known, the bytes that the writer holds, or that the reader has yet to give
+  pub known : Option (List ℕ)
+
+-- the first n bytes of a slice were appended, more than none unless it is empty; or no byte, and one failure more
+abbrev pub PutGives : List ℕ → ℕ → List ℕ → Option ℕ → List ℕ → ℕ → Type 0
+PutGives old failed put (Some n) new failed' = (n ≤ length put) × (0 < length put → 0 < n) × (new ≡ old ++ take n put) × (failed' ≡ failed)
+PutGives old failed put None new failed' = (new ≡ old) × (failed' ≡ failed + 1)
+
+-- the bytes that a writer holds, where they are known, grew by what was put
+abbrev pub PutGrows : Option (List ℕ) → List ℕ → Option ℕ → Option (List ℕ) → Type 0
+PutGrows old put (Some n) new = Appends old new (take n put)
+PutGrows old put None new = Keeps old new
+
+-- the next n bytes stand at a slice's front; or no byte was taken, and one failure more
+abbrev pub TakeGives : List ℕ → ℕ → List ℕ → Option ℕ → List ℕ → ℕ → Type 0
+TakeGives old failed got (Some n) new failed' = (n ≤ length got) × (new ≡ old ++ take n got) × (failed' ≡ failed)
+TakeGives old failed got None new failed' = (new ≡ old) × (failed' ≡ failed + 1)
+
+-- the bytes left, where they are known, begin with what was taken, and none is taken only at their end or into an empty slice
+abbrev pub TakeLeaves : Option (List ℕ) → List ℕ → Option ℕ → Option (List ℕ) → Type 0
+TakeLeaves old got (Some n) new = Consumes old new (take n got) × (n ≡ 0 → 0 < length got → IsAtEnd new)
+TakeLeaves old got None new = Keeps old new
