@@ -20,4 +20,4 @@ pub mod Docs
 pub mod Loops
 pub mod Spans
 pub mod Whole
-pub mod SlicesOfTrees
+pub mod Sliced

@@ -11,5 +11,5 @@ pub mod Error
 pub mod Lookahead
 pub mod Answer
 pub mod Document
-pub mod Slices
 pub mod Views
+pub mod Slicing

@@ -13,12 +13,12 @@ ghost use Rattle.wac_ast.specs.Error.{told_by};
 ghost use Rattle.wac_ast.specs.Tree.{Document as Tree};
 ghost use Rattle.wac_ast.specs.Answer.{Gives};
 ghost use Rattle.wac_ast.specs.Document.{IsTreeOf, ErrorOf, Parses};
-ghost use Rattle.wac_ast.specs.Slices.{DocumentSlices};
 ghost use Rattle.wac_lexer.specs.Span.{end_of};
 ghost use Rattle.wac_ast.specs.Lookahead.{Peeks};
 ghost use Rattle.wac_ast.specs.Reading.{begins, read};
 ghost use Rattle.wac_ast.specs.Grammar.{identifier};
 ghost use Rattle.wac_ast.specs.Grammar as symbols;
+ghost use Rattle.wac_ast.specs.Slicing.{DocumentSlices};
 ghost use Rattle.wac_ast.specs.Views.{directive_of, statement_of, document_of};
 
 use crate::error::ParseResult;
@@ -29,7 +29,7 @@ pub use expr::{AccessExpr, Expr, PostfixExpr, PrimaryExpr};
 pub use import::PackageName;
 pub use let_statement::LetStatement;
 use std::alloc::Global;
-use wac_lexer::{Lexer, SourceSpan, Token, items_stand_in_order};
+use wac_lexer::{Lexer, SourceSpan, Token};
 
 /// A document.
 #[derive(Debug, Drop)]
@@ -56,10 +56,10 @@ impl<'a> Document<'a> {
         ensures one { (t u : Tree) → IsTreeOf source.now t → IsTreeOf source.now u → t ≡ u }
         // An error tells of the first place where no document goes on.
         ensures error { IfErr result (λ e. (e ≡ Memory alloc_error) ⊎ ErrorOf (told_by e) source.now) }
-        // The spans of the tree's names, strings and paths slice the source.
+        // The spans that printing reads stand in the text, and cut no character.
         ensures slices { IfOk result (λ d. DocumentSlices source.now (document_of d)) }
     {
-        items_stand_in_order();
+        wac_lexer::items_stand_in_order();
         parse_document(alloc, source)
     }
 }

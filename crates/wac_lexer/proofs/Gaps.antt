@@ -1,9 +1,9 @@
 -- One step over the blanks and comments of a gap.
-use Rattle.std.proofs.Common.{◌≡◌, ℕ, zero, suc, ◌+◌, ◌-◌, ◌<◌, ◌≤◌, Bool, true, false, cond, List, [], ◌∷◌, drop, length, sym, refl, ap, ◌∙◌, subst, arith, Option, Some, None, add-zero}
+use Rattle.std.proofs.Common.{◌≡◌, ℕ, zero, suc, ◌+◌, ◌-◌, ◌<◌, ◌≤◌, false, cond, List, drop, length, sym, ap, ◌∙◌, arith, Some, None, add-zero}
 use Rattle.std.specs.Prelude.{◌==◌}
 use Rattle.std.proofs.lemmas.List.{drop-drop, drop_all, length-drop}
 use Rattle.std.proofs.lemmas.Bool.{ne_eqb}
-use Rattle.wac_lexer.specs.Comments.{behind, block_len, part_len, parts_len, gap}
+use Rattle.wac_lexer.specs.Comments.{behind, block_len, part_len, parts_len}
 
 abbrev next_part : ℕ → ℕ → List ℕ → ℕ
 next_part p m t = p + cond (p == 0) 0 (parts_len m (drop p t))

@@ -1,5 +1,5 @@
 -- One step of the test of a source's characters.
-use Rattle.std.proofs.Common.{add-zero, zero-add, add_assoc, ◌≡◌, ℕ, ◌+◌, List, [], ◌∷◌, ◌++◌, length, sym, refl, ap, ◌∙◌, Option, Some, None, cond}
+use Rattle.std.proofs.Common.{add-zero, zero-add, add_assoc, ◌≡◌, ℕ, ◌+◌, List, [], ◌∷◌, ◌++◌, length, sym, refl, ap, ◌∙◌, Option, Some, None}
 use Rattle.std.specs.Prelude.{MatchOption, sum_by}
 use Rattle.std.specs.List.{AllByRecursion}
 use Rattle.std.specs.Char.{encode_utf8, len_utf8}

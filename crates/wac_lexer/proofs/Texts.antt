@@ -1,17 +1,11 @@
 -- The tokens' tables and patterns: what the texts of a table and of a pattern are.
-use Rattle.std.proofs.Common.{◌≡◌, ℕ, zero, suc, ◌+◌, ◌-◌, ◌<◌, ◌≤◌, Bool, true, false, cond, List, [], ◌∷◌, ◌++◌, map, take, length, get_or, sym, refl, ap, ◌∙◌, subst, inl, inr, ⊎_elim, arith, Option, Some, None}
-use Rattle.std.specs.Prelude.{◌&&◌, ◌||◌, nat_eq, nat_lt, nat_le, ◌⊎◌, is_some}
-use Rattle.std.specs.List.{concat, AllByRecursion}
-use Rattle.std.specs.Str.{bytes_eq, IsAscii}
-use Rattle.std.proofs.lemmas.Bool.{and_parts, eqb-true, eq-eqb, false≢true, true≢false, cases_Bool, ltb-true, leb-true, and_from}
-use Rattle.std.proofs.lemmas.Str.{IsAscii-append}
-use Rattle.std.proofs.lemmas.Str.Ascii.{IsAscii-nil, IsAscii-cons}
-use Rattle.wac_lexer.specs.Pattern.{Pattern, Matches, matches}
-use Rattle.wac_lexer.specs.Pattern.Pattern.{Nothing, Empty, Range, Then, Or, Many}
+use Rattle.std.proofs.Common.{◌≡◌, ℕ, Bool, true, false, cond, List, [], ◌∷◌, ◌++◌, map, sym, refl, ap, ◌∙◌, subst, inl, inr, ⊎_elim, arith, Option, Some, None}
+use Rattle.std.specs.Prelude.{◌&&◌, nat_eq, nat_le, is_some}
+use Rattle.std.specs.Str.{bytes_eq}
+use Rattle.std.proofs.lemmas.Bool.{and_parts, eqb-true, eq-eqb, false≢true, true≢false, cases_Bool, leb-true, and_from}
+use Rattle.wac_lexer.specs.Pattern.{Matches, matches}
 use Rattle.wac_lexer.specs.Words.{find, keywords, symbols, fixed_texts}
-use Rattle.wac_lexer.specs.Shapes.{byte, literal, any_of, shape_of, pattern_of, id, package_name, package_path, quoted, symbol}
-use Rattle.wac_lexer.specs.Tokens.{token_of, longest_token}
-use Rattle.wac_lexer.specs.Front.{longest}
+use Rattle.wac_lexer.specs.Shapes.{literal, any_of, shape_of, pattern_of, id, package_name, package_path, quoted, symbol}
 use Rattle.wac_lexer.specs.declared.token.Token.{Token}
 use Rattle.wac_lexer.specs.declared.token.Token.TheVariants.{Ident, PackageName, PackagePath, String}
 use Rattle.wac_lexer.specs.declared.shape.Shape.{Shape}

@@ -1,12 +1,12 @@
 -- The items behind a place, unfolded once: the first one, and the items behind it.
-use Rattle.std.proofs.Common.{◌≡◌, ℕ, zero, suc, ◌+◌, ◌<◌, ◌≤◌, Bool, true, false, cond, List, [], ◌∷◌, ◌++◌, take, drop, length, sym, refl, ap, ◌∙◌, subst, arith, Option, Some, None, Result, Ok, Err, append_assoc}
+use Rattle.std.proofs.Common.{◌≡◌, ℕ, zero, suc, ◌+◌, ◌<◌, ◌≤◌, List, [], ◌∷◌, ◌++◌, take, drop, length, sym, refl, ap, ◌∙◌, subst, arith, Option, Some, None, Result, Err, append_assoc}
 use Rattle.std.specs.Prelude.{slice_get, slice_index, nat_eq, nat_lt, ◌==◌}
 use Rattle.std.specs.Char.{len_utf8}
 use Rattle.std.specs.Str.{chars}
 use Rattle.std.proofs.lemmas.List.{drop_all}
 use Rattle.std.proofs.lemmas.Bool.{cond_both}
-use Rattle.wac_lexer.specs.Span.{Span, span, end_of}
-use Rattle.wac_lexer.specs.Item.{Item, handed, behind_first, OnFirst}
+use Rattle.wac_lexer.specs.Span.{span, end_of}
+use Rattle.wac_lexer.specs.Item.{Item, behind_first, OnFirst}
 use Rattle.wac_lexer.specs.Tokens.{token_of, longest_token}
 use Rattle.wac_lexer.specs.Comments.{gap, opens}
 use Rattle.wac_lexer.specs.Docs.{docs_at}

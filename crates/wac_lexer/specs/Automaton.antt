@@ -1,5 +1,5 @@
--- The states of the walk over a text.
-use Rattle.std.specs.Prelude.{ℕ, Bool, true, false, ◌&&◌, ◌||◌, nat_le, nat_eq, if◌then◌else◌, Option, Some, None}
+-- The states of the walk over a text, as the code has them. What a token is stands in Shapes and Tokens, which know nothing of them.
+use Rattle.std.specs.Prelude.{ℕ, ◌&&◌, ◌||◌, nat_le, nat_eq, if◌then◌else◌, Option, Some, None}
 use Rattle.wac_lexer.specs.declared.shape.Shape.{Shape}
 use Rattle.wac_lexer.specs.declared.shape.Shape.TheVariants as shapes
 use Rattle.wac_lexer.specs.declared.automaton.Class.{Class}

@@ -1,5 +1,5 @@
 -- The characters that a source may not have.
-use Rattle.std.specs.Prelude.{◌≡◌, ℕ, ◌+◌, ◌++◌, sum_by, Bool, ◌&&◌, ◌||◌, nat_eq, nat_lt, nat_le, List, [], ◌∷◌, if◌then◌else◌, Option, Some, None}
+use Rattle.std.specs.Prelude.{◌≡◌, refl, ℕ, ◌+◌, ◌++◌, sum_by, Bool, ◌&&◌, ◌||◌, nat_eq, nat_lt, nat_le, List, [], ◌∷◌, if◌then◌else◌, Option, Some, None}
 use Rattle.std.specs.Char.{len_utf8}
 use Rattle.std.specs.List.{AllByRecursion}
 use Rattle.std.specs.Str.{chars}
@@ -50,3 +50,8 @@ pub record IsFirstRefused (text : List ℕ) (fault : Error) (at : Span) : Type 0
   pub passed : AllByRecursion (λ c. fault_of c ≡ None) before
   pub is : fault_of character ≡ Some fault
   pub place : at ≡ span (sum_by len_utf8 before) (len_utf8 character)
+
+-- an example: TAB passes, and behind it U+202A is refused
+override : refused (9 ∷ 0xe2 ∷ 0x80 ∷ 0xaa ∷ []) ≡ Some (DisallowedBidirectionalOverride 0x202a, span 1 3)
+unfolding chars
+override = refl

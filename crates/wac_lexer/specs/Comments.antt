@@ -1,6 +1,6 @@
 -- Block comments, which nest.
 use Rattle.std.specs.List.{prefix_len}
-use Rattle.std.specs.Prelude.{◌≡◌, ℕ, zero, suc, ◌+◌, ◌-◌, Bool, true, false, ◌&&◌, ◌||◌, not, ◌==◌, slice_index, nat_eq, List, [], ◌∷◌, ◌++◌, length, drop, Option, Some, None, if◌then◌else◌}
+use Rattle.std.specs.Prelude.{◌≡◌, refl, codes, ℕ, zero, suc, ◌+◌, ◌-◌, Bool, true, false, ◌&&◌, ◌||◌, not, ◌==◌, slice_index, nat_eq, List, [], ◌∷◌, length, drop, Option, Some, None, if◌then◌else◌}
 
 -- whether a text begins with these two bytes
 abbrev pub begins : ℕ → ℕ → List ℕ → Bool
@@ -63,3 +63,10 @@ parts_len (suc n) text = part_len text + (if part_len text == 0 then 0 else part
 -- how many bytes stand before the first item
 abbrev pub gap : List ℕ → ℕ
 gap text = parts_len (length text) text
+
+-- examples
+gap_of_three_parts : gap (codes " // x\n/* a /* b */ */c") ≡ 21
+gap_of_three_parts = refl
+
+gap_before_an_open_comment : gap (codes " /* a /* b */") ≡ 1
+gap_before_an_open_comment = refl

@@ -1,7 +1,8 @@
 -- The documentation comments of a place.
-use Rattle.std.specs.Prelude.{ℕ, zero, suc, ◌+◌, ◌-◌, List, [], ◌∷◌, ◌++◌, take, drop, length, codes, Bool, Option, Some, None, if◌then◌else◌, ◌==◌, ◌&&◌}
-use Rattle.std.specs.Str.{bytes_eq, trim}
-use Rattle.wac_lexer.specs.Span.{Span, span}
+use Rattle.std.specs.Prelude.{◌≡◌, refl, ℕ, zero, suc, ◌+◌, ◌-◌, List, [], ◌∷◌, ◌++◌, take, drop, length, codes, Bool, Option, Some, None, if◌then◌else◌, ◌==◌, ◌&&◌}
+use Rattle.std.specs.Char.{encode_utf8}
+use Rattle.std.specs.Str.{bytes_eq, chars, trim, trim_start, trim_end}
+use Rattle.wac_lexer.specs.Span.{span}
 use Rattle.wac_lexer.specs.Item.{Doc}
 use Rattle.wac_lexer.specs.Comments.{part_len}
 
@@ -17,6 +18,18 @@ doc_text comment =
     let text = drop 3 comment in
     if begins_with (codes "///") comment then Some (trim text)
     else (if begins_with (codes "/**") comment && ends_with (codes "*/") text then Some (trim (take (length text - 2) text)) else None)
+
+-- examples
+line_doc : doc_text (codes "/// x ") ≡ Some (codes "x")
+unfolding trim_start trim_end chars encode_utf8
+line_doc = refl
+
+block_doc : doc_text (codes "/***/") ≡ Some []
+unfolding trim_start trim_end chars encode_utf8
+block_doc = refl
+
+no_doc : doc_text (codes "/**/") ≡ None
+no_doc = refl
 
 -- the doc that a blank or a comment is, which stands at a place
 abbrev pub doc_of_part : ℕ → List ℕ → List Doc

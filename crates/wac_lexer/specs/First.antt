@@ -1,5 +1,5 @@
 -- What the first item of a text is, where the text begins behind a gap.
-use Rattle.std.specs.Prelude.{◌≡◌, ◌≢◌, ℕ, false, true, List, [], ◌∷◌, length, Result, Ok, Err}
+use Rattle.std.specs.Prelude.{◌≡◌, ◌≢◌, ℕ, false, true, List, ◌∷◌, length, Result, Ok, Err}
 use Rattle.std.specs.List.{AllByRecursion}
 use Rattle.wac_lexer.specs.Comments.{opens}
 use Rattle.wac_lexer.specs.Items.{first_char_len}

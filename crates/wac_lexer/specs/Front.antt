@@ -1,5 +1,5 @@
--- The longest front of a text that is in any shape.
-use Rattle.std.specs.Prelude.{◌≡◌, ℕ, zero, suc, List, take, Option, Some, None}
+-- The longest front of a text that is in any shape, as the walk finds it. The public definition is `longest_token` of Tokens.
+use Rattle.std.specs.Prelude.{ℕ, zero, suc, List, take, Option, Some, None}
 use Rattle.wac_lexer.specs.Shapes.{shape_of}
 use Rattle.wac_lexer.specs.declared.shape.Shape.{Shape}
 

@@ -1,10 +1,11 @@
 -- The items of a source: its tokens and faults, behind blanks and comments.
-use Rattle.std.specs.Prelude.{ℕ, zero, suc, ◌+◌, nat_eq, List, [], ◌∷◌, take, drop, length, Option, Some, None, if◌then◌else◌, slice_get, slice_index, ◌==◌, Result, Ok, Err}
+use Rattle.std.specs.Prelude.{◌≡◌, refl, map, codes, ℕ, zero, suc, ◌+◌, nat_eq, List, [], ◌∷◌, take, drop, length, Option, Some, None, if◌then◌else◌, slice_get, slice_index, ◌==◌, Result, Ok, Err}
 use Rattle.std.specs.Option.{option_map}
 use Rattle.std.specs.Char.{len_utf8}
 use Rattle.std.specs.Str.{chars}
 use Rattle.wac_lexer.specs.Span.{Span, span, end_of}
 use Rattle.wac_lexer.specs.declared.token.Token.{Token}
+use Rattle.wac_lexer.specs.declared.token.Token.TheVariants.{Ident, String, Ellipsis, Dot}
 use Rattle.wac_lexer.specs.declared.error.Error.{Error}
 use Rattle.wac_lexer.specs.declared.error.Error.TheVariants.{UnexpectedToken, UnterminatedString, UnterminatedComment}
 use Rattle.wac_lexer.specs.Comments.{gap, opens}
@@ -12,7 +13,7 @@ use Rattle.wac_lexer.specs.Docs.{docs_at}
 use Rattle.wac_lexer.specs.Item.{Item}
 use Rattle.wac_lexer.specs.Tokens.{longest_token}
 
--- how many bytes the first character takes
+-- how many bytes the first character takes, and 1 where the bytes are no text
 abbrev pub first_char_len : List ℕ → ℕ
 first_char_len text = elim (slice_get (chars text) 0) [ Some c ↦ len_utf8 c | None ↦ 1 ]
 
@@ -49,3 +50,19 @@ items_from source place = items_upto (length source) source place
 -- the items of a text
 abbrev pub items : List ℕ → List Item
 items text = items_from text 0
+
+-- examples: each item's token and span
+abbrev placed : Item → Result Token Error × Span
+placed item = (item.token, item.span)
+
+faults_are_items : map placed (items (codes "a /* x */ \"b\" \"")) ≡ (Ok Ident, span 0 1) ∷ (Ok String, span 10 3) ∷ (Err UnterminatedString, span 14 1) ∷ []
+unfolding items_from
+faults_are_items = refl
+
+dots_are_longest : map placed (items (codes "....")) ≡ (Ok Ellipsis, span 0 3) ∷ (Ok Dot, span 3 1) ∷ []
+unfolding items_from
+dots_are_longest = refl
+
+comments_nest : map placed (items (codes "/* /* unterminated */")) ≡ (Err UnterminatedComment, span 0 21) ∷ []
+unfolding items_from
+comments_nest = refl

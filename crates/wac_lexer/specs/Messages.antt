@@ -1,5 +1,5 @@
 -- What messages call the tokens, and what they say of the faults.
-use Rattle.std.specs.Prelude.{ℕ, List, ◌++◌, codes, false}
+use Rattle.std.specs.Prelude.{◌≡◌, refl, ℕ, List, ◌++◌, codes, false}
 use Prim.Native.String.{String}
 use Rattle.std.specs.Fmt.{digits}
 use Rattle.wac_lexer.specs.declared.token.Token.{Token}
@@ -89,3 +89,8 @@ text_of errors.UnterminatedComment = codes "an unterminated comment was encounte
 text_of (errors.DisallowedBidirectionalOverride c) = with_code "disallowed bidirectional override codepoint `\\u{" c "}`"
 text_of (errors.DiscouragedUnicodeCodepoint c) = with_code "codepoint `\\u{" c "}` is discouraged by Unicode"
 text_of (errors.DisallowedControlCode c) = with_code "disallowed control code '\\u{" c "}'"
+
+-- an example
+control_code : text_of (errors.DisallowedControlCode 12) ≡ codes "disallowed control code '\\u{c}'"
+unfolding digits
+control_code = refl

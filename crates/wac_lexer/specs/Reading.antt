@@ -1,5 +1,5 @@
 -- What a lexer is to its callers.
-use Rattle.std.specs.Prelude.{ℕ, ◌≡◌, ◌-◌, ◌+◌, ◌≤◌, ◌<◌, ◌^◌, List, ◌++◌, length, take, drop, MatchOption, IfSome, if◌then◌else◌, ◌==◌}
+use Rattle.std.specs.Prelude.{refl, codes, ℕ, ◌≡◌, ◌-◌, ◌≤◌, ◌<◌, ◌^◌, List, ◌++◌, length, take, drop, MatchOption, IfSome, if◌then◌else◌, ◌==◌}
 use Rattle.std.specs.Str.{IsCharBoundary}
 use Rattle.wac_lexer.specs.Span.{Span, span, end_of}
 use Rattle.wac_lexer.specs.Item.{Item, Handed, handed, behind_first, OnFirst}
@@ -26,6 +26,13 @@ Slices source s = IsCharBoundary source s.offset × IsCharBoundary source (end_o
 -- the span that messages show: one that ends at the source's end becomes its last byte
 abbrev pub shown : List ℕ → Span → Span
 shown source s = if end_of s == length source then span (s.offset - 1) 1 else s
+
+-- examples: within the source, and at its end
+shown_within : shown (codes "abc") (span 1 1) ≡ span 1 1
+shown_within = refl
+
+shown_at_the_end : shown (codes "abc") (span 2 1) ≡ span 1 1
+shown_at_the_end = refl
 
 -- a call of `next` gave this out of the first of the items left, and left the others
 pub record Nexts (old : Reading) (item : Handed) (new : Reading) : Type 0 where

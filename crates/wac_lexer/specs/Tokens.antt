@@ -4,7 +4,7 @@ use Rattle.wac_lexer.specs.Pattern.{Matches, matches}
 use Rattle.wac_lexer.specs.Shapes.{id, package_name, package_path, quoted}
 use Rattle.wac_lexer.specs.Words.{find, fixed_texts, keywords}
 use Rattle.wac_lexer.specs.declared.token.Token.{Token}
-use Rattle.wac_lexer.specs.declared.token.Token.TheVariants.{Ident, PackageName, PackagePath, String, Ellipsis, Dot, ImportKeyword}
+use Rattle.wac_lexer.specs.declared.token.Token.TheVariants.{Ident, PackageName, PackagePath, String, Ellipsis, ImportKeyword}
 
 -- A keyword and a symbol are one text each. Each other text of an identifier is one, and so on.
 abbrev pub token_of : List ℕ → Option Token
@@ -47,23 +47,24 @@ pub record IsLongest (text : List ℕ) (n : ℕ) (token : Token) : Type 0 where
 abbrev pub HasNone : List ℕ → Type 0
 HasNone text = (m : ℕ) (token : Token) → m ≤ length text → ¬ (IsToken token (take m text))
 
-row1 : longest_token (codes "foo-Bar") 7 ≡ Some (5, Ident)
-row1 = refl
+-- examples
+word_of_one_case : longest_token (codes "foo-Bar") 7 ≡ Some (5, Ident)
+word_of_one_case = refl
 
-row2 : longest_token (codes "foo-bar:b@1.0.") 14 ≡ Some (13, PackageName)
-row2 = refl
+version_ends_before_its_point : longest_token (codes "foo-bar:b@1.0.") 14 ≡ Some (13, PackageName)
+version_ends_before_its_point = refl
 
-row3 : longest_token (codes "....") 4 ≡ Some (3, Ellipsis)
-row3 = refl
+three_dots : longest_token (codes "....") 4 ≡ Some (3, Ellipsis)
+three_dots = refl
 
-row4 : longest_token (codes "import-x") 8 ≡ Some (8, Ident)
-row4 = refl
+keyword_within_a_word : longest_token (codes "import-x") 8 ≡ Some (8, Ident)
+keyword_within_a_word = refl
 
-row5 : longest_token (codes "import x") 8 ≡ Some (6, ImportKeyword)
-row5 = refl
+keyword_before_a_blank : longest_token (codes "import x") 8 ≡ Some (6, ImportKeyword)
+keyword_before_a_blank = refl
 
-row6 : longest_token (codes "x:string y") 10 ≡ Some (8, PackageName)
-row6 = refl
+name_with_a_keyword : longest_token (codes "x:string y") 10 ≡ Some (8, PackageName)
+name_with_a_keyword = refl
 
-row7 : longest_token (codes "foo:bar/baz@1.2.3----RC-SNAPSHOT.12.9.1--.12+788") 48 ≡ Some (48, PackagePath)
-row7 = refl
+path_with_a_version : longest_token (codes "foo:bar/baz@1.2.3----RC-SNAPSHOT.12.9.1--.12+788") 48 ≡ Some (48, PackagePath)
+path_with_a_version = refl

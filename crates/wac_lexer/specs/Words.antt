@@ -41,6 +41,10 @@ function_words =
     ∷ (codes "async", tokens.AsyncKeyword)
     ∷ []
 
+-- all words that are no types
+abbrev pub grammar_words : List (List ℕ × Token)
+grammar_words = statement_words ++ (declaration_words ++ function_words)
+
 -- the types of numbers
 abbrev pub number_types : List (List ℕ × Token)
 number_types =
@@ -72,8 +76,12 @@ other_types =
     ∷ (codes "error-context", tokens.ErrorContextKeyword)
     ∷ []
 
+-- all words that are types
+abbrev pub type_words : List (List ℕ × Token)
+type_words = number_types ++ other_types
+
 abbrev pub keywords : List (List ℕ × Token)
-keywords = statement_words ++ (declaration_words ++ (function_words ++ (number_types ++ other_types)))
+keywords = grammar_words ++ type_words
 
 -- the brackets
 abbrev pub brackets : List (List ℕ × Token)

@@ -1,6 +1,6 @@
 // Finds the keyword that a text is.
 ghost use Rattle.std.specs.Prelude.{◌≡◌};
-ghost use Rattle.wac_lexer.specs.Words.{find, keywords, statement_words, declaration_words, function_words, number_types, other_types};
+ghost use Rattle.wac_lexer.specs.Words.{find, keywords, grammar_words, type_words, statement_words, declaration_words, function_words, number_types, other_types};
 
 use crate::token::Token;
 
@@ -92,21 +92,35 @@ fn other_type(text: &str) -> Option<Token>
     }
 }
 
-/// The keyword that a text is.
-pub(crate) fn keyword(text: &str) -> Option<Token>
-    ensures { result ≡ find text.now keywords }
+/// The words that are no types.
+fn grammar_word(text: &str) -> Option<Token>
+    ensures { result ≡ find text.now grammar_words }
 {
     match statement_word(text) {
         Some(token) => Some(token),
         None => match declaration_word(text) {
             Some(token) => Some(token),
-            None => match function_word(text) {
-                Some(token) => Some(token),
-                None => match number_type(text) {
-                    Some(token) => Some(token),
-                    None => other_type(text),
-                },
-            },
+            None => function_word(text),
         },
+    }
+}
+
+/// The words that are types.
+fn type_word(text: &str) -> Option<Token>
+    ensures { result ≡ find text.now type_words }
+{
+    match number_type(text) {
+        Some(token) => Some(token),
+        None => other_type(text),
+    }
+}
+
+/// The keyword that a text is.
+pub(crate) fn keyword(text: &str) -> Option<Token>
+    ensures { result ≡ find text.now keywords }
+{
+    match grammar_word(text) {
+        Some(token) => Some(token),
+        None => type_word(text),
     }
 }

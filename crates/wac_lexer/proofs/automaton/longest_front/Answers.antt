@@ -1,6 +1,6 @@
-use Rattle.std.proofs.Common.{◌≡◌, Option, Some, None, ◌+◌, take, sym, ap, ◌∙◌, arith}
+use Rattle.std.proofs.Common.{◌≡◌, Option, Some, None, ◌+◌, take, sym, ◌∙◌, arith}
 use Rattle.wac_lexer.specs.declared.shape.Shape.{Shape}
-use Rattle.wac_lexer.proofs.States.{Reads, walk_reads, walk_longest, walk_ends, one_longer}
+use Rattle.wac_lexer.proofs.States.{Reads, walk_reads, walk_longest, walk_ends}
 use Rattle.wac_lexer.proofs.automaton.longest_front.Goals as goal
 use Rattle.wac_lexer.proofs.automaton.longest_front.Goals.{in-Some, in_default-shape_at, After-step-state}
 

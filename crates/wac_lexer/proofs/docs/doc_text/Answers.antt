@@ -1,6 +1,5 @@
-use Rattle.std.proofs.Common.{◌≡◌, ◌≢◌, ◌++◌, ◌-◌, List, ℕ, take, drop, length, codes, sym, ap, ◌∙◌, subst, rules, None, Some}
+use Rattle.std.proofs.Common.{◌≡◌, ◌++◌, ◌-◌, take, drop, length, codes, sym, ap, ◌∙◌, subst, Some}
 use Rattle.std.specs.Str.{trim}
-use Rattle.wac_lexer.specs.Docs.{doc_text}
 use Rattle.wac_lexer.proofs.Trimmed.{block_text, block_none}
 use Rattle.wac_lexer.proofs.docs.doc_text.Goals as goal
 

@@ -1,4 +1,4 @@
-use Rattle.std.proofs.Common.{◌≡◌, ◌+◌, ◌<◌, ◌≤◌, ◌++◌, ℕ, [], map, take, drop, length, sym, ap, ◌∙◌, subst, arith, rules, refl, append-nil, append_assoc, zero-add}
+use Rattle.std.proofs.Common.{◌≡◌, ◌+◌, ◌++◌, map, take, drop, length, sym, ap, ◌∙◌, subst, arith, append-nil, append_assoc, zero-add}
 use Rattle.std.specs.Str.{IsCharBoundary}
 use Rattle.std.proofs.lemmas.Str.{IsUtf8-drop, IsCharBoundary-start}
 use Rattle.wac_lexer.specs.Comments.{part_len}

@@ -1,5 +1,5 @@
-use Rattle.std.proofs.Common.{◌≡◌, ◌+◌, List, [], ◌∷◌, ap, sym, subst, ◌∙◌, refl, drop, Some, None}
-use Rattle.wac_lexer.specs.Span.{Span, span, end_of}
+use Rattle.std.proofs.Common.{◌≡◌, ◌+◌, List, [], ◌∷◌, ap, sym, subst, ◌∙◌, refl, drop, Some}
+use Rattle.wac_lexer.specs.Span.{span, end_of}
 use Rattle.wac_lexer.specs.Docs.{docs_at}
 use Rattle.wac_lexer.specs.Item.{Item, handed, behind_first, OnFirst}
 use Rattle.wac_lexer.specs.Items.{first_item, items_from}

@@ -1,6 +1,6 @@
-use Rattle.std.proofs.Common.{◌≡◌, ◌+◌, ◌≤◌, length, drop, sym, ap, ◌∙◌, subst, arith}
+use Rattle.std.proofs.Common.{◌≡◌, ◌+◌, length, drop, sym, ap, ◌∙◌, subst}
 use Rattle.std.specs.Str.{IsCharBoundary}
-use Rattle.wac_lexer.specs.Comments.{gap, parts_len}
+use Rattle.wac_lexer.specs.Comments.{gap}
 use Rattle.wac_lexer.proofs.Boundaries.{gap_boundary}
 use Rattle.wac_lexer.proofs.items.start_of.Goals as goal
 

@@ -1,5 +1,5 @@
 use Rattle.std.proofs.Common.{sym, ◌∙◌, ◌++◌, List, ℕ}
-use Rattle.wac_lexer.specs.Words.{find, brackets, separators, long_symbols}
+use Rattle.wac_lexer.specs.Words.{brackets, separators, long_symbols}
 use Rattle.wac_lexer.specs.declared.token.Token.{Token}
 use Rattle.wac_lexer.proofs.Texts.{find_first, find_next}
 use Rattle.wac_lexer.proofs.symbols.symbol.Goals as goal

@@ -1,7 +1,4 @@
-use Rattle.std.proofs.Common.{◌≡◌, sym, subst}
-use Rattle.wac_lexer.specs.Docs.{docs_at}
-use Rattle.wac_lexer.specs.Item.{OnFirst}
-use Rattle.wac_lexer.specs.Reading.{Reading, left}
+use Rattle.wac_lexer.specs.Reading.{left}
 use Rattle.wac_lexer.proofs.Unfolded.{first_docs}
 use Rattle.wac_lexer.proofs.lexer.Lexer.comments.Goals as goal
 

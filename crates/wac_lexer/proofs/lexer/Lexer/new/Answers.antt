@@ -1,6 +1,5 @@
-use Rattle.std.proofs.Common.{sym, subst, arith, refl, ap}
+use Rattle.std.proofs.Common.{sym, subst, arith}
 use Rattle.std.proofs.lemmas.Str.{IsCharBoundary-start}
-use Rattle.wac_lexer.specs.Span.{span}
 use Rattle.wac_lexer.specs.Reading.{IsWithin}
 use Rattle.wac_lexer.proofs.Unfolded.{between_start}
 use Rattle.wac_lexer.proofs.lexer.Lexer.new.Goals as goal

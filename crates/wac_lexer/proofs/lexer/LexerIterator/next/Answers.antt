@@ -1,9 +1,8 @@
-use Rattle.std.proofs.Common.{◌≡◌, ◌+◌, ◌≤◌, [], List, None, length, sym, ap, ◌∙◌, subst, arith, refl, rules}
-use Rattle.std.specs.Str.{IsCharBoundary}
+use Rattle.std.proofs.Common.{◌≡◌, ◌+◌, None, length, subst, arith, refl, rules}
 use Rattle.std.proofs.lemmas.Str.{IsCharBoundary-end}
-use Rattle.wac_lexer.specs.Item.{handed, behind_first, OnFirst, Item}
+use Rattle.wac_lexer.specs.Item.{behind_first}
 use Rattle.wac_lexer.specs.Items.{items_from}
-use Rattle.wac_lexer.specs.Reading.{Nexts, Reading, slice, left}
+use Rattle.wac_lexer.specs.Reading.{Nexts, Reading, left}
 use Rattle.wac_lexer.proofs.Unfolded.{between_next, none_left}
 use Rattle.wac_lexer.proofs.lexer.LexerIterator.next.Goals as goal
 
