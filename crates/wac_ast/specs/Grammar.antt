@@ -61,9 +61,9 @@ infixr 20 ◌▸◌
 abbrev pub ◌▸◌ : Grammar → Grammar → Grammar
 g ▸ h = then g h
 
-infixr 15 ◌||◌
-abbrev pub ◌||◌ : Grammar → Grammar → Grammar
-g || h = either true g h
+infixr 15 ◌¦◌
+abbrev pub ◌¦◌ : Grammar → Grammar → Grammar
+g ¦ h = either true g h
 
 -- an optional part, which names nothing: parse_optional, where a fault is refused; and a mere look at the next token
 abbrev pub optional : Grammar → Grammar
@@ -81,7 +81,7 @@ abbrev pub rule : Sym → Grammar
 rule document = docs (sym directive ▸ sym statements)
 rule directive = token t.PackageKeyword ▸ sym package_name ▸ token t.Semicolon
 rule statements = to_end (sym statement ▸ sym statements)
-rule statement = sym let_statement || sym export_statement
+rule statement = sym let_statement ¦ sym export_statement
 rule let_statement = docs (token t.LetKeyword ▸ sym identifier ▸ token t.Equals ▸ sym expr ▸ token t.Semicolon)
 rule export_statement = docs (token t.ExportKeyword ▸ sym expr ▸ sym export_options ▸ token t.Semicolon)
 rule export_options = nothing anything
