@@ -117,65 +117,118 @@ fn behind_word(part: Part, class: Class) -> State
     }
 }
 
+/// The state behind the first byte.
+fn at_start(class: Class) -> State
+    ensures { result ≡ step_of State.Start class }
+{
+    match class {
+        Class::Lower => State::Small(Part::First),
+        Class::Upper => State::Capital(Part::First),
+        Class::Percent => State::Joined(Part::First),
+        Class::Quote => State::Inside,
+        Class::Dash => State::Minus,
+        Class::Dot => State::OneDot,
+        Class::Colon | Class::Slash | Class::At | Class::CloseAngle | Class::OtherSymbol => {
+            State::Ended
+        }
+        _ => State::Dead,
+    }
+}
+
+/// The state behind the first byte of a word.
+fn at_word(part: Part, class: Class) -> State
+    ensures { result ≡ step_of (State.Joined part) class }
+{
+    match class {
+        Class::Lower => State::Small(part),
+        Class::Upper => State::Capital(part),
+        _ => State::Dead,
+    }
+}
+
+/// The state behind the first byte of an identifier that `:` or `/` comes before.
+fn at_identifier(kind: Package, class: Class) -> State
+    ensures { result ≡ step_of (State.Behind kind) class }
+{
+    match class {
+        Class::Lower => State::Small(Part::Later(kind)),
+        Class::Upper => State::Capital(Part::Later(kind)),
+        Class::Percent => State::Joined(Part::Later(kind)),
+        _ => State::Dead,
+    }
+}
+
+/// The state behind a byte of a word of small letters.
+fn in_small(part: Part, class: Class) -> State
+    ensures { result ≡ step_of (State.Small part) class }
+{
+    match class {
+        Class::Lower | Class::Digit => State::Small(part),
+        _ => behind_word(part, class),
+    }
+}
+
+/// The state behind a byte of a word of capital letters.
+fn in_capital(part: Part, class: Class) -> State
+    ensures { result ≡ step_of (State.Capital part) class }
+{
+    match class {
+        Class::Upper | Class::Digit => State::Capital(part),
+        _ => behind_word(part, class),
+    }
+}
+
+/// The state behind a byte of the first number of a version.
+fn in_digits(kind: Package, class: Class) -> State
+    ensures { result ≡ step_of (State.Digits kind) class }
+{
+    match class {
+        Class::Digit => State::Digits(kind),
+        Class::Dot => State::Point(kind),
+        _ => State::Dead,
+    }
+}
+
+/// The state behind the first byte of a later part of a version.
+fn at_tail(kind: Package, class: Class) -> State
+    ensures { result ≡ step_of (State.Point kind) class }
+{
+    match class {
+        Class::Lower | Class::Upper | Class::Digit | Class::Dash | Class::Plus => {
+            State::Tail(kind)
+        }
+        _ => State::Dead,
+    }
+}
+
+/// The state behind a byte of a later part of a version.
+fn in_tail(kind: Package, class: Class) -> State
+    ensures { result ≡ step_of (State.Tail kind) class }
+{
+    match class {
+        Class::Dot => State::Point(kind),
+        _ => at_tail(kind, class),
+    }
+}
+
 /// The state behind one more byte.
 fn step(state: State, byte: u8) -> State
     ensures { result ≡ step_of state (class_of byte) }
 {
     let class = class_of(byte);
     match state {
-        State::Start => match class {
-            Class::Lower => State::Small(Part::First),
-            Class::Upper => State::Capital(Part::First),
-            Class::Percent => State::Joined(Part::First),
-            Class::Quote => State::Inside,
-            Class::Dash => State::Minus,
-            Class::Dot => State::OneDot,
-            Class::Colon | Class::Slash | Class::At | Class::CloseAngle | Class::OtherSymbol => {
-                State::Ended
-            }
-            _ => State::Dead,
-        },
-        State::Joined(part) => match class {
-            Class::Lower => State::Small(part),
-            Class::Upper => State::Capital(part),
-            _ => State::Dead,
-        },
-        State::Small(part) => match class {
-            Class::Lower | Class::Digit => State::Small(part),
-            _ => behind_word(part, class),
-        },
-        State::Capital(part) => match class {
-            Class::Upper | Class::Digit => State::Capital(part),
-            _ => behind_word(part, class),
-        },
-        State::Behind(package) => match class {
-            Class::Lower => State::Small(Part::Later(package)),
-            Class::Upper => State::Capital(Part::Later(package)),
-            Class::Percent => State::Joined(Part::Later(package)),
-            _ => State::Dead,
-        },
+        State::Start => at_start(class),
+        State::Joined(part) => at_word(part, class),
+        State::Small(part) => in_small(part, class),
+        State::Capital(part) => in_capital(part, class),
+        State::Behind(package) => at_identifier(package, class),
         State::Version(package) => match class {
             Class::Digit => State::Digits(package),
             _ => State::Dead,
         },
-        State::Digits(package) => match class {
-            Class::Digit => State::Digits(package),
-            Class::Dot => State::Point(package),
-            _ => State::Dead,
-        },
-        State::Point(package) => match class {
-            Class::Lower | Class::Upper | Class::Digit | Class::Dash | Class::Plus => {
-                State::Tail(package)
-            }
-            _ => State::Dead,
-        },
-        State::Tail(package) => match class {
-            Class::Lower | Class::Upper | Class::Digit | Class::Dash | Class::Plus => {
-                State::Tail(package)
-            }
-            Class::Dot => State::Point(package),
-            _ => State::Dead,
-        },
+        State::Digits(package) => in_digits(package, class),
+        State::Point(package) => at_tail(package, class),
+        State::Tail(package) => in_tail(package, class),
         State::Inside => match class {
             Class::Quote => State::Closed,
             _ => State::Inside,

@@ -1,4 +1,4 @@
-// The lexer of the WebAssembly Composition language.
+//! The lexer of the WebAssembly Composition language.
 #![tactic(auto)]
 
 mod automaton;

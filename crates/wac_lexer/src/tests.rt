@@ -22,7 +22,7 @@ fn items_are(rt: &impl Abort, source: &str, rows: &[Row]) {
 }
 
 #[test]
-fn longest_tokens_and_faults(rt: HostRuntime) {
+fn longest_tokens(rt: HostRuntime) {
     items_are(
         &rt,
         "fooBar",
@@ -57,6 +57,10 @@ fn longest_tokens_and_faults(rt: HostRuntime) {
             (Ok(Token::ImportKeyword), 17, 6),
         ],
     );
+}
+
+#[test]
+fn faults_and_versions(rt: HostRuntime) {
     items_are(
         &rt,
         "a#b",
