@@ -1,0 +1,10 @@
+pub mod Meanings
+pub mod Rows
+pub mod Each
+pub mod Exports
+pub mod Views
+pub mod Growing
+pub mod Listed
+pub mod Tables
+pub mod Packages
+pub mod Renaming

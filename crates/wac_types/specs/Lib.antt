@@ -1,0 +1,13 @@
+pub mod Names
+pub mod Kind
+pub mod Words
+pub mod Entry
+pub mod Label
+pub mod Meaning
+pub mod Table
+pub mod Readings
+pub mod Package
+pub mod Growth
+pub mod Rules
+pub mod Equality
+pub mod TestRules

@@ -1,0 +1,116 @@
+//! Whether two kinds mean the same.
+ghost use Rattle.std.specs.Prelude.{option_map, string_bytes, ◌≡◌, ℕ, ◌<◌, length, IsTrue, ◌↔◌, IfSome};
+ghost use Rattle.wac_types.specs.Label.{label, defined_label};
+ghost use Rattle.wac_types.specs.Meaning.{IsEarlier, IsOneToOne, IsResource, NamesBefore, meaning, meaning_at, of_child};
+
+use crate::entry::{DefinedType, Entry};
+use crate::kind::ItemKind;
+
+fn same_id(first: &Option<String>, second: &Option<String>) -> bool
+    ensures { IsTrue result ↔ (option_map string_bytes first.now ≡ option_map string_bytes second.now) }
+{
+    match (first, second) {
+        (None, None) => true,
+        (Some(a), Some(b)) => a.as_str() == b.as_str(),
+        _ => false,
+    }
+}
+
+fn same_shape(first: &DefinedType, second: &DefinedType) -> bool
+    ensures { IsTrue result ↔ (defined_label first.now ≡ defined_label second.now) }
+{
+    match (first, second) {
+        (DefinedType::Tuple(_), DefinedType::Tuple(_)) => true,
+        (DefinedType::List(_), DefinedType::List(_)) => true,
+        (DefinedType::Option(_), DefinedType::Option(_)) => true,
+        (DefinedType::Result { .. }, DefinedType::Result { .. }) => true,
+        (DefinedType::Variant { .. }, DefinedType::Variant { .. }) => true,
+        (DefinedType::Record { .. }, DefinedType::Record { .. }) => true,
+        (DefinedType::Flags(_), DefinedType::Flags(_)) => true,
+        (DefinedType::Enum(_), DefinedType::Enum(_)) => true,
+        (DefinedType::Alias(_), DefinedType::Alias(_)) => true,
+        (DefinedType::Stream(_), DefinedType::Stream(_)) => true,
+        (DefinedType::Future(_), DefinedType::Future(_)) => true,
+        _ => false,
+    }
+}
+
+/// Whether the entries of these numbers are alike beside the kinds in them.
+fn same_label(i: usize, first: &Entry, j: usize, second: &Entry) -> bool
+    requires { i ≡ j → first.now ≡ second.now }
+    ensures { (p q : ℕ) → (i ≡ j → p ≡ q) → (IsResource first.now → IsResource second.now → p ≡ q → i ≡ j) → (IsTrue result ↔ (label p first.now ≡ label q second.now)) }
+{
+    match (first, second) {
+        (Entry::Defined(a), Entry::Defined(b)) => same_shape(a, b),
+        (Entry::Resource(_), Entry::Resource(_)) => i == j,
+        (Entry::Func(a), Entry::Func(b)) => a.is_async == b.is_async,
+        (Entry::Interface(a), Entry::Interface(b)) => same_id(&a.id, &b.id),
+        (Entry::World(a), Entry::World(b)) => same_id(&a.id, &b.id),
+        _ => false,
+    }
+}
+
+#[cycle(same)]
+pub(crate) fn same_child(entries: &[Entry], a: Option<ItemKind>, b: Option<ItemKind>) -> bool
+    requires earlier { IsEarlier entries.now }
+    requires first { IfSome a (NamesBefore (length entries.now)) }
+    requires second { IfSome b (NamesBefore (length entries.now)) }
+    ensures { (origins : ℕ → ℕ) → IsOneToOne entries.now origins → (IsTrue result ↔ (of_child (meaning_at origins entries.now) a ≡ of_child (meaning_at origins entries.now) b)) }
+{
+    match (a, b) {
+        (None, None) => true,
+        (Some(x), Some(y)) => {
+            if !x.same_form(y) {
+                return false;
+            }
+            match (x.id(), y.id()) {
+                (None, None) => true,
+                (Some(i), Some(j)) => same_at(entries, i, j),
+                _ => false,
+            }
+        }
+        _ => false,
+    }
+}
+
+#[cycle(same)]
+fn same_at(entries: &[Entry], i: usize, j: usize) -> bool
+    requires earlier { IsEarlier entries.now }
+    requires first { i < length entries.now }
+    requires second { j < length entries.now }
+    ensures { (origins : ℕ → ℕ) → IsOneToOne entries.now origins → (IsTrue result ↔ (meaning_at origins entries.now i ≡ meaning_at origins entries.now j)) }
+{
+    let first = &entries[i];
+    let second = &entries[j];
+    if !same_label(i, first, j, second) {
+        return false;
+    }
+    let count = first.len();
+    if second.len() != count {
+        return false;
+    }
+    for at in 0..count {
+        match (first.child(at), second.child(at)) {
+            (Some(c), Some(d)) => {
+                if !c.place.same(d.place) {
+                    return false;
+                }
+                if !same_child(entries, c.kind, d.kind) {
+                    return false;
+                }
+            }
+            _ => return false,
+        }
+    }
+    true
+}
+
+/// Whether two kinds of one table mean the same.
+pub fn same(entries: &[Entry], a: ItemKind, b: ItemKind) -> bool
+    requires earlier { IsEarlier entries.now }
+    requires first { NamesBefore (length entries.now) a }
+    requires second { NamesBefore (length entries.now) b }
+    ensures { (origins : ℕ → ℕ) → IsOneToOne entries.now origins → (IsTrue result ↔ (meaning origins entries.now a ≡ meaning origins entries.now b)) }
+{
+    same_child(entries, Some(a), Some(b))
+}

@@ -1,0 +1,183 @@
+//! The table of types.
+ghost use Rattle.std.specs.Prelude.{◌≡◌, ℕ, ◌+◌, ◌<◌, ◌^◌, ◌++◌, [], ◌∷◌, IsTrue, ◌↔◌, IfOk, OnOk, OnErr, length, slice_get, option_copied, option_and_then};
+ghost use Rattle.wac_types.specs.Growth.{KeepsMeanings};
+ghost use Rattle.wac_types.specs.Meaning.{IsOneToOne, meaning};
+ghost use Rattle.wac_types.specs.Table.{IsTable, Names};
+ghost use Rattle.wac_types.specs.Readings.{as_defined, as_resource, as_func, as_interface, as_world};
+
+use crate::alike;
+use crate::entry::{DefinedType, Entry, FuncType, Interface, Resource, World};
+use crate::kind::{DefinedTypeId, FuncTypeId, InterfaceId, ItemKind, ResourceId, WorldId};
+use std::alloc::{AllocError, Global};
+use std::marker::Model;
+
+/// A table of types. A contract sees the list of its entries. Growth keeps the meaning of each older kind.
+#[derive(Drop)]
+pub struct Types {
+    entries: Vec<Entry>,
+}
+
+impl Model for Types {
+    ghost use Rattle.std.specs.Prelude.{List};
+    ghost use Rattle.std.specs.Coded.{codes};
+    ghost use Rattle.wac_types.specs.declared.entry.Entry.{Entry};
+    ghost use Rattle.wac_types.specs.contracts.entry.Entry as entry;
+
+    ghost Value = { List Entry };
+
+    ghost coded = { Prim.hlevel (codes, entry.the_row.coded) };
+
+    ghost view = { λ t. t.entries.items };
+}
+
+impl Types {
+    /// An empty table, which takes its memory from `alloc`.
+    pub fn new(alloc: Global) -> Self
+        ensures { result ≡ [] }
+    {
+        Types {
+            entries: Vec::new(alloc),
+        }
+    }
+
+    /// Makes room for so many more entries, whose numbers then are in a `usize`'s range.
+    pub fn reserve(&mut self, additional: usize) -> Result<(), AllocError>
+        ensures same { self.new ≡ self.old }
+        ensures room { OnOk result (length self.old + additional < 2 ^ 64) }
+    {
+        self.entries.reserve(additional)?;
+        let _room = self.entries.capacity();
+        Ok(())
+    }
+
+    /// Appends an entry, and answers its number.
+    #[tactic(auto, using(crate::proofs::Growing::keeps_added, crate::proofs::Growing::keeps_unchanged))]
+    pub fn add(&mut self, entry: Entry) -> Result<usize, AllocError>
+        ensures number { IfOk result (λ id. id ≡ length self.old) }
+        ensures ok { OnOk result (self.new ≡ self.old ++ entry ∷ []) }
+        ensures err { OnErr result (self.new ≡ self.old) }
+        ensures keeps { KeepsMeanings self.old self.new }
+    {
+        let id = self.entries.len();
+        self.entries.push(entry)?;
+        Ok(id)
+    }
+
+    /// Appends a defined type. Nothing is asked of the ids in it: [`Package::new`](crate::Package::new) is the test.
+    pub fn add_defined_type(&mut self, ty: DefinedType) -> Result<DefinedTypeId, AllocError>
+        ensures number { IfOk result (λ id. id.0 ≡ length self.old) }
+        ensures ok { OnOk result (self.new ≡ self.old ++ Entry.Defined ty ∷ []) }
+        ensures err { OnErr result (self.new ≡ self.old) }
+        ensures keeps { KeepsMeanings self.old self.new }
+    {
+        Ok(DefinedTypeId(self.add(Entry::Defined(ty))?))
+    }
+
+    /// Appends a resource. Nothing is asked of the ids in it: [`Package::new`](crate::Package::new) is the test.
+    pub fn add_resource(&mut self, resource: Resource) -> Result<ResourceId, AllocError>
+        ensures number { IfOk result (λ id. id.0 ≡ length self.old) }
+        ensures ok { OnOk result (self.new ≡ self.old ++ Entry.Resource resource ∷ []) }
+        ensures err { OnErr result (self.new ≡ self.old) }
+        ensures keeps { KeepsMeanings self.old self.new }
+    {
+        Ok(ResourceId(self.add(Entry::Resource(resource))?))
+    }
+
+    /// Appends a function type. Nothing is asked of the ids in it: [`Package::new`](crate::Package::new) is the test.
+    pub fn add_func_type(&mut self, func: FuncType) -> Result<FuncTypeId, AllocError>
+        ensures number { IfOk result (λ id. id.0 ≡ length self.old) }
+        ensures ok { OnOk result (self.new ≡ self.old ++ Entry.Func func ∷ []) }
+        ensures err { OnErr result (self.new ≡ self.old) }
+        ensures keeps { KeepsMeanings self.old self.new }
+    {
+        Ok(FuncTypeId(self.add(Entry::Func(func))?))
+    }
+
+    /// Appends an interface. Nothing is asked of the ids in it: [`Package::new`](crate::Package::new) is the test.
+    pub fn add_interface(&mut self, interface: Interface) -> Result<InterfaceId, AllocError>
+        ensures number { IfOk result (λ id. id.0 ≡ length self.old) }
+        ensures ok { OnOk result (self.new ≡ self.old ++ Entry.Interface interface ∷ []) }
+        ensures err { OnErr result (self.new ≡ self.old) }
+        ensures keeps { KeepsMeanings self.old self.new }
+    {
+        Ok(InterfaceId(self.add(Entry::Interface(interface))?))
+    }
+
+    /// Appends a world. Nothing is asked of the ids in it: [`Package::new`](crate::Package::new) is the test.
+    pub fn add_world(&mut self, world: World) -> Result<WorldId, AllocError>
+        ensures number { IfOk result (λ id. id.0 ≡ length self.old) }
+        ensures ok { OnOk result (self.new ≡ self.old ++ Entry.World world ∷ []) }
+        ensures err { OnErr result (self.new ≡ self.old) }
+        ensures keeps { KeepsMeanings self.old self.new }
+    {
+        Ok(WorldId(self.add(Entry::World(world))?))
+    }
+
+    /// The defined type of that number, if there is one.
+    pub fn defined_type(&self, id: DefinedTypeId) -> Option<&DefinedType>
+        ensures { option_copied result ≡ option_and_then as_defined (slice_get self.now id.0) }
+    {
+        match self.entries.get(id.0)? {
+            Entry::Defined(ty) => Some(ty),
+            _ => None,
+        }
+    }
+
+    /// The resource of that number, if there is one.
+    pub fn resource(&self, id: ResourceId) -> Option<&Resource>
+        ensures { option_copied result ≡ option_and_then as_resource (slice_get self.now id.0) }
+    {
+        match self.entries.get(id.0)? {
+            Entry::Resource(resource) => Some(resource),
+            _ => None,
+        }
+    }
+
+    /// The function type of that number, if there is one.
+    pub fn func_type(&self, id: FuncTypeId) -> Option<&FuncType>
+        ensures { option_copied result ≡ option_and_then as_func (slice_get self.now id.0) }
+    {
+        match self.entries.get(id.0)? {
+            Entry::Func(func) => Some(func),
+            _ => None,
+        }
+    }
+
+    /// The interface of that number, if there is one.
+    pub fn interface(&self, id: InterfaceId) -> Option<&Interface>
+        ensures { option_copied result ≡ option_and_then as_interface (slice_get self.now id.0) }
+    {
+        match self.entries.get(id.0)? {
+            Entry::Interface(interface) => Some(interface),
+            _ => None,
+        }
+    }
+
+    /// The world of that number, if there is one.
+    pub fn world(&self, id: WorldId) -> Option<&World>
+        ensures { option_copied result ≡ option_and_then as_world (slice_get self.now id.0) }
+    {
+        match self.entries.get(id.0)? {
+            Entry::World(world) => Some(world),
+            _ => None,
+        }
+    }
+
+    /// The entries in order.
+    pub fn entries(&self) -> &[Entry]
+        ensures { result.now ≡ self.now }
+    {
+        self.entries.as_slice()
+    }
+
+    /// Whether two kinds mean the same, whatever the origins of resources are. It takes no memory, and recurses as
+    /// deep as the types nest.
+    pub fn same(&self, a: ItemKind, b: ItemKind) -> bool
+        requires table { IsTable self.now }
+        requires first { Names self.now a }
+        requires second { Names self.now b }
+        ensures { (origins : ℕ → ℕ) → IsOneToOne self.now origins → (IsTrue result ↔ (meaning origins self.now a ≡ meaning origins self.now b)) }
+    {
+        alike::same(&self.entries, a, b)
+    }
+}
