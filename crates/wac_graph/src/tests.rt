@@ -31,99 +31,151 @@ fn key(alloc: Global, text: &str, version: Option<&str>) -> Result<PackageKey, A
     })
 }
 
-/// A table with an entry of each sort and each defined type; answers the world and the instance.
-fn fill(alloc: Global, types: &mut Types) -> Result<(WorldId, InterfaceId), AllocError> {
+/// A tuple, and a record that has it and an owned resource.
+fn add_record(
+    alloc: Global,
+    types: &mut Types,
+    resource: ResourceId,
+) -> Result<DefinedTypeId, AllocError> {
     let byte = ValueType::Primitive(PrimitiveType::U8);
-    let resource = types.add_resource(Resource {
-        name: name(alloc, "r")?,
-        alias: None,
-    })?;
     let tuple = types.add_defined_type(DefinedType::Tuple(vec![in alloc; byte, byte]?))?;
-    let own = ValueType::Own(resource);
     let mut fields = IndexMap::new(alloc);
-    fields.insert(name(alloc, "x")?, own)?;
+    fields.insert(name(alloc, "x")?, ValueType::Own(resource))?;
     fields.insert(name(alloc, "y")?, ValueType::Defined(tuple))?;
-    let record = types.add_defined_type(DefinedType::Record { fields })?;
+    types.add_defined_type(DefinedType::Record { fields })
+}
+
+fn add_variant(
+    alloc: Global,
+    types: &mut Types,
+    record: DefinedTypeId,
+) -> Result<DefinedTypeId, AllocError> {
     let mut cases = IndexMap::new(alloc);
     cases.insert(name(alloc, "none")?, None)?;
     cases.insert(name(alloc, "some")?, Some(ValueType::Defined(record)))?;
-    types.add_defined_type(DefinedType::Variant { cases })?;
+    types.add_defined_type(DefinedType::Variant { cases })
+}
+
+fn add_enum(alloc: Global, types: &mut Types) -> Result<DefinedTypeId, AllocError> {
     let mut names = IndexSet::new(alloc);
     names.insert(name(alloc, "a")?)?;
     names.insert(name(alloc, "b")?)?;
-    types.add_defined_type(DefinedType::Enum(names))?;
-    types.add_defined_type(DefinedType::Result {
-        ok: Some(own),
-        err: None,
-    })?;
+    types.add_defined_type(DefinedType::Enum(names))
+}
+
+fn add_run(
+    alloc: Global,
+    types: &mut Types,
+    resource: ResourceId,
+    record: DefinedTypeId,
+) -> Result<FuncTypeId, AllocError> {
     let mut params = IndexMap::new(alloc);
     params.insert(name(alloc, "self")?, ValueType::Borrow(resource))?;
-    let run = types.add_func_type(FuncType {
+    types.add_func_type(FuncType {
         params,
         result: Some(ValueType::Defined(record)),
         is_async: true,
-    })?;
-    let log = types.add_func_type(func(alloc))?;
-    let mut owner = Interface {
-        id: Some(name(alloc, "x:y/z")?),
-        uses: IndexMap::new(alloc),
-        exports: IndexMap::new(alloc),
-    };
-    owner
-        .exports
-        .insert(name(alloc, "r")?, ItemKind::Ty(Type::Resource(resource)))?;
-    let owner = types.add_interface(owner)?;
-    types.add_resource(Resource {
-        name: name(alloc, "s")?,
-        alias: Some(ResourceAlias {
-            owner: Some(owner),
-            source: resource,
-        }),
-    })?;
-    let mut uses = IndexMap::new(alloc);
-    uses.insert(
-        name(alloc, "q")?,
-        UsedType {
-            interface: owner,
-            name: Some(name(alloc, "r")?),
-        },
-    )?;
-    let mut exports = IndexMap::new(alloc);
-    exports.insert(name(alloc, "run")?, ItemKind::Func(run))?;
-    let instance = types.add_interface(Interface {
-        id: None,
-        uses,
-        exports,
-    })?;
-    let mut imports = IndexMap::new(alloc);
-    imports.insert(name(alloc, "log")?, ItemKind::Func(log))?;
-    imports.insert(name(alloc, "x:y/z")?, ItemKind::Instance(owner))?;
-    let mut exports = IndexMap::new(alloc);
-    exports.insert(name(alloc, "run")?, ItemKind::Func(run))?;
-    let world = types.add_world(World {
-        id: Some(name(alloc, "c:d/w")?),
-        uses: IndexMap::new(alloc),
-        imports,
-        exports,
-    })?;
-    Ok((world, instance))
+    })
 }
 
-fn defining(
+fn exporting(
     alloc: Global,
     text: &str,
     kind: ItemKind,
 ) -> Result<IndexMap<String, ItemKind>, AllocError> {
-    let mut definitions = IndexMap::new(alloc);
-    definitions.insert(name(alloc, text)?, kind)?;
-    Ok(definitions)
+    let mut items = IndexMap::new(alloc);
+    items.insert(name(alloc, text)?, kind)?;
+    Ok(items)
+}
+
+/// An interface that exports the resource.
+fn add_owner(
+    alloc: Global,
+    types: &mut Types,
+    resource: ResourceId,
+) -> Result<InterfaceId, AllocError> {
+    let id = Some(name(alloc, "x:y/z")?);
+    let exports = exporting(alloc, "r", ItemKind::Ty(Type::Resource(resource)))?;
+    types.add_interface(Interface {
+        id,
+        uses: IndexMap::new(alloc),
+        exports,
+    })
+}
+
+/// An interface that uses the resource of another and exports a function.
+fn add_instance(
+    alloc: Global,
+    types: &mut Types,
+    owner: InterfaceId,
+    run: FuncTypeId,
+) -> Result<InterfaceId, AllocError> {
+    let used = UsedType {
+        interface: owner,
+        name: Some(name(alloc, "r")?),
+    };
+    let mut uses = IndexMap::new(alloc);
+    uses.insert(name(alloc, "q")?, used)?;
+    let exports = exporting(alloc, "run", ItemKind::Func(run))?;
+    types.add_interface(Interface {
+        id: None,
+        uses,
+        exports,
+    })
+}
+
+fn add_world(
+    alloc: Global,
+    types: &mut Types,
+    owner: InterfaceId,
+    log: FuncTypeId,
+    run: FuncTypeId,
+) -> Result<WorldId, AllocError> {
+    let mut imports = exporting(alloc, "log", ItemKind::Func(log))?;
+    imports.insert(name(alloc, "x:y/z")?, ItemKind::Instance(owner))?;
+    let exports = exporting(alloc, "run", ItemKind::Func(run))?;
+    types.add_world(World {
+        id: None,
+        uses: IndexMap::new(alloc),
+        imports,
+        exports,
+    })
+}
+
+fn add_resource(
+    alloc: Global,
+    types: &mut Types,
+    text: &str,
+    alias: Option<ResourceAlias>,
+) -> Result<ResourceId, AllocError> {
+    let name = name(alloc, text)?;
+    types.add_resource(Resource { name, alias })
+}
+
+/// Fills a table with entries of each sort; answers the world and the instance.
+fn fill(alloc: Global, types: &mut Types) -> Result<(WorldId, InterfaceId), AllocError> {
+    let resource = add_resource(alloc, types, "r", None)?;
+    let record = add_record(alloc, types, resource)?;
+    add_variant(alloc, types, record)?;
+    add_enum(alloc, types)?;
+    let run = add_run(alloc, types, resource, record)?;
+    let log = types.add_func_type(func(alloc))?;
+    let owner = add_owner(alloc, types, resource)?;
+    let alias = ResourceAlias {
+        owner: Some(owner),
+        source: resource,
+    };
+    add_resource(alloc, types, "s", Some(alias))?;
+    let instance = add_instance(alloc, types, owner, run)?;
+    let world = add_world(alloc, types, owner, log, run)?;
+    Ok((world, instance))
 }
 
 /// A package that imports the function `log` and the instance `x:y/z` and exports the function `run`.
 fn component(alloc: Global) -> Result<Package, PackageError> {
     let mut types = Types::new(alloc);
     let (world, instance) = fill(alloc, &mut types)?;
-    let definitions = defining(alloc, "w", ItemKind::Ty(Type::World(world)))?;
+    let definitions = exporting(alloc, "w", ItemKind::Ty(Type::World(world)))?;
     Package::new(types, world, instance, definitions)
 }
 
@@ -448,39 +500,52 @@ fn copies_packages(rt: HostRuntime) -> Result<(), Fail> {
     Ok(())
 }
 
-#[test]
-fn adds_types(rt: HostRuntime) -> Result<(), Fail> {
-    let alloc = rt.alloc();
-    let mut graph = CompositionGraph::new(alloc);
-    let resource = graph.add_resource(Resource {
-        name: name(alloc, "r")?,
-        alias: None,
-    })?;
-    let byte = ValueType::Primitive(PrimitiveType::U8);
-    let list = graph.add_defined_type(DefinedType::List(byte))?;
-    let run = graph.add_func_type(func(alloc))?;
-    assert_eq!(rt; resource.0, 0);
-    assert_eq!(rt; list.0, 1);
-    assert_eq!(rt; run.0, 2);
-    Ok(())
+fn list_of_bytes(graph: &mut CompositionGraph) -> Result<DefinedTypeId, AllocError> {
+    graph.add_defined_type(DefinedType::List(ValueType::Primitive(PrimitiveType::U8)))
 }
 
-#[test]
-fn adds_interfaces(rt: HostRuntime) -> Result<(), Fail> {
-    let alloc = rt.alloc();
-    let mut graph = CompositionGraph::new(alloc);
-    let instance = graph.add_interface(Interface {
+fn resource_named(
+    alloc: Global,
+    graph: &mut CompositionGraph,
+    text: &str,
+) -> Result<ResourceId, AllocError> {
+    let name = name(alloc, text)?;
+    graph.add_resource(Resource { name, alias: None })
+}
+
+fn empty_func(alloc: Global, graph: &mut CompositionGraph) -> Result<FuncTypeId, AllocError> {
+    graph.add_func_type(FuncType {
+        params: IndexMap::new(alloc),
+        result: None,
+        is_async: false,
+    })
+}
+
+fn empty_interface(alloc: Global, graph: &mut CompositionGraph) -> Result<InterfaceId, AllocError> {
+    graph.add_interface(Interface {
         id: None,
         uses: IndexMap::new(alloc),
         exports: IndexMap::new(alloc),
-    })?;
-    let world = graph.add_world(World {
+    })
+}
+
+fn empty_world(alloc: Global, graph: &mut CompositionGraph) -> Result<WorldId, AllocError> {
+    graph.add_world(World {
         id: None,
         uses: IndexMap::new(alloc),
         imports: IndexMap::new(alloc),
         exports: IndexMap::new(alloc),
-    })?;
-    assert_eq!(rt; instance.0, 0);
-    assert_eq!(rt; world.0, 1);
+    })
+}
+
+#[test]
+fn adds_types(rt: HostRuntime) -> Result<(), Fail> {
+    let alloc = rt.alloc();
+    let mut graph = CompositionGraph::new(alloc);
+    assert_eq!(rt; resource_named(alloc, &mut graph, "r")?.0, 0);
+    assert_eq!(rt; list_of_bytes(&mut graph)?.0, 1);
+    assert_eq!(rt; empty_func(alloc, &mut graph)?.0, 2);
+    assert_eq!(rt; empty_interface(alloc, &mut graph)?.0, 3);
+    assert_eq!(rt; empty_world(alloc, &mut graph)?.0, 4);
     Ok(())
 }
