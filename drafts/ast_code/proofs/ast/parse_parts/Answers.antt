@@ -1,0 +1,15 @@
+use Rattle.std.proofs.Common.{◌≡◌, refl, map, ◌∙◌}
+use Rattle.std.proofs.lemmas.Result.{err_from_is_err_and}
+use Rattle.wac_lexer.specs.Reading.{left}
+use Rattle.wac_ast.specs.Grammar.{document, directive}
+use Rattle.wac_ast.specs.Views.{doc_comment_of}
+use Rattle.wac_ast.proofs.Fixed.{read_is}
+use Rattle.wac_ast.proofs.Docs.{docs_of_sym}
+use Rattle.wac_ast.proofs.ast.parse_parts.Goals as goal
+
+pub returns-clause-gives : goal.returns-clause-gives
+returns-clause-gives c =
+    let first = c.in_ok-directive.ensures.gives in
+    let others = c.in_ok-statements.ensures.gives in
+    let docs = docs_of_sym directive (left c.args.lexer.now) (map doc_comment_of c.in_ok-docs.docs.items) _ _ c.in_ok-docs.ensures.docs first.0 refl in
+    (rw (read_is document, docs, first.0, others.0) refl, others.1 ∙ first.1)

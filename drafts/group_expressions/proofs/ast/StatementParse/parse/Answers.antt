@@ -1,0 +1,58 @@
+use Rattle.std.proofs.Common.{◌≡◌, refl}
+use Rattle.wac_ast.specs.Grammar.{statement}
+use Rattle.wac_ast.proofs.Fixed.{read_is}
+use Rattle.wac_ast.proofs.Lookaheads.{looks, looks_on, looks_fail, tests}
+use Rattle.wac_ast.proofs.ast.StatementParse.parse.Goals as goal
+
+pub returns-in_ok-parse-clause-gives : goal.returns-in_ok-parse-clause-gives
+returns-in_ok-parse-clause-gives c =
+    let looks0 = looks c.args.lexer.now _ c.new-lookahead.ensures in
+    let is = tests _ _ _ _ _ _ _ looks0 c.peek.ensures c.if-peek.true in
+    let parsed = c.in_ok-parse.ensures.gives in
+    (rw (read_is statement, is, parsed.0) refl, parsed.1)
+
+pub returns-in_ok-parse-2-clause-gives : goal.returns-in_ok-parse-2-clause-gives
+returns-in_ok-parse-2-clause-gives c =
+    let looks0 = looks c.args.lexer.now _ c.new-lookahead.ensures in
+    let no0 = tests _ _ _ _ _ _ _ looks0 c.peek.ensures c.if-peek.false in
+    let looks1 = looks_on _ _ _ _ _ _ looks0 c.peek.ensures c.if-peek.false in
+    let is = tests _ _ _ _ _ _ _ looks1 c.peek-else-peek.ensures c.if-peek-2.true in
+    let parsed = c.in_ok-parse-2.ensures.gives in
+    (rw (read_is statement, no0, is, parsed.0) refl, parsed.1)
+
+pub returns-in_ok-parse-3-clause-gives : goal.returns-in_ok-parse-3-clause-gives
+returns-in_ok-parse-3-clause-gives c =
+    let looks0 = looks c.args.lexer.now _ c.new-lookahead.ensures in
+    let no0 = tests _ _ _ _ _ _ _ looks0 c.peek.ensures c.if-peek.false in
+    let looks1 = looks_on _ _ _ _ _ _ looks0 c.peek.ensures c.if-peek.false in
+    let no1 = tests _ _ _ _ _ _ _ looks1 c.peek-else-peek.ensures c.if-peek-2.false in
+    let looks2 = looks_on _ _ _ _ _ _ looks1 c.peek-else-peek.ensures c.if-peek-2.false in
+    let is = tests _ _ _ _ _ _ _ looks2 c.peek-else-peek-2.ensures c.if-peek-3.true in
+    let parsed = c.in_ok-parse-3.ensures.gives in
+    (rw (read_is statement, no0, no1, is, parsed.0) refl, parsed.1)
+
+pub returns-in_ok-parse-4-clause-gives : goal.returns-in_ok-parse-4-clause-gives
+returns-in_ok-parse-4-clause-gives c =
+    let looks0 = looks c.args.lexer.now _ c.new-lookahead.ensures in
+    let no0 = tests _ _ _ _ _ _ _ looks0 c.peek.ensures c.if-peek.false in
+    let looks1 = looks_on _ _ _ _ _ _ looks0 c.peek.ensures c.if-peek.false in
+    let no1 = tests _ _ _ _ _ _ _ looks1 c.peek-else-peek.ensures c.if-peek-2.false in
+    let looks2 = looks_on _ _ _ _ _ _ looks1 c.peek-else-peek.ensures c.if-peek-2.false in
+    let no2 = tests _ _ _ _ _ _ _ looks2 c.peek-else-peek-2.ensures c.if-peek-3.false in
+    let looks3 = looks_on _ _ _ _ _ _ looks2 c.peek-else-peek-2.ensures c.if-peek-3.false in
+    let is = tests _ _ _ _ _ _ _ looks3 c.peek-else-peek-3.ensures c.if-peek-4.true in
+    let parsed = c.in_ok-parse-4.ensures.gives in
+    (rw (read_is statement, no0, no1, no2, is, parsed.0) refl, parsed.1)
+
+pub returns-else-peek-4-clause-gives : goal.returns-else-peek-4-clause-gives
+returns-else-peek-4-clause-gives c =
+    let looks0 = looks c.args.lexer.now _ c.new-lookahead.ensures in
+    let no0 = tests _ _ _ _ _ _ _ looks0 c.peek.ensures c.if-peek.false in
+    let looks1 = looks_on _ _ _ _ _ _ looks0 c.peek.ensures c.if-peek.false in
+    let no1 = tests _ _ _ _ _ _ _ looks1 c.peek-else-peek.ensures c.if-peek-2.false in
+    let looks2 = looks_on _ _ _ _ _ _ looks1 c.peek-else-peek.ensures c.if-peek-2.false in
+    let no2 = tests _ _ _ _ _ _ _ looks2 c.peek-else-peek-2.ensures c.if-peek-3.false in
+    let looks3 = looks_on _ _ _ _ _ _ looks2 c.peek-else-peek-2.ensures c.if-peek-3.false in
+    let no3 = tests _ _ _ _ _ _ _ looks3 c.peek-else-peek-3.ensures c.if-peek-4.false in
+    let looks4 = looks_on _ _ _ _ _ _ looks3 c.peek-else-peek-3.ensures c.if-peek-4.false in
+    looks_fail c.args.lexer.now _ _ _ _ c.error.result _ looks4 c.error.ensures refl (rw (read_is statement, no0, no1, no2, no3) refl)

@@ -1,0 +1,30 @@
+//! The documents of WAC: their trees, and how a text is parsed into one.
+#![tactic(auto)]
+
+mod ast;
+mod delimited;
+mod error;
+mod lookahead;
+mod parse;
+
+pub use ast::{
+    AccessExpr, Constructor, DocComment, Document, EnumCase, EnumDecl, ExportOptions,
+    ExportStatement, Expr, ExternName, ExternType, Field, Flag, FlagsDecl, FuncType, FuncTypeRef,
+    Ident, ImportStatement, ImportType, InlineInterface, InterfaceDecl, InterfaceExport,
+    InterfaceItem, ItemTypeDecl, LetStatement, Method, NamedType, NamedWorldItem, PackageDirective,
+    PackageName, PackagePath, PostfixExpr, PrimaryExpr, RecordDecl, ResourceDecl, ResourceMethod,
+    ResultList, SegmentSpans, Statement, String, Type, TypeAlias, TypeAliasKind, TypeDecl,
+    TypeStatement, Use, UseItem, UsePath, VariantCase, VariantDecl, WorldDecl, WorldExport,
+    WorldImport, WorldInclude, WorldIncludeItem, WorldItem, WorldItemPath, WorldRef,
+};
+pub use error::{Error, ParseResult};
+pub use lookahead::Lookahead;
+pub use parse::parse_token;
+
+/// How each part of a document is parsed.
+pub mod internals {
+    pub use crate::parse::{Parse, Peek};
+}
+
+#[cfg(test)]
+mod tests;

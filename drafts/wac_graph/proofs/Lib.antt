@@ -1,0 +1,9 @@
+pub mod Numbers
+pub mod Copying
+pub mod Views
+pub mod Copies
+pub mod Growing
+pub mod Fitting
+pub mod Sound
+pub mod Exported
+pub mod Given

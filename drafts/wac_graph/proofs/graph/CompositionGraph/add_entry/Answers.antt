@@ -1,0 +1,14 @@
+use Rattle.std.proofs.Common.{List, sym, subst}
+use Rattle.wac_types.specs.declared.entry.Entry.{Entry}
+use Rattle.wac_types.specs.Entry.{children}
+use Rattle.wac_types.specs.Meaning.{EachKind}
+use Rattle.wac_types.specs.Table.{Names}
+use Rattle.wac_graph.specs.Graph.{Parts, IsSound}
+use Rattle.wac_graph.proofs.Sound.{sound_entry}
+use Rattle.wac_graph.proofs.graph.CompositionGraph.add_entry.Goals as goal
+
+pub invariant_of-self-2 : goal.invariant_of-self-2
+invariant_of-self-2 c =
+    let before : Parts = record { types = c.self.inside.types; packages = c.self.inside.packages.items; nodes = c.self.inside.nodes.items; imports = c.self.inside.imports; exports = c.self.inside.exports } in
+    subst (λ (l : List Entry). IsSound (record { types = l; packages = c.self.inside.packages.items; nodes = c.self.inside.nodes.items; imports = c.self.inside.imports; exports = c.self.inside.exports })) (sym c.in_ok-id.ensures.ok)
+    (sound_entry before c.args.entry (subst (λ (g : Parts). EachKind (Names g.types) (children c.args.entry)) (sym c.self.view_is) c.requires) c.self.invariant)

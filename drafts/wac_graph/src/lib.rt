@@ -1,0 +1,39 @@
+//! The graph of a composition of components: what a document of the composition language comes to.
+//!
+//! A [`CompositionGraph`] holds *nodes*: imports, definitions, aliases of the exports of instances, and instances of
+//! packages. Edges go from earlier nodes to later ones: from an instance to its alias, and from an argument to the
+//! instantiation that it is given to. Beside them it holds which node is imported or exported under which name, the
+//! packages that were added, and one table with the types of all of these.
+//!
+//! The types, what they mean, packages and rules are those of `wac_types`, whose names stand here too: a table's
+//! entries name earlier entries by number, and two kinds are the same when they mean the same, whatever their numbers
+//! are. A resource is its origin: two resources of one name are two.
+//!
+//! Building calls take what their contract asks, which the readings tell, and refuse only for want of memory; then
+//! the graph is as before, but that [`add_package`](CompositionGraph::add_package) may have added types. Contracts
+//! see the graph as its lists, in the order in which things were added.
+#![tactic(auto)]
+
+mod copied;
+mod copy;
+mod graph;
+mod ids;
+mod names;
+mod node;
+mod package_key;
+mod packages;
+
+pub use graph::CompositionGraph;
+pub use ids::{Nodes, Packages};
+pub use names::Names;
+pub use node::{NodeId, NodeKind, PackageId};
+pub use package_key::PackageKey;
+pub use packages::GraphPackage;
+pub use wac_types::{
+    DefinedType, DefinedTypeId, ExternKind, FuncKind, FuncType, FuncTypeId, Interface, InterfaceId,
+    ItemKind, ModuleTypeId, Package, PackageError, PrimitiveType, Reason, Resource, ResourceAlias,
+    ResourceId, Rules, Type, Types, UsedType, ValueType, World, WorldId,
+};
+
+#[cfg(test)]
+mod tests;

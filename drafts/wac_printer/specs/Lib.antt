@@ -1,0 +1,10 @@
+pub mod Printed
+pub mod Sliced
+pub mod Bare
+pub mod Parts
+pub mod TypeLayout
+pub mod DeclarationLayout
+pub mod InterfaceLayout
+pub mod WorldLayout
+pub mod ExpressionLayout
+pub mod StatementLayout

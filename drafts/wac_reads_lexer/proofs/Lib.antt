@@ -1,0 +1,17 @@
+pub mod Patterns
+pub mod Refusals
+pub mod States
+pub mod Texts
+pub mod Fronts
+pub mod Pieces
+pub mod Gaps
+pub mod Boundaries
+pub mod Unfolded
+pub mod Trimmed
+pub mod Parts
+pub mod Sorts
+pub mod Longest
+pub mod Ordered
+pub mod Firsts
+pub mod InFront
+pub mod Followed

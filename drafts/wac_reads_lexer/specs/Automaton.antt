@@ -1,0 +1,97 @@
+-- The states of the walk over a text, as the code has them. What a token is stands in Shapes and Tokens, which know nothing of them.
+use Rattle.std.specs.Prelude.{ℕ, ◌&&◌, ◌||◌, nat_le, nat_eq, if◌then◌else◌, Option, Some, None}
+use Rattle.wac_lexer.specs.declared.shape.Shape.{Shape}
+use Rattle.wac_lexer.specs.declared.shape.Shape.TheVariants as shapes
+use Rattle.wac_lexer.specs.declared.automaton.Class.{Class}
+use Rattle.wac_lexer.specs.declared.automaton.Class.TheVariants.{Lower, Upper, Digit, Percent, Dash, Plus, Colon, Slash, At, Dot, Quote, CloseAngle, OtherSymbol, Other}
+use Rattle.wac_lexer.specs.declared.automaton.Package.{Package}
+use Rattle.wac_lexer.specs.declared.automaton.Package.TheVariants.{Name, Path}
+use Rattle.wac_lexer.specs.declared.automaton.Part.{Part}
+use Rattle.wac_lexer.specs.declared.automaton.Part.TheVariants.{First, Later}
+use Rattle.wac_lexer.specs.declared.automaton.State.{State}
+use Rattle.wac_lexer.specs.declared.automaton.State.TheVariants.{Start, Joined, Small, Capital, Behind, Version, Digits, Point, Tail, Inside, Closed, Minus, OneDot, TwoDots, Ended, Dead}
+
+abbrev pub class_of : ℕ → Class
+class_of b =
+    if nat_le 97 b && nat_le b 122 then Lower
+    else (if nat_le 65 b && nat_le b 90 then Upper
+    else (if nat_le 48 b && nat_le b 57 then Digit
+    else (if nat_eq b 37 then Percent
+    else (if nat_eq b 45 then Dash
+    else (if nat_eq b 43 then Plus
+    else (if nat_eq b 58 then Colon
+    else (if nat_eq b 47 then Slash
+    else (if nat_eq b 64 then At
+    else (if nat_eq b 46 then Dot
+    else (if nat_eq b 34 then Quote
+    else (if nat_eq b 62 then CloseAngle
+    else (if nat_eq b 59 || (nat_eq b 123 || (nat_eq b 125 || (nat_eq b 61 || (nat_eq b 40 || (nat_eq b 41 || (nat_eq b 60 || (nat_eq b 95 || (nat_eq b 91 || (nat_eq b 93 || (nat_eq b 44)))))))))) then OtherSymbol
+    else Other))))))))))))
+
+abbrev pub behind_word_of : Part → Class → State
+behind_word_of part Dash = Joined part
+behind_word_of First Colon = Behind Name
+behind_word_of (Later Name) Colon = Behind Name
+behind_word_of (Later kind) Slash = Behind Path
+behind_word_of (Later kind) At = Version kind
+behind_word_of part class = Dead
+
+abbrev pub step_of : State → Class → State
+step_of Start Lower = Small First
+step_of Start Upper = Capital First
+step_of Start Percent = Joined First
+step_of Start Quote = Inside
+step_of Start Dash = Minus
+step_of Start Dot = OneDot
+step_of Start Colon = Ended
+step_of Start Slash = Ended
+step_of Start At = Ended
+step_of Start CloseAngle = Ended
+step_of Start OtherSymbol = Ended
+step_of (Joined part) Lower = Small part
+step_of (Joined part) Upper = Capital part
+step_of (Small part) Lower = Small part
+step_of (Small part) Digit = Small part
+step_of (Small part) class = behind_word_of part class
+step_of (Capital part) Upper = Capital part
+step_of (Capital part) Digit = Capital part
+step_of (Capital part) class = behind_word_of part class
+step_of (Behind kind) Lower = Small (Later kind)
+step_of (Behind kind) Upper = Capital (Later kind)
+step_of (Behind kind) Percent = Joined (Later kind)
+step_of (Version kind) Digit = Digits kind
+step_of (Digits kind) Digit = Digits kind
+step_of (Digits kind) Dot = Point kind
+step_of (Point kind) Lower = Tail kind
+step_of (Point kind) Upper = Tail kind
+step_of (Point kind) Digit = Tail kind
+step_of (Point kind) Dash = Tail kind
+step_of (Point kind) Plus = Tail kind
+step_of (Tail kind) Lower = Tail kind
+step_of (Tail kind) Upper = Tail kind
+step_of (Tail kind) Digit = Tail kind
+step_of (Tail kind) Dash = Tail kind
+step_of (Tail kind) Plus = Tail kind
+step_of (Tail kind) Dot = Point kind
+step_of Inside Quote = Closed
+step_of Inside class = Inside
+step_of Minus CloseAngle = Ended
+step_of OneDot Dot = TwoDots
+step_of TwoDots Dot = Ended
+step_of state class = Dead
+
+abbrev pub shape_of_package : Package → Shape
+shape_of_package Name = shapes.Name
+shape_of_package Path = shapes.Path
+
+abbrev pub shape_at : State → Option Shape
+shape_at (Small First) = Some shapes.Word
+shape_at (Capital First) = Some shapes.Word
+shape_at (Small (Later kind)) = Some (shape_of_package kind)
+shape_at (Capital (Later kind)) = Some (shape_of_package kind)
+shape_at (Digits kind) = Some (shape_of_package kind)
+shape_at (Tail kind) = Some (shape_of_package kind)
+shape_at Closed = Some shapes.Quoted
+shape_at OneDot = Some shapes.Symbol
+shape_at Ended = Some shapes.Symbol
+shape_at state = None

@@ -1,0 +1,72 @@
+-- Block comments, which nest.
+use Rattle.std.specs.List.{prefix_len}
+use Rattle.std.specs.Prelude.{◌≡◌, refl, codes, ℕ, zero, suc, ◌+◌, ◌-◌, Bool, true, false, ◌&&◌, ◌||◌, not, ◌==◌, slice_index, nat_eq, List, [], ◌∷◌, length, drop, Option, Some, None, if◌then◌else◌}
+
+-- whether a text begins with these two bytes
+abbrev pub begins : ℕ → ℕ → List ℕ → Bool
+begins x y [] = false
+begins x y (a ∷ []) = false
+begins x y (a ∷ b ∷ text) = nat_eq a x && nat_eq b y
+
+abbrev pub opens : List ℕ → Bool
+opens = begins 47 42
+
+abbrev pub closes : List ℕ → Bool
+closes = begins 42 47
+
+-- From within a comment, past pieces and the comment's end, to the rest: a piece is a whole comment, or one byte
+-- at which neither `/*` nor `*/` begins.
+pub data Inside : List ℕ → List ℕ → Type 0 where
+  ends : {rest : List ℕ} → Inside (42 ∷ 47 ∷ rest) rest
+  comment : {text mid rest : List ℕ} → Inside text mid → Inside mid rest → Inside (47 ∷ 42 ∷ text) rest
+  byte : {b : ℕ} {text rest : List ℕ} → opens (b ∷ text) ≡ false → closes (b ∷ text) ≡ false → Inside text rest → Inside (b ∷ text) rest
+
+-- The same, computed: what follows the ends of n comments that a text stands within.
+abbrev pub behind : ℕ → List ℕ → Option (List ℕ)
+behind zero text = Some text
+behind (suc n) [] = None
+behind (suc n) (a ∷ []) = None
+behind (suc n) (a ∷ b ∷ text) =
+    elim (nat_eq a 47 && nat_eq b 42) [
+      | true ↦ behind (suc (suc n)) text
+      | false ↦ elim (nat_eq a 42 && nat_eq b 47) [ true ↦ behind n text | false ↦ behind (suc n) (b ∷ text) ]
+    ]
+
+-- space, TAB, CR and LF
+abbrev pub is_blank : ℕ → Bool
+is_blank b = nat_eq b 32 || (nat_eq b 9 || (nat_eq b 13 || nat_eq b 10))
+
+abbrev pub is_not_line_end : ℕ → Bool
+is_not_line_end b = not (nat_eq b 10)
+
+-- how many bytes come before the first LF
+abbrev pub line_len : List ℕ → ℕ
+line_len text = prefix_len is_not_line_end text
+
+-- how many bytes the whole block comment takes that begins a text, and 0 where it has no end
+abbrev pub block_len : List ℕ → ℕ
+block_len text = elim (behind 1 (drop 2 text)) [ Some rest ↦ length text - length rest | None ↦ 0 ]
+
+-- how many bytes the blank or the whole comment takes that begins a text, and 0 where none does
+abbrev pub part_len : List ℕ → ℕ
+part_len text =
+    if length text == 0 then 0
+    else (if is_blank (slice_index text 0) then 1
+    else (if begins 47 47 text then line_len text
+    else (if opens text then block_len text else 0)))
+
+-- how many bytes up to n blanks and comments take
+abbrev pub parts_len : ℕ → List ℕ → ℕ
+parts_len zero text = 0
+parts_len (suc n) text = part_len text + (if part_len text == 0 then 0 else parts_len n (drop (part_len text) text))
+
+-- how many bytes stand before the first item
+abbrev pub gap : List ℕ → ℕ
+gap text = parts_len (length text) text
+
+-- examples
+gap_of_three_parts : gap (codes " // x\n/* a /* b */ */c") ≡ 21
+gap_of_three_parts = refl
+
+gap_before_an_open_comment : gap (codes " /* a /* b */") ≡ 1
+gap_before_an_open_comment = refl

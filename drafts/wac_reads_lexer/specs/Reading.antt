@@ -1,0 +1,56 @@
+-- What a lexer is to its callers.
+use Rattle.std.specs.Prelude.{refl, codes, ℕ, ◌≡◌, ◌-◌, ◌≤◌, ◌<◌, ◌^◌, List, ◌++◌, length, take, drop, MatchOption, IfSome, if◌then◌else◌, ◌==◌}
+use Rattle.std.specs.Str.{IsCharBoundary}
+use Rattle.wac_lexer.specs.Span.{Span, span, end_of}
+use Rattle.wac_lexer.specs.Item.{Item, Handed, handed, behind_first, OnFirst}
+use Rattle.wac_lexer.specs.Items.{items_from, items}
+
+-- a source, the place up to which it was read, and the span of the last item that `next` gave
+pub record Reading : Type 0 where
+  pub source : List ℕ
+  pub place : ℕ
+  pub last : Span
+
+-- the items that are still to come
+unfoldable pub left : Reading → List Item
+left reading = items_from reading.source reading.place
+
+-- the bytes of a span
+abbrev pub slice : List ℕ → Span → List ℕ
+slice source s = take s.len (drop s.offset source)
+
+-- the span stands in the source, and cuts no character
+abbrev pub Slices : List ℕ → Span → Type 0
+Slices source s = IsCharBoundary source s.offset × IsCharBoundary source (end_of s)
+
+-- the span that messages show: one that ends at the source's end becomes its last byte
+abbrev pub shown : List ℕ → Span → Span
+shown source s = if end_of s == length source then span (s.offset - 1) 1 else s
+
+-- examples: within the source, and at its end
+shown_within : shown (codes "abc") (span 1 1) ≡ span 1 1
+shown_within = refl
+
+shown_at_the_end : shown (codes "abc") (span 2 1) ≡ span 1 1
+shown_at_the_end = refl
+
+-- a call of `next` gave this out of the first of the items left, and left the others
+pub record Nexts (old : Reading) (item : Handed) (new : Reading) : Type 0 where
+  pub gives : item ≡ handed (left old)
+  pub rest : left new ≡ behind_first (left old)
+  pub source : new.source ≡ old.source
+  pub moves : old.place ≤ new.place
+  pub last : MatchOption item (new.last ≡ span (length old.source) 0) (λ x. new.last ≡ x.1)
+  pub slices : IfSome item (λ x. Slices old.source x.1)
+  pub fits : IfSome item (λ x. end_of x.1 < 2 ^ 64)
+  pub text : OnFirst (left old) (λ x. x.text ≡ slice old.source x.span)
+
+-- the place stands between two items of the source: some of them are before it, and the others behind
+abbrev pub BetweenItems : List ℕ → ℕ → Type 0
+BetweenItems source place = (before : List Item) × (items source ≡ before ++ items_from source place)
+
+-- what every lexer keeps: its place stands between two items and cuts no character, and its last span lies in the source
+pub record IsWithin (source : List ℕ) (place : ℕ) (last : Span) : Type 0 where
+  pub boundary : IsCharBoundary source place
+  pub between : BetweenItems source place
+  pub last_ends : end_of last ≤ length source

@@ -1,0 +1,109 @@
+// Finds the items of a source.
+ghost use Rattle.std.specs.Prelude.{◌≡◌, ◌+◌, ◌<◌, ◌≤◌, ◌^◌, length, drop, Some, IfSome, MatchOption, []};
+ghost use Rattle.std.specs.Str.{IsCharBoundary};
+ghost use Rattle.wac_lexer.specs.Comments.{gap};
+ghost use Rattle.wac_lexer.specs.Docs.{docs_at};
+ghost use Rattle.wac_lexer.specs.Item.{handed, behind_first, OnFirst};
+ghost use Rattle.wac_lexer.specs.Items.{first_item, items_from, first_char_len};
+ghost use Rattle.wac_lexer.specs.Reading.{Slices, slice};
+ghost use Rattle.wac_lexer.specs.Shapes.{shape_of};
+ghost use Rattle.wac_lexer.specs.Span.{end_of};
+ghost use Rattle.wac_lexer.specs.Tokens.{token_of};
+
+use crate::automaton::longest_front;
+use crate::comments::{gap, opens};
+use crate::error::Error;
+use crate::shape::Shape;
+use crate::span::SourceSpan;
+use crate::symbols::symbol;
+use crate::token::Token;
+use crate::words::keyword;
+
+pub(crate) type Item = (Result<Token, Error>, SourceSpan);
+
+/// The token that a text of this shape is.
+fn token_of(shape: Shape, text: &str) -> Token
+    requires { shape_of text.now ≡ Some shape }
+    ensures { token_of text.now ≡ Some result }
+{
+    match shape {
+        Shape::Word => match keyword(text) {
+            Some(token) => token,
+            None => Token::Ident,
+        },
+        Shape::Name => Token::PackageName,
+        Shape::Path => Token::PackagePath,
+        Shape::Quoted => Token::String,
+        Shape::Symbol => match symbol(text) {
+            Some(token) => token,
+            None => unreachable!(),
+        },
+    }
+}
+
+fn first_char_len(text: &str) -> usize
+    requires { 0 < length text.now }
+    ensures len { result ≡ first_char_len text.now }
+    ensures within { IsCharBoundary text.now result }
+    ensures some { 0 < result }
+{
+    match text.chars().next() {
+        Some(first) => first.len_utf8(),
+        None => 1,
+    }
+}
+
+/// What begins a text, and how many bytes it takes.
+fn first_item(text: &str) -> Option<(Result<Token, Error>, usize)>
+    ensures item { result ≡ first_item text.now }
+    ensures within { IfSome result (λ found. IsCharBoundary text.now found.1) }
+    ensures some { IfSome result (λ found. 0 < found.1) }
+{
+    if text.is_empty() {
+        return None;
+    }
+    let bytes = text.as_bytes();
+    if opens(bytes) {
+        return Some((Err(Error::UnterminatedComment), bytes.len()));
+    }
+    match longest_front(bytes) {
+        Some((len, shape)) => {
+            let (front, _) = text.split_at(len);
+            let token = token_of(shape, front);
+            Some((Ok(token), len))
+        }
+        None => {
+            if bytes[0] == b'"' {
+                Some((Err(Error::UnterminatedString), 1))
+            } else {
+                Some((Err(Error::UnexpectedToken), first_char_len(text)))
+            }
+        }
+    }
+}
+
+/// Where the first item behind a place begins.
+fn start_of(source: &str, place: usize) -> usize
+    requires { IsCharBoundary source.now place }
+    ensures start { result ≡ place + gap (drop place source.now) }
+    ensures within { IsCharBoundary source.now result }
+{
+    let rest = &source[place..];
+    place + gap(rest.as_bytes())
+}
+
+/// The first item behind a place: the token or fault, and its span.
+pub(crate) fn item_at(source: &str, place: usize) -> Option<Item>
+    requires { IsCharBoundary source.now place }
+    ensures item { result ≡ handed (items_from source.now place) }
+    ensures rest { MatchOption result (items_from source.now place ≡ []) (λ item. items_from source.now (end_of item.1) ≡ behind_first (items_from source.now place)) }
+    ensures slices { IfSome result (λ item. Slices source.now item.1) }
+    ensures moves { IfSome result (λ item. place < end_of item.1) }
+    ensures fits { IfSome result (λ item. end_of item.1 < 2 ^ 64) }
+    ensures text { OnFirst (items_from source.now place) (λ item. item.text ≡ slice source.now item.span) }
+    ensures docs { OnFirst (items_from source.now place) (λ item. item.docs ≡ docs_at source.now place) }
+{
+    let start = start_of(source, place);
+    let (found, len) = first_item(&source[start..])?;
+    Some((found, SourceSpan::new(start, len)))
+}

@@ -1,0 +1,62 @@
+// Laws of the definitions that the lexer's contracts cite. Each function does nothing: its contract is the law.
+ghost use Rattle.std.specs.Prelude.{◌≡◌, ◌<◌, ◌↔◌, ℕ, List, MatchOption, Result, drop, length, [], true, None, Some};
+ghost use Rattle.std.specs.List.{AllByRecursion};
+ghost use Rattle.std.specs.Str.{IsUtf8, chars};
+ghost use Rattle.wac_lexer.specs.Characters.{IsFirstRefused, fault_of, refused};
+ghost use Rattle.wac_lexer.specs.Comments.{Inside, behind, gap};
+ghost use Rattle.wac_lexer.specs.Docs.{docs_at};
+ghost use Rattle.wac_lexer.specs.First.{IsFirst};
+ghost use Rattle.wac_lexer.specs.Gap.{Gap, IsLongestGap, docs_among};
+ghost use Rattle.wac_lexer.specs.Items.{items, first_item};
+ghost use Rattle.wac_lexer.specs.Order.{InOrder};
+ghost use Rattle.wac_lexer.specs.Pattern.{Pattern, Matches, matches};
+ghost use Rattle.wac_lexer.specs.Tokens.{IsToken, IsLongest, HasNone, token_of, longest_token};
+ghost use Rattle.wac_lexer.specs.declared.token.Token.{Token as Kind};
+ghost use Rattle.wac_lexer.specs.declared.error.Error.{Error as Fault};
+
+/// Reading a text byte by byte tells whether it is one of a pattern's.
+pub fn patterns_are_decided()
+    ensures { (p : Pattern) (text : List ℕ) → matches p text ≡ true ↔ Matches p text }
+{}
+
+/// Counting how deep a text stands in comments finds what the pieces of comments say.
+pub fn comments_are_pieces()
+    ensures { (text rest : List ℕ) → (behind 1 text ≡ Some rest) ↔ Inside text rest }
+{}
+
+/// What is skipped before an item is the longest gap: blanks, line comments and block comments.
+pub fn gap_is_longest()
+    ensures { (text : List ℕ) → IsLongestGap text (gap text) }
+{}
+
+/// The docs of a place are those among the blanks and comments of the longest gap there.
+pub fn docs_stand_in_the_gap()
+    ensures { (source : List ℕ) (place : ℕ) (parts : List (List ℕ)) → let text = drop place source in Gap text parts (drop (gap text) text) → docs_at source place ≡ docs_among place parts }
+{}
+
+/// A text is at most one token, and looking it up finds which.
+pub fn tokens_are_decided()
+    ensures found { (text : List ℕ) (token : Kind) → token_of text ≡ Some token ↔ IsToken token text }
+    ensures one { (text : List ℕ) (a b : Kind) → IsToken a text → IsToken b text → a ≡ b }
+{}
+
+/// The front that is found is the longest that is a token.
+pub fn fronts_are_longest()
+    ensures { (text : List ℕ) → MatchOption (longest_token text (length text)) (HasNone text) (λ f. IsLongest text f.0 f.1) }
+{}
+
+/// The items of a source stand in order, none over another, and each one's text is the slice at its span.
+pub fn items_stand_in_order()
+    ensures { (source : List ℕ) → IsUtf8 source → InOrder source 0 (items source) }
+{}
+
+/// What a text of bytes begins with: a comment without an end, a quote without another, the longest token, or else a character.
+pub fn first_items_are_found()
+    ensures found { (text : List ℕ) (item : Result Kind Fault) (n : ℕ) → AllByRecursion (λ b. b < 256) text → first_item text ≡ Some (item, n) ↔ IsFirst text item n }
+    ensures empty { first_item [] ≡ None }
+{}
+
+/// The refused character is the first of the whole text.
+pub fn refused_characters_are_first()
+    ensures { (text : List ℕ) → MatchOption (refused text) (AllByRecursion (λ c. fault_of c ≡ None) (chars text)) (λ found. IsFirstRefused text found.0 found.1) }
+{}

@@ -1,0 +1,186 @@
+// Reads a source item by item.
+use crate::characters::refused;
+use crate::docs::docs_at;
+use crate::error::Error;
+use crate::items::item_at;
+use crate::span::SourceSpan;
+use crate::token::Token;
+use std::alloc::{AllocError, Global};
+use std::marker::Model;
+
+/// What an item is: a token, or the fault that stands in its place.
+pub type LexerResult<T> = Result<T, Error>;
+
+/// Reads a source item by item, from its start on.
+///
+/// An item is a token or a fault, with its span in bytes. Blanks and comments stand between items. A token is the
+/// longest text there that has a token's shape. Behind a fault the lexer goes on. No call but `comments` takes memory.
+///
+/// ```
+/// // Writes the documentation comments and the items of a source, each with its place.
+/// let Ok(mut lexer) = Lexer::new("/// The name.\npackage a:b;") else { return Ok(()) };
+/// for (text, span) in &lexer.comments(rt.alloc())? {
+///     println!(rt; "{}+{} {text}", span.offset(), span.len())?; // 0+13 The name.
+/// }
+/// while let Some((item, span)) = lexer.next() {
+///     match item {
+///         Ok(token) => println!(rt; "{}+{} {token}", span.offset(), span.len())?, // 14+7 `package` keyword
+///         Err(fault) => println!(rt; "{}+{} {fault}", span.offset(), span.len())?,
+///     }
+/// }
+/// ```
+#[derive(Clone, Drop)]
+pub struct Lexer<'a> {
+    source: &'a str,
+    place: usize,
+    last: SourceSpan,
+}
+
+impl<'a> Model for Lexer<'a> {
+    ghost use Rattle.wac_lexer.specs.Reading.{Reading, IsWithin};
+
+    ghost Value = { Reading };
+
+    ghost view = { λ l. record { source = l.source.now; place = l.place; last = l.last } };
+
+    ghost invariant = { λ l. IsWithin l.source.now l.place l.last };
+}
+
+impl<'a> Lexer<'a> {
+    ghost use Rattle.std.specs.Prelude.{◌≡◌, ◌<◌, ◌^◌, ◌↔◌, ◌++◌, List, None, map, IsTrue, MatchResult, IfOk, IfSome, Some};
+    ghost use Rattle.wac_lexer.specs.Characters.{refused};
+    ghost use Rattle.wac_lexer.specs.Docs.{docs_at};
+    ghost use Rattle.wac_lexer.specs.Item.{Item, handed, behind_first, OnFirst, doc_of};
+    ghost use Rattle.wac_lexer.specs.Items.{items};
+    ghost use Rattle.wac_lexer.specs.Reading.{Slices, shown, slice, left};
+    ghost use Rattle.wac_lexer.specs.Span.{span, end_of};
+
+    /// A lexer at the start of a source.
+    ///
+    /// A source that holds a refused character, in a comment or a string too, is refused as a whole: the error is
+    /// that of the first one, with its offset and its length in UTF-8.
+    #[tactic(auto, unfolding(crate::specs::Reading::left))]
+    pub fn new(source: &'a str) -> Result<Lexer<'a>, (Error, SourceSpan)>
+        ensures refused { MatchResult result (λ l. refused source.now ≡ None) (λ e. refused source.now ≡ Some e) }
+        ensures source { IfOk result (λ l. l.source ≡ source.now) }
+        ensures left { IfOk result (λ l. left l ≡ items source.now) }
+        ensures place { IfOk result (λ l. l.place ≡ 0) }
+        ensures last { IfOk result (λ l. l.last ≡ span 0 0) }
+    {
+        match refused(source) {
+            Some(fault) => Err(fault),
+            None => Ok(Lexer {
+                source,
+                place: 0,
+                last: SourceSpan::new(0, 0),
+            }),
+        }
+    }
+
+    /// The item that `next` will give, which stays.
+    #[tactic(auto, unfolding(crate::specs::Reading::left))]
+    pub fn peek(&self) -> Option<(LexerResult<Token>, SourceSpan)>
+        ensures gives { result ≡ handed (left self.now) }
+        ensures slices { IfSome result (λ item. Slices self.now.source item.1) }
+        ensures fits { IfSome result (λ item. end_of item.1 < 2 ^ 64) }
+    {
+        item_at(self.source, self.place)
+    }
+
+    /// The item after the next one. Both stay.
+    #[tactic(auto, unfolding(crate::specs::Reading::left))]
+    pub fn peek2(&self) -> Option<(LexerResult<Token>, SourceSpan)>
+        ensures gives { result ≡ handed (behind_first (left self.now)) }
+        ensures slices { IfSome result (λ item. Slices self.now.source item.1) }
+        ensures fits { IfSome result (λ item. end_of item.1 < 2 ^ 64) }
+    {
+        let (_, next) = item_at(self.source, self.place)?;
+        item_at(self.source, next.offset() + next.len())
+    }
+
+    /// The documentation comments behind the last item, up to the next item or a comment without an end.
+    ///
+    /// `///x` and `/**x*/` give x without the white space around it, and the span of the whole comment. Nothing is
+    /// consumed, so a second call gives the same. The only error is want of memory.
+    #[tactic(auto, unfolding(crate::specs::Reading::left))]
+    pub fn comments(&self, alloc: Global) -> Result<Vec<(&'a str, SourceSpan)>, AllocError>
+        ensures docs { IfOk result (λ v. map doc_of v.items ≡ docs_at self.now.source self.now.place) }
+        ensures first { OnFirst (left self.now) (λ x. x.docs ≡ docs_at self.now.source self.now.place) }
+    {
+        docs_at(alloc, self.source, self.place)
+    }
+
+    /// A lexer always stands between two items of its source. This does nothing: its contract is the law.
+    #[tactic(auto, unfolding(crate::specs::Reading::left))]
+    pub fn stands_between_items(&self)
+        ensures { (before : List Item) × (items self.now.source ≡ before ++ left self.now) }
+    {
+        let _ = &self.source;
+    }
+
+    /// The span of the item that `next` gave last, for messages.
+    ///
+    /// It is 0..0 before the first, and the empty one at the end once `next` has given None. A span that ends where
+    /// the source ends becomes one byte, the byte before its start.
+    pub fn span(&self) -> SourceSpan
+        ensures { result ≡ shown self.now.source self.now.last }
+    {
+        let offset = self.last.offset();
+        let len = self.last.len();
+        if offset + len == self.source.len() {
+            SourceSpan::new(offset.saturating_sub(1), 1)
+        } else {
+            self.last
+        }
+    }
+
+    /// Whether the span is in range and cuts no character, as `source` asks.
+    pub fn holds(&self, span: SourceSpan) -> bool
+        ensures { IsTrue result ↔ Slices self.now.source span }
+    {
+        match span.offset().checked_add(span.len()) {
+            Some(end) => {
+                self.source.is_char_boundary(span.offset()) && self.source.is_char_boundary(end)
+            }
+            None => false,
+        }
+    }
+
+    /// The text of the span. Each item's span can be given, and each one that `holds`.
+    pub fn source(&self, span: SourceSpan) -> &'a str
+        requires { Slices self.now.source span }
+        ensures { result.now ≡ slice self.now.source span }
+    {
+        let (_, rest) = self.source.split_at(span.offset());
+        let (text, _) = rest.split_at(span.len());
+        text
+    }
+}
+
+impl Iterator for Lexer<'_> {
+    ghost use Rattle.std.specs.Prelude.{◌-◌, length};
+    ghost use Rattle.std.specs.Iterator.{at_most};
+    ghost use Rattle.wac_lexer.specs.Reading.{Nexts};
+
+    type Item = (LexerResult<Token>, SourceSpan);
+
+    ghost next_gives = { Nexts };
+
+    ghost remaining = { λ l. at_most (length l.source - l.place) };
+
+    #[tactic(auto, unfolding(crate::specs::Reading::left))]
+    fn next(&mut self) -> Option<(LexerResult<Token>, SourceSpan)> {
+        match item_at(self.source, self.place) {
+            Some((found, span)) => {
+                self.place = span.offset() + span.len();
+                self.last = span;
+                Some((found, span))
+            }
+            None => {
+                self.place = self.source.len();
+                self.last = SourceSpan::new(self.place, 0);
+                None
+            }
+        }
+    }
+}

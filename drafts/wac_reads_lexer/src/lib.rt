@@ -1,0 +1,30 @@
+// The lexer of the WebAssembly Composition language.
+#![tactic(auto)]
+
+mod automaton;
+mod characters;
+mod comments;
+mod docs;
+mod error;
+mod follow;
+mod items;
+mod laws;
+mod lexer;
+mod shape;
+mod span;
+mod symbols;
+#[cfg(test)]
+mod tests;
+mod token;
+mod words;
+
+pub use error::Error;
+pub use follow::{identifiers_follow_dots, tokens_are_read_back};
+pub use laws::{
+    comments_are_pieces, docs_stand_in_the_gap, first_items_are_found, fronts_are_longest,
+    gap_is_longest, items_stand_in_order, patterns_are_decided, refused_characters_are_first,
+    tokens_are_decided,
+};
+pub use lexer::{Lexer, LexerResult};
+pub use span::SourceSpan;
+pub use token::Token;

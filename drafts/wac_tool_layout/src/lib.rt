@@ -1,0 +1,16 @@
+//! What the program `wac` does, over any feed and any sink.
+#![tactic(auto)]
+
+mod command;
+mod error;
+mod printing;
+mod reporting;
+mod running;
+#[cfg(test)]
+mod tests;
+mod transfer;
+
+pub use command::Command;
+pub use error::RunError;
+pub use reporting::report;
+pub use running::run;

@@ -1,0 +1,160 @@
+//! Running commands.
+ghost use Rattle.std.specs.Prelude.{◌≡◌, ◌+◌, ◌++◌, [], OnOk, OnErr, IfOk, IfErr, ◌⊎◌, alloc_error, IsUtf8, Some, string_bytes};
+ghost use Rattle.std.specs.Io.{appended_bytes};
+ghost use Rattle.wac_lexer.specs.Span.{Span};
+ghost use Rattle.wac_ast.specs.Error.{told_by};
+ghost use Rattle.wac_ast.specs.Slices.{DocumentSlices};
+ghost use Rattle.wac_ast.specs.Views.{document_of};
+ghost use Rattle.wac_tool.specs.Front.{Began};
+ghost use Rattle.wac_tool.specs.Running.{printed, Answers, input_failures, output_failures, ReadsAll, place_of, item_line, IsRefusal};
+ghost use Rattle.wac_tool.specs.declared.command.Command.TheVariants.{Tokens, Fmt};
+ghost use Rattle.wac_tool.specs.declared.error.RunError.TheVariants.{Refused, Memory};
+
+use crate::command::Command;
+use crate::error::RunError;
+use crate::printing::{DocumentPrinter, PrintResult};
+use crate::transfer::{put_all, take_all};
+use std::alloc::{AllocError, Global};
+use wac_ast::Document;
+use wac_lexer::{Feed, Lexer, LexerResult, Sink, SourceSpan, Token};
+
+/// Reads all bytes of `reader`, and writes the text that `command` makes of them into `writer`.
+///
+/// Memory is wanted for the bytes, for the document and for the text of a refusal.
+pub fn run<F: Feed, S: Sink>(
+    alloc: Global,
+    command: Command,
+    reader: &mut F,
+    writer: &mut S,
+) -> Result<(), RunError>
+    ensures reads { F.taken reader.new ≡ F.taken reader.old ++ appended_bytes (F.taken reader.old) (F.taken reader.new) }
+    ensures reads_all { ReadsAll result (F.left reader.old) (appended_bytes (F.taken reader.old) (F.taken reader.new)) }
+    ensures answers { Answers command result (appended_bytes (F.taken reader.old) (F.taken reader.new)) (S.bytes writer.old) (S.bytes writer.new) }
+    ensures input { F.failures reader.new ≡ F.failures reader.old + input_failures result }
+    ensures output { S.failures writer.new ≡ S.failures writer.old + output_failures result }
+{
+    let bytes = take_all(alloc, reader)?;
+    match str::from_utf8(&bytes) {
+        Ok(source) => write(alloc, command, source, writer),
+        Err(_) => Err(RunError::NotUtf8),
+    }
+}
+
+/// Writes the text that `command` makes of a source.
+fn write<S: Sink>(
+    alloc: Global,
+    command: Command,
+    source: &str,
+    writer: &mut S,
+) -> Result<(), RunError>
+    requires { IsUtf8 source.now }
+    ensures answers { Answers command result source.now (S.bytes writer.old) (S.bytes writer.new) }
+    ensures input { input_failures result ≡ 0 }
+    ensures output { S.failures writer.new ≡ S.failures writer.old + output_failures result }
+{
+    match command {
+        Command::Tokens => write_items(alloc, source, writer),
+        Command::Fmt => write_document(alloc, source, writer),
+    }
+}
+
+/// Writes a line for each item of a source.
+fn write_items<S: Sink>(alloc: Global, source: &str, writer: &mut S) -> Result<(), RunError>
+    requires { IsUtf8 source.now }
+    ensures answers { Answers Tokens result source.now (S.bytes writer.old) (S.bytes writer.new) }
+    ensures input { input_failures result ≡ 0 }
+    ensures output { S.failures writer.new ≡ S.failures writer.old + output_failures result }
+{
+    let lexer = match Lexer::new(source) {
+        Ok(lexer) => lexer,
+        Err((error, span)) => return Err(refusal(alloc, wac_ast::Error::Lexer { error, span })),
+    };
+    for (item, span) in lexer {
+        let line = item_line(alloc, item, span)?;
+        if !put_all(writer, line.as_bytes()) {
+            return Err(RunError::Output);
+        }
+    }
+    Ok(())
+}
+
+/// The line of an item.
+fn item_line(
+    alloc: Global,
+    item: LexerResult<Token>,
+    span: SourceSpan,
+) -> Result<String, AllocError>
+    ensures { IfOk result (λ line. string_bytes line ≡ item_line item span) }
+{
+    let offset = span.offset();
+    let len = span.len();
+    match item {
+        Ok(token) => format!(in alloc; "{offset}+{len} {token}\n"),
+        Err(fault) => format!(in alloc; "{offset}+{len} {fault}\n"),
+    }
+}
+
+/// Prints the document of a source.
+fn write_document<S: Sink>(alloc: Global, source: &str, writer: &mut S) -> Result<(), RunError>
+    requires { IsUtf8 source.now }
+    ensures answers { Answers Fmt result source.now (S.bytes writer.old) (S.bytes writer.new) }
+    ensures input { input_failures result ≡ 0 }
+    ensures output { S.failures writer.new ≡ S.failures writer.old + output_failures result }
+{
+    let document = match Document::parse(alloc, source) {
+        Ok(document) => document,
+        Err(error) => return Err(refusal(alloc, error)),
+    };
+    match print(&document, source, writer) {
+        Ok(()) => Ok(()),
+        Err(_) => Err(RunError::Output),
+    }
+}
+
+/// Prints a document into a sink.
+#[tactic(auto, unfolding(crate::specs::Running::printed, crate::specs::Printed::after))]
+fn print<S: Sink>(document: &Document<'_>, source: &str, writer: &mut S) -> PrintResult
+    requires { DocumentSlices source.now (document_of document.now) }
+    ensures written { OnOk result (S.bytes writer.new ≡ S.bytes writer.old ++ printed source.now (document_of document.now)) }
+    ensures works { OnOk result (S.failures writer.new ≡ S.failures writer.old) }
+    ensures began { OnErr result (Began (S.bytes writer.old) (S.bytes writer.new) (printed source.now (document_of document.now))) }
+    ensures failed { OnErr result (S.failures writer.new ≡ S.failures writer.old + 1) }
+{
+    let mut printer = DocumentPrinter::new(writer, source, None);
+    let result = printer.document(document);
+    let writer = printer.into_writer();
+    // The proof reads from this use what the writer holds.
+    let _ = &*writer;
+    result
+}
+
+/// Where an error lies.
+fn place_of(error: &wac_ast::Error) -> Option<SourceSpan>
+    ensures { result ≡ place_of (told_by error.now) }
+{
+    match error {
+        wac_ast::Error::Lexer { span, .. }
+        | wac_ast::Error::Expected { span, .. }
+        | wac_ast::Error::ExpectedEither { span, .. }
+        | wac_ast::Error::ExpectedMultiple { span, .. }
+        | wac_ast::Error::EmptyType { span, .. }
+        | wac_ast::Error::InvalidVersion { span, .. } => Some(*span),
+        wac_ast::Error::Memory(_) => None,
+    }
+}
+
+/// What is answered of a source that has no tree.
+fn refusal(alloc: Global, error: wac_ast::Error) -> RunError
+    ensures { IsRefusal error result }
+{
+    match error {
+        wac_ast::Error::Memory(_) => RunError::Memory(AllocError),
+        error => {
+            let span = place_of(&error);
+            match format!(in alloc; "{error}") {
+                Ok(text) => RunError::Refused { span, text },
+                Err(_) => RunError::Memory(AllocError),
+            }
+        }
+    }
+}

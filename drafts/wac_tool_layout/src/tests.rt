@@ -1,0 +1,378 @@
+//! Whole runs.
+
+use crate::{Command, RunError, report, run};
+use std::alloc::Global;
+use std::io;
+use std::io::{ErrorKind, Read, Write};
+use std::process::Abort;
+use std::test::Fail;
+use wac_lexer::{In, Out};
+
+/// What a run of the program shows.
+struct Outcome {
+    written: Vec<u8>,
+    said: Vec<u8>,
+    status: u8,
+}
+
+/// Does what the program does with one word.
+fn performed(alloc: Global, word: &str, input: &[u8]) -> Result<Outcome, Fail> {
+    let mut written = Vec::new(alloc);
+    let mut said = Vec::new(alloc);
+    let status = match Command::named(word) {
+        None => report(None, &mut Out::new(&mut said)),
+        Some(command) => {
+            match run(
+                alloc,
+                command,
+                &mut In::new(input),
+                &mut Out::new(&mut written),
+            ) {
+                Ok(()) => 0,
+                Err(error) => report(Some(&error), &mut Out::new(&mut said)),
+            }
+        }
+    };
+    Ok(Outcome {
+        written,
+        said,
+        status,
+    })
+}
+
+/// Asserts what a run writes.
+fn writes(rt: &impl Abort, alloc: Global, word: &str, input: &str, text: &str) -> Result<(), Fail> {
+    let Outcome {
+        written,
+        said,
+        status,
+    } = performed(alloc, word, input.as_bytes())?;
+    assert_eq!(rt; said.as_slice(), b"".as_slice(), "said of {input}");
+    assert_eq!(rt; written.as_slice(), text.as_bytes(), "written of {input}");
+    assert_eq!(rt; status, 0, "of {input}");
+    Ok(())
+}
+
+/// Asserts what a run says where it writes nothing.
+fn says(
+    rt: &impl Abort,
+    alloc: Global,
+    word: &str,
+    input: &[u8],
+    line: &str,
+    code: u8,
+) -> Result<(), Fail> {
+    let Outcome {
+        written,
+        said,
+        status,
+    } = performed(alloc, word, input)?;
+    assert_eq!(rt; said.as_slice(), line.as_bytes());
+    assert_eq!(rt; written.as_slice(), b"".as_slice(), "at {line}");
+    assert_eq!(rt; status, code, "at {line}");
+    Ok(())
+}
+
+const FIRST: &str = "package a:b; let x = y; export x.z;";
+
+const FIRST_PRINTED: &str = "package a:b;\n\nlet x = y;\n\nexport x.z;\n";
+
+#[test]
+fn items_are_listed(rt: HostRuntime) -> Result<(), Fail> {
+    for (input, text) in [
+        ("", ""),
+        ("fooBar", "0+3 identifier\n3+1 identifier\n4+2 identifier\n"),
+        ("....", "0+3 `...`\n3+1 `.`\n"),
+        ("x:string", "0+8 package name\n"),
+        (
+            "a /* x */ \"b\" \"",
+            "0+1 identifier\n10+3 string literal\n14+1 an unterminated string was encountered\n",
+        ),
+        (
+            "a#b",
+            "0+1 identifier\n1+1 unexpected token was encountered\n2+1 identifier\n",
+        ),
+        (
+            "import-x %import import",
+            "0+8 identifier\n9+7 identifier\n17+6 `import` keyword\n",
+        ),
+        ("foo-Bar", "0+5 identifier\n5+2 identifier\n"),
+        ("foo-bar:b@1.0.", "0+13 package name\n13+1 `.`\n"),
+    ] {
+        writes(&rt, rt.alloc(), "tokens", input, text)?;
+    }
+    Ok(())
+}
+
+#[test]
+fn documents_are_printed(rt: HostRuntime) -> Result<(), Fail> {
+    for (input, text) in [
+        ("package a:b;", "package a:b;\n\n"),
+        (FIRST, FIRST_PRINTED),
+        (FIRST_PRINTED, FIRST_PRINTED),
+        (
+            "/** a\n\n b */ package a:b;",
+            "/// a\n/// \n/// b\npackage a:b;\n\n",
+        ),
+        (
+            "/// a\n/// \n/// b\npackage a:b;\n\n",
+            "/// a\n/// b\npackage a:b;\n\n",
+        ),
+        (
+            "/// a\n/// b\npackage a:b;\n\n",
+            "/// a\n/// b\npackage a:b;\n\n",
+        ),
+        (
+            "package a:b;\r\n/// d\r\nlet x = y;",
+            "package a:b;\n\n/// d\nlet x = y;\n",
+        ),
+        (
+            "/**/ /***/ //// x\npackage a:b;",
+            "/// / x\npackage a:b;\n\n",
+        ),
+        (
+            "package %a:b@1.2.3; let %x = %y.%z .w;",
+            "package %a:b@1.2.3;\n\nlet %x = %y.%z.w;\n",
+        ),
+    ] {
+        writes(&rt, rt.alloc(), "fmt", input, text)?;
+    }
+    Ok(())
+}
+
+#[test]
+fn refused_texts_are_told(rt: HostRuntime) -> Result<(), Fail> {
+    for (word, input, line) in [
+        (
+            "fmt",
+            "",
+            "error at 0+1: expected `package` keyword, found end of input\n",
+        ),
+        (
+            "fmt",
+            "package a:b; let x y;",
+            "error at 19+1: expected `=`, found identifier\n",
+        ),
+        (
+            "fmt",
+            "package a:b; let x = y",
+            "error at 21+1: expected `;`, found end of input\n",
+        ),
+        (
+            "fmt",
+            "package a:b; x // \u{202a}",
+            "error at 18+3: disallowed bidirectional override codepoint `\\u{202a}`\n",
+        ),
+        (
+            "tokens",
+            "package a:b; x // \u{202a}",
+            "error at 18+3: disallowed bidirectional override codepoint `\\u{202a}`\n",
+        ),
+        (
+            "fmt",
+            "package a:b@01.0.0;",
+            "error at 12+6: `01.0.0` is not a valid semantic version\n",
+        ),
+        (
+            "fmt",
+            "package a:b@99999999999999999999999.0.0;",
+            "error at 12+27: `99999999999999999999999.0.0` is not a valid semantic version\n",
+        ),
+        (
+            "fmt",
+            "package a:b; /* x",
+            "error at 13+4: an unterminated comment was encountered\n",
+        ),
+    ] {
+        says(&rt, rt.alloc(), word, input.as_bytes(), line, 1)?;
+    }
+    Ok(())
+}
+
+#[test]
+fn other_words_and_bytes_are_told(rt: HostRuntime) -> Result<(), Fail> {
+    let usage = "usage: wac tokens|fmt|json|resolve\n";
+    for word in [
+        "", "format", "fm", "fmts", "FMT", "token", "json", "resolve",
+    ] {
+        says(&rt, rt.alloc(), word, FIRST.as_bytes(), usage, 2)?;
+    }
+    for word in ["tokens", "fmt"] {
+        says(&rt, rt.alloc(), word, b"a\xff", "input is not UTF-8\n", 3)?;
+    }
+    Ok(())
+}
+
+/// A writer that takes a byte a call and has room for so many.
+#[derive(Drop)]
+struct Narrow {
+    bytes: [u8; 64],
+    len: usize,
+    room: usize,
+}
+
+impl Narrow {
+    fn new(room: usize) -> Narrow {
+        Narrow {
+            bytes: [0; 64],
+            len: 0,
+            room,
+        }
+    }
+
+    /// Asserts that it holds a beginning of a text, of this length.
+    fn holds(&self, rt: &impl Abort, text: &str, len: usize) {
+        assert_eq!(rt; self.len, len);
+        assert!(rt; len <= 64 && len <= text.len());
+        for i in 0..len {
+            assert_eq!(rt; self.bytes[i], text.as_bytes()[i], "at {i}");
+        }
+    }
+}
+
+impl Write for Narrow {
+    fn write(&mut self, buf: &[u8]) -> io::Result<usize> {
+        let len = self.len;
+        if len >= self.room || len >= 64 {
+            return Err(io::Error::from(ErrorKind::BrokenPipe));
+        }
+        match buf.first() {
+            None => Ok(0),
+            Some(byte) => {
+                self.bytes[len] = *byte;
+                self.len = len + 1;
+                Ok(1)
+            }
+        }
+    }
+
+    fn flush(&mut self) -> io::Result<()> {
+        Ok(())
+    }
+}
+
+/// A reader that gives a byte a call, and fails behind so many.
+#[derive(Drop)]
+struct Broken<'a> {
+    bytes: &'a [u8],
+    len: usize,
+    fails_at: usize,
+}
+
+impl Read for Broken<'_> {
+    fn read(&mut self, buf: &mut [u8]) -> io::Result<usize> {
+        let len = self.len;
+        if len >= self.fails_at {
+            return Err(io::Error::from(ErrorKind::BrokenPipe));
+        }
+        if len < self.bytes.len() && !buf.is_empty() {
+            buf[0] = self.bytes[len];
+            self.len = len + 1;
+            return Ok(1);
+        }
+        Ok(0)
+    }
+}
+
+#[test]
+fn a_writer_that_fails_holds_a_beginning(rt: HostRuntime) -> Result<(), Fail> {
+    for (command, text) in [
+        (Command::Fmt, FIRST_PRINTED),
+        (Command::Tokens, "0+7 `package` keyword\n8+3 package name\n"),
+    ] {
+        for room in 0..text.len() {
+            let mut writer = Narrow::new(room);
+            let input = if command == Command::Fmt {
+                FIRST
+            } else {
+                "package a:b"
+            };
+            match run(
+                rt.alloc(),
+                command,
+                &mut In::new(input.as_bytes()),
+                &mut Out::new(&mut writer),
+            ) {
+                Err(RunError::Output) => writer.holds(&rt, text, room),
+                _ => assert!(rt; false, "at {room}"),
+            }
+        }
+    }
+    Ok(())
+}
+
+#[test]
+fn a_reader_that_fails_is_told(rt: HostRuntime) -> Result<(), Fail> {
+    for command in [Command::Fmt, Command::Tokens] {
+        for fails_at in 0..FIRST.len() + 1 {
+            let mut reader = In::new(Broken {
+                bytes: FIRST.as_bytes(),
+                len: 0,
+                fails_at,
+            });
+            let mut writer = Narrow::new(64);
+            match run(rt.alloc(), command, &mut reader, &mut Out::new(&mut writer)) {
+                Err(RunError::Input) => writer.holds(&rt, "", 0),
+                _ => assert!(rt; false, "at {fails_at}"),
+            }
+        }
+    }
+    Ok(())
+}
+
+/// Passes also where memory is refused, at each allocation in turn.
+#[test]
+fn want_of_memory_is_told(rt: HostRuntime) -> Result<(), Fail> {
+    for (command, input, text) in [
+        (Command::Fmt, FIRST, FIRST_PRINTED),
+        (
+            Command::Tokens,
+            "package a:b",
+            "0+7 `package` keyword\n8+3 package name\n",
+        ),
+        (Command::Fmt, "package a:b; let", ""),
+        (Command::Tokens, "\u{c}", ""),
+    ] {
+        let mut writer = Narrow::new(64);
+        let answer = run(
+            rt.alloc(),
+            command,
+            &mut In::new(input.as_bytes()),
+            &mut Out::new(&mut writer),
+        );
+        match answer {
+            Ok(()) => writer.holds(&rt, text, text.len()),
+            Err(RunError::Refused { .. }) => assert_eq!(rt; text, ""),
+            Err(error) => {
+                assert!(rt; matches!(error, RunError::Memory(_)));
+                writer.holds(&rt, text, writer.len);
+                let mut errors = Narrow::new(64);
+                assert_eq!(rt; report(Some(&error), &mut Out::new(&mut errors)), 4);
+                errors.holds(&rt, "out of memory\n", 14);
+            }
+        }
+    }
+    Ok(())
+}
+
+#[test]
+fn other_refusals_are_reported(rt: HostRuntime) -> Result<(), Fail> {
+    for (error, line, status) in [
+        (RunError::Input, "input failed\n", 3),
+        (RunError::Output, "output failed\n", 3),
+        (RunError::NotUtf8, "input is not UTF-8\n", 3),
+        (
+            RunError::Refused {
+                span: None,
+                text: String::from_str(rt.alloc(), "not printed yet")?,
+            },
+            "error: not printed yet\n",
+            1,
+        ),
+    ] {
+        let mut errors = Narrow::new(64);
+        assert_eq!(rt; report(Some(&error), &mut Out::new(&mut errors)), status);
+        errors.holds(&rt, line, line.len());
+    }
+    Ok(())
+}
