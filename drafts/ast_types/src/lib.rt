@@ -1,4 +1,0 @@
-//! Trees.
-#![tactic(auto)]
-
-pub mod ast;

@@ -1,9 +1,0 @@
-pub mod Numbers
-pub mod Copying
-pub mod Views
-pub mod Copies
-pub mod Growing
-pub mod Fitting
-pub mod Sound
-pub mod Exported
-pub mod Given

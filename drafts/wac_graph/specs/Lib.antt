@@ -1,9 +1,0 @@
-pub mod Numbers
-pub mod Names
-pub mod Node
-pub mod Package
-pub mod Graph
-pub mod Aliased
-pub mod Readings
-pub mod Moved
-pub mod Copied

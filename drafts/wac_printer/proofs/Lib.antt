@@ -1,7 +1,0 @@
-pub mod Fronts
-pub mod Printing
-pub mod Indentation
-pub mod Progress
-pub mod PartsOf
-pub mod Steps
-pub mod Trees
