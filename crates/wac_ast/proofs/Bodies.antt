@@ -1,13 +1,13 @@
 -- A body is refused for being empty exactly behind its opening brace and at the closing one.
-use Rattle.std.proofs.Common.{◌≡◌, ℕ, zero, suc, ◌+◌, ◌<◌, ◌≤◌, arith, List, [], ◌∷◌, ◌++◌, length, map, Result, Ok, Err, Bool, true, false, cond, refl, sym as back, ap, subst, ◌∙◌, ◌⊎◌, inl, inr, append_assoc}
+use Rattle.std.proofs.Common.{◌≡◌, ℕ, zero, suc, arith, List, [], ◌∷◌, ◌++◌, length, map, Result, Ok, Err, Bool, true, false, cond, refl, sym as back, ap, subst, ◌∙◌, ◌⊎◌, inl, inr, append_assoc}
 use Rattle.std.proofs.lemmas.List.{append_cancel_right}
 use Rattle.wac_lexer.specs.declared.token.Token.{Token}
 use Rattle.wac_lexer.specs.declared.token.Token.TheVariants as t
 use Rattle.wac_lexer.specs.declared.error.Error.{Error}
 use Rattle.wac_lexer.specs.Item.{Item}
 use Rattle.wac_ast.specs.Tokens.{is_token, valid, at}
-use Rattle.wac_ast.specs.Grammar.{Sym, document, identifier, rule, build, TreeOf, Parts, Behind, Body, variant_body, record_body, flags_body, enum_body, Grammar, token, sym, then, either, nothing, to_end, docs, not_empty, more, or_told, docs_of}
-use Rattle.wac_ast.specs.Reading.{Tried, closing, can, closes, follows, Stop, Why, other, version, empty_body, told, before, refuse, ◌>>=◌, mapped, pair_with, two, read, read_by, read_in, read_token, read_sym, led, built, empty, is_empty, begins, first, at_one_of, may_leave, measure}
+use Rattle.wac_ast.specs.Grammar.{Sym, document, identifier, rule, build, TreeOf, Parts, Body, variant_body, record_body, flags_body, enum_body, Grammar, token, sym, then, either, nothing, to_end, docs, not_empty, more, or_told, docs_of}
+use Rattle.wac_ast.specs.Reading.{Tried, closing, can, closes, follows, Stop, Why, other, version, empty_body, told, refuse, mapped, pair_with, two, read, read_by, read_in, read_token, read_sym, led, is_empty, begins, first, at_one_of, may_leave, measure}
 use Rattle.wac_ast.specs.Possible.{named}
 use Rattle.wac_ast.specs.Bodies.{keyword_of, Opens}
 use Rattle.wac_ast.proofs.Fixed.{Reader, Shrinks, in_shrinks, by_shrinks, both, both_left, both_right}
@@ -59,7 +59,7 @@ run_append : (st : State) (xs ys : List Item) → run st (xs ++ ys) ≡ run (run
 run_append st [] ys = refl
 run_append st (x ∷ xs) ys = run_append (step_of st x.token) xs ys
 
-is_ok_token : (k : Token) (r : Result Token Error) → is_token k r ≡ true → r ≡ Ok k
+pub is_ok_token : (k : Token) (r : Result Token Error) → is_token k r ≡ true → r ≡ Ok k
 is_ok_token k (Ok a) h = ap Ok (back (same_is k a h))
 is_ok_token k (Err e) h = absurd cc
 

@@ -1,13 +1,13 @@
 -- What the grammar derives is read, whatever follows that does not continue it.
-use Rattle.std.proofs.Common.{◌≡◌, ℕ, zero, suc, List, [], ◌∷◌, ◌++◌, length, map, Result, Ok, Err, Bool, true, false, cond, refl, sym as back, ap, subst, ◌∙◌, ◌⊎◌, inl, inr, append_assoc, eq-eqb}
+use Rattle.std.proofs.Common.{◌≡◌, ℕ, zero, suc, List, [], ◌∷◌, ◌++◌, map, Result, Ok, Err, Bool, true, false, cond, refl, sym as back, ap, subst, ◌∙◌, inl, inr, append_assoc, eq-eqb}
 use Rattle.std.proofs.lemmas.List.{append-nil}
 use Rattle.wac_lexer.specs.declared.error.Error.{Error}
 use Rattle.wac_lexer.specs.declared.token.Token.{Token}
 use Rattle.wac_lexer.specs.Item.{Item, Doc}
 use Rattle.wac_ast.specs.Tokens.{is_token, is_bad, is_fault, at, kind, valid}
 use Rattle.wac_ast.proofs.Tables.{continues, all_tokens}
-use Rattle.wac_ast.specs.Grammar.{Sym, rule, build, TreeOf, Parts, Behind, anything, no_fault, one_among, Grammar, token, sym, then, either, nothing, to_end, docs, not_empty, more, or_told, docs_of, DerivesIn, DerivesBy, Derives}
-use Rattle.wac_ast.specs.Reading.{Tried, can, closes, follows, Stop, other, version, empty_body, told, refuse, ◌>>=◌, mapped, pair_with, read, read_in, read_token, read_sym, led, two, built, empty, is_empty, begins, first, at_one_of, not_fault, may_leave}
+use Rattle.wac_ast.specs.Grammar.{Sym, rule, TreeOf, Parts, Behind, anything, no_fault, one_among, Grammar, token, sym, then, either, nothing, to_end, docs, not_empty, more, or_told, docs_of, DerivesIn, DerivesBy, Derives}
+use Rattle.wac_ast.specs.Reading.{Tried, can, closes, Stop, mapped, pair_with, read, read_in, read_token, led, two, built, empty, is_empty, begins, first, at_one_of, may_leave}
 use Rattle.wac_ast.proofs.Fixed.{read_is, empty_is, both, both_left, both_right, Reader}
 use Rattle.wac_ast.proofs.Tables.{one_of, at_one_of_head, at_one_of_nil, one_of_append, among, negated, apart, always, among_is, not_true, apart_not, away_from, others, clashes, needs_more, clash_behind, needs_behind, clash, needs, pickable, lawful, within, rule_lawful, begins_is, clashes_is, needs_is, every_token}
 
@@ -262,7 +262,7 @@ module _ (D : Family) (rec : Reader) (beginning : (s : Sym) (xs : List Item) (t 
       let none = single k (xs ++ rest) (not_first (needs g) (is_empty g) (k ∷ []) (first g) xs rest b (both_left (apart (first g) (k ∷ [])) (pickable g) ok_rest) (subst (λ (e : Bool). may_follow (needs g) (cond e (k ∷ []) []) rest ≡ true) (back some) (follow_right (needs g) (clash g) [] rest (subst (λ (ks : List Token). may_follow (needs g) ks rest ≡ true) (back (append-nil (clash g))) f)))) in
       rw (none, complete_in g (tried ++ (closes k ∷ [])) xs p rest (both_left (lawful g) (negated (is_empty g)) ok_g) (picks_any (tried ++ (closes k ∷ [])) g (both_right (apart (first g) (k ∷ [])) (pickable g) ok_rest)) d f) refl
   complete_in (more k s g) tried xs p rest ok pick d f =
-      let ok_g = both_left (both (lawful g) (negated (is_empty g))) (both (among k (first g)) (continues (begins s) g)) ok in
+      let ok_g = both_left (both (lawful g) (negated (is_empty g))) (both (among k (first g)) (continues (k ∷ begins s) g)) ok in
       not_nil k s g tried xs rest (not_true (is_empty g) (both_right (lawful g) (negated (is_empty g)) ok_g)) (begins_in D beginning g xs p d)
       ∙ complete_in g tried xs p rest (both_left (lawful g) (negated (is_empty g)) ok_g) pick d f
   complete_in (or_told g k h) tried xs (inl p) rest ok pick d f =

@@ -1,19 +1,18 @@
 -- Where reading stops: what stands before can be completed, and each token that was looked for can stand there.
-use Rattle.std.proofs.Common.{◌≡◌, ℕ, zero, suc, ◌+◌, ◌<◌, ◌≤◌, arith, List, [], ◌∷◌, ◌++◌, map, Result, Ok, Err, Bool, true, false, cond, ltb, refl, sym as back, ap, subst, ◌∙◌, ◌⊎◌, inl, inr, append_assoc, eqb, eq-eqb}
+use Rattle.std.proofs.Common.{◌≡◌, ℕ, zero, suc, ◌+◌, ◌<◌, arith, List, [], ◌∷◌, ◌++◌, map, Bool, true, false, cond, refl, sym as back, ap, subst, ◌∙◌, ◌⊎◌, inl, inr, eq-eqb}
 use Rattle.std.proofs.lemmas.Bool.{eqb-true, ltb-true}
-use Rattle.std.proofs.lemmas.List.{append-nil}
 use Rattle.wac_lexer.specs.declared.token.Token.{Token}
 use Rattle.wac_lexer.specs.declared.token.Token.TheVariants as t
-use Rattle.wac_lexer.specs.Item.{Item, Doc}
-use Rattle.wac_ast.specs.Tokens.{is_token, kind, valid, at}
+use Rattle.wac_lexer.specs.Item.{Item}
+use Rattle.wac_ast.specs.Tokens.{is_token, kind, valid}
 use Rattle.wac_ast.proofs.Tables.{all_tokens}
-use Rattle.wac_ast.specs.Grammar.{Sym, rule, build, TreeOf, Parts, Behind, Grammar, token, sym, then, either, nothing, to_end, docs, not_empty, more, or_told, docs_of, DerivesIn, DerivesBy, Derives}
-use Rattle.wac_ast.specs.Reading.{Standing, at_once, closing, behind_comma, Tried, can, closes, follows, Stop, Why, other, version, empty_body, told, before, refuse, ◌>>=◌, mapped, pair_with, read, read_by, read_in, read_token, read_sym, led, two, built, empty, is_empty, begins, first, at_one_of, may_leave, rank, measure}
+use Rattle.wac_ast.specs.Grammar.{Sym, rule, build, TreeOf, Parts, Grammar, token, sym, then, either, nothing, to_end, docs, not_empty, more, or_told, docs_of, DerivesIn, DerivesBy, Derives}
+use Rattle.wac_ast.specs.Reading.{Standing, at_once, closing, behind_comma, Tried, can, follows, empty, is_empty, begins, first, rank}
 use Rattle.wac_ast.specs.Possible.{same_standing, named, IsOf}
-use Rattle.wac_ast.proofs.Fixed.{Reader, both, both_left, both_right, empty_is, ranked, rule_ranked, rank_below}
-use Rattle.wac_ast.proofs.Tables.{among, within, same_token, negated, not_true, apart, pickable, clash, lawful, rule_lawful, begins_is, both_lawful}
-use Rattle.wac_ast.proofs.Complete.{Family, begins_in, by_begins}
-use Rattle.wac_ast.proofs.Sound.{Fronted, OfToken, sound_in, by_sound, not_nothing}
+use Rattle.wac_ast.proofs.Fixed.{both_left, both_right, empty_is, ranked, rule_ranked}
+use Rattle.wac_ast.proofs.Tables.{among, within, same_token, begins_is}
+use Rattle.wac_ast.proofs.Complete.{Family}
+use Rattle.wac_ast.proofs.Sound.{OfToken}
 
 -- ---- tokens
 

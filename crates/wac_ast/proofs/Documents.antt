@@ -1,33 +1,35 @@
 -- The clauses of parsing a text, from what reading its items gives.
-use Rattle.std.proofs.Common.{◌≡◌, ℕ, zero, suc, ◌+◌, List, [], ◌∷◌, ◌++◌, length, map, take, Option, Some, None, Result, Ok, Err, Bool, true, false, cond, refl, sym as back, ap, subst, ◌∙◌, ◌⊎◌, inl, inr, eq-eqb}
+use Rattle.std.proofs.Common.{◌≡◌, ℕ, zero, suc, List, [], ◌∷◌, ◌++◌, length, map, take, Option, Some, None, Result, Ok, Err, Bool, true, false, cond, refl, sym as back, ap, subst, ◌∙◌, ◌⊎◌, inl, inr}
 use Rattle.std.specs.Prelude.{IfOk, IfErr, MatchResult, alloc_error}
 use Rattle.std.proofs.lemmas.List.{append-nil}
-use Rattle.wac_lexer.specs.Span.{Span, span}
-use Rattle.wac_lexer.specs.Item.{Item, Handed, handed}
+use Rattle.wac_lexer.specs.Span.{Span}
+use Rattle.wac_lexer.specs.Item.{Item}
 use Rattle.wac_lexer.specs.Items.{items}
 use Rattle.wac_lexer.specs.Characters.{refused}
 use Rattle.wac_lexer.specs.declared.token.Token.{Token}
 use Rattle.wac_lexer.specs.declared.token.Token.TheVariants as t
 use Rattle.wac_lexer.specs.declared.error.Error.{Error as Fault}
-use Rattle.wac_ast.specs.Tokens.{is_token, kind, valid, at}
+use Rattle.wac_ast.specs.Tokens.{is_token, at}
 use Rattle.wac_ast.specs.Tree.{Document}
-use Rattle.wac_ast.specs.Grammar.{Sym, Body, document, Derives, TreeOf}
+use Rattle.wac_ast.specs.Grammar.{Body, document, Derives}
 use Rattle.wac_ast.specs.Reading.{Standing, at_once, closing, behind_comma, Tried, can, Stop, Why, other, version, empty_body, told as told_of_item, before, read}
 use Rattle.wac_ast.specs.Viable.{Viable}
-use Rattle.wac_ast.specs.Possible.{same_standing, named, IsOf}
+use Rattle.wac_ast.specs.Possible.{same_standing, named}
 use Rattle.wac_ast.specs.Bodies.{Opens}
-use Rattle.wac_ast.specs.Stopped.{Fault as IsFault, Stands, Stopped}
+use Rattle.wac_ast.specs.Stopped.{Fault as IsFault, CanStand, Stands}
 use Rattle.wac_ast.specs.declared.error.Error.{Error}
 use Rattle.wac_ast.specs.declared.error.Error.TheVariants as errors
-use Rattle.wac_ast.specs.Error.{Told, told_by, faulty, expected_one, expected_either, expected_many, empty_type, invalid_version, no_memory, places, expected}
+use Rattle.wac_ast.specs.Error.{Told, told_by, faulty, empty_type, no_memory, places, expected}
 use Rattle.wac_ast.specs.Lookahead.{kept_in, refusal}
-use Rattle.wac_ast.specs.Answer.{End, final_span, empty_end, end_span, body_name, part_name, first_span, first_text, version_told, told_at, told, told_in}
-use Rattle.wac_ast.specs.Document.{IsTreeOf, FirstFault, CanStand, CanFollowComma, Expects, AllExpected, Finds, end_in_sequence, end_of_choice, Holds, Tells, ErrorOf, end_of_text, Parses}
+use Rattle.wac_ast.specs.Answer.{end_span, body_name, part_name, version_told, told_at, told, told_in}
+use Rattle.wac_ast.specs.Document.{IsTreeOf, FirstFault, Expects, AllExpected, Finds, Holds, Tells, ErrorOf, end_of_text, Parses}
 use Rattle.wac_ast.proofs.Tables.{same_token}
 use Rattle.wac_ast.proofs.Complete.{complete, tree_or}
 use Rattle.wac_ast.proofs.Sound.{sound}
 use Rattle.wac_ast.proofs.Completed.{same_is, self_token}
 use Rattle.wac_ast.proofs.Bodies.{empty_exactly, closes_body}
+use Rattle.wac_ast.specs.Arguments.{EndsWithArgument}
+use Rattle.wac_ast.proofs.Strings.{is_told, told_exactly}
 use Rattle.wac_ast.proofs.Reasons.{Reason, reason}
 use Rattle.wac_ast.proofs.Refused.{stopped, no_such}
 use Rattle.wac_ast.proofs.Local.{Seen}
@@ -101,7 +103,7 @@ expecting xs lead stop h e stands = λ m k n. go m k n (stands m k n)
     go closing k n s = let c = closes_body document xs lead stop h e k n in inr (inl (c.0, c.1, c.2))
     go behind_comma k n s = inr (inr s)
 
-place_of : (text : List ℕ) (stop : Stop) → refused text ≡ None → read document (items text) ≡ Err stop → before stop.why ≡ [] → (lead : List Item) × FirstFault text lead stop.left × Expecting stop lead × ((k : Token) → named at_once k stop.expected ≡ true → CanStand lead k)
+place_of : (text : List ℕ) (stop : Stop) → refused text ≡ None → read document (items text) ≡ Err stop → before stop.why ≡ [] → (lead : List Item) × FirstFault text lead stop.left × Expecting stop lead × ((k : Token) → named at_once k stop.expected ≡ true → CanStand document lead k)
 place_of text stop clean h none =
     let d = stopped document refl (items text) stop h in
     let same : d.0 ++ before stop.why ≡ d.0 = ap (λ (us : List Item). d.0 ++ us) none ∙ append-nil d.0 in
@@ -136,10 +138,11 @@ tried_holds text lead left (a ∷ b ∷ c ∷ ts) found s f h = inr (f, kept_exp
 -- what is known of a refusal behind `lead`
 record Known (lead left : List Item) (ts : List Tried) (w : Why) : Type 0 where
   expects : (m : Standing) (k : Token) → named m k ts ≡ true → Expects lead left k
-  can_stand : (k : Token) → named at_once k ts ≡ true → CanStand lead k
+  can_stand : (k : Token) → named at_once k ts ≡ true → CanStand document lead k
   empties : (b : Body) → (w ≡ empty_body b → Opens b lead × (at t.CloseBrace left ≡ true)) × (Opens b lead → at t.CloseBrace left ≡ true → w ≡ empty_body b)
   no_text : Seen false w 0 → (x y : Item) (others : List Item) → left ≡ x ∷ others → x.token ≡ y.token → Viable document (lead ++ (y ∷ [])) → ⊥
   why : Reason w left ts
+  no_string : EndsWithArgument lead → is_told w ≡ true
 
 at_first : (k : Token) (x : Item) (others left : List Item) → left ≡ x ∷ others → is_token k x.token ≡ true → at k left ≡ true
 at_first k x others left e h = ap (at k) e ∙ h
@@ -155,6 +158,7 @@ other_tells text lead left ts told k h f = record {
   of_fault = f;
   of_empty = λ b x others e o c. absurd (no_body other b (inl refl) ((k.empties b).1 o (at_first t.CloseBrace x others left e c)));
   of_version = λ x y others e s v. absurd (k.no_text tt x y others e s v);
+  no_string = λ o. let e = k.no_string o in absurd cc;
 }
 
 same_fault : (f g : Fault) (r : Result Token Fault) → r ≡ Err f → r ≡ Err g → f ≡ g
@@ -211,6 +215,7 @@ tells_empty text lead (x ∷ left) ts b k =
       of_fault = λ y others fault e f. absurd (let a : at t.CloseBrace (x ∷ left) ≡ false = ap (at t.CloseBrace) e ∙ ap (is_token t.CloseBrace) f in cc);
       of_empty = λ c y others e p q. let w : empty_body b ≡ empty_body c = (k.empties c).1 p o.1 in ap (λ (d : Body). empty_type (body_name d) (part_name d) x.span) (same_body b c w) ∙ ap (λ (z : Item). empty_type (body_name c) (part_name c) z.span) (first_is x y left others e);
       of_version = λ y z others e s v. absurd (k.no_text tt y z others e s v);
+      no_string = λ o. let e = k.no_string o in absurd cc;
     }
 
 tells_version : (text : List ℕ) (lead left : List Item) (ts : List Tried) → Known lead left ts version → Tells text lead left (told_at (end_of_text text) version left ts)
@@ -223,20 +228,22 @@ tells_version text lead left ts k = go k.why
           of_fault = λ y others fault e f. absurd (let p = first_is r.1 y r.2 others e in let q : is_token r.0 r.1.token ≡ false = ap (λ (z : Item). is_token r.0 z.token) p ∙ ap (is_token r.0) f in cc (q, r.4));
           of_empty = λ c y others e o q. absurd (no_body version c (inr refl) ((k.empties c).1 o (at_first t.CloseBrace y others left (r.3 ∙ e) q)));
           of_version = λ y z others e s v. ap (λ (u : Item). version_told u.text u.span) (first_is r.1 y r.2 others e);
+          no_string = λ o. let e = k.no_string o in absurd cc;
         })
       where
-        can_stand : (n : Token) → ts ≡ can n ∷ [] → CanStand lead n
+        can_stand : (n : Token) → ts ≡ can n ∷ [] → CanStand document lead n
         can_stand n e = k.can_stand n (ap (named at_once n) e ∙ named_here (can n) [])
 
 -- ---- the clauses
 
-known : (text : List ℕ) (lead : List Item) (stop : Stop) → read document (items text) ≡ Err stop → FirstFault text lead stop.left → Expecting stop lead → ((k : Token) → named at_once k stop.expected ≡ true → CanStand lead k) → Known lead stop.left stop.expected stop.why
+known : (text : List ℕ) (lead : List Item) (stop : Stop) → read document (items text) ≡ Err stop → FirstFault text lead stop.left → Expecting stop lead → ((k : Token) → named at_once k stop.expected ≡ true → CanStand document lead k) → Known lead stop.left stop.expected stop.why
 known text lead stop h f x c = record {
   expects = x;
   can_stand = c;
   empties = empty_exactly document (items text) lead stop h f.splits;
   no_text = λ seen y z others e s v. no_such document refl (items text) lead stop h y others e (f.splits ∙ ap (λ (us : List Item). lead ++ us) e) seen z s v;
   why = reason document (items text) stop h;
+  no_string = (told_exactly document refl (items text) lead stop h f.splits).1;
 }
 
 -- at the first fault
@@ -253,12 +260,13 @@ tells_string text stop x clean h w =
     let d = stopped document refl (items text) stop h in
     let same : before stop.why ≡ x ∷ [] = ap before w in
     let r : Reason (told_of_item x) stop.left stop.expected = subst (λ (v : Why). Reason v stop.left stop.expected) w (reason document (items text) stop h) in
+    let splits : items text ≡ (d.0 ++ (x ∷ [])) ++ stop.left = d.1 ∙ ap (λ (us : List Item). (d.0 ++ us) ++ stop.left) same in
     inr (inr (
       d.0,
       x,
       stop.left,
-      record { clean = clean; splits = d.1 ∙ ap (λ (us : List Item). (d.0 ++ us) ++ stop.left) same; viable = subst (λ (us : List Item). Viable document (d.0 ++ us)) same d.2; fault = subst (λ (us : List Item). IsFault document (d.0 ++ us) stop.left) same d.3 },
-      r.0,
+      record { clean = clean; splits = splits; viable = subst (λ (us : List Item). Viable document (d.0 ++ us)) same d.2; fault = subst (λ (us : List Item). IsFault document (d.0 ++ us) stop.left) same d.3 },
+      (told_exactly document refl (items text) (d.0 ++ (x ∷ [])) stop h splits).0 (ap is_told w),
       d.4 at_once t.Ident (ap (named at_once t.Ident) r.1),
       ap (λ (v : Why). told_at (end_of_text text) v stop.left stop.expected) w ∙ at_string x.token r.0 ∙ ap (λ (ts : List Tried). tried_told text ts (Some t.String) x.span) r.1,
     ))

@@ -4,8 +4,8 @@ use Rattle.std.proofs.lemmas.Bool.{ltb-true}
 use Rattle.wac_lexer.specs.declared.token.Token.{Token}
 use Rattle.wac_lexer.specs.Item.{Item}
 use Rattle.wac_ast.specs.Tokens.{is_token, valid, at}
-use Rattle.wac_ast.specs.Grammar.{Sym, document, rule, build, TreeOf, Parts, Behind, Grammar, token, sym, then, either, nothing, to_end, docs, not_empty, more, or_told, docs_of}
-use Rattle.wac_ast.specs.Reading.{Tried, can, closes, follows, Stop, Why, version, told, empty_body, refuse, ◌>>=◌, mapped, pair_with, two, read, read_by, read_in, read_token, read_sym, led, built, empty, is_empty, begins, first, at_one_of, may_leave, rank, measure}
+use Rattle.wac_ast.specs.Grammar.{Sym, document, rule, build, TreeOf, Parts, Grammar, token, sym, then, either, nothing, to_end, docs, not_empty, more, or_told, docs_of}
+use Rattle.wac_ast.specs.Reading.{Tried, can, closes, Stop, refuse, mapped, pair_with, two, read, read_by, read_in, read_token, read_sym, led, built, empty, is_empty, begins, first, at_one_of, may_leave, rank, measure}
 
 -- ---- how much is taken
 

@@ -8,7 +8,7 @@ use Rattle.wac_lexer.specs.Reading.{Reading, left}
 use Rattle.wac_ast.specs.declared.error.Error.{Error}
 use Rattle.wac_ast.specs.Tokens.{at}
 use Rattle.wac_ast.specs.Grammar as g
-use Rattle.wac_ast.specs.Reading.{Stop, ◌>>=◌, mapped, two, read}
+use Rattle.wac_ast.specs.Reading.{Stop, ◌>>=◌, mapped, two, read, at_one_of, begins}
 use Rattle.wac_ast.specs.Answer.{End, end_of_input, told_in, Fails, has_more}
 use Rattle.wac_ast.proofs.Fixed.{read_is}
 
@@ -86,15 +86,6 @@ right_of : {A : Type 0} (m : Result ((A × List A) × List Item) Stop) (f : (Uni
 right_of {A = A} (Ok x) f h = ap (λ (l : List A). Ok (l, x.1)) (h x.0)
 right_of (Err s) f h = refl
 
-pub postfixes_star : IsStar (at t.Dot) (read g.postfix_expr) (read g.postfixes)
-postfixes_star = record { some = some; ended = ended }
-  where
-    some : (xs : List Item) → at t.Dot xs ≡ true → read g.postfixes xs ≡ (read g.postfix_expr xs >>= λ a. mapped (λ l. a.0 ∷ l) (read g.postfixes a.1))
-    some xs h = rw (read_is g.postfixes, h) (left_of (two (read g.postfix_expr xs) (λ a. read g.postfixes)) (g.build g.postfixes) (λ p. refl) ∙ flat (read g.postfix_expr xs) (read g.postfixes))
-
-    ended : (xs : List Item) → at t.Dot xs ≡ false → read g.postfixes xs ≡ Ok ([], xs)
-    ended xs h = rw (read_is g.postfixes, h) refl
-
 pub statements_star : IsStar has_more (read g.statement) (read g.statements)
 statements_star = record { some = some; ended = ended }
   where
@@ -105,3 +96,12 @@ statements_star = record { some = some; ended = ended }
     ended : (xs : List Item) → has_more xs ≡ false → read g.statements xs ≡ Ok ([], xs)
     ended [] h = read_is g.statements []
     ended (x ∷ xs) h = absurd cc
+
+pub postfixes_star : IsStar (at_one_of (begins g.postfix_expr)) (read g.postfix_expr) (read g.postfixes)
+postfixes_star = record { some = some; ended = ended }
+  where
+    some : (xs : List Item) → at_one_of (begins g.postfix_expr) xs ≡ true → read g.postfixes xs ≡ (read g.postfix_expr xs >>= λ a. mapped (λ l. a.0 ∷ l) (read g.postfixes a.1))
+    some xs h = read_is g.postfixes xs ∙ rw h (left_of (two (read g.postfix_expr xs) (λ a. read g.postfixes)) (g.build g.postfixes) (λ p. refl)) ∙ flat (read g.postfix_expr xs) (read g.postfixes)
+
+    ended : (xs : List Item) → at_one_of (begins g.postfix_expr) xs ≡ false → read g.postfixes xs ≡ Ok ([], xs)
+    ended xs h = read_is g.postfixes xs ∙ rw h refl

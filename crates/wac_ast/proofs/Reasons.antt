@@ -1,11 +1,11 @@
 -- Why reading stopped: what is known where it is for a version's text, or told of the item before.
-use Rattle.std.proofs.Common.{◌≡◌, ℕ, zero, suc, List, [], ◌∷◌, ◌++◌, map, Result, Ok, Err, Bool, true, false, cond, refl, sym as back, ap, subst, ◌∙◌, ◌⊎◌, inl, inr}
+use Rattle.std.proofs.Common.{◌≡◌, ℕ, zero, suc, List, [], ◌∷◌, ◌++◌, map, Result, Ok, Err, Bool, true, false, cond, refl, sym as back, ap, subst, ◌⊎◌, inl, inr}
 use Rattle.wac_lexer.specs.declared.token.Token.{Token}
 use Rattle.wac_lexer.specs.declared.token.Token.TheVariants as t
 use Rattle.wac_lexer.specs.Item.{Item}
 use Rattle.wac_ast.specs.Tokens.{is_token, valid, at}
-use Rattle.wac_ast.specs.Grammar.{Sym, document, rule, build, TreeOf, Parts, Behind, Grammar, token, sym, then, either, nothing, to_end, docs, not_empty, more, or_told, docs_of}
-use Rattle.wac_ast.specs.Reading.{Tried, can, closes, follows, Stop, Why, other, version, empty_body, told, refuse, ◌>>=◌, mapped, pair_with, two, read, read_by, read_in, read_token, read_sym, led, built, begins, first, at_one_of, may_leave, measure}
+use Rattle.wac_ast.specs.Grammar.{Sym, document, rule, build, TreeOf, Parts, Grammar, token, sym, then, either, nothing, to_end, docs, not_empty, more, or_told, docs_of}
+use Rattle.wac_ast.specs.Reading.{Tried, can, closes, Stop, Why, other, version, empty_body, told, refuse, mapped, two, read, read_by, read_in, read_token, read_sym, led, begins, first, at_one_of, may_leave, measure}
 use Rattle.wac_ast.proofs.Fixed.{Reader, both, both_left, both_right}
 use Rattle.wac_ast.proofs.Tables.{same_token}
 use Rattle.wac_ast.proofs.Completed.{same_is}

@@ -1,21 +1,21 @@
 -- The laws of a refusal, put together.
-use Rattle.std.proofs.Common.{◌≡◌, ℕ, zero, suc, ◌+◌, ◌-◌, ◌<◌, ◌≤◌, arith, List, [], ◌∷◌, ◌++◌, length, map, Result, Ok, Err, Bool, true, false, refl, sym as back, ap, subst, ◌∙◌, ◌⊎◌, inl, inr, append_assoc}
+use Rattle.std.proofs.Common.{◌≡◌, ℕ, zero, suc, ◌+◌, ◌-◌, arith, List, [], ◌∷◌, ◌++◌, length, Result, Ok, Err, Bool, true, false, refl, sym as back, ap, subst, ◌∙◌, ◌⊎◌, inl, inr, append_assoc}
 use Rattle.std.proofs.lemmas.List.{append-nil, length-append}
 use Rattle.wac_lexer.specs.declared.token.Token.{Token}
 use Rattle.wac_lexer.specs.Item.{Item, Doc}
 use Rattle.wac_ast.specs.Grammar.{Sym, rule, build, TreeOf, Parts, Grammar, DerivesIn, DerivesBy, Derives}
-use Rattle.wac_ast.specs.Reading.{Standing, at_once, closing, behind_comma, Tried, Stop, before, refuse, other, read, read_by, read_in, is_empty, measure, built}
+use Rattle.wac_ast.specs.Reading.{Standing, at_once, closing, behind_comma, Stop, before, other, read, read_by, read_in, is_empty, measure}
 use Rattle.wac_ast.specs.Viable.{Viable, Similar, Leads}
-use Rattle.wac_ast.specs.Possible.{named, IsOf}
-use Rattle.wac_ast.specs.Stopped.{Fault, Stands, Stopped}
+use Rattle.wac_ast.specs.Possible.{named}
+use Rattle.wac_ast.specs.Stopped.{Fault, CanStand, CanFollowComma, Stands, Stopped}
 use Rattle.wac_ast.proofs.Fixed.{all_ranked}
 use Rattle.wac_ast.proofs.Tables.{needs_more, rule_lawful}
 use Rattle.wac_ast.proofs.Complete.{complete, begins_in, by_begins}
 use Rattle.wac_ast.proofs.Sound.{Fronted, by_sound}
 use Rattle.wac_ast.proofs.Similar.{leads_similar, leads_self, derives_similar}
 use Rattle.wac_ast.proofs.Local.{Alike, Nearly, Seen, not_derived}
-use Rattle.wac_ast.proofs.Completed.{Sample, by_rule}
-use Rattle.wac_ast.proofs.Stops.{Stops, stops_in, stops_here, stops_pass, no_named, Goes}
+use Rattle.wac_ast.proofs.Completed.{by_rule}
+use Rattle.wac_ast.proofs.Stops.{Stops, stops_in, stops_here, stops_pass, no_named, Goes, AtOnce, BehindComma}
 use Rattle.wac_ast.proofs.Samples.{sample, some_item}
 
 nothing_of : (g : Grammar) (p : Parts g) → is_empty g ≡ false → DerivesIn Derives g [] p → ⊥
@@ -87,8 +87,14 @@ stopped s n xs stop h =
       λ m k n. go d.0 m k (d.3 m k n),
     )
   where
+    once : (lead : List Item) (k : Token) → AtOnce (Derives s) lead k → CanStand s lead k
+    once lead k f = λ x i. let a = f x i in viable_of s (lead ++ (x ∷ [])) a.0 a.1 (subst (λ (ys : List Item). Derives s ys a.1) (back (append_assoc lead (x ∷ []) a.0)) a.2)
+
+    comma : (lead : List Item) (k : Token) → BehindComma (Derives s) lead k → CanFollowComma s lead k
+    comma lead k f = λ c x n i. let a = f c x n i in viable_of s (lead ++ (c ∷ x ∷ [])) a.0 a.1 (subst (λ (ys : List Item). Derives s ys a.1) (back (append_assoc lead (c ∷ x ∷ []) a.0)) a.2)
+
     go : (lead : List Item) (m : Standing) (k : Token) → ((named m k [] ≡ true) × (lead ≡ [])) ⊎ Goes (Derives s) lead stop.left m k → Stands s lead stop.left k m
     go lead m k (inl n) = no_named m k n.0
-    go lead at_once k (inr f) = λ x i. let a = f x i in viable_of s (lead ++ (x ∷ [])) a.0 a.1 (subst (λ (ys : List Item). Derives s ys a.1) (back (append_assoc lead (x ∷ []) a.0)) a.2)
+    go lead at_once k (inr f) = once lead k f
     go lead closing k (inr f) = tt
-    go lead behind_comma k (inr f) = (f.0, λ c x n i. let a = f.1 c x n i in viable_of s (lead ++ (c ∷ x ∷ [])) a.0 a.1 (subst (λ (ys : List Item). Derives s ys a.1) (back (append_assoc lead (c ∷ x ∷ []) a.0)) a.2))
+    go lead behind_comma k (inr f) = ((f.0, f.1, once lead f.1 f.2, comma lead f.1 f.3), comma lead k f.4)

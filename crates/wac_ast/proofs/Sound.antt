@@ -1,10 +1,10 @@
 -- What is read is derived.
-use Rattle.std.proofs.Common.{◌≡◌, ℕ, zero, suc, List, [], ◌∷◌, ◌++◌, length, map, Result, Ok, Err, Bool, true, false, cond, refl, sym as back, ap, subst, ◌∙◌, ◌⊎◌, inl, inr, append_assoc}
+use Rattle.std.proofs.Common.{◌≡◌, ℕ, zero, suc, List, [], ◌∷◌, ◌++◌, map, Result, Ok, Err, Bool, true, false, cond, refl, sym as back, ap, subst, ◌∙◌, inl, inr, append_assoc}
 use Rattle.wac_lexer.specs.declared.token.Token.{Token}
 use Rattle.wac_lexer.specs.Item.{Item, Doc}
 use Rattle.wac_ast.specs.Tokens.{is_token, valid, at}
-use Rattle.wac_ast.specs.Grammar.{Sym, rule, build, TreeOf, Parts, Behind, Grammar, token, sym, then, either, nothing, to_end, docs, not_empty, more, or_told, docs_of, DerivesIn, DerivesBy, Derives}
-use Rattle.wac_ast.specs.Reading.{Tried, can, closes, follows, Stop, Why, told, version, empty_body, refuse, ◌>>=◌, mapped, pair_with, read, read_by, read_in, read_token, read_sym, led, two, built, is_empty, begins, first, at_one_of, may_leave, measure}
+use Rattle.wac_ast.specs.Grammar.{Sym, rule, build, TreeOf, Parts, Grammar, token, sym, then, either, nothing, to_end, docs, not_empty, more, or_told, docs_of, DerivesIn, DerivesBy, Derives}
+use Rattle.wac_ast.specs.Reading.{Tried, can, closes, Stop, version, refuse, mapped, pair_with, read, read_by, read_in, read_token, read_sym, led, two, is_empty, begins, first, at_one_of, may_leave, measure}
 use Rattle.wac_ast.proofs.Fixed.{Reader, both, both_left, both_right}
 use Rattle.wac_ast.proofs.Tables.{continues, negated, not_true, lawful, rule_lawful, apart, among, pickable, clash, both_lawful}
 use Rattle.wac_ast.proofs.Complete.{Family, begins_in, by_begins}
@@ -74,7 +74,7 @@ module _ (D : Family) (some : (g : Grammar) (p : Parts g) → is_empty g ≡ fal
   sound_in (docs g) tried xs ok = fronted_docs (DerivesIn D g) (DerivesIn D (docs g)) (λ ys a d. (refl, d)) (λ a. some g a (not_true (is_empty g) (both_right (lawful g) (negated (is_empty g)) ok))) xs (read_in rec g tried xs) (sound_in g tried xs (both_left (lawful g) (negated (is_empty g)) ok))
   sound_in (not_empty e k g) tried xs ok = fronted_cond (DerivesIn D g) (at k xs) xs _ _ tt (sound_in g (tried ++ (closes k ∷ [])) xs (both_lawful (lawful g) (negated (is_empty g)) (both (apart (first g) (k ∷ [])) (pickable g)) ok).0)
   sound_in (more k s g) tried [] ok = tt
-  sound_in (more k s g) tried (x ∷ xs) ok = sound_in g tried (x ∷ xs) (both_lawful (lawful g) (negated (is_empty g)) (both (among k (first g)) (continues (begins s) g)) ok).0
+  sound_in (more k s g) tried (x ∷ xs) ok = sound_in g tried (x ∷ xs) (both_lawful (lawful g) (negated (is_empty g)) (both (among k (first g)) (continues (k ∷ begins s) g)) ok).0
   sound_in (or_told g k h) tried xs ok =
       let oks = both_lawful (lawful g) (lawful h) (both (negated (is_empty g)) (both (apart (k ∷ []) (first g)) (negated (is_empty h)))) ok in
       fronted_cond (DerivesIn D (or_told g k h)) (at_one_of (first g) xs) xs _ _

@@ -1,25 +1,31 @@
 -- Where reading stops: what stands before can be completed, and each token that was looked for can stand there.
-use Rattle.std.proofs.Common.{◌≡◌, ℕ, zero, suc, ◌+◌, ◌<◌, ◌≤◌, arith, List, [], ◌∷◌, ◌++◌, map, Result, Ok, Err, Bool, true, false, cond, ltb, refl, sym as back, ap, subst, ◌∙◌, ◌⊎◌, inl, inr, append_assoc}
-use Rattle.std.proofs.lemmas.Bool.{ltb-true}
+use Rattle.std.proofs.Common.{◌≡◌, List, [], ◌∷◌, ◌++◌, map, Result, Ok, Err, Bool, true, false, cond, refl, sym as back, ap, subst, ◌∙◌, ◌⊎◌, inl, inr, append_assoc}
 use Rattle.wac_lexer.specs.declared.token.Token.{Token}
 use Rattle.wac_lexer.specs.declared.token.Token.TheVariants as t
 use Rattle.std.proofs.lemmas.List.{append-nil}
-use Rattle.wac_lexer.specs.Item.{Item, Doc}
+use Rattle.wac_lexer.specs.Item.{Item}
 use Rattle.wac_ast.specs.Tokens.{is_token, valid, at}
-use Rattle.wac_ast.specs.Grammar.{Sym, rule, build, TreeOf, Parts, Behind, Grammar, token, sym, then, either, nothing, to_end, docs, not_empty, more, or_told, docs_of, DerivesIn, DerivesBy, Derives}
-use Rattle.wac_ast.specs.Reading.{Standing, at_once, closing, behind_comma, Tried, can, closes, follows, Stop, Why, other, version, empty_body, told, before, refuse, ◌>>=◌, mapped, pair_with, read, read_by, read_in, read_token, read_sym, led, two, built, empty, is_empty, begins, first, at_one_of, may_leave, rank, measure}
+use Rattle.wac_ast.specs.Grammar.{Sym, Parts, Grammar, token, sym, then, either, nothing, to_end, docs, not_empty, more, or_told, docs_of, DerivesIn, Derives}
+use Rattle.wac_ast.specs.Reading.{Standing, at_once, closing, behind_comma, Tried, can, closes, follows, Stop, Why, other, version, empty_body, told, before, refuse, ◌>>=◌, mapped, pair_with, read_in, read_token, read_sym, led, two, is_empty, begins, first, at_one_of, may_leave}
 use Rattle.wac_ast.specs.Possible.{named, IsOf}
-use Rattle.wac_ast.proofs.Fixed.{Reader, both, both_left, both_right, rank_below, ranked}
-use Rattle.wac_ast.proofs.Tables.{among, same_token, within, back_token, continues, negated, not_true, apart, pickable, clash, lawful, rule_lawful, both_lawful}
-use Rattle.wac_ast.proofs.Complete.{Family, begins_in, by_begins}
-use Rattle.wac_ast.proofs.Sound.{Fronted, OfToken, sound_in, by_sound, not_nothing, token_fronted}
-use Rattle.wac_ast.proofs.Completed.{Sample, FirstOf, NilOf, named_split, cans_once, follows_later, or_true, one_only, of_token, self_token, same_is, by_rule, by_nil, within_is, by_first, sample_in, first_in}
+use Rattle.wac_ast.proofs.Fixed.{Reader, both, both_left, both_right, ranked}
+use Rattle.wac_ast.proofs.Tables.{always, among, same_token, within, back_token, continues, negated, apart, pickable, clash, lawful, both_lawful}
+use Rattle.wac_ast.proofs.Sound.{Fronted, OfToken, sound_in}
+use Rattle.wac_ast.proofs.Completed.{Sample, FirstOf, named_split, cans_once, follows_later, one_only, of_token, self_token, same_is, by_nil, within_is, by_first, sample_in, first_in}
 
--- How each item of the token can stand behind `lead`, where `left` is left.
+-- each item of the token can stand behind `lead`
+abbrev pub AtOnce : {A : Type 0} → (List Item → A → Type 0) → List Item → Token → Type 0
+AtOnce {A = A} D lead k = (x : Item) → IsOf k x → (zs : List Item) × (p : A) × D (lead ++ (x ∷ zs)) p
+
+-- and behind a comma there
+abbrev pub BehindComma : {A : Type 0} → (List Item → A → Type 0) → List Item → Token → Type 0
+BehindComma {A = A} D lead k = (c x : Item) → IsOf t.Comma c → IsOf k x → (zs : List Item) × (p : A) × D (lead ++ (c ∷ x ∷ zs)) p
+
+-- How the token can stand behind `lead`, where `left` is left.
 abbrev pub Goes : {A : Type 0} → (List Item → A → Type 0) → List Item → List Item → Standing → Token → Type 0
-Goes {A = A} D lead left at_once k = (x : Item) → IsOf k x → (zs : List Item) × (p : A) × D (lead ++ (x ∷ zs)) p
+Goes D lead left at_once k = AtOnce D lead k
 Goes D lead left closing k = Unit {0}
-Goes {A = A} D lead left behind_comma k = (left ≡ []) × ((c x : Item) → IsOf t.Comma c → IsOf k x → (zs : List Item) × (p : A) × D (lead ++ (c ∷ x ∷ zs)) p)
+Goes D lead left behind_comma k = (left ≡ []) × (close : Token) × AtOnce D lead close × BehindComma D lead close × BehindComma D lead k
 
 abbrev pub Early : {A : Type 0} → (List Item → A → Type 0) → Standing → Token → Type 0
 Early D m k = (left : List Item) → Goes D [] left m k
@@ -38,10 +44,19 @@ stops_cond D tried true xs m n h k = h
 stops_cond D tried false xs m n h k = k
 
 -- what goes on with one family goes on with another, behind what stands before it
-goes_on : {A B : Type 0} (D : List Item → A → Type 0) (E : List Item → B → Type 0) (lead front left : List Item) → ((zs : List Item) (a : A) → D (lead ++ zs) a → (ys : List Item) × (b : B) × ((us : List Item) × ((front ++ lead) ++ (zs ++ ys) ≡ us) × E us b)) → (m : Standing) (k : Token) → Goes D lead left m k → Goes E (front ++ lead) left m k
-goes_on E D lead front left h at_once k g = λ x i. let a = g x i in let b = h (x ∷ a.0) a.1 a.2 in (a.0 ++ b.0, b.1, subst (λ (us : List Item). D us b.1) (back b.2.1) b.2.2)
-goes_on E D lead front left h closing k g = tt
-goes_on E D lead front left h behind_comma k g = (g.0, λ c x n i. let a = g.1 c x n i in let b = h (c ∷ x ∷ a.0) a.1 a.2 in (a.0 ++ b.0, b.1, subst (λ (us : List Item). D us b.1) (back b.2.1) b.2.2))
+abbrev Carries : {A B : Type 0} → (List Item → A → Type 0) → (List Item → B → Type 0) → List Item → List Item → Type 0
+Carries {A = A} {B = B} D E lead front = (zs : List Item) (a : A) → D (lead ++ zs) a → (ys : List Item) × (b : B) × ((us : List Item) × ((front ++ lead) ++ (zs ++ ys) ≡ us) × E us b)
+
+once_on : {A B : Type 0} (D : List Item → A → Type 0) (E : List Item → B → Type 0) (lead front : List Item) → Carries D E lead front → (k : Token) → AtOnce D lead k → AtOnce E (front ++ lead) k
+once_on D E lead front h k g = λ x i. let a = g x i in let b = h (x ∷ a.0) a.1 a.2 in (a.0 ++ b.0, b.1, subst (λ (us : List Item). E us b.1) (back b.2.1) b.2.2)
+
+comma_on : {A B : Type 0} (D : List Item → A → Type 0) (E : List Item → B → Type 0) (lead front : List Item) → Carries D E lead front → (k : Token) → BehindComma D lead k → BehindComma E (front ++ lead) k
+comma_on D E lead front h k g = λ c x n i. let a = g c x n i in let b = h (c ∷ x ∷ a.0) a.1 a.2 in (a.0 ++ b.0, b.1, subst (λ (us : List Item). E us b.1) (back b.2.1) b.2.2)
+
+goes_on : {A B : Type 0} (D : List Item → A → Type 0) (E : List Item → B → Type 0) (lead front left : List Item) → Carries D E lead front → (m : Standing) (k : Token) → Goes D lead left m k → Goes E (front ++ lead) left m k
+goes_on D E lead front left h at_once k g = once_on D E lead front h k g
+goes_on D E lead front left h closing k g = tt
+goes_on D E lead front left h behind_comma k g = (g.0, g.1, once_on D E lead front h g.1 g.2, comma_on D E lead front h g.1 g.3, comma_on D E lead front h k g.4)
 
 goes_map : {A B : Type 0} (D : List Item → A → Type 0) (E : List Item → B → Type 0) → ((ys : List Item) (a : A) → D ys a → (b : B) × E ys b) → (lead left : List Item) (m : Standing) (k : Token) → Goes D lead left m k → Goes E lead left m k
 goes_map D E h lead left m k g = goes_on D E lead [] left (λ zs a d. let b = h (lead ++ zs) a d in ([], b.0, (lead ++ zs, ap (λ (us : List Item). lead ++ us) (append-nil zs), b.1))) m k g
@@ -218,15 +233,16 @@ module _ (sample : (s : Sym) → Sample (Derives s)) (item : (k : Token) → (x 
         go closing l (inr n) = inr (λ left. tt)
         go behind_comma l (inr n) = absurd cc
     stops_in (more k s g) tried [] ok =
-        let in_g = both_right (both (lawful g) (negated (is_empty g))) (both (among k (first g)) (continues (begins s) g)) ok in
-        let closer = firsts_of g (all_rank g) k (both_left (among k (first g)) (continues (begins s) g) in_g) in
+        let in_g = both_right (both (lawful g) (negated (is_empty g))) (both (among k (first g)) (continues (k ∷ begins s) g)) ok in
+        let closer = firsts_of g (all_rank g) k (both_left (among k (first g)) (continues (k ∷ begins s) g) in_g) in
         stops_here (DerivesIn Derives g) tried (can k ∷ map follows (begins s)) other refl (some_of g) []
-        (λ m l n. inr (go m l (named_split m l (can k ∷ []) (map follows (begins s)) n) (both_right (among k (first g)) (continues (begins s) g) in_g) closer))
+        (λ m l n. inr (go m l (named_split m l (can k ∷ []) (map follows (begins s)) n) (both_right (among k (first g)) (continues (k ∷ begins s) g) in_g) closer))
       where
-        go : (m : Standing) (l : Token) → (named m l (can k ∷ []) ≡ true) ⊎ (named m l (map follows (begins s)) ≡ true) → continues (begins s) g ≡ true → FirstOf (DerivesIn Derives g) k → Goes (DerivesIn Derives g) [] [] m l
+        go : (m : Standing) (l : Token) → (named m l (can k ∷ []) ≡ true) ⊎ (named m l (map follows (begins s)) ≡ true) → continues (k ∷ begins s) g ≡ true → FirstOf (DerivesIn Derives g) k → Goes (DerivesIn Derives g) [] [] m l
         go m l (inl n) ok a = let o = cans_once m l (k ∷ []) n in early (DerivesIn Derives g) m l o.0 (subst (λ (o : Token). FirstOf (DerivesIn Derives g) o) (same_is k l (one_only (same_token k l) o.1)) a) []
-        go m l (inr n) ok a = let o = follows_later m l (begins s) n in subst (λ (o : Standing). Goes (DerivesIn Derives g) [] [] o l) (back o.0) (refl, λ c x i j. comma_goes (begins s) g ok l o.1 c x i j)
-    stops_in (more k s g) tried (x ∷ xs) ok = stops_in g tried (x ∷ xs) (both_lawful (lawful g) (negated (is_empty g)) (both (among k (first g)) (continues (begins s) g)) ok).0
+        go m l (inr n) ok a = let o = follows_later m l (begins s) n in subst (λ (o : Standing). Goes (DerivesIn Derives g) [] [] o l) (back o.0)
+            (refl, k, a, (λ c x i j. comma_goes (k ∷ begins s) g ok k (ap (λ b. cond b true (among k (begins s))) (self_token k)) c x i j), (λ c x i j. comma_goes (k ∷ begins s) g ok l (rw o.1 (always (same_token k l))) c x i j))
+    stops_in (more k s g) tried (x ∷ xs) ok = stops_in g tried (x ∷ xs) (both_lawful (lawful g) (negated (is_empty g)) (both (among k (first g)) (continues (k ∷ begins s) g)) ok).0
     stops_in (or_told g k h) tried xs ok =
         let oks = both_lawful (lawful g) (lawful h) (both (negated (is_empty g)) (both (apart (k ∷ []) (first g)) (negated (is_empty h)))) ok in
         stops_cond E tried (at_one_of (first g) xs) xs _ _

@@ -1,12 +1,12 @@
 -- Tests on tokens, and the tables that the laws need of a rule.
-use Rattle.std.proofs.Common.{◌≡◌, ℕ, zero, suc, List, [], ◌∷◌, ◌++◌, length, map, Result, Ok, Err, Bool, true, false, cond, refl, sym as back, ap, subst, ◌∙◌, ◌⊎◌, inl, inr, append_assoc, eqb, eq-eqb}
+use Rattle.std.proofs.Common.{◌≡◌, List, [], ◌∷◌, ◌++◌, Result, Ok, Err, Bool, true, false, cond, refl, sym as back, ap, ◌∙◌, eq-eqb}
 use Rattle.std.proofs.lemmas.Bool.{eqb-true}
 use Rattle.wac_lexer.specs.declared.error.Error.{Error}
 use Rattle.wac_lexer.specs.declared.token.Token.{Token}
 use Rattle.wac_lexer.specs.declared.token.Token.TheVariants as t
 use Rattle.wac_lexer.specs.Item.{Item}
-use Rattle.wac_ast.specs.Tokens.{is_token, is_fault, at, kind}
-use Rattle.wac_ast.specs.Grammar.{Sym, document, directive, statements, statement, let_statement, export_statement, export_options, expr, primary_expr, postfixes, postfix_expr, access_expr, identifier, package_name, rule, Behind, anything, no_fault, one_among, Grammar, token, sym, then, either, nothing, to_end, docs, not_empty, more, or_told}
+use Rattle.wac_ast.specs.Tokens.{is_token}
+use Rattle.wac_ast.specs.Grammar.{Sym, document, statements, import_type, export_options, expr, argument, named_argument, postfixes, variant_case, field, type_alias_kind, func_type_ref, func_type, result_list, named_type, ty, result_type, stream_type, future_type, result_part, payload, use_item, world_item_path, named_world_item, extern_type, rule, Behind, anything, no_fault, one_among, Grammar, token, sym, then, either, nothing, to_end, docs, not_empty, more, or_told}
 use Rattle.wac_ast.specs.Reading.{empty, is_empty, begins, first, at_one_of}
 use Rattle.wac_ast.proofs.Fixed.{both, both_left, both_right}
 
@@ -113,12 +113,34 @@ others ks = away_from ks all_tokens
 abbrev pub clashes : Sym → List Token
 clashes document = all_tokens
 clashes statements = all_tokens
-clashes expr = t.Dot ∷ []
-clashes postfixes = t.Dot ∷ []
+clashes import_type = t.Arrow ∷ t.OpenAngle ∷ begins ty
+clashes export_options = t.AsKeyword ∷ t.Ellipsis ∷ []
+clashes expr = t.OpenBracket ∷ t.Dot ∷ []
+clashes argument = others (t.CloseBrace ∷ t.Comma ∷ [])
+clashes named_argument = t.OpenBracket ∷ t.Dot ∷ []
+clashes postfixes = t.OpenBracket ∷ t.Dot ∷ []
+clashes variant_case = t.OpenParen ∷ []
+clashes field = t.OpenAngle ∷ []
+clashes type_alias_kind = t.Arrow ∷ t.OpenAngle ∷ begins ty
+clashes func_type_ref = t.Arrow ∷ t.OpenAngle ∷ begins ty
+clashes func_type = t.Arrow ∷ t.OpenAngle ∷ begins ty
+clashes result_list = t.OpenAngle ∷ begins ty
+clashes named_type = t.OpenAngle ∷ []
+clashes ty = t.OpenAngle ∷ []
+clashes result_type = t.OpenAngle ∷ []
+clashes stream_type = t.OpenAngle ∷ []
+clashes future_type = t.OpenAngle ∷ []
+clashes result_part = t.OpenAngle ∷ []
+clashes payload = t.OpenAngle ∷ []
+clashes use_item = t.AsKeyword ∷ []
+clashes world_item_path = t.Colon ∷ t.Arrow ∷ t.OpenAngle ∷ begins ty
+clashes named_world_item = t.Arrow ∷ t.OpenAngle ∷ begins ty
+clashes extern_type = t.Arrow ∷ t.OpenAngle ∷ begins ty
 clashes _ = []
 
 -- something must follow
 abbrev pub needs_more : Sym → Bool
+needs_more argument = true
 needs_more _ = false
 
 abbrev pub clash_behind : Behind → List Token
@@ -187,7 +209,7 @@ lawful (nothing b) = true
 lawful (to_end g) = both (lawful g) (negated (is_empty g))
 lawful (docs g) = both (lawful g) (negated (is_empty g))
 lawful (not_empty e k g) = both (both (lawful g) (negated (is_empty g))) (both (apart (first g) (k ∷ [])) (pickable g))
-lawful (more k s g) = both (both (lawful g) (negated (is_empty g))) (both (among k (first g)) (continues (begins s) g))
+lawful (more k s g) = both (both (lawful g) (negated (is_empty g))) (both (among k (first g)) (continues (k ∷ begins s) g))
 lawful (or_told g k h) = both (both (lawful g) (lawful h)) (both (negated (is_empty g)) (both (apart (k ∷ []) (first g)) (negated (is_empty h))))
 
 pub rule_lawful : (s : Sym) → lawful (rule s) ≡ true

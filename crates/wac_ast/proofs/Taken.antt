@@ -1,20 +1,20 @@
 -- A token that is next, and taken.
-use Rattle.std.proofs.Common.{◌≡◌, ℕ, Bool, true, false, eqb, eq-eqb, List, [], ◌∷◌, ◌⊎◌, inl, inr, Option, Some, None, Result, Ok, Err, refl, sym, ap, subst, ◌∙◌, rules}
+use Rattle.std.proofs.Common.{◌≡◌, ℕ, Bool, true, false, eqb, eq-eqb, cond, take, map, length, List, [], ◌∷◌, ◌⊎◌, inl, inr, Option, Some, None, Result, Ok, Err, refl, sym, ap, subst, ◌∙◌, rules}
 use denote.Enum.Bare.{sameb, same_true}
 use Rattle.wac_lexer.specs.contracts.token.Token.{the_type}
 use Rattle.wac_lexer.specs.declared.error.Error.{Error as LexError}
 use Rattle.wac_lexer.specs.Span.{Span}
-use Rattle.wac_lexer.specs.Item.{Item, handed, behind_first}
+use Rattle.wac_lexer.specs.Item.{Item, Handed, handed, behind_first}
 use Rattle.wac_lexer.specs.Reading.{Reading, left, shown}
 use Rattle.wac_lexer.specs.declared.token.Token.{Token}
 use Rattle.wac_lexer.specs.declared.token.Token.TheVariants as t
 use Rattle.wac_ast.specs.declared.error.Error.{Error}
 use Rattle.wac_ast.specs.Version.{reads_version}
-use Rattle.wac_ast.specs.Tokens.{kind, is_token, valid, at}
-use Rattle.wac_ast.specs.Reading.{read_token, can, version, refuse, Stop}
-use Rattle.wac_ast.specs.Error.{told_by, expected_one, no_memory}
-use Rattle.wac_ast.specs.Lookahead.{refusal}
-use Rattle.wac_ast.specs.Answer.{plain, first_item, End, end_of_input, empty_end, told, version_told, Fails}
+use Rattle.wac_ast.specs.Tokens.{kind, is_token, is_bad, valid, at}
+use Rattle.wac_ast.specs.Reading.{read_token, can, version, other, refuse, Stop, Tried, not_fault}
+use Rattle.wac_ast.specs.Error.{Told, told_by, faulty, expected, expected_one, no_memory}
+use Rattle.wac_ast.specs.Lookahead.{refusal, fault_at}
+use Rattle.wac_ast.specs.Answer.{plain, first_item, End, end_of_input, end_span, empty_end, told, version_told, Fails}
 
 -- a test of two tokens that holds
 pub same_token : (a b : Token) → sameb the_type a b ≡ true → a ≡ b
@@ -66,3 +66,31 @@ token_refused k (x ∷ xs) h = rw h refl
 pub token_fails : (e : Error) (l : Reading) (k : Token) → at k (left l) ≡ false → told_by e ≡ refusal (handed (left l)) (shown l.source (empty_end l.source)) (expected_one k) → Fails e (end_of_input l) (read_token [] k (left l))
 unfolding told end_of_input
 token_fails e l k h tells = same_fails e (end_of_input l) (read_token [] k (left l)) _ (token_refused k (left l) h) (inr (ap Some (sym tells)))
+
+-- a fault of the text, whatever was tried there
+pub fault_refused : (l : Reading) (k : Token) (t : Told) → fault_at (handed (left l)) ≡ Some t → (not_fault (left l) ≡ false) × ((ts : List Tried) → told (end_of_input l) (record { left = left l; expected = ts; why = other }) ≡ t)
+unfolding told
+fault_refused l k t h = (go (left l) h, λ ts. told_is (left l) (end_span (end_of_input l) ts) (expected (take 10 (map (λ (t : Tried). t.token) ts)) (length ts)) h)
+  where
+    some_told : (a b : Told) → Some a ≡ Some b → a ≡ b
+    some_told a b e = some_same a b e
+
+    at_fault : (r : Result Token LexError) (s : Span) → fault_at (Some (r, s)) ≡ Some t → (cond (is_bad r) false true ≡ false) × ((end : Span) (f : Option Token → Span → Told) → refusal (Some (r, s)) end f ≡ t)
+    at_fault (Ok n) s e = absurd cc
+    at_fault (Err n) s e = (refl, λ end f. some_told (faulty n s) t e)
+
+    go : (xs : List Item) → fault_at (handed xs) ≡ Some t → not_fault xs ≡ false
+    go [] e = absurd cc
+    go (x ∷ xs) e = (at_fault x.token x.span e).0
+
+    told_is : (xs : List Item) (end : Span) (f : Option Token → Span → Told) → fault_at (handed xs) ≡ Some t → refusal (handed xs) end f ≡ t
+    told_is [] end f e = absurd cc
+    told_is (x ∷ xs) end f e = (at_fault x.token x.span e).1 end f
+
+pub no_fault_there : (xs : List Item) → fault_at (handed xs) ≡ None → not_fault xs ≡ true
+no_fault_there [] h = refl
+no_fault_there (x ∷ xs) h = go x.token h
+  where
+    go : (r : Result Token LexError) → fault_at (Some (r, x.span)) ≡ None → cond (is_bad r) false true ≡ true
+    go (Ok n) e = refl
+    go (Err n) e = absurd cc

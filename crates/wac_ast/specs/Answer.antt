@@ -9,7 +9,8 @@ use Rattle.wac_lexer.specs.declared.error.Error.TheVariants as faults
 use Rattle.wac_ast.specs.declared.error.Error.{Error}
 use Rattle.wac_ast.specs.Version.{version_text}
 use Rattle.wac_ast.specs.Grammar.{Body, variant_body, record_body, flags_body, enum_body}
-use Rattle.wac_ast.specs.Reading.{Stop, Tried, Why, other, empty_body, version, told as told_of_item, before, read_token}
+use Rattle.wac_ast.specs.Reading.{Stop, Tried, Why, other, empty_body, version, told as told_of_item, before, read_token, not_fault}
+use Rattle.wac_ast.specs.Tokens.{at}
 use Rattle.wac_ast.specs.Error.{Told, told_by, faulty, expected, expected_one, empty_type, invalid_version, no_memory}
 use Rattle.wac_ast.specs.Lookahead.{refusal}
 
@@ -117,3 +118,9 @@ Takes token (Err error) old new = Fails error (end_of_input old) (read_token [] 
 abbrev pub has_more : List Item → Bool
 has_more [] = false
 has_more (x ∷ xs) = true
+
+-- An optional token was taken, or is not there and no fault stands in its place.
+abbrev pub TakesOptional : Token → Result Bool Error → Reading → Reading → Type 0
+TakesOptional token (Ok true) old new = (at token (left old) ≡ true) × (read_token [] token (left old) ≡ Ok (first_item (left old), left new)) × (end_of_input new ≡ end_of_input old)
+TakesOptional token (Ok false) old new = (at token (left old) ≡ false) × (not_fault (left old) ≡ true) × (new ≡ old)
+TakesOptional token (Err error) old new = (told_by error ≡ no_memory) ⊎ ((at token (left old) ≡ false) × (not_fault (left old) ≡ false) × ((ts : List Tried) → told (end_of_input old) (record { left = left old; expected = ts; why = other }) ≡ told_by error))

@@ -1,5 +1,5 @@
 -- What parsing a whole text answers, in the words of its public contract.
-use Rattle.std.specs.Prelude.{◌≡◌, ℕ, List, [], ◌∷◌, ◌++◌, ◌⊎◌, length, Option, Some, None, Result, Ok, Err, Bool, true, false}
+use Rattle.std.specs.Prelude.{◌≡◌, ℕ, List, [], ◌∷◌, ◌++◌, ◌⊎◌, Option, Some, None, Result, Ok, Err, true, false}
 use Rattle.wac_lexer.specs.Span.{Span, span}
 use Rattle.wac_lexer.specs.Item.{Item}
 use Rattle.wac_lexer.specs.Items.{items}
@@ -13,9 +13,9 @@ use Rattle.wac_ast.specs.Tree.{Document}
 use Rattle.wac_ast.specs.Grammar.{Body, document, Derives}
 use Rattle.wac_ast.specs.Reading.{read}
 use Rattle.wac_ast.specs.Viable.{Viable}
-use Rattle.wac_ast.specs.Possible.{IsOf}
 use Rattle.wac_ast.specs.Bodies.{Opens}
-use Rattle.wac_ast.specs.Stopped.{Fault as IsFault}
+use Rattle.wac_ast.specs.Arguments.{EndsWithArgument}
+use Rattle.wac_ast.specs.Stopped.{Fault as IsFault, CanStand, CanFollowComma, EndsInList}
 use Rattle.wac_ast.specs.declared.error.Error.{Error}
 use Rattle.wac_ast.specs.Error.{Told, told_by, faulty, expected_one, expected_either, expected_many, empty_type, invalid_version, no_memory}
 use Rattle.wac_ast.specs.Lookahead.{kept_in}
@@ -37,17 +37,10 @@ pub record FirstFault (text : List ℕ) (lead left : List Item) : Type 0 where
   pub viable : Viable document lead
   pub fault : IsFault document lead left
 
--- each item of the token, with any right text, can stand behind these
-abbrev pub CanStand : List Item → Token → Type 0
-CanStand lead k = (x : Item) → IsOf k x → Viable document (lead ++ (x ∷ []))
-
--- it can stand behind a comma there
-abbrev pub CanFollowComma : List Item → Token → Type 0
-CanFollowComma lead k = (comma x : Item) → IsOf t.Comma comma → IsOf k x → Viable document (lead ++ (comma ∷ x ∷ []))
-
--- The token can stand there. Two exceptions: it would close a body that is still empty; or the input ends, and it can stand behind a comma.
+-- The token can stand there. Two exceptions: it would close a body that is still empty; or the input ends behind an item of a comma
+-- list, and the token can stand behind a comma.
 abbrev pub Expects : List Item → List Item → Token → Type 0
-Expects lead left k = CanStand lead k ⊎ ((is_token t.CloseBrace (Ok k) ≡ true) × (b : Body) × Opens b lead) ⊎ ((left ≡ []) × CanFollowComma lead k)
+Expects lead left k = CanStand document lead k ⊎ ((is_token t.CloseBrace (Ok k) ≡ true) × (b : Body) × Opens b lead) ⊎ (EndsInList document lead left × CanFollowComma document lead k)
 
 abbrev pub AllExpected : List Item → List Item → List Token → Type 0
 AllExpected lead left [] = Unit {0}
@@ -74,23 +67,25 @@ Holds text lead left (expected_one k found s) = Finds left (end_in_sequence text
 Holds text lead left (expected_either k l found s) = Finds left (end_of_choice text) found s × Expects lead left k × Expects lead left l
 Holds text lead left (expected_many ks count found s) = Finds left (end_of_choice text) found s × AllExpected lead left (kept_in ks)
 Holds text lead left (empty_type ty kind s) = (b : Body) × (x : Item) × (others : List Item) × (left ≡ x ∷ others) × Opens b lead × (is_token t.CloseBrace x.token ≡ true) × (ty ≡ body_name b) × (kind ≡ part_name b) × (s ≡ x.span)
-Holds text lead left (invalid_version version s) = (k : Token) × (x : Item) × (others : List Item) × (left ≡ x ∷ others) × (is_token k x.token ≡ true) × (valid k x.text ≡ false) × CanStand lead k × (invalid_version version s ≡ version_told x.text x.span)
+Holds text lead left (invalid_version version s) = (k : Token) × (x : Item) × (others : List Item) × (left ≡ x ∷ others) × (is_token k x.token ≡ true) × (valid k x.text ≡ false) × CanStand document lead k × (invalid_version version s ≡ version_told x.text x.span)
 Holds text lead left no_memory = ⊥
 
--- What is told holds. A fault, a body that is empty, and a text that is no version where another could stand, are told as such.
+-- What is told holds. A fault, a body that is empty, and a text that is no version where another could stand, are told as such; and the
+-- last viable item is no string that an argument begins with.
 pub record Tells (text : List ℕ) (lead left : List Item) (told : Told) : Type 0 where
   pub holds : Holds text lead left told
   pub of_fault : (x : Item) (others : List Item) (fault : Fault) → left ≡ x ∷ others → x.token ≡ Err fault → told ≡ faulty fault x.span
   pub of_empty : (b : Body) (x : Item) (others : List Item) → left ≡ x ∷ others → Opens b lead → is_token t.CloseBrace x.token ≡ true → told ≡ empty_type (body_name b) (part_name b) x.span
   pub of_version : (x y : Item) (others : List Item) → left ≡ x ∷ others → x.token ≡ y.token → Viable document (lead ++ (y ∷ [])) → told ≡ version_told x.text x.span
+  pub no_string : EndsWithArgument lead → ⊥
 
--- A refused character is told. Else what is told lies at the first fault; or the last viable item is a string, in whose place an
--- identifier could stand, and the string is told.
+-- A refused character is told. Else what is told lies at the first fault; or the last viable item is a string that an argument begins
+-- with, and it is told that an identifier is expected in its place.
 abbrev pub ErrorOf : Told → List ℕ → Type 0
 ErrorOf told text =
     ((fault : Fault) × (s : Span) × (refused text ≡ Some (fault, s)) × (told ≡ faulty fault s))
     ⊎ ((lead : List Item) × (left : List Item) × FirstFault text lead left × Tells text lead left told)
-    ⊎ ((lead : List Item) × (string : Item) × (left : List Item) × FirstFault text (lead ++ (string ∷ [])) left × (is_token t.String string.token ≡ true) × CanStand lead t.Ident × (told ≡ expected_one t.Ident (Some t.String) string.span))
+    ⊎ ((lead : List Item) × (string : Item) × (left : List Item) × FirstFault text (lead ++ (string ∷ [])) left × EndsWithArgument (lead ++ (string ∷ [])) × CanStand document lead t.Ident × (told ≡ expected_one t.Ident (Some t.String) string.span))
 
 -- ---- the answer, by reading
 

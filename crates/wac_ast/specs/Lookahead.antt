@@ -51,3 +51,9 @@ told_of l = refusal l.next l.span (expected l.kept l.count)
 pub record Peeks (firsts : List Token) (result : Bool) (old new : Looked) : Type 0 where
   pub found : result ≡ is_one_of firsts old.next
   pub tried : result ≡ false → new ≡ tried firsts old
+
+-- what is told of a fault
+abbrev pub fault_at : Handed → Option Told
+fault_at None = None
+fault_at (Some (Ok token, span)) = None
+fault_at (Some (Err fault, span)) = Some (faulty fault span)

@@ -1,5 +1,5 @@
 -- The tokens that a refusal names, and the items that are one of them.
-use Rattle.std.specs.Prelude.{◌≡◌, ℕ, List, [], ◌∷◌, Ok, Bool, true, false, cond}
+use Rattle.std.specs.Prelude.{◌≡◌, List, [], ◌∷◌, Ok, Bool, true, false, cond}
 use Rattle.wac_lexer.specs.declared.token.Token.{Token}
 use Rattle.wac_lexer.specs.Item.{Item}
 use Rattle.wac_ast.specs.Tokens.{is_token, valid}

@@ -25,9 +25,19 @@ pub record String : Type 0 where
   pub value : List ℕ
   pub span : Span
 
--- a text without its first and its last byte
+-- the text without a quote at its front
+abbrev pub without_front_quote : List ℕ → List ℕ
+without_front_quote [] = []
+without_front_quote (b ∷ text) = if b == 34 then text else b ∷ text
+
+-- the text without a quote at its end
+abbrev pub without_last_quote : List ℕ → List ℕ
+without_last_quote [] = []
+without_last_quote (b ∷ []) = if b == 34 then [] else b ∷ []
+without_last_quote (b ∷ c ∷ text) = b ∷ without_last_quote (c ∷ text)
+
 abbrev pub between_quotes : List ℕ → List ℕ
-between_quotes text = take (length text - 2) (drop 1 text)
+between_quotes text = without_last_quote (without_front_quote text)
 
 -- the whole text, the text before '@', and the version behind it
 pub record PackageName : Type 0 where
@@ -314,6 +324,10 @@ mutual
 abbrev pub arguments_from : List InstantiationArgument → Arguments
 arguments_from [] = Arguments.none
 arguments_from (x ∷ xs) = Arguments.more x (arguments_from xs)
+
+pub record NamedInstantiationArgument : Type 0 where
+  pub name : InstantiationArgumentName
+  pub expr : Expr
 
 -- ---- statements
 

@@ -21,9 +21,13 @@ unversioned text = before_first is_at_sign text
 abbrev pub path_name : List ℕ → List ℕ
 path_name text = before_first is_slash text
 
+-- the text behind the first '/'
+abbrev pub after_slash : List ℕ → List ℕ
+after_slash text = after_first is_slash text
+
 -- the segments of a path: what stands between the first '/' and '@'
 abbrev pub path_segments : List ℕ → List ℕ
-path_segments text = after_first is_slash (unversioned text)
+path_segments text = after_slash (unversioned text)
 
 abbrev pub is_ok : {A E : Type 0} → Result A E → Bool
 is_ok (Ok a) = true

@@ -1,5 +1,5 @@
 -- Which items can begin something that derives: by kinds and texts, not by spans and docs.
-use Rattle.std.specs.Prelude.{◌≡◌, ℕ, zero, suc, List, [], ◌∷◌, ◌++◌, ◌⊎◌}
+use Rattle.std.specs.Prelude.{◌≡◌, List, [], ◌∷◌}
 use Rattle.std.proofs.Common.{inl, inr}
 use Rattle.wac_lexer.specs.Item.{Item}
 use Rattle.wac_ast.specs.Grammar.{Sym, Grammar, token, sym, then, either, nothing, to_end, docs, not_empty, more, or_told, rule, TreeOf, Parts, build, Derives}

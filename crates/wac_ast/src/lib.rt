@@ -2,22 +2,30 @@
 #![tactic(auto)]
 
 mod ast;
+mod delimited;
 mod error;
+mod laws;
 mod lookahead;
 mod parse;
 
 pub use ast::{
-    AccessExpr, DocComment, Document, ExportOptions, ExportStatement, Expr, Ident, LetStatement,
-    PackageDirective, PackageName, PostfixExpr, PrimaryExpr, Statement,
+    AccessExpr, Constructor, DocComment, Document, EnumCase, EnumDecl, ExportOptions,
+    ExportStatement, Expr, ExternName, ExternType, Field, Flag, FlagsDecl, FuncType, FuncTypeRef,
+    Ident, ImportStatement, ImportType, InlineInterface, InstantiationArgument,
+    InstantiationArgumentName, InterfaceDecl, InterfaceExport, InterfaceItem, ItemTypeDecl,
+    LetStatement, Method, NamedAccessExpr, NamedInstantiationArgument, NamedType, NamedWorldItem,
+    NestedExpr, NewExpr, PackageDirective, PackageName, PackagePath, PostfixExpr, PrimaryExpr,
+    RecordDecl, ResourceDecl, ResourceMethod, ResultList, SegmentSpans, Statement, String, Type,
+    TypeAlias, TypeAliasKind, TypeDecl, TypeStatement, Use, UseItem, UsePath, VariantCase,
+    VariantDecl, WorldDecl, WorldExport, WorldImport, WorldInclude, WorldIncludeItem, WorldItem,
+    WorldItemPath, WorldRef, parse_optional_payload,
 };
 pub use error::{Error, ParseResult};
+pub use laws::{tokens_have_texts, trees_stand_in_their_text, what_is_read_derives};
 pub use lookahead::Lookahead;
-pub use parse::parse_token;
+pub use parse::{parse_optional, parse_token};
 
 /// How each part of a document is parsed.
 pub mod internals {
     pub use crate::parse::{Parse, Peek};
 }
-
-#[cfg(test)]
-mod tests;

@@ -1,6 +1,6 @@
 //! Taking tokens, and what every parser answers.
 
-ghost use Rattle.std.specs.Prelude.{◌≡◌, ◌≤◌, ◌<◌, ◌^◌, true, false, IfOk, IfErr, Some, Ok, length, map};
+ghost use Rattle.std.specs.Prelude.{◌≡◌, ◌≤◌, ◌<◌, ◌^◌, true, false, IfOk, IfErr, Some, Ok, length, map, []};
 ghost use Rattle.wac_lexer.specs.Span.{span, end_of};
 ghost use Rattle.wac_lexer.specs.Item.{handed, behind_first, OnFirst};
 ghost use Rattle.wac_lexer.specs.Reading.{left, shown, slice, Slices};
@@ -146,7 +146,17 @@ pub fn at(lexer: &Lexer, token: Token) -> bool
     }
 }
 
-ghost use Rattle.std.specs.Prelude.{OnOk, ◌++◌, ◌∷◌, [], alloc_error};
+/// Whether the item behind the next is this token.
+pub fn at_second(lexer: &Lexer, token: Token) -> bool
+    ensures { result ≡ at token (behind_first (left lexer.now)) }
+{
+    match lexer.peek2() {
+        Some((Ok(found), _)) => found == token,
+        _ => false,
+    }
+}
+
+ghost use Rattle.std.specs.Prelude.{OnOk, ◌++◌, ◌∷◌, alloc_error};
 ghost use Rattle.wac_ast.specs.declared.error.Error.TheVariants.{Memory};
 
 /// Adds an item at the end.
@@ -169,5 +179,106 @@ pub fn has_more(lexer: &Lexer) -> bool
     match lexer.peek() {
         Some(_) => true,
         None => false,
+    }
+}
+
+/// A value in a box.
+pub fn boxed<T: Drop>(alloc: Global, value: T) -> ParseResult<Box<T>>
+    ensures value { IfOk result (λ b. b.value ≡ value) }
+    ensures memory { IfErr result (λ e. e ≡ Memory alloc_error) }
+{
+    match Box::new(alloc, value) {
+        Ok(boxed) => Ok(boxed),
+        Err(_) => Err(Error::Memory(AllocError)),
+    }
+}
+
+ghost use Rattle.wac_ast.specs.Answer.{TakesOptional};
+
+/// Takes the next item where it is this token, and tells whether it was.
+///
+/// A fault of the text is refused, and not taken.
+pub fn take_optional(lexer: &mut Lexer, expected: Token) -> ParseResult<bool>
+    requires { plain expected ≡ true }
+    ensures takes { TakesOptional expected result lexer.old lexer.new }
+    ensures source { lexer.new.source ≡ lexer.old.source }
+    ensures moves { lexer.old.place ≤ lexer.new.place }
+{
+    if at(lexer, expected) {
+        take_token(lexer, expected)?;
+        return Ok(true);
+    }
+    refuse_fault(lexer)?;
+    Ok(false)
+}
+
+ghost use Rattle.std.specs.Prelude.{IfSome, IsErrAnd};
+ghost use Rattle.std.specs.Fn.{FnOnceReturnsAtMut};
+ghost use Rattle.wac_lexer.specs.Reading.{Reading, Nexts};
+ghost use Rattle.wac_ast.specs.Optional.{AnswersBy};
+ghost use Rattle.wac_ast.specs.Consumed.{Consumed};
+ghost use Rattle.wac_ast.specs.declared.error.Error.{Error};
+ghost use Rattle.wac_ast.specs.Lookahead.{fault_at};
+ghost use Rattle.std.specs.Prelude.{None, MatchResult};
+
+/// Refuses a fault of the text in the next item's place.
+fn refuse_fault(lexer: &Lexer) -> ParseResult<()>
+    ensures { MatchResult result (λ _. fault_at (handed (left lexer.now)) ≡ None) (λ e. fault_at (handed (left lexer.now)) ≡ Some (told_by e)) }
+{
+    match lexer.peek() {
+        Some((found, span)) => match found {
+            Ok(_) => Ok(()),
+            Err(fault) => Err((fault, span).into()),
+        },
+        None => Ok(()),
+    }
+}
+
+/// Takes the next item where it is this token, and then answers what the callback gives.
+///
+/// Another token and the end give `None`. A fault of the text is refused. Neither is taken.
+pub fn parse_optional<'a, R, E: From<Error>, F: FnOnce(&mut Lexer<'a>) -> Result<R, E>>(
+    lexer: &mut Lexer<'a>,
+    expected: Token,
+    cb: F,
+) -> Result<Option<R>, E>
+    requires { F.IsAlwaysCallable cb }
+    // Where the token is next it is taken, and the callback's answer is passed on.
+    ensures called { at expected (left lexer.old) ≡ true → (behind : Reading) × Nexts lexer.old (handed (left lexer.old)) behind × AnswersBy (FnOnceReturnsAtMut F.FnOnce cb behind) result lexer.new }
+    // Where each tree that the callback gives derives from the items that it took, so does what is given here.
+    ensures derives { (s : Sym) (view : R → TreeOf s) → ((old : Reading) (x : R) (new : Reading) → FnOnceReturnsAtMut F.FnOnce cb old (Ok x) new → Consumed s (left old) (left new) (view x)) → IfOk result (λ o. IfSome o (λ x. Consumed s (behind_first (left lexer.old)) (left lexer.new) (view x))) }
+    // Another token and the end give nothing.
+    ensures none { at expected (left lexer.old) ≡ false → fault_at (handed (left lexer.old)) ≡ None → (result ≡ Ok None) × (lexer.new ≡ lexer.old) }
+    // A fault is refused, and not taken.
+    ensures refused { IfSome (fault_at (handed (left lexer.old))) (λ t. IsErrAnd result (λ x. (e : Error) × E.from_gives e x × (told_by e ≡ t)) × (lexer.new ≡ lexer.old)) }
+{
+    if at(lexer, expected) {
+        lexer.next();
+        return match cb(lexer) {
+            Ok(value) => Ok(Some(value)),
+            Err(error) => Err(error),
+        };
+    }
+    refuse_fault(lexer)?;
+    Ok(None)
+}
+
+ghost use Rattle.wac_ast.specs.Error.{empty_type};
+ghost use Rattle.wac_ast.specs.Answer.{first_span};
+ghost use Rattle.wac_lexer.specs.declared.token.Token.TheVariants as tokens;
+
+/// Refuses a closing brace in the next item's place, where a body of this type would have no such part.
+pub fn refuse_empty(lexer: &Lexer, ty: &'static str, kind: &'static str) -> ParseResult<()>
+    ensures filled { IfOk result (λ _. at tokens.CloseBrace (left lexer.now) ≡ false) }
+    ensures refused { IfErr result (λ e. (at tokens.CloseBrace (left lexer.now) ≡ true) × (told_by e ≡ empty_type ty.now kind.now (first_span (left lexer.now)))) }
+{
+    match lexer.peek() {
+        Some((found, span)) => {
+            if at(lexer, Token::CloseBrace) {
+                return Err(Error::EmptyType { ty, kind, span });
+            }
+            Ok(())
+        }
+        None => Ok(()),
     }
 }

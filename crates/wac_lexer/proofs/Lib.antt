@@ -13,3 +13,5 @@ pub mod Sorts
 pub mod Longest
 pub mod Ordered
 pub mod Firsts
+pub mod InFront
+pub mod Followed

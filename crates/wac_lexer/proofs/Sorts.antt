@@ -25,7 +25,7 @@ use Rattle.wac_lexer.proofs.Texts.{bytes_eq_is, bytes_eq_same, is_shape, is_shap
 use Rattle.wac_lexer.proofs.Fronts.{token_fixed, token_plain}
 
 -- the texts of the patterns are bytes
-abbrev AreBytes : List ℕ → Type 0
+abbrev pub AreBytes : List ℕ → Type 0
 AreBytes text = AllByRecursion (λ b. b < 256) text
 
 abbrev of_bytes : Pattern → Bool
@@ -58,7 +58,7 @@ bytes_of (Or p q) e text (inl h) = bytes_of p (and_parts (of_bytes p) (of_bytes 
 bytes_of (Or p q) e text (inr h) = bytes_of q (and_parts (of_bytes p) (of_bytes q) e).1 text h
 bytes_of (Many p) e text h = subst AreBytes (sym h.1) (many_bytes p h.0 (bytes_of p e) h.2)
 
-shape_bytes : (shape : Shape) (text : List ℕ) → Matches (pattern_of shape) text → AreBytes text
+pub shape_bytes : (shape : Shape) (text : List ℕ) → Matches (pattern_of shape) text → AreBytes text
 shape_bytes shapes.Word text h = bytes_of id refl text h
 shape_bytes shapes.Name text h = bytes_of package_name refl text h
 shape_bytes shapes.Path text h = bytes_of package_path refl text h

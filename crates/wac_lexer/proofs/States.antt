@@ -251,7 +251,7 @@ pub after_nothing : (text : List ℕ) → after_all text Nothing ≡ Nothing
 after_nothing [] = refl
 after_nothing (b ∷ text) = after_nothing text
 
-reads_dead : (text more : List ℕ) → Reads Dead text → Reads Dead (text ++ more)
+pub reads_dead : (text more : List ℕ) → Reads Dead text → Reads Dead (text ++ more)
 reads_dead text more r shape = after_all-append text more (pattern_of shape) ∙ ap (after_all more) (r shape ∙ dead shape) ∙ after_nothing more ∙ sym (dead shape)
   where
     dead : (shape : Shape) → rest_of Dead shape ≡ Nothing

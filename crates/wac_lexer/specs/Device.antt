@@ -10,6 +10,11 @@ pub record Device : Type 0 where
   -- where they are known, the bytes that the writer holds, or that the reader has yet to give
   pub known : Option (List ℕ)
 
+-- a sink that keeps its bytes
+pub record Kept : Type 0 where
+  pub bytes : List ℕ
+  pub failures : ℕ
+
 -- the first n bytes of a slice were appended, more than none unless it is empty; or no byte, and one failure more
 abbrev pub PutGives : List ℕ → ℕ → List ℕ → Option ℕ → List ℕ → ℕ → Type 0
 PutGives old failed put (Some n) new failed' = (n ≤ length put) × (0 < length put → 0 < n) × (new ≡ old ++ take n put) × (failed' ≡ failed)

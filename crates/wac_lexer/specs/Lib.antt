@@ -17,3 +17,4 @@ pub mod Order
 pub mod First
 pub mod Device
 pub mod Tally
+pub mod Follow

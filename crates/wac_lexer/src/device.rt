@@ -2,6 +2,7 @@
 ghost use Rattle.std.specs.Prelude.{◌≡◌, ◌+◌, ◌++◌, ℕ, List, [], Option};
 ghost use Rattle.wac_lexer.specs.Device.{PutGives, PutGrows, TakeGives, TakeLeaves};
 
+use std::alloc::Global;
 use std::io::{Read, Write};
 use std::marker::Model;
 
@@ -149,6 +150,61 @@ impl<W: Write> Sink for Out<W> {
     }
 }
 
+/// A sink that keeps the bytes that it is given. A refused request for memory is a failure.
+///
+/// ```text
+/// let mut kept = Bytes::new(alloc);
+/// kept.put(b"abc");                   // Some(3)
+/// let bytes = kept.into_vec();
+/// ```
+#[derive(Drop)]
+pub struct Bytes {
+    bytes: Vec<u8>,
+    tally: Tally,
+}
+
+impl Model for Bytes {
+    ghost use Rattle.wac_lexer.specs.Device.{Kept};
+
+    ghost Value = { Kept };
+
+    ghost view = { λ b. record { bytes = b.bytes.items; failures = b.tally.failures } };
+}
+
+impl Bytes {
+    /// With no byte.
+    pub fn new(alloc: Global) -> Self
+        ensures { result ≡ record { bytes = []; failures = 0 } }
+    {
+        Bytes {
+            bytes: Vec::new(alloc),
+            tally: Tally::after(&Step::Begins),
+        }
+    }
+
+    /// The bytes, in order.
+    pub fn into_vec(self) -> Vec<u8>
+        ensures { result.items ≡ self.bytes }
+    {
+        let Bytes { bytes, .. } = self;
+        bytes
+    }
+}
+
+impl Sink for Bytes {
+    ghost bytes = { λ b. b.bytes };
+
+    ghost failures = { λ b. b.failures };
+
+    fn put(&mut self, part: &[u8]) -> Option<usize> {
+        if self.bytes.extend_from_slice(part).is_ok() {
+            return Some(part.len());
+        }
+        self.tally = Tally::after(&Step::Fails(&self.tally));
+        None
+    }
+}
+
 /// A feed over a reader. An error of the reader is a failure.
 #[derive(Drop)]
 pub struct In<R: Read> {
@@ -203,6 +259,15 @@ mod tests {
     use std::io;
     use std::io::ErrorKind;
     use std::test::Fail;
+
+    #[test]
+    fn bytes_are_kept(rt: HostRuntime) {
+        let mut kept = Bytes::new(rt.alloc());
+        assert_eq!(rt; kept.put(b"ab"), Some(2));
+        assert_eq!(rt; kept.put(b""), Some(0));
+        assert_eq!(rt; kept.put(b"c"), Some(1));
+        assert_eq!(rt; kept.into_vec().as_slice(), b"abc".as_slice());
+    }
 
     /// A writer or reader that takes or gives a byte a call, and fails once it has moved so many.
     #[derive(Drop)]

@@ -7,6 +7,7 @@ mod comments;
 mod device;
 mod docs;
 mod error;
+mod follow;
 mod items;
 mod laws;
 mod lexer;
@@ -18,8 +19,9 @@ mod tests;
 mod token;
 mod words;
 
-pub use device::{Feed, In, Out, Sink};
+pub use device::{Bytes, Feed, In, Out, Sink};
 pub use error::Error;
+pub use follow::{identifiers_follow_dots, tokens_are_read_back};
 pub use laws::{
     comments_are_pieces, docs_stand_in_the_gap, first_items_are_found, fronts_are_longest,
     gap_is_longest, items_stand_in_order, patterns_are_decided, refused_characters_are_first,

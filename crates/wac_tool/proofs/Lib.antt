@@ -1,7 +1,4 @@
 pub mod Fronts
-pub mod Pieces
-pub mod Indentation
-pub mod Lists
-pub mod Steps
+pub mod Printing
 pub mod ItemLines
 pub mod Refusing

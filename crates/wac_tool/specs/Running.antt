@@ -13,8 +13,7 @@ use Rattle.wac_ast.specs.Error.{Told, faulty, expected_one, expected_either, exp
 use Rattle.wac_ast.specs.declared.error.Error.{Error}
 use Rattle.wac_ast.specs.declared.error.Error.TheVariants as errors
 use Rattle.wac_tool.specs.Front.{Began}
-use Rattle.wac_tool.specs.Layout.{document_layout}
-use Rattle.wac_tool.specs.Printed.{text, four_spaces}
+use Rattle.wac_layout.specs.Reread.{printed as printed_with}
 use Rattle.wac_tool.specs.declared.command.Command.{Command}
 use Rattle.wac_tool.specs.declared.command.Command.TheVariants.{Tokens, Fmt}
 use Rattle.wac_tool.specs.declared.error.RunError.{RunError}
@@ -35,9 +34,9 @@ item_line token s = decimal s.offset ++ (codes "+" ++ (decimal s.len ++ (codes "
 abbrev pub item_lines : List Item → List ℕ
 item_lines items = flat_map (λ item. item_line item.token item.span) items
 
--- the printed text of a document
-unfoldable pub printed : List ℕ → Document → List ℕ
-printed source document = text four_spaces true (document_layout source 0 document)
+-- the printed text of a document, with four spaces for a depth
+abbrev pub printed : List ℕ → Document → List ℕ
+printed source document = printed_with (codes "    ") source document
 
 -- ---- what a command writes, or refuses
 

@@ -3,7 +3,6 @@
 
 mod command;
 mod error;
-mod printing;
 mod reporting;
 mod running;
 #[cfg(test)]

@@ -3,8 +3,8 @@ ghost use Rattle.std.specs.Prelude.{◌≡◌, ◌+◌, ◌++◌, [], OnOk, OnEr
 ghost use Rattle.std.specs.Io.{appended_bytes};
 ghost use Rattle.wac_lexer.specs.Span.{Span};
 ghost use Rattle.wac_ast.specs.Error.{told_by};
-ghost use Rattle.wac_ast.specs.Slicing.{DocumentSlices};
-ghost use Rattle.wac_ast.specs.Views.{document_of};
+ghost use Rattle.wac_ast.specs.Statements.{document_of};
+ghost use Rattle.wac_printer.specs.Sliced.{DocumentSliced};
 ghost use Rattle.wac_tool.specs.Front.{Began};
 ghost use Rattle.wac_tool.specs.Running.{printed, Answers, input_failures, output_failures, ReadsAll, place_of, item_line, IsRefusal};
 ghost use Rattle.wac_tool.specs.declared.command.Command.TheVariants.{Tokens, Fmt};
@@ -12,11 +12,11 @@ ghost use Rattle.wac_tool.specs.declared.error.RunError.TheVariants.{Refused, Me
 
 use crate::command::Command;
 use crate::error::RunError;
-use crate::printing::{DocumentPrinter, PrintResult};
 use crate::transfer::{put_all, take_all};
 use std::alloc::{AllocError, Global};
 use wac_ast::Document;
 use wac_lexer::{Feed, Lexer, LexerResult, Sink, SourceSpan, Token};
+use wac_printer::{DocumentPrinter, Page, PrintResult, trees_of_texts_can_be_printed};
 
 /// Reads all bytes of `reader`, and writes the text that `command` makes of them into `writer`.
 ///
@@ -105,23 +105,27 @@ fn write_document<S: Sink>(alloc: Global, source: &str, writer: &mut S) -> Resul
         Ok(document) => document,
         Err(error) => return Err(refusal(alloc, error)),
     };
-    match print(&document, source, writer) {
+    trees_of_texts_can_be_printed();
+    let page = Page {
+        document: &document,
+    };
+    match print(page, source, writer) {
         Ok(()) => Ok(()),
         Err(_) => Err(RunError::Output),
     }
 }
 
 /// Prints a document into a sink.
-#[tactic(auto, unfolding(crate::specs::Running::printed, crate::specs::Printed::after))]
-fn print<S: Sink>(document: &Document<'_>, source: &str, writer: &mut S) -> PrintResult
-    requires { DocumentSlices source.now (document_of document.now) }
-    ensures written { OnOk result (S.bytes writer.new ≡ S.bytes writer.old ++ printed source.now (document_of document.now)) }
+#[tactic(auto, unfolding(wac_printer::specs::Printed::after), using(crate::proofs::Printing::printing))]
+fn print<S: Sink>(page: Page<'_, '_>, source: &str, writer: &mut S) -> PrintResult
+    requires { DocumentSliced source.now (document_of page) }
+    ensures written { OnOk result (S.bytes writer.new ≡ S.bytes writer.old ++ printed source.now (document_of page.entry)) }
     ensures works { OnOk result (S.failures writer.new ≡ S.failures writer.old) }
-    ensures began { OnErr result (Began (S.bytes writer.old) (S.bytes writer.new) (printed source.now (document_of document.now))) }
+    ensures began { OnErr result (Began (S.bytes writer.old) (S.bytes writer.new) (printed source.now (document_of page.entry))) }
     ensures failed { OnErr result (S.failures writer.new ≡ S.failures writer.old + 1) }
 {
     let mut printer = DocumentPrinter::new(writer, source, None);
-    let result = printer.document(document);
+    let result = printer.page(page);
     let writer = printer.into_writer();
     // The proof reads from this use what the writer holds.
     let _ = &*writer;

@@ -1,18 +1,9 @@
-//! Real texts, cut at each character.
+//! Texts, cut at each character.
 
+use crate::rows::{DOCUMENTS, OTHERS};
 use std::alloc::Global;
 use std::process::Abort;
-use wac_ast::{Document, Error};
-
-/// Documents of the language.
-const TEXTS: [&str; 6] = [
-    "package a:b; let x = y; export x.z;",
-    "/** a\n\n b */ package a:b;",
-    "package a:b;\r\n/// d\r\nlet x = y;",
-    "package test:foo:bar@1.0.0-rc.1+build; /* /* x */ */ let %let = y.a.b.c; // end\nexport %let.x;",
-    "/// é\npackage a:b;\n/// ü\nexport x.y;",
-    "package a:b@01.0.0;",
-];
+use wac_parser::{Document, Error};
 
 /// Where an error stands, in bytes, unless memory ran out.
 fn place(error: &Error) -> Option<(usize, usize)> {
@@ -42,8 +33,28 @@ fn fronts(rt: &impl Abort, alloc: Global, text: &str) {
 }
 
 #[test]
-fn fronts_of_texts(rt: HostRuntime) {
-    for text in &TEXTS {
+fn fronts_of_documents(rt: HostRuntime) {
+    for text in &DOCUMENTS {
         fronts(&rt, rt.alloc(), text);
     }
+}
+
+#[test]
+fn fronts_of_other_texts(rt: HostRuntime) {
+    for text in &OTHERS {
+        fronts(&rt, rt.alloc(), text);
+    }
+}
+
+/// Asserts whether each text has a tree.
+fn have_trees(rt: &impl Abort, alloc: Global, texts: &[&str], wanted: bool) {
+    for text in texts {
+        assert_eq!(rt; Document::parse(alloc, text).is_ok(), wanted, "of {text}");
+    }
+}
+
+#[test]
+fn documents_have_trees(rt: HostRuntime) {
+    have_trees(&rt, rt.alloc(), &DOCUMENTS, true);
+    have_trees(&rt, rt.alloc(), &OTHERS, false);
 }

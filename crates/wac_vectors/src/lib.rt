@@ -4,4 +4,14 @@
 #[cfg(test)]
 mod cuts;
 #[cfg(test)]
+mod layout;
+#[cfg(test)]
+mod refusals;
+#[cfg(test)]
+mod rows;
+#[cfg(test)]
 mod tokens;
+#[cfg(test)]
+mod trees;
+#[cfg(test)]
+mod writers;

@@ -1,7 +1,7 @@
 //! The vectors of the lexer: texts, and each token with its offset and length in bytes.
 
 use std::process::Abort;
-use wac_lexer::{Lexer, SourceSpan, Token};
+use wac_parser::lexer::{Lexer, SourceSpan, Token};
 
 /// Asserts that the items of a text are these tokens.
 fn tokens_are(rt: &impl Abort, source: &str, tokens: &[(Token, usize, usize)]) {

@@ -5,22 +5,22 @@ ghost use Rattle.wac_ast.specs.Reading.{begins};
 ghost use Rattle.wac_ast.specs.Lookahead.{Peeks};
 ghost use Rattle.wac_ast.specs.Views.{export_statement_of, export_options_of};
 
-use crate::ast::{DocComment, Expr};
+use crate::ast::{DocComment, Expr, ExternName};
 use crate::error::ParseResult;
 use crate::lookahead::Lookahead;
-use crate::parse::{Parse, Peek, parse_docs, take_token};
+use crate::parse::{Parse, Peek, at, parse_docs, take_token};
 use std::alloc::Global;
-use wac_lexer::{Lexer, Token};
+use wac_lexer::{Lexer, SourceSpan, Token};
 
 /// An export.
-#[derive(Debug, Drop)]
+#[derive(Drop)]
 pub struct ExportStatement<'a> {
     /// The documentation before it.
     pub docs: Vec<DocComment<'a>>,
     /// What is exported.
     pub expr: Expr<'a>,
     /// How it is exported.
-    pub options: ExportOptions,
+    pub options: ExportOptions<'a>,
 }
 
 impl<'a> Parse<'a> for ExportStatement<'a> {
@@ -53,20 +53,31 @@ impl<'a> Peek for ExportStatement<'a> {
     }
 }
 
-/// How an expression is exported.
-#[derive(Debug, Drop)]
-pub enum ExportOptions {
-    /// Under a name that is inferred.
+/// What follows the expression of an export.
+#[derive(Drop)]
+pub enum ExportOptions<'a> {
+    /// Nothing: the name is found from the expression.
     None,
+    /// `...`: each export of the instance. It holds the span of the three dots.
+    Spread(SourceSpan),
+    /// `as x`: under another name.
+    Rename(ExternName<'a>),
 }
 
-impl<'a> Parse<'a> for ExportOptions {
+impl<'a> Parse<'a> for ExportOptions<'a> {
     ghost symbol = { symbols.export_options };
 
     ghost tree = { export_options_of };
 
     #[tactic(auto, using(crate::proofs::Fixed::read_is))]
     fn parse(alloc: Global, lexer: &mut Lexer<'a>) -> ParseResult<Self> {
+        if at(lexer, Token::Ellipsis) {
+            return Ok(ExportOptions::Spread(take_token(lexer, Token::Ellipsis)?));
+        }
+        if at(lexer, Token::AsKeyword) {
+            take_token(lexer, Token::AsKeyword)?;
+            return Ok(ExportOptions::Rename(Parse::parse(alloc, lexer)?));
+        }
         Ok(ExportOptions::None)
     }
 }

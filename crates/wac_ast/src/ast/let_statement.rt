@@ -13,7 +13,7 @@ use std::alloc::Global;
 use wac_lexer::{Lexer, Token};
 
 /// A binding of a name to an expression.
-#[derive(Debug, Drop)]
+#[derive(Drop)]
 pub struct LetStatement<'a> {
     /// The documentation before it.
     pub docs: Vec<DocComment<'a>>,

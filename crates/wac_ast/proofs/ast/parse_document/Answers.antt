@@ -1,5 +1,5 @@
 use Rattle.std.proofs.Common.{◌≡◌, refl}
-use Rattle.wac_ast.specs.Views.{document_of}
+use Rattle.wac_ast.specs.Statements.{document_of}
 use Rattle.wac_ast.proofs.Whole.{parses}
 use Rattle.wac_ast.proofs.ast.parse_document.Goals as goal
 

@@ -3,7 +3,7 @@ use Rattle.std.proofs.lemmas.Result.{err_from_is_err_and}
 use Rattle.std.proofs.lemmas.List.{map_push}
 use Rattle.wac_lexer.specs.Reading.{left}
 use Rattle.wac_ast.specs.Grammar.{statement, statements}
-use Rattle.wac_ast.specs.Views.{statement_of}
+use Rattle.wac_ast.specs.Statements.{statement_of}
 use Rattle.wac_ast.proofs.Fixed.{takes_some}
 use Rattle.wac_ast.proofs.Whole.{none_left}
 use Rattle.wac_ast.proofs.Loops.{star_goes_on, star_fails, star_ends, statements_star}

@@ -2,7 +2,7 @@ use Rattle.std.proofs.Common.{map, length}
 use Rattle.wac_lexer.specs.Reading.{left}
 use Rattle.wac_ast.specs.Grammar.{statements}
 use Rattle.wac_ast.specs.Reading.{read}
-use Rattle.wac_ast.specs.Views.{statement_of}
+use Rattle.wac_ast.specs.Statements.{statement_of}
 use Rattle.wac_ast.proofs.Loops.{SoFar}
 use Rattle.wac_ast.proofs.ast.parse_statements.Given as goal
 

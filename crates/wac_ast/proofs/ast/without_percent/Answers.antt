@@ -1,5 +1,5 @@
 use Rattle.std.proofs.Common.{◌≡◌, ap, ◌∙◌}
-use Rattle.wac_ast.proofs.Texts.{stripped, unwrapped}
+use Rattle.wac_ast.proofs.Strips.{stripped, unwrapped}
 use Rattle.wac_ast.proofs.ast.without_percent.Goals as goal
 
 pub returns : goal.returns

@@ -12,7 +12,7 @@ use Rattle.wac_ast.proofs.ast.expr.parse_postfixes.Goals as goal
 pub returns-in_err-parse-clause-gives : goal.returns-in_err-parse-clause-gives
 returns-in_err-parse-clause-gives c =
     let p = err_from_is_err_and c.from_residual.result c.from_residual.ensures.1 in
-    rw (p.1, p.2) (star_fails postfixes_star c.in_err-parse.field-0.0 (map postfix_expr_of c.loop-alloc.postfixes.items) c.args.lexer.now c.loop-alloc.lexer c.loop-alloc.invariant.so_far (sym c.at.ensures ∙ c.loop-alloc-test.true) c.in_err-parse.ensures.gives)
+    rw (p.1, p.2) (star_fails postfixes_star c.in_err-parse.field-0.0 (map postfix_expr_of c.loop-alloc.postfixes.items) c.args.lexer.now c.loop-alloc.lexer c.loop-alloc.invariant.so_far (sym c.begins.ensures ∙ c.loop-alloc-test.true) c.in_err-parse.ensures.gives)
 
 pub loop-alloc-smaller : goal.loop-alloc-smaller
 loop-alloc-smaller c =
@@ -26,9 +26,9 @@ loop-alloc-preserved c =
     let more : map postfix_expr_of c.push.new.items.items ≡ items ++ postfix_expr_of x ∷ [] = rw c.in_ok-push.ensures.items (map_push _ c.loop-alloc.postfixes.items x) in
     let parsed = c.in_ok-parse.ensures in
     record {
-      so_far = rw more (star_goes_on postfixes_star items c.args.lexer.now c.loop-alloc.lexer c.parse.new.lexer (postfix_expr_of x) c.loop-alloc.invariant.so_far (sym c.at.ensures ∙ c.loop-alloc-test.true) parsed.gives.0 parsed.gives.1 parsed.source parsed.moves);
+      so_far = rw more (star_goes_on postfixes_star items c.args.lexer.now c.loop-alloc.lexer c.parse.new.lexer (postfix_expr_of x) c.loop-alloc.invariant.so_far (sym c.begins.ensures ∙ c.loop-alloc-test.true) parsed.gives.0 parsed.gives.1 parsed.source parsed.moves);
       fits = rw more (fits_more items (postfix_expr_of x) parsed.fits);
     }
 
 pub returns-clause-gives : goal.returns-clause-gives
-returns-clause-gives c = star_ends postfixes_star (map postfix_expr_of c.loop-alloc.postfixes.items) c.args.lexer.now c.loop-alloc.lexer c.loop-alloc.invariant.so_far (sym c.at.ensures ∙ c.loop-alloc-test.false)
+returns-clause-gives c = star_ends postfixes_star (map postfix_expr_of c.loop-alloc.postfixes.items) c.args.lexer.now c.loop-alloc.lexer c.loop-alloc.invariant.so_far (sym c.begins.ensures ∙ c.loop-alloc-test.false)

@@ -1,0 +1,28 @@
+-- How directives are read.
+use Rattle.std.proofs.Common.{◌≡◌, true, false, List, [], Ok, subst}
+use Rattle.wac_lexer.specs.Item.{Item}
+use Rattle.wac_lexer.specs.declared.token.Token.TheVariants as k
+use Rattle.wac_ast.specs.declared.error.Error.{Error}
+use Rattle.wac_ast.specs.Tree.{PackageName, PackagePath}
+use Rattle.wac_ast.specs.Grammar.{directive, package_name, package_path}
+use Rattle.wac_ast.specs.Tokens.{at}
+use Rattle.wac_ast.specs.Reading.{read, read_token, not_fault}
+use Rattle.wac_ast.specs.Answer.{End, Fails}
+use Rattle.wac_ast.proofs.Fixed.{read_is}
+use Rattle.wac_ast.proofs.Loops.{fails_bind}
+use Rattle.wac_ast.proofs.Lookaheads.{one_test}
+
+-- what fails behind a target
+pub targeted_fails : (xs : List Item) (a : Item) (ys : List Item) (name : PackageName) (zs : List Item) (b : Item) (us : List Item) (path : PackagePath) (vs : List Item) → read_token [] k.PackageKeyword xs ≡ Ok (a, ys) → read package_name ys ≡ Ok (name, zs)
+    → at k.TargetsKeyword zs ≡ true → read_token [] k.TargetsKeyword zs ≡ Ok (b, us) → read package_path us ≡ Ok (path, vs)
+    → (e : Error) (end : End) (ws : List Item) → ws ≡ vs → Fails e end (read_token [] k.Semicolon ws) → Fails e end (read directive xs)
+targeted_fails xs a ys name zs b us path vs h i there r s e end ws same f =
+    let here : Fails e end (read_token [] k.Semicolon vs) = subst (λ (l : List Item). Fails e end (read_token [] k.Semicolon l)) same f in
+    rw (read_is directive, h, i, one_test k.TargetsKeyword zs true there, r, s) (fails_bind e end _ _ (fails_bind e end _ _ (fails_bind e end _ _ (fails_bind e end _ _ here))))
+
+-- the same without one
+pub untargeted_fails : (xs : List Item) (a : Item) (ys : List Item) (name : PackageName) (zs : List Item) → read_token [] k.PackageKeyword xs ≡ Ok (a, ys) → read package_name ys ≡ Ok (name, zs)
+    → at k.TargetsKeyword zs ≡ false → not_fault zs ≡ true → (e : Error) (end : End) (ws : List Item) → ws ≡ zs → Fails e end (read_token [] k.Semicolon ws) → Fails e end (read directive xs)
+untargeted_fails xs a ys name zs h i missing fine e end ws same f =
+    let here : Fails e end (read_token [] k.Semicolon zs) = subst (λ (l : List Item). Fails e end (read_token [] k.Semicolon l)) same f in
+    rw (read_is directive, h, i, one_test k.TargetsKeyword zs false missing, fine) (fails_bind e end _ _ (fails_bind e end _ _ (fails_bind e end _ _ (fails_bind e end _ _ here))))

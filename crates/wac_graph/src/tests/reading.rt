@@ -1,0 +1,107 @@
+//! Readings of the node or package of a number, if there is one.
+
+use super::building::{node_at, package_at};
+use crate::*;
+use std::alloc::{AllocError, Global};
+
+/// A node's form in a word.
+fn form(node: &NodeKind) -> &'static str {
+    match node {
+        NodeKind::Import(_) => "import",
+        NodeKind::Definition => "definition",
+        NodeKind::Alias => "alias",
+        NodeKind::Instantiation(_) => "instantiation",
+    }
+}
+
+pub fn form_at(graph: &CompositionGraph, number: usize) -> Option<&'static str> {
+    let id = node_at(graph, number)?;
+    Some(form(graph.node(id)))
+}
+
+pub fn desc_at(graph: &CompositionGraph, number: usize) -> Option<&'static str> {
+    let id = node_at(graph, number)?;
+    Some(graph.kind(id).desc())
+}
+
+pub fn import_name_at(graph: &CompositionGraph, number: usize) -> Option<&str> {
+    let id = node_at(graph, number)?;
+    graph.import_name(id)
+}
+
+pub fn name_at(graph: &CompositionGraph, number: usize) -> Option<&str> {
+    let id = node_at(graph, number)?;
+    graph.name(id)
+}
+
+pub fn source_at(graph: &CompositionGraph, number: usize) -> Option<(usize, &str)> {
+    let id = node_at(graph, number)?;
+    let (node, export) = graph.alias_source(id)?;
+    Some((node.0, export))
+}
+
+/// Names with their nodes' numbers, as `a=0 b=1 `.
+pub fn listed<'a>(alloc: Global, names: Names<'a>) -> Result<String, AllocError> {
+    let mut text = String::new(alloc);
+    for (name, node) in names {
+        write!(text, "{name}={} ", node.0)?;
+    }
+    Ok(text)
+}
+
+pub fn arguments_at(
+    alloc: Global,
+    graph: &CompositionGraph,
+    number: usize,
+) -> Result<String, AllocError> {
+    match node_at(graph, number) {
+        None => Ok(String::new(alloc)),
+        Some(id) => listed(alloc, graph.arguments(id)),
+    }
+}
+
+fn key_at(graph: &CompositionGraph, number: usize) -> Option<&PackageKey> {
+    let id = package_at(graph, number)?;
+    Some(graph.package(id).key)
+}
+
+fn push_key(text: &mut String, key: &PackageKey) -> Result<(), AllocError> {
+    text.push_str(key.name.as_str())?;
+    if let Some(version) = &key.version {
+        write!(text, "@{version} ")?;
+    }
+    Ok(())
+}
+
+/// The keys of the packages, in order.
+pub fn packages_listed(alloc: Global, graph: &CompositionGraph) -> Result<String, AllocError> {
+    let mut text = String::new(alloc);
+    for id in graph.packages() {
+        if let Some(key) = key_at(graph, id.0) {
+            push_key(&mut text, key)?;
+        }
+    }
+    Ok(text)
+}
+
+/// The name of a package's definition, and what it is.
+pub fn definition_at(
+    graph: &CompositionGraph,
+    number: usize,
+    place: usize,
+) -> Option<(&str, &'static str)> {
+    let id = package_at(graph, number)?;
+    let (name, kind) = graph.package(id).definitions.get_index(place)?;
+    Some((name.as_str(), kind.desc()))
+}
+
+/// Whether two packages' worlds mean the same.
+pub fn same_worlds(graph: &CompositionGraph, first: usize, second: usize) -> Option<bool> {
+    let a = graph.package(package_at(graph, first)?).world;
+    let b = graph.package(package_at(graph, second)?).world;
+    Some(
+        graph
+            .types()
+            .same(ItemKind::Component(a), ItemKind::Component(b)),
+    )
+}

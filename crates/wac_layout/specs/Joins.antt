@@ -1,0 +1,52 @@
+-- Pieces that join: each is what it is meant to be, has no refused character, and what stands behind a token doesn't go on with it.
+use Rattle.std.specs.Prelude.{◌≡◌, ◌≢◌, ℕ, Bool, true, false, List, [], ◌∷◌, ◌++◌, Option, Some, None, codes, refl}
+use Rattle.std.specs.List.{AllByRecursion}
+use Rattle.std.specs.Str.{trim}
+use Rattle.wac_lexer.specs.Comments.{is_blank}
+use Rattle.wac_lexer.specs.Follow.{follows}
+use Rattle.wac_lexer.specs.Gap.{EndsLine}
+use Rattle.wac_lexer.specs.Tokens.{token_of}
+use Rattle.wac_layout.specs.Accepted.{IsAccepted}
+use Rattle.wac_layout.specs.Printed.{Piece, token, blank, line, doc, text_of, text, fresh_after}
+
+-- the text is a token, and the rest may stand behind it
+abbrev pub stands_before : List ℕ → List ℕ → Bool
+stands_before rest t = elim (token_of t) [ Some kind ↦ follows kind rest | None ↦ false ]
+
+-- the same, of a text without refused characters
+pub record Stands (t rest : List ℕ) : Type 0 where
+  pub is : stands_before rest t ≡ true
+  pub accepted : IsAccepted t
+
+-- spaces, TAB, CR and LF
+abbrev pub AreBlanks : List ℕ → Type 0
+AreBlanks t = AllByRecursion (λ b. is_blank b ≡ true) t
+
+-- a line of docs: trimmed, and without LF and refused characters
+abbrev pub IsDocLine : List ℕ → Type 0
+IsDocLine t = IsAccepted t × (trim t ≡ t) × AllByRecursion (λ b. b ≢ 10) t
+
+-- a piece is what it is meant to be before the rest
+abbrev pub Fits : List ℕ → Piece → Type 0
+Fits rest (token t) = Stands t rest
+Fits rest (blank t) = AreBlanks t
+Fits rest (line depth) = Unit {0}
+Fits rest (doc t) = IsDocLine t × EndsLine rest
+
+-- pieces that stand before the rest join
+abbrev pub JoinsBefore : List ℕ → List ℕ → Bool → List Piece → Type 0
+JoinsBefore rest space fresh [] = Unit {0}
+JoinsBefore rest space fresh (p ∷ ps) =
+    let later = fresh_after fresh (text_of space fresh p) in
+    Fits (text space later ps ++ rest) p × JoinsBefore rest space later ps
+
+-- pieces join
+abbrev pub Joins : List ℕ → Bool → List Piece → Type 0
+Joins space fresh ps = JoinsBefore [] space fresh ps
+
+-- `x: string` is read as it stands, and `x:string` isn't: that is one package name
+joint : stands_before (codes ": string") (codes "x") ≡ true
+joint = refl
+
+no_joint : stands_before (codes ":string") (codes "x") ≡ false
+no_joint = refl

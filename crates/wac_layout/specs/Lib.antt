@@ -1,0 +1,15 @@
+pub mod Printed
+pub mod Accepted
+pub mod Joins
+pub mod Placed
+pub mod Bare
+pub mod Parts
+pub mod TypeLayout
+pub mod DeclarationLayout
+pub mod InterfaceLayout
+pub mod WorldLayout
+pub mod ExpressionLayout
+pub mod StatementLayout
+pub mod Settled
+pub mod Reread
+pub mod Texts

@@ -1,0 +1,80 @@
+// Laws of printed pieces. Each function does nothing: its contract is the law.
+ghost use Rattle.std.specs.Prelude.{◌≡◌, ◌↔◌, ◌++◌, ◌==◌, ℕ, Bool, List, [], ◌∷◌, map, length, true, Some, if◌then◌else◌};
+ghost use Rattle.std.specs.List.{AllByRecursion};
+ghost use Rattle.std.specs.Str.{IsUtf8, trim};
+ghost use Rattle.std.specs.Str.Lines.{lines};
+ghost use Rattle.wac_lexer.specs.Follow.{follows};
+ghost use Rattle.wac_lexer.specs.Items.{items};
+ghost use Rattle.wac_lexer.specs.Reading.{slice, Slices};
+ghost use Rattle.wac_lexer.specs.Span.{Span};
+ghost use Rattle.wac_lexer.specs.Tokens.{token_of};
+ghost use Rattle.wac_lexer.specs.declared.token.Token.{Token};
+ghost use Rattle.wac_ast.specs.Tree.{Document, Statement};
+ghost use Rattle.wac_layout.specs.Accepted.{IsAccepted, ItemIsAccepted};
+ghost use Rattle.wac_layout.specs.Joins.{AreBlanks, IsDocLine, Joins, JoinsBefore, Stands};
+ghost use Rattle.wac_layout.specs.Placed.{placed, said, said_of};
+ghost use Rattle.wac_layout.specs.Printed.{Piece, text, fresh_after, fresh_behind};
+ghost use Rattle.wac_layout.specs.Bare.{doc_lines, bare_document};
+ghost use Rattle.wac_ast.specs.Document.{IsTreeOf};
+ghost use Rattle.wac_layout.specs.Reread.{IsReread, printed, ReadsBack, RereadAs};
+ghost use Rattle.wac_layout.specs.StatementLayout.{document_layout, statement_layout};
+ghost use Rattle.wac_layout.specs.Texts.{DocumentHas, StatementHas, Spelled};
+
+/// What pieces that join write is read back: a lexer takes the text, and its items are the token pieces at their places, with the doc pieces before them as docs.
+pub fn pieces_are_read_back()
+    ensures accepted { (rest space : List ℕ) (fresh : Bool) (ps : List Piece) → AreBlanks space → JoinsBefore rest space fresh ps → IsAccepted (text space fresh ps) }
+    ensures items { (space : List ℕ) (fresh : Bool) (ps : List Piece) → AreBlanks space → Joins space fresh ps → items (text space fresh ps) ≡ placed 0 space fresh ps }
+    ensures said { (place : ℕ) (space : List ℕ) (fresh : Bool) (ps : List Piece) → map said_of (placed place space fresh ps) ≡ said ps }
+{}
+
+/// Two lists of pieces join, one behind the other, where the second joins, and the first joins before what the second writes.
+pub fn pieces_are_put_together()
+    ensures text { (space : List ℕ) (fresh : Bool) (ps qs : List Piece) → text space fresh (ps ++ qs) ≡ text space fresh ps ++ text space (fresh_behind space fresh ps) qs }
+    ensures fresh { (space : List ℕ) (fresh : Bool) (ps : List Piece) → fresh_behind space fresh ps ≡ fresh_after fresh (text space fresh ps) }
+    ensures joins { (rest space : List ℕ) (fresh : Bool) (ps qs : List Piece) → let later = fresh_behind space fresh ps in JoinsBefore rest space fresh (ps ++ qs) ↔ (JoinsBefore (text space later qs ++ rest) space fresh ps × JoinsBefore rest space later qs) }
+    ensures token { (t rest : List ℕ) (kind : Token) → IsAccepted t → token_of t ≡ Some kind → follows kind rest ≡ true → Stands t rest }
+{}
+
+/// The pieces of a document join where each of its texts is spelled as its sort: an identifier, a string, a package's name or path, a line of docs.
+pub fn documents_join()
+    ensures document { (space : List ℕ) (fresh : Bool) (depth : ℕ) (document : Document) → DocumentHas Spelled document → Joins space fresh (document_layout depth document) }
+    ensures statement { (rest space : List ℕ) (fresh : Bool) (depth : ℕ) (statement : Statement) → StatementHas Spelled statement → JoinsBefore rest space fresh (statement_layout depth statement) }
+{}
+
+/// The texts and docs of the items of a text have no refused character, where the text has none.
+pub fn items_are_accepted()
+    ensures items { (source : List ℕ) → IsAccepted source → AllByRecursion ItemIsAccepted (items source) }
+    ensures slices { (source : List ℕ) (s : Span) → IsAccepted source → Slices source s → IsAccepted (slice source s) }
+{}
+
+/// The lines of a doc, cut at LF and trimmed, can be printed as lines of docs, and stay what they are when they are read and cut again.
+pub fn docs_are_cut_into_lines()
+    ensures lines { (comment : List ℕ) → IsAccepted comment → AllByRecursion (λ l. IsDocLine (trim l)) (lines comment) }
+    ensures settled { (l : List ℕ) → IsDocLine l → map trim (lines l) ≡ (if length l == 0 then [] else l ∷ []) }
+{}
+
+/// What is printed of a document reads back as a tree with the same bare tree, whose docs are the lines of its docs.
+pub fn documents_are_read_back()
+    ensures { (space source : List ℕ) (tree : Document) → AreBlanks space → DocumentHas Spelled (bare_document doc_lines source tree) → RereadAs (printed space source tree) source tree }
+{}
+
+/// The tree of a text can be printed, and what is printed of it reads back as a tree with the same bare tree, whose docs are the lines of its docs.
+pub fn trees_are_read_back()
+    ensures spelled { (source : List ℕ) (tree : Document) → IsUtf8 source → IsTreeOf source tree → DocumentHas Spelled (bare_document doc_lines source tree) }
+    ensures reread { (space source : List ℕ) (tree : Document) → AreBlanks space → IsUtf8 source → IsTreeOf source tree → IsUtf8 (printed space source tree) × RereadAs (printed space source tree) source tree }
+{}
+
+/// What is printed is fixed from the second time on: the tree of the second printed text is printed as that text.
+pub fn printing_is_fixed()
+    ensures { (space source once twice : List ℕ) (tree again third : Document) → IsUtf8 source → IsTreeOf source tree → IsReread once again source tree → IsReread twice third once again → printed space twice third ≡ printed space once again }
+{}
+
+/// What is printed of the tree of a text reads back, and is fixed from the second time on.
+pub fn printed_texts_read_back()
+    ensures { (space source : List ℕ) (tree : Document) → AreBlanks space → IsUtf8 source → IsTreeOf source tree → ReadsBack space source tree (printed space source tree) }
+{}
+
+/// What is printed of the tree of a text is UTF-8, whatever text stands for a depth.
+pub fn printed_texts_are_utf8()
+    ensures { (space source : List ℕ) (tree : Document) → IsUtf8 space → IsUtf8 source → IsTreeOf source tree → IsUtf8 (printed space source tree) }
+{}

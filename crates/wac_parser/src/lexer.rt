@@ -1,0 +1,3 @@
+//! The lexer: the tokens and faults of a text, with their spans and the docs in front of each.
+
+pub use wac_lexer::{Bytes, Error, Feed, In, Lexer, LexerResult, Out, Sink, SourceSpan, Token};

@@ -1,0 +1,39 @@
+//! The front end of the WebAssembly Composition language (WAC).
+//!
+//! [`Document::parse`] reads a text into its tree, or tells the first place where no document goes on. [`DocumentPrinter`] prints a tree
+//! into any sink of bytes, and [`format()`] does both:
+//!
+//! ```text
+//! match format(alloc, source, None) {
+//!     Ok(text) => println!(rt; "{text}")?,
+//!     Err(error) => println!(rt; "{error}")?,         // expected `;`, found end of input
+//! }
+//! ```
+//!
+//! Spans are in bytes. Each call that takes memory takes the allocator first; `Error::Memory` comes only where a request was refused.
+#![tactic(auto)]
+
+mod formatting;
+pub mod lexer;
+
+pub use formatting::format;
+pub use wac_ast::{
+    AccessExpr, Constructor, DocComment, Document, EnumCase, EnumDecl, Error, ExportOptions,
+    ExportStatement, Expr, ExternName, ExternType, Field, Flag, FlagsDecl, FuncType, FuncTypeRef,
+    Ident, ImportStatement, ImportType, InlineInterface, InstantiationArgument,
+    InstantiationArgumentName, InterfaceDecl, InterfaceExport, InterfaceItem, ItemTypeDecl,
+    LetStatement, Lookahead, Method, NamedAccessExpr, NamedInstantiationArgument, NamedType,
+    NamedWorldItem, NestedExpr, NewExpr, PackageDirective, PackageName, PackagePath, ParseResult,
+    PostfixExpr, PrimaryExpr, RecordDecl, ResourceDecl, ResourceMethod, ResultList, SegmentSpans,
+    Statement, String, Type, TypeAlias, TypeAliasKind, TypeDecl, TypeStatement, Use, UseItem,
+    UsePath, VariantCase, VariantDecl, WorldDecl, WorldExport, WorldImport, WorldInclude,
+    WorldIncludeItem, WorldItem, WorldItemPath, WorldRef, parse_optional, parse_optional_payload,
+    parse_token, tokens_have_texts, trees_stand_in_their_text, what_is_read_derives,
+};
+pub use wac_printer::{
+    DocumentPrinter, Page, PrintError, PrintResult, equal_bare_trees_print_equally,
+    printed_documents_read_back, trees_of_texts_can_be_printed,
+};
+
+#[cfg(test)]
+mod tests;

@@ -1,0 +1,27 @@
+-- Beginnings of texts.
+use Rattle.std.proofs.Common.{◌≡◌, ℕ, ◌<◌, Bool, true, false, List, [], ◌∷◌, ◌++◌, take, drop, length, append_assoc, refl, sym, ap, ◌∙◌, subst, arith}
+use Rattle.std.specs.Prelude.{◌&&◌, nat_eq}
+use Rattle.std.proofs.lemmas.List.{take-append-drop}
+use Rattle.std.proofs.lemmas.Bool.{and_parts, and_from, eq-eqb}
+use Rattle.wac_printer.specs.Printed.{is_front}
+
+pub is_front-append : (xs ys : List ℕ) → is_front true xs (xs ++ ys) ≡ true
+unfolding is_front
+is_front-append [] [] = refl
+is_front-append [] (y ∷ ys) = refl
+is_front-append (x ∷ xs) ys = and_from (nat_eq x x) (is_front true xs (xs ++ ys)) (eq-eqb x x refl) (is_front-append xs ys)
+
+pub is_front-less : (xs ys : List ℕ) → 0 < length ys → is_front false xs (xs ++ ys) ≡ true
+unfolding is_front
+is_front-less [] [] h = absurd (omega arith)
+is_front-less [] (y ∷ ys) h = refl
+is_front-less (x ∷ xs) ys h = and_from (nat_eq x x) (is_front false xs (xs ++ ys)) (eq-eqb x x refl) (is_front-less xs ys h)
+
+pub is_front-longer : (w : Bool) (xs ys zs : List ℕ) → is_front w xs ys ≡ true → is_front w xs (ys ++ zs) ≡ true
+unfolding is_front
+is_front-longer w [] [] [] h = h
+is_front-longer w [] [] (z ∷ zs) h = refl
+is_front-longer w [] (y ∷ ys) zs h = refl
+is_front-longer w (x ∷ xs) [] zs h = absurd cc
+is_front-longer w (x ∷ xs) (y ∷ ys) zs h =
+    let t = and_parts (nat_eq x y) (is_front w xs ys) h in and_from (nat_eq x y) (is_front w xs (ys ++ zs)) t.0 (is_front-longer w xs ys zs t.1)

@@ -1,0 +1,10 @@
+pub mod Fronts
+pub mod Printing
+pub mod Indentation
+pub mod Progress
+pub mod PartsOf
+pub mod Steps
+pub mod Trees
+pub mod Arguments
+pub mod Slicing
+pub mod ReadingBack

@@ -1,0 +1,10 @@
+-- What the printer's methods cite.
+use Rattle.wac_printer.proofs.Printing.{seq}
+use Rattle.wac_printer.proofs.PartsOf.{parts_of, body-is, rows-is}
+use Rattle.wac_printer.proofs.Progress.{All-of-map}
+
+pub ruleset steps = (seq)
+
+pub ruleset bodies = (seq, body-is, rows-is)
+
+pub ruleset lists = (seq, parts_of, All-of-map)

@@ -1,0 +1,8 @@
+use Rattle.std.specs.Prelude.{[], ◌∷◌, ◌++◌, codes}
+use Rattle.wac_layout.specs.Printed.{token}
+use Rattle.wac_layout.specs.Parts.{space}
+use Rattle.wac_printer.proofs.Progress.{IsSoFar}
+use Rattle.wac_printer.proofs.printer.DocumentPrinter.behind_commas.Given as goal
+
+abbrev pub invariant-loop-item : goal.invariant-loop-item
+invariant-loop-item g l = IsSoFar (λ source depth x. (token (codes ",") ∷ space ∷ []) ++ g.T.Node.layout source depth x) l.items l.item-index l.fn.self l.self

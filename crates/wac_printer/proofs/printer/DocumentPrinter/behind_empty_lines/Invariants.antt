@@ -1,0 +1,7 @@
+use Rattle.std.specs.Prelude.{[], ◌∷◌, ◌++◌}
+use Rattle.wac_layout.specs.Parts.{newline}
+use Rattle.wac_printer.proofs.Progress.{IsSoFar}
+use Rattle.wac_printer.proofs.printer.DocumentPrinter.behind_empty_lines.Given as goal
+
+abbrev pub invariant-loop-item : goal.invariant-loop-item
+invariant-loop-item g l = IsSoFar (λ source depth x. newline ∷ (g.T.Node.layout source depth x ++ newline ∷ [])) l.items l.item-index l.fn.self l.self

@@ -1,0 +1,20 @@
+use Rattle.std.proofs.Common.{false, refl, rules, sym, ap, ◌++◌, ◌≡◌, ◌∙◌, subst, true}
+use Rattle.wac_printer.proofs.Printing.{refused, stuck, wrote, record_wrote}
+use Rattle.wac_layout.specs.Printed.{fresh_after}
+use Rattle.wac_printer.specs.Printed.{Printer, is_front}
+use Rattle.wac_printer.proofs.printer.DocumentPrinter.blank.Goals as goal
+
+pub returns-then-self : goal.returns-then-self
+returns-then-self g c = refused _ _ _ _ c.self.view_is refl c.if-self.true
+
+pub returns-then-not-put_all : goal.returns-then-not-put_all
+returns-then-not-put_all g c =
+    let o = c.put_all.ensures.failed c.if-not-put_all.true in
+    stuck _ _ _ _ c.self.view_is c.if-self.false refl o.0
+    (subst (λ t. is_front false (g.S.Sink.bytes c.put_all.new.sink) (g.S.Sink.bytes c.self.inside.sink ++ t) ≡ true) c.as_bytes.ensures.value o.1) o.2 c.put_all.ensures.same
+
+pub returns : goal.returns
+returns g c =
+    let o = c.put_all.ensures.taken c.if-not-put_all.false in
+    let b = o.0 ∙ ap (λ t. g.S.Sink.bytes c.self.inside.sink ++ t) c.as_bytes.ensures.value in
+    wrote _ _ _ _ _ c.self.view_is c.if-self.false (record_wrote _ _ _ _ _ _ _ _ _ _ _ _ b o.1 c.put_all.ensures.same c.is_fresh_behind-self-inside.ensures)

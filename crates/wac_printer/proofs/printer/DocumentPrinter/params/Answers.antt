@@ -1,0 +1,7 @@
+use Rattle.wac_ast.specs.Declarations.{named_type_of}
+use Rattle.wac_printer.specs.Sliced.{NamedTypeSliced}
+use Rattle.wac_printer.proofs.Progress.{All-at}
+use Rattle.wac_printer.proofs.printer.DocumentPrinter.params.Goals as goal
+
+pub joined-requires : goal.joined-requires
+joined-requires g c = All-at NamedTypeSliced named_type_of c.args.params.now _ _ (c.in_ok-token.ensures.is.5) c.requires

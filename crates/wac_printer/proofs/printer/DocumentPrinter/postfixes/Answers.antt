@@ -1,0 +1,8 @@
+use Rattle.std.proofs.Common.{map, sym, subst, ◌∙◌}
+use Rattle.wac_ast.specs.Views.{postfix_expr_of}
+use Rattle.wac_printer.specs.Sliced.{PostfixExprSliced}
+use Rattle.wac_printer.proofs.Progress.{All-of-map}
+use Rattle.wac_printer.proofs.printer.DocumentPrinter.postfixes.Goals as goal
+
+pub each-requires : goal.each-requires
+each-requires g c = All-of-map (PostfixExprSliced c.args.self.now.source) postfix_expr_of c.args.postfixes.now c.requires

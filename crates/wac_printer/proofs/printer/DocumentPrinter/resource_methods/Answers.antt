@@ -1,0 +1,17 @@
+use Rattle.std.proofs.Common.{map, sym, subst, ◌∙◌}
+use Rattle.wac_ast.specs.Interfaces.{resource_method_of}
+use Rattle.wac_printer.specs.Printed.{Prints}
+use Rattle.wac_printer.specs.Sliced.{ResourceMethodSliced}
+use Rattle.wac_layout.specs.Bare.{bare_resource_method, doc_lines}
+use Rattle.wac_layout.specs.DeclarationLayout.{resource_method_layout}
+use Rattle.wac_printer.proofs.PartsOf.{body-of}
+use Rattle.wac_printer.proofs.Progress.{All-of-map}
+use Rattle.wac_printer.proofs.printer.DocumentPrinter.resource_methods.Goals as goal
+
+pub body-requires : goal.body-requires
+body-requires g c = All-of-map (ResourceMethodSliced c.args.self.now.source) resource_method_of c.args.items.now c.requires
+
+pub returns : goal.returns
+returns g c =
+    let s = c.args.self.now in
+    subst (Prints s c.body.result c.body.new.self) (sym (body-of resource_method_layout (bare_resource_method doc_lines s.source) s.depth (map resource_method_of c.args.items.now) ∙ body-of (λ d x. resource_method_layout d ((bare_resource_method doc_lines s.source) x)) resource_method_of s.depth c.args.items.now)) c.body.ensures

@@ -1,0 +1,17 @@
+use Rattle.std.proofs.Common.{map, sym, subst, ◌∙◌}
+use Rattle.wac_ast.specs.Statements.{statement_of}
+use Rattle.wac_printer.specs.Printed.{Prints}
+use Rattle.wac_printer.specs.Sliced.{StatementSliced}
+use Rattle.wac_layout.specs.Bare.{bare_statement, doc_lines}
+use Rattle.wac_layout.specs.StatementLayout.{statement_layout}
+use Rattle.wac_printer.proofs.PartsOf.{spaced-of}
+use Rattle.wac_printer.proofs.Progress.{All-of-map}
+use Rattle.wac_printer.proofs.printer.DocumentPrinter.statements.Goals as goal
+
+pub spaced-requires : goal.spaced-requires
+spaced-requires g c = All-of-map (StatementSliced c.args.self.now.source) statement_of c.args.statements.now c.requires
+
+pub returns : goal.returns
+returns g c =
+    let s = c.args.self.now in
+    subst (Prints s c.spaced.result c.spaced.new.self) (sym (spaced-of (statement_layout s.depth) (bare_statement doc_lines s.source) (map statement_of c.args.statements.now) ∙ spaced-of (λ x. statement_layout s.depth ((bare_statement doc_lines s.source) x)) statement_of c.args.statements.now)) c.spaced.ensures

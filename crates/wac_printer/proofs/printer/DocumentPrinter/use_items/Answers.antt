@@ -1,0 +1,8 @@
+use Rattle.std.proofs.Common.{◌∙◌}
+use Rattle.wac_ast.specs.Views.{use_item_of}
+use Rattle.wac_printer.specs.Sliced.{UseItemSliced}
+use Rattle.wac_printer.proofs.Progress.{All-at}
+use Rattle.wac_printer.proofs.printer.DocumentPrinter.use_items.Goals as goal
+
+pub joined-requires : goal.joined-requires
+joined-requires g c = All-at UseItemSliced use_item_of c.args.items.now _ _ (c.in_ok-blank.ensures.is.5 ∙ c.in_ok-token-2.ensures.is.5 ∙ c.in_ok-token.ensures.is.5) c.requires

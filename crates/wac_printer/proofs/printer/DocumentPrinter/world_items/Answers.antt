@@ -1,0 +1,17 @@
+use Rattle.std.proofs.Common.{map, sym, subst, ◌∙◌}
+use Rattle.wac_ast.specs.Interfaces.{world_item_of}
+use Rattle.wac_printer.specs.Printed.{Prints}
+use Rattle.wac_printer.specs.Sliced.{WorldItemSliced}
+use Rattle.wac_layout.specs.Bare.{bare_world_item, doc_lines}
+use Rattle.wac_layout.specs.WorldLayout.{world_item_layout}
+use Rattle.wac_printer.proofs.PartsOf.{body-of}
+use Rattle.wac_printer.proofs.Progress.{All-of-map}
+use Rattle.wac_printer.proofs.printer.DocumentPrinter.world_items.Goals as goal
+
+pub body-requires : goal.body-requires
+body-requires g c = All-of-map (WorldItemSliced c.args.self.now.source) world_item_of c.args.items.now c.requires
+
+pub returns : goal.returns
+returns g c =
+    let s = c.args.self.now in
+    subst (Prints s c.body.result c.body.new.self) (sym (body-of world_item_layout (bare_world_item doc_lines s.source) s.depth (map world_item_of c.args.items.now) ∙ body-of (λ d x. world_item_layout d ((bare_world_item doc_lines s.source) x)) world_item_of s.depth c.args.items.now)) c.body.ensures

@@ -1,0 +1,4 @@
+pub mod Printed
+pub mod Sliced
+pub mod Arguments
+pub mod ReadBack

@@ -1,0 +1,331 @@
+//! Printing declarations of types.
+ghost use Rattle.std.specs.List.{All};
+ghost use Rattle.std.specs.Prelude.{List, [], ◌∷◌, ◌++◌, codes, map};
+ghost use Rattle.std.specs.Option.{option_map};
+ghost use Rattle.wac_ast.specs.Declarations.{named_type_of, type_alias_kind_of, field_of, record_decl_of, type_alias_of, variant_case_of, variant_decl_of};
+ghost use Rattle.wac_ast.specs.Interfaces.{constructor_of, item_type_decl_of, method_of, resource_decl_of, resource_method_of, type_decl_of};
+ghost use Rattle.wac_ast.specs.Views.{enum_case_of, enum_decl_of, flag_of, flags_decl_of, ident_of};
+ghost use Rattle.wac_ast.specs.Types.{ty_of};
+ghost use Rattle.wac_layout.specs.Printed.{token};
+ghost use Rattle.wac_printer.specs.Printed.{Prints};
+ghost use Rattle.wac_printer.specs.Sliced.{NamedTypeSliced, ConstructorSliced, EnumCaseSliced, EnumDeclSliced, FieldSliced, FlagSliced, FlagsDeclSliced, IdentSliced, IfThere, ItemTypeDeclSliced, MethodSliced, RecordDeclSliced, ResourceDeclSliced, ResourceMethodSliced, TySliced, TypeAliasKindSliced, TypeAliasSliced, TypeDeclSliced, VariantCaseSliced, VariantDeclSliced};
+ghost use Rattle.wac_layout.specs.Bare.{bare_named_type, bare_alias_kind, bare_constructor, bare_enum_case, bare_enum_decl, bare_field, bare_flag, bare_flags_decl, bare_ident, bare_item_type_decl, bare_method, bare_record_decl, bare_resource_decl, bare_resource_method, bare_ty, bare_type_alias, bare_type_decl, bare_variant_case, bare_variant_decl, doc_lines};
+ghost use Rattle.wac_layout.specs.DeclarationLayout.{alias_kind_layout, constructor_layout, enum_case_layout, enum_decl_layout, field_layout, flag_layout, flags_decl_layout, head_layout, item_type_decl_layout, label_layout, method_layout, payload_layout, record_decl_layout, resource_decl_layout, resource_method_layout, static_layout, type_alias_layout, type_decl_layout, variant_case_layout, variant_decl_layout};
+ghost use Rattle.wac_layout.specs.TypeLayout.{params_layout};
+ghost use Rattle.wac_layout.specs.Parts.{body};
+
+use crate::error::PrintResult;
+use crate::lists::Node;
+use crate::printer::DocumentPrinter;
+use wac_ast::{
+    Constructor, EnumCase, EnumDecl, Field, Flag, FlagsDecl, Ident, ItemTypeDecl, Method,
+    NamedType, RecordDecl, ResourceDecl, ResourceMethod, Type, TypeAlias, TypeAliasKind, TypeDecl,
+    VariantCase, VariantDecl,
+};
+use wac_lexer::Sink;
+
+impl Node for Flag<'_> {
+    ghost layout = { λ source depth x. flag_layout depth (bare_flag doc_lines source (flag_of x)) };
+
+    ghost sliced = { λ source x. FlagSliced source (flag_of x) };
+
+    fn print<S: Sink>(&self, printer: &mut DocumentPrinter<'_, S>) -> PrintResult {
+        printer.flag(self)
+    }
+}
+
+impl Node for EnumCase<'_> {
+    ghost layout = { λ source depth x. enum_case_layout depth (bare_enum_case doc_lines source (enum_case_of x)) };
+
+    ghost sliced = { λ source x. EnumCaseSliced source (enum_case_of x) };
+
+    fn print<S: Sink>(&self, printer: &mut DocumentPrinter<'_, S>) -> PrintResult {
+        printer.enum_case(self)
+    }
+}
+
+impl Node for Field<'_> {
+    ghost layout = { λ source depth x. field_layout depth (bare_field doc_lines source (field_of x)) };
+
+    ghost sliced = { λ source x. FieldSliced source (field_of x) };
+
+    fn print<S: Sink>(&self, printer: &mut DocumentPrinter<'_, S>) -> PrintResult {
+        printer.field(self)
+    }
+}
+
+impl Node for VariantCase<'_> {
+    ghost layout = { λ source depth x. variant_case_layout depth (bare_variant_case doc_lines source (variant_case_of x)) };
+
+    ghost sliced = { λ source x. VariantCaseSliced source (variant_case_of x) };
+
+    fn print<S: Sink>(&self, printer: &mut DocumentPrinter<'_, S>) -> PrintResult {
+        printer.variant_case(self)
+    }
+}
+
+impl Node for ResourceMethod<'_> {
+    ghost layout = { λ source depth x. resource_method_layout depth (bare_resource_method doc_lines source (resource_method_of x)) };
+
+    ghost sliced = { λ source x. ResourceMethodSliced source (resource_method_of x) };
+
+    fn print<S: Sink>(&self, printer: &mut DocumentPrinter<'_, S>) -> PrintResult {
+        printer.resource_method(self)
+    }
+}
+
+#[tactic(auto, using(crate::proofs::Steps::lists))]
+impl<'a, S: Sink> DocumentPrinter<'a, S> {
+    /// Prints a keyword and an identifier on a line.
+    pub(crate) fn head(&mut self, keyword: &str, id: &Ident<'_>) -> PrintResult
+        requires { IdentSliced self.old.source (ident_of id.now) }
+        ensures { Prints self.old result self.new (head_layout self.old.depth keyword.now (bare_ident self.old.source (ident_of id.now))) }
+    {
+        self.line()?;
+        self.token(keyword)?;
+        self.blank(" ")?;
+        self.ident(id)
+    }
+
+    /// Prints an identifier and a colon on a line.
+    pub(crate) fn label(&mut self, id: &Ident<'_>) -> PrintResult
+        requires { IdentSliced self.old.source (ident_of id.now) }
+        ensures { Prints self.old result self.new (label_layout self.old.depth (bare_ident self.old.source (ident_of id.now))) }
+    {
+        self.line()?;
+        self.ident(id)?;
+        self.token(":")?;
+        self.blank(" ")
+    }
+
+    /// Prints the declaration of a type in an interface or a world.
+    pub fn item_type_decl(&mut self, decl: &ItemTypeDecl<'_>) -> PrintResult
+        requires { ItemTypeDeclSliced self.old.source (item_type_decl_of decl.now) }
+        ensures { Prints self.old result self.new (item_type_decl_layout self.old.depth (bare_item_type_decl doc_lines self.old.source (item_type_decl_of decl.now))) }
+    {
+        match decl {
+            ItemTypeDecl::Resource(decl) => self.resource_decl(decl),
+            ItemTypeDecl::Variant(decl) => self.variant_decl(decl),
+            ItemTypeDecl::Record(decl) => self.record_decl(decl),
+            ItemTypeDecl::Flags(decl) => self.flags_decl(decl),
+            ItemTypeDecl::Enum(decl) => self.enum_decl(decl),
+            ItemTypeDecl::Alias(alias) => self.type_alias(alias),
+        }
+    }
+
+    /// Prints the declaration of a type in a document.
+    pub fn type_decl(&mut self, decl: &TypeDecl<'_>) -> PrintResult
+        requires { TypeDeclSliced self.old.source (type_decl_of decl.now) }
+        ensures { Prints self.old result self.new (type_decl_layout self.old.depth (bare_type_decl doc_lines self.old.source (type_decl_of decl.now))) }
+    {
+        match decl {
+            TypeDecl::Variant(decl) => self.variant_decl(decl),
+            TypeDecl::Record(decl) => self.record_decl(decl),
+            TypeDecl::Flags(decl) => self.flags_decl(decl),
+            TypeDecl::Enum(decl) => self.enum_decl(decl),
+            TypeDecl::Alias(alias) => self.type_alias(alias),
+        }
+    }
+
+    /// Prints a resource. One that was ended by `;` gets an empty body.
+    #[tactic(auto, using(crate::proofs::Steps::steps))]
+    pub fn resource_decl(&mut self, decl: &ResourceDecl<'_>) -> PrintResult
+        requires { ResourceDeclSliced self.old.source (resource_decl_of decl.now) }
+        ensures { Prints self.old result self.new (resource_decl_layout self.old.depth (bare_resource_decl doc_lines self.old.source (resource_decl_of decl.now))) }
+    {
+        self.docs(&decl.docs)?;
+        self.resource_head(&decl.id)?;
+        self.resource_methods(&decl.methods)
+    }
+
+    fn resource_methods(&mut self, items: &[ResourceMethod<'_>]) -> PrintResult
+        requires { All (ResourceMethodSliced self.old.source) (map resource_method_of items.now) }
+        ensures { Prints self.old result self.new (body resource_method_layout self.old.depth (map (bare_resource_method doc_lines self.old.source) (map resource_method_of items.now))) }
+    {
+        self.body(items)
+    }
+
+    /// Prints a constructor or a method.
+    pub fn resource_method(&mut self, method: &ResourceMethod<'_>) -> PrintResult
+        requires { ResourceMethodSliced self.old.source (resource_method_of method.now) }
+        ensures { Prints self.old result self.new (resource_method_layout self.old.depth (bare_resource_method doc_lines self.old.source (resource_method_of method.now))) }
+    {
+        match method {
+            ResourceMethod::Constructor(constructor) => self.constructor(constructor),
+            ResourceMethod::Method(method) => self.method(method),
+        }
+    }
+
+    /// Prints a constructor: `constructor(x: u8);`.
+    #[tactic(auto, using(crate::proofs::Steps::steps))]
+    pub fn constructor(&mut self, constructor: &Constructor<'_>) -> PrintResult
+        requires { ConstructorSliced self.old.source (constructor_of constructor.now) }
+        ensures { Prints self.old result self.new (constructor_layout self.old.depth (bare_constructor doc_lines self.old.source (constructor_of constructor.now))) }
+    {
+        self.docs(&constructor.docs)?;
+        self.line()?;
+        self.constructor_keyword()?;
+        self.signature(&constructor.params)
+    }
+
+    fn constructor_keyword(&mut self) -> PrintResult
+        ensures { Prints self.old result self.new (token (codes "constructor") ∷ []) }
+    {
+        self.token("constructor")
+    }
+
+    fn resource_head(&mut self, id: &Ident<'_>) -> PrintResult
+        requires { IdentSliced self.old.source (ident_of id.now) }
+        ensures { Prints self.old result self.new (head_layout self.old.depth (codes "resource") (bare_ident self.old.source (ident_of id.now))) }
+    {
+        self.head("resource", id)
+    }
+
+    /// Prints parameters in parentheses and a semicolon.
+    fn signature(&mut self, params: &[NamedType<'_>]) -> PrintResult
+        requires { All (NamedTypeSliced self.old.source) (map named_type_of params.now) }
+        ensures { Prints self.old result self.new (params_layout (map (bare_named_type self.old.source) (map named_type_of params.now)) ++ token (codes ";") ∷ []) }
+    {
+        self.params(params)?;
+        self.token(";")
+    }
+
+    /// Prints a method: `m: static func();`.
+    pub fn method(&mut self, method: &Method<'_>) -> PrintResult
+        requires { MethodSliced self.old.source (method_of method.now) }
+        ensures { Prints self.old result self.new (method_layout self.old.depth (bare_method doc_lines self.old.source (method_of method.now))) }
+    {
+        self.docs(&method.docs)?;
+        self.label(&method.id)?;
+        self.static_keyword(method.is_static)?;
+        self.func_type(&method.ty)?;
+        self.token(";")
+    }
+
+    fn static_keyword(&mut self, is_static: bool) -> PrintResult
+        ensures { Prints self.old result self.new (static_layout is_static) }
+    {
+        if is_static {
+            self.token("static")?;
+            self.blank(" ")
+        } else {
+            self.ready()
+        }
+    }
+
+    /// Prints a variant.
+    pub fn variant_decl(&mut self, decl: &VariantDecl<'_>) -> PrintResult
+        requires { VariantDeclSliced self.old.source (variant_decl_of decl.now) }
+        ensures { Prints self.old result self.new (variant_decl_layout self.old.depth (bare_variant_decl doc_lines self.old.source (variant_decl_of decl.now))) }
+    {
+        self.docs(&decl.docs)?;
+        self.head("variant", &decl.id)?;
+        self.rows(&decl.cases)
+    }
+
+    /// Prints a case of a variant: `a`, or `b(u8)`.
+    pub fn variant_case(&mut self, case: &VariantCase<'_>) -> PrintResult
+        requires { VariantCaseSliced self.old.source (variant_case_of case.now) }
+        ensures { Prints self.old result self.new (variant_case_layout self.old.depth (bare_variant_case doc_lines self.old.source (variant_case_of case.now))) }
+    {
+        self.docs(&case.docs)?;
+        self.line()?;
+        self.ident(&case.id)?;
+        self.payload(&case.ty)
+    }
+
+    fn payload(&mut self, ty: &Option<Type<'_>>) -> PrintResult
+        requires { IfThere TySliced self.old.source (option_map ty_of ty.now) }
+        ensures { Prints self.old result self.new (payload_layout (option_map (bare_ty self.old.source) (option_map ty_of ty.now))) }
+    {
+        match ty {
+            None => self.ready(),
+            Some(ty) => {
+                self.token("(")?;
+                self.ty(ty)?;
+                self.token(")")
+            }
+        }
+    }
+
+    /// Prints a record.
+    pub fn record_decl(&mut self, decl: &RecordDecl<'_>) -> PrintResult
+        requires { RecordDeclSliced self.old.source (record_decl_of decl.now) }
+        ensures { Prints self.old result self.new (record_decl_layout self.old.depth (bare_record_decl doc_lines self.old.source (record_decl_of decl.now))) }
+    {
+        self.docs(&decl.docs)?;
+        self.head("record", &decl.id)?;
+        self.rows(&decl.fields)
+    }
+
+    fn field(&mut self, field: &Field<'_>) -> PrintResult
+        requires { FieldSliced self.old.source (field_of field.now) }
+        ensures { Prints self.old result self.new (field_layout self.old.depth (bare_field doc_lines self.old.source (field_of field.now))) }
+    {
+        self.docs(&field.docs)?;
+        self.label(&field.id)?;
+        self.ty(&field.ty)
+    }
+
+    /// Prints flags.
+    pub fn flags_decl(&mut self, decl: &FlagsDecl<'_>) -> PrintResult
+        requires { FlagsDeclSliced self.old.source (flags_decl_of decl.now) }
+        ensures { Prints self.old result self.new (flags_decl_layout self.old.depth (bare_flags_decl doc_lines self.old.source (flags_decl_of decl.now))) }
+    {
+        self.docs(&decl.docs)?;
+        self.head("flags", &decl.id)?;
+        self.rows(&decl.flags)
+    }
+
+    fn flag(&mut self, flag: &Flag<'_>) -> PrintResult
+        requires { FlagSliced self.old.source (flag_of flag.now) }
+        ensures { Prints self.old result self.new (flag_layout self.old.depth (bare_flag doc_lines self.old.source (flag_of flag.now))) }
+    {
+        self.docs(&flag.docs)?;
+        self.line()?;
+        self.ident(&flag.id)
+    }
+
+    /// Prints an enum.
+    pub fn enum_decl(&mut self, decl: &EnumDecl<'_>) -> PrintResult
+        requires { EnumDeclSliced self.old.source (enum_decl_of decl.now) }
+        ensures { Prints self.old result self.new (enum_decl_layout self.old.depth (bare_enum_decl doc_lines self.old.source (enum_decl_of decl.now))) }
+    {
+        self.docs(&decl.docs)?;
+        self.head("enum", &decl.id)?;
+        self.rows(&decl.cases)
+    }
+
+    fn enum_case(&mut self, case: &EnumCase<'_>) -> PrintResult
+        requires { EnumCaseSliced self.old.source (enum_case_of case.now) }
+        ensures { Prints self.old result self.new (enum_case_layout self.old.depth (bare_enum_case doc_lines self.old.source (enum_case_of case.now))) }
+    {
+        self.docs(&case.docs)?;
+        self.line()?;
+        self.ident(&case.id)
+    }
+
+    /// Prints a type alias: `type t = u8;`.
+    pub fn type_alias(&mut self, alias: &TypeAlias<'_>) -> PrintResult
+        requires { TypeAliasSliced self.old.source (type_alias_of alias.now) }
+        ensures { Prints self.old result self.new (type_alias_layout self.old.depth (bare_type_alias doc_lines self.old.source (type_alias_of alias.now))) }
+    {
+        self.docs(&alias.docs)?;
+        self.head("type", &alias.id)?;
+        self.blank(" ")?;
+        self.token("=")?;
+        self.blank(" ")?;
+        self.alias_kind(&alias.kind)?;
+        self.token(";")
+    }
+
+    fn alias_kind(&mut self, kind: &TypeAliasKind<'_>) -> PrintResult
+        requires { TypeAliasKindSliced self.old.source (type_alias_kind_of kind.now) }
+        ensures { Prints self.old result self.new (alias_kind_layout (bare_alias_kind self.old.source (type_alias_kind_of kind.now))) }
+    {
+        match kind {
+            TypeAliasKind::Func(ty) => self.func_type(ty),
+            TypeAliasKind::Ty(ty) => self.ty(ty),
+        }
+    }
+}

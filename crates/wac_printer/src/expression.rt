@@ -1,0 +1,263 @@
+//! Printing expressions.
+ghost use Rattle.std.specs.Prelude.{◌≡◌, true, false, List, [], ◌∷◌, ◌++◌, codes, map};
+ghost use Rattle.std.specs.List.{All, flat_map};
+ghost use Rattle.wac_ast.specs.Tree.{arguments_from};
+ghost use Rattle.wac_ast.specs.Views.{access_expr_of, argument_name_of, argument_of, expr_of, named_access_expr_of, new_expr_of, package_name_of, postfix_expr_of, primary_expr_of};
+ghost use Rattle.wac_layout.specs.Printed.{token, line, deeper};
+ghost use Rattle.wac_printer.specs.Printed.{Prints};
+ghost use Rattle.wac_printer.specs.Sliced.{AccessExprSliced, ArgumentNameSliced, ArgumentSliced, ArgumentsSliced, ExprSliced, NamedAccessExprSliced, PackageNameSliced, PostfixExprSliced, PrimaryExprSliced};
+ghost use Rattle.wac_layout.specs.Bare.{bare_access_expr, bare_argument, bare_argument_name, bare_arguments, bare_expr, bare_named_access_expr, bare_package_name, bare_postfix_expr, bare_primary_expr};
+ghost use Rattle.wac_layout.specs.Parts.{space, newline};
+ghost use Rattle.wac_layout.specs.ExpressionLayout.{access_expr_layout, argument_layout, argument_name_layout, arguments_layout, expr_layout, named_access_expr_layout, postfix_expr_layout, primary_expr_layout};
+ghost use Rattle.wac_printer.specs.Arguments.{argument_line_layout, braces_layout, ending_layout, is_lone_fill, new_head_layout};
+
+use crate::error::PrintResult;
+use crate::lists::Node;
+use crate::printer::DocumentPrinter;
+use wac_ast::{
+    AccessExpr, Expr, InstantiationArgument, InstantiationArgumentName, NamedAccessExpr, NewExpr,
+    PackageName, PostfixExpr, PrimaryExpr,
+};
+use wac_lexer::Sink;
+
+impl Node for PostfixExpr<'_> {
+    ghost layout = { λ source depth x. postfix_expr_layout (bare_postfix_expr source (postfix_expr_of x)) };
+
+    ghost sliced = { λ source x. PostfixExprSliced source (postfix_expr_of x) };
+
+    fn print<S: Sink>(&self, printer: &mut DocumentPrinter<'_, S>) -> PrintResult {
+        printer.postfix_expr(self)
+    }
+}
+
+#[tactic(auto, using(crate::proofs::Steps::lists))]
+impl<'a, S: Sink> DocumentPrinter<'a, S> {
+    /// Prints an access.
+    pub fn postfix_expr(&mut self, postfix: &PostfixExpr<'_>) -> PrintResult
+        requires { PostfixExprSliced self.old.source (postfix_expr_of postfix.now) }
+        ensures { Prints self.old result self.new (postfix_expr_layout (bare_postfix_expr self.old.source (postfix_expr_of postfix.now))) }
+    {
+        match postfix {
+            PostfixExpr::Access(access) => self.access_expr(access),
+            PostfixExpr::NamedAccess(access) => self.named_access_expr(access),
+        }
+    }
+
+    #[tactic(auto, using(crate::proofs::Steps::lists))]
+    fn postfixes(&mut self, postfixes: &[PostfixExpr<'_>]) -> PrintResult
+        requires { All (PostfixExprSliced self.old.source) (map postfix_expr_of postfixes.now) }
+        ensures { Prints self.old result self.new (flat_map postfix_expr_layout (map (bare_postfix_expr self.old.source) (map postfix_expr_of postfixes.now))) }
+    {
+        self.each(postfixes)
+    }
+
+    /// Prints an access by identifier: `.x`.
+    pub fn access_expr(&mut self, access: &AccessExpr<'_>) -> PrintResult
+        requires { AccessExprSliced self.old.source (access_expr_of access.now) }
+        ensures { Prints self.old result self.new (access_expr_layout (bare_access_expr self.old.source (access_expr_of access.now))) }
+    {
+        self.token(".")?;
+        self.ident(&access.id)
+    }
+
+    /// Prints an access by string: `["x"]`.
+    pub fn named_access_expr(&mut self, access: &NamedAccessExpr<'_>) -> PrintResult
+        requires { NamedAccessExprSliced self.old.source (named_access_expr_of access.now) }
+        ensures { Prints self.old result self.new (named_access_expr_layout (bare_named_access_expr self.old.source (named_access_expr_of access.now))) }
+    {
+        self.token("[")?;
+        self.string(&access.string)?;
+        self.token("]")
+    }
+
+    fn argument_name(&mut self, name: &InstantiationArgumentName<'_>) -> PrintResult
+        requires { ArgumentNameSliced self.old.source (argument_name_of name.now) }
+        ensures { Prints self.old result self.new (argument_name_layout (bare_argument_name self.old.source (argument_name_of name.now))) }
+    {
+        match name {
+            InstantiationArgumentName::Ident(id) => self.ident(id),
+            InstantiationArgumentName::String(string) => self.string(string),
+        }
+    }
+}
+
+/// Whether it is `...` alone.
+fn is_lone_fill(arguments: &[InstantiationArgument<'_>]) -> bool
+    ensures { result ≡ is_lone_fill (arguments_from (map argument_of arguments.now)) }
+{
+    match arguments.split_first() {
+        Some((InstantiationArgument::Fill(_), rest)) => rest.is_empty(),
+        _ => false,
+    }
+}
+
+#[tactic(auto, using(crate::proofs::Steps::steps))]
+impl<'a, S: Sink> DocumentPrinter<'a, S> {
+    /// Prints an expression.
+    #[tactic(auto, using(crate::proofs::Steps::steps), unfolding(wac_layout::specs::ExpressionLayout::expr_layout, wac_layout::specs::ExpressionLayout::primary_expr_layout, wac_layout::specs::ExpressionLayout::argument_layout, wac_layout::specs::Bare::bare_expr, wac_layout::specs::Bare::bare_primary_expr, wac_layout::specs::Bare::bare_argument))]
+    #[cycle(expr)]
+    pub fn expr(&mut self, expr: &Expr<'_>) -> PrintResult
+        requires { ExprSliced self.old.source (expr_of expr.now) }
+        ensures { Prints self.old result self.new (expr_layout self.old.depth (bare_expr self.old.source (expr_of expr.now))) }
+    {
+        self.primary_expr(&expr.primary)?;
+        self.postfixes(&expr.postfix)
+    }
+
+    /// Prints what an expression begins with.
+    #[tactic(auto, using(crate::proofs::Steps::steps), unfolding(wac_layout::specs::ExpressionLayout::expr_layout, wac_layout::specs::ExpressionLayout::primary_expr_layout, wac_layout::specs::ExpressionLayout::argument_layout, wac_layout::specs::Bare::bare_expr, wac_layout::specs::Bare::bare_primary_expr, wac_layout::specs::Bare::bare_argument))]
+    #[cycle(expr)]
+    pub fn primary_expr(&mut self, expr: &PrimaryExpr<'_>) -> PrintResult
+        requires { PrimaryExprSliced self.old.source (primary_expr_of expr.now) }
+        ensures { Prints self.old result self.new (primary_expr_layout self.old.depth (bare_primary_expr self.old.source (primary_expr_of expr.now))) }
+    {
+        match expr {
+            PrimaryExpr::New(expr) => self.new_expr(expr),
+            PrimaryExpr::Nested(expr) => {
+                self.token("(")?;
+                self.expr(&expr.inner)?;
+                self.token(")")
+            }
+            PrimaryExpr::Ident(id) => self.ident(id),
+        }
+    }
+
+    /// Prints an instantiation: `new a:b {}`, `new a:b { ... }`, or each argument on a line of its own.
+    #[tactic(auto, using(crate::proofs::Steps::steps), unfolding(wac_layout::specs::ExpressionLayout::expr_layout, wac_layout::specs::ExpressionLayout::primary_expr_layout, wac_layout::specs::ExpressionLayout::argument_layout, wac_layout::specs::Bare::bare_expr, wac_layout::specs::Bare::bare_primary_expr, wac_layout::specs::Bare::bare_argument))]
+    #[cycle(expr)]
+    pub fn new_expr(&mut self, expr: &NewExpr<'_>) -> PrintResult
+        requires { PrimaryExprSliced self.old.source (new_expr_of expr.now) }
+        ensures { Prints self.old result self.new (primary_expr_layout self.old.depth (bare_primary_expr self.old.source (new_expr_of expr.now))) }
+    {
+        self.new_head(&expr.package)?;
+        self.braced(&expr.arguments)?;
+        self.token("}")
+    }
+
+    fn new_head(&mut self, name: &PackageName<'_>) -> PrintResult
+        requires { PackageNameSliced self.old.source (package_name_of name.now) }
+        ensures { Prints self.old result self.new (new_head_layout (bare_package_name self.old.source (package_name_of name.now))) }
+    {
+        self.token("new")?;
+        self.blank(" ")?;
+        self.package_name(name)?;
+        self.blank(" ")?;
+        self.token("{")
+    }
+
+    fn fill_alone(&mut self) -> PrintResult
+        ensures { Prints self.old result self.new (space ∷ token (codes "...") ∷ space ∷ []) }
+    {
+        self.blank(" ")?;
+        self.token("...")?;
+        self.blank(" ")
+    }
+
+    /// Prints what stands between the braces of an instantiation.
+    #[cycle(expr)]
+    fn braced(&mut self, arguments: &[InstantiationArgument<'_>]) -> PrintResult
+        requires { ArgumentsSliced self.old.source (arguments_from (map argument_of arguments.now)) }
+        ensures { Prints self.old result self.new (braces_layout self.old.depth (bare_arguments self.old.source (arguments_from (map argument_of arguments.now)))) }
+    {
+        if arguments.is_empty() {
+            return self.ready();
+        }
+        if is_lone_fill(arguments) {
+            return self.fill_alone();
+        }
+        self.argument_lines(arguments)
+    }
+
+    #[cycle(expr)]
+    fn argument_lines(&mut self, arguments: &[InstantiationArgument<'_>]) -> PrintResult
+        requires { ArgumentsSliced self.old.source (arguments_from (map argument_of arguments.now)) }
+        ensures { Prints self.old result self.new (newline ∷ (arguments_layout (deeper self.old.depth) (bare_arguments self.old.source (arguments_from (map argument_of arguments.now))) ++ line self.old.depth ∷ [])) }
+    {
+        self.blank("\n")?;
+        self.deeper_arguments(arguments)?;
+        self.line()
+    }
+
+    #[cycle(expr)]
+    fn deeper_arguments(&mut self, arguments: &[InstantiationArgument<'_>]) -> PrintResult
+        requires { ArgumentsSliced self.old.source (arguments_from (map argument_of arguments.now)) }
+        ensures { Prints self.old result self.new (arguments_layout (deeper self.old.depth) (bare_arguments self.old.source (arguments_from (map argument_of arguments.now)))) }
+    {
+        let depth = self.indent();
+        let printed = self.arguments(arguments);
+        self.dedent(depth);
+        printed
+    }
+
+    /// Prints arguments, each on a line of its own.
+    #[cycle(expr)]
+    fn arguments(&mut self, arguments: &[InstantiationArgument<'_>]) -> PrintResult
+        requires { ArgumentsSliced self.old.source (arguments_from (map argument_of arguments.now)) }
+        ensures { Prints self.old result self.new (arguments_layout self.old.depth (bare_arguments self.old.source (arguments_from (map argument_of arguments.now)))) }
+    {
+        match arguments.split_last() {
+            None => self.ready(),
+            Some((last, front)) => {
+                self.front_arguments(front)?;
+                self.argument_line(last, true)
+            }
+        }
+    }
+
+    #[cycle(expr)]
+    fn front_arguments(&mut self, arguments: &[InstantiationArgument<'_>]) -> PrintResult
+        requires { All (λ x. ArgumentSliced self.old.source (argument_of x)) arguments.now }
+        ensures { Prints self.old result self.new (flat_map (λ x. argument_line_layout self.old.depth false (bare_argument self.old.source (argument_of x))) arguments.now) }
+    {
+        self.ready()?;
+        for argument in arguments {
+            self.argument_line(argument, false)?;
+        }
+        Ok(())
+    }
+
+    #[cycle(expr)]
+    fn argument_line(&mut self, argument: &InstantiationArgument<'_>, is_last: bool) -> PrintResult
+        requires { ArgumentSliced self.old.source (argument_of argument.now) }
+        ensures { Prints self.old result self.new (argument_line_layout self.old.depth is_last (bare_argument self.old.source (argument_of argument.now))) }
+    {
+        self.line()?;
+        self.argument(argument)?;
+        self.ending(argument, is_last)
+    }
+
+    /// Ends the line of an argument: by a comma, unless it is a fill and the last.
+    fn ending(&mut self, argument: &InstantiationArgument<'_>, is_last: bool) -> PrintResult
+        ensures { Prints self.old result self.new (ending_layout is_last (argument_of argument.now)) }
+    {
+        match argument {
+            InstantiationArgument::Fill(_) if is_last => self.blank("\n"),
+            _ => {
+                self.token(",")?;
+                self.blank("\n")
+            }
+        }
+    }
+
+    #[tactic(auto, using(crate::proofs::Steps::steps), unfolding(wac_layout::specs::ExpressionLayout::expr_layout, wac_layout::specs::ExpressionLayout::primary_expr_layout, wac_layout::specs::ExpressionLayout::argument_layout, wac_layout::specs::Bare::bare_expr, wac_layout::specs::Bare::bare_primary_expr, wac_layout::specs::Bare::bare_argument))]
+    #[cycle(expr)]
+    fn argument(&mut self, argument: &InstantiationArgument<'_>) -> PrintResult
+        requires { ArgumentSliced self.old.source (argument_of argument.now) }
+        ensures { Prints self.old result self.new (argument_layout self.old.depth (bare_argument self.old.source (argument_of argument.now))) }
+    {
+        match argument {
+            InstantiationArgument::Inferred(id) => self.ident(id),
+            InstantiationArgument::Spread(id) => {
+                self.token("...")?;
+                self.ident(id)
+            }
+            InstantiationArgument::Named(argument) => {
+                self.argument_name(&argument.name)?;
+                self.token(":")?;
+                self.blank(" ")?;
+                self.expr(&argument.expr)
+            }
+            InstantiationArgument::Fill(_) => self.token("..."),
+        }
+    }
+}

@@ -1,0 +1,168 @@
+//! Printing interfaces.
+ghost use Rattle.std.specs.Prelude.{map, List, [], ◌∷◌, ◌++◌, codes};
+ghost use Rattle.std.specs.List.{All};
+ghost use Rattle.std.specs.Option.{option_map};
+ghost use Rattle.wac_ast.specs.Views.{ident_of, use_item_of, use_of, use_path_of};
+ghost use Rattle.wac_ast.specs.Interfaces.{inline_interface_of, interface_decl_of, interface_export_of, interface_item_of};
+ghost use Rattle.wac_layout.specs.Printed.{token};
+ghost use Rattle.wac_printer.specs.Printed.{Prints};
+ghost use Rattle.wac_printer.specs.Sliced.{IdentSliced, IfThere, InlineInterfaceSliced, InterfaceDeclSliced, InterfaceExportSliced, InterfaceItemSliced, UseItemSliced, UsePathSliced, UseSliced};
+ghost use Rattle.wac_layout.specs.Bare.{bare_ident, bare_inline_interface, bare_interface_decl, bare_interface_export, bare_interface_item, bare_use, bare_use_item, bare_use_path, doc_lines};
+ghost use Rattle.wac_layout.specs.InterfaceLayout.{as_layout, inline_interface_layout, interface_decl_layout, interface_export_layout, interface_item_layout, use_item_layout, use_items_layout, use_layout, use_path_layout};
+ghost use Rattle.wac_layout.specs.Parts.{body};
+ghost use Rattle.wac_layout.specs.DeclarationLayout.{head_layout};
+
+use crate::error::PrintResult;
+use crate::lists::Node;
+use crate::printer::DocumentPrinter;
+use wac_ast::{
+    Ident, InlineInterface, InterfaceDecl, InterfaceExport, InterfaceItem, Use, UseItem, UsePath,
+};
+use wac_lexer::Sink;
+
+impl Node for UseItem<'_> {
+    ghost layout = { λ source depth x. use_item_layout (bare_use_item source (use_item_of x)) };
+
+    ghost sliced = { λ source x. UseItemSliced source (use_item_of x) };
+
+    fn print<S: Sink>(&self, printer: &mut DocumentPrinter<'_, S>) -> PrintResult {
+        printer.use_item(self)
+    }
+}
+
+impl Node for InterfaceItem<'_> {
+    ghost layout = { λ source depth x. interface_item_layout depth (bare_interface_item doc_lines source (interface_item_of x)) };
+
+    ghost sliced = { λ source x. InterfaceItemSliced source (interface_item_of x) };
+
+    fn print<S: Sink>(&self, printer: &mut DocumentPrinter<'_, S>) -> PrintResult {
+        printer.interface_item(self)
+    }
+}
+
+#[tactic(auto, using(crate::proofs::Steps::lists))]
+impl<'a, S: Sink> DocumentPrinter<'a, S> {
+    /// Prints an interface.
+    #[tactic(auto, using(crate::proofs::Steps::steps))]
+    pub fn interface_decl(&mut self, decl: &InterfaceDecl<'_>) -> PrintResult
+        requires { InterfaceDeclSliced self.old.source (interface_decl_of decl.now) }
+        ensures { Prints self.old result self.new (interface_decl_layout self.old.depth (bare_interface_decl doc_lines self.old.source (interface_decl_of decl.now))) }
+    {
+        self.docs(&decl.docs)?;
+        self.interface_head(&decl.id)?;
+        self.interface_items(&decl.items)
+    }
+
+    /// Prints an interface that has no name.
+    #[tactic(auto, using(crate::proofs::Steps::steps))]
+    pub fn inline_interface(&mut self, interface: &InlineInterface<'_>) -> PrintResult
+        requires { InlineInterfaceSliced self.old.source (inline_interface_of interface.now) }
+        ensures { Prints self.old result self.new (inline_interface_layout self.old.depth (bare_inline_interface doc_lines self.old.source (inline_interface_of interface.now))) }
+    {
+        self.interface_keyword()?;
+        self.interface_items(&interface.items)
+    }
+
+    fn interface_items(&mut self, items: &[InterfaceItem<'_>]) -> PrintResult
+        requires { All (InterfaceItemSliced self.old.source) (map interface_item_of items.now) }
+        ensures { Prints self.old result self.new (body interface_item_layout self.old.depth (map (bare_interface_item doc_lines self.old.source) (map interface_item_of items.now))) }
+    {
+        self.body(items)
+    }
+
+    fn interface_keyword(&mut self) -> PrintResult
+        ensures { Prints self.old result self.new (token (codes "interface") ∷ []) }
+    {
+        self.token("interface")
+    }
+
+    fn interface_head(&mut self, id: &Ident<'_>) -> PrintResult
+        requires { IdentSliced self.old.source (ident_of id.now) }
+        ensures { Prints self.old result self.new (head_layout self.old.depth (codes "interface") (bare_ident self.old.source (ident_of id.now))) }
+    {
+        self.head("interface", id)
+    }
+
+    /// Prints an item of an interface.
+    pub fn interface_item(&mut self, item: &InterfaceItem<'_>) -> PrintResult
+        requires { InterfaceItemSliced self.old.source (interface_item_of item.now) }
+        ensures { Prints self.old result self.new (interface_item_layout self.old.depth (bare_interface_item doc_lines self.old.source (interface_item_of item.now))) }
+    {
+        match item {
+            InterfaceItem::Use(decl) => self.use_type(decl),
+            InterfaceItem::Ty(decl) => self.item_type_decl(decl),
+            InterfaceItem::Export(export) => self.interface_export(export),
+        }
+    }
+
+    /// Prints an export of an interface: `f: func();`.
+    pub fn interface_export(&mut self, export: &InterfaceExport<'_>) -> PrintResult
+        requires { InterfaceExportSliced self.old.source (interface_export_of export.now) }
+        ensures { Prints self.old result self.new (interface_export_layout self.old.depth (bare_interface_export doc_lines self.old.source (interface_export_of export.now))) }
+    {
+        self.docs(&export.docs)?;
+        self.label(&export.id)?;
+        self.func_type_ref(&export.ty)?;
+        self.token(";")
+    }
+
+    /// Prints a `use`: `use a:b/c.{ t, u as v };`.
+    pub fn use_type(&mut self, decl: &Use<'_>) -> PrintResult
+        requires { UseSliced self.old.source (use_of decl.now) }
+        ensures { Prints self.old result self.new (use_layout self.old.depth (bare_use doc_lines self.old.source (use_of decl.now))) }
+    {
+        self.docs(&decl.docs)?;
+        self.line()?;
+        self.token("use")?;
+        self.blank(" ")?;
+        self.use_path(&decl.path)?;
+        self.use_items(&decl.items)?;
+        self.token(";")
+    }
+
+    fn use_items(&mut self, items: &[UseItem<'_>]) -> PrintResult
+        requires { All (UseItemSliced self.old.source) (map use_item_of items.now) }
+        ensures { Prints self.old result self.new (use_items_layout (map (bare_use_item self.old.source) (map use_item_of items.now))) }
+    {
+        self.token(".")?;
+        self.token("{")?;
+        self.blank(" ")?;
+        self.joined(items)?;
+        self.blank(" ")?;
+        self.token("}")
+    }
+
+    /// Prints the path of a `use`.
+    pub fn use_path(&mut self, path: &UsePath<'_>) -> PrintResult
+        requires { UsePathSliced self.old.source (use_path_of path.now) }
+        ensures { Prints self.old result self.new (use_path_layout (bare_use_path self.old.source (use_path_of path.now))) }
+    {
+        match path {
+            UsePath::Package(path) => self.package_path(path),
+            UsePath::Ident(id) => self.ident(id),
+        }
+    }
+
+    fn use_item(&mut self, item: &UseItem<'_>) -> PrintResult
+        requires { UseItemSliced self.old.source (use_item_of item.now) }
+        ensures { Prints self.old result self.new (use_item_layout (bare_use_item self.old.source (use_item_of item.now))) }
+    {
+        self.ident(&item.id)?;
+        self.as_ident(&item.as_id)
+    }
+
+    fn as_ident(&mut self, id: &Option<Ident<'_>>) -> PrintResult
+        requires { IfThere IdentSliced self.old.source (option_map ident_of id.now) }
+        ensures { Prints self.old result self.new (as_layout (option_map (bare_ident self.old.source) (option_map ident_of id.now))) }
+    {
+        match id {
+            None => self.ready(),
+            Some(id) => {
+                self.blank(" ")?;
+                self.token("as")?;
+                self.blank(" ")?;
+                self.ident(id)
+            }
+        }
+    }
+}

@@ -1,0 +1,22 @@
+//! Prints documents.
+#![tactic(auto)]
+
+mod declaration;
+mod docs;
+mod error;
+mod expression;
+mod interface;
+mod laws;
+mod lists;
+mod output;
+mod printer;
+mod statement;
+mod value_type;
+mod world;
+
+pub use error::{PrintError, PrintResult};
+pub use laws::{
+    equal_bare_trees_print_equally, printed_documents_read_back, trees_of_texts_can_be_printed,
+};
+pub use printer::DocumentPrinter;
+pub use statement::Page;

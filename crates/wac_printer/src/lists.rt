@@ -1,0 +1,189 @@
+//! Printing the lists of a tree.
+ghost use Rattle.std.specs.Prelude.{◌≡◌, ℕ, List, [], ◌∷◌, ◌++◌, codes};
+ghost use Rattle.std.specs.List.{flat_map, All};
+ghost use Rattle.wac_layout.specs.Printed.{Piece, token, deeper};
+ghost use Rattle.wac_printer.specs.Printed.{Prints};
+ghost use Rattle.wac_layout.specs.Parts.{space, newline, joined, spaced, body, rows, open_body, close_body};
+
+use crate::error::PrintResult;
+use crate::printer::DocumentPrinter;
+use wac_lexer::Sink;
+
+/// What stands in a list of a tree.
+pub(crate) trait Node {
+    ghost layout: { List ℕ → ℕ → Self → List Piece };
+
+    ghost sliced: { List ℕ → Self → Type 0 };
+
+    /// Prints it.
+    fn print<S: Sink>(&self, printer: &mut DocumentPrinter<'_, S>) -> PrintResult
+        requires { sliced printer.old.source self.now }
+        ensures { Prints printer.old result printer.new (layout printer.old.source printer.old.depth self.now) };
+}
+
+#[tactic(auto, using(crate::proofs::Steps::steps))]
+impl<'a, S: Sink> DocumentPrinter<'a, S> {
+    /// Prints nodes, one behind the other.
+    pub(crate) fn each<T: Node>(&mut self, items: &[T]) -> PrintResult
+        requires { All (T.sliced self.old.source) items.now }
+        ensures { Prints self.old result self.new (flat_map (T.layout self.old.source self.old.depth) items.now) }
+    {
+        self.ready()?;
+        for item in items {
+            item.print(self)?;
+        }
+        Ok(())
+    }
+
+    /// Prints nodes joined by a comma and a blank.
+    pub(crate) fn joined<T: Node>(&mut self, items: &[T]) -> PrintResult
+        requires { All (T.sliced self.old.source) items.now }
+        ensures { Prints self.old result self.new (joined (T.layout self.old.source self.old.depth) items.now) }
+    {
+        match items.split_first() {
+            None => self.ready(),
+            Some((first, rest)) => {
+                first.print(self)?;
+                self.behind_commas(rest)
+            }
+        }
+    }
+
+    fn behind_commas<T: Node>(&mut self, items: &[T]) -> PrintResult
+        requires { All (T.sliced self.old.source) items.now }
+        ensures { Prints self.old result self.new (flat_map (λ x. (token (codes ",") ∷ space ∷ []) ++ T.layout self.old.source self.old.depth x) items.now) }
+    {
+        self.ready()?;
+        for item in items {
+            self.behind_comma(item)?;
+        }
+        Ok(())
+    }
+
+    fn behind_comma<T: Node>(&mut self, item: &T) -> PrintResult
+        requires { T.sliced self.old.source item.now }
+        ensures { Prints self.old result self.new ((token (codes ",") ∷ space ∷ []) ++ T.layout self.old.source self.old.depth item.now) }
+    {
+        self.token(",")?;
+        self.blank(" ")?;
+        item.print(self)
+    }
+
+    /// Prints nodes, each ended by a newline, with an empty line between two.
+    pub(crate) fn spaced<T: Node>(&mut self, items: &[T]) -> PrintResult
+        requires { All (T.sliced self.old.source) items.now }
+        ensures { Prints self.old result self.new (spaced (T.layout self.old.source self.old.depth) items.now) }
+    {
+        match items.split_first() {
+            None => self.ready(),
+            Some((first, rest)) => {
+                self.ended(first)?;
+                self.behind_empty_lines(rest)
+            }
+        }
+    }
+
+    fn behind_empty_lines<T: Node>(&mut self, items: &[T]) -> PrintResult
+        requires { All (T.sliced self.old.source) items.now }
+        ensures { Prints self.old result self.new (flat_map (λ x. newline ∷ (T.layout self.old.source self.old.depth x ++ newline ∷ [])) items.now) }
+    {
+        self.ready()?;
+        for item in items {
+            self.behind_empty_line(item)?;
+        }
+        Ok(())
+    }
+
+    fn behind_empty_line<T: Node>(&mut self, item: &T) -> PrintResult
+        requires { T.sliced self.old.source item.now }
+        ensures { Prints self.old result self.new (newline ∷ (T.layout self.old.source self.old.depth item.now ++ newline ∷ [])) }
+    {
+        self.blank("\n")?;
+        self.ended(item)
+    }
+
+    fn ended<T: Node>(&mut self, item: &T) -> PrintResult
+        requires { T.sliced self.old.source item.now }
+        ensures { Prints self.old result self.new (T.layout self.old.source self.old.depth item.now ++ newline ∷ []) }
+    {
+        item.print(self)?;
+        self.blank("\n")
+    }
+
+    /// Prints nodes in braces, one deeper, with an empty line between two.
+    #[tactic(auto, using(crate::proofs::Steps::bodies))]
+    pub(crate) fn body<T: Node>(&mut self, items: &[T]) -> PrintResult
+        requires { All (T.sliced self.old.source) items.now }
+        ensures { Prints self.old result self.new (body (T.layout self.old.source) self.old.depth items.now) }
+    {
+        self.open_body()?;
+        self.deeper_spaced(items)?;
+        self.close_body()
+    }
+
+    fn deeper_spaced<T: Node>(&mut self, items: &[T]) -> PrintResult
+        requires { All (T.sliced self.old.source) items.now }
+        ensures { Prints self.old result self.new (spaced (T.layout self.old.source (deeper self.old.depth)) items.now) }
+    {
+        let depth = self.indent();
+        let printed = self.spaced(items);
+        self.dedent(depth);
+        printed
+    }
+
+    /// Prints nodes in braces, one deeper, each ended by a comma and a newline.
+    #[tactic(auto, using(crate::proofs::Steps::bodies))]
+    pub(crate) fn rows<T: Node>(&mut self, items: &[T]) -> PrintResult
+        requires { All (T.sliced self.old.source) items.now }
+        ensures { Prints self.old result self.new (rows (T.layout self.old.source) self.old.depth items.now) }
+    {
+        self.open_body()?;
+        self.deeper_rows(items)?;
+        self.close_body()
+    }
+
+    fn deeper_rows<T: Node>(&mut self, items: &[T]) -> PrintResult
+        requires { All (T.sliced self.old.source) items.now }
+        ensures { Prints self.old result self.new (flat_map (λ x. T.layout self.old.source (deeper self.old.depth) x ++ token (codes ",") ∷ newline ∷ []) items.now) }
+    {
+        let depth = self.indent();
+        let printed = self.each_row(items);
+        self.dedent(depth);
+        printed
+    }
+
+    fn each_row<T: Node>(&mut self, items: &[T]) -> PrintResult
+        requires { All (T.sliced self.old.source) items.now }
+        ensures { Prints self.old result self.new (flat_map (λ x. T.layout self.old.source self.old.depth x ++ token (codes ",") ∷ newline ∷ []) items.now) }
+    {
+        self.ready()?;
+        for item in items {
+            self.row(item)?;
+        }
+        Ok(())
+    }
+
+    fn row<T: Node>(&mut self, item: &T) -> PrintResult
+        requires { T.sliced self.old.source item.now }
+        ensures { Prints self.old result self.new (T.layout self.old.source self.old.depth item.now ++ token (codes ",") ∷ newline ∷ []) }
+    {
+        item.print(self)?;
+        self.token(",")?;
+        self.blank("\n")
+    }
+
+    fn open_body(&mut self) -> PrintResult
+        ensures { Prints self.old result self.new open_body }
+    {
+        self.blank(" ")?;
+        self.token("{")?;
+        self.blank("\n")
+    }
+
+    fn close_body(&mut self) -> PrintResult
+        ensures { Prints self.old result self.new (close_body self.old.depth) }
+    {
+        self.line()?;
+        self.token("}")
+    }
+}

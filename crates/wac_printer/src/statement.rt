@@ -1,0 +1,267 @@
+//! Printing documents and their statements.
+ghost use Rattle.std.specs.List.{All};
+ghost use Rattle.std.specs.Prelude.{◌≡◌, map};
+ghost use Rattle.std.specs.Option.{option_map};
+ghost use Rattle.wac_ast.specs.Views.{directive_of, export_options_of, export_statement_of, extern_name_of, let_statement_of, package_path_of};
+ghost use Rattle.wac_ast.specs.Statements.{document_of, statement_of};
+ghost use Rattle.wac_ast.specs.Interfaces.{import_statement_of, import_type_of, type_statement_of};
+ghost use Rattle.wac_printer.specs.Printed.{Prints};
+ghost use Rattle.wac_printer.specs.Sliced.{DirectiveSliced, DocumentSliced, ExportOptionsSliced, ExportStatementSliced, ExternNameSliced, IfThere, ImportStatementSliced, ImportTypeSliced, LetStatementSliced, PackagePathSliced, StatementSliced, TypeStatementSliced};
+ghost use Rattle.wac_layout.specs.Bare.{bare_directive, bare_document, bare_export_options, bare_export_statement, bare_extern_name, bare_import_statement, bare_import_type, bare_let_statement, bare_package_path, bare_statement, bare_type_statement, doc_lines};
+ghost use Rattle.wac_layout.specs.StatementLayout.{directive_layout, document_layout, export_options_layout, export_statement_layout, import_name_layout, import_statement_layout, import_type_layout, let_statement_layout, renamed_layout, statement_layout, targets_layout, type_statement_layout};
+ghost use Rattle.wac_layout.specs.Parts.{spaced};
+
+use crate::error::PrintResult;
+use crate::lists::Node;
+use crate::printer::DocumentPrinter;
+use std::marker::Model;
+use wac_ast::{
+    Document, ExportOptions, ExportStatement, ExternName, ImportStatement, ImportType,
+    LetStatement, PackageDirective, PackagePath, Statement, TypeStatement,
+};
+use wac_lexer::Sink;
+
+impl Node for Statement<'_> {
+    ghost layout = { λ source depth x. statement_layout depth (bare_statement doc_lines source (statement_of x)) };
+
+    ghost sliced = { λ source x. StatementSliced source (statement_of x) };
+
+    fn print<S: Sink>(&self, printer: &mut DocumentPrinter<'_, S>) -> PrintResult {
+        printer.statement(self)
+    }
+}
+
+/// A document that is lent to a printer.
+///
+/// `printer.page(Page { document: &document })` does what `printer.document(&document)` does. It is for callers that are proved
+/// themselves: the prover follows a lent document through a call at far less cost when it stands in a `Page`.
+#[derive(Drop)]
+pub struct Page<'t, 'a> {
+    /// The document.
+    pub document: &'t Document<'a>,
+}
+
+impl<'t, 'a> Model for Page<'t, 'a> {
+    ghost use Rattle.std.specs.Prelude.{[]};
+    ghost use Rattle.std.specs.Coded.{codes};
+    ghost use Rattle.wac_ast.specs.contracts.ast.types.«Type» as ty;
+    ghost use Rattle.wac_ast.specs.contracts.ast.expr.PrimaryExpr as primary;
+    ghost use mir.Syntax.{erased};
+    ghost use Rattle.wac_ast.specs.declared.ast.Document.{Document};
+
+    ghost Value = { Document };
+
+    ghost coded = { Prim.hlevel (codes, (ty.the_row (record { mir = erased; lft = [] })).coded, (primary.the_row (record { mir = erased; lft = [] })).coded) };
+
+    ghost view = { λ p. p.document.now };
+
+    ghost invariant = { λ p. Unit {0} };
+}
+
+/// The statements of a document.
+#[derive(Drop)]
+struct Statements<'t, 'a> {
+    document: &'t Document<'a>,
+}
+
+impl<'t, 'a> Model for Statements<'t, 'a> {
+    ghost use Rattle.std.specs.Prelude.{List, []};
+    ghost use Rattle.std.specs.Coded.{codes};
+    ghost use Rattle.wac_ast.specs.contracts.ast.types.«Type» as ty;
+    ghost use Rattle.wac_ast.specs.contracts.ast.expr.PrimaryExpr as primary;
+    ghost use mir.Syntax.{erased};
+    ghost use Rattle.wac_ast.specs.declared.ast.Statement.{Statement};
+
+    ghost Value = { List Statement };
+
+    ghost coded = { Prim.hlevel (codes, (ty.the_row (record { mir = erased; lft = [] })).coded, (primary.the_row (record { mir = erased; lft = [] })).coded) };
+
+    ghost view = { λ s. s.document.now.statements.items };
+
+    ghost invariant = { λ s. Unit {0} };
+}
+
+fn statements_of<'t, 'a>(document: &'t Document<'a>) -> &'t [Statement<'a>]
+    ensures { result.now ≡ document.now.statements.items }
+{
+    &document.statements
+}
+
+impl<'t, 'a> Statements<'t, 'a> {
+    fn all(self) -> &'t [Statement<'a>]
+        ensures { result.now ≡ self.entry }
+    {
+        statements_of(self.document)
+    }
+}
+
+#[tactic(auto, using(crate::proofs::Steps::lists))]
+impl<'a, S: Sink> DocumentPrinter<'a, S> {
+    /// Prints a document.
+    pub fn document(&mut self, document: &Document<'_>) -> PrintResult
+        requires { DocumentSliced self.old.source (document_of document.now) }
+        ensures { Prints self.old result self.new (document_layout self.old.depth (bare_document doc_lines self.old.source (document_of document.now))) }
+    {
+        self.page(Page { document })
+    }
+
+    /// Prints a document that is lent.
+    pub fn page(&mut self, page: Page<'_, '_>) -> PrintResult
+        requires { DocumentSliced self.old.source (document_of page) }
+        ensures { Prints self.old result self.new (document_layout self.old.depth (bare_document doc_lines self.old.source (document_of page.entry))) }
+    {
+        let Page { document } = page;
+        let statements = Statements { document };
+        self.docs(&document.docs)?;
+        self.package_directive(&document.directive)?;
+        self.statements(statements.all())
+    }
+
+    fn statements(&mut self, statements: &[Statement<'_>]) -> PrintResult
+        requires { All (StatementSliced self.old.source) (map statement_of statements.now) }
+        ensures { Prints self.old result self.new (spaced (statement_layout self.old.depth) (map (bare_statement doc_lines self.old.source) (map statement_of statements.now))) }
+    {
+        self.spaced(statements)
+    }
+
+    /// Prints the directive that names the package, and an empty line.
+    pub fn package_directive(&mut self, directive: &PackageDirective<'_>) -> PrintResult
+        requires { DirectiveSliced self.old.source (directive_of directive.now) }
+        ensures { Prints self.old result self.new (directive_layout self.old.depth (bare_directive self.old.source (directive_of directive.now))) }
+    {
+        self.line()?;
+        self.token("package")?;
+        self.blank(" ")?;
+        self.package_name(&directive.package)?;
+        self.targets(&directive.targets)?;
+        self.token(";")?;
+        self.blank("\n")?;
+        self.blank("\n")
+    }
+
+    fn targets(&mut self, path: &Option<PackagePath<'_>>) -> PrintResult
+        requires { IfThere PackagePathSliced self.old.source (option_map package_path_of path.now) }
+        ensures { Prints self.old result self.new (targets_layout (option_map (bare_package_path self.old.source) (option_map package_path_of path.now))) }
+    {
+        match path {
+            None => self.ready(),
+            Some(path) => {
+                self.blank(" ")?;
+                self.token("targets")?;
+                self.blank(" ")?;
+                self.package_path(path)
+            }
+        }
+    }
+
+    /// Prints a statement.
+    pub fn statement(&mut self, statement: &Statement<'_>) -> PrintResult
+        requires { StatementSliced self.old.source (statement_of statement.now) }
+        ensures { Prints self.old result self.new (statement_layout self.old.depth (bare_statement doc_lines self.old.source (statement_of statement.now))) }
+    {
+        match statement {
+            Statement::Import(statement) => self.import_statement(statement),
+            Statement::Ty(statement) => self.type_statement(statement),
+            Statement::Let(statement) => self.let_statement(statement),
+            Statement::Export(statement) => self.export_statement(statement),
+        }
+    }
+
+    /// Prints the declaration of an interface, a world or a type.
+    pub fn type_statement(&mut self, statement: &TypeStatement<'_>) -> PrintResult
+        requires { TypeStatementSliced self.old.source (type_statement_of statement.now) }
+        ensures { Prints self.old result self.new (type_statement_layout self.old.depth (bare_type_statement doc_lines self.old.source (type_statement_of statement.now))) }
+    {
+        match statement {
+            TypeStatement::Interface(decl) => self.interface_decl(decl),
+            TypeStatement::World(decl) => self.world_decl(decl),
+            TypeStatement::Ty(decl) => self.type_decl(decl),
+        }
+    }
+
+    /// Prints an import.
+    pub fn import_statement(&mut self, statement: &ImportStatement<'_>) -> PrintResult
+        requires { ImportStatementSliced self.old.source (import_statement_of statement.now) }
+        ensures { Prints self.old result self.new (import_statement_layout self.old.depth (bare_import_statement doc_lines self.old.source (import_statement_of statement.now))) }
+    {
+        self.docs(&statement.docs)?;
+        self.head("import", &statement.id)?;
+        self.import_name(&statement.name)?;
+        self.token(":")?;
+        self.blank(" ")?;
+        self.import_type(&statement.ty)?;
+        self.token(";")
+    }
+
+    fn import_name(&mut self, name: &Option<ExternName<'_>>) -> PrintResult
+        requires { IfThere ExternNameSliced self.old.source (option_map extern_name_of name.now) }
+        ensures { Prints self.old result self.new (import_name_layout (option_map (bare_extern_name self.old.source) (option_map extern_name_of name.now))) }
+    {
+        match name {
+            None => self.ready(),
+            Some(name) => self.renamed(name),
+        }
+    }
+
+    fn renamed(&mut self, name: &ExternName<'_>) -> PrintResult
+        requires { ExternNameSliced self.old.source (extern_name_of name.now) }
+        ensures { Prints self.old result self.new (renamed_layout (bare_extern_name self.old.source (extern_name_of name.now))) }
+    {
+        self.blank(" ")?;
+        self.token("as")?;
+        self.blank(" ")?;
+        self.extern_name(name)
+    }
+
+    /// Prints the type of an import.
+    pub fn import_type(&mut self, ty: &ImportType<'_>) -> PrintResult
+        requires { ImportTypeSliced self.old.source (import_type_of ty.now) }
+        ensures { Prints self.old result self.new (import_type_layout self.old.depth (bare_import_type doc_lines self.old.source (import_type_of ty.now))) }
+    {
+        match ty {
+            ImportType::Package(path) => self.package_path(path),
+            ImportType::Func(ty) => self.func_type(ty),
+            ImportType::Interface(interface) => self.inline_interface(interface),
+            ImportType::Ident(id) => self.ident(id),
+        }
+    }
+
+    /// Prints a `let`.
+    pub fn let_statement(&mut self, statement: &LetStatement<'_>) -> PrintResult
+        requires { LetStatementSliced self.old.source (let_statement_of statement.now) }
+        ensures { Prints self.old result self.new (let_statement_layout self.old.depth (bare_let_statement doc_lines self.old.source (let_statement_of statement.now))) }
+    {
+        self.docs(&statement.docs)?;
+        self.head("let", &statement.id)?;
+        self.blank(" ")?;
+        self.token("=")?;
+        self.blank(" ")?;
+        self.expr(&statement.expr)?;
+        self.token(";")
+    }
+
+    /// Prints an export.
+    pub fn export_statement(&mut self, statement: &ExportStatement<'_>) -> PrintResult
+        requires { ExportStatementSliced self.old.source (export_statement_of statement.now) }
+        ensures { Prints self.old result self.new (export_statement_layout self.old.depth (bare_export_statement doc_lines self.old.source (export_statement_of statement.now))) }
+    {
+        self.docs(&statement.docs)?;
+        self.line()?;
+        self.token("export")?;
+        self.blank(" ")?;
+        self.expr(&statement.expr)?;
+        self.export_options(&statement.options)?;
+        self.token(";")
+    }
+
+    fn export_options(&mut self, options: &ExportOptions<'_>) -> PrintResult
+        requires { ExportOptionsSliced self.old.source (export_options_of options.now) }
+        ensures { Prints self.old result self.new (export_options_layout (bare_export_options self.old.source (export_options_of options.now))) }
+    {
+        match options {
+            ExportOptions::None => self.ready(),
+            ExportOptions::Spread(_) => self.token("..."),
+            ExportOptions::Rename(name) => self.renamed(name),
+        }
+    }
+}

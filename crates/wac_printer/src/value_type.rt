@@ -1,0 +1,272 @@
+//! Printing types.
+ghost use Rattle.std.specs.Prelude.{◌≡◌, List, [], ◌∷◌, ◌++◌, codes, map};
+ghost use Rattle.std.specs.List.{All, flat_map};
+ghost use Rattle.wac_ast.specs.Views.{extern_name_of, ident_of};
+ghost use Rattle.wac_ast.specs.Declarations.{func_type_of, func_type_ref_of, named_type_of, result_list_of};
+ghost use Rattle.wac_ast.specs.Types.{ty_of};
+ghost use Rattle.wac_layout.specs.Printed.{token};
+ghost use Rattle.wac_printer.specs.Printed.{Prints};
+ghost use Rattle.wac_printer.specs.Sliced.{IdentSliced, ExternNameSliced, FuncTypeRefSliced, FuncTypeSliced, NamedTypeSliced, ResultListSliced, TySliced};
+ghost use Rattle.wac_layout.specs.Bare.{bare_extern_name, bare_func_type, bare_func_type_ref, bare_named_type, bare_result_list, bare_ty};
+ghost use Rattle.wac_lexer.specs.Reading.{slice};
+ghost use Rattle.wac_layout.specs.Parts.{space, joined};
+ghost use Rattle.wac_layout.specs.TypeLayout.{async_layout, extern_name_layout, func_type_layout, func_type_ref_layout, named_type_layout, params_layout, results_layout, ty_layout};
+
+use crate::error::PrintResult;
+use crate::lists::Node;
+use crate::printer::DocumentPrinter;
+use wac_ast::{ExternName, FuncType, FuncTypeRef, Ident, NamedType, ResultList, Type};
+use wac_lexer::Sink;
+
+impl Node for NamedType<'_> {
+    ghost layout = { λ source depth x. named_type_layout (bare_named_type source (named_type_of x)) };
+
+    ghost sliced = { λ source x. NamedTypeSliced source (named_type_of x) };
+
+    fn print<S: Sink>(&self, printer: &mut DocumentPrinter<'_, S>) -> PrintResult {
+        printer.named_type(self)
+    }
+}
+
+#[tactic(auto, using(crate::proofs::Steps::lists))]
+impl<'a, S: Sink> DocumentPrinter<'a, S> {
+    pub(crate) fn extern_name(&mut self, name: &ExternName<'_>) -> PrintResult
+        requires { ExternNameSliced self.old.source (extern_name_of name.now) }
+        ensures { Prints self.old result self.new (extern_name_layout (bare_extern_name self.old.source (extern_name_of name.now))) }
+    {
+        match name {
+            ExternName::Ident(id) => self.ident(id),
+            ExternName::String(string) => self.string(string),
+        }
+    }
+
+    /// Prints a function type: `async func(x: u8) -> u8`.
+    pub fn func_type(&mut self, ty: &FuncType<'_>) -> PrintResult
+        requires { FuncTypeSliced self.old.source (func_type_of ty.now) }
+        ensures { Prints self.old result self.new (func_type_layout (bare_func_type self.old.source (func_type_of ty.now))) }
+    {
+        self.async_keyword(ty.is_async)?;
+        self.token("func")?;
+        self.params(&ty.params)?;
+        self.result_list(&ty.results)
+    }
+
+    /// Prints a function type, or the name of one.
+    pub fn func_type_ref(&mut self, ty: &FuncTypeRef<'_>) -> PrintResult
+        requires { FuncTypeRefSliced self.old.source (func_type_ref_of ty.now) }
+        ensures { Prints self.old result self.new (func_type_ref_layout (bare_func_type_ref self.old.source (func_type_ref_of ty.now))) }
+    {
+        match ty {
+            FuncTypeRef::Func(ty) => self.func_type(ty),
+            FuncTypeRef::Ident(id) => self.ident(id),
+        }
+    }
+
+    fn async_keyword(&mut self, is_async: bool) -> PrintResult
+        ensures { Prints self.old result self.new (async_layout is_async) }
+    {
+        if is_async {
+            self.token("async")?;
+            self.blank(" ")
+        } else {
+            self.ready()
+        }
+    }
+
+    /// Prints parameters in parentheses.
+    pub(crate) fn params(&mut self, params: &[NamedType<'_>]) -> PrintResult
+        requires { All (NamedTypeSliced self.old.source) (map named_type_of params.now) }
+        ensures { Prints self.old result self.new (params_layout (map (bare_named_type self.old.source) (map named_type_of params.now))) }
+    {
+        self.token("(")?;
+        self.joined(params)?;
+        self.token(")")
+    }
+
+    fn named_type(&mut self, named: &NamedType<'_>) -> PrintResult
+        requires { NamedTypeSliced self.old.source (named_type_of named.now) }
+        ensures { Prints self.old result self.new (named_type_layout (bare_named_type self.old.source (named_type_of named.now))) }
+    {
+        self.ident(&named.id)?;
+        self.token(":")?;
+        self.blank(" ")?;
+        self.ty(&named.ty)
+    }
+
+    fn result_list(&mut self, results: &ResultList<'_>) -> PrintResult
+        requires { ResultListSliced self.old.source (result_list_of results.now) }
+        ensures { Prints self.old result self.new (results_layout (bare_result_list self.old.source (result_list_of results.now))) }
+    {
+        match results {
+            ResultList::Empty => self.ready(),
+            ResultList::Scalar(ty) => {
+                self.blank(" ")?;
+                self.token("->")?;
+                self.blank(" ")?;
+                self.ty(ty)
+            }
+        }
+    }
+}
+
+#[tactic(auto, using(crate::proofs::Steps::steps))]
+impl<'a, S: Sink> DocumentPrinter<'a, S> {
+    /// Prints a type.
+    #[cycle(ty)]
+    pub fn ty(&mut self, ty: &Type<'_>) -> PrintResult
+        requires { TySliced self.old.source (ty_of ty.now) }
+        ensures { Prints self.old result self.new (ty_layout (bare_ty self.old.source (ty_of ty.now))) }
+    {
+        match ty {
+            Type::U8(_) => self.token("u8"),
+            Type::S8(_) => self.token("s8"),
+            Type::U16(_) => self.token("u16"),
+            Type::S16(_) => self.token("s16"),
+            Type::U32(_) => self.token("u32"),
+            Type::S32(_) => self.token("s32"),
+            Type::U64(_) => self.token("u64"),
+            Type::S64(_) => self.token("s64"),
+            Type::F32(_) => self.token("f32"),
+            Type::F64(_) => self.token("f64"),
+            Type::Char(_) => self.token("char"),
+            Type::Bool(_) => self.token("bool"),
+            Type::String(_) => self.token("string"),
+            Type::Tuple(types, _) => self.tuple(types),
+            Type::List(ty, _) => self.bracketed("list", ty),
+            Type::Option(ty, _) => self.bracketed("option", ty),
+            Type::Result { ok, err, .. } => match ok {
+                None => match err {
+                    None => self.token("result"),
+                    Some(err) => self.failing(err),
+                },
+                Some(ok) => match err {
+                    None => self.bracketed("result", ok),
+                    Some(err) => {
+                        self.first_side(ok)?;
+                        self.second_side(err)
+                    }
+                },
+            },
+            Type::Borrow(id, _) => self.borrowed(id),
+            Type::Stream(ty, _) => match ty {
+                None => self.token("stream"),
+                Some(ty) => self.bracketed("stream", ty),
+            },
+            Type::Future(ty, _) => match ty {
+                None => self.token("future"),
+                Some(ty) => self.bracketed("future", ty),
+            },
+            Type::ErrorContext(_) => self.token("error-context"),
+            Type::Ident(id) => self.ident(id),
+        }
+    }
+
+    /// Prints a keyword and a type in angle brackets.
+    #[cycle(ty)]
+    fn bracketed(&mut self, keyword: &str, ty: &Type<'_>) -> PrintResult
+        requires { TySliced self.old.source (ty_of ty.now) }
+        ensures { Prints self.old result self.new (token keyword.now ∷ token (codes "<") ∷ (ty_layout (bare_ty self.old.source (ty_of ty.now)) ++ token (codes ">") ∷ [])) }
+    {
+        self.token(keyword)?;
+        self.token("<")?;
+        self.ty(ty)?;
+        self.token(">")
+    }
+
+    /// Prints a result that has only the type of what fails.
+    #[cycle(ty)]
+    fn failing(&mut self, err: &Type<'_>) -> PrintResult
+        requires { TySliced self.old.source (ty_of err.now) }
+        ensures { Prints self.old result self.new (token (codes "result") ∷ token (codes "<") ∷ token (codes "_") ∷ token (codes ",") ∷ space ∷ (ty_layout (bare_ty self.old.source (ty_of err.now)) ++ token (codes ">") ∷ [])) }
+    {
+        self.token("result")?;
+        self.token("<")?;
+        self.token("_")?;
+        self.token(",")?;
+        self.blank(" ")?;
+        self.ty(err)?;
+        self.token(">")
+    }
+
+    /// Prints the first half of a result that has both types.
+    #[cycle(ty)]
+    fn first_side(&mut self, ok: &Type<'_>) -> PrintResult
+        requires { TySliced self.old.source (ty_of ok.now) }
+        ensures { Prints self.old result self.new (token (codes "result") ∷ token (codes "<") ∷ ty_layout (bare_ty self.old.source (ty_of ok.now))) }
+    {
+        self.token("result")?;
+        self.token("<")?;
+        self.ty(ok)
+    }
+
+    /// Prints the second half of a result that has both types.
+    #[cycle(ty)]
+    fn second_side(&mut self, err: &Type<'_>) -> PrintResult
+        requires { TySliced self.old.source (ty_of err.now) }
+        ensures { Prints self.old result self.new (token (codes ",") ∷ space ∷ (ty_layout (bare_ty self.old.source (ty_of err.now)) ++ token (codes ">") ∷ [])) }
+    {
+        self.token(",")?;
+        self.blank(" ")?;
+        self.ty(err)?;
+        self.token(">")
+    }
+
+    /// Prints a tuple of types.
+    #[cycle(ty)]
+    fn tuple(&mut self, types: &[Type<'_>]) -> PrintResult
+        requires { All (λ x. TySliced self.old.source (ty_of x)) types.now }
+        ensures { Prints self.old result self.new (token (codes "tuple") ∷ token (codes "<") ∷ (joined (λ x. ty_layout (bare_ty self.old.source (ty_of x))) types.now ++ token (codes ">") ∷ [])) }
+    {
+        self.token("tuple")?;
+        self.token("<")?;
+        self.types(types)?;
+        self.token(">")
+    }
+
+    /// Prints types joined by a comma and a blank.
+    #[cycle(ty)]
+    fn types(&mut self, types: &[Type<'_>]) -> PrintResult
+        requires { All (λ x. TySliced self.old.source (ty_of x)) types.now }
+        ensures { Prints self.old result self.new (joined (λ x. ty_layout (bare_ty self.old.source (ty_of x))) types.now) }
+    {
+        match types.split_first() {
+            None => self.ready(),
+            Some((first, rest)) => {
+                self.ty(first)?;
+                self.further_types(rest)
+            }
+        }
+    }
+
+    #[cycle(ty)]
+    fn further_types(&mut self, types: &[Type<'_>]) -> PrintResult
+        requires { All (λ x. TySliced self.old.source (ty_of x)) types.now }
+        ensures { Prints self.old result self.new (flat_map (λ x. (token (codes ",") ∷ space ∷ []) ++ ty_layout (bare_ty self.old.source (ty_of x))) types.now) }
+    {
+        self.ready()?;
+        for ty in types {
+            self.further_type(ty)?;
+        }
+        Ok(())
+    }
+
+    #[cycle(ty)]
+    fn further_type(&mut self, ty: &Type<'_>) -> PrintResult
+        requires { TySliced self.old.source (ty_of ty.now) }
+        ensures { Prints self.old result self.new ((token (codes ",") ∷ space ∷ []) ++ ty_layout (bare_ty self.old.source (ty_of ty.now))) }
+    {
+        self.token(",")?;
+        self.blank(" ")?;
+        self.ty(ty)
+    }
+
+    fn borrowed(&mut self, id: &Ident<'_>) -> PrintResult
+        requires { IdentSliced self.old.source (ident_of id.now) }
+        ensures { Prints self.old result self.new (token (codes "borrow") ∷ token (codes "<") ∷ token (slice self.old.source id.now.span) ∷ token (codes ">") ∷ []) }
+    {
+        self.token("borrow")?;
+        self.token("<")?;
+        self.ident(id)?;
+        self.token(">")
+    }
+}

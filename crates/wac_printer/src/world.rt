@@ -1,0 +1,197 @@
+//! Printing worlds.
+ghost use Rattle.std.specs.Prelude.{◌≡◌, List, ◌∷◌, codes, map};
+ghost use Rattle.std.specs.List.{All};
+ghost use Rattle.wac_ast.specs.Interfaces.{extern_type_of, named_world_item_of, world_decl_of, world_export_of, world_import_of, world_include_of, world_item_of, world_item_path_of};
+ghost use Rattle.wac_ast.specs.Views.{world_include_item_of, world_ref_of};
+ghost use Rattle.wac_layout.specs.Printed.{token};
+ghost use Rattle.wac_printer.specs.Printed.{Prints};
+ghost use Rattle.wac_printer.specs.Sliced.{ExternTypeSliced, NamedWorldItemSliced, WorldDeclSliced, WorldExportSliced, WorldImportSliced, WorldIncludeItemSliced, WorldIncludeSliced, WorldItemPathSliced, WorldItemSliced, WorldRefSliced};
+ghost use Rattle.wac_layout.specs.Bare.{bare_extern_type, bare_named_world_item, bare_world_decl, bare_world_export, bare_world_import, bare_world_include, bare_world_include_item, bare_world_item, bare_world_item_path, bare_world_ref, doc_lines};
+ghost use Rattle.wac_layout.specs.Parts.{space, rows, body};
+ghost use Rattle.wac_layout.specs.WorldLayout.{extern_type_layout, named_world_item_layout, with_layout, world_decl_layout, world_export_layout, world_import_layout, world_include_item_layout, world_include_layout, world_item_layout, world_item_path_layout, world_ref_layout};
+
+use crate::error::PrintResult;
+use crate::lists::Node;
+use crate::printer::DocumentPrinter;
+use wac_ast::{
+    ExternType, NamedWorldItem, WorldDecl, WorldExport, WorldImport, WorldInclude,
+    WorldIncludeItem, WorldItem, WorldItemPath, WorldRef,
+};
+use wac_lexer::Sink;
+
+impl Node for WorldItem<'_> {
+    ghost layout = { λ source depth x. world_item_layout depth (bare_world_item doc_lines source (world_item_of x)) };
+
+    ghost sliced = { λ source x. WorldItemSliced source (world_item_of x) };
+
+    fn print<S: Sink>(&self, printer: &mut DocumentPrinter<'_, S>) -> PrintResult {
+        printer.world_item(self)
+    }
+}
+
+impl Node for WorldIncludeItem<'_> {
+    ghost layout = { λ source depth x. world_include_item_layout depth (bare_world_include_item source (world_include_item_of x)) };
+
+    ghost sliced = { λ source x. WorldIncludeItemSliced source (world_include_item_of x) };
+
+    fn print<S: Sink>(&self, printer: &mut DocumentPrinter<'_, S>) -> PrintResult {
+        printer.world_include_item(self)
+    }
+}
+
+fn items_of<'t, 'a>(decl: &'t WorldDecl<'a>) -> &'t [WorldItem<'a>]
+    ensures { result.now ≡ decl.now.items.items }
+{
+    &decl.items
+}
+
+#[tactic(auto, using(crate::proofs::Steps::lists))]
+impl<'a, S: Sink> DocumentPrinter<'a, S> {
+    /// Prints a world.
+    pub fn world_decl(&mut self, decl: &WorldDecl<'_>) -> PrintResult
+        requires { WorldDeclSliced self.old.source (world_decl_of decl.now) }
+        ensures { Prints self.old result self.new (world_decl_layout self.old.depth (bare_world_decl doc_lines self.old.source (world_decl_of decl.now))) }
+    {
+        self.docs(&decl.docs)?;
+        self.head("world", &decl.id)?;
+        self.world_items(items_of(decl))
+    }
+
+    fn world_items(&mut self, items: &[WorldItem<'_>]) -> PrintResult
+        requires { All (WorldItemSliced self.old.source) (map world_item_of items.now) }
+        ensures { Prints self.old result self.new (body world_item_layout self.old.depth (map (bare_world_item doc_lines self.old.source) (map world_item_of items.now))) }
+    {
+        self.body(items)
+    }
+
+    /// Prints an item of a world.
+    pub fn world_item(&mut self, item: &WorldItem<'_>) -> PrintResult
+        requires { WorldItemSliced self.old.source (world_item_of item.now) }
+        ensures { Prints self.old result self.new (world_item_layout self.old.depth (bare_world_item doc_lines self.old.source (world_item_of item.now))) }
+    {
+        match item {
+            WorldItem::Use(decl) => self.use_type(decl),
+            WorldItem::Ty(decl) => self.item_type_decl(decl),
+            WorldItem::Import(import) => self.world_import(import),
+            WorldItem::Export(export) => self.world_export(export),
+            WorldItem::Include(include) => self.world_include(include),
+        }
+    }
+
+    /// Prints an import of a world.
+    pub fn world_import(&mut self, import: &WorldImport<'_>) -> PrintResult
+        requires { WorldImportSliced self.old.source (world_import_of import.now) }
+        ensures { Prints self.old result self.new (world_import_layout self.old.depth (bare_world_import doc_lines self.old.source (world_import_of import.now))) }
+    {
+        self.docs(&import.docs)?;
+        self.line()?;
+        self.token("import")?;
+        self.blank(" ")?;
+        self.world_item_path(&import.path)?;
+        self.token(";")
+    }
+
+    /// Prints an export of a world.
+    pub fn world_export(&mut self, export: &WorldExport<'_>) -> PrintResult
+        requires { WorldExportSliced self.old.source (world_export_of export.now) }
+        ensures { Prints self.old result self.new (world_export_layout self.old.depth (bare_world_export doc_lines self.old.source (world_export_of export.now))) }
+    {
+        self.docs(&export.docs)?;
+        self.line()?;
+        self.token("export")?;
+        self.blank(" ")?;
+        self.world_item_path(&export.path)?;
+        self.token(";")
+    }
+
+    /// Prints what a world imports or exports.
+    pub fn world_item_path(&mut self, path: &WorldItemPath<'_>) -> PrintResult
+        requires { WorldItemPathSliced self.old.source (world_item_path_of path.now) }
+        ensures { Prints self.old result self.new (world_item_path_layout self.old.depth (bare_world_item_path doc_lines self.old.source (world_item_path_of path.now))) }
+    {
+        match path {
+            WorldItemPath::Named(item) => self.named_world_item(item),
+            WorldItemPath::Package(path) => self.package_path(path),
+            WorldItemPath::Ident(id) => self.ident(id),
+        }
+    }
+
+    /// Prints a name with its type: `f: func()`.
+    pub fn named_world_item(&mut self, item: &NamedWorldItem<'_>) -> PrintResult
+        requires { NamedWorldItemSliced self.old.source (named_world_item_of item.now) }
+        ensures { Prints self.old result self.new (named_world_item_layout self.old.depth (bare_named_world_item doc_lines self.old.source (named_world_item_of item.now))) }
+    {
+        self.ident(&item.id)?;
+        self.token(":")?;
+        self.blank(" ")?;
+        self.extern_type(&item.ty)
+    }
+
+    /// Prints the type of an item of a world.
+    pub fn extern_type(&mut self, ty: &ExternType<'_>) -> PrintResult
+        requires { ExternTypeSliced self.old.source (extern_type_of ty.now) }
+        ensures { Prints self.old result self.new (extern_type_layout self.old.depth (bare_extern_type doc_lines self.old.source (extern_type_of ty.now))) }
+    {
+        match ty {
+            ExternType::Ident(id) => self.ident(id),
+            ExternType::Func(ty) => self.func_type(ty),
+            ExternType::Interface(interface) => self.inline_interface(interface),
+        }
+    }
+
+    /// Prints an `include`, with the names that change, if there are any.
+    pub fn world_include(&mut self, include: &WorldInclude<'_>) -> PrintResult
+        requires { WorldIncludeSliced self.old.source (world_include_of include.now) }
+        ensures { Prints self.old result self.new (world_include_layout self.old.depth (bare_world_include doc_lines self.old.source (world_include_of include.now))) }
+    {
+        self.docs(&include.docs)?;
+        self.line()?;
+        self.token("include")?;
+        self.blank(" ")?;
+        self.world_ref(&include.world)?;
+        self.with_items(&include.with)?;
+        self.token(";")
+    }
+
+    /// Prints the world that is included.
+    pub fn world_ref(&mut self, world: &WorldRef<'_>) -> PrintResult
+        requires { WorldRefSliced self.old.source (world_ref_of world.now) }
+        ensures { Prints self.old result self.new (world_ref_layout (bare_world_ref self.old.source (world_ref_of world.now))) }
+    {
+        match world {
+            WorldRef::Ident(id) => self.ident(id),
+            WorldRef::Package(path) => self.package_path(path),
+        }
+    }
+
+    fn with_items(&mut self, items: &[WorldIncludeItem<'_>]) -> PrintResult
+        requires { All (WorldIncludeItemSliced self.old.source) (map world_include_item_of items.now) }
+        ensures { Prints self.old result self.new (with_layout self.old.depth (map (bare_world_include_item self.old.source) (map world_include_item_of items.now))) }
+    {
+        if items.is_empty() {
+            return self.ready();
+        }
+        self.with_rows(items)
+    }
+
+    fn with_rows(&mut self, items: &[WorldIncludeItem<'_>]) -> PrintResult
+        requires { All (WorldIncludeItemSliced self.old.source) (map world_include_item_of items.now) }
+        ensures { Prints self.old result self.new (space ∷ token (codes "with") ∷ rows world_include_item_layout self.old.depth (map (bare_world_include_item self.old.source) (map world_include_item_of items.now))) }
+    {
+        self.blank(" ")?;
+        self.token("with")?;
+        self.rows(items)
+    }
+
+    fn world_include_item(&mut self, item: &WorldIncludeItem<'_>) -> PrintResult
+        requires { WorldIncludeItemSliced self.old.source (world_include_item_of item.now) }
+        ensures { Prints self.old result self.new (world_include_item_layout self.old.depth (bare_world_include_item self.old.source (world_include_item_of item.now))) }
+    {
+        self.line()?;
+        self.ident(&item.from)?;
+        self.blank(" ")?;
+        self.token("as")?;
+        self.blank(" ")?;
+        self.ident(&item.to)
+    }
+}

@@ -1,0 +1,205 @@
+//! Texts that are no documents: what each is refused for, and where.
+
+use std::alloc::Global;
+use std::process::Abort;
+use std::test::Fail;
+use wac_parser::{Document, Error};
+
+/// A text, what is told of it, and where, in bytes.
+type Row = (&'static str, &'static str, usize, usize);
+
+/// Texts that are refused at a token.
+const AT_TOKENS: [Row; 13] = [
+    (
+        "package a:b; record r { x:u32 }",
+        "expected `}` or identifier, found package name",
+        24,
+        5,
+    ),
+    (
+        "package a:b; let x = new c:d { \"e\" };",
+        "expected identifier, found string literal",
+        31,
+        3,
+    ),
+    (
+        "package a:b; let x = new c:d { ...; };",
+        "expected identifier, found `;`",
+        34,
+        1,
+    ),
+    (
+        "package a:b;;",
+        "expected either `import` keyword, `let` keyword, `export` keyword, `interface` keyword, `world` keyword, `variant` keyword, `record` keyword, `flags` keyword, `enum` keyword, or `type` keyword, found `;`",
+        12,
+        1,
+    ),
+    (
+        "package a:b; world w { ;",
+        "expected either `}`, `use` keyword, `import` keyword, `export` keyword, `include` keyword, `resource` keyword, `variant` keyword, `record` keyword, `flags` keyword, `enum` keyword, or more..., found `;`",
+        23,
+        1,
+    ),
+    (
+        "package a:b; world w { import f func(); }",
+        "expected `;`, found `func` keyword",
+        32,
+        4,
+    ),
+    (
+        "package a:b; record r { , }",
+        "expected `}` or identifier, found `,`",
+        24,
+        1,
+    ),
+    (
+        "package a:b; flags f { a,, }",
+        "expected `}` or identifier, found `,`",
+        25,
+        1,
+    ),
+    (
+        "package a:b; enum e { a b }",
+        "expected `,`, found identifier",
+        24,
+        1,
+    ),
+    (
+        "package a:b; type t = stream<u8;",
+        "expected `>`, found `;`",
+        31,
+        1,
+    ),
+    (
+        "package a:b; export x as;",
+        "expected identifier or string literal, found `;`",
+        24,
+        1,
+    ),
+    (
+        "package a:b; interface i { use j.k; }",
+        "expected `{`, found identifier",
+        33,
+        1,
+    ),
+    (
+        "package a:b; interface i { resource r { f: static; } }",
+        "expected `func` keyword, found `;`",
+        49,
+        1,
+    ),
+];
+
+/// Texts that are refused at their end.
+const AT_THE_END: [Row; 3] = [
+    (
+        "package a:b; record r { x: u32",
+        "expected `}` or identifier, found end of input",
+        26,
+        1,
+    ),
+    (
+        "package a:b; let x = new c:d { \"e\"",
+        "expected identifier, found string literal",
+        31,
+        3,
+    ),
+    (
+        "package a:b; import x: interface {",
+        "expected either `}`, `use` keyword, identifier, `resource` keyword, `variant` keyword, `record` keyword, `flags` keyword, `enum` keyword, or `type` keyword, found end of input",
+        32,
+        1,
+    ),
+];
+
+/// Bodies without an item.
+const EMPTY: [Row; 4] = [
+    (
+        "package a:b; variant v {}",
+        "variant must contain at least one case",
+        24,
+        1,
+    ),
+    (
+        "package a:b; record r { }",
+        "record must contain at least one field",
+        24,
+        1,
+    ),
+    (
+        "package a:b; flags f {}",
+        "flags must contain at least one flag",
+        22,
+        1,
+    ),
+    (
+        "package a:b; enum e {}",
+        "enum must contain at least one case",
+        21,
+        1,
+    ),
+];
+
+/// Versions that are none.
+const VERSIONS: [Row; 2] = [
+    (
+        "package a:b targets c:d/e@1.0;",
+        "`1.0` is not a valid semantic version",
+        26,
+        3,
+    ),
+    (
+        "package a:b; import x: c:d/e@1;",
+        "`1` is not a valid semantic version",
+        29,
+        1,
+    ),
+];
+
+/// Where an error stands, in bytes, unless memory ran out.
+fn place(error: &Error) -> Option<(usize, usize)> {
+    let span = match error {
+        Error::Lexer { span, .. }
+        | Error::Expected { span, .. }
+        | Error::ExpectedEither { span, .. }
+        | Error::ExpectedMultiple { span, .. }
+        | Error::EmptyType { span, .. }
+        | Error::InvalidVersion { span, .. } => span,
+        Error::Memory(_) => return None,
+    };
+    Some((span.offset(), span.len()))
+}
+
+/// Asserts that each text is refused as its row tells.
+fn are_refused(rt: &impl Abort, alloc: Global, rows: &[Row]) -> Result<(), Fail> {
+    for (source, text, offset, len) in rows {
+        match Document::parse(alloc, source) {
+            Ok(_) => panic!(rt; "{source} has a tree"),
+            Err(error) => {
+                assert_eq!(rt; error.to_string(alloc)?.as_str(), *text, "of {source}");
+                assert_eq!(rt; place(&error), Some((*offset, *len)), "of {source}");
+            }
+        }
+    }
+    Ok(())
+}
+
+#[test]
+fn tokens_are_told(rt: HostRuntime) -> Result<(), Fail> {
+    are_refused(&rt, rt.alloc(), &AT_TOKENS)
+}
+
+#[test]
+fn ends_are_told(rt: HostRuntime) -> Result<(), Fail> {
+    are_refused(&rt, rt.alloc(), &AT_THE_END)
+}
+
+#[test]
+fn empty_bodies_are_told(rt: HostRuntime) -> Result<(), Fail> {
+    are_refused(&rt, rt.alloc(), &EMPTY)
+}
+
+#[test]
+fn versions_are_told(rt: HostRuntime) -> Result<(), Fail> {
+    are_refused(&rt, rt.alloc(), &VERSIONS)
+}
