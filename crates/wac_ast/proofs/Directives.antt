@@ -2,15 +2,15 @@
 use Rattle.std.proofs.Common.{◌≡◌, true, false, List, [], Ok, subst}
 use Rattle.wac_lexer.specs.Item.{Item}
 use Rattle.wac_lexer.specs.declared.token.Token.TheVariants as k
-use Rattle.wac_ast.specs.declared.error.Error.{Error}
-use Rattle.wac_ast.specs.Tree.{PackageName, PackagePath}
-use Rattle.wac_ast.specs.Grammar.{directive, package_name, package_path}
-use Rattle.wac_ast.specs.Tokens.{at}
-use Rattle.wac_ast.specs.Reading.{read, read_token, not_fault}
-use Rattle.wac_ast.specs.Answer.{End, Fails}
-use Rattle.wac_ast.proofs.Fixed.{read_is}
-use Rattle.wac_ast.proofs.Loops.{fails_bind}
-use Rattle.wac_ast.proofs.Lookaheads.{one_test}
+use Rattle.wac_syntax.specs.declared.error.Error.{Error}
+use Rattle.wac_grammar.specs.Tree.{PackageName, PackagePath}
+use Rattle.wac_grammar.specs.Grammar.{directive, package_name, package_path}
+use Rattle.wac_grammar.specs.Tokens.{at}
+use Rattle.wac_grammar.specs.Reading.{read, read_token, not_fault}
+use Rattle.wac_syntax.specs.Answer.{End, Fails}
+use Rattle.wac_grammar.proofs.Fixed.{read_is}
+use Rattle.wac_syntax.proofs.Loops.{fails_bind}
+use Rattle.wac_syntax.proofs.Lookaheads.{one_test}
 
 -- what fails behind a target
 pub targeted_fails : (xs : List Item) (a : Item) (ys : List Item) (name : PackageName) (zs : List Item) (b : Item) (us : List Item) (path : PackagePath) (vs : List Item) → read_token [] k.PackageKeyword xs ≡ Ok (a, ys) → read package_name ys ≡ Ok (name, zs)

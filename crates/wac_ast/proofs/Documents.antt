@@ -9,30 +9,31 @@ use Rattle.wac_lexer.specs.Characters.{refused}
 use Rattle.wac_lexer.specs.declared.token.Token.{Token}
 use Rattle.wac_lexer.specs.declared.token.Token.TheVariants as t
 use Rattle.wac_lexer.specs.declared.error.Error.{Error as Fault}
-use Rattle.wac_ast.specs.Tokens.{is_token, at}
-use Rattle.wac_ast.specs.Tree.{Document}
-use Rattle.wac_ast.specs.Grammar.{Body, document, Derives}
-use Rattle.wac_ast.specs.Reading.{Standing, at_once, closing, behind_comma, Tried, can, Stop, Why, other, version, empty_body, told as told_of_item, before, read}
-use Rattle.wac_ast.specs.Viable.{Viable}
-use Rattle.wac_ast.specs.Possible.{same_standing, named}
-use Rattle.wac_ast.specs.Bodies.{Opens}
-use Rattle.wac_ast.specs.Stopped.{Fault as IsFault, CanStand, Stands}
-use Rattle.wac_ast.specs.declared.error.Error.{Error}
-use Rattle.wac_ast.specs.declared.error.Error.TheVariants as errors
-use Rattle.wac_ast.specs.Error.{Told, told_by, faulty, empty_type, no_memory, places, expected}
-use Rattle.wac_ast.specs.Lookahead.{kept_in, refusal}
-use Rattle.wac_ast.specs.Answer.{end_span, body_name, part_name, version_told, told_at, told, told_in}
-use Rattle.wac_ast.specs.Document.{IsTreeOf, FirstFault, Expects, AllExpected, Finds, Holds, Tells, ErrorOf, end_of_text, Parses}
-use Rattle.wac_ast.proofs.Tables.{same_token}
-use Rattle.wac_ast.proofs.Complete.{complete, tree_or}
-use Rattle.wac_ast.proofs.Sound.{sound}
-use Rattle.wac_ast.proofs.Completed.{same_is, self_token}
-use Rattle.wac_ast.proofs.Bodies.{empty_exactly, closes_body}
-use Rattle.wac_ast.specs.Arguments.{EndsWithArgument}
-use Rattle.wac_ast.proofs.Strings.{is_told, told_exactly}
-use Rattle.wac_ast.proofs.Reasons.{Reason, reason}
-use Rattle.wac_ast.proofs.Refused.{stopped, no_such}
-use Rattle.wac_ast.proofs.Local.{Seen}
+use Rattle.wac_grammar.specs.Tokens.{is_token, at}
+use Rattle.wac_grammar.specs.Tree.{Document}
+use Rattle.wac_grammar.specs.Grammar.{Body, document, Derives}
+use Rattle.wac_grammar.specs.Reading.{Standing, at_once, closing, behind_comma, Tried, can, Stop, Why, other, version, empty_body, told as told_of_item, before, read}
+use Rattle.wac_grammar.specs.Viable.{Viable}
+use Rattle.wac_grammar.specs.Possible.{same_standing, named}
+use Rattle.wac_grammar.specs.Bodies.{Opens}
+use Rattle.wac_grammar.specs.Stopped.{Fault as IsFault, CanStand, Stands}
+use Rattle.wac_syntax.specs.declared.error.Error.{Error}
+use Rattle.wac_syntax.specs.declared.error.Error.TheVariants as errors
+use Rattle.wac_syntax.specs.Error.{Told, told_by, faulty, empty_type, no_memory, places, expected}
+use Rattle.wac_syntax.specs.Lookahead.{kept_in, refusal}
+use Rattle.wac_syntax.specs.Answer.{end_span, body_name, part_name, version_told, told_at, told, told_in}
+use Rattle.wac_grammar.specs.TextTree.{IsTreeOf}
+use Rattle.wac_ast.specs.Document.{FirstFault, Expects, AllExpected, Finds, Holds, Tells, ErrorOf, end_of_text, Parses}
+use Rattle.wac_grammar.proofs.Tables.{same_token}
+use Rattle.wac_grammar.proofs.Complete.{complete, tree_or}
+use Rattle.wac_grammar.proofs.Sound.{sound}
+use Rattle.wac_grammar.proofs.Completed.{same_is, self_token}
+use Rattle.wac_grammar.proofs.Bodies.{empty_exactly, closes_body}
+use Rattle.wac_grammar.specs.Arguments.{EndsWithArgument}
+use Rattle.wac_grammar.proofs.Strings.{is_told, told_exactly}
+use Rattle.wac_grammar.proofs.Reasons.{Reason, reason}
+use Rattle.wac_grammar.proofs.Refused.{stopped, no_such}
+use Rattle.wac_grammar.proofs.Local.{Seen}
 
 -- ---- the tokens that are named
 

@@ -2,15 +2,15 @@
 use Rattle.std.proofs.Common.{◌≡◌, ◌≤◌, ℕ, List, [], ◌∷◌, Option, Some, None, Result, Ok, Err, Bool, true, false, refl, sym, ap, subst, ◌∙◌, ◌⊎◌, inl, inr}
 use Rattle.std.specs.Prelude.{OnOk}
 use Rattle.wac_lexer.specs.Span.{Span, span}
-use Rattle.wac_lexer.specs.Item.{Item, Doc, OnFirst, handed}
+use Rattle.wac_lexer.specs.Item.{Item}
 use Rattle.wac_lexer.specs.Items.{items}
 use Rattle.wac_lexer.specs.Characters.{refused}
 use Rattle.wac_lexer.specs.Reading.{Reading, left}
-use Rattle.wac_ast.specs.declared.error.Error.{Error}
-use Rattle.wac_ast.specs.Answer.{End, end_of_input, Fails, Gives, has_more, final_span, told_in}
-use Rattle.wac_ast.specs.Tree.{Document}
-use Rattle.wac_ast.specs.Grammar.{document}
-use Rattle.wac_ast.specs.Reading.{read}
+use Rattle.wac_syntax.specs.declared.error.Error.{Error}
+use Rattle.wac_syntax.specs.Answer.{End, end_of_input, Gives, has_more, final_span, told_in}
+use Rattle.wac_grammar.specs.Tree.{Document}
+use Rattle.wac_grammar.specs.Grammar.{document}
+use Rattle.wac_grammar.specs.Reading.{read}
 use Rattle.wac_ast.specs.Document.{end_of_text, Parses}
 
 same_end : (x y : End) → x.source ≡ y.source → x.final ≡ y.final → x ≡ y

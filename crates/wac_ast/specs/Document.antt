@@ -8,25 +8,18 @@ use Rattle.wac_lexer.specs.Reading.{shown}
 use Rattle.wac_lexer.specs.declared.token.Token.{Token}
 use Rattle.wac_lexer.specs.declared.token.Token.TheVariants as t
 use Rattle.wac_lexer.specs.declared.error.Error.{Error as Fault}
-use Rattle.wac_ast.specs.Tokens.{is_token, valid}
-use Rattle.wac_ast.specs.Tree.{Document}
-use Rattle.wac_ast.specs.Grammar.{Body, document, Derives}
-use Rattle.wac_ast.specs.Reading.{read}
-use Rattle.wac_ast.specs.Viable.{Viable}
-use Rattle.wac_ast.specs.Bodies.{Opens}
-use Rattle.wac_ast.specs.Arguments.{EndsWithArgument}
-use Rattle.wac_ast.specs.Stopped.{Fault as IsFault, CanStand, CanFollowComma, EndsInList}
-use Rattle.wac_ast.specs.declared.error.Error.{Error}
-use Rattle.wac_ast.specs.Error.{Told, told_by, faulty, expected_one, expected_either, expected_many, empty_type, invalid_version, no_memory}
-use Rattle.wac_ast.specs.Lookahead.{kept_in}
-use Rattle.wac_ast.specs.Answer.{End, final_span, empty_end, body_name, part_name, version_told, told_in}
-
--- ---- the tree of a text
-
--- No character is refused, and the items derive the tree.
-pub record IsTreeOf (text : List ℕ) (tree : Document) : Type 0 where
-  pub clean : refused text ≡ None
-  pub derives : Derives document (items text) tree
+use Rattle.wac_grammar.specs.Tokens.{is_token, valid}
+use Rattle.wac_grammar.specs.Tree.{Document}
+use Rattle.wac_grammar.specs.Grammar.{Body, document}
+use Rattle.wac_grammar.specs.Reading.{read}
+use Rattle.wac_grammar.specs.Viable.{Viable}
+use Rattle.wac_grammar.specs.Bodies.{Opens}
+use Rattle.wac_grammar.specs.Arguments.{EndsWithArgument}
+use Rattle.wac_grammar.specs.Stopped.{Fault as IsFault, CanStand, CanFollowComma, EndsInList}
+use Rattle.wac_syntax.specs.declared.error.Error.{Error}
+use Rattle.wac_syntax.specs.Error.{Told, told_by, faulty, expected_one, expected_either, expected_many, empty_type, invalid_version, no_memory}
+use Rattle.wac_syntax.specs.Lookahead.{kept_in}
+use Rattle.wac_syntax.specs.Answer.{End, final_span, empty_end, body_name, part_name, version_told, told_in}
 
 -- ---- the first fault of a text
 

@@ -1,31 +1,38 @@
 //! The documents of WAC: their trees, and how a text is parsed into one.
 #![tactic(auto)]
 
-mod ast;
-mod delimited;
-mod error;
-mod laws;
-mod lookahead;
-mod parse;
+mod document;
+mod export;
+mod let_statement;
+mod statement;
+mod type_statement;
 
-pub use ast::{
-    AccessExpr, Constructor, DocComment, Document, EnumCase, EnumDecl, ExportOptions,
-    ExportStatement, Expr, ExternName, ExternType, Field, Flag, FlagsDecl, FuncType, FuncTypeRef,
-    Ident, ImportStatement, ImportType, InlineInterface, InstantiationArgument,
-    InstantiationArgumentName, InterfaceDecl, InterfaceExport, InterfaceItem, ItemTypeDecl,
-    LetStatement, Method, NamedAccessExpr, NamedInstantiationArgument, NamedType, NamedWorldItem,
-    NestedExpr, NewExpr, PackageDirective, PackageName, PackagePath, PostfixExpr, PrimaryExpr,
-    RecordDecl, ResourceDecl, ResourceMethod, ResultList, SegmentSpans, Statement, String, Type,
-    TypeAlias, TypeAliasKind, TypeDecl, TypeStatement, Use, UseItem, UsePath, VariantCase,
-    VariantDecl, WorldDecl, WorldExport, WorldImport, WorldInclude, WorldIncludeItem, WorldItem,
-    WorldItemPath, WorldRef, parse_optional_payload,
+pub use document::{Document, PackageDirective};
+pub use export::{ExportOptions, ExportStatement};
+pub use let_statement::LetStatement;
+pub use statement::Statement;
+pub use type_statement::TypeStatement;
+pub use wac_declarations::{
+    Constructor, EnumCase, EnumDecl, Field, Flag, FlagsDecl, FuncType, FuncTypeRef, ItemTypeDecl,
+    Method, NamedType, RecordDecl, ResourceDecl, ResourceMethod, ResultList, Type, TypeAlias,
+    TypeAliasKind, TypeDecl, VariantCase, VariantDecl, parse_optional_payload,
 };
-pub use error::{Error, ParseResult};
-pub use laws::{tokens_have_texts, trees_stand_in_their_text, what_is_read_derives};
-pub use lookahead::Lookahead;
-pub use parse::{parse_optional, parse_token};
+pub use wac_expressions::{
+    AccessExpr, Expr, InstantiationArgument, InstantiationArgumentName, NamedAccessExpr,
+    NamedInstantiationArgument, NestedExpr, NewExpr, PostfixExpr, PrimaryExpr,
+};
+pub use wac_grammar::{tokens_have_texts, trees_stand_in_their_text, what_is_read_derives};
+pub use wac_syntax::{
+    DocComment, Error, ExternName, Ident, Lookahead, PackageName, PackagePath, ParseResult,
+    SegmentSpans, String, parse_optional, parse_token,
+};
+pub use wac_worlds::{
+    ExternType, ImportStatement, ImportType, InlineInterface, InterfaceDecl, InterfaceExport,
+    InterfaceItem, NamedWorldItem, Use, UseItem, UsePath, WorldDecl, WorldExport, WorldImport,
+    WorldInclude, WorldIncludeItem, WorldItem, WorldItemPath, WorldRef,
+};
 
 /// How each part of a document is parsed.
 pub mod internals {
-    pub use crate::parse::{Parse, Peek};
+    pub use wac_syntax::{Parse, Peek};
 }

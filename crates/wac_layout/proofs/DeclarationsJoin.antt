@@ -3,8 +3,8 @@ use Rattle.std.proofs.Common.{◌≡◌, ℕ, Bool, true, false, List, [], ◌�
 use Rattle.std.specs.List.{AllByRecursion}
 use Rattle.wac_lexer.specs.Follow.{follows}
 use Rattle.wac_lexer.specs.declared.token.Token.TheVariants as kinds
-use Rattle.wac_ast.specs.Tree as tree
-use Rattle.wac_ast.specs.Tree.{Ident, Ty, Constructor, Method, ResourceMethod, ResourceDecl, VariantCase, VariantDecl, Field, RecordDecl, Flag, FlagsDecl, EnumCase, EnumDecl, TypeAliasKind, TypeAlias, TypeDecl, ItemTypeDecl}
+use Rattle.wac_grammar.specs.Tree as tree
+use Rattle.wac_grammar.specs.Tree.{Ident, Ty, Constructor, Method, ResourceMethod, ResourceDecl, VariantCase, VariantDecl, Field, RecordDecl, Flag, FlagsDecl, EnumCase, EnumDecl, TypeAliasKind, TypeAlias, TypeDecl, ItemTypeDecl}
 use Rattle.wac_layout.specs.Printed.{Piece, token, line, text}
 use Rattle.wac_layout.specs.Texts.{Spelled, IfThere, IdentHas, TyHas, ConstructorHas, MethodHas, ResourceMethodHas, ResourceDeclHas, VariantCaseHas, VariantDeclHas, FieldHas, RecordDeclHas, FlagHas, FlagsDeclHas, EnumCaseHas, EnumDeclHas, TypeAliasKindHas, TypeAliasHas, TypeDeclHas, ItemTypeDeclHas}
 use Rattle.wac_layout.specs.TypeLayout.{ty_layout, func_type_layout, params_layout}

@@ -7,7 +7,7 @@ use Rattle.wac_lexer.specs.Order.{InOrder}
 use Rattle.wac_lexer.specs.Reading.{slice}
 use Rattle.wac_lexer.specs.Span.{end_of}
 use Rattle.wac_lexer.proofs.Ordered.{ordered}
-use Rattle.wac_ast.specs.Tree.{Document}
+use Rattle.wac_grammar.specs.Tree.{Document}
 use Rattle.wac_layout.specs.Printed.{Piece, text}
 use Rattle.wac_layout.specs.Joins.{AreBlanks, Joins}
 use Rattle.wac_layout.specs.Placed.{placed}

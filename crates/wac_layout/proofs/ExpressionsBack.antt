@@ -6,16 +6,16 @@ use Rattle.std.specs.Option.{option_map}
 use Rattle.wac_lexer.specs.Item.{Item, Doc}
 use Rattle.wac_lexer.specs.Reading.{slice}
 use Rattle.wac_lexer.specs.declared.token.Token.TheVariants as kinds
-use Rattle.wac_ast.specs.Tokens.{is_token}
-use Rattle.wac_ast.specs.Tree as tree
-use Rattle.wac_ast.specs.Tree.{Ident, String, PackageName, AccessExpr, NamedAccessExpr, PostfixExpr, InstantiationArgumentName, Expr, PrimaryExpr, Arguments, InstantiationArgument, arguments_from}
-use Rattle.wac_ast.specs.Grammar.{rule, build, DerivesIn, Derives, identifier, string, package_name, access_expr, named_access_expr, postfix_expr, postfixes, argument, arguments, more_arguments, new_expr, nested_expr, primary_expr, expr}
+use Rattle.wac_grammar.specs.Tokens.{is_token}
+use Rattle.wac_grammar.specs.Tree as tree
+use Rattle.wac_grammar.specs.Tree.{Ident, String, PackageName, AccessExpr, NamedAccessExpr, PostfixExpr, InstantiationArgumentName, Expr, PrimaryExpr, Arguments, InstantiationArgument, arguments_from}
+use Rattle.wac_grammar.specs.Grammar.{rule, build, DerivesIn, Derives, identifier, string, package_name, access_expr, named_access_expr, postfix_expr, postfixes, argument, arguments, more_arguments, new_expr, nested_expr, primary_expr, expr}
 use Rattle.wac_layout.specs.Printed.{Piece, token, blank, line, deeper}
 use Rattle.wac_layout.specs.Bare.{nowhere, bare_ident, bare_string, bare_package_name, bare_access_expr, bare_named_access_expr, bare_postfix_expr, bare_argument_name, bare_expr, bare_primary_expr, bare_arguments, bare_argument}
 use Rattle.wac_layout.specs.Parts.{space, newline, close_body}
 use Rattle.wac_layout.specs.ExpressionLayout.{postfix_expr_layout, argument_name_layout, comma_layout, braced_layout, expr_layout, primary_expr_layout, arguments_layout, argument_layout}
 use Rattle.wac_layout.specs.Texts.{Spelled, PostfixExprHas, ArgumentNameHas, ExprHas, PrimaryExprHas, ArgumentsHas, ArgumentHas}
-use Rattle.wac_ast.proofs.Completed.{by_rule}
+use Rattle.wac_grammar.proofs.Completed.{by_rule}
 use Rattle.wac_layout.proofs.Means.{Says, Means, split}
 use Rattle.wac_layout.proofs.NamesBack.{alone, is_kind, word_back, string_back, name_back}
 use Rattle.wac_layout.proofs.ListsBack.{regroup}

@@ -3,8 +3,8 @@ use Rattle.std.proofs.Common.{◌≡◌, ℕ, Bool, true, false, List, [], ◌�
 use Rattle.std.specs.List.{AllByRecursion, flat_map}
 use Rattle.wac_lexer.specs.Follow.{follows}
 use Rattle.wac_lexer.specs.declared.token.Token.TheVariants as kinds
-use Rattle.wac_ast.specs.Tree as tree
-use Rattle.wac_ast.specs.Tree.{PostfixExpr, InstantiationArgumentName, Expr, PrimaryExpr, Arguments, InstantiationArgument}
+use Rattle.wac_grammar.specs.Tree as tree
+use Rattle.wac_grammar.specs.Tree.{PostfixExpr, InstantiationArgumentName, Expr, PrimaryExpr, Arguments, InstantiationArgument}
 use Rattle.wac_layout.specs.Printed.{Piece, token, line, text, fresh_behind, deeper}
 use Rattle.wac_layout.specs.Parts.{space, newline}
 use Rattle.wac_layout.specs.Texts.{Spelled, PostfixExprHas, ArgumentNameHas, ExprHas, PrimaryExprHas, ArgumentsHas, ArgumentHas}

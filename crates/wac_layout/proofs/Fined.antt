@@ -9,12 +9,11 @@ use Rattle.wac_lexer.specs.Tokens.{token_of}
 use Rattle.wac_lexer.specs.declared.token.Token.{Token}
 use Rattle.wac_lexer.specs.declared.token.Token.TheVariants as kinds
 use Rattle.wac_lexer.specs.declared.error.Error.{Error}
-use Rattle.wac_ast.specs.Version.{unversioned, path_name, path_segments, version_of, reads_version}
-use Rattle.wac_ast.specs.Tokens.{is_token, valid}
-use Rattle.wac_ast.specs.Tree as tree
-use Rattle.wac_ast.specs.Tree.{Ty, PrimaryExpr, InstantiationArgument, ResultList, arguments_from, types_from}
-use Rattle.wac_ast.specs.Grammar.{Sym, Grammar, token as one_token, sym as one_sym, then, either, nothing, to_end, docs, not_empty, more, or_told, no_fault, Parts, TreeOf, rule, build, docs_of, results_of, DerivesIn, DerivesBy, Derives}
-use Rattle.wac_ast.specs.Grammar.{document, directive, statements, statement, import_statement, extern_name, import_type, let_statement, export_statement, export_options, expr, primary_expr, new_expr, arguments, more_arguments, argument, named_argument, argument_name, nested_expr, postfixes, postfix_expr, access_expr, named_access_expr, type_statement, type_decl, item_type_decl, resource_decl, methods, resource_method, constructor, method, variant_decl, cases, more_cases, variant_case, record_decl, fields, more_fields, field, flags_decl, flags, more_flags, flag, enum_decl, enum_cases, more_enum_cases, enum_case, type_alias, type_alias_kind, func_type_ref, func_type, params, more_params, result_list, named_type, ty, tuple_type, list_type, option_type, result_type, borrow_type, stream_type, future_type, types, more_types, result_part, payload, interface_decl, inline_interface, interface_items, interface_item, interface_export, use_statement, use_path, use_items, more_use_items, use_item, world_decl, world_items, world_item, world_import, world_export, world_item_path, named_world_item, extern_type, world_include, world_ref, include_items, more_include_items, include_item, identifier, string, package_name, package_path}
+use Rattle.wac_grammar.specs.Version.{unversioned, path_name, path_segments, version_of, reads_version}
+use Rattle.wac_grammar.specs.Tokens.{is_token, valid}
+use Rattle.wac_grammar.specs.Tree as tree
+use Rattle.wac_grammar.specs.Tree.{Ty, PrimaryExpr, InstantiationArgument, ResultList, arguments_from, types_from}
+use Rattle.wac_grammar.specs.Grammar.{Sym, Grammar, token as one_token, sym as one_sym, then, either, nothing, to_end, docs, not_empty, more, or_told, no_fault, Parts, TreeOf, rule, build, docs_of, results_of, DerivesIn, DerivesBy, Derives, document, directive, statements, statement, import_statement, extern_name, import_type, let_statement, export_statement, export_options, expr, primary_expr, new_expr, arguments, more_arguments, argument, named_argument, argument_name, nested_expr, postfixes, postfix_expr, access_expr, named_access_expr, type_statement, type_decl, item_type_decl, resource_decl, methods, resource_method, constructor, method, variant_decl, cases, more_cases, variant_case, record_decl, fields, more_fields, field, flags_decl, flags, more_flags, flag, enum_decl, enum_cases, more_enum_cases, enum_case, type_alias, type_alias_kind, func_type_ref, func_type, params, more_params, result_list, named_type, ty, tuple_type, list_type, option_type, result_type, borrow_type, stream_type, future_type, types, more_types, result_part, payload, interface_decl, inline_interface, interface_items, interface_item, interface_export, use_statement, use_path, use_items, more_use_items, use_item, world_decl, world_items, world_item, world_import, world_export, world_item_path, named_world_item, extern_type, world_include, world_ref, include_items, more_include_items, include_item, identifier, string, package_name, package_path}
 use Rattle.wac_layout.specs.Accepted.{IsAccepted}
 use Rattle.wac_layout.specs.Bare.{doc_lines, bare_ident, bare_string, bare_package_name, bare_package_path, bare_extern_name, bare_ty, bare_optional_ty, bare_types, bare_named_type, bare_result_list, bare_func_type, bare_func_type_ref, bare_constructor, bare_method, bare_resource_method, bare_resource_decl, bare_variant_case, bare_variant_decl, bare_field, bare_record_decl, bare_flag, bare_flags_decl, bare_enum_case, bare_enum_decl, bare_alias_kind, bare_type_alias, bare_type_decl, bare_item_type_decl, bare_use_path, bare_use_item, bare_use, bare_interface_export, bare_interface_item, bare_interface_decl, bare_inline_interface, bare_extern_type, bare_named_world_item, bare_world_item_path, bare_world_import, bare_world_export, bare_world_ref, bare_world_include_item, bare_world_include, bare_world_item, bare_world_decl, bare_access_expr, bare_named_access_expr, bare_postfix_expr, bare_argument_name, bare_expr, bare_primary_expr, bare_arguments, bare_argument, bare_import_type, bare_import_statement, bare_let_statement, bare_export_options, bare_export_statement, bare_type_statement, bare_statement, bare_directive, bare_document}
 use Rattle.wac_layout.specs.Texts.{Spelled, DocsHave, AccessExprHas, ArgumentHas, ArgumentNameHas, ArgumentsHas, ConstructorHas, DirectiveHas, DocumentHas, EnumCaseHas, EnumDeclHas, ExportOptionsHas, ExportStatementHas, ExprHas, ExternNameHas, ExternTypeHas, FieldHas, FlagHas, FlagsDeclHas, FuncTypeHas, FuncTypeRefHas, IdentHas, ImportStatementHas, ImportTypeHas, InlineInterfaceHas, InterfaceDeclHas, InterfaceExportHas, InterfaceItemHas, ItemTypeDeclHas, LetStatementHas, MethodHas, NamedAccessExprHas, NamedTypeHas, NamedWorldItemHas, OptionalTyHas, PackageNameHas, PackagePathHas, PostfixExprHas, PrimaryExprHas, RecordDeclHas, ResourceDeclHas, ResourceMethodHas, ResultListHas, StatementHas, StringHas, TyHas, TypeAliasHas, TypeAliasKindHas, TypeDeclHas, TypeStatementHas, TypesHas, UseHas, UseItemHas, UsePathHas, VariantCaseHas, VariantDeclHas, WorldDeclHas, WorldExportHas, WorldImportHas, WorldIncludeHas, WorldIncludeItemHas, WorldItemHas, WorldItemPathHas, WorldRefHas}

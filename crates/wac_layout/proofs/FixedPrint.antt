@@ -1,6 +1,6 @@
 -- What is printed is fixed from the second time on.
 use Rattle.std.proofs.Common.{◌≡◌, ℕ, true, List, sym, ap, ◌∙◌}
-use Rattle.wac_ast.specs.Tree.{Document}
+use Rattle.wac_grammar.specs.Tree.{Document}
 use Rattle.wac_layout.specs.Printed.{text}
 use Rattle.wac_layout.specs.Bare.{doc_lines, bare_document}
 use Rattle.wac_layout.specs.Settled.{settle_document}

@@ -5,16 +5,16 @@ use Rattle.std.specs.List.{AllByRecursion}
 use Rattle.wac_lexer.specs.Item.{Item}
 use Rattle.wac_lexer.specs.Reading.{slice}
 use Rattle.wac_lexer.specs.declared.token.Token.TheVariants as kinds
-use Rattle.wac_ast.specs.Tokens.{is_token}
-use Rattle.wac_ast.specs.Tree as tree
-use Rattle.wac_ast.specs.Tree.{Ident, NamedType, ResultList, FuncType, FuncTypeRef}
-use Rattle.wac_ast.specs.Grammar.{token as one_token, sym as one_sym, then, optional, rule, build, is_there, results_of, DerivesIn, Derives, identifier, ty, named_type, params, more_params, result_list, func_type, func_type_ref}
+use Rattle.wac_grammar.specs.Tokens.{is_token}
+use Rattle.wac_grammar.specs.Tree as tree
+use Rattle.wac_grammar.specs.Tree.{Ident, NamedType, ResultList, FuncType, FuncTypeRef}
+use Rattle.wac_grammar.specs.Grammar.{token as one_token, sym as one_sym, then, optional, rule, build, is_there, results_of, DerivesIn, Derives, identifier, ty, named_type, params, more_params, result_list, func_type, func_type_ref}
 use Rattle.wac_layout.specs.Printed.{Piece, token, blank}
 use Rattle.wac_layout.specs.Bare.{nowhere, bare_ident, bare_ty, bare_named_type, bare_result_list, bare_func_type, bare_func_type_ref}
 use Rattle.wac_layout.specs.Parts.{space, joined}
 use Rattle.wac_layout.specs.TypeLayout.{ty_layout, named_type_layout, results_layout, async_layout, params_layout, func_type_layout, func_type_ref_layout}
 use Rattle.wac_layout.specs.Texts.{Spelled, NamedTypeHas, ResultListHas, FuncTypeHas, FuncTypeRefHas}
-use Rattle.wac_ast.proofs.Completed.{by_rule}
+use Rattle.wac_grammar.proofs.Completed.{by_rule}
 use Rattle.wac_layout.proofs.Means.{Says, Means, split}
 use Rattle.wac_layout.proofs.NamesBack.{alone, word_back}
 use Rattle.wac_layout.proofs.TypesBack.{ty_back}

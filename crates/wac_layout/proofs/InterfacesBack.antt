@@ -6,10 +6,10 @@ use Rattle.std.specs.Option.{option_map}
 use Rattle.wac_lexer.specs.Item.{Item, Doc}
 use Rattle.wac_lexer.specs.Reading.{slice}
 use Rattle.wac_lexer.specs.declared.token.Token.TheVariants as kinds
-use Rattle.wac_ast.specs.Tokens.{is_token}
-use Rattle.wac_ast.specs.Tree as tree
-use Rattle.wac_ast.specs.Tree.{Ident, PackagePath, FuncTypeRef, UsePath, UseItem, Use, InterfaceExport, InterfaceItem, InterfaceDecl, InlineInterface}
-use Rattle.wac_ast.specs.Grammar.{docs_of, rule, build, DerivesIn, Derives, identifier, package_path, func_type_ref, use_path, use_item, use_items, more_use_items, use_statement, interface_export, interface_item, interface_items, interface_decl, inline_interface, item_type_decl}
+use Rattle.wac_grammar.specs.Tokens.{is_token}
+use Rattle.wac_grammar.specs.Tree as tree
+use Rattle.wac_grammar.specs.Tree.{Ident, PackagePath, FuncTypeRef, UsePath, UseItem, Use, InterfaceExport, InterfaceItem, InterfaceDecl, InlineInterface}
+use Rattle.wac_grammar.specs.Grammar.{docs_of, rule, build, DerivesIn, Derives, identifier, package_path, func_type_ref, use_path, use_item, use_items, more_use_items, use_statement, interface_export, interface_item, interface_items, interface_decl, inline_interface, item_type_decl}
 use Rattle.wac_layout.specs.Printed.{Piece, token, blank, line, deeper}
 use Rattle.wac_layout.specs.Bare.{nowhere, doc_lines, bare_ident, bare_package_path, bare_func_type_ref, bare_use_path, bare_use_item, bare_use, bare_interface_export, bare_interface_item, bare_interface_decl, bare_inline_interface, bare_item_type_decl}
 use Rattle.wac_layout.specs.Parts.{space, newline, joined, spaced, body, docs_layout, close_body}
@@ -18,7 +18,7 @@ use Rattle.wac_layout.specs.DeclarationLayout.{item_type_decl_layout}
 use Rattle.wac_layout.specs.InterfaceLayout.{use_path_layout, use_item_layout, use_items_layout, use_layout, interface_export_layout, interface_item_layout, interface_decl_layout, inline_interface_layout}
 use Rattle.wac_layout.specs.Texts.{Spelled, UsePathHas, UseItemHas, UseHas, InterfaceExportHas, InterfaceItemHas, InterfaceDeclHas, InlineInterfaceHas}
 use Rattle.wac_layout.specs.Reread.{read_docs}
-use Rattle.wac_ast.proofs.Completed.{by_rule}
+use Rattle.wac_grammar.proofs.Completed.{by_rule}
 use Rattle.wac_layout.proofs.Means.{Says, Means, split, pending, pending-append}
 use Rattle.wac_layout.proofs.NamesBack.{alone, word_back, path_back, documented, docs_back}
 use Rattle.wac_layout.proofs.FunctionsBack.{func_type_ref_back}

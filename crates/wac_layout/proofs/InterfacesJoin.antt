@@ -3,8 +3,8 @@ use Rattle.std.proofs.Common.{◌≡◌, ℕ, Bool, true, false, List, [], ◌�
 use Rattle.std.specs.List.{AllByRecursion}
 use Rattle.wac_lexer.specs.Follow.{follows}
 use Rattle.wac_lexer.specs.declared.token.Token.TheVariants as kinds
-use Rattle.wac_ast.specs.Tree as tree
-use Rattle.wac_ast.specs.Tree.{Ident, UsePath, UseItem, Use, InterfaceExport, InterfaceItem, InterfaceDecl, InlineInterface}
+use Rattle.wac_grammar.specs.Tree as tree
+use Rattle.wac_grammar.specs.Tree.{Ident, UsePath, UseItem, Use, InterfaceExport, InterfaceItem, InterfaceDecl, InlineInterface}
 use Rattle.wac_layout.specs.Printed.{Piece, token, line, text, fresh_behind}
 use Rattle.wac_layout.specs.Parts.{space, joined}
 use Rattle.wac_layout.specs.Texts.{Spelled, IfThere, IdentHas, UsePathHas, UseItemHas, UseHas, InterfaceExportHas, InterfaceItemHas, InterfaceDeclHas, InlineInterfaceHas}

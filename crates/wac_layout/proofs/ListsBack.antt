@@ -3,7 +3,7 @@ use Rattle.std.proofs.Common.{◌≡◌, ℕ, ◌+◌, Bool, true, false, List, 
 use Rattle.std.specs.List.{AllByRecursion, flat_map}
 use Rattle.wac_lexer.specs.Item.{Item}
 use Rattle.wac_lexer.specs.declared.token.Token.TheVariants as kinds
-use Rattle.wac_ast.specs.Tokens.{is_token}
+use Rattle.wac_grammar.specs.Tokens.{is_token}
 use Rattle.wac_layout.specs.Printed.{Piece, token, blank, line}
 use Rattle.wac_layout.specs.Parts.{space, newline, joined, spaced}
 use Rattle.wac_layout.proofs.Means.{Says, Means, split, pending}

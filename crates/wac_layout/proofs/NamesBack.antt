@@ -8,11 +8,11 @@ use Rattle.wac_lexer.specs.Reading.{slice}
 use Rattle.wac_lexer.specs.Tokens.{token_of}
 use Rattle.wac_lexer.specs.declared.token.Token.{Token}
 use Rattle.wac_lexer.specs.declared.token.Token.TheVariants as kinds
-use Rattle.wac_ast.specs.Version.{unversioned, path_name, path_segments, version_of, reads_version}
-use Rattle.wac_ast.specs.Tokens.{is_token}
-use Rattle.wac_ast.specs.Tree as tree
-use Rattle.wac_ast.specs.Tree.{Ident, String, PackageName, PackagePath, ExternName}
-use Rattle.wac_ast.specs.Grammar.{rule, build, TreeOf, Derives, identifier, string, package_name, package_path, extern_name, docs_of}
+use Rattle.wac_grammar.specs.Version.{unversioned, path_name, path_segments, version_of, reads_version}
+use Rattle.wac_grammar.specs.Tokens.{is_token}
+use Rattle.wac_grammar.specs.Tree as tree
+use Rattle.wac_grammar.specs.Tree.{Ident, String, PackageName, PackagePath, ExternName}
+use Rattle.wac_grammar.specs.Grammar.{rule, build, TreeOf, Derives, identifier, string, package_name, package_path, extern_name, docs_of}
 use Rattle.wac_layout.specs.Printed.{Piece, token, blank, line, doc}
 use Rattle.wac_layout.specs.Placed.{kind_of}
 use Rattle.wac_layout.specs.Bare.{nowhere, Keep, doc_line, doc_lines, bare_ident, bare_string, bare_package_name, bare_package_path, bare_extern_name}
@@ -20,7 +20,7 @@ use Rattle.wac_layout.specs.Reread.{read_docs}
 use Rattle.wac_layout.specs.Parts.{docs_layout}
 use Rattle.wac_layout.specs.TypeLayout.{extern_name_layout}
 use Rattle.wac_layout.specs.Texts.{Spelled, IdentHas, StringHas, PackageNameHas, PackagePathHas, ExternNameHas}
-use Rattle.wac_ast.proofs.Completed.{by_rule}
+use Rattle.wac_grammar.proofs.Completed.{by_rule}
 use Rattle.wac_layout.proofs.ReadBack.{kind_is}
 use Rattle.wac_layout.proofs.Means.{texts_of, Says, Means}
 

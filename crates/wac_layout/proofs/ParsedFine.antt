@@ -18,8 +18,8 @@ use Rattle.wac_lexer.proofs.InFront.{bytes_back}
 use Rattle.wac_lexer.proofs.Ordered.{ordered}
 use Rattle.wac_lexer.proofs.Sorts.{AreBytes, token_found}
 use Rattle.wac_lexer.proofs.Unfolded.{made, start_of, items_none, items_some}
-use Rattle.wac_ast.specs.Tree.{Document}
-use Rattle.wac_ast.specs.Grammar.{Derives, document}
+use Rattle.wac_grammar.specs.Tree.{Document}
+use Rattle.wac_grammar.specs.Grammar.{Derives, document}
 use Rattle.wac_layout.specs.Accepted.{IsAccepted, ItemIsAccepted}
 use Rattle.wac_layout.specs.Joins.{IsDocLine}
 use Rattle.wac_layout.specs.Bare.{doc_line, doc_lines, bare_document}

@@ -6,8 +6,8 @@ use Rattle.std.specs.Option.{option_map}
 use Rattle.std.specs.Str.{trim}
 use Rattle.std.specs.Str.Lines.{lines}
 use Rattle.wac_lexer.specs.Item.{Doc}
-use Rattle.wac_ast.specs.Tree as tree
-use Rattle.wac_ast.specs.Tree.{Constructor, Document, EnumCase, EnumDecl, ExportStatement, ExternType, Field, Flag, FlagsDecl, ImportStatement, ImportType, InlineInterface, InterfaceDecl, InterfaceExport, InterfaceItem, ItemTypeDecl, LetStatement, Method, NamedWorldItem, RecordDecl, ResourceDecl, ResourceMethod, Statement, TypeAlias, TypeDecl, TypeStatement, Use, VariantCase, VariantDecl, WorldDecl, WorldExport, WorldImport, WorldInclude, WorldItem, WorldItemPath}
+use Rattle.wac_grammar.specs.Tree as tree
+use Rattle.wac_grammar.specs.Tree.{Constructor, Document, EnumCase, EnumDecl, ExportStatement, ExternType, Field, Flag, FlagsDecl, ImportStatement, ImportType, InlineInterface, InterfaceDecl, InterfaceExport, InterfaceItem, ItemTypeDecl, LetStatement, Method, NamedWorldItem, RecordDecl, ResourceDecl, ResourceMethod, Statement, TypeAlias, TypeDecl, TypeStatement, Use, VariantCase, VariantDecl, WorldDecl, WorldExport, WorldImport, WorldInclude, WorldItem, WorldItemPath}
 use Rattle.wac_layout.specs.Joins.{IsDocLine}
 use Rattle.wac_layout.specs.Bare.{nowhere, doc_line, doc_lines, bare_alias_kind, bare_constructor, bare_directive, bare_document, bare_enum_case, bare_enum_decl, bare_export_options, bare_export_statement, bare_expr, bare_extern_name, bare_extern_type, bare_field, bare_flag, bare_flags_decl, bare_func_type, bare_func_type_ref, bare_ident, bare_import_statement, bare_import_type, bare_inline_interface, bare_interface_decl, bare_interface_export, bare_interface_item, bare_item_type_decl, bare_let_statement, bare_method, bare_named_type, bare_named_world_item, bare_record_decl, bare_resource_decl, bare_resource_method, bare_statement, bare_ty, bare_type_alias, bare_type_decl, bare_type_statement, bare_use, bare_use_item, bare_use_path, bare_variant_case, bare_variant_decl, bare_world_decl, bare_world_export, bare_world_import, bare_world_include, bare_world_include_item, bare_world_item, bare_world_item_path, bare_world_ref}
 use Rattle.wac_layout.specs.Texts.{Spelled, DocsHave, ConstructorHas, DocumentHas, EnumCaseHas, EnumDeclHas, ExportStatementHas, ExternTypeHas, FieldHas, FlagHas, FlagsDeclHas, ImportStatementHas, ImportTypeHas, InlineInterfaceHas, InterfaceDeclHas, InterfaceExportHas, InterfaceItemHas, ItemTypeDeclHas, LetStatementHas, MethodHas, NamedWorldItemHas, RecordDeclHas, ResourceDeclHas, ResourceMethodHas, StatementHas, TypeAliasHas, TypeDeclHas, TypeStatementHas, UseHas, VariantCaseHas, VariantDeclHas, WorldDeclHas, WorldExportHas, WorldImportHas, WorldIncludeHas, WorldItemHas, WorldItemPathHas}

@@ -6,10 +6,10 @@ use Rattle.std.specs.Option.{option_map}
 use Rattle.wac_lexer.specs.Item.{Item, Doc}
 use Rattle.wac_lexer.specs.Reading.{slice}
 use Rattle.wac_lexer.specs.declared.token.Token.TheVariants as kinds
-use Rattle.wac_ast.specs.Tokens.{is_token}
-use Rattle.wac_ast.specs.Tree as tree
-use Rattle.wac_ast.specs.Tree.{Ident, ExternName, PackageName, PackagePath, ImportType, ImportStatement, LetStatement, ExportOptions, ExportStatement, TypeStatement, Statement, PackageDirective, Document}
-use Rattle.wac_ast.specs.Grammar.{docs_of, rule, build, DerivesIn, Derives, identifier, package_name, package_path, extern_name, func_type, inline_interface, expr, import_type, import_statement, let_statement, export_options, export_statement, type_statement, statement, statements, directive, document, interface_decl, world_decl, type_decl}
+use Rattle.wac_grammar.specs.Tokens.{is_token}
+use Rattle.wac_grammar.specs.Tree as tree
+use Rattle.wac_grammar.specs.Tree.{Ident, ExternName, PackageName, PackagePath, ImportType, ImportStatement, LetStatement, ExportOptions, ExportStatement, TypeStatement, Statement, PackageDirective, Document}
+use Rattle.wac_grammar.specs.Grammar.{docs_of, rule, build, DerivesIn, Derives, identifier, package_name, package_path, extern_name, func_type, inline_interface, expr, import_type, import_statement, let_statement, export_options, export_statement, type_statement, statement, statements, directive, document, interface_decl, world_decl, type_decl}
 use Rattle.wac_layout.specs.Printed.{Piece, token, blank, line, deeper}
 use Rattle.wac_layout.specs.Bare.{nowhere, doc_lines, bare_ident, bare_package_name, bare_package_path, bare_extern_name, bare_func_type, bare_inline_interface, bare_expr, bare_import_type, bare_import_statement, bare_let_statement, bare_export_options, bare_export_statement, bare_type_statement, bare_statement, bare_directive, bare_document}
 use Rattle.wac_layout.specs.Parts.{space, newline, spaced, docs_layout}
@@ -18,7 +18,7 @@ use Rattle.wac_layout.specs.ExpressionLayout.{expr_layout}
 use Rattle.wac_layout.specs.StatementLayout.{import_type_layout, import_name_layout, import_statement_layout, let_statement_layout, export_options_layout, export_statement_layout, type_statement_layout, statement_layout, targets_layout, directive_layout, document_layout}
 use Rattle.wac_layout.specs.Texts.{Spelled, ImportTypeHas, ImportStatementHas, LetStatementHas, ExportOptionsHas, ExportStatementHas, TypeStatementHas, StatementHas, DirectiveHas, DocumentHas}
 use Rattle.wac_layout.specs.Reread.{read_docs}
-use Rattle.wac_ast.proofs.Completed.{by_rule}
+use Rattle.wac_grammar.proofs.Completed.{by_rule}
 use Rattle.wac_layout.proofs.Means.{texts_of, Says, Means, split, pending, pending-append}
 use Rattle.wac_layout.proofs.NamesBack.{alone, word_back, name_back, path_back, extern_name_back, documented, docs_back}
 use Rattle.wac_layout.proofs.FunctionsBack.{func_type_back}

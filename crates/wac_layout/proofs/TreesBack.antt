@@ -2,10 +2,10 @@
 use Rattle.std.proofs.Common.{◌≡◌, ℕ, true, List, [], refl, sym, ap, ◌∙◌, subst}
 use Rattle.std.specs.Str.{IsUtf8}
 use Rattle.wac_lexer.specs.Items.{items}
-use Rattle.wac_ast.specs.Tree.{Document}
-use Rattle.wac_ast.specs.Grammar.{document}
-use Rattle.wac_ast.specs.Document.{IsTreeOf}
-use Rattle.wac_ast.proofs.Complete.{one_tree}
+use Rattle.wac_grammar.specs.Tree.{Document}
+use Rattle.wac_grammar.specs.Grammar.{document}
+use Rattle.wac_grammar.specs.TextTree.{IsTreeOf}
+use Rattle.wac_grammar.proofs.Complete.{one_tree}
 use Rattle.wac_layout.specs.Joins.{AreBlanks}
 use Rattle.wac_layout.specs.Placed.{placed}
 use Rattle.wac_layout.specs.Bare.{doc_lines, bare_document}

@@ -6,17 +6,17 @@ use Rattle.std.specs.Option.{option_map}
 use Rattle.wac_lexer.specs.Item.{Item, Doc}
 use Rattle.wac_lexer.specs.Reading.{slice}
 use Rattle.wac_lexer.specs.declared.token.Token.TheVariants as kinds
-use Rattle.wac_ast.specs.Tokens.{is_token}
-use Rattle.wac_ast.specs.Tree as tree
-use Rattle.wac_ast.specs.Tree.{Ident, PackagePath, ExternType, NamedWorldItem, WorldItemPath, WorldImport, WorldExport, WorldRef, WorldIncludeItem, WorldInclude, WorldItem, WorldDecl}
-use Rattle.wac_ast.specs.Grammar.{docs_of, rule, build, DerivesIn, Derives, identifier, package_path, func_type, inline_interface, extern_type, world_item_path, world_import, world_export, world_ref, include_item, include_items, more_include_items, world_include, world_item, world_items, world_decl, use_statement, item_type_decl}
+use Rattle.wac_grammar.specs.Tokens.{is_token}
+use Rattle.wac_grammar.specs.Tree as tree
+use Rattle.wac_grammar.specs.Tree.{Ident, PackagePath, ExternType, NamedWorldItem, WorldItemPath, WorldImport, WorldExport, WorldRef, WorldIncludeItem, WorldInclude, WorldItem, WorldDecl}
+use Rattle.wac_grammar.specs.Grammar.{docs_of, rule, build, DerivesIn, Derives, identifier, package_path, func_type, inline_interface, extern_type, world_item_path, world_import, world_export, world_ref, include_item, include_items, more_include_items, world_include, world_item, world_items, world_decl, use_statement, item_type_decl}
 use Rattle.wac_layout.specs.Printed.{Piece, token, blank, line, deeper}
 use Rattle.wac_layout.specs.Bare.{nowhere, doc_lines, bare_ident, bare_package_path, bare_func_type, bare_extern_type, bare_named_world_item, bare_world_item_path, bare_world_import, bare_world_export, bare_world_ref, bare_world_include_item, bare_world_include, bare_world_item, bare_world_decl}
 use Rattle.wac_layout.specs.Parts.{space, newline, spaced, body, rows, docs_layout, close_body}
 use Rattle.wac_layout.specs.WorldLayout.{extern_type_layout, named_world_item_layout, world_item_path_layout, world_import_layout, world_export_layout, world_ref_layout, world_include_item_layout, with_layout, world_include_layout, world_item_layout, world_decl_layout}
 use Rattle.wac_layout.specs.Texts.{Spelled, ExternTypeHas, NamedWorldItemHas, WorldItemPathHas, WorldImportHas, WorldExportHas, WorldRefHas, WorldIncludeItemHas, WorldIncludeHas, WorldItemHas, WorldDeclHas}
 use Rattle.wac_layout.specs.Reread.{read_docs}
-use Rattle.wac_ast.proofs.Completed.{by_rule}
+use Rattle.wac_grammar.proofs.Completed.{by_rule}
 use Rattle.wac_layout.proofs.Means.{Says, Means, split, pending, pending-append}
 use Rattle.wac_layout.proofs.NamesBack.{alone, word_back, path_back, documented, docs_back}
 use Rattle.wac_layout.proofs.FunctionsBack.{func_type_back}

@@ -3,8 +3,8 @@ use Rattle.std.proofs.Common.{◌≡◌, ℕ, Bool, true, false, List, [], ◌�
 use Rattle.std.specs.List.{AllByRecursion}
 use Rattle.wac_lexer.specs.Follow.{follows}
 use Rattle.wac_lexer.specs.declared.token.Token.TheVariants as kinds
-use Rattle.wac_ast.specs.Tree as tree
-use Rattle.wac_ast.specs.Tree.{Ident, ExternType, NamedWorldItem, WorldItemPath, WorldImport, WorldExport, WorldRef, WorldIncludeItem, WorldInclude, WorldItem, WorldDecl}
+use Rattle.wac_grammar.specs.Tree as tree
+use Rattle.wac_grammar.specs.Tree.{Ident, ExternType, NamedWorldItem, WorldItemPath, WorldImport, WorldExport, WorldRef, WorldIncludeItem, WorldInclude, WorldItem, WorldDecl}
 use Rattle.wac_layout.specs.Printed.{Piece, token, line, text}
 use Rattle.wac_layout.specs.Parts.{space, rows}
 use Rattle.wac_layout.specs.Texts.{Spelled, ExternTypeHas, NamedWorldItemHas, WorldItemPathHas, WorldImportHas, WorldExportHas, WorldRefHas, WorldIncludeItemHas, WorldIncludeHas, WorldItemHas, WorldDeclHas}

@@ -2,8 +2,8 @@
 use Rattle.std.specs.Prelude.{◌≡◌, ℕ, List, map, true}
 use Rattle.std.specs.Str.{IsUtf8}
 use Rattle.wac_lexer.specs.Items.{items}
-use Rattle.wac_ast.specs.Tree.{Document}
-use Rattle.wac_ast.specs.Document.{IsTreeOf}
+use Rattle.wac_grammar.specs.Tree.{Document}
+use Rattle.wac_grammar.specs.TextTree.{IsTreeOf}
 use Rattle.wac_layout.specs.Printed.{text}
 use Rattle.wac_layout.specs.Bare.{nowhere, Keep, doc_lines, bare_document}
 use Rattle.wac_layout.specs.Placed.{placed}

@@ -1,7 +1,7 @@
 -- Bare trees whose docs are cut into lines again: an empty line is no doc.
 use Rattle.std.specs.Prelude.{List, map}
-use Rattle.wac_ast.specs.Tree as tree
-use Rattle.wac_ast.specs.Tree.{Constructor, Document, EnumCase, EnumDecl, ExportStatement, ExternType, Field, Flag, FlagsDecl, ImportStatement, ImportType, InlineInterface, InterfaceDecl, InterfaceExport, InterfaceItem, ItemTypeDecl, LetStatement, Method, NamedWorldItem, RecordDecl, ResourceDecl, ResourceMethod, Statement, TypeAlias, TypeDecl, TypeStatement, Use, VariantCase, VariantDecl, WorldDecl, WorldExport, WorldImport, WorldInclude, WorldItem, WorldItemPath}
+use Rattle.wac_grammar.specs.Tree as tree
+use Rattle.wac_grammar.specs.Tree.{Constructor, Document, EnumCase, EnumDecl, ExportStatement, ExternType, Field, Flag, FlagsDecl, ImportStatement, ImportType, InlineInterface, InterfaceDecl, InterfaceExport, InterfaceItem, ItemTypeDecl, LetStatement, Method, NamedWorldItem, RecordDecl, ResourceDecl, ResourceMethod, Statement, TypeAlias, TypeDecl, TypeStatement, Use, VariantCase, VariantDecl, WorldDecl, WorldExport, WorldImport, WorldInclude, WorldItem, WorldItemPath}
 use Rattle.wac_layout.specs.Bare.{doc_lines}
 
 abbrev pub settle_constructor : Constructor → Constructor

@@ -1,6 +1,6 @@
 -- What a new printer has written behind a document.
 use Rattle.std.proofs.Common.{◌≡◌, ℕ, true, false, List, [], refl, ap, ◌∙◌}
-use Rattle.wac_ast.specs.Tree.{Document}
+use Rattle.wac_grammar.specs.Tree.{Document}
 use Rattle.wac_layout.specs.Bare.{doc_lines, bare_document}
 use Rattle.wac_layout.specs.StatementLayout.{document_layout}
 use Rattle.wac_layout.specs.Reread.{printed}

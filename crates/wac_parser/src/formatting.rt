@@ -1,10 +1,11 @@
 //! Formatting texts.
 ghost use Rattle.std.specs.Prelude.{◌≡◌, ◌⊎◌, IfOk, IfErr, MatchResult, alloc_error, string_bytes};
-ghost use Rattle.wac_ast.specs.Tree.{Document as Tree};
-ghost use Rattle.wac_ast.specs.Document.{IsTreeOf, ErrorOf};
-ghost use Rattle.wac_ast.specs.Error.{told_by};
+ghost use Rattle.wac_grammar.specs.Tree.{Document as Tree};
+ghost use Rattle.wac_grammar.specs.TextTree.{IsTreeOf};
+ghost use Rattle.wac_ast.specs.Document.{ErrorOf};
+ghost use Rattle.wac_syntax.specs.Error.{told_by};
 ghost use Rattle.wac_ast.specs.Statements.{document_of};
-ghost use Rattle.wac_ast.specs.declared.error.Error.TheVariants.{Memory};
+ghost use Rattle.wac_syntax.specs.declared.error.Error.TheVariants.{Memory};
 ghost use Rattle.wac_layout.specs.Joins.{AreBlanks};
 ghost use Rattle.wac_layout.specs.Reread.{printed, ReadsBack};
 ghost use Rattle.wac_printer.specs.Printed.{space_of};

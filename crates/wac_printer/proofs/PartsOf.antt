@@ -1,20 +1,17 @@
 -- Lists of trees of values, printed from the values.
-use Rattle.std.proofs.Common.{◌≡◌, ℕ, List, [], ◌∷◌, ◌++◌, map, refl, sym, ap, ◌∙◌, zero, suc, get_or, subst, arith, ◌<◌, length}
+use Rattle.std.proofs.Common.{◌≡◌, ℕ, List, [], ◌∷◌, ◌++◌, map, refl, sym, ap, ◌∙◌, zero, suc, get_or, subst, arith, ◌<◌, length, codes}
 use Rattle.std.specs.List.{flat_map, All}
-use Rattle.wac_layout.specs.Printed.{Piece, deeper}
-use Rattle.wac_layout.specs.Parts.{between, joined, spaced, body, rows, open_body, close_body, doc_layout, docs_layout}
+use Rattle.wac_layout.specs.Printed.{Piece, deeper, token, blank}
+use Rattle.wac_layout.specs.Parts.{between, joined, spaced, body, rows, open_body, close_body, doc_layout, docs_layout, space, newline}
 use Rattle.std.specs.Str.Lines.{lines}
 use Rattle.wac_lexer.specs.Item.{Doc}
-use Rattle.wac_ast.specs.Views.{doc_comment_of}
-use Rattle.wac_ast.specs.declared.ast.DocComment.{DocComment}
-use Rattle.wac_ast.specs.Views.{world_include_item_of}
-use Rattle.wac_ast.specs.declared.ast.world.WorldIncludeItem.{WorldIncludeItem}
+use Rattle.wac_syntax.specs.Names.{doc_comment_of}
+use Rattle.wac_syntax.specs.declared.names.DocComment.{DocComment}
+use Rattle.wac_worlds.specs.Worlds.{world_include_item_of}
+use Rattle.wac_worlds.specs.declared.world.WorldIncludeItem.{WorldIncludeItem}
 use Rattle.wac_layout.specs.WorldLayout.{with_layout, world_include_item_layout}
 use Rattle.wac_layout.specs.Bare.{doc_line, doc_lines, bare_world_include_item}
 use Rattle.wac_printer.proofs.Printing.{flat_map-of, flat_map-append}
-use Rattle.wac_layout.specs.Printed.{token, blank}
-use Rattle.std.proofs.Common.{codes}
-use Rattle.wac_layout.specs.Parts.{space, newline}
 
 between-of : {X Y : Type 0} (s : List Piece) (f : Y → List Piece) (g : X → Y) (xs : List X) → between s f (map g xs) ≡ between s (λ x. f (g x)) xs
 between-of s f g [] = refl

@@ -1,8 +1,8 @@
 -- What is printed of a document reads back.
 use Rattle.std.proofs.Common.{◌≡◌, ℕ, Bool, true, List, ◌++◌, sym, ap, ◌∙◌, subst, refl, Result, Ok, Err}
 use Rattle.std.specs.Str.{IsUtf8}
-use Rattle.wac_ast.specs.Tree.{Document}
-use Rattle.wac_ast.specs.Document.{IsTreeOf}
+use Rattle.wac_grammar.specs.Tree.{Document}
+use Rattle.wac_grammar.specs.TextTree.{IsTreeOf}
 use Rattle.wac_layout.specs.Joins.{AreBlanks}
 use Rattle.wac_layout.specs.Bare.{bare_document, doc_lines}
 use Rattle.wac_layout.specs.Printed.{Piece, text}

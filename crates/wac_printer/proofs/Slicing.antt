@@ -1,9 +1,9 @@
 -- A tree whose spans slice the source, as parsing promises it, can be printed.
 use Rattle.std.proofs.Common.{ℕ, List, get_or, Option, Some, None}
 use Rattle.std.specs.List.{All}
-use Rattle.wac_ast.specs.Tree as tree
-use Rattle.wac_ast.specs.Tree.{Arguments, Constructor, Document, EnumCase, EnumDecl, ExportOptions, ExportStatement, Expr, ExternName, ExternType, Field, Flag, FlagsDecl, FuncType, FuncTypeRef, Ident, ImportStatement, ImportType, InlineInterface, InstantiationArgument, InstantiationArgumentName, InterfaceDecl, InterfaceExport, InterfaceItem, ItemTypeDecl, LetStatement, Method, NamedType, NamedWorldItem, OptionalTy, PackageDirective, PackageName, PackagePath, PostfixExpr, PrimaryExpr, RecordDecl, ResourceDecl, ResourceMethod, ResultList, Statement, String, Ty, TypeAlias, TypeAliasKind, TypeDecl, TypeStatement, Types, Use, UseItem, UsePath, VariantCase, VariantDecl, WorldDecl, WorldExport, WorldImport, WorldInclude, WorldIncludeItem, WorldItem, WorldItemPath, WorldRef}
-use Rattle.wac_ast.specs.Slices.{AliasKindSlices, ArgumentNameSlices, ArgumentSlices, ArgumentsSlice, ConstructorSlices, DirectiveSlices, DocumentSlices, EnumCaseSlices, EnumDeclSlices, ExportOptionsSlice, ExportStatementSlices, ExprSlices, ExternNameSlices, ExternTypeSlices, FieldSlices, FlagSlices, FlagsDeclSlices, FuncTypeRefSlices, FuncTypeSlices, IdentSlices, ImportStatementSlices, ImportTypeSlices, InlineInterfaceSlices, InterfaceDeclSlices, InterfaceExportSlices, InterfaceItemSlices, ItemTypeDeclSlices, LetStatementSlices, MethodSlices, NameSlices, NamedTypeSlices, NamedWorldItemSlices, OptionSlices, OptionalSlices, PathSlices, PostfixExprSlices, PrimaryExprSlices, RecordDeclSlices, ResourceDeclSlices, ResourceMethodSlices, ResultListSlices, StatementSlices, StringSlices, TypeAliasSlices, TypeDeclSlices, TypeSlices, TypeStatementSlices, TypesSlice, UseItemSlices, UsePathSlices, UseSlices, VariantCaseSlices, VariantDeclSlices, WorldDeclSlices, WorldExportSlices, WorldImportSlices, WorldIncludeItemSlices, WorldIncludeSlices, WorldItemPathSlices, WorldItemSlices, WorldRefSlices}
+use Rattle.wac_grammar.specs.Tree as tree
+use Rattle.wac_grammar.specs.Tree.{Arguments, Constructor, Document, EnumCase, EnumDecl, ExportOptions, ExportStatement, Expr, ExternName, ExternType, Field, Flag, FlagsDecl, FuncType, FuncTypeRef, Ident, ImportStatement, ImportType, InlineInterface, InstantiationArgument, InstantiationArgumentName, InterfaceDecl, InterfaceExport, InterfaceItem, ItemTypeDecl, LetStatement, Method, NamedType, NamedWorldItem, OptionalTy, PackageDirective, PackageName, PackagePath, PostfixExpr, PrimaryExpr, RecordDecl, ResourceDecl, ResourceMethod, ResultList, Statement, String, Ty, TypeAlias, TypeAliasKind, TypeDecl, TypeStatement, Types, Use, UseItem, UsePath, VariantCase, VariantDecl, WorldDecl, WorldExport, WorldImport, WorldInclude, WorldIncludeItem, WorldItem, WorldItemPath, WorldRef}
+use Rattle.wac_grammar.specs.Slices.{AliasKindSlices, ArgumentNameSlices, ArgumentSlices, ArgumentsSlice, ConstructorSlices, DirectiveSlices, DocumentSlices, EnumCaseSlices, EnumDeclSlices, ExportOptionsSlice, ExportStatementSlices, ExprSlices, ExternNameSlices, ExternTypeSlices, FieldSlices, FlagSlices, FlagsDeclSlices, FuncTypeRefSlices, FuncTypeSlices, IdentSlices, ImportStatementSlices, ImportTypeSlices, InlineInterfaceSlices, InterfaceDeclSlices, InterfaceExportSlices, InterfaceItemSlices, ItemTypeDeclSlices, LetStatementSlices, MethodSlices, NameSlices, NamedTypeSlices, NamedWorldItemSlices, OptionSlices, OptionalSlices, PathSlices, PostfixExprSlices, PrimaryExprSlices, RecordDeclSlices, ResourceDeclSlices, ResourceMethodSlices, ResultListSlices, StatementSlices, StringSlices, TypeAliasSlices, TypeDeclSlices, TypeSlices, TypeStatementSlices, TypesSlice, UseItemSlices, UsePathSlices, UseSlices, VariantCaseSlices, VariantDeclSlices, WorldDeclSlices, WorldExportSlices, WorldImportSlices, WorldIncludeItemSlices, WorldIncludeSlices, WorldItemPathSlices, WorldItemSlices, WorldRefSlices}
 use Rattle.wac_printer.specs.Sliced.{IfThere, ArgumentNameSliced, ArgumentSliced, ArgumentsSliced, ConstructorSliced, DirectiveSliced, DocumentSliced, EnumCaseSliced, EnumDeclSliced, ExportOptionsSliced, ExportStatementSliced, ExprSliced, ExternNameSliced, ExternTypeSliced, FieldSliced, FlagSliced, FlagsDeclSliced, FuncTypeRefSliced, FuncTypeSliced, IdentSliced, ImportStatementSliced, ImportTypeSliced, InlineInterfaceSliced, InterfaceDeclSliced, InterfaceExportSliced, InterfaceItemSliced, ItemTypeDeclSliced, LetStatementSliced, MethodSliced, NamedTypeSliced, NamedWorldItemSliced, OptionalTySliced, PackageNameSliced, PackagePathSliced, PostfixExprSliced, PrimaryExprSliced, RecordDeclSliced, ResourceDeclSliced, ResourceMethodSliced, ResultListSliced, StatementSliced, StringSliced, TySliced, TypeAliasKindSliced, TypeAliasSliced, TypeDeclSliced, TypeStatementSliced, TypesSliced, UseItemSliced, UsePathSliced, UseSliced, VariantCaseSliced, VariantDeclSliced, WorldDeclSliced, WorldExportSliced, WorldImportSliced, WorldIncludeItemSliced, WorldIncludeSliced, WorldItemPathSliced, WorldItemSliced, WorldRefSliced}
 
 every : {X : Type 0} (P Q : X → Type 0) → ((x : X) → P x → Q x) → (xs : List X) → All P xs → All Q xs

@@ -1,7 +1,7 @@
 -- Parts of the layout of an instantiation.
 use Rattle.std.specs.Prelude.{ℕ, Bool, true, false, List, [], ◌∷◌, ◌++◌, codes}
-use Rattle.wac_ast.specs.Tree as tree
-use Rattle.wac_ast.specs.Tree.{Arguments, PackageName, InstantiationArgument}
+use Rattle.wac_grammar.specs.Tree as tree
+use Rattle.wac_grammar.specs.Tree.{Arguments, PackageName, InstantiationArgument}
 use Rattle.wac_layout.specs.Printed.{Piece, token, line, deeper}
 use Rattle.wac_layout.specs.Parts.{space, newline}
 use Rattle.wac_layout.specs.ExpressionLayout.{argument_layout, arguments_layout, braced_layout}

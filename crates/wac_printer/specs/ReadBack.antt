@@ -1,8 +1,8 @@
 -- What is promised of the text that is printed of a document.
 use Rattle.std.specs.Prelude.{◌≡◌, ℕ, true, List, ◌++◌, Result, Ok, Err}
 use Rattle.std.specs.Str.{IsUtf8}
-use Rattle.wac_ast.specs.Tree.{Document}
-use Rattle.wac_ast.specs.Document.{IsTreeOf}
+use Rattle.wac_grammar.specs.Tree.{Document}
+use Rattle.wac_grammar.specs.TextTree.{IsTreeOf}
 use Rattle.wac_layout.specs.Joins.{AreBlanks}
 use Rattle.wac_layout.specs.Reread.{printed, ReadsBack}
 use Rattle.wac_printer.specs.Printed.{Printer}

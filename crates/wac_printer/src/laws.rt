@@ -1,7 +1,7 @@
 // Laws of the definitions that the printer's contracts cite. Each function does nothing: its contract is the law.
 ghost use Rattle.std.specs.Prelude.{◌≡◌, ℕ, Bool, List, Result};
-ghost use Rattle.wac_ast.specs.Tree.{Document};
-ghost use Rattle.wac_ast.specs.Slices.{DocumentSlices};
+ghost use Rattle.wac_grammar.specs.Tree.{Document};
+ghost use Rattle.wac_grammar.specs.Slices.{DocumentSlices};
 ghost use Rattle.wac_printer.specs.Sliced.{DocumentSliced};
 ghost use Rattle.wac_printer.specs.Printed.{Printer, Prints};
 ghost use Rattle.wac_printer.specs.ReadBack.{IsReadBack};

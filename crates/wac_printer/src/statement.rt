@@ -2,9 +2,11 @@
 ghost use Rattle.std.specs.List.{All};
 ghost use Rattle.std.specs.Prelude.{◌≡◌, map};
 ghost use Rattle.std.specs.Option.{option_map};
-ghost use Rattle.wac_ast.specs.Views.{directive_of, export_options_of, export_statement_of, extern_name_of, let_statement_of, package_path_of};
+ghost use Rattle.wac_ast.specs.Statements.{directive_of, export_options_of, export_statement_of, let_statement_of};
+ghost use Rattle.wac_syntax.specs.Names.{extern_name_of, package_path_of};
 ghost use Rattle.wac_ast.specs.Statements.{document_of, statement_of};
-ghost use Rattle.wac_ast.specs.Interfaces.{import_statement_of, import_type_of, type_statement_of};
+ghost use Rattle.wac_worlds.specs.Worlds.{import_statement_of, import_type_of};
+ghost use Rattle.wac_ast.specs.Statements.{type_statement_of};
 ghost use Rattle.wac_printer.specs.Printed.{Prints};
 ghost use Rattle.wac_printer.specs.Sliced.{DirectiveSliced, DocumentSliced, ExportOptionsSliced, ExportStatementSliced, ExternNameSliced, IfThere, ImportStatementSliced, ImportTypeSliced, LetStatementSliced, PackagePathSliced, StatementSliced, TypeStatementSliced};
 ghost use Rattle.wac_layout.specs.Bare.{bare_directive, bare_document, bare_export_options, bare_export_statement, bare_extern_name, bare_import_statement, bare_import_type, bare_let_statement, bare_package_path, bare_statement, bare_type_statement, doc_lines};
@@ -44,10 +46,10 @@ pub struct Page<'t, 'a> {
 impl<'t, 'a> Model for Page<'t, 'a> {
     ghost use Rattle.std.specs.Prelude.{[]};
     ghost use Rattle.std.specs.Coded.{codes};
-    ghost use Rattle.wac_ast.specs.contracts.ast.types.«Type» as ty;
-    ghost use Rattle.wac_ast.specs.contracts.ast.expr.PrimaryExpr as primary;
+    ghost use Rattle.wac_declarations.specs.contracts.types.«Type» as ty;
+    ghost use Rattle.wac_expressions.specs.contracts.expr.PrimaryExpr as primary;
     ghost use mir.Syntax.{erased};
-    ghost use Rattle.wac_ast.specs.declared.ast.Document.{Document};
+    ghost use Rattle.wac_ast.specs.declared.document.Document.{Document};
 
     ghost Value = { Document };
 
@@ -67,10 +69,10 @@ struct Statements<'t, 'a> {
 impl<'t, 'a> Model for Statements<'t, 'a> {
     ghost use Rattle.std.specs.Prelude.{List, []};
     ghost use Rattle.std.specs.Coded.{codes};
-    ghost use Rattle.wac_ast.specs.contracts.ast.types.«Type» as ty;
-    ghost use Rattle.wac_ast.specs.contracts.ast.expr.PrimaryExpr as primary;
+    ghost use Rattle.wac_declarations.specs.contracts.types.«Type» as ty;
+    ghost use Rattle.wac_expressions.specs.contracts.expr.PrimaryExpr as primary;
     ghost use mir.Syntax.{erased};
-    ghost use Rattle.wac_ast.specs.declared.ast.Statement.{Statement};
+    ghost use Rattle.wac_ast.specs.declared.statement.Statement.{Statement};
 
     ghost Value = { List Statement };
 

@@ -1,11 +1,12 @@
 -- What is answered of a source that has no tree.
 use Rattle.std.proofs.Common.{◌≡◌, ℕ, List, Err, inl, inr, refl, ⊎_elim}
 use Rattle.std.specs.Prelude.{◌⊎◌, IsUtf8, alloc_error}
-use Rattle.wac_ast.specs.Tree.{Document}
-use Rattle.wac_ast.specs.Document.{IsTreeOf, ErrorOf}
-use Rattle.wac_ast.specs.Error.{told_by}
-use Rattle.wac_ast.specs.declared.error.Error.{Error}
-use Rattle.wac_ast.specs.declared.error.Error.TheVariants as errors
+use Rattle.wac_grammar.specs.Tree.{Document}
+use Rattle.wac_grammar.specs.TextTree.{IsTreeOf}
+use Rattle.wac_ast.specs.Document.{ErrorOf}
+use Rattle.wac_syntax.specs.Error.{told_by}
+use Rattle.wac_syntax.specs.declared.error.Error.{Error}
+use Rattle.wac_syntax.specs.declared.error.Error.TheVariants as errors
 use Rattle.wac_tool.specs.Running.{Answers, IsRefusal}
 use Rattle.wac_tool.specs.declared.command.Command.TheVariants.{Fmt}
 use Rattle.wac_tool.specs.declared.error.RunError.{RunError}

@@ -7,11 +7,12 @@ use Rattle.wac_lexer.specs.Characters.{refused}
 use Rattle.wac_lexer.specs.Messages.{name_of, text_of}
 use Rattle.wac_lexer.specs.declared.token.Token.{Token}
 use Rattle.wac_lexer.specs.declared.error.Error.{Error as Fault}
-use Rattle.wac_ast.specs.Tree.{Document}
-use Rattle.wac_ast.specs.Document.{IsTreeOf, ErrorOf}
-use Rattle.wac_ast.specs.Error.{Told, faulty, expected_one, expected_either, expected_many, empty_type, invalid_version, no_memory, told_by}
-use Rattle.wac_ast.specs.declared.error.Error.{Error}
-use Rattle.wac_ast.specs.declared.error.Error.TheVariants as errors
+use Rattle.wac_grammar.specs.Tree.{Document}
+use Rattle.wac_grammar.specs.TextTree.{IsTreeOf}
+use Rattle.wac_ast.specs.Document.{ErrorOf}
+use Rattle.wac_syntax.specs.Error.{Told, faulty, expected_one, expected_either, expected_many, empty_type, invalid_version, no_memory, told_by}
+use Rattle.wac_syntax.specs.declared.error.Error.{Error}
+use Rattle.wac_syntax.specs.declared.error.Error.TheVariants as errors
 use Rattle.wac_tool.specs.Front.{Began}
 use Rattle.wac_layout.specs.Reread.{printed as printed_with}
 use Rattle.wac_tool.specs.declared.command.Command.{Command}

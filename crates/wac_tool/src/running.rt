@@ -2,7 +2,7 @@
 ghost use Rattle.std.specs.Prelude.{◌≡◌, ◌+◌, ◌++◌, [], OnOk, OnErr, IfOk, IfErr, ◌⊎◌, alloc_error, IsUtf8, Some, string_bytes};
 ghost use Rattle.std.specs.Io.{appended_bytes};
 ghost use Rattle.wac_lexer.specs.Span.{Span};
-ghost use Rattle.wac_ast.specs.Error.{told_by};
+ghost use Rattle.wac_syntax.specs.Error.{told_by};
 ghost use Rattle.wac_ast.specs.Statements.{document_of};
 ghost use Rattle.wac_printer.specs.Sliced.{DocumentSliced};
 ghost use Rattle.wac_tool.specs.Front.{Began};

@@ -1,12 +1,12 @@
 use Rattle.std.proofs.Common.{arith, rules, ap, refl, sym, subst, map, ◌∙◌, ◌≡◌, ◌≤◌, ◌<◌, ◌++◌, ◌∷◌, [], codes, length, true, false, Err}
 use Rattle.std.specs.List.{All}
 use denote.Param.Weighed.{most}
-use Rattle.wac_ast.specs.Tree.{arguments_from}
-use Rattle.wac_ast.specs.Views.{argument_of, expr_of, primary_expr_of, new_expr_of}
-use Rattle.wac_ast.specs.declared.ast.expr.InstantiationArgument.{size-InstantiationArgument}
-use Rattle.wac_ast.specs.declared.ast.expr.PrimaryExpr.{size-PrimaryExpr}
-use Rattle.wac_ast.specs.declared.ast.expr.InstantiationArgument.TheViews.{sized-New}
-use Rattle.wac_ast.specs.declared.ast.expr.NestedExpr.{out-NestedExpr}
+use Rattle.wac_grammar.specs.Tree.{arguments_from}
+use Rattle.wac_expressions.specs.Expressions.{argument_of, expr_of, primary_expr_of, new_expr_of}
+use Rattle.wac_expressions.specs.declared.expr.InstantiationArgument.{size-InstantiationArgument}
+use Rattle.wac_expressions.specs.declared.expr.PrimaryExpr.{size-PrimaryExpr}
+use Rattle.wac_expressions.specs.declared.expr.InstantiationArgument.TheViews.{sized-New}
+use Rattle.wac_expressions.specs.declared.expr.NestedExpr.{out-NestedExpr}
 use Rattle.wac_layout.specs.Printed.{token, line, deeper}
 use Rattle.wac_layout.specs.Parts.{space}
 use Rattle.wac_layout.specs.Bare.{bare_argument, bare_expr, bare_primary_expr}

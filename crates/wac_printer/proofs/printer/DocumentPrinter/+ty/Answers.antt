@@ -1,17 +1,15 @@
 use Rattle.std.proofs.Common.{arith, ap, sym, subst, ◌∙◌, ◌≡◌, ◌≤◌, [], ◌∷◌, ◌++◌, codes, length, rules, Err}
-use Rattle.std.specs.List.{flat_map}
+use Rattle.std.specs.List.{flat_map, All}
 use denote.Param.Weighed.{most}
-use Rattle.wac_ast.specs.Types.{ty_of}
+use Rattle.wac_declarations.specs.Types.{ty_of}
 use Rattle.wac_layout.specs.Printed.{token}
 use Rattle.wac_layout.specs.Bare.{bare_ty}
 use Rattle.wac_printer.specs.Sliced.{TySliced}
-use Rattle.wac_layout.specs.Parts.{space}
+use Rattle.wac_layout.specs.Parts.{space, joined}
 use Rattle.wac_layout.specs.TypeLayout.{ty_layout}
-use Rattle.std.specs.List.{All}
-use Rattle.wac_ast.specs.declared.ast.types.«Type».{size-Type}
+use Rattle.wac_declarations.specs.declared.types.«Type».{size-Type}
 use Rattle.wac_printer.specs.Printed.{Prints}
 use Rattle.wac_printer.proofs.Trees.{most_at, most_rest, tuple_sliced, size_tuple, tuple_printed}
-use Rattle.wac_layout.specs.Parts.{joined}
 use Rattle.wac_printer.proofs.PartsOf.{joined-none, joined-some, All-rest, no_items}
 use Rattle.wac_printer.proofs.Progress.{part_at, starts, goes_at, stops_at, ends, first_stops, first_goes, none_is, others_sliced}
 use Rattle.wac_printer.proofs.printer.DocumentPrinter.+ty.Goals as goal

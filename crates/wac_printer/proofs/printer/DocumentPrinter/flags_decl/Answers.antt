@@ -1,6 +1,6 @@
 use Rattle.std.proofs.Common.{map, sym, subst, ◌∙◌}
 use Rattle.std.specs.List.{All}
-use Rattle.wac_ast.specs.Views.{flag_of}
+use Rattle.wac_declarations.specs.Declarations.{flag_of}
 use Rattle.wac_printer.specs.Sliced.{FlagSliced}
 use Rattle.wac_printer.proofs.Progress.{All-at}
 use Rattle.wac_printer.proofs.printer.DocumentPrinter.flags_decl.Goals as goal

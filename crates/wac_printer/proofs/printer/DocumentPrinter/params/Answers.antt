@@ -1,4 +1,4 @@
-use Rattle.wac_ast.specs.Declarations.{named_type_of}
+use Rattle.wac_declarations.specs.Declarations.{named_type_of}
 use Rattle.wac_printer.specs.Sliced.{NamedTypeSliced}
 use Rattle.wac_printer.proofs.Progress.{All-at}
 use Rattle.wac_printer.proofs.printer.DocumentPrinter.params.Goals as goal

@@ -1,6 +1,6 @@
 use Rattle.std.proofs.Common.{map, sym, subst, ◌∙◌}
 use Rattle.std.specs.List.{All}
-use Rattle.wac_ast.specs.Declarations.{variant_case_of}
+use Rattle.wac_declarations.specs.Declarations.{variant_case_of}
 use Rattle.wac_printer.specs.Sliced.{VariantCaseSliced}
 use Rattle.wac_printer.proofs.Progress.{All-at}
 use Rattle.wac_printer.proofs.printer.DocumentPrinter.variant_decl.Goals as goal

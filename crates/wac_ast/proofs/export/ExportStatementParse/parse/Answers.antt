@@ -1,0 +1,38 @@
+use Rattle.std.proofs.Common.{◌≡◌, refl, ◌∙◌}
+use Rattle.std.proofs.lemmas.Result.{err_from_is_err_and}
+use Rattle.wac_grammar.specs.Grammar.{export_statement}
+use Rattle.wac_syntax.specs.Answer.{end_of_input}
+use Rattle.wac_grammar.proofs.Fixed.{read_is}
+use Rattle.wac_syntax.proofs.Loops.{fails_bind}
+use Rattle.wac_syntax.proofs.Lists.{moved_end}
+use Rattle.wac_ast.proofs.export.ExportStatementParse.parse.Goals as goal
+
+pub returns-in_err-expr-clause-gives : goal.returns-in_err-expr-clause-gives
+returns-in_err-expr-clause-gives c =
+    let p = err_from_is_err_and c.from_residual-in_err-expr.result c.from_residual-in_err-expr.ensures.1 in
+    let e = c.in_err-expr.field-0.0 in
+    let end = end_of_input c.args.lexer.now in
+    let keyword = c.in_ok-take_token.ensures.takes in
+    let here = moved_end e _ end _ (keyword.2) c.in_err-expr.ensures.gives in
+    rw (p.1, p.2, read_is export_statement, keyword.0) (fails_bind e end _ _ (fails_bind e end _ _ (fails_bind e end _ _ (fails_bind e end _ _ here))))
+
+pub returns-in_err-options-clause-gives : goal.returns-in_err-options-clause-gives
+returns-in_err-options-clause-gives c =
+    let p = err_from_is_err_and c.from_residual-in_err-options.result c.from_residual-in_err-options.ensures.1 in
+    let e = c.in_err-options.field-0.0 in
+    let end = end_of_input c.args.lexer.now in
+    let keyword = c.in_ok-take_token.ensures.takes in
+    let expr = c.in_ok-expr.ensures.gives in
+    let here = moved_end e _ end _ (expr.1 ∙ keyword.2) c.in_err-options.ensures.gives in
+    rw (p.1, p.2, read_is export_statement, keyword.0, expr.0) (fails_bind e end _ _ (fails_bind e end _ _ (fails_bind e end _ _ (fails_bind e end _ _ (fails_bind e end _ _ here)))))
+
+pub returns-in_err-take_token-2-clause-gives : goal.returns-in_err-take_token-2-clause-gives
+returns-in_err-take_token-2-clause-gives c =
+    let p = err_from_is_err_and c.from_residual-in_err-take_token-2.result c.from_residual-in_err-take_token-2.ensures.1 in
+    let e = c.in_err-take_token-2.field-0.0 in
+    let end = end_of_input c.args.lexer.now in
+    let keyword = c.in_ok-take_token.ensures.takes in
+    let expr = c.in_ok-expr.ensures.gives in
+    let options = c.in_ok-options.ensures.gives in
+    let here = moved_end e _ end _ (options.1 ∙ expr.1 ∙ keyword.2) c.in_err-take_token-2.ensures.takes in
+    rw (p.1, p.2, read_is export_statement, keyword.0, expr.0, options.0) (fails_bind e end _ _ (fails_bind e end _ _ (fails_bind e end _ _ (fails_bind e end _ _ (fails_bind e end _ _ here)))))

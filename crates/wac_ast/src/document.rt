@@ -1,0 +1,119 @@
+//! Documents.
+
+ghost use Rattle.std.specs.Prelude.{◌≡◌, ◌<◌, ◌⊎◌, [], map, alloc_error, IfOk, IfErr, OnOk, MatchResult};
+ghost use Rattle.wac_lexer.specs.Reading.{left};
+ghost use Rattle.wac_syntax.specs.declared.error.Error.TheVariants.{Memory};
+ghost use Rattle.wac_syntax.specs.Error.{told_by};
+ghost use Rattle.wac_grammar.specs.Tree.{Document as Tree};
+ghost use Rattle.wac_syntax.specs.Answer.{Gives};
+ghost use Rattle.wac_grammar.specs.TextTree.{IsTreeOf};
+ghost use Rattle.wac_ast.specs.Document.{ErrorOf, Parses};
+ghost use Rattle.wac_grammar.specs.Slices.{DocumentSlices};
+ghost use Rattle.wac_grammar.specs.Reading.{read};
+ghost use Rattle.wac_grammar.specs.Grammar as symbols;
+ghost use Rattle.wac_ast.specs.Statements.{directive_of, statement_of, document_of};
+
+use crate::statement::Statement;
+use std::alloc::Global;
+use wac_lexer::{Lexer, Token, items_stand_in_order};
+use wac_syntax::{
+    DocComment, PackageName, PackagePath, Parse, ParseResult, has_more, parse_docs, push,
+    take_optional, take_token,
+};
+
+/// A document.
+#[derive(Drop)]
+pub struct Document<'a> {
+    /// The documentation of the package.
+    pub docs: Vec<DocComment<'a>>,
+    /// Which package the document makes.
+    pub directive: PackageDirective<'a>,
+    /// What it says, in order.
+    pub statements: Vec<Statement<'a>>,
+}
+
+impl<'a> Document<'a> {
+    /// Parses a text as a document.
+    ///
+    /// Spans are in bytes of the text. A text with a character that no text may have is refused for the
+    /// first one, whatever stands before it.
+    pub fn parse(alloc: Global, source: &'a str) -> ParseResult<Self>
+        // What is answered is the text's tree.
+        ensures found { IfOk result (λ d. IsTreeOf source.now (document_of d)) }
+        // Where the text has a tree, that one is answered, unless memory runs out.
+        ensures only { (t : Tree) → IsTreeOf source.now t → MatchResult result (λ d. document_of d ≡ t) (λ e. e ≡ Memory alloc_error) }
+        // A text has at most one tree.
+        ensures one { (t u : Tree) → IsTreeOf source.now t → IsTreeOf source.now u → t ≡ u }
+        // The spans of the tree slice the text.
+        ensures slices { IfOk result (λ d. DocumentSlices source.now (document_of d)) }
+        // An error tells of the first place where no document goes on.
+        ensures error { IfErr result (λ e. (e ≡ Memory alloc_error) ⊎ ErrorOf (told_by e) source.now) }
+    {
+        items_stand_in_order();
+        parse_document(alloc, source)
+    }
+}
+
+/// Parses a text, as reading its items does.
+fn parse_document<'a>(alloc: Global, source: &'a str) -> ParseResult<Document<'a>>
+    ensures { Parses document_of result source.now }
+{
+    let mut lexer = Lexer::new(source)?;
+    parse_parts(alloc, &mut lexer)
+}
+
+/// The parts of a document, up to the end of the input.
+#[tactic(auto, using(wac_grammar::proofs::Fixed::read_is))]
+fn parse_parts<'a>(alloc: Global, lexer: &mut Lexer<'a>) -> ParseResult<Document<'a>>
+    ensures gives { Gives document_of result lexer.old lexer.new (read symbols.document (left lexer.old)) }
+    ensures ended { OnOk result (left lexer.new ≡ []) }
+{
+    let docs = parse_docs(alloc, lexer)?;
+    let directive = Parse::parse(alloc, lexer)?;
+    let statements = parse_statements(alloc, lexer)?;
+    Ok(Document {
+        docs,
+        directive,
+        statements,
+    })
+}
+
+/// The statements up to the end of the input.
+fn parse_statements<'a>(alloc: Global, lexer: &mut Lexer<'a>) -> ParseResult<Vec<Statement<'a>>>
+    ensures gives { Gives (λ v. map statement_of v.items) result lexer.old lexer.new (read symbols.statements (left lexer.old)) }
+    ensures ended { OnOk result (left lexer.new ≡ []) }
+{
+    let mut statements = Vec::new(alloc);
+    while has_more(lexer) {
+        push(&mut statements, Parse::parse(alloc, lexer)?)?;
+    }
+    Ok(statements)
+}
+
+/// The beginning of a document.
+#[derive(Drop)]
+pub struct PackageDirective<'a> {
+    /// The package that the document makes.
+    pub package: PackageName<'a>,
+    /// The world that its composition is made for, where it is given.
+    pub targets: Option<PackagePath<'a>>,
+}
+
+impl<'a> Parse<'a> for PackageDirective<'a> {
+    ghost symbol = { symbols.directive };
+
+    ghost tree = { directive_of };
+
+    #[tactic(auto, using(wac_grammar::proofs::Fixed::read_is))]
+    fn parse(alloc: Global, lexer: &mut Lexer<'a>) -> ParseResult<Self> {
+        take_token(lexer, Token::PackageKeyword)?;
+        let package = Parse::parse(alloc, lexer)?;
+        let targets = if take_optional(lexer, Token::TargetsKeyword)? {
+            Some(Parse::parse(alloc, lexer)?)
+        } else {
+            None
+        };
+        take_token(lexer, Token::Semicolon)?;
+        Ok(PackageDirective { package, targets })
+    }
+}

@@ -1,0 +1,49 @@
+//! Bindings.
+
+ghost use Rattle.wac_grammar.specs.Grammar as symbols;
+ghost use Rattle.wac_grammar.specs.Reading.{begins};
+ghost use Rattle.wac_syntax.specs.Lookahead.{Peeks};
+ghost use Rattle.wac_ast.specs.Statements.{let_statement_of};
+
+use std::alloc::Global;
+use wac_expressions::Expr;
+use wac_lexer::{Lexer, Token};
+use wac_syntax::{DocComment, Ident, Lookahead, Parse, ParseResult, Peek, parse_docs, take_token};
+
+/// A binding of a name to an expression.
+#[derive(Drop)]
+pub struct LetStatement<'a> {
+    /// The documentation before it.
+    pub docs: Vec<DocComment<'a>>,
+    /// The name.
+    pub id: Ident<'a>,
+    /// What it is bound to.
+    pub expr: Expr<'a>,
+}
+
+impl<'a> Parse<'a> for LetStatement<'a> {
+    ghost symbol = { symbols.let_statement };
+
+    ghost tree = { let_statement_of };
+
+    #[tactic(auto, using(wac_grammar::proofs::Fixed::read_is, wac_grammar::proofs::Docs::docs_of_token))]
+    fn parse(alloc: Global, lexer: &mut Lexer<'a>) -> ParseResult<Self> {
+        let docs = parse_docs(alloc, lexer)?;
+        take_token(lexer, Token::LetKeyword)?;
+        let id = Parse::parse(alloc, lexer)?;
+        take_token(lexer, Token::Equals)?;
+        let expr = Parse::parse(alloc, lexer)?;
+        take_token(lexer, Token::Semicolon)?;
+        Ok(LetStatement { docs, id, expr })
+    }
+}
+
+impl<'a> Peek for LetStatement<'a> {
+    ghost firsts = { begins symbols.let_statement };
+
+    fn peek(lookahead: &mut Lookahead) -> bool
+        ensures { Peeks (begins symbols.let_statement) result lookahead.old lookahead.new }
+    {
+        lookahead.peek(Token::LetKeyword)
+    }
+}

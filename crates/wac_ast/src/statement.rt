@@ -1,0 +1,48 @@
+//! The statements of a document.
+
+ghost use Rattle.std.specs.Prelude.{◌<◌};
+ghost use Rattle.wac_grammar.specs.Grammar as symbols;
+ghost use Rattle.wac_ast.specs.Statements.{statement_of};
+
+use crate::export::ExportStatement;
+use crate::let_statement::LetStatement;
+use crate::type_statement::TypeStatement;
+use std::alloc::Global;
+use wac_lexer::Lexer;
+use wac_syntax::{Lookahead, Parse, ParseResult, Peek};
+use wac_worlds::ImportStatement;
+
+/// A statement of a document.
+#[derive(Drop)]
+pub enum Statement<'a> {
+    /// An import.
+    Import(ImportStatement<'a>),
+    /// The declaration of an interface, a world or a type.
+    Ty(TypeStatement<'a>),
+    /// A binding.
+    Let(LetStatement<'a>),
+    /// An export.
+    Export(ExportStatement<'a>),
+}
+
+impl<'a> Parse<'a> for Statement<'a> {
+    ghost symbol = { symbols.statement };
+
+    ghost tree = { statement_of };
+
+    #[tactic(auto, using(wac_grammar::proofs::Fixed::read_is))]
+    fn parse(alloc: Global, lexer: &mut Lexer<'a>) -> ParseResult<Self> {
+        let mut lookahead = Lookahead::new(lexer);
+        if ImportStatement::peek(&mut lookahead) {
+            Ok(Statement::Import(Parse::parse(alloc, lexer)?))
+        } else if LetStatement::peek(&mut lookahead) {
+            Ok(Statement::Let(Parse::parse(alloc, lexer)?))
+        } else if ExportStatement::peek(&mut lookahead) {
+            Ok(Statement::Export(Parse::parse(alloc, lexer)?))
+        } else if TypeStatement::peek(&mut lookahead) {
+            Ok(Statement::Ty(Parse::parse(alloc, lexer)?))
+        } else {
+            Err(lookahead.error())
+        }
+    }
+}

@@ -1,0 +1,53 @@
+//! Statements that declare an interface, a world or a type.
+
+ghost use Rattle.wac_grammar.specs.Grammar as symbols;
+ghost use Rattle.wac_grammar.specs.Reading.{begins};
+ghost use Rattle.wac_syntax.specs.Lookahead.{Peeks};
+ghost use Rattle.wac_ast.specs.Statements.{type_statement_of};
+
+use std::alloc::Global;
+use wac_declarations::TypeDecl;
+use wac_lexer::Lexer;
+use wac_syntax::{Lookahead, Parse, ParseResult, Peek};
+use wac_worlds::{InterfaceDecl, WorldDecl};
+
+/// A statement that declares something.
+#[derive(Drop)]
+pub enum TypeStatement<'a> {
+    /// An interface.
+    Interface(InterfaceDecl<'a>),
+    /// A world.
+    World(WorldDecl<'a>),
+    /// A type.
+    Ty(TypeDecl<'a>),
+}
+
+impl<'a> Parse<'a> for TypeStatement<'a> {
+    ghost symbol = { symbols.type_statement };
+
+    ghost tree = { type_statement_of };
+
+    #[tactic(auto, using(wac_grammar::proofs::Fixed::read_is))]
+    fn parse(alloc: Global, lexer: &mut Lexer<'a>) -> ParseResult<Self> {
+        let mut lookahead = Lookahead::new(lexer);
+        if InterfaceDecl::peek(&mut lookahead) {
+            Ok(TypeStatement::Interface(Parse::parse(alloc, lexer)?))
+        } else if WorldDecl::peek(&mut lookahead) {
+            Ok(TypeStatement::World(Parse::parse(alloc, lexer)?))
+        } else if TypeDecl::peek(&mut lookahead) {
+            Ok(TypeStatement::Ty(Parse::parse(alloc, lexer)?))
+        } else {
+            Err(lookahead.error())
+        }
+    }
+}
+
+impl<'a> Peek for TypeStatement<'a> {
+    ghost firsts = { begins symbols.type_statement };
+
+    fn peek(lookahead: &mut Lookahead) -> bool
+        ensures { Peeks (begins symbols.type_statement) result lookahead.old lookahead.new }
+    {
+        InterfaceDecl::peek(lookahead) || WorldDecl::peek(lookahead) || TypeDecl::peek(lookahead)
+    }
+}

@@ -1,0 +1,3 @@
+pub mod TypeParts
+pub mod FuncTypes
+pub mod Filled

@@ -1,0 +1,30 @@
+use Rattle.std.proofs.Common.{◌≡◌, refl}
+use Rattle.wac_grammar.specs.Grammar.{resource_method}
+use Rattle.wac_grammar.proofs.Fixed.{read_is}
+use Rattle.wac_syntax.proofs.Lookaheads.{looks, looks_on, looks_fail, tests}
+use Rattle.wac_declarations.proofs.resource.ResourceMethodParse.parse.Goals as goal
+
+pub returns-in_ok-parse-clause-gives : goal.returns-in_ok-parse-clause-gives
+returns-in_ok-parse-clause-gives c =
+    let begun = looks c.args.lexer.now _ c.new-lookahead.ensures in
+    let first = tests _ _ _ _ _ _ _ begun c.peek.ensures c.if-peek.true in
+    let parsed = c.in_ok-parse.ensures.gives in
+    (rw (read_is resource_method, first, parsed.0) refl, parsed.1)
+
+pub returns-in_ok-parse-2-clause-gives : goal.returns-in_ok-parse-2-clause-gives
+returns-in_ok-parse-2-clause-gives c =
+    let begun = looks c.args.lexer.now _ c.new-lookahead.ensures in
+    let no_first = tests _ _ _ _ _ _ _ begun c.peek.ensures c.if-peek.false in
+    let then_second = looks_on _ _ _ _ _ _ begun c.peek.ensures c.if-peek.false in
+    let second = tests _ _ _ _ _ _ _ then_second c.peek-else-peek.ensures c.if-peek-2.true in
+    let parsed = c.in_ok-parse-2.ensures.gives in
+    (rw (read_is resource_method, no_first, second, parsed.0) refl, parsed.1)
+
+pub returns-else-peek-2-clause-gives : goal.returns-else-peek-2-clause-gives
+returns-else-peek-2-clause-gives c =
+    let begun = looks c.args.lexer.now _ c.new-lookahead.ensures in
+    let no_first = tests _ _ _ _ _ _ _ begun c.peek.ensures c.if-peek.false in
+    let then_second = looks_on _ _ _ _ _ _ begun c.peek.ensures c.if-peek.false in
+    let no_second = tests _ _ _ _ _ _ _ then_second c.peek-else-peek.ensures c.if-peek-2.false in
+    let then_third = looks_on _ _ _ _ _ _ then_second c.peek-else-peek.ensures c.if-peek-2.false in
+    looks_fail c.args.lexer.now _ _ _ _ c.error.result _ then_third c.error.ensures refl (rw (read_is resource_method, no_first, no_second) refl)

@@ -1,0 +1,91 @@
+//! Records.
+
+ghost use Rattle.wac_grammar.specs.Grammar as symbols;
+ghost use Rattle.wac_grammar.specs.Reading.{begins};
+ghost use Rattle.wac_syntax.specs.Lookahead.{Peeks};
+ghost use Rattle.wac_declarations.specs.Declarations.{field_of, record_decl_of};
+
+use crate::func_type::NamedType;
+use crate::types::Type;
+use std::alloc::Global;
+use wac_lexer::{Lexer, Token};
+use wac_syntax::{
+    DocComment, Error, Ident, Lookahead, Parse, ParseResult, Peek, parse_docs, parse_list,
+    refuse_empty, take_token,
+};
+
+/// A type of values with named parts.
+#[derive(Drop)]
+pub struct RecordDecl<'a> {
+    /// The documentation before it.
+    pub docs: Vec<DocComment<'a>>,
+    /// The name.
+    pub id: Ident<'a>,
+    /// The parts, at least one.
+    pub fields: Vec<Field<'a>>,
+}
+
+impl<'a> Parse<'a> for RecordDecl<'a> {
+    ghost symbol = { symbols.record_decl };
+
+    ghost tree = { record_decl_of };
+
+    #[tactic(auto, using(wac_grammar::proofs::Fixed::read_is))]
+    fn parse(alloc: Global, lexer: &mut Lexer<'a>) -> ParseResult<Self> {
+        let docs = parse_docs(alloc, lexer)?;
+        take_token(lexer, Token::RecordKeyword)?;
+        let id = Parse::parse(alloc, lexer)?;
+        take_token(lexer, Token::OpenBrace)?;
+        refuse_empty(lexer, "record", "field")?;
+        let (fields, _) = parse_list::<Field, Error>(alloc, lexer, Token::CloseBrace)?;
+        Ok(RecordDecl { docs, id, fields })
+    }
+}
+
+impl<'a> Peek for RecordDecl<'a> {
+    ghost firsts = { begins symbols.record_decl };
+
+    fn peek(lookahead: &mut Lookahead) -> bool
+        ensures { Peeks (begins symbols.record_decl) result lookahead.old lookahead.new }
+    {
+        lookahead.peek(Token::RecordKeyword)
+    }
+}
+
+/// A part of a record.
+#[derive(Drop)]
+pub struct Field<'a> {
+    /// The documentation before it.
+    pub docs: Vec<DocComment<'a>>,
+    /// The name.
+    pub id: Ident<'a>,
+    /// What it holds.
+    pub ty: Type<'a>,
+}
+
+impl<'a> Parse<'a> for Field<'a> {
+    ghost symbol = { symbols.field };
+
+    ghost tree = { field_of };
+
+    #[tactic(auto, using(wac_grammar::proofs::Fixed::read_is, wac_grammar::proofs::Docs::docs_of_sym))]
+    fn parse(alloc: Global, lexer: &mut Lexer<'a>) -> ParseResult<Self> {
+        let docs = parse_docs(alloc, lexer)?;
+        let named: NamedType = Parse::parse(alloc, lexer)?;
+        Ok(Field {
+            docs,
+            id: named.id,
+            ty: named.ty,
+        })
+    }
+}
+
+impl<'a> Peek for Field<'a> {
+    ghost firsts = { begins symbols.field };
+
+    fn peek(lookahead: &mut Lookahead) -> bool
+        ensures { Peeks (begins symbols.field) result lookahead.old lookahead.new }
+    {
+        NamedType::peek(lookahead)
+    }
+}

@@ -1,0 +1,182 @@
+//! Resources.
+
+ghost use Rattle.wac_grammar.specs.Grammar as symbols;
+ghost use Rattle.wac_grammar.specs.Reading.{begins};
+ghost use Rattle.wac_syntax.specs.Lookahead.{Peeks};
+ghost use Rattle.wac_declarations.specs.Declarations.{constructor_of, method_of, resource_method_of, resource_decl_of};
+
+use crate::func_type::{FuncType, NamedType};
+use std::alloc::Global;
+use wac_lexer::{Lexer, SourceSpan, Token};
+use wac_syntax::{
+    DocComment, Error, Ident, Lookahead, Parse, ParseResult, Peek, at, parse_body, parse_docs,
+    parse_list, take_token,
+};
+
+/// A resource type.
+#[derive(Drop)]
+pub struct ResourceDecl<'a> {
+    /// The documentation before it.
+    pub docs: Vec<DocComment<'a>>,
+    /// The name.
+    pub id: Ident<'a>,
+    /// The constructors and methods, in order.
+    pub methods: Vec<ResourceMethod<'a>>,
+}
+
+impl<'a> Parse<'a> for ResourceDecl<'a> {
+    ghost symbol = { symbols.resource_decl };
+
+    ghost tree = { resource_decl_of };
+
+    #[tactic(auto, using(wac_grammar::proofs::Fixed::read_is, wac_grammar::proofs::Docs::docs_of_token))]
+    fn parse(alloc: Global, lexer: &mut Lexer<'a>) -> ParseResult<Self> {
+        let docs = parse_docs(alloc, lexer)?;
+        take_token(lexer, Token::ResourceKeyword)?;
+        let id = Parse::parse(alloc, lexer)?;
+        let mut lookahead = Lookahead::new(lexer);
+        let methods = if lookahead.peek(Token::Semicolon) {
+            take_token(lexer, Token::Semicolon)?;
+            Vec::new(alloc)
+        } else if lookahead.peek(Token::OpenBrace) {
+            take_token(lexer, Token::OpenBrace)?;
+            let (methods, _) = parse_body::<ResourceMethod, Error>(alloc, lexer)?;
+            methods
+        } else {
+            return Err(lookahead.error());
+        };
+        Ok(ResourceDecl { docs, id, methods })
+    }
+}
+
+impl<'a> Peek for ResourceDecl<'a> {
+    ghost firsts = { begins symbols.resource_decl };
+
+    fn peek(lookahead: &mut Lookahead) -> bool
+        ensures { Peeks (begins symbols.resource_decl) result lookahead.old lookahead.new }
+    {
+        lookahead.peek(Token::ResourceKeyword)
+    }
+}
+
+/// What the body of a resource has.
+#[derive(Drop)]
+pub enum ResourceMethod<'a> {
+    /// A constructor.
+    Constructor(Constructor<'a>),
+    /// A method.
+    Method(Method<'a>),
+}
+
+impl<'a> Parse<'a> for ResourceMethod<'a> {
+    ghost symbol = { symbols.resource_method };
+
+    ghost tree = { resource_method_of };
+
+    #[tactic(auto, using(wac_grammar::proofs::Fixed::read_is))]
+    fn parse(alloc: Global, lexer: &mut Lexer<'a>) -> ParseResult<Self> {
+        let mut lookahead = Lookahead::new(lexer);
+        if Constructor::peek(&mut lookahead) {
+            Ok(ResourceMethod::Constructor(Parse::parse(alloc, lexer)?))
+        } else if Method::peek(&mut lookahead) {
+            Ok(ResourceMethod::Method(Parse::parse(alloc, lexer)?))
+        } else {
+            Err(lookahead.error())
+        }
+    }
+}
+
+impl<'a> Peek for ResourceMethod<'a> {
+    ghost firsts = { begins symbols.resource_method };
+
+    fn peek(lookahead: &mut Lookahead) -> bool
+        ensures { Peeks (begins symbols.resource_method) result lookahead.old lookahead.new }
+    {
+        Constructor::peek(lookahead) || Method::peek(lookahead)
+    }
+}
+
+/// A constructor of a resource.
+#[derive(Drop)]
+pub struct Constructor<'a> {
+    /// The documentation before it.
+    pub docs: Vec<DocComment<'a>>,
+    /// Where the keyword stands.
+    pub span: SourceSpan,
+    /// The parameters.
+    pub params: Vec<NamedType<'a>>,
+}
+
+impl<'a> Parse<'a> for Constructor<'a> {
+    ghost symbol = { symbols.constructor };
+
+    ghost tree = { constructor_of };
+
+    #[tactic(auto, using(wac_grammar::proofs::Fixed::read_is, wac_grammar::proofs::Docs::docs_of_token))]
+    fn parse(alloc: Global, lexer: &mut Lexer<'a>) -> ParseResult<Self> {
+        let docs = parse_docs(alloc, lexer)?;
+        let span = take_token(lexer, Token::ConstructorKeyword)?;
+        take_token(lexer, Token::OpenParen)?;
+        let (params, _) = parse_list::<NamedType, Error>(alloc, lexer, Token::CloseParen)?;
+        take_token(lexer, Token::Semicolon)?;
+        Ok(Constructor { docs, span, params })
+    }
+}
+
+impl<'a> Peek for Constructor<'a> {
+    ghost firsts = { begins symbols.constructor };
+
+    fn peek(lookahead: &mut Lookahead) -> bool
+        ensures { Peeks (begins symbols.constructor) result lookahead.old lookahead.new }
+    {
+        lookahead.peek(Token::ConstructorKeyword)
+    }
+}
+
+/// A method of a resource.
+#[derive(Drop)]
+pub struct Method<'a> {
+    /// The documentation before it.
+    pub docs: Vec<DocComment<'a>>,
+    /// The name.
+    pub id: Ident<'a>,
+    /// Whether it is called without a resource.
+    pub is_static: bool,
+    /// The type.
+    pub ty: FuncType<'a>,
+}
+
+impl<'a> Parse<'a> for Method<'a> {
+    ghost symbol = { symbols.method };
+
+    ghost tree = { method_of };
+
+    #[tactic(auto, using(wac_grammar::proofs::Fixed::read_is, wac_grammar::proofs::Docs::docs_of_sym))]
+    fn parse(alloc: Global, lexer: &mut Lexer<'a>) -> ParseResult<Self> {
+        let docs = parse_docs(alloc, lexer)?;
+        let id = Parse::parse(alloc, lexer)?;
+        take_token(lexer, Token::Colon)?;
+        let is_static = at(lexer, Token::StaticKeyword);
+        if is_static {
+            take_token(lexer, Token::StaticKeyword)?;
+        }
+        let ty = Parse::parse(alloc, lexer)?;
+        take_token(lexer, Token::Semicolon)?;
+        Ok(Method {
+            docs,
+            id,
+            is_static,
+            ty,
+        })
+    }
+}
+
+impl<'a> Peek for Method<'a> {
+    ghost firsts = { begins symbols.method };
+
+    fn peek(lookahead: &mut Lookahead) -> bool
+        ensures { Peeks (begins symbols.method) result lookahead.old lookahead.new }
+    {
+        Ident::peek(lookahead)
+    }
+}

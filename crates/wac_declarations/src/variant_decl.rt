@@ -1,0 +1,93 @@
+//! Variants.
+
+ghost use Rattle.wac_grammar.specs.Grammar as symbols;
+ghost use Rattle.wac_grammar.specs.Reading.{begins};
+ghost use Rattle.wac_syntax.specs.Lookahead.{Peeks};
+ghost use Rattle.wac_declarations.specs.Declarations.{variant_case_of, variant_decl_of};
+
+use crate::types::Type;
+use std::alloc::Global;
+use wac_lexer::{Lexer, Token};
+use wac_syntax::{
+    DocComment, Error, Ident, Lookahead, Parse, ParseResult, Peek, parse_docs, parse_list,
+    refuse_empty, take_optional, take_token,
+};
+
+/// A type of values of several cases.
+#[derive(Drop)]
+pub struct VariantDecl<'a> {
+    /// The documentation before it.
+    pub docs: Vec<DocComment<'a>>,
+    /// The name.
+    pub id: Ident<'a>,
+    /// The cases, at least one.
+    pub cases: Vec<VariantCase<'a>>,
+}
+
+impl<'a> Parse<'a> for VariantDecl<'a> {
+    ghost symbol = { symbols.variant_decl };
+
+    ghost tree = { variant_decl_of };
+
+    #[tactic(auto, using(wac_grammar::proofs::Fixed::read_is))]
+    fn parse(alloc: Global, lexer: &mut Lexer<'a>) -> ParseResult<Self> {
+        let docs = parse_docs(alloc, lexer)?;
+        take_token(lexer, Token::VariantKeyword)?;
+        let id = Parse::parse(alloc, lexer)?;
+        take_token(lexer, Token::OpenBrace)?;
+        refuse_empty(lexer, "variant", "case")?;
+        let (cases, _) = parse_list::<VariantCase, Error>(alloc, lexer, Token::CloseBrace)?;
+        Ok(VariantDecl { docs, id, cases })
+    }
+}
+
+impl<'a> Peek for VariantDecl<'a> {
+    ghost firsts = { begins symbols.variant_decl };
+
+    fn peek(lookahead: &mut Lookahead) -> bool
+        ensures { Peeks (begins symbols.variant_decl) result lookahead.old lookahead.new }
+    {
+        lookahead.peek(Token::VariantKeyword)
+    }
+}
+
+/// A case of a variant.
+#[derive(Drop)]
+pub struct VariantCase<'a> {
+    /// The documentation before it.
+    pub docs: Vec<DocComment<'a>>,
+    /// The name.
+    pub id: Ident<'a>,
+    /// What it holds.
+    pub ty: Option<Type<'a>>,
+}
+
+impl<'a> Parse<'a> for VariantCase<'a> {
+    ghost symbol = { symbols.variant_case };
+
+    ghost tree = { variant_case_of };
+
+    #[tactic(auto, using(wac_grammar::proofs::Fixed::read_is))]
+    fn parse(alloc: Global, lexer: &mut Lexer<'a>) -> ParseResult<Self> {
+        let docs = parse_docs(alloc, lexer)?;
+        let id = Parse::parse(alloc, lexer)?;
+        let ty = if take_optional(lexer, Token::OpenParen)? {
+            let ty = Parse::parse(alloc, lexer)?;
+            take_token(lexer, Token::CloseParen)?;
+            Some(ty)
+        } else {
+            None
+        };
+        Ok(VariantCase { docs, id, ty })
+    }
+}
+
+impl<'a> Peek for VariantCase<'a> {
+    ghost firsts = { begins symbols.variant_case };
+
+    fn peek(lookahead: &mut Lookahead) -> bool
+        ensures { Peeks (begins symbols.variant_case) result lookahead.old lookahead.new }
+    {
+        Ident::peek(lookahead)
+    }
+}

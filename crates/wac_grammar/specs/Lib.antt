@@ -1,0 +1,17 @@
+pub mod Version
+pub mod Tree
+pub mod Tokens
+pub mod Grammar
+pub mod Reading
+pub mod Viable
+pub mod Possible
+pub mod Bodies
+pub mod Arguments
+pub mod Texts
+pub mod Stopped
+pub mod Slices
+pub mod Rows
+pub mod Consumed
+pub mod Spelled
+pub mod TokenTexts
+pub mod TextTree

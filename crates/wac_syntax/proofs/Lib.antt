@@ -1,0 +1,10 @@
+pub mod Places
+pub mod Versions
+pub mod Lookaheads
+pub mod Taken
+pub mod Strips
+pub mod Loops
+pub mod Lists
+pub mod PathParts
+pub mod Optional
+pub mod Alternatives

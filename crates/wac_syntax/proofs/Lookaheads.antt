@@ -1,0 +1,185 @@
+-- Where none of the tokens that were tried is next.
+use Rattle.std.proofs.Common.{◌≡◌, ℕ, suc, Bool, true, false, ◌||◌, cond, if◌then◌else◌, ◌<◌, ◌≤◌, ◌+◌, drop, get_or, ◌^◌, ◌-◌, min, arith, zero, List, [], ◌∷◌, ◌++◌, map, take, length, Option, Some, None, Result, Ok, Err, inr, refl, sym, ap, subst, ◌∙◌}
+use Rattle.std.proofs.Math.Seq.{drop-cons}
+use Rattle.wac_lexer.specs.Span.{Span}
+use Rattle.wac_lexer.specs.Item.{Item, handed}
+use Rattle.wac_lexer.specs.Reading.{Reading, left, shown}
+use Rattle.wac_lexer.specs.declared.token.Token.{Token}
+use Rattle.wac_lexer.specs.declared.error.Error.{Error as LexError}
+use Rattle.wac_syntax.specs.declared.error.Error.{Error}
+use Rattle.wac_grammar.specs.Tokens.{at}
+use Rattle.wac_grammar.specs.Reading.{Stop, Tried, can, other, at_one_of, refuse}
+use Rattle.wac_syntax.specs.Error.{Told, told_by, expected}
+use Rattle.wac_syntax.specs.Lookahead.{Looked, looked, is_next, is_one_of, tried, refusal, told_of, Peeks}
+use Rattle.wac_syntax.specs.Lists.{tells}
+use Rattle.wac_syntax.specs.Answer.{end_of_input, final_span, end_span, told, Fails}
+
+next_is : (k : Token) (xs : List Item) → is_next k (handed xs) ≡ at k xs
+next_is k [] = refl
+next_is k (x ∷ xs) = refl
+
+pub one_of : (ks : List Token) (xs : List Item) → is_one_of ks (handed xs) ≡ at_one_of ks xs
+one_of [] xs = refl
+one_of (k ∷ ks) xs = rw (next_is k xs, one_of ks xs) (go (at k xs))
+  where
+    go : (b : Bool) → (b || at_one_of ks xs) ≡ cond b true (at_one_of ks xs)
+    go true = refl
+    go false = refl
+
+tokens_of : (ks : List Token) → map (λ (t : Tried). t.token) (map can ks) ≡ ks
+tokens_of [] = refl
+tokens_of (k ∷ ks) = ap (λ (l : List Token). k ∷ l) (tokens_of ks)
+
+length_of : (ks : List Token) → length (map can ks) ≡ length ks
+length_of [] = refl
+length_of (k ∷ ks) = ap (λ n. suc n) (length_of ks)
+
+same_refusal : (xs : List Item) (s t : Span) (f : Option Token → Span → Told) → (xs ≡ [] → s ≡ t) → refusal (handed xs) s f ≡ refusal (handed xs) t f
+same_refusal [] s t f h = ap (λ e. f None e) (h refl)
+same_refusal (x ∷ xs) s t f h = go x.token
+  where
+    go : (r : Result Token LexError) → refusal (Some (r, x.span)) s f ≡ refusal (Some (r, x.span)) t f
+    go (Ok k) = refl
+    go (Err e) = refl
+
+last_of_none : (source : List ℕ) (last : Span) (xs : List Item) → xs ≡ [] → shown source last ≡ shown source (final_span last xs)
+last_of_none source last [] h = refl
+last_of_none source last (x ∷ xs) h = absurd cc
+
+tells_end : (source : List ℕ) (last : Span) (xs : List Item) (a b : Token) (ks : List Token) → tells source last xs (a ∷ b ∷ ks)
+    ≡ refusal (handed xs) (end_span (record { source = source; final = final_span last xs }) (map can (a ∷ b ∷ ks))) (expected (take 10 (map (λ (t : Tried). t.token) (map can (a ∷ b ∷ ks)))) (length (map can (a ∷ b ∷ ks))))
+tells_end source last xs a b ks = rw (tokens_of ks, length_of ks) (same_refusal xs (shown source last) (shown source (final_span last xs)) (expected (take 10 (a ∷ b ∷ ks)) (length (a ∷ b ∷ ks))) (last_of_none source last xs))
+
+-- none of several tokens is next
+pub alternatives_fail : {A : Type 0} (e : Error) (l : Reading) (a b : Token) (ks : List Token) (r : Result A Stop) → r ≡ refuse (left l) (map can (a ∷ b ∷ ks)) → told_by e ≡ tells l.source l.last (left l) (a ∷ b ∷ ks) → Fails e (end_of_input l) r
+unfolding told end_of_input
+alternatives_fail {A = A} e l a b ks r is h = subst (λ (m : Result A Stop). Fails e (end_of_input l) m) (sym is) (inr (ap Some (sym (h ∙ tells_end l.source l.last (left l) a b ks))))
+
+-- ---- a lookahead after these tokens were tried
+
+pub record Looks (l : Reading) (ks : List Token) (look : Looked) : Type 0 where
+  pub is : look ≡ tried ks (looked l)
+  pub next : look.next ≡ handed (left l)
+
+pub looks : (l : Reading) (look : Looked) → look ≡ looked l → Looks l [] look
+looks l look h = record { is = h; next = ap (λ (a : Looked). a.next) h }
+
+pub tests : (l : Reading) (ks js : List Token) (look new : Looked) (found b : Bool) → Looks l ks look → Peeks js found look new → found ≡ b → at_one_of js (left l) ≡ b
+tests l ks js look new found b looks peeks h = sym (one_of js (left l)) ∙ ap (is_one_of js) (sym looks.next) ∙ sym peeks.found ∙ h
+
+tried_more : (ks js : List Token) (l : Looked) → tried (ks ++ js) l ≡ tried js (tried ks l)
+tried_more [] js l = refl
+tried_more (k ∷ ks) js l = tried_more ks js (tried (k ∷ []) l)
+
+next_stays : (ks : List Token) (l : Looked) → (tried ks l).next ≡ l.next
+next_stays [] l = refl
+next_stays (k ∷ ks) l = next_stays ks (tried (k ∷ []) l)
+
+pub looks_on : (l : Reading) (ks js : List Token) (look new : Looked) (found : Bool) → Looks l ks look → Peeks js found look new → found ≡ false → Looks l (ks ++ js) new
+looks_on l ks js look new found looks peeks h =
+    let is : new ≡ tried (ks ++ js) (looked l) = peeks.tried h ∙ ap (tried js) looks.is ∙ sym (tried_more ks js (looked l)) in
+    record { is = is; next = ap (λ (a : Looked). a.next) is ∙ next_stays (ks ++ js) (looked l) }
+
+pub looks_fail : {A : Type 0} (l : Reading) (a b : Token) (ks : List Token) (look : Looked) (e : Error) (r : Result A Stop) → Looks l (a ∷ b ∷ ks) look → told_by e ≡ told_of look → told_of (tried (a ∷ b ∷ ks) (looked l)) ≡ tells l.source l.last (left l) (a ∷ b ∷ ks)
+    → r ≡ refuse (left l) (map can (a ∷ b ∷ ks)) → Fails e (end_of_input l) r
+looks_fail l a b ks look e r looks told is stops = alternatives_fail e l a b ks r stops (told ∙ ap told_of looks.is ∙ is)
+
+or_false : (b : Bool) → (b || false) ≡ b
+or_false true = refl
+or_false false = refl
+
+-- a look for one token
+pub peeks_one : (k : Token) (found : Bool) (old new : Looked) → found ≡ is_next k old.next → new ≡ (if found then old else tried (k ∷ []) old) → Peeks (k ∷ []) found old new
+peeks_one k found old new f kept = record { found = f ∙ sym (or_false (is_next k old.next)); tried = λ h. kept ∙ ap (λ b. if b then old else tried (k ∷ []) old) h }
+
+pub none_found : (l : Reading) (ks js : List Token) (look new : Looked) (found : Bool) → Looks l ks look → Peeks js found look new → at_one_of js (left l) ≡ false → found ≡ false
+none_found l ks js look new found looks peeks h = sym (tests l ks js look new found found looks peeks refl) ∙ h
+
+pub one_test : (k : Token) (xs : List Item) (b : Bool) → at k xs ≡ b → at_one_of (k ∷ []) xs ≡ b
+one_test k xs true h = rw h refl
+one_test k xs false h = rw h refl
+
+positive : (ks : List Token) (l : Looked) → 0 < l.count → 0 < (tried ks l).count
+positive [] l h = h
+positive (k ∷ ks) l h = positive ks (tried (k ∷ []) l) (let m : 0 < min (l.count + 1) (2 ^ 64 - 1) = omega arith in m)
+
+-- some token was tried
+pub counted : (k : Token) (ks : List Token) (l : Reading) → 0 < (tried (k ∷ ks) (looked l)).count
+counted k ks l = positive ks (tried (k ∷ []) (looked l)) (let m : 0 < 1 = omega arith in m)
+
+length_names : (ts : List Tried) → length (map (λ (t : Tried). t.token) ts) ≡ length ts
+length_names [] = refl
+length_names (t ∷ ts) = ap (λ n. suc n) (length_names ts)
+
+-- what is told where more than one token is named
+pub named_fail : {A : Type 0} (e : Error) (l : Reading) (a b : Tried) (ts : List Tried) (r : Result A Stop) → r ≡ refuse (left l) (a ∷ b ∷ ts) → told_by e ≡ tells l.source l.last (left l) (map (λ (t : Tried). t.token) (a ∷ b ∷ ts)) → Fails e (end_of_input l) r
+unfolding told end_of_input
+named_fail {A = A} e l a b ts r is h =
+    let names = map (λ (t : Tried). t.token) (a ∷ b ∷ ts) in
+    let same = same_refusal (left l) (shown l.source l.last) (shown l.source (final_span l.last (left l))) (expected (take 10 names) (length names)) (last_of_none l.source l.last (left l)) in
+    let counted : refusal (handed (left l)) (shown l.source (final_span l.last (left l))) (expected (take 10 names) (length names)) ≡ refusal (handed (left l)) (shown l.source (final_span l.last (left l))) (expected (take 10 names) (length (a ∷ b ∷ ts))) = ap (λ (n : ℕ). refusal (handed (left l)) (shown l.source (final_span l.last (left l))) (expected (take 10 names) n)) (length_names (a ∷ b ∷ ts)) in
+    subst (λ (m : Result A Stop). Fails e (end_of_input l) m) (sym is) (inr (ap Some (sym (h ∙ same ∙ counted))))
+
+-- ---- tokens that are tried one after the other
+
+-- the first i of these tokens were tried
+pub record TriedSoFar (ks : List Token) (i : ℕ) (old new : Looked) : Type 0 where
+  pub next : new.next ≡ old.next
+  pub found : is_one_of (drop i ks) old.next ≡ is_one_of ks old.next
+  pub all : tried (drop i ks) new ≡ tried ks old
+
+drop_at : (ks : List Token) (i : ℕ) (k : Token) → i < length ks → drop i ks ≡ get_or ks i k ∷ drop (i + 1) ks
+drop_at ks i k h =
+    let e : i + 1 ≡ suc i = omega arith in
+    drop-cons ks i k h ∙ ap (λ (n : ℕ). get_or ks i k ∷ drop n ks) (sym e)
+
+drop_past : (ks : List Token) (i : ℕ) → length ks ≤ i → drop i ks ≡ []
+drop_past [] zero h = refl
+drop_past [] (suc i) h = refl
+drop_past (k ∷ ks) zero h = absurd (omega arith)
+drop_past (k ∷ ks) (suc i) h = drop_past ks i (omega arith)
+
+or_left : (b c : Bool) → b ≡ false → c ≡ (b || c)
+or_left true c h = absurd cc
+or_left false c h = refl
+
+or_true : (b c : Bool) → b ≡ true → true ≡ (b || c)
+or_true true c h = refl
+or_true false c h = absurd cc
+
+kept_false : (found : Bool) (k : Token) (mid new : Looked) → new ≡ (if found then mid else tried (k ∷ []) mid) → found ≡ false → new ≡ tried (k ∷ []) mid
+kept_false true k mid new h e = absurd cc
+kept_false false k mid new h e = h
+
+pub tries_on : (ks : List Token) (i : ℕ) (k : Token) (old mid new : Looked) (found : Bool) → TriedSoFar ks i old mid → i < length ks → found ≡ is_next (get_or ks i k) mid.next → new ≡ (if found then mid else tried (get_or ks i k ∷ []) mid) → found ≡ false
+    → TriedSoFar ks (i + 1) old new
+tries_on ks i d old mid new found s h f kept missed =
+    let k = get_or ks i d in
+    let here = drop_at ks i d h in
+    let tried_one = kept_false found k mid new kept missed in
+    let not_next : is_next k old.next ≡ false = ap (is_next k) (sym s.next) ∙ sym f ∙ missed in
+    record {
+      next = ap (λ (a : Looked). a.next) tried_one ∙ next_stays (k ∷ []) mid ∙ s.next;
+      found = or_left (is_next k old.next) (is_one_of (drop (i + 1) ks) old.next) not_next ∙ ap (λ (l : List Token). is_one_of l old.next) (sym here) ∙ s.found;
+      all = ap (tried (drop (i + 1) ks)) tried_one ∙ sym (tried_more (k ∷ []) (drop (i + 1) ks) mid) ∙ ap (λ (l : List Token). tried l mid) (sym here) ∙ s.all;
+    }
+
+pub tries_found : (ks : List Token) (i : ℕ) (k : Token) (old mid new : Looked) (found : Bool) → TriedSoFar ks i old mid → i < length ks → found ≡ is_next (get_or ks i k) mid.next → found ≡ true → Peeks ks true old new
+tries_found ks i d old mid new found s h f met =
+    let k = get_or ks i d in
+    let next : is_next k old.next ≡ true = ap (is_next k) (sym s.next) ∙ sym f ∙ met in
+    record {
+      found = or_true (is_next k old.next) (is_one_of (drop (i + 1) ks) old.next) next ∙ ap (λ (l : List Token). is_one_of l old.next) (sym (drop_at ks i d h)) ∙ s.found;
+      tried = λ missed. absurd (not_both missed);
+    }
+  where
+    not_both : true ≡ false → ⊥
+    not_both h = cc
+
+pub tries_end : (ks : List Token) (i : ℕ) (old new : Looked) → TriedSoFar ks i old new → length ks ≤ i → Peeks ks false old new
+tries_end ks i old new s h =
+    let past = drop_past ks i h in
+    record {
+      found = sym (ap (λ (l : List Token). is_one_of l old.next) past) ∙ s.found;
+      tried = λ missed. sym (ap (λ (l : List Token). tried l new) past) ∙ s.all;
+    }

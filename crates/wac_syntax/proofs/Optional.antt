@@ -1,0 +1,42 @@
+-- Parts that may be left out.
+use Rattle.std.proofs.Common.{◌≡◌, Bool, true, false, List, [], ◌∷◌, ◌⊎◌, inl, inr, Some, Result, Ok, Err, refl, sym as back, ap, ◌∙◌}
+use Rattle.wac_lexer.specs.Reading.{Reading, left}
+use Rattle.wac_lexer.specs.declared.token.Token.{Token}
+use Rattle.wac_syntax.specs.declared.error.Error.{Error}
+use Rattle.wac_grammar.specs.Tokens.{at}
+use Rattle.wac_grammar.specs.Grammar as g
+use Rattle.wac_grammar.specs.Reading.{Stop, mapped, read, read_in, read_token, not_fault}
+use Rattle.wac_syntax.specs.Answer.{End, end_of_input, Fails, Gives, TakesOptional, first_item}
+use Rattle.wac_syntax.specs.Lists.{Reads}
+use Rattle.wac_syntax.proofs.Lookaheads.{one_test}
+use Rattle.wac_syntax.proofs.Lists.{same_fails, moved_end}
+
+-- the token was there, and is taken
+pub optional_there : (a : Token) (b : Bool) (old new : Reading) → TakesOptional a (Ok b) old new → b ≡ true → (at a (left old) ≡ true) × (read_token [] a (left old) ≡ Ok (first_item (left old), left new)) × (end_of_input new ≡ end_of_input old)
+optional_there a true old new h e = h
+optional_there a false old new h e = absurd cc
+
+-- it was not, and no fault stands in its place
+pub optional_missing : (a : Token) (b : Bool) (old new : Reading) → TakesOptional a (Ok b) old new → b ≡ false → (at a (left old) ≡ false) × (not_fault (left old) ≡ true) × (new ≡ old)
+optional_missing a true old new h e = absurd cc
+optional_missing a false old new h e = h
+
+-- a token alone that may be left out
+pub optional_token : (a : Token) (b : Bool) (old new : Reading) → TakesOptional a (Ok b) old new
+    → (p : g.Parts (g.optional (g.token a))) × (read_in read (g.optional (g.token a)) [] (left old) ≡ Ok (p, left new)) × (g.is_there p ≡ b) × (end_of_input new ≡ end_of_input old)
+optional_token a true old new (h, r, e) = (inl (first_item (left old)), rw (one_test a (left old) true h, r) refl, refl, e)
+optional_token a false old new (h, f, e) = (inr tt, rw (one_test a (left old) false h, f) (ap (λ (l : Reading). Ok (inr tt, left l)) (back e)), refl, ap end_of_input e)
+
+pub same : {A : Type 0} (a b : A) → ◌≡◌ {A = Result A Stop} (Ok a) (Ok b) → a ≡ b
+same a b h = cc
+
+-- an answer behind what was taken
+pub gives_behind : {X Y : Type 0} (view : X → Y) (r : Result X Error) (old mid new : Reading) (m n : Reads Y) → n ≡ m → end_of_input mid ≡ end_of_input old → Gives view r mid new m → Gives view r old new n
+gives_behind view (Ok x) old mid new m n is ends gives = (is ∙ gives.0, gives.1 ∙ ends)
+gives_behind view (Err e) old mid new m n is ends gives = same_fails e (end_of_input old) n m is (moved_end e (end_of_input mid) (end_of_input old) m ends gives)
+
+-- what fails once it is seen by a view fails
+pub unmapped : {A B : Type 0} (e : Error) (end : End) (f : A → B) (m : Reads A) → Fails e end (mapped f m) → Fails e end m
+unmapped e end f m (inl memory) = inl memory
+unmapped e end f (Ok x) (inr h) = absurd cc
+unmapped e end f (Err s) (inr h) = inr h

@@ -1,0 +1,132 @@
+//! Lists up to a closing token.
+
+ghost use Rattle.std.specs.Prelude.{◌≡◌, ◌≤◌, ◌<◌, ◌^◌, ◌∷◌, true, false, map, Some, IfOk, OnOk};
+ghost use Rattle.wac_lexer.specs.Span.{end_of};
+ghost use Rattle.wac_lexer.specs.Reading.{left};
+ghost use Rattle.wac_grammar.specs.Tokens.{at};
+ghost use Rattle.wac_grammar.specs.Reading.{at_one_of, begins};
+ghost use Rattle.wac_syntax.specs.Error.{told_by};
+ghost use Rattle.wac_syntax.specs.Lookahead.{looked, tried, told_of};
+ghost use Rattle.wac_syntax.specs.Lists.{TakesListBy, GivesBy, unclosed, list_of, closes, body_of, repeats};
+ghost use Rattle.wac_lexer.specs.declared.token.Token.TheVariants as tokens;
+
+use crate::error::Error;
+use crate::lookahead::Lookahead;
+use crate::parse::{Parse, Peek, at, has_more, push, take_token};
+use std::alloc::Global;
+use wac_lexer::{Lexer, SourceSpan, Token};
+
+/// Whether the next item may begin this part.
+pub fn begins<T: Peek>(lexer: &Lexer) -> bool
+    ensures { result ≡ at_one_of T.firsts (left lexer.now) }
+{
+    let mut lookahead = Lookahead::new(lexer);
+    T::peek(&mut lookahead)
+}
+
+/// The error that neither the closing token nor an item is next.
+pub fn no_item<T: Peek>(lexer: &Lexer, close: Token) -> Error
+    requires open { at close (left lexer.now) ≡ false }
+    requires none { at_one_of T.firsts (left lexer.now) ≡ false }
+    ensures { told_by result ≡ told_of (tried (close ∷ T.firsts) (looked lexer.now)) }
+{
+    let mut lookahead = Lookahead::new(lexer);
+    lookahead.peek(close);
+    T::peek(&mut lookahead);
+    lookahead.error()
+}
+
+/// The items of a comma list, up to its closing token, which stays.
+fn parse_items<'a, T: Parse<'a> + Peek + Drop, E: From<Error>>(
+    alloc: Global,
+    lexer: &mut Lexer<'a>,
+    until: Token,
+) -> Result<Vec<T>, E>
+    requires listed { closes T.symbol ≡ Some until }
+    requires begins { T.firsts ≡ begins T.symbol }
+    ensures gives { GivesBy E.from_gives (λ v. map T.tree v.items) result lexer.old lexer.new (unclosed (list_of T.symbol (left lexer.old))) }
+    ensures closed { OnOk result (at until (left lexer.new) ≡ true) }
+    ensures source { lexer.new.source ≡ lexer.old.source }
+    ensures moves { lexer.old.place ≤ lexer.new.place }
+{
+    let mut items = Vec::new(alloc);
+    while !at(lexer, until) {
+        if !begins::<T>(lexer) {
+            return Err(E::from(no_item::<T>(lexer, until)));
+        }
+        push(&mut items, T::parse(alloc, lexer)?)?;
+        if at(lexer, until) {
+            return Ok(items);
+        }
+        if !has_more(lexer) {
+            return Err(E::from(no_item::<T>(lexer, until)));
+        }
+        take_token(lexer, Token::Comma)?;
+    }
+    Ok(items)
+}
+
+/// The items of a comma list, and the span of the token that closes it.
+pub fn parse_list<'a, T: Parse<'a> + Peek + Drop, E: From<Error>>(
+    alloc: Global,
+    lexer: &mut Lexer<'a>,
+    until: Token,
+) -> Result<(Vec<T>, SourceSpan), E>
+    requires listed { closes T.symbol ≡ Some until }
+    requires begins { T.firsts ≡ begins T.symbol }
+    ensures takes { TakesListBy E.from_gives (λ v. map T.tree v.items) result lexer.old lexer.new (list_of T.symbol (left lexer.old)) }
+    ensures source { lexer.new.source ≡ lexer.old.source }
+    ensures moves { lexer.old.place ≤ lexer.new.place }
+    ensures fits { IfOk result (λ x. end_of x.1 < 2 ^ 64) }
+{
+    match parse_items::<T, E>(alloc, lexer, until) {
+        Ok(items) => {
+            let last = take_token(lexer, until)?;
+            Ok((items, last))
+        }
+        Err(error) => Err(error),
+    }
+}
+
+/// The items of a body, up to its closing brace, which stays.
+fn parse_each<'a, T: Parse<'a> + Peek + Drop, E: From<Error>>(
+    alloc: Global,
+    lexer: &mut Lexer<'a>,
+) -> Result<Vec<T>, E>
+    requires repeated { repeats T.symbol ≡ true }
+    requires begins { T.firsts ≡ begins T.symbol }
+    ensures gives { GivesBy E.from_gives (λ v. map T.tree v.items) result lexer.old lexer.new (unclosed (body_of T.symbol (left lexer.old))) }
+    ensures closed { OnOk result (at tokens.CloseBrace (left lexer.new) ≡ true) }
+    ensures source { lexer.new.source ≡ lexer.old.source }
+    ensures moves { lexer.old.place ≤ lexer.new.place }
+{
+    let mut items = Vec::new(alloc);
+    while !at(lexer, Token::CloseBrace) {
+        if !begins::<T>(lexer) {
+            return Err(E::from(no_item::<T>(lexer, Token::CloseBrace)));
+        }
+        push(&mut items, T::parse(alloc, lexer)?)?;
+    }
+    Ok(items)
+}
+
+/// The items of a body, and the span of the brace that closes it.
+pub fn parse_body<'a, T: Parse<'a> + Peek + Drop, E: From<Error>>(
+    alloc: Global,
+    lexer: &mut Lexer<'a>,
+) -> Result<(Vec<T>, SourceSpan), E>
+    requires repeated { repeats T.symbol ≡ true }
+    requires begins { T.firsts ≡ begins T.symbol }
+    ensures takes { TakesListBy E.from_gives (λ v. map T.tree v.items) result lexer.old lexer.new (body_of T.symbol (left lexer.old)) }
+    ensures source { lexer.new.source ≡ lexer.old.source }
+    ensures moves { lexer.old.place ≤ lexer.new.place }
+    ensures fits { IfOk result (λ x. end_of x.1 < 2 ^ 64) }
+{
+    match parse_each::<T, E>(alloc, lexer) {
+        Ok(items) => {
+            let last = take_token(lexer, Token::CloseBrace)?;
+            Ok((items, last))
+        }
+        Err(error) => Err(error),
+    }
+}

@@ -1,0 +1,25 @@
+//! What every parser of WAC stands on: errors, lookahead, taking tokens, lists, names.
+#![tactic(auto)]
+
+mod delimited;
+mod error;
+mod lookahead;
+mod names;
+mod package;
+mod parse;
+mod segments;
+mod version;
+
+pub use delimited::{begins, no_item, parse_body, parse_list};
+pub use error::{Error, ParseResult};
+pub use lookahead::Lookahead;
+pub use names::{DocComment, ExternName, Ident, String};
+pub use package::{PackageName, PackagePath};
+pub use parse::{
+    Parse, Peek, at, at_second, boxed, has_more, join, parse_docs, parse_optional, parse_token,
+    push, refuse_empty, take_optional, take_token,
+};
+pub use segments::SegmentSpans;
+
+#[cfg(test)]
+mod tests;
