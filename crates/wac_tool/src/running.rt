@@ -6,17 +6,18 @@ ghost use Rattle.wac_syntax.specs.Error.{told_by};
 ghost use Rattle.wac_ast.specs.Statements.{document_of};
 ghost use Rattle.wac_printer.specs.Sliced.{DocumentSliced};
 ghost use Rattle.wac_tool.specs.Front.{Began};
-ghost use Rattle.wac_tool.specs.Running.{printed, Answers, input_failures, output_failures, ReadsAll, place_of, item_line, IsRefusal};
-ghost use Rattle.wac_tool.specs.declared.command.Command.TheVariants.{Tokens, Fmt};
+ghost use Rattle.wac_tool.specs.Running.{printed, Answers, input_failures, output_failures, ReadsAll, place_of, item_line, IsRefusal, IsJsonLine};
+ghost use Rattle.wac_tool.specs.declared.command.Command.TheVariants.{Tokens, Fmt, Json};
 ghost use Rattle.wac_tool.specs.declared.error.RunError.TheVariants.{Refused, Memory};
 
 use crate::command::Command;
 use crate::error::RunError;
 use crate::transfer::{put_all, take_all};
 use std::alloc::{AllocError, Global};
-use wac_ast::Document;
 use wac_lexer::{Feed, Lexer, LexerResult, Sink, SourceSpan, Token};
-use wac_printer::{DocumentPrinter, Page, PrintResult, trees_of_texts_can_be_printed};
+use wac_parser::{
+    Document, DocumentPrinter, Page, PrintResult, ToValue, trees_of_texts_can_be_printed,
+};
 
 /// Reads all bytes of `reader`, and writes the text that `command` makes of them into `writer`.
 ///
@@ -55,6 +56,7 @@ fn write<S: Sink>(
     match command {
         Command::Tokens => write_items(alloc, source, writer),
         Command::Fmt => write_document(alloc, source, writer),
+        Command::Json => write_json(alloc, source, writer),
     }
 }
 
@@ -67,7 +69,7 @@ fn write_items<S: Sink>(alloc: Global, source: &str, writer: &mut S) -> Result<(
 {
     let lexer = match Lexer::new(source) {
         Ok(lexer) => lexer,
-        Err((error, span)) => return Err(refusal(alloc, wac_ast::Error::Lexer { error, span })),
+        Err((error, span)) => return Err(refusal(alloc, wac_parser::Error::Lexer { error, span })),
     };
     for (item, span) in lexer {
         let line = item_line(alloc, item, span)?;
@@ -132,27 +134,55 @@ fn print<S: Sink>(page: Page<'_, '_>, source: &str, writer: &mut S) -> PrintResu
     result
 }
 
+/// Writes the JSON form of the document of a source, on a line.
+fn write_json<S: Sink>(alloc: Global, source: &str, writer: &mut S) -> Result<(), RunError>
+    requires { IsUtf8 source.now }
+    ensures answers { Answers Json result source.now (S.bytes writer.old) (S.bytes writer.new) }
+    ensures input { input_failures result ≡ 0 }
+    ensures output { S.failures writer.new ≡ S.failures writer.old + output_failures result }
+{
+    let document = match Document::parse(alloc, source) {
+        Ok(document) => document,
+        Err(error) => return Err(refusal(alloc, error)),
+    };
+    let line = json_line(alloc, &document)?;
+    if put_all(writer, line.as_bytes()) {
+        Ok(())
+    } else {
+        Err(RunError::Output)
+    }
+}
+
+/// The JSON form of a document, on a line.
+fn json_line(alloc: Global, document: &Document<'_>) -> Result<String, AllocError>
+    ensures { IfOk result (λ line. IsJsonLine (string_bytes line)) }
+{
+    let mut line = document.to_value(alloc)?.to_string(alloc)?;
+    line.push('\n')?;
+    Ok(line)
+}
+
 /// Where an error lies.
-fn place_of(error: &wac_ast::Error) -> Option<SourceSpan>
+fn place_of(error: &wac_parser::Error) -> Option<SourceSpan>
     ensures { result ≡ place_of (told_by error.now) }
 {
     match error {
-        wac_ast::Error::Lexer { span, .. }
-        | wac_ast::Error::Expected { span, .. }
-        | wac_ast::Error::ExpectedEither { span, .. }
-        | wac_ast::Error::ExpectedMultiple { span, .. }
-        | wac_ast::Error::EmptyType { span, .. }
-        | wac_ast::Error::InvalidVersion { span, .. } => Some(*span),
-        wac_ast::Error::Memory(_) => None,
+        wac_parser::Error::Lexer { span, .. }
+        | wac_parser::Error::Expected { span, .. }
+        | wac_parser::Error::ExpectedEither { span, .. }
+        | wac_parser::Error::ExpectedMultiple { span, .. }
+        | wac_parser::Error::EmptyType { span, .. }
+        | wac_parser::Error::InvalidVersion { span, .. } => Some(*span),
+        wac_parser::Error::Memory(_) => None,
     }
 }
 
 /// What is answered of a source that has no tree.
-fn refusal(alloc: Global, error: wac_ast::Error) -> RunError
+fn refusal(alloc: Global, error: wac_parser::Error) -> RunError
     ensures { IsRefusal error result }
 {
     match error {
-        wac_ast::Error::Memory(_) => RunError::Memory(AllocError),
+        wac_parser::Error::Memory(_) => RunError::Memory(AllocError),
         error => {
             let span = place_of(&error);
             match format!(in alloc; "{error}") {

@@ -1,0 +1,37 @@
+//! Lists, optional parts and truth values.
+
+use crate::ToValue;
+use crate::build::Array;
+use serde_json::Value;
+use std::alloc::{AllocError, Global};
+
+impl<T: ToValue> ToValue for Vec<T> {
+    fn to_value(&self, alloc: Global) -> Result<Value, AllocError> {
+        let mut values = Array::new(alloc);
+        for item in self {
+            values.push(item.to_value(alloc)?)?;
+        }
+        Ok(values.into_value())
+    }
+}
+
+impl<T: ToValue> ToValue for Option<T> {
+    fn to_value(&self, alloc: Global) -> Result<Value, AllocError> {
+        match self {
+            Some(part) => part.to_value(alloc),
+            None => Ok(Value::Null),
+        }
+    }
+}
+
+impl ToValue for bool {
+    fn to_value(&self, _alloc: Global) -> Result<Value, AllocError> {
+        Ok(Value::Bool(*self))
+    }
+}
+
+impl ToValue for &str {
+    fn to_value(&self, alloc: Global) -> Result<Value, AllocError> {
+        Value::try_from_str(alloc, self)
+    }
+}

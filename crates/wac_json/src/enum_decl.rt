@@ -1,0 +1,30 @@
+//! Enums.
+
+use crate::ToValue;
+use crate::build::Object;
+use serde_json::Value;
+use std::alloc::{AllocError, Global};
+use wac_ast::{EnumCase, EnumDecl};
+
+impl ToValue for EnumDecl<'_> {
+    fn to_value(&self, alloc: Global) -> Result<Value, AllocError> {
+        Ok(
+            Object::new(alloc)
+                .with("docs", &self.docs)?
+                .with("id", &self.id)?
+                .with("cases", &self.cases)?
+                .into_value(),
+        )
+    }
+}
+
+impl ToValue for EnumCase<'_> {
+    fn to_value(&self, alloc: Global) -> Result<Value, AllocError> {
+        Ok(
+            Object::new(alloc)
+                .with("docs", &self.docs)?
+                .with("id", &self.id)?
+                .into_value(),
+        )
+    }
+}
