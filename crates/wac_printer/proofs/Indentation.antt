@@ -50,7 +50,7 @@ pub ruleset indents = (line-fresh, line-stale)
 pub many_stops : {A B : Type 0} (d n : ℕ) (space : List ℕ) (old mid new : Printer) (a : A) (e : PrintError) (r : Result B PrintError) → old.failed ≡ false → mid ≡ after (spaces n space) old → n < d
     → r ≡ Err e → Prints {A = A} mid (Err e) new (blank space ∷ []) → Prints old r new (spaces d space)
 many_stops {B = B} d n space old mid new a e r ok m h is p =
-    let all : Prints {A = B} old (Err e) new (spaces n space ++ blank space ∷ []) = goes old mid new a (Err e) (spaces n space) (blank space ∷ []) (wrote_all old mid a (spaces n space) ok m) (record { is = p.is }) in
+    let all : Prints {A = B} old (Err e) new (spaces n space ++ blank space ∷ []) = goes old mid new a (Err e) (spaces n space) (blank space ∷ []) (wrote_all old mid a (spaces n space) ok m) (record { is = p.is; keeps = p.keeps }) in
     let o = all.is in
     subst (λ x. Prints old x new (spaces d space)) (sym is)
-    (record { is = (o.0, o.1, o.2, o.3, spaces_up (has_failed e) d (suc n) space new.bytes old (omega arith) o.4, o.5, o.6) })
+    (record { is = (o.0, o.1, o.2, o.3, spaces_up (has_failed e) d (suc n) space new.bytes old (omega arith) o.4, o.5); keeps = all.keeps })

@@ -6,7 +6,7 @@ use Rattle.std.specs.Prelude.{nat_eq}
 use Rattle.wac_printer.specs.declared.error.PrintError.{PrintError}
 use Rattle.wac_printer.specs.declared.error.PrintError.TheVariants.{Writer, Failed}
 use Rattle.wac_layout.specs.Printed.{Piece, token, blank, line, doc, text, text_of, fresh_after}
-use Rattle.wac_printer.specs.Printed.{Printer, after, is_front, Prints, Outcome, has_failed, failures_of}
+use Rattle.wac_printer.specs.Printed.{Printer, after, is_front, Prints, Outcome, Keeps, has_failed, failures_of}
 use Rattle.wac_printer.proofs.Fronts.{is_front-append, is_front-longer}
 
 pub fresh_after-append : (f : Bool) (xs ys : List ℕ) → fresh_after f (xs ++ ys) ≡ fresh_after (fresh_after f xs) ys
@@ -88,6 +88,8 @@ wrote_all old new a ps f e = record {
     ap (λ p. p.failed) e ∙ after-failed ps old ∙ f,
     ap (λ p. p.failures) e ∙ after-failures ps old,
     subst (λ (p : Printer). length old.bytes ≤ length p.bytes) (sym e) (after-length ps old),
+  );
+  keeps = (
     ap (λ p. p.source) e ∙ after-source ps old,
     ap (λ p. p.space) e ∙ after-space ps old,
     ap (λ p. p.depth) e ∙ after-depth ps old,
@@ -100,7 +102,7 @@ pub stops : {A B : Type 0} (old new : Printer) (e : PrintError) (r : Result B Pr
 stops old new e r ps qs is h =
     let o = h.is in
     subst (λ x. Prints old x new (ps ++ qs)) (sym is)
-    (record { is = (o.0, o.1, o.2, o.3, after-longer (has_failed e) ps qs new.bytes old o.4, o.5, o.6) })
+    (record { is = (o.0, o.1, o.2, o.3, after-longer (has_failed e) ps qs new.bytes old o.4, o.5); keeps = h.keeps })
 
 -- the rest of a call, behind a part that was written
 pub goes : {A B : Type 0} (old mid new : Printer) (a : A) (r : Result B PrintError) (ps qs : List Piece) → Prints old (Ok a) mid ps → Prints mid r new qs → Prints old r new (ps ++ qs)
@@ -123,8 +125,8 @@ goes {B = B} old mid new a r ps qs h k = go r k
             omega (arith, o.3, front),
             subst (λ p. is_front (has_failed e) new.bytes p.bytes ≡ true) whole o.4,
             λ f. let no : false ≡ true = sym h.is.0 ∙ sym same ∙ o.0 ∙ f in absurd cc,
-            o.6 ∙ ap (λ p. p.borrow) m ∙ after-borrow ps old,
           );
+          keeps = (k.keeps.0 ∙ h.keeps.0, k.keeps.1 ∙ h.keeps.1, k.keeps.2 ∙ h.keeps.2, k.keeps.3 ∙ h.keeps.3);
         }
 
 -- the same for a single piece in front
@@ -146,7 +148,7 @@ refused {A = A} inside old new ps is same h = subst (λ n. Prints {A = A} old (E
     plus n = omega arith
 
     here : (p : Printer) → p.failed ≡ true → Prints {A = A} p (Err Failed) p ps
-    here p h = record { is = (h, h, plus p.failures, omega arith, after-front ps p, λ f. refl, refl) }
+    here p h = record { is = (h, h, plus p.failures, omega arith, after-front ps p, λ f. refl); keeps = (refl, refl, refl, refl) }
 
 pub after-blank : (t : List ℕ) (p : Printer) → after (blank t ∷ []) p ≡ record p { bytes = p.bytes ++ t; fresh = fresh_after p.fresh t }
 unfolding after
@@ -155,13 +157,13 @@ after-blank t p = (λ i. record p { bytes = p.bytes ++ append-nil t i; fresh = f
 pub as_token : {A : Type 0} (old new : Printer) (r : Result A PrintError) (t : List ℕ) → Prints old r new (blank t ∷ []) → Prints old r new (token t ∷ [])
 unfolding after
 as_token old new (Ok a) t h = wrote_all old new a (token t ∷ []) h.is.0 h.is.1
-as_token old new (Err e) t h = record { is = h.is }
+as_token old new (Err e) t h = record { is = h.is; keeps = h.keeps }
 
 pub stuck : {A : Type 0} (inside old new : Printer) (t : List ℕ) → inside ≡ old → inside.failed ≡ false → new.failed ≡ true → new.failures ≡ inside.failures + 1
-    → is_front false new.bytes (inside.bytes ++ t) ≡ true → length inside.bytes ≤ length new.bytes → new.borrow ≡ inside.borrow → Prints {A = A} old (Err Writer) new (blank t ∷ [])
-stuck {A = A} inside old new t is a b c d e same =
+    → is_front false new.bytes (inside.bytes ++ t) ≡ true → length inside.bytes ≤ length new.bytes → Keeps inside new → Prints {A = A} old (Err Writer) new (blank t ∷ [])
+stuck {A = A} inside old new t is a b c d e keeps =
     subst (λ o. Prints {A = A} o (Err Writer) new (blank t ∷ [])) is
-    (record { is = (a, b, c, e, subst (λ (p : Printer). is_front false new.bytes p.bytes ≡ true) (sym (after-blank t inside)) d, λ f. absurd cc, same) })
+    (record { is = (a, b, c, e, subst (λ (p : Printer). is_front false new.bytes p.bytes ≡ true) (sym (after-blank t inside)) d, λ f. absurd cc); keeps = keeps })
 
 pub wrote : {A : Type 0} (inside old new : Printer) (a : A) (t : List ℕ) → inside ≡ old → inside.failed ≡ false → new ≡ record inside { bytes = inside.bytes ++ t; fresh = fresh_after inside.fresh t } → Prints old (Ok a) new (blank t ∷ [])
 wrote inside old new a t is h e = subst (λ o. Prints o (Ok a) new (blank t ∷ [])) is (wrote_all inside new a (blank t ∷ []) h (e ∙ sym (after-blank t inside)))
@@ -214,7 +216,7 @@ pub list_stops : {X A B : Type 0} (f : X → List Piece) (xs : List X) (i : ℕ)
     → mid ≡ after (flat_map f (take i xs)) old → i < length xs → r ≡ Err e → Prints {A = A} mid (Err e) new (f (get_or xs i d)) → Prints old r new (flat_map f xs)
 list_stops {B = B} f xs i d old mid new a e r ok m h is p =
     let front : Prints old (Ok a) mid (flat_map f (take i xs)) = wrote_all old mid a (flat_map f (take i xs)) ok m in
-    let all : Prints {A = B} old (Err e) new (flat_map f (take i xs) ++ f (get_or xs i d)) = goes old mid new a (Err e) (flat_map f (take i xs)) (f (get_or xs i d)) front (record { is = p.is }) in
+    let all : Prints {A = B} old (Err e) new (flat_map f (take i xs) ++ f (get_or xs i d)) = goes old mid new a (Err e) (flat_map f (take i xs)) (f (get_or xs i d)) front (record { is = p.is; keeps = p.keeps }) in
     let split : (flat_map f (take i xs) ++ f (get_or xs i d)) ++ flat_map f (drop (i + 1) xs) ≡ flat_map f xs =
     ap (λ ps. ps ++ flat_map f (drop (i + 1) xs)) (sym (flat_map-more f xs i d h)) ∙ sym (flat_map-append f (take (i + 1) xs) (drop (i + 1) xs)) ∙ ap (flat_map f) (take-append-drop (i + 1) xs) in
     subst (Prints old r new) split (stops old new e r (flat_map f (take i xs) ++ f (get_or xs i d)) (flat_map f (drop (i + 1) xs)) is all)
@@ -244,8 +246,8 @@ reindent {A = A} old mid later new (Err x) ps e p n =
         subst (λ (q : Printer). length q.bytes ≤ length later.bytes) e o.3,
         subst (λ b. is_front (has_failed x) later.bytes b ≡ true) whole o.4,
         λ f. o.5 f ∙ ap (λ (q : Printer). q.bytes) e,
-        o.6 ∙ ap (λ (q : Printer). q.borrow) e,
       );
+      keeps = (p.keeps.0 ∙ ap (λ (q : Printer). q.source) e, p.keeps.1 ∙ ap (λ (q : Printer). q.space) e, refl, p.keeps.3 ∙ ap (λ (q : Printer). q.borrow) e);
     })
 
 pub doc-is : (t : List ℕ) (p : Printer) → after (doc t ∷ []) p ≡ after (blank t ∷ []) (after (blank (47 ∷ 47 ∷ 47 ∷ 32 ∷ []) ∷ []) p)

@@ -73,7 +73,7 @@ first_stops old new e r whole first others split is p = subst (Prints old r new)
 pub first_goes : {A B : Type 0} (old mid new : Printer) (a : A) (r : Result B PrintError) (whole first : List Piece) (others : List ℕ → ℕ → List Piece) → whole ≡ first ++ others old.source old.depth
     → Prints old (Ok a) mid first → Prints mid r new (others mid.source mid.depth) → Prints old r new whole
 first_goes old mid new a r whole first others split p q =
-    let same : others mid.source mid.depth ≡ others old.source old.depth = (λ i. others (p.is.5 i) (p.is.7 i)) in
+    let same : others mid.source mid.depth ≡ others old.source old.depth = (λ i. others (p.keeps.0 i) (p.keeps.2 i)) in
     subst (Prints old r new) (sym split) (one.goes old mid new a r first (others old.source old.depth) p (subst (Prints mid r new) same q))
 
 pub none_is : {B : Type 0} (old : Printer) (r : Result B PrintError) (whole : List Piece) → whole ≡ [] → Prints old r old [] → Prints old r old whole
@@ -81,7 +81,7 @@ none_is old r whole e p = subst (Prints old r old) (sym e) p
 
 -- what is required of the others
 pub others_sliced : {X A : Type 0} (P : List ℕ → X → Type 0) (old mid : Printer) (a : A) (first : List Piece) (xs : List X) → Prints old (Ok a) mid first → All (P old.source) xs → All (P mid.source) xs
-others_sliced P old mid a first xs p h = subst (λ s. All (P s) xs) (sym p.is.5) h
+others_sliced P old mid a first xs p h = subst (λ s. All (P s) xs) (sym p.keeps.0) h
 
 -- what is printed at the depth that was gone to, from which it goes back
 pub deeper_part : {A : Type 0} (old mid later new : Printer) (depth : ℕ) (r : Result A PrintError) (others : List ℕ → ℕ → List Piece) → depth ≡ old.depth → mid ≡ record old { depth = deeper old.depth }

@@ -55,11 +55,14 @@ failures_of Failed = 0
 abbrev pub Outcome : {A : Type 0} → Printer → Result A PrintError → Printer → List Piece → Type 0
 Outcome old (Ok _) new ps =
     (old.failed ≡ false) × (new ≡ after ps old) × (new.failed ≡ false) × (new.failures ≡ old.failures) × (length old.bytes ≤ length new.bytes)
-    × (new.source ≡ old.source) × (new.space ≡ old.space) × (new.depth ≡ old.depth) × (new.borrow ≡ old.borrow)
 Outcome old (Err e) new ps =
     (old.failed ≡ has_failed e) × (new.failed ≡ true) × (new.failures ≡ old.failures + failures_of e) × (length old.bytes ≤ length new.bytes)
     × (is_front (has_failed e) new.bytes (after ps old).bytes ≡ true) × (has_failed e ≡ true → new.bytes ≡ old.bytes)
-    × (new.borrow ≡ old.borrow)
+
+-- What a call leaves as it was, whatever it answered.
+abbrev pub Keeps : Printer → Printer → Type 0
+Keeps old new = (new.source ≡ old.source) × (new.space ≡ old.space) × (new.depth ≡ old.depth) × (new.borrow ≡ old.borrow)
 
 pub record Prints {A : Type 0} (old : Printer) (result : Result A PrintError) (new : Printer) (ps : List Piece) : Type 0 where
   pub is : Outcome old result new ps
+  pub keeps : Keeps old new

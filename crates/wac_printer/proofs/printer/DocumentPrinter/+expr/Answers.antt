@@ -71,7 +71,7 @@ arguments-returns-in_err-front_arguments-in-Some g t c =
 pub arguments-argument_line-requires : goal.arguments-argument_line-requires
 arguments-argument_line-requires g t c κs within =
     let f = c.in-Some in
-    let sliced = subst (λ s. ArgumentSliced s (argument_of f.last.now)) (sym c.in_ok-front_arguments-in-Some.ensures.is.5) (last_sliced c.args.self.now.source c.args.arguments.now f.front.now f.last.now f.ensures.cases.0 c.requires) in
+    let sliced = subst (λ s. ArgumentSliced s (argument_of f.last.now)) (sym c.in_ok-front_arguments-in-Some.ensures.keeps.0) (last_sliced c.args.self.now.source c.args.arguments.now f.front.now f.last.now f.ensures.cases.0 c.requires) in
     (omega (arith, c.decreases, most_last size-InstantiationArgument c.args.arguments.now f.front.now f.last.now f.ensures.cases.0), (search rules, sliced))
 
 pub arguments-returns-in-None : goal.arguments-returns-in-None

@@ -11,7 +11,7 @@ pub returns-then-not-put_all : goal.returns-then-not-put_all
 returns-then-not-put_all g c =
     let o = c.put_all.ensures.failed c.if-not-put_all.true in
     stuck _ _ _ _ c.self.view_is c.if-self.false refl o.0
-    (subst (λ t. is_front false (g.S.Sink.bytes c.put_all.new.sink) (g.S.Sink.bytes c.self.inside.sink ++ t) ≡ true) c.as_bytes.ensures.value o.1) o.2 c.put_all.ensures.same
+    (subst (λ t. is_front false (g.S.Sink.bytes c.put_all.new.sink) (g.S.Sink.bytes c.self.inside.sink ++ t) ≡ true) c.as_bytes.ensures.value o.1) o.2 (refl, refl, refl, c.put_all.ensures.same)
 
 pub returns : goal.returns
 returns g c =

@@ -19,7 +19,7 @@ space-preserved g c =
     let same : c.blank.inside.space.now ≡ c.args.self.now.space = ap (λ (p : Printer). p.space) c.blank.view_is ∙ i.1 in
     let p = c.in_ok-blank.ensures in (
       p.is.1 ∙ ap (λ t. after (blank t ∷ []) c.space.self) same ∙ ap (after (blank c.args.self.now.space ∷ [])) i.0 ∙ sym (spaces-more c.space.i c.args.self.now.space c.args.self.now),
-      p.is.6 ∙ i.1,
+      p.keeps.1 ∙ i.1,
       i.2,
     )
 

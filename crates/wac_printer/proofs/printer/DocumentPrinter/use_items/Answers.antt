@@ -5,4 +5,4 @@ use Rattle.wac_printer.proofs.Progress.{All-at}
 use Rattle.wac_printer.proofs.printer.DocumentPrinter.use_items.Goals as goal
 
 pub joined-requires : goal.joined-requires
-joined-requires g c = All-at UseItemSliced use_item_of c.args.items.now _ _ (c.in_ok-blank.ensures.is.5 ∙ c.in_ok-token-2.ensures.is.5 ∙ c.in_ok-token.ensures.is.5) c.requires
+joined-requires g c = All-at UseItemSliced use_item_of c.args.items.now _ _ (c.in_ok-blank.ensures.keeps.0 ∙ c.in_ok-token-2.ensures.keeps.0 ∙ c.in_ok-token.ensures.keeps.0) c.requires

@@ -5,4 +5,4 @@ use Rattle.wac_printer.proofs.Progress.{All-at}
 use Rattle.wac_printer.proofs.printer.DocumentPrinter.with_rows.Goals as goal
 
 pub rows-requires : goal.rows-requires
-rows-requires g c = All-at WorldIncludeItemSliced world_include_item_of c.args.items.now _ _ (c.in_ok-token.ensures.is.5 ∙ c.in_ok-blank.ensures.is.5) c.requires
+rows-requires g c = All-at WorldIncludeItemSliced world_include_item_of c.args.items.now _ _ (c.in_ok-token.ensures.keeps.0 ∙ c.in_ok-blank.ensures.keeps.0) c.requires
