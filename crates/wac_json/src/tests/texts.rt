@@ -3,14 +3,49 @@
 
 use crate::ToValue;
 use std::alloc::{AllocError, Global};
+use std::marker::Model;
 use std::process::Abort;
 use std::test::Fail;
 use wac_ast::{Document, Error};
 
+/// A document that is lent. The prover follows it through a call at far less cost when it stands in a struct with a model.
+#[derive(Drop)]
+struct Lent<'d, 'a> {
+    document: &'d Document<'a>,
+}
+
+impl<'d, 'a> Model for Lent<'d, 'a> {
+    ghost use Rattle.std.specs.Prelude.{[]};
+    ghost use Rattle.std.specs.Coded.{codes};
+    ghost use Rattle.wac_declarations.specs.contracts.types.«Type» as ty;
+    ghost use Rattle.wac_expressions.specs.contracts.expr.PrimaryExpr as primary;
+    ghost use mir.Syntax.{erased};
+    ghost use Rattle.wac_ast.specs.declared.document.Document.{Document};
+
+    ghost Value = { Document };
+
+    ghost coded = { Prim.hlevel (codes, (ty.the_row (record { mir = erased; lft = [] })).coded, (primary.the_row (record { mir = erased; lft = [] })).coded) };
+
+    ghost view = { λ p. p.document.now };
+
+    ghost invariant = { λ p. Unit {0} };
+}
+
+/// The JSON of a document.
+fn text_of(alloc: Global, lent: Lent<'_, '_>) -> Result<String, AllocError> {
+    let Lent { document } = lent;
+    document.to_value(alloc)?.to_string(alloc)
+}
+
 /// The JSON of a text's tree. A text that has none is a failure.
 fn json_of(rt: &impl Abort, alloc: Global, source: &str) -> Result<String, AllocError> {
     match Document::parse(alloc, source) {
-        Ok(document) => document.to_value(alloc)?.to_string(alloc),
+        Ok(document) => {
+            let lent = Lent {
+                document: &document,
+            };
+            text_of(alloc, lent)
+        }
         Err(Error::Memory(_)) => Err(AllocError),
         Err(_) => panic!(rt; "{source} is refused"),
     }
