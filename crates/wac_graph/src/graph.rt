@@ -6,7 +6,7 @@ ghost use Rattle.wac_types.specs.Meaning.{EachKind};
 ghost use Rattle.wac_types.specs.Table.{IsTable, Names as NamesEntry};
 ghost use Rattle.wac_types.specs.declared.entry.Entry.TheVariants as entries;
 ghost use Rattle.wac_graph.specs.Aliased.{IsAliased};
-ghost use Rattle.wac_graph.specs.Copied.{IsGrownBy, MeansTheSame};
+ghost use Rattle.wac_graph.specs.Copied.{IsGrown, IsGrownBy, MeansTheSame};
 ghost use Rattle.wac_graph.specs.Graph.{empty, with_entry, with_import, with_definition, with_export, with_alias, with_instantiation, with_package, with_name, with_argument, export_kind as kind_exported, import_kind, arguments_of, alias_in, instantiated, NamesNodes};
 ghost use Rattle.wac_graph.specs.Names.{node_named};
 ghost use Rattle.wac_graph.specs.Node.{form_of, import_in};
@@ -167,6 +167,7 @@ impl CompositionGraph {
         ensures copies { OnOk result (IsGrownBy self.old.types «package».now.types self.new.types) }
         ensures means { OnOk result (MeansTheSame self.old.types «package».now.types self.new.types) }
         ensures err { OnErr result (self.new ≡ record self.old { types = self.new.types }) }
+        ensures grown { IsGrown self.old.types self.new.types }
         ensures keeps { KeepsMeanings self.old.types self.new.types }
     {
         let id = PackageId(self.packages.len());

@@ -10,7 +10,7 @@ use fixture::{component, key, name};
 use indexmap::IndexMap;
 use reading::{
     arguments_at, definition_at, desc_at, form_at, import_name_at, listed, name_at,
-    packages_listed, same_worlds, source_at,
+    packages_listed, same_worlds, shown, source_at,
 };
 use std::alloc::{AllocError, Global};
 use std::test::Fail;
@@ -88,21 +88,58 @@ fn adds_packages(rt: HostRuntime) -> Result<(), Fail> {
     Ok(())
 }
 
-/// In a run whose allocation is refused while the package is added, this sees the refusal and adds it again.
+/// A graph with all that it can hold, a package to add to it, and what it holds as text.
+#[derive(Drop)]
+struct Filled {
+    graph: CompositionGraph,
+    key: PackageKey,
+    package: Package,
+    held: String,
+}
+
+fn make_filled(alloc: Global) -> Result<Filled, PackageError> {
+    let mut graph = composed(alloc)?;
+    package(alloc, &mut graph, "1.0.2")?;
+    package(alloc, &mut graph, "1.0.3")?;
+    define(&mut graph, "t")?;
+    export(&mut graph, 0, "a")?;
+    alias(&mut graph, 2, "run")?;
+    give(&mut graph, 3, "log", 2)?;
+    named(&mut graph, 1, "n")?;
+    let held = shown(alloc, &graph)?;
+    Ok(Filled {
+        graph,
+        key: key(alloc, "c:d", Some("2.0.0"))?,
+        package: component(alloc)?,
+        held,
+    })
+}
+
+/// In a run in which one request for memory is refused, whatever made it is done again. Where it was `add_package`,
+/// the graph holds what it held.
 #[test]
 fn adds_a_package_after_a_refusal(rt: HostRuntime) -> Result<(), Fail> {
-    let key = key(rt.alloc(), "c:d", Some("1.0.0"))?;
-    let package = component(rt.alloc())?;
-    let mut graph = CompositionGraph::new(rt.alloc());
-    match add(&mut graph, &key, &package) {
-        Ok(number) => assert_eq!(rt; number, Some(0)),
+    let mut all = match make_filled(rt.alloc()) {
+        Ok(all) => all,
+        Err(_) => make_filled(rt.alloc())?,
+    };
+    match add(&mut all.graph, &all.key, &all.package) {
+        Ok(number) => assert_eq!(rt; number, Some(4)),
         Err(_) => {
-            assert_eq!(rt; graph.get_package(&key), None);
-            assert_eq!(rt; add(&mut graph, &key, &package)?, Some(0));
+            assert_eq!(rt; all.graph.get_package(&all.key), None);
+            let held = shown(rt.alloc(), &all.graph)?;
+            assert_eq!(rt; held.as_str(), all.held.as_str());
+            let number = add(&mut all.graph, &all.key, &all.package)?;
+            assert_eq!(rt; number, Some(4));
         }
     }
-    assert_eq!(rt; instantiate(&mut graph, 0)?, Some(0));
-    assert_eq!(rt; definition_at(&graph, 0, 0), Some(("w", "world")));
+    let node = match instantiate(&mut all.graph, 4) {
+        Ok(node) => node,
+        Err(_) => instantiate(&mut all.graph, 4)?,
+    };
+    assert_eq!(rt; node, Some(6));
+    assert_eq!(rt; definition_at(&all.graph, 4, 0), Some(("w", "world")));
+    assert_eq!(rt; same_worlds(&all.graph, 0, 1), Some(false));
     Ok(())
 }
 

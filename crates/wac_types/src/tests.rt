@@ -126,6 +126,19 @@ fn names_the_first_fault(rt: HostRuntime) -> Result<(), Fail> {
     Ok(())
 }
 
+/// In a run in which one request for memory is refused, its parts may have to be made again; the package then is made
+/// at once.
+#[test]
+fn makes_a_package_without_memory(rt: HostRuntime) -> Result<(), Fail> {
+    let parts = match defining(rt.alloc()) {
+        Ok(parts) => parts,
+        Err(_) => defining(rt.alloc())?,
+    };
+    let package = parts.package();
+    assert!(rt; package.is_ok());
+    Ok(())
+}
+
 fn record(alloc: Global, field: &str) -> Result<DefinedType, AllocError> {
     let mut fields = IndexMap::new(alloc);
     let ty = ValueType::Primitive(PrimitiveType::U8);

@@ -24,6 +24,11 @@ pub fn desc_at(graph: &CompositionGraph, number: usize) -> Option<&'static str> 
     Some(graph.kind(id).desc())
 }
 
+fn kind_at(graph: &CompositionGraph, number: usize) -> Option<ItemKind> {
+    let id = node_at(graph, number)?;
+    Some(graph.kind(id))
+}
+
 pub fn import_name_at(graph: &CompositionGraph, number: usize) -> Option<&str> {
     let id = node_at(graph, number)?;
     graph.import_name(id)
@@ -71,6 +76,56 @@ fn push_key(text: &mut String, key: &PackageKey) -> Result<(), AllocError> {
         write!(text, "@{version} ")?;
     }
     Ok(())
+}
+
+/// What a node is, in a line.
+fn push_node(
+    alloc: Global,
+    text: &mut String,
+    graph: &CompositionGraph,
+    number: usize,
+) -> Result<(), AllocError> {
+    let arguments = arguments_at(alloc, graph, number)?;
+    write!(text, "{:?} ", form_at(graph, number))?;
+    write!(text, "{:?} ", kind_at(graph, number))?;
+    write!(text, "{:?} ", import_name_at(graph, number))?;
+    write!(text, "{:?} ", name_at(graph, number))?;
+    writeln!(text, "{:?} {arguments}", source_at(graph, number))?;
+    Ok(())
+}
+
+/// What the graph holds of a package, in a line.
+fn push_package(
+    text: &mut String,
+    graph: &CompositionGraph,
+    number: usize,
+) -> Result<(), AllocError> {
+    let Some(id) = package_at(graph, number) else {
+        return Ok(());
+    };
+    let held = graph.package(id);
+    push_key(text, held.key)?;
+    write!(text, "{} {} ", held.world.0, held.instance.0)?;
+    for (name, kind) in held.definitions.iter() {
+        write!(text, "{name}={kind:?} ")?;
+    }
+    writeln!(text, "")?;
+    Ok(())
+}
+
+/// All that a graph holds beside its types: nodes, imports, exports and then packages.
+pub fn shown(alloc: Global, graph: &CompositionGraph) -> Result<String, AllocError> {
+    let mut text = String::new(alloc);
+    for id in graph.nodes() {
+        push_node(alloc, &mut text, graph, id.0)?;
+    }
+    let imports = listed(alloc, graph.imports())?;
+    let exports = listed(alloc, graph.exports())?;
+    writeln!(text, "{imports}{exports}")?;
+    for id in graph.packages() {
+        push_package(&mut text, graph, id.0)?;
+    }
+    Ok(text)
 }
 
 /// The keys of the packages, in order.

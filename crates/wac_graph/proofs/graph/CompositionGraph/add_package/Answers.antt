@@ -19,6 +19,11 @@ returns-in_err-copy_types-clause-keeps c =
     let more : IsGrown c.self.inside.types c.copy_types.new.types = subst (λ (l : List Entry). IsGrown l c.copy_types.new.types) c.reserve.ensures.same c.in_err-copy_types.ensures.more in
     subst (λ (g : Parts). KeepsMeanings g.types c.copy_types.new.types) c.self.view_is (keeps_grown c.self.inside.types c.copy_types.new.types more)
 
+pub returns-in_err-copy_types-clause-grown : goal.returns-in_err-copy_types-clause-grown
+returns-in_err-copy_types-clause-grown c =
+    let more : IsGrown c.self.inside.types c.copy_types.new.types = subst (λ (l : List Entry). IsGrown l c.copy_types.new.types) c.reserve.ensures.same c.in_err-copy_types.ensures.more in
+    subst (λ (g : Parts). IsGrown g.types c.copy_types.new.types) c.self.view_is more
+
 pub invariant_of-self-2 : goal.invariant_of-self-2
 invariant_of-self-2 c =
     let before : Parts = record { types = c.self.inside.types; packages = c.self.inside.packages.items; nodes = c.self.inside.nodes.items; imports = c.self.inside.imports; exports = c.self.inside.exports } in
@@ -37,3 +42,8 @@ pub returns-clause-keeps : goal.returns-clause-keeps
 returns-clause-keeps c =
     let more : IsGrown c.self.inside.types c.copy_types.new.types = subst (λ (l : List Entry). IsGrown l c.copy_types.new.types) c.reserve.ensures.same c.in_ok-copy_types.ensures.more in
     subst (λ (g : Parts). KeepsMeanings g.types c.copy_types.new.types) c.self.view_is (keeps_grown c.self.inside.types c.copy_types.new.types more)
+
+pub returns-clause-grown : goal.returns-clause-grown
+returns-clause-grown c =
+    let more : IsGrown c.self.inside.types c.copy_types.new.types = subst (λ (l : List Entry). IsGrown l c.copy_types.new.types) c.reserve.ensures.same c.in_ok-copy_types.ensures.more in
+    subst (λ (g : Parts). IsGrown g.types c.copy_types.new.types) c.self.view_is more
