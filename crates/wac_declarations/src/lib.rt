@@ -20,6 +20,3 @@ pub use type_alias::{TypeAlias, TypeAliasKind};
 pub use type_decl::{ItemTypeDecl, TypeDecl};
 pub use types::{Type, parse_optional_payload};
 pub use variant_decl::{VariantCase, VariantDecl};
-
-#[cfg(test)]
-mod tests;

@@ -34,6 +34,3 @@ pub use wac_types::{
     ItemKind, ModuleTypeId, Package, PackageError, PrimitiveType, Reason, Resource, ResourceAlias,
     ResourceId, Rules, Type, Types, UsedType, ValueType, World, WorldId,
 };
-
-#[cfg(test)]
-mod tests;

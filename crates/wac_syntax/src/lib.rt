@@ -20,6 +20,3 @@ pub use parse::{
     push, refuse_empty, take_optional, take_token,
 };
 pub use segments::SegmentSpans;
-
-#[cfg(test)]
-mod tests;

@@ -10,4 +10,3 @@ pub mod Package
 pub mod Growth
 pub mod Rules
 pub mod Equality
-pub mod TestRules

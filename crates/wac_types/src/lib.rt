@@ -29,6 +29,3 @@ pub use kind::{
 pub use package::{Package, PackageError};
 pub use rules::{Reason, Rules};
 pub use types::Types;
-
-#[cfg(test)]
-mod tests;

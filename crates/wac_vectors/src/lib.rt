@@ -6,6 +6,8 @@ mod cuts;
 #[cfg(test)]
 mod layout;
 #[cfg(test)]
+mod optional;
+#[cfg(test)]
 mod refusals;
 #[cfg(test)]
 mod rows;

@@ -1,4 +1,4 @@
-use Rattle.std.proofs.Common.{refl, rules, ◌≤◌, length}
+use Rattle.std.proofs.Common.{refl}
 use Rattle.wac_syntax.proofs.Lookaheads.{tries_on, tries_found, tries_end}
 use Rattle.wac_declarations.proofs.types.peek_all.Goals as goal
 
@@ -12,6 +12,4 @@ pub loop-token-preserved : goal.loop-token-preserved
 loop-token-preserved c = tries_on c.args.tokens.now _ _ c.args.lookahead.now c.loop-token.lookahead _ _ c.loop-token.invariant c.loop-token-test.true c.peek.ensures.found c.peek.ensures.kept c.if-peek.false
 
 pub returns : goal.returns
-returns c =
-    let h : length c.args.tokens.now ≤ c.loop-token.token-index = search rules in
-    tries_end c.args.tokens.now _ c.args.lookahead.now c.loop-token.lookahead c.loop-token.invariant h
+returns c = tries_end c.args.tokens.now _ c.args.lookahead.now c.loop-token.lookahead c.loop-token.invariant c.loop-token-test.false

@@ -36,5 +36,17 @@ returns-in_err-parse-clause-gives c =
     let p = err_from_is_err_and c.from_residual.result c.from_residual.ensures.1 in
     let e = c.in_err-parse.field-0.0 in
     let end = end_of_input c.args.lexer.now in
-    let first = tests _ _ _ _ _ _ _ (looks c.args.lexer.now _ c.new-lookahead.ensures) c.peek.ensures c.if-peek.true in
+    let begun = looks c.args.lexer.now _ c.new-lookahead.ensures in
+    let first = tests _ _ _ _ _ _ _ begun c.peek.ensures c.if-peek.true in
     rw (p.1, p.2, read_is func_type_ref, first) (fails_bind e end _ _ (fails_bind e end _ _ c.in_err-parse.ensures.gives))
+
+pub returns-in_err-parse-2-clause-gives : goal.returns-in_err-parse-2-clause-gives
+returns-in_err-parse-2-clause-gives c =
+    let p = err_from_is_err_and c.from_residual-in_err-parse-2.result c.from_residual-in_err-parse-2.ensures.1 in
+    let e = c.in_err-parse-2.field-0.0 in
+    let end = end_of_input c.args.lexer.now in
+    let begun = looks c.args.lexer.now _ c.new-lookahead.ensures in
+    let no_first = tests _ _ _ _ _ _ _ begun c.peek.ensures c.if-peek.false in
+    let then_second = looks_on _ _ _ _ _ _ begun c.peek.ensures c.if-peek.false in
+    let second = tests _ _ _ _ _ _ _ then_second c.peek-else-peek.ensures c.if-peek-2.true in
+    rw (p.1, p.2, read_is func_type_ref, no_first, second) (fails_bind e end _ _ (fails_bind e end _ _ c.in_err-parse-2.ensures.gives))

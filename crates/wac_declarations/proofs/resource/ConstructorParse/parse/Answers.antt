@@ -34,3 +34,30 @@ returns-in_err-params-clause-gives c =
     let same : Fails e (end_of_input l) (read params (left l)) = subst (λ (x : Error). Fails x (end_of_input l) (read params (left l))) (sym told.1) told.2 in
     let here = moved_end e (end_of_input l) end (read params (left l)) (paren.2 ∙ keyword.2) same in
     rw (p.1, p.2, read_is constructor, keyword.0, paren.0) (fails_bind e end _ _ (fails_bind e end _ _ (fails_bind e end _ _ (fails_bind e end _ _ (fails_bind e end _ _ here)))))
+
+pub returns-in_err-span-clause-gives : goal.returns-in_err-span-clause-gives
+returns-in_err-span-clause-gives c =
+    let p = err_from_is_err_and c.from_residual-in_err-span.result c.from_residual-in_err-span.ensures.1 in
+    let e = c.in_err-span.field-0.0 in
+    let end = end_of_input c.args.lexer.now in
+    rw (p.1, p.2, read_is constructor) (fails_bind e end _ _ (fails_bind e end _ _ (fails_bind e end _ _ c.in_err-span.ensures.takes)))
+
+pub returns-in_err-take_token-clause-gives : goal.returns-in_err-take_token-clause-gives
+returns-in_err-take_token-clause-gives c =
+    let p = err_from_is_err_and c.from_residual-in_err-take_token.result c.from_residual-in_err-take_token.ensures.1 in
+    let e = c.in_err-take_token.field-0.0 in
+    let end = end_of_input c.args.lexer.now in
+    let keyword = c.in_ok-span.ensures.takes in
+    let here = moved_end e _ end _ (keyword.2) c.in_err-take_token.ensures.takes in
+    rw (p.1, p.2, read_is constructor, keyword.0) (fails_bind e end _ _ (fails_bind e end _ _ (fails_bind e end _ _ (fails_bind e end _ _ here))))
+
+pub returns-in_err-take_token-2-clause-gives : goal.returns-in_err-take_token-2-clause-gives
+returns-in_err-take_token-2-clause-gives c =
+    let p = err_from_is_err_and c.from_residual-in_err-take_token-2.result c.from_residual-in_err-take_token-2.ensures.1 in
+    let e = c.in_err-take_token-2.field-0.0 in
+    let end = end_of_input c.args.lexer.now in
+    let keyword = c.in_ok-span.ensures.takes in
+    let paren = c.in_ok-take_token.ensures.takes in
+    let items = c.in_ok-params.ensures.takes in
+    let here = moved_end e _ end _ (items.3 ∙ paren.2 ∙ keyword.2) c.in_err-take_token-2.ensures.takes in
+    rw (p.1, p.2, read_is constructor, keyword.0, paren.0, items.1) (fails_bind e end _ _ (fails_bind e end _ _ (fails_bind e end _ _ (fails_bind e end _ _ (fails_bind e end _ _ here)))))

@@ -2,11 +2,13 @@ use Rattle.std.proofs.Common.{◌≡◌, refl, sym, ap, map, ◌∙◌}
 use Rattle.std.proofs.lemmas.Result.{err_from_is_err_and}
 use Rattle.wac_lexer.specs.Reading.{Reading, left}
 use Rattle.wac_syntax.specs.Answer.{end_of_input}
-use Rattle.wac_grammar.specs.Grammar.{identifier}
+use Rattle.wac_grammar.specs.Grammar.{identifier, method}
 use Rattle.wac_syntax.specs.Names.{doc_comment_of}
 use Rattle.wac_syntax.proofs.Lists.{moved_end}
 use Rattle.wac_grammar.proofs.Docs.{docs_of_sym}
 use Rattle.wac_syntax.proofs.Alternatives.{static_method, plain_method, static_method_fails, plain_method_fails}
+use Rattle.wac_syntax.proofs.Loops.{fails_bind}
+use Rattle.wac_grammar.proofs.Fixed.{read_is}
 use Rattle.wac_declarations.proofs.resource.MethodParse.parse.Goals as goal
 use Rattle.wac_declarations.proofs.resource.MethodParse.parse.Goals.{then-is_static+in_ok-take_token-2, else-is_static}
 
@@ -45,3 +47,19 @@ returns-clause-gives c =
         semicolon.2 ∙ func.1 ∙ ap (λ (l : Reading). end_of_input l) w.lexer-is ∙ colon.2 ∙ id.1,
       )
     ]
+
+pub returns-in_err-id-clause-gives : goal.returns-in_err-id-clause-gives
+returns-in_err-id-clause-gives c =
+    let p = err_from_is_err_and c.from_residual-in_err-id.result c.from_residual-in_err-id.ensures.1 in
+    let e = c.in_err-id.field-0.0 in
+    let end = end_of_input c.args.lexer.now in
+    rw (p.1, p.2, read_is method) (fails_bind e end _ _ (fails_bind e end _ _ (fails_bind e end _ _ c.in_err-id.ensures.gives)))
+
+pub returns-in_err-take_token-clause-gives : goal.returns-in_err-take_token-clause-gives
+returns-in_err-take_token-clause-gives c =
+    let p = err_from_is_err_and c.from_residual-in_err-take_token.result c.from_residual-in_err-take_token.ensures.1 in
+    let e = c.in_err-take_token.field-0.0 in
+    let end = end_of_input c.args.lexer.now in
+    let id = c.in_ok-id.ensures.gives in
+    let here = moved_end e _ end _ (id.1) c.in_err-take_token.ensures.takes in
+    rw (p.1, p.2, read_is method, id.0) (fails_bind e end _ _ (fails_bind e end _ _ (fails_bind e end _ _ (fails_bind e end _ _ here))))

@@ -36,7 +36,8 @@ returns-in_err-parse-clause-gives c =
     let p = err_from_is_err_and c.from_residual.result c.from_residual.ensures.1 in
     let e = c.in_err-parse.field-0.0 in
     let end = end_of_input c.args.lexer.now in
-    let first = tests _ _ _ _ _ _ _ (looks c.args.lexer.now _ c.new-lookahead.ensures) c.peek.ensures c.if-peek.true in
+    let begun = looks c.args.lexer.now _ c.new-lookahead.ensures in
+    let first = tests _ _ _ _ _ _ _ begun c.peek.ensures c.if-peek.true in
     rw (p.1, p.2, read_is type_alias_kind, first) (fails_bind e end _ _ (fails_bind e end _ _ c.in_err-parse.ensures.gives))
 
 pub returns-in_err-parse-2-clause-gives : goal.returns-in_err-parse-2-clause-gives

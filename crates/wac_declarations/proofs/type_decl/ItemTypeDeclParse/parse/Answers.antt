@@ -1,7 +1,7 @@
+use Rattle.std.proofs.Common.{◌≡◌, refl}
 use Rattle.std.proofs.lemmas.Result.{err_from_is_err_and}
 use Rattle.wac_syntax.specs.Answer.{end_of_input}
 use Rattle.wac_syntax.proofs.Loops.{fails_bind}
-use Rattle.std.proofs.Common.{◌≡◌, refl}
 use Rattle.wac_grammar.specs.Grammar.{item_type_decl}
 use Rattle.wac_grammar.proofs.Fixed.{read_is}
 use Rattle.wac_syntax.proofs.Lookaheads.{looks, looks_on, looks_fail, tests}
@@ -93,33 +93,89 @@ returns-else-peek-6-clause-gives c =
     let no_fifth = tests _ _ _ _ _ _ _ then_fifth c.peek-else-peek-4.ensures c.if-peek-5.false in
     let then_sixth = looks_on _ _ _ _ _ _ then_fifth c.peek-else-peek-4.ensures c.if-peek-5.false in
     let no_sixth = tests _ _ _ _ _ _ _ then_sixth c.peek-else-peek-5.ensures c.if-peek-6.false in
-    let then_none = looks_on _ _ _ _ _ _ then_sixth c.peek-else-peek-5.ensures c.if-peek-6.false in
-    looks_fail c.args.lexer.now _ _ _ _ c.error.result _ then_none c.error.ensures refl (rw (read_is item_type_decl, no_first, no_second, no_third, no_fourth, no_fifth, no_sixth) refl)
+    let then_seventh = looks_on _ _ _ _ _ _ then_sixth c.peek-else-peek-5.ensures c.if-peek-6.false in
+    looks_fail c.args.lexer.now _ _ _ _ c.error.result _ then_seventh c.error.ensures refl (rw (read_is item_type_decl, no_first, no_second, no_third, no_fourth, no_fifth, no_sixth) refl)
+
+pub returns-in_err-parse-clause-gives : goal.returns-in_err-parse-clause-gives
+returns-in_err-parse-clause-gives c =
+    let p = err_from_is_err_and c.from_residual.result c.from_residual.ensures.1 in
+    let e = c.in_err-parse.field-0.0 in
+    let end = end_of_input c.args.lexer.now in
+    let begun = looks c.args.lexer.now _ c.new-lookahead.ensures in
+    let first = tests _ _ _ _ _ _ _ begun c.peek.ensures c.if-peek.true in
+    rw (p.1, p.2, read_is item_type_decl, first) (fails_bind e end _ _ (fails_bind e end _ _ c.in_err-parse.ensures.gives))
 
 pub returns-in_err-parse-2-clause-gives : goal.returns-in_err-parse-2-clause-gives
 returns-in_err-parse-2-clause-gives c =
     let p = err_from_is_err_and c.from_residual-in_err-parse-2.result c.from_residual-in_err-parse-2.ensures.1 in
     let e = c.in_err-parse-2.field-0.0 in
     let end = end_of_input c.args.lexer.now in
-    let looks1 = looks c.args.lexer.now _ c.new-lookahead.ensures in
-    let no_first = tests _ _ _ _ _ _ _ looks1 c.peek.ensures c.if-peek.false in
-    let looks2 = looks_on _ _ _ _ _ _ looks1 c.peek.ensures c.if-peek.false in
-    let second = tests _ _ _ _ _ _ _ looks2 c.peek-else-peek.ensures c.if-peek-2.true in
+    let begun = looks c.args.lexer.now _ c.new-lookahead.ensures in
+    let no_first = tests _ _ _ _ _ _ _ begun c.peek.ensures c.if-peek.false in
+    let then_second = looks_on _ _ _ _ _ _ begun c.peek.ensures c.if-peek.false in
+    let second = tests _ _ _ _ _ _ _ then_second c.peek-else-peek.ensures c.if-peek-2.true in
     rw (p.1, p.2, read_is item_type_decl, no_first, second) (fails_bind e end _ _ (fails_bind e end _ _ (fails_bind e end _ _ c.in_err-parse-2.ensures.gives)))
+
+pub returns-in_err-parse-3-clause-gives : goal.returns-in_err-parse-3-clause-gives
+returns-in_err-parse-3-clause-gives c =
+    let p = err_from_is_err_and c.from_residual-in_err-parse-3.result c.from_residual-in_err-parse-3.ensures.1 in
+    let e = c.in_err-parse-3.field-0.0 in
+    let end = end_of_input c.args.lexer.now in
+    let begun = looks c.args.lexer.now _ c.new-lookahead.ensures in
+    let no_first = tests _ _ _ _ _ _ _ begun c.peek.ensures c.if-peek.false in
+    let then_second = looks_on _ _ _ _ _ _ begun c.peek.ensures c.if-peek.false in
+    let no_second = tests _ _ _ _ _ _ _ then_second c.peek-else-peek.ensures c.if-peek-2.false in
+    let then_third = looks_on _ _ _ _ _ _ then_second c.peek-else-peek.ensures c.if-peek-2.false in
+    let third = tests _ _ _ _ _ _ _ then_third c.peek-else-peek-2.ensures c.if-peek-3.true in
+    rw (p.1, p.2, read_is item_type_decl, no_first, no_second, third) (fails_bind e end _ _ (fails_bind e end _ _ (fails_bind e end _ _ (fails_bind e end _ _ c.in_err-parse-3.ensures.gives))))
+
+pub returns-in_err-parse-4-clause-gives : goal.returns-in_err-parse-4-clause-gives
+returns-in_err-parse-4-clause-gives c =
+    let p = err_from_is_err_and c.from_residual-in_err-parse-4.result c.from_residual-in_err-parse-4.ensures.1 in
+    let e = c.in_err-parse-4.field-0.0 in
+    let end = end_of_input c.args.lexer.now in
+    let begun = looks c.args.lexer.now _ c.new-lookahead.ensures in
+    let no_first = tests _ _ _ _ _ _ _ begun c.peek.ensures c.if-peek.false in
+    let then_second = looks_on _ _ _ _ _ _ begun c.peek.ensures c.if-peek.false in
+    let no_second = tests _ _ _ _ _ _ _ then_second c.peek-else-peek.ensures c.if-peek-2.false in
+    let then_third = looks_on _ _ _ _ _ _ then_second c.peek-else-peek.ensures c.if-peek-2.false in
+    let no_third = tests _ _ _ _ _ _ _ then_third c.peek-else-peek-2.ensures c.if-peek-3.false in
+    let then_fourth = looks_on _ _ _ _ _ _ then_third c.peek-else-peek-2.ensures c.if-peek-3.false in
+    let fourth = tests _ _ _ _ _ _ _ then_fourth c.peek-else-peek-3.ensures c.if-peek-4.true in
+    rw (p.1, p.2, read_is item_type_decl, no_first, no_second, no_third, fourth) (fails_bind e end _ _ (fails_bind e end _ _ (fails_bind e end _ _ (fails_bind e end _ _ (fails_bind e end _ _ c.in_err-parse-4.ensures.gives)))))
 
 pub returns-in_err-parse-5-clause-gives : goal.returns-in_err-parse-5-clause-gives
 returns-in_err-parse-5-clause-gives c =
     let p = err_from_is_err_and c.from_residual-in_err-parse-5.result c.from_residual-in_err-parse-5.ensures.1 in
     let e = c.in_err-parse-5.field-0.0 in
     let end = end_of_input c.args.lexer.now in
-    let looks1 = looks c.args.lexer.now _ c.new-lookahead.ensures in
-    let no_first = tests _ _ _ _ _ _ _ looks1 c.peek.ensures c.if-peek.false in
-    let looks2 = looks_on _ _ _ _ _ _ looks1 c.peek.ensures c.if-peek.false in
-    let no_second = tests _ _ _ _ _ _ _ looks2 c.peek-else-peek.ensures c.if-peek-2.false in
-    let looks3 = looks_on _ _ _ _ _ _ looks2 c.peek-else-peek.ensures c.if-peek-2.false in
-    let no_third = tests _ _ _ _ _ _ _ looks3 c.peek-else-peek-2.ensures c.if-peek-3.false in
-    let looks4 = looks_on _ _ _ _ _ _ looks3 c.peek-else-peek-2.ensures c.if-peek-3.false in
-    let no_fourth = tests _ _ _ _ _ _ _ looks4 c.peek-else-peek-3.ensures c.if-peek-4.false in
-    let looks5 = looks_on _ _ _ _ _ _ looks4 c.peek-else-peek-3.ensures c.if-peek-4.false in
-    let fifth = tests _ _ _ _ _ _ _ looks5 c.peek-else-peek-4.ensures c.if-peek-5.true in
+    let begun = looks c.args.lexer.now _ c.new-lookahead.ensures in
+    let no_first = tests _ _ _ _ _ _ _ begun c.peek.ensures c.if-peek.false in
+    let then_second = looks_on _ _ _ _ _ _ begun c.peek.ensures c.if-peek.false in
+    let no_second = tests _ _ _ _ _ _ _ then_second c.peek-else-peek.ensures c.if-peek-2.false in
+    let then_third = looks_on _ _ _ _ _ _ then_second c.peek-else-peek.ensures c.if-peek-2.false in
+    let no_third = tests _ _ _ _ _ _ _ then_third c.peek-else-peek-2.ensures c.if-peek-3.false in
+    let then_fourth = looks_on _ _ _ _ _ _ then_third c.peek-else-peek-2.ensures c.if-peek-3.false in
+    let no_fourth = tests _ _ _ _ _ _ _ then_fourth c.peek-else-peek-3.ensures c.if-peek-4.false in
+    let then_fifth = looks_on _ _ _ _ _ _ then_fourth c.peek-else-peek-3.ensures c.if-peek-4.false in
+    let fifth = tests _ _ _ _ _ _ _ then_fifth c.peek-else-peek-4.ensures c.if-peek-5.true in
     rw (p.1, p.2, read_is item_type_decl, no_first, no_second, no_third, no_fourth, fifth) (fails_bind e end _ _ (fails_bind e end _ _ (fails_bind e end _ _ (fails_bind e end _ _ (fails_bind e end _ _ (fails_bind e end _ _ c.in_err-parse-5.ensures.gives))))))
+
+pub returns-in_err-parse-6-clause-gives : goal.returns-in_err-parse-6-clause-gives
+returns-in_err-parse-6-clause-gives c =
+    let p = err_from_is_err_and c.from_residual-in_err-parse-6.result c.from_residual-in_err-parse-6.ensures.1 in
+    let e = c.in_err-parse-6.field-0.0 in
+    let end = end_of_input c.args.lexer.now in
+    let begun = looks c.args.lexer.now _ c.new-lookahead.ensures in
+    let no_first = tests _ _ _ _ _ _ _ begun c.peek.ensures c.if-peek.false in
+    let then_second = looks_on _ _ _ _ _ _ begun c.peek.ensures c.if-peek.false in
+    let no_second = tests _ _ _ _ _ _ _ then_second c.peek-else-peek.ensures c.if-peek-2.false in
+    let then_third = looks_on _ _ _ _ _ _ then_second c.peek-else-peek.ensures c.if-peek-2.false in
+    let no_third = tests _ _ _ _ _ _ _ then_third c.peek-else-peek-2.ensures c.if-peek-3.false in
+    let then_fourth = looks_on _ _ _ _ _ _ then_third c.peek-else-peek-2.ensures c.if-peek-3.false in
+    let no_fourth = tests _ _ _ _ _ _ _ then_fourth c.peek-else-peek-3.ensures c.if-peek-4.false in
+    let then_fifth = looks_on _ _ _ _ _ _ then_fourth c.peek-else-peek-3.ensures c.if-peek-4.false in
+    let no_fifth = tests _ _ _ _ _ _ _ then_fifth c.peek-else-peek-4.ensures c.if-peek-5.false in
+    let then_sixth = looks_on _ _ _ _ _ _ then_fifth c.peek-else-peek-4.ensures c.if-peek-5.false in
+    let sixth = tests _ _ _ _ _ _ _ then_sixth c.peek-else-peek-5.ensures c.if-peek-6.true in
+    rw (p.1, p.2, read_is item_type_decl, no_first, no_second, no_third, no_fourth, no_fifth, sixth) (fails_bind e end _ _ (fails_bind e end _ _ (fails_bind e end _ _ (fails_bind e end _ _ (fails_bind e end _ _ (fails_bind e end _ _ c.in_err-parse-6.ensures.gives))))))

@@ -1,19 +1,19 @@
 //! Tests of what no contract says: that calls succeed, and what the lists look like from outside.
 
-mod building;
-mod fixture;
-mod reading;
-
-use super::*;
-use building::{add, alias, define, export, give, import, instantiate, named};
-use fixture::{component, key, name};
-use indexmap::IndexMap;
-use reading::{
+use crate::building::{add, alias, define, export, give, import, instantiate, named};
+use crate::fixture::{component, key, name};
+use crate::reading::{
     arguments_at, definition_at, desc_at, form_at, import_name_at, listed, name_at,
     packages_listed, same_worlds, shown, source_at,
 };
+use indexmap::IndexMap;
 use std::alloc::{AllocError, Global};
 use std::test::Fail;
+use wac_graph::{
+    CompositionGraph, DefinedType, DefinedTypeId, FuncType, FuncTypeId, Interface, InterfaceId,
+    NodeId, Package, PackageError, PackageId, PackageKey, PrimitiveType, Resource, ResourceId,
+    ValueType, World, WorldId,
+};
 
 #[test]
 fn imports(rt: HostRuntime) -> Result<(), Fail> {

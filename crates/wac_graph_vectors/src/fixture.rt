@@ -1,8 +1,12 @@
 //! A package with entries of each sort.
 
-use crate::*;
 use indexmap::{IndexMap, IndexSet};
 use std::alloc::{AllocError, Global};
+use wac_graph::{
+    DefinedType, DefinedTypeId, FuncType, FuncTypeId, Interface, InterfaceId, ItemKind, Package,
+    PackageError, PackageKey, PrimitiveType, Resource, ResourceAlias, ResourceId, Type, Types,
+    UsedType, ValueType, World, WorldId,
+};
 
 pub fn func(alloc: Global) -> FuncType {
     FuncType {

@@ -2,7 +2,7 @@ use Rattle.std.proofs.Common.{List, sym, subst}
 use Rattle.wac_types.specs.declared.entry.Entry.{Entry}
 use Rattle.wac_types.specs.Table.{Names}
 use Rattle.wac_types.proofs.Listed.{item_named}
-use Rattle.wac_types.proofs.tests.same.Goals as goal
+use Rattle.wac_graph_vectors.proofs.types.same.Goals as goal
 
 pub same-requires-clause-first : goal.same-requires-clause-first
 same-requires-clause-first c = subst (λ (es : List Entry). Names es c.in_ok-first.first.now) (sym c.types-types.ensures.types) (item_named c.args.package.now.types c.args.package.now.definitions c.definitions-definitions.result.now.entries c.args.i _ c.in_ok-first.first.now c.definitions-definitions.ensures.named c.definitions-definitions.ensures.definitions (sym c.in_ok-first.ensures.entry))

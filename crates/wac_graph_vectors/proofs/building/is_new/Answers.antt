@@ -1,7 +1,7 @@
 use Rattle.std.proofs.Common.{◌∙◌, ap, sym}
 use Rattle.wac_graph.specs.Names.{node_named}
 use Rattle.wac_graph.proofs.Given.{not_first}
-use Rattle.wac_graph.proofs.tests.building.is_new.Goals as goal
+use Rattle.wac_graph_vectors.proofs.building.is_new.Goals as goal
 
 pub loop-other-preserved : goal.loop-other-preserved
 loop-other-preserved c =

@@ -2,10 +2,14 @@
 ghost use Rattle.std.specs.Prelude.{◌≡◌, ℕ};
 ghost use Rattle.wac_types.specs.declared.rules.Reason.{Reason as TheReason};
 
-use super::*;
 use indexmap::{IndexMap, IndexSet};
 use std::alloc::{AllocError, Global};
 use std::test::Fail;
+use wac_graph::{
+    DefinedType, DefinedTypeId, ExternKind, FuncKind, FuncType, FuncTypeId, Interface, InterfaceId,
+    ItemKind, ModuleTypeId, Package, PackageError, PrimitiveType, Reason, Resource, ResourceId,
+    Rules, Type, Types, ValueType, World, WorldId,
+};
 
 /// What [`Package::new`] takes.
 #[derive(Drop)]
@@ -207,7 +211,7 @@ struct OnlySame;
 impl Rules for OnlySame {
     ghost use Rattle.std.specs.Prelude.{None, Some, [], ◌∷◌};
     ghost use Rattle.wac_types.specs.Equality.{equal_or, meaning_discrete, equal_or-renamed};
-    ghost use Rattle.wac_types.specs.TestRules.{empty_refused};
+    ghost use Rattle.wac_graph_vectors.specs.TestRules.{empty_refused};
 
     ghost passes = { λ _ a b. equal_or (record { 0 = 7 }) (meaning_discrete a b) };
 

@@ -3,8 +3,11 @@ ghost use Rattle.std.specs.Prelude.{◌≡◌, ◌<◌, IsTrue, IsSome, IfSome, 
 ghost use Rattle.wac_graph.specs.Graph.{import_kind, export_kind, arguments_of};
 ghost use Rattle.wac_graph.specs.Names.{node_named};
 
-use crate::*;
 use std::alloc::AllocError;
+use wac_graph::{
+    CompositionGraph, ItemKind, Names, NodeId, NodeKind, Package, PackageId, PackageKey,
+    PrimitiveType, ValueType,
+};
 
 /// Whether the node is an instantiation that imports the name.
 fn has_import(graph: &CompositionGraph, node: NodeId, import: &str) -> bool
@@ -48,7 +51,7 @@ fn is_new<'a>(names: Names<'a>, name: &str) -> bool
 }
 
 /// Whether the import has no argument yet.
-#[tactic(auto, using(crate::proofs::Given::arguments_are))]
+#[tactic(auto, using(wac_graph::proofs::Given::arguments_are))]
 fn is_open(graph: &CompositionGraph, node: NodeId, import: &str) -> bool
     requires { node.0 < length graph.now.nodes }
     ensures { IsTrue result → node_named import.now (arguments_of graph.now node.0) ≡ None }

@@ -1,7 +1,7 @@
 use Rattle.std.proofs.Common.{refl}
 use Rattle.wac_types.specs.Meaning.{meaning}
 use Rattle.wac_types.specs.Equality.{meaning_discrete, equal_or-equal, equal_or-unequal}
-use Rattle.wac_types.proofs.tests.OnlySameRules.subtype.Goals as goal
+use Rattle.wac_graph_vectors.proofs.types.OnlySameRules.subtype.Goals as goal
 
 pub returns-then-same : goal.returns-then-same
 returns-then-same c = λ o one. equal_or-equal _ (meaning_discrete (meaning o c.args.types.now c.args.a) (meaning o c.args.types.now c.args.b)) ((c.if-same.ensures o one).0 refl)

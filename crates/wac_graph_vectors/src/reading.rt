@@ -1,8 +1,8 @@
 //! Readings of the node or package of a number, if there is one.
 
 use super::building::{node_at, package_at};
-use crate::*;
 use std::alloc::{AllocError, Global};
+use wac_graph::{CompositionGraph, ItemKind, Names, NodeKind, PackageKey};
 
 /// A node's form in a word.
 fn form(node: &NodeKind) -> &'static str {

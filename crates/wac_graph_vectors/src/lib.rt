@@ -1,0 +1,13 @@
+//! Tests of types, packages and composition graphs: that calls succeed, and what they look like from outside.
+#![tactic(auto)]
+
+#[cfg(test)]
+mod building;
+#[cfg(test)]
+mod fixture;
+#[cfg(test)]
+mod graph;
+#[cfg(test)]
+mod reading;
+#[cfg(test)]
+mod types;
