@@ -19,8 +19,6 @@ mod name;
 mod package;
 mod record_decl;
 mod resource_decl;
-#[cfg(test)]
-mod tests;
 mod to_value;
 mod type_alias;
 mod type_statement;

@@ -1,23 +1,10 @@
 //! Texts, cut at each character.
 
+use crate::refusals::place;
 use crate::rows::{DOCUMENTS, OTHERS};
 use std::alloc::Global;
 use std::process::Abort;
-use wac_parser::{Document, Error};
-
-/// Where an error stands, in bytes, unless memory ran out.
-fn place(error: &Error) -> Option<(usize, usize)> {
-    let span = match error {
-        Error::Lexer { span, .. }
-        | Error::Expected { span, .. }
-        | Error::ExpectedEither { span, .. }
-        | Error::ExpectedMultiple { span, .. }
-        | Error::EmptyType { span, .. }
-        | Error::InvalidVersion { span, .. } => span,
-        Error::Memory(_) => return None,
-    };
-    Some((span.offset(), span.len()))
-}
+use wac_parser::Document;
 
 /// Asserts that each front of a text has a tree, or an error that stands in it or at its end.
 fn fronts(rt: &impl Abort, alloc: Global, text: &str) {

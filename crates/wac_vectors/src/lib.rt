@@ -4,6 +4,10 @@
 #[cfg(test)]
 mod cuts;
 #[cfg(test)]
+mod json_texts;
+#[cfg(test)]
+mod json_values;
+#[cfg(test)]
 mod layout;
 #[cfg(test)]
 mod optional;

@@ -157,7 +157,7 @@ const VERSIONS: [Row; 2] = [
 ];
 
 /// Where an error stands, in bytes, unless memory ran out.
-fn place(error: &Error) -> Option<(usize, usize)> {
+pub fn place(error: &Error) -> Option<(usize, usize)> {
     let span = match error {
         Error::Lexer { span, .. }
         | Error::Expected { span, .. }

@@ -277,3 +277,102 @@ NestedExprParse::parse-returns-in_err-parse-clause-gives t c =
     let first = c.in_ok-first.ensures.takes in
     let here = moved_end e (end_of_input c.take_token.new.lexer) end _ first.2 c.in_err-parse.ensures.gives in
     rw (p.1, p.2, read_is nested_expr, first.0) (fails_bind e end _ _ (fails_bind e end _ _ (fails_bind e end _ _ here)))
+
+pub PrimaryExprParse::parse-returns-in_err-parse-clause-gives : goal.PrimaryExprParse::parse-returns-in_err-parse-clause-gives
+PrimaryExprParse::parse-returns-in_err-parse-clause-gives t c =
+    let p = err_from_is_err_and c.from_residual.result c.from_residual.ensures.1 in
+    let e = c.in_err-parse.field-0.0 in
+    let end = end_of_input c.args.lexer.now in
+    let begun = looks c.args.lexer.now _ c.new-lookahead.ensures in
+    let first = tests _ _ _ _ _ _ _ begun c.peek.ensures c.if-peek.true in
+    rw (p.1, p.2, read_is primary_expr, first) (fails_bind e end _ _ (fails_bind e end _ _ c.in_err-parse.ensures.gives))
+
+pub PrimaryExprParse::parse-returns-in_err-parse-2-clause-gives : goal.PrimaryExprParse::parse-returns-in_err-parse-2-clause-gives
+PrimaryExprParse::parse-returns-in_err-parse-2-clause-gives t c =
+    let p = err_from_is_err_and c.from_residual-in_err-parse-2.result c.from_residual-in_err-parse-2.ensures.1 in
+    let e = c.in_err-parse-2.field-0.0 in
+    let end = end_of_input c.args.lexer.now in
+    let begun = looks c.args.lexer.now _ c.new-lookahead.ensures in
+    let no_first = tests _ _ _ _ _ _ _ begun c.peek.ensures c.if-peek.false in
+    let then_second = looks_on _ _ _ _ _ _ begun c.peek.ensures c.if-peek.false in
+    let second = tests _ _ _ _ _ _ _ then_second c.peek-else-peek.ensures c.if-peek-2.true in
+    rw (p.1, p.2, read_is primary_expr, no_first, second) (fails_bind e end _ _ (fails_bind e end _ _ (fails_bind e end _ _ c.in_err-parse-2.ensures.gives)))
+
+pub PrimaryExprParse::parse-returns-in_err-parse-3-clause-gives : goal.PrimaryExprParse::parse-returns-in_err-parse-3-clause-gives
+PrimaryExprParse::parse-returns-in_err-parse-3-clause-gives t c =
+    let p = err_from_is_err_and c.from_residual-in_err-parse-3.result c.from_residual-in_err-parse-3.ensures.1 in
+    let e = c.in_err-parse-3.field-0.0 in
+    let end = end_of_input c.args.lexer.now in
+    let begun = looks c.args.lexer.now _ c.new-lookahead.ensures in
+    let no_first = tests _ _ _ _ _ _ _ begun c.peek.ensures c.if-peek.false in
+    let then_second = looks_on _ _ _ _ _ _ begun c.peek.ensures c.if-peek.false in
+    let no_second = tests _ _ _ _ _ _ _ then_second c.peek-else-peek.ensures c.if-peek-2.false in
+    let then_third = looks_on _ _ _ _ _ _ then_second c.peek-else-peek.ensures c.if-peek-2.false in
+    let third = tests _ _ _ _ _ _ _ then_third c.peek-else-peek-2.ensures c.if-peek-3.true in
+    rw (p.1, p.2, read_is primary_expr, no_first, no_second, third) (fails_bind e end _ _ (fails_bind e end _ _ (fails_bind e end _ _ c.in_err-parse-3.ensures.gives)))
+
+pub NewExprParse::parse-returns-in_err-first-clause-gives : goal.NewExprParse::parse-returns-in_err-first-clause-gives
+NewExprParse::parse-returns-in_err-first-clause-gives t c =
+    let p = err_from_is_err_and c.from_residual.result c.from_residual.ensures.1 in
+    let e = c.in_err-first.field-0.0 in
+    let end = end_of_input c.args.lexer.now in
+    rw (p.1, p.2, read_is new_expr) (fails_bind e end _ _ (fails_bind e end _ _ c.in_err-first.ensures.takes))
+
+pub NewExprParse::parse-returns-in_err-package-clause-gives : goal.NewExprParse::parse-returns-in_err-package-clause-gives
+NewExprParse::parse-returns-in_err-package-clause-gives t c =
+    let p = err_from_is_err_and c.from_residual-in_err-package.result c.from_residual-in_err-package.ensures.1 in
+    let e = c.in_err-package.field-0.0 in
+    let end = end_of_input c.args.lexer.now in
+    let keyword = c.in_ok-first.ensures.takes in
+    let here = moved_end e _ end _ keyword.2 c.in_err-package.ensures.gives in
+    rw (p.1, p.2, read_is new_expr, keyword.0) (fails_bind e end _ _ (fails_bind e end _ _ (fails_bind e end _ _ here)))
+
+pub NewExprParse::parse-returns-in_err-take_token-clause-gives : goal.NewExprParse::parse-returns-in_err-take_token-clause-gives
+NewExprParse::parse-returns-in_err-take_token-clause-gives t c =
+    let p = err_from_is_err_and c.from_residual-in_err-take_token.result c.from_residual-in_err-take_token.ensures.1 in
+    let e = c.in_err-take_token.field-0.0 in
+    let end = end_of_input c.args.lexer.now in
+    let keyword = c.in_ok-first.ensures.takes in
+    let name = c.in_ok-package.ensures.gives in
+    let here = moved_end e _ end _ (name.1 ∙ keyword.2) c.in_err-take_token.ensures.takes in
+    rw (p.1, p.2, read_is new_expr, keyword.0, name.0) (fails_bind e end _ _ (fails_bind e end _ _ (fails_bind e end _ _ (fails_bind e end _ _ here))))
+
+pub NamedInstantiationArgumentParse::parse-returns-in_err-name-clause-gives : goal.NamedInstantiationArgumentParse::parse-returns-in_err-name-clause-gives
+NamedInstantiationArgumentParse::parse-returns-in_err-name-clause-gives t c =
+    let p = err_from_is_err_and c.from_residual.result c.from_residual.ensures.1 in
+    let e = c.in_err-name.field-0.0 in
+    let end = end_of_input c.args.lexer.now in
+    rw (p.1, p.2, read_is named_argument) (fails_bind e end _ _ (fails_bind e end _ _ c.in_err-name.ensures.gives))
+
+pub NamedInstantiationArgumentParse::parse-returns-in_err-take_token-clause-gives : goal.NamedInstantiationArgumentParse::parse-returns-in_err-take_token-clause-gives
+NamedInstantiationArgumentParse::parse-returns-in_err-take_token-clause-gives t c =
+    let p = err_from_is_err_and c.from_residual-in_err-take_token.result c.from_residual-in_err-take_token.ensures.1 in
+    let e = c.in_err-take_token.field-0.0 in
+    let end = end_of_input c.args.lexer.now in
+    let name = c.in_ok-name.ensures.gives in
+    let here = moved_end e _ end _ name.1 c.in_err-take_token.ensures.takes in
+    rw (p.1, p.2, read_is named_argument, name.0) (fails_bind e end _ _ (fails_bind e end _ _ (fails_bind e end _ _ here)))
+
+pub NestedExprParse::parse-returns-in_err-first-clause-gives : goal.NestedExprParse::parse-returns-in_err-first-clause-gives
+NestedExprParse::parse-returns-in_err-first-clause-gives t c =
+    let p = err_from_is_err_and c.from_residual.result c.from_residual.ensures.1 in
+    let e = c.in_err-first.field-0.0 in
+    let end = end_of_input c.args.lexer.now in
+    rw (p.1, p.2, read_is nested_expr) (fails_bind e end _ _ (fails_bind e end _ _ c.in_err-first.ensures.takes))
+
+pub NestedExprParse::parse-returns-in_err-last-clause-gives : goal.NestedExprParse::parse-returns-in_err-last-clause-gives
+NestedExprParse::parse-returns-in_err-last-clause-gives t c =
+    let p = err_from_is_err_and c.from_residual-in_err-last.result c.from_residual-in_err-last.ensures.1 in
+    let e = c.in_err-last.field-0.0 in
+    let end = end_of_input c.args.lexer.now in
+    let first = c.in_ok-first.ensures.takes in
+    let inner = c.in_ok-parse.ensures.gives in
+    let here = moved_end e _ end _ (inner.1 ∙ first.2) c.in_err-last.ensures.takes in
+    rw (p.1, p.2, read_is nested_expr, first.0, inner.0) (fails_bind e end _ _ (fails_bind e end _ _ (fails_bind e end _ _ here)))
+
+pub NamedInstantiationArgumentParse::parse-returns-clause-gives : goal.NamedInstantiationArgumentParse::parse-returns-clause-gives
+NamedInstantiationArgumentParse::parse-returns-clause-gives t c =
+    let name = c.in_ok-name.ensures.gives in
+    let colon = c.in_ok-take_token.ensures.takes in
+    let value = c.in_ok-expr.ensures.gives in
+    (rw (read_is named_argument, name.0, colon.0, value.0) refl, value.1 ∙ colon.2 ∙ name.1)

@@ -45,15 +45,35 @@ returns-else-peek-3-clause-gives c =
     let then_fourth = looks_on _ _ _ _ _ _ then_third c.peek-else-peek-2.ensures c.if-peek-3.false in
     looks_fail c.args.lexer.now _ _ _ _ c.error.result _ then_fourth c.error.ensures refl (rw (read_is type_statement, no_first, no_second, no_third) refl)
 
+pub returns-in_err-parse-clause-gives : goal.returns-in_err-parse-clause-gives
+returns-in_err-parse-clause-gives c =
+    let p = err_from_is_err_and c.from_residual.result c.from_residual.ensures.1 in
+    let e = c.in_err-parse.field-0.0 in
+    let end = end_of_input c.args.lexer.now in
+    let begun = looks c.args.lexer.now _ c.new-lookahead.ensures in
+    let first = tests _ _ _ _ _ _ _ begun c.peek.ensures c.if-peek.true in
+    rw (p.1, p.2, read_is type_statement, first) (fails_bind e end _ _ (fails_bind e end _ _ c.in_err-parse.ensures.gives))
+
+pub returns-in_err-parse-2-clause-gives : goal.returns-in_err-parse-2-clause-gives
+returns-in_err-parse-2-clause-gives c =
+    let p = err_from_is_err_and c.from_residual-in_err-parse-2.result c.from_residual-in_err-parse-2.ensures.1 in
+    let e = c.in_err-parse-2.field-0.0 in
+    let end = end_of_input c.args.lexer.now in
+    let begun = looks c.args.lexer.now _ c.new-lookahead.ensures in
+    let no_first = tests _ _ _ _ _ _ _ begun c.peek.ensures c.if-peek.false in
+    let then_second = looks_on _ _ _ _ _ _ begun c.peek.ensures c.if-peek.false in
+    let second = tests _ _ _ _ _ _ _ then_second c.peek-else-peek.ensures c.if-peek-2.true in
+    rw (p.1, p.2, read_is type_statement, no_first, second) (fails_bind e end _ _ (fails_bind e end _ _ (fails_bind e end _ _ c.in_err-parse-2.ensures.gives)))
+
 pub returns-in_err-parse-3-clause-gives : goal.returns-in_err-parse-3-clause-gives
 returns-in_err-parse-3-clause-gives c =
     let p = err_from_is_err_and c.from_residual-in_err-parse-3.result c.from_residual-in_err-parse-3.ensures.1 in
     let e = c.in_err-parse-3.field-0.0 in
     let end = end_of_input c.args.lexer.now in
-    let looks1 = looks c.args.lexer.now _ c.new-lookahead.ensures in
-    let no_first = tests _ _ _ _ _ _ _ looks1 c.peek.ensures c.if-peek.false in
-    let looks2 = looks_on _ _ _ _ _ _ looks1 c.peek.ensures c.if-peek.false in
-    let no_second = tests _ _ _ _ _ _ _ looks2 c.peek-else-peek.ensures c.if-peek-2.false in
-    let looks3 = looks_on _ _ _ _ _ _ looks2 c.peek-else-peek.ensures c.if-peek-2.false in
-    let third = tests _ _ _ _ _ _ _ looks3 c.peek-else-peek-2.ensures c.if-peek-3.true in
+    let begun = looks c.args.lexer.now _ c.new-lookahead.ensures in
+    let no_first = tests _ _ _ _ _ _ _ begun c.peek.ensures c.if-peek.false in
+    let then_second = looks_on _ _ _ _ _ _ begun c.peek.ensures c.if-peek.false in
+    let no_second = tests _ _ _ _ _ _ _ then_second c.peek-else-peek.ensures c.if-peek-2.false in
+    let then_third = looks_on _ _ _ _ _ _ then_second c.peek-else-peek.ensures c.if-peek-2.false in
+    let third = tests _ _ _ _ _ _ _ then_third c.peek-else-peek-2.ensures c.if-peek-3.true in
     rw (p.1, p.2, read_is type_statement, no_first, no_second, third) (fails_bind e end _ _ (fails_bind e end _ _ (fails_bind e end _ _ c.in_err-parse-3.ensures.gives)))

@@ -1,7 +1,10 @@
-use Rattle.std.proofs.Common.{◌≡◌, refl}
+use Rattle.std.proofs.Common.{refl}
 use Rattle.wac_grammar.specs.Grammar.{postfix_expr}
 use Rattle.wac_grammar.proofs.Fixed.{read_is}
 use Rattle.wac_syntax.proofs.Lookaheads.{looks, looks_on, looks_fail, tests}
+use Rattle.std.proofs.lemmas.Result.{err_from_is_err_and}
+use Rattle.wac_syntax.specs.Answer.{end_of_input}
+use Rattle.wac_syntax.proofs.Loops.{fails_bind}
 use Rattle.wac_expressions.proofs.expr.PostfixExprParse.parse.Goals as goal
 
 pub returns-in_ok-parse-clause-gives : goal.returns-in_ok-parse-clause-gives
@@ -27,3 +30,23 @@ returns-else-peek-2-clause-gives c =
     let no_second = tests _ _ _ _ _ _ _ then_second c.peek-else-peek.ensures c.if-peek-2.false in
     let tried = looks_on _ _ _ _ _ _ then_second c.peek-else-peek.ensures c.if-peek-2.false in
     looks_fail c.args.lexer.now _ _ _ _ c.error.result _ tried c.error.ensures refl (rw (read_is postfix_expr, no_first, no_second) refl)
+
+pub returns-in_err-parse-clause-gives : goal.returns-in_err-parse-clause-gives
+returns-in_err-parse-clause-gives c =
+    let p = err_from_is_err_and c.from_residual.result c.from_residual.ensures.1 in
+    let e = c.in_err-parse.field-0.0 in
+    let end = end_of_input c.args.lexer.now in
+    let begun = looks c.args.lexer.now _ c.new-lookahead.ensures in
+    let first = tests _ _ _ _ _ _ _ begun c.peek.ensures c.if-peek.true in
+    rw (p.1, p.2, read_is postfix_expr, first) (fails_bind e end _ _ (fails_bind e end _ _ c.in_err-parse.ensures.gives))
+
+pub returns-in_err-parse-2-clause-gives : goal.returns-in_err-parse-2-clause-gives
+returns-in_err-parse-2-clause-gives c =
+    let p = err_from_is_err_and c.from_residual-in_err-parse-2.result c.from_residual-in_err-parse-2.ensures.1 in
+    let e = c.in_err-parse-2.field-0.0 in
+    let end = end_of_input c.args.lexer.now in
+    let begun = looks c.args.lexer.now _ c.new-lookahead.ensures in
+    let no_first = tests _ _ _ _ _ _ _ begun c.peek.ensures c.if-peek.false in
+    let then_second = looks_on _ _ _ _ _ _ begun c.peek.ensures c.if-peek.false in
+    let second = tests _ _ _ _ _ _ _ then_second c.peek-else-peek.ensures c.if-peek-2.true in
+    rw (p.1, p.2, read_is postfix_expr, no_first, second) (fails_bind e end _ _ (fails_bind e end _ _ c.in_err-parse-2.ensures.gives))

@@ -1,4 +1,4 @@
-use Rattle.std.proofs.Common.{◌≡◌, sym, ap, map, ◌∙◌}
+use Rattle.std.proofs.Common.{ap, map, ◌∙◌, inl}
 use Rattle.std.specs.Option.{option_map}
 use Rattle.std.proofs.lemmas.Result.{err_from_is_err_and}
 use Rattle.wac_lexer.specs.declared.token.Token.TheVariants as tokens
@@ -8,6 +8,9 @@ use Rattle.wac_syntax.specs.Names.{doc_comment_of, extern_name_of}
 use Rattle.wac_syntax.proofs.Lists.{moved_end}
 use Rattle.wac_grammar.proofs.Docs.{docs_of_token}
 use Rattle.wac_syntax.proofs.Alternatives.{optional_there, optional_missing, import_plain, import_plain_fails, import_as, import_as_fails}
+use Rattle.wac_syntax.proofs.Loops.{fails_bind}
+use Rattle.wac_grammar.proofs.Fixed.{read_is}
+use Rattle.wac_grammar.specs.Grammar.{import_statement}
 use Rattle.wac_worlds.proofs.import.ImportStatementParse.parse.Goals as goal
 use Rattle.wac_worlds.proofs.import.ImportStatementParse.parse.Goals.{then-branch+in_ok-parse, else-branch}
 
@@ -56,3 +59,24 @@ returns-clause-gives c =
             semicolon.2 ∙ kind.1 ∙ colon.2 ∙ ap (λ (x : Reading). end_of_input x) is ∙ id.1 ∙ keyword.2,
           )
     ]
+
+pub returns-in_err-docs-clause-gives : goal.returns-in_err-docs-clause-gives
+returns-in_err-docs-clause-gives c =
+    let p = err_from_is_err_and c.from_residual.result c.from_residual.ensures.1 in
+    rw (p.1, p.2) (inl c.in_err-docs.ensures.refused)
+
+pub returns-in_err-take_token-clause-gives : goal.returns-in_err-take_token-clause-gives
+returns-in_err-take_token-clause-gives c =
+    let p = err_from_is_err_and c.from_residual-in_err-take_token.result c.from_residual-in_err-take_token.ensures.1 in
+    let e = c.in_err-take_token.field-0.0 in
+    let end = end_of_input c.args.lexer.now in
+    rw (p.1, p.2, read_is import_statement) (fails_bind e end _ _ (fails_bind e end _ _ (fails_bind e end _ _ c.in_err-take_token.ensures.takes)))
+
+pub returns-in_err-id-clause-gives : goal.returns-in_err-id-clause-gives
+returns-in_err-id-clause-gives c =
+    let p = err_from_is_err_and c.from_residual-in_err-id.result c.from_residual-in_err-id.ensures.1 in
+    let e = c.in_err-id.field-0.0 in
+    let end = end_of_input c.args.lexer.now in
+    let keyword = c.in_ok-take_token.ensures.takes in
+    let here = moved_end e _ end _ keyword.2 c.in_err-id.ensures.gives in
+    rw (p.1, p.2, read_is import_statement, keyword.0) (fails_bind e end _ _ (fails_bind e end _ _ (fails_bind e end _ _ (fails_bind e end _ _ here))))

@@ -1,4 +1,4 @@
-use Rattle.std.proofs.Common.{◌≡◌, refl, map, ◌∙◌}
+use Rattle.std.proofs.Common.{refl, map, ◌∙◌, inl}
 use Rattle.wac_lexer.specs.Reading.{left}
 use Rattle.wac_grammar.specs.Grammar.{interface_export, identifier}
 use Rattle.wac_syntax.specs.Names.{doc_comment_of}
@@ -28,3 +28,35 @@ returns-in_err-ty-clause-gives c =
     let colon = c.in_ok-take_token.ensures.takes in
     let here = moved_end e (end_of_input c.take_token.new.lexer) end _ (colon.2 ∙ id.1) c.in_err-ty.ensures.gives in
     rw (p.1, p.2, read_is interface_export, id.0, colon.0) (fails_bind e end _ _ (fails_bind e end _ _ (fails_bind e end _ _ (fails_bind e end _ _ (fails_bind e end _ _ here)))))
+
+pub returns-in_err-docs-clause-gives : goal.returns-in_err-docs-clause-gives
+returns-in_err-docs-clause-gives c =
+    let p = err_from_is_err_and c.from_residual.result c.from_residual.ensures.1 in
+    rw (p.1, p.2) (inl c.in_err-docs.ensures.refused)
+
+pub returns-in_err-id-clause-gives : goal.returns-in_err-id-clause-gives
+returns-in_err-id-clause-gives c =
+    let p = err_from_is_err_and c.from_residual-in_err-id.result c.from_residual-in_err-id.ensures.1 in
+    let e = c.in_err-id.field-0.0 in
+    let end = end_of_input c.args.lexer.now in
+    rw (p.1, p.2, read_is interface_export) (fails_bind e end _ _ (fails_bind e end _ _ (fails_bind e end _ _ c.in_err-id.ensures.gives)))
+
+pub returns-in_err-take_token-clause-gives : goal.returns-in_err-take_token-clause-gives
+returns-in_err-take_token-clause-gives c =
+    let p = err_from_is_err_and c.from_residual-in_err-take_token.result c.from_residual-in_err-take_token.ensures.1 in
+    let e = c.in_err-take_token.field-0.0 in
+    let end = end_of_input c.args.lexer.now in
+    let id = c.in_ok-id.ensures.gives in
+    let here = moved_end e _ end _ id.1 c.in_err-take_token.ensures.takes in
+    rw (p.1, p.2, read_is interface_export, id.0) (fails_bind e end _ _ (fails_bind e end _ _ (fails_bind e end _ _ (fails_bind e end _ _ here))))
+
+pub returns-in_err-take_token-2-clause-gives : goal.returns-in_err-take_token-2-clause-gives
+returns-in_err-take_token-2-clause-gives c =
+    let p = err_from_is_err_and c.from_residual-in_err-take_token-2.result c.from_residual-in_err-take_token-2.ensures.1 in
+    let e = c.in_err-take_token-2.field-0.0 in
+    let end = end_of_input c.args.lexer.now in
+    let id = c.in_ok-id.ensures.gives in
+    let colon = c.in_ok-take_token.ensures.takes in
+    let ty = c.in_ok-ty.ensures.gives in
+    let here = moved_end e _ end _ (ty.1 ∙ colon.2 ∙ id.1) c.in_err-take_token-2.ensures.takes in
+    rw (p.1, p.2, read_is interface_export, id.0, colon.0, ty.0) (fails_bind e end _ _ (fails_bind e end _ _ (fails_bind e end _ _ (fails_bind e end _ _ (fails_bind e end _ _ here)))))

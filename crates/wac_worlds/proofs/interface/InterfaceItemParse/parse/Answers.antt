@@ -1,4 +1,4 @@
-use Rattle.std.proofs.Common.{◌≡◌, refl}
+use Rattle.std.proofs.Common.{refl}
 use Rattle.wac_grammar.specs.Grammar.{interface_item}
 use Rattle.wac_grammar.proofs.Fixed.{read_is}
 use Rattle.wac_syntax.proofs.Lookaheads.{looks, looks_on, looks_fail, tests}
@@ -57,3 +57,23 @@ returns-in_err-parse-2-clause-gives c =
     let then_third = looks_on _ _ _ _ _ _ then_second c.peek-else-peek.ensures c.if-peek-2.false in
     let third = tests _ _ _ _ _ _ _ then_third c.peek-else-peek-2.ensures c.if-peek-3.true in
     rw (p.1, p.2, read_is interface_item, no_first, no_second, third) (fails_bind e end _ _ (fails_bind e end _ _ (fails_bind e end _ _ c.in_err-parse-2.ensures.gives)))
+
+pub returns-in_err-item-clause-gives : goal.returns-in_err-item-clause-gives
+returns-in_err-item-clause-gives c =
+    let p = err_from_is_err_and c.from_residual.result c.from_residual.ensures.1 in
+    let e = c.in_err-item.field-0.0 in
+    let end = end_of_input c.args.lexer.now in
+    let begun = looks c.args.lexer.now _ c.new-lookahead.ensures in
+    let first = tests _ _ _ _ _ _ _ begun c.peek.ensures c.if-peek.true in
+    rw (p.1, p.2, read_is interface_item, first) (fails_bind e end _ _ (fails_bind e end _ _ c.in_err-item.ensures.gives))
+
+pub returns-in_err-parse-clause-gives : goal.returns-in_err-parse-clause-gives
+returns-in_err-parse-clause-gives c =
+    let p = err_from_is_err_and c.from_residual-in_err-parse.result c.from_residual-in_err-parse.ensures.1 in
+    let e = c.in_err-parse.field-0.0 in
+    let end = end_of_input c.args.lexer.now in
+    let begun = looks c.args.lexer.now _ c.new-lookahead.ensures in
+    let no_first = tests _ _ _ _ _ _ _ begun c.peek.ensures c.if-peek.false in
+    let then_second = looks_on _ _ _ _ _ _ begun c.peek.ensures c.if-peek.false in
+    let second = tests _ _ _ _ _ _ _ then_second c.peek-else-peek.ensures c.if-peek-2.true in
+    rw (p.1, p.2, read_is interface_item, no_first, second) (fails_bind e end _ _ (fails_bind e end _ _ (fails_bind e end _ _ c.in_err-parse.ensures.gives)))

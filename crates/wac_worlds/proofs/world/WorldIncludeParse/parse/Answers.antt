@@ -1,16 +1,18 @@
-use Rattle.std.proofs.Common.{◌≡◌, sym, ap, subst, map, ◌∙◌}
+use Rattle.std.proofs.Common.{sym, ap, subst, map, ◌∙◌, inl}
 use Rattle.std.proofs.lemmas.Result.{err_from_is_err_and}
 use Rattle.wac_lexer.specs.declared.token.Token.TheVariants as tokens
 use Rattle.wac_lexer.specs.Reading.{Reading, left}
 use Rattle.wac_syntax.specs.declared.error.Error.{Error}
 use Rattle.wac_grammar.specs.Reading.{read}
 use Rattle.wac_syntax.specs.Answer.{end_of_input, Fails}
-use Rattle.wac_grammar.specs.Grammar.{include_items}
+use Rattle.wac_grammar.specs.Grammar.{include_items, world_include}
 use Rattle.wac_syntax.specs.Names.{doc_comment_of}
 use Rattle.wac_worlds.specs.Worlds.{world_include_item_of}
 use Rattle.wac_syntax.proofs.Lists.{moved_end}
 use Rattle.wac_grammar.proofs.Docs.{docs_of_token}
 use Rattle.wac_syntax.proofs.Alternatives.{optional_there, optional_missing, include_plain, include_plain_fails, include_list_fails, include_with, include_with_fails}
+use Rattle.wac_syntax.proofs.Loops.{fails_bind}
+use Rattle.wac_grammar.proofs.Fixed.{read_is}
 use Rattle.wac_worlds.proofs.world.WorldIncludeParse.parse.Goals as goal
 use Rattle.wac_worlds.proofs.world.WorldIncludeParse.parse.Goals.{then-branch+in_ok-take_token-2+in_ok-with, else-branch}
 
@@ -75,3 +77,24 @@ returns-clause-gives c =
             semicolon.2 ∙ ap (λ (x : Reading). end_of_input x) is ∙ world.1 ∙ keyword.2,
           )
     ]
+
+pub returns-in_err-docs-clause-gives : goal.returns-in_err-docs-clause-gives
+returns-in_err-docs-clause-gives c =
+    let p = err_from_is_err_and c.from_residual.result c.from_residual.ensures.1 in
+    rw (p.1, p.2) (inl c.in_err-docs.ensures.refused)
+
+pub returns-in_err-take_token-clause-gives : goal.returns-in_err-take_token-clause-gives
+returns-in_err-take_token-clause-gives c =
+    let p = err_from_is_err_and c.from_residual-in_err-take_token.result c.from_residual-in_err-take_token.ensures.1 in
+    let e = c.in_err-take_token.field-0.0 in
+    let end = end_of_input c.args.lexer.now in
+    rw (p.1, p.2, read_is world_include) (fails_bind e end _ _ (fails_bind e end _ _ (fails_bind e end _ _ c.in_err-take_token.ensures.takes)))
+
+pub returns-in_err-world-clause-gives : goal.returns-in_err-world-clause-gives
+returns-in_err-world-clause-gives c =
+    let p = err_from_is_err_and c.from_residual-in_err-world.result c.from_residual-in_err-world.ensures.1 in
+    let e = c.in_err-world.field-0.0 in
+    let end = end_of_input c.args.lexer.now in
+    let keyword = c.in_ok-take_token.ensures.takes in
+    let here = moved_end e _ end _ keyword.2 c.in_err-world.ensures.gives in
+    rw (p.1, p.2, read_is world_include, keyword.0) (fails_bind e end _ _ (fails_bind e end _ _ (fails_bind e end _ _ (fails_bind e end _ _ here))))

@@ -1,4 +1,4 @@
-use Rattle.std.proofs.Common.{◌≡◌, refl, sym, ap, ◌∙◌}
+use Rattle.std.proofs.Common.{refl, sym, ap, ◌∙◌}
 use Rattle.std.proofs.lemmas.Result.{err_from_is_err_and}
 use Rattle.wac_lexer.specs.Reading.{left}
 use Rattle.wac_grammar.specs.Tree.{Ident, NamedWorldItem, WorldItemPath}
@@ -57,3 +57,12 @@ returns-else-peek-2-clause-gives c =
     let no_second = tests _ _ _ _ _ _ _ then_second c.peek-else-peek.ensures c.if-peek-2.false in
     let tried = looks_on _ _ _ _ _ _ then_second c.peek-else-peek.ensures c.if-peek-2.false in
     looks_fail c.args.lexer.now _ _ _ _ c.error.result _ tried c.error.ensures refl (rw (read_is world_item_path, no_first, no_second) refl)
+
+pub returns-in_err-parse-clause-gives : goal.returns-in_err-parse-clause-gives
+returns-in_err-parse-clause-gives c =
+    let p = err_from_is_err_and c.from_residual.result c.from_residual.ensures.1 in
+    let e = c.in_err-parse.field-0.0 in
+    let end = end_of_input c.args.lexer.now in
+    let begun = looks c.args.lexer.now _ c.new-lookahead.ensures in
+    let first = tests _ _ _ _ _ _ _ begun c.peek.ensures c.if-peek.true in
+    rw (p.1, p.2, read_is world_item_path, first) (fails_bind e end _ _ (fails_bind e end _ _ c.in_err-parse.ensures.gives))

@@ -1,12 +1,11 @@
 //! Texts that together have each struct and each variant, and the JSON of their trees. The expected
-//! texts were made from the grammar and the rules of `docs/JSON.md` by other means than this crate.
+//! texts were made from the grammar and the rules of `docs/JSON.md` by other means than this code.
 
-use crate::ToValue;
 use std::alloc::{AllocError, Global};
 use std::marker::Model;
 use std::process::Abort;
 use std::test::Fail;
-use wac_ast::{Document, Error};
+use wac_parser::{Document, Error, ToValue};
 
 /// A document that is lent. The prover follows it through a call at far less cost when it stands in a struct with a model.
 #[derive(Drop)]

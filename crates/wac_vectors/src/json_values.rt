@@ -1,12 +1,11 @@
 //! Parts of trees that are made by hand.
 
-use crate::ToValue;
 use semver::Version;
 use std::alloc::Global;
 use std::process::Abort;
 use std::test::Fail;
-use wac_ast::{DocComment, Ident, String};
-use wac_lexer::SourceSpan;
+use wac_parser::lexer::SourceSpan;
+use wac_parser::{DocComment, Ident, String, ToValue};
 
 /// Asserts the JSON of a value.
 fn has_json<T: ToValue>(rt: &impl Abort, alloc: Global, value: &T, json: &str) -> Result<(), Fail> {

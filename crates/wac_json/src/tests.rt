@@ -1,4 +1,0 @@
-//! What is written of trees and of their parts.
-
-mod texts;
-mod values;
