@@ -79,60 +79,62 @@ type_not_closed (x ∷ xs) h = go (at k.CloseAngle (x ∷ xs)) refl
     go true e = absurd (not_true h (rw (token_at k.CloseAngle x xs e) refl))
     go false e = refl
 
--- another token is next
-other_next : (a b : Token) (xs : List Item) → at a xs ≡ true → is_token b (Ok a) ≡ false → at_one_of (b ∷ []) xs ≡ false
-other_next a b [] h e = absurd cc
-other_next a b (x ∷ xs) h e = ap (λ (r : Result Token LexError). cond (is_token b r) true false) (token_at a x xs h) ∙ ap (λ (c : Bool). cond c true false) e
-
 -- which type is next
 pub tuple_next : (xs : List Item) → at k.TupleKeyword xs ≡ true → read g.ty xs ≡ read g.tuple_type xs
-tuple_next xs h = go (read g.tuple_type xs) refl
+tuple_next [] h = absurd cc
+tuple_next (x ∷ xs) h = go (read g.tuple_type (x ∷ xs)) refl
   where
-    go : (m : Reads Ty) → read g.tuple_type xs ≡ m → read g.ty xs ≡ m
-    go (Ok y) e = rw (read_is g.ty xs, other_next k.TupleKeyword k.U8Keyword xs h refl, other_next k.TupleKeyword k.S8Keyword xs h refl, other_next k.TupleKeyword k.U16Keyword xs h refl, other_next k.TupleKeyword k.S16Keyword xs h refl, other_next k.TupleKeyword k.U32Keyword xs h refl, other_next k.TupleKeyword k.S32Keyword xs h refl, other_next k.TupleKeyword k.U64Keyword xs h refl, other_next k.TupleKeyword k.S64Keyword xs h refl, other_next k.TupleKeyword k.F32Keyword xs h refl, other_next k.TupleKeyword k.F64Keyword xs h refl, other_next k.TupleKeyword k.CharKeyword xs h refl, other_next k.TupleKeyword k.BoolKeyword xs h refl, other_next k.TupleKeyword k.StringKeyword xs h refl, one_test k.TupleKeyword xs true h, e) refl
-    go (Err s) e = rw (read_is g.ty xs, other_next k.TupleKeyword k.U8Keyword xs h refl, other_next k.TupleKeyword k.S8Keyword xs h refl, other_next k.TupleKeyword k.U16Keyword xs h refl, other_next k.TupleKeyword k.S16Keyword xs h refl, other_next k.TupleKeyword k.U32Keyword xs h refl, other_next k.TupleKeyword k.S32Keyword xs h refl, other_next k.TupleKeyword k.U64Keyword xs h refl, other_next k.TupleKeyword k.S64Keyword xs h refl, other_next k.TupleKeyword k.F32Keyword xs h refl, other_next k.TupleKeyword k.F64Keyword xs h refl, other_next k.TupleKeyword k.CharKeyword xs h refl, other_next k.TupleKeyword k.BoolKeyword xs h refl, other_next k.TupleKeyword k.StringKeyword xs h refl, one_test k.TupleKeyword xs true h, e) refl
+    go : (m : Reads Ty) → read g.tuple_type (x ∷ xs) ≡ m → read g.ty (x ∷ xs) ≡ m
+    go (Ok y) e = read_is g.ty (x ∷ xs) ∙ rw (e, token_at k.TupleKeyword x xs h) refl
+    go (Err s) e = read_is g.ty (x ∷ xs) ∙ rw (e, token_at k.TupleKeyword x xs h) refl
 
 pub list_next : (xs : List Item) → at k.ListKeyword xs ≡ true → read g.ty xs ≡ read g.list_type xs
-list_next xs h = go (read g.list_type xs) refl
+list_next [] h = absurd cc
+list_next (x ∷ xs) h = go (read g.list_type (x ∷ xs)) refl
   where
-    go : (m : Reads Ty) → read g.list_type xs ≡ m → read g.ty xs ≡ m
-    go (Ok y) e = rw (read_is g.ty xs, other_next k.ListKeyword k.U8Keyword xs h refl, other_next k.ListKeyword k.S8Keyword xs h refl, other_next k.ListKeyword k.U16Keyword xs h refl, other_next k.ListKeyword k.S16Keyword xs h refl, other_next k.ListKeyword k.U32Keyword xs h refl, other_next k.ListKeyword k.S32Keyword xs h refl, other_next k.ListKeyword k.U64Keyword xs h refl, other_next k.ListKeyword k.S64Keyword xs h refl, other_next k.ListKeyword k.F32Keyword xs h refl, other_next k.ListKeyword k.F64Keyword xs h refl, other_next k.ListKeyword k.CharKeyword xs h refl, other_next k.ListKeyword k.BoolKeyword xs h refl, other_next k.ListKeyword k.StringKeyword xs h refl, other_next k.ListKeyword k.TupleKeyword xs h refl, one_test k.ListKeyword xs true h, e) refl
-    go (Err s) e = rw (read_is g.ty xs, other_next k.ListKeyword k.U8Keyword xs h refl, other_next k.ListKeyword k.S8Keyword xs h refl, other_next k.ListKeyword k.U16Keyword xs h refl, other_next k.ListKeyword k.S16Keyword xs h refl, other_next k.ListKeyword k.U32Keyword xs h refl, other_next k.ListKeyword k.S32Keyword xs h refl, other_next k.ListKeyword k.U64Keyword xs h refl, other_next k.ListKeyword k.S64Keyword xs h refl, other_next k.ListKeyword k.F32Keyword xs h refl, other_next k.ListKeyword k.F64Keyword xs h refl, other_next k.ListKeyword k.CharKeyword xs h refl, other_next k.ListKeyword k.BoolKeyword xs h refl, other_next k.ListKeyword k.StringKeyword xs h refl, other_next k.ListKeyword k.TupleKeyword xs h refl, one_test k.ListKeyword xs true h, e) refl
+    go : (m : Reads Ty) → read g.list_type (x ∷ xs) ≡ m → read g.ty (x ∷ xs) ≡ m
+    go (Ok y) e = read_is g.ty (x ∷ xs) ∙ rw (e, token_at k.ListKeyword x xs h) refl
+    go (Err s) e = read_is g.ty (x ∷ xs) ∙ rw (e, token_at k.ListKeyword x xs h) refl
 
 pub option_next : (xs : List Item) → at k.OptionKeyword xs ≡ true → read g.ty xs ≡ read g.option_type xs
-option_next xs h = go (read g.option_type xs) refl
+option_next [] h = absurd cc
+option_next (x ∷ xs) h = go (read g.option_type (x ∷ xs)) refl
   where
-    go : (m : Reads Ty) → read g.option_type xs ≡ m → read g.ty xs ≡ m
-    go (Ok y) e = rw (read_is g.ty xs, other_next k.OptionKeyword k.U8Keyword xs h refl, other_next k.OptionKeyword k.S8Keyword xs h refl, other_next k.OptionKeyword k.U16Keyword xs h refl, other_next k.OptionKeyword k.S16Keyword xs h refl, other_next k.OptionKeyword k.U32Keyword xs h refl, other_next k.OptionKeyword k.S32Keyword xs h refl, other_next k.OptionKeyword k.U64Keyword xs h refl, other_next k.OptionKeyword k.S64Keyword xs h refl, other_next k.OptionKeyword k.F32Keyword xs h refl, other_next k.OptionKeyword k.F64Keyword xs h refl, other_next k.OptionKeyword k.CharKeyword xs h refl, other_next k.OptionKeyword k.BoolKeyword xs h refl, other_next k.OptionKeyword k.StringKeyword xs h refl, other_next k.OptionKeyword k.TupleKeyword xs h refl, other_next k.OptionKeyword k.ListKeyword xs h refl, one_test k.OptionKeyword xs true h, e) refl
-    go (Err s) e = rw (read_is g.ty xs, other_next k.OptionKeyword k.U8Keyword xs h refl, other_next k.OptionKeyword k.S8Keyword xs h refl, other_next k.OptionKeyword k.U16Keyword xs h refl, other_next k.OptionKeyword k.S16Keyword xs h refl, other_next k.OptionKeyword k.U32Keyword xs h refl, other_next k.OptionKeyword k.S32Keyword xs h refl, other_next k.OptionKeyword k.U64Keyword xs h refl, other_next k.OptionKeyword k.S64Keyword xs h refl, other_next k.OptionKeyword k.F32Keyword xs h refl, other_next k.OptionKeyword k.F64Keyword xs h refl, other_next k.OptionKeyword k.CharKeyword xs h refl, other_next k.OptionKeyword k.BoolKeyword xs h refl, other_next k.OptionKeyword k.StringKeyword xs h refl, other_next k.OptionKeyword k.TupleKeyword xs h refl, other_next k.OptionKeyword k.ListKeyword xs h refl, one_test k.OptionKeyword xs true h, e) refl
+    go : (m : Reads Ty) → read g.option_type (x ∷ xs) ≡ m → read g.ty (x ∷ xs) ≡ m
+    go (Ok y) e = read_is g.ty (x ∷ xs) ∙ rw (e, token_at k.OptionKeyword x xs h) refl
+    go (Err s) e = read_is g.ty (x ∷ xs) ∙ rw (e, token_at k.OptionKeyword x xs h) refl
 
 pub result_next : (xs : List Item) → at k.ResultKeyword xs ≡ true → read g.ty xs ≡ read g.result_type xs
-result_next xs h = go (read g.result_type xs) refl
+result_next [] h = absurd cc
+result_next (x ∷ xs) h = go (read g.result_type (x ∷ xs)) refl
   where
-    go : (m : Reads Ty) → read g.result_type xs ≡ m → read g.ty xs ≡ m
-    go (Ok y) e = rw (read_is g.ty xs, other_next k.ResultKeyword k.U8Keyword xs h refl, other_next k.ResultKeyword k.S8Keyword xs h refl, other_next k.ResultKeyword k.U16Keyword xs h refl, other_next k.ResultKeyword k.S16Keyword xs h refl, other_next k.ResultKeyword k.U32Keyword xs h refl, other_next k.ResultKeyword k.S32Keyword xs h refl, other_next k.ResultKeyword k.U64Keyword xs h refl, other_next k.ResultKeyword k.S64Keyword xs h refl, other_next k.ResultKeyword k.F32Keyword xs h refl, other_next k.ResultKeyword k.F64Keyword xs h refl, other_next k.ResultKeyword k.CharKeyword xs h refl, other_next k.ResultKeyword k.BoolKeyword xs h refl, other_next k.ResultKeyword k.StringKeyword xs h refl, other_next k.ResultKeyword k.TupleKeyword xs h refl, other_next k.ResultKeyword k.ListKeyword xs h refl, other_next k.ResultKeyword k.OptionKeyword xs h refl, one_test k.ResultKeyword xs true h, e) refl
-    go (Err s) e = rw (read_is g.ty xs, other_next k.ResultKeyword k.U8Keyword xs h refl, other_next k.ResultKeyword k.S8Keyword xs h refl, other_next k.ResultKeyword k.U16Keyword xs h refl, other_next k.ResultKeyword k.S16Keyword xs h refl, other_next k.ResultKeyword k.U32Keyword xs h refl, other_next k.ResultKeyword k.S32Keyword xs h refl, other_next k.ResultKeyword k.U64Keyword xs h refl, other_next k.ResultKeyword k.S64Keyword xs h refl, other_next k.ResultKeyword k.F32Keyword xs h refl, other_next k.ResultKeyword k.F64Keyword xs h refl, other_next k.ResultKeyword k.CharKeyword xs h refl, other_next k.ResultKeyword k.BoolKeyword xs h refl, other_next k.ResultKeyword k.StringKeyword xs h refl, other_next k.ResultKeyword k.TupleKeyword xs h refl, other_next k.ResultKeyword k.ListKeyword xs h refl, other_next k.ResultKeyword k.OptionKeyword xs h refl, one_test k.ResultKeyword xs true h, e) refl
+    go : (m : Reads Ty) → read g.result_type (x ∷ xs) ≡ m → read g.ty (x ∷ xs) ≡ m
+    go (Ok y) e = read_is g.ty (x ∷ xs) ∙ rw (e, token_at k.ResultKeyword x xs h) refl
+    go (Err s) e = read_is g.ty (x ∷ xs) ∙ rw (e, token_at k.ResultKeyword x xs h) refl
 
 pub borrow_next : (xs : List Item) → at k.BorrowKeyword xs ≡ true → read g.ty xs ≡ read g.borrow_type xs
-borrow_next xs h = go (read g.borrow_type xs) refl
+borrow_next [] h = absurd cc
+borrow_next (x ∷ xs) h = go (read g.borrow_type (x ∷ xs)) refl
   where
-    go : (m : Reads Ty) → read g.borrow_type xs ≡ m → read g.ty xs ≡ m
-    go (Ok y) e = rw (read_is g.ty xs, other_next k.BorrowKeyword k.U8Keyword xs h refl, other_next k.BorrowKeyword k.S8Keyword xs h refl, other_next k.BorrowKeyword k.U16Keyword xs h refl, other_next k.BorrowKeyword k.S16Keyword xs h refl, other_next k.BorrowKeyword k.U32Keyword xs h refl, other_next k.BorrowKeyword k.S32Keyword xs h refl, other_next k.BorrowKeyword k.U64Keyword xs h refl, other_next k.BorrowKeyword k.S64Keyword xs h refl, other_next k.BorrowKeyword k.F32Keyword xs h refl, other_next k.BorrowKeyword k.F64Keyword xs h refl, other_next k.BorrowKeyword k.CharKeyword xs h refl, other_next k.BorrowKeyword k.BoolKeyword xs h refl, other_next k.BorrowKeyword k.StringKeyword xs h refl, other_next k.BorrowKeyword k.TupleKeyword xs h refl, other_next k.BorrowKeyword k.ListKeyword xs h refl, other_next k.BorrowKeyword k.OptionKeyword xs h refl, other_next k.BorrowKeyword k.ResultKeyword xs h refl, one_test k.BorrowKeyword xs true h, e) refl
-    go (Err s) e = rw (read_is g.ty xs, other_next k.BorrowKeyword k.U8Keyword xs h refl, other_next k.BorrowKeyword k.S8Keyword xs h refl, other_next k.BorrowKeyword k.U16Keyword xs h refl, other_next k.BorrowKeyword k.S16Keyword xs h refl, other_next k.BorrowKeyword k.U32Keyword xs h refl, other_next k.BorrowKeyword k.S32Keyword xs h refl, other_next k.BorrowKeyword k.U64Keyword xs h refl, other_next k.BorrowKeyword k.S64Keyword xs h refl, other_next k.BorrowKeyword k.F32Keyword xs h refl, other_next k.BorrowKeyword k.F64Keyword xs h refl, other_next k.BorrowKeyword k.CharKeyword xs h refl, other_next k.BorrowKeyword k.BoolKeyword xs h refl, other_next k.BorrowKeyword k.StringKeyword xs h refl, other_next k.BorrowKeyword k.TupleKeyword xs h refl, other_next k.BorrowKeyword k.ListKeyword xs h refl, other_next k.BorrowKeyword k.OptionKeyword xs h refl, other_next k.BorrowKeyword k.ResultKeyword xs h refl, one_test k.BorrowKeyword xs true h, e) refl
+    go : (m : Reads Ty) → read g.borrow_type (x ∷ xs) ≡ m → read g.ty (x ∷ xs) ≡ m
+    go (Ok y) e = read_is g.ty (x ∷ xs) ∙ rw (e, token_at k.BorrowKeyword x xs h) refl
+    go (Err s) e = read_is g.ty (x ∷ xs) ∙ rw (e, token_at k.BorrowKeyword x xs h) refl
 
 pub stream_next : (xs : List Item) → at k.StreamKeyword xs ≡ true → read g.ty xs ≡ read g.stream_type xs
-stream_next xs h = go (read g.stream_type xs) refl
+stream_next [] h = absurd cc
+stream_next (x ∷ xs) h = go (read g.stream_type (x ∷ xs)) refl
   where
-    go : (m : Reads Ty) → read g.stream_type xs ≡ m → read g.ty xs ≡ m
-    go (Ok y) e = rw (read_is g.ty xs, other_next k.StreamKeyword k.U8Keyword xs h refl, other_next k.StreamKeyword k.S8Keyword xs h refl, other_next k.StreamKeyword k.U16Keyword xs h refl, other_next k.StreamKeyword k.S16Keyword xs h refl, other_next k.StreamKeyword k.U32Keyword xs h refl, other_next k.StreamKeyword k.S32Keyword xs h refl, other_next k.StreamKeyword k.U64Keyword xs h refl, other_next k.StreamKeyword k.S64Keyword xs h refl, other_next k.StreamKeyword k.F32Keyword xs h refl, other_next k.StreamKeyword k.F64Keyword xs h refl, other_next k.StreamKeyword k.CharKeyword xs h refl, other_next k.StreamKeyword k.BoolKeyword xs h refl, other_next k.StreamKeyword k.StringKeyword xs h refl, other_next k.StreamKeyword k.TupleKeyword xs h refl, other_next k.StreamKeyword k.ListKeyword xs h refl, other_next k.StreamKeyword k.OptionKeyword xs h refl, other_next k.StreamKeyword k.ResultKeyword xs h refl, other_next k.StreamKeyword k.BorrowKeyword xs h refl, one_test k.StreamKeyword xs true h, e) refl
-    go (Err s) e = rw (read_is g.ty xs, other_next k.StreamKeyword k.U8Keyword xs h refl, other_next k.StreamKeyword k.S8Keyword xs h refl, other_next k.StreamKeyword k.U16Keyword xs h refl, other_next k.StreamKeyword k.S16Keyword xs h refl, other_next k.StreamKeyword k.U32Keyword xs h refl, other_next k.StreamKeyword k.S32Keyword xs h refl, other_next k.StreamKeyword k.U64Keyword xs h refl, other_next k.StreamKeyword k.S64Keyword xs h refl, other_next k.StreamKeyword k.F32Keyword xs h refl, other_next k.StreamKeyword k.F64Keyword xs h refl, other_next k.StreamKeyword k.CharKeyword xs h refl, other_next k.StreamKeyword k.BoolKeyword xs h refl, other_next k.StreamKeyword k.StringKeyword xs h refl, other_next k.StreamKeyword k.TupleKeyword xs h refl, other_next k.StreamKeyword k.ListKeyword xs h refl, other_next k.StreamKeyword k.OptionKeyword xs h refl, other_next k.StreamKeyword k.ResultKeyword xs h refl, other_next k.StreamKeyword k.BorrowKeyword xs h refl, one_test k.StreamKeyword xs true h, e) refl
+    go : (m : Reads Ty) → read g.stream_type (x ∷ xs) ≡ m → read g.ty (x ∷ xs) ≡ m
+    go (Ok y) e = read_is g.ty (x ∷ xs) ∙ rw (e, token_at k.StreamKeyword x xs h) refl
+    go (Err s) e = read_is g.ty (x ∷ xs) ∙ rw (e, token_at k.StreamKeyword x xs h) refl
 
 pub future_next : (xs : List Item) → at k.FutureKeyword xs ≡ true → read g.ty xs ≡ read g.future_type xs
-future_next xs h = go (read g.future_type xs) refl
+future_next [] h = absurd cc
+future_next (x ∷ xs) h = go (read g.future_type (x ∷ xs)) refl
   where
-    go : (m : Reads Ty) → read g.future_type xs ≡ m → read g.ty xs ≡ m
-    go (Ok y) e = rw (read_is g.ty xs, other_next k.FutureKeyword k.U8Keyword xs h refl, other_next k.FutureKeyword k.S8Keyword xs h refl, other_next k.FutureKeyword k.U16Keyword xs h refl, other_next k.FutureKeyword k.S16Keyword xs h refl, other_next k.FutureKeyword k.U32Keyword xs h refl, other_next k.FutureKeyword k.S32Keyword xs h refl, other_next k.FutureKeyword k.U64Keyword xs h refl, other_next k.FutureKeyword k.S64Keyword xs h refl, other_next k.FutureKeyword k.F32Keyword xs h refl, other_next k.FutureKeyword k.F64Keyword xs h refl, other_next k.FutureKeyword k.CharKeyword xs h refl, other_next k.FutureKeyword k.BoolKeyword xs h refl, other_next k.FutureKeyword k.StringKeyword xs h refl, other_next k.FutureKeyword k.TupleKeyword xs h refl, other_next k.FutureKeyword k.ListKeyword xs h refl, other_next k.FutureKeyword k.OptionKeyword xs h refl, other_next k.FutureKeyword k.ResultKeyword xs h refl, other_next k.FutureKeyword k.BorrowKeyword xs h refl, other_next k.FutureKeyword k.StreamKeyword xs h refl, one_test k.FutureKeyword xs true h, e) refl
-    go (Err s) e = rw (read_is g.ty xs, other_next k.FutureKeyword k.U8Keyword xs h refl, other_next k.FutureKeyword k.S8Keyword xs h refl, other_next k.FutureKeyword k.U16Keyword xs h refl, other_next k.FutureKeyword k.S16Keyword xs h refl, other_next k.FutureKeyword k.U32Keyword xs h refl, other_next k.FutureKeyword k.S32Keyword xs h refl, other_next k.FutureKeyword k.U64Keyword xs h refl, other_next k.FutureKeyword k.S64Keyword xs h refl, other_next k.FutureKeyword k.F32Keyword xs h refl, other_next k.FutureKeyword k.F64Keyword xs h refl, other_next k.FutureKeyword k.CharKeyword xs h refl, other_next k.FutureKeyword k.BoolKeyword xs h refl, other_next k.FutureKeyword k.StringKeyword xs h refl, other_next k.FutureKeyword k.TupleKeyword xs h refl, other_next k.FutureKeyword k.ListKeyword xs h refl, other_next k.FutureKeyword k.OptionKeyword xs h refl, other_next k.FutureKeyword k.ResultKeyword xs h refl, other_next k.FutureKeyword k.BorrowKeyword xs h refl, other_next k.FutureKeyword k.StreamKeyword xs h refl, one_test k.FutureKeyword xs true h, e) refl
+    go : (m : Reads Ty) → read g.future_type (x ∷ xs) ≡ m → read g.ty (x ∷ xs) ≡ m
+    go (Ok y) e = read_is g.ty (x ∷ xs) ∙ rw (e, token_at k.FutureKeyword x xs h) refl
+    go (Err s) e = read_is g.ty (x ∷ xs) ∙ rw (e, token_at k.FutureKeyword x xs h) refl
 
 -- ---- types in angle brackets
 
@@ -211,11 +213,12 @@ word_taken (x ∷ xs) t h = go x.token refl h
     go (Err f) e w = absurd cc
 
 pub name_next : (xs : List Item) → at k.Ident xs ≡ true → read g.ty xs ≡ mapped Ty.ident (read g.identifier xs)
-name_next xs h = go (read g.identifier xs) refl
+name_next [] h = absurd cc
+name_next (x ∷ xs) h = go (read g.identifier (x ∷ xs)) refl
   where
-    go : (m : Reads Ident) → read g.identifier xs ≡ m → read g.ty xs ≡ mapped Ty.ident m
-    go (Ok y) e = rw (read_is g.ty xs, other_next k.Ident k.U8Keyword xs h refl, other_next k.Ident k.S8Keyword xs h refl, other_next k.Ident k.U16Keyword xs h refl, other_next k.Ident k.S16Keyword xs h refl, other_next k.Ident k.U32Keyword xs h refl, other_next k.Ident k.S32Keyword xs h refl, other_next k.Ident k.U64Keyword xs h refl, other_next k.Ident k.S64Keyword xs h refl, other_next k.Ident k.F32Keyword xs h refl, other_next k.Ident k.F64Keyword xs h refl, other_next k.Ident k.CharKeyword xs h refl, other_next k.Ident k.BoolKeyword xs h refl, other_next k.Ident k.StringKeyword xs h refl, other_next k.Ident k.TupleKeyword xs h refl, other_next k.Ident k.ListKeyword xs h refl, other_next k.Ident k.OptionKeyword xs h refl, other_next k.Ident k.ResultKeyword xs h refl, other_next k.Ident k.BorrowKeyword xs h refl, other_next k.Ident k.StreamKeyword xs h refl, other_next k.Ident k.FutureKeyword xs h refl, other_next k.Ident k.ErrorContextKeyword xs h refl, one_test k.Ident xs true h, e) refl
-    go (Err s) e = rw (read_is g.ty xs, other_next k.Ident k.U8Keyword xs h refl, other_next k.Ident k.S8Keyword xs h refl, other_next k.Ident k.U16Keyword xs h refl, other_next k.Ident k.S16Keyword xs h refl, other_next k.Ident k.U32Keyword xs h refl, other_next k.Ident k.S32Keyword xs h refl, other_next k.Ident k.U64Keyword xs h refl, other_next k.Ident k.S64Keyword xs h refl, other_next k.Ident k.F32Keyword xs h refl, other_next k.Ident k.F64Keyword xs h refl, other_next k.Ident k.CharKeyword xs h refl, other_next k.Ident k.BoolKeyword xs h refl, other_next k.Ident k.StringKeyword xs h refl, other_next k.Ident k.TupleKeyword xs h refl, other_next k.Ident k.ListKeyword xs h refl, other_next k.Ident k.OptionKeyword xs h refl, other_next k.Ident k.ResultKeyword xs h refl, other_next k.Ident k.BorrowKeyword xs h refl, other_next k.Ident k.StreamKeyword xs h refl, other_next k.Ident k.FutureKeyword xs h refl, other_next k.Ident k.ErrorContextKeyword xs h refl, one_test k.Ident xs true h, e) refl
+    go : (m : Reads Ident) → read g.identifier (x ∷ xs) ≡ m → read g.ty (x ∷ xs) ≡ mapped Ty.ident m
+    go (Ok y) e = read_is g.ty (x ∷ xs) ∙ rw (e, token_at k.Ident x xs h) refl
+    go (Err s) e = read_is g.ty (x ∷ xs) ∙ rw (e, token_at k.Ident x xs h) refl
 
 -- no type is next where none of its tokens is
 pub no_type_next : (xs : List Item) → at_one_of compound xs ≡ false → at k.Ident xs ≡ false → word_at (handed xs) ≡ None → at_one_of (begins g.ty) xs ≡ false

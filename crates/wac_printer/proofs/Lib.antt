@@ -2,6 +2,7 @@ pub mod Fronts
 pub mod Printing
 pub mod Indentation
 pub mod Progress
+pub mod Sequence
 pub mod PartsOf
 pub mod Steps
 pub mod Trees

@@ -1,7 +1,7 @@
 use Rattle.wac_syntax.specs.Answer.{end_of_input}
 use Rattle.wac_syntax.proofs.Loops.{fails_bind}
 use Rattle.wac_syntax.proofs.Lists.{moved_end}
-use Rattle.std.proofs.Common.{◌≡◌, refl, map, inl, ◌∙◌}
+use Rattle.std.proofs.Common.{refl, map, inl, ◌∙◌}
 use Rattle.std.proofs.lemmas.Result.{err_from_is_err_and}
 use Rattle.wac_lexer.specs.Reading.{left}
 use Rattle.wac_grammar.specs.Grammar.{document, directive}

@@ -1,4 +1,4 @@
-use Rattle.std.proofs.Common.{◌≡◌, true, false, refl, sym, ◌∙◌}
+use Rattle.std.proofs.Common.{true, false, refl, sym, ◌∙◌}
 use Rattle.std.proofs.lemmas.Result.{err_from_is_err_and}
 use Rattle.wac_lexer.specs.declared.token.Token.TheVariants as tokens
 use Rattle.wac_lexer.specs.Reading.{left}

@@ -1,7 +1,7 @@
 use Rattle.std.proofs.lemmas.Result.{err_from_is_err_and}
 use Rattle.wac_syntax.specs.Answer.{end_of_input}
 use Rattle.wac_syntax.proofs.Loops.{fails_bind}
-use Rattle.std.proofs.Common.{◌≡◌, refl}
+use Rattle.std.proofs.Common.{refl}
 use Rattle.wac_grammar.specs.Grammar.{statement}
 use Rattle.wac_grammar.proofs.Fixed.{read_is}
 use Rattle.wac_syntax.proofs.Lookaheads.{looks, looks_on, looks_fail, tests}

@@ -1,23 +1,24 @@
 use Rattle.std.proofs.Common.{arith, rules, ap, refl, sym, subst, map, ◌∙◌, ◌≡◌, ◌≤◌, ◌<◌, ◌++◌, ◌∷◌, [], codes, length, true, false, Err}
-use Rattle.std.specs.List.{All}
-use denote.Param.Weighed.{most}
+use Rattle.std.specs.List.{flat_map}
 use Rattle.wac_grammar.specs.Tree.{arguments_from}
-use Rattle.wac_expressions.specs.Expressions.{argument_of, expr_of, primary_expr_of, new_expr_of}
+use Rattle.wac_expressions.specs.Expressions.{argument_of, expr_of, primary_expr_of, postfix_expr_of}
 use Rattle.wac_expressions.specs.declared.expr.InstantiationArgument.{size-InstantiationArgument}
 use Rattle.wac_expressions.specs.declared.expr.PrimaryExpr.{size-PrimaryExpr}
 use Rattle.wac_expressions.specs.declared.expr.InstantiationArgument.TheViews.{sized-New}
 use Rattle.wac_expressions.specs.declared.expr.NestedExpr.{out-NestedExpr}
 use Rattle.wac_layout.specs.Printed.{token, line, deeper}
 use Rattle.wac_layout.specs.Parts.{space}
-use Rattle.wac_layout.specs.Bare.{bare_argument, bare_expr, bare_primary_expr}
-use Rattle.wac_layout.specs.ExpressionLayout.{argument_layout, arguments_layout, expr_layout, primary_expr_layout}
-use Rattle.wac_printer.specs.Arguments.{argument_line_layout, ending_layout}
+use Rattle.wac_layout.specs.Bare.{bare_argument, bare_expr, bare_primary_expr, bare_arguments, bare_postfix_expr}
+use Rattle.wac_layout.specs.ExpressionLayout.{argument_layout, arguments_layout, expr_layout, primary_expr_layout, postfix_expr_layout}
+use Rattle.wac_printer.specs.Arguments.{ending_layout, braces_layout}
 use Rattle.wac_printer.specs.Printed.{Prints}
 use Rattle.wac_printer.specs.Sliced.{ArgumentSliced, PrimaryExprSliced}
-use Rattle.wac_printer.proofs.Arguments.{bared, its_line, arguments_sliced, arguments_lines, no_arguments, braces_none, braces_lone, braces_lines, ending_bare, front_sliced, last_sliced, most_front, most_last, named_is, nested_layout, new_is}
+use Rattle.wac_printer.proofs.Arguments.{bared, its_line, arguments_lines, no_arguments, braces_none, braces_lone, braces_lines, ending_bare, front_sliced, last_sliced, most_front, most_last, named_is, nested_layout, new_is}
 use Rattle.wac_printer.proofs.PartsOf.{no_items}
 use Rattle.wac_printer.proofs.Progress.{part_at, starts, goes_at, stops_at, ends, first_stops, first_goes, none_is, deeper_part}
 use Rattle.wac_printer.proofs.Trees.{most_at}
+use Rattle.wac_printer.proofs.Sequence.{fail, fails, parts, piece, printed_as, printed_at, there}
+use Rattle.wac_lexer.specs.Reading.{slice}
 use Rattle.wac_printer.proofs.printer.DocumentPrinter.+expr.Goals as goal
 
 -- ---- the lines of arguments
@@ -158,3 +159,72 @@ primary_expr-returns-in_ok-expr-in-Nested g t c =
     let whole = nested_layout s.source s.depth c.args.expr.now c.in-Nested.expr c.in-Nested.is ∙ ap (λ y. token (codes "(") ∷ (expr_layout s.depth (bare_expr s.source (expr_of y)) ++ token (codes ")") ∷ [])) (sym v) in
     first_goes _ _ _ _ _ _ (token (codes "(") ∷ []) (λ source depth. expr_layout depth (bare_expr source (expr_of x)) ++ token (codes ")") ∷ []) whole c.in_ok-token-in-Nested.ensures
     (first_goes _ _ _ _ _ _ (expr_layout m.depth (bare_expr m.source (expr_of x))) (λ source depth. token (codes ")") ∷ []) refl c.in_ok-expr-in-Nested.ensures c.token-in-Nested.ensures)
+
+-- ---- errors on the way, and the other ends
+
+pub argument_line-returns-in_err-line : goal.argument_line-returns-in_err-line
+argument_line-returns-in_err-line g t c = fail c.from_residual.ensures.1 c.in_err-line.ensures
+
+pub argument_line-returns-in_err-argument : goal.argument_line-returns-in_err-argument
+argument_line-returns-in_err-argument g t c = piece c.in_ok-line.ensures (fails _ c.from_residual-in_err-argument.ensures.1 (there (λ source depth. argument_layout depth (bare_argument source (argument_of c.args.argument.now))) (c.in_ok-line.ensures.keeps.0) (c.in_ok-line.ensures.keeps.2) c.in_err-argument.ensures))
+
+pub argument_lines-returns-in_err-blank : goal.argument_lines-returns-in_err-blank
+argument_lines-returns-in_err-blank g t c = fail c.from_residual.ensures.1 c.in_err-blank.ensures
+
+pub argument_lines-returns-in_err-deeper_arguments : goal.argument_lines-returns-in_err-deeper_arguments
+argument_lines-returns-in_err-deeper_arguments g t c = piece c.in_ok-blank.ensures (fails _ c.from_residual-in_err-deeper_arguments.ensures.1 (there (λ source depth. arguments_layout (deeper depth) (bare_arguments source (arguments_from (map argument_of c.args.arguments.now)))) (c.in_ok-blank.ensures.keeps.0) (c.in_ok-blank.ensures.keeps.2) c.in_err-deeper_arguments.ensures))
+
+pub argument_lines-returns : goal.argument_lines-returns
+argument_lines-returns g t c = piece c.in_ok-blank.ensures (parts (there (λ source depth. arguments_layout (deeper depth) (bare_arguments source (arguments_from (map argument_of c.args.arguments.now)))) (c.in_ok-blank.ensures.keeps.0) (c.in_ok-blank.ensures.keeps.2) c.in_ok-deeper_arguments.ensures) (printed_at (λ depth. line depth ∷ []) (c.in_ok-deeper_arguments.ensures.keeps.2 ∙ c.in_ok-blank.ensures.keeps.2) c.line.ensures))
+
+pub expr-returns-in_err-primary_expr : goal.expr-returns-in_err-primary_expr
+unfolding expr_layout bare_expr
+expr-returns-in_err-primary_expr g t c = fails _ c.from_residual.ensures.1 c.in_err-primary_expr.ensures
+
+pub expr-returns : goal.expr-returns
+unfolding expr_layout bare_expr
+expr-returns g t c = parts c.in_ok-primary_expr.ensures (printed_at (λ xs. flat_map postfix_expr_layout (map (bare_postfix_expr c.args.self.now.source) (map postfix_expr_of xs))) c.deref.ensures.value (printed_at (λ source. flat_map postfix_expr_layout (map (bare_postfix_expr source) (map postfix_expr_of c.deref.result.now))) (c.in_ok-primary_expr.ensures.keeps.0) c.postfixes.ensures))
+
+pub new_expr-returns-in_err-new_head : goal.new_expr-returns-in_err-new_head
+unfolding primary_expr_layout bare_primary_expr
+new_expr-returns-in_err-new_head g t c = fails _ c.from_residual.ensures.1 c.in_err-new_head.ensures
+
+pub new_expr-returns-in_err-braced : goal.new_expr-returns-in_err-braced
+unfolding primary_expr_layout bare_primary_expr
+new_expr-returns-in_err-braced g t c = parts c.in_ok-new_head.ensures (fails _ c.from_residual-in_err-braced.ensures.1 (printed_at (λ xs. braces_layout c.args.self.now.depth (bare_arguments c.args.self.now.source (arguments_from (map argument_of xs)))) c.deref.ensures.value (there (λ source depth. braces_layout depth (bare_arguments source (arguments_from (map argument_of c.deref.result.now)))) (c.in_ok-new_head.ensures.keeps.0) (c.in_ok-new_head.ensures.keeps.2) c.in_err-braced.ensures)))
+
+pub new_expr-returns : goal.new_expr-returns
+unfolding primary_expr_layout bare_primary_expr
+new_expr-returns g t c = parts c.in_ok-new_head.ensures (parts (printed_at (λ xs. braces_layout c.args.self.now.depth (bare_arguments c.args.self.now.source (arguments_from (map argument_of xs)))) c.deref.ensures.value (there (λ source depth. braces_layout depth (bare_arguments source (arguments_from (map argument_of c.deref.result.now)))) (c.in_ok-new_head.ensures.keeps.0) (c.in_ok-new_head.ensures.keeps.2) c.in_ok-braced.ensures)) (c.token.ensures))
+
+pub argument-returns-in-Inferred : goal.argument-returns-in-Inferred
+unfolding argument_layout bare_argument
+argument-returns-in-Inferred g t c = printed_at (λ z. argument_layout c.args.self.now.depth (bare_argument c.args.self.now.source (argument_of z))) (sym c.in-Inferred.is) c.ident.ensures
+
+pub argument-returns-in-Fill : goal.argument-returns-in-Fill
+unfolding argument_layout bare_argument
+argument-returns-in-Fill g t c = printed_at (λ z. argument_layout c.args.self.now.depth (bare_argument c.args.self.now.source (argument_of z))) (sym c.in-Fill.is) c.token-in-Fill.ensures
+
+pub argument-returns-in_err-token-in-Spread : goal.argument-returns-in_err-token-in-Spread
+unfolding argument_layout bare_argument
+argument-returns-in_err-token-in-Spread g t c = printed_at (λ z. argument_layout c.args.self.now.depth (bare_argument c.args.self.now.source (argument_of z))) (sym c.in-Spread.is) (fail c.from_residual.ensures.1 c.in_err-token-in-Spread.ensures)
+
+pub argument-returns-in_ok-token-in-Spread : goal.argument-returns-in_ok-token-in-Spread
+unfolding argument_layout bare_argument
+argument-returns-in_ok-token-in-Spread g t c = printed_at (λ z. argument_layout c.args.self.now.depth (bare_argument c.args.self.now.source (argument_of z))) (sym c.in-Spread.is)
+    (piece c.in_ok-token-in-Spread.ensures (printed_at (λ source. token (slice source c.in-Spread.id.span) ∷ []) c.in_ok-token-in-Spread.ensures.keeps.0 c.ident-in-Spread.ensures))
+
+pub argument-returns-in_err-argument_name-in-Named : goal.argument-returns-in_err-argument_name-in-Named
+argument-returns-in_err-argument_name-in-Named g t c = printed_as (sym (named_is c.args.self.now.source c.args.self.now.depth c.args.argument.now c.in-Named.argument c.in-Named.is)) (fails _ c.from_residual-in_err-argument_name-in-Named.ensures.1 c.in_err-argument_name-in-Named.ensures)
+
+pub argument-returns-in_err-token-in-Named : goal.argument-returns-in_err-token-in-Named
+argument-returns-in_err-token-in-Named g t c = printed_as (sym (named_is c.args.self.now.source c.args.self.now.depth c.args.argument.now c.in-Named.argument c.in-Named.is))
+    (parts c.in_ok-argument_name-in-Named.ensures (fail c.from_residual-in_err-token-in-Named.ensures.1 c.in_err-token-in-Named.ensures))
+
+pub argument-returns-in_err-blank-in-Named : goal.argument-returns-in_err-blank-in-Named
+argument-returns-in_err-blank-in-Named g t c = printed_as (sym (named_is c.args.self.now.source c.args.self.now.depth c.args.argument.now c.in-Named.argument c.in-Named.is))
+    (parts c.in_ok-argument_name-in-Named.ensures (piece c.in_ok-token-in-Named.ensures (fail c.from_residual-in_err-blank-in-Named.ensures.1 c.in_err-blank-in-Named.ensures)))
+
+pub primary_expr-returns-in-Ident : goal.primary_expr-returns-in-Ident
+unfolding primary_expr_layout bare_primary_expr
+primary_expr-returns-in-Ident g t c = printed_at (λ z. primary_expr_layout c.args.self.now.depth (bare_primary_expr c.args.self.now.source (primary_expr_of z))) (sym c.in-Ident.is) c.ident.ensures

@@ -1,0 +1,52 @@
+-- Parts printed one after another.
+use Rattle.std.proofs.Common.{◌≡◌, ℕ, List, [], ◌∷◌, ◌++◌, Result, Ok, Err, ap, sym, map, ◌∙◌, subst}
+use Rattle.std.specs.Result.{IsErrAnd}
+use Rattle.std.proofs.lemmas.Result.{err_from_is_err_and}
+use Rattle.wac_syntax.specs.Names.{doc_comment_of}
+use Rattle.wac_syntax.specs.declared.names.DocComment.{DocComment}
+use Rattle.wac_layout.specs.Bare.{doc_lines}
+use Rattle.wac_layout.specs.Parts.{docs_layout, joined, rows}
+use Rattle.wac_printer.specs.declared.error.PrintError.{PrintError}
+use Rattle.wac_layout.specs.Printed.{Piece}
+use Rattle.wac_printer.specs.Printed.{Printer, Prints}
+use Rattle.wac_printer.proofs.PartsOf.{joined-of, rows-of}
+use Rattle.wac_printer.proofs.Printing as one
+
+-- what the exit of a `?` answers
+pub is_err : {B : Type 0} (r : Result B PrintError) (e : PrintError) → IsErrAnd r (λ y. y ≡ e) → r ≡ Err e
+is_err r e h = let p = err_from_is_err_and r h in p.1 ∙ ap Err p.2
+
+-- a piece in front fails, or parts in front do
+pub fail : {A B : Type 0} {old new : Printer} {e : PrintError} {r : Result B PrintError} {p : Piece} {qs : List Piece} → IsErrAnd r (λ y. y ≡ e) → Prints {A = A} old (Err e) new (p ∷ []) → Prints old r new (p ∷ qs)
+fail {e = e} {r = r} is h = one.stop _ _ _ _ _ _ (is_err r e is) h
+
+pub fails : {A B : Type 0} {old new : Printer} {e : PrintError} {r : Result B PrintError} {ps : List Piece} (qs : List Piece) → IsErrAnd r (λ y. y ≡ e) → Prints {A = A} old (Err e) new ps → Prints old r new (ps ++ qs)
+fails {e = e} {r = r} qs is h = one.stops _ _ _ _ _ _ (is_err r e is) h
+
+-- a piece, or parts, and what stands behind
+pub piece : {A B : Type 0} {old mid new : Printer} {a : A} {r : Result B PrintError} {p : Piece} {qs : List Piece} → Prints old (Ok a) mid (p ∷ []) → Prints mid r new qs → Prints old r new (p ∷ qs)
+piece h k = one.go _ _ _ _ _ _ _ h k
+
+pub parts : {A B : Type 0} {old mid new : Printer} {a : A} {r : Result B PrintError} {ps qs : List Piece} → Prints old (Ok a) mid ps → Prints mid r new qs → Prints old r new (ps ++ qs)
+parts h k = one.goes _ _ _ _ _ _ _ h k
+
+-- the same pieces, of what is equal
+pub printed_at : {X A : Type 0} {x y : X} {old new : Printer} {r : Result A PrintError} (f : X → List Piece) → x ≡ y → Prints old r new (f x) → Prints old r new (f y)
+printed_at {old = old} {new = new} {r = r} f e h = subst (λ z. Prints old r new (f z)) e h
+
+pub there : {A : Type 0} {s t : List ℕ} {d k : ℕ} {old new : Printer} {r : Result A PrintError} (f : List ℕ → ℕ → List Piece) → s ≡ t → d ≡ k → Prints old r new (f s d) → Prints old r new (f t k)
+there {s = s} {k = k} f e h p = printed_at (λ source. f source k) e (printed_at (λ depth. f s depth) h p)
+
+-- the docs of a vector
+pub of_docs : {A : Type 0} {xs ys : List DocComment} {old new : Printer} {r : Result A PrintError} → xs ≡ ys → Prints old r new (docs_layout old.depth (doc_lines (map doc_comment_of xs))) → Prints old r new (docs_layout old.depth (doc_lines (map doc_comment_of ys)))
+of_docs {old = old} e h = printed_at (λ xs. docs_layout old.depth (doc_lines (map doc_comment_of xs))) e h
+
+-- a list of trees of values, printed from the values
+pub joined_bare : {X Y Z : Type 0} (f : Z → List Piece) (g : Y → Z) (h : X → Y) (xs : List X) → joined (λ x. f (g (h x))) xs ≡ joined f (map g (map h xs))
+joined_bare f g h xs = sym (joined-of f g (map h xs) ∙ joined-of (λ y. f (g y)) h xs)
+
+pub rows_bare : {X Y Z : Type 0} (f : ℕ → Z → List Piece) (g : Y → Z) (h : X → Y) (depth : ℕ) (xs : List X) → rows (λ d x. f d (g (h x))) depth xs ≡ rows f depth (map g (map h xs))
+rows_bare f g h depth xs = sym (rows-of f g depth (map h xs) ∙ rows-of (λ d y. f d (g y)) h depth xs)
+
+pub printed_as : {A : Type 0} {old new : Printer} {r : Result A PrintError} {ps qs : List Piece} → ps ≡ qs → Prints old r new ps → Prints old r new qs
+printed_as e h = printed_at (λ l. l) e h
