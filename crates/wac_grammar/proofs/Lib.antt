@@ -12,10 +12,12 @@ pub mod Refused
 pub mod Bodies
 pub mod Reasons
 pub mod Strings
-pub mod SlicesOfTrees
 pub mod Choices
 pub mod Docs
 pub mod Ahead
 pub mod Ordered
-pub mod SpelledTrees
 pub mod TokenTexts
+pub mod Linked
+pub mod Derived
+pub mod Walked
+pub mod Listed

@@ -15,3 +15,5 @@ pub mod Consumed
 pub mod Spelled
 pub mod TokenTexts
 pub mod TextTree
+pub mod Walk
+pub mod Leaves

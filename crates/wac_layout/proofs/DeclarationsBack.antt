@@ -172,14 +172,14 @@ module _ (S P : List ℕ) where
   variant_decl_by : (depth : ℕ) (docs : List Doc) (id : Ident) (xs : List VariantCase) (ys : List Item) → let x : VariantDecl = record { docs = docs; id = id; cases = xs } in
       VariantDeclHas Spelled (bare_variant_decl doc_lines S x) → Means P [] ys (variant_decl_layout depth (bare_variant_decl doc_lines S x)) → (u : VariantDecl) × Derives variant_decl ys u × (bare_variant_decl read_docs P u ≡ bare_variant_decl doc_lines S x)
   unfolding rows
-  variant_decl_by depth docs id [] ys is h0 = absurd is.3
+  variant_decl_by depth docs id [] ys is h0 = absurd is.1
   variant_decl_by depth docs id (x ∷ xs) ys is h0 =
       let h = documented S P depth docs ys _ h0 in
       let k = docs_back S P docs h.0 h.1 ys h.2 h.3.3 in
       let h1 = h.4 in
-      let w = word_back S P id _ h1.0 is.1 h1.3 in
+      let w = word_back S P id _ h1.0 is.0.1 h1.3 in
       let h2 = h1.4 in
-      let q = variant_case_rows depth (deeper depth) x xs h2.1 is.2 h2.4 in (
+      let q = variant_case_rows depth (deeper depth) x xs h2.1 is.0.2 h2.4 in (
         build variant_decl (docs_of ys, (h.0, (w.0, (h2.0, (q.2, q.3))))),
         by_rule variant_decl ys (docs_of ys, (h.0, (w.0, (h2.0, (q.2, q.3)))))
             (refl, (h.0 ∷ [], h.1, h.2, (refl, ap (is_token kinds.VariantKeyword) h.3.0, refl), (h1.0 ∷ [], h1.1, h1.2, w.1, (h2.0 ∷ [], h2.1, h2.2, (refl, ap (is_token kinds.OpenBrace) h2.3.0, refl), (q.0, q.1, q.4, q.5, q.6))))),
@@ -204,14 +204,14 @@ module _ (S P : List ℕ) where
   record_decl_by : (depth : ℕ) (docs : List Doc) (id : Ident) (xs : List Field) (ys : List Item) → let x : RecordDecl = record { docs = docs; id = id; fields = xs } in
       RecordDeclHas Spelled (bare_record_decl doc_lines S x) → Means P [] ys (record_decl_layout depth (bare_record_decl doc_lines S x)) → (u : RecordDecl) × Derives record_decl ys u × (bare_record_decl read_docs P u ≡ bare_record_decl doc_lines S x)
   unfolding rows
-  record_decl_by depth docs id [] ys is h0 = absurd is.3
+  record_decl_by depth docs id [] ys is h0 = absurd is.1
   record_decl_by depth docs id (x ∷ xs) ys is h0 =
       let h = documented S P depth docs ys _ h0 in
       let k = docs_back S P docs h.0 h.1 ys h.2 h.3.3 in
       let h1 = h.4 in
-      let w = word_back S P id _ h1.0 is.1 h1.3 in
+      let w = word_back S P id _ h1.0 is.0.1 h1.3 in
       let h2 = h1.4 in
-      let q = field_rows depth (deeper depth) x xs h2.1 is.2 h2.4 in (
+      let q = field_rows depth (deeper depth) x xs h2.1 is.0.2 h2.4 in (
         build record_decl (docs_of ys, (h.0, (w.0, (h2.0, (q.2, q.3))))),
         by_rule record_decl ys (docs_of ys, (h.0, (w.0, (h2.0, (q.2, q.3)))))
             (refl, (h.0 ∷ [], h.1, h.2, (refl, ap (is_token kinds.RecordKeyword) h.3.0, refl), (h1.0 ∷ [], h1.1, h1.2, w.1, (h2.0 ∷ [], h2.1, h2.2, (refl, ap (is_token kinds.OpenBrace) h2.3.0, refl), (q.0, q.1, q.4, q.5, q.6))))),
@@ -236,14 +236,14 @@ module _ (S P : List ℕ) where
   flags_decl_by : (depth : ℕ) (docs : List Doc) (id : Ident) (xs : List Flag) (ys : List Item) → let x : FlagsDecl = record { docs = docs; id = id; flags = xs } in
       FlagsDeclHas Spelled (bare_flags_decl doc_lines S x) → Means P [] ys (flags_decl_layout depth (bare_flags_decl doc_lines S x)) → (u : FlagsDecl) × Derives flags_decl ys u × (bare_flags_decl read_docs P u ≡ bare_flags_decl doc_lines S x)
   unfolding rows
-  flags_decl_by depth docs id [] ys is h0 = absurd is.3
+  flags_decl_by depth docs id [] ys is h0 = absurd is.1
   flags_decl_by depth docs id (x ∷ xs) ys is h0 =
       let h = documented S P depth docs ys _ h0 in
       let k = docs_back S P docs h.0 h.1 ys h.2 h.3.3 in
       let h1 = h.4 in
-      let w = word_back S P id _ h1.0 is.1 h1.3 in
+      let w = word_back S P id _ h1.0 is.0.1 h1.3 in
       let h2 = h1.4 in
-      let q = flag_rows depth (deeper depth) x xs h2.1 is.2 h2.4 in (
+      let q = flag_rows depth (deeper depth) x xs h2.1 is.0.2 h2.4 in (
         build flags_decl (docs_of ys, (h.0, (w.0, (h2.0, (q.2, q.3))))),
         by_rule flags_decl ys (docs_of ys, (h.0, (w.0, (h2.0, (q.2, q.3)))))
             (refl, (h.0 ∷ [], h.1, h.2, (refl, ap (is_token kinds.FlagsKeyword) h.3.0, refl), (h1.0 ∷ [], h1.1, h1.2, w.1, (h2.0 ∷ [], h2.1, h2.2, (refl, ap (is_token kinds.OpenBrace) h2.3.0, refl), (q.0, q.1, q.4, q.5, q.6))))),
@@ -268,14 +268,14 @@ module _ (S P : List ℕ) where
   enum_decl_by : (depth : ℕ) (docs : List Doc) (id : Ident) (xs : List EnumCase) (ys : List Item) → let x : EnumDecl = record { docs = docs; id = id; cases = xs } in
       EnumDeclHas Spelled (bare_enum_decl doc_lines S x) → Means P [] ys (enum_decl_layout depth (bare_enum_decl doc_lines S x)) → (u : EnumDecl) × Derives enum_decl ys u × (bare_enum_decl read_docs P u ≡ bare_enum_decl doc_lines S x)
   unfolding rows
-  enum_decl_by depth docs id [] ys is h0 = absurd is.3
+  enum_decl_by depth docs id [] ys is h0 = absurd is.1
   enum_decl_by depth docs id (x ∷ xs) ys is h0 =
       let h = documented S P depth docs ys _ h0 in
       let k = docs_back S P docs h.0 h.1 ys h.2 h.3.3 in
       let h1 = h.4 in
-      let w = word_back S P id _ h1.0 is.1 h1.3 in
+      let w = word_back S P id _ h1.0 is.0.1 h1.3 in
       let h2 = h1.4 in
-      let q = enum_case_rows depth (deeper depth) x xs h2.1 is.2 h2.4 in (
+      let q = enum_case_rows depth (deeper depth) x xs h2.1 is.0.2 h2.4 in (
         build enum_decl (docs_of ys, (h.0, (w.0, (h2.0, (q.2, q.3))))),
         by_rule enum_decl ys (docs_of ys, (h.0, (w.0, (h2.0, (q.2, q.3)))))
             (refl, (h.0 ∷ [], h.1, h.2, (refl, ap (is_token kinds.EnumKeyword) h.3.0, refl), (h1.0 ∷ [], h1.1, h1.2, w.1, (h2.0 ∷ [], h2.1, h2.2, (refl, ap (is_token kinds.OpenBrace) h2.3.0, refl), (q.0, q.1, q.4, q.5, q.6))))),

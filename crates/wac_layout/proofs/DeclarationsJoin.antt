@@ -5,8 +5,9 @@ use Rattle.wac_lexer.specs.Follow.{follows}
 use Rattle.wac_lexer.specs.declared.token.Token.TheVariants as kinds
 use Rattle.wac_grammar.specs.Tree as tree
 use Rattle.wac_grammar.specs.Tree.{Ident, Ty, Constructor, Method, ResourceMethod, ResourceDecl, VariantCase, VariantDecl, Field, RecordDecl, Flag, FlagsDecl, EnumCase, EnumDecl, TypeAliasKind, TypeAlias, TypeDecl, ItemTypeDecl}
+use Rattle.wac_grammar.specs.Leaves.{IfThere}
 use Rattle.wac_layout.specs.Printed.{Piece, token, line, text}
-use Rattle.wac_layout.specs.Texts.{Spelled, IfThere, IdentHas, TyHas, ConstructorHas, MethodHas, ResourceMethodHas, ResourceDeclHas, VariantCaseHas, VariantDeclHas, FieldHas, RecordDeclHas, FlagHas, FlagsDeclHas, EnumCaseHas, EnumDeclHas, TypeAliasKindHas, TypeAliasHas, TypeDeclHas, ItemTypeDeclHas}
+use Rattle.wac_layout.specs.Texts.{Spelled, IdentHas, TyHas, ConstructorHas, MethodHas, ResourceMethodHas, ResourceDeclHas, VariantCaseHas, VariantDeclHas, FieldHas, RecordDeclHas, FlagHas, FlagsDeclHas, EnumCaseHas, EnumDeclHas, TypeAliasKindHas, TypeAliasHas, TypeDeclHas, ItemTypeDeclHas}
 use Rattle.wac_layout.specs.TypeLayout.{ty_layout, func_type_layout, params_layout}
 use Rattle.wac_layout.specs.DeclarationLayout.{constructor_layout, static_layout, method_layout, resource_method_layout, resource_decl_layout, payload_layout, variant_case_layout, variant_decl_layout, field_layout, record_decl_layout, flag_layout, flags_decl_layout, enum_case_layout, enum_decl_layout, alias_kind_layout, type_alias_layout, type_decl_layout, item_type_decl_layout}
 use Rattle.wac_layout.proofs.Joints.{J, also, documented, known, word, colon, equals, semicolon, open_paren, close_paren, rows_follow, body_follow, rows_join, body_join}
@@ -72,15 +73,15 @@ module _ (gap : List ℕ) where
 
   variant_decl_join : (depth : ℕ) (x : VariantDecl) (rest : List ℕ) (fresh : Bool) → VariantDeclHas Spelled x → J gap rest fresh (variant_decl_layout depth x)
   variant_decl_join depth x rest fresh is =
-      documented gap depth x.docs _ rest fresh is.0 (λ later. (
+      documented gap depth x.docs _ rest fresh is.0.0 (λ later. (
         tt,
         (
           known _ refl _ refl,
           (
             (refl, tt),
             (
-              word _ _ is.1 (rows_follow gap variant_case_layout depth x.cases _ _),
-              rows_join gap variant_case_layout (VariantCaseHas Spelled) variant_case_join depth x.cases rest _ is.2,
+              word _ _ is.0.1 (rows_follow gap variant_case_layout depth x.cases _ _),
+              rows_join gap variant_case_layout (VariantCaseHas Spelled) variant_case_join depth x.cases rest _ is.0.2,
             ),
           ),
         ),
@@ -92,15 +93,15 @@ module _ (gap : List ℕ) where
 
   record_decl_join : (depth : ℕ) (x : RecordDecl) (rest : List ℕ) (fresh : Bool) → RecordDeclHas Spelled x → J gap rest fresh (record_decl_layout depth x)
   record_decl_join depth x rest fresh is =
-      documented gap depth x.docs _ rest fresh is.0 (λ later. (
+      documented gap depth x.docs _ rest fresh is.0.0 (λ later. (
         tt,
         (
           known _ refl _ refl,
           (
             (refl, tt),
             (
-              word _ _ is.1 (rows_follow gap field_layout depth x.fields _ _),
-              rows_join gap field_layout (FieldHas Spelled) field_join depth x.fields rest _ is.2,
+              word _ _ is.0.1 (rows_follow gap field_layout depth x.fields _ _),
+              rows_join gap field_layout (FieldHas Spelled) field_join depth x.fields rest _ is.0.2,
             ),
           ),
         ),
@@ -111,15 +112,15 @@ module _ (gap : List ℕ) where
 
   flags_decl_join : (depth : ℕ) (x : FlagsDecl) (rest : List ℕ) (fresh : Bool) → FlagsDeclHas Spelled x → J gap rest fresh (flags_decl_layout depth x)
   flags_decl_join depth x rest fresh is =
-      documented gap depth x.docs _ rest fresh is.0 (λ later. (
+      documented gap depth x.docs _ rest fresh is.0.0 (λ later. (
         tt,
         (
           known _ refl _ refl,
           (
             (refl, tt),
             (
-              word _ _ is.1 (rows_follow gap flag_layout depth x.flags _ _),
-              rows_join gap flag_layout (FlagHas Spelled) flag_join depth x.flags rest _ is.2,
+              word _ _ is.0.1 (rows_follow gap flag_layout depth x.flags _ _),
+              rows_join gap flag_layout (FlagHas Spelled) flag_join depth x.flags rest _ is.0.2,
             ),
           ),
         ),
@@ -130,15 +131,15 @@ module _ (gap : List ℕ) where
 
   enum_decl_join : (depth : ℕ) (x : EnumDecl) (rest : List ℕ) (fresh : Bool) → EnumDeclHas Spelled x → J gap rest fresh (enum_decl_layout depth x)
   enum_decl_join depth x rest fresh is =
-      documented gap depth x.docs _ rest fresh is.0 (λ later. (
+      documented gap depth x.docs _ rest fresh is.0.0 (λ later. (
         tt,
         (
           known _ refl _ refl,
           (
             (refl, tt),
             (
-              word _ _ is.1 (rows_follow gap enum_case_layout depth x.cases _ _),
-              rows_join gap enum_case_layout (EnumCaseHas Spelled) enum_case_join depth x.cases rest _ is.2,
+              word _ _ is.0.1 (rows_follow gap enum_case_layout depth x.cases _ _),
+              rows_join gap enum_case_layout (EnumCaseHas Spelled) enum_case_join depth x.cases rest _ is.0.2,
             ),
           ),
         ),

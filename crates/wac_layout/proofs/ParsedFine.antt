@@ -84,4 +84,4 @@ items_fine source h =
     together source (items source) (tokens_known source (utf8_bytes source h.0) (items source) 0 refl) (texts_sliced source (items source) 0 (ordered source h.0)) (items_accepted source h)
 
 pub parsed_spelled : (source : List ℕ) (tree : Document) → IsAccepted source → Derives document (items source) tree → DocumentHas Spelled (bare_document doc_lines source tree)
-parsed_spelled source tree h d = derived_fine source document (items source) tree (items_fine source h) d
+parsed_spelled source tree h d = derived_fine source (items source) tree (items_fine source h) d

@@ -8,3 +8,4 @@ pub mod Lists
 pub mod PathParts
 pub mod Optional
 pub mod Alternatives
+pub mod Exits

@@ -6,12 +6,13 @@ ghost use Rattle.wac_syntax.specs.Lookahead.{Peeks};
 ghost use Rattle.wac_worlds.specs.Worlds.{import_type_of, import_statement_of};
 
 use crate::interface::InlineInterface;
+use crate::pieces::{parse_after, parse_before};
 use std::alloc::Global;
 use wac_declarations::FuncType;
 use wac_lexer::{Lexer, Token};
 use wac_syntax::{
-    DocComment, ExternName, Ident, Lookahead, PackagePath, Parse, ParseResult, Peek, parse_docs,
-    take_optional, take_token,
+    DocComment, Error, ExternName, Ident, Lookahead, PackagePath, Parse, ParseResult, Peek,
+    parse_docs, take_token,
 };
 
 /// An import.
@@ -32,19 +33,13 @@ impl<'a> Parse<'a> for ImportStatement<'a> {
 
     ghost tree = { import_statement_of };
 
-    #[tactic(auto, using(wac_grammar::proofs::Fixed::read_is, wac_grammar::proofs::Docs::docs_of_token))]
     fn parse(alloc: Global, lexer: &mut Lexer<'a>) -> ParseResult<Self> {
         let docs = parse_docs(alloc, lexer)?;
         take_token(lexer, Token::ImportKeyword)?;
         let id = Parse::parse(alloc, lexer)?;
-        let name = if take_optional(lexer, Token::AsKeyword)? {
-            Some(Parse::parse(alloc, lexer)?)
-        } else {
-            None
-        };
+        let name = parse_after::<ExternName, Error>(alloc, lexer, Token::AsKeyword)?;
         take_token(lexer, Token::Colon)?;
-        let ty = Parse::parse(alloc, lexer)?;
-        take_token(lexer, Token::Semicolon)?;
+        let ty = parse_before::<ImportType, Error>(alloc, lexer, Token::Semicolon)?;
         Ok(ImportStatement { docs, id, name, ty })
     }
 }

@@ -1,10 +1,13 @@
 //! Interfaces.
 
+ghost use Rattle.std.specs.Prelude.{◌≡◌, ◌≤◌, map};
 ghost use Rattle.wac_grammar.specs.Grammar as symbols;
 ghost use Rattle.wac_grammar.specs.Reading.{begins};
 ghost use Rattle.wac_syntax.specs.Lookahead.{Peeks};
+ghost use Rattle.wac_worlds.specs.Pieces.{GivesPart, use_tail, tail_items};
 ghost use Rattle.wac_worlds.specs.Worlds.{use_item_of, use_path_of, use_of, interface_export_of, interface_item_of, interface_decl_of, inline_interface_of};
 
+use crate::pieces::parse_before;
 use std::alloc::Global;
 use wac_declarations::{FuncTypeRef, ItemTypeDecl};
 use wac_lexer::{Lexer, Token};
@@ -29,17 +32,26 @@ impl<'a> Parse<'a> for Use<'a> {
 
     ghost tree = { use_of };
 
-    #[tactic(auto, using(wac_grammar::proofs::Fixed::read_is, wac_grammar::proofs::Docs::docs_of_token))]
     fn parse(alloc: Global, lexer: &mut Lexer<'a>) -> ParseResult<Self> {
         let docs = parse_docs(alloc, lexer)?;
         take_token(lexer, Token::UseKeyword)?;
         let path = Parse::parse(alloc, lexer)?;
         take_token(lexer, Token::Dot)?;
-        take_token(lexer, Token::OpenBrace)?;
-        let (items, _) = parse_list::<UseItem, Error>(alloc, lexer, Token::CloseBrace)?;
-        take_token(lexer, Token::Semicolon)?;
+        let items = parse_use_items(alloc, lexer)?;
         Ok(Use { docs, path, items })
     }
+}
+
+/// The items of a `use`, from the opening brace to the semicolon.
+fn parse_use_items<'a>(alloc: Global, lexer: &mut Lexer<'a>) -> ParseResult<Vec<UseItem<'a>>>
+    ensures gives { GivesPart use_tail tail_items (λ e x. x ≡ e) (λ v. map use_item_of v.items) result lexer.old lexer.new }
+    ensures source { lexer.new.source ≡ lexer.old.source }
+    ensures moves { lexer.old.place ≤ lexer.new.place }
+{
+    take_token(lexer, Token::OpenBrace)?;
+    let (items, _) = parse_list::<UseItem, Error>(alloc, lexer, Token::CloseBrace)?;
+    take_token(lexer, Token::Semicolon)?;
+    Ok(items)
 }
 
 impl<'a> Peek for Use<'a> {
@@ -241,13 +253,11 @@ impl<'a> Parse<'a> for InterfaceExport<'a> {
 
     ghost tree = { interface_export_of };
 
-    #[tactic(auto, using(wac_grammar::proofs::Fixed::read_is, wac_grammar::proofs::Docs::docs_of_sym))]
     fn parse(alloc: Global, lexer: &mut Lexer<'a>) -> ParseResult<Self> {
         let docs = parse_docs(alloc, lexer)?;
         let id = Parse::parse(alloc, lexer)?;
         take_token(lexer, Token::Colon)?;
-        let ty = Parse::parse(alloc, lexer)?;
-        take_token(lexer, Token::Semicolon)?;
+        let ty = parse_before::<FuncTypeRef, Error>(alloc, lexer, Token::Semicolon)?;
         Ok(InterfaceExport { docs, id, ty })
     }
 }

@@ -3,6 +3,7 @@
 
 mod import;
 mod interface;
+mod pieces;
 mod world;
 
 pub use import::{ImportStatement, ImportType};

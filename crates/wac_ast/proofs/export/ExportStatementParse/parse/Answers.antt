@@ -1,57 +1,28 @@
 use Rattle.std.proofs.Common.{refl, map, inl, ◌∙◌}
-use Rattle.std.proofs.lemmas.Result.{err_from_is_err_and}
 use Rattle.wac_lexer.specs.declared.token.Token.TheVariants as tokens
 use Rattle.wac_lexer.specs.Reading.{left}
 use Rattle.wac_grammar.specs.Grammar.{export_statement}
 use Rattle.wac_syntax.specs.Names.{doc_comment_of}
-use Rattle.wac_syntax.specs.Answer.{end_of_input}
 use Rattle.wac_grammar.proofs.Fixed.{read_is}
 use Rattle.wac_grammar.proofs.Docs.{docs_of_token}
-use Rattle.wac_syntax.proofs.Loops.{fails_bind}
-use Rattle.wac_syntax.proofs.Lists.{moved_end}
+use Rattle.wac_syntax.proofs.Exits.{err_is, leaves, with_docs, here, last, past, took}
 use Rattle.wac_ast.proofs.export.ExportStatementParse.parse.Goals as goal
 
 pub returns-in_err-docs-clause-gives : goal.returns-in_err-docs-clause-gives
-returns-in_err-docs-clause-gives c =
-    let p = err_from_is_err_and c.from_residual.result c.from_residual.ensures.1 in
-    rw (p.1, p.2) (inl c.in_err-docs.ensures.refused)
+returns-in_err-docs-clause-gives c = rw (err_is _ _ c.from_residual.ensures.1) (inl c.in_err-docs.ensures.refused)
 
 pub returns-in_err-take_token-clause-gives : goal.returns-in_err-take_token-clause-gives
-returns-in_err-take_token-clause-gives c =
-    let p = err_from_is_err_and c.from_residual-in_err-take_token.result c.from_residual-in_err-take_token.ensures.1 in
-    let e = c.in_err-take_token.field-0.0 in
-    let end = end_of_input c.args.lexer.now in
-    rw (p.1, p.2, read_is export_statement) (fails_bind e end _ _ (fails_bind e end _ _ (fails_bind e end _ _ c.in_err-take_token.ensures.takes)))
+returns-in_err-take_token-clause-gives c = rw (err_is _ _ c.from_residual-in_err-take_token.ensures.1) (leaves export_statement c.args.lexer.now _ (with_docs (here c.in_err-take_token.ensures.takes)))
 
 pub returns-in_err-expr-clause-gives : goal.returns-in_err-expr-clause-gives
-returns-in_err-expr-clause-gives c =
-    let p = err_from_is_err_and c.from_residual-in_err-expr.result c.from_residual-in_err-expr.ensures.1 in
-    let e = c.in_err-expr.field-0.0 in
-    let end = end_of_input c.args.lexer.now in
-    let keyword = c.in_ok-take_token.ensures.takes in
-    let here = moved_end e _ end _ (keyword.2) c.in_err-expr.ensures.gives in
-    rw (p.1, p.2, read_is export_statement, keyword.0) (fails_bind e end _ _ (fails_bind e end _ _ (fails_bind e end _ _ (fails_bind e end _ _ here))))
+returns-in_err-expr-clause-gives c = rw (err_is _ _ c.from_residual-in_err-expr.ensures.1) (leaves export_statement c.args.lexer.now _ (with_docs (took c.in_ok-take_token.ensures.takes (here c.in_err-expr.ensures.gives))))
 
 pub returns-in_err-options-clause-gives : goal.returns-in_err-options-clause-gives
-returns-in_err-options-clause-gives c =
-    let p = err_from_is_err_and c.from_residual-in_err-options.result c.from_residual-in_err-options.ensures.1 in
-    let e = c.in_err-options.field-0.0 in
-    let end = end_of_input c.args.lexer.now in
-    let keyword = c.in_ok-take_token.ensures.takes in
-    let expr = c.in_ok-expr.ensures.gives in
-    let here = moved_end e _ end _ (expr.1 ∙ keyword.2) c.in_err-options.ensures.gives in
-    rw (p.1, p.2, read_is export_statement, keyword.0, expr.0) (fails_bind e end _ _ (fails_bind e end _ _ (fails_bind e end _ _ (fails_bind e end _ _ (fails_bind e end _ _ here)))))
+returns-in_err-options-clause-gives c = rw (err_is _ _ c.from_residual-in_err-options.ensures.1) (leaves export_statement c.args.lexer.now _ (with_docs (took c.in_ok-take_token.ensures.takes (past c.in_ok-expr.ensures.gives (here c.in_err-options.ensures.gives)))))
 
 pub returns-in_err-take_token-2-clause-gives : goal.returns-in_err-take_token-2-clause-gives
 returns-in_err-take_token-2-clause-gives c =
-    let p = err_from_is_err_and c.from_residual-in_err-take_token-2.result c.from_residual-in_err-take_token-2.ensures.1 in
-    let e = c.in_err-take_token-2.field-0.0 in
-    let end = end_of_input c.args.lexer.now in
-    let keyword = c.in_ok-take_token.ensures.takes in
-    let expr = c.in_ok-expr.ensures.gives in
-    let options = c.in_ok-options.ensures.gives in
-    let here = moved_end e _ end _ (options.1 ∙ expr.1 ∙ keyword.2) c.in_err-take_token-2.ensures.takes in
-    rw (p.1, p.2, read_is export_statement, keyword.0, expr.0, options.0) (fails_bind e end _ _ (fails_bind e end _ _ (fails_bind e end _ _ (fails_bind e end _ _ (fails_bind e end _ _ here)))))
+    rw (err_is _ _ c.from_residual-in_err-take_token-2.ensures.1) (leaves export_statement c.args.lexer.now _ (with_docs (took c.in_ok-take_token.ensures.takes (past c.in_ok-expr.ensures.gives (past c.in_ok-options.ensures.gives (last c.in_err-take_token-2.ensures.takes))))))
 
 pub returns-clause-gives : goal.returns-clause-gives
 returns-clause-gives c =

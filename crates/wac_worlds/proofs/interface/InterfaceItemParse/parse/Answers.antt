@@ -1,79 +1,43 @@
 use Rattle.std.proofs.Common.{refl}
 use Rattle.wac_grammar.specs.Grammar.{interface_item}
-use Rattle.wac_grammar.proofs.Fixed.{read_is}
-use Rattle.wac_syntax.proofs.Lookaheads.{looks, looks_on, looks_fail, tests}
-use Rattle.std.proofs.lemmas.Result.{err_from_is_err_and}
-use Rattle.wac_syntax.specs.Answer.{end_of_input}
-use Rattle.wac_syntax.proofs.Loops.{fails_bind}
+use Rattle.wac_syntax.proofs.Lookaheads.{looks}
+use Rattle.wac_syntax.proofs.Exits.{err_is, leaves, meets, misses, last_meets, last_misses, meets_one, misses_one, last_one, yields}
 use Rattle.wac_worlds.proofs.interface.InterfaceItemParse.parse.Goals as goal
 
 pub returns-in_ok-boxed-clause-gives : goal.returns-in_ok-boxed-clause-gives
 returns-in_ok-boxed-clause-gives c =
     let begun = looks c.args.lexer.now _ c.new-lookahead.ensures in
-    let first = tests _ _ _ _ _ _ _ begun c.peek.ensures c.if-peek.true in
     let parsed = c.in_ok-item.ensures.gives in
-    (rw (c.in_ok-boxed.ensures.value, read_is interface_item, first, parsed.0) refl, parsed.1)
+    (rw c.in_ok-boxed.ensures.value (yields interface_item _ _ (meets_one begun c.peek.ensures c.if-peek.true parsed.0) refl), parsed.1)
 
 pub returns-in_ok-parse-clause-gives : goal.returns-in_ok-parse-clause-gives
 returns-in_ok-parse-clause-gives c =
     let begun = looks c.args.lexer.now _ c.new-lookahead.ensures in
-    let no_first = tests _ _ _ _ _ _ _ begun c.peek.ensures c.if-peek.false in
-    let then_second = looks_on _ _ _ _ _ _ begun c.peek.ensures c.if-peek.false in
-    let second = tests _ _ _ _ _ _ _ then_second c.peek-else-peek.ensures c.if-peek-2.true in
     let parsed = c.in_ok-parse.ensures.gives in
-    (rw (read_is interface_item, no_first, second, parsed.0) refl, parsed.1)
+    (yields interface_item _ _ (misses_one begun c.peek.ensures c.if-peek.false (λ l. meets_one l c.peek-else-peek.ensures c.if-peek-2.true parsed.0)) refl, parsed.1)
 
 pub returns-in_ok-parse-2-clause-gives : goal.returns-in_ok-parse-2-clause-gives
 returns-in_ok-parse-2-clause-gives c =
     let begun = looks c.args.lexer.now _ c.new-lookahead.ensures in
-    let no_first = tests _ _ _ _ _ _ _ begun c.peek.ensures c.if-peek.false in
-    let then_second = looks_on _ _ _ _ _ _ begun c.peek.ensures c.if-peek.false in
-    let no_second = tests _ _ _ _ _ _ _ then_second c.peek-else-peek.ensures c.if-peek-2.false in
-    let then_third = looks_on _ _ _ _ _ _ then_second c.peek-else-peek.ensures c.if-peek-2.false in
-    let third = tests _ _ _ _ _ _ _ then_third c.peek-else-peek-2.ensures c.if-peek-3.true in
     let parsed = c.in_ok-parse-2.ensures.gives in
-    (rw (read_is interface_item, no_first, no_second, third, parsed.0) refl, parsed.1)
+    (yields interface_item _ _ (misses_one begun c.peek.ensures c.if-peek.false (λ l. misses_one l c.peek-else-peek.ensures c.if-peek-2.false (λ m. last_one m c.peek-else-peek-2.ensures c.if-peek-3.true parsed.0))) refl, parsed.1)
 
 pub returns-else-peek-3-clause-gives : goal.returns-else-peek-3-clause-gives
 returns-else-peek-3-clause-gives c =
     let begun = looks c.args.lexer.now _ c.new-lookahead.ensures in
-    let no_first = tests _ _ _ _ _ _ _ begun c.peek.ensures c.if-peek.false in
-    let then_second = looks_on _ _ _ _ _ _ begun c.peek.ensures c.if-peek.false in
-    let no_second = tests _ _ _ _ _ _ _ then_second c.peek-else-peek.ensures c.if-peek-2.false in
-    let then_third = looks_on _ _ _ _ _ _ then_second c.peek-else-peek.ensures c.if-peek-2.false in
-    let no_third = tests _ _ _ _ _ _ _ then_third c.peek-else-peek-2.ensures c.if-peek-3.false in
-    let then_fourth = looks_on _ _ _ _ _ _ then_third c.peek-else-peek-2.ensures c.if-peek-3.false in
-    looks_fail c.args.lexer.now _ _ _ _ c.error.result _ then_fourth c.error.ensures refl (rw (read_is interface_item, no_first, no_second, no_third) refl)
-
-pub returns-in_err-parse-2-clause-gives : goal.returns-in_err-parse-2-clause-gives
-returns-in_err-parse-2-clause-gives c =
-    let p = err_from_is_err_and c.from_residual-in_err-parse-2.result c.from_residual-in_err-parse-2.ensures.1 in
-    let e = c.in_err-parse-2.field-0.0 in
-    let end = end_of_input c.args.lexer.now in
-    let begun = looks c.args.lexer.now _ c.new-lookahead.ensures in
-    let no_first = tests _ _ _ _ _ _ _ begun c.peek.ensures c.if-peek.false in
-    let then_second = looks_on _ _ _ _ _ _ begun c.peek.ensures c.if-peek.false in
-    let no_second = tests _ _ _ _ _ _ _ then_second c.peek-else-peek.ensures c.if-peek-2.false in
-    let then_third = looks_on _ _ _ _ _ _ then_second c.peek-else-peek.ensures c.if-peek-2.false in
-    let third = tests _ _ _ _ _ _ _ then_third c.peek-else-peek-2.ensures c.if-peek-3.true in
-    rw (p.1, p.2, read_is interface_item, no_first, no_second, third) (fails_bind e end _ _ (fails_bind e end _ _ (fails_bind e end _ _ c.in_err-parse-2.ensures.gives)))
+    leaves interface_item c.args.lexer.now c.error.result (misses begun c.peek.ensures c.if-peek.false (λ l. misses l c.peek-else-peek.ensures c.if-peek-2.false (λ m. last_misses _ _ _ m c.peek-else-peek-2.ensures c.if-peek-3.false c.error.ensures refl refl refl)))
 
 pub returns-in_err-item-clause-gives : goal.returns-in_err-item-clause-gives
 returns-in_err-item-clause-gives c =
-    let p = err_from_is_err_and c.from_residual.result c.from_residual.ensures.1 in
-    let e = c.in_err-item.field-0.0 in
-    let end = end_of_input c.args.lexer.now in
     let begun = looks c.args.lexer.now _ c.new-lookahead.ensures in
-    let first = tests _ _ _ _ _ _ _ begun c.peek.ensures c.if-peek.true in
-    rw (p.1, p.2, read_is interface_item, first) (fails_bind e end _ _ (fails_bind e end _ _ c.in_err-item.ensures.gives))
+    rw (err_is _ _ c.from_residual.ensures.1) (leaves interface_item c.args.lexer.now _ (meets begun c.peek.ensures c.if-peek.true c.in_err-item.ensures.gives))
 
 pub returns-in_err-parse-clause-gives : goal.returns-in_err-parse-clause-gives
 returns-in_err-parse-clause-gives c =
-    let p = err_from_is_err_and c.from_residual-in_err-parse.result c.from_residual-in_err-parse.ensures.1 in
-    let e = c.in_err-parse.field-0.0 in
-    let end = end_of_input c.args.lexer.now in
     let begun = looks c.args.lexer.now _ c.new-lookahead.ensures in
-    let no_first = tests _ _ _ _ _ _ _ begun c.peek.ensures c.if-peek.false in
-    let then_second = looks_on _ _ _ _ _ _ begun c.peek.ensures c.if-peek.false in
-    let second = tests _ _ _ _ _ _ _ then_second c.peek-else-peek.ensures c.if-peek-2.true in
-    rw (p.1, p.2, read_is interface_item, no_first, second) (fails_bind e end _ _ (fails_bind e end _ _ (fails_bind e end _ _ c.in_err-parse.ensures.gives)))
+    rw (err_is _ _ c.from_residual-in_err-parse.ensures.1) (leaves interface_item c.args.lexer.now _ (misses begun c.peek.ensures c.if-peek.false (λ l. meets l c.peek-else-peek.ensures c.if-peek-2.true c.in_err-parse.ensures.gives)))
+
+pub returns-in_err-parse-2-clause-gives : goal.returns-in_err-parse-2-clause-gives
+returns-in_err-parse-2-clause-gives c =
+    let begun = looks c.args.lexer.now _ c.new-lookahead.ensures in
+    rw (err_is _ _ c.from_residual-in_err-parse-2.ensures.1) (leaves interface_item c.args.lexer.now _ (misses begun c.peek.ensures c.if-peek.false (λ l. misses l c.peek-else-peek.ensures c.if-peek-2.false (λ m. last_meets m c.peek-else-peek-2.ensures c.if-peek-3.true c.in_err-parse-2.ensures.gives))))

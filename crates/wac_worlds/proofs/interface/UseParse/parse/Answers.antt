@@ -1,95 +1,33 @@
-use Rattle.std.proofs.Common.{refl, sym, subst, map, ◌∙◌, inl}
-use Rattle.std.proofs.lemmas.Result.{err_from_is_err_and}
-use Rattle.wac_syntax.specs.declared.error.Error.{Error}
-use Rattle.wac_grammar.specs.Reading.{read}
-use Rattle.wac_syntax.specs.Answer.{end_of_input, Fails}
-use Rattle.wac_syntax.proofs.Loops.{fails_bind}
-use Rattle.wac_syntax.proofs.Lists.{moved_end}
+use Rattle.std.proofs.Common.{map, ◌∙◌, inl, refl}
 use Rattle.wac_lexer.specs.declared.token.Token.TheVariants as tokens
 use Rattle.wac_lexer.specs.Reading.{left}
-use Rattle.wac_grammar.specs.Grammar.{use_statement, use_items}
 use Rattle.wac_syntax.specs.Names.{doc_comment_of}
-use Rattle.wac_grammar.proofs.Fixed.{read_is}
 use Rattle.wac_grammar.proofs.Docs.{docs_of_token}
+use Rattle.wac_grammar.proofs.Fixed.{read_is}
+use Rattle.wac_grammar.specs.Grammar.{use_statement}
+use Rattle.wac_syntax.proofs.Exits.{err_is, leaves, same_error, with_docs, here, last, past, took}
 use Rattle.wac_worlds.proofs.interface.UseParse.parse.Goals as goal
+
+pub returns-in_err-docs-clause-gives : goal.returns-in_err-docs-clause-gives
+returns-in_err-docs-clause-gives c = rw (err_is _ _ c.from_residual.ensures.1) (inl c.in_err-docs.ensures.refused)
+
+pub returns-in_err-take_token-clause-gives : goal.returns-in_err-take_token-clause-gives
+returns-in_err-take_token-clause-gives c = rw (err_is _ _ c.from_residual-in_err-take_token.ensures.1) (leaves use_statement c.args.lexer.now _ (with_docs (here c.in_err-take_token.ensures.takes)))
+
+pub returns-in_err-path-clause-gives : goal.returns-in_err-path-clause-gives
+returns-in_err-path-clause-gives c = rw (err_is _ _ c.from_residual-in_err-path.ensures.1) (leaves use_statement c.args.lexer.now _ (with_docs (took c.in_ok-take_token.ensures.takes (here c.in_err-path.ensures.gives))))
+
+pub returns-in_err-take_token-2-clause-gives : goal.returns-in_err-take_token-2-clause-gives
+returns-in_err-take_token-2-clause-gives c = rw (err_is _ _ c.from_residual-in_err-take_token-2.ensures.1) (leaves use_statement c.args.lexer.now _ (with_docs (took c.in_ok-take_token.ensures.takes (past c.in_ok-path.ensures.gives (here c.in_err-take_token-2.ensures.takes)))))
+
+pub returns-in_err-items-clause-gives : goal.returns-in_err-items-clause-gives
+returns-in_err-items-clause-gives c = rw (err_is _ _ c.from_residual-in_err-items.ensures.1) (leaves use_statement c.args.lexer.now _ (with_docs (took c.in_ok-take_token.ensures.takes (past c.in_ok-path.ensures.gives (took c.in_ok-take_token-2.ensures.takes (last (same_error _ _ _ c.in_err-items.ensures.gives)))))))
 
 pub returns-clause-gives : goal.returns-clause-gives
 returns-clause-gives c =
     let keyword = c.in_ok-take_token.ensures.takes in
     let path = c.in_ok-path.ensures.gives in
     let dot = c.in_ok-take_token-2.ensures.takes in
-    let brace = c.in_ok-take_token-3.ensures.takes in
-    let items = c.in_ok-items.ensures.takes in
-    let semicolon = c.in_ok-take_token-4.ensures.takes in
+    let items = c.in_ok-items.ensures.gives in
     let docs = docs_of_token (left c.args.lexer.now) (map doc_comment_of c.in_ok-docs.docs.items) tokens.UseKeyword _ _ c.in_ok-docs.ensures.docs keyword.0 in
-    (rw (read_is use_statement, docs, keyword.0, path.0, dot.0, brace.0, items.1, semicolon.0) refl, semicolon.2 ∙ items.3 ∙ brace.2 ∙ dot.2 ∙ path.1 ∙ keyword.2)
-
-pub returns-in_err-items-clause-gives : goal.returns-in_err-items-clause-gives
-returns-in_err-items-clause-gives c =
-    let p = err_from_is_err_and c.from_residual-in_err-items.result c.from_residual-in_err-items.ensures.1 in
-    let e = c.in_err-items.field-0.0 in
-    let l = c.take_token-3.new.lexer in
-    let end = end_of_input c.args.lexer.now in
-    let keyword = c.in_ok-take_token.ensures.takes in
-    let path = c.in_ok-path.ensures.gives in
-    let dot = c.in_ok-take_token-2.ensures.takes in
-    let brace = c.in_ok-take_token-3.ensures.takes in
-    let told = c.in_err-items.ensures.takes in
-    let same : Fails e (end_of_input l) (read use_items (left l)) = subst (λ (x : Error). Fails x (end_of_input l) (read use_items (left l))) (sym told.1) told.2 in
-    let here = moved_end e (end_of_input l) end (read use_items (left l)) (brace.2 ∙ dot.2 ∙ path.1 ∙ keyword.2) same in
-    rw (p.1, p.2, read_is use_statement, keyword.0, path.0, dot.0, brace.0) (fails_bind e end _ _ (fails_bind e end _ _ (fails_bind e end _ _ (fails_bind e end _ _ (fails_bind e end _ _ (fails_bind e end _ _ (fails_bind e end _ _ here)))))))
-
-pub returns-in_err-docs-clause-gives : goal.returns-in_err-docs-clause-gives
-returns-in_err-docs-clause-gives c =
-    let p = err_from_is_err_and c.from_residual.result c.from_residual.ensures.1 in
-    rw (p.1, p.2) (inl c.in_err-docs.ensures.refused)
-
-pub returns-in_err-take_token-clause-gives : goal.returns-in_err-take_token-clause-gives
-returns-in_err-take_token-clause-gives c =
-    let p = err_from_is_err_and c.from_residual-in_err-take_token.result c.from_residual-in_err-take_token.ensures.1 in
-    let e = c.in_err-take_token.field-0.0 in
-    let end = end_of_input c.args.lexer.now in
-    rw (p.1, p.2, read_is use_statement) (fails_bind e end _ _ (fails_bind e end _ _ (fails_bind e end _ _ c.in_err-take_token.ensures.takes)))
-
-pub returns-in_err-path-clause-gives : goal.returns-in_err-path-clause-gives
-returns-in_err-path-clause-gives c =
-    let p = err_from_is_err_and c.from_residual-in_err-path.result c.from_residual-in_err-path.ensures.1 in
-    let e = c.in_err-path.field-0.0 in
-    let end = end_of_input c.args.lexer.now in
-    let keyword = c.in_ok-take_token.ensures.takes in
-    let here = moved_end e _ end _ keyword.2 c.in_err-path.ensures.gives in
-    rw (p.1, p.2, read_is use_statement, keyword.0) (fails_bind e end _ _ (fails_bind e end _ _ (fails_bind e end _ _ (fails_bind e end _ _ here))))
-
-pub returns-in_err-take_token-2-clause-gives : goal.returns-in_err-take_token-2-clause-gives
-returns-in_err-take_token-2-clause-gives c =
-    let p = err_from_is_err_and c.from_residual-in_err-take_token-2.result c.from_residual-in_err-take_token-2.ensures.1 in
-    let e = c.in_err-take_token-2.field-0.0 in
-    let end = end_of_input c.args.lexer.now in
-    let keyword = c.in_ok-take_token.ensures.takes in
-    let path = c.in_ok-path.ensures.gives in
-    let here = moved_end e _ end _ (path.1 ∙ keyword.2) c.in_err-take_token-2.ensures.takes in
-    rw (p.1, p.2, read_is use_statement, keyword.0, path.0) (fails_bind e end _ _ (fails_bind e end _ _ (fails_bind e end _ _ (fails_bind e end _ _ (fails_bind e end _ _ here)))))
-
-pub returns-in_err-take_token-3-clause-gives : goal.returns-in_err-take_token-3-clause-gives
-returns-in_err-take_token-3-clause-gives c =
-    let p = err_from_is_err_and c.from_residual-in_err-take_token-3.result c.from_residual-in_err-take_token-3.ensures.1 in
-    let e = c.in_err-take_token-3.field-0.0 in
-    let end = end_of_input c.args.lexer.now in
-    let keyword = c.in_ok-take_token.ensures.takes in
-    let path = c.in_ok-path.ensures.gives in
-    let dot = c.in_ok-take_token-2.ensures.takes in
-    let here = moved_end e _ end _ (dot.2 ∙ path.1 ∙ keyword.2) c.in_err-take_token-3.ensures.takes in
-    rw (p.1, p.2, read_is use_statement, keyword.0, path.0, dot.0) (fails_bind e end _ _ (fails_bind e end _ _ (fails_bind e end _ _ (fails_bind e end _ _ (fails_bind e end _ _ (fails_bind e end _ _ here))))))
-
-pub returns-in_err-take_token-4-clause-gives : goal.returns-in_err-take_token-4-clause-gives
-returns-in_err-take_token-4-clause-gives c =
-    let p = err_from_is_err_and c.from_residual-in_err-take_token-4.result c.from_residual-in_err-take_token-4.ensures.1 in
-    let e = c.in_err-take_token-4.field-0.0 in
-    let end = end_of_input c.args.lexer.now in
-    let keyword = c.in_ok-take_token.ensures.takes in
-    let path = c.in_ok-path.ensures.gives in
-    let dot = c.in_ok-take_token-2.ensures.takes in
-    let brace = c.in_ok-take_token-3.ensures.takes in
-    let items = c.in_ok-items.ensures.takes in
-    let here = moved_end e _ end _ (items.3 ∙ brace.2 ∙ dot.2 ∙ path.1 ∙ keyword.2) c.in_err-take_token-4.ensures.takes in
-    rw (p.1, p.2, read_is use_statement, keyword.0, path.0, dot.0, brace.0, items.1) (fails_bind e end _ _ (fails_bind e end _ _ (fails_bind e end _ _ (fails_bind e end _ _ (fails_bind e end _ _ (fails_bind e end _ _ (fails_bind e end _ _ here)))))))
+    (rw (read_is use_statement, docs, keyword.0, path.0, dot.0, items.1, items.2) refl, items.3 ∙ dot.2 ∙ path.1 ∙ keyword.2)
