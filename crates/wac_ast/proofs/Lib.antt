@@ -1,3 +1,3 @@
 pub mod Documents
 pub mod Whole
-pub mod Directives
+pub mod Built

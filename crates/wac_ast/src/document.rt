@@ -17,8 +17,8 @@ use crate::statement::Statement;
 use std::alloc::Global;
 use wac_lexer::{Lexer, Token, items_stand_in_order};
 use wac_syntax::{
-    DocComment, PackageName, PackagePath, Parse, ParseResult, has_more, parse_docs, push,
-    take_optional, take_token,
+    DocComment, Error, PackageName, PackagePath, Parse, ParseResult, has_more, parse_after,
+    parse_docs, push, take_token,
 };
 
 /// A document.
@@ -63,7 +63,6 @@ fn parse_document<'a>(alloc: Global, source: &'a str) -> ParseResult<Document<'a
 }
 
 /// The parts of a document, up to the end of the input.
-#[tactic(auto, using(wac_grammar::proofs::Fixed::read_is))]
 fn parse_parts<'a>(alloc: Global, lexer: &mut Lexer<'a>) -> ParseResult<Document<'a>>
     ensures gives { Gives document_of result lexer.old lexer.new (read symbols.document (left lexer.old)) }
     ensures ended { OnOk result (left lexer.new ≡ []) }
@@ -104,15 +103,10 @@ impl<'a> Parse<'a> for PackageDirective<'a> {
 
     ghost tree = { directive_of };
 
-    #[tactic(auto, using(wac_grammar::proofs::Fixed::read_is))]
     fn parse(alloc: Global, lexer: &mut Lexer<'a>) -> ParseResult<Self> {
         take_token(lexer, Token::PackageKeyword)?;
         let package = Parse::parse(alloc, lexer)?;
-        let targets = if take_optional(lexer, Token::TargetsKeyword)? {
-            Some(Parse::parse(alloc, lexer)?)
-        } else {
-            None
-        };
+        let targets = parse_after::<PackagePath, Error>(alloc, lexer, Token::TargetsKeyword)?;
         take_token(lexer, Token::Semicolon)?;
         Ok(PackageDirective { package, targets })
     }

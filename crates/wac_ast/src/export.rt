@@ -9,7 +9,8 @@ use std::alloc::Global;
 use wac_expressions::Expr;
 use wac_lexer::{Lexer, SourceSpan, Token};
 use wac_syntax::{
-    DocComment, ExternName, Lookahead, Parse, ParseResult, Peek, at, parse_docs, take_token,
+    DocComment, Error, ExternName, Lookahead, Parse, ParseResult, Peek, at, parse_before,
+    parse_docs, take_token,
 };
 
 /// An export.
@@ -28,13 +29,11 @@ impl<'a> Parse<'a> for ExportStatement<'a> {
 
     ghost tree = { export_statement_of };
 
-    #[tactic(auto, using(wac_grammar::proofs::Fixed::read_is, wac_grammar::proofs::Docs::docs_of_token))]
     fn parse(alloc: Global, lexer: &mut Lexer<'a>) -> ParseResult<Self> {
         let docs = parse_docs(alloc, lexer)?;
         take_token(lexer, Token::ExportKeyword)?;
         let expr = Parse::parse(alloc, lexer)?;
-        let options = Parse::parse(alloc, lexer)?;
-        take_token(lexer, Token::Semicolon)?;
+        let options = parse_before::<ExportOptions, Error>(alloc, lexer, Token::Semicolon)?;
         Ok(ExportStatement {
             docs,
             expr,
@@ -69,7 +68,6 @@ impl<'a> Parse<'a> for ExportOptions<'a> {
 
     ghost tree = { export_options_of };
 
-    #[tactic(auto, using(wac_grammar::proofs::Fixed::read_is))]
     fn parse(alloc: Global, lexer: &mut Lexer<'a>) -> ParseResult<Self> {
         if at(lexer, Token::Ellipsis) {
             return Ok(ExportOptions::Spread(take_token(lexer, Token::Ellipsis)?));

@@ -8,7 +8,10 @@ ghost use Rattle.wac_ast.specs.Statements.{let_statement_of};
 use std::alloc::Global;
 use wac_expressions::Expr;
 use wac_lexer::{Lexer, Token};
-use wac_syntax::{DocComment, Ident, Lookahead, Parse, ParseResult, Peek, parse_docs, take_token};
+use wac_syntax::{
+    DocComment, Error, Ident, Lookahead, Parse, ParseResult, Peek, parse_before, parse_docs,
+    take_token,
+};
 
 /// A binding of a name to an expression.
 #[derive(Drop)]
@@ -26,14 +29,12 @@ impl<'a> Parse<'a> for LetStatement<'a> {
 
     ghost tree = { let_statement_of };
 
-    #[tactic(auto, using(wac_grammar::proofs::Fixed::read_is, wac_grammar::proofs::Docs::docs_of_token))]
     fn parse(alloc: Global, lexer: &mut Lexer<'a>) -> ParseResult<Self> {
         let docs = parse_docs(alloc, lexer)?;
         take_token(lexer, Token::LetKeyword)?;
         let id = Parse::parse(alloc, lexer)?;
         take_token(lexer, Token::Equals)?;
-        let expr = Parse::parse(alloc, lexer)?;
-        take_token(lexer, Token::Semicolon)?;
+        let expr = parse_before::<Expr, Error>(alloc, lexer, Token::Semicolon)?;
         Ok(LetStatement { docs, id, expr })
     }
 }

@@ -30,7 +30,6 @@ impl<'a> Parse<'a> for Statement<'a> {
 
     ghost tree = { statement_of };
 
-    #[tactic(auto, using(wac_grammar::proofs::Fixed::read_is))]
     fn parse(alloc: Global, lexer: &mut Lexer<'a>) -> ParseResult<Self> {
         let mut lookahead = Lookahead::new(lexer);
         if ImportStatement::peek(&mut lookahead) {

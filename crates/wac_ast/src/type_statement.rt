@@ -27,7 +27,6 @@ impl<'a> Parse<'a> for TypeStatement<'a> {
 
     ghost tree = { type_statement_of };
 
-    #[tactic(auto, using(wac_grammar::proofs::Fixed::read_is))]
     fn parse(alloc: Global, lexer: &mut Lexer<'a>) -> ParseResult<Self> {
         let mut lookahead = Lookahead::new(lexer);
         if InterfaceDecl::peek(&mut lookahead) {

@@ -1,3 +1,2 @@
 pub mod TypeParts
-pub mod FuncTypes
-pub mod Filled
+pub mod Built

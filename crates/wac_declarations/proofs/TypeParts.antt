@@ -17,16 +17,15 @@ use Rattle.wac_grammar.specs.Reading.{can, refuse, mapped, two, read, read_in, r
 use Rattle.wac_syntax.specs.Answer.{End, Fails, first_item, has_more}
 use Rattle.wac_syntax.specs.declared.error.Error.{Error}
 use Rattle.wac_syntax.specs.Lists.{Reads, unclosed}
-use Rattle.wac_declarations.specs.Types.{ty_of, types_of_row, optional_of, compound, word_type, word_at, angled, held_from, with_payload, TakesPayload, second_rule, second_of, second_part}
+use Rattle.wac_declarations.specs.Types.{ty_of, types_of_row, optional_of, compound, word_type, word_at, held_from, with_payload, TakesPayload, second_rule, second_of}
 use Rattle.wac_declarations.specs.declared.types.Type as code
 use Rattle.wac_grammar.specs.Consumed.{Consumed}
 use Rattle.wac_grammar.proofs.Sound.{sound}
 use Rattle.wac_grammar.proofs.Fixed.{read_is}
 use Rattle.wac_syntax.proofs.Loops.{fails_bind}
 use Rattle.wac_grammar.proofs.Choices.{none_of}
-use Rattle.wac_syntax.proofs.Lookaheads.{one_test}
-use Rattle.wac_syntax.proofs.Optional.{unmapped, same}
-use Rattle.wac_syntax.proofs.Lists.{same_fails, comma_open, comma_list, closed_by, closed_fails}
+use Rattle.wac_syntax.proofs.Optional.{same}
+use Rattle.wac_syntax.proofs.Lists.{same_fails, moved_end, list_open, comma_list, closed_by, closed_fails}
 
 -- ---- the trees of values that hold themselves
 
@@ -43,12 +42,6 @@ unfolding packed
 tuple_is types s =
     let row = packed (code.Tuple types s) in
     ap (λ l. Ty.tuple l s) (of_row row.0 row.1 ∙ ap (λ l. types_from (map ty_of l)) (code.items_hidden-the_row-Type-0 types))
-
-pub list_is : (b : Box code.Type Global) (s : Span) → ty_of (code.List b s) ≡ Ty.list (ty_of b.value) s
-list_is b s = refl
-
-pub option_is : (b : Box code.Type Global) (s : Span) → ty_of (code.Option b s) ≡ Ty.option (ty_of b.value) s
-option_is b s = refl
 
 pub stream_is : (o : Option (Box code.Type Global)) (s : Span) → ty_of (code.Stream o s) ≡ Ty.stream (optional_of o) s
 stream_is None s = refl
@@ -138,20 +131,6 @@ future_next (x ∷ xs) h = go (read g.future_type (x ∷ xs)) refl
 
 -- ---- types in angle brackets
 
-pub list_angled : (xs : List Item) → read g.list_type xs ≡ mapped (λ p. Ty.list p.0 p.1) (angled k.ListKeyword xs)
-list_angled xs = read_is g.list_type xs ∙ go (read_in read (g.rule g.list_type) [] xs)
-  where
-    go : (m : Reads (g.Parts (g.rule g.list_type))) → mapped {B = Ty} (g.build g.list_type) m ≡ mapped (λ p. Ty.list p.0 p.1) (mapped {B = Ty × Span} (λ p. (p.1.1.0, join p.0.span p.1.1.1.span)) m)
-    go (Ok y) = refl
-    go (Err s) = refl
-
-pub option_angled : (xs : List Item) → read g.option_type xs ≡ mapped (λ p. Ty.option p.0 p.1) (angled k.OptionKeyword xs)
-option_angled xs = read_is g.option_type xs ∙ go (read_in read (g.rule g.option_type) [] xs)
-  where
-    go : (m : Reads (g.Parts (g.rule g.option_type))) → mapped {B = Ty} (g.build g.option_type) m ≡ mapped (λ p. Ty.option p.0 p.1) (mapped {B = Ty × Span} (λ p. (p.1.1.0, join p.0.span p.1.1.1.span)) m)
-    go (Ok y) = refl
-    go (Err s) = refl
-
 pub stream_held : (xs : List Item) → at k.StreamKeyword xs ≡ true → read g.stream_type xs ≡ mapped (λ p. Ty.stream p.0 p.1) (with_payload xs)
 stream_held [] h = absurd cc
 stream_held (x ∷ xs) h = read_is g.stream_type (x ∷ xs) ∙ rw h (go (read g.payload xs))
@@ -176,7 +155,7 @@ future_held (x ∷ xs) h = read_is g.future_type (x ∷ xs) ∙ rw h (go (read g
 pub tuple_reads : (xs : List Item) (a : Item) (ys : List Item) (b : Item) (zs : List Item) → read_token [] k.TupleKeyword xs ≡ Ok (a, ys) → read_token [] k.OpenAngle ys ≡ Ok (b, zs) → at_one_of (begins g.ty) zs ≡ true
     → read g.tuple_type xs ≡ mapped (λ l. Ty.tuple (types_from l.0) (join a.span l.1.span)) (read g.types zs)
 tuple_reads xs a ys b zs h i begun =
-    read_is g.tuple_type xs ∙ rw (h, i, comma_open k.CloseAngle (begins g.ty) (read g.ty) (read g.types) (read g.more_types) (comma_list g.ty k.CloseAngle refl) zs (type_not_closed zs begun) begun) (go (two (read g.ty zs) (λ t. read g.more_types)))
+    read_is g.tuple_type xs ∙ rw (h, i, list_open (comma_list g.ty k.CloseAngle refl).is_list zs (type_not_closed zs begun), begun) (go (two (read g.ty zs) (λ t. read g.more_types)))
   where
     go : (m : Reads (Ty × Listed Ty)) → mapped {B = Ty} (g.build g.tuple_type) (mapped (λ d. (a, d)) (mapped (λ c. (b, c)) m)) ≡ mapped (λ l. Ty.tuple (types_from l.0) (join a.span l.1.span)) (mapped {B = Listed Ty} (λ p. (p.0 ∷ p.1.0, p.1.1)) m)
     go (Ok y) = refl
@@ -286,11 +265,6 @@ pub tuple_list_fails : (e : Error) (end : End) (xs : List Item) (a : Item) (ys :
 tuple_list_fails e end xs a ys b zs h i begun f =
     arm_fails e end (read g.tuple_type xs) (read g.types zs) (λ l. Ty.tuple (types_from l.0) (join a.span l.1.span)) (tuple_reads xs a ys b zs h i begun) (closed_fails e end (read g.types zs) f)
 
-pub tuple_first_fails : (e : Error) (end : End) (xs : List Item) (a : Item) (ys : List Item) (b : Item) (zs : List Item)
-    → read_token [] k.TupleKeyword xs ≡ Ok (a, ys) → read_token [] k.OpenAngle ys ≡ Ok (b, zs) → Fails e end (read g.ty zs) → Fails e end (read g.tuple_type xs)
-tuple_first_fails e end xs a ys b zs h i f =
-    rw (read_is g.tuple_type xs, h, i) (fails_bind e end _ _ (fails_bind e end _ _ (fails_bind e end _ _ (fails_bind e end _ _ f))))
-
 pub at_has_more : (a : Token) (xs : List Item) → at a xs ≡ true → has_more xs ≡ true
 at_has_more a [] h = absurd cc
 at_has_more a (x ∷ xs) h = refl
@@ -308,133 +282,22 @@ no_type_reads xs h =
 
 -- ---- what an item holds
 
-payload_there : (ys : List Item) (b : Item) (zs : List Item) → at k.OpenAngle ys ≡ true → read_token [] k.OpenAngle ys ≡ Ok (b, zs)
-    → read g.payload ys ≡ mapped {A = Ty × Item} {B = Option (Ty × Item)} (λ p. Some p) (two (read g.ty zs) (λ t. read_token [] k.CloseAngle))
-payload_there ys b zs h i = read_is g.payload ys ∙ rw (one_test k.OpenAngle ys true h, i) (go (two (read g.ty zs) (λ t. read_token [] k.CloseAngle)))
-  where
-    go : (m : Reads (Ty × Item)) → mapped {B = Option (Ty × Item)} (g.build g.payload) (mapped {B = g.Parts (g.rule g.payload)} inl (mapped {B = Item × (Ty × Item)} (λ c. (b, c)) m)) ≡ mapped {A = Ty × Item} {B = Option (Ty × Item)} (λ p. Some p) m
-    go (Ok y) = refl
-    go (Err s) = refl
+held_is : (xs ys : List Item) → has_more xs ≡ true → ys ≡ behind_first xs → with_payload xs ≡ mapped {B = OptionalTy × Span} (held_from (first_item xs)) (read g.payload ys)
+held_is xs ys m is = payload_of xs m ∙ ap (λ (l : List Item). mapped {B = OptionalTy × Span} (held_from (first_item xs)) (read g.payload l)) (back is)
 
-held_there : (xs ys : List Item) (b : Item) (zs : List Item) → has_more xs ≡ true → ys ≡ behind_first xs → at k.OpenAngle ys ≡ true → read_token [] k.OpenAngle ys ≡ Ok (b, zs)
-    → with_payload xs ≡ mapped {A = Ty × Item} {B = OptionalTy × Span} (λ p. held_from (first_item xs) (Some p)) (two (read g.ty zs) (λ t. read_token [] k.CloseAngle))
-held_there xs ys b zs m is h i =
-    payload_of xs m ∙ ap (λ (l : List Item). mapped {B = OptionalTy × Span} (held_from (first_item xs)) (read g.payload l)) (back is)
-    ∙ ap (mapped {B = OptionalTy × Span} (held_from (first_item xs))) (payload_there ys b zs h i) ∙ go (two (read g.ty zs) (λ t. read_token [] k.CloseAngle))
-  where
-    go : (r : Reads (Ty × Item)) → mapped {B = OptionalTy × Span} (held_from (first_item xs)) (mapped {A = Ty × Item} {B = Option (Ty × Item)} (λ p. Some p) r) ≡ mapped {A = Ty × Item} {B = OptionalTy × Span} (λ p. held_from (first_item xs) (Some p)) r
-    go (Ok y) = refl
-    go (Err s) = refl
+pub held_fails : (e : Error) (old mid : Reading) → has_more (left old) ≡ true → left mid ≡ behind_first (left old) → end_of_input mid ≡ end_of_input old → Fails e (end_of_input mid) (read g.payload (left mid)) → Fails e (end_of_input old) (with_payload (left old))
+held_fails e old mid m is ends f = same_fails e (end_of_input old) (with_payload (left old)) _ (held_is (left old) (left mid) m is) (fails_bind e (end_of_input old) _ _ (moved_end e (end_of_input mid) (end_of_input old) (read g.payload (left mid)) ends f))
 
-pub held_type_fails : (e : Error) (end : End) (xs ys : List Item) (b : Item) (zs : List Item) → has_more xs ≡ true → ys ≡ behind_first xs → at k.OpenAngle ys ≡ true → read_token [] k.OpenAngle ys ≡ Ok (b, zs)
-    → Fails e end (read g.ty zs) → Fails e end (with_payload xs)
-held_type_fails e end xs ys b zs m is h i f =
-    same_fails e end (with_payload xs) _ (held_there xs ys b zs m is h i) (fails_bind e end _ _ (fails_bind e end (read g.ty zs) _ f))
+pub held_gives : {p : Option (Ty × Item)} {held : OptionalTy × Span} (old mid new : Reading) → has_more (left old) ≡ true → left mid ≡ behind_first (left old) → end_of_input mid ≡ end_of_input old
+    → (read g.payload (left mid) ≡ Ok (p, left new)) × (end_of_input new ≡ end_of_input mid) → held_from (first_item (left old)) p ≡ held → (with_payload (left old) ≡ Ok (held, left new)) × (end_of_input new ≡ end_of_input old)
+held_gives old mid new m is ends r same =
+    (held_is (left old) (left mid) m is ∙ ap (mapped {B = OptionalTy × Span} (held_from (first_item (left old)))) r.0 ∙ ap (λ (h : OptionalTy × Span). Ok (h, left new)) same, r.1 ∙ ends)
 
-pub held_close_fails : (e : Error) (end : End) (xs ys : List Item) (b : Item) (zs : List Item) (t : Ty) (us : List Item) → has_more xs ≡ true → ys ≡ behind_first xs → at k.OpenAngle ys ≡ true → read_token [] k.OpenAngle ys ≡ Ok (b, zs)
-    → read g.ty zs ≡ Ok (t, us) → Fails e end (read_token [] k.CloseAngle us) → Fails e end (with_payload xs)
-held_close_fails e end xs ys b zs t us m is h i r f =
-    same_fails e end (with_payload xs) _ (held_there xs ys b zs m is h i ∙ ap (λ (n : Reads Ty). mapped {A = Ty × Item} {B = OptionalTy × Span} (λ p. held_from (first_item xs) (Some p)) (two n (λ t. read_token [] k.CloseAngle))) r)
-    (fails_bind e end _ _ (fails_bind e end (read_token [] k.CloseAngle us) _ f))
+-- ---- a result
 
--- ---- a result's parts
-
-pub part_refused : (xs : List Item) → at k.Underscore xs ≡ false → at_one_of (begins g.ty) xs ≡ false → read g.result_part xs ≡ refuse xs (map can (k.Underscore ∷ begins g.ty))
-part_refused xs h none = read_is g.result_part xs ∙ go (at_one_of (k.Underscore ∷ []) xs) (at_one_of (begins g.ty) xs) (one_test k.Underscore xs false h) none
-  where
-    go : (b c : Bool) → b ≡ false → c ≡ false → built g.result_part (cond b (mapped inl (read_token [] k.Underscore xs)) (mapped inr (cond c (read g.ty xs) (refuse xs (can k.Underscore ∷ map can (begins g.ty)))))) ≡ refuse xs (map can (k.Underscore ∷ begins g.ty))
-    go true c h i = absurd cc
-    go false true h i = absurd cc
-    go false false h i = refl
-
-pub part_is_type : (xs : List Item) → at k.Underscore xs ≡ false → at_one_of (begins g.ty) xs ≡ true → read g.result_part xs ≡ mapped OptionalTy.present (read g.ty xs)
-part_is_type xs h some = read_is g.result_part xs ∙ go (at_one_of (k.Underscore ∷ []) xs) (at_one_of (begins g.ty) xs) (one_test k.Underscore xs false h) some
-  where
-    last : (m : Reads Ty) → built g.result_part (mapped inr m) ≡ mapped OptionalTy.present m
-    last (Ok y) = refl
-    last (Err s) = refl
-
-    go : (b c : Bool) → b ≡ false → c ≡ true → built g.result_part (cond b (mapped inl (read_token [] k.Underscore xs)) (mapped inr (cond c (read g.ty xs) (refuse xs (can k.Underscore ∷ map can (begins g.ty)))))) ≡ mapped OptionalTy.present (read g.ty xs)
-    go true c h i = absurd cc
-    go false true h i = last (read g.ty xs)
-    go false false h i = absurd cc
-
-pub part_type_fails : (e : Error) (end : End) (xs : List Item) → at k.Underscore xs ≡ false → at_one_of (begins g.ty) xs ≡ true → Fails e end (read g.ty xs) → Fails e end (read g.result_part xs)
-part_type_fails e end xs h some f = same_fails e end (read g.result_part xs) _ (part_is_type xs h some) (fails_bind e end (read g.ty xs) _ f)
-
--- the second part, where a comma is next
-pub second_there : (xs : List Item) (a : Item) (ys : List Item) → at k.Comma xs ≡ true → read_token [] k.Comma xs ≡ Ok (a, ys) → second_part xs ≡ read g.result_part ys
-second_there xs a ys h i = rw (one_test k.Comma xs true h, i) (go (read g.result_part ys))
-  where
-    go : (m : Reads OptionalTy) → mapped {B = OptionalTy} second_of (mapped {B = g.Parts second_rule} inl (mapped {B = Item × OptionalTy} (λ c. (a, c)) m)) ≡ m
-    go (Ok y) = refl
-    go (Err s) = refl
-
--- what stands in the angle brackets behind the first part, and the whole result
-abbrev Behind : Type 0
-Behind = OptionalTy × (g.Parts second_rule × Item)
-
-abbrev made : Item → Item → Behind → Ty
-made a b p = g.build g.result_type (a, inl (b, p))
-
-abbrev rest : List Item → Reads (g.Parts second_rule × Item)
-rest us = two (read_in read second_rule [] us) (λ p. read_token [] k.CloseAngle)
-
-rest_fails : (e : Error) (end : End) (m : Reads (g.Parts second_rule)) (u : OptionalTy) (vs : List Item) → mapped {B = OptionalTy} second_of m ≡ Ok (u, vs) → Fails e end (read_token [] k.CloseAngle vs) → Fails e end (two m (λ p. read_token [] k.CloseAngle))
-rest_fails e end (Ok y) u vs h f =
-    let is = ap (λ (q : OptionalTy × List Item). q.1) (same {A = OptionalTy × List Item} (second_of y.0, y.1) (u, vs) h) in
-    fails_bind e end (read_token [] k.CloseAngle y.1) _ (subst (λ (l : List Item). Fails e end (read_token [] k.CloseAngle l)) (back is) f)
-rest_fails e end (Err s) u vs h f = absurd cc
-
-rest_ends : (a b : Item) (o : OptionalTy) (m : Reads (g.Parts second_rule)) (u : OptionalTy) (vs : List Item) (last : Item) (ws : List Item) → mapped {B = OptionalTy} second_of m ≡ Ok (u, vs) → read_token [] k.CloseAngle vs ≡ Ok (last, ws)
-    → mapped {A = Behind} {B = Ty} (made a b) (mapped {B = Behind} (λ q. (o, q)) (two m (λ p. read_token [] k.CloseAngle))) ≡ Ok (Ty.result o u (join a.span last.span), ws)
-rest_ends a b o (Err s) u vs last ws h i = absurd cc
-rest_ends a b o (Ok y) u vs last ws h i = go
-  where
-    is : ◌≡◌ {A = OptionalTy × List Item} (second_of y.0, y.1) (u, vs)
-    is = same {A = OptionalTy × List Item} (second_of y.0, y.1) (u, vs) h
-
-    closed : read_token [] k.CloseAngle y.1 ≡ Ok (last, ws)
-    closed = ap (λ (q : OptionalTy × List Item). read_token [] k.CloseAngle q.1) is ∙ i
-
-    made_of : (p : g.Parts second_rule) → made a b (o, (p, last)) ≡ Ty.result o (second_of p) (join a.span last.span)
-    made_of (inl q) = refl
-    made_of (inr q) = refl
-
-    go : mapped {A = Behind} {B = Ty} (made a b) (mapped {B = Behind} (λ q. (o, q)) (mapped {B = g.Parts second_rule × Item} (λ c. (y.0, c)) (read_token [] k.CloseAngle y.1))) ≡ Ok (Ty.result o u (join a.span last.span), ws)
-    go = rw closed (ap (λ (t : Ty). Ok (t, ws)) (made_of y.0 ∙ ap (λ (q : OptionalTy × List Item). Ty.result o q.0 (join a.span last.span)) is))
-
-result_there : (xs : List Item) (a : Item) (ys : List Item) (b : Item) (zs : List Item) → read_token [] k.ResultKeyword xs ≡ Ok (a, ys) → at k.OpenAngle ys ≡ true → read_token [] k.OpenAngle ys ≡ Ok (b, zs)
-    → read g.result_type xs ≡ mapped {A = Behind} {B = Ty} (made a b) (two (read g.result_part zs) (λ o. rest))
-result_there xs a ys b zs h i j = read_is g.result_type xs ∙ rw (h, one_test k.OpenAngle ys true i, j) (go (two (read g.result_part zs) (λ o. rest)))
-  where
-    go : (m : Reads Behind) → mapped {B = Ty} (g.build g.result_type) (mapped {B = g.Parts (g.rule g.result_type)} (λ c. (a, c)) (mapped {B = (Item × Behind) ⊎ Unit {0}} inl (mapped {B = Item × Behind} (λ c. (b, c)) m))) ≡ mapped {A = Behind} {B = Ty} (made a b) m
-    go (Ok y) = refl
-    go (Err s) = refl
-
-pub result_first_fails : (e : Error) (end : End) (xs : List Item) (a : Item) (ys : List Item) (b : Item) (zs : List Item) → read_token [] k.ResultKeyword xs ≡ Ok (a, ys) → at k.OpenAngle ys ≡ true → read_token [] k.OpenAngle ys ≡ Ok (b, zs)
-    → Fails e end (read g.result_part zs) → Fails e end (read g.result_type xs)
-result_first_fails e end xs a ys b zs h i j f = same_fails e end (read g.result_type xs) _ (result_there xs a ys b zs h i j) (fails_bind e end _ _ (fails_bind e end (read g.result_part zs) _ f))
-
-result_then : (xs : List Item) (a : Item) (ys : List Item) (b : Item) (zs : List Item) (o : OptionalTy) (us : List Item) → read_token [] k.ResultKeyword xs ≡ Ok (a, ys) → at k.OpenAngle ys ≡ true → read_token [] k.OpenAngle ys ≡ Ok (b, zs) → read g.result_part zs ≡ Ok (o, us)
-    → read g.result_type xs ≡ mapped {A = Behind} {B = Ty} (made a b) (mapped {B = Behind} (λ q. (o, q)) (rest us))
-result_then xs a ys b zs o us h i j r = result_there xs a ys b zs h i j ∙ ap (λ (n : Reads OptionalTy). mapped {A = Behind} {B = Ty} (made a b) (two n (λ o. rest))) r
-
-pub result_second_fails : (e : Error) (end : End) (xs : List Item) (a : Item) (ys : List Item) (b : Item) (zs : List Item) (o : OptionalTy) (us : List Item) → read_token [] k.ResultKeyword xs ≡ Ok (a, ys) → at k.OpenAngle ys ≡ true → read_token [] k.OpenAngle ys ≡ Ok (b, zs) → read g.result_part zs ≡ Ok (o, us)
-    → Fails e end (second_part us) → Fails e end (read g.result_type xs)
-result_second_fails e end xs a ys b zs o us h i j r f =
-    same_fails e end (read g.result_type xs) _ (result_then xs a ys b zs o us h i j r)
-    (fails_bind e end _ _ (fails_bind e end (rest us) _ (fails_bind e end (read_in read second_rule [] us) _ (unmapped e end second_of (read_in read second_rule [] us) f))))
-
-pub result_close_fails : (e : Error) (end : End) (xs : List Item) (a : Item) (ys : List Item) (b : Item) (zs : List Item) (o : OptionalTy) (us : List Item) (u : OptionalTy) (vs : List Item) → read_token [] k.ResultKeyword xs ≡ Ok (a, ys) → at k.OpenAngle ys ≡ true → read_token [] k.OpenAngle ys ≡ Ok (b, zs) → read g.result_part zs ≡ Ok (o, us)
-    → second_part us ≡ Ok (u, vs) → Fails e end (read_token [] k.CloseAngle vs) → Fails e end (read g.result_type xs)
-result_close_fails e end xs a ys b zs o us u vs h i j r s f =
-    same_fails e end (read g.result_type xs) _ (result_then xs a ys b zs o us h i j r)
-    (fails_bind e end _ _ (fails_bind e end (rest us) _ (rest_fails e end (read_in read second_rule [] us) u vs s f)))
-
-pub result_ends : (xs : List Item) (a : Item) (ys : List Item) (b : Item) (zs : List Item) (o : OptionalTy) (us : List Item) (u : OptionalTy) (vs : List Item) (last : Item) (ws : List Item) → read_token [] k.ResultKeyword xs ≡ Ok (a, ys) → at k.OpenAngle ys ≡ true → read_token [] k.OpenAngle ys ≡ Ok (b, zs) → read g.result_part zs ≡ Ok (o, us)
-    → second_part us ≡ Ok (u, vs) → read_token [] k.CloseAngle vs ≡ Ok (last, ws) → read g.result_type xs ≡ Ok (Ty.result o u (join a.span last.span), ws)
-result_ends xs a ys b zs o us u vs last ws h i j r s c = result_then xs a ys b zs o us h i j r ∙ rest_ends a b o (read_in read second_rule [] us) u vs last ws s c
+pub result_built : (a b : Item) (o : OptionalTy) (p : g.Parts second_rule) (last : Item) → g.build g.result_type (a, inl (b, (o, (p, last)))) ≡ Ty.result o (second_of p) (join a.span last.span)
+result_built a b o (inl p) last = refl
+result_built a b o (inr p) last = refl
 
 -- ---- the items that were taken
 

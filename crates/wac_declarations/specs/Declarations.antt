@@ -1,5 +1,5 @@
 -- The trees of function types, and of declarations of types.
-use Rattle.std.specs.Prelude.{List, [], map}
+use Rattle.std.specs.Prelude.{map}
 use Rattle.std.specs.Option.{option_map}
 use Rattle.wac_grammar.specs.Tree as tree
 use Rattle.wac_declarations.specs.declared.flags_decl.Flag.{Flag as CodeFlag}
@@ -8,11 +8,8 @@ use Rattle.wac_declarations.specs.declared.enum_decl.EnumCase.{EnumCase as CodeE
 use Rattle.wac_declarations.specs.declared.enum_decl.EnumDecl.{EnumDecl as CodeEnumDecl}
 use Rattle.wac_syntax.specs.Names.{ident_of, doc_comment_of}
 use Rattle.wac_declarations.specs.Types.{ty_of}
-use Rattle.wac_lexer.specs.Item.{Item}
 use Rattle.wac_lexer.specs.declared.token.Token.TheVariants as tokens
-use Rattle.wac_grammar.specs.Grammar.{Grammar, token, sym, optional, ◌▸◌, results_of, result_list}
-use Rattle.wac_grammar.specs.Reading.{mapped, read, read_in}
-use Rattle.wac_syntax.specs.Lists.{Reads}
+use Rattle.wac_grammar.specs.Grammar.{Grammar, token, sym, optional, ◌▸◌, result_list}
 use Rattle.wac_declarations.specs.declared.func_type.NamedType.{NamedType}
 use Rattle.wac_declarations.specs.declared.func_type.ResultList.{ResultList}
 use Rattle.wac_declarations.specs.declared.func_type.ResultList.TheVariants as results
@@ -84,9 +81,6 @@ record_decl_of x = record { docs = map doc_comment_of x.docs.items; id = ident_o
 -- what a function gives, behind an arrow
 abbrev pub results_rule : Grammar
 results_rule = optional (token tokens.Arrow ▸ sym result_list)
-
-abbrev pub results_at : List Item → Reads tree.ResultList
-results_at xs = mapped results_of (read_in read results_rule [] xs)
 
 -- ---- resources
 

@@ -1,2 +1,3 @@
 pub mod Types
 pub mod Declarations
+pub mod Tails

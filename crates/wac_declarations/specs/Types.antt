@@ -106,8 +106,11 @@ word_at (Some (Ok keyword, span)) = word_type keyword span
 word_at _ = None
 
 -- a keyword and a type in angle brackets: the type, and the span of all
-abbrev pub angled : Token → List Item → Reads (Ty × Span)
-angled keyword xs = mapped (λ p. (p.1.1.0, join p.0.span p.1.1.1.span)) (read_in read (token keyword ▸ token tokens.OpenAngle ▸ sym ty ▸ token tokens.CloseAngle) [] xs)
+abbrev pub angled : Token → Grammar
+angled keyword = token keyword ▸ token tokens.OpenAngle ▸ sym ty ▸ token tokens.CloseAngle
+
+abbrev pub angled_parts : Item × (Item × (Ty × Item)) → Ty × Span
+angled_parts p = (p.1.1.0, join p.0.span p.1.1.1.span)
 
 -- what an item holds, by what stands behind it
 abbrev pub held_from : Item → Option (Ty × Item) → OptionalTy × Span
@@ -126,9 +129,6 @@ second_rule = optional (token tokens.Comma ▸ sym result_part)
 abbrev pub second_of : Parts second_rule → OptionalTy
 second_of (inl p) = p.1
 second_of (inr p) = OptionalTy.absent
-
-abbrev pub second_part : List Item → Reads OptionalTy
-second_part xs = mapped second_of (read_in read second_rule [] xs)
 
 -- The next item was taken, and what derives perhaps a type in angle brackets: this type is held, and the span is that of all.
 abbrev pub TakesPayload : List Item → List Item → OptionalTy → Span → Type 0

@@ -8,8 +8,8 @@ ghost use Rattle.wac_declarations.specs.Declarations.{enum_case_of, enum_decl_of
 use std::alloc::Global;
 use wac_lexer::{Lexer, Token};
 use wac_syntax::{
-    DocComment, Error, Ident, Lookahead, Parse, ParseResult, Peek, parse_docs, parse_list,
-    refuse_empty, take_token,
+    BodyKind, DocComment, Error, Ident, Lookahead, Parse, ParseResult, Peek, parse_docs,
+    parse_filled, take_token,
 };
 
 /// A type of names.
@@ -28,14 +28,11 @@ impl<'a> Parse<'a> for EnumDecl<'a> {
 
     ghost tree = { enum_decl_of };
 
-    #[tactic(auto, using(wac_grammar::proofs::Fixed::read_is))]
     fn parse(alloc: Global, lexer: &mut Lexer<'a>) -> ParseResult<Self> {
         let docs = parse_docs(alloc, lexer)?;
         take_token(lexer, Token::EnumKeyword)?;
         let id = Parse::parse(alloc, lexer)?;
-        take_token(lexer, Token::OpenBrace)?;
-        refuse_empty(lexer, "enum", "case")?;
-        let (cases, _) = parse_list::<EnumCase, Error>(alloc, lexer, Token::CloseBrace)?;
+        let cases = parse_filled::<EnumCase, Error>(alloc, lexer, BodyKind::Enum)?;
         Ok(EnumDecl { docs, id, cases })
     }
 }

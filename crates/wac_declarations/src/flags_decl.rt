@@ -8,8 +8,8 @@ ghost use Rattle.wac_declarations.specs.Declarations.{flag_of, flags_decl_of};
 use std::alloc::Global;
 use wac_lexer::{Lexer, Token};
 use wac_syntax::{
-    DocComment, Error, Ident, Lookahead, Parse, ParseResult, Peek, parse_docs, parse_list,
-    refuse_empty, take_token,
+    BodyKind, DocComment, Error, Ident, Lookahead, Parse, ParseResult, Peek, parse_docs,
+    parse_filled, take_token,
 };
 
 /// A type of flags.
@@ -28,14 +28,11 @@ impl<'a> Parse<'a> for FlagsDecl<'a> {
 
     ghost tree = { flags_decl_of };
 
-    #[tactic(auto, using(wac_grammar::proofs::Fixed::read_is))]
     fn parse(alloc: Global, lexer: &mut Lexer<'a>) -> ParseResult<Self> {
         let docs = parse_docs(alloc, lexer)?;
         take_token(lexer, Token::FlagsKeyword)?;
         let id = Parse::parse(alloc, lexer)?;
-        take_token(lexer, Token::OpenBrace)?;
-        refuse_empty(lexer, "flags", "flag")?;
-        let (flags, _) = parse_list::<Flag, Error>(alloc, lexer, Token::CloseBrace)?;
+        let flags = parse_filled::<Flag, Error>(alloc, lexer, BodyKind::Flags)?;
         Ok(FlagsDecl { docs, id, flags })
     }
 }

@@ -1,12 +1,12 @@
 //! Function types.
 
 ghost use Rattle.std.specs.Prelude.{◌≡◌, ◌≤◌};
-ghost use Rattle.wac_lexer.specs.Reading.{left};
 ghost use Rattle.wac_grammar.specs.Grammar as symbols;
+ghost use Rattle.wac_grammar.specs.Grammar.{results_of};
 ghost use Rattle.wac_grammar.specs.Reading.{begins};
 ghost use Rattle.wac_syntax.specs.Lookahead.{Peeks};
-ghost use Rattle.wac_syntax.specs.Answer.{Gives};
-ghost use Rattle.wac_declarations.specs.Declarations.{named_type_of, result_list_of, func_type_of, func_type_ref_of, results_at};
+ghost use Rattle.wac_syntax.specs.Pieces.{GivesPart};
+ghost use Rattle.wac_declarations.specs.Declarations.{named_type_of, result_list_of, func_type_of, func_type_ref_of, results_rule};
 
 use crate::types::Type;
 use std::alloc::Global;
@@ -32,7 +32,6 @@ impl<'a> Parse<'a> for FuncType<'a> {
 
     ghost tree = { func_type_of };
 
-    #[tactic(auto, using(wac_grammar::proofs::Fixed::read_is))]
     fn parse(alloc: Global, lexer: &mut Lexer<'a>) -> ParseResult<Self> {
         let is_async = take_optional(lexer, Token::AsyncKeyword)?;
         take_token(lexer, Token::FuncKeyword)?;
@@ -58,14 +57,13 @@ impl<'a> Peek for FuncType<'a> {
 }
 
 /// What a function gives, behind an arrow.
-#[tactic(auto, using(wac_grammar::proofs::Fixed::read_is))]
 fn parse_results<'a>(alloc: Global, lexer: &mut Lexer<'a>) -> ParseResult<ResultList<'a>>
-    ensures gives { Gives result_list_of result lexer.old lexer.new (results_at (left lexer.old)) }
+    ensures gives { GivesPart results_rule results_of (λ e x. x ≡ e) result_list_of result lexer.old lexer.new }
     ensures source { lexer.new.source ≡ lexer.old.source }
     ensures moves { lexer.old.place ≤ lexer.new.place }
 {
     if take_optional(lexer, Token::Arrow)? {
-        return Parse::parse(alloc, lexer);
+        return Ok(Parse::parse(alloc, lexer)?);
     }
     Ok(ResultList::Empty)
 }
@@ -84,7 +82,6 @@ impl<'a> Parse<'a> for ResultList<'a> {
 
     ghost tree = { result_list_of };
 
-    #[tactic(auto, using(wac_grammar::proofs::Fixed::read_is))]
     fn parse(alloc: Global, lexer: &mut Lexer<'a>) -> ParseResult<Self> {
         if begins::<Type>(lexer) {
             return Ok(ResultList::Scalar(Parse::parse(alloc, lexer)?));
@@ -107,7 +104,6 @@ impl<'a> Parse<'a> for NamedType<'a> {
 
     ghost tree = { named_type_of };
 
-    #[tactic(auto, using(wac_grammar::proofs::Fixed::read_is))]
     fn parse(alloc: Global, lexer: &mut Lexer<'a>) -> ParseResult<Self> {
         let id = Parse::parse(alloc, lexer)?;
         take_token(lexer, Token::Colon)?;
@@ -140,7 +136,6 @@ impl<'a> Parse<'a> for FuncTypeRef<'a> {
 
     ghost tree = { func_type_ref_of };
 
-    #[tactic(auto, using(wac_grammar::proofs::Fixed::read_is))]
     fn parse(alloc: Global, lexer: &mut Lexer<'a>) -> ParseResult<Self> {
         let mut lookahead = Lookahead::new(lexer);
         if FuncType::peek(&mut lookahead) {

@@ -10,8 +10,8 @@ use crate::types::Type;
 use std::alloc::Global;
 use wac_lexer::{Lexer, Token};
 use wac_syntax::{
-    DocComment, Error, Ident, Lookahead, Parse, ParseResult, Peek, parse_docs, parse_list,
-    refuse_empty, take_token,
+    BodyKind, DocComment, Error, Ident, Lookahead, Parse, ParseResult, Peek, parse_docs,
+    parse_filled, take_token,
 };
 
 /// A type of values with named parts.
@@ -30,14 +30,11 @@ impl<'a> Parse<'a> for RecordDecl<'a> {
 
     ghost tree = { record_decl_of };
 
-    #[tactic(auto, using(wac_grammar::proofs::Fixed::read_is))]
     fn parse(alloc: Global, lexer: &mut Lexer<'a>) -> ParseResult<Self> {
         let docs = parse_docs(alloc, lexer)?;
         take_token(lexer, Token::RecordKeyword)?;
         let id = Parse::parse(alloc, lexer)?;
-        take_token(lexer, Token::OpenBrace)?;
-        refuse_empty(lexer, "record", "field")?;
-        let (fields, _) = parse_list::<Field, Error>(alloc, lexer, Token::CloseBrace)?;
+        let fields = parse_filled::<Field, Error>(alloc, lexer, BodyKind::Record)?;
         Ok(RecordDecl { docs, id, fields })
     }
 }
@@ -68,7 +65,6 @@ impl<'a> Parse<'a> for Field<'a> {
 
     ghost tree = { field_of };
 
-    #[tactic(auto, using(wac_grammar::proofs::Fixed::read_is, wac_grammar::proofs::Docs::docs_of_sym))]
     fn parse(alloc: Global, lexer: &mut Lexer<'a>) -> ParseResult<Self> {
         let docs = parse_docs(alloc, lexer)?;
         let named: NamedType = Parse::parse(alloc, lexer)?;

@@ -1,16 +1,19 @@
 //! Resources.
 
+ghost use Rattle.std.specs.Prelude.{◌≡◌, ◌≤◌, map};
 ghost use Rattle.wac_grammar.specs.Grammar as symbols;
 ghost use Rattle.wac_grammar.specs.Reading.{begins};
 ghost use Rattle.wac_syntax.specs.Lookahead.{Peeks};
+ghost use Rattle.wac_syntax.specs.Pieces.{GivesPart};
 ghost use Rattle.wac_declarations.specs.Declarations.{constructor_of, method_of, resource_method_of, resource_decl_of};
+ghost use Rattle.wac_declarations.specs.Tails.{resource_tail, tail_methods};
 
 use crate::func_type::{FuncType, NamedType};
 use std::alloc::Global;
 use wac_lexer::{Lexer, SourceSpan, Token};
 use wac_syntax::{
-    DocComment, Error, Ident, Lookahead, Parse, ParseResult, Peek, at, parse_body, parse_docs,
-    parse_list, take_token,
+    DocComment, Error, Ident, Lookahead, Parse, ParseResult, Peek, parse_before, parse_body,
+    parse_docs, parse_list, take_token, take_word,
 };
 
 /// A resource type.
@@ -29,24 +32,32 @@ impl<'a> Parse<'a> for ResourceDecl<'a> {
 
     ghost tree = { resource_decl_of };
 
-    #[tactic(auto, using(wac_grammar::proofs::Fixed::read_is, wac_grammar::proofs::Docs::docs_of_token))]
     fn parse(alloc: Global, lexer: &mut Lexer<'a>) -> ParseResult<Self> {
         let docs = parse_docs(alloc, lexer)?;
         take_token(lexer, Token::ResourceKeyword)?;
         let id = Parse::parse(alloc, lexer)?;
-        let mut lookahead = Lookahead::new(lexer);
-        let methods = if lookahead.peek(Token::Semicolon) {
-            take_token(lexer, Token::Semicolon)?;
-            Vec::new(alloc)
-        } else if lookahead.peek(Token::OpenBrace) {
-            take_token(lexer, Token::OpenBrace)?;
-            let (methods, _) = parse_body::<ResourceMethod, Error>(alloc, lexer)?;
-            methods
-        } else {
-            return Err(lookahead.error());
-        };
+        let methods = parse_methods(alloc, lexer)?;
         Ok(ResourceDecl { docs, id, methods })
     }
+}
+
+/// The methods of a resource in braces, or a semicolon, where it has none.
+fn parse_methods<'a>(alloc: Global, lexer: &mut Lexer<'a>) -> ParseResult<Vec<ResourceMethod<'a>>>
+    ensures gives { GivesPart resource_tail tail_methods (λ e x. x ≡ e) (λ v. map resource_method_of v.items) result lexer.old lexer.new }
+    ensures source { lexer.new.source ≡ lexer.old.source }
+    ensures moves { lexer.old.place ≤ lexer.new.place }
+{
+    let mut lookahead = Lookahead::new(lexer);
+    if lookahead.peek(Token::Semicolon) {
+        take_token(lexer, Token::Semicolon)?;
+        return Ok(Vec::new(alloc));
+    }
+    if !lookahead.peek(Token::OpenBrace) {
+        return Err(lookahead.error());
+    }
+    take_token(lexer, Token::OpenBrace)?;
+    let (methods, _) = parse_body::<ResourceMethod, Error>(alloc, lexer)?;
+    Ok(methods)
 }
 
 impl<'a> Peek for ResourceDecl<'a> {
@@ -73,7 +84,6 @@ impl<'a> Parse<'a> for ResourceMethod<'a> {
 
     ghost tree = { resource_method_of };
 
-    #[tactic(auto, using(wac_grammar::proofs::Fixed::read_is))]
     fn parse(alloc: Global, lexer: &mut Lexer<'a>) -> ParseResult<Self> {
         let mut lookahead = Lookahead::new(lexer);
         if Constructor::peek(&mut lookahead) {
@@ -112,7 +122,6 @@ impl<'a> Parse<'a> for Constructor<'a> {
 
     ghost tree = { constructor_of };
 
-    #[tactic(auto, using(wac_grammar::proofs::Fixed::read_is, wac_grammar::proofs::Docs::docs_of_token))]
     fn parse(alloc: Global, lexer: &mut Lexer<'a>) -> ParseResult<Self> {
         let docs = parse_docs(alloc, lexer)?;
         let span = take_token(lexer, Token::ConstructorKeyword)?;
@@ -151,17 +160,12 @@ impl<'a> Parse<'a> for Method<'a> {
 
     ghost tree = { method_of };
 
-    #[tactic(auto, using(wac_grammar::proofs::Fixed::read_is, wac_grammar::proofs::Docs::docs_of_sym))]
     fn parse(alloc: Global, lexer: &mut Lexer<'a>) -> ParseResult<Self> {
         let docs = parse_docs(alloc, lexer)?;
         let id = Parse::parse(alloc, lexer)?;
         take_token(lexer, Token::Colon)?;
-        let is_static = at(lexer, Token::StaticKeyword);
-        if is_static {
-            take_token(lexer, Token::StaticKeyword)?;
-        }
-        let ty = Parse::parse(alloc, lexer)?;
-        take_token(lexer, Token::Semicolon)?;
+        let is_static = take_word(lexer, Token::StaticKeyword)?;
+        let ty = parse_before::<FuncType, Error>(alloc, lexer, Token::Semicolon)?;
         Ok(Method {
             docs,
             id,

@@ -9,7 +9,10 @@ use crate::func_type::FuncType;
 use crate::types::Type;
 use std::alloc::Global;
 use wac_lexer::{Lexer, Token};
-use wac_syntax::{DocComment, Ident, Lookahead, Parse, ParseResult, Peek, parse_docs, take_token};
+use wac_syntax::{
+    DocComment, Error, Ident, Lookahead, Parse, ParseResult, Peek, parse_before, parse_docs,
+    take_token,
+};
 
 /// A name that is given to a type.
 #[derive(Drop)]
@@ -27,14 +30,12 @@ impl<'a> Parse<'a> for TypeAlias<'a> {
 
     ghost tree = { type_alias_of };
 
-    #[tactic(auto, using(wac_grammar::proofs::Fixed::read_is, wac_grammar::proofs::Docs::docs_of_token))]
     fn parse(alloc: Global, lexer: &mut Lexer<'a>) -> ParseResult<Self> {
         let docs = parse_docs(alloc, lexer)?;
         take_token(lexer, Token::TypeKeyword)?;
         let id = Parse::parse(alloc, lexer)?;
         take_token(lexer, Token::Equals)?;
-        let kind = Parse::parse(alloc, lexer)?;
-        take_token(lexer, Token::Semicolon)?;
+        let kind = parse_before::<TypeAliasKind, Error>(alloc, lexer, Token::Semicolon)?;
         Ok(TypeAlias { docs, id, kind })
     }
 }
@@ -63,7 +64,6 @@ impl<'a> Parse<'a> for TypeAliasKind<'a> {
 
     ghost tree = { type_alias_kind_of };
 
-    #[tactic(auto, using(wac_grammar::proofs::Fixed::read_is))]
     fn parse(alloc: Global, lexer: &mut Lexer<'a>) -> ParseResult<Self> {
         let mut lookahead = Lookahead::new(lexer);
         if FuncType::peek(&mut lookahead) {

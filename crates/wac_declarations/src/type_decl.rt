@@ -37,7 +37,6 @@ impl<'a> Parse<'a> for TypeDecl<'a> {
 
     ghost tree = { type_decl_of };
 
-    #[tactic(auto, using(wac_grammar::proofs::Fixed::read_is))]
     fn parse(alloc: Global, lexer: &mut Lexer<'a>) -> ParseResult<Self> {
         let mut lookahead = Lookahead::new(lexer);
         if VariantDecl::peek(&mut lookahead) {
@@ -107,7 +106,6 @@ impl<'a> Parse<'a> for ItemTypeDecl<'a> {
 
     ghost tree = { item_type_decl_of };
 
-    #[tactic(auto, using(wac_grammar::proofs::Fixed::read_is))]
     fn parse(alloc: Global, lexer: &mut Lexer<'a>) -> ParseResult<Self> {
         let mut lookahead = Lookahead::new(lexer);
         if ResourceDecl::peek(&mut lookahead) {

@@ -1,25 +1,27 @@
 //! Types.
 
-ghost use Rattle.std.specs.Prelude.{◌≡◌, ◌<◌, ◌≤◌, ◌∷◌, true, false, map, IfOk, IfErr, OnOk};
+ghost use Rattle.std.specs.Prelude.{◌≡◌, ◌<◌, ◌≤◌, [], ◌∷◌, true, false, map, IfOk, IfErr, OnOk};
 ghost use Rattle.std.specs.Option.{option_map};
 ghost use Rattle.wac_lexer.specs.Item.{handed, behind_first};
 ghost use Rattle.wac_lexer.specs.Reading.{left};
 ghost use Rattle.wac_lexer.specs.declared.token.Token.TheVariants as tokens;
 ghost use Rattle.wac_grammar.specs.Grammar as symbols;
 ghost use Rattle.wac_grammar.specs.Tokens.{at};
-ghost use Rattle.wac_grammar.specs.Reading.{read, begins, at_one_of};
+ghost use Rattle.wac_grammar.specs.Grammar.{sym};
+ghost use Rattle.wac_grammar.specs.Reading.{read, read_in, begins, can, at_one_of};
 ghost use Rattle.wac_syntax.specs.declared.error.Error.{Error as Fault};
 ghost use Rattle.wac_syntax.specs.Error.{told_by};
 ghost use Rattle.wac_syntax.specs.Lookahead.{Peeks, looked, tried, told_of};
 ghost use Rattle.wac_syntax.specs.Answer.{Gives, Fails, plain, has_more, first_item, end_of_input};
 ghost use Rattle.wac_syntax.specs.Lists.{unclosed};
-ghost use Rattle.wac_declarations.specs.Types.{ty_of, ty_span, optional_of, compound, word_type, word_at, angled, with_payload, second_part, MadeOf};
+ghost use Rattle.wac_syntax.specs.Pieces.{GivesPart};
+ghost use Rattle.wac_declarations.specs.Types.{ty_of, ty_span, optional_of, compound, word_type, word_at, angled, angled_parts, with_payload, second_rule, second_of, MadeOf};
 
 use std::alloc::Global;
 use wac_lexer::{Lexer, SourceSpan, Token};
 use wac_syntax::{
-    Error, Ident, Lookahead, Parse, ParseResult, Peek, at, begins, boxed, has_more, join, no_item,
-    push, take_optional, take_token,
+    Error, Ident, Lookahead, Parse, ParseResult, Peek, at, begins, boxed, join, no_item, push,
+    take_comma, take_optional, take_token,
 };
 
 /// A type.
@@ -116,7 +118,6 @@ impl<'a> Parse<'a> for Type<'a> {
 
     ghost tree = { ty_of };
 
-    #[tactic(auto, using(wac_grammar::proofs::Fixed::read_is))]
     #[cycle(types)]
     fn parse(alloc: Global, lexer: &mut Lexer<'a>) -> ParseResult<Self> {
         if at(lexer, Token::TupleKeyword) {
@@ -287,7 +288,6 @@ fn take_item(lexer: &mut Lexer) -> SourceSpan
 }
 
 /// `borrow<..>`
-#[tactic(auto, using(wac_grammar::proofs::Fixed::read_is))]
 fn parse_borrow<'a>(alloc: Global, lexer: &mut Lexer<'a>) -> ParseResult<Type<'a>>
     ensures gives { Gives ty_of result lexer.old lexer.new (read symbols.borrow_type (left lexer.old)) }
     ensures source { lexer.new.source ≡ lexer.old.source }
@@ -301,7 +301,6 @@ fn parse_borrow<'a>(alloc: Global, lexer: &mut Lexer<'a>) -> ParseResult<Type<'a
 }
 
 /// `tuple<..>`
-#[tactic(auto, using(wac_grammar::proofs::Fixed::read_is))]
 #[cycle(types)]
 fn parse_tuple<'a>(alloc: Global, lexer: &mut Lexer<'a>) -> ParseResult<Type<'a>>
     ensures gives { Gives ty_of result lexer.old lexer.new (read symbols.tuple_type (left lexer.old)) }
@@ -319,7 +318,6 @@ fn parse_tuple<'a>(alloc: Global, lexer: &mut Lexer<'a>) -> ParseResult<Type<'a>
 }
 
 /// The types up to a closing angle, which stays.
-#[tactic(auto, using(wac_grammar::proofs::Fixed::read_is))]
 #[cycle(types)]
 fn parse_types<'a>(alloc: Global, lexer: &mut Lexer<'a>) -> ParseResult<Vec<Type<'a>>>
     ensures gives { Gives (λ v. map ty_of v.items) result lexer.old lexer.new (unclosed (read symbols.types (left lexer.old))) }
@@ -329,23 +327,27 @@ fn parse_types<'a>(alloc: Global, lexer: &mut Lexer<'a>) -> ParseResult<Vec<Type
 {
     let mut types = Vec::new(alloc);
     while !at(lexer, Token::CloseAngle) {
-        if !at_type(lexer) {
-            return Err(no_type_beside(lexer, Token::CloseAngle));
-        }
-        push(&mut types, Type::parse(alloc, lexer)?)?;
-        if at(lexer, Token::CloseAngle) {
-            return Ok(types);
-        }
-        if !has_more(lexer) {
-            return Err(no_type_beside(lexer, Token::CloseAngle));
-        }
-        take_token(lexer, Token::Comma)?;
+        push(&mut types, parse_listed(alloc, lexer)?)?;
+        take_comma::<Type>(lexer, Token::CloseAngle)?;
     }
     Ok(types)
 }
 
+/// A type in the place of a closing angle.
+#[cycle(types)]
+fn parse_listed<'a>(alloc: Global, lexer: &mut Lexer<'a>) -> ParseResult<Type<'a>>
+    requires { at tokens.CloseAngle (left lexer.old) ≡ false }
+    ensures gives { Gives ty_of result lexer.old lexer.new (read_in read (sym symbols.ty) (can tokens.CloseAngle ∷ []) (left lexer.old)) }
+    ensures source { lexer.new.source ≡ lexer.old.source }
+    ensures moves { lexer.old.place ≤ lexer.new.place }
+{
+    if !at_type(lexer) {
+        return Err(no_type_beside(lexer, Token::CloseAngle));
+    }
+    Parse::parse(alloc, lexer)
+}
+
 /// A keyword and a type in angle brackets, with the span of all.
-#[tactic(auto, using(wac_grammar::proofs::Fixed::read_is))]
 #[cycle(types)]
 fn parse_angled<'a>(
     alloc: Global,
@@ -353,7 +355,7 @@ fn parse_angled<'a>(
     keyword: Token,
 ) -> ParseResult<(Box<Type<'a>>, SourceSpan)>
     requires { plain keyword ≡ true }
-    ensures gives { Gives (λ x. (ty_of x.0.value, x.1)) result lexer.old lexer.new (angled keyword (left lexer.old)) }
+    ensures gives { GivesPart (angled keyword) angled_parts (λ e x. x ≡ e) (λ x. (ty_of x.0.value, x.1)) result lexer.old lexer.new }
     ensures source { lexer.new.source ≡ lexer.old.source }
     ensures moves { lexer.old.place ≤ lexer.new.place }
 {
@@ -365,7 +367,6 @@ fn parse_angled<'a>(
 }
 
 /// `result`, and perhaps its parts.
-#[tactic(auto, using(wac_grammar::proofs::Fixed::read_is))]
 #[cycle(types)]
 fn parse_result<'a>(alloc: Global, lexer: &mut Lexer<'a>) -> ParseResult<Type<'a>>
     ensures gives { Gives ty_of result lexer.old lexer.new (read symbols.result_type (left lexer.old)) }
@@ -391,7 +392,6 @@ fn parse_result<'a>(alloc: Global, lexer: &mut Lexer<'a>) -> ParseResult<Type<'a
 }
 
 /// `_`, or a type.
-#[tactic(auto, using(wac_grammar::proofs::Fixed::read_is))]
 #[cycle(types)]
 fn parse_result_part<'a>(alloc: Global, lexer: &mut Lexer<'a>) -> ParseResult<Option<Box<Type<'a>>>>
     ensures gives { Gives optional_of result lexer.old lexer.new (read symbols.result_part (left lexer.old)) }
@@ -410,21 +410,19 @@ fn parse_result_part<'a>(alloc: Global, lexer: &mut Lexer<'a>) -> ParseResult<Op
 }
 
 /// The part of a result behind a comma, where a comma is next.
-#[tactic(auto, using(wac_grammar::proofs::Fixed::read_is))]
 #[cycle(types)]
 fn parse_second_part<'a>(alloc: Global, lexer: &mut Lexer<'a>) -> ParseResult<Option<Box<Type<'a>>>>
-    ensures gives { Gives optional_of result lexer.old lexer.new (second_part (left lexer.old)) }
+    ensures gives { GivesPart second_rule second_of (λ e x. x ≡ e) optional_of result lexer.old lexer.new }
     ensures source { lexer.new.source ≡ lexer.old.source }
     ensures moves { lexer.old.place ≤ lexer.new.place }
 {
     if take_optional(lexer, Token::Comma)? {
-        return parse_result_part(alloc, lexer);
+        return Ok(parse_result_part(alloc, lexer)?);
     }
     Ok(None)
 }
 
 /// The next item, whatever it is, and perhaps a type in angle brackets behind it, with the span of all.
-#[tactic(auto, using(wac_grammar::proofs::Fixed::read_is))]
 #[cycle(types)]
 fn parse_held<'a>(
     alloc: Global,

@@ -1,16 +1,21 @@
 //! Variants.
 
+ghost use Rattle.std.specs.Prelude.{◌≡◌, ◌≤◌};
+ghost use Rattle.std.specs.Option.{option_map};
 ghost use Rattle.wac_grammar.specs.Grammar as symbols;
 ghost use Rattle.wac_grammar.specs.Reading.{begins};
 ghost use Rattle.wac_syntax.specs.Lookahead.{Peeks};
+ghost use Rattle.wac_syntax.specs.Pieces.{GivesPart};
+ghost use Rattle.wac_declarations.specs.Types.{ty_of};
 ghost use Rattle.wac_declarations.specs.Declarations.{variant_case_of, variant_decl_of};
+ghost use Rattle.wac_declarations.specs.Tails.{case_tail, held_type};
 
 use crate::types::Type;
 use std::alloc::Global;
 use wac_lexer::{Lexer, Token};
 use wac_syntax::{
-    DocComment, Error, Ident, Lookahead, Parse, ParseResult, Peek, parse_docs, parse_list,
-    refuse_empty, take_optional, take_token,
+    BodyKind, DocComment, Error, Ident, Lookahead, Parse, ParseResult, Peek, parse_before,
+    parse_docs, parse_filled, take_optional, take_token,
 };
 
 /// A type of values of several cases.
@@ -29,14 +34,11 @@ impl<'a> Parse<'a> for VariantDecl<'a> {
 
     ghost tree = { variant_decl_of };
 
-    #[tactic(auto, using(wac_grammar::proofs::Fixed::read_is))]
     fn parse(alloc: Global, lexer: &mut Lexer<'a>) -> ParseResult<Self> {
         let docs = parse_docs(alloc, lexer)?;
         take_token(lexer, Token::VariantKeyword)?;
         let id = Parse::parse(alloc, lexer)?;
-        take_token(lexer, Token::OpenBrace)?;
-        refuse_empty(lexer, "variant", "case")?;
-        let (cases, _) = parse_list::<VariantCase, Error>(alloc, lexer, Token::CloseBrace)?;
+        let cases = parse_filled::<VariantCase, Error>(alloc, lexer, BodyKind::Variant)?;
         Ok(VariantDecl { docs, id, cases })
     }
 }
@@ -67,19 +69,25 @@ impl<'a> Parse<'a> for VariantCase<'a> {
 
     ghost tree = { variant_case_of };
 
-    #[tactic(auto, using(wac_grammar::proofs::Fixed::read_is))]
     fn parse(alloc: Global, lexer: &mut Lexer<'a>) -> ParseResult<Self> {
         let docs = parse_docs(alloc, lexer)?;
         let id = Parse::parse(alloc, lexer)?;
-        let ty = if take_optional(lexer, Token::OpenParen)? {
-            let ty = Parse::parse(alloc, lexer)?;
-            take_token(lexer, Token::CloseParen)?;
-            Some(ty)
-        } else {
-            None
-        };
+        let ty = parse_held(alloc, lexer)?;
         Ok(VariantCase { docs, id, ty })
     }
+}
+
+/// What a case holds, in parentheses.
+fn parse_held<'a>(alloc: Global, lexer: &mut Lexer<'a>) -> ParseResult<Option<Type<'a>>>
+    ensures gives { GivesPart case_tail held_type (λ e x. x ≡ e) (option_map ty_of) result lexer.old lexer.new }
+    ensures source { lexer.new.source ≡ lexer.old.source }
+    ensures moves { lexer.old.place ≤ lexer.new.place }
+{
+    if take_optional(lexer, Token::OpenParen)? {
+        let ty = parse_before::<Type, Error>(alloc, lexer, Token::CloseParen)?;
+        return Ok(Some(ty));
+    }
+    Ok(None)
 }
 
 impl<'a> Peek for VariantCase<'a> {

@@ -1,6 +1,10 @@
 -- The trees of expressions.
 use Rattle.std.specs.Prelude.{ℕ, List, map}
 use Rattle.wac_lexer.specs.Span.{Span}
+use Rattle.wac_lexer.specs.Item.{Item}
+use Rattle.wac_grammar.specs.Grammar.{build, expr, postfixes as postfix_list}
+use Rattle.wac_grammar.specs.Reading.{mapped, read}
+use Rattle.wac_syntax.specs.Lists.{Reads}
 use Rattle.wac_grammar.specs.Tree as tree
 use Rattle.wac_grammar.specs.Tree.{arguments_from, Expr, PrimaryExpr, PostfixExpr}
 use Rattle.wac_expressions.specs.declared.expr.AccessExpr.{AccessExpr as CodeAccessExpr}
@@ -67,3 +71,7 @@ new_expr_of x = PrimaryExpr.new x.span (package_name_of x.«package») (argument
 
 abbrev pub named_argument_of : CodeNamedArgument → tree.NamedInstantiationArgument
 named_argument_of x = record { name = argument_name_of x.name; expr = expr_of x.expr }
+
+-- an expression, behind what stands first in it
+abbrev pub behind_primary : PrimaryExpr → List Item → Reads Expr
+behind_primary first xs = mapped (λ others. build expr (first, others)) (read postfix_list xs)

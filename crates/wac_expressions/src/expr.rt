@@ -1,25 +1,25 @@
 //! Expressions.
 
-ghost use Rattle.std.specs.Prelude.{◌≡◌, ◌<◌, ◌≤◌, ◌^◌, ◌||◌, map, true, false, IfOk, OnOk};
+ghost use Rattle.std.specs.Prelude.{◌≡◌, ◌<◌, ◌≤◌, ◌^◌, ◌||◌, [], ◌∷◌, map, true, false, IfOk, OnOk};
 ghost use Rattle.wac_lexer.specs.Span.{end_of, Span};
 ghost use Rattle.wac_lexer.specs.Item.{behind_first};
 ghost use Rattle.wac_lexer.specs.Reading.{left};
 ghost use Rattle.wac_lexer.specs.declared.token.Token.TheVariants as tokens;
 ghost use Rattle.wac_grammar.specs.Tokens.{at};
 ghost use Rattle.wac_grammar.specs.Grammar as symbols;
-ghost use Rattle.wac_grammar.specs.Grammar.{primary_span, postfix_span, last_span};
-ghost use Rattle.wac_grammar.specs.Reading.{read, begins, at_one_of};
+ghost use Rattle.wac_grammar.specs.Grammar.{sym, primary_span, postfix_span, last_span};
+ghost use Rattle.wac_grammar.specs.Reading.{read, read_in, begins, can, at_one_of};
 ghost use Rattle.wac_syntax.specs.Error.{told_by};
 ghost use Rattle.wac_syntax.specs.Lookahead.{Peeks, looked, tried, told_of};
 ghost use Rattle.wac_syntax.specs.Lists.{unclosed};
 ghost use Rattle.wac_syntax.specs.Answer.{Gives};
-ghost use Rattle.wac_expressions.specs.Expressions.{access_expr_of, named_access_expr_of, postfix_expr_of, primary_expr_of, expr_of, new_expr_of, nested_expr_of, argument_of, argument_name_of, named_argument_of, argument_name_span, argument_name_text};
+ghost use Rattle.wac_expressions.specs.Expressions.{access_expr_of, named_access_expr_of, postfix_expr_of, primary_expr_of, expr_of, new_expr_of, nested_expr_of, argument_of, argument_name_of, named_argument_of, argument_name_span, argument_name_text, behind_primary};
 
 use std::alloc::Global;
 use wac_lexer::{Lexer, SourceSpan, Token};
 use wac_syntax::{
     Error, Ident, Lookahead, PackageName, Parse, ParseResult, Peek, String, at, at_second, begins,
-    boxed, has_more, join, no_item, push, take_token,
+    boxed, join, no_item, push, take_comma, take_token,
 };
 
 /// An expression: a primary one, and accesses behind it.
@@ -180,18 +180,31 @@ impl<'a> Parse<'a> for Expr<'a> {
 
     ghost tree = { expr_of };
 
-    #[tactic(auto, using(wac_grammar::proofs::Fixed::read_is))]
     #[cycle(parser)]
     fn parse(alloc: Global, lexer: &mut Lexer<'a>) -> ParseResult<Self> {
-        let primary: PrimaryExpr = Parse::parse(alloc, lexer)?;
-        let postfix = parse_postfixes(alloc, lexer)?;
-        let first = primary.span();
-        Ok(Expr {
-            span: join(first, last_span(first, &postfix)),
-            primary,
-            postfix,
-        })
+        let primary = Parse::parse(alloc, lexer)?;
+        parse_behind(alloc, lexer, primary)
     }
+}
+
+/// The expression that begins with this one, and goes on with the accesses behind it.
+fn parse_behind<'a>(
+    alloc: Global,
+    lexer: &mut Lexer<'a>,
+    primary: PrimaryExpr<'a>,
+) -> ParseResult<Expr<'a>>
+    requires { end_of (primary_span (primary_expr_of primary)) < 2 ^ 64 }
+    ensures gives { Gives expr_of result lexer.old lexer.new (behind_primary (primary_expr_of primary.entry) (left lexer.old)) }
+    ensures source { lexer.new.source ≡ lexer.old.source }
+    ensures moves { lexer.old.place ≤ lexer.new.place }
+{
+    let postfix = parse_postfixes(alloc, lexer)?;
+    let first = primary.span();
+    Ok(Expr {
+        span: join(first, last_span(first, &postfix)),
+        primary,
+        postfix,
+    })
 }
 
 /// The span of the last of these expressions, or where there is none the span before them.
@@ -211,7 +224,6 @@ impl<'a> Parse<'a> for PrimaryExpr<'a> {
 
     ghost fits = { λ x. end_of (primary_span (primary_expr_of x)) < 2 ^ 64 };
 
-    #[tactic(auto, using(wac_grammar::proofs::Fixed::read_is))]
     #[cycle(parser)]
     fn parse(alloc: Global, lexer: &mut Lexer<'a>) -> ParseResult<Self> {
         let mut lookahead = Lookahead::new(lexer);
@@ -234,7 +246,6 @@ impl<'a> Parse<'a> for NewExpr<'a> {
 
     ghost fits = { λ x. end_of (primary_span (new_expr_of x)) < 2 ^ 64 };
 
-    #[tactic(auto, using(wac_grammar::proofs::Fixed::read_is))]
     #[cycle(parser)]
     fn parse(alloc: Global, lexer: &mut Lexer<'a>) -> ParseResult<Self> {
         let first = take_token(lexer, Token::NewKeyword)?;
@@ -273,19 +284,24 @@ fn parse_arguments<'a>(
 {
     let mut arguments = Vec::new(alloc);
     while !at(lexer, Token::CloseBrace) {
-        if !begins::<InstantiationArgument>(lexer) {
-            return Err(no_item::<InstantiationArgument>(lexer, Token::CloseBrace));
-        }
-        push(&mut arguments, Parse::parse(alloc, lexer)?)?;
-        if at(lexer, Token::CloseBrace) {
-            return Ok(arguments);
-        }
-        if !has_more(lexer) {
-            return Err(no_item::<InstantiationArgument>(lexer, Token::CloseBrace));
-        }
-        take_token(lexer, Token::Comma)?;
+        push(&mut arguments, parse_listed(alloc, lexer)?)?;
+        take_comma::<InstantiationArgument>(lexer, Token::CloseBrace)?;
     }
     Ok(arguments)
+}
+
+/// An argument in the place of a closing brace.
+#[cycle(parser)]
+fn parse_listed<'a>(alloc: Global, lexer: &mut Lexer<'a>) -> ParseResult<InstantiationArgument<'a>>
+    requires { at tokens.CloseBrace (left lexer.old) ≡ false }
+    ensures gives { Gives argument_of result lexer.old lexer.new (read_in read (sym symbols.argument) (can tokens.CloseBrace ∷ []) (left lexer.old)) }
+    ensures source { lexer.new.source ≡ lexer.old.source }
+    ensures moves { lexer.old.place ≤ lexer.new.place }
+{
+    if !begins::<InstantiationArgument>(lexer) {
+        return Err(no_item::<InstantiationArgument>(lexer, Token::CloseBrace));
+    }
+    Parse::parse(alloc, lexer)
 }
 
 impl<'a> Parse<'a> for InstantiationArgument<'a> {
@@ -371,7 +387,6 @@ impl<'a> Parse<'a> for NamedInstantiationArgument<'a> {
 
     ghost tree = { named_argument_of };
 
-    #[tactic(auto, using(wac_grammar::proofs::Fixed::read_is))]
     #[cycle(parser)]
     fn parse(alloc: Global, lexer: &mut Lexer<'a>) -> ParseResult<Self> {
         let name = Parse::parse(alloc, lexer)?;
@@ -386,7 +401,6 @@ impl<'a> Parse<'a> for InstantiationArgumentName<'a> {
 
     ghost tree = { argument_name_of };
 
-    #[tactic(auto, using(wac_grammar::proofs::Fixed::read_is))]
     fn parse(alloc: Global, lexer: &mut Lexer<'a>) -> ParseResult<Self> {
         let mut lookahead = Lookahead::new(lexer);
         if Ident::peek(&mut lookahead) {
@@ -416,7 +430,6 @@ impl<'a> Parse<'a> for NestedExpr<'a> {
 
     ghost fits = { λ x. end_of (primary_span (nested_expr_of x)) < 2 ^ 64 };
 
-    #[tactic(auto, using(wac_grammar::proofs::Fixed::read_is))]
     #[cycle(parser)]
     fn parse(alloc: Global, lexer: &mut Lexer<'a>) -> ParseResult<Self> {
         let first = take_token(lexer, Token::OpenParen)?;
@@ -460,7 +473,6 @@ impl<'a> Parse<'a> for PostfixExpr<'a> {
 
     ghost fits = { λ x. end_of (postfix_span (postfix_expr_of x)) < 2 ^ 64 };
 
-    #[tactic(auto, using(wac_grammar::proofs::Fixed::read_is))]
     fn parse(alloc: Global, lexer: &mut Lexer<'a>) -> ParseResult<Self> {
         let mut lookahead = Lookahead::new(lexer);
         if AccessExpr::peek(&mut lookahead) {
@@ -490,7 +502,6 @@ impl<'a> Parse<'a> for AccessExpr<'a> {
 
     ghost fits = { λ x. end_of x.span < 2 ^ 64 };
 
-    #[tactic(auto, using(wac_grammar::proofs::Fixed::read_is))]
     fn parse(alloc: Global, lexer: &mut Lexer<'a>) -> ParseResult<Self> {
         let first = take_token(lexer, Token::Dot)?;
         let id: Ident = Parse::parse(alloc, lexer)?;
@@ -518,7 +529,6 @@ impl<'a> Parse<'a> for NamedAccessExpr<'a> {
 
     ghost fits = { λ x. end_of x.span < 2 ^ 64 };
 
-    #[tactic(auto, using(wac_grammar::proofs::Fixed::read_is))]
     fn parse(alloc: Global, lexer: &mut Lexer<'a>) -> ParseResult<Self> {
         let first = take_token(lexer, Token::OpenBracket)?;
         let string = Parse::parse(alloc, lexer)?;

@@ -1,5 +1,4 @@
 pub mod Places
-pub mod Versions
 pub mod Lookaheads
 pub mod Taken
 pub mod Strips
@@ -7,6 +6,6 @@ pub mod Loops
 pub mod Lists
 pub mod PathParts
 pub mod Optional
-pub mod Alternatives
 pub mod Exits
-pub mod PartReads
+pub mod Yields
+pub mod Filled

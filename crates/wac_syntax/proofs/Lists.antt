@@ -2,6 +2,7 @@
 use Rattle.std.proofs.Common.{◌≡◌, ◌≤◌, ◌<◌, ◌+◌, arith, ℕ, List, [], ◌∷◌, ◌++◌, length, map, take, Option, None, Result, Ok, Err, Some, Bool, true, false, cond, refl, sym as back, ap, subst, ◌∙◌, ◌⊎◌, inl, inr, append_assoc}
 use Rattle.std.proofs.lemmas.List.{append-nil}
 use Rattle.wac_lexer.specs.Item.{Item}
+use Rattle.wac_lexer.specs.Span.{Span}
 use Rattle.wac_lexer.specs.Reading.{Reading, left}
 use Rattle.wac_lexer.specs.declared.token.Token.{Token}
 use Rattle.wac_lexer.specs.declared.token.Token.TheVariants as t
@@ -9,14 +10,14 @@ use Rattle.wac_syntax.specs.declared.error.Error.{Error}
 use Rattle.wac_grammar.specs.Tokens.{is_token, at, valid}
 use Rattle.wac_grammar.specs.Grammar.{Sym, Listed, listed, listed_more, Body}
 use Rattle.wac_grammar.specs.Grammar as g
-use Rattle.wac_grammar.specs.Reading.{Stop, can, closes as closing, follows, version, empty_body, refuse, mapped, two, pair_with, read, read_token, read_sym, at_one_of, begins, empty}
+use Rattle.wac_grammar.specs.Reading.{Stop, can, closes as closing, follows, version, empty_body, refuse, mapped, two, pair_with, read, read_in, read_token, read_sym, at_one_of, begins, empty}
 use Rattle.wac_syntax.specs.Answer.{body_name, part_name, first_span, End, end_of_input, told, told_in, Fails, has_more, plain}
 use Rattle.std.specs.Prelude.{IsErrAnd}
 use Rattle.wac_syntax.specs.Error.{told_by, empty_type}
 use Rattle.wac_syntax.specs.Lookahead.{looked, tried, told_of}
-use Rattle.wac_syntax.proofs.Lookaheads.{named_fail}
-use Rattle.wac_syntax.specs.Lists.{GivesBy, Reads, list_by, rest_by, IsCommaList, IsList, unclosed, closes, list_of, more_of, repeats, body_of}
-use Rattle.wac_grammar.proofs.Fixed.{read_is}
+use Rattle.wac_syntax.proofs.Lookaheads.{no_item_fails, over_fails}
+use Rattle.wac_syntax.specs.Lists.{GivesBy, TakesListBy, GoesOn, Reads, list_by, rest_by, IsCommaList, IsList, unclosed, closes, list_of, more_of, repeats, body_of}
+use Rattle.wac_grammar.proofs.Fixed.{read_is, takes_some}
 use Rattle.wac_syntax.proofs.Loops.{fails_bind}
 
 pub same_fails : {A : Type 0} (e : Error) (end : End) (m n : Result A Stop) → m ≡ n → Fails e end n → Fails e end m
@@ -60,13 +61,10 @@ list_begins list l = record { read = nothing_put (list (left l)); ends = refl; s
 pub moved_end : {A : Type 0} (e : Error) (a b : End) (m : Result A Stop) → a ≡ b → Fails e a m → Fails e b m
 moved_end e a b m eq h = subst (λ (x : End). Fails e x m) eq h
 
-same_end : {A : Type 0} (e : Error) (a b : End) (m : Result A Stop) → a ≡ b → Fails e a m → Fails e b m
-same_end e a b m eq h = subst (λ (x : End). Fails e x m) eq h
-
 -- a failure behind what was read so far
 pub list_fails : {A : Type 0} (e : Error) (list : List Item → Reads (Listed A)) (front : List A) (old mid : Reading) → ListSoFar list front old mid → Fails e (end_of_input mid) (list (left mid)) → Fails e (end_of_input old) (list (left old))
 list_fails {A = A} e list front old mid so_far f =
-    same_end e (end_of_input mid) (end_of_input old) (list (left old)) so_far.ends
+    moved_end e (end_of_input mid) (end_of_input old) (list (left old)) so_far.ends
     (subst (λ (m : Reads (Listed A)). Fails e (end_of_input mid) m) so_far.read (fails_bind e (end_of_input mid) (list (left mid)) (λ l. Ok ((front ++ l.0.0, l.0.1), l.1)) f))
 
 -- the end of the list behind what was read so far
@@ -93,59 +91,54 @@ behind_comma : {A : Type 0} (x : Item) (m : Reads (Listed A)) → mapped {A = It
 behind_comma x (Ok y) = refl
 behind_comma x (Err s) = refl
 
-module _ {A : Type 0} (k : Token) (ks : List Token) (ri : List Item → Reads A) (rl rm : List Item → Reads (Listed A)) (list : IsCommaList k ks ri rl rm) where
-  pub comma_ended : (xs : List Item) (x : Item) (rest : List Item) → read_token [] k xs ≡ Ok (x, rest) → at k xs ≡ true → rl xs ≡ Ok (([], x), rest)
-  comma_ended xs x rest r h = list.items xs ∙ cond_true (at k xs) _ _ h ∙ ap (mapped {A = Item} {B = Listed A} (λ z. ([], z))) r
+module _ {A : Type 0} {k : Token} {ks : List Token} {ri : List Item → Reads A} {rl rm : List Item → Reads (Listed A)} where
+  pub list_shut : IsList k ks ri rl rm → (xs : List Item) (x : Item) (rest : List Item) → read_token [] k xs ≡ Ok (x, rest) → at k xs ≡ true → rl xs ≡ Ok (([], x), rest)
+  list_shut list xs x rest r h = list.items xs ∙ cond_true (at k xs) _ _ h ∙ ap (mapped {A = Item} {B = Listed A} (λ z. ([], z))) r
 
-  pub comma_open : (xs : List Item) → at k xs ≡ false → at_one_of ks xs ≡ true → rl xs ≡ mapped {A = A × Listed A} {B = Listed A} (λ p. (p.0 ∷ p.1.0, p.1.1)) (two (ri xs) (λ a. rm))
-  comma_open xs h i = list.items xs ∙ rw (h, i) refl
+  pub list_open : IsList k ks ri rl rm → (xs : List Item) → at k xs ≡ false → rl xs ≡ mapped {A = A × Listed A} {B = Listed A} (λ p. (p.0 ∷ p.1.0, p.1.1)) (two (read_sym ri ks (can k ∷ []) xs) (λ a. rm))
+  list_open list xs h = list.items xs ∙ cond_false (at k xs) _ _ h
 
-  pub comma_no_item : (xs : List Item) → at k xs ≡ false → at_one_of ks xs ≡ false → rl xs ≡ refuse xs (map can (k ∷ ks))
-  comma_no_item xs h i = list.items xs ∙ rw (h, i) refl
+  -- an item fails, or none is there
+  pub item_fails : (e : Error) (end : End) (xs : List Item) → IsList k ks ri rl rm → at k xs ≡ false → Fails e end (read_sym ri ks (can k ∷ []) xs) → Fails e end (rl xs)
+  item_fails e end xs list h f = same_fails e end (rl xs) _ (list_open list xs h) (fails_bind e end _ _ (fails_bind e end (read_sym ri ks (can k ∷ []) xs) _ f))
 
-  pub comma_item_fails : (e : Error) (end : End) (xs : List Item) → at k xs ≡ false → at_one_of ks xs ≡ true → Fails e end (ri xs) → Fails e end (rl xs)
-  comma_item_fails e end xs h i f = same_fails e end (rl xs) _ (comma_open xs h i) (fails_bind e end _ _ (fails_bind e end (ri xs) _ f))
+  -- an item is read
+  pub item_put : {a : A} {xs ys : List Item} → IsList k ks ri rl rm → at k xs ≡ false → read_sym ri ks (can k ∷ []) xs ≡ Ok (a, ys) → rl xs ≡ mapped {A = Listed A} {B = Listed A} (put a) (rm ys)
+  item_put {a = a} {xs = xs} {ys = ys} list h r = list_open list xs h ∙ rw r (step_put a (rm ys))
 
-  pub comma_step : (xs : List Item) (a : A) (ys : List Item) → at k xs ≡ false → at_one_of ks xs ≡ true → ri xs ≡ Ok (a, ys) → rl xs ≡ mapped {A = Listed A} {B = Listed A} (put a) (rm ys)
-  comma_step xs a ys h i r = comma_open xs h i ∙ rw r (step_put a (rm ys))
+  pub rest_closed : IsCommaList k ks ri rl rm → (ys : List Item) → at k ys ≡ true → rm ys ≡ rl ys
+  rest_closed list [] h = absurd cc
+  rest_closed list (y ∷ ys) h = list.rest (y ∷ ys) ∙ cond_true (at k (y ∷ ys)) _ _ h ∙ back (list.is_list.items (y ∷ ys) ∙ cond_true (at k (y ∷ ys)) _ _ h)
 
-  pub rest_closed : (ys : List Item) → at k ys ≡ true → rm ys ≡ rl ys
-  rest_closed [] h = absurd cc
-  rest_closed (y ∷ ys) h = list.rest (y ∷ ys) ∙ cond_true (at k (y ∷ ys)) _ _ h ∙ back (list.items (y ∷ ys) ∙ cond_true (at k (y ∷ ys)) _ _ h)
+  pub rest_comma : IsCommaList k ks ri rl rm → (ys : List Item) (x : Item) (zs : List Item) → at k ys ≡ false → read_token [] t.Comma ys ≡ Ok (x, zs) → rm ys ≡ rl zs
+  rest_comma list [] x zs h r = absurd cc
+  rest_comma list (y ∷ ys) x zs h r = list.rest (y ∷ ys) ∙ cond_false (at k (y ∷ ys)) _ _ h ∙ ap (λ (m : Reads Item). mapped {A = Item × Listed A} {B = Listed A} (λ p. p.1) (two m (λ a. rl))) r ∙ behind_comma x (rl zs)
 
-  pub rest_comma : (ys : List Item) (x : Item) (zs : List Item) → at k ys ≡ false → read_token [] t.Comma ys ≡ Ok (x, zs) → rm ys ≡ rl zs
-  rest_comma [] x zs h r = absurd cc
-  rest_comma (y ∷ ys) x zs h r = list.rest (y ∷ ys) ∙ cond_false (at k (y ∷ ys)) _ _ h ∙ ap (λ (m : Reads Item). mapped {A = Item × Listed A} {B = Listed A} (λ p. p.1) (two m (λ a. rl))) r ∙ behind_comma x (rl zs)
+  pub rest_fails : IsCommaList k ks ri rl rm → (e : Error) (end : End) (ys : List Item) → at k ys ≡ false → has_more ys ≡ true → Fails e end (read_token [] t.Comma ys) → Fails e end (rm ys)
+  rest_fails list e end [] h m f = absurd cc
+  rest_fails list e end (y ∷ ys) h m f = same_fails e end (rm (y ∷ ys)) _ (list.rest (y ∷ ys) ∙ cond_false (at k (y ∷ ys)) _ _ h) (fails_bind e end _ _ (fails_bind e end (read_token [] t.Comma (y ∷ ys)) _ f))
 
-  pub rest_fails : (e : Error) (end : End) (ys : List Item) → at k ys ≡ false → has_more ys ≡ true → Fails e end (read_token [] t.Comma ys) → Fails e end (rm ys)
-  rest_fails e end [] h m f = absurd cc
-  rest_fails e end (y ∷ ys) h m f = same_fails e end (rm (y ∷ ys)) _ (list.rest (y ∷ ys) ∙ cond_false (at k (y ∷ ys)) _ _ h) (fails_bind e end _ _ (fails_bind e end (read_token [] t.Comma (y ∷ ys)) _ f))
+  pub rest_over : IsCommaList k ks ri rl rm → (ys : List Item) → has_more ys ≡ false → rm ys ≡ refuse ys (can k ∷ map follows ks)
+  rest_over list [] h = list.rest []
+  rest_over list (y ∷ ys) h = absurd cc
 
-  pub rest_over : (ys : List Item) → has_more ys ≡ false → rm ys ≡ refuse ys (can k ∷ map follows ks)
-  rest_over [] h = list.rest []
-  rest_over (y ∷ ys) h = absurd cc
+  -- one more item, behind which the list goes on
+  pub list_goes_on : {front : List A} {old mid new : Reading} {a : A} (behind : Reading) → IsList k ks ri rl rm → ListSoFar rl front old mid → at k (left mid) ≡ false
+      → (read_sym ri ks (can k ∷ []) (left mid) ≡ Ok (a, left behind)) × (end_of_input behind ≡ end_of_input mid) → behind.source ≡ mid.source → mid.place ≤ behind.place
+      → (rm (left behind) ≡ rl (left new)) × (end_of_input new ≡ end_of_input behind) → new.source ≡ behind.source → behind.place ≤ new.place → ListSoFar rl (front ++ a ∷ []) old new
+  list_goes_on {front = front} {old = old} {mid = mid} {new = new} {a = a} behind list so_far h r source moves on source_on moves_on =
+      let m : mid.place ≤ new.place = omega arith in
+      list_more rl front old mid new a so_far (item_put list h r.0 ∙ ap (mapped {A = Listed A} {B = Listed A} (put a)) on.0) (on.1 ∙ r.1) (source_on ∙ source) m
 
-  -- what follows an item fails
-  pub comma_rest_fails : (e : Error) (end : End) (xs : List Item) (a : A) (ys : List Item) → at k xs ≡ false → at_one_of ks xs ≡ true → ri xs ≡ Ok (a, ys) → Fails e end (rm ys) → Fails e end (rl xs)
-  comma_rest_fails e end xs a ys h i r f = same_fails e end (rl xs) _ (comma_step xs a ys h i r) (fails_bind e end (rm ys) _ f)
-
--- ---- a list without commas
-
-module _ {A : Type 0} (k : Token) (ks : List Token) (ri : List Item → Reads A) (rl : List Item → Reads (Listed A)) (list : IsList k ks ri rl) where
-  pub plain_ended : (xs : List Item) (x : Item) (rest : List Item) → read_token [] k xs ≡ Ok (x, rest) → at k xs ≡ true → rl xs ≡ Ok (([], x), rest)
-  plain_ended xs x rest r h = list.items xs ∙ cond_true (at k xs) _ _ h ∙ ap (mapped {A = Item} {B = Listed A} (λ z. ([], z))) r
-
-  plain_open : (xs : List Item) → at k xs ≡ false → at_one_of ks xs ≡ true → rl xs ≡ mapped {A = A × Listed A} {B = Listed A} (λ p. (p.0 ∷ p.1.0, p.1.1)) (two (ri xs) (λ a. rl))
-  plain_open xs h i = list.items xs ∙ rw (h, i) refl
-
-  pub plain_no_item : (xs : List Item) → at k xs ≡ false → at_one_of ks xs ≡ false → rl xs ≡ refuse xs (map can (k ∷ ks))
-  plain_no_item xs h i = list.items xs ∙ rw (h, i) refl
-
-  pub plain_item_fails : (e : Error) (end : End) (xs : List Item) → at k xs ≡ false → at_one_of ks xs ≡ true → Fails e end (ri xs) → Fails e end (rl xs)
-  plain_item_fails e end xs h i f = same_fails e end (rl xs) _ (plain_open xs h i) (fails_bind e end _ _ (fails_bind e end (ri xs) _ f))
-
-  pub plain_step : (xs : List Item) (a : A) (ys : List Item) → at k xs ≡ false → at_one_of ks xs ≡ true → ri xs ≡ Ok (a, ys) → rl xs ≡ mapped {A = Listed A} {B = Listed A} (put a) (rl ys)
-  plain_step xs a ys h i r = plain_open xs h i ∙ rw r (step_put a (rl ys))
+  -- the closing token behind what was read so far
+  pub list_closed : {front : List A} {old new : Reading} → IsList k ks ri rl rm → plain k ≡ true → ListSoFar rl front old new → at k (left new) ≡ true → (unclosed (rl (left old)) ≡ Ok (front, left new)) × (end_of_input new ≡ end_of_input old)
+  list_closed {front = front} {old = old} {new = new} list ok so_far h = (go (left new) refl h, so_far.ends)
+    where
+      go : (xs : List Item) → left new ≡ xs → at k xs ≡ true → unclosed (rl (left old)) ≡ Ok (front, left new)
+      go [] e h = absurd cc
+      go (x ∷ xs) e h =
+          let r : rl (left new) ≡ Ok (([], x), xs) = ap rl e ∙ list_shut list (x ∷ xs) x xs (taken k x xs ok h) h in
+          ap unclosed (list_ends rl front old new x xs so_far r) ∙ ap (λ (us : List Item). Ok (front, us)) (back e)
 
 -- ---- the comma lists of the grammar
 
@@ -172,7 +165,7 @@ by_rules : {A : Type 0} (k : Token) (ks : List Token) (ri : List Item → Reads 
     → (rm [] ≡ refuse [] (can k ∷ map follows ks))
     → ((x : Item) (xs : List Item) → rm (x ∷ xs) ≡ mapped {B = Listed A} listed_more (cond (at_one_of (k ∷ []) (x ∷ xs)) (mapped inl (read_token [] k (x ∷ xs))) (mapped inr (two (read_token [] t.Comma (x ∷ xs)) (λ a. rl)))))
     → IsCommaList k ks ri rl rm
-by_rules {A = A} k ks ri rl rm items over rest = record { items = items_is; rest = rest_is }
+by_rules {A = A} k ks ri rl rm items over rest = record { is_list = record { items = items_is }; rest = rest_is }
   where
     items_is : (xs : List Item) → rl xs ≡ list_by k ks ri rm xs
     items_is xs =
@@ -266,18 +259,18 @@ unclosed_fails {A = A} e end m (inr tells) = inr (go m tells)
     go (Ok x) h = absurd cc
     go (Err s) h = h
 
-pub made_fails : {X Y E : Type 0} (made : Error → E → Type 0) (view : X → Y) (r : Result X E) (old new : Reading) (m : Reads Y) (e : Error) → IsErrAnd r (made e) → Fails e (end_of_input old) m → GivesBy made view r old new m
-made_fails made view (Ok x) old new m e h f = absurd h
-made_fails made view (Err x) old new m e h f = (e, h, f)
+-- an error behind what was read so far
+pub so_far_fails : {A : Type 0} {list : List Item → Reads (Listed A)} {front : List A} {old mid : Reading} (e : Error) → ListSoFar list front old mid → Fails e (end_of_input mid) (list (left mid)) → Fails e (end_of_input old) (unclosed (list (left old)))
+so_far_fails {list = list} {front = front} {old = old} {mid = mid} e so_far f = unclosed_fails e (end_of_input old) (list (left old)) (list_fails e list front old mid so_far f)
 
-pub unclosed_ends : {A : Type 0} (k : Token) (ks : List Token) (ri : List Item → Reads A) (rl rm : List Item → Reads (Listed A)) → IsCommaList k ks ri rl rm → plain k ≡ true → (front : List A) (old new : Reading) → ListSoFar rl front old new → at k (left new) ≡ true → unclosed (rl (left old)) ≡ Ok (front, left new)
-unclosed_ends {A = A} k ks ri rl rm list ok front old new so_far h = go (left new) refl h
-  where
-    go : (xs : List Item) → left new ≡ xs → at k xs ≡ true → unclosed (rl (left old)) ≡ Ok (front, left new)
-    go [] e h = absurd cc
-    go (x ∷ xs) e h =
-        let r : rl (left new) ≡ Ok (([], x), xs) = ap rl e ∙ comma_ended k ks ri rl rm list (x ∷ xs) x xs (taken k x xs ok h) h in
-        ap unclosed (list_ends rl front old new x xs so_far r) ∙ ap (λ (us : List Item). Ok (front, us)) (back e)
+-- an error that was made into another
+pub made_fails : {X Y E : Type 0} (e : Error) (made : Error → E → Type 0) (view : X → Y) (r : Result X E) (old new : Reading) (m : Reads Y) → IsErrAnd r (made e) → Fails e (end_of_input old) m → GivesBy made view r old new m
+made_fails e made view (Ok x) old new m h f = absurd h
+made_fails e made view (Err x) old new m h f = (e, h, f)
+
+pub list_made_fails : {X A E : Type 0} (e : Error) (made : Error → E → Type 0) (view : X → List A) (r : Result (X × Span) E) (old new : Reading) (m : Reads (Listed A)) → IsErrAnd r (made e) → Fails e (end_of_input old) m → TakesListBy made view r old new m
+list_made_fails e made view (Ok x) old new m h f = absurd h
+list_made_fails e made view (Err x) old new m h f = (e, h, f)
 
 ok_same : {A : Type 0} (a b : A) → ◌≡◌ {A = Result A Stop} (Ok a) (Ok b) → a ≡ b
 ok_same a b h = cc
@@ -291,38 +284,39 @@ token_less k (y ∷ ys) x rest h = go (is_token k y.token) (valid k y.text) h
     go true false h = absurd cc
     go false c h = absurd cc
 
--- none of the tokens of a list is next
-pub no_item_fails : {A : Type 0} (s : Sym) (k : Token) → closes s ≡ Some k → (e : Error) (l : Reading) (r : Result A Stop) → r ≡ refuse (left l) (map can (k ∷ begins s)) → told_by e ≡ told_of (tried (k ∷ begins s) (looked l)) → Fails e (end_of_input l) r
-no_item_fails g.argument k h e l r is told = named_fail e l _ _ _ r is told
-no_item_fails g.variant_case k h e l r is told = named_fail e l _ _ _ r is told
-no_item_fails g.field k h e l r is told = named_fail e l _ _ _ r is told
-no_item_fails g.flag k h e l r is told = named_fail e l _ _ _ r is told
-no_item_fails g.enum_case k h e l r is told = named_fail e l _ _ _ r is told
-no_item_fails g.named_type k h e l r is told = named_fail e l _ _ _ r is told
-no_item_fails g.ty k h e l r is told = named_fail e l _ _ _ r is told
-no_item_fails g.use_item k h e l r is told = named_fail e l _ _ _ r is told
-no_item_fails g.include_item k h e l r is told = named_fail e l _ _ _ r is told
-no_item_fails _ k h e l r is told = absurd cc
+-- ---- an item in the place of a closing token
 
--- the same where the input ends behind an item
-pub over_fails : {A : Type 0} (s : Sym) (k : Token) → closes s ≡ Some k → (e : Error) (l : Reading) (r : Result A Stop) → r ≡ refuse (left l) (can k ∷ map follows (begins s)) → told_by e ≡ told_of (tried (k ∷ begins s) (looked l)) → Fails e (end_of_input l) r
-over_fails g.argument k h e l r is told = named_fail e l _ _ _ r is told
-over_fails g.variant_case k h e l r is told = named_fail e l _ _ _ r is told
-over_fails g.field k h e l r is told = named_fail e l _ _ _ r is told
-over_fails g.flag k h e l r is told = named_fail e l _ _ _ r is told
-over_fails g.enum_case k h e l r is told = named_fail e l _ _ _ r is told
-over_fails g.named_type k h e l r is told = named_fail e l _ _ _ r is told
-over_fails g.ty k h e l r is told = named_fail e l _ _ _ r is told
-over_fails g.use_item k h e l r is told = named_fail e l _ _ _ r is told
-over_fails g.include_item k h e l r is told = named_fail e l _ _ _ r is told
-over_fails _ k h e l r is told = absurd cc
+pub item_there : {js : List Token} {found : Bool} (l : Reading) (s : Sym) (k : Token) → js ≡ begins s → found ≡ at_one_of js (left l) → found ≡ true → read_in read (g.sym s) (can k ∷ []) (left l) ≡ read s (left l)
+item_there l s k same is there = cond_true (at_one_of (begins s) (left l)) _ _ (ap (λ (ks : List Token). at_one_of ks (left l)) (back same) ∙ back is ∙ there)
+
+pub item_missing : {js : List Token} {found : Bool} (e : Error) (l : Reading) (s : Sym) (k : Token) → js ≡ begins s → found ≡ at_one_of js (left l) → found ≡ false → told_by e ≡ told_of (tried (k ∷ js) (looked l)) → Fails e (end_of_input l) (read_in read (g.sym s) (can k ∷ []) (left l))
+item_missing {js = js} e l s k same is missing tells_it =
+    no_item_fails e l (read_in read (g.sym s) (can k ∷ []) (left l)) s k (cond_false (at_one_of (begins s) (left l)) _ _ (ap (λ (ks : List Token). at_one_of ks (left l)) (back same) ∙ back is ∙ missing)) (tells_it ∙ ap (λ (ks : List Token). told_of (tried (k ∷ ks) (looked l))) same)
+
+-- the input ends behind an item
+pub rest_missing : {js : List Token} (e : Error) (l : Reading) (s : Sym) (k : Token) → closes s ≡ Some k → js ≡ begins s → has_more (left l) ≡ false → told_by e ≡ told_of (tried (k ∷ js) (looked l)) → Fails e (end_of_input l) (more_of s (left l))
+rest_missing e l s k listed same over tells_it = over_fails e l (more_of s (left l)) s k (rest_over (comma_list s k listed) (left l) over) (tells_it ∙ ap (λ (ks : List Token). told_of (tried (k ∷ ks) (looked l))) same)
+
+-- the list does not go on
+pub stops_there : {X A : Type 0} (e : Error) (list more : List Item → Reads (Listed A)) (r : Result X Error) (old new : Reading) → IsErrAnd r (λ x. x ≡ e) → Fails e (end_of_input old) (more (left old)) → GoesOn list more r old new
+stops_there e list more (Ok x) old new h f = absurd h
+stops_there e list more (Err x) old new h f = subst (λ (y : Error). Fails y (end_of_input old) (more (left old))) (back h) f
+
+-- what follows an item fails
+pub step_fails : {A : Type 0} {k : Token} {ks : List Token} {ri : List Item → Reads A} {rl rm : List Item → Reads (Listed A)} {a : A} (e : Error) (mid behind : Reading) → IsList k ks ri rl rm → at k (left mid) ≡ false
+    → (read_sym ri ks (can k ∷ []) (left mid) ≡ Ok (a, left behind)) × (end_of_input behind ≡ end_of_input mid) → Fails e (end_of_input behind) (rm (left behind)) → Fails e (end_of_input mid) (rl (left mid))
+step_fails {rl = rl} {rm = rm} {a = a} e mid behind list h r f =
+    same_fails e (end_of_input mid) (rl (left mid)) _ (item_put list h r.0) (fails_bind e (end_of_input mid) (rm (left behind)) _ (moved_end e (end_of_input behind) (end_of_input mid) (rm (left behind)) r.1 f))
+
+-- an item takes something
+pub item_less : (s : Sym) (k : Token) (xs : List Item) (t : g.TreeOf s) (ys : List Item) → read_in read (g.sym s) (can k ∷ []) xs ≡ Ok (t, ys) → empty s ≡ false → length ys < length xs
+item_less s k xs t ys r some = go (at_one_of (begins s) xs) r
+  where
+    go : (b : Bool) → cond {A = Reads (g.TreeOf s)} b (read s xs) (refuse xs (can k ∷ map can (begins s))) ≡ Ok (t, ys) → length ys < length xs
+    go true h = takes_some s xs t ys h some
+    go false h = absurd cc
 
 -- ---- a body that may not be empty
-
--- an empty body is told
-pub empty_fails : {A : Type 0} (e : Error) (end : End) (xs : List Item) (b : Body) (r : Result A Stop) → r ≡ Err (record { left = xs; expected = []; why = empty_body b }) → told_by e ≡ empty_type (body_name b) (part_name b) (first_span xs) → Fails e end r
-unfolding told
-empty_fails e end xs b r is told_is = same_fails e end r _ is (inr (ap Some (back told_is)))
 
 unmapped_told : {A B : Type 0} (e : Error) (end : End) (f : A → B) (m : Result (A × List Item) Stop) → Fails e end (mapped f m) → Fails e end m
 unmapped_told e end f m (inl memory) = inl memory
@@ -330,14 +324,30 @@ unmapped_told e end f (Ok x) (inr h) = absurd cc
 unmapped_told e end f (Err s) (inr h) = inr h
 
 -- what fails as a list fails as a body that is not empty
-pub body_fails : {A : Type 0} (k : Token) (ks : List Token) (ri : List Item → Reads A) (rl rm : List Item → Reads (Listed A)) → IsCommaList k ks ri rl rm → (e : Error) (end : End) (xs : List Item) → at k xs ≡ false → Fails e end (rl xs) → Fails e end (two (read_sym ri ks (closing k ∷ []) xs) (λ a. rm))
+pub body_fails : {A : Type 0} {k : Token} {ks : List Token} {ri : List Item → Reads A} {rl rm : List Item → Reads (Listed A)} (e : Error) (end : End) (xs : List Item) → IsList k ks ri rl rm → at k xs ≡ false → Fails e end (rl xs) → Fails e end (two (read_sym ri ks (closing k ∷ []) xs) (λ a. rm))
 unfolding told
-body_fails {A = A} k ks ri rl rm list e end xs shut f =
-    go (at_one_of ks xs) (unmapped_told {A = A × Listed A} {B = Listed A} e end (λ p. (p.0 ∷ p.1.0, p.1.1)) (two (read_sym ri ks (can k ∷ []) xs) (λ a. rm)) (subst (λ (m : Reads (Listed A)). Fails e end m) (list.items xs ∙ cond_false (at k xs) _ _ shut) f))
+body_fails {A = A} {k = k} {ks = ks} {ri = ri} {rl = rl} {rm = rm} e end xs list shut f =
+    go (at_one_of ks xs) (unmapped_told {A = A × Listed A} {B = Listed A} e end (λ p. (p.0 ∷ p.1.0, p.1.1)) (two (read_sym ri ks (can k ∷ []) xs) (λ a. rm)) (subst (λ (m : Reads (Listed A)). Fails e end m) (list_open list xs shut) f))
   where
     go : (b : Bool) → Fails e end (two (cond {A = Reads A} b (ri xs) (refuse xs (can k ∷ map can ks))) (λ a. rm)) → Fails e end (two (cond {A = Reads A} b (ri xs) (refuse xs (closing k ∷ map can ks))) (λ a. rm))
     go true h = h
     go false h = h
+
+-- a list that is not empty, as its first item and what follows it
+pub filled_ends : {A : Type 0} {k : Token} {ks : List Token} {ri : List Item → Reads A} {rl rm : List Item → Reads (Listed A)} {xs ys : List Item} {front : List A} {last : Item} → IsList k ks ri rl rm → at k xs ≡ false → rl xs ≡ Ok ((front, last), ys)
+    → (x : A) × (others : List A) × (two (read_sym ri ks (closing k ∷ []) xs) (λ a. rm) ≡ Ok ((x, (others, last)), ys)) × (x ∷ others ≡ front)
+filled_ends {A = A} {k = k} {ks = ks} {ri = ri} {rl = rl} {rm = rm} {xs = xs} {ys = ys} {front = front} {last = last} list shut r = by (at_one_of ks xs) (back (list_open list xs shut) ∙ r)
+  where
+    by : (b : Bool) → mapped {A = A × Listed A} {B = Listed A} (λ p. (p.0 ∷ p.1.0, p.1.1)) (two (cond {A = Reads A} b (ri xs) (refuse xs (can k ∷ map can ks))) (λ a. rm)) ≡ Ok ((front, last), ys)
+        → (x : A) × (others : List A) × (two (cond {A = Reads A} b (ri xs) (refuse xs (closing k ∷ map can ks))) (λ a. rm) ≡ Ok ((x, (others, last)), ys)) × (x ∷ others ≡ front)
+    by true h = apart (two (ri xs) (λ a. rm)) h
+      where
+        apart : (m : Reads (A × Listed A)) → mapped {A = A × Listed A} {B = Listed A} (λ p. (p.0 ∷ p.1.0, p.1.1)) m ≡ Ok ((front, last), ys) → (x : A) × (others : List A) × (m ≡ Ok ((x, (others, last)), ys)) × (x ∷ others ≡ front)
+        apart (Ok y) h =
+            let is = ok_same {A = Listed A × List Item} ((y.0.0 ∷ y.0.1.0, y.0.1.1), y.1) ((front, last), ys) h in
+            (y.0.0, y.0.1.0, ap (λ (q : Listed A × List Item). Ok ((y.0.0, (y.0.1.0, q.0.1)), q.1)) is, ap (λ (q : Listed A × List Item). q.0.0) is)
+        apart (Err s) h = absurd cc
+    by false h = absurd cc
 
 -- ---- a list whose closing token is taken apart
 
@@ -374,7 +384,7 @@ never_fails e end k (x ∷ xs) r p h f = go (subst (λ (m : Reads Item). Fails e
 
 by_rule : {A : Type 0} (k : Token) (ks : List Token) (ri : List Item → Reads A) (rl : List Item → Reads (Listed A))
     → ((xs : List Item) → rl xs ≡ mapped {B = Listed A} listed (cond (at_one_of (k ∷ []) xs) (mapped inl (read_token [] k xs)) (mapped inr (two (read_sym ri ks (can k ∷ []) xs) (λ a. rl)))))
-    → IsList k ks ri rl
+    → IsList k ks ri rl rl
 by_rule {A = A} k ks ri rl items = record { items = items_is }
   where
     items_is : (xs : List Item) → rl xs ≡ list_by k ks ri rl xs
@@ -385,7 +395,7 @@ by_rule {A = A} k ks ri rl items = record { items = items_is }
         (twice inr (listed {A = A}) (λ p. (p.0 ∷ p.1.0, p.1.1)) (λ p. refl) (two (read_sym ri ks (can k ∷ []) xs) (λ a. rl)))
 
 -- each is a list without commas
-pub body_list : (s : Sym) → repeats s ≡ true → IsList t.CloseBrace (begins s) (read s) (body_of s)
+pub body_list : (s : Sym) → repeats s ≡ true → IsList t.CloseBrace (begins s) (read s) (body_of s) (body_of s)
 body_list g.resource_method h = by_rule t.CloseBrace (begins g.resource_method) (read g.resource_method) (read g.methods) (read_is g.methods)
 body_list g.interface_item h = by_rule t.CloseBrace (begins g.interface_item) (read g.interface_item) (read g.interface_items) (read_is g.interface_items)
 body_list g.world_item h = by_rule t.CloseBrace (begins g.world_item) (read g.world_item) (read g.world_items) (read_is g.world_items)
@@ -396,19 +406,3 @@ body_item_is_some g.resource_method h = refl
 body_item_is_some g.interface_item h = refl
 body_item_is_some g.world_item h = refl
 body_item_is_some _ h = absurd cc
-
--- neither the closing brace nor an item is next
-pub body_no_item_fails : {A : Type 0} (s : Sym) → repeats s ≡ true → (e : Error) (l : Reading) (r : Result A Stop) → r ≡ refuse (left l) (map can (t.CloseBrace ∷ begins s)) → told_by e ≡ told_of (tried (t.CloseBrace ∷ begins s) (looked l)) → Fails e (end_of_input l) r
-body_no_item_fails g.resource_method h e l r is told = named_fail e l _ _ _ r is told
-body_no_item_fails g.interface_item h e l r is told = named_fail e l _ _ _ r is told
-body_no_item_fails g.world_item h e l r is told = named_fail e l _ _ _ r is told
-body_no_item_fails _ h e l r is told = absurd cc
-
-pub body_ends : {A : Type 0} (k : Token) (ks : List Token) (ri : List Item → Reads A) (rl : List Item → Reads (Listed A)) → IsList k ks ri rl → plain k ≡ true → (front : List A) (old new : Reading) → ListSoFar rl front old new → at k (left new) ≡ true → unclosed (rl (left old)) ≡ Ok (front, left new)
-body_ends {A = A} k ks ri rl list ok front old new so_far h = go (left new) refl h
-  where
-    go : (xs : List Item) → left new ≡ xs → at k xs ≡ true → unclosed (rl (left old)) ≡ Ok (front, left new)
-    go [] e h = absurd cc
-    go (x ∷ xs) e h =
-        let r : rl (left new) ≡ Ok (([], x), xs) = ap rl e ∙ plain_ended k ks ri rl list (x ∷ xs) x xs (taken k x xs ok h) h in
-        ap unclosed (list_ends rl front old new x xs so_far r) ∙ ap (λ (us : List Item). Ok (front, us)) (back e)

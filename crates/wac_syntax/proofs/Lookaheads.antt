@@ -1,14 +1,18 @@
 -- Where none of the tokens that were tried is next.
-use Rattle.std.proofs.Common.{◌≡◌, ℕ, suc, Bool, true, false, ◌||◌, cond, if◌then◌else◌, ◌<◌, ◌≤◌, ◌+◌, drop, get_or, ◌^◌, ◌-◌, min, arith, zero, List, [], ◌∷◌, ◌++◌, map, take, length, Option, Some, None, Result, Ok, Err, inr, refl, sym, ap, subst, ◌∙◌}
+use Rattle.std.proofs.Common.{◌≡◌, ℕ, suc, Bool, true, false, ◌||◌, cond, if◌then◌else◌, ◌<◌, ◌≤◌, ◌+◌, drop, get_or, ◌^◌, ◌-◌, min, arith, zero, ltb, append_assoc, List, [], ◌∷◌, ◌++◌, map, take, length, Option, Some, None, Result, Ok, Err, inr, refl, sym, ap, subst, ◌∙◌}
 use Rattle.std.proofs.Math.Seq.{drop-cons}
+use Rattle.std.proofs.lemmas.Bool.{ltb-true}
+use Rattle.std.proofs.lemmas.List.{append-nil}
 use Rattle.wac_lexer.specs.Span.{Span}
-use Rattle.wac_lexer.specs.Item.{Item, handed}
+use Rattle.wac_lexer.specs.Item.{Item, Handed, handed}
 use Rattle.wac_lexer.specs.Reading.{Reading, left, shown}
 use Rattle.wac_lexer.specs.declared.token.Token.{Token}
 use Rattle.wac_lexer.specs.declared.error.Error.{Error as LexError}
 use Rattle.wac_syntax.specs.declared.error.Error.{Error}
 use Rattle.wac_grammar.specs.Tokens.{at}
-use Rattle.wac_grammar.specs.Reading.{Stop, Tried, can, other, at_one_of, refuse}
+use Rattle.wac_grammar.specs.Grammar as g
+use Rattle.wac_grammar.specs.Grammar.{Sym}
+use Rattle.wac_grammar.specs.Reading.{Stop, Tried, can, follows, other, begins, at_one_of, refuse}
 use Rattle.wac_syntax.specs.Error.{Told, told_by, expected}
 use Rattle.wac_syntax.specs.Lookahead.{Looked, looked, is_next, is_one_of, tried, refusal, told_of, Peeks}
 use Rattle.wac_syntax.specs.Lists.{tells}
@@ -119,6 +123,62 @@ named_fail {A = A} e l a b ts r is h =
     let same = same_refusal (left l) (shown l.source l.last) (shown l.source (final_span l.last (left l))) (expected (take 10 names) (length names)) (last_of_none l.source l.last (left l)) in
     let counted : refusal (handed (left l)) (shown l.source (final_span l.last (left l))) (expected (take 10 names) (length names)) ≡ refusal (handed (left l)) (shown l.source (final_span l.last (left l))) (expected (take 10 names) (length (a ∷ b ∷ ts))) = ap (λ (n : ℕ). refusal (handed (left l)) (shown l.source (final_span l.last (left l))) (expected (take 10 names) n)) (length_names (a ∷ b ∷ ts)) in
     subst (λ (m : Result A Stop). Fails e (end_of_input l) m) (sym is) (inr (ap Some (sym (h ∙ same ∙ counted))))
+
+-- ---- the tokens that a symbol begins with
+
+take_front : {A : Type 0} (n : ℕ) (xs ys : List A) → take n (take n xs ++ ys) ≡ take n (xs ++ ys)
+take_front zero xs ys = refl
+take_front (suc n) [] ys = refl
+take_front {A = A} (suc n) (x ∷ xs) ys = ap (λ (l : List A). x ∷ l) (take_front n xs ys)
+
+told_tried : (next : Handed) (s : Span) (front ks : List Token) (n : ℕ) → n + length ks < 2 ^ 64 → told_of (tried ks (record { next = next; span = s; kept = take 10 front; count = n })) ≡ refusal next s (expected (take 10 (front ++ ks)) (n + length ks))
+told_tried next s front [] n few =
+    let none : n ≡ n + 0 = omega arith in
+    ap (λ (l : List Token). refusal next s (expected (take 10 l) n)) (sym (append-nil front)) ∙ ap (λ (m : ℕ). refusal next s (expected (take 10 (front ++ [])) m)) none
+told_tried next s front (k ∷ ks) n few =
+    let one : min (n + 1) (2 ^ 64 - 1) ≡ n + 1 = omega arith in
+    let more : n + 1 + length ks ≡ n + length (k ∷ ks) = omega arith in
+    let rest = told_tried next s (front ++ k ∷ []) ks (n + 1) (omega arith) in
+    ap (λ (l : List Token). told_of (tried ks (record { next = next; span = s; kept = l; count = min (n + 1) (2 ^ 64 - 1) }))) (take_front 10 front (k ∷ []))
+    ∙ ap (λ (m : ℕ). told_of (tried ks (record { next = next; span = s; kept = take 10 (front ++ k ∷ []); count = m }))) one
+    ∙ rest ∙ ap (λ (l : List Token). refusal next s (expected (take 10 l) (n + 1 + length ks))) (append_assoc front (k ∷ []) ks) ∙ ap (λ (m : ℕ). refusal next s (expected (take 10 (front ++ k ∷ ks)) m)) more
+
+begins_few : (s : Sym) → ltb (length (begins s)) 100 ≡ true
+begins_few g.document = refl
+begins_few _ = refl
+
+begins_some : (s : Sym) → ltb 0 (length (begins s)) ≡ true
+begins_some g.document = refl
+begins_some _ = refl
+
+-- neither this token nor one that the symbol begins with is next
+none_fails : {A : Type 0} (e : Error) (l : Reading) (r : Result A Stop) (s : Sym) (k : Token) (ts : List Tried) → r ≡ refuse (left l) (can k ∷ ts) → map (λ (t : Tried). t.token) ts ≡ begins s → told_by e ≡ told_of (tried (k ∷ begins s) (looked l)) → Fails e (end_of_input l) r
+none_fails {A = A} e l r s k ts is names tells_it = go ts is names
+  where
+    tells_all : told_by e ≡ tells l.source l.last (left l) (k ∷ begins s)
+    tells_all =
+        let few : length (begins s) < 100 = ltb-true (length (begins s)) 100 (begins_few s) in
+        let one : 0 + length (k ∷ begins s) ≡ length (k ∷ begins s) = omega arith in
+        tells_it ∙ told_tried (handed (left l)) (shown l.source l.last) [] (k ∷ begins s) 0 (omega arith) ∙ ap (λ (m : ℕ). refusal (handed (left l)) (shown l.source l.last) (expected (take 10 (k ∷ begins s)) m)) one
+
+    none : [] ≡ begins s → ⊥
+    none h = let some : 0 < length (begins s) = ltb-true 0 (length (begins s)) (begins_some s) in let m : 0 ≡ length (begins s) = ap (λ (js : List Token). length js) h in omega arith
+
+    go : (ts : List Tried) → r ≡ refuse (left l) (can k ∷ ts) → map (λ (t : Tried). t.token) ts ≡ begins s → Fails e (end_of_input l) r
+    go [] is names = absurd (none names)
+    go (b ∷ ts) is names = named_fail e l (can k) b ts r is (tells_all ∙ ap (λ (js : List Token). tells l.source l.last (left l) (k ∷ js)) (sym names))
+
+tokens_that_follow : (ks : List Token) → map (λ (t : Tried). t.token) (map follows ks) ≡ ks
+tokens_that_follow [] = refl
+tokens_that_follow (k ∷ ks) = ap (λ (l : List Token). k ∷ l) (tokens_that_follow ks)
+
+-- no item of a list
+pub no_item_fails : {A : Type 0} (e : Error) (l : Reading) (r : Result A Stop) (s : Sym) (k : Token) → r ≡ refuse (left l) (map can (k ∷ begins s)) → told_by e ≡ told_of (tried (k ∷ begins s) (looked l)) → Fails e (end_of_input l) r
+no_item_fails e l r s k is tells_it = none_fails e l r s k (map can (begins s)) is (tokens_of (begins s)) tells_it
+
+-- nothing behind an item
+pub over_fails : {A : Type 0} (e : Error) (l : Reading) (r : Result A Stop) (s : Sym) (k : Token) → r ≡ refuse (left l) (can k ∷ map follows (begins s)) → told_by e ≡ told_of (tried (k ∷ begins s) (looked l)) → Fails e (end_of_input l) r
+over_fails e l r s k is tells_it = none_fails e l r s k (map follows (begins s)) is (tokens_that_follow (begins s)) tells_it
 
 -- ---- tokens that are tried one after the other
 

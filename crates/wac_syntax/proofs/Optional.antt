@@ -1,11 +1,12 @@
 -- Parts that may be left out.
-use Rattle.std.proofs.Common.{◌≡◌, Bool, true, false, List, [], ◌∷◌, ◌⊎◌, inl, inr, Some, Result, Ok, Err, refl, sym as back, ap, ◌∙◌}
+use Rattle.std.proofs.Common.{◌≡◌, Bool, true, false, cond, ◌++◌, List, [], ◌∷◌, ◌⊎◌, inl, inr, Some, Result, Ok, Err, refl, sym as back, ap, ◌∙◌}
 use Rattle.wac_lexer.specs.Reading.{Reading, left}
 use Rattle.wac_lexer.specs.declared.token.Token.{Token}
 use Rattle.wac_syntax.specs.declared.error.Error.{Error}
-use Rattle.wac_grammar.specs.Tokens.{at}
+use Rattle.wac_lexer.specs.Item.{Item}
+use Rattle.wac_grammar.specs.Tokens.{at, is_token, valid}
 use Rattle.wac_grammar.specs.Grammar as g
-use Rattle.wac_grammar.specs.Reading.{Stop, mapped, read, read_in, read_token, not_fault}
+use Rattle.wac_grammar.specs.Reading.{Stop, Tried, can, version, refuse, mapped, read, read_in, read_token, at_one_of, not_fault}
 use Rattle.wac_syntax.specs.Answer.{End, end_of_input, Fails, Gives, TakesOptional, first_item}
 use Rattle.wac_syntax.specs.Lists.{Reads}
 use Rattle.wac_syntax.proofs.Lookaheads.{one_test}
@@ -35,8 +36,22 @@ pub gives_behind : {X Y : Type 0} (view : X → Y) (r : Result X Error) (old mid
 gives_behind view (Ok x) old mid new m n is ends gives = (is ∙ gives.0, gives.1 ∙ ends)
 gives_behind view (Err e) old mid new m n is ends gives = same_fails e (end_of_input old) n m is (moved_end e (end_of_input mid) (end_of_input old) m ends gives)
 
--- what fails once it is seen by a view fails
-pub unmapped : {A B : Type 0} (e : Error) (end : End) (f : A → B) (m : Reads A) → Fails e end (mapped f m) → Fails e end m
-unmapped e end f m (inl memory) = inl memory
-unmapped e end f (Ok x) (inr h) = absurd cc
-unmapped e end f (Err s) (inr h) = inr h
+-- ---- a token behind others that were tried
+
+-- a token that is there, whatever was tried before it
+pub token_there : (ts : List Tried) (k : Token) (xs : List Item) (r : Item × List Item) → read_token [] k xs ≡ Ok r → read_token ts k xs ≡ Ok r
+token_there ts k [] r h = absurd cc
+token_there ts k (x ∷ xs) r h = go (is_token k x.token) (valid k x.text) h
+  where
+    go : (b d : Bool) → cond {A = Result (Item × List Item) Stop} b (cond d (Ok (x, xs)) (Err (record { left = x ∷ xs; expected = can k ∷ []; why = version }))) (refuse (x ∷ xs) (can k ∷ [])) ≡ Ok r
+        → cond {A = Result (Item × List Item) Stop} b (cond d (Ok (x, xs)) (Err (record { left = x ∷ xs; expected = can k ∷ []; why = version }))) (refuse (x ∷ xs) (ts ++ (can k ∷ []))) ≡ Ok r
+    go true d h = h
+    go false d h = absurd cc
+
+pub token_missing : (ts : List Tried) (k : Token) (xs : List Item) → at_one_of (k ∷ []) xs ≡ false → read_token ts k xs ≡ refuse xs (ts ++ (can k ∷ []))
+token_missing ts k [] h = refl
+token_missing ts k (x ∷ xs) h = rw (none (is_token k x.token) h) refl
+  where
+    none : (b : Bool) → cond b true false ≡ false → b ≡ false
+    none true h = absurd cc
+    none false h = refl

@@ -25,26 +25,21 @@ abbrev pub rest_by : {A : Type 0} → Token → List Token → (List Item → Re
 rest_by close firsts list [] = refuse [] (can close ∷ map follows firsts)
 rest_by close firsts list (x ∷ xs) = cond (at close (x ∷ xs)) (mapped (λ y. ([], y)) (read_token [] close (x ∷ xs))) (mapped (λ p. p.1) (two (read_token [] t.Comma (x ∷ xs)) (λ a. list)))
 
+-- a list, as what follows an item is read
+pub record IsList {A : Type 0} (close : Token) (firsts : List Token) (item : List Item → Reads A) (list more : List Item → Reads (Listed A)) : Type 0 where
+  pub items : (xs : List Item) → list xs ≡ list_by close firsts item more xs
+
 -- a comma list
 pub record IsCommaList {A : Type 0} (close : Token) (firsts : List Token) (item : List Item → Reads A) (list more : List Item → Reads (Listed A)) : Type 0 where
-  pub items : (xs : List Item) → list xs ≡ list_by close firsts item more xs
+  pub is_list : IsList close firsts item list more
   pub rest : (xs : List Item) → more xs ≡ rest_by close firsts list xs
-
--- a list without commas
-pub record IsList {A : Type 0} (close : Token) (firsts : List Token) (item : List Item → Reads A) (list : List Item → Reads (Listed A)) : Type 0 where
-  pub items : (xs : List Item) → list xs ≡ list_by close firsts item list xs
 
 -- the items of a list, where the closing token is still to be taken
 abbrev pub unclosed : {A : Type 0} → Reads (Listed A) → Reads (List A)
 unclosed (Ok x) = Ok (x.0.0, x.0.1 ∷ x.1)
 unclosed (Err stop) = Err stop
 
--- A list was taken up to its closing token, whose span is answered beside its items.
-abbrev pub TakesList : {X A : Type 0} → (X → List A) → Result (X × Span) Error → Reading → Reading → Reads (Listed A) → Type 0
-TakesList view (Ok x) old new r = (last : Item) × (r ≡ Ok ((view x.0, last), left new)) × (x.1 ≡ last.span) × (end_of_input new ≡ end_of_input old)
-TakesList view (Err error) old new r = Fails error (end_of_input old) r
-
--- The same, where the error is made into another.
+-- A list was taken up to its closing token, whose span is answered beside its items; an error is made into another.
 abbrev pub TakesListBy : {X A E : Type 0} → (Error → E → Type 0) → (X → List A) → Result (X × Span) E → Reading → Reading → Reads (Listed A) → Type 0
 TakesListBy made view (Ok x) old new r = (last : Item) × (r ≡ Ok ((view x.0, last), left new)) × (x.1 ≡ last.span) × (end_of_input new ≡ end_of_input old)
 TakesListBy made view (Err x) old new r = (error : Error) × made error x × Fails error (end_of_input old) r
@@ -52,6 +47,11 @@ TakesListBy made view (Err x) old new r = (error : Error) × made error x × Fai
 abbrev pub GivesBy : {X Y E : Type 0} → (Error → E → Type 0) → (X → Y) → Result X E → Reading → Reading → Reads Y → Type 0
 GivesBy made view (Ok x) old new r = (r ≡ Ok (view x, left new)) × (end_of_input new ≡ end_of_input old)
 GivesBy made view (Err x) old new r = (error : Error) × made error x × Fails error (end_of_input old) r
+
+-- Behind an item the list goes on at the new place, or the error tells why it does not.
+abbrev pub GoesOn : {X A : Type 0} → (List Item → Reads (Listed A)) → (List Item → Reads (Listed A)) → Result X Error → Reading → Reading → Type 0
+GoesOn list more (Ok x) old new = (more (left old) ≡ list (left new)) × (end_of_input new ≡ end_of_input old)
+GoesOn list more (Err error) old new = Fails error (end_of_input old) (more (left old))
 
 -- ---- the comma lists of the grammar, by their items
 

@@ -1,16 +1,17 @@
 //! Lists up to a closing token.
 
-ghost use Rattle.std.specs.Prelude.{◌≡◌, ◌≤◌, ◌<◌, ◌^◌, ◌∷◌, true, false, map, Some, IfOk, OnOk};
+ghost use Rattle.std.specs.Prelude.{◌≡◌, ◌≤◌, ◌<◌, ◌^◌, [], ◌∷◌, true, false, length, map, Some, IfOk, OnOk};
 ghost use Rattle.wac_lexer.specs.Span.{end_of};
 ghost use Rattle.wac_lexer.specs.Reading.{left};
 ghost use Rattle.wac_grammar.specs.Tokens.{at};
-ghost use Rattle.wac_grammar.specs.Reading.{at_one_of, begins};
+ghost use Rattle.wac_grammar.specs.Grammar.{sym};
+ghost use Rattle.wac_grammar.specs.Reading.{at_one_of, begins, can, read, read_in};
 ghost use Rattle.wac_syntax.specs.Error.{told_by};
 ghost use Rattle.wac_syntax.specs.Lookahead.{looked, tried, told_of};
-ghost use Rattle.wac_syntax.specs.Lists.{TakesListBy, GivesBy, unclosed, list_of, closes, body_of, repeats};
+ghost use Rattle.wac_syntax.specs.Lists.{TakesListBy, GivesBy, GoesOn, unclosed, list_of, more_of, closes, body_of, repeats};
 ghost use Rattle.wac_lexer.specs.declared.token.Token.TheVariants as tokens;
 
-use crate::error::Error;
+use crate::error::{Error, ParseResult};
 use crate::lookahead::Lookahead;
 use crate::parse::{Parse, Peek, at, has_more, push, take_token};
 use std::alloc::Global;
@@ -36,6 +37,43 @@ pub fn no_item<T: Peek>(lexer: &Lexer, close: Token) -> Error
     lookahead.error()
 }
 
+/// An item of a list, in the place of its closing token.
+fn parse_item<'a, T: Parse<'a> + Peek + Drop, E: From<Error>>(
+    alloc: Global,
+    lexer: &mut Lexer<'a>,
+    close: Token,
+) -> Result<T, E>
+    requires open { at close (left lexer.old) ≡ false }
+    requires begins { T.firsts ≡ begins T.symbol }
+    ensures gives { GivesBy E.from_gives T.tree result lexer.old lexer.new (read_in read (sym T.symbol) (can close ∷ []) (left lexer.old)) }
+    ensures source { lexer.new.source ≡ lexer.old.source }
+    ensures moves { lexer.old.place ≤ lexer.new.place }
+{
+    if !begins::<T>(lexer) {
+        return Err(E::from(no_item::<T>(lexer, close)));
+    }
+    Ok(T::parse(alloc, lexer)?)
+}
+
+/// What stands behind an item of a comma list: the closing token, which stays, or a comma.
+pub fn take_comma<'a, T: Parse<'a> + Peek>(lexer: &mut Lexer<'a>, close: Token) -> ParseResult<()>
+    requires listed { closes T.symbol ≡ Some close }
+    requires begins { T.firsts ≡ begins T.symbol }
+    ensures gives { GoesOn (list_of T.symbol) (more_of T.symbol) result lexer.old lexer.new }
+    ensures source { lexer.new.source ≡ lexer.old.source }
+    ensures moves { lexer.old.place ≤ lexer.new.place }
+    ensures rest { IfOk result (λ _. length (left lexer.new) ≤ length (left lexer.old)) }
+{
+    if at(lexer, close) {
+        return Ok(());
+    }
+    if !has_more(lexer) {
+        return Err(no_item::<T>(lexer, close));
+    }
+    take_token(lexer, Token::Comma)?;
+    Ok(())
+}
+
 /// The items of a comma list, up to its closing token, which stays.
 fn parse_items<'a, T: Parse<'a> + Peek + Drop, E: From<Error>>(
     alloc: Global,
@@ -51,17 +89,8 @@ fn parse_items<'a, T: Parse<'a> + Peek + Drop, E: From<Error>>(
 {
     let mut items = Vec::new(alloc);
     while !at(lexer, until) {
-        if !begins::<T>(lexer) {
-            return Err(E::from(no_item::<T>(lexer, until)));
-        }
-        push(&mut items, T::parse(alloc, lexer)?)?;
-        if at(lexer, until) {
-            return Ok(items);
-        }
-        if !has_more(lexer) {
-            return Err(E::from(no_item::<T>(lexer, until)));
-        }
-        take_token(lexer, Token::Comma)?;
+        push(&mut items, parse_item::<T, Error>(alloc, lexer, until)?)?;
+        take_comma::<T>(lexer, until)?;
     }
     Ok(items)
 }
@@ -79,13 +108,9 @@ pub fn parse_list<'a, T: Parse<'a> + Peek + Drop, E: From<Error>>(
     ensures moves { lexer.old.place ≤ lexer.new.place }
     ensures fits { IfOk result (λ x. end_of x.1 < 2 ^ 64) }
 {
-    match parse_items::<T, E>(alloc, lexer, until) {
-        Ok(items) => {
-            let last = take_token(lexer, until)?;
-            Ok((items, last))
-        }
-        Err(error) => Err(error),
-    }
+    let items = parse_items::<T, Error>(alloc, lexer, until)?;
+    let last = take_token(lexer, until)?;
+    Ok((items, last))
 }
 
 /// The items of a body, up to its closing brace, which stays.
@@ -102,10 +127,10 @@ fn parse_each<'a, T: Parse<'a> + Peek + Drop, E: From<Error>>(
 {
     let mut items = Vec::new(alloc);
     while !at(lexer, Token::CloseBrace) {
-        if !begins::<T>(lexer) {
-            return Err(E::from(no_item::<T>(lexer, Token::CloseBrace)));
-        }
-        push(&mut items, T::parse(alloc, lexer)?)?;
+        push(
+            &mut items,
+            parse_item::<T, Error>(alloc, lexer, Token::CloseBrace)?,
+        )?;
     }
     Ok(items)
 }
@@ -122,11 +147,7 @@ pub fn parse_body<'a, T: Parse<'a> + Peek + Drop, E: From<Error>>(
     ensures moves { lexer.old.place ≤ lexer.new.place }
     ensures fits { IfOk result (λ x. end_of x.1 < 2 ^ 64) }
 {
-    match parse_each::<T, E>(alloc, lexer) {
-        Ok(items) => {
-            let last = take_token(lexer, Token::CloseBrace)?;
-            Ok((items, last))
-        }
-        Err(error) => Err(error),
-    }
+    let items = parse_each::<T, Error>(alloc, lexer)?;
+    let last = take_token(lexer, Token::CloseBrace)?;
+    Ok((items, last))
 }

@@ -51,6 +51,39 @@ impl fmt::Display for Expected<'_> {
     }
 }
 
+/// Displays that one token was expected where another was found.
+#[derive(Drop)]
+struct OneExpected {
+    expected: Token,
+    found: Option<Token>,
+}
+
+impl fmt::Display for OneExpected {
+    fn fmt<W: fmt::Write>(&self, f: &mut fmt::Formatter<W>) -> fmt::Result {
+        write!(f, "expected {}, found {}", self.expected, Found(self.found))
+    }
+}
+
+/// Displays that one of two tokens was expected where another was found.
+#[derive(Drop)]
+struct EitherExpected {
+    first: Token,
+    second: Token,
+    found: Option<Token>,
+}
+
+impl fmt::Display for EitherExpected {
+    fn fmt<W: fmt::Write>(&self, f: &mut fmt::Formatter<W>) -> fmt::Result {
+        write!(
+            f,
+            "expected {} or {}, found {}",
+            self.first,
+            self.second,
+            Found(self.found)
+        )
+    }
+}
+
 /// Why a text is no document.
 ///
 /// Spans are in bytes of the source.
@@ -65,7 +98,7 @@ pub enum Error {
         span: SourceSpan,
     },
     /// Another token was found where only one was expected.
-    #[error("expected {expected}, found {found}", found = Found(*.found))]
+    #[error("{told}", told = OneExpected {expected: *.expected, found: *.found})]
     Expected {
         /// The token that was expected.
         expected: Token,
@@ -75,7 +108,7 @@ pub enum Error {
         span: SourceSpan,
     },
     /// Another token was found where one of two was expected.
-    #[error("expected {first} or {second}, found {found}", found = Found(*.found))]
+    #[error("{told}", told = EitherExpected {first: *.first, second: *.second, found: *.found})]
     ExpectedEither {
         /// The token that was tried first.
         first: Token,

@@ -11,7 +11,7 @@ mod pieces;
 mod segments;
 mod version;
 
-pub use delimited::{begins, no_item, parse_body, parse_list};
+pub use delimited::{begins, no_item, parse_body, parse_list, take_comma};
 pub use error::{Error, ParseResult};
 pub use lookahead::Lookahead;
 pub use names::{DocComment, ExternName, Ident, String};
@@ -20,5 +20,5 @@ pub use parse::{
     Parse, Peek, at, at_second, boxed, has_more, join, parse_docs, parse_optional, parse_token,
     push, refuse_empty, take_optional, take_token,
 };
-pub use pieces::{parse_after, parse_before};
+pub use pieces::{BodyKind, parse_after, parse_before, parse_filled, take_word};
 pub use segments::SegmentSpans;

@@ -153,7 +153,6 @@ impl<'a> Parse<'a> for ExternName<'a> {
 
     ghost tree = { extern_name_of };
 
-    #[tactic(auto, using(wac_grammar::proofs::Fixed::read_is))]
     fn parse(alloc: Global, lexer: &mut Lexer<'a>) -> ParseResult<Self> {
         let mut lookahead = Lookahead::new(lexer);
         if Ident::peek(&mut lookahead) {

@@ -1,6 +1,10 @@
 -- A path of a world's item, by what follows its identifier.
 use Rattle.std.proofs.Common.{◌≡◌, List, [], ◌∷◌, Bool, true, false, cond, refl}
+use Rattle.wac_lexer.specs.declared.token.Token.{Token}
 use Rattle.wac_lexer.specs.declared.token.Token.TheVariants as t
+use Rattle.wac_lexer.specs.Reading.{Reading, left}
+use Rattle.wac_syntax.specs.Lookahead.{Looked, Peeks}
+use Rattle.wac_syntax.proofs.Lookaheads.{Looks, looks_on, tests}
 use Rattle.wac_lexer.specs.Item.{Item, behind_first}
 use Rattle.wac_grammar.specs.Tokens.{at, is_token}
 use Rattle.wac_grammar.specs.Tree.{Ident, NamedWorldItem, WorldItemPath}
@@ -23,3 +27,7 @@ path_with_type (x ∷ y ∷ xs) h k = path_named x y xs (is_ok_token t.Ident x.t
 pub path_without_type : (xs : List Item) → at_one_of (begins identifier) xs ≡ true → at t.Colon (behind_first xs) ≡ false → read world_item_path xs ≡ mapped {A = Ident} {B = WorldItemPath} WorldItemPath.ident (read identifier xs)
 path_without_type [] h k = absurd cc
 path_without_type (x ∷ xs) h k = path_ident x xs (is_ok_token t.Ident x.token (one (is_token t.Ident x.token) h)) k
+
+-- the second of two looks finds its tokens
+pub at_name : {l : Reading} {js ks : List Token} {look new newer : Looked} {found met : Bool} → Looks l [] look → Peeks js found look new → found ≡ false → Peeks ks met new newer → met ≡ true → at_one_of ks (left l) ≡ true
+at_name looks first missed second is = tests _ _ _ _ _ _ _ (looks_on _ _ _ _ _ _ looks first missed) second is

@@ -1,8 +1,9 @@
--- The last parts of productions.
-use Rattle.std.specs.Prelude.{List}
+-- Parts of productions, and what they give.
+use Rattle.std.specs.Prelude.{List, []}
+use Rattle.std.proofs.Common.{inl, inr}
 use Rattle.wac_lexer.specs.declared.token.Token.TheVariants as t
-use Rattle.wac_grammar.specs.Tree.{UseItem}
-use Rattle.wac_grammar.specs.Grammar.{use_items, Grammar, Parts, token, sym, ◌▸◌}
+use Rattle.wac_grammar.specs.Tree.{UseItem, WorldIncludeItem}
+use Rattle.wac_grammar.specs.Grammar.{use_items, include_items, Grammar, Parts, token, sym, optional, ◌▸◌}
 
 -- the items of a use, and the semicolon
 abbrev pub use_tail : Grammar
@@ -10,3 +11,11 @@ use_tail = token t.OpenBrace ▸ sym use_items ▸ token t.Semicolon
 
 abbrev pub tail_items : Parts use_tail → List UseItem
 tail_items p = p.1.0.0
+
+-- the new names of an inclusion
+abbrev pub with_part : Grammar
+with_part = optional (token t.WithKeyword ▸ token t.OpenBrace ▸ sym include_items)
+
+abbrev pub with_items : Parts with_part → List WorldIncludeItem
+with_items (inl p) = p.1.1.0
+with_items (inr none) = []

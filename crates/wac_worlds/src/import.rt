@@ -71,7 +71,6 @@ impl<'a> Parse<'a> for ImportType<'a> {
 
     ghost tree = { import_type_of };
 
-    #[tactic(auto, using(wac_grammar::proofs::Fixed::read_is))]
     fn parse(alloc: Global, lexer: &mut Lexer<'a>) -> ParseResult<Self> {
         let mut lookahead = Lookahead::new(lexer);
         if FuncType::peek(&mut lookahead) {

@@ -12,8 +12,8 @@ use std::alloc::Global;
 use wac_declarations::{FuncTypeRef, ItemTypeDecl};
 use wac_lexer::{Lexer, Token};
 use wac_syntax::{
-    DocComment, Error, Ident, Lookahead, PackagePath, Parse, ParseResult, Peek, boxed, parse_before, parse_body,
-    parse_docs, parse_list, take_optional, take_token,
+    DocComment, Error, Ident, Lookahead, PackagePath, Parse, ParseResult, Peek, boxed, parse_after,
+    parse_before, parse_body, parse_docs, parse_list, take_token,
 };
 
 /// A use of types of an interface.
@@ -78,7 +78,6 @@ impl<'a> Parse<'a> for UsePath<'a> {
 
     ghost tree = { use_path_of };
 
-    #[tactic(auto, using(wac_grammar::proofs::Fixed::read_is))]
     fn parse(alloc: Global, lexer: &mut Lexer<'a>) -> ParseResult<Self> {
         let mut lookahead = Lookahead::new(lexer);
         if PackagePath::peek(&mut lookahead) {
@@ -105,14 +104,9 @@ impl<'a> Parse<'a> for UseItem<'a> {
 
     ghost tree = { use_item_of };
 
-    #[tactic(auto, using(wac_grammar::proofs::Fixed::read_is))]
     fn parse(alloc: Global, lexer: &mut Lexer<'a>) -> ParseResult<Self> {
         let id = Parse::parse(alloc, lexer)?;
-        let as_id = if take_optional(lexer, Token::AsKeyword)? {
-            Some(Parse::parse(alloc, lexer)?)
-        } else {
-            None
-        };
+        let as_id = parse_after::<Ident, Error>(alloc, lexer, Token::AsKeyword)?;
         Ok(UseItem { id, as_id })
     }
 }
@@ -143,7 +137,6 @@ impl<'a> Parse<'a> for InterfaceDecl<'a> {
 
     ghost tree = { interface_decl_of };
 
-    #[tactic(auto, using(wac_grammar::proofs::Fixed::read_is, wac_grammar::proofs::Docs::docs_of_token))]
     fn parse(alloc: Global, lexer: &mut Lexer<'a>) -> ParseResult<Self> {
         let docs = parse_docs(alloc, lexer)?;
         take_token(lexer, Token::InterfaceKeyword)?;
@@ -176,7 +169,6 @@ impl<'a> Parse<'a> for InlineInterface<'a> {
 
     ghost tree = { inline_interface_of };
 
-    #[tactic(auto, using(wac_grammar::proofs::Fixed::read_is))]
     fn parse(alloc: Global, lexer: &mut Lexer<'a>) -> ParseResult<Self> {
         take_token(lexer, Token::InterfaceKeyword)?;
         take_token(lexer, Token::OpenBrace)?;
@@ -211,7 +203,6 @@ impl<'a> Parse<'a> for InterfaceItem<'a> {
 
     ghost tree = { interface_item_of };
 
-    #[tactic(auto, using(wac_grammar::proofs::Fixed::read_is))]
     fn parse(alloc: Global, lexer: &mut Lexer<'a>) -> ParseResult<Self> {
         let mut lookahead = Lookahead::new(lexer);
         if Use::peek(&mut lookahead) {

@@ -1,9 +1,11 @@
 //! Worlds.
 
-ghost use Rattle.std.specs.Prelude.{◌≡◌};
+ghost use Rattle.std.specs.Prelude.{◌≡◌, ◌≤◌, map};
 ghost use Rattle.wac_grammar.specs.Grammar as symbols;
 ghost use Rattle.wac_grammar.specs.Reading.{begins};
 ghost use Rattle.wac_syntax.specs.Lookahead.{Peeks};
+ghost use Rattle.wac_syntax.specs.Pieces.{GivesPart};
+ghost use Rattle.wac_worlds.specs.Tails.{with_part, with_items};
 ghost use Rattle.wac_worlds.specs.Worlds.{world_ref_of, world_include_item_of, extern_type_of, named_world_item_of, world_item_path_of, world_import_of, world_export_of, world_include_of, world_item_of, world_decl_of, world_ref_name, world_ref_span};
 
 use crate::interface::{InlineInterface, Use};
@@ -12,7 +14,7 @@ use wac_declarations::{FuncType, ItemTypeDecl};
 use wac_lexer::{Lexer, SourceSpan, Token};
 use wac_syntax::{
     DocComment, Error, Ident, Lookahead, PackagePath, Parse, ParseResult, Peek, at_second,
-    parse_body, parse_docs, parse_list, take_optional, take_token,
+    parse_before, parse_body, parse_docs, parse_list, take_optional, take_token,
 };
 
 /// Where an included world is found.
@@ -51,7 +53,6 @@ impl<'a> Parse<'a> for WorldRef<'a> {
 
     ghost tree = { world_ref_of };
 
-    #[tactic(auto, using(wac_grammar::proofs::Fixed::read_is))]
     fn parse(alloc: Global, lexer: &mut Lexer<'a>) -> ParseResult<Self> {
         let mut lookahead = Lookahead::new(lexer);
         if PackagePath::peek(&mut lookahead) {
@@ -78,7 +79,6 @@ impl<'a> Parse<'a> for WorldIncludeItem<'a> {
 
     ghost tree = { world_include_item_of };
 
-    #[tactic(auto, using(wac_grammar::proofs::Fixed::read_is))]
     fn parse(alloc: Global, lexer: &mut Lexer<'a>) -> ParseResult<Self> {
         let from = Parse::parse(alloc, lexer)?;
         take_token(lexer, Token::AsKeyword)?;
@@ -113,7 +113,6 @@ impl<'a> Parse<'a> for WorldDecl<'a> {
 
     ghost tree = { world_decl_of };
 
-    #[tactic(auto, using(wac_grammar::proofs::Fixed::read_is, wac_grammar::proofs::Docs::docs_of_token))]
     fn parse(alloc: Global, lexer: &mut Lexer<'a>) -> ParseResult<Self> {
         let docs = parse_docs(alloc, lexer)?;
         take_token(lexer, Token::WorldKeyword)?;
@@ -154,7 +153,6 @@ impl<'a> Parse<'a> for WorldItem<'a> {
 
     ghost tree = { world_item_of };
 
-    #[tactic(auto, using(wac_grammar::proofs::Fixed::read_is))]
     fn parse(alloc: Global, lexer: &mut Lexer<'a>) -> ParseResult<Self> {
         let mut lookahead = Lookahead::new(lexer);
         if Use::peek(&mut lookahead) {
@@ -201,12 +199,10 @@ impl<'a> Parse<'a> for WorldImport<'a> {
 
     ghost tree = { world_import_of };
 
-    #[tactic(auto, using(wac_grammar::proofs::Fixed::read_is, wac_grammar::proofs::Docs::docs_of_token))]
     fn parse(alloc: Global, lexer: &mut Lexer<'a>) -> ParseResult<Self> {
         let docs = parse_docs(alloc, lexer)?;
         take_token(lexer, Token::ImportKeyword)?;
-        let path = Parse::parse(alloc, lexer)?;
-        take_token(lexer, Token::Semicolon)?;
+        let path = parse_before::<WorldItemPath, Error>(alloc, lexer, Token::Semicolon)?;
         Ok(WorldImport { docs, path })
     }
 }
@@ -235,12 +231,10 @@ impl<'a> Parse<'a> for WorldExport<'a> {
 
     ghost tree = { world_export_of };
 
-    #[tactic(auto, using(wac_grammar::proofs::Fixed::read_is, wac_grammar::proofs::Docs::docs_of_token))]
     fn parse(alloc: Global, lexer: &mut Lexer<'a>) -> ParseResult<Self> {
         let docs = parse_docs(alloc, lexer)?;
         take_token(lexer, Token::ExportKeyword)?;
-        let path = Parse::parse(alloc, lexer)?;
-        take_token(lexer, Token::Semicolon)?;
+        let path = parse_before::<WorldItemPath, Error>(alloc, lexer, Token::Semicolon)?;
         Ok(WorldExport { docs, path })
     }
 }
@@ -271,7 +265,6 @@ impl<'a> Parse<'a> for WorldItemPath<'a> {
 
     ghost tree = { world_item_path_of };
 
-    #[tactic(auto, using(wac_grammar::proofs::Fixed::read_is))]
     fn parse(alloc: Global, lexer: &mut Lexer<'a>) -> ParseResult<Self> {
         let mut lookahead = Lookahead::new(lexer);
         if PackagePath::peek(&mut lookahead) {
@@ -302,7 +295,6 @@ impl<'a> Parse<'a> for NamedWorldItem<'a> {
 
     ghost tree = { named_world_item_of };
 
-    #[tactic(auto, using(wac_grammar::proofs::Fixed::read_is))]
     fn parse(alloc: Global, lexer: &mut Lexer<'a>) -> ParseResult<Self> {
         let id = Parse::parse(alloc, lexer)?;
         take_token(lexer, Token::Colon)?;
@@ -337,7 +329,6 @@ impl<'a> Parse<'a> for ExternType<'a> {
 
     ghost tree = { extern_type_of };
 
-    #[tactic(auto, using(wac_grammar::proofs::Fixed::read_is))]
     fn parse(alloc: Global, lexer: &mut Lexer<'a>) -> ParseResult<Self> {
         let mut lookahead = Lookahead::new(lexer);
         if Ident::peek(&mut lookahead) {
@@ -368,21 +359,28 @@ impl<'a> Parse<'a> for WorldInclude<'a> {
 
     ghost tree = { world_include_of };
 
-    #[tactic(auto, using(wac_grammar::proofs::Fixed::read_is, wac_grammar::proofs::Docs::docs_of_token))]
     fn parse(alloc: Global, lexer: &mut Lexer<'a>) -> ParseResult<Self> {
         let docs = parse_docs(alloc, lexer)?;
         take_token(lexer, Token::IncludeKeyword)?;
         let world = Parse::parse(alloc, lexer)?;
-        let with = if take_optional(lexer, Token::WithKeyword)? {
-            take_token(lexer, Token::OpenBrace)?;
-            let (with, _) = parse_list::<WorldIncludeItem, Error>(alloc, lexer, Token::CloseBrace)?;
-            with
-        } else {
-            Vec::new(alloc)
-        };
+        let with = parse_with(alloc, lexer)?;
         take_token(lexer, Token::Semicolon)?;
         Ok(WorldInclude { docs, world, with })
     }
+}
+
+/// The new names behind `with`, where it is next.
+fn parse_with<'a>(alloc: Global, lexer: &mut Lexer<'a>) -> ParseResult<Vec<WorldIncludeItem<'a>>>
+    ensures gives { GivesPart with_part with_items (λ e x. x ≡ e) (λ v. map world_include_item_of v.items) result lexer.old lexer.new }
+    ensures source { lexer.new.source ≡ lexer.old.source }
+    ensures moves { lexer.old.place ≤ lexer.new.place }
+{
+    if !take_optional(lexer, Token::WithKeyword)? {
+        return Ok(Vec::new(alloc));
+    }
+    take_token(lexer, Token::OpenBrace)?;
+    let (with, _) = parse_list::<WorldIncludeItem, Error>(alloc, lexer, Token::CloseBrace)?;
+    Ok(with)
 }
 
 impl<'a> Peek for WorldInclude<'a> {

@@ -1,4 +1,4 @@
-use Rattle.std.proofs.Common.{◌≡◌, ◌≤◌, ◌*◌, map, length}
+use Rattle.std.proofs.Common.{◌≡◌, ◌≤◌, ◌*◌, ◌+◌, map, length}
 use Rattle.wac_lexer.specs.Reading.{left}
 use Rattle.wac_grammar.specs.Grammar as g
 use Rattle.wac_grammar.specs.Reading.{read, measure}
@@ -28,7 +28,10 @@ abbrev pub decreases-parse_tuple : goal.decreases-parse_tuple
 decreases-parse_tuple l = measure g.tuple_type (left l.lexer.now)
 
 abbrev pub decreases-parse_types : goal.decreases-parse_types
-decreases-parse_types l = measure g.types (left l.lexer.now)
+decreases-parse_types l = length (left l.lexer.now) * 5 + 3
+
+abbrev pub decreases-parse_listed : goal.decreases-parse_listed
+decreases-parse_listed l = length (left l.lexer.now) * 5 + 2
 
 abbrev pub invariant-parse_types-loop-alloc : goal.invariant-parse_types-loop-alloc
 invariant-parse_types-loop-alloc l = record {

@@ -25,7 +25,10 @@ abbrev pub decreases-ExprParse::parse : goal.decreases-ExprParse::parse
 decreases-ExprParse::parse l = length (left l.lexer.now) * 3 + 2
 
 abbrev pub decreases-parse_arguments : goal.decreases-parse_arguments
-decreases-parse_arguments l = length (left l.lexer.now) * 3 + 2
+decreases-parse_arguments l = length (left l.lexer.now) * 3 + 3
+
+abbrev pub decreases-parse_listed : goal.decreases-parse_listed
+decreases-parse_listed l = length (left l.lexer.now) * 3 + 2
 
 abbrev pub invariant-parse_arguments-loop-alloc : goal.invariant-parse_arguments-loop-alloc
 invariant-parse_arguments-loop-alloc l = record {

@@ -1,34 +1,19 @@
-use Rattle.std.proofs.Common.{refl, map, inl, ◌∙◌}
-use Rattle.wac_lexer.specs.declared.token.Token.TheVariants as tokens
-use Rattle.wac_lexer.specs.Reading.{left}
 use Rattle.wac_grammar.specs.Grammar.{export_statement}
-use Rattle.wac_syntax.specs.Names.{doc_comment_of}
-use Rattle.wac_grammar.proofs.Fixed.{read_is}
-use Rattle.wac_grammar.proofs.Docs.{docs_of_token}
-use Rattle.wac_syntax.proofs.Exits.{err_is, leaves, with_docs, here, last, past, took}
+use Rattle.wac_syntax.proofs.Exits as x
+use Rattle.wac_syntax.proofs.Yields as y
 use Rattle.wac_ast.proofs.export.ExportStatementParse.parse.Goals as goal
 
 pub returns-in_err-docs-clause-gives : goal.returns-in_err-docs-clause-gives
-returns-in_err-docs-clause-gives c = rw (err_is _ _ c.from_residual.ensures.1) (inl c.in_err-docs.ensures.refused)
+returns-in_err-docs-clause-gives c = x.exits export_statement _ _ _ c.from_residual.ensures.1 (x.memory c.in_err-docs.ensures.refused)
 
 pub returns-in_err-take_token-clause-gives : goal.returns-in_err-take_token-clause-gives
-returns-in_err-take_token-clause-gives c = rw (err_is _ _ c.from_residual-in_err-take_token.ensures.1) (leaves export_statement c.args.lexer.now _ (with_docs (here c.in_err-take_token.ensures.takes)))
+returns-in_err-take_token-clause-gives c = x.exits export_statement _ _ _ c.from_residual-in_err-take_token.ensures.1 (x.with_docs (x.here c.in_err-take_token.ensures.takes))
 
 pub returns-in_err-expr-clause-gives : goal.returns-in_err-expr-clause-gives
-returns-in_err-expr-clause-gives c = rw (err_is _ _ c.from_residual-in_err-expr.ensures.1) (leaves export_statement c.args.lexer.now _ (with_docs (took c.in_ok-take_token.ensures.takes (here c.in_err-expr.ensures.gives))))
+returns-in_err-expr-clause-gives c = x.exits export_statement _ _ _ c.from_residual-in_err-expr.ensures.1 (x.with_docs (x.took c.in_ok-take_token.ensures.takes (x.here c.in_err-expr.ensures.gives)))
 
 pub returns-in_err-options-clause-gives : goal.returns-in_err-options-clause-gives
-returns-in_err-options-clause-gives c = rw (err_is _ _ c.from_residual-in_err-options.ensures.1) (leaves export_statement c.args.lexer.now _ (with_docs (took c.in_ok-take_token.ensures.takes (past c.in_ok-expr.ensures.gives (here c.in_err-options.ensures.gives)))))
-
-pub returns-in_err-take_token-2-clause-gives : goal.returns-in_err-take_token-2-clause-gives
-returns-in_err-take_token-2-clause-gives c =
-    rw (err_is _ _ c.from_residual-in_err-take_token-2.ensures.1) (leaves export_statement c.args.lexer.now _ (with_docs (took c.in_ok-take_token.ensures.takes (past c.in_ok-expr.ensures.gives (past c.in_ok-options.ensures.gives (last c.in_err-take_token-2.ensures.takes))))))
+returns-in_err-options-clause-gives c = x.exits export_statement _ _ _ c.from_residual-in_err-options.ensures.1 (x.with_docs (x.took c.in_ok-take_token.ensures.takes (x.past c.in_ok-expr.ensures.gives (x.last_piece c.in_err-options.ensures.gives))))
 
 pub returns-clause-gives : goal.returns-clause-gives
-returns-clause-gives c =
-    let keyword = c.in_ok-take_token.ensures.takes in
-    let expr = c.in_ok-expr.ensures.gives in
-    let options = c.in_ok-options.ensures.gives in
-    let semicolon = c.in_ok-take_token-2.ensures.takes in
-    let docs = docs_of_token (left c.args.lexer.now) (map doc_comment_of c.in_ok-docs.docs.items) tokens.ExportKeyword _ _ c.in_ok-docs.ensures.docs keyword.0 in
-    (rw (read_is export_statement, docs, keyword.0, expr.0, options.0, semicolon.0) refl, semicolon.2 ∙ options.1 ∙ expr.1 ∙ keyword.2)
+returns-clause-gives c = y.gives export_statement (y.docs_took c.in_ok-docs.ensures.docs c.in_ok-take_token.ensures.takes (y.past c.in_ok-expr.ensures.gives (y.last_piece c.in_ok-options.ensures.gives))) (rw c.in_ok-options.ensures.gives.part.2)

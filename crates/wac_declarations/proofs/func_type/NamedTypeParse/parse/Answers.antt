@@ -1,18 +1,17 @@
-use Rattle.std.proofs.Common.{◌≡◌, ◌∙◌}
-use Rattle.std.proofs.lemmas.Result.{err_from_is_err_and}
+use Rattle.std.proofs.Common.{refl}
 use Rattle.wac_grammar.specs.Grammar.{named_type}
-use Rattle.wac_syntax.specs.Answer.{end_of_input}
-use Rattle.wac_grammar.proofs.Fixed.{read_is}
-use Rattle.wac_syntax.proofs.Loops.{fails_bind}
-use Rattle.wac_syntax.proofs.Lists.{moved_end}
+use Rattle.wac_syntax.proofs.Exits as x
+use Rattle.wac_syntax.proofs.Yields as y
 use Rattle.wac_declarations.proofs.func_type.NamedTypeParse.parse.Goals as goal
 
+pub returns-in_err-id-clause-gives : goal.returns-in_err-id-clause-gives
+returns-in_err-id-clause-gives c = x.exits named_type _ _ _ c.from_residual.ensures.1 (x.here c.in_err-id.ensures.gives)
+
+pub returns-in_err-take_token-clause-gives : goal.returns-in_err-take_token-clause-gives
+returns-in_err-take_token-clause-gives c = x.exits named_type _ _ _ c.from_residual-in_err-take_token.ensures.1 (x.past c.in_ok-id.ensures.gives (x.here c.in_err-take_token.ensures.takes))
+
 pub returns-in_err-ty-clause-gives : goal.returns-in_err-ty-clause-gives
-returns-in_err-ty-clause-gives c =
-    let p = err_from_is_err_and c.from_residual-in_err-ty.result c.from_residual-in_err-ty.ensures.1 in
-    let e = c.in_err-ty.field-0.0 in
-    let end = end_of_input c.args.lexer.now in
-    let name = c.in_ok-id.ensures.gives in
-    let colon = c.in_ok-take_token.ensures.takes in
-    let here = moved_end e (end_of_input c.take_token.new.lexer) end _ (colon.2 ∙ name.1) c.in_err-ty.ensures.gives in
-    rw (p.1, p.2, read_is named_type, name.0, colon.0) (fails_bind e end _ _ (fails_bind e end _ _ (fails_bind e end _ _ here)))
+returns-in_err-ty-clause-gives c = x.exits named_type _ _ _ c.from_residual-in_err-ty.ensures.1 (x.past c.in_ok-id.ensures.gives (x.took c.in_ok-take_token.ensures.takes (x.last c.in_err-ty.ensures.gives)))
+
+pub returns-clause-gives : goal.returns-clause-gives
+returns-clause-gives c = y.gives named_type (y.past c.in_ok-id.ensures.gives (y.took c.in_ok-take_token.ensures.takes (y.last c.in_ok-ty.ensures.gives))) refl

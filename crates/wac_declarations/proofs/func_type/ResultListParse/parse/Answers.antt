@@ -1,15 +1,14 @@
-use Rattle.std.proofs.Common.{◌≡◌, sym, ◌∙◌}
-use Rattle.std.proofs.lemmas.Result.{err_from_is_err_and}
+use Rattle.std.proofs.Common.{refl}
 use Rattle.wac_grammar.specs.Grammar.{result_list}
-use Rattle.wac_syntax.specs.Answer.{end_of_input}
-use Rattle.wac_grammar.proofs.Fixed.{read_is}
-use Rattle.wac_syntax.proofs.Loops.{fails_bind}
+use Rattle.wac_syntax.proofs.Exits as x
+use Rattle.wac_syntax.proofs.Yields as y
 use Rattle.wac_declarations.proofs.func_type.ResultListParse.parse.Goals as goal
 
 pub returns-in_err-parse-clause-gives : goal.returns-in_err-parse-clause-gives
-returns-in_err-parse-clause-gives c =
-    let p = err_from_is_err_and c.from_residual.result c.from_residual.ensures.1 in
-    let e = c.in_err-parse.field-0.0 in
-    let end = end_of_input c.args.lexer.now in
-    let begun = sym c.begins.ensures ∙ c.if-begins.true in
-    rw (p.1, p.2, read_is result_list, begun) (fails_bind e end _ _ (fails_bind e end _ _ c.in_err-parse.ensures.gives))
+returns-in_err-parse-clause-gives c = x.exits result_list _ _ _ c.from_residual.ensures.1 (x.chosen (x.tested c.begins.ensures c.if-begins.true) (x.last c.in_err-parse.ensures.gives))
+
+pub returns-then-begins-clause-gives : goal.returns-then-begins-clause-gives
+returns-then-begins-clause-gives c = y.gives result_list (y.chosen (x.tested c.begins.ensures c.if-begins.true) (y.last c.in_ok-parse.ensures.gives)) refl
+
+pub returns-clause-gives : goal.returns-clause-gives
+returns-clause-gives c = y.gives result_list (y.other (x.tested c.begins.ensures c.if-begins.false) y.nothing) refl

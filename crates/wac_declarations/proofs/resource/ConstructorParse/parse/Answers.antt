@@ -1,63 +1,22 @@
-use Rattle.std.proofs.Common.{◌≡◌, refl, sym, subst, map, ◌∙◌}
-use Rattle.std.proofs.lemmas.Result.{err_from_is_err_and}
-use Rattle.wac_syntax.specs.declared.error.Error.{Error}
-use Rattle.wac_grammar.specs.Reading.{read}
-use Rattle.wac_syntax.specs.Answer.{end_of_input, Fails}
-use Rattle.wac_syntax.proofs.Loops.{fails_bind}
-use Rattle.wac_syntax.proofs.Lists.{moved_end}
-use Rattle.wac_lexer.specs.declared.token.Token.TheVariants as tokens
-use Rattle.wac_lexer.specs.Reading.{left}
-use Rattle.wac_grammar.specs.Grammar.{constructor, params}
-use Rattle.wac_syntax.specs.Names.{doc_comment_of}
-use Rattle.wac_grammar.proofs.Docs.{docs_of_token}
-use Rattle.wac_grammar.proofs.Fixed.{read_is}
+use Rattle.wac_grammar.specs.Grammar.{constructor}
+use Rattle.wac_syntax.proofs.Exits as x
+use Rattle.wac_syntax.proofs.Yields as y
 use Rattle.wac_declarations.proofs.resource.ConstructorParse.parse.Goals as goal
 
-pub returns-clause-gives : goal.returns-clause-gives
-returns-clause-gives c =
-    let keyword = c.in_ok-span.ensures.takes in
-    let paren = c.in_ok-take_token.ensures.takes in
-    let items = c.in_ok-params.ensures.takes in
-    let semicolon = c.in_ok-take_token-2.ensures.takes in
-    let docs = docs_of_token (left c.args.lexer.now) (map doc_comment_of c.in_ok-docs.docs.items) tokens.ConstructorKeyword _ _ c.in_ok-docs.ensures.docs keyword.0 in
-    (rw (read_is constructor, docs, keyword.0, paren.0, items.1, semicolon.0, keyword.1) refl, semicolon.2 ∙ items.3 ∙ paren.2 ∙ keyword.2)
-
-pub returns-in_err-params-clause-gives : goal.returns-in_err-params-clause-gives
-returns-in_err-params-clause-gives c =
-    let p = err_from_is_err_and c.from_residual-in_err-params.result c.from_residual-in_err-params.ensures.1 in
-    let e = c.in_err-params.field-0.0 in
-    let l = c.take_token-2.new.lexer in
-    let end = end_of_input c.args.lexer.now in
-    let keyword = c.in_ok-span.ensures.takes in
-    let paren = c.in_ok-take_token.ensures.takes in
-    let told = c.in_err-params.ensures.takes in
-    let same : Fails e (end_of_input l) (read params (left l)) = subst (λ (x : Error). Fails x (end_of_input l) (read params (left l))) (sym told.1) told.2 in
-    let here = moved_end e (end_of_input l) end (read params (left l)) (paren.2 ∙ keyword.2) same in
-    rw (p.1, p.2, read_is constructor, keyword.0, paren.0) (fails_bind e end _ _ (fails_bind e end _ _ (fails_bind e end _ _ (fails_bind e end _ _ (fails_bind e end _ _ here)))))
+pub returns-in_err-docs-clause-gives : goal.returns-in_err-docs-clause-gives
+returns-in_err-docs-clause-gives c = x.exits constructor _ _ _ c.from_residual.ensures.1 (x.memory c.in_err-docs.ensures.refused)
 
 pub returns-in_err-span-clause-gives : goal.returns-in_err-span-clause-gives
-returns-in_err-span-clause-gives c =
-    let p = err_from_is_err_and c.from_residual-in_err-span.result c.from_residual-in_err-span.ensures.1 in
-    let e = c.in_err-span.field-0.0 in
-    let end = end_of_input c.args.lexer.now in
-    rw (p.1, p.2, read_is constructor) (fails_bind e end _ _ (fails_bind e end _ _ (fails_bind e end _ _ c.in_err-span.ensures.takes)))
+returns-in_err-span-clause-gives c = x.exits constructor _ _ _ c.from_residual-in_err-span.ensures.1 (x.with_docs (x.here c.in_err-span.ensures.takes))
 
 pub returns-in_err-take_token-clause-gives : goal.returns-in_err-take_token-clause-gives
-returns-in_err-take_token-clause-gives c =
-    let p = err_from_is_err_and c.from_residual-in_err-take_token.result c.from_residual-in_err-take_token.ensures.1 in
-    let e = c.in_err-take_token.field-0.0 in
-    let end = end_of_input c.args.lexer.now in
-    let keyword = c.in_ok-span.ensures.takes in
-    let here = moved_end e _ end _ (keyword.2) c.in_err-take_token.ensures.takes in
-    rw (p.1, p.2, read_is constructor, keyword.0) (fails_bind e end _ _ (fails_bind e end _ _ (fails_bind e end _ _ (fails_bind e end _ _ here))))
+returns-in_err-take_token-clause-gives c = x.exits constructor _ _ _ c.from_residual-in_err-take_token.ensures.1 (x.with_docs (x.took c.in_ok-span.ensures.takes (x.here c.in_err-take_token.ensures.takes)))
+
+pub returns-in_err-params-clause-gives : goal.returns-in_err-params-clause-gives
+returns-in_err-params-clause-gives c = x.exits constructor _ _ _ c.from_residual-in_err-params.ensures.1 (x.with_docs (x.took c.in_ok-span.ensures.takes (x.took c.in_ok-take_token.ensures.takes (x.here (x.same_error _ _ _ c.in_err-params.ensures.takes)))))
 
 pub returns-in_err-take_token-2-clause-gives : goal.returns-in_err-take_token-2-clause-gives
-returns-in_err-take_token-2-clause-gives c =
-    let p = err_from_is_err_and c.from_residual-in_err-take_token-2.result c.from_residual-in_err-take_token-2.ensures.1 in
-    let e = c.in_err-take_token-2.field-0.0 in
-    let end = end_of_input c.args.lexer.now in
-    let keyword = c.in_ok-span.ensures.takes in
-    let paren = c.in_ok-take_token.ensures.takes in
-    let items = c.in_ok-params.ensures.takes in
-    let here = moved_end e _ end _ (items.3 ∙ paren.2 ∙ keyword.2) c.in_err-take_token-2.ensures.takes in
-    rw (p.1, p.2, read_is constructor, keyword.0, paren.0, items.1) (fails_bind e end _ _ (fails_bind e end _ _ (fails_bind e end _ _ (fails_bind e end _ _ (fails_bind e end _ _ here)))))
+returns-in_err-take_token-2-clause-gives c = x.exits constructor _ _ _ c.from_residual-in_err-take_token-2.ensures.1 (x.with_docs (x.took c.in_ok-span.ensures.takes (x.took c.in_ok-take_token.ensures.takes (x.listed c.in_ok-params.ensures.takes (x.last c.in_err-take_token-2.ensures.takes)))))
+
+pub returns-clause-gives : goal.returns-clause-gives
+returns-clause-gives c = y.gives constructor (y.docs_took c.in_ok-docs.ensures.docs c.in_ok-span.ensures.takes (y.took c.in_ok-take_token.ensures.takes (y.listed c.in_ok-params.ensures.takes (y.last_took c.in_ok-take_token-2.ensures.takes)))) (rw c.in_ok-span.ensures.takes.1)

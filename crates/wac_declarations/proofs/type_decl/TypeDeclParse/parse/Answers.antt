@@ -1,143 +1,39 @@
-use Rattle.std.proofs.lemmas.Result.{err_from_is_err_and}
-use Rattle.wac_syntax.specs.Answer.{end_of_input}
-use Rattle.wac_syntax.proofs.Loops.{fails_bind}
-use Rattle.std.proofs.Common.{◌≡◌, refl}
+use Rattle.std.proofs.Common.{refl}
 use Rattle.wac_grammar.specs.Grammar.{type_decl}
-use Rattle.wac_grammar.proofs.Fixed.{read_is}
-use Rattle.wac_syntax.proofs.Lookaheads.{looks, looks_on, looks_fail, tests}
+use Rattle.wac_syntax.proofs.Lookaheads.{looks}
+use Rattle.wac_syntax.proofs.Exits as x
+use Rattle.wac_syntax.proofs.Yields as y
 use Rattle.wac_declarations.proofs.type_decl.TypeDeclParse.parse.Goals as goal
 
 pub returns-in_ok-parse-clause-gives : goal.returns-in_ok-parse-clause-gives
-returns-in_ok-parse-clause-gives c =
-    let begun = looks c.args.lexer.now _ c.new-lookahead.ensures in
-    let first = tests _ _ _ _ _ _ _ begun c.peek.ensures c.if-peek.true in
-    let parsed = c.in_ok-parse.ensures.gives in
-    (rw (read_is type_decl, first, parsed.0) refl, parsed.1)
+returns-in_ok-parse-clause-gives c = y.gives type_decl (y.meets (looks _ _ c.new-lookahead.ensures) c.peek.ensures c.if-peek.true c.in_ok-parse.ensures.gives) refl
 
 pub returns-in_ok-parse-2-clause-gives : goal.returns-in_ok-parse-2-clause-gives
-returns-in_ok-parse-2-clause-gives c =
-    let begun = looks c.args.lexer.now _ c.new-lookahead.ensures in
-    let no_first = tests _ _ _ _ _ _ _ begun c.peek.ensures c.if-peek.false in
-    let then_second = looks_on _ _ _ _ _ _ begun c.peek.ensures c.if-peek.false in
-    let second = tests _ _ _ _ _ _ _ then_second c.peek-else-peek.ensures c.if-peek-2.true in
-    let parsed = c.in_ok-parse-2.ensures.gives in
-    (rw (read_is type_decl, no_first, second, parsed.0) refl, parsed.1)
+returns-in_ok-parse-2-clause-gives c = y.gives type_decl (y.misses (looks _ _ c.new-lookahead.ensures) c.peek.ensures c.if-peek.false (λ l. y.meets l c.peek-else-peek.ensures c.if-peek-2.true c.in_ok-parse-2.ensures.gives)) refl
 
 pub returns-in_ok-parse-3-clause-gives : goal.returns-in_ok-parse-3-clause-gives
-returns-in_ok-parse-3-clause-gives c =
-    let begun = looks c.args.lexer.now _ c.new-lookahead.ensures in
-    let no_first = tests _ _ _ _ _ _ _ begun c.peek.ensures c.if-peek.false in
-    let then_second = looks_on _ _ _ _ _ _ begun c.peek.ensures c.if-peek.false in
-    let no_second = tests _ _ _ _ _ _ _ then_second c.peek-else-peek.ensures c.if-peek-2.false in
-    let then_third = looks_on _ _ _ _ _ _ then_second c.peek-else-peek.ensures c.if-peek-2.false in
-    let third = tests _ _ _ _ _ _ _ then_third c.peek-else-peek-2.ensures c.if-peek-3.true in
-    let parsed = c.in_ok-parse-3.ensures.gives in
-    (rw (read_is type_decl, no_first, no_second, third, parsed.0) refl, parsed.1)
+returns-in_ok-parse-3-clause-gives c = y.gives type_decl (y.misses (looks _ _ c.new-lookahead.ensures) c.peek.ensures c.if-peek.false (λ l. y.misses l c.peek-else-peek.ensures c.if-peek-2.false (λ m. y.meets m c.peek-else-peek-2.ensures c.if-peek-3.true c.in_ok-parse-3.ensures.gives))) refl
 
 pub returns-in_ok-parse-4-clause-gives : goal.returns-in_ok-parse-4-clause-gives
-returns-in_ok-parse-4-clause-gives c =
-    let begun = looks c.args.lexer.now _ c.new-lookahead.ensures in
-    let no_first = tests _ _ _ _ _ _ _ begun c.peek.ensures c.if-peek.false in
-    let then_second = looks_on _ _ _ _ _ _ begun c.peek.ensures c.if-peek.false in
-    let no_second = tests _ _ _ _ _ _ _ then_second c.peek-else-peek.ensures c.if-peek-2.false in
-    let then_third = looks_on _ _ _ _ _ _ then_second c.peek-else-peek.ensures c.if-peek-2.false in
-    let no_third = tests _ _ _ _ _ _ _ then_third c.peek-else-peek-2.ensures c.if-peek-3.false in
-    let then_fourth = looks_on _ _ _ _ _ _ then_third c.peek-else-peek-2.ensures c.if-peek-3.false in
-    let fourth = tests _ _ _ _ _ _ _ then_fourth c.peek-else-peek-3.ensures c.if-peek-4.true in
-    let parsed = c.in_ok-parse-4.ensures.gives in
-    (rw (read_is type_decl, no_first, no_second, no_third, fourth, parsed.0) refl, parsed.1)
+returns-in_ok-parse-4-clause-gives c = y.gives type_decl (y.misses (looks _ _ c.new-lookahead.ensures) c.peek.ensures c.if-peek.false (λ l. y.misses l c.peek-else-peek.ensures c.if-peek-2.false (λ m. y.misses m c.peek-else-peek-2.ensures c.if-peek-3.false (λ n. y.meets n c.peek-else-peek-3.ensures c.if-peek-4.true c.in_ok-parse-4.ensures.gives)))) refl
 
 pub returns-in_ok-parse-5-clause-gives : goal.returns-in_ok-parse-5-clause-gives
-returns-in_ok-parse-5-clause-gives c =
-    let begun = looks c.args.lexer.now _ c.new-lookahead.ensures in
-    let no_first = tests _ _ _ _ _ _ _ begun c.peek.ensures c.if-peek.false in
-    let then_second = looks_on _ _ _ _ _ _ begun c.peek.ensures c.if-peek.false in
-    let no_second = tests _ _ _ _ _ _ _ then_second c.peek-else-peek.ensures c.if-peek-2.false in
-    let then_third = looks_on _ _ _ _ _ _ then_second c.peek-else-peek.ensures c.if-peek-2.false in
-    let no_third = tests _ _ _ _ _ _ _ then_third c.peek-else-peek-2.ensures c.if-peek-3.false in
-    let then_fourth = looks_on _ _ _ _ _ _ then_third c.peek-else-peek-2.ensures c.if-peek-3.false in
-    let no_fourth = tests _ _ _ _ _ _ _ then_fourth c.peek-else-peek-3.ensures c.if-peek-4.false in
-    let then_fifth = looks_on _ _ _ _ _ _ then_fourth c.peek-else-peek-3.ensures c.if-peek-4.false in
-    let fifth = tests _ _ _ _ _ _ _ then_fifth c.peek-else-peek-4.ensures c.if-peek-5.true in
-    let parsed = c.in_ok-parse-5.ensures.gives in
-    (rw (read_is type_decl, no_first, no_second, no_third, no_fourth, fifth, parsed.0) refl, parsed.1)
-
-pub returns-else-peek-5-clause-gives : goal.returns-else-peek-5-clause-gives
-returns-else-peek-5-clause-gives c =
-    let begun = looks c.args.lexer.now _ c.new-lookahead.ensures in
-    let no_first = tests _ _ _ _ _ _ _ begun c.peek.ensures c.if-peek.false in
-    let then_second = looks_on _ _ _ _ _ _ begun c.peek.ensures c.if-peek.false in
-    let no_second = tests _ _ _ _ _ _ _ then_second c.peek-else-peek.ensures c.if-peek-2.false in
-    let then_third = looks_on _ _ _ _ _ _ then_second c.peek-else-peek.ensures c.if-peek-2.false in
-    let no_third = tests _ _ _ _ _ _ _ then_third c.peek-else-peek-2.ensures c.if-peek-3.false in
-    let then_fourth = looks_on _ _ _ _ _ _ then_third c.peek-else-peek-2.ensures c.if-peek-3.false in
-    let no_fourth = tests _ _ _ _ _ _ _ then_fourth c.peek-else-peek-3.ensures c.if-peek-4.false in
-    let then_fifth = looks_on _ _ _ _ _ _ then_fourth c.peek-else-peek-3.ensures c.if-peek-4.false in
-    let no_fifth = tests _ _ _ _ _ _ _ then_fifth c.peek-else-peek-4.ensures c.if-peek-5.false in
-    let then_sixth = looks_on _ _ _ _ _ _ then_fifth c.peek-else-peek-4.ensures c.if-peek-5.false in
-    looks_fail c.args.lexer.now _ _ _ _ c.error.result _ then_sixth c.error.ensures refl (rw (read_is type_decl, no_first, no_second, no_third, no_fourth, no_fifth) refl)
+returns-in_ok-parse-5-clause-gives c = y.gives type_decl (y.misses (looks _ _ c.new-lookahead.ensures) c.peek.ensures c.if-peek.false (λ l. y.misses l c.peek-else-peek.ensures c.if-peek-2.false (λ m. y.misses m c.peek-else-peek-2.ensures c.if-peek-3.false (λ n. y.misses n c.peek-else-peek-3.ensures c.if-peek-4.false (λ o. y.last_meets o c.peek-else-peek-4.ensures c.if-peek-5.true c.in_ok-parse-5.ensures.gives))))) refl
 
 pub returns-in_err-parse-clause-gives : goal.returns-in_err-parse-clause-gives
-returns-in_err-parse-clause-gives c =
-    let p = err_from_is_err_and c.from_residual.result c.from_residual.ensures.1 in
-    let e = c.in_err-parse.field-0.0 in
-    let end = end_of_input c.args.lexer.now in
-    let begun = looks c.args.lexer.now _ c.new-lookahead.ensures in
-    let first = tests _ _ _ _ _ _ _ begun c.peek.ensures c.if-peek.true in
-    rw (p.1, p.2, read_is type_decl, first) (fails_bind e end _ _ (fails_bind e end _ _ c.in_err-parse.ensures.gives))
+returns-in_err-parse-clause-gives c = x.exits type_decl _ _ _ c.from_residual.ensures.1 (x.meets (looks _ _ c.new-lookahead.ensures) c.peek.ensures c.if-peek.true c.in_err-parse.ensures.gives)
 
 pub returns-in_err-parse-2-clause-gives : goal.returns-in_err-parse-2-clause-gives
-returns-in_err-parse-2-clause-gives c =
-    let p = err_from_is_err_and c.from_residual-in_err-parse-2.result c.from_residual-in_err-parse-2.ensures.1 in
-    let e = c.in_err-parse-2.field-0.0 in
-    let end = end_of_input c.args.lexer.now in
-    let begun = looks c.args.lexer.now _ c.new-lookahead.ensures in
-    let no_first = tests _ _ _ _ _ _ _ begun c.peek.ensures c.if-peek.false in
-    let then_second = looks_on _ _ _ _ _ _ begun c.peek.ensures c.if-peek.false in
-    let second = tests _ _ _ _ _ _ _ then_second c.peek-else-peek.ensures c.if-peek-2.true in
-    rw (p.1, p.2, read_is type_decl, no_first, second) (fails_bind e end _ _ (fails_bind e end _ _ (fails_bind e end _ _ c.in_err-parse-2.ensures.gives)))
+returns-in_err-parse-2-clause-gives c = x.exits type_decl _ _ _ c.from_residual-in_err-parse-2.ensures.1 (x.misses (looks _ _ c.new-lookahead.ensures) c.peek.ensures c.if-peek.false (λ l. x.meets l c.peek-else-peek.ensures c.if-peek-2.true c.in_err-parse-2.ensures.gives))
 
 pub returns-in_err-parse-3-clause-gives : goal.returns-in_err-parse-3-clause-gives
-returns-in_err-parse-3-clause-gives c =
-    let p = err_from_is_err_and c.from_residual-in_err-parse-3.result c.from_residual-in_err-parse-3.ensures.1 in
-    let e = c.in_err-parse-3.field-0.0 in
-    let end = end_of_input c.args.lexer.now in
-    let begun = looks c.args.lexer.now _ c.new-lookahead.ensures in
-    let no_first = tests _ _ _ _ _ _ _ begun c.peek.ensures c.if-peek.false in
-    let then_second = looks_on _ _ _ _ _ _ begun c.peek.ensures c.if-peek.false in
-    let no_second = tests _ _ _ _ _ _ _ then_second c.peek-else-peek.ensures c.if-peek-2.false in
-    let then_third = looks_on _ _ _ _ _ _ then_second c.peek-else-peek.ensures c.if-peek-2.false in
-    let third = tests _ _ _ _ _ _ _ then_third c.peek-else-peek-2.ensures c.if-peek-3.true in
-    rw (p.1, p.2, read_is type_decl, no_first, no_second, third) (fails_bind e end _ _ (fails_bind e end _ _ (fails_bind e end _ _ (fails_bind e end _ _ c.in_err-parse-3.ensures.gives))))
+returns-in_err-parse-3-clause-gives c = x.exits type_decl _ _ _ c.from_residual-in_err-parse-3.ensures.1 (x.misses (looks _ _ c.new-lookahead.ensures) c.peek.ensures c.if-peek.false (λ l. x.misses l c.peek-else-peek.ensures c.if-peek-2.false (λ m. x.meets m c.peek-else-peek-2.ensures c.if-peek-3.true c.in_err-parse-3.ensures.gives)))
 
 pub returns-in_err-parse-4-clause-gives : goal.returns-in_err-parse-4-clause-gives
-returns-in_err-parse-4-clause-gives c =
-    let p = err_from_is_err_and c.from_residual-in_err-parse-4.result c.from_residual-in_err-parse-4.ensures.1 in
-    let e = c.in_err-parse-4.field-0.0 in
-    let end = end_of_input c.args.lexer.now in
-    let begun = looks c.args.lexer.now _ c.new-lookahead.ensures in
-    let no_first = tests _ _ _ _ _ _ _ begun c.peek.ensures c.if-peek.false in
-    let then_second = looks_on _ _ _ _ _ _ begun c.peek.ensures c.if-peek.false in
-    let no_second = tests _ _ _ _ _ _ _ then_second c.peek-else-peek.ensures c.if-peek-2.false in
-    let then_third = looks_on _ _ _ _ _ _ then_second c.peek-else-peek.ensures c.if-peek-2.false in
-    let no_third = tests _ _ _ _ _ _ _ then_third c.peek-else-peek-2.ensures c.if-peek-3.false in
-    let then_fourth = looks_on _ _ _ _ _ _ then_third c.peek-else-peek-2.ensures c.if-peek-3.false in
-    let fourth = tests _ _ _ _ _ _ _ then_fourth c.peek-else-peek-3.ensures c.if-peek-4.true in
-    rw (p.1, p.2, read_is type_decl, no_first, no_second, no_third, fourth) (fails_bind e end _ _ (fails_bind e end _ _ (fails_bind e end _ _ (fails_bind e end _ _ (fails_bind e end _ _ c.in_err-parse-4.ensures.gives)))))
+returns-in_err-parse-4-clause-gives c = x.exits type_decl _ _ _ c.from_residual-in_err-parse-4.ensures.1 (x.misses (looks _ _ c.new-lookahead.ensures) c.peek.ensures c.if-peek.false (λ l. x.misses l c.peek-else-peek.ensures c.if-peek-2.false (λ m. x.misses m c.peek-else-peek-2.ensures c.if-peek-3.false (λ n. x.meets n c.peek-else-peek-3.ensures c.if-peek-4.true c.in_err-parse-4.ensures.gives))))
 
 pub returns-in_err-parse-5-clause-gives : goal.returns-in_err-parse-5-clause-gives
-returns-in_err-parse-5-clause-gives c =
-    let p = err_from_is_err_and c.from_residual-in_err-parse-5.result c.from_residual-in_err-parse-5.ensures.1 in
-    let e = c.in_err-parse-5.field-0.0 in
-    let end = end_of_input c.args.lexer.now in
-    let begun = looks c.args.lexer.now _ c.new-lookahead.ensures in
-    let no_first = tests _ _ _ _ _ _ _ begun c.peek.ensures c.if-peek.false in
-    let then_second = looks_on _ _ _ _ _ _ begun c.peek.ensures c.if-peek.false in
-    let no_second = tests _ _ _ _ _ _ _ then_second c.peek-else-peek.ensures c.if-peek-2.false in
-    let then_third = looks_on _ _ _ _ _ _ then_second c.peek-else-peek.ensures c.if-peek-2.false in
-    let no_third = tests _ _ _ _ _ _ _ then_third c.peek-else-peek-2.ensures c.if-peek-3.false in
-    let then_fourth = looks_on _ _ _ _ _ _ then_third c.peek-else-peek-2.ensures c.if-peek-3.false in
-    let no_fourth = tests _ _ _ _ _ _ _ then_fourth c.peek-else-peek-3.ensures c.if-peek-4.false in
-    let then_fifth = looks_on _ _ _ _ _ _ then_fourth c.peek-else-peek-3.ensures c.if-peek-4.false in
-    let fifth = tests _ _ _ _ _ _ _ then_fifth c.peek-else-peek-4.ensures c.if-peek-5.true in
-    rw (p.1, p.2, read_is type_decl, no_first, no_second, no_third, no_fourth, fifth) (fails_bind e end _ _ (fails_bind e end _ _ (fails_bind e end _ _ (fails_bind e end _ _ (fails_bind e end _ _ c.in_err-parse-5.ensures.gives)))))
+returns-in_err-parse-5-clause-gives c = x.exits type_decl _ _ _ c.from_residual-in_err-parse-5.ensures.1 (x.misses (looks _ _ c.new-lookahead.ensures) c.peek.ensures c.if-peek.false (λ l. x.misses l c.peek-else-peek.ensures c.if-peek-2.false (λ m. x.misses m c.peek-else-peek-2.ensures c.if-peek-3.false (λ n. x.misses n c.peek-else-peek-3.ensures c.if-peek-4.false (λ o. x.last_meets o c.peek-else-peek-4.ensures c.if-peek-5.true c.in_err-parse-5.ensures.gives)))))
+
+pub returns-else-peek-5-clause-gives : goal.returns-else-peek-5-clause-gives
+returns-else-peek-5-clause-gives c = x.leaves type_decl _ (x.misses (looks _ _ c.new-lookahead.ensures) c.peek.ensures c.if-peek.false (λ l. x.misses l c.peek-else-peek.ensures c.if-peek-2.false (λ m. x.misses m c.peek-else-peek-2.ensures c.if-peek-3.false (λ n. x.misses n c.peek-else-peek-3.ensures c.if-peek-4.false (λ o. x.last_misses o c.peek-else-peek-4.ensures c.if-peek-5.false c.error.ensures refl refl refl)))))

@@ -1,30 +1,13 @@
-use Rattle.std.proofs.Common.{refl, ◌∙◌}
-use Rattle.std.proofs.lemmas.Result.{err_from_is_err_and}
 use Rattle.wac_grammar.specs.Grammar.{access_expr}
-use Rattle.wac_syntax.specs.Answer.{end_of_input}
-use Rattle.wac_grammar.proofs.Fixed.{read_is}
-use Rattle.wac_syntax.proofs.Loops.{fails_bind}
-use Rattle.wac_syntax.proofs.Lists.{moved_end}
+use Rattle.wac_syntax.proofs.Exits as x
+use Rattle.wac_syntax.proofs.Yields as y
 use Rattle.wac_expressions.proofs.expr.AccessExprParse.parse.Goals as goal
 
 pub returns-in_err-first-clause-gives : goal.returns-in_err-first-clause-gives
-returns-in_err-first-clause-gives c =
-    let p = err_from_is_err_and c.from_residual.result c.from_residual.ensures.1 in
-    let e = c.in_err-first.field-0.0 in
-    let end = end_of_input c.args.lexer.now in
-    rw (p.1, p.2, read_is access_expr) (fails_bind e end _ _ (fails_bind e end _ _ c.in_err-first.ensures.takes))
+returns-in_err-first-clause-gives c = x.exits access_expr _ _ _ c.from_residual.ensures.1 (x.here c.in_err-first.ensures.takes)
 
 pub returns-in_err-id-clause-gives : goal.returns-in_err-id-clause-gives
-returns-in_err-id-clause-gives c =
-    let p = err_from_is_err_and c.from_residual-in_err-id.result c.from_residual-in_err-id.ensures.1 in
-    let e = c.in_err-id.field-0.0 in
-    let end = end_of_input c.args.lexer.now in
-    let first = c.in_ok-first.ensures.takes in
-    let here = moved_end e _ end _ first.2 c.in_err-id.ensures.gives in
-    rw (p.1, p.2, read_is access_expr, first.0) (fails_bind e end _ _ (fails_bind e end _ _ here))
+returns-in_err-id-clause-gives c = x.exits access_expr _ _ _ c.from_residual-in_err-id.ensures.1 (x.took c.in_ok-first.ensures.takes (x.last c.in_err-id.ensures.gives))
 
 pub returns-clause-gives : goal.returns-clause-gives
-returns-clause-gives c =
-    let first = c.in_ok-first.ensures.takes in
-    let id = c.in_ok-id.ensures.gives in
-    (rw (read_is access_expr, first.0, id.0, c.join.ensures, first.1) refl, id.1 ∙ first.2)
+returns-clause-gives c = y.gives access_expr (y.took c.in_ok-first.ensures.takes (y.last c.in_ok-id.ensures.gives)) (rw (c.join.ensures, c.in_ok-first.ensures.takes.1))

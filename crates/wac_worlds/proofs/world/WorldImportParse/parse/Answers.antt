@@ -1,51 +1,16 @@
-use Rattle.std.proofs.Common.{◌∙◌, inl, refl, map}
-use Rattle.std.proofs.lemmas.Result.{err_from_is_err_and}
-use Rattle.wac_syntax.specs.Answer.{end_of_input}
-use Rattle.wac_syntax.proofs.Loops.{fails_bind}
-use Rattle.wac_syntax.proofs.Lists.{moved_end}
-use Rattle.wac_grammar.proofs.Fixed.{read_is}
 use Rattle.wac_grammar.specs.Grammar.{world_import}
-use Rattle.wac_lexer.specs.declared.token.Token.TheVariants as tokens
-use Rattle.wac_lexer.specs.Reading.{left}
-use Rattle.wac_syntax.specs.Names.{doc_comment_of}
-use Rattle.wac_grammar.proofs.Docs.{docs_of_token}
+use Rattle.wac_syntax.proofs.Exits as x
+use Rattle.wac_syntax.proofs.Yields as y
 use Rattle.wac_worlds.proofs.world.WorldImportParse.parse.Goals as goal
 
 pub returns-in_err-docs-clause-gives : goal.returns-in_err-docs-clause-gives
-returns-in_err-docs-clause-gives c =
-    let p = err_from_is_err_and c.from_residual.result c.from_residual.ensures.1 in
-    rw (p.1, p.2) (inl c.in_err-docs.ensures.refused)
+returns-in_err-docs-clause-gives c = x.exits world_import _ _ _ c.from_residual.ensures.1 (x.memory c.in_err-docs.ensures.refused)
 
 pub returns-in_err-take_token-clause-gives : goal.returns-in_err-take_token-clause-gives
-returns-in_err-take_token-clause-gives c =
-    let p = err_from_is_err_and c.from_residual-in_err-take_token.result c.from_residual-in_err-take_token.ensures.1 in
-    let e = c.in_err-take_token.field-0.0 in
-    let end = end_of_input c.args.lexer.now in
-    rw (p.1, p.2, read_is world_import) (fails_bind e end _ _ (fails_bind e end _ _ (fails_bind e end _ _ c.in_err-take_token.ensures.takes)))
+returns-in_err-take_token-clause-gives c = x.exits world_import _ _ _ c.from_residual-in_err-take_token.ensures.1 (x.with_docs (x.here c.in_err-take_token.ensures.takes))
 
 pub returns-in_err-path-clause-gives : goal.returns-in_err-path-clause-gives
-returns-in_err-path-clause-gives c =
-    let p = err_from_is_err_and c.from_residual-in_err-path.result c.from_residual-in_err-path.ensures.1 in
-    let e = c.in_err-path.field-0.0 in
-    let end = end_of_input c.args.lexer.now in
-    let keyword = c.in_ok-take_token.ensures.takes in
-    let here = moved_end e _ end _ keyword.2 c.in_err-path.ensures.gives in
-    rw (p.1, p.2, read_is world_import, keyword.0) (fails_bind e end _ _ (fails_bind e end _ _ (fails_bind e end _ _ (fails_bind e end _ _ here))))
-
-pub returns-in_err-take_token-2-clause-gives : goal.returns-in_err-take_token-2-clause-gives
-returns-in_err-take_token-2-clause-gives c =
-    let p = err_from_is_err_and c.from_residual-in_err-take_token-2.result c.from_residual-in_err-take_token-2.ensures.1 in
-    let e = c.in_err-take_token-2.field-0.0 in
-    let end = end_of_input c.args.lexer.now in
-    let keyword = c.in_ok-take_token.ensures.takes in
-    let path = c.in_ok-path.ensures.gives in
-    let here = moved_end e _ end _ (path.1 ∙ keyword.2) c.in_err-take_token-2.ensures.takes in
-    rw (p.1, p.2, read_is world_import, keyword.0, path.0) (fails_bind e end _ _ (fails_bind e end _ _ (fails_bind e end _ _ (fails_bind e end _ _ here))))
+returns-in_err-path-clause-gives c = x.exits world_import _ _ _ c.from_residual-in_err-path.ensures.1 (x.with_docs (x.took c.in_ok-take_token.ensures.takes (x.last_piece c.in_err-path.ensures.gives)))
 
 pub returns-clause-gives : goal.returns-clause-gives
-returns-clause-gives c =
-    let keyword = c.in_ok-take_token.ensures.takes in
-    let path = c.in_ok-path.ensures.gives in
-    let semicolon = c.in_ok-take_token-2.ensures.takes in
-    let docs = docs_of_token (left c.args.lexer.now) (map doc_comment_of c.in_ok-docs.docs.items) tokens.ImportKeyword _ _ c.in_ok-docs.ensures.docs keyword.0 in
-    (rw (read_is world_import, docs, keyword.0, path.0, semicolon.0) refl, semicolon.2 ∙ path.1 ∙ keyword.2)
+returns-clause-gives c = y.gives world_import (y.docs_took c.in_ok-docs.ensures.docs c.in_ok-take_token.ensures.takes (y.last_piece c.in_ok-path.ensures.gives)) (rw c.in_ok-path.ensures.gives.part.2)

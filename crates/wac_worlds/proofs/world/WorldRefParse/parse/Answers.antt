@@ -1,52 +1,21 @@
 use Rattle.std.proofs.Common.{refl}
 use Rattle.wac_grammar.specs.Grammar.{world_ref}
-use Rattle.wac_grammar.proofs.Fixed.{read_is}
-use Rattle.wac_syntax.proofs.Lookaheads.{looks, looks_on, looks_fail, tests}
-use Rattle.std.proofs.lemmas.Result.{err_from_is_err_and}
-use Rattle.wac_syntax.specs.Answer.{end_of_input}
-use Rattle.wac_syntax.proofs.Loops.{fails_bind}
+use Rattle.wac_syntax.proofs.Lookaheads.{looks}
+use Rattle.wac_syntax.proofs.Exits as x
+use Rattle.wac_syntax.proofs.Yields as y
 use Rattle.wac_worlds.proofs.world.WorldRefParse.parse.Goals as goal
 
 pub returns-in_ok-parse-clause-gives : goal.returns-in_ok-parse-clause-gives
-returns-in_ok-parse-clause-gives c =
-    let first = tests _ _ _ _ _ _ _ (looks c.args.lexer.now _ c.new-lookahead.ensures) c.peek.ensures c.if-peek.true in
-    let parsed = c.in_ok-parse.ensures.gives in
-    (rw (read_is world_ref, first, parsed.0) refl, parsed.1)
+returns-in_ok-parse-clause-gives c = y.gives world_ref (y.meets (looks _ _ c.new-lookahead.ensures) c.peek.ensures c.if-peek.true c.in_ok-parse.ensures.gives) refl
 
 pub returns-in_ok-parse-2-clause-gives : goal.returns-in_ok-parse-2-clause-gives
-returns-in_ok-parse-2-clause-gives c =
-    let begun = looks c.args.lexer.now _ c.new-lookahead.ensures in
-    let no_first = tests _ _ _ _ _ _ _ begun c.peek.ensures c.if-peek.false in
-    let then_second = looks_on _ _ _ _ _ _ begun c.peek.ensures c.if-peek.false in
-    let second = tests _ _ _ _ _ _ _ then_second c.peek-else-peek.ensures c.if-peek-2.true in
-    let parsed = c.in_ok-parse-2.ensures.gives in
-    (rw (read_is world_ref, no_first, second, parsed.0) refl, parsed.1)
-
-pub returns-else-peek-2-clause-gives : goal.returns-else-peek-2-clause-gives
-returns-else-peek-2-clause-gives c =
-    let begun = looks c.args.lexer.now _ c.new-lookahead.ensures in
-    let no_first = tests _ _ _ _ _ _ _ begun c.peek.ensures c.if-peek.false in
-    let then_second = looks_on _ _ _ _ _ _ begun c.peek.ensures c.if-peek.false in
-    let no_second = tests _ _ _ _ _ _ _ then_second c.peek-else-peek.ensures c.if-peek-2.false in
-    let tried = looks_on _ _ _ _ _ _ then_second c.peek-else-peek.ensures c.if-peek-2.false in
-    looks_fail c.args.lexer.now _ _ _ _ c.error.result _ tried c.error.ensures refl (rw (read_is world_ref, no_first, no_second) refl)
+returns-in_ok-parse-2-clause-gives c = y.gives world_ref (y.misses (looks _ _ c.new-lookahead.ensures) c.peek.ensures c.if-peek.false (λ l. y.last_meets l c.peek-else-peek.ensures c.if-peek-2.true c.in_ok-parse-2.ensures.gives)) refl
 
 pub returns-in_err-parse-clause-gives : goal.returns-in_err-parse-clause-gives
-returns-in_err-parse-clause-gives c =
-    let p = err_from_is_err_and c.from_residual.result c.from_residual.ensures.1 in
-    let e = c.in_err-parse.field-0.0 in
-    let end = end_of_input c.args.lexer.now in
-    let begun = looks c.args.lexer.now _ c.new-lookahead.ensures in
-    let first = tests _ _ _ _ _ _ _ begun c.peek.ensures c.if-peek.true in
-    rw (p.1, p.2, read_is world_ref, first) (fails_bind e end _ _ (fails_bind e end _ _ c.in_err-parse.ensures.gives))
+returns-in_err-parse-clause-gives c = x.exits world_ref _ _ _ c.from_residual.ensures.1 (x.meets (looks _ _ c.new-lookahead.ensures) c.peek.ensures c.if-peek.true c.in_err-parse.ensures.gives)
 
 pub returns-in_err-parse-2-clause-gives : goal.returns-in_err-parse-2-clause-gives
-returns-in_err-parse-2-clause-gives c =
-    let p = err_from_is_err_and c.from_residual-in_err-parse-2.result c.from_residual-in_err-parse-2.ensures.1 in
-    let e = c.in_err-parse-2.field-0.0 in
-    let end = end_of_input c.args.lexer.now in
-    let begun = looks c.args.lexer.now _ c.new-lookahead.ensures in
-    let no_first = tests _ _ _ _ _ _ _ begun c.peek.ensures c.if-peek.false in
-    let then_second = looks_on _ _ _ _ _ _ begun c.peek.ensures c.if-peek.false in
-    let second = tests _ _ _ _ _ _ _ then_second c.peek-else-peek.ensures c.if-peek-2.true in
-    rw (p.1, p.2, read_is world_ref, no_first, second) (fails_bind e end _ _ (fails_bind e end _ _ c.in_err-parse-2.ensures.gives))
+returns-in_err-parse-2-clause-gives c = x.exits world_ref _ _ _ c.from_residual-in_err-parse-2.ensures.1 (x.misses (looks _ _ c.new-lookahead.ensures) c.peek.ensures c.if-peek.false (λ l. x.last_meets l c.peek-else-peek.ensures c.if-peek-2.true c.in_err-parse-2.ensures.gives))
+
+pub returns-else-peek-2-clause-gives : goal.returns-else-peek-2-clause-gives
+returns-else-peek-2-clause-gives c = x.leaves world_ref _ (x.misses (looks _ _ c.new-lookahead.ensures) c.peek.ensures c.if-peek.false (λ l. x.last_misses l c.peek-else-peek.ensures c.if-peek-2.false c.error.ensures refl refl refl))
