@@ -7,3 +7,6 @@ pub mod Aliased
 pub mod Readings
 pub mod Moved
 pub mod Copied
+pub mod Origin
+pub mod Resources
+pub mod Packages
