@@ -8,5 +8,6 @@ pub mod Readings
 pub mod Moved
 pub mod Copied
 pub mod Origin
+pub mod Means
 pub mod Resources
 pub mod Packages
