@@ -8,3 +8,5 @@ pub mod Listed
 pub mod Tables
 pub mod Packages
 pub mod Renaming
+pub mod Shapes
+pub mod Parts

@@ -10,3 +10,6 @@ pub mod Package
 pub mod Growth
 pub mod Rules
 pub mod Equality
+pub mod Scope
+pub mod Steps
+pub mod Shape
