@@ -13,8 +13,8 @@ use Rattle.wac_resolution_rules.specs.Composition.{NodeForm, imported, definitio
 use Rattle.wac_resolution_rules.specs.Nodes.{is_alias_of, alias_in, with_alias, next_of}
 use Rattle.wac_resolution_rules.specs.Expressions.{At, at, accessed, alias_at, Accesses, Giving, nothing_given, given_too, spread_step, Spreads, spreads_of, Stands, PrimaryStands, Gives, GivesOne}
 use Rattle.wac_resolution_rules.specs.Statements.{name_imported, ExportsOne, ExportsBy, Goes, Composes}
-use Rattle.wac_resolution_rules.specs.Places.{identifier_of}
 use Rattle.wac_resolution_rules.specs.Sound.{IsAlias, is_same_alias, AliasesOnce}
+use Rattle.wac_resolution_rules.specs.Spans.{identifier_of}
 use Rattle.wac_resolution_rules.proofs.StatementsStop.{declares_what}
 use Rattle.wac_resolution_rules.proofs.ExpressionsKeep.{Keeps, keeps_stands, keeps_by}
 use Rattle.wac_resolution_rules.proofs.Fronts.{named_at_suc, all_to}

@@ -1,4 +1,4 @@
--- Where a rule on paths or bodies is broken, nothing is reached.
+-- A path or an item of a body that breaks a rule leads nowhere.
 use Rattle.std.proofs.Common.{◌≡◌, ◌⊎◌, inl, inr, ℕ, List, [], ◌∷◌, Some, None, Bool, true, false, sym, ◌∙◌, ap, subst}
 use Rattle.std.specs.Prelude.{option_map}
 use Rattle.wac_lexer.specs.Span.{Span}
@@ -16,7 +16,8 @@ use Rattle.wac_resolution_rules.specs.Types.{first_params}
 use Rattle.wac_resolution_rules.specs.Declarations.{in_body}
 use Rattle.wac_resolution_rules.specs.Paths.{Setting, is_own, key_of_path, segments_of, beginning_of, IsMember, LeadsFrom, LeadsTo, UseNames}
 use Rattle.wac_resolution_rules.specs.Bodies.{Body, externs, IsNew, constructor_name, method_name, static_name, HasMethod, with_resource, HasItem, used_as, UsesItem, HasUse}
-use Rattle.wac_resolution_rules.specs.BrokenBodies.{IsNoExport, IsNoPackageExport, OwnPathBroken, ForeignPathBroken, path_broken, PathBroken, Owner, IsConflict, NameBroken, method_kind, MethodBroken, ItemBroken, UsePathBroken, IsNoInterface, UseItemBroken, UseBroken, use_path_name, use_path_span}
+use Rattle.wac_resolution_rules.specs.BrokenBodies.{IsNoExport, IsNoPackageExport, OwnPathBroken, ForeignPathBroken, path_broken, PathBroken, Owner, IsConflict, NameBroken, method_kind, MethodBroken, ItemBroken, UsePathBroken, IsNoInterface, UseItemBroken, UseBroken}
+use Rattle.wac_resolution_rules.specs.Spans.{use_path_name, use_path_span}
 use Rattle.wac_resolution_rules.proofs.StepLaws.{fails_stop}
 use Rattle.wac_resolution_rules.proofs.TypesOnce.{stands_once}
 use Rattle.wac_resolution_rules.proofs.BodiesOnce.{member_once, use_names_once, method_once, use_item_once}

@@ -1,4 +1,4 @@
--- Where a rule of an expression is broken, the expression stands for nothing.
+-- An expression that breaks a rule stands for nothing.
 use Rattle.std.proofs.Common.{◌≡◌, ◌≢◌, ℕ, List, ◌∙◌, ap, subst, Option, Some, None, Bool, false, IsTrue, inl, inr}
 use Rattle.std.specs.List.{AllByRecursion}
 use Rattle.wac_lexer.specs.Span.{Span}

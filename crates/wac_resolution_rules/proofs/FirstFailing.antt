@@ -6,10 +6,10 @@ use Rattle.wac_resolution_rules.specs.Given.{Given}
 use Rattle.wac_resolution_rules.specs.Composition.{Composition, start}
 use Rattle.wac_resolution_rules.specs.Statements.{Goes, Composes}
 use Rattle.wac_resolution_rules.specs.Target.{MeetsPath, MeetsTarget}
-use Rattle.wac_resolution_rules.specs.RootPlaces.{Placed, placed_start, Leads}
 use Rattle.wac_resolution_rules.specs.Error.{Error, NamesRule}
 use Rattle.wac_resolution_rules.specs.BrokenStatements.{StatementBroken, TargetBroken}
 use Rattle.wac_resolution_rules.specs.ResolvedDocument.{Describes, StatementFails, TargetFails, FirstFailing}
+use Rattle.wac_resolution_rules.specs.Places.{Leads, Placed, placed_start}
 use Rattle.wac_resolution_rules.proofs.StepLaws.{steps_front}
 use Rattle.wac_resolution_rules.proofs.StatementsOnce.{composes_once}
 use Rattle.wac_resolution_rules.proofs.StatementsStop.{statement_stops, target_stops}
@@ -37,12 +37,12 @@ target_has_none s doc e c f p =
     let met = subst (λ (t : Option PackagePath). MeetsTarget s c t) f.has_target p.1 in
     f.stops (subst (λ (m : Composition). MeetsPath s m f.target) same met)
 
--- what fails first describes nothing
+-- a document of which a statement or the target fails describes nothing
 pub first_has_none : (s : Given) (doc : Document) (e : Error) (c : Composition) → FirstFailing s doc e → Describes s doc c → ⊥
 first_has_none s doc e c (inl f) p = statement_has_none s doc e c f p
 first_has_none s doc e c (inr f) p = target_has_none s doc e c f p
 
--- a broken rule at a statement behind a front that composes makes it the first failing one
+-- a statement after a prefix that composes, and that breaks a rule, is the first failing one
 pub fails_at : (s : Given) (doc : Document) (e : Error) → NamesRule e → (before : List Statement) (x : Statement) (after : List Statement) → doc.statements ≡ before ++ x ∷ after
     → (so_far : Placed) → Steps (Leads s) (placed_start start) before so_far → StatementBroken s so_far.composition so_far.places e x → FirstFailing s doc e
 fails_at s doc e rule before x after split so_far leads broken = inl (record {

@@ -1,4 +1,4 @@
--- A composition begins with that of any front of its statements, but an alias node without a name may have one later.
+-- A composition begins with that of each prefix of its statements, but an alias node without a name may have one later.
 use Rattle.std.proofs.Common.{◌≡◌, ◌≤◌, ℕ, zero, suc, List, [], ◌∷◌, ◌++◌, length, refl, sym, ◌∙◌, ap, subst, Option, Some, None, unwrap_or, Bool, true, false, cond, arith, append_assoc, append-nil, length-append, le_refl, inl, inr, ◌⊎◌, get_or}
 use Rattle.std.specs.Prelude.{slice_get, slice_set}
 use Rattle.std.specs.Str.{bytes_eq}
@@ -16,8 +16,8 @@ use Rattle.wac_resolution_rules.specs.Nodes.{is_alias_of, alias_in, next_of}
 use Rattle.wac_resolution_rules.specs.Expressions.{At, at, accessed, alias_at, Accesses, nothing_given, spreads_of, Stands, PrimaryStands}
 use Rattle.wac_resolution_rules.specs.Statements.{name_imported, Imports, Lets, Exports, Goes, Composes, ExportsAs, ExportsOne, ExportsBy}
 use Rattle.wac_resolution_rules.specs.TypeStatements.{Declares}
-use Rattle.wac_resolution_rules.specs.Places.{identifier_of}
 use Rattle.wac_resolution_rules.specs.Sound.{IsAlias, IsKept, AreKept, Begins}
+use Rattle.wac_resolution_rules.specs.Spans.{identifier_of}
 use Rattle.wac_resolution_rules.proofs.ExpressionsAdd.{Adds, added, adds_more, stands_adds, gives_add, spreads_add, alias_adds}
 use Rattle.wac_resolution_rules.proofs.StepLaws.{steps_front}
 use Rattle.wac_resolution_rules.proofs.StatementsStop.{declares_what}
@@ -307,7 +307,7 @@ composes_continues s (x ∷ xs) old new named p =
     let q = goes_continues s old x p.0 named p.1 in
     continues_on old p.0 new q (composes_continues s xs p.0 new q.named p.2)
 
--- a composition of statements begins with the composition of any front of them
+-- a composition of statements begins with the composition of each prefix of them
 pub composes_front : (s : Given) (before after : List Statement) (new : Composition) → Composes s start (before ++ after) new → (mid : Composition) × Composes s start before mid × Begins mid new
 composes_front s before after new p =
     let r = steps_front (Goes s) start before after new p in

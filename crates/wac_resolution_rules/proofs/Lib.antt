@@ -23,6 +23,7 @@ pub mod ExpressionsAdd
 pub mod Fronts
 pub mod Sound
 pub mod StatementsPlain
+pub mod Alike
 pub mod CompositionRows
 pub mod TypesMention
 pub mod StatementsMention

@@ -12,9 +12,8 @@ use Rattle.wac_resolution_rules.specs.Given.{Given}
 use Rattle.wac_resolution_rules.specs.Composition.{Composition, Node, start}
 use Rattle.wac_resolution_rules.specs.Nodes.{import_of, import_name, imports}
 use Rattle.wac_resolution_rules.specs.Find.{names_of}
-use Rattle.wac_resolution_rules.specs.Places.{Places}
-use Rattle.wac_resolution_rules.specs.RootPlaces.{names_at, more_at, bound_at, imported_at, exported_at, places_after, Placed, placed_start, Leads, HavePlaces}
 use Rattle.wac_resolution_rules.specs.Sound.{IsKept, AreKept, Begins}
+use Rattle.wac_resolution_rules.specs.Places.{HavePlaces, Leads, Placed, Places, bound_at, exported_at, imported_at, more_at, names_at, placed_start, places_after}
 use Rattle.wac_resolution_rules.proofs.Names.{cons_append}
 use Rattle.wac_resolution_rules.proofs.Fronts.{AreNamed, goes_continues}
 

@@ -18,7 +18,7 @@ use Rattle.wac_resolution_rules.specs.Nodes.{alias_in, with_alias, next_of, key_
 use Rattle.wac_resolution_rules.specs.Expressions.{At, at, accessed, alias_at, Accesses, Giving, nothing_given, given_too, spread_step, Spreads, spreads_of, has_fill, Fits, Instantiates, Stands, PrimaryStands, Gives, GivesOne}
 use Rattle.wac_resolution_rules.specs.Statements.{name_imported, Imports, Lets, Exports, Goes, Composes, ExportsAs, ExportsOne, ExportsBy}
 use Rattle.wac_resolution_rules.specs.TypeStatements.{Declares}
-use Rattle.wac_resolution_rules.specs.Places.{identifier_of}
+use Rattle.wac_resolution_rules.specs.Spans.{identifier_of}
 use Rattle.wac_resolution_rules.proofs.StatementsStop.{declares_what}
 use Rattle.wac_resolution_rules.specs.Sound.{OnceEach, IsAfterSource, ArgumentsFit, IsLinked, NamesNodes, IsSound, NamesOnce}
 use Rattle.wac_resolution_rules.proofs.Names.{once_with}

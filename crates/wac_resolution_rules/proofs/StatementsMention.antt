@@ -20,9 +20,9 @@ use Rattle.wac_resolution_rules.specs.Nodes.{imports, next_of, alias_in, with_al
 use Rattle.wac_resolution_rules.specs.Expressions.{At, at, accessed, alias_at, Accesses, Giving, nothing_given, given_too, name_meant, spread_step, Spreads, spreads_of, has_fill, Instantiates, left_out, Stands, PrimaryStands, Gives, GivesOne}
 use Rattle.wac_resolution_rules.specs.Statements.{ImportsKind, name_imported, ExportsOne, ExportsBy, Goes, Composes}
 use Rattle.wac_resolution_rules.specs.Target.{open_imports, ImportAllowed, ExportMet, MeetsTarget}
-use Rattle.wac_resolution_rules.specs.Places.{identifier_of}
 use Rattle.wac_resolution_rules.specs.ResolvedDocument.{Describes}
 use Rattle.wac_resolution_rules.specs.Mentions.{Mention, name_mentions, expr_mentions, primary_mentions, arguments_mentions, argument_mentions, import_type_mentions, statement_mentions, target_mentions, mentions, Agree, given_over, kept, IsMentioned, KeyHolds, KeysHold}
+use Rattle.wac_resolution_rules.specs.Spans.{identifier_of}
 use Rattle.wac_resolution_rules.proofs.StatementsStop.{all_append, all_front, declares_what}
 use Rattle.wac_resolution_rules.proofs.Fronts.{named_at_suc}
 use Rattle.wac_resolution_rules.proofs.TypesMention.{agree_front, steps_agree, path_agrees, interface_agrees, declares_agrees}

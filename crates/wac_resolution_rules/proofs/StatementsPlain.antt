@@ -6,6 +6,7 @@ use Rattle.wac_types.specs.Meaning.{Meaning}
 use Rattle.wac_types.specs.Package.{PackageParts}
 use Rattle.wac_graph.specs.Package.{Key}
 use Rattle.wac_grammar.specs.Tree.{Ident, PackagePath, ExternName, PostfixExpr, Expr, PrimaryExpr, Arguments, InstantiationArgument, InstantiationArgumentName, ImportType, ImportStatement, LetStatement, ExportOptions, ExportStatement, Statement, Document}
+use Rattle.wac_syntax.specs.Names.{extern_name_text}
 use Rattle.wac_resolution_rules.specs.Origin.{Naming}
 use Rattle.wac_resolution_rules.specs.Scope.{Named, IsFresh}
 use Rattle.wac_resolution_rules.specs.Steps.{Steps}
@@ -15,7 +16,7 @@ use Rattle.wac_resolution_rules.specs.Given.{Given, Rules, instantiable, key_nam
 use Rattle.wac_resolution_rules.specs.Composition.{Composition, imported, root_scope, with_node, with_resources, binding, start}
 use Rattle.wac_resolution_rules.specs.Nodes.{imports, next_of}
 use Rattle.wac_resolution_rules.specs.Expressions.{At, Accesses, Giving, nothing_given, given_too, name_meant, Spreads, spread_of, spreads_of, is_fill, has_fill, IsEmpty, Instantiates, Stands, PrimaryStands, Gives, GivesOne}
-use Rattle.wac_resolution_rules.specs.Statements.{extern_text, ImportsKind, unnamed_import, name_imported, Imports, Lets, ExportsBy, Exports, Goes, Composes}
+use Rattle.wac_resolution_rules.specs.Statements.{ImportsKind, unnamed_import, name_imported, Imports, Lets, ExportsBy, Exports, Goes, Composes}
 use Rattle.wac_resolution_rules.specs.Target.{MeetsTarget}
 use Rattle.wac_resolution_rules.specs.ResolvedDocument.{Describes, given_to}
 use Rattle.wac_grammar.specs.Walk.{walk_arguments, walk_export_options, walk_export_statement, walk_expr, walk_extern_name, walk_import_statement, walk_import_type, walk_instantiation_argument, walk_instantiation_argument_name, walk_let_statement, walk_postfix_expr, walk_primary_expr, walk_statement}
@@ -70,7 +71,7 @@ spreads_plain : (imports : Named Meaning) (given : Giving) (args : Arguments) �
 spreads_plain imports given args = ap (λ (l : List Ident). Steps (Spreads imports) given l) (spreads_of_plain args) ∙ steps_map (Spreads imports) plain.ident (spread_plain imports) given (spreads_of args)
 
 mutual
-  -- an expression stands for what its plain form stands for
+  -- an expression stands for what its plain tree stands for
   pub stands_plain : (s : Given) (old : Composition) (x : Expr) → Stands s old (walk_expr (changed plain) x) ≡ Stands s old x
   stands_plain s old (Expr.expr span first others) = λ i new. (mid : At) × first_plain s old first i mid × steps_map Accesses (walk_postfix_expr (changed plain)) access_plain mid others i new
 
@@ -93,7 +94,7 @@ mutual
 
 -- ---- statements
 
-extern_plain : (x : ExternName) → extern_text (walk_extern_name (changed plain) x) ≡ extern_text x
+extern_plain : (x : ExternName) → extern_name_text (walk_extern_name (changed plain) x) ≡ extern_name_text x
 extern_plain (ExternName.ident x) = refl
 extern_plain (ExternName.string x) = refl
 
@@ -106,7 +107,7 @@ unnamed_plain id (ImportType.ident x) k = refl
 imported_plain : (x : ImportStatement) (k : Meaning) → name_imported (walk_import_statement (changed plain) no_docs x) k ≡ name_imported x k
 imported_plain x k = go x.name
   where
-    go : (o : Option ExternName) → (elim (option_map (walk_extern_name (changed plain)) o) as (λ _. List ℕ) [ None ↦ unnamed_import (plain.ident x.id) (walk_import_type (changed plain) no_docs x.ty) k | Some name ↦ extern_text name ]) ≡ (elim o as (λ _. List ℕ) [ None ↦ unnamed_import x.id x.ty k | Some name ↦ extern_text name ])
+    go : (o : Option ExternName) → (elim (option_map (walk_extern_name (changed plain)) o) as (λ _. List ℕ) [ None ↦ unnamed_import (plain.ident x.id) (walk_import_type (changed plain) no_docs x.ty) k | Some name ↦ extern_name_text name ]) ≡ (elim o as (λ _. List ℕ) [ None ↦ unnamed_import x.id x.ty k | Some name ↦ extern_name_text name ])
     go None = unnamed_plain x.id x.ty k
     go (Some name) = extern_plain name
 
@@ -133,7 +134,7 @@ options_plain s a ExportOptions.none = refl
 exports_plain : (s : Given) (old : Composition) (x : ExportStatement) → Exports s old (walk_export_statement (changed plain) no_docs x) ≡ Exports s old x
 exports_plain s old x = λ i new. (a : At) × stands_plain s old x.expr i a × options_plain s a x.options i new
 
--- a statement leads where its plain form leads
+-- a statement leads where its plain tree leads
 pub goes_plain : (s : Given) (old : Composition) (x : Statement) → Goes s old (walk_statement (changed plain) no_docs x) ≡ Goes s old x
 goes_plain s old (Statement.import_statement x) = imports_plain s old x
 goes_plain s old (Statement.let_statement x) = lets_plain s old x
@@ -147,12 +148,6 @@ target_plain : (s : Given) (c : Composition) (p : Option PackagePath) → MeetsT
 target_plain s c None = refl
 target_plain s c (Some p) = refl
 
--- a document describes what its plain form describes
+-- a document describes what its plain tree describes
 pub describes_plain : (s : Given) (doc : Document) (c : Composition) → Describes s (plain_document doc) c ≡ Describes s doc c
 describes_plain s doc c = λ i. composes_plain s start doc.statements i c × target_plain s c doc.directive.targets i
-
--- two documents with one plain form describe the same, under the same packages and rules
-pub layout : (naming : Naming) (packages : List (Key × PackageParts)) (rules : Rules) (a b : Document) (c : Composition) → plain_document a ≡ plain_document b
-    → Describes (given_to naming packages rules a) a c ≡ Describes (given_to naming packages rules b) b c
-layout naming packages rules a b c e =
-    sym (describes_plain (given_to naming packages rules a) a c) ∙ ap (λ (d : Document). Describes (given_to naming packages rules d) d c) e ∙ describes_plain (given_to naming packages rules b) b c

@@ -1,4 +1,4 @@
--- Where a rule of a statement or of the target is broken, the statement leads nowhere and the target isn't met.
+-- A statement that breaks a rule leads nowhere, and a target that breaks one isn't met.
 use Rattle.std.proofs.Common.{◌≡◌, ◌≢◌, ℕ, List, [], ◌∷◌, ◌++◌, subst, Option, Some, None, map, inl, inr}
 use Rattle.std.specs.Prelude.{flat_map}
 use Rattle.std.specs.List.{AllByRecursion}
@@ -19,10 +19,10 @@ use Rattle.wac_resolution_rules.specs.Nodes.{node_at, instance_at, imports}
 use Rattle.wac_resolution_rules.specs.Expressions.{At}
 use Rattle.wac_resolution_rules.specs.Statements.{ImportsKind, name_imported, Imports, Lets, definition_bound, ExportsAs, unnamed_export, unexported, ExportsOne, ExportsBy, Exports, Goes}
 use Rattle.wac_resolution_rules.specs.Target.{allowed, open_imports, all_imports, ImportAllowed, ExportMet, IsAllowed, MeetsPath}
-use Rattle.wac_resolution_rules.specs.Places.{Places, identifier_of}
-use Rattle.wac_resolution_rules.specs.RootPlaces.{names_at}
 use Rattle.wac_resolution_rules.specs.Error.{Error, Operation, NamesRule}
 use Rattle.wac_resolution_rules.specs.BrokenStatements.{IsImportedAlready, IsExportedAlready, IsInvalidName, IsExportConflict, IsUnnamed, IsNoEffect, IsNotWorld, placed_imports, IsNotInTarget, IsImportMismatch, IsMissingExport, IsExportMismatch, ImportKindBroken, ImportBroken, LetBroken, ExportAsBroken, ExportOneBroken, ExportOptionsBroken, ExportBroken, StatementBroken, TargetWorldBroken, TargetBroken}
+use Rattle.wac_resolution_rules.specs.Spans.{identifier_of}
+use Rattle.wac_resolution_rules.specs.Places.{Places, names_at}
 use Rattle.wac_resolution_rules.proofs.StepLaws.{fails_stop}
 use Rattle.wac_resolution_rules.proofs.Reached.{reached_holds}
 use Rattle.wac_resolution_rules.proofs.ExpressionsOnce.{expr_once}
@@ -128,7 +128,7 @@ declares_what s old (TypeStatement.interface x) new g = (kind_of an_interface g.
 declares_what s old (TypeStatement.world x) new g = (kind_of a_world g.0, g.1, g.3)
 declares_what s old (TypeStatement.ty x) new g = (g.0, g.1, g.3)
 
--- where a rule of a statement is broken it leads nowhere
+-- a statement that breaks a rule leads nowhere
 pub statement_stops : (s : Given) (old : Composition) (p : Places) (e : Error) → NamesRule e → (x : Statement) (new : Composition) → StatementBroken s old p e x → Goes s old x new → ⊥
 statement_stops s old p e rule (Statement.import_statement x) new f g = import_stops s old p e rule x new f g
 statement_stops s old p e rule (Statement.let_statement x) new f g = let_stops s old p e rule x new f g
@@ -196,7 +196,7 @@ world_stops s c p e rule path w (inr (inl f)) h = import_mismatch_stops s c p pa
 world_stops s c p e rule path w (inr (inr (inl f))) h = missing_stops s c path w e rule f h
 world_stops s c p e rule path w (inr (inr (inr f))) h = export_mismatch_stops s c p path w e rule f h
 
--- where a rule of the target is broken it isn't met
+-- a target that breaks a rule isn't met
 pub target_stops : (s : Given) (c : Composition) (p : Places) (e : Error) → NamesRule e → (path : PackagePath) → TargetBroken s c p e path → MeetsPath s c path → ⊥
 target_stops s c p e rule path (inl f) g = path_stops s.setting (root_scope c) path e g.0 rule f g.2
 target_stops s c p e rule path (inr (k, means, f)) g =

@@ -19,7 +19,7 @@ pub steps_more : {S X : Type 0} (step : S → X → S → Type 0) (old : S) (xs 
 steps_more {S} step old [] x mid new p g = (new, subst (λ (m : S). step m x new) p g, refl)
 steps_more step old (y ∷ xs) x mid new p g = (p.0, p.1, steps_more step p.0 xs x mid new p.2 g)
 
--- what items lead to begins with what each front of them leads to
+-- items lead on from what each prefix of them leads to
 pub steps_front : {S X : Type 0} (step : S → X → S → Type 0) (old : S) (before after : List X) (new : S) → Steps step old (before ++ after) new → (mid : S) × Steps step old before mid × Steps step mid after new
 steps_front step old [] after new p = (old, refl, p)
 steps_front step old (x ∷ before) after new p = let r = steps_front step p.0 before after new p.2 in (r.0, (p.0, p.1, r.1), r.2)

@@ -1,4 +1,4 @@
--- Where a rule on types or their declarations is broken, there is no meaning.
+-- A type or declaration that breaks a rule has no meaning.
 use Rattle.std.proofs.Common.{◌≡◌, ◌⊎◌, inl, inr, ℕ, List, [], Some, None, Option, Bool, true, false, sym, ◌∙◌, ap, subst}
 use Rattle.wac_types.specs.declared.kind.FuncKind.{FuncKind}
 use Rattle.wac_types.specs.declared.kind.FuncKind.TheVariants as funcs
@@ -22,7 +22,7 @@ use Rattle.wac_resolution_rules.proofs.Options.{neither}
 pub fresh_stops : {X : Type 0} (name : List ℕ) (all : Named X) (x : X) → IsFresh name all → StandsFor all name x → ⊥
 fresh_stops name all x new stands = cc
 
--- what is of none of these forms is of none
+-- a name that stands for another form doesn't stand for one of these
 pub none_stops : (test : Form → Bool) (scope : Scope) (name : List ℕ) (k l : Meaning) → StandsFor scope name k → IsNoneOf test k → StandsFor scope name l → IsA test l → ⊥
 none_stops test scope name k l p other q is =
     let f : IsA test k = subst (λ m. IsA test m) (stands_once scope name l k q p) is in

@@ -1,4 +1,4 @@
--- Where a type statement breaks a rule, it leads nowhere.
+-- A type statement that breaks a rule leads nowhere.
 use Rattle.std.proofs.Common.{◌≡◌, ◌⊎◌, inl, inr, ℕ, List, [], ◌∷◌, ◌++◌, Some, None, Option, Bool, true, false, sym, ◌∙◌, subst}
 use Rattle.wac_types.specs.declared.kind.ExternKind.{ExternKind}
 use Rattle.wac_types.specs.declared.kind.ExternKind.TheVariants as sides
@@ -16,9 +16,9 @@ use Rattle.wac_resolution_rules.specs.Includes.{Entries, HasEntry, has_colon, Ta
 use Rattle.wac_resolution_rules.specs.Worlds.{IsFuncRef, HasInterfaceItem, IsInterface, HasExternType, id_or_empty, HasInstance, HasExtern, HasWorldItem, includes_of, IsWorld}
 use Rattle.wac_resolution_rules.specs.Composition.{Composition, root_scope}
 use Rattle.wac_resolution_rules.specs.TypeStatements.{declared_id, declared_as, Defines, Declares}
-use Rattle.wac_resolution_rules.specs.Places.{Places, bound_in_interface, bound_in_world}
 use Rattle.wac_resolution_rules.specs.BrokenBodies.{Owner, of_interface, of_world}
 use Rattle.wac_resolution_rules.specs.BrokenWorlds.{FuncRefBroken, InterfaceItemBroken, InterfaceBroken, ExternTypeBroken, InstanceBroken, ExternBroken, WorldItemBroken, IsSecondEntry, WorldRefBroken, IsNoWorld, IsIncludeConflict, IsLeftOver, TakingBroken, IncludeBroken, WorldBroken, DefinitionBroken, DeclarationBroken}
+use Rattle.wac_resolution_rules.specs.Places.{Places, bound_in_interface, bound_in_world}
 use Rattle.wac_resolution_rules.proofs.StepLaws.{fails_stop, steps_once}
 use Rattle.wac_resolution_rules.proofs.TypesOnce.{stands_once}
 use Rattle.wac_resolution_rules.proofs.BodiesOnce.{leads_once, world_names_once, entry_once, takes_once, include_once}
@@ -144,7 +144,7 @@ defines_stops old places x e m n new rule (inl (inr b)) q = fresh_stops x.string
 defines_stops old places x e m n new rule (inr (new_export, inl b)) q = rule b
 defines_stops old places x e m n new rule (inr (new_export, inr b)) q = fresh_stops x.string old.declared b.0 q.1 b.2
 
--- where a type statement breaks a rule, it leads to no composition
+-- a type statement that breaks a rule leads to no composition
 pub broken_stops : (setting : Setting) (old : Composition) (places : Places) (s : TypeStatement) (e : Error) (new : Composition) → NamesRule e → DeclarationBroken setting old places s e → Declares setting old s new → ⊥
 broken_stops setting old places (TypeStatement.interface d) e new rule (inl b) q = interface_body_stops setting (root_scope old) (Some d.id.string) (declared_id setting d.id.string) old.resources d.items e q.0 q.1 rule b q.2
 broken_stops setting old places (TypeStatement.interface d) e new rule (inr b) q = defines_stops old places d.id e _ q.1 new rule b.1 q.3

@@ -13,8 +13,8 @@ use Rattle.wac_resolution_rules.specs.Types.{IsFuncWith, IsConstructor, first_pa
 use Rattle.wac_resolution_rules.specs.Declarations.{IsVariant, IsRecord, IsFlags, IsEnum, IsAlias, in_body}
 use Rattle.wac_resolution_rules.specs.Paths.{Setting, UseNames}
 
--- a body so far: what its identifiers stand for, the types that it uses, its imports and exports, and the count of resources that the
--- document has declared
+-- a body so far: what its identifiers stand for, the types that it uses, its imports and exports, and how many resources the document has
+-- declared
 pub record Body : Type 0 where
   pub scope : Scope
   pub uses : Uses
@@ -64,7 +64,7 @@ abbrev pub name_of_method : Bool → List ℕ → List ℕ → List ℕ
 name_of_method true resource name = static_name resource name
 name_of_method false resource name = method_name resource name
 
--- a second constructor, or a second method of a name, static or not, is none
+-- a method of a resource: it has at most one constructor, and at most one method of a name, static or not
 abbrev pub HasMethod : ExternKind → List ℕ → Meaning → Body → ResourceMethod → Body → Type 0
 HasMethod side resource entry old (ResourceMethod.constructor c) new =
     IsFresh (constructor_name resource) (externs side old)
@@ -76,13 +76,13 @@ HasMethod side resource entry old (ResourceMethod.method x) new =
     × ((f : Meaning) × IsFuncWith old.scope (first_params x.is_static entry) x.ty f
     × (new ≡ with_extern side old (name_of_method x.is_static resource x.id.string) (kind_of func f)))
 
--- a resource that is declared in a body, before its methods
+-- a resource that a body declares, before its methods
 abbrev pub with_resource : Naming → ExternKind → Body → List ℕ → Body
 with_resource naming side b name = with_type side (with_count b (suc b.resources)) name (kind_of a_resource (resource_entry naming b.resources name))
 
 -- ---- declarations of types in a body
 
--- a kind of a new name
+-- a new name, of this kind
 abbrev pub DeclaresIn : ExternKind → Body → Ident → Meaning → ℕ → Body → Type 0
 DeclaresIn side old id m n new = IsNew side old id.string × (new ≡ with_type side (with_count old n) id.string m)
 
@@ -98,7 +98,7 @@ HasItem naming side old (ItemTypeDecl.alias d) new =
 
 -- ---- use
 
--- the identifier behind `as`, else the first
+-- the identifier after `as`, else the first
 abbrev pub used_as : UseItem → Ident
 used_as x = unwrap_or x.as_id x.id
 

@@ -17,13 +17,14 @@ use Rattle.wac_resolution_rules.specs.Paths.{Setting, is_own, key_of_path, segme
 use Rattle.wac_resolution_rules.specs.Declarations.{IsVariant, IsRecord, IsFlags, IsEnum, IsAlias, in_body}
 use Rattle.wac_resolution_rules.specs.Types.{first_params}
 use Rattle.wac_resolution_rules.specs.Bodies.{Body, externs, constructor_name, method_name, static_name, HasMethod, with_resource, used_as, UsesItem}
-use Rattle.wac_resolution_rules.specs.Places.{segment_spans, package_name_span}
+use Rattle.wac_syntax.specs.Segments.{segment_spans, package_name_span}
 use Rattle.wac_resolution_rules.specs.BrokenTypes.{IsUndefined, ParamsBroken, FuncBroken}
 use Rattle.wac_resolution_rules.specs.BrokenDeclarations.{VariantBroken, RecordBroken, FlagsBroken, EnumBroken, AliasBroken}
+use Rattle.wac_resolution_rules.specs.Spans.{use_path_name, use_path_span}
 
 -- ---- paths
 
--- the package of a path is not handed
+-- the package of a path is not given
 abbrev pub IsUnknownPathPackage : Setting → PackagePath → Error → Type 0
 IsUnknownPathPackage setting p e = (e ≡ memory) ⊎ ((package_of (key_of_path p) setting.packages ≡ None) × (e ≡ unknown_package p.name (package_name_span p)))
 
@@ -31,11 +32,11 @@ IsUnknownPathPackage setting p e = (e ≡ memory) ⊎ ((package_of (key_of_path 
 abbrev pub StandsAt : PackagePath → ℕ → List ℕ → Span → Type 0
 StandsAt p n segment at = slice_get (segment_spans p) n ≡ Some (segment, at)
 
--- a first segment of a path of the document itself is undefined
+-- the first segment of a path of the document's own package is undefined
 abbrev pub IsUndefinedSegment : Scope → PackagePath → List ℕ → Error → Type 0
 IsUndefinedSegment root p first e = (e ≡ memory) ⊎ ((at : Span) × IsFresh first root × StandsAt p 0 first at × (e ≡ undefined_name first at))
 
--- a package does not define the first segment
+-- the package does not define the first segment
 abbrev pub IsNoDefinition : Named Meaning → PackagePath → List ℕ → Error → Type 0
 IsNoDefinition definitions p first e = (e ≡ memory) ⊎ ((at : Span) × IsFresh first definitions × StandsAt p 0 first at × (e ≡ package_missing_export None [] p.name first at))
 
@@ -44,11 +45,11 @@ abbrev pub last_of : List ℕ → List (List ℕ) → List ℕ
 last_of first [] = first
 last_of first (x ∷ xs) = last_of x xs
 
--- what the segments before lead to does not export the segment, in a path of the document itself
+-- what the segments before it lead to does not export the segment: in a path of the document's own package
 abbrev pub IsNoExport : PackagePath → List ℕ → Error → Meaning → List (List ℕ) → List ℕ → Type 0
 IsNoExport p first e k before segment = (e ≡ memory) ⊎ ((at : Span) × (export_of k segment ≡ None) × StandsAt p (suc (length before)) segment at × (e ≡ package_path_missing_export (last_of first before) (described k) segment at))
 
--- and in a path of another package
+-- the same in a path of another package
 abbrev pub IsNoPackageExport : PackagePath → List ℕ → Error → Meaning → List (List ℕ) → List ℕ → Type 0
 IsNoPackageExport p first e k before segment = (e ≡ memory) ⊎ ((at : Span) × (export_of k segment ≡ None) × StandsAt p (suc (length before)) segment at × (e ≡ package_missing_export (Some (described k)) (join_with_byte 47 (first ∷ before)) p.name segment at))
 
@@ -86,17 +87,17 @@ conflict (of_world name) side x at = duplicate_world_item side x name at
 abbrev pub IsConflict : Owner → ExternKind → Body → List ℕ → Span → Error → Type 0
 IsConflict of side old x at e = (e ≡ memory) ⊎ ((m : Meaning) × StandsFor (externs side old) x m × (e ≡ conflict of side x at))
 
--- one of the two
+-- the identifier is bound already, or its name is among the externs
 abbrev pub NameBroken : Owner → ExternKind → Named Span → Body → Ident → Error → Type 0
 NameBroken of side places old x e = IsBoundInBody places old.scope x e ⊎ (IsFresh x.string old.scope × IsConflict of side old x.string x.span e)
 
 -- ---- resources
 
--- a second constructor
+-- the resource has a constructor already
 abbrev pub IsSecondConstructor : ExternKind → List ℕ → Body → Span → Error → Type 0
 IsSecondConstructor side resource old at e = (e ≡ memory) ⊎ ((m : Meaning) × StandsFor (externs side old) (constructor_name resource) m × (e ≡ duplicate_resource_constructor resource at))
 
--- a second method of a name
+-- the resource has a method of that name already
 abbrev pub IsSecondMethod : ExternKind → List ℕ → Body → Ident → Error → Type 0
 IsSecondMethod side resource old x e =
     (e ≡ memory) ⊎ ((m : Meaning) × (StandsFor (externs side old) (method_name resource x.string) m ⊎ StandsFor (externs side old) (static_name resource x.string) m) × (e ≡ duplicate_resource_method x.string resource x.span))
@@ -130,19 +131,11 @@ ItemBroken naming of side places old (ItemTypeDecl.alias d) e =
 
 -- ---- use
 
-abbrev pub use_path_name : UsePath → List ℕ
-use_path_name (UsePath.path p) = p.string
-use_path_name (UsePath.ident x) = x.string
-
-abbrev pub use_path_span : UsePath → Span
-use_path_span (UsePath.path p) = p.span
-use_path_span (UsePath.ident x) = x.span
-
 abbrev pub UsePathBroken : Setting → Scope → UsePath → Error → Type 0
 UsePathBroken setting root (UsePath.path p) e = PathBroken setting root p e
 UsePathBroken setting root (UsePath.ident x) e = IsUndefined root x e
 
--- what is named is no interface
+-- what is named is not an interface
 abbrev pub IsNoInterface : Meaning → List ℕ → Span → Error → Type 0
 IsNoInterface k name at e = (e ≡ memory) ⊎ (IsNoneOf is_interface_form k × (e ≡ not_interface name (described k) at))
 

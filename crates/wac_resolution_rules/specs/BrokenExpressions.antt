@@ -5,6 +5,8 @@ use Rattle.wac_lexer.specs.Span.{Span}
 use Rattle.wac_types.specs.declared.rules.Reason.{Reason}
 use Rattle.wac_types.specs.Meaning.{Meaning}
 use Rattle.wac_grammar.specs.Tree.{Ident, PackageName, PostfixExpr, Expr, PrimaryExpr, Arguments, InstantiationArgument}
+use Rattle.wac_expressions.specs.Expressions.{argument_name_span}
+use Rattle.wac_grammar.specs.Grammar.{primary_span, postfix_span, last_span}
 use Rattle.wac_resolution_rules.specs.Scope.{Named, look_up, StandsFor, IsFresh}
 use Rattle.wac_resolution_rules.specs.Steps.{Steps, Fails}
 use Rattle.wac_resolution_rules.specs.Shape.{exports_of, described}
@@ -13,7 +15,6 @@ use Rattle.wac_resolution_rules.specs.Given.{Given, instantiable, imports_in}
 use Rattle.wac_resolution_rules.specs.Composition.{Composition, Node, kind_at}
 use Rattle.wac_resolution_rules.specs.Nodes.{node_at, instance_at}
 use Rattle.wac_resolution_rules.specs.Expressions.{At, accessed, Accesses, Giving, nothing_given, name_meant, name_inferred, spread_from, Spreads, spreads_of, has_fill, IsEmpty, Fits, left_out, Stands, PrimaryStands, Gives, GivesOne}
-use Rattle.wac_resolution_rules.specs.RootPlaces.{argument_name_span, primary_span, postfix_span}
 use Rattle.wac_resolution_rules.specs.Error.{Error, Operation, duplicate_instantiation_arg, fill_argument_not_last, memory, mismatched_instantiation_arg, missing_component_import, missing_instance_export, missing_instantiation_arg, not_an_instance, spread_instantiation_no_match, unknown_package}
 use Rattle.wac_resolution_rules.specs.BrokenTypes.{IsUndefined}
 
@@ -32,11 +33,11 @@ abbrev pub IsNotExported : At → PostfixExpr → Error → Type 0
 IsNotExported a p e = (e ≡ memory) ⊎ ((i : Meaning) × (instance_at a.composition a.node ≡ Some i) × IsFresh (accessed p (exports_of i)) (exports_of i)
     × (e ≡ missing_instance_export (accessed p (exports_of i)) (postfix_span p)))
 
--- the package isn't handed, or is the document's own
+-- the package isn't given, or is the document's own
 abbrev pub IsUnknownPackage : Given → PackageName → Error → Type 0
 IsUnknownPackage s x e = (e ≡ memory) ⊎ ((instantiable s x ≡ None) × (e ≡ unknown_package x.name x.span))
 
--- an argument stands behind the fill
+-- an argument comes after the fill
 abbrev pub IsFillNotLast : Arguments → Span → Error → Type 0
 IsFillNotLast rest span e = (e ≡ memory) ⊎ ((IsEmpty rest → ⊥) × (e ≡ fill_argument_not_last span))
 
@@ -82,13 +83,8 @@ IsLeftOut s p x args g e = (e ≡ memory) ⊎ ((i : List ℕ × Meaning) × (oth
 
 -- ---- where they may be met
 
--- where the primary expression or the access before ends
-abbrev pub span_before : Span → List PostfixExpr → Span
-span_before span [] = span
-span_before span (p ∷ ps) = span_before (postfix_span p) ps
-
 abbrev pub AccessBroken : Span → Error → At → List PostfixExpr → PostfixExpr → Type 0
-AccessBroken span e a before p = IsNotInstance a.composition a.node Operation.access (span_before span before) e ⊎ IsNotExported a p e
+AccessBroken span e a before p = IsNotInstance a.composition a.node Operation.access (last_span span before) e ⊎ IsNotExported a p e
 
 abbrev pub SpreadBroken : Named Meaning → Error → Giving → List Ident → Ident → Type 0
 SpreadBroken imports e g before id = IsUndefined g.composition.declared id e

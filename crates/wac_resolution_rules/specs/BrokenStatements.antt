@@ -7,6 +7,7 @@ use Rattle.wac_types.specs.declared.kind.ExternKind.TheVariants as externs
 use Rattle.wac_types.specs.declared.rules.Reason.{Reason}
 use Rattle.wac_types.specs.Meaning.{Meaning}
 use Rattle.wac_grammar.specs.Tree.{Ident, FuncType, InlineInterface, PackagePath, ImportType, ImportStatement, LetStatement, Expr, ExportOptions, ExportStatement, TypeStatement, Statement}
+use Rattle.wac_syntax.specs.Names.{extern_name_text, extern_name_span}
 use Rattle.wac_resolution_rules.specs.Scope.{Named, look_up, StandsFor, IsFresh}
 use Rattle.wac_resolution_rules.specs.Steps.{Fails}
 use Rattle.wac_resolution_rules.specs.Shape.{exports_of, promoted, described}
@@ -16,20 +17,20 @@ use Rattle.wac_resolution_rules.specs.Paths.{LeadsTo}
 use Rattle.wac_resolution_rules.specs.Composition.{Composition, Node, kind_at, root_scope}
 use Rattle.wac_resolution_rules.specs.Nodes.{node_at, instance_at, imports}
 use Rattle.wac_resolution_rules.specs.Expressions.{At, at, alias_at, Stands}
-use Rattle.wac_resolution_rules.specs.Statements.{extern_text, ImportsKind, name_imported, definition_bound, unnamed_export, unexported, ExportsOne}
+use Rattle.wac_resolution_rules.specs.Statements.{ImportsKind, name_imported, definition_bound, unnamed_export, unexported, ExportsOne}
 use Rattle.wac_resolution_rules.specs.Target.{allowed, open_imports, all_imports, ImportAllowed, ExportMet}
-use Rattle.wac_resolution_rules.specs.Places.{Places}
-use Rattle.wac_resolution_rules.specs.RootPlaces.{names_at, import_span, expr_span, extern_span}
 use Rattle.wac_resolution_rules.specs.Error.{Error, Operation, duplicate_extern_name, export_conflict, export_requires_as, import_not_in_target, invalid_extern_name, memory, missing_target_export, not_world, spread_export_no_effect, target_mismatch}
 use Rattle.wac_types.specs.declared.kind.FuncKind.TheVariants as funcs
 use Rattle.wac_resolution_rules.specs.BrokenTypes.{IsUndefined, FuncBroken}
 use Rattle.wac_resolution_rules.specs.BrokenBodies.{PathBroken, as_clause}
 use Rattle.wac_resolution_rules.specs.BrokenWorlds.{InterfaceBroken, IsBound, DeclarationBroken}
 use Rattle.wac_resolution_rules.specs.BrokenExpressions.{ReachedAt, IsNotInstance, ExprBroken}
+use Rattle.wac_resolution_rules.specs.Spans.{expr_span, import_span}
+use Rattle.wac_resolution_rules.specs.Places.{Places, names_at}
 
 -- ---- one rule each
 
--- the name is imported already; where it isn't written out the help is to write one
+-- the name is imported already
 abbrev pub IsImportedAlready : Composition → Places → List ℕ → Span → Option (List ℕ) → Error → Type 0
 IsImportedAlready c p name span help e = (e ≡ memory) ⊎ ((k : Meaning) × (previous : Span) × StandsFor (imports c) name k × StandsFor p.imported name previous
     × (e ≡ duplicate_extern_name externs.Import name span previous help))
@@ -93,7 +94,7 @@ ImportKindBroken s old e (ImportType.interface x) = InterfaceBroken s.setting (r
 ImportKindBroken s old e (ImportType.path x) = PathBroken s.setting (root_scope old) x e
 ImportKindBroken s old e (ImportType.ident x) = IsUndefined (root_scope old) x e
 
--- to write a name where none is written
+-- the help, where no name is written
 abbrev pub help_unless : {X : Type 0} → Option X → Option (List ℕ)
 help_unless None = Some as_clause
 help_unless (Some x) = None
@@ -124,7 +125,7 @@ ExportOneBroken s p span e node c before x = ExportAsBroken s (alias_at (at c no
 abbrev pub ExportOptionsBroken : Given → At → Places → Error → Expr → ExportOptions → Type 0
 ExportOptionsBroken s a p e x (ExportOptions.spread span) = IsNotInstance a.composition a.node Operation.spread (expr_span x) e ⊎ IsNoEffect a (expr_span x) e
     ⊎ ((i : Meaning) × (instance_at a.composition a.node ≡ Some i) × Fails (ExportsOne s a.node) (ExportOneBroken s p span e a.node) a.composition (unexported a.composition.exports (exports_of i)))
-ExportOptionsBroken s a p e x (ExportOptions.rename name) = ExportAsBroken s a.composition p (extern_text name) (extern_span name) None e
+ExportOptionsBroken s a p e x (ExportOptions.rename name) = ExportAsBroken s a.composition p (extern_name_text name) (extern_name_span name) None e
 ExportOptionsBroken s a p e x ExportOptions.none = IsUnnamed a (expr_span x) e
     ⊎ ((n : Node) × (name : List ℕ) × (node_at a.composition a.node ≡ Some n) × (unnamed_export n ≡ Some name) × ExportAsBroken s a.composition p name (expr_span x) (Some as_clause) e)
 

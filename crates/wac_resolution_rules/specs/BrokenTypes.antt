@@ -4,6 +4,7 @@ use Rattle.wac_lexer.specs.Span.{Span}
 use Rattle.wac_types.specs.declared.kind.FuncKind.{FuncKind}
 use Rattle.wac_types.specs.Meaning.{Meaning}
 use Rattle.wac_grammar.specs.Tree.{Ident, Ty, OptionalTy, Types, NamedType, ResultList, FuncType}
+use Rattle.wac_declarations.specs.Types.{ty_span}
 use Rattle.wac_resolution_rules.specs.Error.{Error, undefined_name, not_resource_type, not_value_type, duplicate_parameter, borrow_in_result, memory}
 use Rattle.wac_resolution_rules.specs.Scope.{Named, Scope, StandsFor, IsFresh}
 use Rattle.wac_resolution_rules.specs.Steps.{Steps, Fails}
@@ -14,7 +15,7 @@ use Rattle.wac_resolution_rules.specs.Types.{HasType, HasOptional, HasParam}
 abbrev pub IsUndefined : {X : Type 0} → Named X → Ident → Error → Type 0
 IsUndefined all x e = (e ≡ memory) ⊎ (IsFresh x.string all × (e ≡ undefined_name x.string x.span))
 
--- what the identifier stands for is no resource type
+-- what the identifier stands for is not a resource type
 abbrev pub IsNoResource : Scope → Ident → Error → Type 0
 IsNoResource scope x e = (e ≡ memory) ⊎ ((k : Meaning) × StandsFor scope x.string k × IsNoneOf is_resource_form k × (e ≡ not_resource_type x.string (described k) x.span))
 
@@ -23,7 +24,7 @@ abbrev pub IsNoValue : Scope → Ident → Error → Type 0
 IsNoValue scope x e = (e ≡ memory) ⊎ ((k : Meaning) × StandsFor scope x.string k × IsNoneOf is_resource_or_value_form k × (e ≡ not_value_type x.string (described k) x.span))
 
 abbrev mutual
-  -- a type, its first part that has no meaning
+  -- the first part of a type that has no meaning
   pub TypeBroken : Scope → Ty → Error → Type 0
   TypeBroken scope (Ty.tuple ts s) e = (e ≡ memory) ⊎ TypesBroken scope ts e
   TypeBroken scope (Ty.list t s) e = (e ≡ memory) ⊎ TypeBroken scope t e
@@ -55,34 +56,9 @@ ParamBroken kind scope e old before p = TypeBroken scope p.ty e ⊎ ((v : Meanin
 abbrev pub ParamsBroken : FuncKind → Scope → Named Meaning → List NamedType → Error → Type 0
 ParamsBroken kind scope first ps e = Fails (HasParam scope) (ParamBroken kind scope e) first ps
 
--- where a type stands
-abbrev pub span_of_type : Ty → Span
-span_of_type (Ty.u8 s) = s
-span_of_type (Ty.s8 s) = s
-span_of_type (Ty.u16 s) = s
-span_of_type (Ty.s16 s) = s
-span_of_type (Ty.u32 s) = s
-span_of_type (Ty.s32 s) = s
-span_of_type (Ty.u64 s) = s
-span_of_type (Ty.s64 s) = s
-span_of_type (Ty.f32 s) = s
-span_of_type (Ty.f64 s) = s
-span_of_type (Ty.char s) = s
-span_of_type (Ty.bool s) = s
-span_of_type (Ty.string s) = s
-span_of_type (Ty.tuple ts s) = s
-span_of_type (Ty.list t s) = s
-span_of_type (Ty.option t s) = s
-span_of_type (Ty.result o r s) = s
-span_of_type (Ty.borrow x s) = s
-span_of_type (Ty.stream t s) = s
-span_of_type (Ty.future t s) = s
-span_of_type (Ty.error_context s) = s
-span_of_type (Ty.ident x) = x.span
-
 -- the result contains a borrow
 abbrev pub IsBorrowInResult : Scope → Ty → Error → Type 0
-IsBorrowInResult scope t e = (e ≡ memory) ⊎ ((v : Meaning) × HasType scope t v × (contains_borrow v ≡ true) × (e ≡ borrow_in_result (span_of_type t)))
+IsBorrowInResult scope t e = (e ≡ memory) ⊎ ((v : Meaning) × HasType scope t v × (contains_borrow v ≡ true) × (e ≡ borrow_in_result (ty_span t)))
 
 abbrev pub ResultsBroken : Scope → ResultList → Error → Type 0
 ResultsBroken scope ResultList.empty e = e ≡ memory

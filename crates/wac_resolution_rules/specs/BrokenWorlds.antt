@@ -7,6 +7,7 @@ use Rattle.wac_types.specs.declared.kind.ExternKind.TheVariants as sides
 use Rattle.wac_types.specs.declared.kind.FuncKind.TheVariants as funcs
 use Rattle.wac_types.specs.Meaning.{Meaning}
 use Rattle.wac_grammar.specs.Tree.{Ident, FuncTypeRef, InterfaceItem, ExternType, WorldItemPath, WorldItem, WorldRef, WorldIncludeItem, WorldInclude, TypeStatement}
+use Rattle.wac_worlds.specs.Worlds.{world_ref_name, world_ref_span}
 use Rattle.wac_resolution_rules.specs.Error.{Error, not_func_or_interface, duplicate_world_include_name, not_world, missing_world_include, world_include_conflict, not_func_type, declaration_conflict, duplicate_name, memory}
 use Rattle.wac_resolution_rules.specs.Scope.{Scope, look_up, StandsFor, IsFresh}
 use Rattle.wac_resolution_rules.specs.Steps.{Steps, Fails}
@@ -18,10 +19,11 @@ use Rattle.wac_resolution_rules.specs.Worlds.{IsFuncRef, HasInterfaceItem, IsInt
 use Rattle.wac_resolution_rules.specs.TypeStatements.{declared_id}
 use Rattle.wac_resolution_rules.specs.Declarations.{IsTypeDecl}
 use Rattle.wac_resolution_rules.specs.Composition.{Composition, root_scope}
-use Rattle.wac_resolution_rules.specs.Places.{Places, bound_in_interface, bound_in_world, world_ref_span, world_ref_name, identifier_of}
 use Rattle.wac_resolution_rules.specs.BrokenTypes.{IsUndefined, FuncBroken}
 use Rattle.wac_resolution_rules.specs.BrokenDeclarations.{TypeDeclBroken}
 use Rattle.wac_resolution_rules.specs.BrokenBodies.{Owner, of_interface, of_world, PathBroken, IsConflict, ItemBroken, UseBroken, IsNoInterface}
+use Rattle.wac_resolution_rules.specs.Spans.{identifier_of}
+use Rattle.wac_resolution_rules.specs.Places.{Places, bound_in_interface, bound_in_world}
 
 -- ---- interfaces
 

@@ -17,14 +17,14 @@ pub record Node : Type 0 where
   pub name : Option (List ℕ)
   pub arguments : Named ℕ
 
--- a node's number is its place; resources counts the resources that were declared
+-- A node's number is its place. `resources` counts the resources that were declared.
 pub record Composition : Type 0 where
   pub nodes : List Node
   pub exports : Named ℕ
   pub declared : Named ℕ
   pub resources : ℕ
 
--- nothing yet
+-- no statement yet
 abbrev pub start : Composition
 start = record { nodes = []; exports = []; declared = []; resources = 0 }
 

@@ -44,7 +44,7 @@ IsEnum d m = (all : Named Meaning) × Steps HasEnumCase [] d.cases all × (m ≡
 
 -- ---- aliases
 
--- a kind, and the count of declared resources behind it
+-- a kind, and the count of declared resources after it
 abbrev pub Counted : Type 0
 Counted = Meaning × ℕ
 
@@ -88,7 +88,7 @@ abbrev pub IsAlias : Aliasing → Scope → ℕ → List ℕ → TypeAliasKind �
 IsAlias aliasing scope n name (TypeAliasKind.func f) m after = (entry : Meaning) × IsFunc scope f entry × (m ≡ kind_of a_func entry) × (after ≡ n)
 IsAlias aliasing scope n name (TypeAliasKind.ty t) m after = IsTypeAlias aliasing scope n name (alone t) t m after
 
--- what a declaration at root declares, and the count of declared resources behind it
+-- what a declaration at root declares, and the count of declared resources after it
 abbrev pub IsTypeDecl : Scope → ℕ → TypeDecl → Meaning → ℕ → Type 0
 IsTypeDecl scope n (TypeDecl.variant d) m after = IsVariant scope d m × (after ≡ n)
 IsTypeDecl scope n (TypeDecl.record_decl d) m after = IsRecord scope d m × (after ≡ n)

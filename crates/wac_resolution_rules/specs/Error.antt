@@ -1,4 +1,4 @@
--- Why statements are refused.
+-- Why documents are rejected.
 use Rattle.std.specs.Prelude.{◌≡◌, ℕ, List, Option}
 use Rattle.wac_lexer.specs.Span.{Span}
 use Rattle.wac_types.specs.declared.kind.ExternKind.{ExternKind}
@@ -9,7 +9,7 @@ use Rattle.wac_types.specs.declared.rules.Reason.{Reason}
 pub data Operation : Type 0 where
   access spread : Operation
 
--- each with its fields and the span
+-- each rule that can be broken, with the fields of its error and the span
 pub data Error : Type 0 where
   undefined_name : (name : List ℕ) (at : Span) → Error
   duplicate_name : (name : List ℕ) (at previous : Span) → Error

@@ -11,7 +11,7 @@ use Rattle.wac_resolution_rules.specs.Shape.{entry_of, imports_of}
 use Rattle.wac_resolution_rules.specs.Packages.{Contents, package_of}
 use Rattle.wac_resolution_rules.specs.Paths.{Setting}
 
--- two answers: no reason against it, or the reason
+-- two tests: each returns no reason, or the reason against
 pub record Rules : Type 0 where
   -- may the first stand where the second is expected
   pub passes : Meaning → Meaning → Option Reason

@@ -14,6 +14,7 @@ pub mod TypeStatements
 pub mod Error
 pub mod BrokenTypes
 pub mod BrokenDeclarations
+pub mod Spans
 pub mod Places
 pub mod BrokenBodies
 pub mod BrokenWorlds
@@ -24,7 +25,6 @@ pub mod Find
 pub mod Expressions
 pub mod Statements
 pub mod Target
-pub mod RootPlaces
 pub mod BrokenExpressions
 pub mod BrokenStatements
 pub mod ResolvedDocument

@@ -1,4 +1,4 @@
--- Packages that are handed to resolving.
+-- Packages that are given to resolving.
 use Rattle.std.specs.Prelude.{List, map, Option}
 use Rattle.std.specs.Map.{lookup}
 use Rattle.wac_types.specs.declared.kind.ItemKind.TheVariants as kinds
@@ -25,10 +25,10 @@ contents_of naming key p = record {
   definitions = map (λ d. (d.0, meaning (λ i. naming (copied key i)) p.types d.1)) p.definitions;
 }
 
--- the packages that are handed, by key
+-- the given packages, by key
 abbrev pub handed : Naming → List (Key × PackageParts) → Packages
 handed naming all = map (λ e. (e.0, contents_of naming e.0 e.1)) all
 
--- the package of a key, if it is handed
+-- the package of a key, if it is given
 abbrev pub package_of : Key → Packages → Option Contents
 package_of key all = lookup (λ k. same_key key k) all

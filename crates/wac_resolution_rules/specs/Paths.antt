@@ -12,7 +12,7 @@ use Rattle.wac_resolution_rules.specs.Steps.{Steps}
 use Rattle.wac_resolution_rules.specs.Shape.{export_of}
 use Rattle.wac_resolution_rules.specs.Packages.{Packages, Contents, package_of}
 
--- what a document is resolved in: numbers for origins, the document's own package, and the packages that are handed
+-- what a document is resolved in: numbers for origins, the document's own package, and the given packages
 pub record Setting : Type 0 where
   pub naming : Naming
   pub own : List ℕ
@@ -35,7 +35,7 @@ abbrev pub is_own : Setting → PackagePath → Bool
 is_own setting p = bytes_eq p.name setting.own
 
 -- where the first segment is looked for: a path of the document's own package begins in its root scope, whatever the version; another
--- among what that package defines, if it is handed
+-- among what that package defines, if it is given
 abbrev pub beginning : Setting → Scope → PackagePath → Option Scope
 beginning setting root p = beginning_of (is_own setting p) root setting.packages (key_of_path p)
 

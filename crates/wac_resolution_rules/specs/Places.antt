@@ -1,47 +1,21 @@
--- Where names were bound, imported and exported.
-use Rattle.std.specs.Prelude.{ℕ, ◌+◌, ◌-◌, ◌^◌, min, List, [], ◌∷◌, length, map}
-use Rattle.std.specs.List.{slice_split, flat_map}
-use Rattle.wac_lexer.specs.Span.{Span, span}
-use Rattle.wac_grammar.specs.Version.{is_slash}
-use Rattle.wac_grammar.specs.Tree.{Ident, PackagePath, WorldRef, ItemTypeDecl, UseItem, InterfaceItem, WorldItem, TypeStatement}
-use Rattle.wac_resolution_rules.specs.Scope.{Named, with_named}
+-- Where names are bound, imported and exported. Judgements read no span: places stand beside them.
+use Rattle.std.specs.Prelude.{◌≡◌, ℕ, List, [], ◌∷◌, ◌++◌, drop, length, map}
+use Rattle.std.specs.List.{flat_map}
+use Rattle.wac_lexer.specs.Span.{Span}
+use Rattle.wac_grammar.specs.Tree.{Ident, UseItem, InterfaceItem, WorldItem, Statement}
+use Rattle.wac_resolution_rules.specs.Scope.{Named}
 use Rattle.wac_resolution_rules.specs.Bodies.{used_as}
-use Rattle.wac_resolution_rules.specs.TypeStatements.{declared_as}
-
--- where each name was bound at root, imported and exported
-pub record Places : Type 0 where
-  pub bound : Named Span
-  pub imported : Named Span
-  pub exported : Named Span
-
-abbrev pub nowhere_yet : Places
-nowhere_yet = record { bound = []; imported = []; exported = [] }
-
--- a declared type is bound and exported at its identifier
-abbrev pub declaring_at : Places → Ident → Places
-declaring_at old x = record old { bound = with_named old.bound x.string x.span; exported = with_named old.exported x.string x.span }
-
-abbrev pub identifier_of : TypeStatement → Ident
-identifier_of (TypeStatement.interface d) = d.id
-identifier_of (TypeStatement.world d) = d.id
-identifier_of (TypeStatement.ty d) = declared_as d
-
--- the places behind a type statement
-abbrev pub places_after : TypeStatement → Places → Places
-places_after s old = declaring_at old (identifier_of s)
+use Rattle.wac_resolution_rules.specs.Spans.{item_identifier, identifier_of, import_span, export_span}
+use Rattle.wac_resolution_rules.specs.Given.{Given}
+use Rattle.wac_resolution_rules.specs.Composition.{Composition}
+use Rattle.wac_resolution_rules.specs.Nodes.{imports}
+use Rattle.wac_resolution_rules.specs.Find.{names_of}
+use Rattle.wac_resolution_rules.specs.Statements.{Goes}
 
 -- ---- in a body
 
 abbrev pub at_ident : Ident → List ℕ × Span
 at_ident x = (x.string, x.span)
-
-abbrev pub item_identifier : ItemTypeDecl → Ident
-item_identifier (ItemTypeDecl.resource d) = d.id
-item_identifier (ItemTypeDecl.variant d) = d.id
-item_identifier (ItemTypeDecl.record_decl d) = d.id
-item_identifier (ItemTypeDecl.flags d) = d.id
-item_identifier (ItemTypeDecl.enum d) = d.id
-item_identifier (ItemTypeDecl.alias d) = d.id
 
 abbrev pub used_at : List UseItem → Named Span
 used_at xs = map (λ x. at_ident (used_as x)) xs
@@ -65,29 +39,66 @@ bound_in_interface items = flat_map bound_in_interface_item items
 abbrev pub bound_in_world : List WorldItem → Named Span
 bound_in_world items = flat_map bound_in_world_item items
 
--- ---- segments
+-- ---- at root
 
--- so many bytes behind an offset, up to the greatest offset
-abbrev pub behind : ℕ → ℕ → ℕ
-behind offset bytes = min (offset + bytes) (2 ^ 64 - 1)
+-- where each name was bound at root, imported and exported
+pub record Places : Type 0 where
+  pub bound : Named Span
+  pub imported : Named Span
+  pub exported : Named Span
 
-abbrev pub located : ℕ → List (List ℕ) → Named Span
-located offset [] = []
-located offset (part ∷ others) = (part, span offset (length part)) ∷ located (behind (behind offset (length part)) 1) others
+abbrev pub nowhere_yet : Places
+nowhere_yet = record { bound = []; imported = []; exported = [] }
 
--- the segments of a path, and where each stands
-abbrev pub segment_spans : PackagePath → Named Span
-segment_spans p = located (behind (behind p.span.offset (length p.name)) 1) (slice_split is_slash p.segments)
+-- names, each at one span
+abbrev pub names_at : {X : Type 0} → Span → Named X → Named Span
+names_at span names = map (λ x. (x.0, span)) names
 
--- the name of the package in a path
-abbrev pub package_name_span : PackagePath → Span
-package_name_span p = span p.span.offset (length p.name)
+-- where what a statement binds stands; of one that binds nothing any span
+abbrev pub bound_at : Statement → Span
+bound_at (Statement.import_statement x) = x.id.span
+bound_at (Statement.let_statement x) = x.id.span
+bound_at (Statement.export_statement x) = export_span x
+bound_at (Statement.type_statement x) = (identifier_of x).span
 
-abbrev pub world_ref_span : WorldRef → Span
-world_ref_span (WorldRef.path p) = p.span
-world_ref_span (WorldRef.ident x) = x.span
+abbrev pub imported_at : Statement → Span
+imported_at (Statement.import_statement x) = import_span x
+imported_at (Statement.let_statement x) = x.id.span
+imported_at (Statement.export_statement x) = export_span x
+imported_at (Statement.type_statement x) = (identifier_of x).span
 
--- the text by which a world is named
-abbrev pub world_ref_name : WorldRef → List ℕ
-world_ref_name (WorldRef.path p) = p.string
-world_ref_name (WorldRef.ident x) = x.string
+abbrev pub exported_at : Statement → Span
+exported_at (Statement.import_statement x) = import_span x
+exported_at (Statement.let_statement x) = x.id.span
+exported_at (Statement.export_statement x) = export_span x
+exported_at (Statement.type_statement x) = (identifier_of x).span
+
+-- the names that the new list has more, at a span
+abbrev pub more_at : {X : Type 0} → Span → Named X → Named X → Named Span
+more_at span old new = names_at span (drop (length old) new)
+
+-- the places after a statement, which led from one composition to another
+abbrev pub places_after : Composition → Places → Statement → Composition → Places
+places_after old p x new = record {
+  bound = p.bound ++ more_at (bound_at x) old.declared new.declared;
+  imported = p.imported ++ more_at (imported_at x) (imports old) (imports new);
+  exported = p.exported ++ more_at (exported_at x) old.exports new.exports;
+}
+
+-- a composition and its places
+pub record Placed : Type 0 where
+  pub composition : Composition
+  pub places : Places
+
+abbrev pub placed_start : Composition → Placed
+placed_start c = record { composition = c; places = nowhere_yet }
+
+-- a statement leads from one composition to the next, and changes the places
+abbrev pub Leads : Given → Placed → Statement → Placed → Type 0
+Leads s old x new = Goes s old.composition x new.composition × (new.places ≡ places_after old.composition old.places x new.composition)
+
+-- the names that have places are those that were bound, imported and exported, in order
+pub record HavePlaces (c : Composition) (p : Places) : Type 0 where
+  pub bound : names_of p.bound ≡ names_of c.declared
+  pub imported : names_of p.imported ≡ names_of (imports c)
+  pub exported : names_of p.exported ≡ names_of c.exports

@@ -1,5 +1,5 @@
--- What resolving answers: exactly the composition that a document describes, or the first failing statement.
-use Rattle.std.specs.Prelude.{◌≡◌, List, ◌∷◌, ◌++◌, Some, Result, Ok, Err, ◌⊎◌}
+-- What resolving returns: exactly the composition that a document describes, or a rule that the first failing statement breaks.
+use Rattle.std.specs.Prelude.{◌≡◌, ◌↔◌, List, ◌∷◌, ◌++◌, Some, Result, Ok, Err, ◌⊎◌}
 use Rattle.wac_grammar.specs.Tree.{PackagePath, Statement, Document}
 use Rattle.wac_grammar.specs.Version.{version_text}
 use Rattle.wac_resolution_rules.specs.Origin.{Naming, IsOneToOne}
@@ -11,11 +11,11 @@ use Rattle.wac_resolution_rules.specs.Given.{Given, Rules}
 use Rattle.wac_resolution_rules.specs.Composition.{Composition, start}
 use Rattle.wac_resolution_rules.specs.Statements.{Goes, Composes}
 use Rattle.wac_resolution_rules.specs.Target.{MeetsPath, MeetsTarget}
-use Rattle.wac_resolution_rules.specs.RootPlaces.{Placed, placed_start, Leads}
 use Rattle.wac_resolution_rules.specs.Error.{Error, memory}
 use Rattle.wac_resolution_rules.specs.BrokenStatements.{StatementBroken, TargetBroken}
+use Rattle.wac_resolution_rules.specs.Places.{Leads, Placed, placed_start}
 
--- what is given to a document: handed packages by what they mean
+-- what a document is resolved with: the given packages, by what they mean, and the rules
 abbrev pub given_to : Naming → List (Key × PackageParts) → Rules → Document → Given
 given_to naming packages rules doc = record {
   setting = record { naming = naming; own = doc.directive.package_name.name; version = version_text doc.directive.package_name.string; packages = handed naming packages };
@@ -25,6 +25,10 @@ given_to naming packages rules doc = record {
 -- the document's statements have this composition, and the target allows it
 abbrev pub Describes : Given → Document → Composition → Type 0
 Describes s doc c = Composes s start doc.statements c × MeetsTarget s c doc.directive.targets
+
+-- what one document describes the other describes, and the other way round, whatever the packages and the rules are
+abbrev pub DescribeAlike : Document → Document → Type 0
+DescribeAlike a b = (naming : Naming) (packages : List (Key × PackageParts)) (rules : Rules) (c : Composition) → Describes (given_to naming packages rules a) a c ↔ Describes (given_to naming packages rules b) b c
 
 -- the statements before it have a composition; with it there is none, for it breaks a rule
 pub record StatementFails (s : Given) (doc : Document) (e : Error) : Type 0 where
@@ -49,22 +53,22 @@ pub record TargetFails (s : Given) (doc : Document) (e : Error) : Type 0 where
 abbrev pub FirstFailing : Given → Document → Error → Type 0
 FirstFailing s doc e = StatementFails s doc e ⊎ TargetFails s doc e
 
--- ---- the clauses of resolving, each of every naming that is one to one and of what is given under it
+-- ---- what resolving promises, for each naming that is one to one
 
 abbrev pub EveryNaming : (Naming → Type 0) → Type 0
 EveryNaming P = (naming : Naming) → IsOneToOne naming → P naming
 
--- what is answered is described
+-- what is returned is described
 abbrev pub GraphClause : Given → Document → Result Composition Error → Type 0
 GraphClause s doc (Ok c) = Describes s doc c
 GraphClause s doc (Err e) = Unit {0}
 
--- what is described is answered, or memory was wanting
+-- what is described is returned, unless memory ran out
 abbrev pub OnlyClause : Given → Document → Result Composition Error → Type 0
 OnlyClause s doc (Ok c) = Unit {0}
 OnlyClause s doc (Err e) = (c : Composition) → Describes s doc c → e ≡ memory
 
--- the error names a rule that the first failing statement breaks, or memory was wanting
+-- the error names a rule that the first failing statement breaks, unless memory ran out
 abbrev pub FirstClause : Given → Document → Result Composition Error → Type 0
 FirstClause s doc (Ok c) = Unit {0}
 FirstClause s doc (Err e) = (e ≡ memory) ⊎ FirstFailing s doc e

@@ -40,7 +40,7 @@ pub record IsLinked (s : Given) (ns : List Node) (i : ℕ) (n : Node) : Type 0 w
   pub once : OnceEach n.arguments
   pub fit : ArgumentsFit s ns (key_of_node n.form) n.arguments
 
--- each name is a name of a node
+-- each name is of a node that is there
 abbrev pub NamesNodes : ℕ → Named ℕ → Type 0
 NamesNodes count all = AllByRecursion (λ e. e.1 < count) all
 
@@ -64,7 +64,7 @@ pub record IsKept (a b : Node) : Type 0 where
   pub arguments : b.arguments ≡ a.arguments
   pub name : (b.name ≡ a.name) ⊎ (IsAlias a.form × (a.name ≡ None))
 
--- the nodes come first, as they were
+-- the nodes come first, and are kept
 abbrev pub AreKept : List Node → List Node → Type 0
 AreKept [] ms = Unit {0}
 AreKept (n ∷ ns) [] = ⊥

@@ -4,6 +4,7 @@ use Rattle.std.specs.Option.{option_or}
 use Rattle.wac_types.specs.Kind.{func, instance}
 use Rattle.wac_types.specs.Meaning.{Meaning}
 use Rattle.wac_grammar.specs.Tree.{Ident, ExternName, ImportType, ImportStatement, LetStatement, ExportOptions, ExportStatement, TypeStatement, Statement}
+use Rattle.wac_syntax.specs.Names.{extern_name_text}
 use Rattle.wac_resolution_rules.specs.Scope.{Named, look_up, StandsFor, IsFresh}
 use Rattle.wac_resolution_rules.specs.Steps.{Steps}
 use Rattle.wac_resolution_rules.specs.Shape.{kind_of, exports_of, id_of, promoted}
@@ -16,10 +17,6 @@ use Rattle.wac_resolution_rules.specs.Given.{Given}
 use Rattle.wac_resolution_rules.specs.Composition.{Composition, Node, imported, root_scope, with_node, with_export, with_resources, binding}
 use Rattle.wac_resolution_rules.specs.Nodes.{node_at, instance_at, imports, is_definition, next_of}
 use Rattle.wac_resolution_rules.specs.Expressions.{At, at, alias_at, instance_id, own_name, Stands}
-
-abbrev pub extern_text : ExternName → List ℕ
-extern_text (ExternName.ident x) = x.string
-extern_text (ExternName.string x) = x.value
 
 -- ---- import
 
@@ -43,7 +40,7 @@ unnamed_import id (ImportType.ident x) k = unwrap_or (item_id k) id.string
 
 -- the name under which a statement imports
 abbrev pub name_imported : ImportStatement → Meaning → List ℕ
-name_imported x k = elim x.name [ None ↦ unnamed_import x.id x.ty k | Some name ↦ extern_text name ]
+name_imported x k = elim x.name [ None ↦ unnamed_import x.id x.ty k | Some name ↦ extern_name_text name ]
 
 -- an import has a kind, and a name that is new and may be one; its identifier is new
 abbrev pub Imports : Given → Composition → ImportStatement → Composition → Type 0
@@ -85,7 +82,7 @@ ExportsOne s node old x new = ExportsAs s (alias_at (at old node) x.0 x.1).compo
 abbrev pub ExportsBy : Given → At → ExportOptions → Composition → Type 0
 ExportsBy s a (ExportOptions.spread span) new = (i : Meaning) × (instance_at a.composition a.node ≡ Some i)
     × (unexported a.composition.exports (exports_of i) ≢ []) × Steps (ExportsOne s a.node) a.composition (unexported a.composition.exports (exports_of i)) new
-ExportsBy s a (ExportOptions.rename name) new = ExportsAs s a.composition (extern_text name) a.node new
+ExportsBy s a (ExportOptions.rename name) new = ExportsAs s a.composition (extern_name_text name) a.node new
 ExportsBy s a ExportOptions.none new = (n : Node) × (name : List ℕ) × (node_at a.composition a.node ≡ Some n) × (unnamed_export n ≡ Some name) × ExportsAs s a.composition name a.node new
 
 abbrev pub Exports : Given → Composition → ExportStatement → Composition → Type 0

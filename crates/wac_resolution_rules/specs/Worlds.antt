@@ -29,7 +29,7 @@ HasInterfaceItem setting root old (InterfaceItem.interface_export x) new =
     (f : Meaning) × IsFuncRef old.scope x.ty f × IsFresh x.id.string old.exports
     × (new ≡ with_extern sides.Export old x.id.string (kind_of func f))
 
--- the entry of an interface, and the count of declared resources behind it
+-- the entry of an interface, and the count of declared resources after it
 abbrev pub IsInterface : Setting → Scope → ℕ → Option (List ℕ) → List InterfaceItem → Meaning → ℕ → Type 0
 IsInterface setting root n id items entry after =
     (b : Body) × Steps (HasInterfaceItem setting root) (empty_body n) items b
@@ -78,7 +78,7 @@ include_in _ = None
 abbrev pub includes_of : List WorldItem → List WorldInclude
 includes_of items = filter_map include_in items
 
--- the entry of a world, and the count of declared resources behind it
+-- the entry of a world, and the count of declared resources after it
 abbrev pub IsWorld : Setting → Scope → ℕ → Option (List ℕ) → List WorldItem → Meaning → ℕ → Type 0
 IsWorld setting root n id items entry after =
     (mid : Body) × (b : Body) × Steps (HasWorldItem setting root) (empty_body n) items mid × Steps (HasInclude setting root) mid (includes_of items) b
