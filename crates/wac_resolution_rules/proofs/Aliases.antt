@@ -1,18 +1,14 @@
 -- An alias of an export of a node occurs once.
-use Rattle.std.proofs.Common.{◌≡◌, ℕ, zero, suc, List, [], ◌∷◌, ◌++◌, length, refl, sym, subst, Option, Some, None, Bool, true, false, cond, not, ◌≤◌, ◌+◌, ◌&&◌, nat_eq, nat_lt, is_some, arith, eqb-true, eq-eqb, ltb-false}
-use Rattle.std.specs.Prelude.{fold}
+use Rattle.std.proofs.Common.{◌≡◌, ℕ, zero, suc, List, [], ◌∷◌, ◌++◌, length, refl, sym, subst, Option, Some, None, Bool, true, false, cond, not, ◌≤◌, ◌+◌, ◌&&◌, nat_eq, nat_lt, arith, eqb-true, eq-eqb, ltb-false}
 use Rattle.std.specs.List.{AllByRecursion, position, position_or_len, prefix_len}
 use Rattle.std.specs.Str.{bytes_eq}
 use Rattle.wac_types.specs.Meaning.{Meaning}
-use Rattle.wac_grammar.specs.Tree.{Ident, PostfixExpr, Expr, PrimaryExpr, Arguments, InstantiationArgument, ExportOptions, Statement}
-use Rattle.wac_resolution_rules.specs.Scope.{Named, look_up}
-use Rattle.wac_resolution_rules.specs.Shape.{exports_of, promoted}
-use Rattle.wac_resolution_rules.specs.Steps.{Steps}
-use Rattle.wac_resolution_rules.specs.Given.{Given, imports_in}
+use Rattle.wac_grammar.specs.Tree.{Statement}
+use Rattle.wac_resolution_rules.specs.Shape.{promoted}
+use Rattle.wac_resolution_rules.specs.Given.{Given}
 use Rattle.wac_resolution_rules.specs.Composition.{NodeForm, imported, definition, aliased, instantiated, Composition, Node, named_at, with_node, with_resources, start}
 use Rattle.wac_resolution_rules.specs.Nodes.{is_alias_of, alias_in, with_alias, next_of}
-use Rattle.wac_resolution_rules.specs.Expressions.{At, at, accessed, alias_at, Accesses, Giving, nothing_given, given_too, spread_step, Spreads, spreads_of, Stands, PrimaryStands, Gives, GivesOne}
-use Rattle.wac_resolution_rules.specs.Statements.{name_imported, ExportsOne, ExportsBy, Goes, Composes}
+use Rattle.wac_resolution_rules.specs.Statements.{name_imported, Goes, Composes}
 use Rattle.wac_resolution_rules.specs.Sound.{IsAlias, is_same_alias, AliasesOnce}
 use Rattle.wac_resolution_rules.specs.Spans.{identifier_of}
 use Rattle.wac_resolution_rules.proofs.StatementsStop.{declares_what}

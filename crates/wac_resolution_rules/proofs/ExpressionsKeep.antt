@@ -1,5 +1,5 @@
 -- What expressions and exports keep of the nodes of a composition.
-use Rattle.std.proofs.Common.{◌≡◌, ℕ, List, [], ◌∷◌, sym, subst, Option, Some, None, Bool, true, false, cond, is_some}
+use Rattle.std.proofs.Common.{ℕ, List, [], ◌∷◌, sym, subst, Option, Some, None, Bool, true, false, cond, is_some}
 use Rattle.std.specs.Prelude.{fold}
 use Rattle.wac_types.specs.Meaning.{Meaning}
 use Rattle.wac_graph.specs.Package.{Key}

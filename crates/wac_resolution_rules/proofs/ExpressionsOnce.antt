@@ -1,7 +1,7 @@
 -- An expression stands for one node, and a statement leads to one composition.
-use Rattle.std.proofs.Common.{◌≡◌, ℕ, sym, ◌∙◌, ap, subst, Option, Some}
+use Rattle.std.proofs.Common.{◌≡◌, ℕ, sym, ◌∙◌, ap, subst, Some}
 use Rattle.wac_types.specs.Meaning.{Meaning}
-use Rattle.wac_grammar.specs.Tree.{Ident, PostfixExpr, Expr, PrimaryExpr, Arguments, InstantiationArgument}
+use Rattle.wac_grammar.specs.Tree.{Expr, PrimaryExpr, Arguments, InstantiationArgument}
 use Rattle.wac_resolution_rules.specs.Scope.{Named, look_up, StandsFor}
 use Rattle.wac_resolution_rules.specs.Shape.{exports_of}
 use Rattle.wac_resolution_rules.specs.Steps.{Steps}

@@ -1,5 +1,5 @@
 -- An expression that breaks a rule stands for nothing.
-use Rattle.std.proofs.Common.{◌≡◌, ◌≢◌, ℕ, List, ◌∙◌, ap, subst, Option, Some, None, Bool, false, IsTrue, inl, inr}
+use Rattle.std.proofs.Common.{◌≡◌, ◌≢◌, ℕ, List, ◌∙◌, ap, subst, Some, None, Bool, false, IsTrue, inl, inr}
 use Rattle.std.specs.List.{AllByRecursion}
 use Rattle.wac_lexer.specs.Span.{Span}
 use Rattle.wac_types.specs.Meaning.{Meaning}

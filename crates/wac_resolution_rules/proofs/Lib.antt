@@ -9,7 +9,7 @@ pub mod WorldsPlain
 pub mod TypesStop
 pub mod BodiesStop
 pub mod WorldsStop
-pub mod Rows
+pub mod WorldRows
 pub mod Scopes
 pub mod TableLaws
 pub mod Includes
@@ -24,7 +24,7 @@ pub mod Fronts
 pub mod Sound
 pub mod StatementsPlain
 pub mod Alike
-pub mod CompositionRows
+pub mod StatementRows
 pub mod TypesMention
 pub mod StatementsMention
 pub mod Places

@@ -11,7 +11,7 @@ use Rattle.wac_resolution_rules.specs.Scope.{Named, Scope, look_up, IsFresh, wit
 use Rattle.wac_resolution_rules.specs.Steps.{Steps}
 use Rattle.wac_resolution_rules.specs.Shape.{kind_of, promoted, resource_entry}
 use Rattle.wac_resolution_rules.specs.Paths.{Setting}
-use Rattle.wac_resolution_rules.specs.Bodies.{Body, empty_body, externs, with_extern, with_type, with_count, constructor_name, name_of_method, HasMethod, with_resource, HasItem, used_as, renamed_from, UsesItem, HasUse, IsCovered}
+use Rattle.wac_resolution_rules.specs.Bodies.{Body, empty_body, with_extern, with_type, with_count, constructor_name, name_of_method, HasMethod, with_resource, HasItem, used_as, renamed_from, UsesItem, HasUse, IsCovered}
 use Rattle.wac_resolution_rules.specs.Worlds.{HasInterfaceItem, HasExtern, HasWorldItem, id_or_empty}
 use Rattle.wac_resolution_rules.proofs.StepLaws.{steps_keep}
 

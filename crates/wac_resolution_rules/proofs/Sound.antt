@@ -3,7 +3,6 @@ use Rattle.std.proofs.Common.{◌≡◌, ◌≤◌, ◌<◌, ◌+◌, ℕ, zero,
 use Rattle.std.specs.Prelude.{fold}
 use Rattle.std.specs.List.{AllByRecursion}
 use Rattle.std.specs.Str.{bytes_eq}
-use Rattle.std.proofs.lemmas.Slice.Eq.{bytes_eq-Decides}
 use Rattle.std.proofs.lemmas.Option.{slice_get_within}
 use Rattle.wac_types.specs.Meaning.{Meaning, EachFrom}
 use Rattle.wac_graph.specs.Package.{Key}
@@ -20,7 +19,7 @@ use Rattle.wac_resolution_rules.specs.Statements.{name_imported, Imports, Lets, 
 use Rattle.wac_resolution_rules.specs.TypeStatements.{Declares}
 use Rattle.wac_resolution_rules.specs.Spans.{identifier_of}
 use Rattle.wac_resolution_rules.proofs.StatementsStop.{declares_what}
-use Rattle.wac_resolution_rules.specs.Sound.{OnceEach, IsAfterSource, ArgumentsFit, IsLinked, NamesNodes, IsSound, NamesOnce}
+use Rattle.wac_resolution_rules.specs.Sound.{OnceEach, IsAfterSource, ArgumentsFit, IsLinked, NamesNodes, IsSound}
 use Rattle.wac_resolution_rules.proofs.Names.{once_with}
 use Rattle.wac_resolution_rules.proofs.ExpressionsAdd.{Adds, stands_adds, gives_add, give_adds, spread_adds, step_adds, alias_adds}
 use Rattle.wac_resolution_rules.proofs.Fronts.{AreNamed, named_found, named_at_suc, adds_named, adds_length, alias_there, goes_continues}

@@ -8,7 +8,7 @@ use Rattle.std.proofs.lemmas.Slice.Eq.{bytes_eq-Decides}
 use Rattle.wac_types.specs.Kind.{instance}
 use Rattle.wac_types.specs.Meaning.{Meaning}
 use Rattle.wac_graph.specs.Package.{Key, same_key, same_version}
-use Rattle.wac_grammar.specs.Tree.{Ident, PackageName, PackagePath, PostfixExpr, Expr, PrimaryExpr, Arguments, InstantiationArgument, ImportType, ImportStatement, LetStatement, ExportOptions, ExportStatement, TypeStatement, Statement, Document}
+use Rattle.wac_grammar.specs.Tree.{Ident, PackageName, PackagePath, PostfixExpr, Expr, PrimaryExpr, Arguments, InstantiationArgument, ImportType, ExportOptions, Statement, Document}
 use Rattle.wac_resolution_rules.specs.Scope.{Named, look_up, IsFresh}
 use Rattle.wac_resolution_rules.specs.Steps.{Steps}
 use Rattle.wac_resolution_rules.specs.Shape.{kind_of, promoted, exports_of}

@@ -2,7 +2,7 @@
 use Rattle.std.proofs.Common.{◌≡◌, ℕ, List, [], sym, ◌∙◌, ap, subst, Some, None}
 use Rattle.wac_types.specs.Kind.{func, instance}
 use Rattle.wac_types.specs.Meaning.{Meaning}
-use Rattle.wac_grammar.specs.Tree.{FuncType, InterfaceItem, PackagePath, ImportType, ImportStatement, LetStatement, ExportOptions, ExportStatement, TypeStatement, Statement}
+use Rattle.wac_grammar.specs.Tree.{ImportType, ImportStatement, LetStatement, ExportOptions, ExportStatement, Statement}
 use Rattle.wac_resolution_rules.specs.Scope.{Named, look_up}
 use Rattle.wac_resolution_rules.specs.Shape.{kind_of, exports_of, promoted}
 use Rattle.wac_resolution_rules.specs.Steps.{Steps}

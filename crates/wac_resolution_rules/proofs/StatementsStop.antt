@@ -5,7 +5,7 @@ use Rattle.std.specs.List.{AllByRecursion}
 use Rattle.wac_lexer.specs.Span.{Span}
 use Rattle.wac_types.specs.declared.kind.ExternKind.{ExternKind}
 use Rattle.wac_types.specs.Meaning.{Meaning}
-use Rattle.wac_grammar.specs.Tree.{Ident, FuncType, InlineInterface, PackagePath, ImportType, ImportStatement, LetStatement, Expr, ExportOptions, ExportStatement, TypeStatement, Statement}
+use Rattle.wac_grammar.specs.Tree.{Ident, PackagePath, ImportType, ImportStatement, LetStatement, Expr, ExportOptions, ExportStatement, TypeStatement, Statement}
 use Rattle.wac_resolution_rules.specs.Scope.{Named, look_up, IsFresh}
 use Rattle.wac_types.specs.Kind.{an_interface, a_world}
 use Rattle.wac_resolution_rules.specs.Shape.{kind_of, exports_of, promoted}

@@ -6,7 +6,7 @@ use Rattle.wac_types.specs.Kind.{Form}
 use Rattle.wac_types.specs.Entry.{Slot}
 use Rattle.wac_types.specs.Meaning.{Meaning}
 use Rattle.wac_grammar.specs.Tree.{Ident, Ty, OptionalTy, Types, NamedType, ResultList, FuncType, VariantCase, VariantDecl, Field, RecordDecl, Flag, FlagsDecl, EnumCase, EnumDecl, TypeAliasKind, TypeDecl}
-use Rattle.wac_resolution_rules.specs.Error.{Error, memory, NamesRule}
+use Rattle.wac_resolution_rules.specs.Error.{Error, NamesRule}
 use Rattle.wac_resolution_rules.specs.Scope.{Named, Scope, StandsFor, IsFresh}
 use Rattle.wac_resolution_rules.specs.Steps.{Steps}
 use Rattle.wac_resolution_rules.specs.Shape.{IsA, IsNoneOf, contains_borrow}

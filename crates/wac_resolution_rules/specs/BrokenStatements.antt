@@ -6,7 +6,7 @@ use Rattle.wac_types.specs.declared.kind.ExternKind.{ExternKind}
 use Rattle.wac_types.specs.declared.kind.ExternKind.TheVariants as externs
 use Rattle.wac_types.specs.declared.rules.Reason.{Reason}
 use Rattle.wac_types.specs.Meaning.{Meaning}
-use Rattle.wac_grammar.specs.Tree.{Ident, FuncType, InlineInterface, PackagePath, ImportType, ImportStatement, LetStatement, Expr, ExportOptions, ExportStatement, TypeStatement, Statement}
+use Rattle.wac_grammar.specs.Tree.{PackagePath, ImportType, ImportStatement, LetStatement, Expr, ExportOptions, ExportStatement, Statement}
 use Rattle.wac_syntax.specs.Names.{extern_name_text, extern_name_span}
 use Rattle.wac_resolution_rules.specs.Scope.{Named, look_up, StandsFor, IsFresh}
 use Rattle.wac_resolution_rules.specs.Steps.{Fails}

@@ -1,6 +1,5 @@
 -- Which rule an error says is broken: types.
 use Rattle.std.specs.Prelude.{◌≡◌, ◌⊎◌, List, true}
-use Rattle.wac_lexer.specs.Span.{Span}
 use Rattle.wac_types.specs.declared.kind.FuncKind.{FuncKind}
 use Rattle.wac_types.specs.Meaning.{Meaning}
 use Rattle.wac_grammar.specs.Tree.{Ident, Ty, OptionalTy, Types, NamedType, ResultList, FuncType}

@@ -4,7 +4,7 @@ use Rattle.std.specs.List.{AllByRecursion}
 use Rattle.std.specs.Option.{option_or}
 use Rattle.wac_types.specs.Meaning.{Meaning}
 use Rattle.wac_graph.specs.Package.{Key}
-use Rattle.wac_grammar.specs.Tree.{Ident, PackageName, PostfixExpr, InstantiationArgumentName, Expr, PrimaryExpr, Arguments, InstantiationArgument}
+use Rattle.wac_grammar.specs.Tree.{Ident, PostfixExpr, InstantiationArgumentName, Expr, PrimaryExpr, Arguments, InstantiationArgument}
 use Rattle.wac_resolution_rules.specs.Scope.{Named, look_up, StandsFor, IsFresh, with_named}
 use Rattle.wac_resolution_rules.specs.Steps.{Steps}
 use Rattle.wac_resolution_rules.specs.Shape.{exports_of, id_of}

@@ -1,7 +1,7 @@
 -- Where the parts of a tree stand, and the identifiers and texts that name them.
 use Rattle.std.specs.Prelude.{ℕ, List, Some, None}
 use Rattle.wac_lexer.specs.Span.{Span}
-use Rattle.wac_grammar.specs.Tree.{Ident, ExternName, Ty, UsePath, WorldRef, ItemTypeDecl, TypeStatement, ImportType, ImportStatement, Expr, PrimaryExpr, PostfixExpr, InstantiationArgumentName, ExportOptions, ExportStatement}
+use Rattle.wac_grammar.specs.Tree.{Ident, UsePath, ItemTypeDecl, TypeStatement, ImportType, ImportStatement, Expr, ExportOptions, ExportStatement}
 use Rattle.wac_syntax.specs.Names.{extern_name_span}
 use Rattle.wac_resolution_rules.specs.TypeStatements.{declared_as}
 

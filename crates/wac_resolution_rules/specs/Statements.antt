@@ -3,7 +3,7 @@ use Rattle.std.specs.Prelude.{◌≡◌, ◌≢◌, ℕ, List, [], Option, Some,
 use Rattle.std.specs.Option.{option_or}
 use Rattle.wac_types.specs.Kind.{func, instance}
 use Rattle.wac_types.specs.Meaning.{Meaning}
-use Rattle.wac_grammar.specs.Tree.{Ident, ExternName, ImportType, ImportStatement, LetStatement, ExportOptions, ExportStatement, TypeStatement, Statement}
+use Rattle.wac_grammar.specs.Tree.{Ident, ImportType, ImportStatement, LetStatement, ExportOptions, ExportStatement, Statement}
 use Rattle.wac_syntax.specs.Names.{extern_name_text}
 use Rattle.wac_resolution_rules.specs.Scope.{Named, look_up, StandsFor, IsFresh}
 use Rattle.wac_resolution_rules.specs.Steps.{Steps}

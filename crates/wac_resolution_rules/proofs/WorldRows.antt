@@ -1,4 +1,4 @@
--- Documents and what they compose.
+-- A world that imports by itself what the world that it includes imports too.
 use Rattle.std.proofs.Common.{◌≡◌, ℕ, List, [], ◌∷◌, None, refl}
 use Rattle.std.specs.Prelude.{codes, map}
 use Rattle.wac_lexer.specs.Span.{span}
@@ -10,7 +10,7 @@ use Rattle.wac_resolution_rules.specs.Paths.{Setting}
 use Rattle.wac_resolution_rules.specs.Composition.{Composition, start, kind_at}
 use Rattle.wac_resolution_rules.specs.TypeStatements.{Declares}
 
--- the document's own package is a:b, and none is handed
+-- the document's own package is a:b, and none is given
 abbrev setting_of : Naming → Setting
 setting_of naming = record { naming = naming; own = codes "a:b"; version = None; packages = [] }
 
@@ -25,8 +25,8 @@ abbrev exported_names : Composition → ℕ → List (List ℕ)
 exported_names c n = map (λ e. e.0) (exports_of (entry_of (kind_at c.nodes n)))
 
 -- package a:b; interface i { } world v { import i; } world w { import i; include v; }
-abbrev once : List TypeStatement
-once =
+abbrev document : List TypeStatement
+document =
     TypeStatement.interface (record { docs = []; id = ident (codes "i") 23 1; items = [] })
     ∷ TypeStatement.world (record {
       docs = [];
@@ -43,7 +43,7 @@ once =
     })
     ∷ []
 
-pub imports_once : (naming : Naming) → (new : Composition) × Steps (Declares (setting_of naming)) start once new × (imported_names new 2 ≡ codes "a:b/i" ∷ [])
+pub imports_once : (naming : Naming) → (new : Composition) × Steps (Declares (setting_of naming)) start document new × (imported_names new 2 ≡ codes "a:b/i" ∷ [])
 imports_once naming = (
   _,
   (

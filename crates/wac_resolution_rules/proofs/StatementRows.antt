@@ -1,4 +1,4 @@
--- Worked documents: what they describe, and which rule they break.
+-- Documents that are worked out: what they compose, or which rule they break.
 use Rattle.std.proofs.Common.{◌≡◌, ℕ, List, [], ◌∷◌, refl, Option, Some, None, false, codes, inl, inr}
 use Rattle.wac_lexer.specs.Span.{span}
 use Rattle.wac_types.specs.declared.kind.ExternKind.TheVariants as externs
@@ -18,7 +18,7 @@ use Rattle.wac_resolution_rules.specs.Find.{find_name}
 use Rattle.wac_resolution_rules.specs.Expressions.{Giving, name_inferred}
 use Rattle.wac_resolution_rules.specs.Statements.{Goes, Composes, unnamed_export}
 use Rattle.wac_resolution_rules.specs.Target.{IsAllowed}
-use Rattle.wac_resolution_rules.specs.Error.{Error, duplicate_extern_name, fill_argument_not_last, import_not_in_target, mismatched_instantiation_arg, missing_instantiation_arg, missing_target_export, unknown_package}
+use Rattle.wac_resolution_rules.specs.Error.{duplicate_extern_name, fill_argument_not_last, import_not_in_target, mismatched_instantiation_arg, missing_instantiation_arg, missing_target_export, unknown_package}
 use Rattle.wac_resolution_rules.specs.BrokenStatements.{StatementBroken, TargetWorldBroken, TargetBroken}
 use Rattle.wac_resolution_rules.specs.Places.{Places}
 
@@ -85,8 +85,8 @@ exports_x_f naming = (
   (record { form = aliased 0 (codes "f"); kind = function; name = None; arguments = [] }, codes "f", refl, refl, (refl, refl, refl, refl)),
 )
 
-pub row_24 : (naming : Naming) → Composes (given_in naming []) start (import_x ∷ export_x_f ∷ []) whole_x
-row_24 naming = (with_x, imports_x naming, (whole_x, exports_x_f naming, refl))
+pub access_composes : (naming : Naming) → Composes (given_in naming []) start (import_x ∷ export_x_f ∷ []) whole_x
+access_composes naming = (with_x, imports_x naming, (whole_x, exports_x_f naming, refl))
 
 -- ---- package a:b; import log: func(); let i = new c:d { log, ... }; export i.run;
 
@@ -188,12 +188,12 @@ exports_i_run naming = (
   (node_run, codes "run", refl, refl, (refl, refl, refl, refl)),
 )
 
-pub row_16 : (naming : Naming) → Composes (with_cd naming) start (import_log ∷ let_i log_and_fill ∷ export_i_run ∷ []) whole_i
-row_16 naming = (with_log, imports_log naming, (with_i, lets_i naming, (whole_i, exports_i_run naming, refl)))
+pub instance_composes : (naming : Naming) → Composes (with_cd naming) start (import_log ∷ let_i log_and_fill ∷ export_i_run ∷ []) whole_i
+instance_composes naming = (with_log, imports_log naming, (with_i, lets_i naming, (whole_i, exports_i_run naming, refl)))
 
 -- with { log } instead: 45+3, missing instantiation argument x:y/z for package c:d
-pub row_16_missing : (naming : Naming) (p : Places) → StatementBroken (with_cd naming) with_log p (missing_instantiation_arg (codes "x:y/z") (codes "c:d") (span 45 3)) (let_i log_alone)
-row_16_missing naming p = inl (inl (inr (inr (inr (
+pub argument_is_missing : (naming : Naming) (p : Places) → StatementBroken (with_cd naming) with_log p (missing_instantiation_arg (codes "x:y/z") (codes "c:d") (span 45 3)) (let_i log_alone)
+argument_is_missing naming p = inl (inl (inr (inr (inr (
   package_cd,
   given_log,
   given_log,
@@ -203,9 +203,9 @@ row_16_missing naming p = inl (inl (inr (inr (inr (
   inr (inr (inr ((codes "x:y/z", instance_z), [], ((function, refl, refl), tt), refl, refl, refl))),
 )))))
 
--- with { log, ..., } and a package that isn't handed, 45+3: unknown package c:d
-pub row_unknown : (naming : Naming) (p : Places) (args : Arguments) → StatementBroken (given_in naming []) with_log p (unknown_package (codes "c:d") (span 45 3)) (let_i args)
-row_unknown naming p args = inl (inl (inl (inr (refl, refl))))
+-- with { log, ..., } and a package that isn't given, 45+3: unknown package c:d
+pub package_is_unknown : (naming : Naming) (p : Places) (args : Arguments) → StatementBroken (given_in naming []) with_log p (unknown_package (codes "c:d") (span 45 3)) (let_i args)
+package_is_unknown naming p args = inl (inl (inl (inr (refl, refl))))
 
 -- ---- package a:b; let x = new c:d { ..., y };
 
@@ -213,8 +213,8 @@ abbrev fill_first : Arguments
 fill_first = Arguments.more (InstantiationArgument.fill (span 31 3)) (Arguments.more (InstantiationArgument.inferred (ident (codes "y") 36 1)) Arguments.none)
 
 -- 31+3: the fill must be the last argument
-pub row_12 : (naming : Naming) (p : Places) → StatementBroken (with_cd naming) start p (fill_argument_not_last (span 31 3)) (let_i fill_first)
-row_12 naming p = inl (inl (inr (inl (package_cd, refl, inr (inl (inr (λ h. h, refl)))))))
+pub fill_is_not_last : (naming : Naming) (p : Places) → StatementBroken (with_cd naming) start p (fill_argument_not_last (span 31 3)) (let_i fill_first)
+fill_is_not_last naming p = inl (inl (inr (inl (package_cd, refl, inr (inl (inr (λ h. h, refl)))))))
 
 -- ---- package a:b; import x: interface { log: func(); }; let i = new c:d { ...x, ... };
 
@@ -253,8 +253,8 @@ made_spread = record {
   resources = 0;
 }
 
-pub row_spread : (naming : Naming) → Goes (with_cd naming) with_x_log (let_i spread_and_fill) whole_spread
-row_spread naming = (
+pub spread_composes : (naming : Naming) → Goes (with_cd naming) with_x_log (let_i spread_and_fill) whole_spread
+spread_composes naming = (
   record { composition = made_spread; node = 2 },
   (
     record { composition = made_spread; node = 2 },
@@ -278,8 +278,8 @@ abbrev none_pass : Naming → Reason → Given
 none_pass naming r = record { setting = (with_cd naming).setting; rules = record { passes = λ a b. Some r; named = λ text. None } }
 
 -- then 72+1: mismatched instantiation argument log, for that reason
-pub row_mismatch : (naming : Naming) (p : Places) (r : Reason) → StatementBroken (none_pass naming r) with_x_log p (mismatched_instantiation_arg (codes "log") r (span 72 1)) (let_i spread_and_fill)
-row_mismatch naming p r = inl (inl (inr (inr (inr (
+pub argument_mismatches : (naming : Naming) (p : Places) (r : Reason) → StatementBroken (none_pass naming r) with_x_log p (mismatched_instantiation_arg (codes "log") r (span 72 1)) (let_i spread_and_fill)
+argument_mismatches naming p r = inl (inl (inr (inr (inr (
   package_cd,
   record { composition = with_x_log; arguments = [] },
   spread_log,
@@ -306,8 +306,8 @@ abbrev export_k_as_f : Statement
 export_k_as_f = Statement.export_statement (record { docs = []; expr = Expr.expr (span 86 1) (PrimaryExpr.ident (ident (codes "k") 86 1)) []; options = ExportOptions.rename (ExternName.ident (ident (codes "f") 91 1)) })
 
 -- 91+1, previous 61+1: duplicate export f
-pub row_18 : (naming : Naming) → StatementBroken (given_in naming []) with_f_h places_f_h (duplicate_extern_name externs.Export (codes "f") (span 91 1) (span 61 1) None) export_k_as_f
-row_18 naming = inr (record { composition = with_f_h; node = 1 }, (record { composition = with_f_h; node = 1 }, (1, refl, refl), refl), inr (refl, inl (inr (0, span 61 1, refl, refl, refl))))
+pub export_is_repeated : (naming : Naming) → StatementBroken (given_in naming []) with_f_h places_f_h (duplicate_extern_name externs.Export (codes "f") (span 91 1) (span 61 1) None) export_k_as_f
+export_is_repeated naming = inr (record { composition = with_f_h; node = 1 }, (record { composition = with_f_h; node = 1 }, (1, refl, refl), refl), inr (refl, inl (inr (0, span 61 1, refl, refl, refl))))
 
 -- ---- package a:b targets a:b/w; world w { export run: func(); }
 
@@ -330,16 +330,16 @@ with_w = record { nodes = record { form = definition; kind = kind_of a_world ent
 abbrev body_run : Body
 body_run = record { scope = []; uses = []; imports = []; exports = (codes "run", function) ∷ []; resources = 0 }
 
-pub row_25_composes : (naming : Naming) → Composes (given_in naming []) start (world_w ∷ []) with_w
-row_25_composes naming = (
+pub world_composes : (naming : Naming) → Composes (given_in naming []) start (world_w ∷ []) with_w
+world_composes naming = (
   with_w,
   (entry_w, 0, (body_run, body_run, (body_run, (refl, (function, 0, (func_entry false [] [], ([], [], refl, refl, refl), refl, refl), refl)), refl), refl, refl, refl), (refl, refl, refl)),
   refl,
 )
 
 -- 20+5: target world a:b/w requires an export named run
-pub row_25 : (naming : Naming) (p : Places) → TargetBroken (given_in naming []) with_w p (missing_target_export (codes "run") (codes "a:b/w") (codes "function") (span 20 5)) target_w
-row_25 naming p = inr (kind_of a_world entry_w, (root_scope with_w, refl, (kind_of a_world entry_w, refl, refl)), inr (entry_w, refl, inr (inr (inl (inr ((codes "run", function), tt, ([], [], refl, tt), refl, refl))))))
+pub export_is_missing : (naming : Naming) (p : Places) → TargetBroken (given_in naming []) with_w p (missing_target_export (codes "run") (codes "a:b/w") (codes "function") (span 20 5)) target_w
+export_is_missing naming p = inr (kind_of a_world entry_w, (root_scope with_w, refl, (kind_of a_world entry_w, refl, refl)), inr (entry_w, refl, inr (inr (inl (inr ((codes "run", function), tt, ([], [], refl, tt), refl, refl))))))
 
 -- ---- the composition of log, i and i.run under targets
 
