@@ -5,13 +5,14 @@ use Rattle.wac_lexer.specs.Span.{Span}
 use Rattle.wac_types.specs.declared.kind.ExternKind.{ExternKind}
 use Rattle.wac_types.specs.declared.kind.FuncKind.TheVariants as funcs
 use Rattle.wac_types.specs.Meaning.{Meaning}
+use Rattle.wac_types.specs.Scope.{Named, Scope, IsFresh}
+use Rattle.wac_types.specs.Steps.{Steps, Fails}
+use Rattle.wac_types.specs.Shape.{IsA, is_interface_form, is_resource_or_value_form, promoted}
+use Rattle.wac_graph.specs.Origin.{Naming}
+use Rattle.wac_graph.specs.Resources.{resource_entry}
+use Rattle.wac_graph.specs.Packages.{Contents}
 use Rattle.wac_grammar.specs.Tree.{Ident, PackagePath, UsePath, ResourceMethod, ItemTypeDecl, UseItem, Use}
 use Rattle.wac_resolution_rules.specs.Error.{Error, NamesRule}
-use Rattle.wac_resolution_rules.specs.Origin.{Naming}
-use Rattle.wac_resolution_rules.specs.Scope.{Named, Scope, IsFresh}
-use Rattle.wac_resolution_rules.specs.Steps.{Steps, Fails}
-use Rattle.wac_resolution_rules.specs.Shape.{IsA, is_interface_form, is_resource_or_value_form, promoted, resource_entry}
-use Rattle.wac_resolution_rules.specs.Packages.{Contents}
 use Rattle.wac_resolution_rules.specs.Types.{first_params}
 use Rattle.wac_resolution_rules.specs.Declarations.{in_body}
 use Rattle.wac_resolution_rules.specs.Paths.{Setting, is_own, key_of_path, segments_of, beginning_of, IsMember, LeadsFrom, LeadsTo, UseNames}

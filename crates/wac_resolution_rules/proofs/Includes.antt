@@ -1,17 +1,17 @@
 -- What including a world does, in words: nothing that was there is lost, and each name of the included world is there afterwards, a name with
--- a colon as it is, another under the name of the first entry that is left for it.
 use Rattle.std.proofs.Common.{◌≡◌, ℕ, List, [], ◌∷◌, ◌++◌, Some, None, Option, Bool, true, false, cond, refl, sym, ap, subst}
 use Rattle.std.specs.Str.{bytes_eq}
 use Rattle.wac_lexer.proofs.Texts.{bytes_eq_same}
 use Rattle.wac_types.specs.Meaning.{Meaning}
+use Rattle.wac_types.specs.Scope.{Named, Scope, look_up, StandsFor, IsFresh, with_named}
+use Rattle.wac_types.specs.Steps.{Steps}
+use Rattle.wac_types.specs.Shape.{entry_of, imports_of, exports_of}
 use Rattle.wac_grammar.specs.Tree.{WorldInclude}
-use Rattle.wac_resolution_rules.specs.Scope.{Named, Scope, look_up, StandsFor, IsFresh, with_named}
-use Rattle.wac_resolution_rules.specs.Steps.{Steps}
-use Rattle.wac_resolution_rules.specs.Shape.{entry_of, imports_of, exports_of}
 use Rattle.wac_resolution_rules.specs.Paths.{Setting}
 use Rattle.wac_resolution_rules.specs.Bodies.{Body}
 use Rattle.wac_resolution_rules.specs.Includes.{has_colon, Taking, with_missing, name_taken, TakesNamed, Takes, HasInclude}
 use Rattle.wac_resolution_rules.proofs.StepLaws.{steps_keep, steps_front}
+-- a colon as it is, another under the name of the first entry that is left for it.
 
 -- what is found is found with one more
 pub found_stays : {X : Type 0} (name : List ℕ) (all : Named X) (x : List ℕ) (v w : X) → StandsFor all name w → StandsFor (with_named all x v) name w

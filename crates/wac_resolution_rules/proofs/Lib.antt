@@ -11,7 +11,6 @@ pub mod BodiesStop
 pub mod WorldsStop
 pub mod WorldRows
 pub mod Scopes
-pub mod TableLaws
 pub mod Includes
 pub mod Reached
 pub mod ExpressionsOnce

@@ -5,11 +5,12 @@ use Rattle.wac_types.specs.declared.kind.ExternKind.{ExternKind}
 use Rattle.wac_types.specs.declared.kind.ExternKind.TheVariants as sides
 use Rattle.wac_types.specs.Kind.{func, a_resource}
 use Rattle.wac_types.specs.Meaning.{Meaning}
+use Rattle.wac_types.specs.Scope.{Named, Scope, look_up, IsFresh, with_named}
+use Rattle.wac_types.specs.Steps.{Steps}
+use Rattle.wac_types.specs.Shape.{kind_of, promoted}
+use Rattle.wac_graph.specs.Origin.{Naming}
+use Rattle.wac_graph.specs.Resources.{resource_entry}
 use Rattle.wac_grammar.specs.Tree.{ResourceMethod, ItemTypeDecl, UseItem, Use, InterfaceItem, WorldItemPath, WorldItem}
-use Rattle.wac_resolution_rules.specs.Origin.{Naming}
-use Rattle.wac_resolution_rules.specs.Scope.{Named, Scope, look_up, IsFresh, with_named}
-use Rattle.wac_resolution_rules.specs.Steps.{Steps}
-use Rattle.wac_resolution_rules.specs.Shape.{kind_of, promoted, resource_entry}
 use Rattle.wac_resolution_rules.specs.Paths.{Setting}
 use Rattle.wac_resolution_rules.specs.Bodies.{Body, empty_body, with_extern, with_type, with_count, constructor_name, name_of_method, HasMethod, with_resource, HasItem, used_as, renamed_from, UsesItem, HasUse, IsCovered}
 use Rattle.wac_resolution_rules.specs.Worlds.{HasInterfaceItem, HasExtern, HasWorldItem, id_or_empty}

@@ -5,12 +5,12 @@ use Rattle.std.specs.List.{AllByRecursion}
 use Rattle.std.specs.Str.{bytes_eq}
 use Rattle.std.proofs.lemmas.Option.{slice_get_within}
 use Rattle.wac_types.specs.Meaning.{Meaning, EachFrom}
+use Rattle.wac_types.specs.Scope.{Named, look_up, StandsFor, IsFresh, with_named}
+use Rattle.wac_types.specs.Shape.{exports_of, promoted}
+use Rattle.wac_types.specs.Steps.{Steps}
 use Rattle.wac_graph.specs.Package.{Key}
+use Rattle.wac_graph.specs.Packages.{Contents, package_of}
 use Rattle.wac_grammar.specs.Tree.{Ident, PackageName, PostfixExpr, Expr, PrimaryExpr, Arguments, InstantiationArgument, ImportStatement, LetStatement, ExportOptions, ExportStatement, TypeStatement, Statement}
-use Rattle.wac_resolution_rules.specs.Scope.{Named, look_up, StandsFor, IsFresh, with_named}
-use Rattle.wac_resolution_rules.specs.Shape.{exports_of, promoted}
-use Rattle.wac_resolution_rules.specs.Steps.{Steps}
-use Rattle.wac_resolution_rules.specs.Packages.{Contents, package_of}
 use Rattle.wac_resolution_rules.specs.Given.{Given, instantiable, key_named, imports_in}
 use Rattle.wac_resolution_rules.specs.Composition.{NodeForm, imported, definition, aliased, instantiated, Composition, Node, kind_at, named_at, binding, with_node, with_export, with_resources, start}
 use Rattle.wac_resolution_rules.specs.Nodes.{alias_in, with_alias, next_of, key_of_node}
@@ -18,8 +18,8 @@ use Rattle.wac_resolution_rules.specs.Expressions.{At, at, accessed, alias_at, A
 use Rattle.wac_resolution_rules.specs.Statements.{name_imported, Imports, Lets, Exports, Goes, Composes, ExportsAs, ExportsOne, ExportsBy}
 use Rattle.wac_resolution_rules.specs.TypeStatements.{Declares}
 use Rattle.wac_resolution_rules.specs.Spans.{identifier_of}
-use Rattle.wac_resolution_rules.proofs.StatementsStop.{declares_what}
 use Rattle.wac_resolution_rules.specs.Sound.{OnceEach, IsAfterSource, ArgumentsFit, IsLinked, NamesNodes, IsSound}
+use Rattle.wac_resolution_rules.proofs.StatementsStop.{declares_what}
 use Rattle.wac_resolution_rules.proofs.Names.{once_with}
 use Rattle.wac_resolution_rules.proofs.ExpressionsAdd.{Adds, stands_adds, gives_add, give_adds, spread_adds, step_adds, alias_adds}
 use Rattle.wac_resolution_rules.proofs.Fronts.{AreNamed, named_found, named_at_suc, adds_named, adds_length, alias_there, goes_continues}

@@ -5,11 +5,12 @@ use Rattle.std.specs.List.{AllByRecursion}
 use Rattle.wac_lexer.specs.Span.{Span}
 use Rattle.wac_types.specs.declared.kind.ExternKind.{ExternKind}
 use Rattle.wac_types.specs.Meaning.{Meaning}
-use Rattle.wac_grammar.specs.Tree.{Ident, PackagePath, ImportType, ImportStatement, LetStatement, Expr, ExportOptions, ExportStatement, TypeStatement, Statement}
-use Rattle.wac_resolution_rules.specs.Scope.{Named, look_up, IsFresh}
+use Rattle.wac_types.specs.Scope.{Named, look_up, IsFresh}
 use Rattle.wac_types.specs.Kind.{an_interface, a_world}
-use Rattle.wac_resolution_rules.specs.Shape.{kind_of, exports_of, promoted}
-use Rattle.wac_resolution_rules.specs.Steps.{Steps}
+use Rattle.wac_types.specs.Shape.{kind_of, exports_of, promoted}
+use Rattle.wac_types.specs.Steps.{Steps}
+use Rattle.wac_types.specs.declared.kind.FuncKind.TheVariants as funcs
+use Rattle.wac_grammar.specs.Tree.{Ident, PackagePath, ImportType, ImportStatement, LetStatement, Expr, ExportOptions, ExportStatement, TypeStatement, Statement}
 use Rattle.wac_resolution_rules.specs.Paths.{Setting}
 use Rattle.wac_resolution_rules.specs.TypeStatements.{Declares, Defines}
 use Rattle.wac_resolution_rules.specs.Kinds.{world_of}
@@ -23,11 +24,10 @@ use Rattle.wac_resolution_rules.specs.Error.{Error, Operation, NamesRule}
 use Rattle.wac_resolution_rules.specs.BrokenStatements.{IsImportedAlready, IsExportedAlready, IsInvalidName, IsExportConflict, IsUnnamed, IsNoEffect, IsNotWorld, placed_imports, IsNotInTarget, IsImportMismatch, IsMissingExport, IsExportMismatch, ImportKindBroken, ImportBroken, LetBroken, ExportAsBroken, ExportOneBroken, ExportOptionsBroken, ExportBroken, StatementBroken, TargetWorldBroken, TargetBroken}
 use Rattle.wac_resolution_rules.specs.Spans.{identifier_of}
 use Rattle.wac_resolution_rules.specs.Places.{Places, names_at}
+use Rattle.wac_resolution_rules.specs.BrokenWorlds.{IsBound}
 use Rattle.wac_resolution_rules.proofs.StepLaws.{fails_stop}
 use Rattle.wac_resolution_rules.proofs.Reached.{reached_holds}
 use Rattle.wac_resolution_rules.proofs.ExpressionsOnce.{expr_once}
-use Rattle.wac_types.specs.declared.kind.FuncKind.TheVariants as funcs
-use Rattle.wac_resolution_rules.specs.BrokenWorlds.{IsBound}
 use Rattle.wac_resolution_rules.proofs.BodiesOnce.{leads_once}
 use Rattle.wac_resolution_rules.proofs.TypesStop.{undefined_stops, func_stops}
 use Rattle.wac_resolution_rules.proofs.BodiesStop.{path_stops}

@@ -3,9 +3,9 @@ use Rattle.std.proofs.Common.{◌≡◌, ℕ, false, List, [], ◌∷◌, Some, 
 use Rattle.wac_types.specs.Label.{Plain}
 use Rattle.wac_types.specs.Entry.{Slot}
 use Rattle.wac_types.specs.Meaning.{Meaning}
+use Rattle.wac_types.specs.Scope.{Named, Scope, StandsFor, with_named}
+use Rattle.wac_types.specs.Shape.{entry_of, as_value, borrow_of, own_of, defined_value, in_order, one_child, result_children, one_result, func_entry}
 use Rattle.wac_grammar.specs.Tree.{Ty, OptionalTy, Types, NamedType, ResultList, FuncType}
-use Rattle.wac_resolution_rules.specs.Scope.{Named, Scope, StandsFor, with_named}
-use Rattle.wac_resolution_rules.specs.Shape.{entry_of, as_value, borrow_of, own_of, defined_value, in_order, one_child, result_children, one_result, func_entry}
 use Rattle.wac_resolution_rules.specs.Types.{HasType, HasOptional, HaveTypes, HasParam, HasResults, IsFuncWith, IsConstructor}
 use Rattle.wac_resolution_rules.proofs.StepLaws.{IsOnce, steps_once}
 

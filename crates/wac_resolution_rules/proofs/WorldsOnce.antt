@@ -4,10 +4,10 @@ use Rattle.wac_types.specs.declared.kind.ExternKind.{ExternKind}
 use Rattle.wac_types.specs.declared.kind.ExternKind.TheVariants as sides
 use Rattle.wac_types.specs.Kind.{func, instance, an_interface, a_world}
 use Rattle.wac_types.specs.Meaning.{Meaning}
+use Rattle.wac_types.specs.Scope.{Scope}
+use Rattle.wac_types.specs.Steps.{Steps}
+use Rattle.wac_types.specs.Shape.{kind_of, entry_of, promoted, interface_entry, world_entry}
 use Rattle.wac_grammar.specs.Tree.{FuncTypeRef, InterfaceItem, ExternType, WorldItemPath, WorldItem, TypeStatement}
-use Rattle.wac_resolution_rules.specs.Scope.{Scope}
-use Rattle.wac_resolution_rules.specs.Steps.{Steps}
-use Rattle.wac_resolution_rules.specs.Shape.{kind_of, entry_of, promoted, interface_entry, world_entry}
 use Rattle.wac_resolution_rules.specs.Paths.{Setting}
 use Rattle.wac_resolution_rules.specs.Bodies.{Body, empty_body, with_extern, with_count}
 use Rattle.wac_resolution_rules.specs.Includes.{HasInclude}

@@ -1,15 +1,15 @@
 -- A type statement that breaks a rule leads nowhere.
 use Rattle.std.proofs.Common.{◌≡◌, ◌⊎◌, inl, inr, ℕ, List, [], ◌∷◌, ◌++◌, Some, None, Option, Bool, true, false, sym, ◌∙◌, subst}
+use Rattle.wac_lexer.specs.Span.{Span}
 use Rattle.wac_types.specs.declared.kind.ExternKind.{ExternKind}
 use Rattle.wac_types.specs.declared.kind.ExternKind.TheVariants as sides
 use Rattle.wac_types.specs.declared.kind.FuncKind.TheVariants as funcs
 use Rattle.wac_types.specs.Meaning.{Meaning}
+use Rattle.wac_types.specs.Scope.{Scope, StandsFor}
+use Rattle.wac_types.specs.Steps.{Steps}
+use Rattle.wac_types.specs.Shape.{IsA, is_world_form, entry_of, imports_of, exports_of}
 use Rattle.wac_grammar.specs.Tree.{Ident, FuncTypeRef, InterfaceItem, ExternType, WorldItemPath, WorldItem, WorldRef, WorldIncludeItem, WorldInclude, TypeStatement}
-use Rattle.wac_lexer.specs.Span.{Span}
 use Rattle.wac_resolution_rules.specs.Error.{Error, NamesRule}
-use Rattle.wac_resolution_rules.specs.Scope.{Scope, StandsFor}
-use Rattle.wac_resolution_rules.specs.Steps.{Steps}
-use Rattle.wac_resolution_rules.specs.Shape.{IsA, is_world_form, entry_of, imports_of, exports_of}
 use Rattle.wac_resolution_rules.specs.Paths.{Setting, WorldNames}
 use Rattle.wac_resolution_rules.specs.Bodies.{Body, empty_body}
 use Rattle.wac_resolution_rules.specs.Includes.{Entries, HasEntry, has_colon, Taking, name_taken, TakesNamed, Takes, Included, HasInclude}

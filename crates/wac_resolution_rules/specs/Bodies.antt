@@ -4,11 +4,12 @@ use Rattle.wac_types.specs.declared.kind.ExternKind.{ExternKind}
 use Rattle.wac_types.specs.declared.kind.ExternKind.TheVariants as sides
 use Rattle.wac_types.specs.Kind.{func, a_resource}
 use Rattle.wac_types.specs.Meaning.{Meaning}
+use Rattle.wac_types.specs.Scope.{Named, Scope, IsFresh, with_named}
+use Rattle.wac_types.specs.Steps.{Steps}
+use Rattle.wac_types.specs.Shape.{Uses, IsA, is_interface_form, is_resource_or_value_form, kind_of, export_of, promoted}
+use Rattle.wac_graph.specs.Origin.{Naming}
+use Rattle.wac_graph.specs.Resources.{resource_entry}
 use Rattle.wac_grammar.specs.Tree.{Ident, ResourceMethod, ItemTypeDecl, UseItem, Use}
-use Rattle.wac_resolution_rules.specs.Origin.{Naming}
-use Rattle.wac_resolution_rules.specs.Scope.{Named, Scope, IsFresh, with_named}
-use Rattle.wac_resolution_rules.specs.Steps.{Steps}
-use Rattle.wac_resolution_rules.specs.Shape.{Uses, IsA, is_interface_form, is_resource_or_value_form, kind_of, resource_entry, export_of, promoted}
 use Rattle.wac_resolution_rules.specs.Types.{IsFuncWith, IsConstructor, first_params}
 use Rattle.wac_resolution_rules.specs.Declarations.{IsVariant, IsRecord, IsFlags, IsEnum, IsAlias, in_body}
 use Rattle.wac_resolution_rules.specs.Paths.{Setting, UseNames}

@@ -6,18 +6,19 @@ use Rattle.wac_types.specs.declared.kind.ExternKind.{ExternKind}
 use Rattle.wac_types.specs.declared.kind.FuncKind.{FuncKind}
 use Rattle.wac_types.specs.declared.kind.FuncKind.TheVariants as funcs
 use Rattle.wac_types.specs.Meaning.{Meaning}
+use Rattle.wac_types.specs.Scope.{Named, Scope, StandsFor, IsFresh}
+use Rattle.wac_types.specs.Steps.{Fails}
+use Rattle.wac_types.specs.Shape.{IsNoneOf, IsA, is_interface_form, is_resource_or_value_form, described, export_of, promoted}
+use Rattle.wac_graph.specs.Origin.{Naming}
+use Rattle.wac_graph.specs.Resources.{resource_entry}
+use Rattle.wac_graph.specs.Packages.{Contents, package_of}
 use Rattle.wac_grammar.specs.Tree.{Ident, PackagePath, UsePath, ResourceMethod, ItemTypeDecl, UseItem, Use}
+use Rattle.wac_syntax.specs.Segments.{segment_spans, package_name_span}
 use Rattle.wac_resolution_rules.specs.Error.{Error, undefined_name, duplicate_name, duplicate_interface_export, duplicate_world_item, not_interface, undefined_interface_type, not_interface_value_type, duplicate_resource_constructor, duplicate_resource_method, unknown_package, package_missing_export, package_path_missing_export, use_conflict, memory}
-use Rattle.wac_resolution_rules.specs.Origin.{Naming}
-use Rattle.wac_resolution_rules.specs.Scope.{Named, Scope, StandsFor, IsFresh}
-use Rattle.wac_resolution_rules.specs.Steps.{Fails}
-use Rattle.wac_resolution_rules.specs.Shape.{IsNoneOf, IsA, is_interface_form, is_resource_or_value_form, described, export_of, promoted, resource_entry}
-use Rattle.wac_resolution_rules.specs.Packages.{Contents, package_of}
 use Rattle.wac_resolution_rules.specs.Paths.{Setting, is_own, key_of_path, segments_of, IsMember, UseNames}
 use Rattle.wac_resolution_rules.specs.Declarations.{IsVariant, IsRecord, IsFlags, IsEnum, IsAlias, in_body}
 use Rattle.wac_resolution_rules.specs.Types.{first_params}
 use Rattle.wac_resolution_rules.specs.Bodies.{Body, externs, constructor_name, method_name, static_name, HasMethod, with_resource, used_as, UsesItem}
-use Rattle.wac_syntax.specs.Segments.{segment_spans, package_name_span}
 use Rattle.wac_resolution_rules.specs.BrokenTypes.{IsUndefined, ParamsBroken, FuncBroken}
 use Rattle.wac_resolution_rules.specs.BrokenDeclarations.{VariantBroken, RecordBroken, FlagsBroken, EnumBroken, AliasBroken}
 use Rattle.wac_resolution_rules.specs.Spans.{use_path_name, use_path_span}

@@ -2,12 +2,12 @@
 use Rattle.std.specs.Prelude.{◌≡◌, ◌⊎◌, List, true}
 use Rattle.wac_types.specs.declared.kind.FuncKind.{FuncKind}
 use Rattle.wac_types.specs.Meaning.{Meaning}
+use Rattle.wac_types.specs.Scope.{Named, Scope, StandsFor, IsFresh}
+use Rattle.wac_types.specs.Steps.{Steps, Fails}
+use Rattle.wac_types.specs.Shape.{IsNoneOf, is_resource_form, is_resource_or_value_form, described, contains_borrow}
 use Rattle.wac_grammar.specs.Tree.{Ident, Ty, OptionalTy, Types, NamedType, ResultList, FuncType}
 use Rattle.wac_declarations.specs.Types.{ty_span}
 use Rattle.wac_resolution_rules.specs.Error.{Error, undefined_name, not_resource_type, not_value_type, duplicate_parameter, borrow_in_result, memory}
-use Rattle.wac_resolution_rules.specs.Scope.{Named, Scope, StandsFor, IsFresh}
-use Rattle.wac_resolution_rules.specs.Steps.{Steps, Fails}
-use Rattle.wac_resolution_rules.specs.Shape.{IsNoneOf, is_resource_form, is_resource_or_value_form, described, contains_borrow}
 use Rattle.wac_resolution_rules.specs.Types.{HasType, HasOptional, HasParam}
 
 -- the identifier stands for nothing

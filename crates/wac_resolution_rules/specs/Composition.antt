@@ -2,8 +2,8 @@
 use Rattle.std.specs.Prelude.{ℕ, List, [], ◌∷◌, ◌++◌, map, Option, Some, None, slice_get, slice_set}
 use Rattle.wac_types.specs.Label.{plain, dangling}
 use Rattle.wac_types.specs.Meaning.{Meaning, node, done}
+use Rattle.wac_types.specs.Scope.{Named, Scope, with_named}
 use Rattle.wac_graph.specs.Package.{Key}
-use Rattle.wac_resolution_rules.specs.Scope.{Named, Scope, with_named}
 
 pub data NodeForm : Type 0 where
   imported : List ℕ → NodeForm

@@ -3,13 +3,13 @@ use Rattle.std.specs.Prelude.{◌≡◌, ◌≢◌, ℕ, List, [], ◌∷◌, �
 use Rattle.std.specs.List.{AllByRecursion}
 use Rattle.std.specs.Option.{option_or}
 use Rattle.wac_types.specs.Meaning.{Meaning}
+use Rattle.wac_types.specs.Scope.{Named, look_up, StandsFor, IsFresh, with_named}
+use Rattle.wac_types.specs.Steps.{Steps}
+use Rattle.wac_types.specs.Shape.{exports_of, id_of}
 use Rattle.wac_graph.specs.Package.{Key}
+use Rattle.wac_graph.specs.Packages.{Contents}
 use Rattle.wac_grammar.specs.Tree.{Ident, PostfixExpr, InstantiationArgumentName, Expr, PrimaryExpr, Arguments, InstantiationArgument}
-use Rattle.wac_resolution_rules.specs.Scope.{Named, look_up, StandsFor, IsFresh, with_named}
-use Rattle.wac_resolution_rules.specs.Steps.{Steps}
-use Rattle.wac_resolution_rules.specs.Shape.{exports_of, id_of}
 use Rattle.wac_resolution_rules.specs.Kinds.{instance_of}
-use Rattle.wac_resolution_rules.specs.Packages.{Contents}
 use Rattle.wac_resolution_rules.specs.Given.{Given, Rules, instantiable, key_named, imports_in}
 use Rattle.wac_resolution_rules.specs.Composition.{Composition, Node, kind_at}
 use Rattle.wac_resolution_rules.specs.Nodes.{node_at, instance_at, import_name, alias_name, next_of, alias_number, with_alias, with_instance}

@@ -1,8 +1,3 @@
-pub mod Origin
-pub mod Scope
-pub mod Steps
-pub mod Shape
-pub mod Packages
 pub mod Composition
 pub mod Types
 pub mod Declarations

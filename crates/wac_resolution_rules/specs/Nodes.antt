@@ -3,8 +3,8 @@ use Rattle.std.specs.Prelude.{ℕ, List, [], ◌∷◌, ◌++◌, Option, Some, 
 use Rattle.std.specs.List.{position}
 use Rattle.std.specs.Str.{bytes_eq}
 use Rattle.wac_types.specs.Meaning.{Meaning}
+use Rattle.wac_types.specs.Scope.{Named}
 use Rattle.wac_graph.specs.Package.{Key}
-use Rattle.wac_resolution_rules.specs.Scope.{Named}
 use Rattle.wac_resolution_rules.specs.Kinds.{instance_of}
 use Rattle.wac_resolution_rules.specs.Composition.{NodeForm, imported, definition, aliased, instantiated, Node, Composition, kind_at, with_node}
 

@@ -3,14 +3,14 @@ use Rattle.std.specs.Prelude.{◌≡◌, ℕ, List, [], ◌∷◌, Option, Some,
 use Rattle.std.specs.List.{slice_split}
 use Rattle.std.specs.Str.{bytes_eq}
 use Rattle.wac_types.specs.Meaning.{Meaning}
+use Rattle.wac_types.specs.Scope.{Scope, StandsFor}
+use Rattle.wac_types.specs.Steps.{Steps}
+use Rattle.wac_types.specs.Shape.{export_of}
+use Rattle.wac_graph.specs.Package.{Key}
+use Rattle.wac_graph.specs.Origin.{Naming}
+use Rattle.wac_graph.specs.Packages.{Packages, Contents, package_of}
 use Rattle.wac_grammar.specs.Tree.{PackagePath, UsePath, WorldRef}
 use Rattle.wac_grammar.specs.Version.{is_slash, version_text}
-use Rattle.wac_graph.specs.Package.{Key}
-use Rattle.wac_resolution_rules.specs.Origin.{Naming}
-use Rattle.wac_resolution_rules.specs.Scope.{Scope, StandsFor}
-use Rattle.wac_resolution_rules.specs.Steps.{Steps}
-use Rattle.wac_resolution_rules.specs.Shape.{export_of}
-use Rattle.wac_resolution_rules.specs.Packages.{Packages, Contents, package_of}
 
 -- what a document is resolved in: numbers for origins, the document's own package, and the given packages
 pub record Setting : Type 0 where

@@ -2,9 +2,9 @@
 use Rattle.std.specs.Prelude.{◌≡◌, ◌<◌, ℕ, List, [], ◌∷◌, ◌++◌, Option, Some, None, length, ◌⊎◌, Bool, false}
 use Rattle.std.specs.List.{AllByRecursion}
 use Rattle.wac_types.specs.Meaning.{EachFrom}
+use Rattle.wac_types.specs.Scope.{Named, IsFresh}
 use Rattle.wac_graph.specs.Package.{Key}
-use Rattle.wac_resolution_rules.specs.Scope.{Named, IsFresh}
-use Rattle.wac_resolution_rules.specs.Packages.{Contents, package_of}
+use Rattle.wac_graph.specs.Packages.{Contents, package_of}
 use Rattle.wac_resolution_rules.specs.Given.{Given, imports_in}
 use Rattle.wac_resolution_rules.specs.Composition.{NodeForm, imported, definition, aliased, instantiated, Node, Composition}
 use Rattle.wac_resolution_rules.specs.Nodes.{key_of_node, is_alias_of, imports}

@@ -3,11 +3,11 @@ use Rattle.std.specs.Prelude.{◌≡◌, ◌≢◌, ℕ, List, [], Option, Some,
 use Rattle.std.specs.Option.{option_or}
 use Rattle.wac_types.specs.Kind.{func, instance}
 use Rattle.wac_types.specs.Meaning.{Meaning}
+use Rattle.wac_types.specs.Scope.{Named, look_up, StandsFor, IsFresh}
+use Rattle.wac_types.specs.Steps.{Steps}
+use Rattle.wac_types.specs.Shape.{kind_of, exports_of, id_of, promoted}
 use Rattle.wac_grammar.specs.Tree.{Ident, ImportType, ImportStatement, LetStatement, ExportOptions, ExportStatement, Statement}
 use Rattle.wac_syntax.specs.Names.{extern_name_text}
-use Rattle.wac_resolution_rules.specs.Scope.{Named, look_up, StandsFor, IsFresh}
-use Rattle.wac_resolution_rules.specs.Steps.{Steps}
-use Rattle.wac_resolution_rules.specs.Shape.{kind_of, exports_of, id_of, promoted}
 use Rattle.wac_resolution_rules.specs.Types.{IsFunc}
 use Rattle.wac_resolution_rules.specs.Paths.{LeadsTo}
 use Rattle.wac_resolution_rules.specs.Worlds.{IsInterface}

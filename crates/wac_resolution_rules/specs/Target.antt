@@ -3,11 +3,11 @@ use Rattle.std.specs.Prelude.{◌≡◌, ℕ, List, [], ◌++◌, Option, Some, 
 use Rattle.std.specs.Option.{option_or}
 use Rattle.std.specs.List.{AllByRecursion}
 use Rattle.wac_types.specs.Meaning.{Meaning}
+use Rattle.wac_types.specs.Scope.{Named, look_up, StandsFor}
+use Rattle.wac_types.specs.Shape.{exports_of, imports_of, uses_of, id_of, promoted}
+use Rattle.wac_graph.specs.Packages.{package_of}
 use Rattle.wac_grammar.specs.Tree.{PackagePath}
-use Rattle.wac_resolution_rules.specs.Scope.{Named, look_up, StandsFor}
-use Rattle.wac_resolution_rules.specs.Shape.{exports_of, imports_of, uses_of, id_of, promoted}
 use Rattle.wac_resolution_rules.specs.Kinds.{instance_of, world_of}
-use Rattle.wac_resolution_rules.specs.Packages.{package_of}
 use Rattle.wac_resolution_rules.specs.Given.{Given, imports_in}
 use Rattle.wac_resolution_rules.specs.Paths.{LeadsTo}
 use Rattle.wac_resolution_rules.specs.Composition.{Composition, Node, kind_at, root_scope}

@@ -4,10 +4,10 @@ use Rattle.wac_types.specs.declared.kind.PrimitiveType.TheVariants as primitives
 use Rattle.wac_types.specs.Label.{Plain}
 use Rattle.wac_types.specs.Entry.{Slot}
 use Rattle.wac_types.specs.Meaning.{Meaning}
+use Rattle.wac_types.specs.Scope.{Named, Scope, StandsFor, IsFresh, with_named}
+use Rattle.wac_types.specs.Steps.{Steps}
+use Rattle.wac_types.specs.Shape.{IsA, is_resource_form, is_resource_or_value_form, entry_of, as_value, nothing, primitive_value, borrow_of, own_of, defined_value, in_order, one_child, result_children, one_result, func_entry, contains_borrow}
 use Rattle.wac_grammar.specs.Tree.{Ty, OptionalTy, Types, NamedType, ResultList, FuncType}
-use Rattle.wac_resolution_rules.specs.Scope.{Named, Scope, StandsFor, IsFresh, with_named}
-use Rattle.wac_resolution_rules.specs.Steps.{Steps}
-use Rattle.wac_resolution_rules.specs.Shape.{IsA, is_resource_form, is_resource_or_value_form, entry_of, as_value, nothing, primitive_value, borrow_of, own_of, defined_value, in_order, one_child, result_children, one_result, func_entry, contains_borrow}
 
 abbrev mutual
   -- the type of values
