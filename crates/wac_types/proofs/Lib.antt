@@ -10,3 +10,6 @@ pub mod Packages
 pub mod Renaming
 pub mod Shapes
 pub mod Parts
+pub mod Maps
+pub mod Borrowing
+pub mod Tested
