@@ -13,7 +13,7 @@ use wac_declarations::{FuncTypeRef, ItemTypeDecl};
 use wac_lexer::{Lexer, Token};
 use wac_syntax::{
     DocComment, Error, Ident, Lookahead, PackagePath, Parse, ParseResult, Peek, boxed, parse_after,
-    parse_before, parse_body, parse_docs, parse_list, take_token,
+    parse_before, parse_body, parse_docs, parse_list, take_optional, take_token,
 };
 
 /// A use of types of an interface.
