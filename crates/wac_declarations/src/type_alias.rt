@@ -8,6 +8,7 @@ ghost use Rattle.wac_declarations.specs.Declarations.{type_alias_of, type_alias_
 use crate::func_type::FuncType;
 use crate::types::Type;
 use std::alloc::Global;
+use std::fmt;
 use wac_lexer::{Lexer, Token};
 use wac_syntax::{DocComment, Ident, Lookahead, Parse, ParseResult, Peek, parse_docs, take_token};
 
@@ -20,6 +21,16 @@ pub struct TypeAlias<'a> {
     pub id: Ident<'a>,
     /// What it stands for.
     pub kind: TypeAliasKind<'a>,
+}
+
+impl fmt::Debug for TypeAlias<'_> {
+    fn fmt<W: fmt::Write>(&self, f: &mut fmt::Formatter<W>) -> fmt::Result {
+        let TypeAlias { docs, id, kind } = self;
+        write!(
+            f,
+            "TypeAlias {{ docs: {docs:?}, id: {id:?}, kind: {kind:?} }}"
+        )
+    }
 }
 
 impl<'a> Parse<'a> for TypeAlias<'a> {
@@ -56,6 +67,15 @@ pub enum TypeAliasKind<'a> {
     Func(FuncType<'a>),
     /// Another type.
     Ty(Type<'a>),
+}
+
+impl fmt::Debug for TypeAliasKind<'_> {
+    fn fmt<W: fmt::Write>(&self, f: &mut fmt::Formatter<W>) -> fmt::Result {
+        match self {
+            TypeAliasKind::Func(part) => write!(f, "Func({part:?})"),
+            TypeAliasKind::Ty(part) => write!(f, "Ty({part:?})"),
+        }
+    }
 }
 
 impl<'a> Parse<'a> for TypeAliasKind<'a> {
