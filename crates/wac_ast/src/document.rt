@@ -15,6 +15,7 @@ ghost use Rattle.wac_ast.specs.Statements.{directive_of, statement_of, document_
 
 use crate::statement::Statement;
 use std::alloc::Global;
+use std::fmt;
 use wac_lexer::{Lexer, Token, items_stand_in_order};
 use wac_syntax::{
     DocComment, Error, PackageName, PackagePath, Parse, ParseResult, has_more, parse_after,
@@ -32,6 +33,20 @@ pub struct Document<'a> {
     pub statements: Vec<Statement<'a>>,
 }
 
+impl fmt::Debug for Document<'_> {
+    fn fmt<W: fmt::Write>(&self, f: &mut fmt::Formatter<W>) -> fmt::Result {
+        let Document {
+            docs,
+            directive,
+            statements,
+        } = self;
+        write!(
+            f,
+            "Document {{ docs: {docs:?}, directive: {directive:?}, statements: {statements:?} }}"
+        )
+    }
+}
+
 impl<'a> Document<'a> {
     /// Parses a text as a document.
     ///
@@ -46,7 +61,7 @@ impl<'a> Document<'a> {
         ensures one { (t u : Tree) → IsTreeOf source.now t → IsTreeOf source.now u → t ≡ u }
         // The spans of the tree slice the text.
         ensures slices { IfOk result (λ d. DocumentSlices source.now (document_of d)) }
-        // An error tells of the first place where no document goes on.
+        // An error tells of the first place where no document goes on, the same for each text.
         ensures error { IfErr result (λ e. (e ≡ Memory alloc_error) ⊎ ErrorOf (told_by e) source.now) }
     {
         items_stand_in_order();
@@ -96,6 +111,16 @@ pub struct PackageDirective<'a> {
     pub package: PackageName<'a>,
     /// The world that its composition is made for, where it is given.
     pub targets: Option<PackagePath<'a>>,
+}
+
+impl fmt::Debug for PackageDirective<'_> {
+    fn fmt<W: fmt::Write>(&self, f: &mut fmt::Formatter<W>) -> fmt::Result {
+        let PackageDirective { package, targets } = self;
+        write!(
+            f,
+            "PackageDirective {{ package: {package:?}, targets: {targets:?} }}"
+        )
+    }
 }
 
 impl<'a> Parse<'a> for PackageDirective<'a> {

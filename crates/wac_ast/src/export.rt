@@ -6,6 +6,7 @@ ghost use Rattle.wac_syntax.specs.Lookahead.{Peeks};
 ghost use Rattle.wac_ast.specs.Statements.{export_statement_of, export_options_of};
 
 use std::alloc::Global;
+use std::fmt;
 use wac_expressions::Expr;
 use wac_lexer::{Lexer, SourceSpan, Token};
 use wac_syntax::{
@@ -22,6 +23,20 @@ pub struct ExportStatement<'a> {
     pub expr: Expr<'a>,
     /// How it is exported.
     pub options: ExportOptions<'a>,
+}
+
+impl fmt::Debug for ExportStatement<'_> {
+    fn fmt<W: fmt::Write>(&self, f: &mut fmt::Formatter<W>) -> fmt::Result {
+        let ExportStatement {
+            docs,
+            expr,
+            options,
+        } = self;
+        write!(
+            f,
+            "ExportStatement {{ docs: {docs:?}, expr: {expr:?}, options: {options:?} }}"
+        )
+    }
 }
 
 impl<'a> Parse<'a> for ExportStatement<'a> {
@@ -61,6 +76,16 @@ pub enum ExportOptions<'a> {
     Spread(SourceSpan),
     /// `as x`: under another name.
     Rename(ExternName<'a>),
+}
+
+impl fmt::Debug for ExportOptions<'_> {
+    fn fmt<W: fmt::Write>(&self, f: &mut fmt::Formatter<W>) -> fmt::Result {
+        match self {
+            ExportOptions::None => f.write_str("None"),
+            ExportOptions::Spread(part) => write!(f, "Spread({part:?})"),
+            ExportOptions::Rename(part) => write!(f, "Rename({part:?})"),
+        }
+    }
 }
 
 impl<'a> Parse<'a> for ExportOptions<'a> {

@@ -6,6 +6,7 @@ ghost use Rattle.wac_syntax.specs.Lookahead.{Peeks};
 ghost use Rattle.wac_ast.specs.Statements.{let_statement_of};
 
 use std::alloc::Global;
+use std::fmt;
 use wac_expressions::Expr;
 use wac_lexer::{Lexer, Token};
 use wac_syntax::{
@@ -22,6 +23,16 @@ pub struct LetStatement<'a> {
     pub id: Ident<'a>,
     /// What it is bound to.
     pub expr: Expr<'a>,
+}
+
+impl fmt::Debug for LetStatement<'_> {
+    fn fmt<W: fmt::Write>(&self, f: &mut fmt::Formatter<W>) -> fmt::Result {
+        let LetStatement { docs, id, expr } = self;
+        write!(
+            f,
+            "LetStatement {{ docs: {docs:?}, id: {id:?}, expr: {expr:?} }}"
+        )
+    }
 }
 
 impl<'a> Parse<'a> for LetStatement<'a> {

@@ -21,7 +21,10 @@ pub use wac_expressions::{
     AccessExpr, Expr, InstantiationArgument, InstantiationArgumentName, NamedAccessExpr,
     NamedInstantiationArgument, NestedExpr, NewExpr, PostfixExpr, PrimaryExpr,
 };
-pub use wac_grammar::{tokens_have_texts, trees_stand_in_their_text, what_is_read_derives};
+pub use wac_grammar::{
+    arguments_are_refused_at_first_faults, refusals_lie_at_first_faults, tokens_have_texts,
+    trees_end_where_they_must, trees_stand_in_their_text, what_is_read_derives,
+};
 pub use wac_syntax::{
     DocComment, Error, ExternName, Ident, Lookahead, PackageName, PackagePath, ParseResult,
     SegmentSpans, String, parse_optional, parse_token,
@@ -34,5 +37,5 @@ pub use wac_worlds::{
 
 /// How each part of a document is parsed.
 pub mod internals {
-    pub use wac_syntax::{Parse, Peek};
+    pub use wac_syntax::{Parse, Peek, parsers_stop_at_first_faults};
 }

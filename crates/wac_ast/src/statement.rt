@@ -8,6 +8,7 @@ use crate::export::ExportStatement;
 use crate::let_statement::LetStatement;
 use crate::type_statement::TypeStatement;
 use std::alloc::Global;
+use std::fmt;
 use wac_lexer::Lexer;
 use wac_syntax::{Lookahead, Parse, ParseResult, Peek};
 use wac_worlds::ImportStatement;
@@ -23,6 +24,17 @@ pub enum Statement<'a> {
     Let(LetStatement<'a>),
     /// An export.
     Export(ExportStatement<'a>),
+}
+
+impl fmt::Debug for Statement<'_> {
+    fn fmt<W: fmt::Write>(&self, f: &mut fmt::Formatter<W>) -> fmt::Result {
+        match self {
+            Statement::Import(part) => write!(f, "Import({part:?})"),
+            Statement::Ty(part) => write!(f, "Ty({part:?})"),
+            Statement::Let(part) => write!(f, "Let({part:?})"),
+            Statement::Export(part) => write!(f, "Export({part:?})"),
+        }
+    }
 }
 
 impl<'a> Parse<'a> for Statement<'a> {

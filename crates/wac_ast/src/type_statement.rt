@@ -6,6 +6,7 @@ ghost use Rattle.wac_syntax.specs.Lookahead.{Peeks};
 ghost use Rattle.wac_ast.specs.Statements.{type_statement_of};
 
 use std::alloc::Global;
+use std::fmt;
 use wac_declarations::TypeDecl;
 use wac_lexer::Lexer;
 use wac_syntax::{Lookahead, Parse, ParseResult, Peek};
@@ -20,6 +21,16 @@ pub enum TypeStatement<'a> {
     World(WorldDecl<'a>),
     /// A type.
     Ty(TypeDecl<'a>),
+}
+
+impl fmt::Debug for TypeStatement<'_> {
+    fn fmt<W: fmt::Write>(&self, f: &mut fmt::Formatter<W>) -> fmt::Result {
+        match self {
+            TypeStatement::Interface(part) => write!(f, "Interface({part:?})"),
+            TypeStatement::World(part) => write!(f, "World({part:?})"),
+            TypeStatement::Ty(part) => write!(f, "Ty({part:?})"),
+        }
+    }
 }
 
 impl<'a> Parse<'a> for TypeStatement<'a> {

@@ -10,6 +10,7 @@ ghost use Rattle.wac_declarations.specs.Declarations.{named_type_of, result_list
 
 use crate::types::Type;
 use std::alloc::Global;
+use std::fmt;
 use wac_lexer::{Lexer, Token};
 use wac_syntax::{
     Error, Ident, Lookahead, Parse, ParseResult, Peek, begins, parse_list, take_optional,
@@ -25,6 +26,20 @@ pub struct FuncType<'a> {
     pub params: Vec<NamedType<'a>>,
     /// What the function gives.
     pub results: ResultList<'a>,
+}
+
+impl fmt::Debug for FuncType<'_> {
+    fn fmt<W: fmt::Write>(&self, f: &mut fmt::Formatter<W>) -> fmt::Result {
+        let FuncType {
+            is_async,
+            params,
+            results,
+        } = self;
+        write!(
+            f,
+            "FuncType {{ is_async: {is_async:?}, params: {params:?}, results: {results:?} }}"
+        )
+    }
 }
 
 impl<'a> Parse<'a> for FuncType<'a> {
@@ -77,6 +92,15 @@ pub enum ResultList<'a> {
     Scalar(Type<'a>),
 }
 
+impl fmt::Debug for ResultList<'_> {
+    fn fmt<W: fmt::Write>(&self, f: &mut fmt::Formatter<W>) -> fmt::Result {
+        match self {
+            ResultList::Empty => f.write_str("Empty"),
+            ResultList::Scalar(part) => write!(f, "Scalar({part:?})"),
+        }
+    }
+}
+
 impl<'a> Parse<'a> for ResultList<'a> {
     ghost symbol = { symbols.result_list };
 
@@ -97,6 +121,13 @@ pub struct NamedType<'a> {
     pub id: Ident<'a>,
     /// The type.
     pub ty: Type<'a>,
+}
+
+impl fmt::Debug for NamedType<'_> {
+    fn fmt<W: fmt::Write>(&self, f: &mut fmt::Formatter<W>) -> fmt::Result {
+        let NamedType { id, ty } = self;
+        write!(f, "NamedType {{ id: {id:?}, ty: {ty:?} }}")
+    }
 }
 
 impl<'a> Parse<'a> for NamedType<'a> {
@@ -129,6 +160,15 @@ pub enum FuncTypeRef<'a> {
     Func(FuncType<'a>),
     /// The name of a declared one.
     Ident(Ident<'a>),
+}
+
+impl fmt::Debug for FuncTypeRef<'_> {
+    fn fmt<W: fmt::Write>(&self, f: &mut fmt::Formatter<W>) -> fmt::Result {
+        match self {
+            FuncTypeRef::Func(part) => write!(f, "Func({part:?})"),
+            FuncTypeRef::Ident(part) => write!(f, "Ident({part:?})"),
+        }
+    }
 }
 
 impl<'a> Parse<'a> for FuncTypeRef<'a> {

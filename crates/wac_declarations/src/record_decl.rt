@@ -8,6 +8,7 @@ ghost use Rattle.wac_declarations.specs.Declarations.{field_of, record_decl_of};
 use crate::func_type::NamedType;
 use crate::types::Type;
 use std::alloc::Global;
+use std::fmt;
 use wac_lexer::{Lexer, Token};
 use wac_syntax::{
     BodyKind, DocComment, Error, Ident, Lookahead, Parse, ParseResult, Peek, parse_docs,
@@ -23,6 +24,16 @@ pub struct RecordDecl<'a> {
     pub id: Ident<'a>,
     /// The parts, at least one.
     pub fields: Vec<Field<'a>>,
+}
+
+impl fmt::Debug for RecordDecl<'_> {
+    fn fmt<W: fmt::Write>(&self, f: &mut fmt::Formatter<W>) -> fmt::Result {
+        let RecordDecl { docs, id, fields } = self;
+        write!(
+            f,
+            "RecordDecl {{ docs: {docs:?}, id: {id:?}, fields: {fields:?} }}"
+        )
+    }
 }
 
 impl<'a> Parse<'a> for RecordDecl<'a> {
@@ -58,6 +69,13 @@ pub struct Field<'a> {
     pub id: Ident<'a>,
     /// What it holds.
     pub ty: Type<'a>,
+}
+
+impl fmt::Debug for Field<'_> {
+    fn fmt<W: fmt::Write>(&self, f: &mut fmt::Formatter<W>) -> fmt::Result {
+        let Field { docs, id, ty } = self;
+        write!(f, "Field {{ docs: {docs:?}, id: {id:?}, ty: {ty:?} }}")
+    }
 }
 
 impl<'a> Parse<'a> for Field<'a> {

@@ -10,6 +10,7 @@ ghost use Rattle.wac_declarations.specs.Tails.{resource_tail, tail_methods};
 
 use crate::func_type::{FuncType, NamedType};
 use std::alloc::Global;
+use std::fmt;
 use wac_lexer::{Lexer, SourceSpan, Token};
 use wac_syntax::{
     DocComment, Error, Ident, Lookahead, Parse, ParseResult, Peek, parse_before, parse_body,
@@ -25,6 +26,16 @@ pub struct ResourceDecl<'a> {
     pub id: Ident<'a>,
     /// The constructors and methods, in order.
     pub methods: Vec<ResourceMethod<'a>>,
+}
+
+impl fmt::Debug for ResourceDecl<'_> {
+    fn fmt<W: fmt::Write>(&self, f: &mut fmt::Formatter<W>) -> fmt::Result {
+        let ResourceDecl { docs, id, methods } = self;
+        write!(
+            f,
+            "ResourceDecl {{ docs: {docs:?}, id: {id:?}, methods: {methods:?} }}"
+        )
+    }
 }
 
 impl<'a> Parse<'a> for ResourceDecl<'a> {
@@ -79,6 +90,15 @@ pub enum ResourceMethod<'a> {
     Method(Method<'a>),
 }
 
+impl fmt::Debug for ResourceMethod<'_> {
+    fn fmt<W: fmt::Write>(&self, f: &mut fmt::Formatter<W>) -> fmt::Result {
+        match self {
+            ResourceMethod::Constructor(part) => write!(f, "Constructor({part:?})"),
+            ResourceMethod::Method(part) => write!(f, "Method({part:?})"),
+        }
+    }
+}
+
 impl<'a> Parse<'a> for ResourceMethod<'a> {
     ghost symbol = { symbols.resource_method };
 
@@ -117,6 +137,16 @@ pub struct Constructor<'a> {
     pub params: Vec<NamedType<'a>>,
 }
 
+impl fmt::Debug for Constructor<'_> {
+    fn fmt<W: fmt::Write>(&self, f: &mut fmt::Formatter<W>) -> fmt::Result {
+        let Constructor { docs, span, params } = self;
+        write!(
+            f,
+            "Constructor {{ docs: {docs:?}, span: {span:?}, params: {params:?} }}"
+        )
+    }
+}
+
 impl<'a> Parse<'a> for Constructor<'a> {
     ghost symbol = { symbols.constructor };
 
@@ -153,6 +183,21 @@ pub struct Method<'a> {
     pub is_static: bool,
     /// The type.
     pub ty: FuncType<'a>,
+}
+
+impl fmt::Debug for Method<'_> {
+    fn fmt<W: fmt::Write>(&self, f: &mut fmt::Formatter<W>) -> fmt::Result {
+        let Method {
+            docs,
+            id,
+            is_static,
+            ty,
+        } = self;
+        write!(
+            f,
+            "Method {{ docs: {docs:?}, id: {id:?}, is_static: {is_static:?}, ty: {ty:?} }}"
+        )
+    }
 }
 
 impl<'a> Parse<'a> for Method<'a> {

@@ -8,6 +8,7 @@ ghost use Rattle.wac_declarations.specs.Declarations.{type_alias_of, type_alias_
 use crate::func_type::FuncType;
 use crate::types::Type;
 use std::alloc::Global;
+use std::fmt;
 use wac_lexer::{Lexer, Token};
 use wac_syntax::{
     DocComment, Error, Ident, Lookahead, Parse, ParseResult, Peek, parse_before, parse_docs,
@@ -23,6 +24,16 @@ pub struct TypeAlias<'a> {
     pub id: Ident<'a>,
     /// What it stands for.
     pub kind: TypeAliasKind<'a>,
+}
+
+impl fmt::Debug for TypeAlias<'_> {
+    fn fmt<W: fmt::Write>(&self, f: &mut fmt::Formatter<W>) -> fmt::Result {
+        let TypeAlias { docs, id, kind } = self;
+        write!(
+            f,
+            "TypeAlias {{ docs: {docs:?}, id: {id:?}, kind: {kind:?} }}"
+        )
+    }
 }
 
 impl<'a> Parse<'a> for TypeAlias<'a> {
@@ -57,6 +68,15 @@ pub enum TypeAliasKind<'a> {
     Func(FuncType<'a>),
     /// Another type.
     Ty(Type<'a>),
+}
+
+impl fmt::Debug for TypeAliasKind<'_> {
+    fn fmt<W: fmt::Write>(&self, f: &mut fmt::Formatter<W>) -> fmt::Result {
+        match self {
+            TypeAliasKind::Func(part) => write!(f, "Func({part:?})"),
+            TypeAliasKind::Ty(part) => write!(f, "Ty({part:?})"),
+        }
+    }
 }
 
 impl<'a> Parse<'a> for TypeAliasKind<'a> {

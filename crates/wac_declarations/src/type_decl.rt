@@ -14,6 +14,7 @@ use crate::resource::ResourceDecl;
 use crate::type_alias::TypeAlias;
 use crate::variant_decl::VariantDecl;
 use std::alloc::Global;
+use std::fmt;
 use wac_lexer::Lexer;
 use wac_syntax::{Ident, Lookahead, Parse, ParseResult, Peek};
 
@@ -30,6 +31,18 @@ pub enum TypeDecl<'a> {
     Enum(EnumDecl<'a>),
     /// Another name for a type.
     Alias(TypeAlias<'a>),
+}
+
+impl fmt::Debug for TypeDecl<'_> {
+    fn fmt<W: fmt::Write>(&self, f: &mut fmt::Formatter<W>) -> fmt::Result {
+        match self {
+            TypeDecl::Variant(part) => write!(f, "Variant({part:?})"),
+            TypeDecl::Record(part) => write!(f, "Record({part:?})"),
+            TypeDecl::Flags(part) => write!(f, "Flags({part:?})"),
+            TypeDecl::Enum(part) => write!(f, "Enum({part:?})"),
+            TypeDecl::Alias(part) => write!(f, "Alias({part:?})"),
+        }
+    }
 }
 
 impl<'a> Parse<'a> for TypeDecl<'a> {
@@ -101,6 +114,19 @@ pub enum ItemTypeDecl<'a> {
     Alias(TypeAlias<'a>),
 }
 
+impl fmt::Debug for ItemTypeDecl<'_> {
+    fn fmt<W: fmt::Write>(&self, f: &mut fmt::Formatter<W>) -> fmt::Result {
+        match self {
+            ItemTypeDecl::Resource(part) => write!(f, "Resource({part:?})"),
+            ItemTypeDecl::Variant(part) => write!(f, "Variant({part:?})"),
+            ItemTypeDecl::Record(part) => write!(f, "Record({part:?})"),
+            ItemTypeDecl::Flags(part) => write!(f, "Flags({part:?})"),
+            ItemTypeDecl::Enum(part) => write!(f, "Enum({part:?})"),
+            ItemTypeDecl::Alias(part) => write!(f, "Alias({part:?})"),
+        }
+    }
+}
+
 impl<'a> Parse<'a> for ItemTypeDecl<'a> {
     ghost symbol = { symbols.item_type_decl };
 
@@ -132,12 +158,7 @@ impl<'a> Peek for ItemTypeDecl<'a> {
     fn peek(lookahead: &mut Lookahead) -> bool
         ensures { Peeks (begins symbols.item_type_decl) result lookahead.old lookahead.new }
     {
-        ResourceDecl::peek(lookahead)
-            || VariantDecl::peek(lookahead)
-            || RecordDecl::peek(lookahead)
-            || FlagsDecl::peek(lookahead)
-            || EnumDecl::peek(lookahead)
-            || TypeAlias::peek(lookahead)
+        ResourceDecl::peek(lookahead) || TypeDecl::peek(lookahead)
     }
 }
 

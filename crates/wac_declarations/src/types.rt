@@ -18,6 +18,7 @@ ghost use Rattle.wac_syntax.specs.Pieces.{GivesPart};
 ghost use Rattle.wac_declarations.specs.Types.{ty_of, ty_span, optional_of, compound, word_type, word_at, angled, angled_parts, with_payload, second_rule, second_of, MadeOf};
 
 use std::alloc::Global;
+use std::fmt;
 use wac_lexer::{Lexer, SourceSpan, Token};
 use wac_syntax::{
     Error, Ident, Lookahead, Parse, ParseResult, Peek, at, begins, boxed, join, no_item, push,
@@ -79,6 +80,14 @@ pub enum Type<'a> {
     ErrorContext(SourceSpan),
     /// A name.
     Ident(Ident<'a>),
+}
+
+impl fmt::Debug for Type<'_> {
+    // Its parts, which may be types again, are left out.
+    fn fmt<W: fmt::Write>(&self, f: &mut fmt::Formatter<W>) -> fmt::Result {
+        let span = self.span();
+        write!(f, "Type {{ span: {span:?} }}")
+    }
 }
 
 impl<'a> Type<'a> {
@@ -180,7 +189,7 @@ const FIRSTS: [Token; 22] = [
     Token::Ident,
 ];
 
-/// Whether the next item is one of these tokens. If it is none, each has been tried.
+/// Whether the next item is one of these tokens. Those in front of it have been tried, or all if it is none.
 fn peek_all(lookahead: &mut Lookahead, tokens: &[Token]) -> bool
     ensures { Peeks tokens.now result lookahead.old lookahead.new }
 {

@@ -12,6 +12,7 @@ ghost use Rattle.wac_declarations.specs.Tails.{case_tail, held_type};
 
 use crate::types::Type;
 use std::alloc::Global;
+use std::fmt;
 use wac_lexer::{Lexer, Token};
 use wac_syntax::{
     BodyKind, DocComment, Error, Ident, Lookahead, Parse, ParseResult, Peek, parse_before,
@@ -27,6 +28,16 @@ pub struct VariantDecl<'a> {
     pub id: Ident<'a>,
     /// The cases, at least one.
     pub cases: Vec<VariantCase<'a>>,
+}
+
+impl fmt::Debug for VariantDecl<'_> {
+    fn fmt<W: fmt::Write>(&self, f: &mut fmt::Formatter<W>) -> fmt::Result {
+        let VariantDecl { docs, id, cases } = self;
+        write!(
+            f,
+            "VariantDecl {{ docs: {docs:?}, id: {id:?}, cases: {cases:?} }}"
+        )
+    }
 }
 
 impl<'a> Parse<'a> for VariantDecl<'a> {
@@ -62,6 +73,16 @@ pub struct VariantCase<'a> {
     pub id: Ident<'a>,
     /// What it holds.
     pub ty: Option<Type<'a>>,
+}
+
+impl fmt::Debug for VariantCase<'_> {
+    fn fmt<W: fmt::Write>(&self, f: &mut fmt::Formatter<W>) -> fmt::Result {
+        let VariantCase { docs, id, ty } = self;
+        write!(
+            f,
+            "VariantCase {{ docs: {docs:?}, id: {id:?}, ty: {ty:?} }}"
+        )
+    }
 }
 
 impl<'a> Parse<'a> for VariantCase<'a> {

@@ -16,6 +16,7 @@ ghost use Rattle.wac_syntax.specs.Answer.{Gives};
 ghost use Rattle.wac_expressions.specs.Expressions.{access_expr_of, named_access_expr_of, postfix_expr_of, primary_expr_of, expr_of, new_expr_of, nested_expr_of, argument_of, argument_name_of, named_argument_of, argument_name_span, argument_name_text, behind_primary};
 
 use std::alloc::Global;
+use std::fmt;
 use wac_lexer::{Lexer, SourceSpan, Token};
 use wac_syntax::{
     Error, Ident, Lookahead, PackageName, Parse, ParseResult, Peek, String, at, at_second, begins,
@@ -34,6 +35,14 @@ pub struct Expr<'a> {
     pub postfix: Vec<PostfixExpr<'a>>,
 }
 
+impl fmt::Debug for Expr<'_> {
+    // Its parts, which may hold expressions again, are left out.
+    fn fmt<W: fmt::Write>(&self, f: &mut fmt::Formatter<W>) -> fmt::Result {
+        let span = self.span;
+        write!(f, "Expr {{ span: {span:?} }}")
+    }
+}
+
 /// What an expression begins with.
 #[derive(Drop)]
 #[cycle(expr)]
@@ -46,6 +55,16 @@ pub enum PrimaryExpr<'a> {
     Ident(Ident<'a>),
 }
 
+impl fmt::Debug for PrimaryExpr<'_> {
+    fn fmt<W: fmt::Write>(&self, f: &mut fmt::Formatter<W>) -> fmt::Result {
+        match self {
+            PrimaryExpr::New(part) => write!(f, "New({part:?})"),
+            PrimaryExpr::Nested(part) => write!(f, "Nested({part:?})"),
+            PrimaryExpr::Ident(part) => write!(f, "Ident({part:?})"),
+        }
+    }
+}
+
 /// An instantiation of a package: `new a:b { x, y: z, ...i, ... }`.
 #[derive(Drop)]
 #[cycle(expr)]
@@ -56,6 +75,20 @@ pub struct NewExpr<'a> {
     pub package: PackageName<'a>,
     /// Its arguments, in order.
     pub arguments: Vec<InstantiationArgument<'a>>,
+}
+
+impl fmt::Debug for NewExpr<'_> {
+    fn fmt<W: fmt::Write>(&self, f: &mut fmt::Formatter<W>) -> fmt::Result {
+        let NewExpr {
+            span,
+            package,
+            arguments,
+        } = self;
+        write!(
+            f,
+            "NewExpr {{ span: {span:?}, package: {package:?}, arguments: {arguments:?} }}"
+        )
+    }
 }
 
 /// An argument of an instantiation.
@@ -72,6 +105,17 @@ pub enum InstantiationArgument<'a> {
     Fill(SourceSpan),
 }
 
+impl fmt::Debug for InstantiationArgument<'_> {
+    fn fmt<W: fmt::Write>(&self, f: &mut fmt::Formatter<W>) -> fmt::Result {
+        match self {
+            InstantiationArgument::Inferred(part) => write!(f, "Inferred({part:?})"),
+            InstantiationArgument::Spread(part) => write!(f, "Spread({part:?})"),
+            InstantiationArgument::Named(part) => write!(f, "Named({part:?})"),
+            InstantiationArgument::Fill(part) => write!(f, "Fill({part:?})"),
+        }
+    }
+}
+
 /// `x: y` among the arguments of an instantiation.
 #[derive(Drop)]
 #[cycle(expr)]
@@ -80,6 +124,16 @@ pub struct NamedInstantiationArgument<'a> {
     pub name: InstantiationArgumentName<'a>,
     /// What it is given.
     pub expr: Expr<'a>,
+}
+
+impl fmt::Debug for NamedInstantiationArgument<'_> {
+    fn fmt<W: fmt::Write>(&self, f: &mut fmt::Formatter<W>) -> fmt::Result {
+        let NamedInstantiationArgument { name, expr } = self;
+        write!(
+            f,
+            "NamedInstantiationArgument {{ name: {name:?}, expr: {expr:?} }}"
+        )
+    }
 }
 
 /// An expression in parentheses.
@@ -92,6 +146,13 @@ pub struct NestedExpr<'a> {
     pub inner: Box<Expr<'a>>,
 }
 
+impl fmt::Debug for NestedExpr<'_> {
+    fn fmt<W: fmt::Write>(&self, f: &mut fmt::Formatter<W>) -> fmt::Result {
+        let NestedExpr { span, inner } = self;
+        write!(f, "NestedExpr {{ span: {span:?}, inner: {inner:?} }}")
+    }
+}
+
 /// The name of an argument of an instantiation.
 #[derive(Clone, Copy)]
 pub enum InstantiationArgumentName<'a> {
@@ -99,6 +160,15 @@ pub enum InstantiationArgumentName<'a> {
     Ident(Ident<'a>),
     /// A string.
     String(String<'a>),
+}
+
+impl fmt::Debug for InstantiationArgumentName<'_> {
+    fn fmt<W: fmt::Write>(&self, f: &mut fmt::Formatter<W>) -> fmt::Result {
+        match self {
+            InstantiationArgumentName::Ident(part) => write!(f, "Ident({part:?})"),
+            InstantiationArgumentName::String(part) => write!(f, "String({part:?})"),
+        }
+    }
 }
 
 /// What may follow an expression.
@@ -110,6 +180,15 @@ pub enum PostfixExpr<'a> {
     NamedAccess(NamedAccessExpr<'a>),
 }
 
+impl fmt::Debug for PostfixExpr<'_> {
+    fn fmt<W: fmt::Write>(&self, f: &mut fmt::Formatter<W>) -> fmt::Result {
+        match self {
+            PostfixExpr::Access(part) => write!(f, "Access({part:?})"),
+            PostfixExpr::NamedAccess(part) => write!(f, "NamedAccess({part:?})"),
+        }
+    }
+}
+
 /// An access to an export of an instance, as `.x`.
 #[derive(Clone, Copy)]
 pub struct AccessExpr<'a> {
@@ -119,6 +198,13 @@ pub struct AccessExpr<'a> {
     pub id: Ident<'a>,
 }
 
+impl fmt::Debug for AccessExpr<'_> {
+    fn fmt<W: fmt::Write>(&self, f: &mut fmt::Formatter<W>) -> fmt::Result {
+        let AccessExpr { span, id } = self;
+        write!(f, "AccessExpr {{ span: {span:?}, id: {id:?} }}")
+    }
+}
+
 /// An access to an export of an instance, as `["x"]`.
 #[derive(Clone, Copy)]
 pub struct NamedAccessExpr<'a> {
@@ -126,6 +212,16 @@ pub struct NamedAccessExpr<'a> {
     pub span: SourceSpan,
     /// The name of the export.
     pub string: String<'a>,
+}
+
+impl fmt::Debug for NamedAccessExpr<'_> {
+    fn fmt<W: fmt::Write>(&self, f: &mut fmt::Formatter<W>) -> fmt::Result {
+        let NamedAccessExpr { span, string } = self;
+        write!(
+            f,
+            "NamedAccessExpr {{ span: {span:?}, string: {string:?} }}"
+        )
+    }
 }
 
 impl<'a> PrimaryExpr<'a> {
@@ -393,6 +489,16 @@ impl<'a> Parse<'a> for NamedInstantiationArgument<'a> {
         take_token(lexer, Token::Colon)?;
         let expr = Parse::parse(alloc, lexer)?;
         Ok(NamedInstantiationArgument { name, expr })
+    }
+}
+
+impl<'a> Peek for NamedInstantiationArgument<'a> {
+    ghost firsts = { begins symbols.named_argument };
+
+    fn peek(lookahead: &mut Lookahead) -> bool
+        ensures { Peeks (begins symbols.named_argument) result lookahead.old lookahead.new }
+    {
+        InstantiationArgumentName::peek(lookahead)
     }
 }
 

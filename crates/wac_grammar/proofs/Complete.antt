@@ -212,7 +212,7 @@ module _ (D : Family) (rec : Reader) (beginning : (s : Sym) (xs : List Item) (t 
   some_read g tried [] rest ne b = absurd cc
   some_read g tried (x ∷ xs) rest ne b = refl
 
-  complete_in : (g : Grammar) (tried : List Tried) (xs : List Item) (p : Parts g) (rest : List Item) → lawful g ≡ true → Picks tried g → DerivesIn D g xs p → may_follow (needs g) (clash g) rest ≡ true → read_in rec g tried (xs ++ rest) ≡ Ok (p, rest)
+  pub complete_in : (g : Grammar) (tried : List Tried) (xs : List Item) (p : Parts g) (rest : List Item) → lawful g ≡ true → Picks tried g → DerivesIn D g xs p → may_follow (needs g) (clash g) rest ≡ true → read_in rec g tried (xs ++ rest) ≡ Ok (p, rest)
   complete_in (token k) tried xs x rest ok pick d f = ap (λ ys. read_token tried k (ys ++ rest)) d.0 ∙ token_read tried k x rest d.1 d.2
   complete_in (sym s) [] xs t rest ok pick d f = completes s xs t rest d f
   complete_in (sym s) (k ∷ ks) xs t rest ok pick d f = rw (starts (empty s) (begins s) xs rest (not_true (empty s) pick) (beginning s xs t d)) (completes s xs t rest d f)
@@ -296,7 +296,7 @@ follow_within l ks ls (x ∷ xs) w f = rw (both_left (negated (is_fault x)) (neg
     none [] w = refl
     none (k ∷ ks) w = rw (away k (both_left (among k ls) (within ks ls) w)) (none ks (both_right (among k ls) (within ks ls) w))
 
-by_completes : (n : ℕ) → Completes (DerivesBy n) read
+pub by_completes : (n : ℕ) → Completes (DerivesBy n) read
 by_completes zero s xs t rest d f = absurd d
 by_completes (suc n) s xs t rest d f =
     let f_rule = subst (λ (l : Bool). may_follow l (clash (rule s)) rest ≡ true) (back (needs_is s)) (follow_within (needs_more s) (clash (rule s)) (clashes s) rest (clashes_is s) f) in

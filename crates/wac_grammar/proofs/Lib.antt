@@ -12,6 +12,7 @@ pub mod Refused
 pub mod Bodies
 pub mod Reasons
 pub mod Strings
+pub mod Arguments
 pub mod Choices
 pub mod Docs
 pub mod Ahead

@@ -7,8 +7,8 @@ use Rattle.wac_grammar.specs.Tokens.{is_token, is_bad, valid, at}
 use Rattle.wac_grammar.specs.Grammar.{Sym, rule, build, TreeOf, Parts, Behind, anything, no_fault, one_among, Grammar, token, sym, then, either, nothing, to_end, docs, not_empty, more, or_told, docs_of, Derives}
 use Rattle.wac_grammar.specs.Reading.{Tried, can, closes, follows, Stop, Why, other, version, empty_body, told, refuse, mapped, pair_with, read, read_by, read_in, read_token, read_sym, led, two, begins, first, at_one_of, may_leave, measure}
 use Rattle.wac_grammar.proofs.Fixed.{Reader, agree_read}
-use Rattle.wac_grammar.proofs.Tables.{at_one_of_head, one_of, needs_more}
-use Rattle.wac_grammar.proofs.Complete.{complete}
+use Rattle.wac_grammar.proofs.Tables.{at_one_of_head, one_of, clashes, needs_more}
+use Rattle.wac_grammar.proofs.Complete.{may_follow, complete_before}
 
 -- ---- what is left is no longer
 
@@ -96,7 +96,7 @@ checked k x xs = cond (valid k x.text) (Ok (x, xs)) (Err (record { left = x ∷ 
 
 module _ (whole : Bool) where
   -- the other reading ends as this one does, where this one ends within the first n items
-  abbrev Ends : {A : Type 0} → ℕ → List Item → Result (A × List Item) Stop → Result (A × List Item) Stop → Type 0
+  abbrev pub Ends : {A : Type 0} → ℕ → List Item → Result (A × List Item) Stop → Result (A × List Item) Stop → Type 0
   Ends n xs (Ok x) m = (j : ℕ) → n + length x.1 ≡ length xs + suc j → (rest : List Item) × (m ≡ Ok (x.0, rest)) × Alike whole (suc j) x.1 rest
   Ends n xs (Err s) m = (j : ℕ) → n + length s.left ≡ length xs + suc j → Seen whole s.why j → (rest : List Item) × (m ≡ Err (record { left = rest; expected = s.expected; why = s.why })) × Alike whole (suc j) s.left rest
 
@@ -259,9 +259,9 @@ module _ (whole : Bool) where
       subst (λ (m : Result (TreeOf s × List Item) Stop). Ends n xs m (read s ys)) one (subst (λ (m : Result (TreeOf s × List Item) Stop). Ends n xs (read_by d s xs) m) two (by_local d s n xs ys h))
 
   -- no list that begins with these very items, the one included at which reading stopped, is derived
-  pub not_derived : (s : Sym) (xs : List Item) (stop : Stop) (j : ℕ) (ys : List Item) (t : TreeOf s) → needs_more s ≡ false → read s xs ≡ Err stop → Alike whole (suc j + (length xs - length stop.left)) xs ys → Seen whole stop.why j → length stop.left ≤ length xs → Derives s ys t → ⊥
-  not_derived s xs stop j ys t n h alike v le d =
-      let e = subst (λ (m : Result (TreeOf s × List Item) Stop). Ends (suc j + (length xs - length stop.left)) xs m (read s ys)) h (reads_alike s (suc j + (length xs - length stop.left)) xs ys alike) in
+  pub not_derived : (s : Sym) (xs : List Item) (stop : Stop) (j : ℕ) (ys tail : List Item) (t : TreeOf s) → may_follow (needs_more s) (clashes s) tail ≡ true → read s xs ≡ Err stop → Alike whole (suc j + (length xs - length stop.left)) xs (ys ++ tail) → Seen whole stop.why j → length stop.left ≤ length xs → Derives s ys t → ⊥
+  not_derived s xs stop j ys tail t f h alike v le d =
+      let e = subst (λ (m : Result (TreeOf s × List Item) Stop). Ends (suc j + (length xs - length stop.left)) xs m (read s (ys ++ tail))) h (reads_alike s (suc j + (length xs - length stop.left)) xs (ys ++ tail) alike) in
       let r = e j (omega arith) v in
-      let k = back (complete s ys t n d) ∙ r.1 in
+      let k = back (complete_before s ys t tail d f) ∙ r.1 in
       absurd cc

@@ -8,7 +8,7 @@ use Rattle.wac_lexer.specs.Item.{Item}
 use Rattle.wac_grammar.specs.Tokens.{is_token, valid, at}
 use Rattle.wac_grammar.specs.Grammar.{Sym, document, argument, arguments, rule, build, TreeOf, Parts, Grammar, token, sym, then, either, nothing, to_end, docs, not_empty, more, or_told, docs_of}
 use Rattle.wac_grammar.specs.Reading.{Tried, can, closes, follows, Stop, Why, other, version, empty_body, told, refuse, mapped, pair_with, two, read, read_by, read_in, read_token, read_sym, led, empty, begins, first, at_one_of, may_leave, measure}
-use Rattle.wac_grammar.specs.Arguments.{EndsWithArgument}
+use Rattle.wac_grammar.specs.Arguments.{EndsWithArgument, IsAlone, EndsArgued}
 use Rattle.wac_grammar.proofs.Fixed.{Reader, both, both_left, both_right}
 use Rattle.wac_grammar.proofs.Tables.{negated, same_token, among}
 use Rattle.wac_grammar.proofs.Completed.{same_is}
@@ -277,9 +277,19 @@ by_traces (suc n) s st xs h =
     (rests st (after st (rule s)) xs (read_in (read_by n) (rule s) [] xs) (both_right (well st (rule s)) (is_plain (after st (rule s))) ok)
     (traced_in (read_by n) (by_traces n) (rule s) st [] xs (both_left (well st (rule s)) (is_plain (after st (rule s))) ok)))
 
-traced : (s : Sym) (xs : List Item) → may_begin plain s ≡ true → Traced plain plain xs (read s xs)
+-- where a symbol may begin: an argument behind an opening brace or a comma
+abbrev begun : Sym → State
+begun argument = opened
+begun arguments = opened
+begun _ = plain
+
+begun_well : (s : Sym) → may_begin (begun s) s ≡ true
+begun_well document = refl
+begun_well _ = refl
+
+traced : (s : Sym) (xs : List Item) → Traced (begun s) plain xs (read s xs)
 unfolding read
-traced s xs h = by_traces (suc (measure s xs)) s plain xs h
+traced s xs = by_traces (suc (measure s xs)) s (begun s) xs (begun_well s)
 
 -- ---- in words
 
@@ -347,12 +357,30 @@ ends_so xs h = go (ending plain xs h)
     go (inr (inl h)) = let e = h.0 in absurd cc
     go (inr (inr h)) = let e = h.0 in absurd cc
 
-so_ends : (xs : List Item) → EndsWithArgument xs → run plain xs ≡ argued
-so_ends xs o =
-    ap (run plain) o.ends
-    ∙ run_append plain o.before (o.opening ∷ o.string ∷ [])
-    ∙ ap (λ st. step_of st o.string.token) (opened_by o.opening o.is_opening (run plain o.before))
+so_ends : (st : State) (xs : List Item) → EndsWithArgument xs → run st xs ≡ argued
+so_ends st xs o =
+    ap (run st) o.ends
+    ∙ run_append st o.before (o.opening ∷ o.string ∷ [])
+    ∙ ap (λ st. step_of st o.string.token) (opened_by o.opening o.is_opening (run st o.before))
     ∙ step_token opened t.String o.string o.is_string
+
+-- behind an opening brace or a comma the string may be alone
+ends_alone : (xs : List Item) → run opened xs ≡ argued → EndsWithArgument xs ⊎ IsAlone t.String xs
+ends_alone xs h = go (ending opened xs h)
+  where
+    go : Ending opened xs → EndsWithArgument xs ⊎ IsAlone t.String xs
+    go (inl o) = inl o
+    go (inr (inl h)) = let e = h.0 in absurd cc
+    go (inr (inr h)) = inr (h.1, h.2, h.3)
+
+alone_ends : (xs : List Item) → EndsWithArgument xs ⊎ IsAlone t.String xs → run opened xs ≡ argued
+alone_ends xs (inl o) = so_ends opened xs o
+alone_ends xs (inr a) = ap (run opened) a.1 ∙ step_token opened t.String a.0 a.2
+
+ends_exactly : (s : Sym) (xs : List Item) → (run (begun s) xs ≡ argued → EndsArgued s xs) × (EndsArgued s xs → run (begun s) xs ≡ argued)
+ends_exactly argument xs = (ends_alone xs, alone_ends xs)
+ends_exactly arguments xs = (ends_alone xs, alone_ends xs)
+ends_exactly _ xs = (ends_so xs, so_ends plain xs)
 
 argued_is : (st : State) → is_argued st ≡ true → st ≡ argued
 argued_is argued h = refl
@@ -360,9 +388,10 @@ argued_is plain h = absurd cc
 argued_is opened h = absurd cc
 
 -- A REFUSAL IS TOLD OF THE ITEM BEFORE exactly where this is a string that an argument begins with
-pub told_exactly : (s : Sym) → may_begin plain s ≡ true → (xs front : List Item) (stop : Stop) → read s xs ≡ Err stop → xs ≡ front ++ stop.left → (is_told stop.why ≡ true → EndsWithArgument front) × (EndsWithArgument front → is_told stop.why ≡ true)
-told_exactly s b xs front stop h e =
-    let d = subst (λ (m : Result (TreeOf s × List Item) Stop). Traced plain plain xs m) h (traced s xs b) in
+pub told_exactly : (s : Sym) (xs front : List Item) (stop : Stop) → read s xs ≡ Err stop → xs ≡ front ++ stop.left → (is_told stop.why ≡ true → EndsArgued s front) × (EndsArgued s front → is_told stop.why ≡ true)
+told_exactly s xs front stop h e =
+    let d = subst (λ (m : Result (TreeOf s × List Item) Stop). Traced (begun s) plain xs m) h (traced s xs) in
     let same : d.0 ≡ front = append_cancel_right d.0 front stop.left (back d.1 ∙ e) in
-    let marks : is_told stop.why ≡ is_argued (run plain front) = subst (λ (us : List Item). is_told stop.why ≡ is_argued (run plain us)) same d.2 in
-    ((λ w. ends_so front (argued_is (run plain front) (back marks ∙ w))), (λ o. marks ∙ ap is_argued (so_ends front o)))
+    let marks : is_told stop.why ≡ is_argued (run (begun s) front) = subst (λ (us : List Item). is_told stop.why ≡ is_argued (run (begun s) us)) same d.2 in
+    let ends = ends_exactly s front in
+    ((λ w. ends.0 (argued_is (run (begun s) front) (back marks ∙ w))), (λ o. marks ∙ ap is_argued (ends.1 o)))

@@ -1,16 +1,19 @@
 // Laws of the definitions that the contracts cite. Each function does nothing: its contract is the law.
-ghost use Rattle.std.specs.Prelude.{◌≡◌, ℕ, List, Ok};
+ghost use Rattle.std.specs.Prelude.{◌≡◌, ◌≢◌, ◌⊎◌, ℕ, List, [], ◌∷◌, ◌++◌, Ok, Err};
 ghost use Rattle.std.specs.Str.{IsUtf8};
 ghost use Rattle.wac_lexer.specs.Item.{Item};
 ghost use Rattle.wac_lexer.specs.declared.token.Token as the_token;
 ghost use Rattle.wac_grammar.specs.Consumed.{Consumed};
-ghost use Rattle.wac_grammar.specs.Grammar.{Sym, TreeOf};
-ghost use Rattle.wac_grammar.specs.Reading.{read};
+ghost use Rattle.wac_grammar.specs.Arguments.{CutShort};
+ghost use Rattle.wac_grammar.specs.Grammar.{Sym, argument, TreeOf};
+ghost use Rattle.wac_grammar.specs.Reading.{Stop, read};
+ghost use Rattle.wac_grammar.specs.Stopped.{Stopped};
 ghost use Rattle.wac_grammar.specs.TokenTexts.{HasText};
 ghost use Rattle.wac_grammar.specs.Tree.{Document};
 ghost use Rattle.wac_grammar.specs.TextTree.{IsTreeOf};
 ghost use Rattle.wac_grammar.specs.Slices.{DocumentSlices};
 ghost use Rattle.wac_grammar.specs.Spelled.{DocumentSpelled};
+ghost use Rattle.wac_grammar.specs.Viable.{Viable};
 
 use wac_lexer::items_stand_in_order;
 
@@ -30,3 +33,18 @@ pub fn trees_stand_in_their_text()
 {
     items_stand_in_order();
 }
+
+/// A refusal lies at the first fault of the part that was to be read, and each token that it names can stand there.
+pub fn refusals_lie_at_first_faults()
+    ensures { (s : Sym) (items : List Item) (stop : Stop) → s ≢ argument → read s items ≡ Err stop → Stopped s items stop }
+{}
+
+/// So it does where an argument was to be read, but where the input ends behind its dots, which may be all of it.
+pub fn arguments_are_refused_at_first_faults()
+    ensures { (items : List Item) (stop : Stop) → read argument items ≡ Err stop → Stopped argument items stop ⊎ CutShort items stop }
+{}
+
+/// Where a tree was read, the next item does not continue it.
+pub fn trees_end_where_they_must()
+    ensures { (s : Sym) (front rest : List Item) (x : Item) (tree : TreeOf s) → read s (front ++ x ∷ rest) ≡ Ok (tree, x ∷ rest) → Viable s (front ++ x ∷ []) → ⊥ }
+{}

@@ -3,4 +3,7 @@
 
 mod laws;
 
-pub use laws::{tokens_have_texts, trees_stand_in_their_text, what_is_read_derives};
+pub use laws::{
+    arguments_are_refused_at_first_faults, refusals_lie_at_first_faults, tokens_have_texts,
+    trees_end_where_they_must, trees_stand_in_their_text, what_is_read_derives,
+};

@@ -1,5 +1,5 @@
 // Laws of the definitions that the lexer's contracts cite. Each function does nothing: its contract is the law.
-ghost use Rattle.std.specs.Prelude.{◌≡◌, ◌<◌, ◌↔◌, ℕ, List, MatchOption, Result, drop, length, [], true, None, Some};
+ghost use Rattle.std.specs.Prelude.{◌≡◌, ◌<◌, ◌↔◌, ℕ, IsTrue, List, MatchOption, Result, drop, length, [], true, None, Some};
 ghost use Rattle.std.specs.List.{AllByRecursion};
 ghost use Rattle.std.specs.Str.{IsUtf8, chars};
 ghost use Rattle.wac_lexer.specs.Characters.{IsFirstRefused, fault_of, refused};
@@ -12,7 +12,12 @@ ghost use Rattle.wac_lexer.specs.Order.{InOrder};
 ghost use Rattle.wac_lexer.specs.Pattern.{Pattern, Matches, matches};
 ghost use Rattle.wac_lexer.specs.Tokens.{IsToken, IsLongest, HasNone, token_of, longest_token};
 ghost use Rattle.wac_lexer.specs.declared.token.Token.{Token as Kind};
+ghost use Rattle.wac_lexer.specs.Span.{Span};
 ghost use Rattle.wac_lexer.specs.declared.error.Error.{Error as Fault};
+
+use crate::error::Error;
+use crate::span::SourceSpan;
+use crate::token::Token;
 
 /// Reading a text byte by byte tells whether it is one of a pattern's.
 pub fn patterns_are_decided()
@@ -59,4 +64,11 @@ pub fn first_items_are_found()
 /// The refused character is the first of the whole text.
 pub fn refused_characters_are_first()
     ensures { (text : List ℕ) → MatchOption (refused text) (AllByRecursion (λ c. fault_of c ≡ None) (chars text)) (λ found. IsFirstRefused text found.0 found.1) }
+{}
+
+/// Tokens are equal where they are the same, and so are faults and spans: `==` reads all of both.
+pub fn equality_reads_all()
+    ensures tokens { (a b : Kind) → IsTrue (⟦<Token as PartialEq>⟧.eq a b) ↔ a ≡ b }
+    ensures faults { (a b : Fault) → IsTrue (⟦<Error as PartialEq>⟧.eq a b) ↔ a ≡ b }
+    ensures spans { (a b : Span) → IsTrue (⟦<SourceSpan as PartialEq>⟧.eq a b) ↔ a ≡ b }
 {}

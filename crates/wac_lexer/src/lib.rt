@@ -23,9 +23,9 @@ pub use device::{Bytes, Feed, In, Out, Sink};
 pub use error::Error;
 pub use follow::{identifiers_follow_dots, tokens_are_read_back};
 pub use laws::{
-    comments_are_pieces, docs_stand_in_the_gap, first_items_are_found, fronts_are_longest,
-    gap_is_longest, items_stand_in_order, patterns_are_decided, refused_characters_are_first,
-    tokens_are_decided,
+    comments_are_pieces, docs_stand_in_the_gap, equality_reads_all, first_items_are_found,
+    fronts_are_longest, gap_is_longest, items_stand_in_order, patterns_are_decided,
+    refused_characters_are_first, tokens_are_decided,
 };
 pub use lexer::{Lexer, LexerResult};
 pub use span::SourceSpan;

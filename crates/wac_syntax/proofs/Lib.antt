@@ -4,6 +4,7 @@ pub mod Taken
 pub mod Strips
 pub mod Loops
 pub mod Lists
+pub mod FirstFaults
 pub mod PathParts
 pub mod Optional
 pub mod Exits

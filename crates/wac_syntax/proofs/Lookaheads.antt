@@ -14,7 +14,7 @@ use Rattle.wac_grammar.specs.Grammar as g
 use Rattle.wac_grammar.specs.Grammar.{Sym}
 use Rattle.wac_grammar.specs.Reading.{Stop, Tried, can, follows, other, begins, at_one_of, refuse}
 use Rattle.wac_syntax.specs.Error.{Told, told_by, expected}
-use Rattle.wac_syntax.specs.Lookahead.{Looked, looked, is_next, is_one_of, tried, refusal, told_of, Peeks}
+use Rattle.wac_syntax.specs.Lookahead.{Looked, looked, is_next, is_one_of, tried, refusal, told_of, peeked, Peeks}
 use Rattle.wac_syntax.specs.Lists.{tells}
 use Rattle.wac_syntax.specs.Answer.{end_of_input, final_span, end_span, told, Fails}
 
@@ -79,9 +79,21 @@ next_stays : (ks : List Token) (l : Looked) → (tried ks l).next ≡ l.next
 next_stays [] l = refl
 next_stays (k ∷ ks) l = next_stays ks (tried (k ∷ []) l)
 
+-- where none of the tokens is next, all were tried
+peeked_none : (ks : List Token) (l : Looked) → is_one_of ks l.next ≡ false → peeked ks l ≡ tried ks l
+peeked_none [] l h = refl
+peeked_none (k ∷ ks) l h = go (is_next k l.next) h (λ rest. peeked_none ks (tried (k ∷ []) l) (ap (is_one_of ks) (next_stays (k ∷ []) l) ∙ rest))
+  where
+    go : (b : Bool) → (b || is_one_of ks l.next) ≡ false → (is_one_of ks l.next ≡ false → peeked ks (tried (k ∷ []) l) ≡ tried (k ∷ ks) l) → (if b then l else peeked ks (tried (k ∷ []) l)) ≡ tried (k ∷ ks) l
+    go true h r = absurd cc
+    go false h r = r h
+
+pub all_tried : (ks : List Token) (found : Bool) (old new : Looked) → Peeks ks found old new → found ≡ false → new ≡ tried ks old
+all_tried ks found old new peeks h = peeks.kept ∙ peeked_none ks old (sym peeks.found ∙ h)
+
 pub looks_on : (l : Reading) (ks js : List Token) (look new : Looked) (found : Bool) → Looks l ks look → Peeks js found look new → found ≡ false → Looks l (ks ++ js) new
 looks_on l ks js look new found looks peeks h =
-    let is : new ≡ tried (ks ++ js) (looked l) = peeks.tried h ∙ ap (tried js) looks.is ∙ sym (tried_more ks js (looked l)) in
+    let is : new ≡ tried (ks ++ js) (looked l) = all_tried js found look new peeks h ∙ ap (tried js) looks.is ∙ sym (tried_more ks js (looked l)) in
     record { is = is; next = ap (λ (a : Looked). a.next) is ∙ next_stays (ks ++ js) (looked l) }
 
 pub looks_fail : {A : Type 0} (l : Reading) (a b : Token) (ks : List Token) (look : Looked) (e : Error) (r : Result A Stop) → Looks l (a ∷ b ∷ ks) look → told_by e ≡ told_of look → told_of (tried (a ∷ b ∷ ks) (looked l)) ≡ tells l.source l.last (left l) (a ∷ b ∷ ks)
@@ -94,7 +106,47 @@ or_false false = refl
 
 -- a look for one token
 pub peeks_one : (k : Token) (found : Bool) (old new : Looked) → found ≡ is_next k old.next → new ≡ (if found then old else tried (k ∷ []) old) → Peeks (k ∷ []) found old new
-peeks_one k found old new f kept = record { found = f ∙ sym (or_false (is_next k old.next)); tried = λ h. kept ∙ ap (λ b. if b then old else tried (k ∷ []) old) h }
+peeks_one k found old new f kept = record { found = f ∙ sym (or_false (is_next k old.next)); kept = kept ∙ ap (λ b. if b then old else tried (k ∷ []) old) f }
+
+peeked_more : (ks js : List Token) (l : Looked) → is_one_of ks l.next ≡ false → peeked (ks ++ js) l ≡ peeked js (peeked ks l)
+peeked_more [] js l h = refl
+peeked_more (k ∷ ks) js l h = go (is_next k l.next) h (λ rest. peeked_more ks js (tried (k ∷ []) l) (ap (is_one_of ks) (next_stays (k ∷ []) l) ∙ rest))
+  where
+    go : (b : Bool) → (b || is_one_of ks l.next) ≡ false → (is_one_of ks l.next ≡ false → peeked (ks ++ js) (tried (k ∷ []) l) ≡ peeked js (peeked ks (tried (k ∷ []) l))) → (if b then l else peeked (ks ++ js) (tried (k ∷ []) l)) ≡ peeked js (if b then l else peeked ks (tried (k ∷ []) l))
+    go true h r = absurd cc
+    go false h r = r h
+
+peeked_met : (ks js : List Token) (l : Looked) → is_one_of ks l.next ≡ true → peeked (ks ++ js) l ≡ peeked ks l
+peeked_met [] js l h = absurd cc
+peeked_met (k ∷ ks) js l h = go (is_next k l.next) h (λ rest. peeked_met ks js (tried (k ∷ []) l) (ap (is_one_of ks) (next_stays (k ∷ []) l) ∙ rest))
+  where
+    go : (b : Bool) → (b || is_one_of ks l.next) ≡ true → (is_one_of ks l.next ≡ true → peeked (ks ++ js) (tried (k ∷ []) l) ≡ peeked ks (tried (k ∷ []) l)) → (if b then l else peeked (ks ++ js) (tried (k ∷ []) l)) ≡ (if b then l else peeked ks (tried (k ∷ []) l))
+    go true h r = refl
+    go false h r = r h
+
+one_of_more : (ks js : List Token) (next : Handed) → is_one_of (ks ++ js) next ≡ (is_one_of ks next || is_one_of js next)
+one_of_more [] js next = refl
+one_of_more (k ∷ ks) js next = rw (one_of_more ks js next) (go (is_next k next))
+  where
+    go : (b : Bool) → (b || (is_one_of ks next || is_one_of js next)) ≡ ((b || is_one_of ks next) || is_one_of js next)
+    go true = refl
+    go false = refl
+
+-- a look for these tokens finds one, and those behind are not tried
+pub peeks_met : {ks : List Token} (js : List Token) {found result : Bool} {old mid new : Looked} → Peeks ks found old mid → found ≡ true → new ≡ mid → result ≡ true → Peeks (ks ++ js) result old new
+peeks_met {ks = ks} js {old = old} peeks h same is =
+    let met : is_one_of ks old.next ≡ true = sym peeks.found ∙ h in
+    record { found = is ∙ sym (one_of_more ks js old.next ∙ ap (λ b. b || is_one_of js old.next) met); kept = same ∙ peeks.kept ∙ sym (peeked_met ks js old met) }
+
+-- it finds none, and the others are tried
+pub peeks_on : {ks js : List Token} {found other result : Bool} {old mid last new : Looked} → Peeks ks found old mid → found ≡ false → Peeks js other mid last → new ≡ last → result ≡ other → Peeks (ks ++ js) result old new
+peeks_on {ks = ks} {js = js} {old = old} {mid = mid} peeks h others same is =
+    let none : is_one_of ks old.next ≡ false = sym peeks.found ∙ h in
+    let stays : mid.next ≡ old.next = ap (λ (a : Looked). a.next) (peeks.kept ∙ peeked_none ks old none) ∙ next_stays ks old in
+    record {
+      found = is ∙ others.found ∙ ap (is_one_of js) stays ∙ sym (one_of_more ks js old.next ∙ ap (λ b. b || is_one_of js old.next) none);
+      kept = same ∙ others.kept ∙ ap (peeked js) peeks.kept ∙ sym (peeked_more ks js old none);
+    }
 
 pub none_found : (l : Reading) (ks js : List Token) (look new : Looked) (found : Bool) → Looks l ks look → Peeks js found look new → at_one_of js (left l) ≡ false → found ≡ false
 none_found l ks js look new found looks peeks h = sym (tests l ks js look new found found looks peeks refl) ∙ h
@@ -186,7 +238,7 @@ over_fails e l r s k is tells_it = none_fails e l r s k (map follows (begins s))
 pub record TriedSoFar (ks : List Token) (i : ℕ) (old new : Looked) : Type 0 where
   pub next : new.next ≡ old.next
   pub found : is_one_of (drop i ks) old.next ≡ is_one_of ks old.next
-  pub all : tried (drop i ks) new ≡ tried ks old
+  pub all : peeked (drop i ks) new ≡ peeked ks old
 
 drop_at : (ks : List Token) (i : ℕ) (k : Token) → i < length ks → drop i ks ≡ get_or ks i k ∷ drop (i + 1) ks
 drop_at ks i k h =
@@ -221,25 +273,30 @@ tries_on ks i d old mid new found s h f kept missed =
     record {
       next = ap (λ (a : Looked). a.next) tried_one ∙ next_stays (k ∷ []) mid ∙ s.next;
       found = or_left (is_next k old.next) (is_one_of (drop (i + 1) ks) old.next) not_next ∙ ap (λ (l : List Token). is_one_of l old.next) (sym here) ∙ s.found;
-      all = ap (tried (drop (i + 1) ks)) tried_one ∙ sym (tried_more (k ∷ []) (drop (i + 1) ks) mid) ∙ ap (λ (l : List Token). tried l mid) (sym here) ∙ s.all;
+      all = ap (peeked (drop (i + 1) ks)) tried_one ∙ sym (passes (is_next k mid.next) (sym f ∙ missed)) ∙ ap (λ (l : List Token). peeked l mid) (sym here) ∙ s.all;
     }
+  where
+    passes : (b : Bool) → b ≡ false → (if b then mid else peeked (drop (i + 1) ks) (tried (get_or ks i d ∷ []) mid)) ≡ peeked (drop (i + 1) ks) (tried (get_or ks i d ∷ []) mid)
+    passes true e = absurd cc
+    passes false e = refl
 
-pub tries_found : (ks : List Token) (i : ℕ) (k : Token) (old mid new : Looked) (found : Bool) → TriedSoFar ks i old mid → i < length ks → found ≡ is_next (get_or ks i k) mid.next → found ≡ true → Peeks ks true old new
-tries_found ks i d old mid new found s h f met =
+pub tries_found : (ks : List Token) (i : ℕ) (k : Token) (old mid new : Looked) (found : Bool) → TriedSoFar ks i old mid → i < length ks → found ≡ is_next (get_or ks i k) mid.next → new ≡ (if found then mid else tried (get_or ks i k ∷ []) mid) → found ≡ true → Peeks ks true old new
+tries_found ks i d old mid new found s h f kept met =
     let k = get_or ks i d in
     let next : is_next k old.next ≡ true = ap (is_next k) (sym s.next) ∙ sym f ∙ met in
     record {
       found = or_true (is_next k old.next) (is_one_of (drop (i + 1) ks) old.next) next ∙ ap (λ (l : List Token). is_one_of l old.next) (sym (drop_at ks i d h)) ∙ s.found;
-      tried = λ missed. absurd (not_both missed);
+      kept = kept ∙ ap (λ b. if b then mid else tried (k ∷ []) mid) met ∙ sym (stays (is_next k mid.next) (sym f ∙ met)) ∙ ap (λ (l : List Token). peeked l mid) (sym (drop_at ks i d h)) ∙ s.all;
     }
   where
-    not_both : true ≡ false → ⊥
-    not_both h = cc
+    stays : (b : Bool) → b ≡ true → (if b then mid else peeked (drop (i + 1) ks) (tried (get_or ks i d ∷ []) mid)) ≡ mid
+    stays true e = refl
+    stays false e = absurd cc
 
 pub tries_end : (ks : List Token) (i : ℕ) (old new : Looked) → TriedSoFar ks i old new → length ks ≤ i → Peeks ks false old new
 tries_end ks i old new s h =
     let past = drop_past ks i h in
     record {
       found = sym (ap (λ (l : List Token). is_one_of l old.next) past) ∙ s.found;
-      tried = λ missed. sym (ap (λ (l : List Token). tried l new) past) ∙ s.all;
+      kept = sym (ap (λ (l : List Token). peeked l new) past) ∙ s.all;
     }

@@ -47,10 +47,15 @@ refusal (Some (Err fault, span)) end other = faulty fault span
 abbrev pub told_of : Looked → Told
 told_of l = refusal l.next l.span (expected l.kept l.count)
 
--- Whether the next item is one of these tokens, which were tried if it is none.
+-- after a look for one of these tokens: each was tried, up to the first that is next
+abbrev pub peeked : List Token → Looked → Looked
+peeked [] l = l
+peeked (token ∷ tokens) l = if is_next token l.next then l else peeked tokens (tried (token ∷ []) l)
+
+-- Whether the next item is one of these tokens, of which those in front of it were tried, or all if it is none.
 pub record Peeks (firsts : List Token) (result : Bool) (old new : Looked) : Type 0 where
   pub found : result ≡ is_one_of firsts old.next
-  pub tried : result ≡ false → new ≡ tried firsts old
+  pub kept : new ≡ peeked firsts old
 
 -- what is told of a fault
 abbrev pub fault_at : Handed → Option Told

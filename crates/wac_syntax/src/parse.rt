@@ -28,7 +28,8 @@ use wac_lexer::{Lexer, LexerResult, SourceSpan, Token};
 
 /// A part of a document that can be parsed.
 ///
-/// A parser that refuses leaves the lexer between two items, at its old place or behind it.
+/// A parser that refuses leaves the lexer between two items, at its old place or behind it. What else its answer says, of
+/// the item behind a tree and of the place of an error, is the law `parsers_stop_at_first_faults`.
 pub trait Parse<'a>: Sized {
     /// The production of the grammar.
     ghost symbol: { Sym };
@@ -52,7 +53,7 @@ pub trait Peek {
     /// The tokens that the part may begin with, in the order in which they are tried.
     ghost firsts: { List the_token.Token };
 
-    /// Whether the next item is one of those tokens. If it is none, each has been tried.
+    /// Whether the next item is one of those tokens. Those in front of it have been tried, or all if it is none.
     fn peek(lookahead: &mut Lookahead) -> bool
         ensures { Peeks firsts result lookahead.old lookahead.new };
 }

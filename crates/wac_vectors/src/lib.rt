@@ -12,6 +12,10 @@ mod layout;
 #[cfg(test)]
 mod optional;
 #[cfg(test)]
+mod parts;
+#[cfg(test)]
+mod places;
+#[cfg(test)]
 mod refusals;
 #[cfg(test)]
 mod rows;

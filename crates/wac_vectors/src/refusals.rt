@@ -141,7 +141,37 @@ const EMPTY: [Row; 4] = [
 ];
 
 /// Versions that are none.
-const VERSIONS: [Row; 2] = [
+const VERSIONS: [Row; 7] = [
+    (
+        "package a:b@01.0.0;",
+        "`01.0.0` is not a valid semantic version",
+        12,
+        6,
+    ),
+    (
+        "package a:b@99999999999999999999999.0.0;",
+        "`99999999999999999999999.0.0` is not a valid semantic version",
+        12,
+        27,
+    ),
+    (
+        "package a:b@1;",
+        "`1` is not a valid semantic version",
+        12,
+        1,
+    ),
+    (
+        "package a:b@1.0.0-;",
+        "`1.0.0-` is not a valid semantic version",
+        12,
+        6,
+    ),
+    (
+        "package a:b@18446744073709551616.0.0;",
+        "`18446744073709551616.0.0` is not a valid semantic version",
+        12,
+        24,
+    ),
     (
         "package a:b targets c:d/e@1.0;",
         "`1.0` is not a valid semantic version",
@@ -153,6 +183,34 @@ const VERSIONS: [Row; 2] = [
         "`1` is not a valid semantic version",
         29,
         1,
+    ),
+];
+
+/// Texts with a character or a quote that stands in no document.
+const FAULTS: [Row; 4] = [
+    (
+        "package a:b; // \u{c}",
+        "disallowed control code '\\u{c}'",
+        16,
+        1,
+    ),
+    (
+        "package a:b; let x = y[\"\u{149}",
+        "codepoint `\\u{149}` is discouraged by Unicode",
+        24,
+        2,
+    ),
+    (
+        "package a:b; let x = \"s;",
+        "an unterminated string was encountered",
+        21,
+        1,
+    ),
+    (
+        "package a:b; let x = new c:d { \"e\" # };",
+        "expected identifier, found string literal",
+        31,
+        3,
     ),
 ];
 
@@ -185,21 +243,10 @@ fn are_refused(rt: &impl Abort, alloc: Global, rows: &[Row]) -> Result<(), Fail>
 }
 
 #[test]
-fn tokens_are_told(rt: HostRuntime) -> Result<(), Fail> {
-    are_refused(&rt, rt.alloc(), &AT_TOKENS)
-}
-
-#[test]
-fn ends_are_told(rt: HostRuntime) -> Result<(), Fail> {
-    are_refused(&rt, rt.alloc(), &AT_THE_END)
-}
-
-#[test]
-fn empty_bodies_are_told(rt: HostRuntime) -> Result<(), Fail> {
-    are_refused(&rt, rt.alloc(), &EMPTY)
-}
-
-#[test]
-fn versions_are_told(rt: HostRuntime) -> Result<(), Fail> {
-    are_refused(&rt, rt.alloc(), &VERSIONS)
+fn refusals_are_told(rt: HostRuntime) -> Result<(), Fail> {
+    are_refused(&rt, rt.alloc(), &AT_TOKENS)?;
+    are_refused(&rt, rt.alloc(), &AT_THE_END)?;
+    are_refused(&rt, rt.alloc(), &EMPTY)?;
+    are_refused(&rt, rt.alloc(), &VERSIONS)?;
+    are_refused(&rt, rt.alloc(), &FAULTS)
 }

@@ -31,7 +31,7 @@ pub(crate) const DOCUMENTED_PRINTED: &str =
     /// Doc comment #10!\nexport x as \"foo\";\n";
 
 /// Texts that have a tree.
-pub(crate) const DOCUMENTS: [&str; 22] = [
+pub(crate) const DOCUMENTS: [&str; 24] = [
     "package a:b;",
     "package a:b targets c:d/e;",
     DOCUMENTED,
@@ -40,6 +40,7 @@ pub(crate) const DOCUMENTS: [&str; 22] = [
     "package a:b;\r\n/// d\r\nlet x = y;",
     "package a:b; interface i { f: func(); type f = u32; }",
     "package a:b; import log: func(); let i = new c:d { log, ... }; export i.run;",
+    "package a:b; import log: func(); let i = new c:d { log };",
     "package a:b; import x: c:d/q/r;",
     "package a:b; import g: func(); import k: func(); export g as f; export g as h; export k as f;",
     "package a:b; type t = result<_, _>;",
@@ -48,6 +49,7 @@ pub(crate) const DOCUMENTS: [&str; 22] = [
     "package a:b; type t = tuple<u8>;",
     "package a:b; type t = stream<u8>;",
     "package a:b; import x: %c:d/e/%f@1.0.0;",
+    "package a:b@18446744073709551615.0.0;",
     "package a:b; interface i { f: func() -> ; }",
     "package a:b; export (x.y)[ \"q\" ].z as \"n\";",
     "package a:b; interface i { resource r; use j.{}; }",
@@ -57,7 +59,7 @@ pub(crate) const DOCUMENTS: [&str; 22] = [
 ];
 
 /// Texts that have none.
-pub(crate) const OTHERS: [&str; 12] = [
+pub(crate) const OTHERS: [&str; 22] = [
     "",
     "package a:b; x // \u{202a}",
     "package a:b; record r { x:u32 }",
@@ -70,4 +72,14 @@ pub(crate) const OTHERS: [&str; 12] = [
     "/* /* unterminated */",
     "package a:b; world w { import f func(); }",
     "package a:b; let x = new c:d { ...; };",
+    "package a:b@99999999999999999999999.0.0;",
+    "fooBar",
+    "....",
+    "x:string",
+    "package a:b; // \u{c}",
+    "package a:b; let x = y[\"\u{149}",
+    "package a:b; let x = \"s;",
+    "package a:b; let x = new c:d { \"e\" # };",
+    "package a:b@1.0.0-;",
+    "package a:b@18446744073709551616.0.0;",
 ];

@@ -7,6 +7,7 @@ ghost use Rattle.wac_worlds.specs.Worlds.{import_type_of, import_statement_of};
 
 use crate::interface::InlineInterface;
 use std::alloc::Global;
+use std::fmt;
 use wac_declarations::FuncType;
 use wac_lexer::{Lexer, Token};
 use wac_syntax::{
@@ -25,6 +26,16 @@ pub struct ImportStatement<'a> {
     pub name: Option<ExternName<'a>>,
     /// What is imported.
     pub ty: ImportType<'a>,
+}
+
+impl fmt::Debug for ImportStatement<'_> {
+    fn fmt<W: fmt::Write>(&self, f: &mut fmt::Formatter<W>) -> fmt::Result {
+        let ImportStatement { docs, id, name, ty } = self;
+        write!(
+            f,
+            "ImportStatement {{ docs: {docs:?}, id: {id:?}, name: {name:?}, ty: {ty:?} }}"
+        )
+    }
 }
 
 impl<'a> Parse<'a> for ImportStatement<'a> {
@@ -64,6 +75,17 @@ pub enum ImportType<'a> {
     Interface(InlineInterface<'a>),
     /// A name.
     Ident(Ident<'a>),
+}
+
+impl fmt::Debug for ImportType<'_> {
+    fn fmt<W: fmt::Write>(&self, f: &mut fmt::Formatter<W>) -> fmt::Result {
+        match self {
+            ImportType::Package(part) => write!(f, "Package({part:?})"),
+            ImportType::Func(part) => write!(f, "Func({part:?})"),
+            ImportType::Interface(part) => write!(f, "Interface({part:?})"),
+            ImportType::Ident(part) => write!(f, "Ident({part:?})"),
+        }
+    }
 }
 
 impl<'a> Parse<'a> for ImportType<'a> {

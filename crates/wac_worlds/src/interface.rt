@@ -9,6 +9,7 @@ ghost use Rattle.wac_worlds.specs.Tails.{use_tail, tail_items};
 ghost use Rattle.wac_worlds.specs.Worlds.{use_item_of, use_path_of, use_of, interface_export_of, interface_item_of, interface_decl_of, inline_interface_of};
 
 use std::alloc::Global;
+use std::fmt;
 use wac_declarations::{FuncTypeRef, ItemTypeDecl};
 use wac_lexer::{Lexer, Token};
 use wac_syntax::{
@@ -132,6 +133,16 @@ pub struct InterfaceDecl<'a> {
     pub items: Vec<InterfaceItem<'a>>,
 }
 
+impl fmt::Debug for InterfaceDecl<'_> {
+    fn fmt<W: fmt::Write>(&self, f: &mut fmt::Formatter<W>) -> fmt::Result {
+        let InterfaceDecl { docs, id, items } = self;
+        write!(
+            f,
+            "InterfaceDecl {{ docs: {docs:?}, id: {id:?}, items: {items:?} }}"
+        )
+    }
+}
+
 impl<'a> Parse<'a> for InterfaceDecl<'a> {
     ghost symbol = { symbols.interface_decl };
 
@@ -162,6 +173,13 @@ impl<'a> Peek for InterfaceDecl<'a> {
 pub struct InlineInterface<'a> {
     /// The items, in order.
     pub items: Vec<InterfaceItem<'a>>,
+}
+
+impl fmt::Debug for InlineInterface<'_> {
+    fn fmt<W: fmt::Write>(&self, f: &mut fmt::Formatter<W>) -> fmt::Result {
+        let InlineInterface { items } = self;
+        write!(f, "InlineInterface {{ items: {items:?} }}")
+    }
 }
 
 impl<'a> Parse<'a> for InlineInterface<'a> {
@@ -196,6 +214,16 @@ pub enum InterfaceItem<'a> {
     Export(InterfaceExport<'a>),
     /// A type.
     Ty(ItemTypeDecl<'a>),
+}
+
+impl fmt::Debug for InterfaceItem<'_> {
+    fn fmt<W: fmt::Write>(&self, f: &mut fmt::Formatter<W>) -> fmt::Result {
+        match self {
+            InterfaceItem::Use(part) => write!(f, "Use({part:?})"),
+            InterfaceItem::Export(part) => write!(f, "Export({part:?})"),
+            InterfaceItem::Ty(part) => write!(f, "Ty({part:?})"),
+        }
+    }
 }
 
 impl<'a> Parse<'a> for InterfaceItem<'a> {
@@ -237,6 +265,16 @@ pub struct InterfaceExport<'a> {
     pub id: Ident<'a>,
     /// The type.
     pub ty: FuncTypeRef<'a>,
+}
+
+impl fmt::Debug for InterfaceExport<'_> {
+    fn fmt<W: fmt::Write>(&self, f: &mut fmt::Formatter<W>) -> fmt::Result {
+        let InterfaceExport { docs, id, ty } = self;
+        write!(
+            f,
+            "InterfaceExport {{ docs: {docs:?}, id: {id:?}, ty: {ty:?} }}"
+        )
+    }
 }
 
 impl<'a> Parse<'a> for InterfaceExport<'a> {

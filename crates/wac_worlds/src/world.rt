@@ -10,6 +10,7 @@ ghost use Rattle.wac_worlds.specs.Worlds.{world_ref_of, world_include_item_of, e
 
 use crate::interface::{InlineInterface, Use};
 use std::alloc::Global;
+use std::fmt;
 use wac_declarations::{FuncType, ItemTypeDecl};
 use wac_lexer::{Lexer, SourceSpan, Token};
 use wac_syntax::{
@@ -108,6 +109,16 @@ pub struct WorldDecl<'a> {
     pub items: Vec<WorldItem<'a>>,
 }
 
+impl fmt::Debug for WorldDecl<'_> {
+    fn fmt<W: fmt::Write>(&self, f: &mut fmt::Formatter<W>) -> fmt::Result {
+        let WorldDecl { docs, id, items } = self;
+        write!(
+            f,
+            "WorldDecl {{ docs: {docs:?}, id: {id:?}, items: {items:?} }}"
+        )
+    }
+}
+
 impl<'a> Parse<'a> for WorldDecl<'a> {
     ghost symbol = { symbols.world_decl };
 
@@ -146,6 +157,18 @@ pub enum WorldItem<'a> {
     Include(WorldInclude<'a>),
     /// A type.
     Ty(ItemTypeDecl<'a>),
+}
+
+impl fmt::Debug for WorldItem<'_> {
+    fn fmt<W: fmt::Write>(&self, f: &mut fmt::Formatter<W>) -> fmt::Result {
+        match self {
+            WorldItem::Use(part) => write!(f, "Use({part:?})"),
+            WorldItem::Import(part) => write!(f, "Import({part:?})"),
+            WorldItem::Export(part) => write!(f, "Export({part:?})"),
+            WorldItem::Include(part) => write!(f, "Include({part:?})"),
+            WorldItem::Ty(part) => write!(f, "Ty({part:?})"),
+        }
+    }
 }
 
 impl<'a> Parse<'a> for WorldItem<'a> {
@@ -194,6 +217,13 @@ pub struct WorldImport<'a> {
     pub path: WorldItemPath<'a>,
 }
 
+impl fmt::Debug for WorldImport<'_> {
+    fn fmt<W: fmt::Write>(&self, f: &mut fmt::Formatter<W>) -> fmt::Result {
+        let WorldImport { docs, path } = self;
+        write!(f, "WorldImport {{ docs: {docs:?}, path: {path:?} }}")
+    }
+}
+
 impl<'a> Parse<'a> for WorldImport<'a> {
     ghost symbol = { symbols.world_import };
 
@@ -224,6 +254,13 @@ pub struct WorldExport<'a> {
     pub docs: Vec<DocComment<'a>>,
     /// The item.
     pub path: WorldItemPath<'a>,
+}
+
+impl fmt::Debug for WorldExport<'_> {
+    fn fmt<W: fmt::Write>(&self, f: &mut fmt::Formatter<W>) -> fmt::Result {
+        let WorldExport { docs, path } = self;
+        write!(f, "WorldExport {{ docs: {docs:?}, path: {path:?} }}")
+    }
 }
 
 impl<'a> Parse<'a> for WorldExport<'a> {
@@ -260,6 +297,16 @@ pub enum WorldItemPath<'a> {
     Ident(Ident<'a>),
 }
 
+impl fmt::Debug for WorldItemPath<'_> {
+    fn fmt<W: fmt::Write>(&self, f: &mut fmt::Formatter<W>) -> fmt::Result {
+        match self {
+            WorldItemPath::Package(part) => write!(f, "Package({part:?})"),
+            WorldItemPath::Named(part) => write!(f, "Named({part:?})"),
+            WorldItemPath::Ident(part) => write!(f, "Ident({part:?})"),
+        }
+    }
+}
+
 impl<'a> Parse<'a> for WorldItemPath<'a> {
     ghost symbol = { symbols.world_item_path };
 
@@ -288,6 +335,13 @@ pub struct NamedWorldItem<'a> {
     pub id: Ident<'a>,
     /// The type.
     pub ty: ExternType<'a>,
+}
+
+impl fmt::Debug for NamedWorldItem<'_> {
+    fn fmt<W: fmt::Write>(&self, f: &mut fmt::Formatter<W>) -> fmt::Result {
+        let NamedWorldItem { id, ty } = self;
+        write!(f, "NamedWorldItem {{ id: {id:?}, ty: {ty:?} }}")
+    }
 }
 
 impl<'a> Parse<'a> for NamedWorldItem<'a> {
@@ -324,6 +378,16 @@ pub enum ExternType<'a> {
     Interface(InlineInterface<'a>),
 }
 
+impl fmt::Debug for ExternType<'_> {
+    fn fmt<W: fmt::Write>(&self, f: &mut fmt::Formatter<W>) -> fmt::Result {
+        match self {
+            ExternType::Ident(part) => write!(f, "Ident({part:?})"),
+            ExternType::Func(part) => write!(f, "Func({part:?})"),
+            ExternType::Interface(part) => write!(f, "Interface({part:?})"),
+        }
+    }
+}
+
 impl<'a> Parse<'a> for ExternType<'a> {
     ghost symbol = { symbols.extern_type };
 
@@ -352,6 +416,16 @@ pub struct WorldInclude<'a> {
     pub world: WorldRef<'a>,
     /// The new names for its items.
     pub with: Vec<WorldIncludeItem<'a>>,
+}
+
+impl fmt::Debug for WorldInclude<'_> {
+    fn fmt<W: fmt::Write>(&self, f: &mut fmt::Formatter<W>) -> fmt::Result {
+        let WorldInclude { docs, world, with } = self;
+        write!(
+            f,
+            "WorldInclude {{ docs: {docs:?}, world: {world:?}, with: {with:?} }}"
+        )
+    }
 }
 
 impl<'a> Parse<'a> for WorldInclude<'a> {

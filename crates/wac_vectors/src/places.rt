@@ -1,0 +1,126 @@
+//! Where a lexer stands: docs and spans behind the last item, behind the end and behind a refused token; and what a lookahead counts.
+
+use std::alloc::Global;
+use std::process::Abort;
+use std::test::Fail;
+use wac_parser::lexer::{Lexer, SourceSpan, Token};
+use wac_parser::{Error, Lookahead, parse_token};
+
+/// A lexer of a text.
+fn lexer<'a>(rt: &impl Abort, source: &'a str) -> Lexer<'a> {
+    match Lexer::new(source) {
+        Ok(lexer) => lexer,
+        Err(_) => panic!(rt; "{source} is refused"),
+    }
+}
+
+/// Asserts that one doc stands behind the lexer's place.
+fn has_doc(
+    rt: &impl Abort,
+    alloc: Global,
+    lexer: &Lexer,
+    text: &str,
+    span: SourceSpan,
+) -> Result<(), Fail> {
+    let docs = lexer.comments(alloc)?;
+    assert_eq!(rt; docs.len(), 1);
+    match docs.first() {
+        Some((doc, place)) => {
+            assert_eq!(rt; *doc, text);
+            assert_eq!(rt; *place, span);
+        }
+        None => panic!(rt; "no doc"),
+    }
+    Ok(())
+}
+
+#[test]
+fn docs_behind_the_last_item(rt: HostRuntime) -> Result<(), Fail> {
+    let mut lexer = lexer(&rt, "/// d\na /// x");
+    has_doc(&rt, rt.alloc(), &lexer, "d", SourceSpan::new(0, 5))?;
+    assert_eq!(rt;
+        lexer.next(),
+        Some((Ok(Token::Ident), SourceSpan::new(6, 1)))
+    );
+    assert_eq!(rt; lexer.span(), SourceSpan::new(6, 1));
+    has_doc(&rt, rt.alloc(), &lexer, "x", SourceSpan::new(8, 5))?;
+    assert_eq!(rt; lexer.next(), None);
+    assert_eq!(rt; lexer.span(), SourceSpan::new(12, 1));
+    assert!(rt; lexer.comments(rt.alloc())?.is_empty());
+    Ok(())
+}
+
+/// Where an error lies, and the token that was found there.
+fn told(error: &Error) -> Option<(SourceSpan, Option<Token>)> {
+    match error {
+        Error::Expected { found, span, .. } => Some((*span, *found)),
+        _ => None,
+    }
+}
+
+/// Asserts that a semicolon is refused there.
+fn is_refused(rt: &impl Abort, lexer: &mut Lexer, span: SourceSpan, found: Option<Token>) {
+    match parse_token(lexer, Token::Semicolon) {
+        Ok(_) => panic!(rt; "a semicolon"),
+        Err(error) => assert_eq!(rt; told(&error), Some((span, found))),
+    }
+}
+
+#[test]
+fn a_refused_token_is_consumed(rt: HostRuntime) -> Result<(), Fail> {
+    let mut lexer = lexer(&rt, "x /// d\n yz");
+    is_refused(&rt, &mut lexer, SourceSpan::new(0, 1), Some(Token::Ident));
+    assert_eq!(rt; lexer.span(), SourceSpan::new(0, 1));
+    has_doc(&rt, rt.alloc(), &lexer, "d", SourceSpan::new(2, 5))?;
+    is_refused(&rt, &mut lexer, SourceSpan::new(9, 2), Some(Token::Ident));
+    // The item ends the text, so the byte before it is told.
+    assert_eq!(rt; lexer.span(), SourceSpan::new(8, 1));
+    is_refused(&rt, &mut lexer, SourceSpan::new(10, 1), None);
+    assert_eq!(rt; lexer.span(), SourceSpan::new(10, 1));
+    Ok(())
+}
+
+/// Eleven tokens, none of which is an identifier.
+const ELEVEN: [Token; 11] = [
+    Token::Semicolon,
+    Token::Comma,
+    Token::Colon,
+    Token::Dot,
+    Token::Equals,
+    Token::OpenBrace,
+    Token::CloseBrace,
+    Token::OpenParen,
+    Token::CloseParen,
+    Token::OpenAngle,
+    Token::CloseAngle,
+];
+
+/// How many tokens an error counts, and the last of those that it keeps.
+fn counted(error: &Error) -> Option<(usize, Option<Token>)> {
+    match error {
+        Error::ExpectedMultiple {
+            expected,
+            count,
+            ..
+        } => Some((*count, expected[9])),
+        _ => None,
+    }
+}
+
+#[test]
+fn attempts_are_counted(rt: HostRuntime) {
+    let lexer = lexer(&rt, "x");
+    let mut lookahead = Lookahead::new(&lexer);
+    assert_eq!(rt; lookahead.attempts(), 0);
+    assert!(rt; lookahead.peek(Token::Ident));
+    assert_eq!(rt; lookahead.attempts(), 0);
+    for token in &ELEVEN {
+        assert!(rt; !lookahead.peek(*token));
+    }
+    assert!(rt; lookahead.peek(Token::Ident));
+    assert_eq!(rt; lookahead.attempts(), 11);
+    if lookahead.attempts() > 0 {
+        let error = lookahead.error();
+        assert_eq!(rt; counted(&error), Some((11, Some(Token::OpenAngle))));
+    }
+}
