@@ -11,6 +11,7 @@ use Rattle.wac_resolution_rules.specs.Paths.{Setting}
 use Rattle.wac_resolution_rules.specs.Bodies.{Body}
 use Rattle.wac_resolution_rules.specs.Includes.{has_colon, Taking, with_missing, name_taken, TakesNamed, Takes, HasInclude}
 use Rattle.wac_resolution_rules.proofs.StepLaws.{steps_keep, steps_front}
+
 -- a colon as it is, another under the name of the first entry that is left for it.
 
 -- what is found is found with one more

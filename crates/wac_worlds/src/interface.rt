@@ -12,8 +12,8 @@ use std::alloc::Global;
 use wac_declarations::{FuncTypeRef, ItemTypeDecl};
 use wac_lexer::{Lexer, Token};
 use wac_syntax::{
-    DocComment, Error, Ident, Lookahead, PackagePath, Parse, ParseResult, Peek, boxed, parse_before, parse_body,
-    parse_docs, parse_list, take_optional, take_token,
+    DocComment, Error, Ident, Lookahead, PackagePath, Parse, ParseResult, Peek, boxed,
+    parse_before, parse_body, parse_docs, parse_list, take_optional, take_token,
 };
 
 /// A use of types of an interface.
