@@ -15,3 +15,4 @@ pub mod Ordered
 pub mod Firsts
 pub mod InFront
 pub mod Followed
+pub mod Passing

@@ -17,4 +17,5 @@ pub mod Order
 pub mod First
 pub mod Device
 pub mod Tally
+pub mod Blocks
 pub mod Follow

@@ -1,6 +1,7 @@
 //! Devices of bytes: sinks and feeds, and those over any writer and any reader.
-ghost use Rattle.std.specs.Prelude.{◌≡◌, ◌+◌, ◌++◌, ℕ, List, [], Option};
+ghost use Rattle.std.specs.Prelude.{◌≡◌, ◌+◌, ◌++◌, ◌≤◌, ◌<◌, ℕ, List, [], Option, true, false, length, take, min, ◌-◌};
 ghost use Rattle.wac_lexer.specs.Device.{PutGives, PutGrows, TakeGives, TakeLeaves};
+ghost use Rattle.wac_lexer.specs.Blocks.{given};
 
 use std::alloc::Global;
 use std::io::{Read, Write};
@@ -205,6 +206,142 @@ impl Sink for Bytes {
     }
 }
 
+/// Puts all of some bytes into a sink, in as many calls as it needs, and tells whether it took them.
+///
+/// It ends at the first call that fails. What the sink took by then is a beginning of the bytes, and not the whole.
+pub fn put_all<S: Sink>(sink: &mut S, part: &[u8]) -> bool
+    ensures taken { result ≡ true → (S.bytes sink.new ≡ S.bytes sink.old ++ part.now) × (S.failures sink.new ≡ S.failures sink.old) }
+    ensures failed { result ≡ false → (n : ℕ) × (n < length part.now) × (S.bytes sink.new ≡ S.bytes sink.old ++ take n part.now) × (S.failures sink.new ≡ S.failures sink.old + 1) }
+    ensures same { S.borrow sink.new ≡ S.borrow sink.old }
+{
+    put_until_failure(sink, part) == part.len()
+}
+
+/// Puts bytes into a sink until a call fails, and answers how many it took.
+fn put_until_failure<S: Sink>(sink: &mut S, part: &[u8]) -> usize
+    ensures count { result ≤ length part.now }
+    ensures taken { S.bytes sink.new ≡ S.bytes sink.old ++ take result part.now }
+    ensures all { result ≡ length part.now → S.failures sink.new ≡ S.failures sink.old }
+    ensures some { result < length part.now → S.failures sink.new ≡ S.failures sink.old + 1 }
+    ensures same { S.borrow sink.new ≡ S.borrow sink.old }
+{
+    let mut at = 0;
+    'put: while at < part.len() {
+        let (_, rest) = part.split_at(at);
+        match sink.put(rest) {
+            Some(n) => at += n,
+            None => return at,
+        }
+    }
+    at
+}
+
+/// How many bytes a sink of blocks passes on at once.
+const BLOCK: usize = 8192;
+
+/// A sink over a sink: it holds bytes until they fill a block of 8 KB, and then passes them on. It takes no memory.
+///
+/// A call fails where the sink below does; what that did not take is held on, so a failure loses no byte and moves none
+/// twice. Bytes that are still held when it is dropped are lost: call [`flush`](Blocks::flush) first.
+///
+/// ```text
+/// let mut blocks = Blocks::new(&mut out);
+/// put_all(&mut blocks, b"abc");       // true, and `out` has been given nothing yet
+/// blocks.flush();                     // true where `out` took all three
+/// ```
+#[derive(Drop)]
+pub struct Blocks<S: Sink> {
+    sink: S,
+    block: [u8; BLOCK],
+    start: usize,
+    end: usize,
+    tally: Tally,
+}
+
+impl<S: Sink> Model for Blocks<S> {
+    ghost use Rattle.std.specs.Prelude.{◌-◌, ◌≤◌, length, take, drop};
+    ghost use Rattle.wac_lexer.specs.Blocks.{Holding};
+
+    ghost Value = { Holding };
+
+    ghost view = { λ b. record { sunk = S.bytes b.sink; held = drop b.start (take b.end b.block); room = 8192 - b.end; failures = S.failures b.sink; before = length (S.bytes b.sink) - length b.tally.moved; borrow = S.borrow b.sink } };
+
+    ghost invariant = { λ b. (b.start ≤ b.end) × (b.end ≤ 8192) × (length b.tally.moved ≤ length (S.bytes b.sink)) };
+}
+
+impl<S: Sink> Blocks<S> {
+    /// Over a sink, with no byte held.
+    pub fn new(sink: S) -> Self
+        ensures { result ≡ record { sunk = S.bytes sink; held = []; room = 8192; failures = S.failures sink; before = length (S.bytes sink); borrow = S.borrow sink } }
+    {
+        Blocks {
+            sink,
+            block: [0; BLOCK],
+            start: 0,
+            end: 0,
+            tally: Tally::after(&Step::Begins),
+        }
+    }
+
+    /// Passes on all that is held, and tells whether the sink below took it.
+    pub fn flush(&mut self) -> bool
+        ensures same { given self.new ≡ given self.old }
+        ensures passed { result ≡ true → (self.new.held ≡ []) × (self.new.room ≡ 8192) × (self.new.failures ≡ self.old.failures) }
+        ensures failed { result ≡ false → self.new.failures ≡ self.old.failures + 1 }
+    {
+        let (front, _) = self.block.as_slice().split_at(self.end);
+        let (_, rest) = front.split_at(self.start);
+        let wanted = rest.len();
+        let n = put_until_failure(&mut self.sink, rest);
+        self.tally = Tally::after(&Step::Moves(&self.tally, &rest[..n]));
+        if n < wanted {
+            self.start += n;
+            return false;
+        }
+        self.start = 0;
+        self.end = 0;
+        true
+    }
+
+    /// Holds bytes from the front of `part`, as many as there is room for, and answers how many.
+    fn hold(&mut self, part: &[u8]) -> usize
+        ensures count { result ≡ min (length part.now) self.old.room }
+        ensures held { self.new ≡ record self.old { held = self.old.held ++ take result part.now; room = self.old.room - result } }
+    {
+        let end = self.end;
+        let n = part.len().min(BLOCK - end);
+        let (front, _) = part.split_at(n);
+        let (_, free) = self.block.as_mut_slice().split_at_mut(end);
+        let (room, _) = free.split_at_mut(n);
+        room.copy_from_slice(front);
+        self.end = end + n;
+        n
+    }
+
+    /// The sink below. Bytes that are held are lost.
+    pub fn into_sink(self) -> S
+        ensures { (S.bytes result ≡ self.sunk) × (S.failures result ≡ self.failures) × (S.borrow result ≡ self.borrow) × (self.before ≤ length self.sunk) }
+    {
+        let Blocks { sink, .. } = self;
+        sink
+    }
+}
+
+impl<S: Sink> Sink for Blocks<S> {
+    ghost use Rattle.wac_lexer.specs.Blocks.{given};
+
+    ghost bytes = { λ b. given b };
+
+    ghost failures = { λ b. b.failures };
+
+    fn put(&mut self, part: &[u8]) -> Option<usize> {
+        if self.end == BLOCK && !self.flush() {
+            return None;
+        }
+        Some(self.hold(part))
+    }
+}
+
 /// A feed over a reader. An error of the reader is a failure.
 #[derive(Drop)]
 pub struct In<R: Read> {
@@ -250,156 +387,5 @@ impl<R: Read> Feed for In<R> {
                 None
             }
         }
-    }
-}
-
-#[cfg(test)]
-mod tests {
-    use super::*;
-    use std::io;
-    use std::io::ErrorKind;
-    use std::test::Fail;
-
-    #[test]
-    fn bytes_are_kept(rt: HostRuntime) {
-        let mut kept = Bytes::new(rt.alloc());
-        assert_eq!(rt; kept.put(b"ab"), Some(2));
-        assert_eq!(rt; kept.put(b""), Some(0));
-        assert_eq!(rt; kept.put(b"c"), Some(1));
-        assert_eq!(rt; kept.into_vec().as_slice(), b"abc".as_slice());
-    }
-
-    /// A writer or reader that takes or gives a byte a call, and fails once it has moved so many.
-    #[derive(Drop)]
-    struct Failing {
-        bytes: Vec<u8>,
-        moved: usize,
-        fails_at: usize,
-    }
-
-    impl Write for Failing {
-        fn write(&mut self, buf: &[u8]) -> io::Result<usize> {
-            if self.bytes.len() >= self.fails_at {
-                return Err(io::Error::from(ErrorKind::BrokenPipe));
-            }
-            match buf.first() {
-                None => Ok(0),
-                Some(byte) => {
-                    self.bytes.push(*byte)?;
-                    Ok(1)
-                }
-            }
-        }
-
-        fn flush(&mut self) -> io::Result<()> {
-            Ok(())
-        }
-    }
-
-    impl Read for Failing {
-        fn read(&mut self, buf: &mut [u8]) -> io::Result<usize> {
-            let at = self.moved;
-            if at >= self.fails_at || at == usize::MAX {
-                return Err(io::Error::from(ErrorKind::BrokenPipe));
-            }
-            if at < self.bytes.len() && !buf.is_empty() {
-                buf[0] = self.bytes[at];
-                self.moved = at + 1;
-                return Ok(1);
-            }
-            Ok(0)
-        }
-    }
-
-    /// A writer that takes nothing.
-    #[derive(Drop)]
-    struct Full;
-
-    impl Write for Full {
-        fn write(&mut self, _buf: &[u8]) -> io::Result<usize> {
-            Ok(0)
-        }
-
-        fn flush(&mut self) -> io::Result<()> {
-            Ok(())
-        }
-    }
-
-    /// Puts bytes until all are taken or a call fails, and says how many calls succeeded.
-    fn puts<S: Sink>(sink: &mut S, bytes: &[u8]) -> usize {
-        let mut rest = bytes;
-        for calls in 0..bytes.len() {
-            match sink.put(rest) {
-                Some(n) => {
-                    let (_, behind) = rest.split_at(n);
-                    rest = behind;
-                }
-                None => return calls,
-            }
-        }
-        bytes.len()
-    }
-
-    #[test]
-    fn an_out_writes(rt: HostRuntime) -> Result<(), Fail> {
-        let mut written = Vec::new(rt.alloc());
-        let mut out = Out::new(&mut written);
-        assert_eq!(rt; out.put(b"let"), Some(3));
-        assert_eq!(rt; out.put(b""), Some(0));
-        assert_eq!(rt; out.put(b" x"), Some(2));
-        assert_eq!(rt; written.as_slice(), b"let x".as_slice());
-        Ok(())
-    }
-
-    #[test]
-    fn an_out_fails_where_its_writer_does(rt: HostRuntime) -> Result<(), Fail> {
-        let text = b"let x";
-        for fails_at in 0..text.len() {
-            let mut writer = Failing {
-                bytes: Vec::new(rt.alloc()),
-                moved: 0,
-                fails_at,
-            };
-            let mut out = Out::new(&mut writer);
-            assert_eq!(rt; puts(&mut out, text), fails_at);
-            assert_eq!(rt; out.put(b"y"), None);
-            assert_eq!(rt; writer.bytes.as_slice(), &text[..fails_at], "at {fails_at}");
-        }
-        let mut full = Out::new(Full);
-        assert_eq!(rt; full.put(b"y"), None);
-        assert_eq!(rt; full.put(b""), Some(0));
-        Ok(())
-    }
-
-    #[test]
-    fn an_in_gives_all_and_then_the_end(rt: HostRuntime) {
-        let text: &[u8] = b"let x";
-        let mut feed = In::new(text);
-        let mut part = [0; 3];
-        assert_eq!(rt; feed.take(&mut []), Some(0));
-        assert_eq!(rt; feed.take(&mut part), Some(3));
-        assert_eq!(rt; part.as_slice(), b"let".as_slice());
-        assert_eq!(rt; feed.take(&mut part), Some(2));
-        assert_eq!(rt; &part[..2], b" x".as_slice());
-        assert_eq!(rt; feed.take(&mut part), Some(0));
-    }
-
-    #[test]
-    fn an_in_fails_where_its_reader_does(rt: HostRuntime) -> Result<(), Fail> {
-        let text = b"let x";
-        for fails_at in 0..text.len() {
-            let mut feed = In::new(Failing {
-                bytes: text.to_vec(rt.alloc())?,
-                moved: 0,
-                fails_at,
-            });
-            let mut part = [0; 4];
-            for at in 0..fails_at {
-                assert_eq!(rt; feed.take(&mut part), Some(1));
-                assert_eq!(rt; part[0], text[at], "at {at}");
-            }
-            assert_eq!(rt; feed.take(&mut part), None);
-        }
-        Ok(())
     }
 }

@@ -14,12 +14,10 @@ mod lexer;
 mod shape;
 mod span;
 mod symbols;
-#[cfg(test)]
-mod tests;
 mod token;
 mod words;
 
-pub use device::{Bytes, Feed, In, Out, Sink};
+pub use device::{Blocks, Bytes, Feed, In, Out, Sink, put_all};
 pub use error::Error;
 pub use follow::{identifiers_follow_dots, tokens_are_read_back};
 pub use laws::{

@@ -1,3 +1,5 @@
 //! The lexer: the tokens and faults of a text, with their spans and the docs in front of each.
 
-pub use wac_lexer::{Bytes, Error, Feed, In, Lexer, LexerResult, Out, Sink, SourceSpan, Token};
+pub use wac_lexer::{
+    Blocks, Bytes, Error, Feed, In, Lexer, LexerResult, Out, Sink, SourceSpan, Token, put_all,
+};

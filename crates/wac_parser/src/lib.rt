@@ -35,6 +35,3 @@ pub use wac_printer::{
     DocumentPrinter, Page, PrintError, PrintResult, equal_bare_trees_print_equally,
     printed_documents_read_back, trees_of_texts_can_be_printed,
 };
-
-#[cfg(test)]
-mod tests;

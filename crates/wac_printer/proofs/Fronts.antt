@@ -1,7 +1,8 @@
 -- Beginnings of texts.
-use Rattle.std.proofs.Common.{◌≡◌, ℕ, ◌<◌, Bool, true, false, List, [], ◌∷◌, ◌++◌, length, refl, arith}
+use Rattle.std.proofs.Common.{◌≡◌, ℕ, ◌<◌, Bool, true, false, List, [], ◌∷◌, ◌++◌, length, take, drop, append_assoc, refl, sym, ap, ◌∙◌, subst, arith}
 use Rattle.std.specs.Prelude.{nat_eq}
 use Rattle.std.proofs.lemmas.Bool.{and_parts, and_from, eq-eqb}
+use Rattle.std.proofs.lemmas.List.{take-append-drop, length-drop}
 use Rattle.wac_printer.specs.Printed.{is_front}
 
 pub is_front-append : (xs ys : List ℕ) → is_front true xs (xs ++ ys) ≡ true
@@ -15,6 +16,13 @@ unfolding is_front
 is_front-less [] [] h = absurd (omega arith)
 is_front-less [] (y ∷ ys) h = refl
 is_front-less (x ∷ xs) ys h = and_from (nat_eq x x) (is_front false xs (xs ++ ys)) (eq-eqb x x refl) (is_front-less xs ys h)
+
+-- the first n bytes of a text stand behind old, and not the whole
+pub is_front-begun : (old new text : List ℕ) (n : ℕ) → n < length text → new ≡ old ++ take n text → is_front false new (old ++ text) ≡ true
+is_front-begun old new text n h e =
+    let whole : (old ++ take n text) ++ drop n text ≡ old ++ text = append_assoc old (take n text) (drop n text) ∙ ap (λ x. old ++ x) (take-append-drop n text) in
+    let less = is_front-less (old ++ take n text) (drop n text) (omega (arith, h, length-drop n text)) in
+    subst (λ x. is_front false x (old ++ text) ≡ true) (sym e) (subst (λ x. is_front false (old ++ take n text) x ≡ true) whole less)
 
 pub is_front-longer : (w : Bool) (xs ys zs : List ℕ) → is_front w xs ys ≡ true → is_front w xs (ys ++ zs) ≡ true
 unfolding is_front

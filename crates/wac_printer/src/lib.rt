@@ -8,7 +8,6 @@ mod expression;
 mod interface;
 mod laws;
 mod lists;
-mod output;
 mod printer;
 mod statement;
 mod value_type;

@@ -9,10 +9,9 @@ ghost use Rattle.wac_layout.specs.Printed.{Piece, token, blank, line, doc, fresh
 ghost use Rattle.wac_printer.specs.Printed.{Printer, Prints, after, spaces, space_of};
 
 use crate::error::{PrintError, PrintResult};
-use crate::output::put_all;
 use std::marker::Model;
 use wac_ast::{Ident, PackageName, PackagePath, String};
-use wac_lexer::{Sink, SourceSpan};
+use wac_lexer::{Sink, SourceSpan, put_all};
 
 /// Prints documents.
 #[derive(Drop)]

@@ -14,12 +14,75 @@ fn printed(rt: &impl Abort, alloc: Global, source: &str, space: Option<&str>) ->
     }
 }
 
+/// Texts, and what each is formatted to.
+const FORMATTED: [(&str, &str); 10] = [
+    ("package a:b;", "package a:b;\n\n"),
+    (
+        "package a:b targets c:d/e;",
+        "package a:b targets c:d/e;\n\n",
+    ),
+    (
+        "package a:b; let x = new c:d { ..., y };",
+        "package a:b;\n\nlet x = new c:d {\n    ...,\n    y,\n};\n",
+    ),
+    (
+        "/** a\n\n b */ package a:b;",
+        "/// a\n/// \n/// b\npackage a:b;\n\n",
+    ),
+    (
+        "/// a\n/// \n/// b\npackage a:b;\n\n",
+        "/// a\n/// b\npackage a:b;\n\n",
+    ),
+    (
+        "package a:b;\r\n/// d\r\nlet x = y;",
+        "package a:b;\n\n/// d\nlet x = y;\n",
+    ),
+    (
+        "package a:b; type t = result<_, _>;",
+        "package a:b;\n\ntype t = result;\n",
+    ),
+    (
+        "package a:b; interface i { resource r; use j.{}; }",
+        "package a:b;\n\ninterface i {\n    resource r {\n    }\n\n    use j.{  };\n}\n",
+    ),
+    (
+        "package a:b; world w { include v with { a as b }; include u with {}; }",
+        "package a:b;\n\nworld w {\n    include v with {\n        a as b,\n    };\n\n    include u;\n}\n",
+    ),
+    (DOCUMENTED, DOCUMENTED_PRINTED),
+];
+
+/// A text of one depth, and what it is formatted to with these spaces.
+const ARGUMENTS: &str = "package a:b; let x = new c:d { y };";
+
+const SPACED: [(&str, &str); 2] = [
+    ("\t", "package a:b;\n\nlet x = new c:d {\n\ty,\n};\n"),
+    ("", "package a:b;\n\nlet x = new c:d {\ny,\n};\n"),
+];
+
 #[test]
-fn docs_stand_where_they_stood(rt: HostRuntime) {
-    assert_eq!(rt;
-        printed(&rt, rt.alloc(), DOCUMENTED, None).as_str(),
-        DOCUMENTED_PRINTED
-    );
+fn texts_are_formatted(rt: HostRuntime) -> Result<(), Fail> {
+    for (source, text) in FORMATTED {
+        assert_eq!(rt;
+            printed(&rt, rt.alloc(), source, None).as_str(),
+            text,
+            "of {source}"
+        );
+    }
+    for (space, text) in SPACED {
+        assert_eq!(rt;
+            printed(&rt, rt.alloc(), ARGUMENTS, Some(space)).as_str(),
+            text
+        );
+    }
+    match format(rt.alloc(), "package a:b", None) {
+        Ok(_) => panic!(rt; "formatted"),
+        Err(error) => assert_eq!(rt;
+            error.to_string(rt.alloc())?.as_str(),
+            "expected `;`, found end of input"
+        ),
+    }
+    Ok(())
 }
 
 /// Asserts that what is printed the second time stays.

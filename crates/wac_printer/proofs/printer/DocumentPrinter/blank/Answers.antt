@@ -1,6 +1,7 @@
-use Rattle.std.proofs.Common.{false, refl, ap, ◌++◌, ◌≡◌, ◌∙◌, subst, true}
+use Rattle.std.proofs.Common.{false, refl, ap, ◌++◌, ◌≡◌, ◌≤◌, ◌∙◌, subst, true, take, length, length-append, arith}
 use Rattle.wac_printer.proofs.Printing.{refused, stuck, wrote, record_wrote}
 use Rattle.wac_printer.specs.Printed.{is_front}
+use Rattle.wac_printer.proofs.Fronts.{is_front-begun}
 use Rattle.wac_printer.proofs.printer.DocumentPrinter.blank.Goals as goal
 
 pub returns-then-self : goal.returns-then-self
@@ -9,8 +10,11 @@ returns-then-self g c = refused _ _ _ _ c.self.view_is refl c.if-self.true
 pub returns-then-not-put_all : goal.returns-then-not-put_all
 returns-then-not-put_all g c =
     let o = c.put_all.ensures.failed c.if-not-put_all.true in
-    stuck _ _ _ _ c.self.view_is c.if-self.false refl o.0
-    (subst (λ t. is_front false (g.S.Sink.bytes c.put_all.new.sink) (g.S.Sink.bytes c.self.inside.sink ++ t) ≡ true) c.as_bytes.ensures.value o.1) o.2 (refl, refl, refl, c.put_all.ensures.same)
+    let b = g.S.Sink.bytes c.self.inside.sink in
+    let front = is_front-begun b (g.S.Sink.bytes c.put_all.new.sink) c.as_bytes.result.now o.0 o.1 o.2 in
+    let longer : length b ≤ length (g.S.Sink.bytes c.put_all.new.sink) = omega (arith, ap length o.2, length-append b (take o.0 c.as_bytes.result.now)) in
+    stuck _ _ _ _ c.self.view_is c.if-self.false refl o.3
+    (subst (λ t. is_front false (g.S.Sink.bytes c.put_all.new.sink) (b ++ t) ≡ true) c.as_bytes.ensures.value front) longer (refl, refl, refl, c.put_all.ensures.same)
 
 pub returns : goal.returns
 returns g c =

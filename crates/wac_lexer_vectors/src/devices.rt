@@ -1,0 +1,245 @@
+//! Devices of bytes: what goes through, in which calls, and where they fail.
+
+ghost use Rattle.std.specs.Prelude.{◌<◌, ◌≤◌, IfOk};
+
+use std::alloc::{AllocError, Global};
+use std::io;
+use std::io::{ErrorKind, Read, Write};
+use std::process::Abort;
+use std::test::Fail;
+use wac_lexer::{Blocks, Bytes, Feed, In, Out, Sink, put_all};
+
+/// A writer or a reader of a text. It moves at most `width` bytes a call, fails once it has moved `room`, and tells
+/// whether what was written is the text.
+#[derive(Drop)]
+struct Narrow<'a> {
+    text: &'a [u8],
+    width: usize,
+    room: usize,
+    moved: usize,
+    calls: usize,
+    is_text: bool,
+}
+
+impl<'a> Narrow<'a> {
+    fn new(text: &'a [u8], width: usize, room: usize) -> Self {
+        Narrow {
+            text,
+            width,
+            room,
+            moved: 0,
+            calls: 0,
+            is_text: true,
+        }
+    }
+
+    /// How many of so many bytes a call moves, if it does not fail.
+    fn step(&self, wanted: usize) -> io::Result<usize>
+        ensures { IfOk result (λ n. n ≤ wanted) }
+    {
+        if self.moved >= self.room {
+            return Err(io::Error::from(ErrorKind::BrokenPipe));
+        }
+        Ok(wanted.min(self.width).min(self.room - self.moved))
+    }
+
+    /// Asserts that the first so many bytes of the text were written, and in so many calls.
+    fn holds(&self, rt: &impl Abort, moved: usize, calls: usize) {
+        assert!(rt; self.is_text, "room {}, width {}", self.room, self.width);
+        assert_eq!(rt;
+            self.moved,
+            moved,
+            "room {}, width {}",
+            self.room, self.width
+        );
+        assert_eq!(rt;
+            self.calls,
+            calls,
+            "room {}, width {}",
+            self.room, self.width
+        );
+    }
+}
+
+impl Write for Narrow<'_> {
+    fn write(&mut self, buf: &[u8]) -> io::Result<usize> {
+        self.calls = self.calls.wrapping_add(1);
+        let n = self.step(buf.len())?;
+        let (_, rest) = self.text.split_at(self.moved.min(self.text.len()));
+        let (part, _) = buf.split_at(n);
+        if !rest.starts_with(part) {
+            self.is_text = false;
+        }
+        self.moved = self.moved.wrapping_add(n);
+        Ok(n)
+    }
+
+    fn flush(&mut self) -> io::Result<()> {
+        Ok(())
+    }
+}
+
+impl Read for Narrow<'_> {
+    fn read(&mut self, buf: &mut [u8]) -> io::Result<usize> {
+        let (_, rest) = self.text.split_at(self.moved.min(self.text.len()));
+        let n = self.step(buf.len().min(rest.len()))?;
+        let (part, _) = buf.split_at_mut(n);
+        let (front, _) = rest.split_at(n);
+        part.copy_from_slice(front);
+        self.moved = self.moved.wrapping_add(n);
+        Ok(n)
+    }
+}
+
+/// A writer that takes nothing.
+#[derive(Drop)]
+struct Full;
+
+impl Write for Full {
+    fn write(&mut self, _buf: &[u8]) -> io::Result<usize> {
+        Ok(0)
+    }
+
+    fn flush(&mut self) -> io::Result<()> {
+        Ok(())
+    }
+}
+
+#[test]
+fn sinks(rt: HostRuntime) -> Result<(), Fail> {
+    let mut kept = Bytes::new(rt.alloc());
+    assert_eq!(rt; kept.put(b"ab"), Some(2));
+    assert_eq!(rt; kept.put(b""), Some(0));
+    assert_eq!(rt; kept.put(b"c"), Some(1));
+    assert_eq!(rt; kept.into_vec().as_slice(), b"abc".as_slice());
+    let mut written = Vec::new(rt.alloc());
+    let mut out = Out::new(&mut written);
+    assert_eq!(rt; out.put(b"let"), Some(3));
+    assert_eq!(rt; out.put(b""), Some(0));
+    assert_eq!(rt; out.put(b" x"), Some(2));
+    assert_eq!(rt; written.as_slice(), b"let x".as_slice());
+    let mut full = Out::new(Full);
+    assert_eq!(rt; full.put(b"y"), None);
+    assert_eq!(rt; full.put(b""), Some(0));
+    let text = b"let x";
+    for room in 0..text.len() {
+        let mut writer = Narrow::new(text, 1, room);
+        let mut out = Out::new(&mut writer);
+        assert!(rt; !put_all(&mut out, text), "at {room}");
+        assert_eq!(rt; out.put(b"y"), None, "at {room}");
+        writer.holds(&rt, room, room + 2);
+    }
+    Ok(())
+}
+
+#[test]
+fn feeds(rt: HostRuntime) {
+    let text: &[u8] = b"let x";
+    let mut feed = In::new(text);
+    let mut part = [0; 3];
+    assert_eq!(rt; feed.take(&mut []), Some(0));
+    assert_eq!(rt; feed.take(&mut part), Some(3));
+    assert_eq!(rt; part.as_slice(), b"let".as_slice());
+    assert_eq!(rt; feed.take(&mut part), Some(2));
+    assert_eq!(rt; &part[..2], b" x".as_slice());
+    assert_eq!(rt; feed.take(&mut part), Some(0));
+    for room in 0..text.len() {
+        let mut feed = In::new(Narrow::new(text, 1, room));
+        for at in 0..room {
+            assert_eq!(rt; feed.take(&mut part), Some(1));
+            assert_eq!(rt; part[0], text[at], "at {at}");
+        }
+        assert_eq!(rt; feed.take(&mut part), None);
+    }
+}
+
+/// So many bytes.
+fn bytes(alloc: Global, len: usize) -> Result<Vec<u8>, AllocError> {
+    let mut bytes = Vec::new(alloc);
+    for i in 0..len {
+        bytes.push((i % 251) as u8)?;
+    }
+    Ok(bytes)
+}
+
+/// Puts a text into blocks over a writer, in parts of a length, and tells whether the writer took all of it.
+fn passes(writer: &mut Narrow<'_>, text: &[u8], part: usize) -> bool
+    requires { 0 < part }
+{
+    let mut blocks = Blocks::new(Out::new(writer));
+    for part in text.chunks(part) {
+        if !put_all(&mut blocks, part) {
+            return false;
+        }
+    }
+    blocks.flush()
+}
+
+#[test]
+fn blocks_are_passed_on_up_to_a_failure(rt: HostRuntime) -> Result<(), Fail> {
+    let text = bytes(rt.alloc(), 16_400)?;
+    for (part, width, calls) in [
+        (1, usize::MAX, 3),
+        (100, usize::MAX, 3),
+        (16_400, usize::MAX, 3),
+        (7, 1, 16_400),
+        (8192, 3, 5468),
+    ] {
+        let mut writer = Narrow::new(&text, width, usize::MAX);
+        assert!(rt; passes(&mut writer, &text, part), "in parts of {part}");
+        writer.holds(&rt, text.len(), calls);
+    }
+    let mut writer = Narrow::new(&text, 1, 0);
+    assert!(rt; passes(&mut writer, b"", 1));
+    writer.holds(&rt, 0, 0);
+    for room in 0..text.len() {
+        let mut writer = Narrow::new(&text, usize::MAX, room);
+        assert!(rt; !passes(&mut writer, &text, 4096), "at {room}");
+        writer.holds(&rt, room, room.div_ceil(8192) + 1);
+    }
+    Ok(())
+}
+
+/// A writer of a text that fails at every second call, and takes three bytes at the others.
+#[derive(Drop)]
+struct Faltering<'a> {
+    narrow: Narrow<'a>,
+    fails: bool,
+}
+
+impl Write for Faltering<'_> {
+    fn write(&mut self, buf: &[u8]) -> io::Result<usize> {
+        self.fails = !self.fails;
+        if self.fails {
+            return Err(io::Error::from(ErrorKind::BrokenPipe));
+        }
+        self.narrow.write(buf)
+    }
+
+    fn flush(&mut self) -> io::Result<()> {
+        Ok(())
+    }
+}
+
+#[test]
+fn a_failure_loses_no_byte_and_doubles_none(rt: HostRuntime) -> Result<(), Fail> {
+    let text = bytes(rt.alloc(), 16_400)?;
+    let mut writer = Faltering {
+        narrow: Narrow::new(&text, 3, usize::MAX),
+        fails: false,
+    };
+    let mut blocks = Blocks::new(Out::new(&mut writer));
+    let mut rest = text.as_slice();
+    let mut flushed = false;
+    for _ in 0..10_000 {
+        if rest.is_empty() {
+            flushed = blocks.flush();
+        } else if let Some(n) = blocks.put(rest) {
+            let (_, behind) = rest.split_at(n);
+            rest = behind;
+        }
+    }
+    assert!(rt; flushed);
+    writer.narrow.holds(&rt, text.len(), 5468);
+    Ok(())
+}

@@ -1,0 +1,196 @@
+//! Items of texts, and refused characters.
+
+use std::process::Abort;
+use std::test::Fail;
+use wac_lexer::{Error, Lexer, LexerResult, SourceSpan, Token};
+
+type Row = (LexerResult<Token>, usize, usize);
+
+/// Asserts that the items of the source are these, each with its offset and length.
+fn items_are(rt: &impl Abort, source: &str, rows: &[Row]) {
+    let Ok(mut lexer) = Lexer::new(source) else {
+        panic!(rt; "{source} is refused");
+    };
+    for (item, offset, len) in rows {
+        assert_eq!(rt;
+            lexer.next(),
+            Some((*item, SourceSpan::new(*offset, *len))),
+            "in {source}"
+        );
+    }
+    assert_eq!(rt; lexer.next(), None, "at the end of {source}");
+}
+
+/// Texts and their items.
+const TEXTS: [(&str, &[Row]); 18] = [
+    (
+        "fooBar",
+        &[
+            (Ok(Token::Ident), 0, 3),
+            (Ok(Token::Ident), 3, 1),
+            (Ok(Token::Ident), 4, 2),
+        ],
+    ),
+    (
+        "....",
+        &[(Ok(Token::Ellipsis), 0, 3), (Ok(Token::Dot), 3, 1)],
+    ),
+    ("x:string", &[(Ok(Token::PackageName), 0, 8)]),
+    (
+        "foo-Bar",
+        &[(Ok(Token::Ident), 0, 5), (Ok(Token::Ident), 5, 2)],
+    ),
+    (
+        "foo-bar:b@1.0.",
+        &[(Ok(Token::PackageName), 0, 13), (Ok(Token::Dot), 13, 1)],
+    ),
+    (
+        "import-x %import import",
+        &[
+            (Ok(Token::Ident), 0, 8),
+            (Ok(Token::Ident), 9, 7),
+            (Ok(Token::ImportKeyword), 17, 6),
+        ],
+    ),
+    (
+        "a#b",
+        &[
+            (Ok(Token::Ident), 0, 1),
+            (Err(Error::UnexpectedToken), 1, 1),
+            (Ok(Token::Ident), 2, 1),
+        ],
+    ),
+    (
+        "a /* x */ \"b\" \"",
+        &[
+            (Ok(Token::Ident), 0, 1),
+            (Ok(Token::String), 10, 3),
+            (Err(Error::UnterminatedString), 14, 1),
+        ],
+    ),
+    (
+        "package a:b@01.0.0;",
+        &[
+            (Ok(Token::PackageKeyword), 0, 7),
+            (Ok(Token::PackageName), 8, 10),
+            (Ok(Token::Semicolon), 18, 1),
+        ],
+    ),
+    (
+        "a:b@99999999999999999999999.0.0",
+        &[(Ok(Token::PackageName), 0, 31)],
+    ),
+    (
+        "/* /* unterminated */",
+        &[(Err(Error::UnterminatedComment), 0, 21)],
+    ),
+    (
+        "a; /* x",
+        &[
+            (Ok(Token::Ident), 0, 1),
+            (Ok(Token::Semicolon), 1, 1),
+            (Err(Error::UnterminatedComment), 3, 4),
+        ],
+    ),
+    ("\"foo\nbar\"", &[(Ok(Token::String), 0, 9)]),
+    (
+        "\"é\" /* ü */ // ß\n\"\"",
+        &[(Ok(Token::String), 0, 4), (Ok(Token::String), 20, 2)],
+    ),
+    (
+        "é x",
+        &[
+            (Err(Error::UnexpectedToken), 0, 2),
+            (Ok(Token::Ident), 3, 1),
+        ],
+    ),
+    (
+        "// x\r\n/***//* a /* /* deeply */ nested */ */ /",
+        &[(Ok(Token::Slash), 45, 1)],
+    ),
+    (
+        "a:b/c@1.2.3----R-S.12.9.1--.12+meta",
+        &[(Ok(Token::PackagePath), 0, 35)],
+    ),
+    ("", &[]),
+];
+
+/// Texts, and the first character of each that is refused.
+const REFUSED: [(&str, Error, usize, usize); 5] = [
+    (
+        "package a:b; x // \u{202a}",
+        Error::DisallowedBidirectionalOverride('\u{202a}'),
+        18,
+        3,
+    ),
+    (
+        "é\u{149}\u{7f}",
+        Error::DiscouragedUnicodeCodepoint('\u{149}'),
+        2,
+        2,
+    ),
+    ("\"\u{c}\"", Error::DisallowedControlCode('\u{c}'), 1, 1),
+    ("\u{9f}", Error::DisallowedControlCode('\u{9f}'), 0, 2),
+    (
+        "\u{2069}",
+        Error::DisallowedBidirectionalOverride('\u{2069}'),
+        0,
+        3,
+    ),
+];
+
+#[test]
+fn items_of_texts(rt: HostRuntime) -> Result<(), Fail> {
+    for (source, rows) in TEXTS {
+        items_are(&rt, source, rows);
+    }
+    let mut source = String::new(rt.alloc());
+    for _ in 0..200 {
+        source.push_str("/*")?;
+    }
+    for _ in 0..200 {
+        source.push_str("*/")?;
+    }
+    items_are(&rt, source.as_str(), &[]);
+    source.push_str("x")?;
+    items_are(&rt, source.as_str(), &[(Ok(Token::Ident), 800, 1)]);
+    for (source, fault, offset, len) in REFUSED {
+        assert_eq!(rt;
+            Lexer::new(source).err(),
+            Some((fault, SourceSpan::new(offset, len)))
+        );
+    }
+    assert!(rt; Lexer::new("\t\r\n\u{a0}\u{202f}").is_ok());
+    Ok(())
+}
+
+#[test]
+fn peeks_and_spans(rt: HostRuntime) -> Result<(), Fail> {
+    let Ok(mut lexer) = Lexer::new("let é\"x\"") else {
+        panic!(rt; "a source is refused");
+    };
+    let (first, second) = (SourceSpan::new(0, 3), SourceSpan::new(4, 2));
+    assert_eq!(rt; lexer.span(), SourceSpan::new(0, 0));
+    assert_eq!(rt; lexer.peek(), Some((Ok(Token::LetKeyword), first)));
+    assert_eq!(rt; lexer.peek2(), Some((Err(Error::UnexpectedToken), second)));
+    assert_eq!(rt; lexer.next(), Some((Ok(Token::LetKeyword), first)));
+    assert_eq!(rt; lexer.span(), first);
+    let mut copy = lexer.clone()?;
+    assert_eq!(rt; copy.next(), Some((Err(Error::UnexpectedToken), second)));
+    assert_eq!(rt; lexer.next(), Some((Err(Error::UnexpectedToken), second)));
+    assert!(rt; lexer.holds(second));
+    assert_eq!(rt; lexer.source(second), "é");
+    assert!(rt; !lexer.holds(SourceSpan::new(5, 1)));
+    assert!(rt; !lexer.holds(SourceSpan::new(9, 1)));
+    assert!(rt; !lexer.holds(SourceSpan::new(1, usize::MAX)));
+    assert_eq!(rt;
+        lexer.next(),
+        Some((Ok(Token::String), SourceSpan::new(6, 3)))
+    );
+    assert_eq!(rt; lexer.span(), SourceSpan::new(5, 1));
+    assert_eq!(rt; lexer.peek2(), None);
+    assert_eq!(rt; lexer.next(), None);
+    assert_eq!(rt; lexer.span(), SourceSpan::new(8, 1));
+    lexer.stands_between_items();
+    Ok(())
+}

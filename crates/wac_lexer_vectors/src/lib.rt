@@ -1,0 +1,11 @@
+//! Tests of `wac_lexer`: vectors of the language, names and messages, docs, and devices of bytes.
+#![tactic(auto)]
+
+#[cfg(test)]
+mod devices;
+#[cfg(test)]
+mod docs;
+#[cfg(test)]
+mod items;
+#[cfg(test)]
+mod texts;
