@@ -3,9 +3,9 @@ use Rattle.wac_lexer.specs.Reading.{left}
 use Rattle.wac_syntax.specs.Answer.{end_of_input, first_item}
 use Rattle.wac_syntax.proofs.Loops.{fails_bind}
 use Rattle.wac_syntax.proofs.Lists.{moved_end}
-use Rattle.wac_worlds.specs.Pieces.{part_before}
-use Rattle.wac_worlds.proofs.PartReads.{part_fails}
-use Rattle.wac_worlds.proofs.pieces.parse_before.Goals as goal
+use Rattle.wac_syntax.specs.Pieces.{part_before}
+use Rattle.wac_syntax.proofs.PartReads.{part_fails}
+use Rattle.wac_syntax.proofs.pieces.parse_before.Goals as goal
 
 pub returns-in_err-take_token-clause-gives : goal.returns-in_err-take_token-clause-gives
 returns-in_err-take_token-clause-gives g c =

@@ -4,9 +4,9 @@ use Rattle.wac_lexer.specs.Reading.{Reading, left}
 use Rattle.wac_syntax.specs.Answer.{end_of_input, first_item}
 use Rattle.wac_syntax.proofs.Alternatives.{optional_there, optional_missing}
 use Rattle.wac_syntax.proofs.Lists.{moved_end}
-use Rattle.wac_worlds.specs.Pieces.{part_after, behind_word}
-use Rattle.wac_worlds.proofs.PartReads.{part_fails, after_read, after_fails, after_missing, after_faulty}
-use Rattle.wac_worlds.proofs.pieces.parse_after.Goals as goal
+use Rattle.wac_syntax.specs.Pieces.{part_after, behind_word}
+use Rattle.wac_syntax.proofs.PartReads.{part_fails, after_read, after_fails, after_missing, after_faulty}
+use Rattle.wac_syntax.proofs.pieces.parse_after.Goals as goal
 
 pub returns-in_err-take_optional-clause-gives : goal.returns-in_err-take_optional-clause-gives
 returns-in_err-take_optional-clause-gives g c =

@@ -7,13 +7,12 @@ use Rattle.wac_lexer.specs.declared.token.Token.{Token}
 use Rattle.wac_syntax.specs.declared.error.Error.{Error}
 use Rattle.wac_syntax.specs.Error.{told_by}
 use Rattle.wac_grammar.specs.Tokens.{at}
-use Rattle.wac_grammar.specs.Grammar.{Sym, TreeOf, Grammar, Parts, build, import_statement, identifier, extern_name, import_type}
+use Rattle.wac_grammar.specs.Grammar.{Sym, TreeOf, Grammar, Parts}
 use Rattle.wac_grammar.specs.Reading.{Tried, Stop, other, read, read_in, read_token, not_fault}
 use Rattle.wac_syntax.specs.Answer.{End, end_of_input, told, Fails, TakesOptional}
 use Rattle.wac_syntax.proofs.Loops.{fails_bind}
 use Rattle.wac_syntax.proofs.Lookaheads.{one_test}
-use Rattle.wac_worlds.specs.Pieces.{GivesPart, part_after, behind_word}
-use Rattle.wac_lexer.specs.Item.{Doc}
+use Rattle.wac_syntax.specs.Pieces.{GivesPart, part_after, behind_word}
 use Rattle.wac_syntax.proofs.Exits.{Stops}
 
 pub part_fails : {X Y E : Type 0} (g : Grammar) (of : Parts g → Y) (made : Error → E → Type 0) (view : X → Y) (r : Result X E) (old new : Reading) (e : Error) → IsErrAnd r (made e) → Fails e (end_of_input old) (read_in read g [] (left old)) → GivesPart g of made view r old new
@@ -35,8 +34,3 @@ after_missing k s xs missing right = rw (one_test k xs false missing, right) ref
 pub after_faulty : (k : Token) (s : Sym) (e : Error) (old new : Reading) → TakesOptional k (Err e) old new → Fails e (end_of_input old) (read_in read (part_after k s) [] (left old))
 after_faulty k s e old new (inl memory) = inl memory
 after_faulty k s e old new (inr (missing, fault, tells)) = rw (one_test k (left old) false missing, fault) (inr (ap Some (tells _)))
-
--- the tree of an import, by the name that is read
-pub import_built : (ds : List Doc) (word : Item) (id : TreeOf identifier) (p : (Item × TreeOf extern_name) ⊎ Unit {0}) (colon : Item) (ty : TreeOf import_type) (close : Item) → build import_statement (ds, (word, (id, (p, (colon, (ty, close)))))) ≡ record { docs = ds; id = id; name = behind_word p; ty = ty }
-import_built ds word id (inl p) colon ty close = refl
-import_built ds word id (inr u) colon ty close = refl

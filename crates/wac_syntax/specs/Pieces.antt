@@ -1,13 +1,11 @@
 -- What is answered for some of the parts of a production.
-use Rattle.std.specs.Prelude.{◌≡◌, List, [], Option, Some, None, Result, Ok, Err, ◌⊎◌}
+use Rattle.std.specs.Prelude.{◌≡◌, [], Option, Some, None, Result, Ok, Err, ◌⊎◌}
 use Rattle.std.proofs.Common.{inl, inr}
 use Rattle.wac_lexer.specs.Item.{Item}
 use Rattle.wac_lexer.specs.Reading.{Reading, left}
 use Rattle.wac_lexer.specs.declared.token.Token.{Token}
 use Rattle.wac_syntax.specs.declared.error.Error.{Error}
-use Rattle.wac_lexer.specs.declared.token.Token.TheVariants as t
-use Rattle.wac_grammar.specs.Tree.{UseItem}
-use Rattle.wac_grammar.specs.Grammar.{use_items, Sym, TreeOf, Grammar, Parts, token, sym, then, optional, ◌▸◌}
+use Rattle.wac_grammar.specs.Grammar.{Sym, Grammar, Parts, token, sym, then, optional, ◌▸◌}
 use Rattle.wac_grammar.specs.Reading.{read, read_in}
 use Rattle.wac_syntax.specs.Answer.{end_of_input, Fails}
 
@@ -27,10 +25,3 @@ part_after word s = optional (token word ▸ sym s)
 abbrev pub behind_word : {A : Type 0} → (Item × A) ⊎ Unit {0} → Option A
 behind_word (inl p) = Some p.1
 behind_word (inr u) = None
-
--- the items of a use, and the semicolon
-abbrev pub use_tail : Grammar
-use_tail = token t.OpenBrace ▸ sym use_items ▸ token t.Semicolon
-
-abbrev pub tail_items : Parts use_tail → List UseItem
-tail_items p = p.1.0.0

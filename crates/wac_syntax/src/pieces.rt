@@ -3,11 +3,12 @@
 ghost use Rattle.std.specs.Prelude.{◌≡◌, ◌≤◌, true};
 ghost use Rattle.std.specs.Option.{option_map};
 ghost use Rattle.wac_syntax.specs.Answer.{plain};
-ghost use Rattle.wac_worlds.specs.Pieces.{GivesPart, part_before, part_after, behind_word};
+ghost use Rattle.wac_syntax.specs.Pieces.{GivesPart, part_before, part_after, behind_word};
 
+use crate::error::Error;
+use crate::parse::{Parse, take_optional, take_token};
 use std::alloc::Global;
 use wac_lexer::{Lexer, Token};
-use wac_syntax::{Error, Parse, take_optional, take_token};
 
 /// A part, and the token behind it.
 pub fn parse_before<'a, T: Parse<'a> + Drop, E: From<Error>>(
