@@ -1,6 +1,6 @@
 -- Where resources come from, as a graph grows.
 use Rattle.std.proofs.Common.{◌≡◌, ◌∙◌, ◌<◌, ◌≤◌, ◌+◌, ◌-◌, ℕ, zero, suc, Option, Some, None, List, [], ◌∷◌, ◌++◌, length, take, refl, sym, ap, arith, Bool, true, false, cond, ◌&&◌, append-nil}
-use Rattle.std.specs.Prelude.{slice_get, nat_le, nat_lt}
+use Rattle.std.specs.Prelude.{slice_get, nat_le, nat_lt, option_map}
 use Rattle.std.specs.List.{AllByRecursion}
 use Rattle.std.proofs.lemmas.Bool.{lt-ltb, le-ltb}
 use Rattle.std.proofs.lemmas.Bool.Decides.{nat_tests}
@@ -9,25 +9,30 @@ use Rattle.wac_types.specs.declared.entry.Entry.{Entry}
 use Rattle.wac_types.specs.Entry.{children}
 use Rattle.wac_types.specs.Label.{label}
 use Rattle.wac_types.specs.Meaning.{node, of_kind, row, meaning, meaning_at, NamesBefore, ChildrenBefore, EachKind}
+use Rattle.wac_types.specs.Readings.{kind_exports}
+use Rattle.wac_types.specs.Scope.{look_up}
+use Rattle.wac_types.specs.Shape.{export_of}
 use Rattle.wac_types.specs.Table.{Names}
+use Rattle.wac_types.proofs.Found.{export_found}
 use Rattle.wac_types.specs.Package.{PackageParts}
 use Rattle.wac_types.proofs.Meanings.{grown_under, meaning_at_entry, added}
 use Rattle.wac_graph.specs.Package.{Key, HeldPackage, IsHeld, moved_package}
-use Rattle.wac_graph.specs.Graph.{Parts, IsSound, with_entry, with_package}
-use Rattle.wac_graph.specs.Moved.{moved}
-use Rattle.wac_graph.specs.Copied.{IsGrown, IsGrownBy, MeansTheSame}
-use Rattle.wac_graph.proofs.Growing.{copies_length}
-use Rattle.wac_graph.specs.Origin.{Origin, declared, copied}
-use Rattle.wac_graph.specs.Means.{copied_at, own_from, own_resources, resources_in, or_declared, origin_in, declared_count, entry_means_in, entry_means, means, KeepsKinds, MeansAdded, EntriesMean, CopiesMean}
+use Rattle.wac_graph.specs.Graph.{Parts, with_entry, with_package}
+use Rattle.wac_graph.specs.Sound.{EachAt, IsSound}
+use Rattle.wac_graph_copies.specs.Moved.{moved}
+use Rattle.wac_graph_copies.specs.Copied.{IsGrown, IsGrownBy, MeansTheSame}
+use Rattle.wac_graph_copies.proofs.Growing.{copies_length}
+use Rattle.wac_graph.specs.Origin.{Origin, Naming, declared, copied}
+use Rattle.wac_graph.specs.Means.{copied_at, own_from, own_resources, resources_in, or_declared, origin_in, declared_count, origin_at, entry_means_in, entry_means, means, KeepsKinds, MeansAdded, EntriesMean, CopiesMean}
 
 -- packages that end before a number
 pub Within : ℕ → List HeldPackage → Type 0
 Within n ps = AllByRecursion (λ (p : HeldPackage). p.first + p.size ≤ n) ps
 
-pub held_within : (es : List Entry) (ps : List HeldPackage) → AllByRecursion (IsHeld es) ps → Within (length es) ps
+pub held_within : (es : List Entry) (ps : List HeldPackage) → EachAt (λ _ p. IsHeld es p) ps → Within (length es) ps
 unfolding Within
 held_within es [] h = tt
-held_within es (p ∷ ps) h = (h.0.of_range, held_within es ps h.1)
+held_within es (p ∷ ps) h = ((h 0 p refl).of_range, held_within es ps (λ i q is. h (suc i) q is))
 
 -- what lies behind all packages wasn't copied
 outside : (ps : List HeldPackage) (n i : ℕ) → Within n ps → n ≤ i → copied_at ps i ≡ None
@@ -107,10 +112,10 @@ means_added old new e sound here is naming =
     let p : ℕ → ℕ = λ n. naming (origin_in ps (es ++ e ∷ []) n) in
     ap (λ (g : Parts). entry_means naming g (length es)) is
     ∙ added o p es e (λ i w. ap naming (origin_kept ps es (e ∷ []) i w)) sound.table.0 (earlier_children es e here)
-    ∙ ap (λ (x : Origin). node (label (naming x) e) (row (meaning_at o es) (children e))) (origin_added ps es e (held_within es ps sound.packages_held))
+    ∙ ap (λ (x : Origin). node (label (naming x) e) (row (meaning_at o es) (children e))) (origin_added ps es e (held_within es ps sound.packages))
 
 pub count_added : (old new : Parts) (e : Entry) → IsSound old → new ≡ with_entry old e → declared_count new ≡ declared_count old + resources_in e
-count_added old new e sound is = ap (λ (g : Parts). declared_count g) is ∙ own_added old.packages old.types e (held_within old.types old.packages sound.packages_held)
+count_added old new e sound is = ap (λ (g : Parts). declared_count g) is ∙ own_added old.packages old.types e (held_within old.types old.packages sound.packages)
 
 pub entries_mean : (g : Parts) → IsSound g → EntriesMean g
 unfolding entry_means_in
@@ -197,13 +202,29 @@ copies_mean old new key p sound is same naming k h =
     ap (λ (g : Parts). means naming g (moved (length old.types) k)) is
     ∙ same o k h
     ∙ ap (λ (l : List Entry). meaning (λ i. o (length old.types + i)) l k) (sym nil)
-    ∙ grown_under (λ i. naming (copied key i)) (λ i. o (length old.types + i)) p.types [] k (λ i w. ap naming (origin_copied old.packages q new.types i (held_within old.types old.packages sound.packages_held) w)) h
+    ∙ grown_under (λ i. naming (copied key i)) (λ i. o (length old.types + i)) p.types [] k (λ i w. ap naming (origin_copied old.packages q new.types i (held_within old.types old.packages sound.packages) w)) h
 
 pub count_package : (old new : Parts) (key : Key) (p : PackageParts) → IsSound old → IsGrownBy old.types p.types new.types → new ≡ with_package old key p new.types → declared_count new ≡ declared_count old
 count_package old new key p sound grown is =
     let q : HeldPackage = moved_package (length old.types) key p in
-    let within : Within q.first old.packages = held_within old.types old.packages sound.packages_held in
+    let within : Within q.first old.packages = held_within old.types old.packages sound.packages in
     let more : own_from (old.packages ++ q ∷ []) 0 (old.types ++ grown.0) ≡ own_from (old.packages ++ q ∷ []) 0 old.types + own_from (old.packages ++ q ∷ []) (0 + length old.types) grown.0 = own_append (old.packages ++ q ∷ []) 0 old.types grown.0 in
     let front : own_from (old.packages ++ q ∷ []) 0 old.types ≡ own_from old.packages 0 old.types = own_same old.packages q 0 old.types (omega arith) in
     let back : own_from (old.packages ++ q ∷ []) (0 + length old.types) grown.0 ≡ 0 = own_copied old.packages q (0 + length old.types) grown.0 within (omega arith) (omega (arith, copies_length (length old.types) p.types grown.0 grown.2)) in
     ap (λ (g : Parts). declared_count g) is ∙ ap (own_from (old.packages ++ q ∷ []) 0) grown.1 ∙ omega (arith, more, front, back)
+
+-- the table grows, and holds no package more
+pub keeps_types : (old new : Parts) → IsGrown old.types new.types → new ≡ record old { types = new.types } → KeepsKinds old new
+keeps_types old new grown is naming k h =
+    ap (λ (g : Parts). means naming g k) (is ∙ ap (λ (l : List Entry). record old { types = l }) grown.1) ∙ keeps_more old.packages old.types grown.0 naming k h
+
+-- what the table has under a name is what the kind exports
+pub export_means : (naming : Naming) (g : Parts) (k : ItemKind) (name : List ℕ) (r : Option ItemKind) → IsSound g → Names g.types k → r ≡ look_up name (kind_exports g.types k)
+    → option_map (means naming g) r ≡ export_of (means naming g k) name
+export_means naming g k name r sound named is =
+    ap (option_map (means naming g)) is ∙ export_found (λ i. naming (origin_at g i)) g.types (entry_means naming g) (entries_mean g sound naming) k name named
+
+-- a kind's meaning under a naming is that of the table under the numbers of its origins
+pub means_is : (naming : Naming) (g : Parts) (k : ItemKind) → means naming g k ≡ meaning (λ i. naming (origin_at g i)) g.types k
+unfolding entry_means_in
+means_is naming g k = refl

@@ -1,165 +1,356 @@
--- What a graph names stays in its table.
-use Rattle.std.proofs.Common.{◌≡◌, ◌∙◌, ◌<◌, ◌≤◌, ◌+◌, ℕ, zero, suc, Option, Some, None, List, [], ◌∷◌, ◌++◌, length, length-append, refl, sym, ap, subst, arith, Bool, true, false, Bor}
-use Rattle.std.specs.Prelude.{slice_get, slice_set, option_map, option_and_then, IfSome, IsSome, find, cond}
-use Rattle.std.specs.Str.{bytes_eq}
+-- What always holds of a graph goes on to hold as it is built.
+use Rattle.std.proofs.Common.{◌≡◌, ◌∙◌, ◌<◌, ◌≤◌, ◌+◌, ℕ, zero, suc, Option, Some, None, List, [], ◌∷◌, ◌++◌, length, length-append, append-nil, refl, sym, ap, subst, arith, Bool, true, false, inl, inr, ◌⊎◌}
+use Rattle.std.specs.Prelude.{slice_get, slice_set, IsSome, option_and_then}
 use Rattle.std.specs.List.{AllByRecursion}
+use Rattle.std.proofs.lemmas.Option.{slice_get_within}
 use Rattle.wac_types.specs.declared.kind.ItemKind.{ItemKind}
 use Rattle.wac_types.specs.declared.kind.ItemKind.TheVariants as kinds
 use Rattle.wac_types.specs.declared.entry.Entry.{Entry}
 use Rattle.wac_types.specs.Entry.{children}
-use Rattle.wac_types.specs.Meaning.{EachKind, EachFrom}
-use Rattle.wac_types.specs.Table.{Names, IsTable, ItemsNamed}
-use Rattle.wac_types.proofs.Tables.{names_kept, table_more}
-use Rattle.wac_graph.specs.Node.{Node}
+use Rattle.wac_types.specs.Meaning.{EachKind}
 use Rattle.wac_types.specs.Growth.{KeepsMeanings}
 use Rattle.wac_types.specs.Package.{PackageParts, IsPackage}
+use Rattle.wac_types.specs.Scope.{Named, IsFresh}
+use Rattle.wac_types.specs.Shape.{cons_named}
+use Rattle.wac_types.specs.Table.{Names, IsTable, ItemsNamed}
 use Rattle.wac_types.proofs.Growing.{keeps_appended}
 use Rattle.wac_types.proofs.Packages.{package_world, package_instance, package_definitions}
-use Rattle.wac_graph.specs.Moved.{moved_items}
-use Rattle.wac_graph.specs.Package.{Key, HeldPackage, IsHeld, moved_package}
-use Rattle.wac_graph.specs.Copied.{IsGrown, IsGrownBy}
-use Rattle.wac_graph.proofs.Growing.{copy_named, copies_length}
-use Rattle.wac_graph.specs.Graph.{Parts, IsSound, IsLinked, NamesNodes, instantiated, with_entry, with_instantiation, changed, import_kind, imported_by}
-use Rattle.std.proofs.lemmas.Option.{slice_get_within}
-use Rattle.wac_graph.specs.Names.{node_named}
-use Rattle.wac_graph.specs.declared.node.NodeId.{NodeId}
+use Rattle.wac_types.proofs.Shapes.{cons_append}
+use Rattle.wac_types.proofs.Tables.{names_kept, table_more}
+use Rattle.wac_graph_copies.specs.Moved.{moved_items}
+use Rattle.wac_graph_copies.specs.Copied.{IsGrown, IsGrownBy}
+use Rattle.wac_graph.specs.Package.{Key, HeldPackage, IsHeld, moved_package, package_keyed, same_key}
+use Rattle.wac_graph.specs.Node.{Node, Form, import, definition, alias, instantiation, import_in, source_in, package_in, arguments_in, is_alias_of}
+use Rattle.wac_graph.specs.Graph.{Parts, empty, plain_node, with_entry, with_import, with_definition, with_export, with_alias, with_instantiation, with_name, with_argument, changed, given_too, export_kind, import_kind, alias_in}
+use Rattle.wac_graph.specs.Kept.{Keeps}
+use Rattle.wac_graph.specs.Sound.{EachAt, NamesNodes, name_in, IsPlaced, IsInstance, IsSoundNode, AliasedOnce, imports_from, IsSound}
+use Rattle.wac_graph.proofs.Exported.{export_kind_names, exporting_there}
+use Rattle.wac_graph_copies.proofs.Growing.{copy_named, copies_length}
+use Rattle.wac_graph.proofs.Keeping.{Extends, extends_keeps, no_more, one_more, all_stay, stay_more, stay_set}
+use Rattle.wac_graph.proofs.Keys.{other_key, itself}
+use Rattle.wac_graph.proofs.Lists.{get_more, get_set, set_length, each_more, each_set, differ_more, names_more, found_last, all_more, all_implies, none_at}
 
-all_implies : {X : Type 0} (P Q : X → Type 0) → ((x : X) → P x → Q x) → (xs : List X) → AllByRecursion P xs → AllByRecursion Q xs
-all_implies P Q f [] h = tt
-all_implies P Q f (x ∷ xs) h = (f x h.0, all_implies P Q f xs h.1)
+-- ---- imported nodes by name
 
-pub all_more : {X : Type 0} (P : X → Type 0) (xs : List X) (x : X) → AllByRecursion P xs → P x → AllByRecursion P (xs ++ x ∷ [])
-all_more P [] x h here = (here, tt)
-all_more P (y ∷ xs) x h here = (h.0, all_more P xs x h.1 here)
+imports_append : (m : ℕ) (ns : List Node) (n : Node) → imports_from m (ns ++ n ∷ []) ≡ imports_from m ns ++ cons_named (import_in n.form) (m + length ns) []
+imports_append m [] n = (let at : m ≡ m + 0 = omega arith in ap (λ (k : ℕ). cons_named (import_in n.form) k []) at)
+imports_append m (x ∷ ns) n =
+    let at : suc m + length ns ≡ m + suc (length ns) = omega arith in
+    ap (cons_named (import_in x.form) m) (imports_append (suc m) ns n)
+    ∙ cons_append (import_in x.form) m (imports_from (suc m) ns) (cons_named (import_in n.form) (suc m + length ns) [])
+    ∙ ap (λ (k : ℕ). cons_named (import_in x.form) m (imports_from (suc m) ns) ++ cons_named (import_in n.form) k []) at
 
-pub all_at : {X : Type 0} (P : X → Type 0) (xs : List X) (i : ℕ) (x : X) → AllByRecursion P xs → slice_get xs i ≡ Some x → P x
-all_at P [] i x h is = absurd (cc)
-all_at P (y ∷ xs) zero x h is = let same : y ≡ x = cc in subst P same h.0
-all_at P (y ∷ xs) (suc i) x h is = all_at P xs i x h.1 is
+-- a node that isn't an import
+other_append : (ns : List Node) (n : Node) → import_in n.form ≡ None → imports_from 0 (ns ++ n ∷ []) ≡ imports_from 0 ns
+other_append ns n none =
+    let nil : imports_from 0 ns ++ [] ≡ imports_from 0 ns = simp append-nil in
+    imports_append 0 ns n ∙ ap (λ (o : Option (List ℕ)). imports_from 0 ns ++ cons_named o (0 + length ns) []) none ∙ nil
 
-all_set : {X : Type 0} (P : X → Type 0) (xs : List X) (i : ℕ) (x : X) → AllByRecursion P xs → P x → AllByRecursion P (slice_set xs i x)
-all_set P [] i x h here = tt
-all_set P (y ∷ xs) zero x h here = (here, h.1)
-all_set P (y ∷ xs) (suc i) x h here = (h.0, all_set P xs i x h.1 here)
+import_append : (ns : List Node) (name : List ℕ) (k : ItemKind) → imports_from 0 (ns ++ plain_node (import name) k ∷ []) ≡ imports_from 0 ns ++ (name, length ns) ∷ []
+import_append ns name k = (let at : 0 + length ns ≡ length ns = omega arith in imports_append 0 ns (plain_node (import name) k) ∙ ap (λ (n : ℕ). imports_from 0 ns ++ (name, n) ∷ []) at)
 
-held_kept : (es fs : List Entry) (p : HeldPackage) → IsHeld es p → IsHeld (es ++ fs) p
-held_kept es fs p h = record {
-  of_range = omega (arith, h.of_range, length-append es fs);
-  of_world = names_kept es fs (kinds.Component p.world) h.of_world;
-  of_instance = names_kept es fs (kinds.Instance p.instance) h.of_instance;
-  of_definitions = all_implies (λ (d : List ℕ × ItemKind). Names es d.1) (λ d. Names (es ++ fs) d.1) (λ d. names_kept es fs d.1) p.definitions h.of_definitions;
+imports_set : (m : ℕ) (ns : List Node) (i : ℕ) (n y : Node) → slice_get ns i ≡ Some n → import_in y.form ≡ import_in n.form → imports_from m (slice_set ns i y) ≡ imports_from m ns
+imports_set m [] i n y is same = absurd (cc)
+imports_set m (x ∷ ns) zero n y is same =
+    let here : n ≡ x = cc in
+    ap (λ (o : Option (List ℕ)). cons_named o m (imports_from (suc m) ns)) (same ∙ ap (λ (z : Node). import_in z.form) here)
+imports_set m (x ∷ ns) (suc i) n y is same = ap (cons_named (import_in x.form) m) (imports_set (suc m) ns i n y is same)
+
+imports_within : (m : ℕ) (ns : List Node) → AllByRecursion (λ e. e.1 < m + length ns) (imports_from m ns)
+imports_within m [] = tt
+imports_within m (x ∷ ns) = go (import_in x.form) (all_implies (λ (e : List ℕ × ℕ). e.1 < suc m + length ns) (λ e. e.1 < m + suc (length ns)) (λ e w. omega arith) (imports_from (suc m) ns) (imports_within (suc m) ns))
+  where
+    go : (o : Option (List ℕ)) → AllByRecursion (λ e. e.1 < m + suc (length ns)) (imports_from (suc m) ns) → AllByRecursion (λ e. e.1 < m + suc (length ns)) (cons_named o m (imports_from (suc m) ns))
+    go None h = h
+    go (Some name) h = (omega arith, h)
+
+-- each imported node is there
+pub imports_there : (g : Parts) → IsSound g → NamesNodes (length g.nodes) g.imports
+imports_there g h =
+    subst (λ (l : Named ℕ). NamesNodes (length g.nodes) l) (sym h.imports)
+    (all_implies (λ (e : List ℕ × ℕ). e.1 < 0 + length g.nodes) (λ e. e.1 < length g.nodes) (λ e w. omega arith) (imports_from 0 g.nodes) (imports_within 0 g.nodes))
+
+-- ---- nodes and packages of a graph that has more
+
+some_kept : {X : Type 0} (o p : Option X) → ((x : X) → o ≡ Some x → p ≡ Some x) → IsSome o → IsSome p
+some_kept None p f h = absurd (cc)
+some_kept {X} (Some x) p f h = subst (λ (q : Option X). IsSome q) (sym (f x refl)) h
+
+placed_kept : (g h : Parts) → Keeps g h → (i : ℕ) (k : ItemKind) (f : Form) → IsPlaced g i k f → IsPlaced h i k f
+placed_kept g h keeps i k (import name) p = tt
+placed_kept g h keeps i k definition p = record { name = p.name; found = keeps.exported p.name i p.found }
+placed_kept g h keeps i k (alias node export) p = record { earlier = p.earlier; kind = keeps.exports node export k p.kind }
+placed_kept g h keeps i k (instantiation q arguments) p = record {
+  of = p.of;
+  held = keeps.packages q p.of p.held;
+  kind = p.kind;
+  imports = all_implies (λ (a : List ℕ × ℕ). IsSome (import_kind g q a.0)) (λ a. IsSome (import_kind h q a.0)) (λ a. some_kept (import_kind g q a.0) (import_kind h q a.0) (keeps.imports q a.0)) arguments p.imports;
+  earlier = p.earlier;
+  once = p.once;
 }
 
-pub each_at : {X : Type 0} (P : ℕ → X → Type 0) (m n : ℕ) (xs : List X) (i : ℕ) (x : X) → EachFrom P m xs → slice_get xs i ≡ Some x → n ≡ m + i → P n x
-each_at P m n [] i x h is at = absurd (cc)
-each_at P m n (y ∷ xs) zero x h is at = (let same : y ≡ x = cc in let number : m ≡ n = omega arith in subst (λ (k : ℕ). P k x) number (subst (P m) same h.0))
-each_at P m n (y ∷ xs) (suc i) x h is at = each_at P (suc m) n xs i x h.1 is (omega arith)
+node_kept : (g h : Parts) → Keeps g h → (i : ℕ) (n : Node) → IsSoundNode g i n → IsSoundNode h i n
+node_kept g h keeps i n s = record { named = keeps.names n.kind s.named; placed = placed_kept g h keeps i n.kind n.form s.placed }
 
-each_more : {X : Type 0} (P : ℕ → X → Type 0) (m : ℕ) (xs : List X) (x : X) → EachFrom P m xs → P (m + length xs) x → EachFrom P m (xs ++ x ∷ [])
-each_more P m [] x h here = (let at : m + 0 ≡ m = omega arith in (subst (λ (k : ℕ). P k x) at here, tt))
-each_more P m (y ∷ xs) x h here = (h.0, each_more P (suc m) xs x h.1 (let at : m + length (y ∷ xs) ≡ suc m + length xs = omega arith in subst (λ (k : ℕ). P k x) at here))
+held_kept : (es new : List Entry) → IsGrown es new → (p : HeldPackage) → IsHeld es p → IsHeld new p
+held_kept es new more p h = subst (λ (l : List Entry). IsHeld l p) (sym more.1) (record {
+  of_range = omega (arith, h.of_range, length-append es more.0);
+  of_world = names_kept es more.0 (kinds.Component p.world) h.of_world;
+  of_instance = names_kept es more.0 (kinds.Instance p.instance) h.of_instance;
+  of_definitions = all_implies (λ (d : List ℕ × ItemKind). Names es d.1) (λ d. Names (es ++ more.0) d.1) (λ d. names_kept es more.0 d.1) p.definitions h.of_definitions;
+})
 
-each_set : {X : Type 0} (P : ℕ → X → Type 0) (m : ℕ) (xs : List X) (i : ℕ) (x : X) → EachFrom P m xs → P (m + i) x → EachFrom P m (slice_set xs i x)
-each_set P m [] i x h here = tt
-each_set P m (y ∷ xs) zero x h here = (let at : m + 0 ≡ m = omega arith in (subst (λ (k : ℕ). P k x) at here, h.1))
-each_set P m (y ∷ xs) (suc i) x h here = (h.0, each_set P (suc m) xs i x h.1 (let at : m + suc i ≡ suc m + i = omega arith in subst (λ (k : ℕ). P k x) at here))
+nodes_kept : (c d : ℕ) (names : Named ℕ) → c ≤ d → NamesNodes c names → NamesNodes d names
+nodes_kept c d names le h = all_implies (λ (e : List ℕ × ℕ). e.1 < c) (λ e. e.1 < d) (λ e w. omega arith) names h
 
-each_from_implies : {X : Type 0} (P Q : ℕ → X → Type 0) → ((n : ℕ) (x : X) → P n x → Q n x) → (m : ℕ) (xs : List X) → EachFrom P m xs → EachFrom Q m xs
-each_from_implies P Q f m [] h = tt
-each_from_implies P Q f m (x ∷ xs) h = (f m x h.0, each_from_implies P Q f (suc m) xs h.1)
+-- ---- the calls
 
-linked_kept : (c d i : ℕ) (n : Node) → c ≤ d → IsLinked c i n → IsLinked d i n
-linked_kept c d i n le h = record { of_package = go (instantiated n.form) h.of_package; of_source = h.of_source; of_arguments = h.of_arguments }
-  where
-    go : (x : Option ℕ) → IfSome x (λ p. p < c) → IfSome x (λ p. p < d)
-    go None w = tt
-    go (Some p) w = omega arith
-
-named_kept : (c d : ℕ) (names : List (List ℕ × ℕ)) → c ≤ d → NamesNodes c names → NamesNodes d names
-named_kept c d names le h = all_implies (λ (e : List ℕ × ℕ). e.1 < c) (λ e. e.1 < d) (λ e w. omega arith) names h
+pub sound_empty : IsSound empty
+sound_empty = record {
+  table = (tt, tt);
+  packages = λ i p is. absurd (cc);
+  keys = λ i j p q at_i at_j same. absurd (cc);
+  nodes = λ i n is. absurd (cc);
+  aliases = λ i j n m node export at_i at_j p q. absurd (cc);
+  imports = refl;
+  import_names = λ i j p q at_i at_j same. absurd (cc);
+  exports = tt;
+  export_names = λ i j p q at_i at_j same. absurd (cc);
+}
 
 -- a table that has grown
 pub sound_grown : (g : Parts) (new : List Entry) → IsGrown g.types new → IsTable new → IsSound g → IsSound (record g { types = new })
-sound_grown g new more table h = record {
-  table = table;
-  kinds_named = subst (λ (l : List Entry). AllByRecursion (λ (n : Node). Names l n.kind) g.nodes) (sym more.1) (all_implies (λ (n : Node). Names g.types n.kind) (λ n. Names (g.types ++ more.0) n.kind) (λ n. names_kept g.types more.0 n.kind) g.nodes h.kinds_named);
-  packages_held = subst (λ (l : List Entry). AllByRecursion (IsHeld l) g.packages) (sym more.1) (all_implies (IsHeld g.types) (IsHeld (g.types ++ more.0)) (held_kept g.types more.0) g.packages h.packages_held);
-  nodes_linked = h.nodes_linked;
-  imports_there = h.imports_there;
-  exports_there = h.exports_there;
-}
+sound_grown g new more table h =
+    let keeps : Keeps g (record g { types = new }) = extends_keeps g (record g { types = new }) (record { types = more; packages = no_more g.packages; nodes = all_stay g.nodes; imports = no_more g.imports; exports = no_more g.exports }) in
+    record {
+      table = table;
+      packages = λ i p is. held_kept g.types new more p (h.packages i p is);
+      keys = h.keys;
+      nodes = λ i n is. node_kept g (record g { types = new }) keeps i n (h.nodes i n is);
+      aliases = h.aliases;
+      imports = h.imports;
+      import_names = h.import_names;
+      exports = h.exports;
+      export_names = h.export_names;
+    }
 
--- one more entry
 pub sound_entry : (g : Parts) (e : Entry) → EachKind (Names g.types) (children e) → IsSound g → IsSound (with_entry g e)
 sound_entry g e here h = sound_grown g (g.types ++ e ∷ []) (e ∷ [], refl) (table_more g.types e h.table here) h
 
--- one more node
-pub sound_node : (g : Parts) (n : Node) → Names g.types n.kind → IsLinked (length g.packages) (length g.nodes) n → IsSound g → IsSound (record g { nodes = g.nodes ++ n ∷ [] })
-sound_node g n kind linked h =
-    let len : length (g.nodes ++ n ∷ []) ≡ length g.nodes + 1 = length-append g.nodes (n ∷ []) in
-    let zero-first : length g.nodes ≡ 0 + length g.nodes = omega arith in
+pub sound_package : (g : Parts) (p : HeldPackage) → IsHeld g.types p → package_keyed p.key g.packages ≡ None → IsSound g → IsSound (record g { packages = g.packages ++ p ∷ [] })
+sound_package g p here new h =
+    let after : Parts = record g { packages = g.packages ++ p ∷ [] } in
+    let keeps : Keeps g after = extends_keeps g after (record { types = no_more g.types; packages = one_more g.packages p; nodes = all_stay g.nodes; imports = no_more g.imports; exports = no_more g.exports }) in
     record {
       table = h.table;
-      kinds_named = all_more (λ (m : Node). Names g.types m.kind) g.nodes n h.kinds_named kind;
-      packages_held = h.packages_held;
-      nodes_linked = each_more (IsLinked (length g.packages)) 0 g.nodes n h.nodes_linked (subst (λ (k : ℕ). IsLinked (length g.packages) k n) zero-first linked);
-      imports_there = named_kept (length g.nodes) (length (g.nodes ++ n ∷ [])) g.imports (omega arith) h.imports_there;
-      exports_there = named_kept (length g.nodes) (length (g.nodes ++ n ∷ [])) g.exports (omega arith) h.exports_there;
+      packages = each_more (λ _ q. IsHeld g.types q) g.packages p h.packages here;
+      keys = differ_more (λ (q : HeldPackage). q.key) g.packages p h.keys (λ i q is same. other_key p.key q.key (none_at (λ (x : HeldPackage). same_key p.key x.key) g.packages i q new is) same);
+      nodes = λ i n is. node_kept g after keeps i n (h.nodes i n is);
+      aliases = h.aliases;
+      imports = h.imports;
+      import_names = h.import_names;
+      exports = h.exports;
+      export_names = h.export_names;
     }
 
--- one more import
-pub sound_import : (g : Parts) (name : List ℕ) (node : ℕ) → node < length g.nodes → IsSound g → IsSound (record g { imports = g.imports ++ (name, node) ∷ [] })
-sound_import g name node there h = record {
-  table = h.table;
-  kinds_named = h.kinds_named;
-  packages_held = h.packages_held;
-  nodes_linked = h.nodes_linked;
-  exports_there = h.exports_there;
-  imports_there = all_more (λ (e : List ℕ × ℕ). e.1 < length g.nodes) g.imports (name, node) h.imports_there there;
+pub sound_export : (g : Parts) (name : List ℕ) (node : ℕ) → node < length g.nodes → IsFresh name g.exports → IsSound g → IsSound (with_export g name node)
+sound_export g name node there new h =
+    let after : Parts = with_export g name node in
+    let keeps : Keeps g after = extends_keeps g after (record { types = no_more g.types; packages = no_more g.packages; nodes = all_stay g.nodes; imports = no_more g.imports; exports = one_more g.exports (name, node) }) in
+    record {
+      table = h.table;
+      packages = h.packages;
+      keys = h.keys;
+      nodes = λ i n is. node_kept g after keeps i n (h.nodes i n is);
+      aliases = h.aliases;
+      imports = h.imports;
+      import_names = h.import_names;
+      exports = all_more (λ (e : List ℕ × ℕ). e.1 < length g.nodes) g.exports (name, node) h.exports there;
+      export_names = names_more g.exports name node h.export_names new;
+    }
+
+-- where no node is the alias, none is
+not_alias : (node : ℕ) (export : List ℕ) (ns : List Node) (k : ℕ) (z : Node) → alias_in ns node export ≡ None → slice_get ns k ≡ Some z → z.form ≡ alias node export → ⊥
+not_alias node export ns k z none at is =
+    let other : is_alias_of node export z.form ≡ false = none_at (λ (n : Node). is_alias_of node export n.form) ns k z none at in
+    let same : is_alias_of node export (alias node export) ≡ true = itself node export in
+    let both : is_alias_of node export z.form ≡ is_alias_of node export (alias node export) = ap (is_alias_of node export) is in
+    cc
+
+aliased_more : (ns : List Node) (n : Node) → ((node : ℕ) (export : List ℕ) → n.form ≡ alias node export → alias_in ns node export ≡ None) → AliasedOnce ns → AliasedOnce (ns ++ n ∷ [])
+aliased_more ns n new h i j x y node export at_i at_j p q = elim (get_more ns n x i at_i) [
+  | inl a ↦ elim (get_more ns n y j at_j) [ inl b ↦ h i j x y node export a b p q | inr b ↦ absurd (other x i a p (ap (λ (z : Node). z.form) b.1 ∙ q)) ]
+  | inr a ↦ elim (get_more ns n y j at_j) [ inl b ↦ absurd (other y j b q (ap (λ (z : Node). z.form) a.1 ∙ p)) | inr b ↦ a.0 ∙ sym b.0 ]
+]
+  where
+    other : (z : Node) (k : ℕ) → slice_get ns k ≡ Some z → z.form ≡ alias node export → n.form ≡ alias node export → ⊥
+    other z k at is here = not_alias node export ns k z (new node export here) at is
+
+no_alias : (ns : List Node) (n : Node) → source_in n.form ≡ None → (node : ℕ) (export : List ℕ) → n.form ≡ alias node export → alias_in ns node export ≡ None
+no_alias ns n none node export is = (let some : source_in n.form ≡ Some (node, export) = ap source_in is in absurd (cc))
+
+-- one more node of a graph that keeps the others
+node_more : (g after : Parts) (n : Node) → Keeps g after → IsSoundNode after (length g.nodes) n → IsSound g → EachAt (IsSoundNode after) (g.nodes ++ n ∷ [])
+node_more g after n keeps here h = each_more (IsSoundNode after) g.nodes n (λ i m is. node_kept g after keeps i m (h.nodes i m is)) here
+
+exports_more : (g : Parts) (n : Node) → IsSound g → NamesNodes (length (g.nodes ++ n ∷ [])) g.exports
+exports_more g n h = nodes_kept (length g.nodes) (length (g.nodes ++ n ∷ [])) g.exports (omega (arith, length-append g.nodes (n ∷ []))) h.exports
+
+pub sound_import : (g : Parts) (name : List ℕ) (k : ItemKind) → IsFresh name g.imports → Names g.types k → IsSound g → IsSound (with_import g name k)
+sound_import g name k new named h =
+    let n : Node = plain_node (import name) k in
+    let after : Parts = with_import g name k in
+    let keeps : Keeps g after = extends_keeps g after (record { types = no_more g.types; packages = no_more g.packages; nodes = stay_more g.nodes n; imports = one_more g.imports (name, length g.nodes); exports = no_more g.exports }) in
+    record {
+      table = h.table;
+      packages = h.packages;
+      keys = h.keys;
+      nodes = node_more g after n keeps (record { named = named; placed = tt }) h;
+      aliases = aliased_more g.nodes n (no_alias g.nodes n refl) h.aliases;
+      imports = ap (λ (l : Named ℕ). l ++ (name, length g.nodes) ∷ []) h.imports ∙ sym (import_append g.nodes name k);
+      import_names = names_more g.imports name (length g.nodes) h.import_names new;
+      exports = exports_more g n h;
+      export_names = h.export_names;
+    }
+
+pub sound_definition : (g : Parts) (name : List ℕ) (k : ItemKind) → IsFresh name g.exports → Names g.types k → IsSound g → IsSound (with_definition g name k)
+sound_definition g name k new named h =
+    let n : Node = plain_node definition k in
+    let after : Parts = with_definition g name k in
+    let keeps : Keeps g after = extends_keeps g after (record { types = no_more g.types; packages = no_more g.packages; nodes = stay_more g.nodes n; imports = no_more g.imports; exports = one_more g.exports (name, length g.nodes) }) in
+    record {
+      table = h.table;
+      packages = h.packages;
+      keys = h.keys;
+      nodes = node_more g after n keeps (record { named = named; placed = record { name = name; found = found_last name g.exports (length g.nodes) new } }) h;
+      aliases = aliased_more g.nodes n (no_alias g.nodes n refl) h.aliases;
+      imports = h.imports ∙ sym (other_append g.nodes n refl);
+      import_names = h.import_names;
+      exports = all_more (λ (e : List ℕ × ℕ). e.1 < length (g.nodes ++ n ∷ [])) g.exports (name, length g.nodes) (exports_more g n h) (omega (arith, length-append g.nodes (n ∷ [])));
+      export_names = names_more g.exports name (length g.nodes) h.export_names new;
+    }
+
+pub sound_alias : (g : Parts) (node : ℕ) (export : List ℕ) (k : ItemKind) → export_kind g node export ≡ Some k → alias_in g.nodes node export ≡ None → IsSound g → IsSound (with_alias g node export k)
+sound_alias g node export k exported new h =
+    let n : Node = plain_node (alias node export) k in
+    let after : Parts = with_alias g node export k in
+    let keeps : Keeps g after = extends_keeps g after (record { types = no_more g.types; packages = no_more g.packages; nodes = stay_more g.nodes n; imports = no_more g.imports; exports = no_more g.exports }) in
+    record {
+      table = h.table;
+      packages = h.packages;
+      keys = h.keys;
+      nodes = node_more g after n keeps (record { named = export_kind_names g node export k h.table exported; placed = record { earlier = exporting_there g node export k exported; kind = keeps.exports node export k exported } }) h;
+      aliases = aliased_more g.nodes n (λ s e is. let from : node ≡ s = cc in let to : export ≡ e = cc in subst (λ (x : ℕ). alias_in g.nodes x e ≡ None) from (subst (λ (x : List ℕ). alias_in g.nodes node x ≡ None) to new)) h.aliases;
+      imports = h.imports ∙ sym (other_append g.nodes n refl);
+      import_names = h.import_names;
+      exports = exports_more g n h;
+      export_names = h.export_names;
+    }
+
+pub sound_instantiation : (g : Parts) (p : ℕ) (of : HeldPackage) → slice_get g.packages p ≡ Some of → IsSound g → IsSound (with_instantiation g p (kinds.Instance of.instance))
+sound_instantiation g p of is h =
+    let n : Node = plain_node (instantiation p []) (kinds.Instance of.instance) in
+    let after : Parts = with_instantiation g p (kinds.Instance of.instance) in
+    let keeps : Keeps g after = extends_keeps g after (record { types = no_more g.types; packages = no_more g.packages; nodes = stay_more g.nodes n; imports = no_more g.imports; exports = no_more g.exports }) in
+    record {
+      table = h.table;
+      packages = h.packages;
+      keys = h.keys;
+      nodes = node_more g after n keeps (record { named = (h.packages p of is).of_instance; placed = record { of = of; held = is; kind = refl; imports = tt; earlier = tt; once = λ i j x y at_i at_j same. absurd (cc) } }) h;
+      aliases = aliased_more g.nodes n (no_alias g.nodes n refl) h.aliases;
+      imports = h.imports ∙ sym (other_append g.nodes n refl);
+      import_names = h.import_names;
+      exports = exports_more g n h;
+      export_names = h.export_names;
+    }
+
+-- ---- a node that is changed in its place
+
+source_back : (f : Form) (node : ℕ) (export : List ℕ) → source_in f ≡ Some (node, export) → f ≡ alias node export
+source_back (import name) node export h = absurd (cc)
+source_back definition node export h = absurd (cc)
+source_back (alias n e) node export h = (let same : (n, e) ≡ (node, export) = cc in let from : n ≡ node = ap (λ (x : ℕ × List ℕ). x.0) same in let to : e ≡ export = ap (λ (x : ℕ × List ℕ). x.1) same in cc)
+source_back (instantiation p arguments) node export h = absurd (cc)
+
+aliased_set : (ns : List Node) (i : ℕ) (n m : Node) → slice_get ns i ≡ Some n → source_in m.form ≡ source_in n.form → AliasedOnce ns → AliasedOnce (slice_set ns i m)
+aliased_set ns i n m is same h j k x y node export at_j at_k p q =
+    let a = before x j at_j p in
+    let b = before y k at_k q in
+    h j k a.0 b.0 node export a.1 b.1 a.2 b.2
+  where
+    before : (z : Node) (l : ℕ) → slice_get (slice_set ns i m) l ≡ Some z → z.form ≡ alias node export → (w : Node) × (slice_get ns l ≡ Some w) × (w.form ≡ alias node export)
+    before z l at p = elim (get_set ns i m z l at) [
+      | inl old ↦ (z, old, p)
+      | inr new ↦ (
+        n,
+        subst (λ (c : ℕ). slice_get ns c ≡ Some n) (sym new.0) is,
+        source_back n.form node export (sym same ∙ ap (λ (w : Node). source_in w.form) new.1 ∙ ap source_in p),
+      )
+    ]
+
+pub sound_changed : (g : Parts) (i : ℕ) (n m : Node) → slice_get g.nodes i ≡ Some n → m.kind ≡ n.kind → import_in m.form ≡ import_in n.form → source_in m.form ≡ source_in n.form
+    → (IsPlaced g i n.kind n.form → IsPlaced g i n.kind m.form) → IsSound g → IsSound (record g { nodes = slice_set g.nodes i m })
+sound_changed g i n m is kind imported source placed h =
+    let after : Parts = record g { nodes = slice_set g.nodes i m } in
+    let keeps : Keeps g after = extends_keeps g after (record { types = no_more g.types; packages = no_more g.packages; nodes = stay_set g.nodes i n m is kind; imports = no_more g.imports; exports = no_more g.exports }) in
+    let old : IsSoundNode g i n = h.nodes i n is in
+    let new : IsSoundNode g i m = record { named = subst (Names g.types) (sym kind) old.named; placed = subst (λ (k : ItemKind). IsPlaced g i k m.form) (sym kind) (placed old.placed) } in
+    record {
+      table = h.table;
+      packages = h.packages;
+      keys = h.keys;
+      nodes = each_set (IsSoundNode after) g.nodes i m (λ j x at. node_kept g after keeps j x (h.nodes j x at)) (node_kept g after keeps i m new);
+      aliases = aliased_set g.nodes i n m is source h.aliases;
+      imports = h.imports ∙ sym (imports_set 0 g.nodes i n m is imported);
+      import_names = h.import_names;
+      exports = subst (λ (k : ℕ). NamesNodes k g.exports) (sym (set_length g.nodes i m)) h.exports;
+      export_names = h.export_names;
+    }
+
+-- one more argument of an instance
+argument_placed : (g : Parts) (i : ℕ) (k : ItemKind) (f : Form) (name : List ℕ) (value : ℕ) → IsSome (option_and_then (λ p. import_kind g p name) (package_in f)) → IsFresh name (arguments_in f) → value < i
+    → IsPlaced g i k f → IsPlaced g i k (given_too f name value)
+argument_placed g i k (import x) name value is new lt p = tt
+argument_placed g i k definition name value is new lt p = p
+argument_placed g i k (alias node export) name value is new lt p = p
+argument_placed g i k (instantiation q arguments) name value is new lt p = record {
+  of = p.of;
+  held = p.held;
+  kind = p.kind;
+  imports = all_more (λ (a : List ℕ × ℕ). IsSome (import_kind g q a.0)) arguments (name, value) p.imports is;
+  earlier = all_more (λ (a : List ℕ × ℕ). a.1 < i) arguments (name, value) p.earlier lt;
+  once = names_more arguments name value p.once new;
 }
 
--- one more export
-pub sound_export : (g : Parts) (name : List ℕ) (node : ℕ) → node < length g.nodes → IsSound g → IsSound (record g { exports = g.exports ++ (name, node) ∷ [] })
-sound_export g name node there h = record {
-  table = h.table;
-  kinds_named = h.kinds_named;
-  packages_held = h.packages_held;
-  nodes_linked = h.nodes_linked;
-  imports_there = h.imports_there;
-  exports_there = all_more (λ (e : List ℕ × ℕ). e.1 < length g.nodes) g.exports (name, node) h.exports_there there;
-}
+same_import : (f : Form) (name : List ℕ) (value : ℕ) → import_in (given_too f name value) ≡ import_in f
+same_import (import x) name value = refl
+same_import definition name value = refl
+same_import (alias node export) name value = refl
+same_import (instantiation q arguments) name value = refl
 
--- one more package
-pub sound_package : (g : Parts) (p : HeldPackage) → IsHeld g.types p → IsSound g → IsSound (record g { packages = g.packages ++ p ∷ [] })
-sound_package g p here h =
-    let len : length (g.packages ++ p ∷ []) ≡ length g.packages + 1 = length-append g.packages (p ∷ []) in
-    record {
-      table = h.table;
-      kinds_named = h.kinds_named;
-      imports_there = h.imports_there;
-      exports_there = h.exports_there;
-      packages_held = all_more (IsHeld g.types) g.packages p h.packages_held here;
-      nodes_linked = each_from_implies (IsLinked (length g.packages)) (IsLinked (length (g.packages ++ p ∷ []))) (λ i n. linked_kept (length g.packages) (length (g.packages ++ p ∷ [])) i n (omega arith)) 0 g.nodes h.nodes_linked;
-    }
+same_source : (f : Form) (name : List ℕ) (value : ℕ) → source_in (given_too f name value) ≡ source_in f
+same_source (import x) name value = refl
+same_source definition name value = refl
+same_source (alias node export) name value = refl
+same_source (instantiation q arguments) name value = refl
 
-set_length : {X : Type 0} (xs : List X) (i : ℕ) (x : X) → length (slice_set xs i x) ≡ length xs
-set_length [] i x = refl
-set_length (y ∷ xs) zero x = refl
-set_length (y ∷ xs) (suc i) x = ap suc (set_length xs i x)
+changed_is : (g : Parts) (i : ℕ) (n : Node) (f : Node → Node) → slice_get g.nodes i ≡ Some n → record g { nodes = slice_set g.nodes i (f n) } ≡ changed g i f
+changed_is g i n f is = sym (ap (λ (o : Option Node). record g { nodes = elim o [ None ↦ g.nodes | Some x ↦ slice_set g.nodes i (f x) ] }) is)
 
--- a node in the place of another of the same kind
-pub sound_changed : (g : Parts) (i : ℕ) (n m : Node) → slice_get g.nodes i ≡ Some n → m.kind ≡ n.kind → (IsLinked (length g.packages) i n → IsLinked (length g.packages) i m) → IsSound g → IsSound (record g { nodes = slice_set g.nodes i m })
-sound_changed g i n m is kind linked h =
-    let len : length (slice_set g.nodes i m) ≡ length g.nodes = set_length g.nodes i m in
-    let at : i ≡ 0 + i = omega arith in
-    record {
-      table = h.table;
-      packages_held = h.packages_held;
-      kinds_named = all_set (λ (x : Node). Names g.types x.kind) g.nodes i m h.kinds_named (subst (Names g.types) (sym kind) (all_at (λ (x : Node). Names g.types x.kind) g.nodes i n h.kinds_named is));
-      nodes_linked = each_set (IsLinked (length g.packages)) 0 g.nodes i m h.nodes_linked (subst (λ (k : ℕ). IsLinked (length g.packages) k m) at (linked (each_at (IsLinked (length g.packages)) 0 i g.nodes i n h.nodes_linked is at)));
-      imports_there = subst (λ (k : ℕ). NamesNodes k g.imports) (sym len) h.imports_there;
-      exports_there = subst (λ (k : ℕ). NamesNodes k g.exports) (sym len) h.exports_there;
-    }
+-- a node that was changed to this
+pub changed_to : (g : Parts) (i : ℕ) (n m : Node) (f : Node → Node) → slice_get g.nodes i ≡ Some n → m ≡ f n → record g { nodes = slice_set g.nodes i m } ≡ changed g i f
+changed_to g i n m f is to = ap (λ (x : Node). record g { nodes = slice_set g.nodes i x }) to ∙ changed_is g i n f is
+
+pub sound_argument : (g : Parts) (i : ℕ) (n : Node) (name : List ℕ) (value : ℕ) → slice_get g.nodes i ≡ Some n → IsSome (option_and_then (λ p. import_kind g p name) (package_in n.form)) → IsFresh name (arguments_in n.form) → value < i
+    → IsSound g → IsSound (with_argument g i name value)
+sound_argument g i n name value is imported new lt h =
+    subst IsSound (changed_is g i n (λ x. record x { form = given_too x.form name value }) is)
+    (sound_changed g i n (record n { form = given_too n.form name value }) is refl (same_import n.form name value) (same_source n.form name value) (argument_placed g i n.kind n.form name value imported new lt) h)
+
+pub sound_name : (g : Parts) (i : ℕ) (n : Node) (name : List ℕ) → slice_get g.nodes i ≡ Some n → IsSound g → IsSound (with_name g i name)
+sound_name g i n name is h =
+    subst IsSound (changed_is g i n (λ x. record x { name = Some name }) is)
+    (sound_changed g i n (record n { name = Some name }) is refl refl refl (λ p. p) h)
 
 items_named : (old es new : List Entry) (ds : List (List ℕ × ItemKind)) → IsGrownBy old es new → ItemsNamed es ds → ItemsNamed new (moved_items (length old) ds)
 items_named old es new [] g h = tt
@@ -176,42 +367,3 @@ held_moved old new key p h g = record {
 
 pub keeps_grown : (old new : List Entry) → IsGrown old new → KeepsMeanings old new
 keeps_grown old new g = keeps_appended old new g.0 g.1
-
--- what a node's number and edges are
-pub linked_at : (g : Parts) (i : ℕ) (n : Node) → IsSound g → slice_get g.nodes i ≡ Some n → IsLinked (length g.packages) i n
-linked_at g i n h is = each_at (IsLinked (length g.packages)) 0 i g.nodes i n h.nodes_linked is (omega arith)
-
--- a node that a name finds is there
-pub named_there : (name : List ℕ) (nodes : ℕ) (names : List (List ℕ × ℕ)) (r : Option NodeId) → option_map (λ n. n.0) r ≡ node_named name names → NamesNodes nodes names → IfSome r (λ n. n.0 < nodes)
-named_there name nodes names None is h = tt
-named_there name nodes names (Some n) is h = found names is h
-  where
-    go : (e : List ℕ × ℕ) (es : List (List ℕ × ℕ)) (b : Bool) → (Some n.0 ≡ node_named name es → n.0 < nodes) → e.1 < nodes → Some n.0 ≡ option_map (λ (x : List ℕ × ℕ). x.1) (cond b (Some e) (find (λ x. bytes_eq x.0 name) es)) → n.0 < nodes
-    go e es true rest here is = (let same : n.0 ≡ e.1 = cc in omega arith)
-    go e es false rest here is = rest is
-
-    found : (es : List (List ℕ × ℕ)) → Some n.0 ≡ node_named name es → NamesNodes nodes es → n.0 < nodes
-    found [] is h = absurd (cc)
-    found (e ∷ es) is h = go e es (bytes_eq e.0 name) (λ later. found es later h.1) h.0 is
-
-pub source_there : (i : ℕ) (r : Option (NodeId × Bor (List ℕ))) (s : Option (ℕ × List ℕ)) → option_map (λ x. (x.0.0, x.1.now)) r ≡ s → IfSome s (λ x. x.0 < i) → IfSome r (λ x. x.0.0 < i)
-source_there i None s is h = tt
-source_there i (Some x) None is h = absurd (cc)
-source_there i (Some x) (Some y) is h = (let same : x.0.0 ≡ y.0 = cc in omega arith)
-
--- a node that was changed in its place
-pub changed_is : (g : Parts) (i : ℕ) (n m : Node) (f : Node → Node) → slice_get g.nodes i ≡ Some n → m ≡ f n → record g { nodes = slice_set g.nodes i m } ≡ changed g i f
-changed_is g i n m f is to =
-    ap (λ (x : Node). record g { nodes = slice_set g.nodes i x }) to
-    ∙ sym (ap (λ (o : Option Node). record g { nodes = elim o [ None ↦ g.nodes | Some x ↦ slice_set g.nodes i (f x) ] }) is)
-
--- a node that has an import is there
-pub importing_there : (g : Parts) (node : ℕ) (name : List ℕ) → IsSome (import_kind g node name) → node < length g.nodes
-importing_there g node name is = go (slice_get g.nodes node) refl is
-  where
-    go : (o : Option Node) → slice_get g.nodes node ≡ o → IsSome (option_and_then (λ (p : HeldPackage). imported_by g.types p.world name) (option_and_then (λ i. slice_get g.packages i) (option_and_then (λ (n : Node). instantiated n.form) o))) → node < length g.nodes
-    go None at h = absurd (cc)
-    go (Some n) at h = slice_get_within g.nodes node n at
-
-pub instantiated_is : (g : Parts) (p : ℕ) (h : HeldPackage) (new : Parts) → slice_get g.packages p ≡ Some h → new ≡ with_instantiation g p (kinds.Instance h.instance) → IfSome (slice_get g.packages p) (λ x. new ≡ with_instantiation g p (kinds.Instance x.instance))
-instantiated_is g p h new is same = subst (λ (o : Option HeldPackage). IfSome o (λ x. new ≡ with_instantiation g p (kinds.Instance x.instance))) (sym is) same

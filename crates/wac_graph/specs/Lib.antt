@@ -1,13 +1,13 @@
 pub mod Numbers
-pub mod Names
 pub mod Node
 pub mod Package
 pub mod Graph
+pub mod Sound
+pub mod Kept
 pub mod Aliased
 pub mod Readings
-pub mod Moved
-pub mod Copied
 pub mod Origin
 pub mod Means
 pub mod Resources
 pub mod Packages
+pub mod Adds

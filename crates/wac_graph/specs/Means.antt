@@ -6,11 +6,12 @@ use Rattle.wac_types.specs.declared.entry.Entry.TheVariants as entries
 use Rattle.wac_types.specs.Entry.{children}
 use Rattle.wac_types.specs.Label.{label}
 use Rattle.wac_types.specs.Meaning.{Meaning, node, of_kind, row, meaning, meaning_at, NamesBefore}
+use Rattle.wac_types.specs.Meaning as tables
 use Rattle.wac_types.specs.Package.{PackageParts}
 use Rattle.wac_graph.specs.Package.{Key, HeldPackage}
-use Rattle.wac_graph.specs.Moved.{moved}
+use Rattle.wac_graph_copies.specs.Moved.{moved}
 use Rattle.wac_graph.specs.Graph.{Parts}
-use Rattle.wac_graph.specs.Origin.{Origin, Naming, declared, copied}
+use Rattle.wac_graph.specs.Origin.{Origin, Naming, IsOneToOne, declared, copied}
 
 -- where entry i comes from, if it was copied from a package
 unfoldable pub copied_at : List HeldPackage → ℕ → Option Origin
@@ -75,3 +76,7 @@ EntriesMean g = (naming : Naming) (i : ℕ) (e : Entry) → slice_get g.types i 
 -- what a kind of the package means, its copy means
 abbrev pub CopiesMean : Parts → Parts → Key → PackageParts → Type 0
 CopiesMean old new key p = (naming : Naming) (k : ItemKind) → NamesBefore (length p.types) k → means naming new (moved (length old.types) k) ≡ meaning (λ i. naming (copied key i)) p.types k
+
+-- under a naming that is one to one no two resources of the table have one number
+abbrev pub OriginsApart : Parts → Type 0
+OriginsApart g = (naming : Naming) → IsOneToOne naming → tables.IsOneToOne g.types (λ i. naming (origin_at g i))

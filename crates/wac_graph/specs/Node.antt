@@ -1,43 +1,101 @@
 -- The parts of a node.
-use Rattle.std.specs.Prelude.{ℕ, List, Option, Some, None, option_map, string_bytes, Bool, false, ◌&&◌, String, nat_eq}
+use Rattle.std.specs.Prelude.{◌≡◌, ◌<◌, IsSome, ℕ, List, [], Option, Some, None, string_bytes, Bool, false, ◌&&◌, String, nat_eq}
 use Rattle.std.specs.declared.alloc.Global.{Global}
 use Rattle.std.specs.Str.{bytes_eq}
+use Rattle.wac_types.specs.Scope.{Named}
 use Rattle.wac_types.specs.declared.kind.ItemKind.{ItemKind}
 use Rattle.wac_graph.specs.declared.node.NodeId.{NodeId}
 use Rattle.wac_graph.specs.declared.node.NodeKind.{NodeKind}
 use Rattle.wac_graph.specs.declared.node.NodeKind.TheVariants as nodes
 
+-- what a node is, with its edges: an import has its name, an alias the node and the export that it is of, and an instantiation the
+-- package, and names of its imports with the nodes that were given for them
 pub data Form : Type 0 where
   import : List ℕ → Form
-  definition alias : Form
-  instantiation : ℕ → Form
+  definition : Form
+  alias : ℕ → List ℕ → Form
+  instantiation : ℕ → Named ℕ → Form
 
 pub record Node : Type 0 where
   pub form : Form
-  pub source : Option (ℕ × List ℕ)
   pub kind : ItemKind
   pub name : Option (List ℕ)
-  pub arguments : List (List ℕ × ℕ)
 
-abbrev pub form_of : NodeKind → Form
-form_of (nodes.Import name) = import (string_bytes name)
-form_of nodes.Definition = definition
-form_of nodes.Alias = alias
-form_of (nodes.Instantiation p) = instantiation p.0
-
-abbrev pub source_of : Option (NodeId × String Global) → Option (ℕ × List ℕ)
-source_of s = option_map (λ e. (e.0.0, string_bytes e.1)) s
+-- ---- what is read of it
 
 abbrev pub import_in : Form → Option (List ℕ)
 import_in (import name) = Some name
 import_in definition = None
-import_in alias = None
-import_in (instantiation p) = None
+import_in (alias node export) = None
+import_in (instantiation p arguments) = None
 
-abbrev pub is_source : ℕ → List ℕ → Option (ℕ × List ℕ) → Bool
-is_source node export None = false
-is_source node export (Some s) = nat_eq s.0 node && bytes_eq s.1 export
+-- the node and the export of which a node is an alias
+abbrev pub source_in : Form → Option (ℕ × List ℕ)
+source_in (import name) = None
+source_in definition = None
+source_in (alias node export) = Some (node, export)
+source_in (instantiation p arguments) = None
+
+-- the package of which a node is an instance
+abbrev pub package_in : Form → Option ℕ
+package_in (import name) = None
+package_in definition = None
+package_in (alias node export) = None
+package_in (instantiation p arguments) = Some p
+
+abbrev pub arguments_in : Form → Named ℕ
+arguments_in (import name) = []
+arguments_in definition = []
+arguments_in (alias node export) = []
+arguments_in (instantiation p arguments) = arguments
 
 -- whether a node is the alias of that export of that node
-abbrev pub is_alias_of : ℕ → List ℕ → Node → Bool
-is_alias_of node export n = is_source node export n.source
+abbrev pub is_alias_of : ℕ → List ℕ → Form → Bool
+is_alias_of node export (import name) = false
+is_alias_of node export definition = false
+is_alias_of node export (alias n e) = nat_eq n node && bytes_eq e export
+is_alias_of node export (instantiation p arguments) = false
+
+-- what a node is, without its edges
+pub data Sort : Type 0 where
+  imported : List ℕ → Sort
+  defined aliased : Sort
+  instantiated : ℕ → Sort
+
+abbrev pub sort_in : Form → Sort
+sort_in (import name) = imported name
+sort_in definition = defined
+sort_in (alias node export) = aliased
+sort_in (instantiation p arguments) = instantiated p
+
+abbrev pub sort_of : NodeKind → Sort
+sort_of (nodes.Import name) = imported (string_bytes name)
+sort_of nodes.Definition = defined
+sort_of nodes.Alias = aliased
+sort_of (nodes.Instantiation p) = instantiated p.0
+
+-- the package of an instance is one of so many
+abbrev pub HasPackage : ℕ → Sort → Type 0
+HasPackage packages (imported name) = Unit {0}
+HasPackage packages defined = Unit {0}
+HasPackage packages aliased = Unit {0}
+HasPackage packages (instantiated p) = p < packages
+
+-- ---- how it is held
+
+abbrev pub alias_from : Option (NodeId × String Global) → Form
+alias_from None = definition
+alias_from (Some s) = alias s.0.0 (string_bytes s.1)
+
+abbrev pub form_of : NodeKind → Option (NodeId × String Global) → Named ℕ → Form
+form_of (nodes.Import name) source arguments = import (string_bytes name)
+form_of nodes.Definition source arguments = definition
+form_of nodes.Alias source arguments = alias_from source
+form_of (nodes.Instantiation p) source arguments = instantiation p.0 arguments
+
+-- an alias alone has a source, and an instantiation alone has arguments
+abbrev pub IsHeldAs : NodeKind → Option (NodeId × String Global) → Named ℕ → Type 0
+IsHeldAs (nodes.Import name) source arguments = (source ≡ None) × (arguments ≡ [])
+IsHeldAs nodes.Definition source arguments = (source ≡ None) × (arguments ≡ [])
+IsHeldAs nodes.Alias source arguments = IsSome source × (arguments ≡ [])
+IsHeldAs (nodes.Instantiation p) source arguments = source ≡ None

@@ -10,7 +10,7 @@ use Rattle.wac_types.specs.declared.entry.Entry.{Entry}
 use Rattle.wac_types.specs.Package.{PackageParts}
 use Rattle.wac_types.specs.Table.{Names, ItemsNamed}
 use Rattle.wac_graph.specs.declared.package_key.PackageKey.{PackageKey}
-use Rattle.wac_graph.specs.Moved.{moved_items}
+use Rattle.wac_graph_copies.specs.Moved.{moved_items}
 
 -- a package's name and version
 abbrev pub Key : Type 0
@@ -39,7 +39,7 @@ pub record HeldPackage : Type 0 where
 
 -- the package of a key
 abbrev pub package_keyed : Key → List HeldPackage → Option ℕ
-package_keyed key ps = position (λ p. same_key p.key key) ps
+package_keyed key ps = position (λ p. same_key key p.key) ps
 
 -- a package whose numbers are moved by n
 abbrev pub moved_package : ℕ → Key → PackageParts → HeldPackage

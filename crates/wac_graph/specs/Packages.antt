@@ -1,12 +1,15 @@
 -- Packages that are handed to resolving.
-use Rattle.std.specs.Prelude.{List, map, Option}
+use Rattle.std.specs.Prelude.{◌≡◌, List, map, length, Option}
 use Rattle.std.specs.Map.{lookup}
 use Rattle.wac_types.specs.declared.kind.ItemKind.TheVariants as kinds
 use Rattle.wac_types.specs.Meaning.{Meaning, meaning}
 use Rattle.wac_types.specs.Package.{PackageParts}
-use Rattle.wac_graph.specs.Package.{Key, same_key}
-use Rattle.wac_graph.specs.Origin.{Naming, copied}
 use Rattle.wac_types.specs.Scope.{Named}
+use Rattle.wac_types.specs.Shape.{items_mean}
+use Rattle.wac_graph.specs.Package.{Key, HeldPackage, same_key, moved_package}
+use Rattle.wac_graph.specs.Graph.{Parts}
+use Rattle.wac_graph.specs.Means.{means, entry_means}
+use Rattle.wac_graph.specs.Origin.{Naming, copied}
 
 -- what a package means: its world as a component, its instance, and what it defines
 pub record Contents : Type 0 where
@@ -32,3 +35,15 @@ handed naming all = map (λ e. (e.0, contents_of naming e.0 e.1)) all
 -- the package of a key, if it is handed
 abbrev pub package_of : Key → Packages → Option Contents
 package_of key all = lookup (λ k. same_key key k) all
+
+-- the contents of a package that a graph holds
+abbrev pub contents_in : Naming → Parts → HeldPackage → Contents
+contents_in naming g p = record {
+  world = means naming g (kinds.Component p.world);
+  instance = means naming g (kinds.Instance p.instance);
+  definitions = items_mean (entry_means naming g) p.definitions;
+}
+
+-- the package that was copied in has in the new graph the contents that it was handed with
+abbrev pub HoldsContents : Parts → Parts → Key → PackageParts → Type 0
+HoldsContents old new key p = (naming : Naming) → contents_in naming new (moved_package (length old.types) key p) ≡ contents_of naming key p

@@ -1,21 +1,27 @@
 //! The graph of a composition.
-ghost use Rattle.std.specs.Prelude.{◌≡◌, ◌+◌, ◌<◌, ℕ, [], ◌∷◌, ◌++◌, OnOk, OnErr, IfOk, IfSome, IsSome, None, Some, option_map, option_and_then, unwrap_or, length, slice_get};
+ghost use Rattle.std.specs.Prelude.{◌≡◌, ◌+◌, ◌<◌, ℕ, [], ◌∷◌, ◌++◌, OnOk, OnErr, IfOk, IfSome, IsSome, None, Some, option_map, option_and_then, unwrap_or, length, slice_get, string_bytes};
+ghost use Rattle.std.specs.List.{AllByRecursion};
 ghost use Rattle.wac_types.specs.Entry.{children};
-ghost use Rattle.wac_types.specs.Growth.{KeepsMeanings};
+ghost use Rattle.wac_types.specs.Growth.{KeepsMeanings, KeepsNames};
 ghost use Rattle.wac_types.specs.Meaning.{EachKind};
-ghost use Rattle.wac_types.specs.Table.{IsTable, Names as NamesEntry};
+ghost use Rattle.wac_types.specs.Package.{IsPackage};
+ghost use Rattle.wac_types.specs.Readings.{kind_exports, world_imports};
+ghost use Rattle.wac_types.specs.Scope.{look_up, IsFresh};
+ghost use Rattle.wac_types.specs.Shape.{export_of};
+ghost use Rattle.wac_types.specs.Table.{IsTable, EachEntryNamed, Names as NamesEntry};
 ghost use Rattle.wac_types.specs.declared.entry.Entry.TheVariants as entries;
+ghost use Rattle.wac_graph.specs.Adds.{Adds, AddsPackage};
 ghost use Rattle.wac_graph.specs.Aliased.{IsAliased};
-ghost use Rattle.wac_graph.specs.Copied.{IsGrown, IsGrownBy, MeansTheSame};
-ghost use Rattle.wac_graph.specs.Means.{declared_count, resources_in, KeepsKinds, MeansAdded, EntriesMean, CopiesMean};
-ghost use Rattle.wac_graph.specs.Graph.{IsSound, empty, with_entry, with_import, with_definition, with_export, with_alias, with_instantiation, with_package, with_name, with_argument, export_kind as kind_exported, import_kind, arguments_of, alias_in, instantiated, NamesNodes};
-ghost use Rattle.wac_graph.specs.Names.{node_named};
-ghost use Rattle.wac_graph.specs.Node.{form_of, import_in};
+ghost use Rattle.wac_graph_copies.specs.Copied.{IsGrown, IsGrownBy, MeansTheSame};
+ghost use Rattle.wac_graph.specs.Graph.{empty, with_import, with_definition, with_export, with_alias, with_instantiation, with_package, with_name, with_argument, export_kind as kind_exported, import_kind as kind_imported, parameter_kind, arguments_of, alias_in, package_of};
+ghost use Rattle.wac_graph.specs.Means.{means as meaning_of, KeepsKinds, EntriesMean, OriginsApart};
+ghost use Rattle.wac_graph.specs.Node.{sort_in, sort_of, import_in, source_in, HasPackage};
 ghost use Rattle.wac_graph.specs.Numbers.{numbers};
+ghost use Rattle.wac_graph.specs.Origin.{Naming};
 ghost use Rattle.wac_graph.specs.Package.{key_of, package_keyed, IsHeld};
 ghost use Rattle.wac_graph.specs.Readings.{held_of};
+ghost use Rattle.wac_graph.specs.Sound.{IsSound, NamesNodes, name_in};
 
-use crate::copied::copy_types;
 use crate::ids::{Nodes, Packages};
 use crate::names::{Names, NodeNames};
 use crate::node::{Node, NodeId, NodeKind, PackageId};
@@ -23,9 +29,10 @@ use crate::package_key::PackageKey;
 use crate::packages::{GraphPackage, HeldPackage};
 use std::alloc::{AllocError, Global};
 use std::marker::Model;
+use wac_graph_copies::copy_types;
 use wac_types::{
     DefinedType, DefinedTypeId, Entry, FuncType, FuncTypeId, Interface, InterfaceId, ItemKind,
-    Package, Resource, ResourceId, Types, World, WorldId,
+    Package, Resource, ResourceId, Type, Types, ValueType, World, WorldId,
 };
 
 /// A composition: nodes, each an import, a definition, an alias of an instance's export or an instance of a package;
@@ -48,7 +55,8 @@ pub struct CompositionGraph {
 
 impl Model for CompositionGraph {
     ghost use Rattle.std.specs.Coded.{codes};
-    ghost use Rattle.wac_graph.specs.Graph.{Parts, IsSound};
+    ghost use Rattle.wac_graph.specs.Graph.{Parts};
+    ghost use Rattle.wac_graph.specs.Sound.{IsSound};
     ghost use Rattle.wac_types.specs.contracts.entry.Entry as entry;
 
     ghost Value = { Parts };
@@ -87,87 +95,72 @@ impl CompositionGraph {
         }
     }
 
-    #[tactic(auto, using(crate::proofs::Origins::keeps_entry, crate::proofs::Origins::keeps_unchanged))]
     fn add_entry(&mut self, entry: Entry) -> Result<usize, AllocError>
         requires { EachKind (NamesEntry self.old.types) (children entry) }
-        ensures number { IfOk result (λ id. id ≡ length self.old.types) }
-        ensures ok { OnOk result (self.new ≡ with_entry self.old entry) }
+        ensures ok { IfOk result (λ id. Adds self.old self.new entry id) }
         ensures err { OnErr result (self.new ≡ self.old) }
         ensures keeps { KeepsMeanings self.old.types self.new.types }
-        ensures kinds { KeepsKinds self.old self.new }
-        ensures means { OnOk result (MeansAdded self.old self.new entry) }
-        ensures count { OnOk result (declared_count self.new ≡ declared_count self.old + resources_in entry) }
     {
         let id = self.types.add(entry)?;
         Ok(id)
     }
 
     /// Adds a type whose ids name earlier entries of their sort.
+    #[tactic(auto, using(crate::proofs::Entries::defined_named))]
     pub fn add_defined_type(&mut self, ty: DefinedType) -> Result<DefinedTypeId, AllocError>
         requires { EachKind (NamesEntry self.old.types) (children (entries.Defined ty)) }
-        ensures number { IfOk result (λ id. id.0 ≡ length self.old.types) }
-        ensures ok { OnOk result (self.new ≡ with_entry self.old (entries.Defined ty)) }
+        ensures ok { IfOk result (λ id. Adds self.old self.new (entries.Defined ty) id.0) }
+        ensures there { IfOk result (λ id. NamesEntry self.new.types (ItemKind.Value (ValueType.Defined id))) }
         ensures err { OnErr result (self.new ≡ self.old) }
         ensures keeps { KeepsMeanings self.old.types self.new.types }
-        ensures kinds { KeepsKinds self.old self.new }
-        ensures means { OnOk result (MeansAdded self.old self.new (entries.Defined ty)) }
-        ensures count { OnOk result (declared_count self.new ≡ declared_count self.old + resources_in (entries.Defined ty)) }
     {
         Ok(DefinedTypeId(self.add_entry(Entry::Defined(ty))?))
     }
 
     /// Adds a resource: a new one, whatever its name and its alias are.
+    #[tactic(auto, using(crate::proofs::Entries::resource_named))]
     pub fn add_resource(&mut self, resource: Resource) -> Result<ResourceId, AllocError>
         requires { EachKind (NamesEntry self.old.types) (children (entries.Resource resource)) }
-        ensures number { IfOk result (λ id. id.0 ≡ length self.old.types) }
-        ensures ok { OnOk result (self.new ≡ with_entry self.old (entries.Resource resource)) }
+        ensures ok { IfOk result (λ id. Adds self.old self.new (entries.Resource resource) id.0) }
+        ensures there { IfOk result (λ id. NamesEntry self.new.types (ItemKind.Ty (Type.Resource id))) }
         ensures err { OnErr result (self.new ≡ self.old) }
         ensures keeps { KeepsMeanings self.old.types self.new.types }
-        ensures kinds { KeepsKinds self.old self.new }
-        ensures means { OnOk result (MeansAdded self.old self.new (entries.Resource resource)) }
-        ensures count { OnOk result (declared_count self.new ≡ declared_count self.old + resources_in (entries.Resource resource)) }
     {
         Ok(ResourceId(self.add_entry(Entry::Resource(resource))?))
     }
 
     /// Adds a function type.
+    #[tactic(auto, using(crate::proofs::Entries::func_named))]
     pub fn add_func_type(&mut self, func: FuncType) -> Result<FuncTypeId, AllocError>
         requires { EachKind (NamesEntry self.old.types) (children (entries.Func func)) }
-        ensures number { IfOk result (λ id. id.0 ≡ length self.old.types) }
-        ensures ok { OnOk result (self.new ≡ with_entry self.old (entries.Func func)) }
+        ensures ok { IfOk result (λ id. Adds self.old self.new (entries.Func func) id.0) }
+        ensures there { IfOk result (λ id. NamesEntry self.new.types (ItemKind.Func id)) }
         ensures err { OnErr result (self.new ≡ self.old) }
         ensures keeps { KeepsMeanings self.old.types self.new.types }
-        ensures kinds { KeepsKinds self.old self.new }
-        ensures means { OnOk result (MeansAdded self.old self.new (entries.Func func)) }
-        ensures count { OnOk result (declared_count self.new ≡ declared_count self.old + resources_in (entries.Func func)) }
     {
         Ok(FuncTypeId(self.add_entry(Entry::Func(func))?))
     }
 
     /// Adds an interface.
+    #[tactic(auto, using(crate::proofs::Entries::interface_named))]
     pub fn add_interface(&mut self, interface: Interface) -> Result<InterfaceId, AllocError>
         requires { EachKind (NamesEntry self.old.types) (children (entries.Interface interface)) }
-        ensures number { IfOk result (λ id. id.0 ≡ length self.old.types) }
-        ensures ok { OnOk result (self.new ≡ with_entry self.old (entries.Interface interface)) }
+        ensures ok { IfOk result (λ id. Adds self.old self.new (entries.Interface interface) id.0) }
+        ensures there { IfOk result (λ id. NamesEntry self.new.types (ItemKind.Instance id)) }
         ensures err { OnErr result (self.new ≡ self.old) }
         ensures keeps { KeepsMeanings self.old.types self.new.types }
-        ensures kinds { KeepsKinds self.old self.new }
-        ensures means { OnOk result (MeansAdded self.old self.new (entries.Interface interface)) }
-        ensures count { OnOk result (declared_count self.new ≡ declared_count self.old + resources_in (entries.Interface interface)) }
     {
         Ok(InterfaceId(self.add_entry(Entry::Interface(interface))?))
     }
 
     /// Adds a world.
+    #[tactic(auto, using(crate::proofs::Entries::world_named))]
     pub fn add_world(&mut self, world: World) -> Result<WorldId, AllocError>
         requires { EachKind (NamesEntry self.old.types) (children (entries.World world)) }
-        ensures number { IfOk result (λ id. id.0 ≡ length self.old.types) }
-        ensures ok { OnOk result (self.new ≡ with_entry self.old (entries.World world)) }
+        ensures ok { IfOk result (λ id. Adds self.old self.new (entries.World world) id.0) }
+        ensures there { IfOk result (λ id. NamesEntry self.new.types (ItemKind.Component id)) }
         ensures err { OnErr result (self.new ≡ self.old) }
         ensures keeps { KeepsMeanings self.old.types self.new.types }
-        ensures kinds { KeepsKinds self.old self.new }
-        ensures means { OnOk result (MeansAdded self.old self.new (entries.World world)) }
-        ensures count { OnOk result (declared_count self.new ≡ declared_count self.old + resources_in (entries.World world)) }
     {
         Ok(WorldId(self.add_entry(Entry::World(world))?))
     }
@@ -182,16 +175,12 @@ impl CompositionGraph {
         package: &Package,
     ) -> Result<PackageId, AllocError>
         requires { package_keyed (key_of key.now) self.old.packages ≡ None }
-        ensures number { IfOk result (λ id. id.0 ≡ length self.old.packages) }
-        ensures ok { OnOk result (self.new ≡ with_package self.old (key_of key.now) «package».now self.new.types) }
-        ensures copies { OnOk result (IsGrownBy self.old.types «package».now.types self.new.types) }
-        ensures means { OnOk result (MeansTheSame self.old.types «package».now.types self.new.types) }
-        ensures kinds { OnOk result (KeepsKinds self.old self.new) }
-        ensures copied { OnOk result (CopiesMean self.old self.new (key_of key.now) «package».now) }
-        ensures count { OnOk result (declared_count self.new ≡ declared_count self.old) }
+        ensures ok { IfOk result (λ id. AddsPackage self.old self.new (key_of key.now) «package».now id.0) }
         ensures err { OnErr result (self.new ≡ record self.old { types = self.new.types }) }
         ensures grown { IsGrown self.old.types self.new.types }
         ensures keeps { KeepsMeanings self.old.types self.new.types }
+        ensures kinds { KeepsKinds self.old self.new }
+        ensures names { KeepsNames self.old.types self.new.types }
     {
         let id = self.append_package(key, package)?;
         Ok(id)
@@ -212,6 +201,7 @@ impl CompositionGraph {
         ensures grown { IsGrown self.old.types self.new.types }
         ensures keeps { KeepsMeanings self.old.types self.new.types }
         ensures sound { IsSound self.old }
+        ensures facts { IsPackage «package».now }
     {
         let id = PackageId(self.packages.len());
         let number = self.types.entries().len();
@@ -225,7 +215,7 @@ impl CompositionGraph {
 
     /// Adds a node that is imported under a new name.
     pub fn add_import(&mut self, name: &str, kind: ItemKind) -> Result<NodeId, AllocError>
-        requires new { node_named name.now self.old.imports ≡ None }
+        requires new { IsFresh name.now self.old.imports }
         requires kind { NamesEntry self.old.types kind }
         ensures number { IfOk result (λ id. id.0 ≡ length self.old.nodes) }
         ensures ok { OnOk result (self.new ≡ with_import self.old name.now kind) }
@@ -236,13 +226,13 @@ impl CompositionGraph {
         self.nodes.reserve(1)?;
         self.imports.push(self.alloc, name, id)?;
         self.nodes
-            .push(Node::new(self.alloc, NodeKind::Import(text), None, kind))?;
+            .push(Node::import(self.alloc, text, kind))?;
         Ok(id)
     }
 
     /// Adds a node for a type that is exported under a new name.
     pub fn add_definition(&mut self, name: &str, kind: ItemKind) -> Result<NodeId, AllocError>
-        requires new { node_named name.now self.old.exports ≡ None }
+        requires new { IsFresh name.now self.old.exports }
         requires kind { NamesEntry self.old.types kind }
         ensures number { IfOk result (λ id. id.0 ≡ length self.old.nodes) }
         ensures ok { OnOk result (self.new ≡ with_definition self.old name.now kind) }
@@ -252,13 +242,13 @@ impl CompositionGraph {
         self.nodes.reserve(1)?;
         self.exports.push(self.alloc, name, id)?;
         self.nodes
-            .push(Node::new(self.alloc, NodeKind::Definition, None, kind))?;
+            .push(Node::definition(self.alloc, kind))?;
         Ok(id)
     }
 
     /// Exports a node under a new name. A node may have several.
     pub fn add_export(&mut self, name: &str, node: NodeId) -> Result<(), AllocError>
-        requires new { node_named name.now self.old.exports ≡ None }
+        requires new { IsFresh name.now self.old.exports }
         requires there { node.0 < length self.old.nodes }
         ensures ok { OnOk result (self.new ≡ with_export self.old name.now node.0) }
         ensures err { OnErr result (self.new ≡ self.old) }
@@ -267,11 +257,12 @@ impl CompositionGraph {
     }
 
     /// What a node exports under a name, if it is an instance.
-    fn export_kind(&self, node: NodeId, export: &str) -> Option<ItemKind>
-        ensures { result ≡ kind_exported self.now node.0 export.now }
+    pub fn export_kind(&self, node: NodeId, export: &str) -> Option<ItemKind>
+        ensures kind { result ≡ kind_exported self.now node.0 export.now }
+        ensures named { IfSome result (NamesEntry self.now.types) }
     {
         match self.nodes.get(node.0)?.kind() {
-            ItemKind::Instance(id) => self.types.interface(id)?.exports.get(export).copied(),
+            ItemKind::Instance(id) => self.types.export(ItemKind::Instance(id), export),
             _ => None,
         }
     }
@@ -297,7 +288,8 @@ impl CompositionGraph {
     }
 
     fn append_alias(&mut self, node: NodeId, export: &str) -> Result<NodeId, AllocError>
-        requires { IsSome (kind_exported self.old node.0 export.now) }
+        requires exported { IsSome (kind_exported self.old node.0 export.now) }
+        requires new { alias_in self.old.nodes node.0 export.now ≡ None }
         ensures number { IfOk result (λ id. id.0 ≡ length self.old.nodes) }
         ensures ok { OnOk result (IfSome (kind_exported self.old node.0 export.now) (λ k. self.new ≡ with_alias self.old node.0 export.now k)) }
         ensures err { OnErr result (self.new ≡ self.old) }
@@ -305,7 +297,7 @@ impl CompositionGraph {
         let kind = self.export_kind(node, export).unwrap();
         let id = NodeId(self.nodes.len());
         let name = String::from_str(self.alloc, export)?;
-        self.nodes.push(Node::new(self.alloc, NodeKind::Alias, Some((node, name)), kind))?;
+        self.nodes.push(Node::alias(self.alloc, node, name, kind))?;
         Ok(id)
     }
 
@@ -318,12 +310,8 @@ impl CompositionGraph {
     {
         let instance = self.packages[package.0].package().instance;
         let id = NodeId(self.nodes.len());
-        self.nodes.push(Node::new(
-            self.alloc,
-            NodeKind::Instantiation(package),
-            None,
-            ItemKind::Instance(instance),
-        ))?;
+        self.nodes
+            .push(Node::instantiation(self.alloc, package, instance))?;
         Ok(id)
     }
 
@@ -334,8 +322,8 @@ impl CompositionGraph {
         import: &str,
         value: NodeId,
     ) -> Result<(), AllocError>
-        requires import { IsSome (import_kind self.old node.0 import.now) }
-        requires open { node_named import.now (arguments_of self.old node.0) ≡ None }
+        requires import { IsSome (parameter_kind self.old node.0 import.now) }
+        requires open { IsFresh import.now (arguments_of self.old node.0) }
         requires earlier { value.0 < node.0 }
         ensures ok { OnOk result (self.new ≡ with_argument self.old node.0 import.now value.0) }
         ensures err { OnErr result (self.new ≡ self.old) }
@@ -357,8 +345,11 @@ impl CompositionGraph {
     }
 
     /// The nodes in the order in which they were added.
+    #[tactic(auto, using(crate::proofs::Numbers::numbers_below))]
     pub fn nodes(&self) -> Nodes<'_>
-        ensures { result ≡ numbers 0 (length self.now.nodes) }
+        ensures nodes { result ≡ numbers 0 (length self.now.nodes) }
+        ensures there { AllByRecursion (λ i. i < length self.now.nodes) result }
+        ensures sound { IsSound self.now }
     {
         Nodes::new(&self.nodes)
     }
@@ -366,10 +357,19 @@ impl CompositionGraph {
     /// What a node is.
     pub fn node(&self, id: NodeId) -> &NodeKind
         requires { id.0 < length self.now.nodes }
-        ensures node { option_map (λ n. n.form) (slice_get self.now.nodes id.0) ≡ Some (form_of result.now) }
-        ensures there { IfSome (instantiated (form_of result.now)) (λ p. p < length self.now.packages) }
+        ensures node { option_map (λ n. sort_in n.form) (slice_get self.now.nodes id.0) ≡ Some (sort_of result.now) }
+        ensures there { HasPackage (length self.now.packages) (sort_of result.now) }
     {
         self.nodes[id.0].node()
+    }
+
+    /// The package of which a node is an instance.
+    pub fn instance_of(&self, id: NodeId) -> Option<PackageId>
+        requires { id.0 < length self.now.nodes }
+        ensures «package» { option_map (λ p. p.0) result ≡ package_of self.now id.0 }
+        ensures there { IfSome result (λ p. p.0 < length self.now.packages) }
+    {
+        self.nodes[id.0].package()
     }
 
     /// The kind of the item that a node stands for.
@@ -400,7 +400,7 @@ impl CompositionGraph {
     /// The instance and the name of its export, of a node that is an alias.
     pub fn alias_source(&self, id: NodeId) -> Option<(NodeId, &str)>
         requires { id.0 < length self.now.nodes }
-        ensures source { option_map (λ n. n.source) (slice_get self.now.nodes id.0) ≡ Some (option_map (λ s. (s.0.0, s.1.now)) result) }
+        ensures source { option_map (λ n. source_in n.form) (slice_get self.now.nodes id.0) ≡ Some (option_map (λ s. (s.0.0, s.1.now)) result) }
         ensures earlier { IfSome result (λ s. s.0.0 < id.0) }
     {
         self.nodes[id.0].source()
@@ -409,10 +409,19 @@ impl CompositionGraph {
     /// The arguments of an instantiation, in the order in which they were given. Other nodes have none.
     pub fn arguments(&self, id: NodeId) -> Names<'_>
         requires { id.0 < length self.now.nodes }
-        ensures arguments { option_map (λ n. n.arguments) (slice_get self.now.nodes id.0) ≡ Some result }
+        ensures arguments { result ≡ arguments_of self.now id.0 }
         ensures earlier { NamesNodes id.0 result }
     {
         self.nodes[id.0].arguments().iter()
+    }
+
+    /// The node that was given for an import of an instantiation.
+    pub fn argument(&self, id: NodeId, import: &str) -> Option<NodeId>
+        requires { id.0 < length self.now.nodes }
+        ensures node { option_map (λ n. n.0) result ≡ look_up import.now (arguments_of self.now id.0) }
+        ensures earlier { IfSome result (λ n. n.0 < id.0) }
+    {
+        self.nodes[id.0].arguments().get(import)
     }
 
     /// The imported nodes by name, in the order in which they were added.
@@ -421,6 +430,14 @@ impl CompositionGraph {
         ensures there { NamesNodes (length self.now.nodes) result }
     {
         self.imports.iter()
+    }
+
+    /// The node that is imported under a name.
+    pub fn get_import(&self, name: &str) -> Option<NodeId>
+        ensures node { option_map (λ n. n.0) result ≡ look_up name.now self.now.imports }
+        ensures there { IfSome result (λ n. n.0 < length self.now.nodes) }
+    {
+        self.imports.get(name)
     }
 
     /// The exported nodes by name, in the order in which they were exported.
@@ -433,15 +450,17 @@ impl CompositionGraph {
 
     /// The node that is exported under a name.
     pub fn get_export(&self, name: &str) -> Option<NodeId>
-        ensures node { option_map (λ n. n.0) result ≡ node_named name.now self.now.exports }
+        ensures node { option_map (λ n. n.0) result ≡ look_up name.now self.now.exports }
         ensures there { IfSome result (λ n. n.0 < length self.now.nodes) }
     {
         self.exports.get(name)
     }
 
     /// The packages in the order in which they were added.
+    #[tactic(auto, using(crate::proofs::Numbers::numbers_below))]
     pub fn packages(&self) -> Packages<'_>
-        ensures { result ≡ numbers 0 (length self.now.packages) }
+        ensures packages { result ≡ numbers 0 (length self.now.packages) }
+        ensures there { AllByRecursion (λ i. i < length self.now.packages) result }
     {
         Packages::new(&self.packages)
     }
@@ -464,11 +483,48 @@ impl CompositionGraph {
         self.packages[id.0].package()
     }
 
+    /// What a package imports under a name.
+    pub fn import_kind(&self, id: PackageId, name: &str) -> Option<ItemKind>
+        requires { id.0 < length self.now.packages }
+        ensures kind { result ≡ kind_imported self.now id.0 name.now }
+        ensures named { IfSome result (NamesEntry self.now.types) }
+    {
+        self.types.import(self.packages[id.0].package().world, name)
+    }
+
+    /// The name of a package's import at a place. It is copied, so it can be handed to calls that change the graph.
+    pub fn parameter_name(&self, id: PackageId, at: usize) -> Result<Option<String>, AllocError>
+        requires { id.0 < length self.now.packages }
+        ensures { IfOk result (λ n. option_map string_bytes n ≡ option_map name_in (option_and_then (λ p. slice_get (world_imports self.now.types p.world.0) at) (slice_get self.now.packages id.0))) }
+    {
+        let world = self.packages[id.0].package().world;
+        self.types.import_name(self.alloc, world, at)
+    }
+
+    /// What an interface, instance, world or component exports under a name.
+    pub fn export(&self, kind: ItemKind, name: &str) -> Option<ItemKind>
+        requires { NamesEntry self.now.types kind }
+        ensures kind { result ≡ look_up name.now (kind_exports self.now.types kind) }
+        ensures means { (naming : Naming) → option_map (meaning_of naming self.now) result ≡ export_of (meaning_of naming self.now kind) name.now }
+        ensures named { IfSome result (NamesEntry self.now.types) }
+    {
+        self.types.export(kind, name)
+    }
+
+    /// The name of the export at a place. It is copied, so it can be handed to calls that change the graph.
+    pub fn export_name(&self, kind: ItemKind, at: usize) -> Result<Option<String>, AllocError>
+        ensures { IfOk result (λ n. option_map string_bytes n ≡ option_map name_in (slice_get (kind_exports self.now.types kind) at)) }
+    {
+        self.types.export_name(self.alloc, kind, at)
+    }
+
     /// The table of types.
     pub fn types(&self) -> &Types
         ensures types { result.now ≡ self.now.types }
         ensures table { IsTable self.now.types }
+        ensures entries { EachEntryNamed self.now.types }
         ensures means { EntriesMean self.now }
+        ensures apart { OriginsApart self.now }
     {
         &self.types
     }

@@ -14,8 +14,7 @@
 //! see the graph as its lists, in the order in which things were added.
 #![tactic(auto)]
 
-mod copied;
-mod copy;
+mod equal;
 mod graph;
 mod ids;
 mod names;
@@ -30,7 +29,7 @@ pub use node::{NodeId, NodeKind, PackageId};
 pub use package_key::PackageKey;
 pub use packages::GraphPackage;
 pub use wac_types::{
-    DefinedType, DefinedTypeId, ExternKind, FuncKind, FuncType, FuncTypeId, Interface, InterfaceId,
-    ItemKind, ModuleTypeId, Package, PackageError, PrimitiveType, Reason, Resource, ResourceAlias,
-    ResourceId, Rules, Type, Types, UsedType, ValueType, World, WorldId,
+    DefinedType, DefinedTypeId, Entry, ExternKind, FuncKind, FuncType, FuncTypeId, Interface,
+    InterfaceId, ItemKind, ModuleTypeId, Package, PackageError, PrimitiveType, Reason, Resource,
+    ResourceAlias, ResourceId, Rules, Type, Types, UsedType, ValueType, World, WorldId, names,
 };

@@ -2,7 +2,7 @@
 ghost use Rattle.std.specs.Prelude.{◌≡◌, [], ◌∷◌, ◌++◌, OnOk, OnErr, IfOk, option_map, length};
 ghost use Rattle.std.specs.Iterator.{YieldsFirstBy, item_count};
 ghost use Rattle.std.specs.Str.{bytes_eq};
-ghost use Rattle.wac_graph.specs.Names.{node_named};
+ghost use Rattle.wac_types.specs.Scope.{look_up, with_named};
 
 use crate::node::NodeId;
 use std::alloc::{AllocError, Global};
@@ -25,9 +25,9 @@ impl Model for Named {
 
 impl Named {
     fn has(&self, name: &str) -> bool
-        ensures { result ≡ bytes_eq self.now.0 name.now }
+        ensures { result ≡ bytes_eq name.now self.now.0 }
     {
-        self.name.as_str() == name
+        name == self.name.as_str()
     }
 
     fn node(&self) -> NodeId
@@ -67,14 +67,14 @@ impl NodeNames {
     }
 
     pub fn get(&self, name: &str) -> Option<NodeId>
-        ensures { option_map (λ n. n.0) result ≡ node_named name.now self.now }
+        ensures { option_map (λ n. n.0) result ≡ look_up name.now self.now }
     {
         let there = self.items.iter().find(|n| n.has(name))?;
         Some(there.node())
     }
 
     pub fn push(&mut self, alloc: Global, name: &str, node: NodeId) -> Result<(), AllocError>
-        ensures ok { OnOk result (self.new ≡ self.old ++ (name.now, node.0) ∷ []) }
+        ensures ok { OnOk result (self.new ≡ with_named self.old name.now node.0) }
         ensures err { OnErr result (self.new ≡ self.old) }
     {
         let name = String::from_str(alloc, name)?;

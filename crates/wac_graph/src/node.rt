@@ -1,11 +1,12 @@
 //! The nodes of a composition.
-ghost use Rattle.std.specs.Prelude.{◌≡◌, [], ◌∷◌, ◌++◌, OnOk, OnErr, option_map, IsTrue, ◌↔◌, Some, None, string_bytes};
-ghost use Rattle.wac_graph.specs.Node.{Node as NodeParts, form_of, source_of, import_in, is_alias_of};
+ghost use Rattle.std.specs.Prelude.{◌≡◌, [], OnOk, OnErr, option_map, IsSome, Some, None, string_bytes};
+ghost use Rattle.wac_graph.specs.Graph.{given_too, plain_node};
+ghost use Rattle.wac_graph.specs.Node.{import, definition, alias, instantiation, sort_in, sort_of, source_in, import_in, package_in, arguments_in, is_alias_of};
 
 use crate::names::NodeNames;
 use std::alloc::{AllocError, Global};
 use std::marker::Model;
-use wac_types::ItemKind;
+use wac_types::{InterfaceId, ItemKind};
 
 /// The number of a node in its graph.
 #[derive(Clone, Copy, Debug, PartialEq, Eq)]
@@ -29,41 +30,76 @@ pub enum NodeKind {
 #[derive(Drop)]
 pub struct Node {
     node: NodeKind,
+    /// Of an alias alone: the node and its export.
     source: Option<(NodeId, String)>,
     kind: ItemKind,
     name: Option<String>,
+    /// Of an instantiation alone.
     arguments: NodeNames,
 }
 
 impl Model for Node {
     ghost use Rattle.std.specs.Prelude.{option_map, string_bytes};
-    ghost use Rattle.wac_graph.specs.Node.{Node as NodeParts, form_of, source_of};
+    ghost use Rattle.wac_graph.specs.Node.{Node as NodeParts, form_of, IsHeldAs};
 
     ghost Value = { NodeParts };
 
-    ghost view = { λ n. record { form = form_of n.node; source = source_of n.source; kind = n.kind; name = option_map string_bytes n.name; arguments = n.arguments } };
+    ghost view = { λ n. record { form = form_of n.node n.source n.arguments; kind = n.kind; name = option_map string_bytes n.name } };
+
+    ghost invariant = { λ n. IsHeldAs n.node n.source n.arguments };
 }
 
 impl Node {
-    pub fn new(
-        alloc: Global,
-        node: NodeKind,
-        source: Option<(NodeId, String)>,
-        kind: ItemKind,
-    ) -> Self
-        ensures { result ≡ record { form = form_of node; source = source_of source; kind = kind; name = None; arguments = [] } }
+    pub fn import(alloc: Global, name: String, kind: ItemKind) -> Self
+        ensures { result ≡ plain_node (import (string_bytes name)) kind }
     {
         Node {
-            node,
-            source,
+            node: NodeKind::Import(name),
+            source: None,
             kind,
             name: None,
             arguments: NodeNames::new(alloc),
         }
     }
 
+    pub fn definition(alloc: Global, kind: ItemKind) -> Self
+        ensures { result ≡ plain_node definition kind }
+    {
+        Node {
+            node: NodeKind::Definition,
+            source: None,
+            kind,
+            name: None,
+            arguments: NodeNames::new(alloc),
+        }
+    }
+
+    pub fn alias(alloc: Global, node: NodeId, export: String, kind: ItemKind) -> Self
+        ensures { result ≡ plain_node (alias node.0 (string_bytes export)) kind }
+    {
+        Node {
+            node: NodeKind::Alias,
+            source: Some((node, export)),
+            kind,
+            name: None,
+            arguments: NodeNames::new(alloc),
+        }
+    }
+
+    pub fn instantiation(alloc: Global, package: PackageId, instance: InterfaceId) -> Self
+        ensures { result ≡ plain_node (instantiation «package».0 []) (ItemKind.Instance instance) }
+    {
+        Node {
+            node: NodeKind::Instantiation(package),
+            source: None,
+            kind: ItemKind::Instance(instance),
+            name: None,
+            arguments: NodeNames::new(alloc),
+        }
+    }
+
     pub fn node(&self) -> &NodeKind
-        ensures { form_of result.now ≡ self.now.form }
+        ensures { sort_of result.now ≡ sort_in self.now.form }
     {
         &self.node
     }
@@ -92,8 +128,17 @@ impl Node {
         }
     }
 
+    pub fn package(&self) -> Option<PackageId>
+        ensures { option_map (λ p. p.0) result ≡ package_in self.now.form }
+    {
+        match &self.node {
+            NodeKind::Instantiation(package) => Some(*package),
+            _ => None,
+        }
+    }
+
     pub fn source(&self) -> Option<(NodeId, &str)>
-        ensures { option_map (λ s. (s.0.0, s.1.now)) result ≡ self.now.source }
+        ensures { option_map (λ s. (s.0.0, s.1.now)) result ≡ source_in self.now.form }
     {
         match &self.source {
             None => None,
@@ -102,18 +147,18 @@ impl Node {
     }
 
     pub fn arguments(&self) -> &NodeNames
-        ensures { result.now ≡ self.now.arguments }
+        ensures { result.now ≡ arguments_in self.now.form }
     {
         &self.arguments
     }
 
     /// Whether it is the alias of that export of that node.
     pub fn is_alias(&self, node: NodeId, export: &str) -> bool
-        ensures { result ≡ is_alias_of node.0 export.now self.now }
+        ensures { result ≡ is_alias_of node.0 export.now self.now.form }
     {
-        match &self.source {
+        match self.source() {
             None => false,
-            Some((source, name)) => source.0 == node.0 && name.as_str() == export,
+            Some((source, name)) => source.0 == node.0 && name == export,
         }
     }
 
@@ -123,13 +168,15 @@ impl Node {
         self.name = Some(name);
     }
 
+    /// Gives an instantiation one more argument.
     pub fn set_argument(
         &mut self,
         alloc: Global,
         import: &str,
         value: NodeId,
     ) -> Result<(), AllocError>
-        ensures ok { OnOk result (self.new ≡ record self.old { arguments = self.old.arguments ++ (import.now, value.0) ∷ [] }) }
+        requires { IsSome (package_in self.old.form) }
+        ensures ok { OnOk result (self.new ≡ record self.old { form = given_too self.old.form import.now value.0 }) }
         ensures err { OnErr result (self.new ≡ self.old) }
     {
         self.arguments.push(alloc, import, value)

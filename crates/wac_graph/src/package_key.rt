@@ -2,8 +2,8 @@
 ghost use Rattle.std.specs.Prelude.{◌≡◌, IfOk, option_map, string_bytes};
 ghost use Rattle.wac_graph.specs.Package.{key_of, same_key, same_version};
 
-use crate::copy::copy_text;
 use std::alloc::{AllocError, Global};
+use wac_graph_copies::copy_text;
 
 /// A package's name and the text of its version, as `wasi:http` and `0.2.0`.
 ///

@@ -4,11 +4,11 @@ ghost use Rattle.wac_types.specs.Names.{by_name};
 ghost use Rattle.wac_graph.specs.Package.{key_of, same_key, moved_package};
 ghost use Rattle.wac_graph.specs.Readings.{held_of};
 
-use crate::copy::copy_items;
 use crate::package_key::PackageKey;
 use indexmap::IndexMap;
 use std::alloc::{AllocError, Global};
 use std::marker::Model;
+use wac_graph_copies::copy_items;
 use wac_types::{InterfaceId, ItemKind, Package, WorldId};
 
 /// A package in the graph's numbers. A contract sees its parts.
@@ -70,9 +70,9 @@ impl HeldPackage {
     }
 
     pub(crate) fn has_key(&self, key: &PackageKey) -> bool
-        ensures { result ≡ same_key self.now.key (key_of key.now) }
+        ensures { result ≡ same_key (key_of key.now) self.now.key }
     {
-        self.key.is(key)
+        key.is(&self.key)
     }
 
     pub(crate) fn package(&self) -> GraphPackage<'_>

@@ -1,62 +1,22 @@
 //! Building calls that look first whether they may be made, and answer the number that they made or changed.
-ghost use Rattle.std.specs.Prelude.{◌≡◌, ◌<◌, IsTrue, IsSome, IfSome, None, length};
-ghost use Rattle.wac_graph.specs.Graph.{import_kind, export_kind, arguments_of};
-ghost use Rattle.wac_graph.specs.Names.{node_named};
+ghost use Rattle.std.specs.Prelude.{◌<◌, IsTrue, IsSome, IfSome, length};
+ghost use Rattle.wac_graph.specs.Graph.{parameter_kind};
 
 use std::alloc::AllocError;
 use wac_graph::{
-    CompositionGraph, ItemKind, Names, NodeId, NodeKind, Package, PackageId, PackageKey,
+    CompositionGraph, ItemKind, NodeId, Package, PackageId, PackageKey,
     PrimitiveType, ValueType,
 };
 
 /// Whether the node is an instantiation that imports the name.
 fn has_import(graph: &CompositionGraph, node: NodeId, import: &str) -> bool
     requires { node.0 < length graph.now.nodes }
-    ensures { IsTrue result → IsSome (import_kind graph.now node.0 import.now) }
+    ensures { IsTrue result → IsSome (parameter_kind graph.now node.0 import.now) }
 {
-    let NodeKind::Instantiation(held) = graph.node(node) else {
-        return false;
-    };
-    let world = graph.package(*held).world;
-    match graph.types().world(world) {
+    match graph.instance_of(node) {
         None => false,
-        Some(world) => world.imports.get(import).is_some(),
+        Some(held) => graph.import_kind(held, import).is_some(),
     }
-}
-
-/// Whether the node is an instance that exports the name.
-fn has_export(graph: &CompositionGraph, node: NodeId, export: &str) -> bool
-    requires { node.0 < length graph.now.nodes }
-    ensures { IsTrue result → IsSome (export_kind graph.now node.0 export.now) }
-{
-    let ItemKind::Instance(id) = graph.kind(node) else {
-        return false;
-    };
-    match graph.types().interface(id) {
-        None => false,
-        Some(interface) => interface.exports.get(export).is_some(),
-    }
-}
-
-/// Whether no node has the name.
-fn is_new<'a>(names: Names<'a>, name: &str) -> bool
-    ensures { IsTrue result → node_named name.now names.entry ≡ None }
-{
-    for (other, _) in names {
-        if other == name {
-            return false;
-        }
-    }
-    true
-}
-
-/// Whether the import has no argument yet.
-#[tactic(auto, using(wac_graph::proofs::Given::arguments_are))]
-fn is_open(graph: &CompositionGraph, node: NodeId, import: &str) -> bool
-    requires { node.0 < length graph.now.nodes }
-    ensures { IsTrue result → node_named import.now (arguments_of graph.now node.0) ≡ None }
-{
-    is_new(graph.arguments(node), import)
 }
 
 /// The node of a number, if there is one.
@@ -86,7 +46,7 @@ pub fn package_at(graph: &CompositionGraph, number: usize) -> Option<PackageId>
 pub const BYTE: ItemKind = ItemKind::Value(ValueType::Primitive(PrimitiveType::U8));
 
 pub fn import(graph: &mut CompositionGraph, name: &str) -> Result<Option<usize>, AllocError> {
-    if !is_new(graph.imports(), name) {
+    if graph.get_import(name).is_some() {
         return Ok(None);
     }
     Ok(Some(graph.add_import(name, BYTE)?.0))
@@ -144,7 +104,7 @@ pub fn give(
     let Some(id) = node_at(graph, node) else {
         return Ok(None);
     };
-    if value >= id.0 || !has_import(graph, id, import) || !is_open(graph, id, import) {
+    if value >= id.0 || !has_import(graph, id, import) || graph.argument(id, import).is_some() {
         return Ok(None);
     }
     graph.set_argument(id, import, NodeId(value))?;
@@ -157,7 +117,7 @@ pub fn alias(
     export: &str,
 ) -> Result<Option<usize>, AllocError> {
     match node_at(graph, node) {
-        Some(id) if has_export(graph, id, export) => Ok(Some(graph.add_alias(id, export)?.0)),
+        Some(id) if graph.export_kind(id, export).is_some() => Ok(Some(graph.add_alias(id, export)?.0)),
         _ => Ok(None),
     }
 }

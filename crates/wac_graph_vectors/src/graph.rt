@@ -3,8 +3,9 @@
 use crate::building::{add, alias, define, export, give, import, instantiate, named};
 use crate::fixture::{component, key, name};
 use crate::reading::{
-    arguments_at, definition_at, desc_at, form_at, import_name_at, listed, name_at,
-    packages_listed, same_worlds, shown, source_at,
+    argument_at, arguments_at, definition_at, desc_at, exports_at, form_at, import_at,
+    import_name_at, instance_at, listed, name_at, names_at, packages_listed, same_worlds, shown,
+    source_at,
 };
 use indexmap::IndexMap;
 use std::alloc::{AllocError, Global};
@@ -245,6 +246,53 @@ fn reads_nodes(rt: HostRuntime) -> Result<(), Fail> {
         assert_eq!(rt; desc_at(&graph, node), desc, "{node}");
         assert_eq!(rt; import_name_at(&graph, node), import, "{node}");
     }
+    Ok(())
+}
+
+#[test]
+fn finds_by_name(rt: HostRuntime) -> Result<(), Fail> {
+    let mut graph = composed(rt.alloc())?;
+    for (name, id) in [("a", Some(NodeId(0))), ("b", Some(NodeId(1))), ("c", None)] {
+        assert_eq!(rt; graph.get_import(name), id, "{name}");
+    }
+    assert_eq!(rt; give(&mut graph, 3, "log", 1)?, Some(3));
+    let rows = [
+        (3, "log", Some(1)),
+        (3, "x:y/z", None),
+        (2, "log", None),
+        (0, "log", None),
+    ];
+    for (node, import, value) in rows {
+        assert_eq!(rt; argument_at(&graph, node, import), value, "{node} {import}");
+    }
+    for (node, package) in [(0, None), (2, Some(0)), (3, Some(1)), (4, None)] {
+        assert_eq!(rt; instance_at(&graph, node), package, "{node}");
+    }
+    Ok(())
+}
+
+#[test]
+fn finds_kinds_by_name(rt: HostRuntime) -> Result<(), Fail> {
+    let graph = composed(rt.alloc())?;
+    for (name, desc) in [
+        ("log", Some("function")),
+        ("x:y/z", Some("instance")),
+        ("run", None),
+    ] {
+        assert_eq!(rt; import_at(&graph, 1, name), desc, "{name}");
+    }
+    let run = Some("function");
+    let rows = [
+        (0, 2, "run", (run, run)),
+        (0, 0, "run", (run, None)),
+        (2, 3, "run", (None, run)),
+        (0, 2, "log", (None, None)),
+    ];
+    for (package, node, name, descs) in rows {
+        assert_eq!(rt; exports_at(&graph, package, node, name), descs, "{node} {name}");
+    }
+    let names = names_at(rt.alloc(), &graph, 1)?;
+    assert_eq!(rt; names.as_str(), "log x:y/z run ");
     Ok(())
 }
 

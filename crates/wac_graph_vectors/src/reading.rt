@@ -65,6 +65,69 @@ pub fn arguments_at(
     }
 }
 
+/// The node that was given for an import of a node.
+pub fn argument_at(graph: &CompositionGraph, number: usize, import: &str) -> Option<usize> {
+    let id = node_at(graph, number)?;
+    Some(graph.argument(id, import)?.0)
+}
+
+/// What a package imports under a name.
+pub fn import_at(graph: &CompositionGraph, number: usize, name: &str) -> Option<&'static str> {
+    let id = package_at(graph, number)?;
+    Some(graph.import_kind(id, name)?.desc())
+}
+
+/// What a package's world exports under a name, and what a node does.
+pub fn exports_at(
+    graph: &CompositionGraph,
+    package: usize,
+    node: usize,
+    name: &str,
+) -> (Option<&'static str>, Option<&'static str>) {
+    (
+        world_export(graph, package, name),
+        node_export(graph, node, name),
+    )
+}
+
+fn world_export(graph: &CompositionGraph, number: usize, name: &str) -> Option<&'static str> {
+    let world = graph.package(package_at(graph, number)?).world;
+    Some(graph.export(ItemKind::Component(world), name)?.desc())
+}
+
+fn node_export(graph: &CompositionGraph, number: usize, name: &str) -> Option<&'static str> {
+    Some(graph.export_kind(node_at(graph, number)?, name)?.desc())
+}
+
+/// The package of which a node is an instance.
+pub fn instance_at(graph: &CompositionGraph, number: usize) -> Option<usize> {
+    Some(graph.instance_of(node_at(graph, number)?)?.0)
+}
+
+/// The names of a package's imports and of its instances' exports, as `log x:y/z run `.
+pub fn names_at(
+    alloc: Global,
+    graph: &CompositionGraph,
+    number: usize,
+) -> Result<String, AllocError> {
+    let mut text = String::new(alloc);
+    let Some(id) = package_at(graph, number) else {
+        return Ok(text);
+    };
+    let instance = ItemKind::Instance(graph.package(id).instance);
+    for at in 0..3 {
+        if let Some(name) = graph.parameter_name(id, at)? {
+            write!(text, "{name} ")?;
+        }
+    }
+    for at in 0..2 {
+        if let Some(name) = graph.export_name(instance, at)? {
+            write!(text, "{name} ")?;
+        }
+    }
+    Ok(text)
+}
+
 fn key_at(graph: &CompositionGraph, number: usize) -> Option<&PackageKey> {
     let id = package_at(graph, number)?;
     Some(graph.package(id).key)

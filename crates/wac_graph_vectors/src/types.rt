@@ -7,7 +7,8 @@ use std::alloc::{AllocError, Global};
 use std::test::Fail;
 use wac_graph::{
     DefinedType, DefinedTypeId, ExternKind, FuncKind, FuncType, FuncTypeId, Interface, InterfaceId,
-    ItemKind, ModuleTypeId, Package, PackageError, PrimitiveType, Reason, Resource, ResourceId,
+    ItemKind, ModuleTypeId, Package, PackageError, PrimitiveType, Reason, Resource,
+    ResourceAlias, ResourceId,
     Rules, Type, Types, ValueType, World, WorldId,
 };
 
@@ -130,6 +131,37 @@ fn names_the_first_fault(rt: HostRuntime) -> Result<(), Fail> {
     Ok(())
 }
 
+#[test]
+fn tells_what_is_wrong(rt: HostRuntime) -> Result<(), Fail> {
+    let rows = [
+        (PackageError::OutOfRange, "id out of range"),
+        (PackageError::OtherSort, "id of another sort"),
+        (PackageError::NotEarlier, "id is not earlier"),
+        (PackageError::NoInterfaceId, "interface type without an id"),
+        (
+            PackageError::InstanceExports,
+            "instance exports differ from the exports of the world",
+        ),
+        (PackageError::Memory(AllocError), "out of memory"),
+    ];
+    for (error, told) in rows {
+        let text = format!(in rt.alloc(); "{error}")?;
+        assert_eq!(rt; text.as_str(), told);
+    }
+    Ok(())
+}
+
+/// An empty world and an empty instance.
+#[test]
+fn makes_the_empty_package(rt: HostRuntime) -> Result<(), Fail> {
+    let package = empty(rt.alloc())?.package()?;
+    assert_eq!(rt; package.world(), WorldId(1));
+    assert_eq!(rt; package.instance(), InterfaceId(0));
+    assert_eq!(rt; package.types().entries().len(), 2);
+    assert!(rt; package.definitions().is_empty());
+    Ok(())
+}
+
 /// In a run in which one request for memory is refused, its parts may have to be made again; the package then is made
 /// at once.
 #[test]
@@ -201,6 +233,86 @@ fn compares_meanings(rt: HostRuntime) -> Result<(), Fail> {
     ];
     for (i, j, is) in rows {
         assert_eq!(rt; same(&package, i, j), Some(is), "{i} and {j}");
+    }
+    Ok(())
+}
+
+/// A method of the resource: a function that borrows it.
+fn method(alloc: Global, resource: ResourceId) -> Result<FuncType, AllocError> {
+    let mut params = IndexMap::new(alloc);
+    let name = String::from_str(alloc, "self")?;
+    params.insert(name, ValueType::Borrow(resource))?;
+    Ok(FuncType {
+        params,
+        result: None,
+        is_async: false,
+    })
+}
+
+fn list(types: &mut Types, of: ValueType) -> Result<ValueType, AllocError> {
+    let id = types.add_defined_type(DefinedType::List(of))?;
+    Ok(ValueType::Defined(id))
+}
+
+/// Another name of the resource, which an interface owns that has a method of it.
+fn add_alias(
+    alloc: Global,
+    types: &mut Types,
+    source: ResourceId,
+) -> Result<ResourceId, AllocError> {
+    let run = types.add_func_type(method(alloc, source)?)?;
+    let owner = types.add_interface(exporting(alloc, "run", ItemKind::Func(run))?)?;
+    let alias = ResourceAlias {
+        owner: Some(owner),
+        source,
+    };
+    types.add_resource(Resource {
+        name: String::from_str(alloc, "s")?,
+        alias: Some(alias),
+    })
+}
+
+/// Lists of a borrowed resource, of such lists, of an owned one, of an owned alias of it, and of nothing.
+fn borrowing(alloc: Global) -> Result<Parts, AllocError> {
+    let mut parts = empty(alloc)?;
+    let resource = parts.types.add_resource(Resource {
+        name: String::from_str(alloc, "r")?,
+        alias: None,
+    })?;
+    let alias = add_alias(alloc, &mut parts.types, resource)?;
+    let borrowed = list(&mut parts.types, ValueType::Borrow(resource))?;
+    let nested = list(&mut parts.types, borrowed)?;
+    let owned = list(&mut parts.types, ValueType::Own(resource))?;
+    let other = list(&mut parts.types, ValueType::Own(alias))?;
+    let nothing = ValueType::Defined(parts.types.add_defined_type(DefinedType::Stream(None))?);
+    for (name, ty) in [
+        ("a", borrowed),
+        ("b", nested),
+        ("c", owned),
+        ("d", other),
+        ("e", nothing),
+    ] {
+        parts.define(alloc, name, ItemKind::Ty(Type::Value(ty)))?;
+    }
+    Ok(parts)
+}
+
+/// Whether a definition's values contain a borrow.
+fn has_borrow(package: &Package, i: usize) -> Option<bool> {
+    let types = package.types();
+    let definitions = package.definitions();
+    let (_, kind) = definitions.get_index(i)?;
+    let ItemKind::Ty(Type::Value(ty)) = *kind else {
+        return None;
+    };
+    Some(types.contains_borrow(ty))
+}
+
+#[test]
+fn looks_for_borrows(rt: HostRuntime) -> Result<(), Fail> {
+    let package = borrowing(rt.alloc())?.package()?;
+    for (i, is) in [(0, true), (1, true), (2, false), (3, false), (4, false)] {
+        assert_eq!(rt; has_borrow(&package, i), Some(is), "{i}");
     }
     Ok(())
 }

@@ -1,6 +1,7 @@
 -- An interface or world of a table has exports that name earlier entries.
-use Rattle.std.proofs.Common.{◌≡◌, ◌<◌, ◌++◌, ℕ, zero, suc, List, [], ◌∷◌, length, arith, rules, Option, Some, None}
-use Rattle.std.specs.Prelude.{slice_get, option_map, option_and_then, IsSome}
+use Rattle.std.proofs.Common.{◌≡◌, ◌<◌, ◌++◌, ℕ, zero, suc, List, [], ◌∷◌, length, arith, rules, Option, Some, None, Bool, sym, ap, ◌∙◌, refl}
+use Rattle.std.specs.Prelude.{slice_get, option_map, option_and_then, IsSome, IsTrue, ◌↔◌, String}
+use Rattle.std.specs.declared.alloc.Global.{Global}
 use Rattle.wac_types.specs.declared.kind.ItemKind.{ItemKind}
 use Rattle.wac_types.specs.declared.kind.Sort.TheVariants as sorts
 use Rattle.wac_types.specs.declared.entry.Entry.{Entry}
@@ -10,6 +11,15 @@ use Rattle.wac_types.specs.declared.entry.World.{World}
 use Rattle.wac_types.specs.Entry.{Slot, sort_of, use_children, import_children, export_children}
 use Rattle.wac_types.specs.Readings.{as_interface, as_world}
 use Rattle.wac_types.specs.Meaning.{ChildrenBefore, IsEarlier}
+use Rattle.wac_types.specs.Meaning.{Meaning, row, meaning_at, IsOneToOne}
+use Rattle.wac_types.specs.Names.{by_name}
+use Rattle.wac_types.specs.Package.{SameExports, OtherExports}
+use Rattle.wac_types.specs.Readings.{interface_exports, world_exports}
+use Rattle.wac_types.specs.Scope.{Named}
+use Rattle.wac_types.specs.Shape.{items_mean, items_in, slot_export, row_from, exporting}
+use Rattle.wac_types.specs.declared.kind.InterfaceId.{InterfaceId}
+use Rattle.wac_types.specs.declared.kind.WorldId.{WorldId}
+use Rattle.wac_types.proofs.Parts.{exports_row, exports_read}
 use Rattle.wac_types.proofs.Rows.{earlier_from, before_more}
 
 some_within : {X : Type 0} (xs : List X) (n : ℕ) (x : X) → slice_get xs n ≡ Some x → n < length xs
@@ -73,3 +83,26 @@ world_there (Some (entries.Resource r)) h = absurd (cc)
 world_there (Some (entries.Func f)) h = absurd (cc)
 world_there (Some (entries.Interface i)) h = absurd (cc)
 world_there (Some (entries.World w)) h = search rules
+
+-- a map that is read of what is there, or nothing
+pub read_map : {E M : Type 0} (f : E → M) (g : M → List (String Global × ItemKind)) (o : Option E) (m : M) → Some m ≡ option_map f o → by_name (g m) ≡ elim o [ None ↦ [] | Some x ↦ by_name (g (f x)) ]
+read_map f g None m h = absurd (cc)
+read_map f g (Some x) m h = (let same : m ≡ f x = cc in ap (λ y. by_name (g y)) same)
+
+-- the rows of two maps of exports are equal if and only if the maps' names and meanings are
+rows_agree : (f : ℕ → Meaning) (xs ys : List (String Global × ItemKind)) → row f (export_children xs) ≡ row f (export_children ys) → items_mean f (by_name xs) ≡ items_mean f (by_name ys)
+rows_agree f xs ys h = sym (exports_read f xs) ∙ ap (items_in slot_export) h ∙ exports_read f ys
+
+items_agree : (f : ℕ → Meaning) (xs ys : List (String Global × ItemKind)) → items_mean f (by_name xs) ≡ items_mean f (by_name ys) → row f (export_children xs) ≡ row f (export_children ys)
+items_agree f xs ys h = exports_row f xs ∙ ap (λ (l : Named Meaning). row_from (exporting l)) h ∙ sym (exports_row f ys)
+
+module _ (es : List Entry) (world : WorldId) (instance : InterfaceId) (first second : List (String Global × ItemKind)) (r : Bool)
+    (one : by_name first ≡ interface_exports es instance.0) (two : by_name second ≡ world_exports es world.0)
+    (decided : (o : ℕ → ℕ) → IsOneToOne es o → (IsTrue r ↔ (row (meaning_at o es) (export_children first) ≡ row (meaning_at o es) (export_children second)))) where
+  pub exports_same : IsTrue r → SameExports es world instance
+  exports_same t o apart =
+      ap (items_mean (meaning_at o es)) (sym one) ∙ rows_agree (meaning_at o es) first second ((decided o apart).0 t) ∙ ap (items_mean (meaning_at o es)) two
+
+  pub exports_other : (IsTrue r → ⊥) → OtherExports es world instance
+  exports_other deny o apart agree =
+      deny ((decided o apart).1 (items_agree (meaning_at o es) first second (ap (items_mean (meaning_at o es)) one ∙ agree ∙ ap (items_mean (meaning_at o es)) (sym two))))

@@ -13,3 +13,4 @@ pub mod Parts
 pub mod Maps
 pub mod Borrowing
 pub mod Tested
+pub mod Found

@@ -55,7 +55,7 @@ items_found f (e ∷ all) name = go (items_found f all name) (bytes_eq name e.0)
 
 -- ---- what is put in is read back
 
-cons_append : {X Y : Type 0} (o : Option X) (m : Y) (xs ys : List (X × Y)) → cons_named o m (xs ++ ys) ≡ cons_named o m xs ++ ys
+pub cons_append : {X Y : Type 0} (o : Option X) (m : Y) (xs ys : List (X × Y)) → cons_named o m (xs ++ ys) ≡ cons_named o m xs ++ ys
 cons_append None m xs ys = refl
 cons_append (Some x) m xs ys = refl
 
@@ -63,7 +63,7 @@ items_append : {X : Type 0} (pick : Slot → Option X) (cs ds : List (Slot × Me
 items_append pick [] ds = refl
 items_append pick (c ∷ cs) ds = ap (cons_named (pick c.0) c.1) (items_append pick cs ds) ∙ cons_append (pick c.0) c.1 (items_in pick (row_from cs)) (items_in pick (row_from ds))
 
-exports_back : (es : Named Meaning) → items_in slot_export (row_from (exporting es)) ≡ es
+pub exports_back : (es : Named Meaning) → items_in slot_export (row_from (exporting es)) ≡ es
 exports_back [] = refl
 exports_back (e ∷ es) = ap (λ l. e ∷ l) (exports_back es)
 

@@ -1,5 +1,5 @@
 -- What a package is tested for.
-use Rattle.std.specs.Prelude.{◌≡◌, ℕ, Option, Some, None, IsSome, List, [], length, slice_get, option_and_then}
+use Rattle.std.specs.Prelude.{◌≡◌, ℕ, IsSome, List, length, slice_get, option_and_then}
 use Rattle.std.specs.List.{AllByRecursion}
 use Rattle.wac_types.specs.declared.kind.ItemKind.{ItemKind}
 use Rattle.wac_types.specs.declared.kind.ItemKind.TheVariants as kinds
@@ -10,9 +10,10 @@ use Rattle.wac_types.specs.declared.kind.InterfaceId.{InterfaceId}
 use Rattle.wac_types.specs.declared.entry.Entry.{Entry}
 use Rattle.wac_types.specs.declared.package.PackageError.{PackageError}
 use Rattle.wac_types.specs.declared.package.PackageError.TheVariants as errors
-use Rattle.wac_types.specs.Entry.{Slot, children, export_children}
-use Rattle.wac_types.specs.Readings.{as_interface, as_world}
-use Rattle.wac_types.specs.Meaning.{row, meaning_at, IsOneToOne, IsEarlier, NamesBefore, EachKind}
+use Rattle.wac_types.specs.Entry.{children}
+use Rattle.wac_types.specs.Readings.{as_interface, interface_exports, world_exports}
+use Rattle.wac_types.specs.Shape.{items_mean}
+use Rattle.wac_types.specs.Meaning.{meaning_at, IsOneToOne, IsEarlier, NamesBefore, EachKind}
 use Rattle.wac_types.specs.Table.{IsOfSort}
 
 -- an interface type's interface has an id
@@ -75,17 +76,9 @@ pub record HaveIds (es : List Entry) (ds : List (List ℕ × ItemKind)) : Type 0
 
 -- 5: the instance exports what the world exports
 
--- an interface's exports
-abbrev pub interface_exports : List Entry → InterfaceId → List (Slot × Option ItemKind)
-interface_exports es id = elim (option_and_then as_interface (slice_get es id.0)) [ None ↦ [] | Some i ↦ export_children i.exports.entries ]
-
--- a world's exports
-abbrev pub world_exports : List Entry → WorldId → List (Slot × Option ItemKind)
-world_exports es id = elim (option_and_then as_world (slice_get es id.0)) [ None ↦ [] | Some w ↦ export_children w.exports.entries ]
-
 -- the instance and the world export the same names with the same meanings, in order
 abbrev pub ExportsAgree : (ℕ → ℕ) → List Entry → WorldId → InterfaceId → Type 0
-ExportsAgree origins es world instance = row (meaning_at origins es) (interface_exports es instance) ≡ row (meaning_at origins es) (world_exports es world)
+ExportsAgree origins es world instance = items_mean (meaning_at origins es) (interface_exports es instance.0) ≡ items_mean (meaning_at origins es) (world_exports es world.0)
 
 abbrev pub SameExports : List Entry → WorldId → InterfaceId → Type 0
 SameExports es world instance = (origins : ℕ → ℕ) → IsOneToOne es origins → ExportsAgree origins es world instance

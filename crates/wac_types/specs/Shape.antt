@@ -1,5 +1,5 @@
 -- What is read of a meaning, and meanings made of their parts.
-use Rattle.std.specs.Prelude.{◌≡◌, ℕ, List, [], ◌∷◌, ◌++◌, map, Option, Some, None, option_map, Bool, true, false, ◌||◌, codes, string_bytes}
+use Rattle.std.specs.Prelude.{◌≡◌, ℕ, List, [], ◌∷◌, ◌++◌, map, Option, Some, None, option_map, Bool, true, false, ◌||◌, codes, string_bytes, slice_get}
 use Rattle.wac_types.specs.declared.kind.PrimitiveType.{PrimitiveType}
 use Rattle.wac_types.specs.declared.kind.ValueType.{ValueType}
 use Rattle.wac_types.specs.declared.kind.ItemKind.{ItemKind}
@@ -387,3 +387,7 @@ defined_parts f (types.Future t) = one_child (optional_means f t)
 -- an entry, over the meanings of what it names
 abbrev pub entry_over : (ℕ → Meaning) → ℕ → Entry → Meaning
 entry_over f origin e = node (label origin e) (row f (children e))
+
+-- each entry of a table means its label, over the meanings of what it names
+abbrev pub IsOver : (ℕ → ℕ) → List Entry → (ℕ → Meaning) → Type 0
+IsOver origins es f = (n : ℕ) (e : Entry) → slice_get es n ≡ Some e → f n ≡ entry_over f (origins n) e

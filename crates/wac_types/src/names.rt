@@ -1,5 +1,5 @@
 //! Names in order: the maps and sets of texts that stand in entries.
-ghost use Rattle.std.specs.Prelude.{◌≡◌, [], ◌∷◌, ◌++◌, OnOk, OnErr, false, None, map, string_bytes, option_copied};
+ghost use Rattle.std.specs.Prelude.{◌≡◌, [], ◌∷◌, ◌++◌, OnOk, OnErr, IfOk, false, option_map, slice_get, None, map, string_bytes, option_copied};
 ghost use Rattle.std.specs.List.{list_any};
 ghost use Rattle.std.specs.Str.{bytes_eq};
 ghost use Rattle.wac_types.specs.Names.{by_name};
@@ -29,6 +29,20 @@ pub fn find<V: Copy>(all: &IndexMap<String, V>, name: &str) -> Option<V>
     ensures { result ≡ look_up name.now (by_name all.now.entries) }
 {
     all.get(name).copied()
+}
+
+/// The name at a place, copied.
+pub fn name_at<V: Drop>(
+    alloc: Global,
+    all: &IndexMap<String, V>,
+    at: usize,
+) -> Result<Option<String>, AllocError>
+    ensures { IfOk result (λ n. option_map string_bytes n ≡ option_map (λ e. e.0) (slice_get (by_name all.now.entries) at)) }
+{
+    match all.get_index(at) {
+        None => Ok(None),
+        Some((name, _)) => Ok(Some(String::from_str(alloc, name.as_str())?)),
+    }
 }
 
 /// Adds a new name, behind the others. It is copied.

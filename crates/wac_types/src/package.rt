@@ -6,7 +6,7 @@ ghost use Rattle.wac_types.specs.Meaning.{row, meaning_at, IsOneToOne, IsEarlier
 ghost use Rattle.wac_types.specs.Readings.{as_interface, as_world};
 ghost use Rattle.wac_types.specs.Kind.{named_by};
 ghost use Rattle.wac_types.specs.Names.{by_name};
-ghost use Rattle.wac_types.specs.Table.{IsTable, ItemsNamed, Names};
+ghost use Rattle.wac_types.specs.Table.{IsOfSort, IsTable, ItemsNamed, Names};
 ghost use Rattle.wac_types.specs.Package.{IdsInRange, IdsOfSort, IdsEarlier, HaveIds, SameExports, OtherExports, IsPackage, FirstFault};
 ghost use Rattle.wac_types.specs.Tests.{Passes, EntriesPass, DefinitionsPass, AllPass};
 
@@ -304,11 +304,12 @@ fn exports_of_world(entries: &[Entry], id: WorldId) -> Option<&IndexMap<String, 
     Some(&world.exports)
 }
 
+/// Whether the instance and the world, which are there, export the same.
 #[tactic(auto, using(crate::proofs::Exports::interface_there, crate::proofs::Exports::world_there))]
 fn same_exports(entries: &[Entry], world: WorldId, instance: InterfaceId) -> bool
     requires earlier { IsEarlier entries.now }
-    requires world { Passes Test.OfSort entries.now 0 (ItemKind.Component world) }
-    requires instance { Passes Test.OfSort entries.now 0 (ItemKind.Instance instance) }
+    requires world { IsOfSort entries.now (ItemKind.Component world) }
+    requires instance { IsOfSort entries.now (ItemKind.Instance instance) }
     ensures same { IsTrue result → SameExports entries.now world instance }
     ensures other { (IsTrue result → ⊥) → OtherExports entries.now world instance }
 {

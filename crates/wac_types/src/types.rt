@@ -1,16 +1,20 @@
 //! The table of types.
-ghost use Rattle.std.specs.Prelude.{◌≡◌, ℕ, ◌+◌, ◌<◌, ◌^◌, ◌++◌, [], ◌∷◌, IsTrue, ◌↔◌, IfOk, OnOk, OnErr, length, slice_get, option_copied, option_and_then};
+ghost use Rattle.std.specs.Prelude.{◌≡◌, ℕ, ◌+◌, ◌<◌, ◌^◌, ◌++◌, [], ◌∷◌, IsTrue, ◌↔◌, IfOk, OnOk, OnErr, length, slice_get, option_copied, option_and_then, option_map, unwrap_or, string_bytes};
 ghost use Rattle.wac_types.specs.Growth.{KeepsMeanings};
 ghost use Rattle.wac_types.specs.Meaning.{IsOneToOne, meaning};
 ghost use Rattle.wac_types.specs.Shape.{contains_borrow as has_borrow};
 ghost use Rattle.wac_types.specs.Table.{IsTable, Names};
-ghost use Rattle.wac_types.specs.Readings.{as_defined, as_resource, as_func, as_interface, as_world};
+ghost use Rattle.wac_types.specs.Readings.{as_defined, as_resource, as_func, as_interface, as_world, interface_exports, world_exports, world_imports, kind_exports};
+ghost use Rattle.wac_types.specs.Names.{by_name};
+ghost use Rattle.wac_types.specs.Scope.{look_up};
 
 use crate::entry::{DefinedType, Entry, FuncType, Interface, Resource, World};
 use crate::kind::{
-    DefinedTypeId, FuncTypeId, InterfaceId, ItemKind, ResourceId, ValueType, WorldId,
+    DefinedTypeId, FuncTypeId, InterfaceId, ItemKind, ResourceId, Type, ValueType, WorldId,
 };
+use crate::names::{find, name_at};
 use crate::{alike, borrows};
+use indexmap::IndexMap;
 use std::alloc::{AllocError, Global};
 use std::marker::Model;
 
@@ -163,6 +167,87 @@ impl Types {
         match self.entries.get(id.0)? {
             Entry::World(world) => Some(world),
             _ => None,
+        }
+    }
+
+    fn interface_exports(&self, id: InterfaceId) -> Option<&IndexMap<String, ItemKind>>
+        ensures { unwrap_or (option_map (λ m. by_name m.now.entries) result) [] ≡ interface_exports self.now id.0 }
+    {
+        let interface = self.interface(id)?;
+        Some(&interface.exports)
+    }
+
+    fn world_exports(&self, id: WorldId) -> Option<&IndexMap<String, ItemKind>>
+        ensures { unwrap_or (option_map (λ m. by_name m.now.entries) result) [] ≡ world_exports self.now id.0 }
+    {
+        let world = self.world(id)?;
+        Some(&world.exports)
+    }
+
+    /// What an interface, instance, world or component exports, by name and in order.
+    pub fn exports(&self, kind: ItemKind) -> Option<&IndexMap<String, ItemKind>>
+        ensures { unwrap_or (option_map (λ m. by_name m.now.entries) result) [] ≡ kind_exports self.now kind }
+    {
+        match kind {
+            ItemKind::Ty(Type::Interface(id)) => self.interface_exports(id),
+            ItemKind::Ty(Type::World(id)) => self.world_exports(id),
+            ItemKind::Instance(id) => self.interface_exports(id),
+            ItemKind::Component(id) => self.world_exports(id),
+            _ => None,
+        }
+    }
+
+    /// What a world imports, by name and in order.
+    pub fn imports(&self, id: WorldId) -> Option<&IndexMap<String, ItemKind>>
+        ensures { unwrap_or (option_map (λ m. by_name m.now.entries) result) [] ≡ world_imports self.now id.0 }
+    {
+        let world = self.world(id)?;
+        Some(&world.imports)
+    }
+
+    /// What an interface, instance, world or component exports under a name.
+    pub fn export(&self, kind: ItemKind, name: &str) -> Option<ItemKind>
+        ensures { result ≡ look_up name.now (kind_exports self.now kind) }
+    {
+        let all = self.exports(kind)?;
+        find(all, name)
+    }
+
+    /// What a world imports under a name.
+    pub fn import(&self, id: WorldId, name: &str) -> Option<ItemKind>
+        ensures { result ≡ look_up name.now (world_imports self.now id.0) }
+    {
+        let all = self.imports(id)?;
+        find(all, name)
+    }
+
+    /// The name of an export by its place, copied.
+    pub fn export_name(
+        &self,
+        alloc: Global,
+        kind: ItemKind,
+        at: usize,
+    ) -> Result<Option<String>, AllocError>
+        ensures { IfOk result (λ n. option_map string_bytes n ≡ option_map (λ e. e.0) (slice_get (kind_exports self.now kind) at)) }
+    {
+        match self.exports(kind) {
+            None => Ok(None),
+            Some(all) => name_at(alloc, all, at),
+        }
+    }
+
+    /// The name of a world's import by its place, copied.
+    pub fn import_name(
+        &self,
+        alloc: Global,
+        id: WorldId,
+        at: usize,
+    ) -> Result<Option<String>, AllocError>
+        ensures { IfOk result (λ n. option_map string_bytes n ≡ option_map (λ e. e.0) (slice_get (world_imports self.now id.0) at)) }
+    {
+        match self.imports(id) {
+            None => Ok(None),
+            Some(all) => name_at(alloc, all, at),
         }
     }
 

@@ -1,9 +1,10 @@
-use Rattle.std.proofs.Common.{◌∙◌, List, [], ◌∷◌, ◌++◌, length, sym, ap, subst}
+use Rattle.std.proofs.Common.{◌≡◌, ◌∙◌, None, List, [], ◌∷◌, ◌++◌, length, sym, ap, subst}
 use Rattle.wac_types.specs.declared.entry.Entry.{Entry}
 use Rattle.wac_types.specs.Growth.{KeepsMeanings}
-use Rattle.wac_graph.specs.Copied.{IsGrown, IsGrownBy}
-use Rattle.wac_graph.specs.Graph.{Parts, IsSound}
-use Rattle.wac_graph.specs.Package.{HeldPackage, IsHeld, key_of, moved_package}
+use Rattle.wac_graph_copies.specs.Copied.{IsGrown, IsGrownBy}
+use Rattle.wac_graph.specs.Graph.{Parts}
+use Rattle.wac_graph.specs.Sound.{IsSound}
+use Rattle.wac_graph.specs.Package.{HeldPackage, IsHeld, key_of, moved_package, package_keyed}
 use Rattle.wac_graph.proofs.Sound.{sound_grown, sound_package, held_moved, keeps_grown}
 use Rattle.wac_graph.proofs.graph.CompositionGraph.append_package.Goals as goal
 
@@ -34,8 +35,10 @@ invariant_of-self-2 c =
     = subst (IsHeld c.copy_types.new.types) (sym c.in_ok-held.ensures)
     (subst (λ (l : List Entry). IsHeld c.copy_types.new.types (moved_package (length l) (key_of c.args.key.now) c.args.package.now)) (sym c.entries-number.ensures)
     (held_moved c.self.inside.types c.copy_types.new.types (key_of c.args.key.now) c.args.package.now c.types.ensures.facts copies)) in
+    let new : package_keyed c.in_ok-held.held.key before.packages ≡ None
+    = subst (λ (h : HeldPackage). package_keyed h.key before.packages ≡ None) (sym c.in_ok-held.ensures) (subst (λ (g : Parts). package_keyed (key_of c.args.key.now) g.packages ≡ None) (sym c.self.view_is) c.requires) in
     subst (λ (l : List HeldPackage). IsSound (record { types = c.copy_types.new.types; packages = l; nodes = c.self.inside.nodes.items; imports = c.self.inside.imports; exports = c.self.inside.exports })) (sym (c.in_ok-push.ensures.items ∙ ap (λ (l : List HeldPackage). l ++ c.in_ok-held.held ∷ []) c.reserve-2.ensures.items))
-    (sound_package (record before { types = c.copy_types.new.types }) c.in_ok-held.held held
+    (sound_package (record before { types = c.copy_types.new.types }) c.in_ok-held.held held new
     (sound_grown before c.copy_types.new.types more c.in_ok-copy_types.ensures.table c.self.invariant))
 
 pub returns-clause-keeps : goal.returns-clause-keeps

@@ -1,8 +1,8 @@
 use Rattle.std.proofs.Common.{◌≡◌, ◌<◌, length, ap, subst, sym, arith}
 use Rattle.wac_types.specs.declared.kind.WorldId.{WorldId}
 use Rattle.wac_types.specs.declared.kind.InterfaceId.{InterfaceId}
-use Rattle.wac_graph.specs.Moved.{ItemsFit}
-use Rattle.wac_graph.proofs.Fitting.{items_fit}
+use Rattle.wac_graph_copies.specs.Moved.{ItemsFit}
+use Rattle.wac_graph_copies.proofs.Fitting.{items_fit}
 use Rattle.wac_graph.proofs.packages.HeldPackage.moved.Goals as goal
 
 pub copy_items-requires : goal.copy_items-requires

@@ -1,0 +1,34 @@
+-- A package that is copied in keeps its contents.
+use Rattle.std.proofs.Common.{◌≡◌, ℕ, List, [], ◌∷◌, length, refl, map}
+use Rattle.wac_types.specs.declared.kind.ItemKind.{ItemKind}
+use Rattle.wac_types.specs.declared.kind.ItemKind.TheVariants as kinds
+use Rattle.wac_types.specs.declared.entry.Entry.{Entry}
+use Rattle.wac_types.specs.Meaning.{Meaning, meaning, NamesBefore}
+use Rattle.wac_types.specs.Package.{PackageParts, IsPackage}
+use Rattle.wac_types.specs.Scope.{Named}
+use Rattle.wac_types.specs.Shape.{items_mean}
+use Rattle.wac_types.specs.Table.{ItemsNamed}
+use Rattle.wac_types.proofs.Packages.{package_world, package_instance, package_definitions}
+use Rattle.wac_graph.specs.Graph.{Parts}
+use Rattle.wac_graph.specs.Means.{means, entry_means, CopiesMean}
+use Rattle.wac_graph_copies.specs.Moved.{moved, moved_items}
+use Rattle.wac_graph.specs.Origin.{Naming, copied}
+use Rattle.wac_graph.specs.Package.{Key}
+use Rattle.wac_graph.specs.Packages.{Contents, HoldsContents}
+
+module _ (old new : Parts) (key : Key) (p : PackageParts) (mean : CopiesMean old new key p) (naming : Naming) where
+  items : (ds : List (List ℕ × ItemKind)) → ItemsNamed p.types ds → items_mean (entry_means naming new) (moved_items (length old.types) ds) ≡ map (λ d. (d.0, meaning (λ i. naming (copied key i)) p.types d.1)) ds
+  items [] h = refl
+  items (d ∷ ds) h =
+      let here : means naming new (moved (length old.types) d.1) ≡ meaning (λ i. naming (copied key i)) p.types d.1 = mean naming d.1 h.0.0 in
+      let rest : items_mean (entry_means naming new) (moved_items (length old.types) ds) ≡ map (λ x. (x.0, meaning (λ i. naming (copied key i)) p.types x.1)) ds = items ds h.1 in
+      cc
+
+contents : (a b : Contents) → a.world ≡ b.world → a.instance ≡ b.instance → a.definitions ≡ b.definitions → a ≡ b
+contents a b w i d = cc
+
+pub holds_contents : (old new : Parts) (key : Key) (p : PackageParts) → IsPackage p → CopiesMean old new key p → HoldsContents old new key p
+holds_contents old new key p h mean naming = contents _ _
+    (mean naming (kinds.Component p.world) (package_world p h).0)
+    (mean naming (kinds.Instance p.instance) (package_instance p h).0)
+    (items old new key p mean naming p.definitions (package_definitions p h))

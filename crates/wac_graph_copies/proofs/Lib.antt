@@ -1,0 +1,5 @@
+pub mod Views
+pub mod Copying
+pub mod Copies
+pub mod Growing
+pub mod Fitting
