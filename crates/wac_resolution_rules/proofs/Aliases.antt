@@ -13,7 +13,7 @@ use Rattle.wac_resolution_rules.specs.Sound.{IsAlias, is_same_alias, AliasesOnce
 use Rattle.wac_resolution_rules.specs.Spans.{identifier_of}
 use Rattle.wac_resolution_rules.proofs.StatementsStop.{declares_what}
 use Rattle.wac_resolution_rules.proofs.ExpressionsKeep.{Keeps, keeps_stands, keeps_by}
-use Rattle.wac_resolution_rules.proofs.Fronts.{named_at_suc, all_to}
+use Rattle.wac_resolution_rules.proofs.Prefixes.{named_at_suc, all_to}
 use Rattle.wac_resolution_rules.proofs.Names.{eq_other_way, cond_none}
 
 -- ---- what statements keep of the nodes

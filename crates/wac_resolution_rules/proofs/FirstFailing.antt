@@ -10,7 +10,7 @@ use Rattle.wac_resolution_rules.specs.Error.{Error, NamesRule}
 use Rattle.wac_resolution_rules.specs.BrokenStatements.{StatementBroken, TargetBroken}
 use Rattle.wac_resolution_rules.specs.ResolvedDocument.{Describes, StatementFails, TargetFails, FirstFailing}
 use Rattle.wac_resolution_rules.specs.Places.{Leads, Placed, placed_start}
-use Rattle.wac_resolution_rules.proofs.StepLaws.{steps_front}
+use Rattle.wac_resolution_rules.proofs.StepLaws.{steps_prefix}
 use Rattle.wac_resolution_rules.proofs.StatementsOnce.{composes_once}
 use Rattle.wac_resolution_rules.proofs.StatementsStop.{statement_stops, target_stops}
 
@@ -27,7 +27,7 @@ leads_composes s (x ∷ xs) old new p = (p.0.composition, p.1.0, leads_composes 
 pub statement_has_none : (s : Given) (doc : Document) (e : Error) (c : Composition) → StatementFails s doc e → Describes s doc c → ⊥
 statement_has_none s doc e c f p =
     let whole = subst (λ (l : List Statement). Composes s start l c) f.split p.0 in
-    let r = steps_front (Goes s) start f.before (f.failing ∷ f.after) c whole in
+    let r = steps_prefix (Goes s) start f.before (f.failing ∷ f.after) c whole in
     let same : r.0 ≡ f.so_far.composition = composes_once s start f.before r.0 f.so_far.composition r.1 (leads_composes s f.before (placed_start start) f.so_far f.leads) in
     f.stops r.2.0 (subst (λ (m : Composition). Goes s m f.failing r.2.0) same r.2.1)
 

@@ -1,4 +1,4 @@
--- What including a world does, in words: nothing that was there is lost, and each name of the included world is there afterwards, a name with
+-- An include loses nothing, and takes each name with a colon as it is.
 use Rattle.std.proofs.Common.{◌≡◌, ℕ, List, [], ◌∷◌, ◌++◌, Some, None, Option, Bool, true, false, cond, refl, sym, ap, subst}
 use Rattle.std.specs.Str.{bytes_eq}
 use Rattle.wac_lexer.proofs.Texts.{bytes_eq_same}
@@ -9,10 +9,8 @@ use Rattle.wac_types.specs.Shape.{entry_of, imports_of, exports_of}
 use Rattle.wac_grammar.specs.Tree.{WorldInclude}
 use Rattle.wac_resolution_rules.specs.Paths.{Setting}
 use Rattle.wac_resolution_rules.specs.Bodies.{Body}
-use Rattle.wac_resolution_rules.specs.Includes.{has_colon, Taking, with_missing, name_taken, TakesNamed, Takes, HasInclude}
-use Rattle.wac_resolution_rules.proofs.StepLaws.{steps_keep, steps_front}
-
--- a colon as it is, another under the name of the first entry that is left for it.
+use Rattle.wac_resolution_rules.specs.Includes.{Entries, has_colon, Taking, with_missing, name_taken, TakesNamed, Takes, Included, HasInclude}
+use Rattle.wac_resolution_rules.proofs.StepLaws.{steps_keep, steps_prefix}
 
 -- what is found is found with one more
 pub found_stays : {X : Type 0} (name : List ℕ) (all : Named X) (x : List ℕ) (v w : X) → StandsFor all name w → StandsFor (with_named all x v) name w
@@ -62,14 +60,6 @@ colon_stands old x new colon p = go (has_colon x.0) colon p
     go true e q = subst (λ (t : Taking). (w : Meaning) × StandsFor t.there x.0 w) (sym q) (missing_stands old.there x.0 x.1)
     go false e q = absurd (cc)
 
--- another name is there afterwards under the name that it got, with its own meaning
-pub renamed_stands : (old : Taking) (x : List ℕ × Meaning) (new : Taking) → has_colon x.0 ≡ false → Takes old x new → StandsFor new.there (name_taken old.entries x.0) x.1
-renamed_stands old x new colon p = go (has_colon x.0) colon p
-  where
-    go : (c : Bool) → c ≡ false → TakesNamed c old x new → StandsFor new.there (name_taken old.entries x.0) x.1
-    go true e q = absurd (cc)
-    go false e q = subst (λ (t : Taking). StandsFor t.there (name_taken old.entries x.0) x.1) (sym q.1) (added_stands (name_taken old.entries x.0) old.there x.1 q.0)
-
 -- an include loses no import and no export
 pub include_keeps_imports : (setting : Setting) (root : Scope) (old : Body) (x : WorldInclude) (new : Body) (name : List ℕ) (w : Meaning) → HasInclude setting root old x new → StandsFor old.imports name w → StandsFor new.imports name w
 include_keeps_imports setting root old x new name w p h =
@@ -81,11 +71,19 @@ include_keeps_exports setting root old x new name w p h =
     subst (λ (b : Body). StandsFor b.exports name w) (sym p.5.is)
     (steps_keep Takes (λ t. StandsFor t.there name w) (λ o y n has q. takes_keeps name w o y n has q) (record { entries = p.5.imports.entries; there = old.exports }) (exports_of (entry_of p.1)) p.5.exports h p.5.takes_exports)
 
--- each import of the included world whose name has a colon is an import afterwards
-pub include_takes_colons : (setting : Setting) (root : Scope) (old : Body) (x : WorldInclude) (new : Body) → (p : HasInclude setting root old x new)
-    → (before : Named Meaning) (n : List ℕ × Meaning) (after : Named Meaning) → imports_of (entry_of p.1) ≡ before ++ n ∷ after → has_colon n.0 ≡ true → (w : Meaning) × StandsFor new.imports n.0 w
-include_takes_colons setting root old x new p before n after split colon =
-    let start : Taking = record { entries = p.0; there = old.imports } in
-    let r = steps_front Takes start before (n ∷ after) p.5.imports (subst (λ (l : Named Meaning). Steps Takes start l p.5.imports) split p.5.takes_imports) in
+takes_colons : (first last : Taking) (all : Named Meaning) → Steps Takes first all last → (before : Named Meaning) (n : List ℕ × Meaning) (after : Named Meaning) → all ≡ before ++ n ∷ after → has_colon n.0 ≡ true → (m : Meaning) × StandsFor last.there n.0 m
+takes_colons first last all p before n after split colon =
+    let r = steps_prefix Takes first before (n ∷ after) last (subst (λ (l : Named Meaning). Steps Takes first l last) split p) in
     let s = colon_stands r.0 n r.2.0 colon r.2.1 in
-    (s.0, subst (λ (b : Body). StandsFor b.imports n.0 s.0) (sym p.5.is) (steps_keep Takes (λ t. StandsFor t.there n.0 s.0) (λ o y m has q. takes_keeps n.0 s.0 o y m has q) r.2.0 after p.5.imports s.1 r.2.2))
+    (s.0, steps_keep Takes (λ t. StandsFor t.there n.0 s.0) (λ o y m has q. takes_keeps n.0 s.0 o y m has q) r.2.0 after last s.1 r.2.2)
+
+-- what the included world imports or exports under a name with a colon is imported or exported afterwards
+pub imports_colons : (entries : Entries) (world : Meaning) (old new : Body) → Included entries world old new → (before : Named Meaning) (n : List ℕ × Meaning) (after : Named Meaning) → imports_of world ≡ before ++ n ∷ after → has_colon n.0 ≡ true → (m : Meaning) × StandsFor new.imports n.0 m
+imports_colons entries world old new p before n after split colon =
+    let s = takes_colons (record { entries = entries; there = old.imports }) p.imports (imports_of world) p.takes_imports before n after split colon in
+    (s.0, subst (λ (b : Body). StandsFor b.imports n.0 s.0) (sym p.is) s.1)
+
+pub exports_colons : (entries : Entries) (world : Meaning) (old new : Body) → Included entries world old new → (before : Named Meaning) (n : List ℕ × Meaning) (after : Named Meaning) → exports_of world ≡ before ++ n ∷ after → has_colon n.0 ≡ true → (m : Meaning) × StandsFor new.exports n.0 m
+exports_colons entries world old new p before n after split colon =
+    let s = takes_colons (record { entries = p.imports.entries; there = old.exports }) p.exports (exports_of world) p.takes_exports before n after split colon in
+    (s.0, subst (λ (b : Body). StandsFor b.exports n.0 s.0) (sym p.is) s.1)

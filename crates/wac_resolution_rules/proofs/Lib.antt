@@ -19,11 +19,12 @@ pub mod ExpressionsStop
 pub mod StatementsStop
 pub mod FirstFailing
 pub mod ExpressionsAdd
-pub mod Fronts
+pub mod Prefixes
 pub mod Sound
 pub mod StatementsPlain
 pub mod Alike
 pub mod StatementRows
+pub mod RejectedRows
 pub mod TypesMention
 pub mod StatementsMention
 pub mod Places

@@ -19,7 +19,7 @@ use Rattle.wac_resolution_rules.specs.Spans.{identifier_of}
 use Rattle.wac_resolution_rules.proofs.StatementsStop.{declares_what}
 use Rattle.wac_resolution_rules.proofs.ExpressionsAdd.{Adds, stands_adds, alias_adds}
 use Rattle.wac_resolution_rules.proofs.ExpressionsKeep.{Keeps, keeps_stands}
-use Rattle.wac_resolution_rules.proofs.Fronts.{named_at_suc}
+use Rattle.wac_resolution_rules.proofs.Prefixes.{named_at_suc}
 
 -- ---- lists of names
 

@@ -15,7 +15,7 @@ use Rattle.wac_resolution_rules.specs.Find.{names_of}
 use Rattle.wac_resolution_rules.specs.Sound.{IsKept, AreKept, Begins}
 use Rattle.wac_resolution_rules.specs.Places.{HavePlaces, Leads, Placed, Places, bound_at, exported_at, imported_at, more_at, names_at, placed_start, places_after}
 use Rattle.wac_resolution_rules.proofs.Names.{cons_append}
-use Rattle.wac_resolution_rules.proofs.Fronts.{AreNamed, goes_continues}
+use Rattle.wac_resolution_rules.proofs.Prefixes.{AreNamed, goes_continues}
 
 names_append : {X : Type 0} (xs ys : Named X) → names_of (xs ++ ys) ≡ names_of xs ++ names_of ys
 names_append [] ys = refl

@@ -22,7 +22,7 @@ use Rattle.wac_resolution_rules.specs.Sound.{OnceEach, IsAfterSource, ArgumentsF
 use Rattle.wac_resolution_rules.proofs.StatementsStop.{declares_what}
 use Rattle.wac_resolution_rules.proofs.Names.{once_with}
 use Rattle.wac_resolution_rules.proofs.ExpressionsAdd.{Adds, stands_adds, gives_add, give_adds, spread_adds, step_adds, alias_adds}
-use Rattle.wac_resolution_rules.proofs.Fronts.{AreNamed, named_found, named_at_suc, adds_named, adds_length, alias_there, goes_continues}
+use Rattle.wac_resolution_rules.proofs.Prefixes.{AreNamed, named_found, named_at_suc, adds_named, adds_length, alias_there, goes_continues}
 
 -- ---- nodes that are linked
 
@@ -82,7 +82,7 @@ at_alias s a name k h = record {
   within = let t = alias_there a name k in slice_get_within (alias_at a name k).composition.nodes (alias_at a name k).node t.0 t.1;
 }
 
-accesses_linked : (s : Given) (ps : List PostfixExpr) (old new : At) → LinkedAt s old → Steps Accesses old ps new → LinkedAt s new
+pub accesses_linked : (s : Given) (ps : List PostfixExpr) (old new : At) → LinkedAt s old → Steps Accesses old ps new → LinkedAt s new
 accesses_linked s [] old new h p = subst (LinkedAt s) (sym p) h
 accesses_linked s (x ∷ ps) old new h p =
     accesses_linked s ps p.0 new (subst (LinkedAt s) (sym p.1.4) (at_alias s old (accessed x (exports_of p.1.0)) p.1.1 h)) p.2
@@ -112,7 +112,7 @@ is_some_none : {X : Type 0} (o : Option X) → is_some o ≡ false → o ≡ Non
 is_some_none None e = refl
 is_some_none (Some x) e = absurd (cc e)
 
-step_linked : (s : Given) (node : ℕ) (exports : Named Meaning) (g : Giving) (x : List ℕ × Meaning) → node < length g.composition.nodes → LinkedGiving s g → LinkedGiving s (spread_step node exports g x)
+pub step_linked : (s : Given) (node : ℕ) (exports : Named Meaning) (g : Giving) (x : List ℕ × Meaning) → node < length g.composition.nodes → LinkedGiving s g → LinkedGiving s (spread_step node exports g x)
 step_linked s node exports g x within h = given (is_some (look_up x.0 g.arguments)) refl
   where
     exported : IsFresh x.0 g.arguments → (o : Option Meaning) → LinkedGiving s (elim o as (λ _. Giving) [ None ↦ g | Some k ↦ given_too g x.0 (alias_at (at g.composition node) x.0 k) ])
@@ -130,13 +130,13 @@ fold_linked s node exports (x ∷ xs) g within h =
     (omega (arith, within, adds_length g.composition (spread_step node exports g x).composition (step_adds node exports g x))) (step_linked s node exports g x within h)
 
 -- an identifier's node is there
-bound_within : (c : Composition) (name : List ℕ) (node : ℕ) → AreNamed c → StandsFor c.declared name node → node < length c.nodes
+pub bound_within : (c : Composition) (name : List ℕ) (node : ℕ) → AreNamed c → StandsFor c.declared name node → node < length c.nodes
 bound_within c name node named stands = let n = named_found c.nodes name c.declared node named stands in slice_get_within c.nodes node n.0 n.1
 
-spread_linked : (s : Given) (imports : Named Meaning) (old : Giving) (id : Ident) (new : Giving) → AreNamed old.composition → LinkedGiving s old → Spreads imports old id new → LinkedGiving s new
+pub spread_linked : (s : Given) (imports : Named Meaning) (old : Giving) (id : Ident) (new : Giving) → AreNamed old.composition → LinkedGiving s old → Spreads imports old id new → LinkedGiving s new
 spread_linked s imports old id new named h p = subst (LinkedGiving s) (sym p.4) (fold_linked s p.0 (exports_of p.1) imports old (bound_within old.composition id.string p.0 named p.2) h)
 
-spreads_linked : (s : Given) (imports : Named Meaning) (ids : List Ident) (old new : Giving) → AreNamed old.composition → LinkedGiving s old → Steps (Spreads imports) old ids new → LinkedGiving s new
+pub spreads_linked : (s : Given) (imports : Named Meaning) (ids : List Ident) (old new : Giving) → AreNamed old.composition → LinkedGiving s old → Steps (Spreads imports) old ids new → LinkedGiving s new
 spreads_linked s imports [] old new named h p = subst (LinkedGiving s) (sym p) h
 spreads_linked s imports (id ∷ ids) old new named h p =
     spreads_linked s imports ids p.0 new (adds_named old.composition p.0.composition (spread_adds imports old id p.0 p.1) named) (spread_linked s imports old id p.0 named h p.1) p.2
@@ -145,7 +145,7 @@ cond_some : {X : Type 0} (b : Bool) (o : Option X) (x : X) → cond b None o ≡
 cond_some true o x e = absurd (cc e)
 cond_some false o x e = e
 
-instance_linked : (s : Given) (p : Contents) (name : PackageName) (filled : Bool) (g : Giving) (new : At) → instantiable s name ≡ Some p → LinkedGiving s g → Instantiates s.rules p (key_named name) filled g new → LinkedAt s new
+pub instance_linked : (s : Given) (p : Contents) (name : PackageName) (filled : Bool) (g : Giving) (new : At) → instantiable s name ≡ Some p → LinkedGiving s g → Instantiates s.rules p (key_named name) filled g new → LinkedAt s new
 instance_linked s p name filled g new handed h i =
     let n : Node = record { form = instantiated (key_named name); kind = p.instance; name = None; arguments = g.arguments } in
     let is : package_of (key_named name) s.setting.packages ≡ Some p = cond_some (bytes_eq name.name s.setting.own) (package_of (key_named name) s.setting.packages) p handed in
@@ -163,7 +163,7 @@ mutual
   pub stands_linked : (s : Given) (old : Composition) (x : Expr) (a : At) → AreNamed old → AreLinked s old.nodes → Stands s old x a → LinkedAt s a
   stands_linked s old (Expr.expr span first others) a named h p = accesses_linked s others p.0 a (first_linked s old first p.0 named h p.1) p.2
 
-  first_linked : (s : Given) (old : Composition) (x : PrimaryExpr) (a : At) → AreNamed old → AreLinked s old.nodes → PrimaryStands s old x a → LinkedAt s a
+  pub first_linked : (s : Given) (old : Composition) (x : PrimaryExpr) (a : At) → AreNamed old → AreLinked s old.nodes → PrimaryStands s old x a → LinkedAt s a
   first_linked s old (PrimaryExpr.new span name args) a named h p =
       let g : LinkedGiving s p.1 = gives_linked s (imports_in p.0) (nothing_given old) args p.1 named (record { linked = h; within = tt; once = tt }) p.4 in
       let after : AreNamed p.1.composition = adds_named old p.1.composition (gives_add s (imports_in p.0) (nothing_given old) args p.1 p.4) named in
@@ -171,12 +171,12 @@ mutual
   first_linked s old (PrimaryExpr.nested span x) a named h p = stands_linked s old x a named h p
   first_linked s old (PrimaryExpr.ident id) a named h p = subst (LinkedAt s) (sym p.2) (record { linked = h; within = bound_within old id.string p.0 named p.1 })
 
-  gives_linked : (s : Given) (imports : Named Meaning) (old : Giving) (x : Arguments) (new : Giving) → AreNamed old.composition → LinkedGiving s old → Gives s imports old x new → LinkedGiving s new
+  pub gives_linked : (s : Given) (imports : Named Meaning) (old : Giving) (x : Arguments) (new : Giving) → AreNamed old.composition → LinkedGiving s old → Gives s imports old x new → LinkedGiving s new
   gives_linked s imports old Arguments.none new named h p = subst (LinkedGiving s) (sym p) h
   gives_linked s imports old (Arguments.more x rest) new named h p =
       gives_linked s imports p.0 rest new (adds_named old.composition p.0.composition (give_adds s imports rest old x p.0 p.1) named) (give_linked s imports rest old x p.0 named h p.1) p.2
 
-  give_linked : (s : Given) (imports : Named Meaning) (rest : Arguments) (old : Giving) (x : InstantiationArgument) (new : Giving) → AreNamed old.composition → LinkedGiving s old → GivesOne s imports rest old x new → LinkedGiving s new
+  pub give_linked : (s : Given) (imports : Named Meaning) (rest : Arguments) (old : Giving) (x : InstantiationArgument) (new : Giving) → AreNamed old.composition → LinkedGiving s old → GivesOne s imports rest old x new → LinkedGiving s new
   give_linked s imports rest old (InstantiationArgument.fill span) new named h p = subst (LinkedGiving s) (sym p.1) h
   give_linked s imports rest old (InstantiationArgument.spread id) new named h p = subst (LinkedGiving s) (sym p) h
   give_linked s imports rest old (InstantiationArgument.named name x) new named h p =

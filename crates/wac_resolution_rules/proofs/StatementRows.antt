@@ -22,22 +22,22 @@ use Rattle.wac_resolution_rules.specs.Error.{duplicate_extern_name, fill_argumen
 use Rattle.wac_resolution_rules.specs.BrokenStatements.{StatementBroken, TargetWorldBroken, TargetBroken}
 use Rattle.wac_resolution_rules.specs.Places.{Places}
 
-abbrev ident : List ℕ → ℕ → ℕ → Ident
+abbrev pub ident : List ℕ → ℕ → ℕ → Ident
 ident text offset len = record { string = text; span = span offset len }
 
 -- func()
-abbrev no_params : FuncType
+abbrev pub no_params : FuncType
 no_params = record { is_async = false; params = []; results = ResultList.empty }
 
 -- what it means as a kind
-abbrev function : Meaning
+abbrev pub function : Meaning
 function = kind_of func (func_entry false [] [])
 
 -- rules that pass all
-abbrev all_pass : Rules
+abbrev pub all_pass : Rules
 all_pass = record { passes = λ a b. None; named = λ text. None }
 
-abbrev given_in : Naming → List (Key × Contents) → Given
+abbrev pub given_in : Naming → List (Key × Contents) → Given
 given_in naming packages = record { setting = record { naming = naming; own = codes "a:b"; version = None; packages = packages }; rules = all_pass }
 
 -- ---- package a:b; import x: interface { f: func(); }; export x.f;
@@ -90,24 +90,24 @@ access_composes naming = (with_x, imports_x naming, (whole_x, exports_x_f naming
 
 -- ---- package a:b; import log: func(); let i = new c:d { log, ... }; export i.run;
 
-abbrev instance_z : Meaning
+abbrev pub instance_z : Meaning
 instance_z = kind_of instance (interface_entry (Some (codes "x:y/z")) [] [])
 
 -- imports log, a function, and x:y/z, an instance; exports run
-abbrev package_cd : Contents
+abbrev pub package_cd : Contents
 package_cd = record {
   world = kind_of component (world_entry None [] ((codes "log", function) ∷ (codes "x:y/z", instance_z) ∷ []) ((codes "run", function) ∷ []));
   instance = kind_of instance (interface_entry None [] ((codes "run", function) ∷ []));
   definitions = [];
 }
 
-abbrev key_cd : Key
+abbrev pub key_cd : Key
 key_cd = (codes "c:d", None)
 
-abbrev name_cd : PackageName
+abbrev pub name_cd : PackageName
 name_cd = record { string = codes "c:d"; name = codes "c:d"; version = None; span = span 45 3 }
 
-abbrev with_cd : Naming → Given
+abbrev pub with_cd : Naming → Given
 with_cd naming = given_in naming ((key_cd, package_cd) ∷ [])
 
 abbrev import_log : Statement
@@ -128,7 +128,7 @@ export_i_run = Statement.export_statement (record { docs = []; expr = Expr.expr 
 abbrev node_log : Node
 node_log = record { form = imported (codes "log"); kind = function; name = Some (codes "log"); arguments = [] }
 
-abbrev node_i : Option (List ℕ) → Node
+abbrev pub node_i : Option (List ℕ) → Node
 node_i name = record { form = instantiated key_cd; kind = package_cd.instance; name = name; arguments = (codes "log", 0) ∷ [] }
 
 abbrev node_run : Node
@@ -274,7 +274,7 @@ spread_composes naming = (
 )
 
 -- rules that pass nothing, for one reason
-abbrev none_pass : Naming → Reason → Given
+abbrev pub none_pass : Naming → Reason → Given
 none_pass naming r = record { setting = (with_cd naming).setting; rules = record { passes = λ a b. Some r; named = λ text. None } }
 
 -- then 72+1: mismatched instantiation argument log, for that reason

@@ -23,9 +23,9 @@ use Rattle.wac_resolution_rules.specs.Target.{open_imports, ImportAllowed, Expor
 use Rattle.wac_resolution_rules.specs.ResolvedDocument.{Describes}
 use Rattle.wac_resolution_rules.specs.Mentions.{Mention, name_mentions, expr_mentions, primary_mentions, arguments_mentions, argument_mentions, import_type_mentions, statement_mentions, target_mentions, mentions, Agree, given_over, kept, IsMentioned, KeyHolds, KeysHold}
 use Rattle.wac_resolution_rules.specs.Spans.{identifier_of}
-use Rattle.wac_resolution_rules.proofs.StatementsStop.{all_append, all_front, declares_what}
-use Rattle.wac_resolution_rules.proofs.Fronts.{named_at_suc}
-use Rattle.wac_resolution_rules.proofs.TypesMention.{agree_front, steps_agree, path_agrees, interface_agrees, declares_agrees}
+use Rattle.wac_resolution_rules.proofs.StatementsStop.{all_append, all_prefix, declares_what}
+use Rattle.wac_resolution_rules.proofs.Prefixes.{named_at_suc}
+use Rattle.wac_resolution_rules.proofs.TypesMention.{agree_prefix, steps_agree, path_agrees, interface_agrees, declares_agrees}
 
 -- ---- expressions
 
@@ -42,7 +42,7 @@ mutual
 
   first_agrees : (g : Given) (ps qs : Packages) (old : Composition) (x : PrimaryExpr) → Agree ps qs (primary_mentions g.setting.own x) → PrimaryStands (given_over g ps) old x ≡ PrimaryStands (given_over g qs) old x
   first_agrees g ps qs old (PrimaryExpr.new span name args) h =
-      let r = agree_front ps qs (name_mentions g.setting.own name) (arguments_mentions g.setting.own args) h in
+      let r = agree_prefix ps qs (name_mentions g.setting.own name) (arguments_mentions g.setting.own args) h in
       λ i new. (p : Contents) × (given : Giving) × (all : Giving) × (instantiable_agrees g ps qs name r.0 i ≡ Some p)
       × gives_agree g ps qs (imports_in p) (nothing_given old) args r.1 i given × Steps (Spreads (imports_in p)) given (spreads_of args) all × Instantiates g.rules p (key_named name) (has_fill args) all new
   first_agrees g ps qs old (PrimaryExpr.nested span x) h = stands_agree g ps qs old x h
@@ -51,7 +51,7 @@ mutual
   gives_agree : (g : Given) (ps qs : Packages) (imports : Named Meaning) (old : Giving) (x : Arguments) → Agree ps qs (arguments_mentions g.setting.own x) → Gives (given_over g ps) imports old x ≡ Gives (given_over g qs) imports old x
   gives_agree g ps qs imports old Arguments.none h = refl
   gives_agree g ps qs imports old (Arguments.more a rest) h =
-      let r = agree_front ps qs (argument_mentions g.setting.own a) (arguments_mentions g.setting.own rest) h in
+      let r = agree_prefix ps qs (argument_mentions g.setting.own a) (arguments_mentions g.setting.own rest) h in
       λ i new. (mid : Giving) × give_agrees g ps qs imports rest old a r.0 i mid × gives_agree g ps qs imports mid rest r.1 i new
 
   give_agrees : (g : Given) (ps qs : Packages) (imports : Named Meaning) (rest : Arguments) (old : Giving) (x : InstantiationArgument) → Agree ps qs (argument_mentions g.setting.own x)
@@ -138,7 +138,7 @@ mutual
 
   keys_first : (g : Given) (P : Key → Type 0) (old : Composition) (x : PrimaryExpr) (a : At) → EachMention P (primary_mentions g.setting.own x) → KeysHold P old.nodes → PrimaryStands g old x a → KeysHold P a.composition.nodes
   keys_first g P old (PrimaryExpr.new span name args) a m h p =
-      let r = all_front (λ (m : Mention). P m.0) (name_mentions g.setting.own name) (arguments_mentions g.setting.own args) m in
+      let r = all_prefix (λ (m : Mention). P m.0) (name_mentions g.setting.own name) (arguments_mentions g.setting.own args) m in
       let k = key_there P g.setting.packages (bytes_eq name.name g.setting.own) (key_named name, name.span) p.0 r.0 p.3 in
       let q = keys_spreads P (imports_in p.0) (spreads_of args) p.1 p.2 (keys_gives g P (imports_in p.0) (nothing_given old) args p.1 r.1 h p.4) p.5 in
       subst (λ (a : At). KeysHold P a.composition.nodes) (sym p.6.made) (keys_and P p.2.composition.nodes _ q k)
@@ -149,7 +149,7 @@ mutual
       → Gives g imports old x new → KeysHold P new.composition.nodes
   keys_gives g P imports old Arguments.none new m h p = subst (λ (a : Giving). KeysHold P a.composition.nodes) (sym p) h
   keys_gives g P imports old (Arguments.more x rest) new m h p =
-      let r = all_front (λ (m : Mention). P m.0) (argument_mentions g.setting.own x) (arguments_mentions g.setting.own rest) m in
+      let r = all_prefix (λ (m : Mention). P m.0) (argument_mentions g.setting.own x) (arguments_mentions g.setting.own rest) m in
       keys_gives g P imports p.0 rest new r.1 (keys_give g P imports rest old x p.0 r.0 h p.1) p.2
 
   keys_give : (g : Given) (P : Key → Type 0) (imports : Named Meaning) (rest : Arguments) (old : Giving) (x : InstantiationArgument) (new : Giving) → EachMention P (argument_mentions g.setting.own x) → KeysHold P old.composition.nodes
@@ -188,7 +188,7 @@ keys_goes g P old (Statement.type_statement x) new m h p =
 keys_composes : (g : Given) (P : Key → Type 0) (xs : List Statement) (old new : Composition) → EachMention P (flat_map (statement_mentions g.setting.own) xs) → KeysHold P old.nodes → Composes g old xs new → KeysHold P new.nodes
 keys_composes g P [] old new m h p = subst (λ (c : Composition). KeysHold P c.nodes) (sym p) h
 keys_composes g P (x ∷ xs) old new m h p =
-    let r = all_front (λ (m : Mention). P m.0) (statement_mentions g.setting.own x) (flat_map (statement_mentions g.setting.own) xs) m in
+    let r = all_prefix (λ (m : Mention). P m.0) (statement_mentions g.setting.own x) (flat_map (statement_mentions g.setting.own) xs) m in
     keys_composes g P xs p.0 new r.1 (keys_goes g P old x p.0 r.0 h p.1) p.2
 
 -- ---- the target
@@ -219,7 +219,7 @@ along e a = subst (λ (T : Type 0). T) e a
 pub describes_agree : (g : Given) (ps qs : Packages) (doc : Document) (c : Composition) → g.setting.own ≡ doc.directive.package_name.name → Agree ps qs (mentions doc) → Describes (given_over g ps) doc c → Describes (given_over g qs) doc c
 describes_agree g ps qs doc c own m p =
     let n = subst (λ (o : List ℕ). Agree ps qs (target_mentions o doc.directive.targets ++ flat_map (statement_mentions o) doc.statements)) (sym own) m in
-    let r = agree_front ps qs (target_mentions g.setting.own doc.directive.targets) (flat_map (statement_mentions g.setting.own) doc.statements) n in (
+    let r = agree_prefix ps qs (target_mentions g.setting.own doc.directive.targets) (flat_map (statement_mentions g.setting.own) doc.statements) n in (
       along (λ i. composes_agree g ps qs start doc.statements r.1 i c) p.0,
       along (target_agrees g ps qs c doc.directive.targets r.0 (keys_composes (given_over g ps) (λ key. package_of key ps ≡ package_of key qs) doc.statements start c r.1 tt p.0)) p.1,
     )
@@ -273,5 +273,5 @@ pub instances_mentioned : (g : Given) (doc : Document) (c : Composition) → g.s
 instances_mentioned g doc c own p =
     let m = each_mentioned (mentions doc) (mentions doc) (λ k e. e) in
     let n = subst (λ (o : List ℕ). EachMention (IsMentioned (mentions doc)) (target_mentions o doc.directive.targets ++ flat_map (statement_mentions o) doc.statements)) (sym own) m in
-    let r = all_front (λ (n : Mention). IsMentioned (mentions doc) n.0) (target_mentions g.setting.own doc.directive.targets) (flat_map (statement_mentions g.setting.own) doc.statements) n in
+    let r = all_prefix (λ (n : Mention). IsMentioned (mentions doc) n.0) (target_mentions g.setting.own doc.directive.targets) (flat_map (statement_mentions g.setting.own) doc.statements) n in
     keys_composes g (IsMentioned (mentions doc)) doc.statements start c r.1 tt p.0

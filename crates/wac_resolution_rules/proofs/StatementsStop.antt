@@ -145,9 +145,9 @@ pub all_append : {X : Type 0} (P : X → Type 0) (xs ys : List X) → AllByRecur
 all_append P [] ys h k = k
 all_append P (x ∷ xs) ys h k = (h.0, all_append P xs ys h.1 k)
 
-pub all_front : {X : Type 0} (P : X → Type 0) (xs ys : List X) → AllByRecursion P (xs ++ ys) → AllByRecursion P xs × AllByRecursion P ys
-all_front P [] ys h = (tt, h)
-all_front P (x ∷ xs) ys h = let r = all_front P xs ys h.1 in ((h.0, r.0), r.1)
+pub all_prefix : {X : Type 0} (P : X → Type 0) (xs ys : List X) → AllByRecursion P (xs ++ ys) → AllByRecursion P xs × AllByRecursion P ys
+all_prefix P [] ys h = (tt, h)
+all_prefix P (x ∷ xs) ys h = let r = all_prefix P xs ys h.1 in ((h.0, r.0), r.1)
 
 -- an import with its place
 abbrev PlacedImport : Type 0
@@ -155,7 +155,7 @@ PlacedImport = (List ℕ × Meaning) × Option Span
 
 placed_allowed : (s : Given) (c : Composition) (p : Places) (w : Meaning) → AllByRecursion (ImportAllowed s w) (all_imports s c) → AllByRecursion (λ (y : PlacedImport). ImportAllowed s w y.0) (placed_imports s c p)
 placed_allowed s c p w h =
-    let r = all_front (ImportAllowed s w) (imports c) (flat_map (open_imports s) c.nodes) h in
+    let r = all_prefix (ImportAllowed s w) (imports c) (flat_map (open_imports s) c.nodes) h in
     all_append (λ (y : PlacedImport). ImportAllowed s w y.0) (map (λ x. (x, look_up x.0 p.imported)) (imports c)) (map (λ x. (x, None)) (flat_map (open_imports s) c.nodes))
     (all_of_map (λ (y : PlacedImport). ImportAllowed s w y.0) (λ (x : List ℕ × Meaning). (x, look_up x.0 p.imported)) (imports c) r.0)
     (all_of_map (λ (y : PlacedImport). ImportAllowed s w y.0) (λ (x : List ℕ × Meaning). (x, None)) (flat_map (open_imports s) c.nodes) r.1)

@@ -20,9 +20,9 @@ steps_more {S} step old [] x mid new p g = (new, subst (λ (m : S). step m x new
 steps_more step old (y ∷ xs) x mid new p g = (p.0, p.1, steps_more step p.0 xs x mid new p.2 g)
 
 -- items lead on from what each prefix of them leads to
-pub steps_front : {S X : Type 0} (step : S → X → S → Type 0) (old : S) (before after : List X) (new : S) → Steps step old (before ++ after) new → (mid : S) × Steps step old before mid × Steps step mid after new
-steps_front step old [] after new p = (old, refl, p)
-steps_front step old (x ∷ before) after new p = let r = steps_front step p.0 before after new p.2 in (r.0, (p.0, p.1, r.1), r.2)
+pub steps_prefix : {S X : Type 0} (step : S → X → S → Type 0) (old : S) (before after : List X) (new : S) → Steps step old (before ++ after) new → (mid : S) × Steps step old before mid × Steps step mid after new
+steps_prefix step old [] after new p = (old, refl, p)
+steps_prefix step old (x ∷ before) after new p = let r = steps_prefix step p.0 before after new p.2 in (r.0, (p.0, p.1, r.1), r.2)
 
 -- items that are changed in a way that no step sees
 pub steps_map : {S X : Type 0} (step : S → X → S → Type 0) (f : X → X) → ((old : S) (x : X) → step old (f x) ≡ step old x) → (old : S) (xs : List X) → Steps step old (map f xs) ≡ Steps step old xs
@@ -34,7 +34,7 @@ pub fails_stop : {S X : Type 0} (step : S → X → S → Type 0) (broken : S �
     → ((old : S) (before : List X) (x : X) (new : S) → broken old before x → step old x new → ⊥)
     → (old : S) (xs : List X) (new : S) → Fails step broken old xs → Steps step old xs new → ⊥
 fails_stop {S} {X} step broken once stops old xs new f p =
-    let r = steps_front step old f.before (f.failing ∷ f.after) new (subst (λ (l : List X). Steps step old l new) f.split p) in
+    let r = steps_prefix step old f.before (f.failing ∷ f.after) new (subst (λ (l : List X). Steps step old l new) f.split p) in
     let same : r.0 ≡ f.reached = steps_once step once old f.before r.0 f.reached r.1 f.leads in
     stops f.reached f.before f.failing r.2.0 f.breaks (subst (λ (m : S). step m f.failing r.2.0) same r.2.1)
 

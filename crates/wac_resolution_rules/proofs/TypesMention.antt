@@ -18,19 +18,19 @@ use Rattle.wac_resolution_rules.specs.Includes.{Entries, HasEntry, Included, Has
 use Rattle.wac_resolution_rules.specs.Worlds.{HasInterfaceItem, IsInterface, HasExternType, HasInstance, HasExtern, HasWorldItem, includes_of, IsWorld}
 use Rattle.wac_resolution_rules.specs.TypeStatements.{Declares, Defines, declared_id}
 use Rattle.wac_resolution_rules.specs.Mentions.{Mention, path_mentions, use_path_mentions, interface_item_mentions, interface_mentions, extern_type_mentions, extern_mentions, world_ref_mentions, world_item_mentions, type_mentions, Agree, over}
-use Rattle.wac_resolution_rules.proofs.StatementsStop.{all_front, all_append}
+use Rattle.wac_resolution_rules.proofs.StatementsStop.{all_prefix, all_append}
 
 abbrev same : Packages → Packages → Mention → Type 0
 same ps qs m = package_of m.0 ps ≡ package_of m.0 qs
 
-pub agree_front : (ps qs : Packages) (ms ns : List Mention) → Agree ps qs (ms ++ ns) → Agree ps qs ms × Agree ps qs ns
-agree_front ps qs ms ns h = all_front (same ps qs) ms ns h
+pub agree_prefix : (ps qs : Packages) (ms ns : List Mention) → Agree ps qs (ms ++ ns) → Agree ps qs ms × Agree ps qs ns
+agree_prefix ps qs ms ns h = all_prefix (same ps qs) ms ns h
 
 pub steps_agree : {S X : Type 0} (one two : S → X → S → Type 0) (ms : X → List Mention) (ps qs : Packages) → ((old : S) (x : X) → Agree ps qs (ms x) → one old x ≡ two old x)
     → (old : S) (xs : List X) → Agree ps qs (flat_map ms xs) → Steps one old xs ≡ Steps two old xs
 steps_agree one two ms ps qs each old [] h = refl
 steps_agree {S} one two ms ps qs each old (x ∷ xs) h =
-    let r = agree_front ps qs (ms x) (flat_map ms xs) h in
+    let r = agree_prefix ps qs (ms x) (flat_map ms xs) h in
     λ i new. (mid : S) × each old x r.0 i mid × steps_agree one two ms ps qs each mid xs r.1 i new
 
 begins_agree : (ps qs : Packages) (root : Scope) (b : Bool) (m : Mention) → Agree ps qs (if b then [] else m ∷ []) → beginning_of b root ps m.0 ≡ beginning_of b root qs m.0
@@ -91,11 +91,11 @@ include_agrees s ps qs root old x h = λ i new. (entries : Entries) × (k : Mean
 -- what the includes mention the items mention
 includes_agree : (own : List ℕ) (ps qs : Packages) (items : List WorldItem) → Agree ps qs (flat_map (world_item_mentions own) items) → Agree ps qs (flat_map (include_mentions own) (includes_of items))
 includes_agree own ps qs [] h = tt
-includes_agree own ps qs (WorldItem.use_statement u ∷ items) h = includes_agree own ps qs items (agree_front ps qs (use_path_mentions own u.path) (flat_map (world_item_mentions own) items) h).1
-includes_agree own ps qs (WorldItem.world_import x ∷ items) h = includes_agree own ps qs items (agree_front ps qs (extern_mentions own x.path) (flat_map (world_item_mentions own) items) h).1
-includes_agree own ps qs (WorldItem.world_export x ∷ items) h = includes_agree own ps qs items (agree_front ps qs (extern_mentions own x.path) (flat_map (world_item_mentions own) items) h).1
+includes_agree own ps qs (WorldItem.use_statement u ∷ items) h = includes_agree own ps qs items (agree_prefix ps qs (use_path_mentions own u.path) (flat_map (world_item_mentions own) items) h).1
+includes_agree own ps qs (WorldItem.world_import x ∷ items) h = includes_agree own ps qs items (agree_prefix ps qs (extern_mentions own x.path) (flat_map (world_item_mentions own) items) h).1
+includes_agree own ps qs (WorldItem.world_export x ∷ items) h = includes_agree own ps qs items (agree_prefix ps qs (extern_mentions own x.path) (flat_map (world_item_mentions own) items) h).1
 includes_agree own ps qs (WorldItem.world_include x ∷ items) h =
-    let r = agree_front ps qs (include_mentions own x) (flat_map (world_item_mentions own) items) h in
+    let r = agree_prefix ps qs (include_mentions own x) (flat_map (world_item_mentions own) items) h in
     all_append (same ps qs) (include_mentions own x) (flat_map (include_mentions own) (includes_of items)) r.0 (includes_agree own ps qs items r.1)
 includes_agree own ps qs (WorldItem.ty d ∷ items) h = includes_agree own ps qs items h
 

@@ -1,4 +1,4 @@
--- Which rule an error says is broken: paths and bodies.
+-- Which rule of paths and bodies an error says is broken, as BrokenTypes.
 use Rattle.std.specs.Prelude.{◌≡◌, ◌⊎◌, ℕ, suc, List, [], ◌∷◌, length, Option, Some, None, slice_get, Bool, true, false, codes}
 use Rattle.std.specs.List.{join_with_byte}
 use Rattle.wac_lexer.specs.Span.{Span}

@@ -1,4 +1,4 @@
--- Which rule an error says is broken: declarations of types.
+-- Which rule of declarations an error says is broken, as BrokenTypes.
 use Rattle.std.specs.Prelude.{◌≡◌, ◌⊎◌, ℕ, List, [], Option, Some, None}
 use Rattle.wac_types.specs.declared.kind.FuncKind.TheVariants as funcs
 use Rattle.wac_types.specs.Meaning.{Meaning}

@@ -1,4 +1,4 @@
--- Which rule of an expression an error says is broken: one definition a rule, then where each of them may be met.
+-- Which rule of expressions an error says is broken, as BrokenTypes: first each rule, then where they are tested.
 use Rattle.std.specs.Prelude.{◌≡◌, ℕ, List, [], ◌∷◌, ◌++◌, Some, None, option_and_then, flat_map, map, false, ◌⊎◌}
 use Rattle.std.specs.List.{AllByRecursion}
 use Rattle.wac_lexer.specs.Span.{Span}
@@ -81,7 +81,7 @@ abbrev pub IsLeftOut : Given → Contents → PackageName → Arguments → Givi
 IsLeftOut s p x args g e = (e ≡ memory) ⊎ ((i : List ℕ × Meaning) × (others : Named Meaning) × AllByRecursion (Fits s.rules (imports_in p) g.composition.nodes) g.arguments × (has_fill args ≡ false)
     × (left_out (imports_in p) g.arguments ≡ i ∷ others) × (e ≡ missing_instantiation_arg i.0 x.string x.span))
 
--- ---- where they may be met
+-- ---- where they are tested
 
 abbrev pub AccessBroken : Span → Error → At → List PostfixExpr → PostfixExpr → Type 0
 AccessBroken span e a before p = IsNotInstance a.composition a.node Operation.access (last_span span before) e ⊎ IsNotExported a p e

@@ -1,4 +1,4 @@
--- Which rule of a statement or of the target an error says is broken.
+-- Which rule of statements and the target an error says is broken, as BrokenTypes: first each rule, then where they are tested.
 use Rattle.std.specs.Prelude.{◌≡◌, ℕ, List, [], ◌++◌, Option, Some, None, flat_map, map, ◌⊎◌}
 use Rattle.std.specs.List.{AllByRecursion}
 use Rattle.wac_lexer.specs.Span.{Span}
@@ -86,7 +86,7 @@ IsExportMismatch s c p path w e = (e ≡ memory) ⊎ ((x : List ℕ × Meaning) 
     × ReachedAt (ExportMet s c) (exports_of w) x × StandsFor c.exports x.0 node × (s.rules.passes (kind_at c.nodes node) (promoted x.1) ≡ Some r)
     × StandsFor p.exported x.0 span × (e ≡ target_mismatch externs.Export x.0 path.string r (Some span)))
 
--- ---- where they may be met
+-- ---- where they are tested
 
 abbrev pub ImportKindBroken : Given → Composition → Error → ImportType → Type 0
 ImportKindBroken s old e (ImportType.func x) = FuncBroken funcs.Free (root_scope old) [] x e

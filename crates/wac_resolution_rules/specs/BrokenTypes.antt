@@ -1,4 +1,4 @@
--- Which rule an error says is broken: types.
+-- Which rule of types an error says is broken. `Is..` is one rule; `..Broken` says where rules are tested, each after the tests before it passed.
 use Rattle.std.specs.Prelude.{◌≡◌, ◌⊎◌, List, true}
 use Rattle.wac_types.specs.declared.kind.FuncKind.{FuncKind}
 use Rattle.wac_types.specs.Meaning.{Meaning}

@@ -1,4 +1,4 @@
--- Which rule an error says is broken: interfaces, worlds and type statements.
+-- Which rule of interfaces, worlds and type statements an error says is broken, as BrokenTypes.
 use Rattle.std.specs.Prelude.{◌≡◌, ◌⊎◌, ℕ, List, [], ◌∷◌, ◌++◌, Option, Some, None, codes, find, false}
 use Rattle.std.specs.Str.{bytes_eq}
 use Rattle.wac_lexer.specs.Span.{Span}

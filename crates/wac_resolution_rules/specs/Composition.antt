@@ -5,6 +5,7 @@ use Rattle.wac_types.specs.Meaning.{Meaning, node, done}
 use Rattle.wac_types.specs.Scope.{Named, Scope, with_named}
 use Rattle.wac_graph.specs.Package.{Key}
 
+-- an import of a name, a definition, an alias of an export of a node, or an instance of a package
 pub data NodeForm : Type 0 where
   imported : List ℕ → NodeForm
   definition : NodeForm

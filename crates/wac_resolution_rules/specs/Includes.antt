@@ -33,6 +33,7 @@ with_missing there name m = elim (look_up name there) [ None ↦ with_named ther
 abbrev pub name_taken : Entries → List ℕ → List ℕ
 name_taken entries name = unwrap_or (look_up name entries) name
 
+-- one name of the included world; the test is whether it has a colon
 abbrev pub TakesNamed : Bool → Taking → List ℕ × Meaning → Taking → Type 0
 TakesNamed true old x new = new ≡ record { entries = old.entries; there = with_missing old.there x.0 x.1 }
 TakesNamed false old x new =

@@ -43,6 +43,7 @@ beginning setting root p = beginning_of (is_own setting p) root setting.packages
 abbrev pub IsMember : Meaning → List ℕ → Meaning → Type 0
 IsMember k segment m = export_of k segment ≡ Some m
 
+-- from a scope, segments lead to a kind
 abbrev pub LeadsFrom : Scope → List (List ℕ) → Meaning → Type 0
 LeadsFrom scope [] m = ⊥
 LeadsFrom scope (first ∷ rest) m = (k : Meaning) × StandsFor scope first k × Steps IsMember k rest m

@@ -50,11 +50,13 @@ pub record TargetFails (s : Given) (doc : Document) (e : Error) : Type 0 where
   pub broken : TargetBroken s whole.composition whole.places e target
   pub stops : MeetsPath s whole.composition target → ⊥
 
+-- a statement fails first, or the target
 abbrev pub FirstFailing : Given → Document → Error → Type 0
 FirstFailing s doc e = StatementFails s doc e ⊎ TargetFails s doc e
 
 -- ---- what resolving promises, for each naming that is one to one
 
+-- under every naming of origins that is one to one
 abbrev pub EveryNaming : (Naming → Type 0) → Type 0
 EveryNaming P = (naming : Naming) → IsOneToOne naming → P naming
 

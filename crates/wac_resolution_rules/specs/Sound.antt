@@ -44,6 +44,7 @@ pub record IsLinked (s : Given) (ns : List Node) (i : ℕ) (n : Node) : Type 0 w
 abbrev pub NamesNodes : ℕ → Named ℕ → Type 0
 NamesNodes count all = AllByRecursion (λ e. e.1 < count) all
 
+-- all nodes are linked, and names are of nodes that are there
 pub record IsSound (s : Given) (c : Composition) : Type 0 where
   pub linked : EachFrom (IsLinked s c.nodes) 0 c.nodes
   pub declared : NamesNodes (length c.nodes) c.declared

@@ -79,6 +79,7 @@ unexported done exports = filter (λ x. is_none (look_up x.0 done)) exports
 abbrev pub ExportsOne : Given → ℕ → Composition → List ℕ × Meaning → Composition → Type 0
 ExportsOne s node old x new = ExportsAs s (alias_at (at old node) x.0 x.1).composition x.0 (alias_at (at old node) x.0 x.1).node new
 
+-- each export of an instance that isn't exported yet; or the node, under the name that is written or under its own
 abbrev pub ExportsBy : Given → At → ExportOptions → Composition → Type 0
 ExportsBy s a (ExportOptions.spread span) new = (i : Meaning) × (instance_at a.composition a.node ≡ Some i)
     × (unexported a.composition.exports (exports_of i) ≢ []) × Steps (ExportsOne s a.node) a.composition (unexported a.composition.exports (exports_of i)) new

@@ -1,9 +1,13 @@
 // Laws of the definitions of resolving. Each function does nothing: its contract is the law.
-ghost use Rattle.std.specs.Prelude.{◌≡◌, ◌↔◌, ◌++◌, ◌∷◌, ℕ, Bool, List, Option, Some, true};
+ghost use Rattle.std.specs.Prelude.{◌≡◌, ◌↔◌, ◌++◌, ◌∷◌, ℕ, List, Option, Some, true};
 ghost use Rattle.std.specs.Str.{IsUtf8};
 ghost use Rattle.wac_lexer.specs.Span.{Span};
-ghost use Rattle.wac_types.specs.declared.kind.ExternKind.TheVariants as sides;
 ghost use Rattle.wac_types.specs.Meaning.{Meaning};
+ghost use Rattle.wac_types.specs.Scope.{Named, Scope, StandsFor};
+ghost use Rattle.wac_types.specs.Shape.{exports_of, imports_of};
+ghost use Rattle.wac_types.specs.Steps.{Steps};
+ghost use Rattle.wac_types.specs.declared.kind.ExternKind.TheVariants as sides;
+ghost use Rattle.wac_graph.specs.Packages.{Packages};
 ghost use Rattle.wac_grammar.specs.Spelled.{DocumentSpelled};
 ghost use Rattle.wac_grammar.specs.TextTree.{IsTreeOf};
 ghost use Rattle.wac_grammar.specs.Tree.{Document, Expr, FuncType, InterfaceItem, PackagePath, Statement, Ty, TypeDecl, WorldInclude, WorldItem};
@@ -17,17 +21,14 @@ ghost use Rattle.wac_resolution_rules.specs.Declarations.{IsTypeDecl};
 ghost use Rattle.wac_resolution_rules.specs.Error.{Error, NamesRule};
 ghost use Rattle.wac_resolution_rules.specs.Expressions.{At, Stands};
 ghost use Rattle.wac_resolution_rules.specs.Given.{Given};
-ghost use Rattle.wac_resolution_rules.specs.Includes.{HasInclude};
+ghost use Rattle.wac_resolution_rules.specs.Includes.{Entries, HasInclude, Included, has_colon};
 ghost use Rattle.wac_resolution_rules.specs.Mentions.{Agree, IsMentioned, KeysHold, given_over, kept, mentions};
 ghost use Rattle.wac_resolution_rules.specs.Nodes.{imports};
-ghost use Rattle.wac_graph.specs.Packages.{Packages};
 ghost use Rattle.wac_resolution_rules.specs.Paths.{LeadsTo, Setting};
 ghost use Rattle.wac_resolution_rules.specs.Places.{HavePlaces, Leads, Placed, Places, placed_start};
 ghost use Rattle.wac_resolution_rules.specs.ResolvedDocument.{DescribeAlike, Describes, FirstFailing};
-ghost use Rattle.wac_types.specs.Scope.{Named, Scope, StandsFor};
 ghost use Rattle.wac_resolution_rules.specs.Sound.{AliasesOnce, Begins, IsSound, NamesOnce};
 ghost use Rattle.wac_resolution_rules.specs.Statements.{Composes, Goes};
-ghost use Rattle.wac_types.specs.Steps.{Steps};
 ghost use Rattle.wac_resolution_rules.specs.Target.{MeetsPath};
 ghost use Rattle.wac_resolution_rules.specs.Types.{HasType, IsFuncWith};
 ghost use Rattle.wac_resolution_rules.specs.Worlds.{HasInterfaceItem, HasWorldItem, IsInterface, IsWorld};
@@ -116,8 +117,13 @@ pub fn scopes_are_covered()
     ensures world { (setting : Setting) (root : Scope) (n : ℕ) (items : List WorldItem) (body : Body) → Steps (HasWorldItem setting root) (empty_body n) items body → IsCovered sides.Import body }
 {}
 
-/// What a world imports and exports before an `include` it imports and exports after it.
+/// What a world imports and exports before an `include` it imports and exports after it, and so it does what the included world imports and exports
+/// under a name with a colon.
 pub fn includes_lose_nothing()
     ensures imports { (setting : Setting) (root : Scope) (old : Body) (x : WorldInclude) (new : Body) (name : List ℕ) (m : Meaning) → HasInclude setting root old x new → StandsFor old.imports name m → StandsFor new.imports name m }
     ensures exports { (setting : Setting) (root : Scope) (old : Body) (x : WorldInclude) (new : Body) (name : List ℕ) (m : Meaning) → HasInclude setting root old x new → StandsFor old.exports name m → StandsFor new.exports name m }
+    ensures taken_imports { (entries : Entries) (world : Meaning) (old new : Body) → Included entries world old new → (before : Named Meaning) (n : List ℕ × Meaning) (after : Named Meaning)
+        → imports_of world ≡ before ++ n ∷ after → has_colon n.0 ≡ true → (m : Meaning) × StandsFor new.imports n.0 m }
+    ensures taken_exports { (entries : Entries) (world : Meaning) (old new : Body) → Included entries world old new → (before : Named Meaning) (n : List ℕ × Meaning) (after : Named Meaning)
+        → exports_of world ≡ before ++ n ∷ after → has_colon n.0 ≡ true → (m : Meaning) × StandsFor new.exports n.0 m }
 {}

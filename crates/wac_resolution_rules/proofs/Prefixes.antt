@@ -19,7 +19,7 @@ use Rattle.wac_resolution_rules.specs.TypeStatements.{Declares}
 use Rattle.wac_resolution_rules.specs.Sound.{IsAlias, IsKept, AreKept, Begins}
 use Rattle.wac_resolution_rules.specs.Spans.{identifier_of}
 use Rattle.wac_resolution_rules.proofs.ExpressionsAdd.{Adds, added, adds_more, stands_adds, gives_add, spreads_add, alias_adds}
-use Rattle.wac_resolution_rules.proofs.StepLaws.{steps_front}
+use Rattle.wac_resolution_rules.proofs.StepLaws.{steps_prefix}
 use Rattle.wac_resolution_rules.proofs.StatementsStop.{declares_what}
 
 -- ---- nodes that are kept
@@ -308,8 +308,8 @@ composes_continues s (x ∷ xs) old new named p =
     continues_on old p.0 new q (composes_continues s xs p.0 new q.named p.2)
 
 -- a composition of statements begins with the composition of each prefix of them
-pub composes_front : (s : Given) (before after : List Statement) (new : Composition) → Composes s start (before ++ after) new → (mid : Composition) × Composes s start before mid × Begins mid new
-composes_front s before after new p =
-    let r = steps_front (Goes s) start before after new p in
+pub composes_prefix : (s : Given) (before after : List Statement) (new : Composition) → Composes s start (before ++ after) new → (mid : Composition) × Composes s start before mid × Begins mid new
+composes_prefix s before after new p =
+    let r = steps_prefix (Goes s) start before after new p in
     let q = composes_continues s before start r.0 tt r.1 in
     (r.0, r.1, (composes_continues s after r.0 new q.named r.2).begins)
