@@ -16,7 +16,7 @@ of_leaves Q =
       string = λ x. Q (Leaf.string x);
       name = λ x. Q (Leaf.name x);
       path = λ x. Q (Leaf.path x);
-      filled = λ b. Unit {0}
+      filled = λ b. Unit {0};
     }
 
 module _ (Q : Leaf → Type 0) (spans : (s : Span) → Q (Leaf.span s)) where
@@ -62,12 +62,12 @@ module _ (Q : Leaf → Type 0) (spans : (s : Span) → Q (Leaf.span s)) where
         two = λ {w0 = w0} {w1 = w1} r s. (λ h. both w0 w1 (r.0 h.0) (s.0 h.1), λ h. (r.1 (first w0 w1 h), s.1 (second w0 w1 h)));
         three = λ {w0 = w0} {w1 = w1} {w2 = w2} r s t. (
           λ h. both w0 (w1 ++ w2) (r.0 h.0) (both w1 w2 (s.0 h.1) (t.0 h.2)),
-          λ h. (r.1 (first w0 (w1 ++ w2) h), s.1 (first w1 w2 (second w0 (w1 ++ w2) h)), t.1 (second w1 w2 (second w0 (w1 ++ w2) h)))
+          λ h. (r.1 (first w0 (w1 ++ w2) h), s.1 (first w1 w2 (second w0 (w1 ++ w2) h)), t.1 (second w1 w2 (second w0 (w1 ++ w2) h))),
         );
         four = λ {w0 = w0} {w1 = w1} {w2 = w2} {w3 = w3} r s t q. (
           λ h. both w0 (w1 ++ (w2 ++ w3)) (r.0 h.0) (both w1 (w2 ++ w3) (s.0 h.1) (both w2 w3 (t.0 h.2) (q.0 h.3))),
-          λ h. (r.1 (first w0 (w1 ++ (w2 ++ w3)) h), s.1 (first w1 (w2 ++ w3) (second w0 (w1 ++ (w2 ++ w3)) h)), t.1 (first w2 w3 (second w1 (w2 ++ w3) (second w0 (w1 ++ (w2 ++ w3)) h))), q.1 (second w2 w3 (second w1 (w2 ++ w3) (second w0 (w1 ++ (w2 ++ w3)) h))))
-        )
+          λ h. (r.1 (first w0 (w1 ++ (w2 ++ w3)) h), s.1 (first w1 (w2 ++ w3) (second w0 (w1 ++ (w2 ++ w3)) h)), t.1 (first w2 w3 (second w1 (w2 ++ w3) (second w0 (w1 ++ (w2 ++ w3)) h))), q.1 (second w2 w3 (second w1 (w2 ++ w3) (second w0 (w1 ++ (w2 ++ w3)) h)))),
+        );
       }
 
   pub document_listed : (x : Document) → walk_document (holds (of_leaves Q)) (λ ds. Q (Leaf.docs ds)) x ↔ Each (walk_document leaves docs_leaf x)

@@ -29,7 +29,7 @@ grown_more old now next k xs e d h is copy new =
       subst (λ (m : ℕ). AreCopies (length old) (take m xs) (h.0 ++ d ∷ [])) at (copies_more (length old) k xs h.0 e d h.2 is copy),
     )
 
-copies_length : (n : ℕ) (es ds : List Entry) → AreCopies n es ds → length ds ≡ length es
+pub copies_length : (n : ℕ) (es ds : List Entry) → AreCopies n es ds → length ds ≡ length es
 copies_length n [] [] h = refl
 copies_length n [] (d ∷ ds) h = absurd h
 copies_length n (e ∷ es) [] h = absurd h

@@ -7,3 +7,4 @@ pub mod Fitting
 pub mod Sound
 pub mod Exported
 pub mod Given
+pub mod Origins

@@ -18,7 +18,7 @@ use Rattle.wac_types.proofs.Packages.{package_world, package_instance, package_d
 use Rattle.wac_graph.specs.Moved.{moved_items}
 use Rattle.wac_graph.specs.Package.{Key, HeldPackage, IsHeld, moved_package}
 use Rattle.wac_graph.specs.Copied.{IsGrown, IsGrownBy}
-use Rattle.wac_graph.proofs.Growing.{copy_named}
+use Rattle.wac_graph.proofs.Growing.{copy_named, copies_length}
 use Rattle.wac_graph.specs.Graph.{Parts, IsSound, IsLinked, NamesNodes, instantiated, with_entry, with_instantiation, changed, import_kind, imported_by}
 use Rattle.std.proofs.lemmas.Option.{slice_get_within}
 use Rattle.wac_graph.specs.Names.{node_named}
@@ -44,6 +44,7 @@ all_set P (y ∷ xs) (suc i) x h here = (h.0, all_set P xs i x h.1 here)
 
 held_kept : (es fs : List Entry) (p : HeldPackage) → IsHeld es p → IsHeld (es ++ fs) p
 held_kept es fs p h = record {
+  of_range = omega (arith, h.of_range, length-append es fs);
   of_world = names_kept es fs (kinds.Component p.world) h.of_world;
   of_instance = names_kept es fs (kinds.Instance p.instance) h.of_instance;
   of_definitions = all_implies (λ (d : List ℕ × ItemKind). Names es d.1) (λ d. Names (es ++ fs) d.1) (λ d. names_kept es fs d.1) p.definitions h.of_definitions;
@@ -167,6 +168,7 @@ items_named old es new (d ∷ ds) g h = (copy_named old es new d.1 g h.0, items_
 -- a package whose types were copied in
 pub held_moved : (old new : List Entry) (key : Key) (p : PackageParts) → IsPackage p → IsGrownBy old p.types new → IsHeld new (moved_package (length old) key p)
 held_moved old new key p h g = record {
+  of_range = omega (arith, ap length g.1, length-append old g.0, copies_length (length old) p.types g.0 g.2);
   of_world = copy_named old p.types new (kinds.Component p.world) g (package_world p h);
   of_instance = copy_named old p.types new (kinds.Instance p.instance) g (package_instance p h);
   of_definitions = items_named old p.types new p.definitions g (package_definitions p h);

@@ -7,3 +7,7 @@ pub mod Aliased
 pub mod Readings
 pub mod Moved
 pub mod Copied
+pub mod Origin
+pub mod Means
+pub mod Resources
+pub mod Packages

@@ -1,5 +1,5 @@
 -- Packages in a graph.
-use Rattle.std.specs.Prelude.{ℕ, ◌+◌, Bool, true, false, ◌&&◌, List, Option, Some, None, option_map, string_bytes}
+use Rattle.std.specs.Prelude.{ℕ, ◌+◌, ◌≤◌, Bool, true, false, ◌&&◌, List, Option, Some, None, option_map, string_bytes, length}
 use Rattle.std.specs.List.{position}
 use Rattle.std.specs.Str.{bytes_eq}
 use Rattle.wac_types.specs.declared.kind.ItemKind.{ItemKind}
@@ -28,9 +28,11 @@ same_version (Some v) (Some w) = bytes_eq v w
 abbrev pub same_key : Key → Key → Bool
 same_key a b = bytes_eq a.0 b.0 && same_version a.1 b.1
 
--- a package that was added, in the graph's numbers
+-- a package that was added, in the graph's numbers; its types are so many entries from the first on
 pub record HeldPackage : Type 0 where
   pub key : Key
+  pub first : ℕ
+  pub size : ℕ
   pub world : WorldId
   pub instance : InterfaceId
   pub definitions : List (List ℕ × ItemKind)
@@ -41,10 +43,11 @@ package_keyed key ps = position (λ p. same_key p.key key) ps
 
 -- a package whose numbers are moved by n
 abbrev pub moved_package : ℕ → Key → PackageParts → HeldPackage
-moved_package n key p = record { key = key; world = record { 0 = n + p.world.0 }; instance = record { 0 = n + p.instance.0 }; definitions = moved_items n p.definitions }
+moved_package n key p = record { key = key; first = n; size = length p.types; world = record { 0 = n + p.world.0 }; instance = record { 0 = n + p.instance.0 }; definitions = moved_items n p.definitions }
 
 -- what a package names is in the table
 pub record IsHeld (es : List Entry) (p : HeldPackage) : Type 0 where
+  pub of_range : p.first + p.size ≤ length es
   pub of_world : Names es (kinds.Component p.world)
   pub of_instance : Names es (kinds.Instance p.instance)
   pub of_definitions : ItemsNamed es p.definitions

@@ -1,5 +1,5 @@
 //! The graph of a composition.
-ghost use Rattle.std.specs.Prelude.{◌≡◌, ◌<◌, ℕ, [], ◌∷◌, ◌++◌, OnOk, OnErr, IfOk, IfSome, IsSome, None, Some, option_map, option_and_then, unwrap_or, length, slice_get};
+ghost use Rattle.std.specs.Prelude.{◌≡◌, ◌+◌, ◌<◌, ℕ, [], ◌∷◌, ◌++◌, OnOk, OnErr, IfOk, IfSome, IsSome, None, Some, option_map, option_and_then, unwrap_or, length, slice_get};
 ghost use Rattle.wac_types.specs.Entry.{children};
 ghost use Rattle.wac_types.specs.Growth.{KeepsMeanings};
 ghost use Rattle.wac_types.specs.Meaning.{EachKind};
@@ -7,7 +7,8 @@ ghost use Rattle.wac_types.specs.Table.{IsTable, Names as NamesEntry};
 ghost use Rattle.wac_types.specs.declared.entry.Entry.TheVariants as entries;
 ghost use Rattle.wac_graph.specs.Aliased.{IsAliased};
 ghost use Rattle.wac_graph.specs.Copied.{IsGrown, IsGrownBy, MeansTheSame};
-ghost use Rattle.wac_graph.specs.Graph.{empty, with_entry, with_import, with_definition, with_export, with_alias, with_instantiation, with_package, with_name, with_argument, export_kind as kind_exported, import_kind, arguments_of, alias_in, instantiated, NamesNodes};
+ghost use Rattle.wac_graph.specs.Means.{declared_count, resources_in, KeepsKinds, MeansAdded, EntriesMean, CopiesMean};
+ghost use Rattle.wac_graph.specs.Graph.{IsSound, empty, with_entry, with_import, with_definition, with_export, with_alias, with_instantiation, with_package, with_name, with_argument, export_kind as kind_exported, import_kind, arguments_of, alias_in, instantiated, NamesNodes};
 ghost use Rattle.wac_graph.specs.Names.{node_named};
 ghost use Rattle.wac_graph.specs.Node.{form_of, import_in};
 ghost use Rattle.wac_graph.specs.Numbers.{numbers};
@@ -86,12 +87,16 @@ impl CompositionGraph {
         }
     }
 
+    #[tactic(auto, using(crate::proofs::Origins::keeps_entry, crate::proofs::Origins::keeps_unchanged))]
     fn add_entry(&mut self, entry: Entry) -> Result<usize, AllocError>
         requires { EachKind (NamesEntry self.old.types) (children entry) }
         ensures number { IfOk result (λ id. id ≡ length self.old.types) }
         ensures ok { OnOk result (self.new ≡ with_entry self.old entry) }
         ensures err { OnErr result (self.new ≡ self.old) }
         ensures keeps { KeepsMeanings self.old.types self.new.types }
+        ensures kinds { KeepsKinds self.old self.new }
+        ensures means { OnOk result (MeansAdded self.old self.new entry) }
+        ensures count { OnOk result (declared_count self.new ≡ declared_count self.old + resources_in entry) }
     {
         let id = self.types.add(entry)?;
         Ok(id)
@@ -104,6 +109,9 @@ impl CompositionGraph {
         ensures ok { OnOk result (self.new ≡ with_entry self.old (entries.Defined ty)) }
         ensures err { OnErr result (self.new ≡ self.old) }
         ensures keeps { KeepsMeanings self.old.types self.new.types }
+        ensures kinds { KeepsKinds self.old self.new }
+        ensures means { OnOk result (MeansAdded self.old self.new (entries.Defined ty)) }
+        ensures count { OnOk result (declared_count self.new ≡ declared_count self.old + resources_in (entries.Defined ty)) }
     {
         Ok(DefinedTypeId(self.add_entry(Entry::Defined(ty))?))
     }
@@ -115,6 +123,9 @@ impl CompositionGraph {
         ensures ok { OnOk result (self.new ≡ with_entry self.old (entries.Resource resource)) }
         ensures err { OnErr result (self.new ≡ self.old) }
         ensures keeps { KeepsMeanings self.old.types self.new.types }
+        ensures kinds { KeepsKinds self.old self.new }
+        ensures means { OnOk result (MeansAdded self.old self.new (entries.Resource resource)) }
+        ensures count { OnOk result (declared_count self.new ≡ declared_count self.old + resources_in (entries.Resource resource)) }
     {
         Ok(ResourceId(self.add_entry(Entry::Resource(resource))?))
     }
@@ -126,6 +137,9 @@ impl CompositionGraph {
         ensures ok { OnOk result (self.new ≡ with_entry self.old (entries.Func func)) }
         ensures err { OnErr result (self.new ≡ self.old) }
         ensures keeps { KeepsMeanings self.old.types self.new.types }
+        ensures kinds { KeepsKinds self.old self.new }
+        ensures means { OnOk result (MeansAdded self.old self.new (entries.Func func)) }
+        ensures count { OnOk result (declared_count self.new ≡ declared_count self.old + resources_in (entries.Func func)) }
     {
         Ok(FuncTypeId(self.add_entry(Entry::Func(func))?))
     }
@@ -137,6 +151,9 @@ impl CompositionGraph {
         ensures ok { OnOk result (self.new ≡ with_entry self.old (entries.Interface interface)) }
         ensures err { OnErr result (self.new ≡ self.old) }
         ensures keeps { KeepsMeanings self.old.types self.new.types }
+        ensures kinds { KeepsKinds self.old self.new }
+        ensures means { OnOk result (MeansAdded self.old self.new (entries.Interface interface)) }
+        ensures count { OnOk result (declared_count self.new ≡ declared_count self.old + resources_in (entries.Interface interface)) }
     {
         Ok(InterfaceId(self.add_entry(Entry::Interface(interface))?))
     }
@@ -148,6 +165,9 @@ impl CompositionGraph {
         ensures ok { OnOk result (self.new ≡ with_entry self.old (entries.World world)) }
         ensures err { OnErr result (self.new ≡ self.old) }
         ensures keeps { KeepsMeanings self.old.types self.new.types }
+        ensures kinds { KeepsKinds self.old self.new }
+        ensures means { OnOk result (MeansAdded self.old self.new (entries.World world)) }
+        ensures count { OnOk result (declared_count self.new ≡ declared_count self.old + resources_in (entries.World world)) }
     {
         Ok(WorldId(self.add_entry(Entry::World(world))?))
     }
@@ -166,9 +186,32 @@ impl CompositionGraph {
         ensures ok { OnOk result (self.new ≡ with_package self.old (key_of key.now) «package».now self.new.types) }
         ensures copies { OnOk result (IsGrownBy self.old.types «package».now.types self.new.types) }
         ensures means { OnOk result (MeansTheSame self.old.types «package».now.types self.new.types) }
+        ensures kinds { OnOk result (KeepsKinds self.old self.new) }
+        ensures copied { OnOk result (CopiesMean self.old self.new (key_of key.now) «package».now) }
+        ensures count { OnOk result (declared_count self.new ≡ declared_count self.old) }
         ensures err { OnErr result (self.new ≡ record self.old { types = self.new.types }) }
         ensures grown { IsGrown self.old.types self.new.types }
         ensures keeps { KeepsMeanings self.old.types self.new.types }
+    {
+        let id = self.append_package(key, package)?;
+        Ok(id)
+    }
+
+    /// Appends a package and copies of its types.
+    fn append_package(
+        &mut self,
+        key: &PackageKey,
+        package: &Package,
+    ) -> Result<PackageId, AllocError>
+        requires { package_keyed (key_of key.now) self.old.packages ≡ None }
+        ensures number { IfOk result (λ id. id.0 ≡ length self.old.packages) }
+        ensures ok { OnOk result (self.new ≡ with_package self.old (key_of key.now) «package».now self.new.types) }
+        ensures copies { OnOk result (IsGrownBy self.old.types «package».now.types self.new.types) }
+        ensures means { OnOk result (MeansTheSame self.old.types «package».now.types self.new.types) }
+        ensures err { OnErr result (self.new ≡ record self.old { types = self.new.types }) }
+        ensures grown { IsGrown self.old.types self.new.types }
+        ensures keeps { KeepsMeanings self.old.types self.new.types }
+        ensures sound { IsSound self.old }
     {
         let id = PackageId(self.packages.len());
         let number = self.types.entries().len();
@@ -425,6 +468,7 @@ impl CompositionGraph {
     pub fn types(&self) -> &Types
         ensures types { result.now ≡ self.now.types }
         ensures table { IsTable self.now.types }
+        ensures means { EntriesMean self.now }
     {
         &self.types
     }

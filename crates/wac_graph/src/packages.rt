@@ -15,6 +15,8 @@ use wac_types::{InterfaceId, ItemKind, Package, WorldId};
 #[derive(Drop)]
 pub struct HeldPackage {
     key: PackageKey,
+    first: usize,
+    size: usize,
     world: WorldId,
     instance: InterfaceId,
     definitions: IndexMap<String, ItemKind>,
@@ -26,13 +28,17 @@ impl Model for HeldPackage {
 
     ghost Value = { Held };
 
-    ghost view = { λ h. record { key = key_of h.key; world = h.world; instance = h.instance; definitions = by_name h.definitions.entries } };
+    ghost view = { λ h. record { key = key_of h.key; first = h.first; size = h.size; world = h.world; instance = h.instance; definitions = by_name h.definitions.entries } };
 }
 
 /// What a graph holds of a package. The numbers are those of the graph's table.
 #[derive(Clone, Copy)]
 pub struct GraphPackage<'a> {
     pub key: &'a PackageKey,
+    /// The number of the first entry that was copied from the package.
+    pub first: usize,
+    /// How many entries were copied from the package.
+    pub size: usize,
     /// What the package imports and exports.
     pub world: WorldId,
     /// The interface of its instances.
@@ -55,6 +61,8 @@ impl HeldPackage {
         let definitions = copy_items(alloc, n, from.definitions())?;
         Ok(HeldPackage {
             key,
+            first: n,
+            size: from.types().entries().len(),
             world: WorldId(n + from.world().0),
             instance: InterfaceId(n + from.instance().0),
             definitions,
@@ -72,6 +80,8 @@ impl HeldPackage {
     {
         GraphPackage {
             key: &self.key,
+            first: self.first,
+            size: self.size,
             world: self.world,
             instance: self.instance,
             definitions: &self.definitions,

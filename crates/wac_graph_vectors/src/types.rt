@@ -217,7 +217,7 @@ impl Rules for OnlySame {
 
     ghost named = { λ _ name. empty_refused name };
 
-    ghost alike_renamed = { λ _ f one a b. equal_or-renamed (record { 0 = 7 }) f one a b };
+    ghost alike_renamed = { λ _ f a b apart. equal_or-renamed (record { 0 = 7 }) f a b apart };
 
     fn subtype(&self, types: &Types, a: ItemKind, b: ItemKind) -> Result<(), Reason> {
         if types.same(a, b) {

@@ -1,31 +1,19 @@
 -- No refused character comes in by printing, and none by reading.
-use Rattle.std.proofs.Common.{◌≡◌, ◌≢◌, ℕ, zero, suc, ◌+◌, ◌-◌, ◌<◌, ◌≤◌, Bool, true, false, cond, List, [], ◌∷◌, ◌++◌, take, drop, length, get_or, sym, refl, ap, ◌∙◌, subst, arith, inl, inr, ⊎_elim, Option, Some, None, append_assoc, length-append, codes}
-use Rattle.std.specs.Prelude.{◌&&◌, ◌||◌, nat_eq, slice_index, ◌==◌, MatchOption}
+use Rattle.std.proofs.Common.{◌≡◌, ℕ, ◌<◌, Bool, true, List, [], ◌∷◌, ◌++◌, sym, refl, ap, ◌∙◌, subst, arith, ⊎_elim}
+use Rattle.std.specs.Prelude.{◌||◌, nat_eq}
 use Rattle.std.specs.List.{AllByRecursion}
-use Rattle.std.specs.Char.{len_utf8}
-use Rattle.std.specs.Str.{IsUtf8, IsAscii, IsCharBoundary, chars, trim, bytes_eq}
+use Rattle.std.specs.Str.{IsAscii, chars, trim}
 use Rattle.std.specs.Str.Lines.{lines}
-use Rattle.std.proofs.Math.Seq.{get_or-append_seam, take-append_seam, drop-append_seam}
-use Rattle.std.proofs.lemmas.Bool.{and_parts, or_cases, eqb-true, cond_both, cases_Bool}
-use Rattle.std.proofs.lemmas.List.{take-append-drop, length-take-le, length-drop}
-use Rattle.std.proofs.lemmas.Str.{IsCharBoundary-end, IsCharBoundary-before_ascii, IsCharBoundary-after_ascii, IsUtf8-nil, chars-nil}
+use Rattle.std.proofs.lemmas.Bool.{or_cases, eqb-true}
+use Rattle.std.proofs.lemmas.Str.{IsUtf8-nil, chars-nil}
 use Rattle.std.proofs.lemmas.Str.Ascii.{IsAscii-nil, IsAscii-cons}
-use Rattle.wac_lexer.specs.Span.{Span, span, end_of}
-use Rattle.wac_lexer.specs.Characters.{fault_of, refused_from, refused, IsFirstRefused}
-use Rattle.wac_lexer.specs.Comments.{is_blank, gap}
-use Rattle.wac_lexer.specs.Docs.{begins_with, ends_with, doc_text, doc_of_part, docs_at}
-use Rattle.wac_lexer.specs.Gap.{IsPart, Gap, EndsLine, docs_among}
-use Rattle.wac_lexer.specs.Item.{Item, Doc}
-use Rattle.wac_lexer.specs.declared.error.Error.{Error}
+use Rattle.wac_lexer.specs.Characters.{fault_of}
+use Rattle.wac_lexer.specs.Comments.{is_blank}
 use Rattle.wac_lexer.proofs.Fronts.{blank_ascii}
-use Rattle.wac_lexer.proofs.Parts.{longest_gap, docs_in_gap}
-use Rattle.wac_lexer.proofs.Pieces.{inside_front}
-use Rattle.wac_lexer.proofs.Refusals.{first_refused}
-use Rattle.wac_lexer.proofs.Texts.{bytes_eq_is}
-use Rattle.wac_layout.specs.Printed.{Piece, token, blank, line, doc, times, text_of, text, fresh_after}
-use Rattle.wac_layout.specs.Joins.{AreBlanks, IsDocLine, Fits, JoinsBefore, Joins}
+use Rattle.wac_layout.specs.Printed.{Piece, token, blank, line, doc, text_of, text, fresh_after}
+use Rattle.wac_layout.specs.Joins.{AreBlanks, IsDocLine, Fits, JoinsBefore}
 use Rattle.wac_layout.specs.Accepted.{IsAccepted}
-use Rattle.wac_layout.proofs.Characters.{Holds, holds-append, holds_take, holds_drop, holds_ascii, holds_trim}
+use Rattle.wac_layout.proofs.Characters.{Holds, holds-append, holds_ascii, holds_trim}
 use Rattle.wac_layout.proofs.Fine.{Fine, fine, accepted}
 use Rattle.wac_layout.proofs.DocLines.{each, lines_hold, line_is, InLine}
 use Rattle.wac_layout.proofs.ReadBack.{line_blank}

@@ -1,17 +1,16 @@
 -- The texts and the docs of a source's items have no refused character where the source has none.
-use Rattle.std.proofs.Common.{◌≡◌, ◌≢◌, ℕ, zero, suc, ◌+◌, ◌-◌, ◌<◌, ◌≤◌, Bool, true, false, cond, List, [], ◌∷◌, ◌++◌, take, drop, length, get_or, sym, refl, ap, ◌∙◌, subst, arith, inl, inr, ⊎_elim, Option, Some, None, Result, append_assoc, length-append, codes}
-use Rattle.std.specs.Prelude.{◌&&◌, ◌==◌}
+use Rattle.std.proofs.Common.{◌≡◌, ℕ, suc, ◌+◌, ◌-◌, ◌<◌, true, List, [], ◌∷◌, ◌++◌, take, drop, length, get_or, sym, refl, ap, ◌∙◌, subst, arith, inl, inr, Option, Some, None, Result, length-append, codes}
+use Rattle.std.specs.Prelude.{◌&&◌}
 use Rattle.std.specs.List.{AllByRecursion}
-use Rattle.std.specs.Str.{IsUtf8, IsCharBoundary, chars, trim, bytes_eq}
+use Rattle.std.specs.Str.{IsUtf8, IsCharBoundary, trim, bytes_eq}
 use Rattle.std.proofs.Math.Seq.{get_or-append_seam, take-append_seam, drop-append_seam}
 use Rattle.std.proofs.lemmas.Bool.{and_parts, cond_both}
-use Rattle.std.proofs.lemmas.List.{take-append-drop, length-take-le, length-drop, drop-drop, get_or-drop}
+use Rattle.std.proofs.lemmas.List.{take-append-drop, length-take-le, length-drop, get_or-drop}
 use Rattle.std.proofs.lemmas.Str.{IsCharBoundary-end, IsCharBoundary-start, IsCharBoundary-before_ascii, IsCharBoundary-after_ascii}
 use Rattle.wac_lexer.specs.Span.{Span, span, end_of}
-use Rattle.wac_lexer.specs.Characters.{fault_of}
 use Rattle.wac_lexer.specs.Comments.{gap}
 use Rattle.wac_lexer.specs.Docs.{begins_with, ends_with, doc_text, doc_of_part, docs_at}
-use Rattle.wac_lexer.specs.Gap.{IsPart, Gap, EndsLine, docs_among}
+use Rattle.wac_lexer.specs.Gap.{IsPart, Gap, docs_among}
 use Rattle.wac_lexer.specs.Item.{Item, Doc, OnFirst}
 use Rattle.wac_lexer.specs.Items.{first_item, items_from, items}
 use Rattle.wac_lexer.specs.Order.{InOrder}
@@ -25,7 +24,7 @@ use Rattle.wac_lexer.proofs.Pieces.{inside_front}
 use Rattle.wac_lexer.proofs.Texts.{bytes_eq_is}
 use Rattle.wac_lexer.proofs.Unfolded.{made, start_of, items_none, items_some, first_docs}
 use Rattle.wac_layout.specs.Accepted.{IsAccepted, ItemIsAccepted}
-use Rattle.wac_layout.proofs.Characters.{Holds, holds_take, holds_drop, holds_trim, all-append}
+use Rattle.wac_layout.proofs.Characters.{Holds, holds_take, holds_drop, holds_trim}
 use Rattle.wac_layout.proofs.DocLines.{each}
 use Rattle.wac_layout.proofs.Fine.{Fine, fine, accepted}
 

@@ -1,28 +1,26 @@
 -- Declarations of types are read back.
-use Rattle.std.proofs.Common.{◌≡◌, ℕ, ◌+◌, Bool, true, false, List, [], ◌∷◌, ◌++◌, map, sym as back, refl, ap, ◌∙◌, subst, Option, Some, None, Ok, inl, inr, codes}
-use Rattle.std.specs.Prelude.{◌⊎◌}
+use Rattle.std.proofs.Common.{◌≡◌, ℕ, Bool, true, false, List, [], ◌∷◌, ◌++◌, map, sym as back, refl, ap, ◌∙◌, subst, Option, Some, None, inl, inr, codes}
 use Rattle.std.specs.List.{AllByRecursion, flat_map}
-use Rattle.std.specs.Option.{option_map}
 use Rattle.wac_lexer.specs.Item.{Item, Doc}
 use Rattle.wac_lexer.specs.Reading.{slice}
 use Rattle.wac_lexer.specs.declared.token.Token.TheVariants as kinds
 use Rattle.wac_grammar.specs.Tokens.{is_token}
 use Rattle.wac_grammar.specs.Tree as tree
 use Rattle.wac_grammar.specs.Tree.{Ident, Ty, FuncType, Constructor, Method, ResourceMethod, ResourceDecl, VariantCase, VariantDecl, Field, RecordDecl, Flag, FlagsDecl, EnumCase, EnumDecl, TypeAliasKind, TypeAlias, TypeDecl, ItemTypeDecl}
-use Rattle.wac_grammar.specs.Grammar.{docs_of, rule, build, DerivesIn, Derives, identifier, ty, func_type, named_type, constructor, method, resource_method, methods, resource_decl, variant_case, cases, more_cases, variant_decl, field, fields, more_fields, record_decl, flag, flags, more_flags, flags_decl, enum_case, enum_cases, more_enum_cases, enum_decl, type_alias_kind, type_alias, type_decl, item_type_decl}
-use Rattle.wac_layout.specs.Printed.{Piece, token, blank, line, deeper}
-use Rattle.wac_layout.specs.Bare.{nowhere, doc_lines, bare_ident, bare_ty, bare_named_type, bare_func_type, bare_constructor, bare_method, bare_resource_method, bare_resource_decl, bare_variant_case, bare_variant_decl, bare_field, bare_record_decl, bare_flag, bare_flags_decl, bare_enum_case, bare_enum_decl, bare_alias_kind, bare_type_alias, bare_type_decl, bare_item_type_decl}
+use Rattle.wac_grammar.specs.Grammar.{docs_of, build, Derives, identifier, named_type, constructor, method, resource_method, methods, resource_decl, variant_case, cases, more_cases, variant_decl, field, fields, more_fields, record_decl, flag, flags, more_flags, flags_decl, enum_case, enum_cases, more_enum_cases, enum_decl, type_alias_kind, type_alias, type_decl, item_type_decl}
+use Rattle.wac_layout.specs.Printed.{Piece, token, line, deeper}
+use Rattle.wac_layout.specs.Bare.{nowhere, doc_lines, bare_ty, bare_named_type, bare_func_type, bare_constructor, bare_method, bare_resource_method, bare_resource_decl, bare_variant_case, bare_variant_decl, bare_field, bare_record_decl, bare_flag, bare_flags_decl, bare_enum_case, bare_enum_decl, bare_alias_kind, bare_type_alias, bare_type_decl, bare_item_type_decl}
 use Rattle.wac_layout.specs.Parts.{space, newline, joined, spaced, body, rows, docs_layout, close_body}
 use Rattle.wac_layout.specs.TypeLayout.{ty_layout, named_type_layout, params_layout, func_type_layout}
-use Rattle.wac_layout.specs.DeclarationLayout.{constructor_layout, static_layout, method_layout, resource_method_layout, resource_decl_layout, payload_layout, variant_case_layout, variant_decl_layout, field_layout, record_decl_layout, flag_layout, flags_decl_layout, enum_case_layout, enum_decl_layout, alias_kind_layout, type_alias_layout, type_decl_layout, item_type_decl_layout}
+use Rattle.wac_layout.specs.DeclarationLayout.{constructor_layout, static_layout, method_layout, resource_method_layout, resource_decl_layout, variant_case_layout, variant_decl_layout, field_layout, record_decl_layout, flag_layout, flags_decl_layout, enum_case_layout, enum_decl_layout, alias_kind_layout, type_alias_layout, type_decl_layout, item_type_decl_layout}
 use Rattle.wac_layout.specs.Texts.{Spelled, ConstructorHas, MethodHas, ResourceMethodHas, ResourceDeclHas, VariantCaseHas, VariantDeclHas, FieldHas, RecordDeclHas, FlagHas, FlagsDeclHas, EnumCaseHas, EnumDeclHas, TypeAliasKindHas, TypeAliasHas, TypeDeclHas, ItemTypeDeclHas}
 use Rattle.wac_layout.specs.Reread.{read_docs}
 use Rattle.wac_grammar.proofs.Completed.{by_rule}
-use Rattle.wac_layout.proofs.Means.{Says, Means, split, pending, pending-append}
+use Rattle.wac_layout.proofs.Means.{Means, split, pending, pending-append}
 use Rattle.wac_layout.proofs.NamesBack.{alone, word_back, documented, docs_back}
 use Rattle.wac_layout.proofs.TypesBack.{ty_back}
 use Rattle.wac_layout.proofs.FunctionsBack.{params_back, func_type_back}
-use Rattle.wac_layout.proofs.ListsBack.{FirstBack, rows_first, spaced_back}
+use Rattle.wac_layout.proofs.ListsBack.{rows_first, spaced_back}
 
 -- no docs are left behind a token, nor behind what leaves none
 pub ends_in : (ds : List (List ℕ)) (ps : List Piece) (t : List ℕ) → pending ds (ps ++ token t ∷ []) ≡ []
@@ -79,12 +77,12 @@ module _ (S P : List ℕ) where
   method_back depth x ys is h = method_by depth x.docs x.id x.is_static x.ty ys is h
 
   pub resource_method_back : (depth : ℕ) (x : ResourceMethod) (ys : List Item) → ResourceMethodHas Spelled (bare_resource_method doc_lines S x) → Means P [] ys (resource_method_layout depth (bare_resource_method doc_lines S x)) → (u : ResourceMethod) × Derives resource_method ys u × (bare_resource_method read_docs P u ≡ bare_resource_method doc_lines S x)
-  unfolding resource_method_layout bare_resource_method
+  unfolding resource_method_layout
   resource_method_back depth (tree.ResourceMethod.constructor x) ys is h = let r = constructor_back depth x ys is h in (tree.ResourceMethod.constructor r.0, by_rule resource_method ys (inl r.0) r.1, ap tree.ResourceMethod.constructor r.2)
   resource_method_back depth (tree.ResourceMethod.method x) ys is h = let r = method_back depth x ys is h in (tree.ResourceMethod.method r.0, by_rule resource_method ys (inr r.0) r.1, ap tree.ResourceMethod.method r.2)
 
   method_closed : (depth : ℕ) (x : ResourceMethod) (ds : List (List ℕ)) → pending ds (resource_method_layout depth (bare_resource_method doc_lines S x)) ≡ []
-  unfolding resource_method_layout bare_resource_method
+  unfolding resource_method_layout
   method_closed depth (tree.ResourceMethod.constructor x) ds =
       leaves_none (docs_layout depth (doc_lines x.docs)) _ (λ es. ends_in [] (params_layout (map (bare_named_type S) x.params)) (codes ";")) ds
   method_closed depth (tree.ResourceMethod.method x) ds =
@@ -287,7 +285,7 @@ module _ (S P : List ℕ) where
 
   alias_kind_back : (x : TypeAliasKind) (ds : List (List ℕ)) (ys : List Item) → TypeAliasKindHas Spelled (bare_alias_kind S x) → Means P ds ys (alias_kind_layout (bare_alias_kind S x))
       → (u : TypeAliasKind) × Derives type_alias_kind ys u × (bare_alias_kind P u ≡ bare_alias_kind S x)
-  unfolding alias_kind_layout bare_alias_kind
+  unfolding alias_kind_layout
   alias_kind_back (tree.TypeAliasKind.func x) ds ys is h = let r = func_type_back S P x ds ys is h in (tree.TypeAliasKind.func r.0, by_rule type_alias_kind ys (inl r.0) r.1, ap tree.TypeAliasKind.func r.2)
   alias_kind_back (tree.TypeAliasKind.ty x) ds ys is h = let r = ty_back S P x ds ys is h in (tree.TypeAliasKind.ty r.0, by_rule type_alias_kind ys (inr r.0) r.1, ap tree.TypeAliasKind.ty r.2)
 
@@ -305,7 +303,7 @@ module _ (S P : List ℕ) where
       (build type_alias (docs_of ys, (h.0, (w.0, (h2.0, (r.0, h5.0))))), by_rule type_alias ys (docs_of ys, (h.0, (w.0, (h2.0, (r.0, h5.0))))) (refl, (h.0 ∷ [], h.1, h.2, (refl, ap (is_token kinds.TypeKeyword) h.3.0, refl), (h1.0 ∷ [], h1.1, h1.2, w.1, (h2.0 ∷ [], h2.1, h2.2, (refl, ap (is_token kinds.Equals) h2.3.0, refl), (c4.0, c4.1, c4.2, r.1, (alone h5.0 h5.1 c4.1 h5.2 h5.4, ap (is_token kinds.Semicolon) h5.3.0, refl)))))), (λ i. record { docs = k i; id = w.2 i; kind = r.2 i }))
 
   pub type_decl_back : (depth : ℕ) (x : TypeDecl) (ys : List Item) → TypeDeclHas Spelled (bare_type_decl doc_lines S x) → Means P [] ys (type_decl_layout depth (bare_type_decl doc_lines S x)) → (u : TypeDecl) × Derives type_decl ys u × (bare_type_decl read_docs P u ≡ bare_type_decl doc_lines S x)
-  unfolding type_decl_layout bare_type_decl
+  unfolding type_decl_layout
   type_decl_back depth (tree.TypeDecl.variant x) ys is h = let r = variant_decl_back depth x ys is h in (tree.TypeDecl.variant r.0, by_rule type_decl ys (inl r.0) r.1, ap tree.TypeDecl.variant r.2)
   type_decl_back depth (tree.TypeDecl.record_decl x) ys is h = let r = record_decl_back depth x ys is h in (tree.TypeDecl.record_decl r.0, by_rule type_decl ys (inr (inl r.0)) r.1, ap tree.TypeDecl.record_decl r.2)
   type_decl_back depth (tree.TypeDecl.flags x) ys is h = let r = flags_decl_back depth x ys is h in (tree.TypeDecl.flags r.0, by_rule type_decl ys (inr (inr (inl r.0))) r.1, ap tree.TypeDecl.flags r.2)
@@ -313,7 +311,7 @@ module _ (S P : List ℕ) where
   type_decl_back depth (tree.TypeDecl.alias x) ys is h = let r = type_alias_back depth x ys is h in (tree.TypeDecl.alias r.0, by_rule type_decl ys (inr (inr (inr (inr r.0)))) r.1, ap tree.TypeDecl.alias r.2)
 
   pub item_type_decl_back : (depth : ℕ) (x : ItemTypeDecl) (ys : List Item) → ItemTypeDeclHas Spelled (bare_item_type_decl doc_lines S x) → Means P [] ys (item_type_decl_layout depth (bare_item_type_decl doc_lines S x)) → (u : ItemTypeDecl) × Derives item_type_decl ys u × (bare_item_type_decl read_docs P u ≡ bare_item_type_decl doc_lines S x)
-  unfolding item_type_decl_layout bare_item_type_decl
+  unfolding item_type_decl_layout
   item_type_decl_back depth (tree.ItemTypeDecl.resource x) ys is h = let r = resource_decl_back depth x ys is h in (tree.ItemTypeDecl.resource r.0, by_rule item_type_decl ys (inl r.0) r.1, ap tree.ItemTypeDecl.resource r.2)
   item_type_decl_back depth (tree.ItemTypeDecl.variant x) ys is h = let r = variant_decl_back depth x ys is h in (tree.ItemTypeDecl.variant r.0, by_rule item_type_decl ys (inr (inl r.0)) r.1, ap tree.ItemTypeDecl.variant r.2)
   item_type_decl_back depth (tree.ItemTypeDecl.record_decl x) ys is h = let r = record_decl_back depth x ys is h in (tree.ItemTypeDecl.record_decl r.0, by_rule item_type_decl ys (inr (inr (inl r.0))) r.1, ap tree.ItemTypeDecl.record_decl r.2)
@@ -329,7 +327,7 @@ module _ (S P : List ℕ) where
   alias_closed depth x ds = leaves_none (docs_layout depth (doc_lines x.docs)) _ (λ es. ends_in [] (alias_kind_layout (bare_alias_kind S x.kind)) (codes ";")) ds
 
   pub type_decl_closed : (depth : ℕ) (x : TypeDecl) (ds : List (List ℕ)) → pending ds (type_decl_layout depth (bare_type_decl doc_lines S x)) ≡ []
-  unfolding type_decl_layout bare_type_decl
+  unfolding type_decl_layout
   type_decl_closed depth (tree.TypeDecl.variant x) ds = rows_decl_closed variant_case_layout depth x.docs (codes "variant") (slice S x.id.span) (map (bare_variant_case doc_lines S) x.cases) ds
   type_decl_closed depth (tree.TypeDecl.record_decl x) ds = rows_decl_closed field_layout depth x.docs (codes "record") (slice S x.id.span) (map (bare_field doc_lines S) x.fields) ds
   type_decl_closed depth (tree.TypeDecl.flags x) ds = rows_decl_closed flag_layout depth x.docs (codes "flags") (slice S x.id.span) (map (bare_flag doc_lines S) x.flags) ds
@@ -337,7 +335,7 @@ module _ (S P : List ℕ) where
   type_decl_closed depth (tree.TypeDecl.alias x) ds = alias_closed depth x ds
 
   pub item_type_decl_closed : (depth : ℕ) (x : ItemTypeDecl) (ds : List (List ℕ)) → pending ds (item_type_decl_layout depth (bare_item_type_decl doc_lines S x)) ≡ []
-  unfolding item_type_decl_layout bare_item_type_decl
+  unfolding item_type_decl_layout
   item_type_decl_closed depth (tree.ItemTypeDecl.resource x) ds = leaves_none (docs_layout depth (doc_lines x.docs)) _ (λ es. body_closed resource_method_layout depth (map (bare_resource_method doc_lines S) x.methods) []) ds
   item_type_decl_closed depth (tree.ItemTypeDecl.variant x) ds = rows_decl_closed variant_case_layout depth x.docs (codes "variant") (slice S x.id.span) (map (bare_variant_case doc_lines S) x.cases) ds
   item_type_decl_closed depth (tree.ItemTypeDecl.record_decl x) ds = rows_decl_closed field_layout depth x.docs (codes "record") (slice S x.id.span) (map (bare_field doc_lines S) x.fields) ds

@@ -1,5 +1,5 @@
 -- What is printed of a document is read back.
-use Rattle.std.proofs.Common.{◌≡◌, ℕ, ◌+◌, Bool, true, List, [], ◌∷◌, ◌++◌, sym, refl, subst}
+use Rattle.std.proofs.Common.{◌≡◌, ℕ, true, List, [], ◌∷◌, sym, subst}
 use Rattle.std.specs.List.{AllByRecursion}
 use Rattle.wac_lexer.specs.Item.{Item}
 use Rattle.wac_lexer.specs.Items.{items}
@@ -10,7 +10,6 @@ use Rattle.wac_lexer.proofs.Ordered.{ordered}
 use Rattle.wac_grammar.specs.Tree.{Document}
 use Rattle.wac_layout.specs.Printed.{Piece, text}
 use Rattle.wac_layout.specs.Joins.{AreBlanks, Joins}
-use Rattle.wac_layout.specs.Placed.{placed}
 use Rattle.wac_layout.specs.Bare.{doc_lines, bare_document}
 use Rattle.wac_layout.specs.StatementLayout.{document_layout}
 use Rattle.wac_layout.specs.Texts.{Spelled, DocumentHas}

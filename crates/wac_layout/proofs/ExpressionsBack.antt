@@ -1,22 +1,20 @@
 -- Expressions are read back.
-use Rattle.std.proofs.Common.{◌≡◌, ℕ, ◌+◌, Bool, true, false, List, [], ◌∷◌, ◌++◌, map, sym as back, refl, ap, ◌∙◌, subst, Option, Some, None, Ok, inl, inr, codes}
-use Rattle.std.specs.Prelude.{◌⊎◌}
+use Rattle.std.proofs.Common.{◌≡◌, ℕ, List, [], ◌∷◌, ◌++◌, map, sym as back, refl, ap, subst, inl, inr, codes}
 use Rattle.std.specs.List.{AllByRecursion, flat_map}
-use Rattle.std.specs.Option.{option_map}
-use Rattle.wac_lexer.specs.Item.{Item, Doc}
+use Rattle.wac_lexer.specs.Item.{Item}
 use Rattle.wac_lexer.specs.Reading.{slice}
 use Rattle.wac_lexer.specs.declared.token.Token.TheVariants as kinds
 use Rattle.wac_grammar.specs.Tokens.{is_token}
 use Rattle.wac_grammar.specs.Tree as tree
 use Rattle.wac_grammar.specs.Tree.{Ident, String, PackageName, AccessExpr, NamedAccessExpr, PostfixExpr, InstantiationArgumentName, Expr, PrimaryExpr, Arguments, InstantiationArgument, arguments_from}
-use Rattle.wac_grammar.specs.Grammar.{rule, build, DerivesIn, Derives, identifier, string, package_name, access_expr, named_access_expr, postfix_expr, postfixes, argument, arguments, more_arguments, new_expr, nested_expr, primary_expr, expr}
-use Rattle.wac_layout.specs.Printed.{Piece, token, blank, line, deeper}
-use Rattle.wac_layout.specs.Bare.{nowhere, bare_ident, bare_string, bare_package_name, bare_access_expr, bare_named_access_expr, bare_postfix_expr, bare_argument_name, bare_expr, bare_primary_expr, bare_arguments, bare_argument}
-use Rattle.wac_layout.specs.Parts.{space, newline, close_body}
-use Rattle.wac_layout.specs.ExpressionLayout.{postfix_expr_layout, argument_name_layout, comma_layout, braced_layout, expr_layout, primary_expr_layout, arguments_layout, argument_layout}
-use Rattle.wac_layout.specs.Texts.{Spelled, PostfixExprHas, ArgumentNameHas, ExprHas, PrimaryExprHas, ArgumentsHas, ArgumentHas}
+use Rattle.wac_grammar.specs.Grammar.{build, Derives, identifier, access_expr, named_access_expr, postfix_expr, postfixes, argument, arguments, more_arguments, new_expr, nested_expr, primary_expr, expr}
+use Rattle.wac_layout.specs.Printed.{Piece, token, line, deeper}
+use Rattle.wac_layout.specs.Bare.{nowhere, bare_postfix_expr, bare_expr, bare_primary_expr, bare_arguments, bare_argument}
+use Rattle.wac_layout.specs.Parts.{newline, close_body}
+use Rattle.wac_layout.specs.ExpressionLayout.{postfix_expr_layout, comma_layout, braced_layout, expr_layout, primary_expr_layout, arguments_layout, argument_layout}
+use Rattle.wac_layout.specs.Texts.{Spelled, PostfixExprHas, ExprHas, PrimaryExprHas, ArgumentsHas, ArgumentHas}
 use Rattle.wac_grammar.proofs.Completed.{by_rule}
-use Rattle.wac_layout.proofs.Means.{Says, Means, split}
+use Rattle.wac_layout.proofs.Means.{Means, split}
 use Rattle.wac_layout.proofs.NamesBack.{alone, is_kind, word_back, string_back, name_back}
 use Rattle.wac_layout.proofs.ListsBack.{regroup}
 
@@ -56,7 +54,6 @@ module _ (S P : List ℕ) where
 
   -- behind an argument: the brace, or a comma and the others
   brace : (ds : List (List ℕ)) (ys : List Item) → Means P ds ys (token (codes "}") ∷ []) → MoreBack tree.Arguments.none ys
-  unfolding bare_arguments
   brace ds ys h = (([], h.0), by_rule more_arguments ys (inl h.0) (alone h.0 h.1 ys h.2 h.4, ap (is_token kinds.CloseBrace) h.3.0, refl), refl)
 
   after_comma : (xs : Arguments) (depth : ℕ) (rest : List Piece) (ds : List (List ℕ)) (ys : List Item) → Means P ds ys ((token (codes ",") ∷ newline ∷ arguments_layout depth (bare_arguments S xs)) ++ rest)
@@ -68,7 +65,7 @@ module _ (S P : List ℕ) where
   more_back : (x : InstantiationArgument) (xs : Arguments) (depth outer : ℕ) (ds : List (List ℕ)) (ys : List Item)
       → Means P ds ys ((comma_layout (bare_argument S x) (bare_arguments S xs) ++ newline ∷ arguments_layout depth (bare_arguments S xs)) ++ close_body outer)
       → ((zs : List Item) → Means P [] zs (arguments_layout depth (bare_arguments S xs) ++ close_body outer) → ArgumentsBack xs zs) → MoreBack xs ys
-  unfolding bare_arguments bare_argument arguments_layout
+  unfolding arguments_layout
   more_back (tree.InstantiationArgument.fill s) tree.Arguments.none depth outer ds ys h others = brace ds ys h
   more_back (tree.InstantiationArgument.fill s) (tree.Arguments.more y zs) depth outer ds ys h others = after_comma (tree.Arguments.more y zs) depth (close_body outer) ds ys h others
   more_back (tree.InstantiationArgument.spread x) xs depth outer ds ys h others = after_comma xs depth (close_body outer) ds ys h others
@@ -78,7 +75,6 @@ module _ (S P : List ℕ) where
   -- between braces
   braced_back : (depth : ℕ) (xs : Arguments) (ds : List (List ℕ)) (ys : List Item) → Means P [] ys (braced_layout depth (bare_arguments S xs) (arguments_layout (deeper depth) (bare_arguments S xs)) ++ token (codes "}") ∷ [])
       → ((zs : List Item) → Means P [] zs (arguments_layout (deeper depth) (bare_arguments S xs) ++ close_body depth) → ArgumentsBack xs zs) → ArgumentsBack xs ys
-  unfolding bare_arguments bare_argument
   braced_back depth tree.Arguments.none ds ys h others = (([], h.0), by_rule arguments ys (inl h.0) (alone h.0 h.1 ys h.2 h.4, ap (is_token kinds.CloseBrace) h.3.0, refl), refl)
   braced_back depth (tree.Arguments.more (tree.InstantiationArgument.fill s) tree.Arguments.none) ds ys h others =
       let m = brace [] h.1 h.4 in
@@ -90,7 +86,7 @@ module _ (S P : List ℕ) where
   braced_back depth (tree.Arguments.more (tree.InstantiationArgument.inferred x) xs) ds ys h others = others ys (regroup P [] ys (arguments_layout (deeper depth) (bare_arguments S (tree.Arguments.more (tree.InstantiationArgument.inferred x) xs))) (line depth ∷ []) (token (codes "}") ∷ []) h)
 
   mutual
-    unfolding expr_layout primary_expr_layout arguments_layout argument_layout bare_expr bare_primary_expr bare_arguments bare_argument
+    unfolding expr_layout primary_expr_layout arguments_layout argument_layout
 
     pub expr_back : (depth : ℕ) (x : Expr) (ds : List (List ℕ)) (ys : List Item) → ExprHas Spelled (bare_expr S x) → Means P ds ys (expr_layout depth (bare_expr S x)) → ExprBack x ys
     expr_back depth (tree.Expr.expr s first others) ds ys is h =

@@ -1,12 +1,12 @@
 -- The pieces of expressions join.
-use Rattle.std.proofs.Common.{◌≡◌, ℕ, Bool, true, false, List, [], ◌∷◌, ◌++◌, refl, Option, Some, None, codes}
+use Rattle.std.proofs.Common.{◌≡◌, ℕ, Bool, true, List, [], ◌∷◌, ◌++◌, refl}
 use Rattle.std.specs.List.{AllByRecursion, flat_map}
 use Rattle.wac_lexer.specs.Follow.{follows}
 use Rattle.wac_lexer.specs.declared.token.Token.TheVariants as kinds
 use Rattle.wac_grammar.specs.Tree as tree
 use Rattle.wac_grammar.specs.Tree.{PostfixExpr, InstantiationArgumentName, Expr, PrimaryExpr, Arguments, InstantiationArgument}
-use Rattle.wac_layout.specs.Printed.{Piece, token, line, text, fresh_behind, deeper}
-use Rattle.wac_layout.specs.Parts.{space, newline}
+use Rattle.wac_layout.specs.Printed.{Piece, line, text, deeper}
+use Rattle.wac_layout.specs.Parts.{newline}
 use Rattle.wac_layout.specs.Texts.{Spelled, PostfixExprHas, ArgumentNameHas, ExprHas, PrimaryExprHas, ArgumentsHas, ArgumentHas}
 use Rattle.wac_layout.specs.ExpressionLayout.{postfix_expr_layout, argument_name_layout, comma_layout, braced_layout, expr_layout, primary_expr_layout, arguments_layout, argument_layout}
 use Rattle.wac_layout.proofs.Joints.{J, also, known, dot, word, string, name, colon, comma, ellipsis, open_paren, close_paren, open_brace, close_brace, open_bracket, close_bracket}

@@ -1,12 +1,11 @@
 -- Characters that aren't refused.
-use Rattle.std.proofs.Common.{◌≡◌, ℕ, ◌+◌, List, [], ◌∷◌, refl, ap, ◌∙◌, subst, Option, Some, None}
+use Rattle.std.proofs.Common.{◌≡◌, ℕ, ◌+◌, List, [], ◌∷◌, refl, ap, ◌∙◌, subst, Some, None}
 use Rattle.std.specs.Prelude.{MatchOption}
 use Rattle.std.specs.List.{AllByRecursion}
 use Rattle.std.specs.Char.{len_utf8}
 use Rattle.std.specs.Str.{chars}
-use Rattle.wac_lexer.specs.Span.{Span, span}
-use Rattle.wac_lexer.specs.Characters.{fault_of, refused_from, refused, IsFirstRefused}
-use Rattle.wac_lexer.specs.declared.error.Error.{Error}
+use Rattle.wac_lexer.specs.Span.{span}
+use Rattle.wac_lexer.specs.Characters.{fault_of, refused_from, IsFirstRefused}
 use Rattle.wac_lexer.proofs.Refusals.{first_refused}
 use Rattle.wac_layout.specs.Accepted.{IsAccepted}
 use Rattle.wac_layout.proofs.Characters.{Holds}

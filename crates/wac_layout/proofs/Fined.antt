@@ -1,6 +1,5 @@
 -- What a tree that is derived is made of is spelled as its sort.
-use Rattle.std.proofs.Common.{◌≡◌, ℕ, ◌+◌, Bool, true, false, List, [], ◌∷◌, ◌++◌, map, sym as back, refl, ap, ◌∙◌, subst, Option, Some, None, Result, Ok, Err, inl, inr, zero, suc}
-use Rattle.std.specs.Prelude.{◌⊎◌}
+use Rattle.std.proofs.Common.{◌≡◌, ℕ, true, List, [], sym as back, refl, ap, ◌∙◌, subst, Some, Result, Ok, Err}
 use Rattle.std.specs.List.{AllByRecursion}
 use Rattle.std.proofs.lemmas.Bool.{false≢true}
 use Rattle.wac_lexer.specs.Item.{Item, Doc}

@@ -6,7 +6,7 @@ use Rattle.wac_layout.specs.Bare.{doc_lines, bare_document}
 use Rattle.wac_layout.specs.Settled.{settle_document}
 use Rattle.wac_layout.specs.StatementLayout.{document_layout}
 use Rattle.wac_layout.specs.Texts.{Spelled, DocumentHas}
-use Rattle.wac_layout.specs.Reread.{read_docs, printed, IsReread}
+use Rattle.wac_layout.specs.Reread.{printed, IsReread}
 use Rattle.wac_layout.proofs.Settling.{settled_document, twice_document}
 
 -- the docs of a tree that was read of a printed text, cut into lines

@@ -1,21 +1,20 @@
 -- Functions are read back.
-use Rattle.std.proofs.Common.{◌≡◌, ℕ, ◌+◌, Bool, true, false, List, [], ◌∷◌, ◌++◌, map, sym as back, refl, ap, ◌∙◌, subst, Option, Some, None, Ok, inl, inr, codes}
+use Rattle.std.proofs.Common.{◌≡◌, ℕ, Bool, true, false, List, [], ◌∷◌, ◌++◌, map, sym as back, refl, ap, subst, inl, inr, codes}
 use Rattle.std.specs.Prelude.{◌⊎◌}
 use Rattle.std.specs.List.{AllByRecursion}
 use Rattle.wac_lexer.specs.Item.{Item}
-use Rattle.wac_lexer.specs.Reading.{slice}
 use Rattle.wac_lexer.specs.declared.token.Token.TheVariants as kinds
 use Rattle.wac_grammar.specs.Tokens.{is_token}
 use Rattle.wac_grammar.specs.Tree as tree
 use Rattle.wac_grammar.specs.Tree.{Ident, NamedType, ResultList, FuncType, FuncTypeRef}
-use Rattle.wac_grammar.specs.Grammar.{token as one_token, sym as one_sym, then, optional, rule, build, is_there, results_of, DerivesIn, Derives, identifier, ty, named_type, params, more_params, result_list, func_type, func_type_ref}
-use Rattle.wac_layout.specs.Printed.{Piece, token, blank}
-use Rattle.wac_layout.specs.Bare.{nowhere, bare_ident, bare_ty, bare_named_type, bare_result_list, bare_func_type, bare_func_type_ref}
-use Rattle.wac_layout.specs.Parts.{space, joined}
-use Rattle.wac_layout.specs.TypeLayout.{ty_layout, named_type_layout, results_layout, async_layout, params_layout, func_type_layout, func_type_ref_layout}
+use Rattle.wac_grammar.specs.Grammar.{token as one_token, sym as one_sym, then, optional, build, is_there, results_of, DerivesIn, Derives, identifier, named_type, params, more_params, result_list, func_type, func_type_ref}
+use Rattle.wac_layout.specs.Printed.{token}
+use Rattle.wac_layout.specs.Bare.{bare_named_type, bare_result_list, bare_func_type, bare_func_type_ref}
+use Rattle.wac_layout.specs.Parts.{joined}
+use Rattle.wac_layout.specs.TypeLayout.{named_type_layout, results_layout, async_layout, func_type_layout, func_type_ref_layout}
 use Rattle.wac_layout.specs.Texts.{Spelled, NamedTypeHas, ResultListHas, FuncTypeHas, FuncTypeRefHas}
 use Rattle.wac_grammar.proofs.Completed.{by_rule}
-use Rattle.wac_layout.proofs.Means.{Says, Means, split}
+use Rattle.wac_layout.proofs.Means.{Means, split}
 use Rattle.wac_layout.proofs.NamesBack.{alone, word_back}
 use Rattle.wac_layout.proofs.TypesBack.{ty_back}
 use Rattle.wac_layout.proofs.ListsBack.{joined_back}
@@ -74,7 +73,7 @@ module _ (S P : List ℕ) where
 
   pub func_type_ref_back : (x : FuncTypeRef) (ds : List (List ℕ)) (ys : List Item) → FuncTypeRefHas Spelled (bare_func_type_ref S x) → Means P ds ys (func_type_ref_layout (bare_func_type_ref S x))
       → (u : FuncTypeRef) × Derives func_type_ref ys u × (bare_func_type_ref P u ≡ bare_func_type_ref S x)
-  unfolding func_type_ref_layout bare_func_type_ref
+  unfolding func_type_ref_layout
   func_type_ref_back (tree.FuncTypeRef.func x) ds ys is h = let r = func_type_back x ds ys is h in (tree.FuncTypeRef.func r.0, by_rule func_type_ref ys (inl r.0) r.1, ap tree.FuncTypeRef.func r.2)
   func_type_ref_back (tree.FuncTypeRef.ident x) ds ys is h =
       let r = word_back S P x ds h.0 is h.3 in

@@ -1,25 +1,21 @@
 -- Interfaces are read back.
-use Rattle.std.proofs.Common.{◌≡◌, ℕ, ◌+◌, Bool, true, false, List, [], ◌∷◌, ◌++◌, map, sym as back, refl, ap, ◌∙◌, subst, Option, Some, None, Ok, inl, inr, codes}
-use Rattle.std.specs.Prelude.{◌⊎◌}
-use Rattle.std.specs.List.{AllByRecursion, flat_map}
-use Rattle.std.specs.Option.{option_map}
-use Rattle.wac_lexer.specs.Item.{Item, Doc}
-use Rattle.wac_lexer.specs.Reading.{slice}
+use Rattle.std.proofs.Common.{◌≡◌, ℕ, List, [], ◌∷◌, ◌++◌, map, sym as back, refl, ap, subst, Option, Some, None, inl, inr, codes}
+use Rattle.std.specs.List.{AllByRecursion}
+use Rattle.wac_lexer.specs.Item.{Item}
 use Rattle.wac_lexer.specs.declared.token.Token.TheVariants as kinds
 use Rattle.wac_grammar.specs.Tokens.{is_token}
 use Rattle.wac_grammar.specs.Tree as tree
 use Rattle.wac_grammar.specs.Tree.{Ident, PackagePath, FuncTypeRef, UsePath, UseItem, Use, InterfaceExport, InterfaceItem, InterfaceDecl, InlineInterface}
-use Rattle.wac_grammar.specs.Grammar.{docs_of, rule, build, DerivesIn, Derives, identifier, package_path, func_type_ref, use_path, use_item, use_items, more_use_items, use_statement, interface_export, interface_item, interface_items, interface_decl, inline_interface, item_type_decl}
-use Rattle.wac_layout.specs.Printed.{Piece, token, blank, line, deeper}
-use Rattle.wac_layout.specs.Bare.{nowhere, doc_lines, bare_ident, bare_package_path, bare_func_type_ref, bare_use_path, bare_use_item, bare_use, bare_interface_export, bare_interface_item, bare_interface_decl, bare_inline_interface, bare_item_type_decl}
-use Rattle.wac_layout.specs.Parts.{space, newline, joined, spaced, body, docs_layout, close_body}
+use Rattle.wac_grammar.specs.Grammar.{docs_of, build, Derives, identifier, package_path, use_path, use_item, use_items, more_use_items, use_statement, interface_export, interface_item, interface_items, interface_decl, inline_interface}
+use Rattle.wac_layout.specs.Printed.{token, deeper}
+use Rattle.wac_layout.specs.Bare.{doc_lines, bare_func_type_ref, bare_use_path, bare_use_item, bare_use, bare_interface_export, bare_interface_item, bare_interface_decl, bare_inline_interface}
+use Rattle.wac_layout.specs.Parts.{space, joined, spaced, body, docs_layout, close_body}
 use Rattle.wac_layout.specs.TypeLayout.{func_type_ref_layout}
-use Rattle.wac_layout.specs.DeclarationLayout.{item_type_decl_layout}
 use Rattle.wac_layout.specs.InterfaceLayout.{use_path_layout, use_item_layout, use_items_layout, use_layout, interface_export_layout, interface_item_layout, interface_decl_layout, inline_interface_layout}
 use Rattle.wac_layout.specs.Texts.{Spelled, UsePathHas, UseItemHas, UseHas, InterfaceExportHas, InterfaceItemHas, InterfaceDeclHas, InlineInterfaceHas}
 use Rattle.wac_layout.specs.Reread.{read_docs}
 use Rattle.wac_grammar.proofs.Completed.{by_rule}
-use Rattle.wac_layout.proofs.Means.{Says, Means, split, pending, pending-append}
+use Rattle.wac_layout.proofs.Means.{Means, split, pending}
 use Rattle.wac_layout.proofs.NamesBack.{alone, word_back, path_back, documented, docs_back}
 use Rattle.wac_layout.proofs.FunctionsBack.{func_type_ref_back}
 use Rattle.wac_layout.proofs.ListsBack.{joined_back, spaced_back}
@@ -92,7 +88,7 @@ module _ (S P : List ℕ) where
       (build interface_export (docs_of ys, (w.0, (h1.0, (r.0, h4.0)))), by_rule interface_export ys (docs_of ys, (w.0, (h1.0, (r.0, h4.0)))) (refl, (h.0 ∷ [], h.1, h.2, w.1, (h1.0 ∷ [], h1.1, h1.2, (refl, ap (is_token kinds.Colon) h1.3.0, refl), (c3.0, c3.1, c3.2, r.1, (alone h4.0 h4.1 c3.1 h4.2 h4.4, ap (is_token kinds.Semicolon) h4.3.0, refl))))), (λ i. record { docs = k i; id = w.2 i; ty = r.2 i }))
 
   pub interface_item_back : (depth : ℕ) (x : InterfaceItem) (ys : List Item) → InterfaceItemHas Spelled (bare_interface_item doc_lines S x) → Means P [] ys (interface_item_layout depth (bare_interface_item doc_lines S x)) → (u : InterfaceItem) × Derives interface_item ys u × (bare_interface_item read_docs P u ≡ bare_interface_item doc_lines S x)
-  unfolding interface_item_layout bare_interface_item
+  unfolding interface_item_layout
   interface_item_back depth (tree.InterfaceItem.use_statement x) ys is h = let r = use_back depth x ys is h in (tree.InterfaceItem.use_statement r.0, by_rule interface_item ys (inl r.0) r.1, ap tree.InterfaceItem.use_statement r.2)
   interface_item_back depth (tree.InterfaceItem.interface_export x) ys is h = let r = interface_export_back depth x ys is h in (tree.InterfaceItem.interface_export r.0, by_rule interface_item ys (inr (inl r.0)) r.1, ap tree.InterfaceItem.interface_export r.2)
   interface_item_back depth (tree.InterfaceItem.ty x) ys is h = let r = item_type_decl_back S P depth x ys is h in (tree.InterfaceItem.ty r.0, by_rule interface_item ys (inr (inr r.0)) r.1, ap tree.InterfaceItem.ty r.2)
@@ -102,7 +98,7 @@ module _ (S P : List ℕ) where
       leaves_none (docs_layout depth (doc_lines x.docs)) _ (λ es. leaves_none (use_path_layout (bare_use_path S x.path)) _ (λ fs. ends_in fs (use_items_layout (map (bare_use_item S) x.items)) (codes ";")) []) ds
 
   interface_item_closed : (depth : ℕ) (x : InterfaceItem) (ds : List (List ℕ)) → pending ds (interface_item_layout depth (bare_interface_item doc_lines S x)) ≡ []
-  unfolding interface_item_layout bare_interface_item
+  unfolding interface_item_layout
   interface_item_closed depth (tree.InterfaceItem.use_statement x) ds = use_closed depth x ds
   interface_item_closed depth (tree.InterfaceItem.interface_export x) ds = leaves_none (docs_layout depth (doc_lines x.docs)) _ (λ es. ends_in [] (func_type_ref_layout (bare_func_type_ref S x.ty)) (codes ";")) ds
   interface_item_closed depth (tree.InterfaceItem.ty x) ds = item_type_decl_closed S P depth x ds

@@ -6,8 +6,8 @@ use Rattle.wac_lexer.specs.declared.token.Token.TheVariants as kinds
 use Rattle.wac_grammar.specs.Tree as tree
 use Rattle.wac_grammar.specs.Tree.{Ident, UsePath, UseItem, Use, InterfaceExport, InterfaceItem, InterfaceDecl, InlineInterface}
 use Rattle.wac_grammar.specs.Leaves.{IfThere}
-use Rattle.wac_layout.specs.Printed.{Piece, token, line, text, fresh_behind}
-use Rattle.wac_layout.specs.Parts.{space, joined}
+use Rattle.wac_layout.specs.Printed.{token, text, fresh_behind}
+use Rattle.wac_layout.specs.Parts.{joined}
 use Rattle.wac_layout.specs.Texts.{Spelled, IdentHas, UsePathHas, UseItemHas, UseHas, InterfaceExportHas, InterfaceItemHas, InterfaceDeclHas, InlineInterfaceHas}
 use Rattle.wac_layout.specs.TypeLayout.{func_type_ref_layout}
 use Rattle.wac_layout.specs.InterfaceLayout.{use_path_layout, as_layout, use_item_layout, use_items_layout, use_layout, interface_export_layout, interface_item_layout, interface_decl_layout, inline_interface_layout}

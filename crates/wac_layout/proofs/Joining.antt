@@ -1,12 +1,12 @@
 -- Pieces one behind the other join where each of the two lists does.
-use Rattle.std.proofs.Common.{◌≡◌, ℕ, ◌+◌, Bool, true, false, List, [], ◌∷◌, ◌++◌, sym, refl, ap, ◌∙◌, subst, append_assoc, Option, Some, None}
+use Rattle.std.proofs.Common.{◌≡◌, ℕ, Bool, true, false, List, [], ◌∷◌, ◌++◌, sym, refl, ap, ◌∙◌, subst, append_assoc, Some, None}
 use Rattle.std.specs.Prelude.{nat_eq}
 use Rattle.wac_lexer.specs.Follow.{follows}
 use Rattle.wac_lexer.specs.Tokens.{token_of}
 use Rattle.wac_lexer.specs.declared.token.Token.{Token}
-use Rattle.wac_layout.specs.Printed.{Piece, token, blank, line, doc, text_of, text, fresh_after, fresh_behind}
+use Rattle.wac_layout.specs.Printed.{Piece, text_of, text, fresh_after, fresh_behind}
 use Rattle.wac_layout.specs.Accepted.{IsAccepted}
-use Rattle.wac_layout.specs.Joins.{stands_before, Stands, Fits, JoinsBefore, Joins}
+use Rattle.wac_layout.specs.Joins.{Stands, Fits, JoinsBefore}
 
 pub fresh-append : (fresh : Bool) (a b : List ℕ) → fresh_after fresh (a ++ b) ≡ fresh_after (fresh_after fresh a) b
 fresh-append fresh [] b = refl

@@ -1,15 +1,14 @@
 -- The joints of printed text: what each sort of piece may stand before.
-use Rattle.std.proofs.Common.{◌≡◌, ℕ, Bool, true, false, List, [], ◌∷◌, ◌++◌, sym, refl, ap, ◌∙◌, subst, append_assoc, Option, Some, None, codes}
+use Rattle.std.proofs.Common.{◌≡◌, ℕ, Bool, true, List, [], ◌∷◌, ◌++◌, refl, ap, ◌∙◌, append_assoc, Some, codes}
 use Rattle.std.specs.List.{AllByRecursion, flat_map}
 use Rattle.wac_lexer.specs.Follow.{follows}
 use Rattle.wac_lexer.specs.Tokens.{token_of}
-use Rattle.wac_lexer.specs.declared.token.Token.{Token}
 use Rattle.wac_lexer.specs.declared.token.Token.TheVariants as kinds
 use Rattle.wac_lexer.proofs.Followed.{dot_before_word}
 use Rattle.wac_lexer.specs.Item.{Doc}
-use Rattle.wac_layout.specs.Printed.{Piece, token, blank, line, doc, text_of, text, fresh_after, fresh_behind, deeper}
-use Rattle.wac_layout.specs.Joins.{stands_before, Stands, Fits, JoinsBefore, Joins}
-use Rattle.wac_layout.specs.Parts.{space, newline, between, joined, spaced, body, rows, open_body, close_body, docs_layout, doc_layout}
+use Rattle.wac_layout.specs.Printed.{Piece, token, text, fresh_behind, deeper}
+use Rattle.wac_layout.specs.Joins.{stands_before, Stands, JoinsBefore}
+use Rattle.wac_layout.specs.Parts.{space, newline, joined, spaced, body, rows, close_body, docs_layout}
 use Rattle.wac_layout.specs.Texts.{Spelled, DocsHave}
 use Rattle.wac_layout.specs.Accepted.{IsAccepted}
 use Rattle.wac_layout.proofs.Plain.{is_plain, plain, plain_accepted}

@@ -33,3 +33,4 @@ pub mod Settling
 pub mod FixedPrint
 pub mod TreesBack
 pub mod Encoded
+pub mod PlainTrees

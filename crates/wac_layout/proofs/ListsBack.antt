@@ -1,12 +1,12 @@
 -- Lists are read back: rows, items between commas, and items on lines of their own.
-use Rattle.std.proofs.Common.{◌≡◌, ℕ, ◌+◌, Bool, true, false, List, [], ◌∷◌, ◌++◌, map, sym as turn, refl, ap, ◌∙◌, subst, append_assoc, codes}
+use Rattle.std.proofs.Common.{◌≡◌, ℕ, true, List, [], ◌∷◌, ◌++◌, map, ap, ◌∙◌, subst, append_assoc, codes}
 use Rattle.std.specs.List.{AllByRecursion, flat_map}
 use Rattle.wac_lexer.specs.Item.{Item}
 use Rattle.wac_lexer.specs.declared.token.Token.TheVariants as kinds
 use Rattle.wac_grammar.specs.Tokens.{is_token}
-use Rattle.wac_layout.specs.Printed.{Piece, token, blank, line}
+use Rattle.wac_layout.specs.Printed.{Piece, token}
 use Rattle.wac_layout.specs.Parts.{space, newline, joined, spaced}
-use Rattle.wac_layout.proofs.Means.{Says, Means, split, pending}
+use Rattle.wac_layout.proofs.Means.{Means, split, pending}
 
 pub regroup : (P : List ℕ) (ds : List (List ℕ)) (ys : List Item) (a b c : List Piece) → Means P ds ys ((a ++ b) ++ c) → Means P ds ys (a ++ (b ++ c))
 regroup P ds ys a b c h = subst (Means P ds ys) (append_assoc a b c) h

@@ -1,8 +1,6 @@
 -- Names are read back.
-use Rattle.std.proofs.Common.{◌≡◌, ℕ, ◌+◌, Bool, true, false, List, [], ◌∷◌, ◌++◌, map, sym as back, refl, ap, ◌∙◌, subst, Option, Some, None, Ok, inl, inr, append_assoc, append-nil}
+use Rattle.std.proofs.Common.{◌≡◌, ℕ, List, [], ◌∷◌, ◌++◌, map, sym as back, refl, ap, ◌∙◌, subst, Some, Ok, inl, inr, append_assoc, append-nil}
 use Rattle.std.specs.Str.Lines.{lines}
-use Rattle.std.specs.List.{flat_map}
-use Rattle.wac_lexer.specs.Span.{Span, span}
 use Rattle.wac_lexer.specs.Item.{Item, Doc}
 use Rattle.wac_lexer.specs.Reading.{slice}
 use Rattle.wac_lexer.specs.Tokens.{token_of}
@@ -12,10 +10,9 @@ use Rattle.wac_grammar.specs.Version.{unversioned, path_name, path_segments, ver
 use Rattle.wac_grammar.specs.Tokens.{is_token}
 use Rattle.wac_grammar.specs.Tree as tree
 use Rattle.wac_grammar.specs.Tree.{Ident, String, PackageName, PackagePath, ExternName}
-use Rattle.wac_grammar.specs.Grammar.{rule, build, TreeOf, Derives, identifier, string, package_name, package_path, extern_name, docs_of}
-use Rattle.wac_layout.specs.Printed.{Piece, token, blank, line, doc}
-use Rattle.wac_layout.specs.Placed.{kind_of}
-use Rattle.wac_layout.specs.Bare.{nowhere, Keep, doc_line, doc_lines, bare_ident, bare_string, bare_package_name, bare_package_path, bare_extern_name}
+use Rattle.wac_grammar.specs.Grammar.{build, Derives, identifier, string, package_name, package_path, extern_name, docs_of}
+use Rattle.wac_layout.specs.Printed.{Piece}
+use Rattle.wac_layout.specs.Bare.{nowhere, doc_line, doc_lines, bare_ident, bare_string, bare_package_name, bare_package_path, bare_extern_name}
 use Rattle.wac_layout.specs.Reread.{read_docs}
 use Rattle.wac_layout.specs.Parts.{docs_layout}
 use Rattle.wac_layout.specs.TypeLayout.{extern_name_layout}

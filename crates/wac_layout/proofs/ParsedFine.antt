@@ -1,7 +1,7 @@
 -- The items of a source without refused characters are what a derivation needs to be printed.
-use Rattle.std.proofs.Common.{◌≡◌, ℕ, ◌+◌, Bool, true, List, [], ◌∷◌, ◌++◌, map, take, drop, sym, refl, ap, ◌∙◌, subst, Option, Some, None, Result, Ok, Err}
-use Rattle.std.specs.List.{AllByRecursion, flat_map}
-use Rattle.std.specs.Str.{IsUtf8, trim}
+use Rattle.std.proofs.Common.{◌≡◌, ℕ, ◌+◌, List, [], ◌∷◌, ◌++◌, map, take, drop, sym, refl, ap, ◌∙◌, subst, Option, Some, None, Result, Ok}
+use Rattle.std.specs.List.{AllByRecursion}
+use Rattle.std.specs.Str.{trim}
 use Rattle.std.specs.Str.Lines.{lines}
 use Rattle.std.proofs.lemmas.List.{take-append-drop}
 use Rattle.wac_lexer.specs.First.{IsFirst}
@@ -9,7 +9,6 @@ use Rattle.wac_lexer.specs.First.IsFirst.{comment, quote, token, character}
 use Rattle.wac_lexer.specs.Item.{Item, Doc}
 use Rattle.wac_lexer.specs.Items.{first_item, items_from, items}
 use Rattle.wac_lexer.specs.Reading.{slice}
-use Rattle.wac_lexer.specs.Span.{Span, span, end_of}
 use Rattle.wac_lexer.specs.Tokens.{token_of}
 use Rattle.wac_lexer.specs.declared.token.Token.{Token}
 use Rattle.wac_lexer.specs.declared.error.Error.{Error}

@@ -1,9 +1,9 @@
 -- A token that is no string consists of visible ASCII characters, so that no character of it is refused.
-use Rattle.std.proofs.Common.{◌≡◌, ◌≢◌, ℕ, zero, suc, ◌+◌, ◌-◌, ◌<◌, ◌≤◌, Bool, true, false, cond, List, [], ◌∷◌, ◌++◌, sym, refl, ap, ◌∙◌, subst, arith, inl, inr, ⊎_elim, Option, Some, None}
-use Rattle.std.specs.Prelude.{◌&&◌, ◌||◌, ◌⊎◌, nat_le, nat_lt, not, is_none}
+use Rattle.std.proofs.Common.{◌≡◌, ℕ, zero, suc, ◌+◌, ◌-◌, ◌<◌, ◌≤◌, Bool, true, false, List, [], ◌∷◌, sym, refl, subst, arith, inl, inr, ⊎_elim, Option, Some, None}
+use Rattle.std.specs.Prelude.{◌&&◌, ◌⊎◌, nat_le, nat_lt, not, is_none}
 use Rattle.std.specs.List.{AllByRecursion, concat}
 use Rattle.std.specs.Str.{IsAscii}
-use Rattle.std.proofs.lemmas.Bool.{and_parts, or_cases, leb-true, ltb-true, false≢true, cases_Bool}
+use Rattle.std.proofs.lemmas.Bool.{and_parts, leb-true, ltb-true, false≢true}
 use Rattle.std.proofs.lemmas.Str.Ascii.{IsAscii-nil, IsAscii-cons}
 use Rattle.wac_lexer.specs.Characters.{fault_of}
 use Rattle.wac_lexer.specs.Pattern.{Pattern, Matches}
@@ -17,7 +17,7 @@ use Rattle.wac_lexer.specs.declared.token.Token.TheVariants as tokens
 use Rattle.wac_lexer.specs.declared.error.Error.{Error}
 use Rattle.wac_lexer.proofs.Sorts.{token_meant}
 use Rattle.wac_layout.specs.Accepted.{IsAccepted}
-use Rattle.wac_layout.proofs.Characters.{Holds, holds_ascii, all-append}
+use Rattle.wac_layout.proofs.Characters.{holds_ascii, all-append}
 use Rattle.wac_layout.proofs.Fine.{Fine, accepted}
 
 -- visible: from 33 to 126

@@ -1,28 +1,25 @@
 -- Pieces that join are read back, with their places and docs.
-use Rattle.std.proofs.Common.{◌≡◌, ℕ, zero, suc, ◌+◌, ◌-◌, ◌<◌, ◌≤◌, Bool, true, false, cond, List, [], ◌∷◌, ◌++◌, take, drop, length, sym, refl, ap, ◌∙◌, subst, arith, Option, Some, None, Result, Ok, Err, append_assoc, append-nil, length-append, add-zero}
-use Rattle.std.specs.List.{AllByRecursion}
+use Rattle.std.proofs.Common.{◌≡◌, ℕ, zero, suc, ◌+◌, Bool, true, false, List, [], ◌∷◌, ◌++◌, take, drop, length, sym, refl, ap, ◌∙◌, subst, arith, Option, Some, None, Ok, Err, append_assoc, append-nil}
 use Rattle.std.proofs.Math.Seq.{take-append_seam, drop-append_seam}
 use Rattle.std.proofs.lemmas.List.{drop-drop, length-drop}
 use Rattle.std.proofs.lemmas.Bool.{false≢true}
-use Rattle.wac_lexer.specs.Span.{Span, span}
-use Rattle.wac_lexer.specs.Item.{Item, Doc}
-use Rattle.wac_lexer.specs.Comments.{part_len, gap}
+use Rattle.wac_lexer.specs.Span.{span}
+use Rattle.wac_lexer.specs.Comments.{part_len}
 use Rattle.wac_lexer.specs.Docs.{docs_at}
 use Rattle.wac_lexer.specs.Follow.{follows}
 use Rattle.wac_lexer.specs.Items.{first_item, items_from, items}
 use Rattle.wac_lexer.specs.Tokens.{token_of}
 use Rattle.wac_lexer.specs.declared.token.Token.{Token}
-use Rattle.wac_lexer.specs.declared.error.Error.{Error}
 use Rattle.wac_lexer.specs.declared.error.Error.TheVariants.{UnexpectedToken}
 use Rattle.wac_lexer.proofs.Gaps.{gap_done}
 use Rattle.wac_lexer.proofs.Trimmed.{docs_done}
-use Rattle.wac_lexer.proofs.Unfolded.{made, start_of, items_some, items_end}
+use Rattle.wac_lexer.proofs.Unfolded.{start_of, items_some, items_end}
 use Rattle.wac_lexer.proofs.Sorts.{AreBytes}
 use Rattle.wac_lexer.proofs.InFront.{bytes_back}
 use Rattle.wac_lexer.proofs.Followed.{token_in_front}
 use Rattle.wac_layout.specs.Printed.{Piece, token, blank, line, doc, times, text_of, text, fresh_after}
-use Rattle.wac_layout.specs.Joins.{AreBlanks, stands_before, Fits, JoinsBefore, Joins}
-use Rattle.wac_layout.specs.Placed.{kind_of, with_docs, placed_before, placed}
+use Rattle.wac_layout.specs.Joins.{AreBlanks, stands_before, Fits, Joins}
+use Rattle.wac_layout.specs.Placed.{kind_of, placed_before, placed}
 use Rattle.wac_layout.proofs.Skips.{skip_blanks, skip_doc}
 
 -- where no part of a gap begins there are no docs

@@ -1,5 +1,5 @@
 -- Docs are settled from the second time on.
-use Rattle.std.proofs.Common.{◌≡◌, ℕ, Bool, true, false, cond, List, [], ◌∷◌, ◌++◌, map, length, sym, refl, ap, ◌∙◌, append-nil}
+use Rattle.std.proofs.Common.{◌≡◌, ℕ, Bool, true, false, cond, List, [], ◌∷◌, ◌++◌, map, length, sym, refl, ap, ◌∙◌}
 use Rattle.std.specs.Prelude.{◌==◌}
 use Rattle.std.specs.Str.{trim}
 use Rattle.std.specs.Str.Lines.{lines}
@@ -11,7 +11,7 @@ use Rattle.wac_layout.specs.Bare.{nowhere, doc_line, doc_lines, bare, bare_docum
 use Rattle.wac_layout.specs.Texts.{Spelled, DocsHave, DocumentHas, has}
 use Rattle.wac_layout.specs.Settled.{settle_document}
 use Rattle.wac_layout.specs.Reread.{read_docs}
-use Rattle.wac_grammar.proofs.Walked.{Agree, Gives, agree, document_composed, document_agreeing, document_implied}
+use Rattle.wac_grammar.proofs.Walked.{Gives, agree, document_composed, document_agreeing, document_implied}
 use Rattle.wac_layout.proofs.DocLines.{lines_again}
 
 -- docs

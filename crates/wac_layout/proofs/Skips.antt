@@ -1,23 +1,22 @@
 -- Reading past a blank or a comment: the items behind it, with its doc.
-use Rattle.std.proofs.Common.{◌≡◌, ◌≢◌, ℕ, zero, suc, ◌+◌, ◌-◌, ◌<◌, ◌≤◌, Bool, true, false, cond, List, [], ◌∷◌, ◌++◌, take, drop, length, sym, refl, ap, ◌∙◌, subst, inl, inr, arith, Option, Some, None, Result, Ok, Err, codes, length-append, append_assoc, add-zero}
+use Rattle.std.proofs.Common.{◌≡◌, ◌≢◌, ℕ, zero, suc, ◌+◌, ◌-◌, ◌<◌, ◌≤◌, Bool, true, false, cond, List, [], ◌∷◌, ◌++◌, take, drop, length, sym, refl, ap, ◌∙◌, subst, inl, inr, arith, Option, Some, None, Result, length-append, add-zero}
 use Rattle.std.specs.Prelude.{◌==◌, ◌&&◌, nat_eq}
-use Rattle.std.specs.List.{AllByRecursion}
-use Rattle.std.specs.Str.{IsUtf8, IsAscii, trim, trim_start, trim_end, chars, skip_leading_whitespace, encode_utf8_all}
-use Rattle.std.proofs.Math.Seq.{take-append_seam, drop-append_seam}
-use Rattle.std.proofs.lemmas.List.{drop-drop, drop_all, length-drop}
+use Rattle.std.specs.Str.{IsUtf8, trim, trim_start, trim_end, chars, skip_leading_whitespace, encode_utf8_all}
+use Rattle.std.proofs.Math.Seq.{drop-append_seam}
+use Rattle.std.proofs.lemmas.List.{drop-drop, length-drop}
 use Rattle.std.proofs.lemmas.Bool.{ne_eqb}
 use Rattle.std.proofs.lemmas.Str.{chars-append, chars-IsAscii, IsUtf8-from_ascii}
 use Rattle.std.proofs.lemmas.Str.Ascii.{IsAscii-nil, IsAscii-cons}
-use Rattle.wac_lexer.specs.Span.{Span, span}
+use Rattle.wac_lexer.specs.Span.{span}
 use Rattle.wac_lexer.specs.Item.{Item, Doc}
-use Rattle.wac_lexer.specs.Comments.{is_blank, part_len, parts_len, gap}
-use Rattle.wac_lexer.specs.Docs.{doc_text, doc_of_part, docs_at, docs_upto}
+use Rattle.wac_lexer.specs.Comments.{part_len, parts_len, gap}
+use Rattle.wac_lexer.specs.Docs.{doc_text, doc_of_part, docs_at}
 use Rattle.wac_lexer.specs.Gap.{IsPart, Gap, EndsLine, docs_among}
 use Rattle.wac_lexer.specs.Items.{first_item, items_from}
 use Rattle.wac_lexer.specs.declared.token.Token.{Token}
 use Rattle.wac_lexer.specs.declared.error.Error.{Error}
 use Rattle.wac_lexer.proofs.Parts.{part_takes, longest_gap, docs_in_gap}
-use Rattle.wac_lexer.proofs.Unfolded.{made, start_of, items_none, items_some}
+use Rattle.wac_lexer.proofs.Unfolded.{start_of, items_none, items_some}
 use Rattle.wac_layout.specs.Joins.{AreBlanks, IsDocLine}
 use Rattle.wac_layout.specs.Placed.{with_docs}
 

@@ -1,25 +1,23 @@
 -- Statements and documents are read back.
-use Rattle.std.proofs.Common.{◌≡◌, ℕ, ◌+◌, Bool, true, false, List, [], ◌∷◌, ◌++◌, map, sym as back, refl, ap, ◌∙◌, subst, Option, Some, None, Ok, inl, inr, codes, append-nil}
-use Rattle.std.specs.Prelude.{◌⊎◌}
-use Rattle.std.specs.List.{AllByRecursion, flat_map}
+use Rattle.std.proofs.Common.{◌≡◌, ℕ, List, [], ◌∷◌, ◌++◌, map, sym as back, refl, ap, ◌∙◌, subst, Option, Some, None, inl, inr, codes, append-nil}
+use Rattle.std.specs.List.{AllByRecursion}
 use Rattle.std.specs.Option.{option_map}
 use Rattle.wac_lexer.specs.Item.{Item, Doc}
-use Rattle.wac_lexer.specs.Reading.{slice}
 use Rattle.wac_lexer.specs.declared.token.Token.TheVariants as kinds
 use Rattle.wac_grammar.specs.Tokens.{is_token}
 use Rattle.wac_grammar.specs.Tree as tree
 use Rattle.wac_grammar.specs.Tree.{Ident, ExternName, PackageName, PackagePath, ImportType, ImportStatement, LetStatement, ExportOptions, ExportStatement, TypeStatement, Statement, PackageDirective, Document}
-use Rattle.wac_grammar.specs.Grammar.{docs_of, rule, build, DerivesIn, Derives, identifier, package_name, package_path, extern_name, func_type, inline_interface, expr, import_type, import_statement, let_statement, export_options, export_statement, type_statement, statement, statements, directive, document, interface_decl, world_decl, type_decl}
-use Rattle.wac_layout.specs.Printed.{Piece, token, blank, line, deeper}
-use Rattle.wac_layout.specs.Bare.{nowhere, doc_lines, bare_ident, bare_package_name, bare_package_path, bare_extern_name, bare_func_type, bare_inline_interface, bare_expr, bare_import_type, bare_import_statement, bare_let_statement, bare_export_options, bare_export_statement, bare_type_statement, bare_statement, bare_directive, bare_document}
-use Rattle.wac_layout.specs.Parts.{space, newline, spaced, docs_layout}
+use Rattle.wac_grammar.specs.Grammar.{docs_of, build, Derives, identifier, package_path, import_type, import_statement, let_statement, export_options, export_statement, type_statement, statement, statements, directive, document}
+use Rattle.wac_layout.specs.Printed.{token}
+use Rattle.wac_layout.specs.Bare.{doc_lines, bare_package_path, bare_extern_name, bare_expr, bare_import_type, bare_import_statement, bare_let_statement, bare_export_options, bare_export_statement, bare_type_statement, bare_statement, bare_directive, bare_document}
+use Rattle.wac_layout.specs.Parts.{newline, spaced, docs_layout}
 use Rattle.wac_layout.specs.TypeLayout.{extern_name_layout}
 use Rattle.wac_layout.specs.ExpressionLayout.{expr_layout}
 use Rattle.wac_layout.specs.StatementLayout.{import_type_layout, import_name_layout, import_statement_layout, let_statement_layout, export_options_layout, export_statement_layout, type_statement_layout, statement_layout, targets_layout, directive_layout, document_layout}
 use Rattle.wac_layout.specs.Texts.{Spelled, ImportTypeHas, ImportStatementHas, LetStatementHas, ExportOptionsHas, ExportStatementHas, TypeStatementHas, StatementHas, DirectiveHas, DocumentHas}
 use Rattle.wac_layout.specs.Reread.{read_docs}
 use Rattle.wac_grammar.proofs.Completed.{by_rule}
-use Rattle.wac_layout.proofs.Means.{texts_of, Says, Means, split, pending, pending-append}
+use Rattle.wac_layout.proofs.Means.{texts_of, Means, split, pending}
 use Rattle.wac_layout.proofs.NamesBack.{alone, word_back, name_back, path_back, extern_name_back, documented, docs_back}
 use Rattle.wac_layout.proofs.FunctionsBack.{func_type_back}
 use Rattle.wac_layout.proofs.ListsBack.{spaced_back}
@@ -31,7 +29,7 @@ use Rattle.wac_layout.proofs.ExpressionsBack.{expr_back}
 module _ (S P : List ℕ) where
   import_type_back : (depth : ℕ) (x : ImportType) (ds : List (List ℕ)) (ys : List Item) → ImportTypeHas Spelled (bare_import_type doc_lines S x) → Means P ds ys (import_type_layout depth (bare_import_type doc_lines S x))
       → (u : ImportType) × Derives import_type ys u × (bare_import_type read_docs P u ≡ bare_import_type doc_lines S x)
-  unfolding import_type_layout bare_import_type
+  unfolding import_type_layout
   import_type_back depth (tree.ImportType.func x) ds ys is h = let r = func_type_back S P x ds ys is h in (tree.ImportType.func r.0, by_rule import_type ys (inl r.0) r.1, ap tree.ImportType.func r.2)
   import_type_back depth (tree.ImportType.interface x) ds ys is h = let r = inline_interface_back S P depth x ds ys is h in (tree.ImportType.interface r.0, by_rule import_type ys (inr (inl r.0)) r.1, ap tree.ImportType.interface r.2)
   import_type_back depth (tree.ImportType.path x) ds ys is h =
@@ -105,26 +103,26 @@ module _ (S P : List ℕ) where
       (build export_statement (docs_of ys, (h.0, (r.0, (q.0, h5.0)))), by_rule export_statement ys (docs_of ys, (h.0, (r.0, (q.0, h5.0)))) (refl, (h.0 ∷ [], h.1, h.2, (refl, ap (is_token kinds.ExportKeyword) h.3.0, refl), (c2.0, c2.1, c2.2, r.1, (c4.0, c4.1, c4.2, q.1, (alone h5.0 h5.1 c4.1 h5.2 h5.4, ap (is_token kinds.Semicolon) h5.3.0, refl))))), (λ i. record { docs = k i; expr = r.2 i; options = q.2 i }))
 
   pub type_statement_back : (depth : ℕ) (x : TypeStatement) (ys : List Item) → TypeStatementHas Spelled (bare_type_statement doc_lines S x) → Means P [] ys (type_statement_layout depth (bare_type_statement doc_lines S x)) → (u : TypeStatement) × Derives type_statement ys u × (bare_type_statement read_docs P u ≡ bare_type_statement doc_lines S x)
-  unfolding type_statement_layout bare_type_statement
+  unfolding type_statement_layout
   type_statement_back depth (tree.TypeStatement.interface x) ys is h = let r = interface_decl_back S P depth x ys is h in (tree.TypeStatement.interface r.0, by_rule type_statement ys (inl r.0) r.1, ap tree.TypeStatement.interface r.2)
   type_statement_back depth (tree.TypeStatement.world x) ys is h = let r = world_decl_back S P depth x ys is h in (tree.TypeStatement.world r.0, by_rule type_statement ys (inr (inl r.0)) r.1, ap tree.TypeStatement.world r.2)
   type_statement_back depth (tree.TypeStatement.ty x) ys is h = let r = type_decl_back S P depth x ys is h in (tree.TypeStatement.ty r.0, by_rule type_statement ys (inr (inr r.0)) r.1, ap tree.TypeStatement.ty r.2)
 
   pub statement_back : (depth : ℕ) (x : Statement) (ys : List Item) → StatementHas Spelled (bare_statement doc_lines S x) → Means P [] ys (statement_layout depth (bare_statement doc_lines S x)) → (u : Statement) × Derives statement ys u × (bare_statement read_docs P u ≡ bare_statement doc_lines S x)
-  unfolding statement_layout bare_statement
+  unfolding statement_layout
   statement_back depth (tree.Statement.import_statement x) ys is h = let r = import_back depth x ys is h in (tree.Statement.import_statement r.0, by_rule statement ys (inl r.0) r.1, ap tree.Statement.import_statement r.2)
   statement_back depth (tree.Statement.let_statement x) ys is h = let r = let_back depth x ys is h in (tree.Statement.let_statement r.0, by_rule statement ys (inr (inl r.0)) r.1, ap tree.Statement.let_statement r.2)
   statement_back depth (tree.Statement.export_statement x) ys is h = let r = export_back depth x ys is h in (tree.Statement.export_statement r.0, by_rule statement ys (inr (inr (inl r.0))) r.1, ap tree.Statement.export_statement r.2)
   statement_back depth (tree.Statement.type_statement x) ys is h = let r = type_statement_back depth x ys is h in (tree.Statement.type_statement r.0, by_rule statement ys (inr (inr (inr r.0))) r.1, ap tree.Statement.type_statement r.2)
 
   type_statement_closed : (depth : ℕ) (x : TypeStatement) (ds : List (List ℕ)) → pending ds (type_statement_layout depth (bare_type_statement doc_lines S x)) ≡ []
-  unfolding type_statement_layout bare_type_statement
+  unfolding type_statement_layout
   type_statement_closed depth (tree.TypeStatement.interface x) ds = interface_decl_closed S P depth x ds
   type_statement_closed depth (tree.TypeStatement.world x) ds = world_decl_closed S P depth x ds
   type_statement_closed depth (tree.TypeStatement.ty x) ds = type_decl_closed S P depth x ds
 
   statement_closed : (depth : ℕ) (x : Statement) (ds : List (List ℕ)) → pending ds (statement_layout depth (bare_statement doc_lines S x)) ≡ []
-  unfolding statement_layout bare_statement
+  unfolding statement_layout
   statement_closed depth (tree.Statement.import_statement x) ds =
       leaves_none (docs_layout depth (doc_lines x.docs)) _ (λ es. leaves_none (import_name_layout (option_map (bare_extern_name S) x.name)) _ (λ fs. ends_in [] (import_type_layout depth (bare_import_type doc_lines S x.ty)) (codes ";")) []) ds
   statement_closed depth (tree.Statement.let_statement x) ds = leaves_none (docs_layout depth (doc_lines x.docs)) _ (λ es. ends_in [] (expr_layout depth (bare_expr S x.expr)) (codes ";")) ds

@@ -1,5 +1,5 @@
 -- What is printed of the tree of a text reads back.
-use Rattle.std.proofs.Common.{◌≡◌, ℕ, true, List, [], refl, sym, ap, ◌∙◌, subst}
+use Rattle.std.proofs.Common.{◌≡◌, ℕ, true, List, [], refl, ◌∙◌, subst}
 use Rattle.std.specs.Str.{IsUtf8}
 use Rattle.wac_lexer.specs.Items.{items}
 use Rattle.wac_grammar.specs.Tree.{Document}

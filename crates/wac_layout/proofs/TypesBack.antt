@@ -1,19 +1,17 @@
 -- Types are read back.
-use Rattle.std.proofs.Common.{◌≡◌, ℕ, ◌+◌, Bool, true, false, List, [], ◌∷◌, ◌++◌, map, sym as back, refl, ap, ◌∙◌, subst, Option, Some, None, Ok, inl, inr, codes, append_assoc}
+use Rattle.std.proofs.Common.{◌≡◌, ℕ, List, [], ◌∷◌, ◌++◌, sym as back, refl, ap, ◌∙◌, subst, Some, None, inl, inr, codes, append_assoc}
 use Rattle.wac_lexer.specs.Item.{Item}
-use Rattle.wac_lexer.specs.Reading.{slice}
 use Rattle.wac_lexer.specs.declared.token.Token.TheVariants as kinds
 use Rattle.wac_grammar.specs.Tokens.{is_token}
 use Rattle.wac_grammar.specs.Tree as tree
 use Rattle.wac_grammar.specs.Tree.{Ident, Ty, OptionalTy, Types, types_from}
-use Rattle.wac_grammar.specs.Grammar.{rule, build, TreeOf, DerivesIn, Derives, identifier, ty, tuple_type, list_type, option_type, result_type, borrow_type, stream_type, future_type, types, more_types, result_part, payload}
-use Rattle.wac_layout.specs.Printed.{Piece, token, blank}
-use Rattle.wac_layout.specs.Bare.{nowhere, bare_ident, bare_ty, bare_optional_ty, bare_types}
-use Rattle.wac_layout.specs.Parts.{space}
-use Rattle.wac_layout.specs.TypeLayout.{ty_layout, element_layout, types_layout, further_types_layout}
-use Rattle.wac_layout.specs.Texts.{Spelled, TyHas, OptionalTyHas, TypesHas}
+use Rattle.wac_grammar.specs.Grammar.{rule, build, DerivesIn, Derives, identifier, ty, tuple_type, list_type, option_type, result_type, borrow_type, stream_type, future_type, types, more_types, result_part, payload}
+use Rattle.wac_layout.specs.Printed.{Piece, token}
+use Rattle.wac_layout.specs.Bare.{nowhere, bare_ty, bare_types}
+use Rattle.wac_layout.specs.TypeLayout.{ty_layout, further_types_layout}
+use Rattle.wac_layout.specs.Texts.{Spelled, TyHas, TypesHas}
 use Rattle.wac_grammar.proofs.Completed.{by_rule}
-use Rattle.wac_layout.proofs.Means.{Says, Means, split}
+use Rattle.wac_layout.proofs.Means.{Means, split}
 use Rattle.wac_layout.proofs.NamesBack.{alone, word_back}
 
 module _ (S P : List ℕ) where

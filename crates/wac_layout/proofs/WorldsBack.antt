@@ -1,23 +1,20 @@
 -- Worlds are read back.
-use Rattle.std.proofs.Common.{◌≡◌, ℕ, ◌+◌, Bool, true, false, List, [], ◌∷◌, ◌++◌, map, sym as back, refl, ap, ◌∙◌, subst, Option, Some, None, Ok, inl, inr, codes}
-use Rattle.std.specs.Prelude.{◌⊎◌}
+use Rattle.std.proofs.Common.{◌≡◌, ℕ, List, [], ◌∷◌, ◌++◌, map, sym as back, refl, ap, ◌∙◌, subst, inl, inr, codes}
 use Rattle.std.specs.List.{AllByRecursion, flat_map}
-use Rattle.std.specs.Option.{option_map}
 use Rattle.wac_lexer.specs.Item.{Item, Doc}
-use Rattle.wac_lexer.specs.Reading.{slice}
 use Rattle.wac_lexer.specs.declared.token.Token.TheVariants as kinds
 use Rattle.wac_grammar.specs.Tokens.{is_token}
 use Rattle.wac_grammar.specs.Tree as tree
 use Rattle.wac_grammar.specs.Tree.{Ident, PackagePath, ExternType, NamedWorldItem, WorldItemPath, WorldImport, WorldExport, WorldRef, WorldIncludeItem, WorldInclude, WorldItem, WorldDecl}
-use Rattle.wac_grammar.specs.Grammar.{docs_of, rule, build, DerivesIn, Derives, identifier, package_path, func_type, inline_interface, extern_type, world_item_path, world_import, world_export, world_ref, include_item, include_items, more_include_items, world_include, world_item, world_items, world_decl, use_statement, item_type_decl}
-use Rattle.wac_layout.specs.Printed.{Piece, token, blank, line, deeper}
-use Rattle.wac_layout.specs.Bare.{nowhere, doc_lines, bare_ident, bare_package_path, bare_func_type, bare_extern_type, bare_named_world_item, bare_world_item_path, bare_world_import, bare_world_export, bare_world_ref, bare_world_include_item, bare_world_include, bare_world_item, bare_world_decl}
-use Rattle.wac_layout.specs.Parts.{space, newline, spaced, body, rows, docs_layout, close_body}
-use Rattle.wac_layout.specs.WorldLayout.{extern_type_layout, named_world_item_layout, world_item_path_layout, world_import_layout, world_export_layout, world_ref_layout, world_include_item_layout, with_layout, world_include_layout, world_item_layout, world_decl_layout}
-use Rattle.wac_layout.specs.Texts.{Spelled, ExternTypeHas, NamedWorldItemHas, WorldItemPathHas, WorldImportHas, WorldExportHas, WorldRefHas, WorldIncludeItemHas, WorldIncludeHas, WorldItemHas, WorldDeclHas}
+use Rattle.wac_grammar.specs.Grammar.{docs_of, build, Derives, identifier, package_path, extern_type, world_item_path, world_import, world_export, world_ref, include_item, include_items, more_include_items, world_include, world_item, world_items, world_decl}
+use Rattle.wac_layout.specs.Printed.{token, deeper}
+use Rattle.wac_layout.specs.Bare.{doc_lines, bare_extern_type, bare_world_item_path, bare_world_import, bare_world_export, bare_world_ref, bare_world_include_item, bare_world_include, bare_world_item, bare_world_decl}
+use Rattle.wac_layout.specs.Parts.{newline, spaced, body, rows, docs_layout, close_body}
+use Rattle.wac_layout.specs.WorldLayout.{extern_type_layout, world_item_path_layout, world_import_layout, world_export_layout, world_ref_layout, world_include_item_layout, with_layout, world_include_layout, world_item_layout, world_decl_layout}
+use Rattle.wac_layout.specs.Texts.{Spelled, ExternTypeHas, WorldItemPathHas, WorldImportHas, WorldExportHas, WorldRefHas, WorldIncludeItemHas, WorldIncludeHas, WorldItemHas, WorldDeclHas}
 use Rattle.wac_layout.specs.Reread.{read_docs}
 use Rattle.wac_grammar.proofs.Completed.{by_rule}
-use Rattle.wac_layout.proofs.Means.{Says, Means, split, pending, pending-append}
+use Rattle.wac_layout.proofs.Means.{Means, split, pending}
 use Rattle.wac_layout.proofs.NamesBack.{alone, word_back, path_back, documented, docs_back}
 use Rattle.wac_layout.proofs.FunctionsBack.{func_type_back}
 use Rattle.wac_layout.proofs.ListsBack.{rows_back, spaced_back}
@@ -27,7 +24,7 @@ use Rattle.wac_layout.proofs.InterfacesBack.{use_back, use_closed, inline_interf
 module _ (S P : List ℕ) where
   extern_type_back : (depth : ℕ) (x : ExternType) (ds : List (List ℕ)) (ys : List Item) → ExternTypeHas Spelled (bare_extern_type doc_lines S x) → Means P ds ys (extern_type_layout depth (bare_extern_type doc_lines S x))
       → (u : ExternType) × Derives extern_type ys u × (bare_extern_type read_docs P u ≡ bare_extern_type doc_lines S x)
-  unfolding extern_type_layout bare_extern_type
+  unfolding extern_type_layout
   extern_type_back depth (tree.ExternType.ident x) ds ys is h =
       let r = word_back S P x ds h.0 is h.3 in
       (tree.ExternType.ident r.0, by_rule extern_type ys (inl r.0) (subst (λ zs. Derives identifier zs r.0) (back (alone h.0 h.1 ys h.2 h.4)) r.1), ap tree.ExternType.ident r.2)
@@ -36,7 +33,7 @@ module _ (S P : List ℕ) where
 
   world_item_path_back : (depth : ℕ) (x : WorldItemPath) (ds : List (List ℕ)) (ys : List Item) → WorldItemPathHas Spelled (bare_world_item_path doc_lines S x) → Means P ds ys (world_item_path_layout depth (bare_world_item_path doc_lines S x))
       → (u : WorldItemPath) × Derives world_item_path ys u × (bare_world_item_path read_docs P u ≡ bare_world_item_path doc_lines S x)
-  unfolding world_item_path_layout bare_world_item_path
+  unfolding world_item_path_layout
   world_item_path_back depth (tree.WorldItemPath.path x) ds ys is h =
       let r = path_back S P x ds h.0 is h.3 in
       (tree.WorldItemPath.path r.0, by_rule world_item_path ys (inl r.0) (subst (λ zs. Derives package_path zs r.0) (back (alone h.0 h.1 ys h.2 h.4)) r.1), ap tree.WorldItemPath.path r.2)
@@ -130,7 +127,7 @@ module _ (S P : List ℕ) where
   world_include_back depth x ys is h = include_by depth x.docs x.world x.items ys is h
 
   pub world_item_back : (depth : ℕ) (x : WorldItem) (ys : List Item) → WorldItemHas Spelled (bare_world_item doc_lines S x) → Means P [] ys (world_item_layout depth (bare_world_item doc_lines S x)) → (u : WorldItem) × Derives world_item ys u × (bare_world_item read_docs P u ≡ bare_world_item doc_lines S x)
-  unfolding world_item_layout bare_world_item
+  unfolding world_item_layout
   world_item_back depth (tree.WorldItem.use_statement x) ys is h = let r = use_back S P depth x ys is h in (tree.WorldItem.use_statement r.0, by_rule world_item ys (inl r.0) r.1, ap tree.WorldItem.use_statement r.2)
   world_item_back depth (tree.WorldItem.world_import x) ys is h = let r = world_import_back depth x ys is h in (tree.WorldItem.world_import r.0, by_rule world_item ys (inr (inl r.0)) r.1, ap tree.WorldItem.world_import r.2)
   world_item_back depth (tree.WorldItem.world_export x) ys is h = let r = world_export_back depth x ys is h in (tree.WorldItem.world_export r.0, by_rule world_item ys (inr (inr (inl r.0))) r.1, ap tree.WorldItem.world_export r.2)
@@ -138,7 +135,7 @@ module _ (S P : List ℕ) where
   world_item_back depth (tree.WorldItem.ty x) ys is h = let r = item_type_decl_back S P depth x ys is h in (tree.WorldItem.ty r.0, by_rule world_item ys (inr (inr (inr (inr r.0)))) r.1, ap tree.WorldItem.ty r.2)
 
   world_item_closed : (depth : ℕ) (x : WorldItem) (ds : List (List ℕ)) → pending ds (world_item_layout depth (bare_world_item doc_lines S x)) ≡ []
-  unfolding world_item_layout bare_world_item
+  unfolding world_item_layout
   world_item_closed depth (tree.WorldItem.use_statement x) ds = use_closed S P depth x ds
   world_item_closed depth (tree.WorldItem.world_import x) ds = leaves_none (docs_layout depth (doc_lines x.docs)) _ (λ es. ends_in [] (world_item_path_layout depth (bare_world_item_path doc_lines S x.path)) (codes ";")) ds
   world_item_closed depth (tree.WorldItem.world_export x) ds = leaves_none (docs_layout depth (doc_lines x.docs)) _ (λ es. ends_in [] (world_item_path_layout depth (bare_world_item_path doc_lines S x.path)) (codes ";")) ds

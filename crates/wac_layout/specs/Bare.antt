@@ -1,5 +1,5 @@
 -- Bare trees: without spans, with each name as the source spells it, and with docs as they are kept.
-use Rattle.std.specs.Prelude.{◌≡◌, ℕ, List, [], ◌∷◌, map, codes, refl}
+use Rattle.std.specs.Prelude.{◌≡◌, ℕ, List, [], map, codes, refl}
 use Rattle.std.specs.List.{flat_map}
 use Rattle.std.specs.Str.{trim}
 use Rattle.std.specs.Str.Lines.{lines}

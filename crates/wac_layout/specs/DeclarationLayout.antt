@@ -2,9 +2,9 @@
 use Rattle.std.specs.Prelude.{◌≡◌, ℕ, Bool, true, false, List, [], ◌∷◌, ◌++◌, Option, Some, None, codes, refl}
 use Rattle.wac_grammar.specs.Tree as tree
 use Rattle.wac_grammar.specs.Tree.{Ident, Ty, Constructor, Method, ResourceMethod, ResourceDecl, VariantCase, VariantDecl, Field, RecordDecl, Flag, FlagsDecl, EnumCase, EnumDecl, TypeAliasKind, TypeAlias, TypeDecl, ItemTypeDecl}
-use Rattle.wac_layout.specs.Printed.{Piece, token, blank, line, text}
-use Rattle.wac_layout.specs.Parts.{space, joined, body, rows, docs_layout, spaced}
-use Rattle.wac_layout.specs.TypeLayout.{ty_layout, func_type_layout, params_layout, named_type_layout}
+use Rattle.wac_layout.specs.Printed.{Piece, token, line, text}
+use Rattle.wac_layout.specs.Parts.{space, body, rows, docs_layout, spaced}
+use Rattle.wac_layout.specs.TypeLayout.{ty_layout, func_type_layout, params_layout}
 use Rattle.wac_layout.specs.Bare.{nowhere}
 
 -- `KEYWORD ID` on a line

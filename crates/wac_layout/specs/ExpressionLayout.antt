@@ -1,10 +1,10 @@
 -- How expressions are printed.
-use Rattle.std.specs.Prelude.{◌≡◌, ℕ, true, false, List, [], ◌∷◌, ◌++◌, None, codes, refl}
+use Rattle.std.specs.Prelude.{◌≡◌, ℕ, false, List, [], ◌∷◌, ◌++◌, None, codes, refl}
 use Rattle.std.specs.List.{flat_map}
 use Rattle.wac_grammar.specs.Tree as tree
 use Rattle.wac_grammar.specs.Tree.{Ident, PackageName, AccessExpr, NamedAccessExpr, PostfixExpr, InstantiationArgumentName, Expr, PrimaryExpr, Arguments, InstantiationArgument}
-use Rattle.wac_layout.specs.Printed.{Piece, token, blank, line, deeper, text}
-use Rattle.wac_layout.specs.Parts.{space, newline, close_body}
+use Rattle.wac_layout.specs.Printed.{Piece, token, line, deeper, text}
+use Rattle.wac_layout.specs.Parts.{space, newline}
 use Rattle.wac_layout.specs.Bare.{nowhere}
 
 abbrev pub access_expr_layout : AccessExpr → List Piece

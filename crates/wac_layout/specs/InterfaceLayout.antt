@@ -1,8 +1,8 @@
 -- How interfaces are printed.
-use Rattle.std.specs.Prelude.{◌≡◌, ℕ, true, false, List, [], ◌∷◌, ◌++◌, Option, Some, None, codes, refl}
+use Rattle.std.specs.Prelude.{◌≡◌, ℕ, true, List, [], ◌∷◌, ◌++◌, Option, Some, None, codes, refl}
 use Rattle.wac_grammar.specs.Tree as tree
 use Rattle.wac_grammar.specs.Tree.{Ident, UsePath, UseItem, Use, InterfaceExport, InterfaceItem, InterfaceDecl, InlineInterface}
-use Rattle.wac_layout.specs.Printed.{Piece, token, blank, line, text}
+use Rattle.wac_layout.specs.Printed.{Piece, token, line, text}
 use Rattle.wac_layout.specs.Parts.{space, joined, body, docs_layout}
 use Rattle.wac_layout.specs.TypeLayout.{func_type_ref_layout}
 use Rattle.wac_layout.specs.DeclarationLayout.{head_layout, label_layout, item_type_decl_layout}

@@ -1,5 +1,5 @@
 -- Pieces that join: each is what it is meant to be, has no refused character, and what stands behind a token doesn't go on with it.
-use Rattle.std.specs.Prelude.{◌≡◌, ◌≢◌, ℕ, Bool, true, false, List, [], ◌∷◌, ◌++◌, Option, Some, None, codes, refl}
+use Rattle.std.specs.Prelude.{◌≡◌, ◌≢◌, ℕ, Bool, true, false, List, [], ◌∷◌, ◌++◌, Some, None, codes, refl}
 use Rattle.std.specs.List.{AllByRecursion}
 use Rattle.std.specs.Str.{trim}
 use Rattle.wac_lexer.specs.Comments.{is_blank}

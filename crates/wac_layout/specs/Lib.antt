@@ -3,6 +3,7 @@ pub mod Accepted
 pub mod Joins
 pub mod Placed
 pub mod Bare
+pub mod PlainTree
 pub mod Parts
 pub mod TypeLayout
 pub mod DeclarationLayout

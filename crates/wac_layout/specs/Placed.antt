@@ -1,13 +1,13 @@
 -- The items that printed pieces are meant to be read back as.
-use Rattle.std.specs.Prelude.{◌≡◌, ℕ, ◌+◌, Bool, List, [], ◌∷◌, ◌++◌, length, map, Option, Some, None, Result, Ok, Err, codes, refl, true}
-use Rattle.wac_lexer.specs.Span.{Span, span}
+use Rattle.std.specs.Prelude.{◌≡◌, ℕ, ◌+◌, Bool, List, [], ◌∷◌, ◌++◌, length, map, Some, None, Result, Ok, Err, codes, refl, true}
+use Rattle.wac_lexer.specs.Span.{span}
 use Rattle.wac_lexer.specs.Item.{Item, Doc}
 use Rattle.wac_lexer.specs.Tokens.{token_of}
 use Rattle.wac_lexer.specs.declared.token.Token.{Token}
 use Rattle.wac_lexer.specs.declared.token.Token.TheVariants as tokens
 use Rattle.wac_lexer.specs.declared.error.Error.{Error}
 use Rattle.wac_lexer.specs.declared.error.Error.TheVariants.{UnexpectedToken}
-use Rattle.wac_layout.specs.Printed.{Piece, token, blank, line, doc, text_of, text, fresh_after}
+use Rattle.wac_layout.specs.Printed.{Piece, token, blank, line, doc, text_of, fresh_after}
 
 -- the token that a text is
 abbrev pub kind_of : List ℕ → Result Token Error

@@ -1,5 +1,5 @@
 -- A printed text as a list of pieces, and what it writes.
-use Rattle.std.specs.Prelude.{◌≡◌, ℕ, zero, suc, ◌+◌, Bool, cond, true, false, nat_eq, List, [], ◌∷◌, ◌++◌, if◌then◌else◌, codes, refl}
+use Rattle.std.specs.Prelude.{ℕ, zero, suc, ◌+◌, Bool, cond, nat_eq, List, [], ◌∷◌, ◌++◌, if◌then◌else◌}
 
 -- what a printed text consists of
 pub data Piece : Type 0 where

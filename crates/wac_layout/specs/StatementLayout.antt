@@ -1,8 +1,8 @@
 -- How documents and their statements are printed.
-use Rattle.std.specs.Prelude.{◌≡◌, ℕ, true, false, List, [], ◌∷◌, ◌++◌, Option, Some, None, codes, refl}
+use Rattle.std.specs.Prelude.{◌≡◌, ℕ, true, List, [], ◌∷◌, ◌++◌, Option, Some, None, codes, refl}
 use Rattle.wac_grammar.specs.Tree as tree
 use Rattle.wac_grammar.specs.Tree.{Ident, ExternName, PackagePath, ImportType, ImportStatement, LetStatement, ExportOptions, ExportStatement, TypeStatement, Statement, PackageDirective, Document}
-use Rattle.wac_layout.specs.Printed.{Piece, token, blank, line, text}
+use Rattle.wac_layout.specs.Printed.{Piece, token, line, text}
 use Rattle.wac_layout.specs.Parts.{space, newline, spaced, docs_layout}
 use Rattle.wac_layout.specs.TypeLayout.{extern_name_layout, func_type_layout}
 use Rattle.wac_layout.specs.DeclarationLayout.{head_layout, type_decl_layout}

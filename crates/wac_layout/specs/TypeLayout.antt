@@ -1,8 +1,8 @@
 -- How types are printed.
-use Rattle.std.specs.Prelude.{◌≡◌, ℕ, Bool, true, false, List, [], ◌∷◌, ◌++◌, codes, refl}
+use Rattle.std.specs.Prelude.{◌≡◌, Bool, true, false, List, [], ◌∷◌, ◌++◌, codes, refl}
 use Rattle.wac_grammar.specs.Tree as tree
 use Rattle.wac_grammar.specs.Tree.{Ident, PackageName, PackagePath, ExternName, Ty, OptionalTy, Types, NamedType, ResultList, FuncType, FuncTypeRef}
-use Rattle.wac_layout.specs.Printed.{Piece, token, blank, line, text}
+use Rattle.wac_layout.specs.Printed.{Piece, token, text}
 use Rattle.wac_layout.specs.Parts.{space, joined}
 use Rattle.wac_layout.specs.Bare.{nowhere}
 

@@ -1,8 +1,8 @@
 -- How worlds are printed.
-use Rattle.std.specs.Prelude.{◌≡◌, ℕ, true, false, List, [], ◌∷◌, ◌++◌, codes, refl}
+use Rattle.std.specs.Prelude.{◌≡◌, ℕ, true, List, [], ◌∷◌, ◌++◌, codes, refl}
 use Rattle.wac_grammar.specs.Tree as tree
 use Rattle.wac_grammar.specs.Tree.{Ident, ExternType, NamedWorldItem, WorldItemPath, WorldImport, WorldExport, WorldRef, WorldIncludeItem, WorldInclude, WorldItem, WorldDecl}
-use Rattle.wac_layout.specs.Printed.{Piece, token, blank, line, text}
+use Rattle.wac_layout.specs.Printed.{Piece, token, line, text}
 use Rattle.wac_layout.specs.Parts.{space, body, rows, docs_layout}
 use Rattle.wac_layout.specs.TypeLayout.{func_type_layout}
 use Rattle.wac_layout.specs.DeclarationLayout.{head_layout, item_type_decl_layout}

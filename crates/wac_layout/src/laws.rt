@@ -14,7 +14,9 @@ ghost use Rattle.wac_layout.specs.Accepted.{IsAccepted, ItemIsAccepted};
 ghost use Rattle.wac_layout.specs.Joins.{AreBlanks, IsDocLine, Joins, JoinsBefore, Stands};
 ghost use Rattle.wac_layout.specs.Placed.{placed, said, said_of};
 ghost use Rattle.wac_layout.specs.Printed.{Piece, text, fresh_after, fresh_behind};
-ghost use Rattle.wac_layout.specs.Bare.{doc_lines, bare_document};
+ghost use Rattle.wac_layout.specs.Bare.{Keep, doc_lines, bare_document};
+ghost use Rattle.wac_layout.specs.PlainTree.{plain_document};
+ghost use Rattle.wac_grammar.specs.Spelled.{DocumentSpelled};
 ghost use Rattle.wac_grammar.specs.TextTree.{IsTreeOf};
 ghost use Rattle.wac_layout.specs.Reread.{IsReread, printed, ReadsBack, RereadAs};
 ghost use Rattle.wac_layout.specs.StatementLayout.{document_layout, statement_layout};
@@ -77,4 +79,10 @@ pub fn printed_texts_read_back()
 /// What is printed of the tree of a text is UTF-8, whatever text stands for a depth.
 pub fn printed_texts_are_utf8()
     ensures { (space source : List ℕ) (tree : Document) → IsUtf8 space → IsUtf8 source → IsTreeOf source tree → IsUtf8 (printed space source tree) }
+{}
+
+/// Documents with equal bare trees have equal plain trees, whatever is kept of their docs. So a document and what is printed of it have the same plain tree.
+pub fn bare_trees_give_plain_trees()
+    ensures bare { (keep other : Keep) (source text : List ℕ) (x y : Document) → DocumentSpelled source x → DocumentSpelled text y → bare_document keep source x ≡ bare_document other text y → plain_document x ≡ plain_document y }
+    ensures reread { (source text : List ℕ) (x again : Document) → IsUtf8 source → IsTreeOf source x → IsUtf8 text → IsTreeOf text again → IsReread text again source x → plain_document again ≡ plain_document x }
 {}

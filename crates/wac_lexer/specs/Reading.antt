@@ -23,7 +23,7 @@ slice source s = take s.len (drop s.offset source)
 abbrev pub Slices : List ℕ → Span → Type 0
 Slices source s = IsCharBoundary source s.offset × IsCharBoundary source (end_of s)
 
--- the span that messages show: one that ends at the source's end becomes its last byte
+-- the span that messages show: one that ends where the source ends becomes the byte before its start
 abbrev pub shown : List ℕ → Span → Span
 shown source s = if end_of s == length source then span (s.offset - 1) 1 else s
 
@@ -40,6 +40,7 @@ pub record Nexts (old : Reading) (item : Handed) (new : Reading) : Type 0 where
   pub rest : left new ≡ behind_first (left old)
   pub source : new.source ≡ old.source
   pub moves : old.place ≤ new.place
+  pub place : MatchOption item (new.place ≡ length old.source) (λ x. new.place ≡ end_of x.1)
   pub last : MatchOption item (new.last ≡ span (length old.source) 0) (λ x. new.last ≡ x.1)
   pub slices : IfSome item (λ x. Slices old.source x.1)
   pub fits : IfSome item (λ x. end_of x.1 < 2 ^ 64)

@@ -101,7 +101,8 @@ impl<'a> Lexer<'a> {
     /// The documentation comments behind the last item, up to the next item or a comment without an end.
     ///
     /// `///x` and `/**x*/` give x without the white space around it, and the span of the whole comment. Nothing is
-    /// consumed, so a second call gives the same. The only error is want of memory.
+    /// consumed, so a second call gives the same. The docs behind the last item can be read until `next` gives None,
+    /// and no more from then on: the lexer then stands at the end. The only error is want of memory.
     #[tactic(auto, unfolding(crate::specs::Reading::left))]
     pub fn comments(&self, alloc: Global) -> Result<Vec<(&'a str, SourceSpan)>, AllocError>
         ensures docs { IfOk result (λ v. map doc_of v.items ≡ docs_at self.now.source self.now.place) }

@@ -1,5 +1,5 @@
 -- The arguments of an instantiation, printed from the values.
-use Rattle.std.proofs.Common.{rules, ◌≡◌, ℕ, Bool, true, false, List, [], ◌∷◌, ◌++◌, codes, map, length, append_assoc, refl, sym, ap, ◌∙◌, zero, suc, arith, ◌<◌, ◌≤◌, subst, Global}
+use Rattle.std.proofs.Common.{rules, ◌≡◌, ℕ, Bool, true, false, List, [], ◌∷◌, ◌++◌, codes, map, length, append_assoc, refl, sym, ap, ◌∙◌, zero, suc, arith, ◌<◌, ◌≤◌, subst}
 use Rattle.std.specs.Bool.{◌==◌}
 use Rattle.std.specs.List.{All, flat_map}
 use Rattle.wac_lexer.specs.Span.{Span}
@@ -7,7 +7,6 @@ use Rattle.wac_grammar.specs.Tree as tree
 use Rattle.wac_grammar.specs.Tree.{Arguments, arguments_from}
 use Rattle.wac_expressions.specs.Expressions.{argument_name_of, argument_of, arguments_of_row, expr_of, nested_expr_of, new_expr_of, primary_expr_of}
 use Rattle.wac_syntax.specs.Names.{package_name_of}
-use Rattle.std.specs.Prelude.{Box}
 use mathlib.Core.Former.{Count}
 use denote.Param.Weighed.{most}
 use Rattle.wac_expressions.specs.declared.expr.InstantiationArgument.{InstantiationArgument, Fill, Named}
@@ -16,7 +15,7 @@ use Rattle.wac_expressions.specs.declared.expr.NewExpr.{NewExpr, Row_of-Instanti
 use Rattle.wac_expressions.specs.declared.expr.PrimaryExpr.{PrimaryExpr, New, New', Nested}
 use Rattle.wac_expressions.specs.declared.expr.NestedExpr.{NestedExpr, NestedExpr', out-NestedExpr}
 use Rattle.wac_layout.specs.Bare.{bare_argument, bare_argument_name, bare_arguments, bare_expr, bare_primary_expr}
-use Rattle.wac_layout.specs.Printed.{Piece, token, blank, line, deeper}
+use Rattle.wac_layout.specs.Printed.{Piece, token, line, deeper}
 use Rattle.wac_layout.specs.Parts.{space, newline}
 use Rattle.wac_layout.specs.ExpressionLayout.{argument_layout, argument_name_layout, arguments_layout, braced_layout, comma_layout, expr_layout, primary_expr_layout}
 use Rattle.wac_printer.specs.Arguments.{argument_line_layout, braces_layout, ending_layout, is_lone_fill}
@@ -37,7 +36,6 @@ arguments_sliced source (x ∷ xs) h (suc i) d k = arguments_sliced source xs h.
 
 -- how an argument's line ends does not depend on spellings
 pub ending_bare : (source : List ℕ) (is_last : Bool) (x : tree.InstantiationArgument) → ending_layout is_last (bare_argument source x) ≡ ending_layout is_last x
-unfolding bare_argument
 ending_bare source true (tree.InstantiationArgument.fill s) = refl
 ending_bare source true (tree.InstantiationArgument.spread x) = refl
 ending_bare source true (tree.InstantiationArgument.named n x) = refl
@@ -73,12 +71,12 @@ abbrev pub its_line : Bool → List ℕ → ℕ → InstantiationArgument → Li
 its_line is_last source depth x = argument_line_layout depth is_last (bare_argument source (argument_of x))
 
 pub no_arguments : (source : List ℕ) (depth : ℕ) (xs : List InstantiationArgument) → xs ≡ [] → arguments_layout depth (bared source xs) ≡ []
-unfolding arguments_layout bare_arguments
+unfolding arguments_layout
 no_arguments source depth xs e = ap (λ ys. arguments_layout depth (bared source ys)) e
 
 first_of_more : (source : List ℕ) (depth : ℕ) (x y : InstantiationArgument) (ys : List InstantiationArgument)
     → arguments_layout depth (bared source (x ∷ y ∷ ys)) ≡ its_line false source depth x ++ arguments_layout depth (bared source (y ∷ ys))
-unfolding arguments_layout bare_arguments
+unfolding arguments_layout
 first_of_more source depth x y ys =
     let b = bare_argument source (argument_of x) in
     let r = arguments_layout depth (bared source (y ∷ ys)) in
@@ -86,7 +84,7 @@ first_of_more source depth x y ys =
     ap (λ k. line depth ∷ (argument_layout depth b ++ k)) c ∙ ap (λ k. line depth ∷ k) (sym (append_assoc (argument_layout depth b) (ending_layout false b) r))
 
 the_last : (source : List ℕ) (depth : ℕ) (x : InstantiationArgument) → arguments_layout depth (bared source (x ∷ [])) ≡ its_line true source depth x
-unfolding arguments_layout bare_arguments
+unfolding arguments_layout
 the_last source depth x =
     let b = bare_argument source (argument_of x) in
     ap (λ k. line depth ∷ (argument_layout depth b ++ k)) (ending_last b)
@@ -108,12 +106,10 @@ arguments_lines source depth xs front last e = ap (λ ys. arguments_layout depth
 
 -- what stands between the braces
 pub braces_none : (source : List ℕ) (depth : ℕ) (xs : List InstantiationArgument) → length xs ≡ 0 → braces_layout depth (bared source xs) ≡ []
-unfolding bare_arguments
 braces_none source depth [] h = refl
 braces_none source depth (x ∷ xs) h = absurd (omega arith)
 
 lone_braces : (source : List ℕ) (depth : ℕ) (xs : Arguments) (lines : List Piece) → is_lone_fill xs ≡ true → braced_layout depth (bare_arguments source xs) lines ≡ space ∷ token (codes "...") ∷ space ∷ []
-unfolding bare_arguments bare_argument
 lone_braces source depth (tree.Arguments.more (tree.InstantiationArgument.fill s) tree.Arguments.none) lines h = refl
 lone_braces source depth (tree.Arguments.more (tree.InstantiationArgument.fill s) (tree.Arguments.more y ys)) lines h = absurd cc
 lone_braces source depth (tree.Arguments.more (tree.InstantiationArgument.spread x) xs) lines h = absurd cc
@@ -126,7 +122,6 @@ braces_lone source depth xs h = lone_braces source depth (arguments_from (map ar
 
 line_braces : (source : List ℕ) (depth : ℕ) (x : tree.InstantiationArgument) (xs : Arguments) (lines : List Piece) → is_lone_fill (tree.Arguments.more x xs) ≡ false
     → braced_layout depth (bare_arguments source (tree.Arguments.more x xs)) lines ≡ newline ∷ (lines ++ line depth ∷ [])
-unfolding bare_arguments bare_argument
 line_braces source depth (tree.InstantiationArgument.fill s) tree.Arguments.none lines h = absurd cc
 line_braces source depth (tree.InstantiationArgument.fill s) (tree.Arguments.more y ys) lines h = refl
 line_braces source depth (tree.InstantiationArgument.spread x) xs lines h = refl
@@ -159,13 +154,13 @@ nested_is (NestedExpr' s p outer first others) = refl
 
 pub nested_layout : (source : List ℕ) (depth : ℕ) (p : PrimaryExpr) (x : NestedExpr) → p ≡ Nested x
     → primary_expr_layout depth (bare_primary_expr source (primary_expr_of p)) ≡ token (codes "(") ∷ (expr_layout depth (bare_expr source (expr_of (out-NestedExpr x).inner.value)) ++ token (codes ")") ∷ [])
-unfolding primary_expr_layout bare_primary_expr
+unfolding primary_expr_layout
 nested_layout source depth p x e =
     ap (λ y. primary_expr_layout depth (bare_primary_expr source (primary_expr_of y))) e ∙ ap (λ y. primary_expr_layout depth (bare_primary_expr source y)) (nested_is x)
 
 pub named_is : (source : List ℕ) (depth : ℕ) (x : InstantiationArgument) (a : NamedInstantiationArgument) → x ≡ Named a
     → argument_layout depth (bare_argument source (argument_of x)) ≡ argument_name_layout (bare_argument_name source (argument_name_of a.name)) ++ token (codes ":") ∷ space ∷ expr_layout depth (bare_expr source (expr_of a.expr))
-unfolding argument_layout bare_argument
+unfolding argument_layout
 named_is source depth x a e = ap (λ y. argument_layout depth (bare_argument source (argument_of y))) e
 
 -- ---- the front of a list, and its last item

@@ -1,9 +1,9 @@
 -- Indentation.
-use Rattle.std.proofs.Common.{◌≡◌, ℕ, zero, suc, ◌+◌, ◌<◌, ◌≤◌, Bool, true, false, cond, List, [], ◌∷◌, ◌++◌, append_assoc, append-nil, refl, sym, ap, ◌∙◌, subst, arith, add-one, ⊎_elim, inl, inr}
+use Rattle.std.proofs.Common.{◌≡◌, ℕ, zero, suc, ◌+◌, ◌<◌, ◌≤◌, Bool, true, false, cond, List, [], ◌∷◌, ◌++◌, append_assoc, append-nil, refl, sym, ap, ◌∙◌, subst, arith, add-one, ⊎_elim}
 use Rattle.std.specs.Prelude.{◌⊎◌}
-use Rattle.wac_layout.specs.Printed.{Piece, token, blank, line, doc, text, text_of, fresh_after, times}
+use Rattle.wac_layout.specs.Printed.{blank, line, text, fresh_after, times}
 use Rattle.wac_printer.specs.Printed.{Printer, after, is_front, Prints, spaces, has_failed}
-use Rattle.std.proofs.Common.{Result, Ok, Err}
+use Rattle.std.proofs.Common.{Result, Err}
 use Rattle.wac_printer.specs.declared.error.PrintError.{PrintError}
 use Rattle.wac_printer.proofs.Printing.{goes, wrote_all, after-append, text-append, fresh_after-append, front-after, seq, after-nil}
 

@@ -1,7 +1,7 @@
 -- Lists of trees of values, printed from the values.
-use Rattle.std.proofs.Common.{◌≡◌, ℕ, List, [], ◌∷◌, ◌++◌, map, refl, sym, ap, ◌∙◌, zero, suc, get_or, subst, arith, ◌<◌, length, codes}
+use Rattle.std.proofs.Common.{◌≡◌, ℕ, List, [], ◌∷◌, ◌++◌, map, refl, ap, ◌∙◌, suc, subst, arith, ◌<◌, length, codes}
 use Rattle.std.specs.List.{flat_map, All}
-use Rattle.wac_layout.specs.Printed.{Piece, deeper, token, blank}
+use Rattle.wac_layout.specs.Printed.{Piece, deeper, token}
 use Rattle.wac_layout.specs.Parts.{between, joined, spaced, body, rows, open_body, close_body, doc_layout, docs_layout, space, newline}
 use Rattle.std.specs.Str.Lines.{lines}
 use Rattle.wac_lexer.specs.Item.{Doc}

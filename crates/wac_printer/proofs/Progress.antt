@@ -1,5 +1,5 @@
 -- A list printed element by element.
-use Rattle.std.proofs.Common.{zero, suc, map, arith, ◌≡◌, ℕ, ◌+◌, ◌<◌, ◌≤◌, Bool, true, false, List, [], ◌∷◌, ◌++◌, take, drop, length, get_or, refl, sym, ap, ◌∙◌, subst, Result, Ok, Err}
+use Rattle.std.proofs.Common.{zero, suc, map, arith, ◌≡◌, ℕ, ◌+◌, ◌<◌, ◌≤◌, false, List, [], ◌∷◌, ◌++◌, take, length, get_or, refl, sym, ap, ◌∙◌, subst, Result, Ok, Err}
 use Rattle.std.specs.List.{flat_map, All}
 use Rattle.wac_printer.specs.declared.error.PrintError.{PrintError}
 use Rattle.wac_layout.specs.Printed.{Piece, deeper}

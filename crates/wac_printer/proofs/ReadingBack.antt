@@ -1,12 +1,8 @@
 -- What is printed of a document reads back.
-use Rattle.std.proofs.Common.{◌≡◌, ℕ, Bool, true, List, ◌++◌, sym, ap, ◌∙◌, subst, refl, Result, Ok, Err}
-use Rattle.std.specs.Str.{IsUtf8}
+use Rattle.std.proofs.Common.{◌≡◌, ℕ, Bool, true, List, ◌++◌, ap, ◌∙◌, refl, Result, Ok, Err}
 use Rattle.wac_grammar.specs.Tree.{Document}
-use Rattle.wac_grammar.specs.TextTree.{IsTreeOf}
-use Rattle.wac_layout.specs.Joins.{AreBlanks}
 use Rattle.wac_layout.specs.Bare.{bare_document, doc_lines}
 use Rattle.wac_layout.specs.Printed.{Piece, text}
-use Rattle.wac_layout.specs.Reread.{printed, ReadsBack}
 use Rattle.wac_layout.specs.StatementLayout.{document_layout}
 use Rattle.wac_layout.proofs.TreesBack.{reads_back}
 use Rattle.wac_printer.specs.declared.error.PrintError.{PrintError}

@@ -1,5 +1,5 @@
 -- What is promised of the text that is printed of a document.
-use Rattle.std.specs.Prelude.{◌≡◌, ℕ, true, List, ◌++◌, Result, Ok, Err}
+use Rattle.std.specs.Prelude.{◌≡◌, true, ◌++◌, Result, Ok, Err}
 use Rattle.std.specs.Str.{IsUtf8}
 use Rattle.wac_grammar.specs.Tree.{Document}
 use Rattle.wac_grammar.specs.TextTree.{IsTreeOf}

@@ -1,14 +1,11 @@
 -- What printing asks for: the spans of what is printed slice the source.
-use Rattle.std.specs.Prelude.{ℕ, List, Option, Some, None}
+use Rattle.std.specs.Prelude.{ℕ, List}
 use Rattle.std.specs.List.{All}
+use Rattle.wac_lexer.specs.Item.{Doc}
 use Rattle.wac_lexer.specs.Reading.{Slices}
-use Rattle.wac_grammar.specs.Tree as tree
 use Rattle.wac_grammar.specs.Tree.{Ident, String, PackageName, PackagePath, ExternName, Ty, OptionalTy, Types, NamedType, ResultList, FuncType, FuncTypeRef, Constructor, Method, ResourceMethod, ResourceDecl, VariantCase, VariantDecl, Field, RecordDecl, Flag, FlagsDecl, EnumCase, EnumDecl, TypeAliasKind, TypeAlias, TypeDecl, ItemTypeDecl, UsePath, UseItem, Use, InterfaceExport, InterfaceItem, InterfaceDecl, InlineInterface, ExternType, NamedWorldItem, WorldItemPath, WorldImport, WorldExport, WorldRef, WorldIncludeItem, WorldInclude, WorldItem, WorldDecl, AccessExpr, NamedAccessExpr, PostfixExpr, InstantiationArgumentName, Expr, PrimaryExpr, Arguments, InstantiationArgument, ImportType, ImportStatement, LetStatement, ExportOptions, ExportStatement, TypeStatement, Statement, PackageDirective, Document}
-
--- of what stands there, if anything does
-abbrev pub IfThere : {A : Type 0} → (List ℕ → A → Type 0) → List ℕ → Option A → Type 0
-IfThere P source None = Unit {0}
-IfThere P source (Some x) = P source x
+use Rattle.wac_grammar.specs.Walk.{Walk, walk_extern_name, walk_ty, walk_optional_ty, walk_types, walk_named_type, walk_result_list, walk_func_type, walk_func_type_ref, walk_constructor, walk_method, walk_resource_method, walk_resource_decl, walk_variant_case, walk_variant_decl, walk_field, walk_record_decl, walk_flag, walk_flags_decl, walk_enum_case, walk_enum_decl, walk_type_alias_kind, walk_type_alias, walk_type_decl, walk_item_type_decl, walk_use_path, walk_use_item, walk_use, walk_interface_export, walk_interface_item, walk_interface_decl, walk_inline_interface, walk_extern_type, walk_named_world_item, walk_world_item_path, walk_world_import, walk_world_export, walk_world_ref, walk_world_include_item, walk_world_include, walk_world_item, walk_world_decl, walk_access_expr, walk_named_access_expr, walk_postfix_expr, walk_instantiation_argument_name, walk_expr, walk_primary_expr, walk_arguments, walk_instantiation_argument, walk_import_type, walk_import_statement, walk_let_statement, walk_export_options, walk_export_statement, walk_type_statement, walk_statement, walk_package_directive, walk_document}
+use Rattle.wac_grammar.specs.Leaves.{holds}
 
 -- ---- names
 
@@ -24,244 +21,197 @@ PackageNameSliced source x = Slices source x.span
 unfoldable pub PackagePathSliced : List ℕ → PackagePath → Type 0
 PackagePathSliced source x = Slices source x.span
 
-abbrev pub ExternNameSliced : List ℕ → ExternName → Type 0
-ExternNameSliced source (tree.ExternName.ident x) = IdentSliced source x
-ExternNameSliced source (tree.ExternName.string x) = StringSliced source x
+-- what is asked of a tree: its names' spans, and of a list what is asked of each item
+abbrev pub printable : List ℕ → Walk {1}
+printable source =
+    record (holds (record { ident = IdentSliced source; string = StringSliced source; name = PackageNameSliced source; path = PackagePathSliced source; filled = λ b. Unit {0} })) { each = λ w xs. All w xs; filled = λ b a. a }
+
+-- docs may be any
+abbrev pub any_docs : List Doc → Type 0
+any_docs docs = Unit {0}
 
 -- ---- types
 
-abbrev mutual
-  pub TySliced : List ℕ → Ty → Type 0
-  TySliced source (tree.Ty.tuple xs s) = TypesSliced source xs
-  TySliced source (tree.Ty.list x s) = TySliced source x
-  TySliced source (tree.Ty.option x s) = TySliced source x
-  TySliced source (tree.Ty.result ok err s) = OptionalTySliced source ok × OptionalTySliced source err
-  TySliced source (tree.Ty.borrow x s) = IdentSliced source x
-  TySliced source (tree.Ty.stream x s) = OptionalTySliced source x
-  TySliced source (tree.Ty.future x s) = OptionalTySliced source x
-  TySliced source (tree.Ty.ident x) = IdentSliced source x
-  TySliced source _ = Unit {0}
+abbrev pub ExternNameSliced : List ℕ → ExternName → Type 0
+ExternNameSliced source x = walk_extern_name (printable source) x
 
-  pub OptionalTySliced : List ℕ → OptionalTy → Type 0
-  OptionalTySliced source tree.OptionalTy.absent = Unit {0}
-  OptionalTySliced source (tree.OptionalTy.present x) = TySliced source x
+abbrev pub TySliced : List ℕ → Ty → Type 0
+TySliced source x = walk_ty (printable source) x
 
-  pub TypesSliced : List ℕ → Types → Type 0
-  TypesSliced source tree.Types.none = Unit {0}
-  TypesSliced source (tree.Types.more x xs) = TySliced source x × TypesSliced source xs
+abbrev pub OptionalTySliced : List ℕ → OptionalTy → Type 0
+OptionalTySliced source x = walk_optional_ty (printable source) x
+
+abbrev pub TypesSliced : List ℕ → Types → Type 0
+TypesSliced source x = walk_types (printable source) x
 
 abbrev pub NamedTypeSliced : List ℕ → NamedType → Type 0
-NamedTypeSliced source x = IdentSliced source x.id × TySliced source x.ty
+NamedTypeSliced source x = walk_named_type (printable source) x
 
 abbrev pub ResultListSliced : List ℕ → ResultList → Type 0
-ResultListSliced source tree.ResultList.empty = Unit {0}
-ResultListSliced source (tree.ResultList.scalar x) = TySliced source x
+ResultListSliced source x = walk_result_list (printable source) x
 
 abbrev pub FuncTypeSliced : List ℕ → FuncType → Type 0
-FuncTypeSliced source x = All (NamedTypeSliced source) x.params × ResultListSliced source x.results
+FuncTypeSliced source x = walk_func_type (printable source) x
 
-unfoldable pub FuncTypeRefSliced : List ℕ → FuncTypeRef → Type 0
-FuncTypeRefSliced source (tree.FuncTypeRef.func x) = FuncTypeSliced source x
-FuncTypeRefSliced source (tree.FuncTypeRef.ident x) = IdentSliced source x
+abbrev pub FuncTypeRefSliced : List ℕ → FuncTypeRef → Type 0
+FuncTypeRefSliced source x = walk_func_type_ref (printable source) x
 
 -- ---- declarations of types
 
 abbrev pub ConstructorSliced : List ℕ → Constructor → Type 0
-ConstructorSliced source x = All (NamedTypeSliced source) x.params
+ConstructorSliced source x = walk_constructor (printable source) any_docs x
 
 abbrev pub MethodSliced : List ℕ → Method → Type 0
-MethodSliced source x = IdentSliced source x.id × FuncTypeSliced source x.ty
+MethodSliced source x = walk_method (printable source) any_docs x
 
-unfoldable pub ResourceMethodSliced : List ℕ → ResourceMethod → Type 0
-ResourceMethodSliced source (tree.ResourceMethod.constructor x) = ConstructorSliced source x
-ResourceMethodSliced source (tree.ResourceMethod.method x) = MethodSliced source x
+abbrev pub ResourceMethodSliced : List ℕ → ResourceMethod → Type 0
+ResourceMethodSliced source x = walk_resource_method (printable source) any_docs x
 
 abbrev pub ResourceDeclSliced : List ℕ → ResourceDecl → Type 0
-ResourceDeclSliced source x = IdentSliced source x.id × All (ResourceMethodSliced source) x.methods
+ResourceDeclSliced source x = walk_resource_decl (printable source) any_docs x
 
 abbrev pub VariantCaseSliced : List ℕ → VariantCase → Type 0
-VariantCaseSliced source x = IdentSliced source x.id × IfThere TySliced source x.ty
+VariantCaseSliced source x = walk_variant_case (printable source) any_docs x
 
 abbrev pub VariantDeclSliced : List ℕ → VariantDecl → Type 0
-VariantDeclSliced source x = IdentSliced source x.id × All (VariantCaseSliced source) x.cases
+VariantDeclSliced source x = walk_variant_decl (printable source) any_docs x
 
 abbrev pub FieldSliced : List ℕ → Field → Type 0
-FieldSliced source x = IdentSliced source x.id × TySliced source x.ty
+FieldSliced source x = walk_field (printable source) any_docs x
 
 abbrev pub RecordDeclSliced : List ℕ → RecordDecl → Type 0
-RecordDeclSliced source x = IdentSliced source x.id × All (FieldSliced source) x.fields
+RecordDeclSliced source x = walk_record_decl (printable source) any_docs x
 
 abbrev pub FlagSliced : List ℕ → Flag → Type 0
-FlagSliced source x = IdentSliced source x.id
+FlagSliced source x = walk_flag (printable source) any_docs x
 
 abbrev pub FlagsDeclSliced : List ℕ → FlagsDecl → Type 0
-FlagsDeclSliced source x = IdentSliced source x.id × All (FlagSliced source) x.flags
+FlagsDeclSliced source x = walk_flags_decl (printable source) any_docs x
 
 abbrev pub EnumCaseSliced : List ℕ → EnumCase → Type 0
-EnumCaseSliced source x = IdentSliced source x.id
+EnumCaseSliced source x = walk_enum_case (printable source) any_docs x
 
 abbrev pub EnumDeclSliced : List ℕ → EnumDecl → Type 0
-EnumDeclSliced source x = IdentSliced source x.id × All (EnumCaseSliced source) x.cases
+EnumDeclSliced source x = walk_enum_decl (printable source) any_docs x
 
-unfoldable pub TypeAliasKindSliced : List ℕ → TypeAliasKind → Type 0
-TypeAliasKindSliced source (tree.TypeAliasKind.func x) = FuncTypeSliced source x
-TypeAliasKindSliced source (tree.TypeAliasKind.ty x) = TySliced source x
+abbrev pub TypeAliasKindSliced : List ℕ → TypeAliasKind → Type 0
+TypeAliasKindSliced source x = walk_type_alias_kind (printable source) x
 
 abbrev pub TypeAliasSliced : List ℕ → TypeAlias → Type 0
-TypeAliasSliced source x = IdentSliced source x.id × TypeAliasKindSliced source x.kind
+TypeAliasSliced source x = walk_type_alias (printable source) any_docs x
 
-unfoldable pub TypeDeclSliced : List ℕ → TypeDecl → Type 0
-TypeDeclSliced source (tree.TypeDecl.variant x) = VariantDeclSliced source x
-TypeDeclSliced source (tree.TypeDecl.record_decl x) = RecordDeclSliced source x
-TypeDeclSliced source (tree.TypeDecl.flags x) = FlagsDeclSliced source x
-TypeDeclSliced source (tree.TypeDecl.enum x) = EnumDeclSliced source x
-TypeDeclSliced source (tree.TypeDecl.alias x) = TypeAliasSliced source x
+abbrev pub TypeDeclSliced : List ℕ → TypeDecl → Type 0
+TypeDeclSliced source x = walk_type_decl (printable source) any_docs x
 
-unfoldable pub ItemTypeDeclSliced : List ℕ → ItemTypeDecl → Type 0
-ItemTypeDeclSliced source (tree.ItemTypeDecl.resource x) = ResourceDeclSliced source x
-ItemTypeDeclSliced source (tree.ItemTypeDecl.variant x) = VariantDeclSliced source x
-ItemTypeDeclSliced source (tree.ItemTypeDecl.record_decl x) = RecordDeclSliced source x
-ItemTypeDeclSliced source (tree.ItemTypeDecl.flags x) = FlagsDeclSliced source x
-ItemTypeDeclSliced source (tree.ItemTypeDecl.enum x) = EnumDeclSliced source x
-ItemTypeDeclSliced source (tree.ItemTypeDecl.alias x) = TypeAliasSliced source x
+abbrev pub ItemTypeDeclSliced : List ℕ → ItemTypeDecl → Type 0
+ItemTypeDeclSliced source x = walk_item_type_decl (printable source) any_docs x
 
 -- ---- interfaces
 
 abbrev pub UsePathSliced : List ℕ → UsePath → Type 0
-UsePathSliced source (tree.UsePath.path x) = PackagePathSliced source x
-UsePathSliced source (tree.UsePath.ident x) = IdentSliced source x
+UsePathSliced source x = walk_use_path (printable source) x
 
 abbrev pub UseItemSliced : List ℕ → UseItem → Type 0
-UseItemSliced source x = IdentSliced source x.id × IfThere IdentSliced source x.as_id
+UseItemSliced source x = walk_use_item (printable source) x
 
 abbrev pub UseSliced : List ℕ → Use → Type 0
-UseSliced source x = UsePathSliced source x.path × All (UseItemSliced source) x.items
+UseSliced source x = walk_use (printable source) any_docs x
 
 abbrev pub InterfaceExportSliced : List ℕ → InterfaceExport → Type 0
-InterfaceExportSliced source x = IdentSliced source x.id × FuncTypeRefSliced source x.ty
+InterfaceExportSliced source x = walk_interface_export (printable source) any_docs x
 
-unfoldable pub InterfaceItemSliced : List ℕ → InterfaceItem → Type 0
-InterfaceItemSliced source (tree.InterfaceItem.use_statement x) = UseSliced source x
-InterfaceItemSliced source (tree.InterfaceItem.interface_export x) = InterfaceExportSliced source x
-InterfaceItemSliced source (tree.InterfaceItem.ty x) = ItemTypeDeclSliced source x
+abbrev pub InterfaceItemSliced : List ℕ → InterfaceItem → Type 0
+InterfaceItemSliced source x = walk_interface_item (printable source) any_docs x
 
 abbrev pub InterfaceDeclSliced : List ℕ → InterfaceDecl → Type 0
-InterfaceDeclSliced source x = IdentSliced source x.id × All (InterfaceItemSliced source) x.items
+InterfaceDeclSliced source x = walk_interface_decl (printable source) any_docs x
 
 abbrev pub InlineInterfaceSliced : List ℕ → InlineInterface → Type 0
-InlineInterfaceSliced source x = All (InterfaceItemSliced source) x.items
+InlineInterfaceSliced source x = walk_inline_interface (printable source) any_docs x
 
 -- ---- worlds
 
-unfoldable pub ExternTypeSliced : List ℕ → ExternType → Type 0
-ExternTypeSliced source (tree.ExternType.ident x) = IdentSliced source x
-ExternTypeSliced source (tree.ExternType.func x) = FuncTypeSliced source x
-ExternTypeSliced source (tree.ExternType.interface x) = InlineInterfaceSliced source x
+abbrev pub ExternTypeSliced : List ℕ → ExternType → Type 0
+ExternTypeSliced source x = walk_extern_type (printable source) any_docs x
 
 abbrev pub NamedWorldItemSliced : List ℕ → NamedWorldItem → Type 0
-NamedWorldItemSliced source x = IdentSliced source x.id × ExternTypeSliced source x.ty
+NamedWorldItemSliced source x = walk_named_world_item (printable source) any_docs x
 
-unfoldable pub WorldItemPathSliced : List ℕ → WorldItemPath → Type 0
-WorldItemPathSliced source (tree.WorldItemPath.path x) = PackagePathSliced source x
-WorldItemPathSliced source (tree.WorldItemPath.named x) = NamedWorldItemSliced source x
-WorldItemPathSliced source (tree.WorldItemPath.ident x) = IdentSliced source x
+abbrev pub WorldItemPathSliced : List ℕ → WorldItemPath → Type 0
+WorldItemPathSliced source x = walk_world_item_path (printable source) any_docs x
 
 abbrev pub WorldImportSliced : List ℕ → WorldImport → Type 0
-WorldImportSliced source x = WorldItemPathSliced source x.path
+WorldImportSliced source x = walk_world_import (printable source) any_docs x
 
 abbrev pub WorldExportSliced : List ℕ → WorldExport → Type 0
-WorldExportSliced source x = WorldItemPathSliced source x.path
+WorldExportSliced source x = walk_world_export (printable source) any_docs x
 
 abbrev pub WorldRefSliced : List ℕ → WorldRef → Type 0
-WorldRefSliced source (tree.WorldRef.path x) = PackagePathSliced source x
-WorldRefSliced source (tree.WorldRef.ident x) = IdentSliced source x
+WorldRefSliced source x = walk_world_ref (printable source) x
 
 abbrev pub WorldIncludeItemSliced : List ℕ → WorldIncludeItem → Type 0
-WorldIncludeItemSliced source x = IdentSliced source x.from × IdentSliced source x.to
+WorldIncludeItemSliced source x = walk_world_include_item (printable source) x
 
 abbrev pub WorldIncludeSliced : List ℕ → WorldInclude → Type 0
-WorldIncludeSliced source x = WorldRefSliced source x.world × All (WorldIncludeItemSliced source) x.items
+WorldIncludeSliced source x = walk_world_include (printable source) any_docs x
 
-unfoldable pub WorldItemSliced : List ℕ → WorldItem → Type 0
-WorldItemSliced source (tree.WorldItem.use_statement x) = UseSliced source x
-WorldItemSliced source (tree.WorldItem.world_import x) = WorldImportSliced source x
-WorldItemSliced source (tree.WorldItem.world_export x) = WorldExportSliced source x
-WorldItemSliced source (tree.WorldItem.world_include x) = WorldIncludeSliced source x
-WorldItemSliced source (tree.WorldItem.ty x) = ItemTypeDeclSliced source x
+abbrev pub WorldItemSliced : List ℕ → WorldItem → Type 0
+WorldItemSliced source x = walk_world_item (printable source) any_docs x
 
 abbrev pub WorldDeclSliced : List ℕ → WorldDecl → Type 0
-WorldDeclSliced source x = IdentSliced source x.id × All (WorldItemSliced source) x.items
+WorldDeclSliced source x = walk_world_decl (printable source) any_docs x
 
 -- ---- expressions
 
 abbrev pub AccessExprSliced : List ℕ → AccessExpr → Type 0
-AccessExprSliced source x = IdentSliced source x.id
+AccessExprSliced source x = walk_access_expr (printable source) x
 
 abbrev pub NamedAccessExprSliced : List ℕ → NamedAccessExpr → Type 0
-NamedAccessExprSliced source x = StringSliced source x.string
+NamedAccessExprSliced source x = walk_named_access_expr (printable source) x
 
 abbrev pub PostfixExprSliced : List ℕ → PostfixExpr → Type 0
-PostfixExprSliced source (tree.PostfixExpr.access x) = AccessExprSliced source x
-PostfixExprSliced source (tree.PostfixExpr.named_access x) = NamedAccessExprSliced source x
+PostfixExprSliced source x = walk_postfix_expr (printable source) x
 
 abbrev pub ArgumentNameSliced : List ℕ → InstantiationArgumentName → Type 0
-ArgumentNameSliced source (tree.InstantiationArgumentName.ident x) = IdentSliced source x
-ArgumentNameSliced source (tree.InstantiationArgumentName.string x) = StringSliced source x
+ArgumentNameSliced source x = walk_instantiation_argument_name (printable source) x
 
-abbrev mutual
-  pub ExprSliced : List ℕ → Expr → Type 0
-  ExprSliced source (tree.Expr.expr s first others) = PrimaryExprSliced source first × All (PostfixExprSliced source) others
+abbrev pub ExprSliced : List ℕ → Expr → Type 0
+ExprSliced source x = walk_expr (printable source) x
 
-  pub PrimaryExprSliced : List ℕ → PrimaryExpr → Type 0
-  PrimaryExprSliced source (tree.PrimaryExpr.new s name arguments) = PackageNameSliced source name × ArgumentsSliced source arguments
-  PrimaryExprSliced source (tree.PrimaryExpr.nested s x) = ExprSliced source x
-  PrimaryExprSliced source (tree.PrimaryExpr.ident x) = IdentSliced source x
+abbrev pub PrimaryExprSliced : List ℕ → PrimaryExpr → Type 0
+PrimaryExprSliced source x = walk_primary_expr (printable source) x
 
-  pub ArgumentsSliced : List ℕ → Arguments → Type 0
-  ArgumentsSliced source tree.Arguments.none = Unit {0}
-  ArgumentsSliced source (tree.Arguments.more x xs) = ArgumentSliced source x × ArgumentsSliced source xs
+abbrev pub ArgumentsSliced : List ℕ → Arguments → Type 0
+ArgumentsSliced source x = walk_arguments (printable source) x
 
-  pub ArgumentSliced : List ℕ → InstantiationArgument → Type 0
-  ArgumentSliced source (tree.InstantiationArgument.fill s) = Unit {0}
-  ArgumentSliced source (tree.InstantiationArgument.spread x) = IdentSliced source x
-  ArgumentSliced source (tree.InstantiationArgument.named name x) = ArgumentNameSliced source name × ExprSliced source x
-  ArgumentSliced source (tree.InstantiationArgument.inferred x) = IdentSliced source x
+abbrev pub ArgumentSliced : List ℕ → InstantiationArgument → Type 0
+ArgumentSliced source x = walk_instantiation_argument (printable source) x
 
 -- ---- statements
 
-unfoldable pub ImportTypeSliced : List ℕ → ImportType → Type 0
-ImportTypeSliced source (tree.ImportType.func x) = FuncTypeSliced source x
-ImportTypeSliced source (tree.ImportType.interface x) = InlineInterfaceSliced source x
-ImportTypeSliced source (tree.ImportType.path x) = PackagePathSliced source x
-ImportTypeSliced source (tree.ImportType.ident x) = IdentSliced source x
+abbrev pub ImportTypeSliced : List ℕ → ImportType → Type 0
+ImportTypeSliced source x = walk_import_type (printable source) any_docs x
 
 abbrev pub ImportStatementSliced : List ℕ → ImportStatement → Type 0
-ImportStatementSliced source x = IdentSliced source x.id × IfThere ExternNameSliced source x.name × ImportTypeSliced source x.ty
+ImportStatementSliced source x = walk_import_statement (printable source) any_docs x
 
 abbrev pub LetStatementSliced : List ℕ → LetStatement → Type 0
-LetStatementSliced source x = IdentSliced source x.id × ExprSliced source x.expr
+LetStatementSliced source x = walk_let_statement (printable source) any_docs x
 
 abbrev pub ExportOptionsSliced : List ℕ → ExportOptions → Type 0
-ExportOptionsSliced source (tree.ExportOptions.spread s) = Unit {0}
-ExportOptionsSliced source (tree.ExportOptions.rename x) = ExternNameSliced source x
-ExportOptionsSliced source tree.ExportOptions.none = Unit {0}
+ExportOptionsSliced source x = walk_export_options (printable source) x
 
 abbrev pub ExportStatementSliced : List ℕ → ExportStatement → Type 0
-ExportStatementSliced source x = ExprSliced source x.expr × ExportOptionsSliced source x.options
+ExportStatementSliced source x = walk_export_statement (printable source) any_docs x
 
-unfoldable pub TypeStatementSliced : List ℕ → TypeStatement → Type 0
-TypeStatementSliced source (tree.TypeStatement.interface x) = InterfaceDeclSliced source x
-TypeStatementSliced source (tree.TypeStatement.world x) = WorldDeclSliced source x
-TypeStatementSliced source (tree.TypeStatement.ty x) = TypeDeclSliced source x
+abbrev pub TypeStatementSliced : List ℕ → TypeStatement → Type 0
+TypeStatementSliced source x = walk_type_statement (printable source) any_docs x
 
-unfoldable pub StatementSliced : List ℕ → Statement → Type 0
-StatementSliced source (tree.Statement.import_statement x) = ImportStatementSliced source x
-StatementSliced source (tree.Statement.let_statement x) = LetStatementSliced source x
-StatementSliced source (tree.Statement.export_statement x) = ExportStatementSliced source x
-StatementSliced source (tree.Statement.type_statement x) = TypeStatementSliced source x
+abbrev pub StatementSliced : List ℕ → Statement → Type 0
+StatementSliced source x = walk_statement (printable source) any_docs x
 
 abbrev pub DirectiveSliced : List ℕ → PackageDirective → Type 0
-DirectiveSliced source x = PackageNameSliced source x.package_name × IfThere PackagePathSliced source x.targets
+DirectiveSliced source x = walk_package_directive (printable source) x
 
 abbrev pub DocumentSliced : List ℕ → Document → Type 0
-DocumentSliced source x = DirectiveSliced source x.directive × All (StatementSliced source) x.statements
+DocumentSliced source x = walk_document (printable source) any_docs x

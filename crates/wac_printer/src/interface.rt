@@ -7,7 +7,8 @@ ghost use Rattle.wac_worlds.specs.Worlds.{use_item_of, use_of, use_path_of};
 ghost use Rattle.wac_worlds.specs.Worlds.{inline_interface_of, interface_decl_of, interface_export_of, interface_item_of};
 ghost use Rattle.wac_layout.specs.Printed.{token};
 ghost use Rattle.wac_printer.specs.Printed.{Prints};
-ghost use Rattle.wac_printer.specs.Sliced.{IdentSliced, IfThere, InlineInterfaceSliced, InterfaceDeclSliced, InterfaceExportSliced, InterfaceItemSliced, UseItemSliced, UsePathSliced, UseSliced};
+ghost use Rattle.wac_grammar.specs.Leaves.{IfThere};
+ghost use Rattle.wac_printer.specs.Sliced.{IdentSliced, InlineInterfaceSliced, InterfaceDeclSliced, InterfaceExportSliced, InterfaceItemSliced, UseItemSliced, UsePathSliced, UseSliced};
 ghost use Rattle.wac_layout.specs.Bare.{bare_ident, bare_inline_interface, bare_interface_decl, bare_interface_export, bare_interface_item, bare_use, bare_use_item, bare_use_path, doc_lines};
 ghost use Rattle.wac_layout.specs.InterfaceLayout.{as_layout, inline_interface_layout, interface_decl_layout, interface_export_layout, interface_item_layout, use_item_layout, use_items_layout, use_layout, use_path_layout};
 ghost use Rattle.wac_layout.specs.Parts.{body};
@@ -153,7 +154,7 @@ impl<'a, S: Sink> DocumentPrinter<'a, S> {
     }
 
     fn as_ident(&mut self, id: &Option<Ident<'_>>) -> PrintResult
-        requires { IfThere IdentSliced self.old.source (option_map ident_of id.now) }
+        requires { IfThere (IdentSliced self.old.source) (option_map ident_of id.now) }
         ensures { Prints self.old result self.new (as_layout (option_map (bare_ident self.old.source) (option_map ident_of id.now))) }
     {
         match id {

@@ -8,7 +8,8 @@ ghost use Rattle.wac_ast.specs.Statements.{document_of, statement_of};
 ghost use Rattle.wac_worlds.specs.Worlds.{import_statement_of, import_type_of};
 ghost use Rattle.wac_ast.specs.Statements.{type_statement_of};
 ghost use Rattle.wac_printer.specs.Printed.{Prints};
-ghost use Rattle.wac_printer.specs.Sliced.{DirectiveSliced, DocumentSliced, ExportOptionsSliced, ExportStatementSliced, ExternNameSliced, IfThere, ImportStatementSliced, ImportTypeSliced, LetStatementSliced, PackagePathSliced, StatementSliced, TypeStatementSliced};
+ghost use Rattle.wac_grammar.specs.Leaves.{IfThere};
+ghost use Rattle.wac_printer.specs.Sliced.{DirectiveSliced, DocumentSliced, ExportOptionsSliced, ExportStatementSliced, ExternNameSliced, ImportStatementSliced, ImportTypeSliced, LetStatementSliced, PackagePathSliced, StatementSliced, TypeStatementSliced};
 ghost use Rattle.wac_layout.specs.Bare.{bare_directive, bare_document, bare_export_options, bare_export_statement, bare_extern_name, bare_import_statement, bare_import_type, bare_let_statement, bare_package_path, bare_statement, bare_type_statement, doc_lines};
 ghost use Rattle.wac_layout.specs.StatementLayout.{directive_layout, document_layout, export_options_layout, export_statement_layout, import_name_layout, import_statement_layout, import_type_layout, let_statement_layout, renamed_layout, statement_layout, targets_layout, type_statement_layout};
 ghost use Rattle.wac_layout.specs.Parts.{spaced};
@@ -142,7 +143,7 @@ impl<'a, S: Sink> DocumentPrinter<'a, S> {
     }
 
     fn targets(&mut self, path: &Option<PackagePath<'_>>) -> PrintResult
-        requires { IfThere PackagePathSliced self.old.source (option_map package_path_of path.now) }
+        requires { IfThere (PackagePathSliced self.old.source) (option_map package_path_of path.now) }
         ensures { Prints self.old result self.new (targets_layout (option_map (bare_package_path self.old.source) (option_map package_path_of path.now))) }
     {
         match path {
@@ -196,7 +197,7 @@ impl<'a, S: Sink> DocumentPrinter<'a, S> {
     }
 
     fn import_name(&mut self, name: &Option<ExternName<'_>>) -> PrintResult
-        requires { IfThere ExternNameSliced self.old.source (option_map extern_name_of name.now) }
+        requires { IfThere (ExternNameSliced self.old.source) (option_map extern_name_of name.now) }
         ensures { Prints self.old result self.new (import_name_layout (option_map (bare_extern_name self.old.source) (option_map extern_name_of name.now))) }
     {
         match name {

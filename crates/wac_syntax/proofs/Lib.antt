@@ -9,3 +9,4 @@ pub mod PathParts
 pub mod Optional
 pub mod Alternatives
 pub mod Exits
+pub mod PartReads

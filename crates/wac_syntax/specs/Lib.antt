@@ -5,3 +5,4 @@ pub mod Lists
 pub mod Segments
 pub mod Optional
 pub mod Names
+pub mod Pieces

@@ -7,6 +7,7 @@ mod lookahead;
 mod names;
 mod package;
 mod parse;
+mod pieces;
 mod segments;
 mod version;
 
@@ -19,4 +20,5 @@ pub use parse::{
     Parse, Peek, at, at_second, boxed, has_more, join, parse_docs, parse_optional, parse_token,
     push, refuse_empty, take_optional, take_token,
 };
+pub use pieces::{parse_after, parse_before};
 pub use segments::SegmentSpans;

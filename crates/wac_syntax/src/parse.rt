@@ -65,6 +65,8 @@ pub trait Peek {
 pub fn parse_token(lexer: &mut Lexer, expected: Token) -> ParseResult<SourceSpan>
     ensures ok { IfOk result (λ s. handed (left lexer.old) ≡ Some (Ok expected, s)) }
     ensures refused { IfErr result (λ e. (at expected (left lexer.old) ≡ false) × (told_by e ≡ refusal (handed (left lexer.old)) (shown lexer.old.source (empty_end lexer.old.source)) (expected_one expected))) }
+    // The item is consumed, whether it is the token or not.
+    ensures nexts { Nexts lexer.old (handed (left lexer.old)) lexer.new }
     ensures rest { left lexer.new ≡ behind_first (left lexer.old) }
     ensures source { lexer.new.source ≡ lexer.old.source }
     ensures moves { lexer.old.place ≤ lexer.new.place }

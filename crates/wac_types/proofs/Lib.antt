@@ -8,3 +8,8 @@ pub mod Listed
 pub mod Tables
 pub mod Packages
 pub mod Renaming
+pub mod Shapes
+pub mod Parts
+pub mod Maps
+pub mod Borrowing
+pub mod Tested

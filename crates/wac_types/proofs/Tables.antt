@@ -1,13 +1,14 @@
 -- A table stays one as entries are added that name older ones.
-use Rattle.std.proofs.Common.{◌≡◌, ℕ, zero, suc, Option, Some, None, List, [], ◌∷◌, ◌++◌, length, length-append, subst, arith}
+use Rattle.std.proofs.Common.{◌≡◌, ◌<◌, ℕ, zero, suc, Option, Some, None, List, [], ◌∷◌, ◌++◌, length, length-append, subst, arith}
 use Rattle.std.specs.Prelude.{slice_get, option_map, IfSome}
+use Rattle.std.proofs.lemmas.Option.{slice_get_within}
 use Rattle.wac_types.specs.declared.kind.ItemKind.{ItemKind}
 use Rattle.wac_types.specs.declared.kind.Sort.{Sort}
 use Rattle.wac_types.specs.declared.entry.Entry.{Entry}
 use Rattle.wac_types.specs.Kind.{named_by, sort_named}
 use Rattle.wac_types.specs.Entry.{Slot, children, sort_of}
 use Rattle.wac_types.specs.Meaning.{EachKind, EachFrom, NamesBefore}
-use Rattle.wac_types.specs.Table.{IsOfSort, Names, IsTable}
+use Rattle.wac_types.specs.Table.{IsOfSort, Names, IsTable, EachEntryNamed}
 use Rattle.wac_types.proofs.Meanings.{is_earlier_more, names_before_more}
 use Rattle.wac_types.proofs.Rows.{earlier_from}
 
@@ -67,3 +68,10 @@ each_both P Q (c ∷ cs) p q = (one c.1 p.0 q.0, each_both P Q cs p.1 q.1)
 -- what stands in an entry names entries before it, of their sort
 pub entry_names : (es : List Entry) (i : ℕ) (e : Entry) → IsTable es → slice_get es i ≡ Some e → EachKind (λ k. NamesBefore i k × IsOfSort es k) (children e)
 entry_names es i e table is = each_both (NamesBefore i) (IsOfSort es) (children e) (earlier_from 0 i es i e (omega arith) table.0 is) (each_from_at (λ x. EachKind (IsOfSort es) (children x)) 0 es i e table.1 is)
+
+-- what stands in an entry names entries of the table
+pub each_entry_named : (es : List Entry) → IsTable es → EachEntryNamed es
+each_entry_named es table i e is = each_implies (λ k. NamesBefore i k × IsOfSort es k) (Names es) more (children e) (entry_names es i e table is)
+  where
+    more : (k : ItemKind) → NamesBefore i k × IsOfSort es k → Names es k
+    more k h = (names_before_more i (length es) k (let w : i < length es = slice_get_within es i e is in omega arith) h.0, h.1)

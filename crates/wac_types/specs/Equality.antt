@@ -3,15 +3,15 @@ use Rattle.std.specs.Prelude.{◌≡◌, ℕ, zero, suc, List, Option, Some, Non
 use Rattle.std.proofs.Math.Decide.{ℕ_discrete}
 use Rattle.std.proofs.Math.Bool.{Bool-discrete}
 use mathlib.Core.List.{List-discrete}
-use Rattle.std.proofs.Common.{refl, sym, ◌∙◌, ap}
+use Rattle.std.proofs.Common.{refl, sym, ◌∙◌, ap, inl, inr}
 use Rattle.wac_types.specs.declared.kind.PrimitiveType.{PrimitiveType}
 use Rattle.wac_types.specs.declared.kind.PrimitiveType.TheVariants as primitives
 use Rattle.wac_types.specs.declared.rules.Reason.{Reason}
 use Rattle.wac_types.specs.Kind.{ValueForm-discrete, Form, Form-discrete}
 use Rattle.wac_types.specs.Entry.{Slot-discrete}
 use Rattle.wac_types.specs.Label.{Label, plain, resource, Plain-discrete, Label-discrete}
-use Rattle.wac_types.specs.Meaning.{Meaning, node, Row, done, more, IsInjective, Meaning-discrete}
-use Rattle.wac_types.specs.Rules.{renamed, renamed_row, renamed_label}
+use Rattle.wac_types.specs.Meaning.{Meaning, node, Row, done, more, Meaning-discrete}
+use Rattle.wac_types.specs.Rules.{renamed, renamed_row, renamed_label, HasOrigin, Occurs, OccursInRow, KeepsApart}
 
 -- the primitive types, numbered
 number_of : PrimitiveType → ℕ
@@ -102,41 +102,42 @@ unfolding equal_or
 equal_or-unequal reason (yes e) h = absurd (h e)
 equal_or-unequal reason (no n) h = refl
 
-label_back : (f : ℕ → ℕ) → IsInjective f → (l k : Label) → renamed_label f l ≡ renamed_label f k → l ≡ k
-label_back f one (plain p) (plain q) h = h
-label_back f one (plain p) (resource o n) h = absurd (cc)
-label_back f one (resource o n) (plain q) h = absurd (cc)
-label_back f one (resource o n) (resource u m) h =
+-- two labels whose renamed labels are equal, where renaming keeps their origins apart
+label_back : (f : ℕ → ℕ) (l k : Label) → ((i j : ℕ) → HasOrigin i l → HasOrigin j k → f i ≡ f j → i ≡ j) → renamed_label f l ≡ renamed_label f k → l ≡ k
+label_back f (plain p) (plain q) one h = h
+label_back f (plain p) (resource o n) one h = absurd (cc)
+label_back f (resource o n) (plain q) one h = absurd (cc)
+label_back f (resource o n) (resource u m) one h =
     let same : f o ≡ f u = cc in
-    let e : o ≡ u = one o u same in
+    let e : o ≡ u = one o u refl refl same in
     cc
 
 mutual
-  pub meaning_back : (f : ℕ → ℕ) → IsInjective f → (a b : Meaning) → renamed f a ≡ renamed f b → a ≡ b
-  meaning_back f one (node l r) (node k q) h =
+  pub meaning_back : (f : ℕ → ℕ) (a b : Meaning) → ((i j : ℕ) → Occurs i a → Occurs j b → f i ≡ f j → i ≡ j) → renamed f a ≡ renamed f b → a ≡ b
+  meaning_back f (node l r) (node k q) one h =
       let le : renamed_label f l ≡ renamed_label f k = cc in
       let re : renamed_row f r ≡ renamed_row f q = cc in
-      let e : l ≡ k = label_back f one l k le in
-      let d : r ≡ q = row_back f one r q re in
+      let e : l ≡ k = label_back f l k (λ i j p s. one i j (inl p) (inl s)) le in
+      let d : r ≡ q = row_back f r q (λ i j p s. one i j (inr p) (inr s)) re in
       cc
 
-  row_back : (f : ℕ → ℕ) → IsInjective f → (a b : Row) → renamed_row f a ≡ renamed_row f b → a ≡ b
-  row_back f one done done h = refl
-  row_back f one done (more s m r) h = absurd (cc)
-  row_back f one (more s m r) done h = absurd (cc)
-  row_back f one (more s m r) (more t n q) h =
+  row_back : (f : ℕ → ℕ) (a b : Row) → ((i j : ℕ) → OccursInRow i a → OccursInRow j b → f i ≡ f j → i ≡ j) → renamed_row f a ≡ renamed_row f b → a ≡ b
+  row_back f done done one h = refl
+  row_back f done (more s m r) one h = absurd (cc)
+  row_back f (more s m r) done one h = absurd (cc)
+  row_back f (more s m r) (more t n q) one h =
       let slot : s ≡ t = cc in
       let me : renamed f m ≡ renamed f n = cc in
       let re : renamed_row f r ≡ renamed_row f q = cc in
-      let e : m ≡ n = meaning_back f one m n me in
-      let d : r ≡ q = row_back f one r q re in
+      let e : m ≡ n = meaning_back f m n (λ i j p w. one i j (inl p) (inl w)) me in
+      let d : r ≡ q = row_back f r q (λ i j p w. one i j (inr p) (inr w)) re in
       cc
 
 -- equality stays under other origins
-pub equal_or-renamed : (reason : Reason) (f : ℕ → ℕ) → IsInjective f → (a b : Meaning)
+pub equal_or-renamed : (reason : Reason) (f : ℕ → ℕ) (a b : Meaning) → KeepsApart f a b
     → equal_or reason (meaning_discrete (renamed f a) (renamed f b)) ≡ equal_or reason (meaning_discrete a b)
-equal_or-renamed reason f one a b = go (meaning_discrete a b)
+equal_or-renamed reason f a b apart = go (meaning_discrete a b)
   where
     go : (d : Dec (a ≡ b)) → equal_or reason (meaning_discrete (renamed f a) (renamed f b)) ≡ equal_or reason d
     go (yes e) = equal_or-equal reason (meaning_discrete (renamed f a) (renamed f b)) (ap (renamed f) e) ∙ sym (equal_or-equal reason (yes e) e)
-    go (no n) = equal_or-unequal reason (meaning_discrete (renamed f a) (renamed f b)) (λ h. n (meaning_back f one a b h)) ∙ sym (equal_or-unequal reason {a = a} {b = b} (no n) n)
+    go (no n) = equal_or-unequal reason (meaning_discrete (renamed f a) (renamed f b)) (λ h. n (meaning_back f a b (λ i j p q. apart i j (inl p) (inr q)) h)) ∙ sym (equal_or-unequal reason {a = a} {b = b} (no n) n)

@@ -7,6 +7,10 @@ pub mod Meaning
 pub mod Table
 pub mod Readings
 pub mod Package
+pub mod Tests
 pub mod Growth
 pub mod Rules
 pub mod Equality
+pub mod Scope
+pub mod Steps
+pub mod Shape

@@ -8,13 +8,11 @@ use Rattle.wac_types.specs.declared.kind.«Type».TheVariants as types
 use Rattle.wac_types.specs.declared.kind.WorldId.{WorldId}
 use Rattle.wac_types.specs.declared.kind.InterfaceId.{InterfaceId}
 use Rattle.wac_types.specs.declared.entry.Entry.{Entry}
-use Rattle.wac_types.specs.declared.package.Test.{Test}
-use Rattle.wac_types.specs.declared.package.Test.TheVariants as tests
 use Rattle.wac_types.specs.declared.package.PackageError.{PackageError}
 use Rattle.wac_types.specs.declared.package.PackageError.TheVariants as errors
 use Rattle.wac_types.specs.Entry.{Slot, children, export_children}
 use Rattle.wac_types.specs.Readings.{as_interface, as_world}
-use Rattle.wac_types.specs.Meaning.{row, meaning_at, IsOneToOne, NamesBefore, EachFrom, EachKind}
+use Rattle.wac_types.specs.Meaning.{row, meaning_at, IsOneToOne, IsEarlier, NamesBefore, EachKind}
 use Rattle.wac_types.specs.Table.{IsOfSort}
 
 -- an interface type's interface has an id
@@ -34,20 +32,6 @@ HasId es (kinds.Component id) = Unit {0}
 HasId es (kinds.Module id) = Unit {0}
 HasId es (kinds.Value v) = Unit {0}
 
--- a kind that stands in the entry of number n passes a test
-abbrev pub Passes : Test → List Entry → ℕ → ItemKind → Type 0
-Passes tests.InRange es n k = NamesBefore (length es) k
-Passes tests.OfSort es n k = IsOfSort es k
-Passes tests.Earlier es n k = NamesBefore n k
-Passes tests.HasId es n k = HasId es k
-
--- each kind in an entry of the table passes
-abbrev pub EntriesPass : Test → List Entry → Type 0
-EntriesPass t es = EachFrom (λ n e. EachKind (Passes t es n) (children e)) 0 es
-
-abbrev pub DefinitionsPass : Test → List Entry → List (List ℕ × ItemKind) → Type 0
-DefinitionsPass t es ds = AllByRecursion (λ d. Passes t es 0 d.1) ds
-
 -- the parts of a package
 pub record PackageParts : Type 0 where
   pub types : List Entry
@@ -55,17 +39,41 @@ pub record PackageParts : Type 0 where
   pub instance : InterfaceId
   pub definitions : List (List ℕ × ItemKind)
 
--- each kind of a package passes
-pub record AllPass (t : Test) (p : PackageParts) : Type 0 where
-  pub of_world : Passes t p.types 0 (kinds.Component p.world)
-  pub of_instance : Passes t p.types 0 (kinds.Instance p.instance)
-  pub of_definitions : DefinitionsPass t p.types p.definitions
-  pub of_entries : EntriesPass t p.types
+-- each kind that stands in an entry
+abbrev pub EachInEntries : (ItemKind → Type 0) → List Entry → Type 0
+EachInEntries P es = AllByRecursion (λ e. EachKind P (children e)) es
 
--- each interface type among the definitions, imports and exports has an id
+-- each of these named kinds
+abbrev pub EachItem : (ItemKind → Type 0) → List (List ℕ × ItemKind) → Type 0
+EachItem P ds = AllByRecursion (λ d. P d.1) ds
+
+-- each kind that a package names: its world as a component, its instance, its definitions, and what stands in its entries
+pub record EachNamed (P : ItemKind → Type 0) (p : PackageParts) : Type 0 where
+  pub of_world : P (kinds.Component p.world)
+  pub of_instance : P (kinds.Instance p.instance)
+  pub of_definitions : EachItem P p.definitions
+  pub of_entries : EachInEntries P p.types
+
+-- ---- what a package is tested for, one after another
+
+-- 1: each id is an entry's number
+pub record IdsInRange (p : PackageParts) : Type 0 where
+  pub each : EachNamed (NamesBefore (length p.types)) p
+
+-- 2: each id names an entry of its sort
+pub record IdsOfSort (p : PackageParts) : Type 0 where
+  pub each : EachNamed (IsOfSort p.types) p
+
+-- 3: each id in an entry is below the entry's number
+pub record IdsEarlier (es : List Entry) : Type 0 where
+  pub each : IsEarlier es
+
+-- 4: each interface that stands as a type among the definitions, or in an entry, has an id
 pub record HaveIds (es : List Entry) (ds : List (List ℕ × ItemKind)) : Type 0 where
-  pub in_definitions : DefinitionsPass tests.HasId es ds
-  pub in_entries : EntriesPass tests.HasId es
+  pub in_definitions : EachItem (HasId es) ds
+  pub in_entries : EachInEntries (HasId es) es
+
+-- 5: the instance exports what the world exports
 
 -- an interface's exports
 abbrev pub interface_exports : List Entry → InterfaceId → List (Slot × Option ItemKind)
@@ -87,17 +95,17 @@ OtherExports es world instance = (origins : ℕ → ℕ) → IsOneToOne es origi
 
 -- none of the five faults
 pub record IsPackage (p : PackageParts) : Type 0 where
-  pub in_range : AllPass tests.InRange p
-  pub of_sort : AllPass tests.OfSort p
-  pub earlier : EntriesPass tests.Earlier p.types
+  pub in_range : IdsInRange p
+  pub of_sort : IdsOfSort p
+  pub earlier : IdsEarlier p.types
   pub ids : HaveIds p.types p.definitions
   pub exports : SameExports p.types p.world p.instance
 
 -- the error's fault is there, and none of those before it
 abbrev pub FirstFault : PackageError → PackageParts → Type 0
-FirstFault errors.OutOfRange p = AllPass tests.InRange p → ⊥
-FirstFault errors.OtherSort p = AllPass tests.InRange p × (AllPass tests.OfSort p → ⊥)
-FirstFault errors.NotEarlier p = AllPass tests.InRange p × AllPass tests.OfSort p × (EntriesPass tests.Earlier p.types → ⊥)
-FirstFault errors.NoInterfaceId p = AllPass tests.InRange p × AllPass tests.OfSort p × EntriesPass tests.Earlier p.types × (HaveIds p.types p.definitions → ⊥)
-FirstFault errors.InstanceExports p = AllPass tests.InRange p × AllPass tests.OfSort p × EntriesPass tests.Earlier p.types × HaveIds p.types p.definitions × OtherExports p.types p.world p.instance
+FirstFault errors.OutOfRange p = IdsInRange p → ⊥
+FirstFault errors.OtherSort p = IdsInRange p × (IdsOfSort p → ⊥)
+FirstFault errors.NotEarlier p = IdsInRange p × IdsOfSort p × (IdsEarlier p.types → ⊥)
+FirstFault errors.NoInterfaceId p = IdsInRange p × IdsOfSort p × IdsEarlier p.types × (HaveIds p.types p.definitions → ⊥)
+FirstFault errors.InstanceExports p = IdsInRange p × IdsOfSort p × IdsEarlier p.types × HaveIds p.types p.definitions × OtherExports p.types p.world p.instance
 FirstFault (errors.Memory refused) p = ⊥

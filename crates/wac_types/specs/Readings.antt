@@ -1,5 +1,5 @@
 -- An entry read as one of its sort.
-use Rattle.std.specs.Prelude.{Option, Some, None}
+use Rattle.std.specs.Prelude.{Option, Some, None, Bool, true, false}
 use Rattle.wac_types.specs.declared.entry.Entry.{Entry}
 use Rattle.wac_types.specs.declared.entry.Entry.TheVariants as entries
 use Rattle.wac_types.specs.declared.entry.DefinedType.{DefinedType}
@@ -42,3 +42,10 @@ as_world (entries.Resource r) = None
 as_world (entries.Func f) = None
 as_world (entries.Interface i) = None
 as_world (entries.World w) = Some w
+
+abbrev pub is_resource : Entry → Bool
+is_resource (entries.Defined d) = false
+is_resource (entries.Resource r) = true
+is_resource (entries.Func f) = false
+is_resource (entries.Interface i) = false
+is_resource (entries.World w) = false

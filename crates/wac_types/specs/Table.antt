@@ -25,3 +25,7 @@ IsTable es = IsEarlier es × AreOfSort es es
 -- each of these named kinds does
 abbrev pub ItemsNamed : List Entry → List (List ℕ × ItemKind) → Type 0
 ItemsNamed es ds = AllByRecursion (λ d. Names es d.1) ds
+
+-- what stands in each entry names entries of the table
+abbrev pub EachEntryNamed : List Entry → Type 0
+EachEntryNamed es = (i : ℕ) (e : Entry) → slice_get es i ≡ Some e → EachKind (Names es) (children e)

@@ -12,9 +12,12 @@
 #![tactic(auto)]
 
 mod alike;
+mod borrows;
 mod child;
 mod entry;
+mod equal;
 mod kind;
+pub mod names;
 mod package;
 mod rules;
 mod types;

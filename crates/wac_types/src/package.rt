@@ -7,7 +7,8 @@ ghost use Rattle.wac_types.specs.Readings.{as_interface, as_world};
 ghost use Rattle.wac_types.specs.Kind.{named_by};
 ghost use Rattle.wac_types.specs.Names.{by_name};
 ghost use Rattle.wac_types.specs.Table.{IsTable, ItemsNamed, Names};
-ghost use Rattle.wac_types.specs.Package.{PackageParts, Passes, EntriesPass, DefinitionsPass, AllPass, HaveIds, SameExports, OtherExports, IsPackage, FirstFault};
+ghost use Rattle.wac_types.specs.Package.{IdsInRange, IdsOfSort, IdsEarlier, HaveIds, SameExports, OtherExports, IsPackage, FirstFault};
+ghost use Rattle.wac_types.specs.Tests.{Passes, EntriesPass, DefinitionsPass, AllPass};
 
 use crate::alike::same_child;
 use crate::child::export;
@@ -196,6 +197,38 @@ fn all_pass(
         && entries_pass(test, entries)
 }
 
+/// Whether each id is an entry's number.
+fn ids_in_range(
+    entries: &[Entry],
+    world: WorldId,
+    instance: InterfaceId,
+    definitions: &IndexMap<String, ItemKind>,
+) -> bool
+    ensures { IsTrue result ↔ IdsInRange (record { types = entries.now; world = world; instance = instance; definitions = by_name definitions.now.entries }) }
+{
+    all_pass(Test::InRange, entries, world, instance, definitions)
+}
+
+/// Whether each id names an entry of its sort.
+fn ids_of_sort(
+    entries: &[Entry],
+    world: WorldId,
+    instance: InterfaceId,
+    definitions: &IndexMap<String, ItemKind>,
+) -> bool
+    ensures { IsTrue result ↔ IdsOfSort (record { types = entries.now; world = world; instance = instance; definitions = by_name definitions.now.entries }) }
+{
+    all_pass(Test::OfSort, entries, world, instance, definitions)
+}
+
+/// Whether each id in an entry is below the entry's number.
+fn ids_earlier(entries: &[Entry]) -> bool
+    ensures { IsTrue result ↔ IdsEarlier entries.now }
+{
+    entries_pass(Test::Earlier, entries)
+}
+
+/// Whether each interface that stands as a type has an id.
 fn have_ids(entries: &[Entry], definitions: &IndexMap<String, ItemKind>) -> bool
     ensures { IsTrue result ↔ HaveIds entries.now (by_name definitions.now.entries) }
 {
@@ -304,13 +337,13 @@ impl Package {
         ensures err { IfErr result (λ e. FirstFault e (record { types = types; world = world; instance = instance; definitions = by_name definitions.entries })) }
     {
         let entries = types.entries();
-        if !all_pass(Test::InRange, entries, world, instance, &definitions) {
+        if !ids_in_range(entries, world, instance, &definitions) {
             return Err(PackageError::OutOfRange);
         }
-        if !all_pass(Test::OfSort, entries, world, instance, &definitions) {
+        if !ids_of_sort(entries, world, instance, &definitions) {
             return Err(PackageError::OtherSort);
         }
-        if !entries_pass(Test::Earlier, entries) {
+        if !ids_earlier(entries) {
             return Err(PackageError::NotEarlier);
         }
         if !have_ids(entries, &definitions) {

@@ -1,8 +1,8 @@
 //! Rules that are handed in.
 ghost use Rattle.std.specs.Prelude.{◌≡◌, ℕ, List, Option, None, Some, length};
 ghost use Rattle.wac_types.specs.declared.rules.Reason.{Reason};
-ghost use Rattle.wac_types.specs.Meaning.{Meaning, IsInjective, IsOneToOne, meaning};
-ghost use Rattle.wac_types.specs.Rules.{Answers, renamed};
+ghost use Rattle.wac_types.specs.Meaning.{Meaning, IsOneToOne, meaning};
+ghost use Rattle.wac_types.specs.Rules.{Answers, renamed, KeepsApart};
 ghost use Rattle.wac_types.specs.Table.{IsTable, Names};
 
 use crate::kind::ItemKind;
@@ -35,6 +35,6 @@ pub trait Rules {
     fn extern_name(&self, name: &str) -> Result<(), Reason>
         ensures { Answers result (named self.now name.now) };
 
-    /// The answer stays the same when the origins in both meanings are renamed one to one.
-    ghost alike_renamed: { (x : Self) (f : ℕ → ℕ) → IsInjective f → (a b : Meaning) → passes x (renamed f a) (renamed f b) ≡ passes x a b };
+    /// The answer stays the same when the origins that occur in the meanings are renamed one to one.
+    ghost alike_renamed: { (x : Self) (f : ℕ → ℕ) (a b : Meaning) → KeepsApart f a b → passes x (renamed f a) (renamed f b) ≡ passes x a b };
 }

@@ -2,12 +2,15 @@
 ghost use Rattle.std.specs.Prelude.{◌≡◌, ℕ, ◌+◌, ◌<◌, ◌^◌, ◌++◌, [], ◌∷◌, IsTrue, ◌↔◌, IfOk, OnOk, OnErr, length, slice_get, option_copied, option_and_then};
 ghost use Rattle.wac_types.specs.Growth.{KeepsMeanings};
 ghost use Rattle.wac_types.specs.Meaning.{IsOneToOne, meaning};
+ghost use Rattle.wac_types.specs.Shape.{contains_borrow as has_borrow};
 ghost use Rattle.wac_types.specs.Table.{IsTable, Names};
 ghost use Rattle.wac_types.specs.Readings.{as_defined, as_resource, as_func, as_interface, as_world};
 
-use crate::alike;
 use crate::entry::{DefinedType, Entry, FuncType, Interface, Resource, World};
-use crate::kind::{DefinedTypeId, FuncTypeId, InterfaceId, ItemKind, ResourceId, WorldId};
+use crate::kind::{
+    DefinedTypeId, FuncTypeId, InterfaceId, ItemKind, ResourceId, ValueType, WorldId,
+};
+use crate::{alike, borrows};
 use std::alloc::{AllocError, Global};
 use std::marker::Model;
 
@@ -179,5 +182,15 @@ impl Types {
         ensures { (origins : ℕ → ℕ) → IsOneToOne self.now origins → (IsTrue result ↔ (meaning origins self.now a ≡ meaning origins self.now b)) }
     {
         alike::same(&self.entries, a, b)
+    }
+
+    /// Whether a value of the type contains a borrow anywhere. What a resource is an alias of doesn't count. It takes no
+    /// memory, and recurses as deep as the types nest.
+    pub fn contains_borrow(&self, value: ValueType) -> bool
+        requires table { IsTable self.now }
+        requires named { Names self.now (ItemKind.Value value) }
+        ensures { (origins : ℕ → ℕ) → result ≡ has_borrow (meaning origins self.now (ItemKind.Value value)) }
+    {
+        borrows::contains_borrow(&self.entries, ItemKind::Value(value))
     }
 }

@@ -1,2 +1,2 @@
 pub mod Paths
-pub mod PartReads
+pub mod Built

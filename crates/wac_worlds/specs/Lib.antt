@@ -1,2 +1,2 @@
 pub mod Worlds
-pub mod Pieces
+pub mod Tails

@@ -6,13 +6,12 @@ ghost use Rattle.wac_syntax.specs.Lookahead.{Peeks};
 ghost use Rattle.wac_worlds.specs.Worlds.{import_type_of, import_statement_of};
 
 use crate::interface::InlineInterface;
-use crate::pieces::{parse_after, parse_before};
 use std::alloc::Global;
 use wac_declarations::FuncType;
 use wac_lexer::{Lexer, Token};
 use wac_syntax::{
     DocComment, Error, ExternName, Ident, Lookahead, PackagePath, Parse, ParseResult, Peek,
-    parse_docs, take_token,
+    parse_after, parse_before, parse_docs, take_token,
 };
 
 /// An import.

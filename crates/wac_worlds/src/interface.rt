@@ -4,16 +4,16 @@ ghost use Rattle.std.specs.Prelude.{◌≡◌, ◌≤◌, map};
 ghost use Rattle.wac_grammar.specs.Grammar as symbols;
 ghost use Rattle.wac_grammar.specs.Reading.{begins};
 ghost use Rattle.wac_syntax.specs.Lookahead.{Peeks};
-ghost use Rattle.wac_worlds.specs.Pieces.{GivesPart, use_tail, tail_items};
+ghost use Rattle.wac_syntax.specs.Pieces.{GivesPart};
+ghost use Rattle.wac_worlds.specs.Tails.{use_tail, tail_items};
 ghost use Rattle.wac_worlds.specs.Worlds.{use_item_of, use_path_of, use_of, interface_export_of, interface_item_of, interface_decl_of, inline_interface_of};
 
-use crate::pieces::parse_before;
 use std::alloc::Global;
 use wac_declarations::{FuncTypeRef, ItemTypeDecl};
 use wac_lexer::{Lexer, Token};
 use wac_syntax::{
-    DocComment, Error, Ident, Lookahead, PackagePath, Parse, ParseResult, Peek, boxed, parse_body,
-    parse_docs, parse_list, take_optional, take_token,
+    DocComment, Error, Ident, Lookahead, PackagePath, Parse, ParseResult, Peek, boxed,
+    parse_before, parse_body, parse_docs, parse_list, take_optional, take_token,
 };
 
 /// A use of types of an interface.

@@ -3,7 +3,6 @@
 
 mod import;
 mod interface;
-mod pieces;
 mod world;
 
 pub use import::{ImportStatement, ImportType};

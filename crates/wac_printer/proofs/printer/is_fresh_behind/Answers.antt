@@ -1,6 +1,6 @@
-use Rattle.std.proofs.Common.{sym, ap, ◌++◌, ◌≡◌, ◌∙◌, subst, length, ◌-◌, Some}
+use Rattle.std.proofs.Common.{sym, ap, ◌≡◌, ◌∙◌, length, ◌-◌, Some}
 use Rattle.std.specs.List.{slice_get}
-use Rattle.wac_printer.proofs.Printing.{fresh_after-get, fresh_after-none}
+use Rattle.wac_printer.proofs.Printing.{fresh_after-get}
 use Rattle.wac_printer.proofs.printer.is_fresh_behind.Goals as goal
 
 pub returns-in-Some : goal.returns-in-Some

@@ -1,5 +1,5 @@
 use Rattle.wac_types.specs.Names.{by_name}
-use Rattle.wac_types.specs.Package.{Passes}
+use Rattle.wac_types.specs.Tests.{Passes}
 use Rattle.wac_types.proofs.Each.{RestPasses}
 use Rattle.wac_types.proofs.package.definitions_pass.Given as goal
 

@@ -1,7 +1,7 @@
 use Rattle.std.proofs.Common.{refl, arith}
 use Rattle.wac_types.specs.Entry.{children}
 use Rattle.wac_types.specs.Meaning.{EachKind}
-use Rattle.wac_types.specs.Package.{Passes}
+use Rattle.wac_types.specs.Tests.{Passes}
 use Rattle.wac_types.proofs.Rows.{stands}
 use Rattle.wac_types.proofs.Each.{rest_passes_step}
 use Rattle.wac_types.proofs.package.entries_pass.Goals as goal

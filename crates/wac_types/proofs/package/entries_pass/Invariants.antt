@@ -1,6 +1,6 @@
 use Rattle.wac_types.specs.Entry.{children}
 use Rattle.wac_types.specs.Meaning.{EachKind}
-use Rattle.wac_types.specs.Package.{Passes}
+use Rattle.wac_types.specs.Tests.{Passes}
 use Rattle.wac_types.proofs.Each.{RestPasses}
 use Rattle.wac_types.proofs.package.entries_pass.Given as goal
 

@@ -1,7 +1,7 @@
 use Rattle.std.proofs.Common.{refl, sym, arith}
 use Rattle.std.specs.Prelude.{IfSome}
 use Rattle.wac_types.specs.Entry.{children, child_view}
-use Rattle.wac_types.specs.Package.{Passes}
+use Rattle.wac_types.specs.Tests.{Passes}
 use Rattle.wac_types.proofs.Rows.{shown}
 use Rattle.wac_types.proofs.Each.{rest_passes_step, rest_passes_end, each_all}
 use Rattle.wac_types.proofs.package.entry_passes.Goals as goal

@@ -1,6 +1,6 @@
 use Rattle.std.specs.Prelude.{IfSome}
 use Rattle.wac_types.specs.Entry.{children}
-use Rattle.wac_types.specs.Package.{Passes}
+use Rattle.wac_types.specs.Tests.{Passes}
 use Rattle.wac_types.proofs.Each.{RestPasses}
 use Rattle.wac_types.proofs.package.entry_passes.Given as goal
 

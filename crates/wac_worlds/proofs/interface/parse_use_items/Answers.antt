@@ -2,9 +2,9 @@ use Rattle.std.proofs.Common.{◌≡◌, map, ◌∙◌, refl}
 use Rattle.wac_lexer.specs.Reading.{left}
 use Rattle.wac_syntax.specs.Answer.{first_item}
 use Rattle.wac_syntax.proofs.Exits.{same_error, here, last, took, behind}
-use Rattle.wac_worlds.specs.Pieces.{use_tail, tail_items}
+use Rattle.wac_worlds.specs.Tails.{use_tail, tail_items}
 use Rattle.wac_worlds.specs.Worlds.{use_item_of}
-use Rattle.wac_worlds.proofs.PartReads.{part_stops}
+use Rattle.wac_syntax.proofs.PartReads.{part_stops}
 use Rattle.wac_worlds.proofs.interface.parse_use_items.Goals as goal
 
 pub returns-in_err-take_token-clause-gives : goal.returns-in_err-take_token-clause-gives

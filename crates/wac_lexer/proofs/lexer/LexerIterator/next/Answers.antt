@@ -31,6 +31,7 @@ returns-in-None-clause-steps c =
       rest = none_left source c.self.inside.place c.in-None.ensures.rest;
       source = refl;
       moves = c.self.invariant.boundary.0;
+      place = refl;
       last = c.new-self-inside.ensures;
       slices = tt;
       fits = tt;

@@ -178,39 +178,39 @@ pub argument_lines-returns : goal.argument_lines-returns
 argument_lines-returns g t c = piece c.in_ok-blank.ensures (parts (there (λ source depth. arguments_layout (deeper depth) (bare_arguments source (arguments_from (map argument_of c.args.arguments.now)))) (c.in_ok-blank.ensures.keeps.0) (c.in_ok-blank.ensures.keeps.2) c.in_ok-deeper_arguments.ensures) (printed_at (λ depth. line depth ∷ []) (c.in_ok-deeper_arguments.ensures.keeps.2 ∙ c.in_ok-blank.ensures.keeps.2) c.line.ensures))
 
 pub expr-returns-in_err-primary_expr : goal.expr-returns-in_err-primary_expr
-unfolding expr_layout bare_expr
+unfolding expr_layout
 expr-returns-in_err-primary_expr g t c = fails _ c.from_residual.ensures.1 c.in_err-primary_expr.ensures
 
 pub expr-returns : goal.expr-returns
-unfolding expr_layout bare_expr
+unfolding expr_layout
 expr-returns g t c = parts c.in_ok-primary_expr.ensures (printed_at (λ xs. flat_map postfix_expr_layout (map (bare_postfix_expr c.args.self.now.source) (map postfix_expr_of xs))) c.deref.ensures.value (printed_at (λ source. flat_map postfix_expr_layout (map (bare_postfix_expr source) (map postfix_expr_of c.deref.result.now))) (c.in_ok-primary_expr.ensures.keeps.0) c.postfixes.ensures))
 
 pub new_expr-returns-in_err-new_head : goal.new_expr-returns-in_err-new_head
-unfolding primary_expr_layout bare_primary_expr
+unfolding primary_expr_layout
 new_expr-returns-in_err-new_head g t c = fails _ c.from_residual.ensures.1 c.in_err-new_head.ensures
 
 pub new_expr-returns-in_err-braced : goal.new_expr-returns-in_err-braced
-unfolding primary_expr_layout bare_primary_expr
+unfolding primary_expr_layout
 new_expr-returns-in_err-braced g t c = parts c.in_ok-new_head.ensures (fails _ c.from_residual-in_err-braced.ensures.1 (printed_at (λ xs. braces_layout c.args.self.now.depth (bare_arguments c.args.self.now.source (arguments_from (map argument_of xs)))) c.deref.ensures.value (there (λ source depth. braces_layout depth (bare_arguments source (arguments_from (map argument_of c.deref.result.now)))) (c.in_ok-new_head.ensures.keeps.0) (c.in_ok-new_head.ensures.keeps.2) c.in_err-braced.ensures)))
 
 pub new_expr-returns : goal.new_expr-returns
-unfolding primary_expr_layout bare_primary_expr
+unfolding primary_expr_layout
 new_expr-returns g t c = parts c.in_ok-new_head.ensures (parts (printed_at (λ xs. braces_layout c.args.self.now.depth (bare_arguments c.args.self.now.source (arguments_from (map argument_of xs)))) c.deref.ensures.value (there (λ source depth. braces_layout depth (bare_arguments source (arguments_from (map argument_of c.deref.result.now)))) (c.in_ok-new_head.ensures.keeps.0) (c.in_ok-new_head.ensures.keeps.2) c.in_ok-braced.ensures)) (c.token.ensures))
 
 pub argument-returns-in-Inferred : goal.argument-returns-in-Inferred
-unfolding argument_layout bare_argument
+unfolding argument_layout
 argument-returns-in-Inferred g t c = printed_at (λ z. argument_layout c.args.self.now.depth (bare_argument c.args.self.now.source (argument_of z))) (sym c.in-Inferred.is) c.ident.ensures
 
 pub argument-returns-in-Fill : goal.argument-returns-in-Fill
-unfolding argument_layout bare_argument
+unfolding argument_layout
 argument-returns-in-Fill g t c = printed_at (λ z. argument_layout c.args.self.now.depth (bare_argument c.args.self.now.source (argument_of z))) (sym c.in-Fill.is) c.token-in-Fill.ensures
 
 pub argument-returns-in_err-token-in-Spread : goal.argument-returns-in_err-token-in-Spread
-unfolding argument_layout bare_argument
+unfolding argument_layout
 argument-returns-in_err-token-in-Spread g t c = printed_at (λ z. argument_layout c.args.self.now.depth (bare_argument c.args.self.now.source (argument_of z))) (sym c.in-Spread.is) (fail c.from_residual.ensures.1 c.in_err-token-in-Spread.ensures)
 
 pub argument-returns-in_ok-token-in-Spread : goal.argument-returns-in_ok-token-in-Spread
-unfolding argument_layout bare_argument
+unfolding argument_layout
 argument-returns-in_ok-token-in-Spread g t c = printed_at (λ z. argument_layout c.args.self.now.depth (bare_argument c.args.self.now.source (argument_of z))) (sym c.in-Spread.is)
     (piece c.in_ok-token-in-Spread.ensures (printed_at (λ source. token (slice source c.in-Spread.id.span) ∷ []) c.in_ok-token-in-Spread.ensures.keeps.0 c.ident-in-Spread.ensures))
 
@@ -226,5 +226,5 @@ argument-returns-in_err-blank-in-Named g t c = printed_as (sym (named_is c.args.
     (parts c.in_ok-argument_name-in-Named.ensures (piece c.in_ok-token-in-Named.ensures (fail c.from_residual-in_err-blank-in-Named.ensures.1 c.in_err-blank-in-Named.ensures)))
 
 pub primary_expr-returns-in-Ident : goal.primary_expr-returns-in-Ident
-unfolding primary_expr_layout bare_primary_expr
+unfolding primary_expr_layout
 primary_expr-returns-in-Ident g t c = printed_at (λ z. primary_expr_layout c.args.self.now.depth (bare_primary_expr c.args.self.now.source (primary_expr_of z))) (sym c.in-Ident.is) c.ident.ensures

@@ -7,19 +7,17 @@ use Rattle.wac_layout.specs.DeclarationLayout.{alias_kind_layout}
 use Rattle.wac_printer.proofs.printer.DocumentPrinter.alias_kind.Goals as goal
 
 pub func_type-requires : goal.func_type-requires
-unfolding TypeAliasKindSliced
 func_type-requires g c = subst (λ x. TypeAliasKindSliced c.args.self.now.source (type_alias_kind_of x)) c.in-Func.is c.requires
 
 pub returns-in-Func : goal.returns-in-Func
-unfolding alias_kind_layout bare_alias_kind
+unfolding alias_kind_layout
 returns-in-Func g c =
     subst (λ x. Prints c.args.self.now c.func_type.result c.func_type.new.self (alias_kind_layout (bare_alias_kind c.args.self.now.source (type_alias_kind_of x)))) (sym c.in-Func.is) c.func_type.ensures
 
 pub ty-requires : goal.ty-requires
-unfolding TypeAliasKindSliced
 ty-requires g c = subst (λ x. TypeAliasKindSliced c.args.self.now.source (type_alias_kind_of x)) c.in-Ty.is c.requires
 
 pub returns-in-Ty : goal.returns-in-Ty
-unfolding alias_kind_layout bare_alias_kind
+unfolding alias_kind_layout
 returns-in-Ty g c =
     subst (λ x. Prints c.args.self.now c.ty.result c.ty.new.self (alias_kind_layout (bare_alias_kind c.args.self.now.source (type_alias_kind_of x)))) (sym c.in-Ty.is) c.ty.ensures

@@ -1,7 +1,6 @@
-use Rattle.std.proofs.Common.{false, refl, rules, sym, ap, ◌++◌, ◌≡◌, ◌∙◌, subst, true}
+use Rattle.std.proofs.Common.{false, refl, ap, ◌++◌, ◌≡◌, ◌∙◌, subst, true}
 use Rattle.wac_printer.proofs.Printing.{refused, stuck, wrote, record_wrote}
-use Rattle.wac_layout.specs.Printed.{fresh_after}
-use Rattle.wac_printer.specs.Printed.{Printer, is_front}
+use Rattle.wac_printer.specs.Printed.{is_front}
 use Rattle.wac_printer.proofs.printer.DocumentPrinter.blank.Goals as goal
 
 pub returns-then-self : goal.returns-then-self

@@ -1,9 +1,9 @@
-use Rattle.std.proofs.Common.{◌≡◌, ℕ, ◌<◌, ◌≤◌, ◌+◌, ap, sym, subst, rules, Err, length, get_or, arith}
+use Rattle.std.proofs.Common.{◌≡◌, sym, subst, rules, Err, arith}
 use Rattle.std.specs.Str.Lines.{lines}
 use Rattle.wac_layout.specs.Bare.{doc_line}
 use Rattle.wac_layout.specs.Parts.{doc_layout, docs_layout}
-use Rattle.wac_printer.specs.Printed.{Printer, Prints}
-use Rattle.wac_printer.proofs.Progress.{IsSoFar, each, starts, goes_at, stops_at, ends}
+use Rattle.wac_printer.specs.Printed.{Prints}
+use Rattle.wac_printer.proofs.Progress.{IsSoFar, starts, goes_at, stops_at, ends}
 use Rattle.wac_printer.proofs.Printing.{flat_map-of}
 use Rattle.std.proofs.lemmas.Iterator.Splits.{YieldsList-from_lines}
 use Rattle.std.proofs.lemmas.Iterator.Consumers.{YieldsList-turn, YieldsList-end}

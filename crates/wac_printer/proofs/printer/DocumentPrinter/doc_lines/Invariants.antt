@@ -1,4 +1,4 @@
-use Rattle.std.specs.Prelude.{length, map}
+use Rattle.std.specs.Prelude.{length}
 use Rattle.std.specs.Str.Lines.{lines}
 use Rattle.wac_layout.specs.Bare.{doc_line}
 use Rattle.wac_layout.specs.Parts.{doc_layout}

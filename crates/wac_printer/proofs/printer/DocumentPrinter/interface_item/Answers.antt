@@ -7,31 +7,28 @@ use Rattle.wac_layout.specs.InterfaceLayout.{interface_item_layout, use_layout}
 use Rattle.wac_printer.proofs.printer.DocumentPrinter.interface_item.Goals as goal
 
 pub use_type-requires : goal.use_type-requires
-unfolding InterfaceItemSliced
 use_type-requires g c =
     subst (λ x. UseSliced c.args.self.now.source (use_of x)) (sym c.deref.ensures)
     (subst (λ x. InterfaceItemSliced c.args.self.now.source (interface_item_of x)) c.in-Use.is c.requires)
 
 pub returns-in-Use : goal.returns-in-Use
-unfolding interface_item_layout bare_interface_item
+unfolding interface_item_layout
 returns-in-Use g c =
     subst (λ x. Prints c.args.self.now c.use_type.result c.use_type.new.self (interface_item_layout c.args.self.now.depth (bare_interface_item doc_lines c.args.self.now.source (interface_item_of x)))) (sym c.in-Use.is)
     (subst (λ x. Prints c.args.self.now c.use_type.result c.use_type.new.self (use_layout c.args.self.now.depth (bare_use doc_lines c.args.self.now.source (use_of x)))) c.deref.ensures c.use_type.ensures)
 
 pub item_type_decl-requires : goal.item_type_decl-requires
-unfolding InterfaceItemSliced
 item_type_decl-requires g c = subst (λ x. InterfaceItemSliced c.args.self.now.source (interface_item_of x)) c.in-Ty.is c.requires
 
 pub returns-in-Ty : goal.returns-in-Ty
-unfolding interface_item_layout bare_interface_item
+unfolding interface_item_layout
 returns-in-Ty g c =
     subst (λ x. Prints c.args.self.now c.item_type_decl.result c.item_type_decl.new.self (interface_item_layout c.args.self.now.depth (bare_interface_item doc_lines c.args.self.now.source (interface_item_of x)))) (sym c.in-Ty.is) c.item_type_decl.ensures
 
 pub interface_export-requires : goal.interface_export-requires
-unfolding InterfaceItemSliced
 interface_export-requires g c = subst (λ x. InterfaceItemSliced c.args.self.now.source (interface_item_of x)) c.in-Export.is c.requires
 
 pub returns-in-Export : goal.returns-in-Export
-unfolding interface_item_layout bare_interface_item
+unfolding interface_item_layout
 returns-in-Export g c =
     subst (λ x. Prints c.args.self.now c.interface_export.result c.interface_export.new.self (interface_item_layout c.args.self.now.depth (bare_interface_item doc_lines c.args.self.now.source (interface_item_of x)))) (sym c.in-Export.is) c.interface_export.ensures

@@ -1,4 +1,4 @@
-use Rattle.std.proofs.Common.{◌≡◌, ◌∙◌, ap, sym, subst, rules, Ok, Err, arith, ◌∷◌, [], length, false, ◌≤◌, ◌+◌}
+use Rattle.std.proofs.Common.{◌≡◌, ◌∙◌, ap, sym, subst, rules, Err, arith, ◌∷◌, []}
 use Rattle.wac_layout.specs.Printed.{blank}
 use Rattle.wac_printer.specs.Printed.{after, Prints, spaces, Printer}
 use Rattle.wac_printer.proofs.Printing.{wrote_all}

@@ -1,4 +1,3 @@
-use Rattle.std.proofs.Common.{map, sym, subst, ◌∙◌}
 use Rattle.wac_expressions.specs.Expressions.{postfix_expr_of}
 use Rattle.wac_printer.specs.Sliced.{PostfixExprSliced}
 use Rattle.wac_printer.proofs.Progress.{All-of-map}

@@ -11,7 +11,7 @@ use Rattle.wac_syntax.specs.Names.{ident_of}
 use Rattle.wac_printer.proofs.printer.DocumentPrinter.record_decl.Goals as goal
 
 pub rows-requires : goal.rows-requires
-rows-requires g c = All-at FieldSliced field_of c.deref-2.result.now _ _ (c.in_ok-head.ensures.keeps.0 ∙ c.in_ok-docs.ensures.keeps.0) (subst (λ xs. All (FieldSliced c.args.self.now.source) (map field_of xs)) (sym c.deref-2.ensures.value) c.requires.1)
+rows-requires g c = All-at FieldSliced field_of c.deref-2.result.now _ _ (c.in_ok-head.ensures.keeps.0 ∙ c.in_ok-docs.ensures.keeps.0) (subst (λ xs. All (FieldSliced c.args.self.now.source) (map field_of xs)) (sym c.deref-2.ensures.value) c.requires.2)
 
 pub returns-in_err-docs : goal.returns-in_err-docs
 returns-in_err-docs g c = fails _ c.from_residual.ensures.1 (of_docs c.deref.ensures.value c.in_err-docs.ensures)

@@ -7,19 +7,17 @@ use Rattle.wac_layout.specs.DeclarationLayout.{resource_method_layout}
 use Rattle.wac_printer.proofs.printer.DocumentPrinter.resource_method.Goals as goal
 
 pub constructor-requires : goal.constructor-requires
-unfolding ResourceMethodSliced
 constructor-requires g c = subst (λ x. ResourceMethodSliced c.args.self.now.source (resource_method_of x)) c.in-Constructor.is c.requires
 
 pub returns-in-Constructor : goal.returns-in-Constructor
-unfolding resource_method_layout bare_resource_method
+unfolding resource_method_layout
 returns-in-Constructor g c =
     subst (λ x. Prints c.args.self.now c.constructor.result c.constructor.new.self (resource_method_layout c.args.self.now.depth (bare_resource_method doc_lines c.args.self.now.source (resource_method_of x)))) (sym c.in-Constructor.is) c.constructor.ensures
 
 pub method-requires : goal.method-requires
-unfolding ResourceMethodSliced
 method-requires g c = subst (λ x. ResourceMethodSliced c.args.self.now.source (resource_method_of x)) c.in-Method.is c.requires
 
 pub returns-in-Method : goal.returns-in-Method
-unfolding resource_method_layout bare_resource_method
+unfolding resource_method_layout
 returns-in-Method g c =
     subst (λ x. Prints c.args.self.now c.method.result c.method.new.self (resource_method_layout c.args.self.now.depth (bare_resource_method doc_lines c.args.self.now.source (resource_method_of x)))) (sym c.in-Method.is) c.method.ensures

@@ -1,9 +1,6 @@
-use Rattle.std.proofs.Common.{◌≡◌, ◌<◌, [], length, sym, subst, refl, arith}
-use Rattle.std.specs.Prelude.{map}
+use Rattle.std.proofs.Common.{◌≡◌, ◌<◌, length, sym, subst, arith}
 use Rattle.std.proofs.lemmas.Bool.Decides.{nat_tests}
-use Rattle.wac_worlds.specs.Worlds.{world_include_item_of}
 use Rattle.wac_printer.specs.Printed.{Prints}
-use Rattle.wac_layout.specs.Bare.{bare_world_include_item}
 use Rattle.wac_printer.proofs.PartsOf.{with-none, with-some}
 use Rattle.wac_printer.proofs.printer.DocumentPrinter.with_items.Goals as goal
 

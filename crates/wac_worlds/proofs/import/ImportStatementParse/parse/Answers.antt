@@ -6,7 +6,7 @@ use Rattle.wac_grammar.proofs.Docs.{docs_of_token}
 use Rattle.wac_grammar.proofs.Fixed.{read_is}
 use Rattle.wac_grammar.specs.Grammar.{import_statement}
 use Rattle.wac_syntax.proofs.Exits.{err_is, leaves, same_error, with_docs, here, last, past, took, behind}
-use Rattle.wac_worlds.proofs.PartReads.{import_built}
+use Rattle.wac_worlds.proofs.Built.{import_built}
 use Rattle.wac_worlds.proofs.import.ImportStatementParse.parse.Goals as goal
 
 pub returns-in_err-docs-clause-gives : goal.returns-in_err-docs-clause-gives

@@ -1,0 +1,77 @@
+-- Where the resources of a graph come from, and what its kinds mean.
+use Rattle.std.specs.Prelude.{◌≡◌, ◌+◌, ◌-◌, ℕ, suc, List, [], ◌∷◌, Option, Some, None, ◌&&◌, cond, nat_le, nat_lt, take, length, slice_get}
+use Rattle.wac_types.specs.declared.kind.ItemKind.{ItemKind}
+use Rattle.wac_types.specs.declared.entry.Entry.{Entry}
+use Rattle.wac_types.specs.declared.entry.Entry.TheVariants as entries
+use Rattle.wac_types.specs.Entry.{children}
+use Rattle.wac_types.specs.Label.{label}
+use Rattle.wac_types.specs.Meaning.{Meaning, node, of_kind, row, meaning, meaning_at, NamesBefore}
+use Rattle.wac_types.specs.Package.{PackageParts}
+use Rattle.wac_graph.specs.Package.{Key, HeldPackage}
+use Rattle.wac_graph.specs.Moved.{moved}
+use Rattle.wac_graph.specs.Graph.{Parts}
+use Rattle.wac_graph.specs.Origin.{Origin, Naming, declared, copied}
+
+-- where entry i comes from, if it was copied from a package
+unfoldable pub copied_at : List HeldPackage → ℕ → Option Origin
+copied_at [] i = None
+copied_at (p ∷ ps) i = cond (nat_le p.first i && nat_lt i (p.first + p.size)) (Some (copied p.key (i - p.first))) (copied_at ps i)
+
+-- one for a resource, none for another entry
+abbrev pub resources_in : Entry → ℕ
+resources_in (entries.Defined d) = 0
+resources_in (entries.Resource r) = 1
+resources_in (entries.Func f) = 0
+resources_in (entries.Interface i) = 0
+resources_in (entries.World w) = 0
+
+abbrev pub own_resources : Option Origin → Entry → ℕ
+own_resources None e = resources_in e
+own_resources (Some o) e = 0
+
+-- how many of these entries are resources that weren't copied; the first entry has number n
+unfoldable pub own_from : List HeldPackage → ℕ → List Entry → ℕ
+own_from ps n [] = 0
+own_from ps n (e ∷ es) = own_resources (copied_at ps n) e + own_from ps (suc n) es
+
+abbrev pub or_declared : Option Origin → ℕ → Origin
+or_declared None n = declared n
+or_declared (Some o) n = o
+
+-- where entry i comes from
+unfoldable pub origin_in : List HeldPackage → List Entry → ℕ → Origin
+origin_in ps es i = or_declared (copied_at ps i) (own_from ps 0 (take i es))
+
+abbrev pub origin_at : Parts → ℕ → Origin
+origin_at g i = origin_in g.packages g.types i
+
+-- how many resources the composition has declared
+abbrev pub declared_count : Parts → ℕ
+declared_count g = own_from g.packages 0 g.types
+
+-- what entry i means, under a naming of origins
+unfoldable pub entry_means_in : Naming → List HeldPackage → List Entry → ℕ → Meaning
+entry_means_in naming ps es i = meaning_at (λ n. naming (origin_in ps es n)) es i
+
+abbrev pub entry_means : Naming → Parts → ℕ → Meaning
+entry_means naming g i = entry_means_in naming g.packages g.types i
+
+-- what a kind means, under a naming of origins
+abbrev pub means : Naming → Parts → ItemKind → Meaning
+means naming g k = of_kind (entry_means naming g) k
+
+-- each kind of the old graph means in the new one what it meant
+abbrev pub KeepsKinds : Parts → Parts → Type 0
+KeepsKinds old new = (naming : Naming) (k : ItemKind) → NamesBefore (length old.types) k → means naming new k ≡ means naming old k
+
+-- the entry that was added last means its label, over what its kinds meant before
+abbrev pub MeansAdded : Parts → Parts → Entry → Type 0
+MeansAdded old new e = (naming : Naming) → entry_means naming new (length old.types) ≡ node (label (naming (declared (declared_count old))) e) (row (entry_means naming old) (children e))
+
+-- each entry means its label, over the meanings of what it names
+abbrev pub EntriesMean : Parts → Type 0
+EntriesMean g = (naming : Naming) (i : ℕ) (e : Entry) → slice_get g.types i ≡ Some e → entry_means naming g i ≡ node (label (naming (origin_at g i)) e) (row (entry_means naming g) (children e))
+
+-- what a kind of the package means, its copy means
+abbrev pub CopiesMean : Parts → Parts → Key → PackageParts → Type 0
+CopiesMean old new key p = (naming : Naming) (k : ItemKind) → NamesBefore (length p.types) k → means naming new (moved (length old.types) k) ≡ meaning (λ i. naming (copied key i)) p.types k

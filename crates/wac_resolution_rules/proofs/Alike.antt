@@ -1,0 +1,35 @@
+-- Layout carries no meaning.
+use Rattle.std.proofs.Common.{◌≡◌, ℕ, List, sym, ap, ◌∙◌, subst}
+use Rattle.std.specs.Prelude.{◌↔◌}
+use Rattle.std.specs.Str.{IsUtf8}
+use Rattle.wac_types.specs.Package.{PackageParts}
+use Rattle.wac_graph.specs.Package.{Key}
+use Rattle.wac_graph.specs.Origin.{Naming}
+use Rattle.wac_grammar.specs.Tree.{Document}
+use Rattle.wac_grammar.specs.TextTree.{IsTreeOf}
+use Rattle.wac_grammar.specs.Spelled.{DocumentSpelled}
+use Rattle.wac_layout.specs.Bare.{Keep, bare_document}
+use Rattle.wac_layout.specs.PlainTree.{plain_document}
+use Rattle.wac_layout.specs.Reread.{IsReread}
+use Rattle.wac_layout.proofs.PlainTrees.{plain_of_bare, plain_of_reread}
+use Rattle.wac_resolution_rules.specs.Given.{Rules}
+use Rattle.wac_resolution_rules.specs.Composition.{Composition}
+use Rattle.wac_resolution_rules.specs.ResolvedDocument.{Describes, DescribeAlike, given_to}
+use Rattle.wac_resolution_rules.proofs.StatementsPlain.{describes_plain}
+
+both_ways : {A B : Type 0} → A ≡ B → A ↔ B
+both_ways e = (subst (λ (T : Type 0). T) e, subst (λ (T : Type 0). T) (sym e))
+
+same : (naming : Naming) (packages : List (Key × PackageParts)) (rules : Rules) (a b : Document) (c : Composition) → plain_document a ≡ plain_document b
+    → Describes (given_to naming packages rules a) a c ≡ Describes (given_to naming packages rules b) b c
+same naming packages rules a b c e =
+    sym (describes_plain (given_to naming packages rules a) a c) ∙ ap (λ (d : Document). Describes (given_to naming packages rules d) d c) e ∙ describes_plain (given_to naming packages rules b) b c
+
+pub plain_alike : (a b : Document) → plain_document a ≡ plain_document b → DescribeAlike a b
+plain_alike a b e naming packages rules c = both_ways (same naming packages rules a b c e)
+
+pub bare_alike : (keep other : Keep) (source text : List ℕ) (a b : Document) → DocumentSpelled source a → DocumentSpelled text b → bare_document keep source a ≡ bare_document other text b → DescribeAlike a b
+bare_alike keep other source text a b h k e = plain_alike a b (plain_of_bare keep other source text a b h k e)
+
+pub printed_alike : (source text : List ℕ) (a b : Document) → IsUtf8 source → IsTreeOf source a → IsUtf8 text → IsTreeOf text b → IsReread text b source a → DescribeAlike b a
+printed_alike source text a b utf8 is text_utf8 text_is e = plain_alike b a (plain_of_reread source text a b utf8 is text_utf8 text_is e)

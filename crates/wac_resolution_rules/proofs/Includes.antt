@@ -1,0 +1,91 @@
+-- What including a world does, in words: nothing that was there is lost, and each name of the included world is there afterwards, a name with
+use Rattle.std.proofs.Common.{◌≡◌, ℕ, List, [], ◌∷◌, ◌++◌, Some, None, Option, Bool, true, false, cond, refl, sym, ap, subst}
+use Rattle.std.specs.Str.{bytes_eq}
+use Rattle.wac_lexer.proofs.Texts.{bytes_eq_same}
+use Rattle.wac_types.specs.Meaning.{Meaning}
+use Rattle.wac_types.specs.Scope.{Named, Scope, look_up, StandsFor, IsFresh, with_named}
+use Rattle.wac_types.specs.Steps.{Steps}
+use Rattle.wac_types.specs.Shape.{entry_of, imports_of, exports_of}
+use Rattle.wac_grammar.specs.Tree.{WorldInclude}
+use Rattle.wac_resolution_rules.specs.Paths.{Setting}
+use Rattle.wac_resolution_rules.specs.Bodies.{Body}
+use Rattle.wac_resolution_rules.specs.Includes.{has_colon, Taking, with_missing, name_taken, TakesNamed, Takes, HasInclude}
+use Rattle.wac_resolution_rules.proofs.StepLaws.{steps_keep, steps_front}
+
+-- a colon as it is, another under the name of the first entry that is left for it.
+
+-- what is found is found with one more
+pub found_stays : {X : Type 0} (name : List ℕ) (all : Named X) (x : List ℕ) (v w : X) → StandsFor all name w → StandsFor (with_named all x v) name w
+found_stays name [] x v w h = absurd (cc)
+found_stays name (y ∷ all) x v w h = go (found_stays name all x v w) (bytes_eq name y.0) h
+  where
+    go : (StandsFor all name w → StandsFor (with_named all x v) name w) → (b : Bool) → cond b (Some y.1) (look_up name all) ≡ Some w → cond b (Some y.1) (look_up name (with_named all x v)) ≡ Some w
+    go later true f = f
+    go later false f = later f
+
+-- a fresh name stands for what is added under it
+pub added_stands : {X : Type 0} (name : List ℕ) (all : Named X) (v : X) → IsFresh name all → StandsFor (with_named all name v) name v
+added_stands name [] v h = ap (λ (b : Bool). cond b (Some v) None) (bytes_eq_same name)
+added_stands name (y ∷ all) v h = go (added_stands name all v) (bytes_eq name y.0) h
+  where
+    go : (IsFresh name all → StandsFor (with_named all name v) name v) → (b : Bool) → cond b (Some y.1) (look_up name all) ≡ None → cond b (Some y.1) (look_up name (with_named all name v)) ≡ Some v
+    go later true f = absurd (cc)
+    go later false f = later f
+
+missing_stays : (there : Named Meaning) (name x : List ℕ) (m w : Meaning) → StandsFor there name w → StandsFor (with_missing there x m) name w
+missing_stays there name x m w h = go (look_up x there)
+  where
+    go : (o : Option Meaning) → StandsFor (elim o [ None ↦ with_named there x m | Some old ↦ there ]) name w
+    go None = found_stays name there x m w h
+    go (Some old) = h
+
+missing_stands : (there : Named Meaning) (name : List ℕ) (m : Meaning) → (w : Meaning) × StandsFor (with_missing there name m) name w
+missing_stands there name m = go (look_up name there) refl
+  where
+    go : (o : Option Meaning) → look_up name there ≡ o → (w : Meaning) × StandsFor (elim o [ None ↦ with_named there name m | Some old ↦ there ]) name w
+    go None e = (m, added_stands name there m e)
+    go (Some old) e = (old, e)
+
+-- what stands there goes on to stand there
+pub takes_keeps : (name : List ℕ) (w : Meaning) (old : Taking) (x : List ℕ × Meaning) (new : Taking) → StandsFor old.there name w → Takes old x new → StandsFor new.there name w
+takes_keeps name w old x new h p = go (has_colon x.0) p
+  where
+    go : (colon : Bool) → TakesNamed colon old x new → StandsFor new.there name w
+    go true q = subst (λ (t : Taking). StandsFor t.there name w) (sym q) (missing_stays old.there name x.0 x.1 w h)
+    go false q = subst (λ (t : Taking). StandsFor t.there name w) (sym q.1) (found_stays name old.there (name_taken old.entries x.0) x.1 w h)
+
+-- a name with a colon is there afterwards
+pub colon_stands : (old : Taking) (x : List ℕ × Meaning) (new : Taking) → has_colon x.0 ≡ true → Takes old x new → (w : Meaning) × StandsFor new.there x.0 w
+colon_stands old x new colon p = go (has_colon x.0) colon p
+  where
+    go : (c : Bool) → c ≡ true → TakesNamed c old x new → (w : Meaning) × StandsFor new.there x.0 w
+    go true e q = subst (λ (t : Taking). (w : Meaning) × StandsFor t.there x.0 w) (sym q) (missing_stands old.there x.0 x.1)
+    go false e q = absurd (cc)
+
+-- another name is there afterwards under the name that it got, with its own meaning
+pub renamed_stands : (old : Taking) (x : List ℕ × Meaning) (new : Taking) → has_colon x.0 ≡ false → Takes old x new → StandsFor new.there (name_taken old.entries x.0) x.1
+renamed_stands old x new colon p = go (has_colon x.0) colon p
+  where
+    go : (c : Bool) → c ≡ false → TakesNamed c old x new → StandsFor new.there (name_taken old.entries x.0) x.1
+    go true e q = absurd (cc)
+    go false e q = subst (λ (t : Taking). StandsFor t.there (name_taken old.entries x.0) x.1) (sym q.1) (added_stands (name_taken old.entries x.0) old.there x.1 q.0)
+
+-- an include loses no import and no export
+pub include_keeps_imports : (setting : Setting) (root : Scope) (old : Body) (x : WorldInclude) (new : Body) (name : List ℕ) (w : Meaning) → HasInclude setting root old x new → StandsFor old.imports name w → StandsFor new.imports name w
+include_keeps_imports setting root old x new name w p h =
+    subst (λ (b : Body). StandsFor b.imports name w) (sym p.5.is)
+    (steps_keep Takes (λ t. StandsFor t.there name w) (λ o y n has q. takes_keeps name w o y n has q) (record { entries = p.0; there = old.imports }) (imports_of (entry_of p.1)) p.5.imports h p.5.takes_imports)
+
+pub include_keeps_exports : (setting : Setting) (root : Scope) (old : Body) (x : WorldInclude) (new : Body) (name : List ℕ) (w : Meaning) → HasInclude setting root old x new → StandsFor old.exports name w → StandsFor new.exports name w
+include_keeps_exports setting root old x new name w p h =
+    subst (λ (b : Body). StandsFor b.exports name w) (sym p.5.is)
+    (steps_keep Takes (λ t. StandsFor t.there name w) (λ o y n has q. takes_keeps name w o y n has q) (record { entries = p.5.imports.entries; there = old.exports }) (exports_of (entry_of p.1)) p.5.exports h p.5.takes_exports)
+
+-- each import of the included world whose name has a colon is an import afterwards
+pub include_takes_colons : (setting : Setting) (root : Scope) (old : Body) (x : WorldInclude) (new : Body) → (p : HasInclude setting root old x new)
+    → (before : Named Meaning) (n : List ℕ × Meaning) (after : Named Meaning) → imports_of (entry_of p.1) ≡ before ++ n ∷ after → has_colon n.0 ≡ true → (w : Meaning) × StandsFor new.imports n.0 w
+include_takes_colons setting root old x new p before n after split colon =
+    let start : Taking = record { entries = p.0; there = old.imports } in
+    let r = steps_front Takes start before (n ∷ after) p.5.imports (subst (λ (l : Named Meaning). Steps Takes start l p.5.imports) split p.5.takes_imports) in
+    let s = colon_stands r.0 n r.2.0 colon r.2.1 in
+    (s.0, subst (λ (b : Body). StandsFor b.imports n.0 s.0) (sym p.5.is) (steps_keep Takes (λ t. StandsFor t.there n.0 s.0) (λ o y m has q. takes_keeps n.0 s.0 o y m has q) r.2.0 after p.5.imports s.1 r.2.2))

@@ -1,0 +1,35 @@
+-- What resolving is given beside a document: the setting, and rules.
+use Rattle.std.specs.Prelude.{ℕ, List, Option, None, if◌then◌else◌}
+use Rattle.std.specs.Str.{bytes_eq}
+use Rattle.wac_types.specs.declared.rules.Reason.{Reason}
+use Rattle.wac_types.specs.Meaning.{Meaning}
+use Rattle.wac_types.specs.Scope.{Named}
+use Rattle.wac_types.specs.Shape.{entry_of, imports_of}
+use Rattle.wac_graph.specs.Package.{Key}
+use Rattle.wac_graph.specs.Packages.{Contents, package_of}
+use Rattle.wac_grammar.specs.Tree.{PackageName}
+use Rattle.wac_grammar.specs.Version.{version_text}
+use Rattle.wac_resolution_rules.specs.Paths.{Setting}
+
+-- two tests: each returns no reason, or the reason against
+pub record Rules : Type 0 where
+  -- may the first stand where the second is expected
+  pub passes : Meaning → Meaning → Option Reason
+  -- may this be the name of an import or export
+  pub named : List ℕ → Option Reason
+
+pub record Given : Type 0 where
+  pub setting : Setting
+  pub rules : Rules
+
+-- the key that a package's name names: the name and the text of the version
+abbrev pub key_named : PackageName → Key
+key_named x = (x.name, version_text x.string)
+
+-- the package of which an instance is made under a name: never the document's own
+abbrev pub instantiable : Given → PackageName → Option Contents
+instantiable s x = if bytes_eq x.name s.setting.own then None else package_of (key_named x) s.setting.packages
+
+-- what a package imports
+abbrev pub imports_in : Contents → Named Meaning
+imports_in p = imports_of (entry_of p.world)

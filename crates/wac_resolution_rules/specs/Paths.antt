@@ -1,0 +1,61 @@
+-- What paths and identifiers name.
+use Rattle.std.specs.Prelude.{◌≡◌, ℕ, List, [], ◌∷◌, Option, Some, option_map, Bool, true, false}
+use Rattle.std.specs.List.{slice_split}
+use Rattle.std.specs.Str.{bytes_eq}
+use Rattle.wac_types.specs.Meaning.{Meaning}
+use Rattle.wac_types.specs.Scope.{Scope, StandsFor}
+use Rattle.wac_types.specs.Steps.{Steps}
+use Rattle.wac_types.specs.Shape.{export_of}
+use Rattle.wac_graph.specs.Package.{Key}
+use Rattle.wac_graph.specs.Origin.{Naming}
+use Rattle.wac_graph.specs.Packages.{Packages, Contents, package_of}
+use Rattle.wac_grammar.specs.Tree.{PackagePath, UsePath, WorldRef}
+use Rattle.wac_grammar.specs.Version.{is_slash, version_text}
+
+-- what a document is resolved in: numbers for origins, the document's own package, and the given packages
+pub record Setting : Type 0 where
+  pub naming : Naming
+  pub own : List ℕ
+  pub version : Option (List ℕ)
+  pub packages : Packages
+
+-- the segments of a path
+abbrev pub segments_of : PackagePath → List (List ℕ)
+segments_of p = slice_split is_slash p.segments
+
+-- the key of the package that a path names
+abbrev pub key_of_path : PackagePath → Key
+key_of_path p = (p.name, version_text p.string)
+
+abbrev pub beginning_of : Bool → Scope → Packages → Key → Option Scope
+beginning_of true root packages key = Some root
+beginning_of false root packages key = option_map (λ (c : Contents). c.definitions) (package_of key packages)
+
+abbrev pub is_own : Setting → PackagePath → Bool
+is_own setting p = bytes_eq p.name setting.own
+
+-- where the first segment is looked for: a path of the document's own package begins in its root scope, whatever the version; another
+-- among what that package defines, if it is given
+abbrev pub beginning : Setting → Scope → PackagePath → Option Scope
+beginning setting root p = beginning_of (is_own setting p) root setting.packages (key_of_path p)
+
+-- a later segment is an export of what the one before it stands for
+abbrev pub IsMember : Meaning → List ℕ → Meaning → Type 0
+IsMember k segment m = export_of k segment ≡ Some m
+
+abbrev pub LeadsFrom : Scope → List (List ℕ) → Meaning → Type 0
+LeadsFrom scope [] m = ⊥
+LeadsFrom scope (first ∷ rest) m = (k : Meaning) × StandsFor scope first k × Steps IsMember k rest m
+
+-- a path leads to a kind
+abbrev pub LeadsTo : Setting → Scope → PackagePath → Meaning → Type 0
+LeadsTo setting root p m = (from : Scope) × (beginning setting root p ≡ Some from) × LeadsFrom from (segments_of p) m
+
+-- what an identifier or path names: an identifier is looked up at root
+abbrev pub UseNames : Setting → Scope → UsePath → Meaning → Type 0
+UseNames setting root (UsePath.path p) m = LeadsTo setting root p m
+UseNames setting root (UsePath.ident x) m = StandsFor root x.string m
+
+abbrev pub WorldNames : Setting → Scope → WorldRef → Meaning → Type 0
+WorldNames setting root (WorldRef.path p) m = LeadsTo setting root p m
+WorldNames setting root (WorldRef.ident x) m = StandsFor root x.string m

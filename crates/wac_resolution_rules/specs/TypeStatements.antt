@@ -1,0 +1,46 @@
+-- Type statements at root.
+use Rattle.std.specs.Prelude.{◌≡◌, ℕ, List, ◌++◌, Option, Some, None, length, codes}
+use Rattle.wac_types.specs.Kind.{an_interface, a_world}
+use Rattle.wac_types.specs.Meaning.{Meaning}
+use Rattle.wac_types.specs.Scope.{IsFresh}
+use Rattle.wac_types.specs.Shape.{kind_of}
+use Rattle.wac_grammar.specs.Tree.{Ident, TypeStatement, TypeDecl}
+use Rattle.wac_resolution_rules.specs.Paths.{Setting}
+use Rattle.wac_resolution_rules.specs.Declarations.{IsTypeDecl}
+use Rattle.wac_resolution_rules.specs.Worlds.{IsInterface, IsWorld}
+use Rattle.wac_resolution_rules.specs.Composition.{Composition, definition, root_scope, with_node, with_export, with_resources, binding}
+
+abbrev pub version_part : Option (List ℕ) → List ℕ
+version_part None = codes ""
+version_part (Some v) = codes "@" ++ v
+
+-- the id of an interface or world that the document declares
+abbrev pub declared_id : Setting → List ℕ → Option (List ℕ)
+declared_id setting name = Some (setting.own ++ codes "/" ++ name ++ version_part setting.version)
+
+-- the identifier of a declaration
+abbrev pub declared_as : TypeDecl → Ident
+declared_as (TypeDecl.variant d) = d.id
+declared_as (TypeDecl.record_decl d) = d.id
+declared_as (TypeDecl.flags d) = d.id
+declared_as (TypeDecl.enum d) = d.id
+declared_as (TypeDecl.alias d) = d.id
+
+-- a definition of this name and kind, exported under the name and bound to it
+abbrev pub defining : Composition → List ℕ → Meaning → ℕ → Composition
+defining c name m n = binding (with_export (with_node (with_resources c n) definition m) name (length c.nodes)) name (length c.nodes)
+
+-- the name is neither exported nor bound at root
+abbrev pub Defines : Composition → List ℕ → Meaning → ℕ → Composition → Type 0
+Defines old name m n new = IsFresh name old.exports × IsFresh name old.declared × (new ≡ defining old name m n)
+
+-- from the old composition a type statement leads to the new one
+abbrev pub Declares : Setting → Composition → TypeStatement → Composition → Type 0
+Declares setting old (TypeStatement.interface d) new =
+    (entry : Meaning) × (n : ℕ) × IsInterface setting (root_scope old) old.resources (declared_id setting d.id.string) d.items entry n
+    × Defines old d.id.string (kind_of an_interface entry) n new
+Declares setting old (TypeStatement.world d) new =
+    (entry : Meaning) × (n : ℕ) × IsWorld setting (root_scope old) old.resources (declared_id setting d.id.string) d.items entry n
+    × Defines old d.id.string (kind_of a_world entry) n new
+Declares setting old (TypeStatement.ty d) new =
+    (m : Meaning) × (n : ℕ) × IsTypeDecl (root_scope old) old.resources d m n × Defines old (declared_as d).string m n new

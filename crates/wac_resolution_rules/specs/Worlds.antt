@@ -1,0 +1,85 @@
+-- What interfaces and worlds mean.
+use Rattle.std.specs.Prelude.{◌≡◌, ℕ, List, [], ◌++◌, Option, Some, None, unwrap_or}
+use Rattle.std.specs.List.{filter_map}
+use Rattle.wac_types.specs.declared.kind.ExternKind.{ExternKind}
+use Rattle.wac_types.specs.declared.kind.ExternKind.TheVariants as sides
+use Rattle.wac_types.specs.Kind.{func, instance}
+use Rattle.wac_types.specs.Meaning.{Meaning}
+use Rattle.wac_types.specs.Scope.{Scope, StandsFor, IsFresh}
+use Rattle.wac_types.specs.Steps.{Steps}
+use Rattle.wac_types.specs.Shape.{IsA, is_func_form, is_interface_form, is_func_or_interface_form, entry_of, id_of, kind_of, promoted, interface_entry, world_entry}
+use Rattle.wac_grammar.specs.Tree.{FuncTypeRef, InterfaceItem, ExternType, WorldItemPath, WorldItem, WorldInclude}
+use Rattle.wac_resolution_rules.specs.Types.{IsFunc}
+use Rattle.wac_resolution_rules.specs.Paths.{Setting, LeadsTo}
+use Rattle.wac_resolution_rules.specs.Bodies.{Body, empty_body, externs, with_extern, with_count, HasItem, HasUse}
+use Rattle.wac_resolution_rules.specs.Includes.{HasInclude}
+
+-- ---- interfaces
+
+-- the entry of a function type, or of what an identifier of a function or function type stands for
+abbrev pub IsFuncRef : Scope → FuncTypeRef → Meaning → Type 0
+IsFuncRef scope (FuncTypeRef.func f) entry = IsFunc scope f entry
+IsFuncRef scope (FuncTypeRef.ident x) entry = (k : Meaning) × StandsFor scope x.string k × IsA is_func_form k × (entry ≡ entry_of k)
+
+-- from the old body an item of an interface leads to the new one
+abbrev pub HasInterfaceItem : Setting → Scope → Body → InterfaceItem → Body → Type 0
+HasInterfaceItem setting root old (InterfaceItem.use_statement u) new = HasUse setting root sides.Export old u new
+HasInterfaceItem setting root old (InterfaceItem.ty d) new = HasItem setting.naming sides.Export old d new
+HasInterfaceItem setting root old (InterfaceItem.interface_export x) new =
+    (f : Meaning) × IsFuncRef old.scope x.ty f × IsFresh x.id.string old.exports
+    × (new ≡ with_extern sides.Export old x.id.string (kind_of func f))
+
+-- the entry of an interface, and the count of declared resources after it
+abbrev pub IsInterface : Setting → Scope → ℕ → Option (List ℕ) → List InterfaceItem → Meaning → ℕ → Type 0
+IsInterface setting root n id items entry after =
+    (b : Body) × Steps (HasInterfaceItem setting root) (empty_body n) items b
+    × (entry ≡ interface_entry id b.uses b.exports) × (after ≡ b.resources)
+
+-- ---- worlds
+
+-- the kind of an import or export that is given a name: an identifier is looked up in the body, then at root
+abbrev pub HasExternType : Setting → Scope → Scope → ℕ → ExternType → Meaning → ℕ → Type 0
+HasExternType setting root scope n (ExternType.ident x) m after =
+    (k : Meaning) × StandsFor (scope ++ root) x.string k × IsA is_func_or_interface_form k × (m ≡ promoted k) × (after ≡ n)
+HasExternType setting root scope n (ExternType.func f) m after = (entry : Meaning) × IsFunc scope f entry × (m ≡ kind_of func entry) × (after ≡ n)
+HasExternType setting root scope n (ExternType.interface i) m after =
+    (entry : Meaning) × IsInterface setting root n None i.items entry after × (m ≡ kind_of instance entry)
+
+-- the id of an interface, under which it is imported or exported as an instance
+abbrev pub id_or_empty : Meaning → List ℕ
+id_or_empty k = unwrap_or (id_of (entry_of k)) []
+
+-- an interface, as an instance under its id
+abbrev pub HasInstance : ExternKind → Body → Meaning → Body → Type 0
+HasInstance side old k new = IsA is_interface_form k × IsFresh (id_or_empty k) (externs side old) × (new ≡ with_extern side old (id_or_empty k) (promoted k))
+
+-- an import or export
+abbrev pub HasExtern : Setting → Scope → ExternKind → Body → WorldItemPath → Body → Type 0
+HasExtern setting root side old (WorldItemPath.named x) new =
+    IsFresh x.id.string (externs side old)
+    × ((m : Meaning) × (n : ℕ) × HasExternType setting root old.scope old.resources x.ty m n
+    × (new ≡ with_extern side (with_count old n) x.id.string m))
+HasExtern setting root side old (WorldItemPath.path p) new = (k : Meaning) × LeadsTo setting root p k × HasInstance side old k new
+HasExtern setting root side old (WorldItemPath.ident x) new = (k : Meaning) × StandsFor root x.string k × HasInstance side old k new
+
+-- from the old body an item of a world leads to the new one; includes come afterwards
+abbrev pub HasWorldItem : Setting → Scope → Body → WorldItem → Body → Type 0
+HasWorldItem setting root old (WorldItem.use_statement u) new = HasUse setting root sides.Import old u new
+HasWorldItem setting root old (WorldItem.world_import x) new = HasExtern setting root sides.Import old x.path new
+HasWorldItem setting root old (WorldItem.world_export x) new = HasExtern setting root sides.Export old x.path new
+HasWorldItem setting root old (WorldItem.world_include x) new = new ≡ old
+HasWorldItem setting root old (WorldItem.ty d) new = HasItem setting.naming sides.Import old d new
+
+abbrev pub include_in : WorldItem → Option WorldInclude
+include_in (WorldItem.world_include x) = Some x
+include_in _ = None
+
+-- the includes among the items
+abbrev pub includes_of : List WorldItem → List WorldInclude
+includes_of items = filter_map include_in items
+
+-- the entry of a world, and the count of declared resources after it
+abbrev pub IsWorld : Setting → Scope → ℕ → Option (List ℕ) → List WorldItem → Meaning → ℕ → Type 0
+IsWorld setting root n id items entry after =
+    (mid : Body) × (b : Body) × Steps (HasWorldItem setting root) (empty_body n) items mid × Steps (HasInclude setting root) mid (includes_of items) b
+    × (entry ≡ world_entry id b.uses b.imports b.exports) × (after ≡ b.resources)
