@@ -6,7 +6,7 @@ use Rattle.wac_types.specs.declared.kind.ItemKind.{ItemKind}
 use Rattle.wac_types.specs.declared.kind.ItemKind.TheVariants as kinds
 use Rattle.wac_types.specs.declared.entry.Entry.{Entry}
 use Rattle.wac_types.specs.Names.{by_name}
-use Rattle.wac_types.specs.Readings.{as_interface, as_world, interface_exports, world_imports, instance_exports}
+use Rattle.wac_types.specs.Readings.{as_interface, as_world, world_imports, instance_exports}
 use Rattle.wac_types.specs.Scope.{Named, look_up}
 use Rattle.wac_types.specs.Table.{Names}
 use Rattle.wac_types.specs.Growth.{KeepsNames}

@@ -4,7 +4,6 @@ use Rattle.std.specs.Prelude.{option_map, slice_get, slice_set, nat_lt, not}
 use Rattle.std.specs.List.{AllByRecursion, find, position, position_or_len}
 use Rattle.std.specs.Str.{bytes_eq}
 use Rattle.std.proofs.lemmas.Bool.{lt-ltb}
-use Rattle.std.proofs.lemmas.Bool.Decides.{nat_tests}
 use Rattle.std.proofs.lemmas.Slice.Eq.{bytes_eq-Decides}
 use Rattle.wac_types.specs.Scope.{Named, look_up, IsFresh}
 use Rattle.wac_graph.specs.Sound.{EachAt, Differ, name_in}
@@ -46,6 +45,14 @@ get_set (z ∷ xs) zero y x zero h = inr (refl, (cc))
 get_set (z ∷ xs) zero y x (suc i) h = inl h
 get_set (z ∷ xs) (suc k) y x zero h = inl h
 get_set (z ∷ xs) (suc k) y x (suc i) h = elim (get_set xs k y x i h) [ inl a ↦ inl a | inr b ↦ inr (ap suc b.0, b.1) ]
+
+-- what is read of each element is what was read, where another is put in a place that reads the same
+pub set_read : {X Y : Type 0} (read : X → Y) (xs : List X) (k : ℕ) (x y : X) (i : ℕ) → slice_get xs k ≡ Some x → read y ≡ read x → option_map read (slice_get (slice_set xs k y) i) ≡ option_map read (slice_get xs i)
+set_read read [] k x y i is same = refl
+set_read read (z ∷ xs) zero x y zero is same = (let here : x ≡ z = cc in ap Some (same ∙ ap read here))
+set_read read (z ∷ xs) zero x y (suc i) is same = refl
+set_read read (z ∷ xs) (suc k) x y zero is same = refl
+set_read read (z ∷ xs) (suc k) x y (suc i) is same = set_read read xs k x y i is same
 
 pub set_length : {X : Type 0} (xs : List X) (i : ℕ) (x : X) → length (slice_set xs i x) ≡ length xs
 set_length [] i x = refl

@@ -17,6 +17,7 @@
 mod equal;
 mod graph;
 mod ids;
+mod laws;
 mod named;
 mod node;
 mod package_key;
