@@ -1,5 +1,5 @@
 -- The trees of expressions that hold others.
-use Rattle.std.proofs.Common.{◌≡◌, List, [], ◌∷◌, map, ap, sym, ◌∙◌, refl, Ok, Err, Global}
+use Rattle.std.proofs.Common.{◌≡◌, List, map, ap, ◌∙◌, refl, Ok, Err, Global}
 use Rattle.std.specs.Prelude.{Box}
 use mathlib.Core.Former.{Count}
 use Rattle.wac_lexer.specs.Span.{Span}
