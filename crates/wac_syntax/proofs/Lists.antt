@@ -1,5 +1,5 @@
 -- Loops over the items of a list.
-use Rattle.std.proofs.Common.{◌≡◌, ◌≤◌, ◌<◌, ◌+◌, arith, ℕ, List, [], ◌∷◌, ◌++◌, length, map, take, Option, None, Result, Ok, Err, Some, Bool, true, false, cond, refl, sym as back, ap, subst, ◌∙◌, ◌⊎◌, inl, inr, append_assoc}
+use Rattle.std.proofs.Common.{◌≡◌, ◌≤◌, ◌<◌, arith, ℕ, List, [], ◌∷◌, ◌++◌, length, map, Result, Ok, Err, Some, Bool, true, false, cond, refl, sym as back, ap, subst, ◌∙◌, inl, inr, append_assoc}
 use Rattle.std.proofs.lemmas.List.{append-nil}
 use Rattle.wac_lexer.specs.Item.{Item}
 use Rattle.wac_lexer.specs.Span.{Span}
@@ -10,10 +10,10 @@ use Rattle.wac_syntax.specs.declared.error.Error.{Error}
 use Rattle.wac_grammar.specs.Tokens.{is_token, at, valid}
 use Rattle.wac_grammar.specs.Grammar.{Sym, Listed, listed, listed_more, Body}
 use Rattle.wac_grammar.specs.Grammar as g
-use Rattle.wac_grammar.specs.Reading.{Stop, can, closes as closing, follows, version, empty_body, refuse, mapped, two, pair_with, read, read_in, read_token, read_sym, at_one_of, begins, empty}
-use Rattle.wac_syntax.specs.Answer.{body_name, part_name, first_span, End, end_of_input, told, told_in, Fails, has_more, plain}
+use Rattle.wac_grammar.specs.Reading.{Stop, can, closes as closing, follows, version, refuse, mapped, two, pair_with, read, read_in, read_token, read_sym, at_one_of, begins, empty}
+use Rattle.wac_syntax.specs.Answer.{End, end_of_input, told, told_in, Fails, has_more, plain}
 use Rattle.std.specs.Prelude.{IsErrAnd}
-use Rattle.wac_syntax.specs.Error.{told_by, empty_type}
+use Rattle.wac_syntax.specs.Error.{told_by}
 use Rattle.wac_syntax.specs.Lookahead.{looked, tried, told_of}
 use Rattle.wac_syntax.proofs.Lookaheads.{no_item_fails, over_fails}
 use Rattle.wac_syntax.specs.Lists.{GivesBy, TakesListBy, GoesOn, Reads, list_by, rest_by, IsCommaList, IsList, unclosed, closes, list_of, more_of, repeats, body_of}
@@ -296,6 +296,11 @@ item_missing {js = js} e l s k same is missing tells_it =
 -- the input ends behind an item
 pub rest_missing : {js : List Token} (e : Error) (l : Reading) (s : Sym) (k : Token) → closes s ≡ Some k → js ≡ begins s → has_more (left l) ≡ false → told_by e ≡ told_of (tried (k ∷ js) (looked l)) → Fails e (end_of_input l) (more_of s (left l))
 rest_missing e l s k listed same over tells_it = over_fails e l (more_of s (left l)) s k (rest_over (comma_list s k listed) (left l) over) (tells_it ∙ ap (λ (ks : List Token). told_of (tried (k ∷ ks) (looked l))) same)
+
+pub none_left : (ks : List Token) (xs : List Item) → has_more xs ≡ false → at_one_of ks xs ≡ false
+none_left [] xs over = refl
+none_left (k ∷ ks) [] over = none_left ks [] over
+none_left (k ∷ ks) (x ∷ xs) over = absurd cc
 
 -- the list does not go on
 pub stops_there : {X A : Type 0} (e : Error) (list more : List Item → Reads (Listed A)) (r : Result X Error) (old new : Reading) → IsErrAnd r (λ x. x ≡ e) → Fails e (end_of_input old) (more (left old)) → GoesOn list more r old new

@@ -12,7 +12,7 @@ use Rattle.wac_syntax.specs.declared.error.Error.{Error}
 use Rattle.wac_grammar.specs.Tokens.{at}
 use Rattle.wac_grammar.specs.Grammar as g
 use Rattle.wac_grammar.specs.Grammar.{Sym}
-use Rattle.wac_grammar.specs.Reading.{Stop, Tried, can, follows, other, begins, at_one_of, refuse}
+use Rattle.wac_grammar.specs.Reading.{Stop, Tried, can, follows, begins, at_one_of, refuse}
 use Rattle.wac_syntax.specs.Error.{Told, told_by, expected}
 use Rattle.wac_syntax.specs.Lookahead.{Looked, looked, is_next, is_one_of, tried, refusal, told_of, peeked, Peeks}
 use Rattle.wac_syntax.specs.Lists.{tells}

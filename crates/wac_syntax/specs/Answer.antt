@@ -2,16 +2,16 @@
 use Rattle.std.specs.Prelude.{◌≡◌, ℕ, List, [], ◌∷◌, ◌++◌, map, take, length, Option, Some, None, Result, Ok, Err, Bool, true, false, codes, ◌⊎◌, ◌-◌}
 use Rattle.wac_lexer.specs.Span.{Span, span, end_of}
 use Rattle.wac_lexer.specs.Item.{Item, handed}
-use Rattle.wac_lexer.specs.Reading.{Reading, left, shown, slice, Slices}
+use Rattle.wac_lexer.specs.Reading.{Reading, left, shown}
 use Rattle.wac_lexer.specs.declared.token.Token.{Token}
 use Rattle.wac_lexer.specs.declared.token.Token.TheVariants as tokens
 use Rattle.wac_lexer.specs.declared.error.Error.TheVariants as faults
 use Rattle.wac_syntax.specs.declared.error.Error.{Error}
 use Rattle.wac_grammar.specs.Version.{version_text}
 use Rattle.wac_grammar.specs.Grammar.{Body, variant_body, record_body, flags_body, enum_body}
-use Rattle.wac_grammar.specs.Reading.{Stop, Tried, Why, other, empty_body, version, told as told_of_item, before, read_token, not_fault}
+use Rattle.wac_grammar.specs.Reading.{Stop, Tried, Why, other, empty_body, version, before, read_token, not_fault}
 use Rattle.wac_grammar.specs.Tokens.{at}
-use Rattle.wac_syntax.specs.Error.{Told, told_by, faulty, expected, expected_one, empty_type, invalid_version, no_memory}
+use Rattle.wac_syntax.specs.Error.{Told, told_by, expected, empty_type, invalid_version, no_memory}
 use Rattle.wac_syntax.specs.Lookahead.{refusal}
 
 -- ---- the end of the input

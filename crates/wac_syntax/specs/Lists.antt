@@ -1,5 +1,5 @@
 -- Lists up to a closing token.
-use Rattle.std.specs.Prelude.{◌≡◌, ℕ, List, [], ◌∷◌, ◌++◌, map, take, length, Option, Some, None, Result, Ok, Err, Bool, true, false, cond}
+use Rattle.std.specs.Prelude.{◌≡◌, ℕ, List, [], ◌∷◌, map, take, length, Option, Some, None, Result, Ok, Err, Bool, true, false, cond}
 use Rattle.wac_lexer.specs.Span.{Span}
 use Rattle.wac_lexer.specs.Item.{Item, handed}
 use Rattle.wac_lexer.specs.Reading.{Reading, left, shown}
@@ -8,7 +8,7 @@ use Rattle.wac_lexer.specs.declared.token.Token.TheVariants as t
 use Rattle.wac_syntax.specs.declared.error.Error.{Error}
 use Rattle.wac_grammar.specs.Tokens.{at}
 use Rattle.wac_grammar.specs.Grammar.{Sym, TreeOf, Listed, arguments, more_arguments, argument, cases, more_cases, variant_case, fields, more_fields, field, flags, more_flags, flag, enum_cases, more_enum_cases, enum_case, params, more_params, named_type, types, more_types, ty, use_items, more_use_items, use_item, include_items, more_include_items, include_item, methods, resource_method, interface_items, interface_item, world_items, world_item}
-use Rattle.wac_grammar.specs.Reading.{Stop, Tried, can, follows, refuse, mapped, two, read_token, read_sym, read}
+use Rattle.wac_grammar.specs.Reading.{Stop, can, follows, refuse, mapped, two, read_token, read_sym, read}
 use Rattle.wac_syntax.specs.Error.{Told, expected}
 use Rattle.wac_syntax.specs.Lookahead.{refusal}
 use Rattle.wac_syntax.specs.Answer.{end_of_input, Fails}
