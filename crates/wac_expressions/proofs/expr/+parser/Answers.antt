@@ -15,7 +15,7 @@ use Rattle.wac_syntax.proofs.Optional.{gives_behind}
 use Rattle.wac_syntax.proofs.Exits as x
 use Rattle.wac_syntax.proofs.Yields as y
 use Rattle.wac_expressions.proofs.ArgumentParts.{argument_is_named, argument_fails, none_begins}
-use Rattle.wac_expressions.proofs.ExprViews.{new_is, nested_is, behind_is}
+use Rattle.wac_expressions.proofs.ExprViews.{new_is, nested_is, after_is}
 use Rattle.wac_expressions.proofs.expr.+parser.Goals as goal
 
 -- ---- expressions
@@ -24,7 +24,7 @@ pub ExprParse::parse-returns-in_err-primary-clause-gives : goal.ExprParse::parse
 ExprParse::parse-returns-in_err-primary-clause-gives t c = x.exits expr _ _ _ c.from_residual.ensures.1 (x.here c.in_err-primary.ensures.gives)
 
 pub ExprParse::parse-returns-clause-gives : goal.ExprParse::parse-returns-clause-gives
-ExprParse::parse-returns-clause-gives t c = gives_behind expr_of c.parse_behind.result c.args.lexer.now c.parse.new.lexer c.parse_behind.new.lexer _ _ (behind_is _ _ _ c.in_ok-primary.ensures.gives.0) c.in_ok-primary.ensures.gives.1 c.parse_behind.ensures.gives
+ExprParse::parse-returns-clause-gives t c = gives_behind expr_of c.parse_accesses_after.result c.args.lexer.now c.parse.new.lexer c.parse_accesses_after.new.lexer _ _ (after_is _ _ _ c.in_ok-primary.ensures.gives.0) c.in_ok-primary.ensures.gives.1 c.parse_accesses_after.ensures.gives
 
 -- ---- primary expressions
 
