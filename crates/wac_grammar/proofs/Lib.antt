@@ -17,6 +17,7 @@ pub mod Choices
 pub mod Docs
 pub mod Ahead
 pub mod Ordered
+pub mod Documented
 pub mod TokenTexts
 pub mod Linked
 pub mod Derived

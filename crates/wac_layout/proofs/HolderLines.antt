@@ -8,9 +8,9 @@ use Rattle.wac_lexer.specs.Item.{Doc}
 use Rattle.wac_grammar.specs.Tree.{Document}
 use Rattle.wac_grammar.specs.TextTree.{IsTreeOf}
 use Rattle.wac_grammar.specs.Walk.{walk_document}
-use Rattle.wac_grammar.specs.Leaves.{Leaf, changed, leaves, docs_leaf, unchanged}
-use Rattle.wac_grammar.proofs.Listed.{of_leaves, document_listed}
-use Rattle.wac_grammar.proofs.Walked.{Gives, document_composed, document_implied}
+use Rattle.wac_grammar.specs.Leaves.{Leaf, changed, leaves, docs_leaf, of_leaves, unchanged}
+use Rattle.wac_grammar.proofs.Listed.{document_listed}
+use Rattle.wac_grammar.proofs.Walked.{Gives, document_composed, document_implied, document_any_spans}
 use Rattle.wac_layout.specs.Printed.{text}
 use Rattle.wac_layout.specs.StatementLayout.{document_layout}
 use Rattle.wac_layout.specs.Joins.{IsDocLine, AreBlanks}
@@ -143,7 +143,8 @@ module _ (D : List Doc → Type 0) where
 
   each_holder : (x : Document) → ((ds : List Doc) → DocsHave Spelled ds → D ds) → DocumentHas Spelled x → AllByRecursion D (docs_in x)
   each_holder x give h =
-      among (walk_document leaves docs_leaf x) ((document_listed of_docs (λ s. tt) x).0 (document_implied (has Spelled) (of_leaves of_docs) (DocsHave Spelled) D docs_alone give x h))
+      let asked = document_implied (has Spelled) (of_leaves of_docs) (DocsHave Spelled) D docs_alone give x h in
+      among (walk_document leaves docs_leaf x) ((document_listed of_docs x).0 (document_any_spans (of_leaves of_docs) (λ s. Unit {0}) (λ s. tt) D x asked))
 
 all_settle : (holders : List (List Doc)) → AllByRecursion (DocsHave Spelled) (map doc_lines holders) → map texts_of (map doc_lines (map doc_lines holders)) ≡ settled (map lines_of holders)
 all_settle [] h = refl
