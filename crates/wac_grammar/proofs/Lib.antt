@@ -6,7 +6,6 @@ pub mod Similar
 pub mod Local
 pub mod Completed
 pub mod Stops
-pub mod Texts
 pub mod Samples
 pub mod Refused
 pub mod Bodies
