@@ -18,7 +18,7 @@ ghost use Rattle.wac_layout.specs.Bare.{Keep, doc_lines, bare_document};
 ghost use Rattle.wac_layout.specs.PlainTree.{plain_document};
 ghost use Rattle.wac_grammar.specs.Spelled.{DocumentSpelled};
 ghost use Rattle.wac_grammar.specs.TextTree.{IsTreeOf};
-ghost use Rattle.wac_layout.specs.Reread.{IsReread, printed, ReadsBack, RereadAs};
+ghost use Rattle.wac_layout.specs.Reread.{IsFixed, IsReread, printed, ReadsBack, RereadAs, WasPrinted};
 ghost use Rattle.wac_layout.specs.StatementLayout.{document_layout, statement_layout};
 ghost use Rattle.wac_layout.specs.TreeLines.{bare_tree, settled, tree_docs, tree_lines};
 ghost use Rattle.wac_layout.specs.Texts.{DocumentHas, StatementHas, Spelled};
@@ -75,6 +75,11 @@ pub fn printing_is_fixed()
 /// What is printed of the tree of a text reads back, and is fixed from the second time on.
 pub fn printed_texts_read_back()
     ensures { (space source : List ℕ) (tree : Document) → AreBlanks space → IsUtf8 source → IsTreeOf source tree → ReadsBack space source tree (printed space source tree) }
+{}
+
+/// What is printed of a text that was itself printed has a tree that is printed as it stands.
+pub fn printed_texts_stay()
+    ensures { (space source : List ℕ) (tree : Document) → AreBlanks space → IsTreeOf source tree → WasPrinted source → IsFixed space (printed space source tree) }
 {}
 
 /// What is printed of the tree of a text is UTF-8, whatever text stands for a depth.
