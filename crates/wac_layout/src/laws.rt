@@ -18,8 +18,9 @@ ghost use Rattle.wac_layout.specs.Bare.{Keep, doc_lines, bare_document};
 ghost use Rattle.wac_layout.specs.PlainTree.{plain_document};
 ghost use Rattle.wac_grammar.specs.Spelled.{DocumentSpelled};
 ghost use Rattle.wac_grammar.specs.TextTree.{IsTreeOf};
-ghost use Rattle.wac_layout.specs.Reread.{IsReread, printed, ReadsBack, RereadAs};
+ghost use Rattle.wac_layout.specs.Reread.{IsFixed, IsReread, printed, ReadsBack, RereadAs, WasPrinted};
 ghost use Rattle.wac_layout.specs.StatementLayout.{document_layout, statement_layout};
+ghost use Rattle.wac_layout.specs.TreeLines.{bare_tree, settled, tree_docs, tree_lines};
 ghost use Rattle.wac_layout.specs.Texts.{DocumentHas, StatementHas, Spelled};
 
 /// What pieces that join write is read back: a lexer takes the text, and its items are the token pieces at their places, with the doc pieces before them as docs.
@@ -76,6 +77,11 @@ pub fn printed_texts_read_back()
     ensures { (space source : List ℕ) (tree : Document) → AreBlanks space → IsUtf8 source → IsTreeOf source tree → ReadsBack space source tree (printed space source tree) }
 {}
 
+/// What is printed of a text that was itself printed has a tree that is printed as it stands.
+pub fn printed_texts_stay()
+    ensures { (space source : List ℕ) (tree : Document) → AreBlanks space → IsTreeOf source tree → WasPrinted source → IsFixed space (printed space source tree) }
+{}
+
 /// What is printed of the tree of a text is UTF-8, whatever text stands for a depth.
 pub fn printed_texts_are_utf8()
     ensures { (space source : List ℕ) (tree : Document) → IsUtf8 space → IsUtf8 source → IsTreeOf source tree → IsUtf8 (printed space source tree) }
@@ -85,4 +91,11 @@ pub fn printed_texts_are_utf8()
 pub fn bare_trees_give_plain_trees()
     ensures bare { (keep other : Keep) (source text : List ℕ) (x y : Document) → DocumentSpelled source x → DocumentSpelled text y → bare_document keep source x ≡ bare_document other text y → plain_document x ≡ plain_document y }
     ensures reread { (source text : List ℕ) (x again : Document) → IsUtf8 source → IsTreeOf source x → IsUtf8 text → IsTreeOf text again → IsReread text again source x → plain_document again ≡ plain_document x }
+{}
+
+/// A printed text knows the bare tree and the lines of docs alone, whatever the layout, comments and spans of the source were. What is printed has a tree with the same bare tree, whose docs are the lines, one doc a line, and what is printed of that one has the lines that are not empty.
+pub fn bare_trees_and_lines_give_texts()
+    ensures texts { (space source other : List ℕ) (x y : Document) → bare_tree source x ≡ bare_tree other y → tree_lines x ≡ tree_lines y → printed space source x ≡ printed space other y }
+    ensures reread { (text source : List ℕ) (again tree : Document) → IsReread text again source tree ↔ ((bare_tree text again ≡ bare_tree source tree) × (tree_docs again ≡ tree_lines tree)) }
+    ensures settled { (space source : List ℕ) (tree again third : Document) → AreBlanks space → IsUtf8 source → IsTreeOf source tree → IsTreeOf (printed space source tree) again → IsTreeOf (printed space (printed space source tree) again) third → (bare_tree (printed space (printed space source tree) again) third ≡ bare_tree source tree) × (tree_docs third ≡ settled (tree_lines tree)) }
 {}
