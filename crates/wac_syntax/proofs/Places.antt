@@ -1,4 +1,4 @@
--- The tokens that a lookahead keeps stand in front of its places.
+-- The tokens that a lookahead keeps stand before its places.
 use Rattle.std.proofs.Common.{◌≡◌, ℕ, zero, suc, ◌+◌, ◌<◌, ◌≤◌, List, [], ◌∷◌, ◌++◌, take, length, min, Option, Some, None, slice_set, arith, refl, sym, ap, subst, ◌∙◌, length-append, ◌⊎◌, inl, inr, ◌^◌, ◌-◌}
 use Rattle.std.proofs.lemmas.List.{take-append-le, take_all}
 use Rattle.std.proofs.lemmas.Grind.{common_steps}

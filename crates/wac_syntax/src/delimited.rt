@@ -55,7 +55,7 @@ fn parse_item<'a, T: Parse<'a> + Peek + Drop, E: From<Error>>(
     Ok(T::parse(alloc, lexer)?)
 }
 
-/// What stands behind an item of a comma list: the closing token, which stays, or a comma.
+/// What stands after an item of a comma list: the closing token, which stays, or a comma.
 pub fn take_comma<'a, T: Parse<'a> + Peek>(lexer: &mut Lexer<'a>, close: Token) -> ParseResult<()>
     requires listed { closes T.symbol ≡ Some close }
     requires begins { T.firsts ≡ begins T.symbol }
