@@ -1,4 +1,4 @@
--- Pieces one behind the other join where each of the two lists does.
+-- Pieces one after the other join where each of the two lists does.
 use Rattle.std.proofs.Common.{◌≡◌, ℕ, Bool, true, false, List, [], ◌∷◌, ◌++◌, sym, refl, ap, ◌∙◌, subst, append_assoc, Some, None}
 use Rattle.std.specs.Prelude.{nat_eq}
 use Rattle.wac_lexer.specs.Follow.{follows}

@@ -94,7 +94,7 @@ module _ (gap : List ℕ) where
   abbrev pub J : List ℕ → Bool → List Piece → Type 0
   J rest fresh ps = JoinsBefore rest gap fresh ps
 
-  -- one behind the other
+  -- one after the other
   pub also : (rest : List ℕ) (fresh : Bool) (ps qs : List Piece) → J (text gap (fresh_behind gap fresh ps) qs ++ rest) fresh ps → J rest (fresh_behind gap fresh ps) qs → J rest fresh (ps ++ qs)
   also rest fresh ps qs first second = join rest gap fresh ps qs first second
 

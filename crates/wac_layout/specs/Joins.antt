@@ -1,4 +1,4 @@
--- Pieces that join: each is what it is meant to be, has no refused character, and what stands behind a token doesn't go on with it.
+-- Pieces that join: each is what it is meant to be, has no refused character, and what stands after a token doesn't go on with it.
 use Rattle.std.specs.Prelude.{◌≡◌, ◌≢◌, ℕ, Bool, true, false, List, [], ◌∷◌, ◌++◌, Some, None, codes, refl}
 use Rattle.std.specs.List.{AllByRecursion}
 use Rattle.std.specs.Str.{trim}
@@ -9,7 +9,7 @@ use Rattle.wac_lexer.specs.Tokens.{token_of}
 use Rattle.wac_layout.specs.Accepted.{IsAccepted}
 use Rattle.wac_layout.specs.Printed.{Piece, token, blank, line, doc, text_of, text, fresh_after}
 
--- the text is a token, and the rest may stand behind it
+-- the text is a token, and the rest may stand after it
 abbrev pub stands_before : List ℕ → List ℕ → Bool
 stands_before rest t = elim (token_of t) [ Some kind ↦ follows kind rest | None ↦ false ]
 

@@ -30,7 +30,7 @@ pub fn pieces_are_read_back()
     ensures said { (place : ℕ) (space : List ℕ) (fresh : Bool) (ps : List Piece) → map said_of (placed place space fresh ps) ≡ said ps }
 {}
 
-/// Two lists of pieces join, one behind the other, where the second joins, and the first joins before what the second writes.
+/// Two lists of pieces join, one after the other, where the second joins, and the first joins before what the second writes.
 pub fn pieces_are_put_together()
     ensures text { (space : List ℕ) (fresh : Bool) (ps qs : List Piece) → text space fresh (ps ++ qs) ≡ text space fresh ps ++ text space (fresh_behind space fresh ps) qs }
     ensures fresh { (space : List ℕ) (fresh : Bool) (ps : List Piece) → fresh_behind space fresh ps ≡ fresh_after fresh (text space fresh ps) }

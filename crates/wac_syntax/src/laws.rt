@@ -13,15 +13,15 @@ ghost use Rattle.wac_syntax.specs.Segments.{package_name_span, segment_spans};
 
 use crate::parse::Parse;
 
-/// What the answer of a parser says of the items that it was given.
+/// What the result of a parser says of the items that it was given.
 ///
 /// Where it is a tree, the items that were taken derive it, and the next one does not continue it. Where it is an
-/// error other than want of memory, this lies at the first fault of the production: the items before can begin it, and
-/// with the next one none goes on. A fault of the text, an empty body and a version that is none are told as such, each
-/// where it stands; other errors tell what was found there, and each token that they name can stand there.
+/// error other than out of memory, this lies at the first fault of the production: the items before can begin it, and
+/// with the next one none goes on. A fault of the text, an empty body and a version that is none are reported as such, each
+/// where it stands; other errors say what was found there, and each token that they name can stand there.
 ///
 /// The exception of strings that an argument begins with is written down in the definition, and so is an argument that
-/// the end of the input cuts short behind its dots.
+/// the end of the input cuts short after its dots.
 pub fn parsers_stop_at_first_faults<'a, P: Parse<'a>>()
     ensures { (result : Result P Error) (old new : Reading) → Gives P.tree result old new (read P.symbol (left old)) → Answers P.symbol P.tree result old new }
 {}
