@@ -16,7 +16,7 @@ use Rattle.wac_resolution_rules.specs.Given.{Given}
 use Rattle.wac_resolution_rules.specs.Composition.{Composition, Node, imported, definition, aliased, start}
 use Rattle.wac_resolution_rules.specs.Expressions.{At, at, Giving}
 use Rattle.wac_resolution_rules.specs.Places.{Places}
-use Rattle.wac_resolution_rules.specs.Error.{Operation, undefined_name, duplicate_name, invalid_alias_type, unknown_package, package_missing_export, package_path_missing_export, missing_component_import, duplicate_instantiation_arg, not_an_instance, missing_instance_export, export_requires_as, export_conflict, duplicate_extern_name, invalid_extern_name, spread_instantiation_no_match, spread_export_no_effect, not_world, import_not_in_target, target_mismatch}
+use Rattle.wac_resolution_errors.specs.Error.{Operation, undefined_name, duplicate_name, invalid_alias_type, unknown_package, package_missing_export, package_path_missing_export, missing_component_import, duplicate_instantiation_arg, not_an_instance, missing_instance_export, export_requires_as, export_conflict, duplicate_extern_name, invalid_extern_name, spread_instantiation_no_match, spread_export_no_effect, not_world, import_not_in_target, target_mismatch}
 use Rattle.wac_resolution_rules.specs.BrokenStatements.{StatementBroken, TargetBroken}
 use Rattle.wac_resolution_rules.proofs.StatementRows.{ident, no_params, function, given_in, instance_z, package_cd, key_cd, name_cd, none_pass, node_i, with_cd}
 

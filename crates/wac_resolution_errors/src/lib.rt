@@ -1,4 +1,4 @@
-//! Part of `wac_resolution`: why a document can't be resolved, and names with what they stand for.
+//! Part of `wac_resolution`: why a document can't be resolved.
 #![tactic(auto)]
 
 mod error;

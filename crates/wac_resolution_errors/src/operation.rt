@@ -13,8 +13,8 @@ pub enum InstanceOperation {
 
 impl fmt::Display for InstanceOperation {
     ghost use Rattle.std.specs.Prelude.{Some};
-    ghost use Rattle.wac_resolution_scopes.specs.Messages.{operation_word};
-    ghost use Rattle.wac_resolution_scopes.specs.Told.{operation_of};
+    ghost use Rattle.wac_resolution_errors.specs.Messages.{operation_word};
+    ghost use Rattle.wac_resolution_errors.specs.Told.{operation_of};
 
     ghost output = { λ operation. Some (operation_word (operation_of operation)) };
 

@@ -1,7 +1,7 @@
 //! Why a document can't be resolved.
 
 ghost use Rattle.std.specs.Prelude.{◌≡◌, alloc_error};
-ghost use Rattle.wac_resolution_scopes.specs.declared.error.Error.TheVariants.{Memory};
+ghost use Rattle.wac_resolution_errors.specs.declared.error.Error.TheVariants.{Memory};
 
 use crate::operation::InstanceOperation;
 use std::alloc::{AllocError, AllocFailed};
@@ -439,8 +439,8 @@ pub type ResolutionResult<T> = Result<T, Error>;
 
 impl fmt::Display for Error {
     ghost use Rattle.std.specs.Prelude.{Some};
-    ghost use Rattle.wac_resolution_scopes.specs.Messages.{text_of};
-    ghost use Rattle.wac_resolution_scopes.specs.Told.{told};
+    ghost use Rattle.wac_resolution_errors.specs.Messages.{text_of};
+    ghost use Rattle.wac_resolution_errors.specs.Told.{told};
 
     ghost output = { λ e. Some (text_of (told e)) };
 
@@ -448,56 +448,212 @@ impl fmt::Display for Error {
         match self {
             Error::UndefinedName { name, .. } => write!(f, "undefined name `{name}`"),
             Error::DuplicateName { name, .. } => write!(f, "`{name}` is already defined"),
-            Error::DuplicateInterfaceExport { name, interface_name, .. } => match interface_name {
-                Some(interface) => write!(f, "duplicate interface export `{name}` for interface `{interface}`"),
+            Error::DuplicateInterfaceExport {
+                name,
+                interface_name,
+                ..
+            } => match interface_name {
+                Some(interface) => write!(
+                    f,
+                    "duplicate interface export `{name}` for interface `{interface}`"
+                ),
                 None => write!(f, "duplicate interface export `{name}`"),
             },
-            Error::DuplicateWorldItem { kind, name, world, .. } => write!(f, "{kind} `{name}` conflicts with existing {kind} of the same name in world `{world}`"),
-            Error::NotFuncOrInterface { name, kind, .. } => write!(f, "`{name}` ({kind}) is not a function type or interface"),
-            Error::NotInterface { name, kind, .. } => write!(f, "`{name}` ({kind}) is not an interface"),
-            Error::DuplicateWorldIncludeName { name, .. } => write!(f, "duplicate `{name}` in world include `with` clause"),
+            Error::DuplicateWorldItem {
+                kind,
+                name,
+                world,
+                ..
+            } => write!(
+                f,
+                "{kind} `{name}` conflicts with existing {kind} of the same name in world `{world}`"
+            ),
+            Error::NotFuncOrInterface { name, kind, .. } => write!(
+                f,
+                "`{name}` ({kind}) is not a function type or interface"
+            ),
+            Error::NotInterface { name, kind, .. } => write!(
+                f,
+                "`{name}` ({kind}) is not an interface"
+            ),
+            Error::DuplicateWorldIncludeName { name, .. } => write!(
+                f,
+                "duplicate `{name}` in world include `with` clause"
+            ),
             Error::NotWorld { name, kind, .. } => write!(f, "`{name}` ({kind}) is not a world"),
-            Error::MissingWorldInclude { world, name, .. } => write!(f, "world `{world}` does not have an import or export named `{name}`"),
-            Error::WorldIncludeConflict { kind, name, from, to, .. } => write!(f, "{kind} `{name}` from world `{from}` conflicts with {kind} of the same name in world `{to}`"),
-            Error::UndefinedInterfaceType { name, interface_name, .. } => write!(f, "a type named `{name}` is not defined in interface `{interface_name}`"),
-            Error::NotInterfaceValueType { name, kind, interface_name, .. } => write!(f, "`{name}` ({kind}) is not a value type in interface `{interface_name}`"),
-            Error::DuplicateResourceConstructor { resource, .. } => write!(f, "duplicate constructor for resource `{resource}`"),
-            Error::DuplicateResourceMethod { name, resource, .. } => write!(f, "duplicate method `{name}` for resource `{resource}`"),
-            Error::DuplicateVariantCase { case, name, .. } => write!(f, "duplicate case `{case}` for variant type `{name}`"),
-            Error::DuplicateRecordField { field, name, .. } => write!(f, "duplicate field `{field}` for record type `{name}`"),
-            Error::DuplicateEnumCase { case, name, .. } => write!(f, "duplicate case `{case}` for enum type `{name}`"),
-            Error::DuplicateFlag { flag, name, .. } => write!(f, "duplicate flag `{flag}` for flags type `{name}`"),
-            Error::InvalidAliasType { name, kind, .. } => write!(f, "`{name}` ({kind}) cannot be used in a type alias"),
-            Error::NotFuncType { name, kind, .. } => write!(f, "`{name}` ({kind}) is not a function type"),
-            Error::NotResourceType { name, kind, .. } => write!(f, "`{name}` ({kind}) is not a resource type"),
-            Error::NotValueType { name, kind, .. } => write!(f, "`{name}` ({kind}) cannot be used as a value type"),
-            Error::DuplicateParameter { kind, name, .. } => write!(f, "duplicate {kind} parameter `{name}`"),
-            Error::DuplicateResult { kind, name, .. } => write!(f, "duplicate {kind} result `{name}`"),
-            Error::BorrowInResult { .. } => f.write_str("function result cannot recursively contain a borrow type"),
+            Error::MissingWorldInclude { world, name, .. } => write!(
+                f,
+                "world `{world}` does not have an import or export named `{name}`"
+            ),
+            Error::WorldIncludeConflict {
+                kind,
+                name,
+                from,
+                to,
+                ..
+            } => write!(
+                f,
+                "{kind} `{name}` from world `{from}` conflicts with {kind} of the same name in world `{to}`"
+            ),
+            Error::UndefinedInterfaceType {
+                name,
+                interface_name,
+                ..
+            } => write!(
+                f,
+                "a type named `{name}` is not defined in interface `{interface_name}`"
+            ),
+            Error::NotInterfaceValueType {
+                name,
+                kind,
+                interface_name,
+                ..
+            } => write!(
+                f,
+                "`{name}` ({kind}) is not a value type in interface `{interface_name}`"
+            ),
+            Error::DuplicateResourceConstructor { resource, .. } => write!(
+                f,
+                "duplicate constructor for resource `{resource}`"
+            ),
+            Error::DuplicateResourceMethod { name, resource, .. } => write!(
+                f,
+                "duplicate method `{name}` for resource `{resource}`"
+            ),
+            Error::DuplicateVariantCase { case, name, .. } => write!(
+                f,
+                "duplicate case `{case}` for variant type `{name}`"
+            ),
+            Error::DuplicateRecordField { field, name, .. } => write!(
+                f,
+                "duplicate field `{field}` for record type `{name}`"
+            ),
+            Error::DuplicateEnumCase { case, name, .. } => write!(
+                f,
+                "duplicate case `{case}` for enum type `{name}`"
+            ),
+            Error::DuplicateFlag { flag, name, .. } => write!(
+                f,
+                "duplicate flag `{flag}` for flags type `{name}`"
+            ),
+            Error::InvalidAliasType { name, kind, .. } => write!(
+                f,
+                "`{name}` ({kind}) cannot be used in a type alias"
+            ),
+            Error::NotFuncType { name, kind, .. } => write!(
+                f,
+                "`{name}` ({kind}) is not a function type"
+            ),
+            Error::NotResourceType { name, kind, .. } => write!(
+                f,
+                "`{name}` ({kind}) is not a resource type"
+            ),
+            Error::NotValueType { name, kind, .. } => write!(
+                f,
+                "`{name}` ({kind}) cannot be used as a value type"
+            ),
+            Error::DuplicateParameter { kind, name, .. } => write!(
+                f,
+                "duplicate {kind} parameter `{name}`"
+            ),
+            Error::DuplicateResult { kind, name, .. } => write!(
+                f,
+                "duplicate {kind} result `{name}`"
+            ),
+            Error::BorrowInResult { .. } => f.write_str(
+                "function result cannot recursively contain a borrow type",
+            ),
             Error::UnknownPackage { name, .. } => write!(f, "unknown package `{name}`"),
-            Error::PackageMissingExport { package, export, kind, path, .. } => match kind {
-                Some(kind) => write!(f, "{kind} `{path}` in package `{package}` has no export named `{export}`"),
+            Error::PackageMissingExport {
+                package,
+                export,
+                kind,
+                path,
+                ..
+            } => match kind {
+                Some(kind) => write!(
+                    f,
+                    "{kind} `{path}` in package `{package}` has no export named `{export}`"
+                ),
                 None => write!(f, "package `{package}` has no export named `{export}`"),
             },
-            Error::PackagePathMissingExport { name, kind, export, .. } => write!(f, "`{name}` ({kind}) has no export named `{export}`"),
-            Error::MissingComponentImport { package, import, .. } => write!(f, "component `{package}` has no import named `{import}`"),
-            Error::MismatchedInstantiationArg { name, .. } => write!(f, "mismatched instantiation argument `{name}`"),
-            Error::DuplicateInstantiationArg { name, .. } => write!(f, "duplicate instantiation argument `{name}`"),
-            Error::MissingInstantiationArg { name, package, .. } => write!(f, "missing instantiation argument `{name}` for package `{package}`"),
-            Error::NotAnInstance { operation, .. } => write!(f, "an instance is required to perform {operation}"),
-            Error::MissingInstanceExport { name, .. } => write!(f, "the instance has no export named `{name}`"),
-            Error::ExportRequiresAs { .. } => f.write_str("export statement requires an `as` clause as the export name cannot be inferred"),
-            Error::DeclarationConflict { name, .. } => write!(f, "type declaration `{name}` conflicts with a previous export of the same name"),
-            Error::ExportConflict { name, kind, .. } => write!(f, "export `{name}` conflicts with {kind} definition"),
+            Error::PackagePathMissingExport {
+                name,
+                kind,
+                export,
+                ..
+            } => write!(f, "`{name}` ({kind}) has no export named `{export}`"),
+            Error::MissingComponentImport {
+                package,
+                import,
+                ..
+            } => write!(f, "component `{package}` has no import named `{import}`"),
+            Error::MismatchedInstantiationArg { name, .. } => write!(
+                f,
+                "mismatched instantiation argument `{name}`"
+            ),
+            Error::DuplicateInstantiationArg { name, .. } => write!(
+                f,
+                "duplicate instantiation argument `{name}`"
+            ),
+            Error::MissingInstantiationArg { name, package, .. } => write!(
+                f,
+                "missing instantiation argument `{name}` for package `{package}`"
+            ),
+            Error::NotAnInstance { operation, .. } => write!(
+                f,
+                "an instance is required to perform {operation}"
+            ),
+            Error::MissingInstanceExport { name, .. } => write!(
+                f,
+                "the instance has no export named `{name}`"
+            ),
+            Error::ExportRequiresAs { .. } => f.write_str(
+                "export statement requires an `as` clause as the export name cannot be inferred",
+            ),
+            Error::DeclarationConflict { name, .. } => write!(
+                f,
+                "type declaration `{name}` conflicts with a previous export of the same name"
+            ),
+            Error::ExportConflict { name, kind, .. } => write!(
+                f,
+                "export `{name}` conflicts with {kind} definition"
+            ),
             Error::DuplicateExternName { kind, name, .. } => write!(f, "duplicate {kind} `{name}`"),
-            Error::InvalidExternName { name, kind, .. } => write!(f, "{kind} name `{name}` is not valid"),
-            Error::UseConflict { kind, name, .. } => write!(f, "use of type `{name}` conflicts with an {kind} of the same name"),
-            Error::FillArgumentNotLast { .. } => f.write_str("implicit import argument `...` must be the last argument"),
-            Error::SpreadInstantiationNoMatch { .. } => f.write_str("the instance has no matching exports for the remaining unsatisfied arguments"),
-            Error::SpreadExportNoEffect { .. } => f.write_str("instance has no exports or all exports of the instance match previously exported names"),
-            Error::ImportNotInTarget { name, world, .. } => write!(f, "target world `{world}` does not have an import named `{name}`"),
-            Error::MissingTargetExport { name, world, .. } => write!(f, "target world `{world}` requires an export named `{name}`"),
-            Error::TargetMismatch { kind, name, world, .. } => write!(f, "{kind} `{name}` has a mismatched type for target world `{world}`"),
+            Error::InvalidExternName { name, kind, .. } => write!(
+                f,
+                "{kind} name `{name}` is not valid"
+            ),
+            Error::UseConflict { kind, name, .. } => write!(
+                f,
+                "use of type `{name}` conflicts with an {kind} of the same name"
+            ),
+            Error::FillArgumentNotLast { .. } => f.write_str(
+                "implicit import argument `...` must be the last argument",
+            ),
+            Error::SpreadInstantiationNoMatch { .. } => f.write_str(
+                "the instance has no matching exports for the remaining unsatisfied arguments",
+            ),
+            Error::SpreadExportNoEffect { .. } => f.write_str(
+                "instance has no exports or all exports of the instance match previously exported names",
+            ),
+            Error::ImportNotInTarget { name, world, .. } => write!(
+                f,
+                "target world `{world}` does not have an import named `{name}`"
+            ),
+            Error::MissingTargetExport { name, world, .. } => write!(
+                f,
+                "target world `{world}` requires an export named `{name}`"
+            ),
+            Error::TargetMismatch {
+                kind,
+                name,
+                world,
+                ..
+            } => write!(
+                f,
+                "{kind} `{name}` has a mismatched type for target world `{world}`"
+            ),
             Error::Memory(_) => f.write_str("out of memory"),
         }
     }
