@@ -15,14 +15,18 @@ use Rattle.wac_graph.proofs.Lists.{get_kept, get_last, set_here, set_other}
 first_of : {X : Type 0} (p : X → Bool) (x : X) (xs : List X) → position p (x ∷ xs) ≡ cond (p x) (Some 0) (option_map suc (position p xs))
 first_of p x xs = go (p x)
   where
+    next : (a n : ℕ) → nat_lt (1 + a) (suc n) ≡ nat_lt a n
+    next a n = grind (arith, nat_tests)
+
     step : (a n : ℕ) → cond (nat_lt (1 + a) (suc n)) (Some (1 + a)) None ≡ option_map suc (cond (nat_lt a n) (Some a) None)
-    step a n = by (nat_lt a n) (let next : 1 + a ≡ suc a = omega arith in ap (λ (m : ℕ). nat_lt m (suc n)) next)
+    step a n = ap (λ (b : Bool). cond b (Some (1 + a)) None) (next a n) ∙ by (nat_lt a n)
       where
-        by : (b : Bool) → nat_lt (1 + a) (suc n) ≡ b → cond (nat_lt (1 + a) (suc n)) (Some (1 + a)) None ≡ option_map suc (cond b (Some a) None)
-        by true h = (let next : 1 + a ≡ suc a = omega arith in rw h (ap Some next))
-        by false h = rw h refl
+        by : (b : Bool) → cond b (Some (1 + a)) None ≡ option_map suc (cond b (Some a) None)
+        by true = (let more : 1 + a ≡ suc a = omega arith in ap Some more)
+        by false = refl
+
     go : (b : Bool) → cond (nat_lt (cond (not b) (1 + position_or_len p xs) 0) (suc (length xs))) (Some (cond (not b) (1 + position_or_len p xs) 0)) None ≡ cond b (Some 0) (option_map suc (position p xs))
-    go true = refl
+    go true = (let first : nat_lt 0 (suc (length xs)) ≡ true = grind (arith, nat_tests) in ap (λ (b : Bool). cond b (Some 0) None) first)
     go false = step (position_or_len p xs) (length xs)
 
 pub position_more : {X : Type 0} (p : X → Bool) (xs : List X) (x : X) → p x ≡ false → position p (xs ++ x ∷ []) ≡ position p xs

@@ -1,5 +1,5 @@
 -- A package that is copied in keeps its contents.
-use Rattle.std.proofs.Common.{◌≡◌, ℕ, List, [], ◌∷◌, length, refl, map}
+use Rattle.std.proofs.Common.{◌≡◌, ◌∙◌, ap, ℕ, List, [], ◌∷◌, length, refl, map}
 use Rattle.wac_types.specs.declared.kind.ItemKind.{ItemKind}
 use Rattle.wac_types.specs.declared.kind.ItemKind.TheVariants as kinds
 use Rattle.wac_types.specs.declared.entry.Entry.{Entry}
@@ -25,7 +25,10 @@ module _ (old new : Parts) (key : Key) (p : PackageParts) (mean : CopiesMean old
       cc
 
 contents : (a b : Contents) → a.world ≡ b.world → a.instance ≡ b.instance → a.definitions ≡ b.definitions → a ≡ b
-contents a b w i d = cc
+contents a b w i d =
+    ap (λ (m : Meaning). record { world = m; instance = a.instance; definitions = a.definitions }) w
+    ∙ ap (λ (m : Meaning). record { world = b.world; instance = m; definitions = a.definitions }) i
+    ∙ ap (λ (l : Named Meaning). record { world = b.world; instance = b.instance; definitions = l }) d
 
 pub holds_contents : (old new : Parts) (key : Key) (p : PackageParts) → IsPackage p → CopiesMean old new key p → HoldsContents old new key p
 holds_contents old new key p h mean naming = contents _ _
