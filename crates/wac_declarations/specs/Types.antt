@@ -47,30 +47,6 @@ abbrev mutual
   types_of_row code.end_of-Type = Types.none
   types_of_row (code.more_of-Type t others) = Types.more (ty_of t) (types_of_row others)
 
-abbrev pub ty_span : Ty → Span
-ty_span (Ty.u8 s) = s
-ty_span (Ty.s8 s) = s
-ty_span (Ty.u16 s) = s
-ty_span (Ty.s16 s) = s
-ty_span (Ty.u32 s) = s
-ty_span (Ty.s32 s) = s
-ty_span (Ty.u64 s) = s
-ty_span (Ty.s64 s) = s
-ty_span (Ty.f32 s) = s
-ty_span (Ty.f64 s) = s
-ty_span (Ty.char s) = s
-ty_span (Ty.bool s) = s
-ty_span (Ty.string s) = s
-ty_span (Ty.tuple _ s) = s
-ty_span (Ty.list _ s) = s
-ty_span (Ty.option _ s) = s
-ty_span (Ty.result _ _ s) = s
-ty_span (Ty.borrow _ s) = s
-ty_span (Ty.stream _ s) = s
-ty_span (Ty.future _ s) = s
-ty_span (Ty.error_context s) = s
-ty_span (Ty.ident id) = id.span
-
 -- an optional type in a box
 abbrev pub optional_of : Option (Box code.Type Global) → OptionalTy
 optional_of None = OptionalTy.absent

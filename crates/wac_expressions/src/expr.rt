@@ -13,7 +13,8 @@ ghost use Rattle.wac_syntax.specs.Error.{told_by};
 ghost use Rattle.wac_syntax.specs.Lookahead.{Peeks, looked, tried, told_of};
 ghost use Rattle.wac_syntax.specs.Lists.{unclosed};
 ghost use Rattle.wac_syntax.specs.Answer.{Gives};
-ghost use Rattle.wac_expressions.specs.Expressions.{access_expr_of, named_access_expr_of, postfix_expr_of, primary_expr_of, expr_of, new_expr_of, nested_expr_of, argument_of, argument_name_of, named_argument_of, argument_name_span, argument_name_text, after_primary};
+ghost use Rattle.wac_expressions.specs.Expressions.{access_expr_of, named_access_expr_of, postfix_expr_of, primary_expr_of, expr_of, new_expr_of, nested_expr_of, argument_of, argument_name_of, named_argument_of, after_primary};
+ghost use Rattle.wac_grammar.specs.Spans.{argument_name_span, argument_name_text};
 
 use std::alloc::Global;
 use std::fmt;

@@ -16,3 +16,5 @@ pub mod TokenTexts
 pub mod TextTree
 pub mod Walk
 pub mod Leaves
+pub mod Spans
+pub mod Segments

@@ -6,7 +6,7 @@ ghost use Rattle.wac_grammar.specs.Grammar as symbols;
 ghost use Rattle.wac_grammar.specs.Reading.{begins};
 ghost use Rattle.wac_syntax.specs.Lookahead.{Peeks};
 ghost use Rattle.wac_grammar.specs.Version.{path_name, after_slash, is_slash};
-ghost use Rattle.wac_syntax.specs.Segments.{package_name_span, segment_spans};
+ghost use Rattle.wac_grammar.specs.Segments.{package_name_span, segment_spans};
 ghost use Rattle.wac_syntax.specs.Names.{package_name_of, package_path_of};
 
 use crate::error::ParseResult;
