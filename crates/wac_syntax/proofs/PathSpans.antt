@@ -10,7 +10,7 @@ use Rattle.wac_lexer.specs.Reading.{slice}
 use Rattle.wac_grammar.specs.Version.{is_slash, is_at_sign, unversioned, path_name, path_segments}
 use Rattle.wac_grammar.specs.Tree.{PackagePath}
 use Rattle.wac_grammar.specs.Spelled.{spelled}
-use Rattle.wac_syntax.specs.Segments.{behind, located, segments_from, segment_spans, package_name_span}
+use Rattle.wac_grammar.specs.Segments.{behind, located, segments_from, segment_spans, package_name_span}
 
 module _ (source : List ℕ) where
   -- each part is the slice at its span

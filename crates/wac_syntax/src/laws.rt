@@ -9,7 +9,7 @@ ghost use Rattle.wac_grammar.specs.Tree.{PackagePath};
 ghost use Rattle.wac_syntax.specs.declared.error.Error.{Error};
 ghost use Rattle.wac_syntax.specs.Answer.{Gives};
 ghost use Rattle.wac_syntax.specs.FirstFault.{Answers};
-ghost use Rattle.wac_syntax.specs.Segments.{package_name_span, segment_spans};
+ghost use Rattle.wac_grammar.specs.Segments.{package_name_span, segment_spans};
 
 use crate::parse::Parse;
 
