@@ -1,5 +1,5 @@
 -- The trees of types.
-use Rattle.std.specs.Prelude.{◌≡◌, ℕ, List, [], ◌∷◌, map, Option, Some, None, Ok, Box}
+use Rattle.std.specs.Prelude.{◌≡◌, List, [], ◌∷◌, Option, Some, None, Ok, Box}
 use Rattle.std.proofs.Common.{Global, inl, inr}
 use Rattle.wac_lexer.specs.Span.{Span}
 use Rattle.wac_lexer.specs.Item.{Item, Handed, behind_first}
@@ -9,7 +9,7 @@ use Rattle.wac_lexer.specs.declared.token.Token.{Token}
 use Rattle.wac_lexer.specs.declared.token.Token.TheVariants as tokens
 use Rattle.wac_grammar.specs.Tree.{Ty, Types, OptionalTy, join}
 use Rattle.wac_grammar.specs.Grammar.{Grammar, Parts, token, sym, optional, ◌▸◌, ty, payload, result_part}
-use Rattle.wac_grammar.specs.Reading.{refuse, mapped, read, read_in}
+use Rattle.wac_grammar.specs.Reading.{refuse, mapped, read}
 use Rattle.wac_syntax.specs.Lists.{Reads}
 use Rattle.wac_syntax.specs.Names.{ident_of}
 use Rattle.wac_declarations.specs.declared.types.Type as code
