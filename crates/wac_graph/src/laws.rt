@@ -3,15 +3,28 @@ ghost use Rattle.std.specs.Prelude.{◌≡◌, ◌<◌, ◌↔◌, ℕ, List, []
 ghost use Rattle.wac_types.specs.declared.entry.Entry.{Entry as AnEntry};
 ghost use Rattle.wac_types.specs.declared.kind.ItemKind.{ItemKind as Kind};
 ghost use Rattle.wac_types.specs.Package.{PackageParts};
-ghost use Rattle.wac_types.specs.Readings.{instance_exports};
+ghost use Rattle.wac_types.specs.declared.kind.InterfaceId.{InterfaceId as AnInterface};
+ghost use Rattle.wac_types.specs.declared.kind.WorldId.{WorldId as AWorld};
+ghost use Rattle.wac_types.specs.Readings.{instance_exports, interface_exports, world_exports, world_imports};
+ghost use Rattle.wac_types.specs.Shape.{exports_of, imports_of, items_mean};
+ghost use Rattle.wac_types.specs.Table.{Names};
 ghost use Rattle.wac_types.specs.Scope.{look_up, IsFresh};
 ghost use Rattle.wac_graph_copies.specs.Copied.{IsGrown};
 ghost use Rattle.wac_graph.specs.Graph.{Parts, with_entry, with_package, with_import, with_definition, with_export, with_alias, with_instantiation, with_name, with_argument, export_kind, import_kind, parameter_kind, package_of, arguments_of, alias_in};
 ghost use Rattle.wac_graph.specs.Kept.{Keeps};
-ghost use Rattle.wac_graph.specs.Means.{KeepsKinds};
+ghost use Rattle.wac_graph.specs.Means.{entry_means, EntriesMean, KeepsKinds};
 ghost use Rattle.wac_graph.specs.Origin.{Naming};
 ghost use Rattle.wac_graph.specs.Package.{Key, HeldPackage, IsHeld, same_key};
 ghost use Rattle.wac_graph.specs.Packages.{contents_in};
+
+use wac_types::ItemKind;
+
+/// What interfaces and worlds export and import, in the table's order, is what their meanings do.
+pub fn tables_mean()
+    ensures interfaces { (g : Parts) (naming : Naming) (id : AnInterface) → EntriesMean g → Names g.types (ItemKind.Instance id) → exports_of (entry_means naming g id.0) ≡ items_mean (entry_means naming g) (interface_exports g.types id.0) }
+    ensures worlds { (g : Parts) (naming : Naming) (id : AWorld) → EntriesMean g → Names g.types (ItemKind.Component id) → exports_of (entry_means naming g id.0) ≡ items_mean (entry_means naming g) (world_exports g.types id.0) }
+    ensures imports { (g : Parts) (naming : Naming) (id : AWorld) → EntriesMean g → Names g.types (ItemKind.Component id) → imports_of (entry_means naming g id.0) ≡ items_mean (entry_means naming g) (world_imports g.types id.0) }
+{}
 
 /// Keys are the same where their names and their versions' texts are.
 pub fn keys_are_compared()
