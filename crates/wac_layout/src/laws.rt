@@ -1,13 +1,12 @@
 // Laws of printed pieces. Each function does nothing: its contract is the law.
-ghost use Rattle.std.specs.Prelude.{◌≡◌, ◌↔◌, ◌++◌, ◌==◌, ℕ, Bool, List, [], ◌∷◌, map, length, true, Some, if◌then◌else◌};
+ghost use Rattle.std.specs.Prelude.{◌≡◌, ◌↔◌, ◌++◌, ◌==◌, ℕ, Bool, List, [], ◌∷◌, map, length, if◌then◌else◌};
 ghost use Rattle.std.specs.List.{AllByRecursion};
 ghost use Rattle.std.specs.Str.{IsUtf8, trim};
 ghost use Rattle.std.specs.Str.Lines.{lines};
-ghost use Rattle.wac_lexer.specs.Follow.{follows};
+ghost use Rattle.wac_lexer.specs.Follow.{Follows};
 ghost use Rattle.wac_lexer.specs.Items.{items};
 ghost use Rattle.wac_lexer.specs.Reading.{slice, Slices};
 ghost use Rattle.wac_lexer.specs.Span.{Span};
-ghost use Rattle.wac_lexer.specs.Tokens.{token_of};
 ghost use Rattle.wac_lexer.specs.declared.token.Token.{Token};
 ghost use Rattle.wac_grammar.specs.Tree.{Document, Statement};
 ghost use Rattle.wac_layout.specs.Accepted.{IsAccepted, ItemIsAccepted};
@@ -35,7 +34,7 @@ pub fn pieces_are_put_together()
     ensures text { (space : List ℕ) (fresh : Bool) (ps qs : List Piece) → text space fresh (ps ++ qs) ≡ text space fresh ps ++ text space (fresh_behind space fresh ps) qs }
     ensures fresh { (space : List ℕ) (fresh : Bool) (ps : List Piece) → fresh_behind space fresh ps ≡ fresh_after fresh (text space fresh ps) }
     ensures joins { (rest space : List ℕ) (fresh : Bool) (ps qs : List Piece) → let later = fresh_behind space fresh ps in JoinsBefore rest space fresh (ps ++ qs) ↔ (JoinsBefore (text space later qs ++ rest) space fresh ps × JoinsBefore rest space later qs) }
-    ensures token { (t rest : List ℕ) (kind : Token) → IsAccepted t → token_of t ≡ Some kind → follows kind rest ≡ true → Stands t rest }
+    ensures token { (t rest : List ℕ) (kind : Token) → IsAccepted t → Follows kind t rest → Stands t rest }
 {}
 
 /// The pieces of a document join where each of its texts is spelled as its sort: an identifier, a string, a package's name or path, a line of docs.
