@@ -16,3 +16,5 @@ pub mod Firsts
 pub mod InFront
 pub mod Followed
 pub mod Passing
+pub mod Found
+pub mod Ahead
