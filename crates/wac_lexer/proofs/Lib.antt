@@ -18,3 +18,5 @@ pub mod InFront
 pub mod Followed
 pub mod Passing
 pub mod Standing
+pub mod Found
+pub mod Ahead
