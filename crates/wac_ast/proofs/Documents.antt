@@ -1,19 +1,18 @@
 -- The clauses of parsing a text, from what reading its items gives.
-use Rattle.std.proofs.Common.{◌≡◌, ℕ, List, [], ◌++◌, Option, Some, None, Result, Ok, Err, refl, sym as back, ap, subst, ◌∙◌, ◌⊎◌, inl, inr}
+use Rattle.std.proofs.Common.{◌≡◌, ℕ, List, [], Option, Some, None, Result, Ok, Err, refl, sym as back, ap, subst, ◌∙◌, ◌⊎◌, inl, inr}
 use Rattle.std.specs.Prelude.{IfOk, IfErr, MatchResult, alloc_error}
 use Rattle.std.proofs.lemmas.List.{append-nil}
 use Rattle.wac_lexer.specs.Span.{Span}
 use Rattle.wac_lexer.specs.Item.{Item}
 use Rattle.wac_lexer.specs.Items.{items}
-use Rattle.wac_lexer.specs.Characters.{refused}
 use Rattle.wac_lexer.specs.declared.error.Error.{Error as Fault}
 use Rattle.wac_grammar.specs.Tree.{Document}
 use Rattle.wac_grammar.specs.Grammar.{document, Derives}
-use Rattle.wac_grammar.specs.Reading.{Stop, read}
+use Rattle.wac_grammar.specs.Reading.{read}
 use Rattle.wac_grammar.specs.TextTree.{IsTreeOf}
 use Rattle.wac_syntax.specs.declared.error.Error.{Error}
 use Rattle.wac_syntax.specs.declared.error.Error.TheVariants as errors
-use Rattle.wac_syntax.specs.Error.{Told, told_by}
+use Rattle.wac_syntax.specs.Error.{told_by}
 use Rattle.wac_syntax.specs.Answer.{told_in}
 use Rattle.wac_syntax.specs.FirstFault.{TellsFirstFault}
 use Rattle.wac_ast.specs.Document.{ErrorOf, end_of_text, refused_or, Parses}

@@ -1,4 +1,3 @@
-use Rattle.std.proofs.Common.{◌≡◌}
 use Rattle.wac_ast.specs.Statements.{document_of}
 use Rattle.wac_ast.proofs.Documents.{is_found, is_only, is_one, is_error}
 use Rattle.wac_grammar.proofs.Ordered.{is_sliced}
