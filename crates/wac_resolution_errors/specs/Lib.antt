@@ -1,3 +1,6 @@
 pub mod Error
 pub mod Told
 pub mod Messages
+pub mod Shapes
+pub mod Shown
+pub mod Rows

@@ -2,10 +2,14 @@
 
 ghost use Rattle.std.specs.Prelude.{◌≡◌, alloc_error};
 ghost use Rattle.wac_resolution_errors.specs.declared.error.Error.TheVariants.{Memory};
+ghost use Rattle.wac_resolution_errors.specs.Messages.{text_of};
+ghost use Rattle.wac_resolution_errors.specs.Shown.{shown};
+ghost use Rattle.wac_resolution_errors.specs.Told.{told};
 
+use crate::message::Message;
 use crate::operation::InstanceOperation;
 use std::alloc::{AllocError, AllocFailed};
-use std::fmt;
+use std::fmt::{self, Display};
 use wac_lexer::SourceSpan;
 use wac_types::{ExternKind, FuncKind, Reason};
 
@@ -439,51 +443,68 @@ pub type ResolutionResult<T> = Result<T, Error>;
 
 impl fmt::Display for Error {
     ghost use Rattle.std.specs.Prelude.{Some};
-    ghost use Rattle.wac_resolution_errors.specs.Messages.{text_of};
-    ghost use Rattle.wac_resolution_errors.specs.Told.{told};
 
     ghost output = { λ e. Some (text_of (told e)) };
 
     fn fmt<W: fmt::Write>(&self, f: &mut fmt::Formatter<W>) -> fmt::Result {
+        self.message().fmt(f)
+    }
+}
+
+impl Error {
+    /// What is said, as names and the words around them.
+    fn message(&self) -> Message<'_>
+        ensures { shown result ≡ text_of (told self.now) }
+    {
         match self {
-            Error::UndefinedName { name, .. } => write!(f, "undefined name `{name}`"),
-            Error::DuplicateName { name, .. } => write!(f, "`{name}` is already defined"),
+            Error::UndefinedName { name, .. } => Message::Quoted("undefined name ", name, ""),
+            Error::DuplicateName { name, .. } => Message::Quoted("", name, " is already defined"),
             Error::DuplicateInterfaceExport {
                 name,
-                interface_name,
+                interface_name: Some(interface),
                 ..
-            } => match interface_name {
-                Some(interface) => write!(
-                    f,
-                    "duplicate interface export `{name}` for interface `{interface}`"
-                ),
-                None => write!(f, "duplicate interface export `{name}`"),
-            },
+            } => Message::Pair(
+                "duplicate interface export ",
+                name,
+                " for interface ",
+                interface,
+            ),
+            Error::DuplicateInterfaceExport {
+                name,
+                interface_name: None,
+                ..
+            } => Message::Quoted("duplicate interface export ", name, ""),
             Error::DuplicateWorldItem {
                 kind,
                 name,
                 world,
                 ..
-            } => write!(
-                f,
-                "{kind} `{name}` conflicts with existing {kind} of the same name in world `{world}`"
+            } => Message::WorldItem {
+                kind: *kind,
+                name,
+                world,
+            },
+            Error::NotFuncOrInterface { name, kind, .. } => Message::Kinded(
+                name,
+                kind,
+                "is not a function type or interface",
             ),
-            Error::NotFuncOrInterface { name, kind, .. } => write!(
-                f,
-                "`{name}` ({kind}) is not a function type or interface"
+            Error::NotInterface { name, kind, .. } => Message::Kinded(
+                name,
+                kind,
+                "is not an interface",
             ),
-            Error::NotInterface { name, kind, .. } => write!(
-                f,
-                "`{name}` ({kind}) is not an interface"
+            Error::DuplicateWorldIncludeName { name, .. } => Message::Quoted(
+                "duplicate ",
+                name,
+                " in world include `with` clause",
             ),
-            Error::DuplicateWorldIncludeName { name, .. } => write!(
-                f,
-                "duplicate `{name}` in world include `with` clause"
-            ),
-            Error::NotWorld { name, kind, .. } => write!(f, "`{name}` ({kind}) is not a world"),
-            Error::MissingWorldInclude { world, name, .. } => write!(
-                f,
-                "world `{world}` does not have an import or export named `{name}`"
+            Error::NotWorld { name, kind, .. } => Message::Kinded(name, kind, "is not a world"),
+            Error::MissingWorldInclude { world, name, .. } => Message::Pair(
+                "world ",
+                world,
+                " does not have an import or export named ",
+                name,
             ),
             Error::WorldIncludeConflict {
                 kind,
@@ -491,170 +512,201 @@ impl fmt::Display for Error {
                 from,
                 to,
                 ..
-            } => write!(
-                f,
-                "{kind} `{name}` from world `{from}` conflicts with {kind} of the same name in world `{to}`"
-            ),
+            } => Message::IncludeConflict {
+                kind: *kind,
+                name,
+                from,
+                to,
+            },
             Error::UndefinedInterfaceType {
                 name,
                 interface_name,
                 ..
-            } => write!(
-                f,
-                "a type named `{name}` is not defined in interface `{interface_name}`"
+            } => Message::Pair(
+                "a type named ",
+                name,
+                " is not defined in interface ",
+                interface_name,
             ),
             Error::NotInterfaceValueType {
                 name,
                 kind,
                 interface_name,
                 ..
-            } => write!(
-                f,
-                "`{name}` ({kind}) is not a value type in interface `{interface_name}`"
+            } => Message::KindedWithin(
+                name,
+                kind,
+                "is not a value type in interface",
+                interface_name,
             ),
-            Error::DuplicateResourceConstructor { resource, .. } => write!(
-                f,
-                "duplicate constructor for resource `{resource}`"
+            Error::DuplicateResourceConstructor { resource, .. } => Message::Quoted(
+                "duplicate constructor for resource ",
+                resource,
+                "",
             ),
-            Error::DuplicateResourceMethod { name, resource, .. } => write!(
-                f,
-                "duplicate method `{name}` for resource `{resource}`"
+            Error::DuplicateResourceMethod { name, resource, .. } => Message::Pair(
+                "duplicate method ",
+                name,
+                " for resource ",
+                resource,
             ),
-            Error::DuplicateVariantCase { case, name, .. } => write!(
-                f,
-                "duplicate case `{case}` for variant type `{name}`"
+            Error::DuplicateVariantCase { case, name, .. } => Message::Pair(
+                "duplicate case ",
+                case,
+                " for variant type ",
+                name,
             ),
-            Error::DuplicateRecordField { field, name, .. } => write!(
-                f,
-                "duplicate field `{field}` for record type `{name}`"
+            Error::DuplicateRecordField { field, name, .. } => Message::Pair(
+                "duplicate field ",
+                field,
+                " for record type ",
+                name,
             ),
-            Error::DuplicateEnumCase { case, name, .. } => write!(
-                f,
-                "duplicate case `{case}` for enum type `{name}`"
+            Error::DuplicateEnumCase { case, name, .. } => Message::Pair(
+                "duplicate case ",
+                case,
+                " for enum type ",
+                name,
             ),
-            Error::DuplicateFlag { flag, name, .. } => write!(
-                f,
-                "duplicate flag `{flag}` for flags type `{name}`"
+            Error::DuplicateFlag { flag, name, .. } => Message::Pair(
+                "duplicate flag ",
+                flag,
+                " for flags type ",
+                name,
             ),
-            Error::InvalidAliasType { name, kind, .. } => write!(
-                f,
-                "`{name}` ({kind}) cannot be used in a type alias"
+            Error::InvalidAliasType { name, kind, .. } => Message::Kinded(
+                name,
+                kind,
+                "cannot be used in a type alias",
             ),
-            Error::NotFuncType { name, kind, .. } => write!(
-                f,
-                "`{name}` ({kind}) is not a function type"
+            Error::NotFuncType { name, kind, .. } => Message::Kinded(
+                name,
+                kind,
+                "is not a function type",
             ),
-            Error::NotResourceType { name, kind, .. } => write!(
-                f,
-                "`{name}` ({kind}) is not a resource type"
+            Error::NotResourceType { name, kind, .. } => Message::Kinded(
+                name,
+                kind,
+                "is not a resource type",
             ),
-            Error::NotValueType { name, kind, .. } => write!(
-                f,
-                "`{name}` ({kind}) cannot be used as a value type"
+            Error::NotValueType { name, kind, .. } => Message::Kinded(
+                name,
+                kind,
+                "cannot be used as a value type",
             ),
-            Error::DuplicateParameter { kind, name, .. } => write!(
-                f,
-                "duplicate {kind} parameter `{name}`"
+            Error::DuplicateParameter { kind, name, .. } => Message::PartOfFunction(
+                *kind,
+                "parameter",
+                name,
             ),
-            Error::DuplicateResult { kind, name, .. } => write!(
-                f,
-                "duplicate {kind} result `{name}`"
+            Error::DuplicateResult { kind, name, .. } => Message::PartOfFunction(
+                *kind, "result", name,
             ),
-            Error::BorrowInResult { .. } => f.write_str(
+            Error::BorrowInResult { .. } => Message::Plain(
                 "function result cannot recursively contain a borrow type",
             ),
-            Error::UnknownPackage { name, .. } => write!(f, "unknown package `{name}`"),
+            Error::UnknownPackage { name, .. } => Message::Quoted("unknown package ", name, ""),
             Error::PackageMissingExport {
                 package,
                 export,
-                kind,
+                kind: Some(kind),
                 path,
                 ..
-            } => match kind {
-                Some(kind) => write!(
-                    f,
-                    "{kind} `{path}` in package `{package}` has no export named `{export}`"
-                ),
-                None => write!(f, "package `{package}` has no export named `{export}`"),
+            } => Message::MissingExport {
+                kind,
+                path,
+                package,
+                export,
             },
+            Error::PackageMissingExport {
+                package,
+                export,
+                kind: None,
+                ..
+            } => Message::Pair("package ", package, " has no export named ", export),
             Error::PackagePathMissingExport {
                 name,
                 kind,
                 export,
                 ..
-            } => write!(f, "`{name}` ({kind}) has no export named `{export}`"),
+            } => Message::KindedWithin(name, kind, "has no export named", export),
             Error::MissingComponentImport {
                 package,
                 import,
                 ..
-            } => write!(f, "component `{package}` has no import named `{import}`"),
-            Error::MismatchedInstantiationArg { name, .. } => write!(
-                f,
-                "mismatched instantiation argument `{name}`"
+            } => Message::Pair("component ", package, " has no import named ", import),
+            Error::MismatchedInstantiationArg { name, .. } => Message::Quoted(
+                "mismatched instantiation argument ",
+                name,
+                "",
             ),
-            Error::DuplicateInstantiationArg { name, .. } => write!(
-                f,
-                "duplicate instantiation argument `{name}`"
+            Error::DuplicateInstantiationArg { name, .. } => Message::Quoted(
+                "duplicate instantiation argument ",
+                name,
+                "",
             ),
-            Error::MissingInstantiationArg { name, package, .. } => write!(
-                f,
-                "missing instantiation argument `{name}` for package `{package}`"
+            Error::MissingInstantiationArg { name, package, .. } => Message::Pair(
+                "missing instantiation argument ",
+                name,
+                " for package ",
+                package,
             ),
-            Error::NotAnInstance { operation, .. } => write!(
-                f,
-                "an instance is required to perform {operation}"
+            Error::NotAnInstance { operation, .. } => Message::InstanceRequired(*operation),
+            Error::MissingInstanceExport { name, .. } => Message::Quoted(
+                "the instance has no export named ",
+                name,
+                "",
             ),
-            Error::MissingInstanceExport { name, .. } => write!(
-                f,
-                "the instance has no export named `{name}`"
-            ),
-            Error::ExportRequiresAs { .. } => f.write_str(
+            Error::ExportRequiresAs { .. } => Message::Plain(
                 "export statement requires an `as` clause as the export name cannot be inferred",
             ),
-            Error::DeclarationConflict { name, .. } => write!(
-                f,
-                "type declaration `{name}` conflicts with a previous export of the same name"
+            Error::DeclarationConflict { name, .. } => Message::Quoted(
+                "type declaration ",
+                name,
+                " conflicts with a previous export of the same name",
             ),
-            Error::ExportConflict { name, kind, .. } => write!(
-                f,
-                "export `{name}` conflicts with {kind} definition"
-            ),
-            Error::DuplicateExternName { kind, name, .. } => write!(f, "duplicate {kind} `{name}`"),
-            Error::InvalidExternName { name, kind, .. } => write!(
-                f,
-                "{kind} name `{name}` is not valid"
-            ),
-            Error::UseConflict { kind, name, .. } => write!(
-                f,
-                "use of type `{name}` conflicts with an {kind} of the same name"
-            ),
-            Error::FillArgumentNotLast { .. } => f.write_str(
+            Error::ExportConflict { name, kind, .. } => Message::ExportConflict { name, kind },
+            Error::DuplicateExternName { kind, name, .. } => Message::ExternName {
+                kind: *kind,
+                name,
+            },
+            Error::InvalidExternName { name, kind, .. } => Message::InvalidName {
+                kind: *kind,
+                name,
+            },
+            Error::UseConflict { kind, name, .. } => Message::UseConflict { kind: *kind, name },
+            Error::FillArgumentNotLast { .. } => Message::Plain(
                 "implicit import argument `...` must be the last argument",
             ),
-            Error::SpreadInstantiationNoMatch { .. } => f.write_str(
+            Error::SpreadInstantiationNoMatch { .. } => Message::Plain(
                 "the instance has no matching exports for the remaining unsatisfied arguments",
             ),
-            Error::SpreadExportNoEffect { .. } => f.write_str(
+            Error::SpreadExportNoEffect { .. } => Message::Plain(
                 "instance has no exports or all exports of the instance match previously exported names",
             ),
-            Error::ImportNotInTarget { name, world, .. } => write!(
-                f,
-                "target world `{world}` does not have an import named `{name}`"
+            Error::ImportNotInTarget { name, world, .. } => Message::Pair(
+                "target world ",
+                world,
+                " does not have an import named ",
+                name,
             ),
-            Error::MissingTargetExport { name, world, .. } => write!(
-                f,
-                "target world `{world}` requires an export named `{name}`"
+            Error::MissingTargetExport { name, world, .. } => Message::Pair(
+                "target world ",
+                world,
+                " requires an export named ",
+                name,
             ),
             Error::TargetMismatch {
                 kind,
                 name,
                 world,
                 ..
-            } => write!(
-                f,
-                "{kind} `{name}` has a mismatched type for target world `{world}`"
-            ),
-            Error::Memory(_) => f.write_str("out of memory"),
+            } => Message::TargetMismatch {
+                kind: *kind,
+                name,
+                world,
+            },
+            Error::Memory(_) => Message::Plain("out of memory"),
         }
     }
 }

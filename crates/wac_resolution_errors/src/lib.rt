@@ -2,6 +2,7 @@
 #![tactic(auto)]
 
 mod error;
+mod message;
 mod operation;
 
 pub use error::{Error, ResolutionResult};
