@@ -179,17 +179,17 @@ pub fn make(
     }
 }
 
-/// Takes the steps up to the first that gives another number than is written beside it; its place.
+/// Takes the steps, up to one that gives another number than is written beside it; whether there is none.
 pub fn make_all(
     alloc: Global,
     graph: &mut CompositionGraph,
     package: &Package,
     steps: &[(Step<'_>, Option<usize>)],
-) -> Result<Option<usize>, AllocError> {
-    for (at, (step, number)) in steps.iter().enumerate() {
+) -> Result<bool, AllocError> {
+    for (step, number) in steps {
         if make(alloc, graph, package, *step)? != *number {
-            return Ok(Some(at));
+            return Ok(false);
         }
     }
-    Ok(None)
+    Ok(true)
 }

@@ -13,8 +13,11 @@ use wac_graph::{
     PrimitiveType, Resource, ValueType, World,
 };
 
-/// Calls, and the number of what each adds or changes; none where it may not be made.
-const STEPS: [(Step<'static>, Option<usize>); 32] = [
+type Steps = &'static [(Step<'static>, Option<usize>)];
+
+// Calls, and the number of what each adds or changes; none where it may not be made.
+
+const ADDED: Steps = &[
     (Step::Import("a"), Some(0)),
     (Step::Import("b"), Some(1)),
     (Step::Import("a"), None),
@@ -24,6 +27,9 @@ const STEPS: [(Step<'static>, Option<usize>); 32] = [
     (Step::Instantiate(0), Some(2)),
     (Step::Instantiate(1), Some(3)),
     (Step::Instantiate(2), None),
+];
+
+const EXPORTED: Steps = &[
     (Step::Define("t"), Some(4)),
     (Step::Define("u"), Some(5)),
     (Step::Define("t"), None),
@@ -31,7 +37,10 @@ const STEPS: [(Step<'static>, Option<usize>); 32] = [
     (Step::Export(0, "y"), Some(0)),
     (Step::Export(1, "y"), None),
     (Step::Export(9, "z"), None),
-    // The second import first, and then the first one.
+];
+
+/// The second import first, and then the first one.
+const GIVEN: Steps = &[
     (Step::Give(2, "x:y/z", 1), Some(2)),
     (Step::Give(2, "log", 0), Some(2)),
     (Step::Give(2, "log", 1), None),
@@ -39,6 +48,9 @@ const STEPS: [(Step<'static>, Option<usize>); 32] = [
     (Step::Give(3, "log", 3), None),
     (Step::Give(3, "log", 2), Some(3)),
     (Step::Give(0, "log", 0), None),
+];
+
+const NAMED: Steps = &[
     (Step::Alias(2, "run"), Some(6)),
     (Step::Alias(3, "run"), Some(7)),
     (Step::Alias(2, "run"), Some(6)),
@@ -64,16 +76,57 @@ const COMPOSED: &str = "a=0 b=1 \n\
     c:d Some(\"1.0.0\") 0+11 10 9 w=Ty(World(WorldId(10)))\n\
     c:d Some(\"1.0.1\") 11+11 21 20 w=Ty(World(WorldId(21)))\n";
 
-/// Takes the steps; the place of the first that went wrong.
-fn compose(alloc: Global, graph: &mut CompositionGraph) -> Result<Option<usize>, PackageError> {
+fn add(alloc: Global, graph: &mut CompositionGraph, package: &Package) -> Result<bool, AllocError> {
+    make_all(alloc, graph, package, ADDED)
+}
+
+fn export(
+    alloc: Global,
+    graph: &mut CompositionGraph,
+    package: &Package,
+) -> Result<bool, AllocError> {
+    make_all(alloc, graph, package, EXPORTED)
+}
+
+fn give(
+    alloc: Global,
+    graph: &mut CompositionGraph,
+    package: &Package,
+) -> Result<bool, AllocError> {
+    make_all(alloc, graph, package, GIVEN)
+}
+
+fn name(
+    alloc: Global,
+    graph: &mut CompositionGraph,
+    package: &Package,
+) -> Result<bool, AllocError> {
+    make_all(alloc, graph, package, NAMED)
+}
+
+/// Takes the steps of all lists, up to a step that gives another number than is written beside it.
+fn take_all(
+    alloc: Global,
+    graph: &mut CompositionGraph,
+    package: &Package,
+) -> Result<bool, AllocError> {
+    Ok(
+        add(alloc, graph, package)?
+            && export(alloc, graph, package)?
+            && give(alloc, graph, package)?
+            && name(alloc, graph, package)?,
+    )
+}
+
+fn compose(alloc: Global, graph: &mut CompositionGraph) -> Result<bool, PackageError> {
     let package = component(alloc)?;
-    Ok(make_all(alloc, graph, &package, &STEPS)?)
+    Ok(take_all(alloc, graph, &package)?)
 }
 
 #[test]
 fn composes(rt: HostRuntime) -> Result<(), Fail> {
     let mut graph = CompositionGraph::new(rt.alloc());
-    assert_eq!(rt; compose(rt.alloc(), &mut graph)?, None);
+    assert!(rt; compose(rt.alloc(), &mut graph)?);
     let text = shown(rt.alloc(), &graph)?;
     assert_eq!(rt; text.as_str(), COMPOSED);
     // A world means what it does itself, and each copy has resources of its own.
@@ -83,13 +136,18 @@ fn composes(rt: HostRuntime) -> Result<(), Fail> {
     Ok(())
 }
 
-const NUMBERS: [(Asked<'static>, Option<usize>); 14] = [
+type Lookups = &'static [(Asked<'static>, Option<usize>)];
+
+const NODES: Lookups = &[
     (Asked::Import("a"), Some(0)),
     (Asked::Import("b"), Some(1)),
     (Asked::Import("x"), None),
     (Asked::Export("u"), Some(5)),
     (Asked::Export("y"), Some(0)),
     (Asked::Export("a"), None),
+];
+
+const INSTANCES: Lookups = &[
     (Asked::Argument(2, "log"), Some(0)),
     (Asked::Argument(3, "log"), Some(2)),
     (Asked::Argument(3, "x:y/z"), None),
@@ -99,6 +157,16 @@ const NUMBERS: [(Asked<'static>, Option<usize>); 14] = [
     (Asked::Instance(0), None),
     (Asked::Instance(8), None),
 ];
+
+/// Whether each name finds the number that is written beside it.
+fn finds_nodes(graph: &CompositionGraph, rows: Lookups) -> bool {
+    for (asked, number) in rows {
+        if found(graph, *asked) != *number {
+            return false;
+        }
+    }
+    true
+}
 
 const FUNCTION: Option<&str> = Some("function");
 
@@ -114,6 +182,16 @@ const KINDS: [(Named<'static>, Option<&str>); 9] = [
     (Named::OfWorld(2, "run"), None),
 ];
 
+/// Whether each name finds a kind that is called what is written beside it.
+fn finds_kinds(graph: &CompositionGraph) -> bool {
+    for (named, desc) in KINDS {
+        if kind(graph, named) != desc {
+            return false;
+        }
+    }
+    true
+}
+
 /// The package under these names and versions.
 const KEYS: [(&str, &str, Option<PackageId>); 4] = [
     ("c:d", "1.0.0", Some(PackageId(0))),
@@ -126,12 +204,9 @@ const KEYS: [(&str, &str, Option<PackageId>); 4] = [
 fn finds_by_name(rt: HostRuntime) -> Result<(), Fail> {
     let mut graph = CompositionGraph::new(rt.alloc());
     compose(rt.alloc(), &mut graph)?;
-    for (asked, number) in NUMBERS {
-        assert_eq!(rt; found(&graph, asked), number);
-    }
-    for (named, desc) in KINDS {
-        assert_eq!(rt; kind(&graph, named), desc);
-    }
+    assert!(rt; finds_nodes(&graph, NODES));
+    assert!(rt; finds_nodes(&graph, INSTANCES));
+    assert!(rt; finds_kinds(&graph));
     for (name, version, id) in KEYS {
         assert_eq!(rt; package_of(rt.alloc(), &graph, name, version)?, id);
     }
@@ -235,14 +310,21 @@ fn add_world(alloc: Global, graph: &mut CompositionGraph) -> Result<usize, Alloc
     Ok(graph.add_world(world)?.0)
 }
 
+/// An entry of each sort; whether each has the next number.
+fn add_each(alloc: Global, graph: &mut CompositionGraph) -> Result<bool, AllocError> {
+    Ok(
+        add_resource(alloc, graph)? == 0
+            && add_list(graph)? == 1
+            && add_func(alloc, graph)? == 2
+            && add_interface(alloc, graph)? == 3
+            && add_world(alloc, graph)? == 4,
+    )
+}
+
 #[test]
 fn adds_types(rt: HostRuntime) -> Result<(), Fail> {
     let mut graph = CompositionGraph::new(rt.alloc());
-    assert_eq!(rt; add_resource(rt.alloc(), &mut graph)?, 0);
-    assert_eq!(rt; add_list(&mut graph)?, 1);
-    assert_eq!(rt; add_func(rt.alloc(), &mut graph)?, 2);
-    assert_eq!(rt; add_interface(rt.alloc(), &mut graph)?, 3);
-    assert_eq!(rt; add_world(rt.alloc(), &mut graph)?, 4);
+    assert!(rt; add_each(rt.alloc(), &mut graph)?);
     assert!(rt; has_each(graph.types()));
     Ok(())
 }

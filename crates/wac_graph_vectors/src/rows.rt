@@ -29,10 +29,7 @@ pub enum Row<'a> {
 }
 
 /// Values by name, in order.
-pub fn named<V: Copy>(
-    alloc: Global,
-    rows: &[(&str, V)],
-) -> Result<IndexMap<String, V>, AllocError> {
+fn named<V: Copy>(alloc: Global, rows: &[(&str, V)]) -> Result<IndexMap<String, V>, AllocError> {
     let mut all = IndexMap::new(alloc);
     for (name, value) in rows {
         all.insert(String::from_str(alloc, name)?, *value)?;
@@ -155,7 +152,7 @@ fn defined(alloc: Global, row: Row<'_>) -> Result<Entry, AllocError> {
     }))
 }
 
-pub fn entry(alloc: Global, row: Row<'_>) -> Result<Entry, AllocError> {
+fn entry(alloc: Global, row: Row<'_>) -> Result<Entry, AllocError> {
     match row {
         Row::Resource(name, alias) => resource(alloc, name, alias),
         Row::Func(params, output) => func(alloc, params, output),
@@ -170,7 +167,7 @@ pub fn entry(alloc: Global, row: Row<'_>) -> Result<Entry, AllocError> {
     }
 }
 
-pub fn table(alloc: Global, rows: &[Row<'_>]) -> Result<Types, AllocError> {
+fn table(alloc: Global, rows: &[Row<'_>]) -> Result<Types, AllocError> {
     let mut types = Types::new(alloc);
     for row in rows {
         types.add(entry(alloc, *row)?)?;
@@ -178,14 +175,24 @@ pub fn table(alloc: Global, rows: &[Row<'_>]) -> Result<Types, AllocError> {
     Ok(types)
 }
 
-/// The package of a table: numbers of its world and its instance, and what it defines.
+/// A table, and what a package with it defines.
+pub fn parts(
+    alloc: Global,
+    rows: &[Row<'_>],
+    definitions: &[(&str, ItemKind)],
+) -> Result<(Types, IndexMap<String, ItemKind>), AllocError> {
+    let definitions = named(alloc, definitions)?;
+    let types = table(alloc, rows)?;
+    Ok((types, definitions))
+}
+
+/// The package of a table, with the numbers of its world and its instance.
 pub fn package(
     alloc: Global,
     rows: &[Row<'_>],
     (world, instance): (usize, usize),
     definitions: &[(&str, ItemKind)],
 ) -> Result<Package, PackageError> {
-    let definitions = named(alloc, definitions)?;
-    let types = table(alloc, rows)?;
+    let (types, definitions) = parts(alloc, rows, definitions)?;
     Package::new(types, WorldId(world), InterfaceId(instance), definitions)
 }

@@ -3,7 +3,7 @@ ghost use Rattle.std.specs.Prelude.{◌≡◌, ℕ};
 ghost use Rattle.wac_types.specs.declared.rules.Reason.{Reason as TheReason};
 
 use crate::reading::has_each;
-use crate::rows::{Row, package};
+use crate::rows::{Row, package, parts};
 use indexmap::IndexMap;
 use std::alloc::{AllocError, Global};
 use std::test::Fail;
@@ -173,6 +173,19 @@ fn compares_meanings(rt: HostRuntime) -> Result<(), Fail> {
     assert_eq!(rt; asked(&OnlySame, &package, 0, 2), Some(Err(Reason(7))));
     assert_eq!(rt; OnlySame.extern_name("a"), Ok(()));
     assert_eq!(rt; OnlySame.extern_name(""), Err(Reason(8)));
+    Ok(())
+}
+
+/// In a run in which one request for memory is refused, its parts may have to be made again; the package then is made
+/// at once.
+#[test]
+fn makes_a_package_without_memory(rt: HostRuntime) -> Result<(), Fail> {
+    let (types, definitions) = match parts(rt.alloc(), &DEFINING, &DEFINED) {
+        Ok(all) => all,
+        Err(_) => parts(rt.alloc(), &DEFINING, &DEFINED)?,
+    };
+    let package = Package::new(types, WorldId(1), InterfaceId(0), definitions);
+    assert!(rt; package.is_ok());
     Ok(())
 }
 
