@@ -21,14 +21,14 @@ use Rattle.wac_grammar.proofs.Complete.{complete, tree_or}
 use Rattle.wac_grammar.proofs.Sound.{sound}
 use Rattle.wac_syntax.proofs.FirstFaults.{no_memory_is, tells_first, told_of_reading}
 
--- FOUND: the document that is answered is the text's tree
+-- FOUND: the document that is returned is the text's tree
 pub is_found : {D : Type 0} (view : D → Document) (text : List ℕ) (r : Result D Error) → Parses view r text → IfOk r (λ d. IsTreeOf text (view d))
 is_found view text (Ok d) h =
     let s = sound document (items text) (view d) [] h.1 in
     record { clean = h.0; derives = subst (λ (ys : List Item). Derives document ys (view d)) (back (s.1 ∙ append-nil s.0)) s.2 }
 is_found view text (Err e) h = tt
 
--- ONLY: where the text has a tree, that one is answered, unless memory runs out
+-- ONLY: where the text has a tree, that one is returned, unless memory runs out
 pub is_only : {D : Type 0} (view : D → Document) (text : List ℕ) (r : Result D Error) → Parses view r text → (tree : Document) → IsTreeOf text tree → MatchResult r (λ d. view d ≡ tree) (λ e. e ≡ errors.Memory alloc_error)
 is_only view text (Ok d) h tree i = ap (tree_or tree) (back h.1 ∙ complete document (items text) tree refl i.derives)
 is_only view text (Err e) (inl m) tree i = no_memory_is e m
@@ -40,7 +40,7 @@ is_only view text (Err e) (inr (inr h)) tree i =
 pub is_one : (text : List ℕ) (a b : Document) → IsTreeOf text a → IsTreeOf text b → a ≡ b
 is_one text a b i j = ap (tree_or a) (back (complete document (items text) a refl i.derives) ∙ complete document (items text) b refl j.derives)
 
--- ERROR: the error that is answered tells of the first fault, unless memory ran out
+-- ERROR: the error that is returned lies at the first fault, unless memory ran out
 pub is_error : {D : Type 0} (view : D → Document) (text : List ℕ) (r : Result D Error) → Parses view r text → IfErr r (λ e. (e ≡ errors.Memory alloc_error) ⊎ ErrorOf (told_by e) text)
 is_error view text (Ok d) h = tt
 is_error view text (Err e) (inl m) = inl (no_memory_is e m)

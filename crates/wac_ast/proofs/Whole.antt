@@ -26,7 +26,7 @@ pub none_left : (xs : List Item) → has_more xs ≡ false → xs ≡ []
 none_left [] h = refl
 none_left (x ∷ xs) h = absurd cc
 
--- the answer for a text is the answer from the lexer's start
+-- the result for a text is the result from the lexer's start
 pub parses : {D : Type 0} (view : D → Document) (r : Result D Error) (l new : Reading) (text : List ℕ) → refused text ≡ None → l.source ≡ text → left l ≡ items text → l.last ≡ span 0 0 → Gives view r l new (read document (left l)) → OnOk r (left new ≡ []) → Parses view r text
 parses view (Ok d) l new text clean source all last gives ended = (clean, ap (read document) (sym all) ∙ gives.0 ∙ ap (λ (xs : List Item). Ok (view d, xs)) ended)
 parses view (Err e) l new text clean source all last (inl memory) ended = inl memory

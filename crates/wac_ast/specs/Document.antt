@@ -1,4 +1,4 @@
--- What parsing a whole text answers, in the words of its public contract.
+-- What parsing a whole text returns, in the words of its public contract.
 use Rattle.std.specs.Prelude.{◌≡◌, ℕ, List, [], ◌⊎◌, Option, Some, None, Result, Ok, Err}
 use Rattle.wac_lexer.specs.Span.{Span, span}
 use Rattle.wac_lexer.specs.Items.{items}
@@ -12,31 +12,31 @@ use Rattle.wac_syntax.specs.Error.{Told, told_by, faulty, no_memory}
 use Rattle.wac_syntax.specs.Answer.{End, final_span, told_in}
 use Rattle.wac_syntax.specs.FirstFault.{TellsFirstFault}
 
--- where the end of the input is told, as seen from the beginning of a text
+-- where the end of the input is reported, as seen from the beginning of a text
 abbrev pub end_of_text : List ℕ → End
 end_of_text text = record { source = text; final = final_span (span 0 0) (items text) }
 
--- what is told of the first refused character, or else what is told
+-- what is reported of the first rejected character, or else this
 abbrev pub refused_or : Option (Fault × Span) → Option Told → Option Told
 refused_or (Some found) told = Some (faulty found.0 found.1)
 refused_or None told = told
 
--- what is told of a text that has no tree: of its first refused character, or of the place where reading its items stops
+-- what is reported of a text that has no tree: its first rejected character, or the place where reading its items stops
 abbrev pub told_of_text : List ℕ → Option Told
 told_of_text text = refused_or (refused text) (told_in (end_of_text text) (read document (items text)))
 
--- A character is refused, and told.
+-- A character is rejected, and reported.
 abbrev pub TellsRefused : List ℕ → Told → Type 0
 TellsRefused text told = (fault : Fault) × (s : Span) × (refused text ≡ Some (fault, s)) × (told ≡ faulty fault s)
 
--- What an error tells of a text is one for each text, to the letter, and it lies at the first refused character, or else at the first fault.
+-- What an error reports of a text depends on the text alone, and it lies at the first rejected character, or else at the first fault.
 pub record ErrorOf (told : Told) (text : List ℕ) : Type 0 where
   pub is : told_of_text text ≡ Some told
   pub lies : TellsRefused text told ⊎ ((refused text ≡ None) × TellsFirstFault document (end_of_text text) (items text) told)
 
--- ---- the answer, by reading
+-- ---- the result, by reading
 
--- What parsing answers is what reading all items gives, unless memory ran out.
+-- What parsing returns is what reading all items gives, unless memory ran out.
 abbrev pub Parses : {D : Type 0} → (D → Document) → Result D Error → List ℕ → Type 0
 Parses view (Ok d) text = (refused text ≡ None) × (read document (items text) ≡ Ok (view d, []))
 Parses view (Err e) text =

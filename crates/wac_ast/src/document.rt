@@ -50,18 +50,18 @@ impl fmt::Debug for Document<'_> {
 impl<'a> Document<'a> {
     /// Parses a text as a document.
     ///
-    /// Spans are in bytes of the text. A text with a character that no text may have is refused for the
+    /// Spans are in bytes of the text. A text with a character that no text may have is rejected for the
     /// first one, whatever stands before it.
     pub fn parse(alloc: Global, source: &'a str) -> ParseResult<Self>
-        // What is answered is the text's tree.
+        // What is returned is the text's tree.
         ensures found { IfOk result (λ d. IsTreeOf source.now (document_of d)) }
-        // Where the text has a tree, that one is answered, unless memory runs out.
+        // Where the text has a tree, that one is returned, unless memory runs out.
         ensures only { (t : Tree) → IsTreeOf source.now t → MatchResult result (λ d. document_of d ≡ t) (λ e. e ≡ Memory alloc_error) }
         // A text has at most one tree.
         ensures one { (t u : Tree) → IsTreeOf source.now t → IsTreeOf source.now u → t ≡ u }
         // The spans of the tree slice the text.
         ensures slices { IfOk result (λ d. DocumentSlices source.now (document_of d)) }
-        // An error tells of the first place where no document goes on, the same for each text.
+        // An error reports the first place where no document goes on, and it is the same each time.
         ensures error { IfErr result (λ e. (e ≡ Memory alloc_error) ⊎ ErrorOf (told_by e) source.now) }
     {
         items_stand_in_order();

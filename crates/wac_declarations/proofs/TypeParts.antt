@@ -1,20 +1,21 @@
 -- How types are read, by their first token.
-use Rattle.std.proofs.Common.{◌≡◌, ℕ, List, [], ◌∷◌, ◌++◌, map, Option, Some, None, Result, Ok, Err, Bool, true, false, cond, refl, sym as back, ap, subst, ◌∙◌, rules, Global, ◌⊎◌, inl, inr}
+use Rattle.std.proofs.Common.{◌≡◌, List, [], ◌∷◌, map, Option, Some, None, Result, Ok, Err, Bool, true, false, refl, sym as back, ap, subst, ◌∙◌, rules, Global, inl, inr}
 use Rattle.std.specs.Prelude.{Vec, Box}
 use mathlib.Core.Former.{Count}
-use denote.Enum.Bare.{sameb, same_true}
+use denote.Enum.Bare.{same_true}
 use Rattle.wac_lexer.specs.contracts.token.Token.{the_type}
 use Rattle.wac_lexer.specs.declared.token.Token.{Token}
 use Rattle.wac_lexer.specs.declared.token.Token.TheVariants as k
 use Rattle.wac_lexer.specs.declared.error.Error.{Error as LexError}
 use Rattle.wac_lexer.specs.Span.{Span}
 use Rattle.wac_lexer.specs.Item.{Item, handed, behind_first}
+use Rattle.wac_lexer.specs.Reading.{Reading, left}
 use Rattle.wac_grammar.specs.Tokens.{is_token, at}
 use Rattle.wac_grammar.specs.Tree.{Ident, Ty, Types, OptionalTy, types_from, join}
 use Rattle.wac_grammar.specs.Grammar.{Listed}
 use Rattle.wac_grammar.specs.Grammar as g
 use Rattle.wac_grammar.specs.Reading.{can, refuse, mapped, two, read, read_in, read_token, built, at_one_of, begins}
-use Rattle.wac_syntax.specs.Answer.{End, Fails, first_item, has_more}
+use Rattle.wac_syntax.specs.Answer.{End, end_of_input, Fails, first_item, has_more}
 use Rattle.wac_syntax.specs.declared.error.Error.{Error}
 use Rattle.wac_syntax.specs.Lists.{Reads, unclosed}
 use Rattle.wac_declarations.specs.Types.{ty_of, types_of_row, optional_of, compound, word_type, word_at, held_from, with_payload, TakesPayload, second_rule, second_of}

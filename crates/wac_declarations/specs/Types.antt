@@ -1,5 +1,5 @@
 -- The trees of types.
-use Rattle.std.specs.Prelude.{◌≡◌, ℕ, List, [], ◌∷◌, map, Option, Some, None, Ok, Box}
+use Rattle.std.specs.Prelude.{◌≡◌, List, [], ◌∷◌, Option, Some, None, Ok, Box}
 use Rattle.std.proofs.Common.{Global, inl, inr}
 use Rattle.wac_lexer.specs.Span.{Span}
 use Rattle.wac_lexer.specs.Item.{Item, Handed, behind_first}
@@ -9,7 +9,7 @@ use Rattle.wac_lexer.specs.declared.token.Token.{Token}
 use Rattle.wac_lexer.specs.declared.token.Token.TheVariants as tokens
 use Rattle.wac_grammar.specs.Tree.{Ty, Types, OptionalTy, join}
 use Rattle.wac_grammar.specs.Grammar.{Grammar, Parts, token, sym, optional, ◌▸◌, ty, payload, result_part}
-use Rattle.wac_grammar.specs.Reading.{refuse, mapped, read, read_in}
+use Rattle.wac_grammar.specs.Reading.{refuse, mapped, read}
 use Rattle.wac_syntax.specs.Lists.{Reads}
 use Rattle.wac_syntax.specs.Names.{ident_of}
 use Rattle.wac_declarations.specs.declared.types.Type as code
@@ -46,30 +46,6 @@ abbrev mutual
   pub types_of_row : {n : _} → code.Row_of-Type n → Types
   types_of_row code.end_of-Type = Types.none
   types_of_row (code.more_of-Type t others) = Types.more (ty_of t) (types_of_row others)
-
-abbrev pub ty_span : Ty → Span
-ty_span (Ty.u8 s) = s
-ty_span (Ty.s8 s) = s
-ty_span (Ty.u16 s) = s
-ty_span (Ty.s16 s) = s
-ty_span (Ty.u32 s) = s
-ty_span (Ty.s32 s) = s
-ty_span (Ty.u64 s) = s
-ty_span (Ty.s64 s) = s
-ty_span (Ty.f32 s) = s
-ty_span (Ty.f64 s) = s
-ty_span (Ty.char s) = s
-ty_span (Ty.bool s) = s
-ty_span (Ty.string s) = s
-ty_span (Ty.tuple _ s) = s
-ty_span (Ty.list _ s) = s
-ty_span (Ty.option _ s) = s
-ty_span (Ty.result _ _ s) = s
-ty_span (Ty.borrow _ s) = s
-ty_span (Ty.stream _ s) = s
-ty_span (Ty.future _ s) = s
-ty_span (Ty.error_context s) = s
-ty_span (Ty.ident id) = id.span
 
 -- an optional type in a box
 abbrev pub optional_of : Option (Box code.Type Global) → OptionalTy

@@ -15,7 +15,8 @@ ghost use Rattle.wac_syntax.specs.Lookahead.{Peeks, looked, tried, told_of};
 ghost use Rattle.wac_syntax.specs.Answer.{Gives, Fails, plain, has_more, first_item, end_of_input};
 ghost use Rattle.wac_syntax.specs.Lists.{unclosed};
 ghost use Rattle.wac_syntax.specs.Pieces.{GivesPart};
-ghost use Rattle.wac_declarations.specs.Types.{ty_of, ty_span, optional_of, compound, word_type, word_at, angled, angled_parts, with_payload, second_rule, second_of, MadeOf};
+ghost use Rattle.wac_declarations.specs.Types.{ty_of, optional_of, compound, word_type, word_at, angled, angled_parts, with_payload, second_rule, second_of, MadeOf};
+ghost use Rattle.wac_grammar.specs.Spans.{ty_span};
 
 use std::alloc::Global;
 use std::fmt;

@@ -2,7 +2,7 @@
 use std::alloc::{AllocError, Global};
 use wac_parser::lexer::Lexer;
 
-/// A line `OFFSET+LEN TEXT` for each token of a text, behind the lines of its docs.
+/// A line `OFFSET+LEN TEXT` for each token of a text, after the lines of its docs.
 pub fn listed(alloc: Global, source: &str) -> Result<String, AllocError> {
     let mut lines = String::new(alloc);
     let mut lexer = match Lexer::new(source) {

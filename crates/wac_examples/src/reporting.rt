@@ -1,4 +1,4 @@
-//! Telling what is wrong with a text.
+//! Reporting what is wrong with a text.
 ghost use Rattle.std.specs.Prelude.{◌≡◌, ◌↔◌, IfOk, None};
 ghost use Rattle.wac_grammar.specs.Tree.{Document as Tree};
 ghost use Rattle.wac_grammar.specs.TextTree.{IsTreeOf};

@@ -1,4 +1,4 @@
-//! What the examples answer of the texts that the README shows.
+//! What the examples return for the texts that the README shows.
 
 use super::*;
 use std::test::Fail;

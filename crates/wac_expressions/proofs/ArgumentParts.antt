@@ -32,7 +32,7 @@ other_token k l x n h = go (is_token l x.token) refl
     go false e = refl
     go true e = let f : false ≡ true = back n ∙ same_token_of k l x h e in absurd cc
 
--- ---- behind three dots
+-- ---- after three dots
 
 ends : (xs : List Item) → (at t.Comma xs || at t.CloseBrace xs) ≡ true → at_one_of (t.Comma ∷ t.CloseBrace ∷ []) xs ≡ true
 ends xs = go (at t.Comma xs) (at t.CloseBrace xs)
@@ -143,7 +143,10 @@ argument_is_named (x ∷ y ∷ xs) h n k = split (is_token t.Ident x.token) refl
 
 -- an identifier alone
 alone : (x : Item) (xs : List Item) → is_token t.Ellipsis x.token ≡ false → is_token t.Ident x.token ≡ true → at t.Colon xs ≡ false → read argument (x ∷ xs) ≡ Ok (InstantiationArgument.inferred (ident_of x), xs)
-alone x xs h i k = let taken = ident_taken x xs i in read_is argument (x ∷ xs) ∙ rw (h, i, taken, k) refl
+alone x xs h i k =
+    let taken = ident_taken x xs i in
+    let is : ReadOf InstantiationArgument = Ok (InstantiationArgument.inferred (ident_of x), xs) in
+    read_is argument (x ∷ xs) ∙ rw (h, i, taken, k) (refl {a = is})
 
 -- a string alone is told
 string_alone : (x : Item) (xs : List Item) → is_token t.Ellipsis x.token ≡ false → is_token t.Ident x.token ≡ false → is_token t.String x.token ≡ true → at t.Colon xs ≡ false → read argument (x ∷ xs) ≡ Err (record { left = xs; expected = can t.Ident ∷ []; why = told x })

@@ -1,5 +1,5 @@
 -- The trees of expressions that hold others.
-use Rattle.std.proofs.Common.{◌≡◌, List, [], ◌∷◌, map, ap, sym, ◌∙◌, refl, Ok, Err, Global}
+use Rattle.std.proofs.Common.{◌≡◌, List, map, ap, ◌∙◌, refl, Ok, Err, Global}
 use Rattle.std.specs.Prelude.{Box}
 use mathlib.Core.Former.{Count}
 use Rattle.wac_lexer.specs.Span.{Span}
@@ -14,7 +14,7 @@ use Rattle.wac_grammar.specs.Reading.{mapped, read}
 use Rattle.wac_syntax.specs.Lists.{Reads}
 use Rattle.wac_grammar.proofs.Fixed.{read_is}
 use Rattle.wac_syntax.specs.Names.{package_name_of}
-use Rattle.wac_expressions.specs.Expressions.{argument_of, arguments_of_row, primary_expr_of, new_expr_of, nested_expr_of, expr_of, behind_primary}
+use Rattle.wac_expressions.specs.Expressions.{argument_of, arguments_of_row, primary_expr_of, new_expr_of, nested_expr_of, expr_of, after_primary}
 
 of_row : (n : _) (row : Row_of-InstantiationArgument n) → arguments_of_row row ≡ arguments_from (map argument_of (items-the_row-InstantiationArgument n row))
 of_row _ end_of-InstantiationArgument = refl
@@ -38,8 +38,8 @@ nested_is s b = nested_out (roll-NestedExpr (record { span = s; inner = b })) �
 
 -- ---- how an expression is read
 
-pub behind_is : (xs : List Item) (first : PrimaryExpr) (ys : List Item) → read primary_expr xs ≡ Ok (first, ys) → read expr xs ≡ behind_primary first ys
-behind_is xs first ys r = read_is expr xs ∙ rw r (go (read postfixes ys))
+pub after_is : (xs : List Item) (first : PrimaryExpr) (ys : List Item) → read primary_expr xs ≡ Ok (first, ys) → read expr xs ≡ after_primary first ys
+after_is xs first ys r = read_is expr xs ∙ rw r (go (read postfixes ys))
   where
     go : (m : Reads (List PostfixExpr)) → mapped {B = Expr} (build expr) (mapped {B = PrimaryExpr × List PostfixExpr} (λ others. (first, others)) m) ≡ mapped {B = Expr} (λ others. build expr (first, others)) m
     go (Ok y) = refl

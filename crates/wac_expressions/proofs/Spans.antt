@@ -1,5 +1,5 @@
 -- The span of the last postfix expression.
-use Rattle.std.proofs.Common.{◌≡◌, ◌-◌, ◌^◌, ◌<◌, ℕ, suc, List, [], ◌∷◌, ◌++◌, length, map, Some, None, ap, subst, refl, sym, ◌∙◌, arith}
+use Rattle.std.proofs.Common.{◌≡◌, ◌-◌, ◌^◌, ◌<◌, ℕ, suc, List, [], ◌∷◌, ◌++◌, length, map, Some, subst, refl, sym, arith}
 use Rattle.std.specs.List.{slice_get}
 use Rattle.wac_lexer.specs.Span.{Span, end_of}
 use Rattle.wac_grammar.specs.Tree.{PostfixExpr}

@@ -36,14 +36,6 @@ abbrev pub argument_name_of : CodeArgumentName → tree.InstantiationArgumentNam
 argument_name_of (argument_names.Ident x) = tree.InstantiationArgumentName.ident (ident_of x)
 argument_name_of (argument_names.String x) = tree.InstantiationArgumentName.string (string_of x)
 
-abbrev pub argument_name_span : tree.InstantiationArgumentName → Span
-argument_name_span (tree.InstantiationArgumentName.ident x) = x.span
-argument_name_span (tree.InstantiationArgumentName.string x) = x.span
-
-abbrev pub argument_name_text : tree.InstantiationArgumentName → List ℕ
-argument_name_text (tree.InstantiationArgumentName.ident x) = x.string
-argument_name_text (tree.InstantiationArgumentName.string x) = x.value
-
 abbrev mutual
   pub primary_expr_of : CodePrimaryExpr → tree.PrimaryExpr
   primary_expr_of (New' span name shape row) = PrimaryExpr.new span (package_name_of name) (arguments_of_row row)
@@ -72,6 +64,6 @@ new_expr_of x = PrimaryExpr.new x.span (package_name_of x.«package») (argument
 abbrev pub named_argument_of : CodeNamedArgument → tree.NamedInstantiationArgument
 named_argument_of x = record { name = argument_name_of x.name; expr = expr_of x.expr }
 
--- an expression, behind what stands first in it
-abbrev pub behind_primary : PrimaryExpr → List Item → Reads Expr
-behind_primary first xs = mapped (λ others. build expr (first, others)) (read postfix_list xs)
+-- an expression, after what stands first in it
+abbrev pub after_primary : PrimaryExpr → List Item → Reads Expr
+after_primary first xs = mapped (λ others. build expr (first, others)) (read postfix_list xs)

@@ -13,7 +13,8 @@ ghost use Rattle.wac_syntax.specs.Error.{told_by};
 ghost use Rattle.wac_syntax.specs.Lookahead.{Peeks, looked, tried, told_of};
 ghost use Rattle.wac_syntax.specs.Lists.{unclosed};
 ghost use Rattle.wac_syntax.specs.Answer.{Gives};
-ghost use Rattle.wac_expressions.specs.Expressions.{access_expr_of, named_access_expr_of, postfix_expr_of, primary_expr_of, expr_of, new_expr_of, nested_expr_of, argument_of, argument_name_of, named_argument_of, argument_name_span, argument_name_text, behind_primary};
+ghost use Rattle.wac_expressions.specs.Expressions.{access_expr_of, named_access_expr_of, postfix_expr_of, primary_expr_of, expr_of, new_expr_of, nested_expr_of, argument_of, argument_name_of, named_argument_of, after_primary};
+ghost use Rattle.wac_grammar.specs.Spans.{argument_name_span, argument_name_text};
 
 use std::alloc::Global;
 use std::fmt;
@@ -23,7 +24,7 @@ use wac_syntax::{
     boxed, join, no_item, push, take_comma, take_token,
 };
 
-/// An expression: a primary one, and accesses behind it.
+/// An expression: a primary one, and accesses after it.
 #[derive(Drop)]
 #[cycle(expr)]
 pub struct Expr<'a> {
@@ -279,18 +280,18 @@ impl<'a> Parse<'a> for Expr<'a> {
     #[cycle(parser)]
     fn parse(alloc: Global, lexer: &mut Lexer<'a>) -> ParseResult<Self> {
         let primary = Parse::parse(alloc, lexer)?;
-        parse_behind(alloc, lexer, primary)
+        parse_accesses_after(alloc, lexer, primary)
     }
 }
 
-/// The expression that begins with this one, and goes on with the accesses behind it.
-fn parse_behind<'a>(
+/// The expression that begins with this one, and goes on with the accesses after it.
+fn parse_accesses_after<'a>(
     alloc: Global,
     lexer: &mut Lexer<'a>,
     primary: PrimaryExpr<'a>,
 ) -> ParseResult<Expr<'a>>
     requires { end_of (primary_span (primary_expr_of primary)) < 2 ^ 64 }
-    ensures gives { Gives expr_of result lexer.old lexer.new (behind_primary (primary_expr_of primary.entry) (left lexer.old)) }
+    ensures gives { Gives expr_of result lexer.old lexer.new (after_primary (primary_expr_of primary.entry) (left lexer.old)) }
     ensures source { lexer.new.source ≡ lexer.old.source }
     ensures moves { lexer.old.place ≤ lexer.new.place }
 {
@@ -463,7 +464,7 @@ fn argument_ends(lexer: &Lexer) -> bool
 
 /// An argument without a name of its own.
 ///
-/// A string here is refused for not being an identifier.
+/// A string here is rejected, for it is no identifier.
 fn parse_inferred<'a>(
     alloc: Global,
     lexer: &mut Lexer<'a>,

@@ -1,4 +1,4 @@
--- Parts that are told apart by the item behind the next.
+-- Parts that are told apart by the item after the next.
 use Rattle.std.proofs.Common.{◌≡◌, List, [], ◌∷◌, Result, Ok, Err, false, refl, sym as back, ap, ◌∙◌, ◌⊎◌, inl, inr}
 use Rattle.wac_lexer.specs.declared.token.Token.TheVariants as t
 use Rattle.wac_lexer.specs.Item.{Item}
@@ -49,7 +49,7 @@ argument_of_string x y xs h k =
 pub argument_inferred : (x : Item) (xs : List Item) → x.token ≡ Ok t.Ident → at t.Colon xs ≡ false → read argument (x ∷ xs) ≡ mapped InstantiationArgument.inferred (read identifier (x ∷ xs))
 argument_inferred x xs h k = read_is argument (x ∷ xs) ∙ rw (h, read_is identifier, k) refl
 
--- a string alone is told
+-- a string alone is reported
 pub argument_told : (x : Item) (xs : List Item) → x.token ≡ Ok t.String → at t.Colon xs ≡ false → read argument (x ∷ xs) ≡ Err (record { left = xs; expected = can t.Ident ∷ []; why = told x })
 argument_told x xs h k = read_is argument (x ∷ xs) ∙ rw (h, k) refl
 

@@ -1,4 +1,4 @@
--- Where the reading of an argument is refused.
+-- Where the reading of an argument is rejected.
 use Rattle.std.proofs.Common.{◌≡◌, ℕ, zero, suc, List, [], ◌∷◌, ◌++◌, map, Result, Ok, Err, Bool, true, false, refl, sym as back, ap, subst, ◌∙◌, ◌⊎◌, inl, inr}
 use Rattle.std.proofs.lemmas.List.{append-nil}
 use Rattle.wac_lexer.specs.declared.token.Token.{Token}
@@ -77,7 +77,7 @@ read_or_dots (suc n) xs u d = go d.0 d.1
     go (inl (dots, inr _)) d = inl (dots, d.2 ∙ ap (λ (ys : List Item). ys ++ d.1) d.3.0 ∙ ap (λ (ys : List Item). dots ∷ ys) d.4, d.3.1)
     go (inr p) d = inr (plain_read n xs p d)
 
--- AN ARGUMENT IS REFUSED at its first fault, or it is cut short
+-- AN ARGUMENT IS REJECTED at its first fault, or it is cut short
 pub stopped_argument : (xs : List Item) (stop : Stop) → read argument xs ≡ Err stop → Stopped argument xs stop ⊎ CutShort xs stop
 stopped_argument xs stop h = go (is_alone t.Ellipsis xs)
   where

@@ -1,4 +1,4 @@
--- A body is refused for being empty exactly behind its opening brace and at the closing one.
+-- A body is rejected for being empty exactly after its opening brace and at the closing one.
 use Rattle.std.proofs.Common.{◌≡◌, ℕ, zero, suc, arith, List, [], ◌∷◌, ◌++◌, length, map, Result, Ok, Err, Bool, true, false, cond, refl, sym as back, ap, subst, ◌∙◌, ◌⊎◌, inl, inr, append_assoc}
 use Rattle.std.proofs.lemmas.List.{append_cancel_right}
 use Rattle.wac_lexer.specs.declared.token.Token.{Token}
@@ -180,7 +180,7 @@ body_inside b c e = ap inside (ap body_of e)
 
 -- ---- what reading does with it
 
--- Behind the items that were read: the body is empty exactly where it was just opened and the next item closes it.
+-- After the items that were read: the body is empty exactly where it was just opened and the next item closes it.
 abbrev pub Marks : State → Stop → Type 0
 Marks st s = ((b : Body) → s.why ≡ empty_body b → (st ≡ inside b) × (at t.CloseBrace s.left ≡ true)) × ((b : Body) → st ≡ inside b → at t.CloseBrace s.left ≡ true → s.why ≡ empty_body b)
 
@@ -228,7 +228,7 @@ traced_two {B = B} st mid end tried xs (Ok x) f h k = go (f x.0 x.1) (k x.0 x.1)
     go (Ok y) d = (h.0 ++ d.0, whole d.0 y.1 d.1, back (ran d.0) ∙ d.2)
     go (Err s) d = (h.0 ++ d.0, whole d.0 s.left d.1, subst (λ (u : State). Marks u s) (ran d.0) d.2, λ k n. later d.0 k (d.3 k n))
 
--- any other refusal, where no body was just opened
+-- any other rejection, where no body was just opened
 calm : (st : State) (s : Stop) → not_inside st ≡ true → ((b : Body) → s.why ≡ empty_body b → ⊥) → Marks st s
 calm st s h k = (λ b e. absurd (k b e), λ b e a. absurd (not_inside_is st b h e))
 
@@ -567,7 +567,7 @@ opens b xs h = go (ending b outside xs h)
     go (inr (inr (inl h))) = let e = h.0 in absurd cc
     go (inr (inr (inr h))) = let e = h.0 in absurd cc
 
--- AN EMPTY BODY is refused exactly where it was just opened and the next item closes it
+-- AN EMPTY BODY is rejected exactly where it was just opened and the next item closes it
 pub empty_exactly : (s : Sym) (xs front : List Item) (stop : Stop) → read s xs ≡ Err stop → xs ≡ front ++ stop.left → (b : Body) → (stop.why ≡ empty_body b → Opens b front × (at t.CloseBrace stop.left ≡ true)) × (Opens b front → at t.CloseBrace stop.left ≡ true → stop.why ≡ empty_body b)
 empty_exactly s xs front stop h e b =
     let d = subst (λ (m : Result (TreeOf s × List Item) Stop). Traced outside (after_sym outside s) [] xs m) h (traced s xs) in

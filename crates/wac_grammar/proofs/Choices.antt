@@ -45,7 +45,7 @@ first_left g h xs e = neither_left (at_one_of (first g) xs) (at_one_of (first h)
 first_right : (g h : Grammar) (xs : List Item) → at_one_of (first g ++ first h) xs ≡ false → at_one_of (first h) xs ≡ false
 first_right g h xs e = neither_right (at_one_of (first g) xs) (at_one_of (first h) xs) (back (at_append (first g) (first h) xs) ∙ e)
 
--- behind tokens that were tried
+-- after tokens that were tried
 behind_tried : (g : Grammar) (t : Tried) (ts : List Tried) (xs : List Item) → is_choice g ≡ true → at_one_of (first g) xs ≡ false → read_in read g (t ∷ ts) xs ≡ refuse xs ((t ∷ ts) ++ map can (first g))
 behind_tried (token k) t ts xs c h = token_refused k (t ∷ ts) xs (neither_left (at k xs) false h)
 behind_tried (sym s) t ts xs c h = rw h refl

@@ -10,7 +10,7 @@ use Rattle.wac_grammar.specs.Grammar.{Sym, rule, TreeOf, Parts, Behind, anything
 use Rattle.wac_grammar.specs.Reading.{Tried, can, closes, Stop, mapped, pair_with, read, read_in, read_token, led, two, built, empty, is_empty, begins, first, at_one_of, may_leave}
 use Rattle.wac_grammar.proofs.Fixed.{read_is, empty_is, both, both_left, both_right, Reader}
 
--- ---- what it begins with
+-- ---- its first tokens
 
 abbrev pub Begins : Bool → List Token → List Item → Type 0
 Begins e ks [] = e ≡ true

@@ -6,7 +6,6 @@ pub mod Similar
 pub mod Local
 pub mod Completed
 pub mod Stops
-pub mod Texts
 pub mod Samples
 pub mod Refused
 pub mod Bodies
@@ -17,6 +16,7 @@ pub mod Choices
 pub mod Docs
 pub mod Ahead
 pub mod Ordered
+pub mod Documented
 pub mod TokenTexts
 pub mod Linked
 pub mod Derived

@@ -1,4 +1,4 @@
--- The law of walks: what holds between three walks at leaves, and goes from parts to nodes, holds between them at each tree. The first walks behind a change.
+-- The law of walks: what holds between three walks at leaves, and goes from parts to nodes, holds between them at each tree. The first walks after a change.
 use Rattle.std.specs.Prelude.{◌≡◌, refl, List, [], ◌∷◌, map, Option, Bool}
 use Rattle.std.specs.Option.{option_map}
 use Rattle.wac_lexer.specs.Span.{Span}

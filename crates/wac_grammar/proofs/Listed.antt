@@ -5,21 +5,10 @@ use Rattle.wac_lexer.specs.Span.{Span}
 use Rattle.wac_lexer.specs.Item.{Doc}
 use Rattle.wac_grammar.specs.Tree.{Document}
 use Rattle.wac_grammar.specs.Walk.{walk_document}
-use Rattle.wac_grammar.specs.Leaves.{IfThere, Leaf, Asked, changed, holds, leaves, docs_leaf, of_option, unchanged}
+use Rattle.wac_grammar.specs.Leaves.{IfThere, Leaf, changed, holds_with_spans, of_leaves, leaves, docs_leaf, of_option, unchanged}
 use Rattle.wac_grammar.proofs.Linked.{Link, link_document}
 
--- the same asked of leaves of each sort
-abbrev pub of_leaves : (Leaf → Type 0) → Asked
-of_leaves Q =
-    record {
-      ident = λ x. Q (Leaf.ident x);
-      string = λ x. Q (Leaf.string x);
-      name = λ x. Q (Leaf.name x);
-      path = λ x. Q (Leaf.path x);
-      filled = λ b. Unit {0};
-    }
-
-module _ (Q : Leaf → Type 0) (spans : (s : Span) → Q (Leaf.span s)) where
+module _ (Q : Leaf → Type 0) where
   abbrev pub Each : List Leaf → Type 0
   Each ls = AllByRecursion Q ls
 
@@ -45,7 +34,7 @@ module _ (Q : Leaf → Type 0) (spans : (s : Span) → Q (Leaf.span s)) where
   perhaps_listed v w u c e (Some x) = e x
 
   -- ALL LEAVES of a tree are as asked exactly where the tree is
-  abbrev pub listed : Link {0, 0, 1, 0} (changed unchanged) leaves (holds (of_leaves Q)) unchanged
+  abbrev pub listed : Link {0, 0, 1, 0} (changed unchanged) leaves (holds_with_spans (of_leaves Q) (λ s. Q (Leaf.span s))) unchanged
   listed =
       record {
         R = λ x v w u. u ↔ Each w;
@@ -56,7 +45,7 @@ module _ (Q : Leaf → Type 0) (spans : (s : Span) → Q (Leaf.span s)) where
         each = each_listed;
         perhaps = perhaps_listed;
         filled = λ e r. (λ h. r.0 h.0, λ h. (r.1 h, tt));
-        spanned = λ {w = w} r s. (λ h. both w (Leaf.span s ∷ []) (r.0 h) (spans s, tt), λ h. r.1 (first w (Leaf.span s ∷ []) h));
+        spanned = λ {w = w} r s. (λ h. both w (Leaf.span s ∷ []) (r.0 h.0) (h.1, tt), λ h. (r.1 (first w (Leaf.span s ∷ []) h), (second w (Leaf.span s ∷ []) h).0));
         none = λ x. (λ h. tt, λ h. tt);
         one = λ r. r;
         two = λ {w0 = w0} {w1 = w1} r s. (λ h. both w0 w1 (r.0 h.0) (s.0 h.1), λ h. (r.1 (first w0 w1 h), s.1 (second w0 w1 h)));
@@ -70,6 +59,6 @@ module _ (Q : Leaf → Type 0) (spans : (s : Span) → Q (Leaf.span s)) where
         );
       }
 
-  pub document_listed : (x : Document) → walk_document (holds (of_leaves Q)) (λ ds. Q (Leaf.docs ds)) x ↔ Each (walk_document leaves docs_leaf x)
+  pub document_listed : (x : Document) → walk_document (holds_with_spans (of_leaves Q) (λ s. Q (Leaf.span s))) (λ ds. Q (Leaf.docs ds)) x ↔ Each (walk_document leaves docs_leaf x)
   document_listed x =
-      link_document (changed unchanged) leaves (holds (of_leaves Q)) unchanged listed (λ ds. ds) (λ ds. ds) docs_leaf (λ ds. Q (Leaf.docs ds)) (λ ds. (λ h. (h, tt), λ h. h.0)) x
+      link_document (changed unchanged) leaves (holds_with_spans (of_leaves Q) (λ s. Q (Leaf.span s))) unchanged listed (λ ds. ds) (λ ds. ds) docs_leaf (λ ds. Q (Leaf.docs ds)) (λ ds. (λ h. (h, tt), λ h. h.0)) x

@@ -1,44 +1,61 @@
 -- The tree of a text slices it.
-use Rattle.std.proofs.Common.{◌≡◌, ℕ, List, [], ◌∷◌, Result, Ok, Err, ap}
+use Rattle.std.proofs.Common.{◌≡◌, ◌<◌, ◌≤◌, ℕ, List, [], ◌∷◌, Result, Ok, Err, refl, ap, subst, arith, ⊎_elim}
 use Rattle.std.specs.Prelude.{IfOk}
 use Rattle.std.specs.List.{AllByRecursion}
-use Rattle.wac_lexer.specs.Span.{end_of}
+use Rattle.std.specs.Str.{IsUtf8, IsCharBoundary}
+use Rattle.std.proofs.lemmas.Bool.{cases_lt}
+use Rattle.std.proofs.lemmas.Str.{IsCharBoundary-start}
+use Rattle.wac_lexer.specs.Span.{Span, end_of}
 use Rattle.wac_lexer.specs.Item.{Item, Doc}
 use Rattle.wac_lexer.specs.Items.{items}
 use Rattle.wac_lexer.specs.Reading.{Slices, slice}
 use Rattle.wac_lexer.specs.Order.{InOrder}
 use Rattle.wac_grammar.specs.Version.{unversioned, path_name, path_segments, version_of}
-use Rattle.wac_grammar.specs.Tree.{without_percent, between_quotes, Document}
+use Rattle.wac_grammar.specs.Tree.{without_percent, between_quotes, join, Document}
 use Rattle.wac_grammar.specs.Grammar.{document}
 use Rattle.wac_grammar.specs.TextTree.{IsTreeOf}
-use Rattle.wac_grammar.specs.Slices.{sliced, DocumentSlices}
+use Rattle.wac_grammar.specs.Slices.{sliced, DocsSlice, DocumentSlices}
 use Rattle.wac_grammar.specs.Spelled.{spelled, DocumentSpelled}
-use Rattle.wac_grammar.proofs.Derived.{Made, derived_holds}
+use Rattle.wac_grammar.proofs.Derived.{Made, MadeSpans, derived_holds, derived_document}
+use Rattle.wac_grammar.proofs.Documented.{items_slice}
 
 abbrev no_matter : List Doc → Type 0
 no_matter ds = Unit {0}
 
--- items whose spans slice the source make such trees
-abbrev sliced_items : (source : List ℕ) → Made (sliced source) no_matter
+-- items whose spans, and those of their docs, slice the source make such trees
+abbrev ItemSlices : List ℕ → Item → Type 0
+ItemSlices source x = Slices source x.span × DocsSlice source x.docs
+
+abbrev sliced_items : (source : List ℕ) → Made (sliced source) (DocsSlice source)
 sliced_items source =
     record {
-      Known = λ x. Slices source x.span;
-      ident = λ x h e. h;
-      string = λ x h e. h;
-      name = λ x h e v. h;
-      path = λ x h e v. h;
-      docs = λ x h. tt;
+      Known = ItemSlices source;
+      ident = λ x h e. h.0;
+      string = λ x h e. h.0;
+      name = λ x h e v. h.0;
+      path = λ x h e v. h.0;
+      docs = λ x h. h.1;
       no_docs = tt;
       filled = tt;
     }
 
-in_order_slices : (source : List ℕ) (place : ℕ) (xs : List Item) → InOrder source place xs → AllByRecursion (λ x. Slices source x.span) xs
-in_order_slices source place [] h = tt
-in_order_slices source place (x ∷ xs) h = (h.2, in_order_slices source (end_of x.span) xs h.4)
+-- the end of joined spans is the end of the second, or where that comes before the first, the first one's place
+joined_slices : (source : List ℕ) (a b : Span) → Slices source a → Slices source b → Slices source (join a b)
+joined_slices source a b h k =
+    let end : IsCharBoundary source (end_of (join a b)) =
+    ⊎_elim
+    (λ (l : end_of b < a.offset). let same : a.offset ≡ end_of (join a b) = omega arith in subst (IsCharBoundary source) same h.0)
+    (λ (l : a.offset ≤ end_of b). let same : end_of b ≡ end_of (join a b) = omega arith in subst (IsCharBoundary source) same k.1)
+    (cases_lt (end_of b) a.offset) in
+    (h.0, end)
+
+sliced_spans : (source : List ℕ) → MadeSpans (sliced source) (Slices source) (DocsSlice source) (sliced_items source)
+sliced_spans source = record { item = λ x h. h.0; ident = λ x h. h; joined = joined_slices source }
 
 -- THE SPANS OF A TEXT'S TREE slice the text
-pub document_slices : (source : List ℕ) (tree : Document) → InOrder source 0 (items source) → IsTreeOf source tree → DocumentSlices source tree
-document_slices source tree order i = derived_holds (sliced source) no_matter (sliced_items source) document (items source) tree (in_order_slices source 0 (items source) order) i.derives
+pub document_slices : (source : List ℕ) (tree : Document) → IsUtf8 source → InOrder source 0 (items source) → IsTreeOf source tree → DocumentSlices source tree
+document_slices source tree utf8 order i =
+    derived_holds (sliced source) (Slices source) (DocsSlice source) (sliced_items source) (sliced_spans source) document (items source) tree (items_slice source utf8 (items source) 0 refl (IsCharBoundary-start source utf8) order) i.derives
 
 -- items with the source's text make such trees
 abbrev spelled_items : (source : List ℕ) → Made (spelled source) no_matter
@@ -60,9 +77,9 @@ in_order_spelled source place (x ∷ xs) h = (h.3, in_order_spelled source (end_
 
 -- THE TEXTS OF A TEXT'S TREE are those of the text at its spans
 pub document_spelled : (source : List ℕ) (tree : Document) → InOrder source 0 (items source) → IsTreeOf source tree → DocumentSpelled source tree
-document_spelled source tree order i = derived_holds (spelled source) no_matter (spelled_items source) document (items source) tree (in_order_spelled source 0 (items source) order) i.derives
+document_spelled source tree order i = derived_document (spelled source) no_matter (spelled_items source) (items source) tree (in_order_spelled source 0 (items source) order) i.derives
 
 -- the document that is answered
-pub is_sliced : {D E : Type 0} (view : D → Document) (source : List ℕ) (r : Result D E) → InOrder source 0 (items source) → IfOk r (λ d. IsTreeOf source (view d)) → IfOk r (λ d. DocumentSlices source (view d))
-is_sliced view source (Ok d) order found = document_slices source (view d) order found
-is_sliced view source (Err e) order found = tt
+pub is_sliced : {D E : Type 0} (view : D → Document) (source : List ℕ) (r : Result D E) → IsUtf8 source → InOrder source 0 (items source) → IfOk r (λ d. IsTreeOf source (view d)) → IfOk r (λ d. DocumentSlices source (view d))
+is_sliced view source (Ok d) utf8 order found = document_slices source (view d) utf8 order found
+is_sliced view source (Err e) utf8 order found = tt

@@ -1,4 +1,4 @@
--- Why reading stopped: what is known where it is for a version's text, or told of the item before.
+-- Why reading stopped: what is known where it is for a version's text, or reported at the item before.
 use Rattle.std.proofs.Common.{◌≡◌, ℕ, zero, suc, List, [], ◌∷◌, ◌++◌, map, Result, Ok, Err, Bool, true, false, cond, refl, sym as back, ap, subst, ◌⊎◌, inl, inr}
 use Rattle.wac_lexer.specs.declared.token.Token.{Token}
 use Rattle.wac_lexer.specs.declared.token.Token.TheVariants as t
@@ -24,7 +24,7 @@ abbrev pub only_identifier : List Token → Bool
 only_identifier (k ∷ []) = same_token t.Ident k
 only_identifier _ = false
 
--- what is told of an item is told of a string, and names an identifier
+-- what is reported at an item is reported at a string, and names an identifier
 abbrev pub tells_well : Grammar → Bool
 tells_well (token k) = true
 tells_well (sym s) = true

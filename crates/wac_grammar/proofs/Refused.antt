@@ -1,4 +1,4 @@
--- The laws of a refusal, put together.
+-- The laws of a rejection, put together.
 use Rattle.std.proofs.Common.{◌≡◌, ℕ, zero, suc, ◌+◌, ◌-◌, arith, List, [], ◌∷◌, ◌++◌, length, Result, Ok, Err, Bool, true, false, refl, sym as back, ap, subst, ◌∙◌, ◌⊎◌, inl, inr, append_assoc}
 use Rattle.std.proofs.lemmas.List.{append-nil, length-append}
 use Rattle.wac_lexer.specs.declared.token.Token.{Token}
@@ -53,7 +53,7 @@ alike_front : (whole : Bool) (front : List Item) (x y : Item) (rest tail : List 
 alike_front whole [] x y rest tail h = h
 alike_front whole (z ∷ front) x y rest tail h = (refl, alike_front whole front x y rest tail h)
 
--- What may stand behind a part that this item does not continue: nothing, and behind an argument another token.
+-- What may stand after a part that this item does not continue: nothing, and after an argument another token.
 behind : (s : Sym) (x : Item) → (tail : List Item) × (may_follow (needs_more s) (clashes s) tail ≡ true) × ((z : Item) (zs : List Item) → tail ≡ z ∷ zs → x ≡ z → ⊥)
 behind argument x = go (is_token t.Comma x.token) refl
   where
@@ -97,7 +97,7 @@ faulty s xs front stop h [] n l e = λ ys t m d.
     n refl u.0 u.1
 faulty s xs front stop h (x ∷ rest) n l e = λ v. no_way true s xs front stop h x rest l e tt x refl v
 
--- Where the refusal does not ask for the item's text, no item of its token can stand there.
+-- Where the rejection does not ask for the item's text, no item of its token can stand there.
 pub no_such : (s : Sym) (xs front : List Item) (stop : Stop) → read s xs ≡ Err stop → (x : Item) (rest : List Item) → stop.left ≡ x ∷ rest → xs ≡ front ++ (x ∷ rest) → Seen false stop.why 0 → (y : Item) → x.token ≡ y.token → Viable s (front ++ (y ∷ [])) → ⊥
 no_such s xs front stop h x rest l e seen y t v =
     let z : Item = record { token = y.token; text = y.text; span = y.span; docs = x.docs } in

@@ -2,7 +2,7 @@
 use Rattle.std.proofs.Common.{◌≡◌, true, List, [], ◌∷◌, map, Ok, refl, sym as back, subst, ◌∙◌}
 use Rattle.wac_lexer.specs.Span.{span}
 use Rattle.wac_grammar.specs.Tokens.{valid}
-use Rattle.wac_grammar.specs.Texts.{text_of}
+use Rattle.wac_grammar.specs.TokenTexts.{text_of}
 use Rattle.std.proofs.lemmas.List.{append-nil}
 use Rattle.wac_lexer.specs.declared.token.Token.{Token}
 use Rattle.wac_lexer.specs.declared.token.Token.TheVariants as t

@@ -9,7 +9,7 @@ use Rattle.wac_grammar.proofs.Fixed.{Reader, both, both_left, both_right}
 use Rattle.wac_grammar.proofs.Tables.{continues, negated, not_true, lawful, rule_lawful, apart, among, pickable, clash, both_lawful}
 use Rattle.wac_grammar.proofs.Complete.{Family, begins_in, by_begins}
 
--- the front of the items is derived
+-- a prefix of the items is derived
 abbrev pub Fronted : {A : Type 0} → (List Item → A → Type 0) → List Item → Result (A × List Item) Stop → Type 0
 Fronted D xs (Ok x) = (front : List Item) × (xs ≡ front ++ x.1) × D front x.0
 Fronted D xs (Err s) = Unit {0}

@@ -13,15 +13,15 @@ use Rattle.wac_grammar.proofs.Tables.{always, among, same_token, within, back_to
 use Rattle.wac_grammar.proofs.Sound.{Fronted, OfToken, sound_in}
 use Rattle.wac_grammar.proofs.Completed.{Sample, FirstOf, named_split, cans_once, follows_later, one_only, of_token, self_token, same_is, by_nil, within_is, by_first, sample_in, first_in}
 
--- each item of the token can stand behind `lead`
+-- each item of the token can stand after `lead`
 abbrev pub AtOnce : {A : Type 0} → (List Item → A → Type 0) → List Item → Token → Type 0
 AtOnce {A = A} D lead k = (x : Item) → IsOf k x → (zs : List Item) × (p : A) × D (lead ++ (x ∷ zs)) p
 
--- and behind a comma there
+-- and after a comma there
 abbrev pub BehindComma : {A : Type 0} → (List Item → A → Type 0) → List Item → Token → Type 0
 BehindComma {A = A} D lead k = (c x : Item) → IsOf t.Comma c → IsOf k x → (zs : List Item) × (p : A) × D (lead ++ (c ∷ x ∷ zs)) p
 
--- How the token can stand behind `lead`, where `left` is left.
+-- How the token can stand after `lead`, where `left` is left.
 abbrev pub Goes : {A : Type 0} → (List Item → A → Type 0) → List Item → List Item → Standing → Token → Type 0
 Goes D lead left at_once k = AtOnce D lead k
 Goes D lead left closing k = Unit {0}
@@ -33,8 +33,8 @@ Early D m k = (left : List Item) → Goes D [] left m k
 pub early_first : {A : Type 0} (D : List Item → A → Type 0) (k : Token) → FirstOf D k → Early D at_once k
 early_first D k f = λ left x i. f x i
 
--- Behind `lead`, perhaps behind the item that is told of, reading stopped: these items can be completed, and each token that was
--- looked for can stand behind `lead`, but for those that were looked for before and stand at the very place where this reading began.
+-- After `lead`, perhaps after the item that it is reported at, reading stopped: these items can be completed, and each token that was
+-- looked for can stand after `lead`, but for those that were looked for before and stand at the very place where this reading began.
 abbrev pub Stops : {A : Type 0} → (List Item → A → Type 0) → List Tried → List Item → Result (A × List Item) Stop → Type 0
 Stops D tried xs (Ok x) = Unit {0}
 Stops {A = A} D tried xs (Err s) = (lead : List Item) × (xs ≡ lead ++ (before s.why ++ s.left)) × ((ys : List Item) × (p : A) × D (lead ++ (before s.why ++ ys)) p) × ((m : Standing) (k : Token) → named m k s.expected ≡ true → ((named m k tried ≡ true) × (lead ≡ [])) ⊎ Goes D lead s.left m k)
@@ -43,7 +43,7 @@ stops_cond : {A : Type 0} (D : List Item → A → Type 0) (tried : List Tried) 
 stops_cond D tried true xs m n h k = h
 stops_cond D tried false xs m n h k = k
 
--- what goes on with one family goes on with another, behind what stands before it
+-- what goes on with one family goes on with another, after what stands before it
 abbrev Carries : {A B : Type 0} → (List Item → A → Type 0) → (List Item → B → Type 0) → List Item → List Item → Type 0
 Carries {A = A} {B = B} D E lead front = (zs : List Item) (a : A) → D (lead ++ zs) a → (ys : List Item) × (b : B) × ((us : List Item) × ((front ++ lead) ++ (zs ++ ys) ≡ us) × E us b)
 
@@ -83,7 +83,7 @@ stops_keep D tried ts j xs (Err s) d = stops_pass D D (λ a. a) tried ts (λ ys 
 abbrev no_items : List Item
 no_items = []
 
--- refused at once
+-- rejected at once
 pub stops_here : {A : Type 0} (D : List Item → A → Type 0) (tried ts : List Tried) (w : Why) → before w ≡ [] → Sample D → (xs : List Item) → ((m : Standing) (k : Token) → named m k ts ≡ true → (named m k tried ≡ true) ⊎ Goes D [] xs m k) → Stops D tried xs (Err (record { left = xs; expected = ts; why = w }))
 stops_here {A = A} D tried ts w e some xs j = ([], ap (λ (us : List Item). us ++ xs) (back e), (some.0, some.1, subst (λ (us : List Item). D (us ++ some.0) some.1) (back e) some.2), λ m k n. go m k (j m k n))
   where
@@ -91,7 +91,7 @@ stops_here {A = A} D tried ts w e some xs j = ([], ap (λ (us : List Item). us +
     go m k (inl n) = inl (n, refl)
     go m k (inr a) = inr a
 
--- behind items that were read
+-- after items that were read
 stops_after : {A B : Type 0} (E : List Item → A → Type 0) (F : List Item → B → Type 0) (f : A → B) (tried : List Tried) (front : List Item) → ((zs : List Item) (a : A) → E zs a → (b : B) × F (front ++ zs) b)
     → (xs ys : List Item) → xs ≡ front ++ ys → (m : Result (A × List Item) Stop) → Stops E [] ys m → Stops F tried xs (mapped f m)
 stops_after E F f tried front h xs ys e (Ok x) d = tt
@@ -193,7 +193,7 @@ module _ (sample : (s : Sym) → Sample (Derives s)) (item : (k : Token) → (x 
     loud_firsts D tried true ks f m k h = named_firsts D tried ks f m k h
     loud_firsts D tried false ks f m k h = named_firsts D tried [] (λ l a. absurd (cc a)) m k h
 
-    -- behind a comma the tokens go on
+    -- after a comma the tokens go on
     comma_goes : (ks : List Token) (g : Grammar) → continues ks g ≡ true → (k : Token) → among k ks ≡ true → (c x : Item) → IsOf t.Comma c → IsOf k x → (zs : List Item) × (p : Parts g) × DerivesIn Derives g (c ∷ x ∷ zs) p
     comma_goes ks (either loud g (then (token c) (sym s))) ok k a comma x n i =
         let ok_c = both_left (same_token t.Comma c) (within ks (begins s)) ok in

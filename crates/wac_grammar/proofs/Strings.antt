@@ -1,4 +1,4 @@
--- A refusal is told of the item before exactly where this is a string that an argument begins with.
+-- A rejection is reported at the item before exactly where this is a string that an argument begins with.
 use Rattle.std.proofs.Common.{◌≡◌, ℕ, zero, suc, List, [], ◌∷◌, ◌++◌, map, Result, Ok, Err, Bool, true, false, cond, refl, sym as back, ap, subst, ◌∙◌, ◌⊎◌, inl, inr, append_assoc}
 use Rattle.std.proofs.lemmas.List.{append_cancel_right}
 use Rattle.wac_lexer.specs.declared.token.Token.{Token}
@@ -19,7 +19,7 @@ pub data State : Type 0 where
   plain : State
   -- an opening brace or a comma
   opened : State
-  -- a string behind one
+  -- a string after one
   argued : State
 
 pub data Role : Type 0 where
@@ -74,7 +74,7 @@ abbrev pub is_opened : State → Bool
 is_opened opened = true
 is_opened st = false
 
--- the symbols that are read behind an opening brace or a comma alone
+-- the symbols that are read after an opening brace or a comma alone
 abbrev pub of_arguments : Sym → Bool
 of_arguments argument = true
 of_arguments arguments = true
@@ -93,7 +93,7 @@ after st (docs g) = after st g
 after st (not_empty b k g) = after st g
 after st g = plain
 
--- The grammar keeps strings behind an opening brace or a comma for arguments.
+-- The grammar keeps strings after an opening brace or a comma for arguments.
 abbrev pub well : State → Grammar → Bool
 well st (token k) = not_argued st
 well st (sym s) = may_begin st s
@@ -162,7 +162,7 @@ not_is plain h = refl
 not_is opened h = refl
 not_is argued h = absurd cc
 
--- Behind the items that were read: it is told of the last of them exactly where this is the string of an argument.
+-- After the items that were read: it is reported at the last of them exactly where this is the string of an argument.
 abbrev pub Traced : {A : Type 0} → State → State → List Item → Result (A × List Item) Stop → Type 0
 Traced st end xs (Ok x) = (front : List Item) × (xs ≡ front ++ x.1) × (run st front ≡ end)
 Traced st end xs (Err s) = (front : List Item) × (xs ≡ front ++ s.left) × (is_told s.why ≡ is_argued (run st front))
@@ -178,7 +178,7 @@ traced_cond st end false xs m n h k = k
 traced_end : {A : Type 0} (st mid end : State) (xs : List Item) (m : Result (A × List Item) Stop) → mid ≡ end → Traced st mid xs m → Traced st end xs m
 traced_end st mid end xs m e h = subst (λ (u : State). Traced st u xs m) e h
 
--- behind items that were read
+-- after items that were read
 traced_behind : {A B : Type 0} (st mid end : State) (xs front rest : List Item) (m : Result (A × List Item) Stop) (f : A → B) → xs ≡ front ++ rest → run st front ≡ mid → Traced mid end rest m → Traced st end xs (mapped f m)
 traced_behind st mid end xs front rest (Ok y) f e r d = (front ++ d.0, e ∙ ap (λ (ys : List Item). front ++ ys) d.1 ∙ back (append_assoc front d.0 y.1), run_append st front d.0 ∙ ap (λ (u : State). run u d.0) r ∙ d.2)
 traced_behind st mid end xs front rest (Err s) f e r d = (front ++ d.0, e ∙ ap (λ (ys : List Item). front ++ ys) d.1 ∙ back (append_assoc front d.0 s.left), d.2 ∙ ap is_argued (back (run_append st front d.0 ∙ ap (λ (u : State). run u d.0) r)))
@@ -187,7 +187,7 @@ traced_two : {A B : Type 0} (st mid end : State) (xs : List Item) (m : Result (A
 traced_two st mid end xs (Err s) f h k = h
 traced_two st mid end xs (Ok x) f h k = traced_behind st mid end xs h.0 x.1 (f x.0 x.1) (λ b. (x.0, b)) h.1 h.2 (k x.0 x.1)
 
--- any other refusal, where the last item is no string of an argument
+-- any other rejection, where the last item is no string of an argument
 calm : (A : Type 0) (st end : State) (xs : List Item) (ts : List Tried) (w : Why) → not_argued st ≡ true → is_told w ≡ false → Traced {A = A} st end xs (Err (record { left = xs; expected = ts; why = w }))
 calm A st end xs ts w h e = ([], refl, e ∙ back (not_is st h))
 
@@ -277,7 +277,7 @@ by_traces (suc n) s st xs h =
     (rests st (after st (rule s)) xs (read_in (read_by n) (rule s) [] xs) (both_right (well st (rule s)) (is_plain (after st (rule s))) ok)
     (traced_in (read_by n) (by_traces n) (rule s) st [] xs (both_left (well st (rule s)) (is_plain (after st (rule s))) ok)))
 
--- where a symbol may begin: an argument behind an opening brace or a comma
+-- where a symbol may begin: an argument after an opening brace or a comma
 abbrev begun : Sym → State
 begun argument = opened
 begun arguments = opened
@@ -364,7 +364,7 @@ so_ends st xs o =
     ∙ ap (λ st. step_of st o.string.token) (opened_by o.opening o.is_opening (run st o.before))
     ∙ step_token opened t.String o.string o.is_string
 
--- behind an opening brace or a comma the string may be alone
+-- after an opening brace or a comma the string may be alone
 ends_alone : (xs : List Item) → run opened xs ≡ argued → EndsWithArgument xs ⊎ IsAlone t.String xs
 ends_alone xs h = go (ending opened xs h)
   where
@@ -387,7 +387,7 @@ argued_is argued h = refl
 argued_is plain h = absurd cc
 argued_is opened h = absurd cc
 
--- A REFUSAL IS TOLD OF THE ITEM BEFORE exactly where this is a string that an argument begins with
+-- A REJECTION IS REPORTED AT THE ITEM BEFORE exactly where this is a string that an argument begins with
 pub told_exactly : (s : Sym) (xs front : List Item) (stop : Stop) → read s xs ≡ Err stop → xs ≡ front ++ stop.left → (is_told stop.why ≡ true → EndsArgued s front) × (EndsArgued s front → is_told stop.why ≡ true)
 told_exactly s xs front stop h e =
     let d = subst (λ (m : Result (TreeOf s × List Item) Stop). Traced (begun s) plain xs m) h (traced s xs) in

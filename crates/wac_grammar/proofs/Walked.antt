@@ -6,7 +6,7 @@ use Rattle.wac_lexer.specs.Span.{Span}
 use Rattle.wac_lexer.specs.Item.{Doc}
 use Rattle.wac_grammar.specs.Tree.{Ident, String, PackageName, PackagePath, Ty, Document}
 use Rattle.wac_grammar.specs.Walk.{Walk, walk_document}
-use Rattle.wac_grammar.specs.Leaves.{IfThere, Change, Asked, changed, holds, after, unchanged, asked_after}
+use Rattle.wac_grammar.specs.Leaves.{IfThere, Change, Asked, changed, holds, holds_with_spans, after, unchanged, asked_after}
 use Rattle.wac_grammar.proofs.Linked.{Link, link_document}
 
 -- ---- lists and options
@@ -207,6 +207,46 @@ implied P Q e =
       four = λ r s t w p. (r p.0, s p.1, t p.2, w p.3);
     }
 
+-- WHAT HOLDS WITH SPANS holds
+abbrev pub spans_aside : (P : Asked) (S : Span → Type 0) → Link {0, 1, 1, 0} (changed unchanged) (holds P) (holds_with_spans P S) unchanged
+spans_aside P S =
+    record {
+      R = λ x u q p. p → q;
+      ident = λ x h. h;
+      string = λ x h. h;
+      name = λ x h. h;
+      path = λ x h. h;
+      none = λ x p. tt;
+      each = each_implied;
+      perhaps = perhaps_implied;
+      spanned = λ r s p. r p.0;
+      filled = λ c r p. (r p.0, p.1);
+      one = λ r p. r p;
+      two = λ r s p. (r p.0, s p.1);
+      three = λ r s t p. (r p.0, s p.1, t p.2);
+      four = λ r s t w p. (r p.0, s p.1, t p.2, w p.3);
+    }
+
+-- WHAT HOLDS, and of any span
+abbrev pub any_spans : (P : Asked) (S : Span → Type 0) → ((s : Span) → S s) → Link {0, 1, 1, 0} (changed unchanged) (holds_with_spans P S) (holds P) unchanged
+any_spans P S any =
+    record {
+      R = λ x u q p. p → q;
+      ident = λ x h. h;
+      string = λ x h. h;
+      name = λ x h. h;
+      path = λ x h. h;
+      none = λ x p. tt;
+      each = each_implied;
+      perhaps = perhaps_implied;
+      spanned = λ r s p. (r p, any s);
+      filled = λ c r p. (r p.0, p.1);
+      one = λ r p. r p;
+      two = λ r s p. (r p.0, s p.1);
+      three = λ r s t p. (r p.0, s p.1, t p.2);
+      four = λ r s t w p. (r p.0, s p.1, t p.2, w p.3);
+    }
+
 -- ---- of documents: what is made of docs stands beside what is made of the other leaves
 
 abbrev Docs : Type 0
@@ -238,3 +278,9 @@ document_asked P D g dg x = link_document (holds P) (holds (asked_after P g)) (c
 
 pub document_implied : (P Q : Asked) (D E : List Doc → Type 0) → Gives P Q → ((ds : List Doc) → D ds → E ds) → (x : Document) → walk_document (holds P) D x → walk_document (holds Q) E x
 document_implied P Q D E e d x p = link_document (changed unchanged) (holds Q) (holds P) unchanged (implied P Q e) (λ ds. ds) (λ ds. ds) E D d x p
+
+pub document_spans_aside : (P : Asked) (S : Span → Type 0) (D : List Doc → Type 0) (x : Document) → walk_document (holds_with_spans P S) D x → walk_document (holds P) D x
+document_spans_aside P S D x p = link_document (changed unchanged) (holds P) (holds_with_spans P S) unchanged (spans_aside P S) (λ ds. ds) (λ ds. ds) D D (λ ds h. h) x p
+
+pub document_any_spans : (P : Asked) (S : Span → Type 0) → ((s : Span) → S s) → (D : List Doc → Type 0) (x : Document) → walk_document (holds P) D x → walk_document (holds_with_spans P S) D x
+document_any_spans P S any D x p = link_document (changed unchanged) (holds_with_spans P S) (holds P) unchanged (any_spans P S any) (λ ds. ds) (λ ds. ds) D D (λ ds h. h) x p

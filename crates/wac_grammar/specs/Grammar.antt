@@ -112,7 +112,7 @@ pub data Body : Type 0 where
   flags_body : Body
   enum_body : Body
 
--- What must stand behind a part that is left out.
+-- What must stand after a part that is left out.
 pub data Behind : Type 0 where
   anything : Behind
   -- no fault
@@ -130,11 +130,11 @@ pub data Grammar : Type 0 where
   to_end : Grammar → Grammar
   -- with the docs of the first item
   docs : Grammar → Grammar
-  -- where the token comes at once the body is empty: a refusal of its own kind
+  -- where the token comes at once the body is empty: an error of its own kind
   not_empty : Body → Token → Grammar → Grammar
-  -- behind an item of a comma list: where the input ends the closing token and the item are named
+  -- after an item of a comma list: where the input ends the closing token and the item are named
   more : Token → Sym → Grammar → Grammar
-  -- the first, or the token and the second; where this does not follow the token, the refusal is told of the token and names the first
+  -- the first, or the token and the second; where this does not follow the token, the rejection is reported at the token and names the first
   or_told : Grammar → Token → Grammar → Grammar
 
 infixr 20 ◌▸◌
@@ -145,7 +145,7 @@ infixr 15 ◌¦◌
 abbrev pub ◌¦◌ : Grammar → Grammar → Grammar
 g ¦ h = either true g h
 
--- an optional part, which names nothing: parse_optional, where a fault is refused; and a mere look at the next token
+-- an optional part, which names nothing: parse_optional, where a fault is rejected; and a mere look at the next token
 abbrev pub optional : Grammar → Grammar
 optional g = either true g (nothing no_fault)
 
@@ -386,7 +386,7 @@ abbrev pub listed : {A : Type 0} → Item ⊎ (A × Listed A) → Listed A
 listed (inl last) = ([], last)
 listed (inr (x, others)) = (x ∷ others.0, others.1)
 
--- behind an item: the closing token, or a comma and the others
+-- after an item: the closing token, or a comma and the others
 abbrev pub listed_more : {A : Type 0} → Item ⊎ (Item × Listed A) → Listed A
 listed_more (inl last) = ([], last)
 listed_more (inr (_, others)) = others

@@ -4,8 +4,8 @@ use Rattle.std.specs.List.{AllByRecursion, flat_map}
 use Rattle.std.specs.Option.{option_map}
 use Rattle.wac_lexer.specs.Span.{Span}
 use Rattle.wac_lexer.specs.Item.{Doc}
-use Rattle.wac_grammar.specs.Tree.{Ident, String, PackageName, PackagePath}
-use Rattle.wac_grammar.specs.Walk.{Walk}
+use Rattle.wac_grammar.specs.Tree.{Ident, String, PackageName, PackagePath, Document}
+use Rattle.wac_grammar.specs.Walk.{Walk, walk_document}
 
 -- what becomes of each leaf
 pub record Change : Type 0 where
@@ -67,6 +67,10 @@ holds P =
       four = λ m a b c d. a × b × c × d;
     }
 
+-- the same, and each span is as asked
+abbrev pub holds_with_spans : Asked → (Span → Type 0) → Walk {1}
+holds_with_spans P S = record (holds P) { spanned = λ p s. p × S s }
+
 pub data Leaf : Type 0 where
   ident : Ident → Leaf
   string : String → Leaf
@@ -102,6 +106,21 @@ leaves =
       three = λ m a b c. a ++ (b ++ c);
       four = λ m a b c d. a ++ (b ++ (c ++ d));
     }
+
+-- the same asked of leaves of each sort
+abbrev pub of_leaves : (Leaf → Type 0) → Asked
+of_leaves Q =
+    record {
+      ident = λ x. Q (Leaf.ident x);
+      string = λ x. Q (Leaf.string x);
+      name = λ x. Q (Leaf.name x);
+      path = λ x. Q (Leaf.path x);
+      filled = λ b. Unit {0};
+    }
+
+-- a test passes at the tree: at all its names, strings, paths, docs and spans
+abbrev pub DocumentPasses : (Leaf → Bool) → Document → Type 0
+DocumentPasses test x = walk_document (holds_with_spans (of_leaves (λ leaf. test leaf ≡ true)) (λ s. test (Leaf.span s) ≡ true)) (λ ds. test (Leaf.docs ds) ≡ true) x
 
 -- one change after another
 abbrev pub after : Change → Change → Change

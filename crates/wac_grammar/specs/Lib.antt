@@ -7,7 +7,6 @@ pub mod Viable
 pub mod Possible
 pub mod Bodies
 pub mod Arguments
-pub mod Texts
 pub mod Stopped
 pub mod Slices
 pub mod Rows
@@ -17,3 +16,5 @@ pub mod TokenTexts
 pub mod TextTree
 pub mod Walk
 pub mod Leaves
+pub mod Spans
+pub mod Segments

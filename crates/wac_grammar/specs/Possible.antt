@@ -1,4 +1,4 @@
--- The tokens that a refusal names, and the items that are one of them.
+-- The tokens that a rejection names, and the items that are one of them.
 use Rattle.std.specs.Prelude.{◌≡◌, List, [], ◌∷◌, Ok, Bool, true, false, cond}
 use Rattle.wac_lexer.specs.declared.token.Token.{Token}
 use Rattle.wac_lexer.specs.Item.{Item}

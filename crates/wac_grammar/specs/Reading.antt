@@ -1,4 +1,4 @@
--- Reading from left to right with one item of lookahead: how the grammar is decided, and what a refusal names.
+-- Reading from left to right with one item of lookahead: how the grammar is decided, and what a rejection names.
 use Rattle.std.specs.Prelude.{ℕ, zero, suc, ◌+◌, ◌*◌, List, [], ◌∷◌, ◌++◌, length, map, Result, Ok, Err, Bool, true, false, cond}
 use Rattle.std.proofs.Common.{inl, inr}
 use Rattle.wac_lexer.specs.declared.token.Token.{Token}
@@ -7,12 +7,12 @@ use Rattle.wac_lexer.specs.Item.{Item}
 use Rattle.wac_grammar.specs.Tokens.{is_token, is_fault, valid, at}
 use Rattle.wac_grammar.specs.Grammar.{Sym, document, directive, statements, statement, import_statement, extern_name, import_type, let_statement, export_statement, export_options, expr, primary_expr, new_expr, arguments, more_arguments, argument, named_argument, argument_name, nested_expr, postfixes, postfix_expr, access_expr, named_access_expr, type_statement, type_decl, item_type_decl, resource_decl, methods, resource_method, constructor, method, variant_decl, cases, more_cases, variant_case, record_decl, fields, more_fields, field, flags_decl, flags, more_flags, flag, enum_decl, enum_cases, more_enum_cases, enum_case, type_alias, type_alias_kind, func_type_ref, func_type, params, more_params, result_list, named_type, ty, tuple_type, list_type, option_type, result_type, borrow_type, stream_type, future_type, types, more_types, result_part, payload, interface_decl, inline_interface, interface_items, interface_item, interface_export, use_statement, use_path, use_items, more_use_items, use_item, world_decl, world_items, world_item, world_import, world_export, world_item_path, named_world_item, extern_type, world_include, world_ref, include_items, more_include_items, include_item, identifier, string, package_name, package_path, Body, Behind, anything, no_fault, one_among, Grammar, token, sym, then, either, nothing, to_end, docs, not_empty, more, or_told, rule, TreeOf, Parts, build, docs_of}
 
--- How a token that was looked for can stand at the place of a refusal.
+-- How a token that was looked for can stand at the place of a rejection.
 pub data Standing : Type 0 where
   at_once : Standing
   -- it would close a body that is still empty
   closing : Standing
-  -- where the input ends behind an item of a comma list: behind a comma
+  -- where the input ends after an item of a comma list: after a comma
   behind_comma : Standing
 
 -- A token that was looked for.
@@ -36,7 +36,7 @@ pub data Why : Type 0 where
   empty_body : Body → Why
   -- a text that is no version
   version : Why
-  -- told of the item before
+  -- reported at the item before
   told : Item → Why
 
 -- Where reading stopped: the items from there on, the tokens that were looked for, in order, and why.
@@ -45,7 +45,7 @@ pub record Stop : Type 0 where
   pub expected : List Tried
   pub why : Why
 
--- the item before the place of which the refusal is told, if it is
+-- the item before, at which the rejection is reported, if it is
 abbrev pub before : Why → List Item
 before other = []
 before (empty_body b) = []
@@ -79,7 +79,7 @@ empty result_list = true
 empty payload = true
 empty _ = false
 
--- the tokens that a symbol's items begin with
+-- a symbol's first tokens
 abbrev pub begins : Sym → List Token
 begins document = t.PackageKeyword ∷ []
 begins directive = t.PackageKeyword ∷ []
@@ -271,7 +271,7 @@ abbrev pub read_token : List Tried → Token → List Item → Result (Item × L
 read_token tried k [] = refuse [] (tried ++ (can k ∷ []))
 read_token tried k (x ∷ xs) = cond (is_token k x.token) (cond (valid k x.text) (Ok (x, xs)) (Err (record { left = x ∷ xs; expected = can k ∷ []; why = version }))) (refuse (x ∷ xs) (tried ++ (can k ∷ [])))
 
--- what follows an item, or a refusal that is told of it
+-- what follows an item, or a rejection that is reported at it
 abbrev pub led : {A : Type 0} → List Token → List Tried → (List Item → Result (A × List Item) Stop) → Item → List Item → Result (A × List Item) Stop
 led ks names f x xs = cond (at_one_of ks xs) (f xs) (Err (record { left = xs; expected = names; why = told x }))
 

@@ -1,4 +1,4 @@
--- Some texts' items, by computation: the tree that is read of them, or what a refusal names.
+-- Some texts' items, by computation: the tree that is read of them, or what a rejection names.
 use Rattle.std.specs.Prelude.{◌≡◌, ℕ, List, [], ◌∷◌, map, length, Option, Some, None, Result, Ok, Err, codes, refl}
 use Rattle.wac_lexer.specs.Span.{span}
 use Rattle.wac_lexer.specs.Item.{Item}
@@ -64,7 +64,7 @@ string_alone : why (read document (package_a_b (item t.LetKeyword (codes "let") 
 unfolding read
 string_alone = refl
 
--- `;` behind a directive
+-- `;` after a directive
 no_statement : names (read document (package_a_b (item t.Semicolon (codes ";") 12 ∷ []))) ≡ map can (t.ImportKeyword ∷ t.LetKeyword ∷ t.ExportKeyword ∷ t.InterfaceKeyword ∷ t.WorldKeyword ∷ t.VariantKeyword ∷ t.RecordKeyword ∷ t.FlagsKeyword ∷ t.EnumKeyword ∷ t.TypeKeyword ∷ [])
 unfolding read
 no_statement = refl

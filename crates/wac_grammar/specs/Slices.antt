@@ -1,9 +1,11 @@
--- The spans of a tree's names, strings and paths slice the source: each lies in it and cuts no character.
+-- The spans of a tree slice the source, those of its names, strings, paths and docs and those of its nodes: each lies in it and cuts no character.
 use Rattle.std.specs.Prelude.{ℕ, List}
+use Rattle.std.specs.List.{AllByRecursion}
+use Rattle.wac_lexer.specs.Item.{Doc}
 use Rattle.wac_lexer.specs.Reading.{Slices}
 use Rattle.wac_grammar.specs.Tree.{Document}
 use Rattle.wac_grammar.specs.Walk.{walk_document}
-use Rattle.wac_grammar.specs.Leaves.{Asked, holds}
+use Rattle.wac_grammar.specs.Leaves.{Asked, holds_with_spans}
 
 abbrev pub sliced : List ℕ → Asked
 sliced source =
@@ -15,5 +17,8 @@ sliced source =
       filled = λ b. Unit {0};
     }
 
+abbrev pub DocsSlice : List ℕ → List Doc → Type 0
+DocsSlice source docs = AllByRecursion (λ d. Slices source d.span) docs
+
 abbrev pub DocumentSlices : List ℕ → Document → Type 0
-DocumentSlices source x = walk_document (holds (sliced source)) (λ ds. Unit {0}) x
+DocumentSlices source x = walk_document (holds_with_spans (sliced source) (Slices source)) (DocsSlice source) x

@@ -25,7 +25,7 @@ pub record String : Type 0 where
   pub value : List ℕ
   pub span : Span
 
--- the text without a quote at its front
+-- the text without a quote at its start
 abbrev pub without_front_quote : List ℕ → List ℕ
 without_front_quote [] = []
 without_front_quote (b ∷ text) = if b == 34 then text else b ∷ text
@@ -39,7 +39,7 @@ without_last_quote (b ∷ c ∷ text) = b ∷ without_last_quote (c ∷ text)
 abbrev pub between_quotes : List ℕ → List ℕ
 between_quotes text = without_last_quote (without_front_quote text)
 
--- the whole text, the text before '@', and the version behind it
+-- the whole text, the text before '@', and the version after it
 pub record PackageName : Type 0 where
   pub string : List ℕ
   pub name : List ℕ

@@ -1,4 +1,4 @@
--- The parts of a package's text: its name, the segments of a path, and the version behind '@'.
+-- The parts of a package's text: its name, the segments of a path, and the version after '@'.
 use Rattle.std.specs.Prelude.{◌≡◌, ℕ, ◌==◌, nat_lt, List, length, Option, Some, None, Result, Ok, Err, Bool, true, false, if◌then◌else◌, codes, refl}
 use Rattle.std.specs.List.{before_first, after_first, position_or_len}
 use Rattle.semver.specs.Parse.{Parts, version_parts, digits_from, scan}
@@ -9,7 +9,7 @@ is_at_sign b = b == 64
 abbrev pub is_slash : ℕ → Bool
 is_slash b = b == 47
 
--- the text behind '@', if there is one
+-- the text after '@', if there is one
 abbrev pub version_text : List ℕ → Option (List ℕ)
 version_text text = if nat_lt (position_or_len is_at_sign text) (length text) then Some (after_first is_at_sign text) else None
 
@@ -21,7 +21,7 @@ unversioned text = before_first is_at_sign text
 abbrev pub path_name : List ℕ → List ℕ
 path_name text = before_first is_slash text
 
--- the text behind the first '/'
+-- the text after the first '/'
 abbrev pub after_slash : List ℕ → List ℕ
 after_slash text = after_first is_slash text
 

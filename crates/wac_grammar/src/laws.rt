@@ -1,5 +1,6 @@
 // Laws of the definitions that the contracts cite. Each function does nothing: its contract is the law.
-ghost use Rattle.std.specs.Prelude.{◌≡◌, ◌≢◌, ◌⊎◌, ℕ, List, [], ◌∷◌, ◌++◌, Ok, Err};
+ghost use Rattle.std.specs.Prelude.{◌≡◌, ◌≢◌, ◌⊎◌, ◌↔◌, ℕ, Bool, true, List, [], ◌∷◌, ◌++◌, Ok, Err};
+ghost use Rattle.std.specs.List.{AllByRecursion};
 ghost use Rattle.std.specs.Str.{IsUtf8};
 ghost use Rattle.wac_lexer.specs.Item.{Item};
 ghost use Rattle.wac_lexer.specs.declared.token.Token as the_token;
@@ -7,6 +8,7 @@ ghost use Rattle.wac_grammar.specs.Consumed.{Consumed};
 ghost use Rattle.wac_grammar.specs.Arguments.{CutShort};
 ghost use Rattle.wac_grammar.specs.Grammar.{Sym, argument, TreeOf};
 ghost use Rattle.wac_grammar.specs.Reading.{Stop, read};
+ghost use Rattle.wac_grammar.specs.Leaves.{DocumentPasses, Leaf, docs_leaf, leaves};
 ghost use Rattle.wac_grammar.specs.Stopped.{Stopped};
 ghost use Rattle.wac_grammar.specs.TokenTexts.{HasText};
 ghost use Rattle.wac_grammar.specs.Tree.{Document};
@@ -14,6 +16,7 @@ ghost use Rattle.wac_grammar.specs.TextTree.{IsTreeOf};
 ghost use Rattle.wac_grammar.specs.Slices.{DocumentSlices};
 ghost use Rattle.wac_grammar.specs.Spelled.{DocumentSpelled};
 ghost use Rattle.wac_grammar.specs.Viable.{Viable};
+ghost use Rattle.wac_grammar.specs.Walk.{walk_document};
 
 use wac_lexer::items_stand_in_order;
 
@@ -27,12 +30,17 @@ pub fn tokens_have_texts()
     ensures { (k : the_token.Token) → HasText k }
 {}
 
-/// The names, strings and paths of a text's tree stand in the text, and their texts are read there.
+/// All spans of a text's tree slice the text, and the texts of its names, strings and paths are read there.
 pub fn trees_stand_in_their_text()
     ensures { (text : List ℕ) (tree : Document) → IsUtf8 text → IsTreeOf text tree → DocumentSlices text tree × DocumentSpelled text tree }
 {
     items_stand_in_order();
 }
+
+/// A test passes at a tree exactly where it passes at each of the tree's leaves.
+pub fn trees_are_as_their_leaves()
+    ensures { (test : Leaf → Bool) (tree : Document) → DocumentPasses test tree ↔ AllByRecursion (λ leaf. test leaf ≡ true) (walk_document leaves docs_leaf tree) }
+{}
 
 /// A refusal lies at the first fault of the part that was to be read, and each token that it names can stand there.
 pub fn refusals_lie_at_first_faults()

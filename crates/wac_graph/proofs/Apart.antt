@@ -26,6 +26,7 @@ copied_from (p ∷ ps) i o h = go (copied_from ps i o) (nat_le p.first i) (nat_l
   where
     below : nat_le p.first i ≡ true → p.first ≤ i
     below h = grind (arith, nat_tests)
+
     go : (copied_at ps i ≡ Some o → CopiedFrom ps i o) → (a b : Bool) → nat_le p.first i ≡ a → cond (a && b) (Some (copied p.key (i - p.first))) (copied_at ps i) ≡ Some o → CopiedFrom (p ∷ ps) i o
     go later true true e h = record { place = 0; from = p; held = refl; behind = below e; is = cc }
     go later true false e h = (let r = later h in record { place = suc r.place; from = r.from; held = r.held; behind = r.behind; is = r.is })
@@ -69,9 +70,10 @@ in_table_apart ps es naming one apart i j d e at_i at_j res_i res_j same = go (c
     go None None x y eq =
         let counts : own_from ps 0 (take i es) ≡ own_from ps 0 (take j es) = cc in
         elim (either i j) [
-          inl lt ↦ absurd (let h = counted i j d at_i res_i x lt in omega (arith, h, counts))
-        | inr (inl gt) ↦ absurd (let h = counted j i e at_j res_j y gt in omega (arith, h, counts))
-        | inr (inr eq) ↦ eq ]
+          | inl lt ↦ absurd (let h = counted i j d at_i res_i x lt in omega (arith, h, counts))
+          | inr (inl gt) ↦ absurd (let h = counted j i e at_j res_j y gt in omega (arith, h, counts))
+          | inr (inr eq) ↦ eq
+        ]
       where
         either : (a b : ℕ) → (a < b) ⊎ (b < a) ⊎ (a ≡ b)
         either a b = grind arith

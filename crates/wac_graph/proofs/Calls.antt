@@ -1,28 +1,33 @@
--- What is read of a graph after a node was named, given an argument, or added.
-use Rattle.std.proofs.Common.{◌≡◌, ◌∙◌, ◌<◌, ◌+◌, ℕ, zero, suc, Option, Some, None, List, [], ◌∷◌, ◌++◌, length, refl, sym, ap, subst, arith, Bool, true, false, cond, map}
-use Rattle.std.specs.Prelude.{slice_get, slice_set, option_map, option_and_then, nat_lt, not}
+-- What is read of a graph in which a node was named, given an argument, or added.
+use Rattle.std.proofs.Common.{◌≡◌, ◌∙◌, ◌<◌, ◌+◌, ℕ, zero, suc, Option, Some, None, List, [], ◌∷◌, ◌++◌, length, refl, sym, ap, arith, Bool, true, false, cond, map}
+use Rattle.std.specs.Prelude.{slice_get, slice_set, option_map, option_and_then, nat_lt, not, IsSome}
 use Rattle.std.specs.List.{position, position_or_len}
 use Rattle.std.proofs.lemmas.Bool.Decides.{nat_tests}
 use Rattle.wac_types.specs.declared.kind.ItemKind.{ItemKind}
 use Rattle.wac_types.specs.Readings.{instance_exports}
-use Rattle.wac_types.specs.Scope.{Named, look_up, with_named}
+use Rattle.wac_types.specs.Scope.{Named, look_up, with_named, IsFresh}
+use Rattle.wac_types.proofs.Rows.{none_within}
 use Rattle.wac_graph.specs.Node.{Node, Form, import, definition, alias, instantiation, package_in, arguments_in, is_alias_of}
 use Rattle.wac_graph.specs.Graph.{Parts, plain_node, changed, given_too, with_name, with_argument, with_instantiation, export_kind, import_kind, parameter_kind, package_of, arguments_of, alias_in}
-use Rattle.wac_graph.proofs.Lists.{get_kept, get_last, set_here, set_other}
+use Rattle.wac_graph.proofs.Lists.{get_last, set_here, set_other, set_read, found_last, found_other}
 
 -- ---- the first that passes
 
 first_of : {X : Type 0} (p : X → Bool) (x : X) (xs : List X) → position p (x ∷ xs) ≡ cond (p x) (Some 0) (option_map suc (position p xs))
 first_of p x xs = go (p x)
   where
+    next : (a n : ℕ) → nat_lt (1 + a) (suc n) ≡ nat_lt a n
+    next a n = grind (arith, nat_tests)
+
     step : (a n : ℕ) → cond (nat_lt (1 + a) (suc n)) (Some (1 + a)) None ≡ option_map suc (cond (nat_lt a n) (Some a) None)
-    step a n = by (nat_lt a n) (let next : 1 + a ≡ suc a = omega arith in ap (λ (m : ℕ). nat_lt m (suc n)) next)
+    step a n = ap (λ (b : Bool). cond b (Some (1 + a)) None) (next a n) ∙ by (nat_lt a n)
       where
-        by : (b : Bool) → nat_lt (1 + a) (suc n) ≡ b → cond (nat_lt (1 + a) (suc n)) (Some (1 + a)) None ≡ option_map suc (cond b (Some a) None)
-        by true h = (let next : 1 + a ≡ suc a = omega arith in rw h (ap Some next))
-        by false h = rw h refl
+        by : (b : Bool) → cond b (Some (1 + a)) None ≡ option_map suc (cond b (Some a) None)
+        by true = (let more : 1 + a ≡ suc a = omega arith in ap Some more)
+        by false = refl
+
     go : (b : Bool) → cond (nat_lt (cond (not b) (1 + position_or_len p xs) 0) (suc (length xs))) (Some (cond (not b) (1 + position_or_len p xs) 0)) None ≡ cond b (Some 0) (option_map suc (position p xs))
-    go true = refl
+    go true = (let first : nat_lt 0 (suc (length xs)) ≡ true = grind (arith, nat_tests) in ap (λ (b : Bool). cond b (Some 0) None) first)
     go false = step (position_or_len p xs) (length xs)
 
 pub position_more : {X : Type 0} (p : X → Bool) (xs : List X) (x : X) → p x ≡ false → position p (xs ++ x ∷ []) ≡ position p xs
@@ -43,63 +48,91 @@ position_map p f [] = refl
 position_map p f (x ∷ xs) =
     first_of p (f x) (map f xs) ∙ ap (λ (o : Option ℕ). cond (p (f x)) (Some 0) (option_map suc o)) (position_map p f xs) ∙ sym (first_of (λ z. p (f z)) x xs)
 
--- ---- a node in the place of another
+-- ---- a node that is changed in its place
 
-exports_are : (g : Parts) (nodes : List Node) (i : ℕ) (name : List ℕ) → option_map (λ (n : Node). n.kind) (slice_get nodes i) ≡ option_map (λ (n : Node). n.kind) (slice_get g.nodes i)
-    → export_kind (record g { nodes = nodes }) i name ≡ export_kind g i name
-exports_are g nodes i name same = by (slice_get nodes i) ∙ ap (λ o. option_and_then (λ k. look_up name (instance_exports g.types k)) o) same ∙ sym (by (slice_get g.nodes i))
+-- a reading of nodes that the change keeps
+changed_read : {X : Type 0} (read : Node → X) (g : Parts) (node : ℕ) (f : Node → Node) → ((n : Node) → read (f n) ≡ read n) → (i : ℕ) → option_map read (slice_get (changed g node f).nodes i) ≡ option_map read (slice_get g.nodes i)
+changed_read {X} read g node f same i = go (slice_get g.nodes node) refl
   where
-    by : (o : Option Node) → option_and_then (λ (n : Node). look_up name (instance_exports g.types n.kind)) o ≡ option_and_then (λ k. look_up name (instance_exports g.types k)) (option_map (λ (n : Node). n.kind) o)
-    by None = refl
-    by (Some n) = refl
+    go : (o : Option Node) → slice_get g.nodes node ≡ o → option_map read (slice_get (elim o [ None ↦ g.nodes | Some n ↦ slice_set g.nodes node (f n) ]) i) ≡ option_map read (slice_get g.nodes i)
+    go None is = refl
+    go (Some n) is = set_read read g.nodes node n (f n) i is (same n)
 
-module _ (g : Parts) (node : ℕ) (n : Node) (at : slice_get g.nodes node ≡ Some n) where
-  -- the node, and the others
-  changed_here : (f : Node → Node) → slice_get (changed g node f).nodes node ≡ Some (f n)
-  changed_here f = ap (λ (o : Option Node). slice_get (elim o [ None ↦ g.nodes | Some x ↦ slice_set g.nodes node (f x) ]) node) at ∙ set_here g.nodes node n (f n) at
+-- each alias stays where it is
+changed_alias : (g : Parts) (node : ℕ) (f : Node → Node) → ((n : Node) (m : ℕ) (export : List ℕ) → is_alias_of m export (f n).form ≡ is_alias_of m export n.form) → (m : ℕ) (export : List ℕ) → alias_in (changed g node f).nodes m export ≡ alias_in g.nodes m export
+changed_alias g node f same m export = go (slice_get g.nodes node) refl
+  where
+    go : (o : Option Node) → slice_get g.nodes node ≡ o → alias_in (elim o [ None ↦ g.nodes | Some n ↦ slice_set g.nodes node (f n) ]) m export ≡ alias_in g.nodes m export
+    go None is = refl
+    go (Some n) is = position_set (λ (x : Node). is_alias_of m export x.form) g.nodes node n (f n) is (same n m export)
 
-  changed_other : (f : Node → Node) (i : ℕ) → (i ≡ node → ⊥) → slice_get (changed g node f).nodes i ≡ slice_get g.nodes i
-  changed_other f i other = ap (λ (o : Option Node). slice_get (elim o [ None ↦ g.nodes | Some x ↦ slice_set g.nodes node (f x) ]) i) at ∙ set_other g.nodes node i (f n) other
+given_to : Option Node → Named ℕ
+given_to o = elim o [ None ↦ [] | Some n ↦ arguments_in n.form ]
 
-  -- each alias stays where it is
-  changed_alias : (f : Node → Node) (m : ℕ) (export : List ℕ) → is_alias_of m export (f n).form ≡ is_alias_of m export n.form → alias_in (changed g node f).nodes m export ≡ alias_in g.nodes m export
-  changed_alias f m export same =
-      ap (λ (o : Option Node). alias_in (elim o [ None ↦ g.nodes | Some x ↦ slice_set g.nodes node (f x) ]) m export) at
-      ∙ position_set (λ (x : Node). is_alias_of m export x.form) g.nodes node n (f n) at same
+given_by : (o : Option Node) → given_to o ≡ elim (option_map (λ (n : Node). arguments_in n.form) o) [ None ↦ [] | Some l ↦ l ]
+unfolding given_to
+given_by None = refl
+given_by (Some n) = refl
 
-  -- ---- a name
+-- ---- a name
 
-  pub name_arguments : (name : List ℕ) → arguments_of (with_name g node name) node ≡ arguments_of g node
-  name_arguments name =
-      ap (λ (o : Option Node). elim o [ None ↦ [] | Some x ↦ arguments_in x.form ]) (changed_here (λ x. record x { name = Some name }))
-      ∙ sym (ap (λ (o : Option Node). elim o [ None ↦ [] | Some x ↦ arguments_in x.form ]) at)
+pub name_is : (g : Parts) (node : ℕ) (name : List ℕ) → node < length g.nodes → option_and_then (λ (n : Node). n.name) (slice_get (with_name g node name).nodes node) ≡ Some name
+name_is g node name there = go (slice_get g.nodes node) refl
+  where
+    go : (o : Option Node) → slice_get g.nodes node ≡ o → option_and_then (λ (n : Node). n.name) (slice_get (elim o [ None ↦ g.nodes | Some n ↦ slice_set g.nodes node (record n { name = Some name }) ]) node) ≡ Some name
+    go None is = absurd (none_within g.nodes node is there)
+    go (Some n) is = ap (option_and_then (λ (x : Node). x.name)) (set_here g.nodes node n (record n { name = Some name }) is)
 
-  pub name_arguments_other : (name : List ℕ) (i : ℕ) → (i ≡ node → ⊥) → arguments_of (with_name g node name) i ≡ arguments_of g i
-  name_arguments_other name i other = ap (λ (o : Option Node). elim o [ None ↦ [] | Some x ↦ arguments_in x.form ]) (changed_other (λ x. record x { name = Some name }) i other)
+pub name_arguments : (g : Parts) (node : ℕ) (name : List ℕ) (i : ℕ) → arguments_of (with_name g node name) i ≡ arguments_of g i
+unfolding given_to
+name_arguments g node name i =
+    given_by (slice_get (with_name g node name).nodes i)
+    ∙ ap (λ (o : Option (Named ℕ)). elim o [ None ↦ [] | Some l ↦ l ]) (changed_read (λ (n : Node). arguments_in n.form) g node (λ n. record n { name = Some name }) (λ n. refl) i)
+    ∙ sym (given_by (slice_get g.nodes i))
 
-  pub name_alias : (name : List ℕ) (m : ℕ) (export : List ℕ) → alias_in (with_name g node name).nodes m export ≡ alias_in g.nodes m export
-  name_alias name m export = changed_alias (λ x. record x { name = Some name }) m export refl
+pub name_alias : (g : Parts) (node : ℕ) (name : List ℕ) (m : ℕ) (export : List ℕ) → alias_in (with_name g node name).nodes m export ≡ alias_in g.nodes m export
+name_alias g node name m export = changed_alias g node (λ n. record n { name = Some name }) (λ n m export. refl) m export
 
-  -- ---- an argument
+-- ---- an argument
 
-  pub argument_arguments : (p : ℕ) (arguments : Named ℕ) (name : List ℕ) (value : ℕ) → n.form ≡ instantiation p arguments → arguments_of (with_argument g node name value) node ≡ with_named (arguments_of g node) name value
-  argument_arguments p arguments name value is =
-      ap (λ (o : Option Node). elim o [ None ↦ [] | Some x ↦ arguments_in x.form ]) (changed_here (λ x. record x { form = given_too x.form name value }))
-      ∙ ap (λ (f : Form). arguments_in (given_too f name value)) is
-      ∙ ap (λ (f : Form). with_named (arguments_in f) name value) (sym is)
-      ∙ ap (λ (o : Option Node). with_named (elim o [ None ↦ [] | Some x ↦ arguments_in x.form ]) name value) (sym at)
+form_given : (f : Form) (name : List ℕ) (value : ℕ) → IsSome (package_in f) → arguments_in (given_too f name value) ≡ with_named (arguments_in f) name value
+form_given (import x) name value h = absurd (cc)
+form_given definition name value h = absurd (cc)
+form_given (alias node export) name value h = absurd (cc)
+form_given (instantiation p arguments) name value h = refl
 
-  pub argument_arguments_other : (name : List ℕ) (value i : ℕ) → (i ≡ node → ⊥) → arguments_of (with_argument g node name value) i ≡ arguments_of g i
-  argument_arguments_other name value i other = ap (λ (o : Option Node). elim o [ None ↦ [] | Some x ↦ arguments_in x.form ]) (changed_other (λ x. record x { form = given_too x.form name value }) i other)
+-- an instance has one more argument, which is the last
+pub argument_last : (g : Parts) (node : ℕ) (name : List ℕ) (value : ℕ) → IsSome (package_of g node) → arguments_of (with_argument g node name value) node ≡ with_named (arguments_of g node) name value
+unfolding given_to
+argument_last g node name value is_instance = go (slice_get g.nodes node) refl is_instance
+  where
+    go : (o : Option Node) → slice_get g.nodes node ≡ o → IsSome (option_and_then (λ (n : Node). package_in n.form) o)
+        → given_to (slice_get (elim o [ None ↦ g.nodes | Some n ↦ slice_set g.nodes node (record n { form = given_too n.form name value }) ]) node) ≡ with_named (given_to o) name value
+    go None is h = absurd (cc)
+    go (Some n) is h = ap given_to (set_here g.nodes node n (record n { form = given_too n.form name value }) is) ∙ form_given n.form name value h
 
-  same_alias : (f : Form) (name : List ℕ) (value m : ℕ) (export : List ℕ) → is_alias_of m export (given_too f name value) ≡ is_alias_of m export f
-  same_alias (import x) name value m export = refl
-  same_alias definition name value m export = refl
-  same_alias (alias y e) name value m export = refl
-  same_alias (instantiation p arguments) name value m export = refl
+pub argument_found : (g : Parts) (node : ℕ) (name : List ℕ) (value : ℕ) → IsSome (package_of g node) → IsFresh name (arguments_of g node) → look_up name (arguments_of (with_argument g node name value) node) ≡ Some value
+argument_found g node name value is_instance new = ap (look_up name) (argument_last g node name value is_instance) ∙ found_last name (arguments_of g node) value new
 
-  pub argument_alias : (name : List ℕ) (value m : ℕ) (export : List ℕ) → alias_in (with_argument g node name value).nodes m export ≡ alias_in g.nodes m export
-  argument_alias name value m export = changed_alias (λ x. record x { form = given_too x.form name value }) m export (same_alias n.form name value m export)
+pub argument_others : (g : Parts) (node : ℕ) (name : List ℕ) (value : ℕ) (other : List ℕ) → IsSome (package_of g node) → (other ≡ name → ⊥) → look_up other (arguments_of (with_argument g node name value) node) ≡ look_up other (arguments_of g node)
+argument_others g node name value other is_instance differ = ap (look_up other) (argument_last g node name value is_instance) ∙ found_other other name (arguments_of g node) value differ
+
+pub argument_nodes : (g : Parts) (node : ℕ) (name : List ℕ) (value i : ℕ) → (i ≡ node → ⊥) → arguments_of (with_argument g node name value) i ≡ arguments_of g i
+unfolding given_to
+argument_nodes g node name value i other = go (slice_get g.nodes node)
+  where
+    go : (o : Option Node) → given_to (slice_get (elim o [ None ↦ g.nodes | Some n ↦ slice_set g.nodes node (record n { form = given_too n.form name value }) ]) i) ≡ given_to (slice_get g.nodes i)
+    go None = refl
+    go (Some n) = ap given_to (set_other g.nodes node i (record n { form = given_too n.form name value }) other)
+
+same_alias : (f : Form) (name : List ℕ) (value m : ℕ) (export : List ℕ) → is_alias_of m export (given_too f name value) ≡ is_alias_of m export f
+same_alias (import x) name value m export = refl
+same_alias definition name value m export = refl
+same_alias (alias y e) name value m export = refl
+same_alias (instantiation p arguments) name value m export = refl
+
+pub argument_alias : (g : Parts) (node : ℕ) (name : List ℕ) (value m : ℕ) (export : List ℕ) → alias_in (with_argument g node name value).nodes m export ≡ alias_in g.nodes m export
+argument_alias g node name value m export = changed_alias g node (λ n. record n { form = given_too n.form name value }) (λ n i e. same_alias n.form name value i e) m export
 
 -- ---- an instance of a package, which is the last node
 

@@ -6,7 +6,7 @@ use Rattle.wac_types.specs.declared.kind.ItemKind.{ItemKind}
 use Rattle.wac_types.specs.declared.kind.ItemKind.TheVariants as kinds
 use Rattle.wac_types.specs.declared.entry.Entry.{Entry}
 use Rattle.wac_types.specs.Names.{by_name}
-use Rattle.wac_types.specs.Readings.{as_interface, as_world, interface_exports, world_imports, instance_exports}
+use Rattle.wac_types.specs.Readings.{as_interface, as_world, world_imports, instance_exports}
 use Rattle.wac_types.specs.Scope.{Named, look_up}
 use Rattle.wac_types.specs.Table.{Names}
 use Rattle.wac_types.specs.Growth.{KeepsNames}
@@ -113,8 +113,10 @@ stay_set ns k n m at kind i x is = go (nat_eq i k) (eq_true i k) (eq_false i k)
   where
     eq_true : (a b : ℕ) → nat_eq a b ≡ true → a ≡ b
     eq_true a b h = grind (arith, nat_tests)
+
     eq_false : (a b : ℕ) → nat_eq a b ≡ false → a ≡ b → ⊥
     eq_false a b h e = grind (arith, nat_tests)
+
     go : (b : Bool) → (b ≡ true → i ≡ k) → (b ≡ false → i ≡ k → ⊥) → (y : Node) × (slice_get (slice_set ns k m) i ≡ Some y) × (y.kind ≡ x.kind)
     go true same other =
         let e : i ≡ k = same refl in

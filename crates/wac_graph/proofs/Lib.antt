@@ -11,3 +11,4 @@ pub mod Added
 pub mod Keys
 pub mod Lists
 pub mod Keeping
+pub mod Stays

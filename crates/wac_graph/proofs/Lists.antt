@@ -1,10 +1,9 @@
 -- Lists by number and by name, as one more element is appended, or one is put in another's place.
-use Rattle.std.proofs.Common.{◌≡◌, ◌∙◌, ◌<◌, ◌≤◌, ◌+◌, ℕ, zero, suc, Option, Some, None, List, [], ◌∷◌, ◌++◌, length, refl, sym, ap, subst, arith, Bool, true, false, cond, ◌⊎◌, inl, inr, map}
-use Rattle.std.specs.Prelude.{slice_get, slice_set, nat_lt, not}
-use Rattle.std.specs.List.{AllByRecursion, position, position_or_len}
+use Rattle.std.proofs.Common.{Bor, ◌≡◌, ◌∙◌, ◌<◌, ◌≤◌, ◌+◌, ℕ, zero, suc, Option, Some, None, List, [], ◌∷◌, ◌++◌, length, refl, sym, ap, subst, arith, Bool, true, false, cond, ◌⊎◌, inl, inr, map}
+use Rattle.std.specs.Prelude.{option_map, slice_get, slice_set, nat_lt, not}
+use Rattle.std.specs.List.{AllByRecursion, find, position, position_or_len}
 use Rattle.std.specs.Str.{bytes_eq}
 use Rattle.std.proofs.lemmas.Bool.{lt-ltb}
-use Rattle.std.proofs.lemmas.Bool.Decides.{nat_tests}
 use Rattle.std.proofs.lemmas.Slice.Eq.{bytes_eq-Decides}
 use Rattle.wac_types.specs.Scope.{Named, look_up, IsFresh}
 use Rattle.wac_graph.specs.Sound.{EachAt, Differ, name_in}
@@ -47,6 +46,14 @@ get_set (z ∷ xs) zero y x (suc i) h = inl h
 get_set (z ∷ xs) (suc k) y x zero h = inl h
 get_set (z ∷ xs) (suc k) y x (suc i) h = elim (get_set xs k y x i h) [ inl a ↦ inl a | inr b ↦ inr (ap suc b.0, b.1) ]
 
+-- what is read of each element is what was read, where another is put in a place that reads the same
+pub set_read : {X Y : Type 0} (read : X → Y) (xs : List X) (k : ℕ) (x y : X) (i : ℕ) → slice_get xs k ≡ Some x → read y ≡ read x → option_map read (slice_get (slice_set xs k y) i) ≡ option_map read (slice_get xs i)
+set_read read [] k x y i is same = refl
+set_read read (z ∷ xs) zero x y zero is same = (let here : x ≡ z = cc in ap Some (same ∙ ap read here))
+set_read read (z ∷ xs) zero x y (suc i) is same = refl
+set_read read (z ∷ xs) (suc k) x y zero is same = refl
+set_read read (z ∷ xs) (suc k) x y (suc i) is same = set_read read xs k x y i is same
+
 pub set_length : {X : Type 0} (xs : List X) (i : ℕ) (x : X) → length (slice_set xs i x) ≡ length xs
 set_length [] i x = refl
 set_length (y ∷ xs) zero x = refl
@@ -79,6 +86,22 @@ differ_more {X} {Y} f xs y h new i j a b at_i at_j same = elim (get_more xs y a 
 
 same_name : (a b : List ℕ) → a ≡ b → bytes_eq a b ≡ true
 same_name a b e = (bytes_eq-Decides a b).1 e
+
+-- what a name stands for is that of the first that has the name
+found_first : {X : Type 0} (name : List ℕ) (all : Named X) → option_map (λ e. e.1) (find (λ e. bytes_eq name e.0) all) ≡ look_up name all
+found_first name [] = refl
+found_first {X} name (d ∷ all) = go (bytes_eq name d.0) (found_first name all)
+  where
+    go : (b : Bool) → option_map (λ (e : List ℕ × X). e.1) (find (λ e. bytes_eq name e.0) all) ≡ look_up name all → option_map (λ (e : List ℕ × X). e.1) (cond b (Some d) (find (λ e. bytes_eq name e.0) all)) ≡ cond b (Some d.1) (look_up name all)
+    go true later = refl
+    go false later = later
+
+pub found_by : {X : Type 0} (name : List ℕ) (all : Named X) (r : Option (Bor (List ℕ × X))) → option_map (λ e. e.now) r ≡ find (λ e. bytes_eq name e.0) all → option_map (λ e. e.now.1) r ≡ look_up name all
+found_by {X} name all r is = by r ∙ ap (option_map (λ (e : List ℕ × X). e.1)) is ∙ found_first name all
+  where
+    by : (o : Option (Bor (List ℕ × X))) → option_map (λ (e : Bor (List ℕ × X)). e.now.1) o ≡ option_map (λ (e : List ℕ × X). e.1) (option_map (λ (e : Bor (List ℕ × X)). e.now) o)
+    by None = refl
+    by (Some e) = refl
 
 -- a name that is fresh is none of the names
 pub fresh_other : {X : Type 0} (name : List ℕ) (all : Named X) (i : ℕ) (e : List ℕ × X) → IsFresh name all → slice_get all i ≡ Some e → e.0 ≡ name → ⊥

@@ -1,8 +1,7 @@
 -- What always holds of a graph goes on to hold as it is built.
-use Rattle.std.proofs.Common.{◌≡◌, ◌∙◌, ◌<◌, ◌≤◌, ◌+◌, ℕ, zero, suc, Option, Some, None, List, [], ◌∷◌, ◌++◌, length, length-append, append-nil, refl, sym, ap, subst, arith, Bool, true, false, inl, inr, ◌⊎◌}
+use Rattle.std.proofs.Common.{◌≡◌, ◌∙◌, ◌<◌, ◌≤◌, ◌+◌, ℕ, zero, suc, Option, Some, None, List, [], ◌∷◌, ◌++◌, length, length-append, append-nil, refl, sym, ap, subst, arith, true, false, inl, inr}
 use Rattle.std.specs.Prelude.{slice_get, slice_set, IsSome, option_and_then}
 use Rattle.std.specs.List.{AllByRecursion}
-use Rattle.std.proofs.lemmas.Option.{slice_get_within}
 use Rattle.wac_types.specs.declared.kind.ItemKind.{ItemKind}
 use Rattle.wac_types.specs.declared.kind.ItemKind.TheVariants as kinds
 use Rattle.wac_types.specs.declared.entry.Entry.{Entry}
@@ -23,10 +22,10 @@ use Rattle.wac_graph.specs.Package.{Key, HeldPackage, IsHeld, moved_package, pac
 use Rattle.wac_graph.specs.Node.{Node, Form, import, definition, alias, instantiation, import_in, source_in, package_in, arguments_in, is_alias_of}
 use Rattle.wac_graph.specs.Graph.{Parts, empty, plain_node, with_entry, with_import, with_definition, with_export, with_alias, with_instantiation, with_name, with_argument, changed, given_too, export_kind, import_kind, alias_in}
 use Rattle.wac_graph.specs.Kept.{Keeps}
-use Rattle.wac_graph.specs.Sound.{EachAt, NamesNodes, name_in, IsPlaced, IsInstance, IsSoundNode, AliasedOnce, imports_from, IsSound}
+use Rattle.wac_graph.specs.Sound.{EachAt, NamesNodes, IsPlaced, IsSoundNode, AliasedOnce, imports_from, IsSound}
 use Rattle.wac_graph.proofs.Exported.{export_kind_names, exporting_there}
 use Rattle.wac_graph_copies.proofs.Growing.{copy_named, copies_length}
-use Rattle.wac_graph.proofs.Keeping.{Extends, extends_keeps, no_more, one_more, all_stay, stay_more, stay_set}
+use Rattle.wac_graph.proofs.Keeping.{extends_keeps, no_more, one_more, all_stay, stay_more, stay_set}
 use Rattle.wac_graph.proofs.Keys.{other_key, itself}
 use Rattle.wac_graph.proofs.Lists.{get_more, get_set, set_length, each_more, each_set, differ_more, names_more, found_last, all_more, all_implies, none_at}
 

@@ -1,5 +1,7 @@
 -- Packages in a graph.
-use Rattle.std.specs.Prelude.{ℕ, ◌+◌, ◌≤◌, Bool, true, false, ◌&&◌, List, Option, Some, None, option_map, string_bytes, length}
+use Rattle.std.specs.Prelude.{ℕ, ◌+◌, ◌≤◌, Bool, true, false, ◌&&◌, List, Option, Some, None, option_map, string_bytes, length, ◌++◌, fold}
+use Rattle.std.specs.Hash as fed
+use Rattle.std.specs.Hash.DefaultHasher as sip
 use Rattle.std.specs.List.{position}
 use Rattle.std.specs.Str.{bytes_eq}
 use Rattle.wac_types.specs.declared.kind.ItemKind.{ItemKind}
@@ -27,6 +29,10 @@ same_version (Some v) (Some w) = bytes_eq v w
 
 abbrev pub same_key : Key → Key → Bool
 same_key a b = bytes_eq a.0 b.0 && same_version a.1 b.1
+
+-- what a key's hash is made of: the name, and behind it the text of the version
+abbrev pub hash_of : Key → ℕ
+hash_of k = sip.finish (fold sip.write sip.initial (fed.str k.0 ++ fed.option fed.str k.1))
 
 -- a package that was added, in the graph's numbers; its types are so many entries from the first on
 pub record HeldPackage : Type 0 where

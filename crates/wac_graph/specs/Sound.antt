@@ -1,5 +1,6 @@
 -- What always holds of a graph.
-use Rattle.std.specs.Prelude.{◌≡◌, ◌<◌, ℕ, suc, List, [], ◌∷◌, Option, Some, IsSome, length, slice_get}
+use Rattle.std.specs.Prelude.{◌≡◌, ◌<◌, ℕ, suc, List, [], ◌∷◌, Some, IsSome, length, slice_get}
+use Rattle.std.specs.List.{AllByRecursion}
 use Rattle.wac_types.specs.declared.kind.ItemKind.{ItemKind}
 use Rattle.wac_types.specs.declared.kind.ItemKind.TheVariants as kinds
 use Rattle.wac_types.specs.Scope.{Named, look_up}
@@ -11,18 +12,18 @@ use Rattle.wac_graph.specs.Graph.{Parts, export_kind, import_kind}
 
 -- each element, at its number
 abbrev pub EachAt : {X : Type 0} → (ℕ → X → Type 0) → List X → Type 0
-EachAt P xs = (i : ℕ) (x : X) → slice_get xs i ≡ Some x → P i x
+EachAt {X = X} P xs = (i : ℕ) (x : X) → slice_get xs i ≡ Some x → P i x
 
 -- no two have the same
 abbrev pub Differ : {X Y : Type 0} → (X → Y) → List X → Type 0
-Differ f xs = (i j : ℕ) (x y : X) → slice_get xs i ≡ Some x → slice_get xs j ≡ Some y → f x ≡ f y → i ≡ j
+Differ {X = X} f xs = (i j : ℕ) (x y : X) → slice_get xs i ≡ Some x → slice_get xs j ≡ Some y → f x ≡ f y → i ≡ j
 
 abbrev pub name_in : {X : Type 0} → List ℕ × X → List ℕ
 name_in e = e.0
 
 -- each name is a node's
 abbrev pub NamesNodes : ℕ → Named ℕ → Type 0
-NamesNodes nodes names = EachAt (λ _ e. e.1 < nodes) names
+NamesNodes nodes names = AllByRecursion (λ e. e.1 < nodes) names
 
 -- a definition is exported
 pub record IsExported (exports : Named ℕ) (i : ℕ) : Type 0 where
@@ -39,7 +40,7 @@ pub record IsInstance (g : Parts) (i : ℕ) (k : ItemKind) (p : ℕ) (arguments 
   pub of : HeldPackage
   pub held : slice_get g.packages p ≡ Some of
   pub kind : k ≡ kinds.Instance of.instance
-  pub imports : EachAt (λ _ a. IsSome (import_kind g p a.0)) arguments
+  pub imports : AllByRecursion (λ a. IsSome (import_kind g p a.0)) arguments
   pub earlier : NamesNodes i arguments
   pub once : Differ name_in arguments
 

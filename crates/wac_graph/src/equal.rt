@@ -1,6 +1,6 @@
 //! Equality is equality of all fields. Each function here is `==` alone, and its contract is the law.
 ghost use Rattle.std.specs.Prelude.{◌≡◌, IsTrue, ◌↔◌};
-ghost use Rattle.wac_graph.specs.Package.{key_of};
+ghost use Rattle.wac_graph.specs.Package.{key_of, hash_of};
 
 use crate::node::{NodeId, PackageId};
 use crate::package_key::PackageKey;
@@ -27,16 +27,11 @@ pub fn package_keys(a: &PackageKey, b: &PackageKey) -> bool
     *a == *b
 }
 
-fn hash_of(key: &PackageKey) -> u64 {
+/// A key's hash is that of its name and the text of its version.
+pub fn package_hash(key: &PackageKey) -> u64
+    ensures { result ≡ hash_of (key_of key.now) }
+{
     let mut state = DefaultHasher::new();
     key.hash(&mut state);
     state.finish()
-}
-
-/// Equal keys have one hash.
-pub fn package_hashes(a: &PackageKey, b: &PackageKey) -> bool
-    requires { key_of a.now ≡ key_of b.now }
-    ensures { IsTrue result }
-{
-    hash_of(a) == hash_of(b)
 }

@@ -23,7 +23,7 @@ ghost use Rattle.wac_graph.specs.Readings.{held_of};
 ghost use Rattle.wac_graph.specs.Sound.{IsSound, NamesNodes, name_in};
 
 use crate::ids::{Nodes, Packages};
-use crate::names::{Names, NodeNames};
+use crate::named::{Names, NodeNames};
 use crate::node::{Node, NodeId, NodeKind, PackageId};
 use crate::package_key::PackageKey;
 use crate::packages::{GraphPackage, HeldPackage};
@@ -225,8 +225,7 @@ impl CompositionGraph {
         let text = String::from_str(self.alloc, name)?;
         self.nodes.reserve(1)?;
         self.imports.push(self.alloc, name, id)?;
-        self.nodes
-            .push(Node::import(self.alloc, text, kind))?;
+        self.nodes.push(Node::import(self.alloc, text, kind))?;
         Ok(id)
     }
 
@@ -241,8 +240,7 @@ impl CompositionGraph {
         let id = NodeId(self.nodes.len());
         self.nodes.reserve(1)?;
         self.exports.push(self.alloc, name, id)?;
-        self.nodes
-            .push(Node::definition(self.alloc, kind))?;
+        self.nodes.push(Node::definition(self.alloc, kind))?;
         Ok(id)
     }
 
@@ -366,7 +364,7 @@ impl CompositionGraph {
     /// The package of which a node is an instance.
     pub fn instance_of(&self, id: NodeId) -> Option<PackageId>
         requires { id.0 < length self.now.nodes }
-        ensures «package» { option_map (λ p. p.0) result ≡ package_of self.now id.0 }
+        ensures of { option_map (λ p. p.0) result ≡ package_of self.now id.0 }
         ensures there { IfSome result (λ p. p.0 < length self.now.packages) }
     {
         self.nodes[id.0].package()

@@ -17,14 +17,15 @@
 mod equal;
 mod graph;
 mod ids;
-mod names;
+mod laws;
+mod named;
 mod node;
 mod package_key;
 mod packages;
 
 pub use graph::CompositionGraph;
 pub use ids::{Nodes, Packages};
-pub use names::Names;
+pub use named::Names;
 pub use node::{NodeId, NodeKind, PackageId};
 pub use package_key::PackageKey;
 pub use packages::GraphPackage;

@@ -3,7 +3,7 @@ ghost use Rattle.std.specs.Prelude.{◌≡◌, [], OnOk, OnErr, option_map, IsSo
 ghost use Rattle.wac_graph.specs.Graph.{given_too, plain_node};
 ghost use Rattle.wac_graph.specs.Node.{import, definition, alias, instantiation, sort_in, sort_of, source_in, import_in, package_in, arguments_in, is_alias_of};
 
-use crate::names::NodeNames;
+use crate::named::NodeNames;
 use std::alloc::{AllocError, Global};
 use std::marker::Model;
 use wac_types::{InterfaceId, ItemKind};

@@ -2,10 +2,10 @@
 ghost use Rattle.std.specs.Prelude.{◌<◌, IsTrue, IsSome, IfSome, length};
 ghost use Rattle.wac_graph.specs.Graph.{parameter_kind};
 
-use std::alloc::AllocError;
+use crate::fixture::key;
+use std::alloc::{AllocError, Global};
 use wac_graph::{
-    CompositionGraph, ItemKind, NodeId, Package, PackageId, PackageKey,
-    PrimitiveType, ValueType,
+    CompositionGraph, ItemKind, NodeId, Package, PackageId, PackageKey, PrimitiveType, ValueType,
 };
 
 /// Whether the node is an instantiation that imports the name.
@@ -43,23 +43,23 @@ pub fn package_at(graph: &CompositionGraph, number: usize) -> Option<PackageId>
     None
 }
 
-pub const BYTE: ItemKind = ItemKind::Value(ValueType::Primitive(PrimitiveType::U8));
+const BYTE: ItemKind = ItemKind::Value(ValueType::Primitive(PrimitiveType::U8));
 
-pub fn import(graph: &mut CompositionGraph, name: &str) -> Result<Option<usize>, AllocError> {
+fn import(graph: &mut CompositionGraph, name: &str) -> Result<Option<usize>, AllocError> {
     if graph.get_import(name).is_some() {
         return Ok(None);
     }
     Ok(Some(graph.add_import(name, BYTE)?.0))
 }
 
-pub fn define(graph: &mut CompositionGraph, name: &str) -> Result<Option<usize>, AllocError> {
+fn define(graph: &mut CompositionGraph, name: &str) -> Result<Option<usize>, AllocError> {
     if graph.get_export(name).is_some() {
         return Ok(None);
     }
     Ok(Some(graph.add_definition(name, BYTE)?.0))
 }
 
-pub fn export(
+fn export(
     graph: &mut CompositionGraph,
     node: usize,
     name: &str,
@@ -85,17 +85,14 @@ pub fn add(
     Ok(Some(graph.add_package(key, package)?.0))
 }
 
-pub fn instantiate(
-    graph: &mut CompositionGraph,
-    package: usize,
-) -> Result<Option<usize>, AllocError> {
+fn instantiate(graph: &mut CompositionGraph, package: usize) -> Result<Option<usize>, AllocError> {
     match package_at(graph, package) {
         None => Ok(None),
         Some(id) => Ok(Some(graph.add_instantiation(id)?.0)),
     }
 }
 
-pub fn give(
+fn give(
     graph: &mut CompositionGraph,
     node: usize,
     import: &str,
@@ -111,18 +108,20 @@ pub fn give(
     Ok(Some(node))
 }
 
-pub fn alias(
+fn alias(
     graph: &mut CompositionGraph,
     node: usize,
     export: &str,
 ) -> Result<Option<usize>, AllocError> {
     match node_at(graph, node) {
-        Some(id) if graph.export_kind(id, export).is_some() => Ok(Some(graph.add_alias(id, export)?.0)),
+        Some(id) if graph.export_kind(id, export).is_some() => Ok(Some(
+            graph.add_alias(id, export)?.0,
+        )),
         _ => Ok(None),
     }
 }
 
-pub fn named(
+fn named(
     graph: &mut CompositionGraph,
     node: usize,
     name: &str,
@@ -135,4 +134,62 @@ pub fn named(
     }
     graph.set_name(id, name)?;
     Ok(Some(node))
+}
+
+/// A building call: what is added or changed.
+#[derive(Clone, Copy)]
+pub enum Step<'a> {
+    Import(&'a str),
+    Define(&'a str),
+    Export(usize, &'a str),
+    /// The package, under this version.
+    Add(&'a str),
+    Instantiate(usize),
+    Give(usize, &'a str, usize),
+    Alias(usize, &'a str),
+    Name(usize, &'a str),
+}
+
+fn add_version(
+    alloc: Global,
+    graph: &mut CompositionGraph,
+    package: &Package,
+    version: &str,
+) -> Result<Option<usize>, AllocError> {
+    let key = key(alloc, "c:d", version)?;
+    add(graph, &key, package)
+}
+
+/// Takes a step, if it may be taken.
+pub fn make(
+    alloc: Global,
+    graph: &mut CompositionGraph,
+    package: &Package,
+    step: Step<'_>,
+) -> Result<Option<usize>, AllocError> {
+    match step {
+        Step::Import(name) => import(graph, name),
+        Step::Define(name) => define(graph, name),
+        Step::Export(node, name) => export(graph, node, name),
+        Step::Add(version) => add_version(alloc, graph, package, version),
+        Step::Instantiate(package) => instantiate(graph, package),
+        Step::Give(node, import, value) => give(graph, node, import, value),
+        Step::Alias(node, export) => alias(graph, node, export),
+        Step::Name(node, name) => named(graph, node, name),
+    }
+}
+
+/// Takes the steps up to the first that gives another number than is written beside it; its place.
+pub fn make_all(
+    alloc: Global,
+    graph: &mut CompositionGraph,
+    package: &Package,
+    steps: &[(Step<'_>, Option<usize>)],
+) -> Result<Option<usize>, AllocError> {
+    for (at, (step, number)) in steps.iter().enumerate() {
+        if make(alloc, graph, package, *step)? != *number {
+            return Ok(Some(at));
+        }
+    }
+    Ok(None)
 }

@@ -10,4 +10,6 @@ mod graph;
 #[cfg(test)]
 mod reading;
 #[cfg(test)]
+mod rows;
+#[cfg(test)]
 mod types;

@@ -2,213 +2,145 @@
 ghost use Rattle.std.specs.Prelude.{◌≡◌, ℕ};
 ghost use Rattle.wac_types.specs.declared.rules.Reason.{Reason as TheReason};
 
-use indexmap::{IndexMap, IndexSet};
+use crate::reading::has_each;
+use crate::rows::{Row, package};
+use indexmap::IndexMap;
 use std::alloc::{AllocError, Global};
 use std::test::Fail;
 use wac_graph::{
     DefinedType, DefinedTypeId, ExternKind, FuncKind, FuncType, FuncTypeId, Interface, InterfaceId,
-    ItemKind, ModuleTypeId, Package, PackageError, PrimitiveType, Reason, Resource,
-    ResourceAlias, ResourceId,
-    Rules, Type, Types, ValueType, World, WorldId,
+    ItemKind, ModuleTypeId, Package, PackageError, PrimitiveType, Reason, Resource, ResourceAlias,
+    ResourceId, Rules, Type, Types, ValueType, World, WorldId,
 };
 
-/// What [`Package::new`] takes.
-#[derive(Drop)]
-struct Parts {
-    types: Types,
-    world: WorldId,
-    instance: InterfaceId,
-    definitions: IndexMap<String, ItemKind>,
-}
+type Definitions = &'static [(&'static str, ItemKind)];
 
-impl Parts {
-    fn package(self) -> Result<Package, PackageError> {
-        Package::new(self.types, self.world, self.instance, self.definitions)
+const BYTE: ValueType = ValueType::Primitive(PrimitiveType::U8);
+
+const INSTANCE: Row<'static> = Row::Interface(None, &[]);
+
+const WORLD: Row<'static> = Row::World(&[], &[]);
+
+const INTERFACE: ItemKind = ItemKind::Ty(Type::Interface(InterfaceId(0)));
+
+const SECOND: ValueType = ValueType::Defined(DefinedTypeId(2));
+
+const THIRD: ItemKind = ItemKind::Ty(Type::Value(ValueType::Defined(DefinedTypeId(3))));
+
+const OTHER_EXPORTS: &str = "instance exports differ from the exports of the world";
+
+/// Entries, the numbers of the world and of the instance, definitions, and what is wrong with them.
+const FAULTS: [(&[Row<'static>], (usize, usize), Definitions, &str); 8] = [
+    (&[INSTANCE, WORLD], (1, 0), &[], "nothing"),
+    (&[INSTANCE, WORLD], (5, 0), &[], "id out of range"),
+    (&[INSTANCE, WORLD], (0, 0), &[], "id of another sort"),
+    (
+        &[INSTANCE, WORLD, Row::List(SECOND)],
+        (1, 0),
+        &[],
+        "id is not earlier",
+    ),
+    (
+        &[
+            INSTANCE,
+            WORLD,
+            Row::Interface(None, &[("t", THIRD)]),
+            Row::Stream,
+        ],
+        (1, 0),
+        &[],
+        "id is not earlier",
+    ),
+    (
+        &[INSTANCE, WORLD],
+        (1, 0),
+        &[("i", INTERFACE)],
+        "interface type without an id",
+    ),
+    (
+        &[INSTANCE, WORLD, Row::Interface(None, &[("i", INTERFACE)])],
+        (1, 0),
+        &[],
+        "interface type without an id",
+    ),
+    (
+        &[
+            INSTANCE,
+            WORLD,
+            Row::Func(&[], None),
+            Row::Interface(None, &[("run", ItemKind::Func(FuncTypeId(2)))]),
+        ],
+        (1, 3),
+        &[],
+        OTHER_EXPORTS,
+    ),
+];
+
+/// What is wrong with the parts of a package.
+fn fault(
+    alloc: Global,
+    rows: &[Row<'_>],
+    places: (usize, usize),
+    definitions: &[(&str, ItemKind)],
+) -> Result<String, AllocError> {
+    match package(alloc, rows, places, definitions) {
+        Ok(_) => String::from_str(alloc, "nothing"),
+        Err(error) => format!(in alloc; "{error}"),
     }
-
-    fn define(&mut self, alloc: Global, name: &str, kind: ItemKind) -> Result<(), AllocError> {
-        let name = String::from_str(alloc, name)?;
-        self.definitions.insert(name, kind)?;
-        Ok(())
-    }
-}
-
-fn interface(alloc: Global) -> Interface {
-    Interface {
-        id: None,
-        uses: IndexMap::new(alloc),
-        exports: IndexMap::new(alloc),
-    }
-}
-
-fn exporting(alloc: Global, name: &str, kind: ItemKind) -> Result<Interface, AllocError> {
-    let mut all = interface(alloc);
-    all.exports.insert(String::from_str(alloc, name)?, kind)?;
-    Ok(all)
-}
-
-/// An empty instance, number 0, and an empty world, number 1.
-fn empty(alloc: Global) -> Result<Parts, AllocError> {
-    let mut types = Types::new(alloc);
-    let instance = types.add_interface(interface(alloc))?;
-    let world = types.add_world(World {
-        id: None,
-        uses: IndexMap::new(alloc),
-        imports: IndexMap::new(alloc),
-        exports: IndexMap::new(alloc),
-    })?;
-    Ok(Parts {
-        types,
-        world,
-        instance,
-        definitions: IndexMap::new(alloc),
-    })
-}
-
-/// The parts of the empty package, with one thing changed.
-fn changed(alloc: Global, change: &str) -> Result<Parts, AllocError> {
-    let mut parts = empty(alloc)?;
-    match change {
-        "world past the entries" => parts.world = WorldId(5),
-        "world is an interface" => parts.world = WorldId(0),
-        "list of itself" => {
-            parts
-                .types
-                .add_defined_type(DefinedType::List(ValueType::Defined(DefinedTypeId(2))))?;
-        }
-        "interface of a later type" => {
-            let kind = ItemKind::Ty(Type::Value(ValueType::Defined(DefinedTypeId(3))));
-            parts.types.add_interface(exporting(alloc, "t", kind)?)?;
-            parts.types.add_defined_type(DefinedType::Stream(None))?;
-        }
-        "definition without an id" => {
-            parts.define(alloc, "i", ItemKind::Ty(Type::Interface(InterfaceId(0))))?;
-        }
-        "nested interface without an id" => {
-            let kind = ItemKind::Ty(Type::Interface(InterfaceId(0)));
-            parts.types.add_interface(exporting(alloc, "i", kind)?)?;
-        }
-        "instance exports more" => {
-            let run = parts.types.add_func_type(FuncType {
-                params: IndexMap::new(alloc),
-                result: None,
-                is_async: false,
-            })?;
-            let all = exporting(alloc, "run", ItemKind::Func(run))?;
-            parts.instance = parts.types.add_interface(all)?;
-        }
-        _ => {}
-    }
-    Ok(parts)
 }
 
 #[test]
 fn names_the_first_fault(rt: HostRuntime) -> Result<(), Fail> {
-    let rows = [
-        ("world past the entries", "id out of range"),
-        ("world is an interface", "id of another sort"),
-        ("list of itself", "id is not earlier"),
-        ("interface of a later type", "id is not earlier"),
-        ("definition without an id", "interface type without an id"),
-        (
-            "nested interface without an id",
-            "interface type without an id",
-        ),
-        (
-            "instance exports more",
-            "instance exports differ from the exports of the world",
-        ),
-    ];
-    for (change, fault) in rows {
-        match changed(rt.alloc(), change)?.package() {
-            Ok(_) => assert!(rt; false, "{change}"),
-            Err(error) => {
-                let text = format!(in rt.alloc(); "{error}")?;
-                assert_eq!(rt; text.as_str(), fault, "{change}");
-            }
-        }
+    for (rows, places, definitions, wrong) in FAULTS {
+        let text = fault(rt.alloc(), rows, places, definitions)?;
+        assert_eq!(rt; text.as_str(), wrong);
     }
+    let text = format!(in rt.alloc(); "{}", PackageError::Memory(AllocError))?;
+    assert_eq!(rt; text.as_str(), "out of memory");
     Ok(())
 }
 
-#[test]
-fn tells_what_is_wrong(rt: HostRuntime) -> Result<(), Fail> {
-    let rows = [
-        (PackageError::OutOfRange, "id out of range"),
-        (PackageError::OtherSort, "id of another sort"),
-        (PackageError::NotEarlier, "id is not earlier"),
-        (PackageError::NoInterfaceId, "interface type without an id"),
-        (
-            PackageError::InstanceExports,
-            "instance exports differ from the exports of the world",
-        ),
-        (PackageError::Memory(AllocError), "out of memory"),
-    ];
-    for (error, told) in rows {
-        let text = format!(in rt.alloc(); "{error}")?;
-        assert_eq!(rt; text.as_str(), told);
-    }
-    Ok(())
+/// The world, the instance, and how many entries and definitions a package has.
+fn numbers(package: &Package) -> (WorldId, InterfaceId, usize, usize) {
+    (
+        package.world(),
+        package.instance(),
+        package.types().entries().len(),
+        package.definitions().len(),
+    )
 }
 
-/// An empty world and an empty instance.
-#[test]
-fn makes_the_empty_package(rt: HostRuntime) -> Result<(), Fail> {
-    let package = empty(rt.alloc())?.package()?;
-    assert_eq!(rt; package.world(), WorldId(1));
-    assert_eq!(rt; package.instance(), InterfaceId(0));
-    assert_eq!(rt; package.types().entries().len(), 2);
-    assert!(rt; package.definitions().is_empty());
-    Ok(())
-}
-
-/// In a run in which one request for memory is refused, its parts may have to be made again; the package then is made
-/// at once.
-#[test]
-fn makes_a_package_without_memory(rt: HostRuntime) -> Result<(), Fail> {
-    let parts = match defining(rt.alloc()) {
-        Ok(parts) => parts,
-        Err(_) => defining(rt.alloc())?,
-    };
-    let package = parts.package();
-    assert!(rt; package.is_ok());
-    Ok(())
-}
-
-fn record(alloc: Global, field: &str) -> Result<DefinedType, AllocError> {
-    let mut fields = IndexMap::new(alloc);
-    let ty = ValueType::Primitive(PrimitiveType::U8);
-    fields.insert(String::from_str(alloc, field)?, ty)?;
-    Ok(DefinedType::Record { fields })
-}
+const RECORD: Row<'static> = Row::Record(&[("x", BYTE)]);
 
 /// Two records with a field `x`, one with a field `y`, an alias of the first, and two resources of one name.
-fn defining(alloc: Global) -> Result<Parts, AllocError> {
-    let mut parts = empty(alloc)?;
-    for (name, field) in [("a", "x"), ("b", "x"), ("c", "y")] {
-        let id = parts.types.add_defined_type(record(alloc, field)?)?;
-        parts.define(
-            alloc,
-            name,
-            ItemKind::Ty(Type::Value(ValueType::Defined(id))),
-        )?;
-    }
-    let first = ValueType::Defined(DefinedTypeId(2));
-    let alias = parts.types.add_defined_type(DefinedType::Alias(first))?;
-    parts.define(
-        alloc,
+const DEFINING: [Row<'static>; 8] = [
+    INSTANCE,
+    WORLD,
+    RECORD,
+    RECORD,
+    Row::Record(&[("y", BYTE)]),
+    Row::Alias(SECOND),
+    Row::Resource("r", None),
+    Row::Resource("r", None),
+];
+
+const DEFINED: [(&str, ItemKind); 6] = [
+    ("a", ItemKind::Ty(Type::Value(SECOND))),
+    ("b", THIRD),
+    (
+        "c",
+        ItemKind::Ty(Type::Value(ValueType::Defined(DefinedTypeId(4)))),
+    ),
+    (
         "d",
-        ItemKind::Ty(Type::Value(ValueType::Defined(alias))),
-    )?;
-    for name in ["r", "s"] {
-        let resource = Resource {
-            name: String::from_str(alloc, "r")?,
-            alias: None,
-        };
-        let id = parts.types.add_resource(resource)?;
-        parts.define(alloc, name, ItemKind::Ty(Type::Resource(id)))?;
-    }
-    Ok(parts)
+        ItemKind::Ty(Type::Value(ValueType::Defined(DefinedTypeId(5)))),
+    ),
+    ("r", ItemKind::Ty(Type::Resource(ResourceId(6)))),
+    ("s", ItemKind::Ty(Type::Resource(ResourceId(7)))),
+];
+
+fn defining(alloc: Global) -> Result<Package, PackageError> {
+    package(alloc, &DEFINING, (1, 0), &DEFINED)
 }
 
 /// Whether the definitions of these places mean the same.
@@ -220,82 +152,75 @@ fn same(package: &Package, i: usize, j: usize) -> Option<bool> {
     Some(types.same(*first, *second))
 }
 
+/// Which definitions of [`DEFINED`] mean the same.
+const SAME: [(usize, usize, bool); 6] = [
+    (0, 0, true),
+    (0, 1, true),
+    (0, 2, false),
+    (0, 3, false),
+    (4, 4, true),
+    (4, 5, false),
+];
+
 #[test]
 fn compares_meanings(rt: HostRuntime) -> Result<(), Fail> {
-    let package = defining(rt.alloc())?.package()?;
-    let rows = [
-        (0, 0, true),
-        (0, 1, true),
-        (0, 2, false),
-        (0, 3, false),
-        (4, 4, true),
-        (4, 5, false),
-    ];
-    for (i, j, is) in rows {
+    let package = defining(rt.alloc())?;
+    assert_eq!(rt; numbers(&package), (WorldId(1), InterfaceId(0), 8, 6));
+    for (i, j, is) in SAME {
         assert_eq!(rt; same(&package, i, j), Some(is), "{i} and {j}");
     }
+    assert_eq!(rt; asked(&OnlySame, &package, 0, 1), Some(Ok(())));
+    assert_eq!(rt; asked(&OnlySame, &package, 0, 2), Some(Err(Reason(7))));
+    assert_eq!(rt; OnlySame.extern_name("a"), Ok(()));
+    assert_eq!(rt; OnlySame.extern_name(""), Err(Reason(8)));
     Ok(())
 }
 
-/// A method of the resource: a function that borrows it.
-fn method(alloc: Global, resource: ResourceId) -> Result<FuncType, AllocError> {
-    let mut params = IndexMap::new(alloc);
-    let name = String::from_str(alloc, "self")?;
-    params.insert(name, ValueType::Borrow(resource))?;
-    Ok(FuncType {
-        params,
-        result: None,
-        is_async: false,
-    })
-}
+const BORROWED: ValueType = ValueType::Borrow(ResourceId(2));
 
-fn list(types: &mut Types, of: ValueType) -> Result<ValueType, AllocError> {
-    let id = types.add_defined_type(DefinedType::List(of))?;
-    Ok(ValueType::Defined(id))
-}
+const ANOTHER_NAME: ResourceAlias = ResourceAlias {
+    owner: Some(InterfaceId(4)),
+    source: ResourceId(2),
+};
 
-/// Another name of the resource, which an interface owns that has a method of it.
-fn add_alias(
-    alloc: Global,
-    types: &mut Types,
-    source: ResourceId,
-) -> Result<ResourceId, AllocError> {
-    let run = types.add_func_type(method(alloc, source)?)?;
-    let owner = types.add_interface(exporting(alloc, "run", ItemKind::Func(run))?)?;
-    let alias = ResourceAlias {
-        owner: Some(owner),
-        source,
-    };
-    types.add_resource(Resource {
-        name: String::from_str(alloc, "s")?,
-        alias: Some(alias),
-    })
-}
+/// A resource, another name of it, which an interface owns that has a method of it, and lists: of the borrowed resource,
+/// of such lists, of the owned one, and of its owned other name.
+const BORROWING: [Row<'static>; 11] = [
+    INSTANCE,
+    WORLD,
+    Row::Resource("r", None),
+    Row::Func(&[("self", BORROWED)], None),
+    Row::Interface(None, &[("run", ItemKind::Func(FuncTypeId(3)))]),
+    Row::Resource("s", Some(ANOTHER_NAME)),
+    Row::List(BORROWED),
+    Row::List(ValueType::Defined(DefinedTypeId(6))),
+    Row::List(ValueType::Own(ResourceId(2))),
+    Row::List(ValueType::Own(ResourceId(5))),
+    Row::Stream,
+];
 
-/// Lists of a borrowed resource, of such lists, of an owned one, of an owned alias of it, and of nothing.
-fn borrowing(alloc: Global) -> Result<Parts, AllocError> {
-    let mut parts = empty(alloc)?;
-    let resource = parts.types.add_resource(Resource {
-        name: String::from_str(alloc, "r")?,
-        alias: None,
-    })?;
-    let alias = add_alias(alloc, &mut parts.types, resource)?;
-    let borrowed = list(&mut parts.types, ValueType::Borrow(resource))?;
-    let nested = list(&mut parts.types, borrowed)?;
-    let owned = list(&mut parts.types, ValueType::Own(resource))?;
-    let other = list(&mut parts.types, ValueType::Own(alias))?;
-    let nothing = ValueType::Defined(parts.types.add_defined_type(DefinedType::Stream(None))?);
-    for (name, ty) in [
-        ("a", borrowed),
-        ("b", nested),
-        ("c", owned),
-        ("d", other),
-        ("e", nothing),
-    ] {
-        parts.define(alloc, name, ItemKind::Ty(Type::Value(ty)))?;
-    }
-    Ok(parts)
-}
+const LISTS: [(&str, ItemKind); 5] = [
+    (
+        "a",
+        ItemKind::Ty(Type::Value(ValueType::Defined(DefinedTypeId(6)))),
+    ),
+    (
+        "b",
+        ItemKind::Ty(Type::Value(ValueType::Defined(DefinedTypeId(7)))),
+    ),
+    (
+        "c",
+        ItemKind::Ty(Type::Value(ValueType::Defined(DefinedTypeId(8)))),
+    ),
+    (
+        "d",
+        ItemKind::Ty(Type::Value(ValueType::Defined(DefinedTypeId(9)))),
+    ),
+    (
+        "e",
+        ItemKind::Ty(Type::Value(ValueType::Defined(DefinedTypeId(10)))),
+    ),
+];
 
 /// Whether a definition's values contain a borrow.
 fn has_borrow(package: &Package, i: usize) -> Option<bool> {
@@ -310,7 +235,7 @@ fn has_borrow(package: &Package, i: usize) -> Option<bool> {
 
 #[test]
 fn looks_for_borrows(rt: HostRuntime) -> Result<(), Fail> {
-    let package = borrowing(rt.alloc())?.package()?;
+    let package = package(rt.alloc(), &BORROWING, (1, 0), &LISTS)?;
     for (i, is) in [(0, true), (1, true), (2, false), (3, false), (4, false)] {
         assert_eq!(rt; has_borrow(&package, i), Some(is), "{i}");
     }
@@ -357,70 +282,78 @@ fn asked<R: Rules>(rules: &R, package: &Package, i: usize, j: usize) -> Option<R
     Some(rules.subtype(types, *first, *second))
 }
 
-#[test]
-fn asks_rules(rt: HostRuntime) -> Result<(), Fail> {
-    let package = defining(rt.alloc())?.package()?;
-    assert_eq!(rt; asked(&OnlySame, &package, 0, 1), Some(Ok(())));
-    assert_eq!(rt; asked(&OnlySame, &package, 0, 2), Some(Err(Reason(7))));
-    assert_eq!(rt; OnlySame.extern_name("a"), Ok(()));
-    assert_eq!(rt; OnlySame.extern_name(""), Err(Reason(8)));
-    Ok(())
+fn func(alloc: Global) -> FuncType {
+    FuncType {
+        params: IndexMap::new(alloc),
+        result: None,
+        is_async: false,
+    }
+}
+
+fn interface(alloc: Global) -> Interface {
+    Interface {
+        id: None,
+        uses: IndexMap::new(alloc),
+        exports: IndexMap::new(alloc),
+    }
+}
+
+fn world(alloc: Global) -> World {
+    World {
+        id: None,
+        uses: IndexMap::new(alloc),
+        imports: IndexMap::new(alloc),
+        exports: IndexMap::new(alloc),
+    }
+}
+
+/// An entry of each sort; their numbers.
+fn add_each(alloc: Global, types: &mut Types) -> Result<[usize; 5], AllocError> {
+    let name = String::from_str(alloc, "r")?;
+    let resource = types.add_resource(Resource { name, alias: None })?;
+    let list = types.add_defined_type(DefinedType::List(BYTE))?;
+    let func = types.add_func_type(func(alloc))?;
+    let interface = types.add_interface(interface(alloc))?;
+    let world = types.add_world(world(alloc))?;
+    Ok([resource.0, list.0, func.0, interface.0, world.0])
 }
 
 #[test]
-fn reads_entries(rt: HostRuntime) -> Result<(), Fail> {
-    let mut types = defining(rt.alloc())?.types;
-    assert!(rt; types.interface(InterfaceId(0)).is_some());
-    assert!(rt; types.interface(InterfaceId(1)).is_none());
-    assert!(rt; types.world(WorldId(1)).is_some());
-    assert!(rt; types.world(WorldId(99)).is_none());
-    assert!(rt; types.defined_type(DefinedTypeId(2)).is_some());
-    assert!(rt; types.func_type(FuncTypeId(2)).is_none());
-    assert!(rt; types.resource(ResourceId(6)).is_some());
-    let mut names = IndexSet::new(rt.alloc());
-    names.insert(String::from_str(rt.alloc(), "a")?)?;
-    let id = types.add_defined_type(DefinedType::Flags(names))?;
-    assert_eq!(rt; id.0, 8);
+fn adds_entries(rt: HostRuntime) -> Result<(), Fail> {
+    let mut types = Types::new(rt.alloc());
+    assert_eq!(rt; add_each(rt.alloc(), &mut types)?, [0, 1, 2, 3, 4]);
+    assert!(rt; has_each(&types));
+    assert!(rt; types.interface(InterfaceId(4)).is_none());
     Ok(())
 }
+
+/// Kinds, what they are called, and what their promoted kinds are called.
+const CALLED: [(ItemKind, &str, &str); 8] = [
+    (
+        ItemKind::Ty(Type::Func(FuncTypeId(0))),
+        "function type",
+        "function",
+    ),
+    (INTERFACE, "interface", "instance"),
+    (ItemKind::Ty(Type::World(WorldId(0))), "world", "component"),
+    (
+        ItemKind::Ty(Type::Resource(ResourceId(0))),
+        "resource",
+        "resource",
+    ),
+    (
+        ItemKind::Ty(Type::Module(ModuleTypeId(0))),
+        "module type",
+        "module type",
+    ),
+    (ItemKind::Ty(Type::Value(BYTE)), "value type", "value type"),
+    (ItemKind::Module(ModuleTypeId(0)), "module", "module"),
+    (ItemKind::Value(BYTE), "value", "value"),
+];
 
 #[test]
 fn describes_kinds(rt: HostRuntime) -> Result<(), Fail> {
-    let rows = [
-        (
-            ItemKind::Ty(Type::Func(FuncTypeId(0))),
-            "function type",
-            "function",
-        ),
-        (
-            ItemKind::Ty(Type::Interface(InterfaceId(0))),
-            "interface",
-            "instance",
-        ),
-        (ItemKind::Ty(Type::World(WorldId(0))), "world", "component"),
-        (
-            ItemKind::Ty(Type::Resource(ResourceId(0))),
-            "resource",
-            "resource",
-        ),
-        (
-            ItemKind::Ty(Type::Module(ModuleTypeId(0))),
-            "module type",
-            "module type",
-        ),
-        (
-            ItemKind::Ty(Type::Value(ValueType::Primitive(PrimitiveType::Char))),
-            "value type",
-            "value type",
-        ),
-        (ItemKind::Module(ModuleTypeId(0)), "module", "module"),
-        (
-            ItemKind::Value(ValueType::Primitive(PrimitiveType::Bool)),
-            "value",
-            "value",
-        ),
-    ];
-    for (kind, words, promoted) in rows {
+    for (kind, words, promoted) in CALLED {
         assert_eq!(rt; kind.desc(), words);
         assert_eq!(rt; kind.promote().desc(), promoted);
     }

@@ -10,7 +10,7 @@ pub trait ToValue {
 
     /// The value as JSON, made anew. `docs/JSON.md` lists the form of every node.
     ///
-    /// The only error is want of memory. The tree stays as it is.
+    /// The only error is out of memory. The tree stays as it is.
     fn to_value(&self, alloc: Global) -> Result<Value, AllocError>
         ensures floatless { IfOk result IsFloatless };
 }

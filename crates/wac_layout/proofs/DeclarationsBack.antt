@@ -22,7 +22,7 @@ use Rattle.wac_layout.proofs.TypesBack.{ty_back}
 use Rattle.wac_layout.proofs.FunctionsBack.{params_back, func_type_back}
 use Rattle.wac_layout.proofs.ListsBack.{rows_first, spaced_back}
 
--- no docs are left behind a token, nor behind what leaves none
+-- no docs are left after a token, nor after what leaves none
 pub ends_in : (ds : List (List ℕ)) (ps : List Piece) (t : List ℕ) → pending ds (ps ++ token t ∷ []) ≡ []
 ends_in ds ps t = pending-append ds ps (token t ∷ [])
 

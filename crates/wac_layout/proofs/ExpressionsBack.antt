@@ -52,7 +52,7 @@ module _ (S P : List ℕ) where
   abbrev MoreBack : Arguments → List Item → Type 0
   MoreBack xs ys = (q : List InstantiationArgument × Item) × Derives more_arguments ys q × (bare_arguments P (arguments_from q.0) ≡ bare_arguments S xs)
 
-  -- behind an argument: the brace, or a comma and the others
+  -- after an argument: the brace, or a comma and the others
   brace : (ds : List (List ℕ)) (ys : List Item) → Means P ds ys (token (codes "}") ∷ []) → MoreBack tree.Arguments.none ys
   brace ds ys h = (([], h.0), by_rule more_arguments ys (inl h.0) (alone h.0 h.1 ys h.2 h.4, ap (is_token kinds.CloseBrace) h.3.0, refl), refl)
 

@@ -13,7 +13,7 @@ use Rattle.wac_grammar.specs.Tokens.{is_token, valid}
 use Rattle.wac_grammar.specs.Tree.{Document}
 use Rattle.wac_grammar.specs.Leaves.{asked_after}
 use Rattle.wac_grammar.specs.Grammar.{build, Derives, document, package_name, package_path}
-use Rattle.wac_grammar.proofs.Derived.{Made, derived_holds}
+use Rattle.wac_grammar.proofs.Derived.{Made, derived_document}
 use Rattle.wac_grammar.proofs.Walked.{document_asked}
 use Rattle.wac_layout.specs.Accepted.{IsAccepted}
 use Rattle.wac_layout.specs.Bare.{doc_lines, bare, bare_package_name, bare_package_path, bare_document}
@@ -87,4 +87,4 @@ module _ (S : List ℕ) where
   pub derived_fine : (xs : List Item) (x : Document) → AllByRecursion ItemFine xs → Derives document xs x → DocumentHas Spelled (bare_document doc_lines S x)
   unfolding made
   derived_fine xs x h d =
-      subst (λ A. A) (back (document_asked (has Spelled) (DocsHave Spelled) (bare S) doc_lines x)) (derived_holds (asked_after (has Spelled) (bare S)) DocsFine made document xs x h d)
+      subst (λ A. A) (back (document_asked (has Spelled) (DocsHave Spelled) (bare S) doc_lines x)) (derived_document (asked_after (has Spelled) (bare S)) DocsFine made xs x h d)

@@ -1,7 +1,9 @@
 -- Pieces one behind the other join where each of the two lists does.
-use Rattle.std.proofs.Common.{◌≡◌, ℕ, Bool, true, false, List, [], ◌∷◌, ◌++◌, sym, refl, ap, ◌∙◌, subst, append_assoc, Some, None}
+use Rattle.std.proofs.Common.{◌≡◌, ℕ, Bool, true, false, List, [], ◌∷◌, ◌++◌, sym, refl, ap, ◌∙◌, subst, append_assoc, Option, Some, None}
 use Rattle.std.specs.Prelude.{nat_eq}
-use Rattle.wac_lexer.specs.Follow.{follows}
+use Rattle.std.proofs.lemmas.Bool.{false≢true}
+use Rattle.wac_lexer.proofs.Following.{follows}
+use Rattle.wac_lexer.proofs.Standing.{walk_follows}
 use Rattle.wac_lexer.specs.Tokens.{token_of}
 use Rattle.wac_lexer.specs.declared.token.Token.{Token}
 use Rattle.wac_layout.specs.Printed.{Piece, text_of, text, fresh_after, fresh_behind}
@@ -44,6 +46,17 @@ parted rest space fresh (p ∷ ps) qs joins =
     let others = parted rest space later ps qs joins.1 in
     ((subst (λ u. Fits u p) (rest-append rest space later ps qs) joins.0, others.0), others.1)
 
+-- the text is a token, and the walk lets the rest stand behind it
+abbrev pub stands_before : List ℕ → List ℕ → Bool
+stands_before rest t = elim (token_of t) [ Some kind ↦ follows kind rest | None ↦ false ]
+
 -- a token before what may follow its kind
 pub stands : (t rest : List ℕ) (kind : Token) → IsAccepted t → token_of t ≡ Some kind → follows kind rest ≡ true → Stands t rest
-stands t rest kind accepted is follow = record { is = ap (λ o. elim o [ Some k ↦ follows k rest | None ↦ false ]) is ∙ follow; accepted = accepted }
+stands t rest kind accepted is follow = record { kind = kind; follows = walk_follows t rest kind is follow; accepted = accepted }
+
+pub stands_so : (t rest : List ℕ) → IsAccepted t → stands_before rest t ≡ true → Stands t rest
+stands_so t rest accepted e = go (token_of t) refl
+  where
+    go : (found : Option Token) → token_of t ≡ found → Stands t rest
+    go None f = let no : false ≡ true = sym (ap (λ o. elim o [ Some k ↦ follows k rest | None ↦ false ]) f) ∙ e in absurd (false≢true no)
+    go (Some k) f = stands t rest k accepted f (sym (ap (λ o. elim o [ Some k ↦ follows k rest | None ↦ false ]) f) ∙ e)

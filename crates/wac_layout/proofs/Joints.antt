@@ -1,22 +1,22 @@
 -- The joints of printed text: what each sort of piece may stand before.
 use Rattle.std.proofs.Common.{◌≡◌, ℕ, Bool, true, List, [], ◌∷◌, ◌++◌, refl, ap, ◌∙◌, append_assoc, Some, codes}
 use Rattle.std.specs.List.{AllByRecursion, flat_map}
-use Rattle.wac_lexer.specs.Follow.{follows}
+use Rattle.wac_lexer.proofs.Following.{follows}
 use Rattle.wac_lexer.specs.Tokens.{token_of}
 use Rattle.wac_lexer.specs.declared.token.Token.TheVariants as kinds
 use Rattle.wac_lexer.proofs.Followed.{dot_before_word}
 use Rattle.wac_lexer.specs.Item.{Doc}
 use Rattle.wac_layout.specs.Printed.{Piece, token, text, fresh_behind, deeper}
-use Rattle.wac_layout.specs.Joins.{stands_before, Stands, JoinsBefore}
+use Rattle.wac_layout.specs.Joins.{Stands, JoinsBefore}
 use Rattle.wac_layout.specs.Parts.{space, newline, joined, spaced, body, rows, close_body, docs_layout}
 use Rattle.wac_layout.specs.Texts.{Spelled, DocsHave}
 use Rattle.wac_layout.specs.Accepted.{IsAccepted}
 use Rattle.wac_layout.proofs.Plain.{is_plain, plain, plain_accepted}
-use Rattle.wac_layout.proofs.Joining.{join, stands}
+use Rattle.wac_layout.proofs.Joining.{join, stands, stands_before, stands_so}
 
 -- a token whose text is written out
 pub known : (t : List ℕ) → is_plain t ≡ true → (rest : List ℕ) → stands_before rest t ≡ true → Stands t rest
-known t e rest is = record { is = is; accepted = plain t e }
+known t e rest is = stands_so t rest (plain t e) is
 
 -- a symbol but a dot may stand before anything
 symbol : (rest : List ℕ) → follows kinds.OpenParen rest ≡ true
@@ -94,7 +94,7 @@ module _ (gap : List ℕ) where
   abbrev pub J : List ℕ → Bool → List Piece → Type 0
   J rest fresh ps = JoinsBefore rest gap fresh ps
 
-  -- one behind the other
+  -- one after the other
   pub also : (rest : List ℕ) (fresh : Bool) (ps qs : List Piece) → J (text gap (fresh_behind gap fresh ps) qs ++ rest) fresh ps → J rest (fresh_behind gap fresh ps) qs → J rest fresh (ps ++ qs)
   also rest fresh ps qs first second = join rest gap fresh ps qs first second
 

@@ -34,3 +34,5 @@ pub mod FixedPrint
 pub mod TreesBack
 pub mod Encoded
 pub mod PlainTrees
+pub mod Refilled
+pub mod HolderLines

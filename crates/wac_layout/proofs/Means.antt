@@ -10,7 +10,7 @@ use Rattle.wac_layout.specs.Placed.{kind_of, with_docs, placed}
 abbrev pub texts_of : List Doc → List (List ℕ)
 texts_of docs = map (λ d. d.comment) docs
 
--- the docs that stand behind the last token of pieces
+-- the docs that stand after the last token of pieces
 abbrev pub pending : List (List ℕ) → List Piece → List (List ℕ)
 pending ds [] = ds
 pending ds (token t ∷ ps) = pending [] ps
@@ -26,11 +26,11 @@ pending-append ds (line n ∷ ps) qs = pending-append ds ps qs
 pending-append ds (doc t ∷ ps) qs = pending-append (ds ++ t ∷ []) ps qs
 
 module _ (source : List ℕ) where
-  -- the item is this token in the source, behind these docs
+  -- the item is this token in the source, after these docs
   abbrev pub Says : List (List ℕ) → List ℕ → Item → Type 0
   Says ds t y = (y.token ≡ kind_of t) × (y.text ≡ t) × (slice source y.span ≡ t) × (texts_of y.docs ≡ ds)
 
-  -- the items say what the pieces are meant to say, behind these docs
+  -- the items say what the pieces are meant to say, after these docs
   abbrev pub Means : List (List ℕ) → List Item → List Piece → Type 0
   Means ds ys [] = ys ≡ []
   Means ds ys (token t ∷ ps) = (y : Item) × (zs : List Item) × (ys ≡ y ∷ zs) × Says ds t y × Means [] zs ps
@@ -38,7 +38,7 @@ module _ (source : List ℕ) where
   Means ds ys (line n ∷ ps) = Means ds ys ps
   Means ds ys (doc t ∷ ps) = Means (ds ++ t ∷ []) ys ps
 
-  -- items of pieces, and of those behind them
+  -- items of pieces, and of those after them
   pub split : (ds : List (List ℕ)) (ys : List Item) (ps qs : List Piece) → Means ds ys (ps ++ qs)
       → (front : List Item) × (back : List Item) × (ys ≡ front ++ back) × Means ds front ps × Means (pending ds ps) back qs
   split ds ys [] qs h = ([], ys, refl, refl, h)

@@ -6,19 +6,19 @@ use Rattle.std.proofs.lemmas.Bool.{false≢true}
 use Rattle.wac_lexer.specs.Span.{span}
 use Rattle.wac_lexer.specs.Comments.{part_len}
 use Rattle.wac_lexer.specs.Docs.{docs_at}
-use Rattle.wac_lexer.specs.Follow.{follows}
+use Rattle.wac_lexer.specs.Follow.{Follows}
 use Rattle.wac_lexer.specs.Items.{first_item, items_from, items}
-use Rattle.wac_lexer.specs.Tokens.{token_of}
+use Rattle.wac_lexer.specs.Tokens.{token_of, IsToken}
 use Rattle.wac_lexer.specs.declared.token.Token.{Token}
 use Rattle.wac_lexer.specs.declared.error.Error.TheVariants.{UnexpectedToken}
 use Rattle.wac_lexer.proofs.Gaps.{gap_done}
 use Rattle.wac_lexer.proofs.Trimmed.{docs_done}
 use Rattle.wac_lexer.proofs.Unfolded.{start_of, items_some, items_end}
-use Rattle.wac_lexer.proofs.Sorts.{AreBytes}
+use Rattle.wac_lexer.proofs.Sorts.{AreBytes, token_found}
 use Rattle.wac_lexer.proofs.InFront.{bytes_back}
-use Rattle.wac_lexer.proofs.Followed.{token_in_front}
+use Rattle.wac_lexer.proofs.Standing.{stands_alone}
 use Rattle.wac_layout.specs.Printed.{Piece, token, blank, line, doc, times, text_of, text, fresh_after}
-use Rattle.wac_layout.specs.Joins.{AreBlanks, stands_before, Fits, Joins}
+use Rattle.wac_layout.specs.Joins.{AreBlanks, Fits, Joins}
 use Rattle.wac_layout.specs.Placed.{kind_of, placed_before, placed}
 use Rattle.wac_layout.proofs.Skips.{skip_blanks, skip_doc}
 
@@ -31,9 +31,12 @@ docs_none source place e = docs_done source (length source) place e
 pub kind_is : (t : List ℕ) (k : Token) → token_of t ≡ Some k → kind_of t ≡ Ok k
 kind_is t k e = ap (λ o. elim o [ Some k ↦ Ok k | None ↦ Err UnexpectedToken ]) e
 
-module _ (source t rest : List ℕ) (place : ℕ) (k : Token) (split : drop place source ≡ t ++ rest) (bytes : AreBytes (t ++ rest)) (is : token_of t ≡ Some k) (follow : follows k rest ≡ true) where
+module _ (source t rest : List ℕ) (place : ℕ) (k : Token) (split : drop place source ≡ t ++ rest) (follow : Follows k t rest) where
+  is : token_of t ≡ Some k
+  is = token_found t k (subst (IsToken k) (take-append_seam t rest) follow.longest.is)
+
   at_once : part_len (drop place source) ≡ 0
-  at_once = ap part_len split ∙ (token_in_front t rest k bytes is follow).0
+  at_once = ap part_len split ∙ (stands_alone t rest k follow).0
 
   start_here : start_of source place ≡ place
   start_here = gap_done (drop place source) place (length (drop place source)) at_once
@@ -45,15 +48,8 @@ module _ (source t rest : List ℕ) (place : ℕ) (k : Token) (split : drop plac
   take_token =
       let text : take (length t) (drop (start_of source place) source) ≡ t = ap (take (length t)) text_here ∙ take-append_seam t rest in
       let kind_back : Ok k ≡ kind_of t = sym (kind_is t k is) in
-      items_some source place (Ok k, length t) (ap first_item text_here ∙ (token_in_front t rest k bytes is follow).1)
+      items_some source place (Ok k, length t) (ap first_item text_here ∙ (stands_alone t rest k follow).1)
       ∙ (λ i. record { token = kind_back i; text = text i; span = span (start_here i) (length t); docs = docs_none source place at_once i } ∷ items_from source (start_here i + length t))
-
-token_stands : (t rest : List ℕ) → stands_before rest t ≡ true → (k : Token) × (token_of t ≡ Some k) × (follows k rest ≡ true)
-token_stands t rest e = go (token_of t) refl
-  where
-    go : (found : Option Token) → token_of t ≡ found → (k : Token) × (token_of t ≡ Some k) × (follows k rest ≡ true)
-    go None f = let no : false ≡ true = sym (ap (λ o. elim o [ Some k ↦ follows k rest | None ↦ false ]) f) ∙ e in absurd (false≢true no)
-    go (Some k) f = (k, f, sym (ap (λ o. elim o [ Some k ↦ follows k rest | None ↦ false ]) f) ∙ e)
 
 -- the indentation
 blanks-append : (a b : List ℕ) → AreBlanks a → AreBlanks b → AreBlanks (a ++ b)
@@ -72,9 +68,7 @@ line_blank false depth space h = tt
 module _ (source space : List ℕ) (blanks : AreBlanks space) where
   piece : (p : Piece) (fresh : Bool) (place : ℕ) (rest : List ℕ) → drop place source ≡ text_of space fresh p ++ rest → AreBytes (text_of space fresh p ++ rest) → Fits rest p
       → items_from source place ≡ placed_before place p (items_from source (place + length (text_of space fresh p)))
-  piece (token t) fresh place rest split bytes fits =
-      let k = token_stands t rest fits.is in
-      take_token source t rest place k.0 split bytes k.1 k.2
+  piece (token t) fresh place rest split bytes fits = take_token source t rest place fits.kind split fits.follows
   piece (blank t) fresh place rest split bytes fits = skip_blanks source t rest place fits split
   piece (line depth) fresh place rest split bytes fits = skip_blanks source (text_of space fresh (line depth)) rest place (line_blank fresh depth space blanks) split
   piece (doc t) fresh place rest split bytes fits = skip_doc source t rest place fits.0 fits.1 split

@@ -20,17 +20,17 @@ unfolding doc_lines
 docs_again [] = refl
 docs_again (d ∷ docs) = ap (λ ds. map doc_line (lines d.comment) ++ ds) (docs_again docs)
 
-abbrev bare_docs : List (List ℕ) → List Doc
+abbrev pub bare_docs : List (List ℕ) → List Doc
 bare_docs ts = map (λ t. record { comment = t; span = nowhere }) ts
 
-lines_bare : (ls : List (List ℕ)) → map doc_line ls ≡ bare_docs (map trim ls)
+pub lines_bare : (ls : List (List ℕ)) → map doc_line ls ≡ bare_docs (map trim ls)
 lines_bare [] = refl
 lines_bare (l ∷ ls) = ap (λ ds. doc_line l ∷ ds) (lines_bare ls)
 
-abbrev one_doc : Bool → List ℕ → List Doc
+abbrev pub one_doc : Bool → List ℕ → List Doc
 one_doc empty l = bare_docs (cond empty [] (l ∷ []))
 
-line_docs : (l : List ℕ) → IsDocLine l → map doc_line (lines l) ≡ one_doc (length l == 0) l
+pub line_docs : (l : List ℕ) → IsDocLine l → map doc_line (lines l) ≡ one_doc (length l == 0) l
 line_docs l h = lines_bare (lines l) ∙ ap bare_docs (lines_again l h)
 
 one_again : (l : List ℕ) → IsDocLine l → (rest : List Doc) → doc_lines (one_doc (length l == 0) l ++ rest) ≡ one_doc (length l == 0) l ++ doc_lines rest

@@ -1,4 +1,4 @@
--- Reading past a blank or a comment: the items behind it, with its doc.
+-- Reading past a blank or a comment: the items after it, with its doc.
 use Rattle.std.proofs.Common.{◌≡◌, ◌≢◌, ℕ, zero, suc, ◌+◌, ◌-◌, ◌<◌, ◌≤◌, Bool, true, false, cond, List, [], ◌∷◌, ◌++◌, take, drop, length, sym, refl, ap, ◌∙◌, subst, inl, inr, arith, Option, Some, None, Result, length-append, add-zero}
 use Rattle.std.specs.Prelude.{◌==◌, ◌&&◌, nat_eq}
 use Rattle.std.specs.Str.{IsUtf8, trim, trim_start, trim_end, chars, skip_leading_whitespace, encode_utf8_all}
@@ -47,7 +47,7 @@ gap_part (x ∷ t) p e pos long =
     ∙ ap (λ b. p + cond b 0 (parts_len (length t) (drop p (x ∷ t)))) (ne_eqb p 0 (λ z. omega arith))
     ∙ ap (λ n. p + n) (enough (length t) (length (drop p (x ∷ t))) (drop p (x ∷ t)) (omega (arith, length-drop p (x ∷ t))) (omega arith))
 
--- the items of a source behind a place, from where its first item begins and the docs of the place
+-- the items of a source after a place, from where its first item begins and the docs of the place
 abbrev items_by : List ℕ → ℕ → List Doc → Option (Result Token Error × ℕ) → List Item
 items_by source start docs None = []
 items_by source start docs (Some f) = record { token = f.0; text = take f.1 (drop start source); span = span start f.1; docs = docs } ∷ items_from source (start + f.1)

@@ -1,5 +1,5 @@
 -- What is printed of the tree of a text reads back.
-use Rattle.std.proofs.Common.{◌≡◌, ℕ, true, List, [], refl, ◌∙◌, subst}
+use Rattle.std.proofs.Common.{◌≡◌, ℕ, true, List, [], sym, refl, ◌∙◌, subst}
 use Rattle.std.specs.Str.{IsUtf8}
 use Rattle.wac_lexer.specs.Items.{items}
 use Rattle.wac_grammar.specs.Tree.{Document}
@@ -11,7 +11,7 @@ use Rattle.wac_layout.specs.Placed.{placed}
 use Rattle.wac_layout.specs.Bare.{doc_lines, bare_document}
 use Rattle.wac_layout.specs.StatementLayout.{document_layout}
 use Rattle.wac_layout.specs.Texts.{Spelled, DocumentHas}
-use Rattle.wac_layout.specs.Reread.{printed, IsReread, RereadAs, ReadsBack}
+use Rattle.wac_layout.specs.Reread.{printed, IsReread, RereadAs, ReadsBack, WasPrinted, IsFixed}
 use Rattle.wac_layout.proofs.Accepted.{text_accepted}
 use Rattle.wac_layout.proofs.Bytes.{utf8_bytes}
 use Rattle.wac_layout.proofs.ReadBack.{read_back}
@@ -49,8 +49,19 @@ reads_back space source tree blanks source_utf8 is =
       utf8 = utf8;
       items_are = printed_items space source tree blanks has;
       reread = once;
+      twice = twice;
       settled = λ again third a t.
           is_it (printed space first again) first again third (twice again a) t ∙ once_settled source first tree again (is_it first source tree again once a);
       fixed = λ again third a t.
           fixed space source first (printed space first again) tree again third has (is_it first source tree again once a) (is_it (printed space first again) first again third (twice again a) t);
     }
+
+-- what is printed of a printed text stays as it is
+pub fixed_again : (space source : List ℕ) (tree : Document) → AreBlanks space → IsTreeOf source tree → WasPrinted source → IsFixed space (printed space source tree)
+fixed_again space source tree blanks is was =
+    let first = printed was.space was.source was.tree in
+    let has = spelled was.source was.tree was.utf8 was.is in
+    let utf8 : IsUtf8 source = subst IsUtf8 (sym was.was) (printed_utf8 was.space was.source was.tree was.blanks has) in
+    let once : RereadAs source was.source was.tree = subst (λ t. RereadAs t was.source was.tree) (sym was.was) (reread was.space was.source was.tree was.blanks has) in
+    let twice : RereadAs (printed space source tree) source tree = reread space source tree blanks (spelled source tree utf8 is) in
+    (twice.0, twice.1, fixed space was.source source (printed space source tree) was.tree tree twice.0 has (is_it source was.source was.tree tree once is) twice.2)

@@ -15,7 +15,7 @@ use Rattle.wac_layout.proofs.Means.{Means, split}
 use Rattle.wac_layout.proofs.NamesBack.{alone, word_back}
 
 module _ (S P : List ℕ) where
-  -- what is read back of a type, of the types behind one, and of an element
+  -- what is read back of a type, of the types after one, and of an element
   abbrev pub TyBack : Ty → List Item → Type 0
   TyBack x ys = (u : Ty) × Derives ty ys u × (bare_ty P u ≡ bare_ty S x)
 

@@ -1,7 +1,7 @@
 -- The pieces of worlds join.
 use Rattle.std.proofs.Common.{◌≡◌, ℕ, Bool, true, List, [], ◌∷◌, ◌++◌, refl, codes}
 use Rattle.std.specs.List.{AllByRecursion}
-use Rattle.wac_lexer.specs.Follow.{follows}
+use Rattle.wac_lexer.proofs.Following.{follows}
 use Rattle.wac_lexer.specs.declared.token.Token.TheVariants as kinds
 use Rattle.wac_grammar.specs.Tree as tree
 use Rattle.wac_grammar.specs.Tree.{Ident, ExternType, NamedWorldItem, WorldItemPath, WorldImport, WorldExport, WorldRef, WorldIncludeItem, WorldInclude, WorldItem, WorldDecl}

@@ -21,7 +21,7 @@ abbrev pub argument_name_layout : InstantiationArgumentName → List Piece
 argument_name_layout (tree.InstantiationArgumentName.ident x) = token x.string ∷ []
 argument_name_layout (tree.InstantiationArgumentName.string x) = token x.value ∷ []
 
--- a comma stands behind each argument but a fill that is the last
+-- a comma stands after each argument but a fill that is the last
 abbrev pub comma_layout : InstantiationArgument → Arguments → List Piece
 comma_layout (tree.InstantiationArgument.fill s) tree.Arguments.none = []
 comma_layout _ _ = token (codes ",") ∷ []
@@ -69,7 +69,7 @@ new_2 : text (codes "\t") false (primary_expr_layout 0 (instantiation (tree.Argu
 unfolding expr_layout primary_expr_layout arguments_layout argument_layout
 new_2 = refl
 
--- a fill that is not the last has a comma behind it
+-- a fill that is not the last has a comma after it
 new_3 : text (codes "\t") false (primary_expr_layout 0 (instantiation (tree.Arguments.more fill (tree.Arguments.more (tree.InstantiationArgument.inferred (named (codes "x"))) (tree.Arguments.more fill tree.Arguments.none)))))
     ≡ codes "new a:b {\n\t...,\n\tx,\n\t...\n}"
 unfolding expr_layout primary_expr_layout arguments_layout argument_layout

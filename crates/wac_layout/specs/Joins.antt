@@ -3,19 +3,16 @@ use Rattle.std.specs.Prelude.{◌≡◌, ◌≢◌, ℕ, Bool, true, false, List
 use Rattle.std.specs.List.{AllByRecursion}
 use Rattle.std.specs.Str.{trim}
 use Rattle.wac_lexer.specs.Comments.{is_blank}
-use Rattle.wac_lexer.specs.Follow.{follows}
+use Rattle.wac_lexer.specs.Follow.{Follows}
 use Rattle.wac_lexer.specs.Gap.{EndsLine}
-use Rattle.wac_lexer.specs.Tokens.{token_of}
+use Rattle.wac_lexer.specs.declared.token.Token.{Token}
 use Rattle.wac_layout.specs.Accepted.{IsAccepted}
 use Rattle.wac_layout.specs.Printed.{Piece, token, blank, line, doc, text_of, text, fresh_after}
 
--- the text is a token, and the rest may stand behind it
-abbrev pub stands_before : List ℕ → List ℕ → Bool
-stands_before rest t = elim (token_of t) [ Some kind ↦ follows kind rest | None ↦ false ]
-
--- the same, of a text without refused characters
+-- the text is a token that the rest may follow, and has no refused characters
 pub record Stands (t rest : List ℕ) : Type 0 where
-  pub is : stands_before rest t ≡ true
+  pub kind : Token
+  pub follows : Follows kind t rest
   pub accepted : IsAccepted t
 
 -- spaces, TAB, CR and LF
@@ -43,10 +40,3 @@ JoinsBefore rest space fresh (p ∷ ps) =
 -- pieces join
 abbrev pub Joins : List ℕ → Bool → List Piece → Type 0
 Joins space fresh ps = JoinsBefore [] space fresh ps
-
--- `x: string` is read as it stands, and `x:string` isn't: that is one package name
-joint : stands_before (codes ": string") (codes "x") ≡ true
-joint = refl
-
-no_joint : stands_before (codes ":string") (codes "x") ≡ false
-no_joint = refl

@@ -14,3 +14,4 @@ pub mod StatementLayout
 pub mod Settled
 pub mod Reread
 pub mod Texts
+pub mod TreeLines

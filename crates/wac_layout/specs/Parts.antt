@@ -10,7 +10,7 @@ space = blank (codes " ")
 abbrev pub newline : Piece
 newline = blank (codes "\n")
 
--- pieces one behind the other, with these between them
+-- pieces one after the other, with these between them
 abbrev pub between : {X : Type 0} → List Piece → (X → List Piece) → List X → List Piece
 between separator f [] = []
 between separator f (x ∷ xs) = f x ++ flat_map (λ y. separator ++ f y) xs

@@ -18,14 +18,14 @@ abbrev pub with_docs : List Doc → List Item → List Item
 with_docs docs [] = []
 with_docs docs (item ∷ items) = record item { docs = docs ++ item.docs } ∷ items
 
--- what a piece makes of the items behind it
+-- what a piece makes of the items after it
 abbrev pub placed_before : ℕ → Piece → List Item → List Item
 placed_before place (token t) items = record { token = kind_of t; text = t; span = span place (length t); docs = [] } ∷ items
 placed_before place (blank t) items = items
 placed_before place (line depth) items = items
 placed_before place (doc t) items = with_docs (record { comment = t; span = span place (4 + length t) } ∷ []) items
 
--- the items of pieces that begin at a place: a token piece is an item at its own place, and a doc piece is a doc of the item behind it
+-- the items of pieces that begin at a place: a token piece is an item at its own place, and a doc piece is a doc of the item after it
 abbrev pub placed : ℕ → List ℕ → Bool → List Piece → List Item
 placed place space fresh [] = []
 placed place space fresh (p ∷ ps) =

@@ -1,7 +1,7 @@
 -- Plain trees: names and texts alone. Spans and docs are gone, and `%x` is `x`.
 use Rattle.std.specs.Prelude.{◌≡◌, codes, refl}
 use Rattle.wac_lexer.specs.Span.{span}
-use Rattle.wac_grammar.specs.Tree.{Ident, String, PackageName, PackagePath, Document}
+use Rattle.wac_grammar.specs.Tree.{Document}
 use Rattle.wac_grammar.specs.Walk.{walk_document}
 use Rattle.wac_grammar.specs.Leaves.{Change, changed}
 use Rattle.wac_layout.specs.Bare.{nowhere, no_docs}

@@ -17,7 +17,7 @@ abbrev pub times : ℕ → List ℕ → List ℕ
 times zero text = []
 times (suc n) text = text ++ times n text
 
--- whether nothing stands on the line behind a text: where it is empty, as before it
+-- whether nothing stands on the line after a text: where it is empty, as before it
 abbrev pub fresh_after : Bool → List ℕ → Bool
 fresh_after fresh [] = fresh
 fresh_after fresh (b ∷ text) = fresh_after (nat_eq b 10) text
@@ -29,12 +29,12 @@ text_of space fresh (blank text) = text
 text_of space fresh (line depth) = if fresh then times depth space else []
 text_of space fresh (doc text) = 47 ∷ 47 ∷ 47 ∷ 32 ∷ text
 
--- what pieces write, one behind the other
+-- what pieces write, one after the other
 abbrev pub text : List ℕ → Bool → List Piece → List ℕ
 text space fresh [] = []
 text space fresh (p ∷ ps) = text_of space fresh p ++ text space (fresh_after fresh (text_of space fresh p)) ps
 
--- whether nothing stands on the line behind pieces
+-- whether nothing stands on the line after pieces
 abbrev pub fresh_behind : List ℕ → Bool → List Piece → Bool
 fresh_behind space fresh [] = fresh
 fresh_behind space fresh (p ∷ ps) = fresh_behind space (fresh_after fresh (text_of space fresh p)) ps

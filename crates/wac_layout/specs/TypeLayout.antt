@@ -6,9 +6,6 @@ use Rattle.wac_layout.specs.Printed.{Piece, token, text}
 use Rattle.wac_layout.specs.Parts.{space, joined}
 use Rattle.wac_layout.specs.Bare.{nowhere}
 
-abbrev pub ident_layout : Ident → List Piece
-ident_layout x = token x.string ∷ []
-
 abbrev pub package_path_layout : PackagePath → List Piece
 package_path_layout x = token x.string ∷ []
 

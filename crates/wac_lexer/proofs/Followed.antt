@@ -1,16 +1,16 @@
--- The state in which a token ends, by its kind; and a token in front of what may follow it is the first item.
-use Rattle.std.proofs.Common.{◌≡◌, ℕ, zero, suc, ◌+◌, ◌<◌, ◌≤◌, Bool, true, false, cond, List, [], ◌∷◌, ◌++◌, drop, length, sym, refl, ap, ◌∙◌, subst, inl, inr, ⊎_elim, arith, Option, Some, None, Result, Ok, Err}
-use Rattle.std.specs.Prelude.{◌&&◌, ◌||◌, ◌⊎◌, not, nat_eq, is_some, ◌==◌}
+-- The state in which a token ends, by its kind, and the first byte of a token.
+use Rattle.std.proofs.Common.{◌≡◌, ℕ, Bool, true, false, cond, List, [], ◌∷◌, ◌++◌, length, sym, refl, ap, ◌∙◌, subst, inl, inr, ⊎_elim, arith, Some, None, Ok}
+use Rattle.std.specs.Prelude.{◌&&◌, ◌||◌, not, nat_eq, is_some, ◌==◌}
 use Rattle.std.specs.Str.{bytes_eq}
-use Rattle.std.proofs.lemmas.Bool.{and_parts, or_cases, eqb-true, false≢true, cases_Bool, ne_eqb}
-use Rattle.wac_lexer.specs.Comments.{is_blank, begins, opens, line_len, block_len, part_len, parts_len, gap}
-use Rattle.wac_lexer.specs.Words.{find, keywords, symbols, fixed_texts}
-use Rattle.wac_lexer.specs.Shapes.{shape_of, pattern_of}
-use Rattle.wac_lexer.specs.Tokens.{token_of, longest_token, InTable, IsToken}
+use Rattle.std.proofs.lemmas.Bool.{and_parts, or_cases, eqb-true, false≢true, ne_eqb}
+use Rattle.wac_lexer.specs.Comments.{is_blank, begins, line_len, block_len, part_len}
+use Rattle.wac_lexer.specs.Words.{fixed_texts}
+use Rattle.wac_lexer.specs.Shapes.{shape_of}
+use Rattle.wac_lexer.specs.Tokens.{token_of, InTable, IsToken}
 use Rattle.wac_lexer.specs.Tokens.IsToken.{fixed, identifier, string, name, path}
 use Rattle.wac_lexer.specs.Items.{first_item}
 use Rattle.wac_lexer.specs.Automaton.{class_of, step_of, shape_at}
-use Rattle.wac_lexer.specs.Follow.{run, is_dead, quiet, ends, all_quiet, follows}
+use Rattle.wac_lexer.proofs.Following.{run, is_dead, quiet, ends, all_quiet, follows}
 use Rattle.wac_lexer.specs.declared.token.Token.{Token}
 use Rattle.wac_lexer.specs.declared.token.Token.TheVariants as tokens
 use Rattle.wac_lexer.specs.declared.shape.Shape.{Shape}
@@ -21,10 +21,8 @@ use Rattle.wac_lexer.specs.declared.automaton.Package.TheVariants.{Name, Path}
 use Rattle.wac_lexer.specs.declared.automaton.Part.TheVariants.{First, Later}
 use Rattle.wac_lexer.specs.declared.automaton.State.{State}
 use Rattle.wac_lexer.specs.declared.automaton.State.TheVariants.{Start, Small, Capital, Digits, Tail, Closed, OneDot, TwoDots, Ended, Dead}
-use Rattle.wac_lexer.proofs.Texts.{bytes_eq_is}
 use Rattle.wac_lexer.proofs.Sorts.{AreBytes, shape_bytes, shape_found, token_meant}
-use Rattle.wac_lexer.proofs.Fronts.{first_item_is}
-use Rattle.wac_lexer.proofs.InFront.{shape_run, bytes_front, longest_in_front}
+use Rattle.wac_lexer.proofs.InFront.{shape_run}
 
 -- the state is one of these
 abbrev same_state : State → State → Bool
@@ -56,11 +54,11 @@ abbrev pub begins_item : List ℕ → Bool
 begins_item [] = false
 begins_item (b ∷ t) = not (is_blank b) && not (nat_eq b 47)
 
-abbrev is_slash : Token → Bool
+abbrev pub is_slash : Token → Bool
 is_slash tokens.Slash = true
 is_slash k = false
 
-abbrev begins_well : List ℕ → Token → Bool
+abbrev pub begins_well : List ℕ → Token → Bool
 begins_well t k = begins_item t || (is_slash k && bytes_eq t (47 ∷ []))
 
 -- each text of the tables ends in a state of its kind
@@ -80,7 +78,7 @@ fit_in (entry ∷ table) t k e (inl h) = (λ i. fits (h.0 i) (h.1 i)) ∙ (and_p
 fit_in (entry ∷ table) t k e (inr h) = fit_in table t k (and_parts (fits entry.0 entry.1) (all_fit table) e).1 h
 
 -- what a token needs of the text behind it, and what it gives
-abbrev Stands : Token → List ℕ → Type 0
+abbrev pub Stands : Token → List ℕ → Type 0
 Stands k t = ((u : List ℕ) → follows k u ≡ true → quiet (run Start t) u ≡ true) × (begins_well t k ≡ true)
 
 slash_quiet : (t u : List ℕ) → is_among (run Start t) (ends tokens.Slash) ≡ true → quiet (run Start t) u ≡ true
@@ -198,7 +196,7 @@ module _ (t : List ℕ) (h : AreBytes t) where
   state_shape : (shape : Shape) → shape_of t ≡ Some shape → shape_at (run Start t) ≡ Some shape
   state_shape shape e = sym (shape_run t h) ∙ e
 
-  token_stands : (k : Token) → IsToken k t → Stands k t
+  pub token_stands : (k : Token) → IsToken k t → Stands k t
   token_stands k (fixed f) = fixed_stands t k f
   token_stands k (identifier m absent) =
       let s = shape_found t shapes.Word m in
@@ -214,55 +212,23 @@ module _ (t : List ℕ) (h : AreBytes t) where
       (λ u q. path_quiet (run Start t) u (state_shape shapes.Path s) q, begins_or t tokens.PackagePath (shape_begins t shapes.Path h s refl))
 
 -- no part of a gap begins with a token
-abbrev part_by : List ℕ → Bool → Bool → Bool → Bool → ℕ
+abbrev pub part_by : List ℕ → Bool → Bool → Bool → Bool → ℕ
 part_by text none white line block = cond none 0 (cond white 1 (cond line (line_len text) (cond block (block_len text) 0)))
 
-not_true : (b : Bool) → not b ≡ true → b ≡ false
+pub not_true : (b : Bool) → not b ≡ true → b ≡ false
 not_true true e = absurd (false≢true e)
 not_true false e = refl
 
-some_bytes : (b : ℕ) (t : List ℕ) → (length (b ∷ t) == 0) ≡ false
+pub some_bytes : (b : ℕ) (t : List ℕ) → (length (b ∷ t) == 0) ≡ false
 some_bytes b t = ne_eqb (length (b ∷ t)) 0 (λ z. omega arith)
 
-no_comment : (b : ℕ) (t : List ℕ) (y : ℕ) → nat_eq b 47 ≡ false → begins 47 y (b ∷ t) ≡ false
+pub no_comment : (b : ℕ) (t : List ℕ) (y : ℕ) → nat_eq b 47 ≡ false → begins 47 y (b ∷ t) ≡ false
 no_comment b [] y e = refl
 no_comment b (c ∷ t) y e = ap (λ v. v && nat_eq c y) e
 
 -- a text that begins with neither a blank nor a comment, and with this token
 abbrev pub BeginsWith : List ℕ → Token → List ℕ → Type 0
 BeginsWith t k u = (part_len (t ++ u) ≡ 0) × (first_item (t ++ u) ≡ Some (Ok k, length t))
-
-module _ (b : ℕ) (t u : List ℕ) (k : Token) (h : AreBytes ((b ∷ t) ++ u)) (e : token_of (b ∷ t) ≡ Some k) (q : follows k u ≡ true) where
-  stands : Stands k (b ∷ t)
-  stands = token_stands (b ∷ t) (bytes_front (b ∷ t) u h) k (token_meant (b ∷ t) k e)
-
-  begins_with : is_blank b ≡ false → begins 47 47 (b ∷ (t ++ u)) ≡ false → opens (b ∷ (t ++ u)) ≡ false → BeginsWith (b ∷ t) k u
-  begins_with white line block =
-      let text = b ∷ (t ++ u) in
-      let longest = longest_in_front (b ∷ t) u k h (omega arith) e (stands.0 u q) in
-      ((λ i. part_by text (some_bytes b (t ++ u) i) (white i) (line i) (block i)), first_item_is text (Some (length (b ∷ t), k)) (some_bytes b (t ++ u)) block longest)
-
-  by_item : begins_item (b ∷ t) ≡ true → BeginsWith (b ∷ t) k u
-  by_item f =
-      let p = and_parts (not (is_blank b)) (not (nat_eq b 47)) f in
-      let slash = not_true (nat_eq b 47) p.1 in
-      begins_with (not_true (is_blank b) p.0) (no_comment b (t ++ u) 47 slash) (no_comment b (t ++ u) 42 slash)
-
-slash_alone : (t u : List ℕ) (k : Token) → AreBytes (t ++ u) → token_of t ≡ Some k → follows k u ≡ true → t ≡ 47 ∷ [] → is_slash k ≡ true → BeginsWith t k u
-slash_alone t u tokens.Slash h e q is s =
-    let p = and_parts (not (begins 47 47 (47 ∷ u))) (not (opens (47 ∷ u))) q in
-    let here = begins_with 47 [] u tokens.Slash (subst (λ x. AreBytes (x ++ u)) is h) refl q refl (not_true (begins 47 47 (47 ∷ u)) p.0) (not_true (opens (47 ∷ u)) p.1) in
-    subst (λ x. BeginsWith x tokens.Slash u) (sym is) here
-slash_alone t u k h e q is s = absurd (false≢true s)
-
--- THE LAW: a token in front of what may follow it is read as it stands
-pub token_in_front : (t u : List ℕ) (k : Token) → AreBytes (t ++ u) → token_of t ≡ Some k → follows k u ≡ true → BeginsWith t k u
-token_in_front [] u k h e q = let none : None ≡ Some k = e in absurd cc
-token_in_front (b ∷ t) u k h e q =
-    ⊎_elim
-    (λ f. by_item b t u k h e q f)
-    (λ f. let p = and_parts (is_slash k) (bytes_eq (b ∷ t) (47 ∷ [])) f in slash_alone (b ∷ t) u k h e q (bytes_eq_is (b ∷ t) (47 ∷ []) p.1) p.0)
-    (or_cases (begins_item (b ∷ t)) (is_slash k && bytes_eq (b ∷ t) (47 ∷ [])) (stands b t u k h e q).1)
 
 -- no word goes on with a dot
 dot_dead : (c : Class) (t : List ℕ) (shape : Shape) → is_symbol shape ≡ false → shape_at (run (step_of Start c) t) ≡ Some shape → is_dead (step_of OneDot c) ≡ true

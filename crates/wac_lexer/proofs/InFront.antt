@@ -1,20 +1,17 @@
 -- A token's text before a text that doesn't go on with it is the longest front.
-use Rattle.std.proofs.Common.{◌≡◌, ℕ, zero, suc, ◌+◌, ◌-◌, ◌<◌, ◌≤◌, Bool, true, false, cond, List, [], ◌∷◌, ◌++◌, take, drop, length, sym, refl, ap, ◌∙◌, subst, ⊎_elim, arith, Option, Some, None, add-zero, zero-add, append_assoc, append-nil, length-append}
-use Rattle.std.specs.Prelude.{◌&&◌, ◌⊎◌, not, is_some}
-use Rattle.std.specs.List.{AllByRecursion}
+use Rattle.std.proofs.Common.{◌≡◌, ℕ, zero, suc, ◌+◌, ◌<◌, ◌≤◌, Bool, true, false, cond, List, [], ◌∷◌, ◌++◌, take, length, sym, refl, ap, ◌∙◌, subst, ⊎_elim, arith, Option, Some, None, add-zero, zero-add, append_assoc, append-nil}
+use Rattle.std.specs.Prelude.{◌&&◌, not, is_some}
 use Rattle.std.proofs.lemmas.Bool.{and_parts, false≢true, cases_Bool}
-use Rattle.std.proofs.Math.Seq.{take-append_seam}
 use Rattle.wac_lexer.specs.Shapes.{shape_of}
 use Rattle.wac_lexer.specs.Tokens.{token_of, longest_token}
 use Rattle.wac_lexer.specs.Automaton.{class_of, step_of, shape_at}
-use Rattle.wac_lexer.specs.Follow.{run, is_dead, quiet}
-use Rattle.wac_lexer.specs.declared.shape.Shape.{Shape}
+use Rattle.wac_lexer.proofs.Following.{run, is_dead, quiet}
 use Rattle.wac_lexer.specs.declared.token.Token.{Token}
 use Rattle.wac_lexer.specs.declared.automaton.State.{State}
 use Rattle.wac_lexer.specs.declared.automaton.State.TheVariants.{Start, Dead}
 use Rattle.wac_lexer.proofs.States.{Reads, reads_none, reads_more, reads_dead, shape_is}
 use Rattle.wac_lexer.proofs.Sorts.{AreBytes}
-use Rattle.wac_lexer.proofs.Fronts.{no_shape_no_token, one_token}
+use Rattle.wac_lexer.proofs.Fronts.{one_token}
 
 pub reads_run : (front t : List ℕ) (state : State) → AreBytes t → Reads state front → Reads (run state t) (front ++ t)
 reads_run front [] state h r = subst (Reads state) (sym (append-nil front)) r
@@ -38,7 +35,7 @@ none_is None e = refl
 none_is (Some x) e = absurd (false≢true (sym e))
 
 -- behind a quiet rest nothing is in a shape
-quiet_none : (front u : List ℕ) (state : State) (m : ℕ) → AreBytes u → Reads state front → quiet state u ≡ true → 0 < m → m ≤ length u → shape_of (front ++ take m u) ≡ None
+pub quiet_none : (front u : List ℕ) (state : State) (m : ℕ) → AreBytes u → Reads state front → quiet state u ≡ true → 0 < m → m ≤ length u → shape_of (front ++ take m u) ≡ None
 quiet_none front [] state m h r q pos fits = absurd (omega arith)
 quiet_none front (b ∷ u) state zero h r q pos fits = absurd (omega arith)
 quiet_none front (b ∷ u) state (suc m) h r q pos fits =
@@ -64,18 +61,18 @@ quiet_none front (b ∷ u) state (suc m) h r q pos fits =
         last_or (suc k) e none rec = rec (omega arith) (omega arith)
 
 -- where no front of more than n bytes is a token
-longest_stays : (text : List ℕ) (n m : ℕ) → ((k : ℕ) → 0 < k → k ≤ m → token_of (take (n + k) text) ≡ None) → longest_token text (n + m) ≡ longest_token text n
+pub longest_stays : (text : List ℕ) (n m : ℕ) → ((k : ℕ) → 0 < k → k ≤ m → token_of (take (n + k) text) ≡ None) → longest_token text (n + m) ≡ longest_token text n
 longest_stays text n zero f = ap (longest_token text) (add-zero n)
 longest_stays text n (suc m) f =
     let step : n + suc m ≡ suc (n + m) = omega arith in
     let none : token_of (take (suc (n + m)) text) ≡ None = subst (λ k. token_of (take k text) ≡ None) step (f (suc m) (omega arith) (omega arith)) in
     ap (longest_token text) step ∙ ap (λ k. one_token (suc (n + m)) k (longest_token text (n + m))) none ∙ longest_stays text n m (λ k a b. f k a (omega arith))
 
-found_at : (text : List ℕ) (n : ℕ) (k : Token) → 0 < n → token_of (take n text) ≡ Some k → longest_token text n ≡ Some (n, k)
+pub found_at : (text : List ℕ) (n : ℕ) (k : Token) → 0 < n → token_of (take n text) ≡ Some k → longest_token text n ≡ Some (n, k)
 found_at text zero k pos e = absurd (omega arith)
 found_at text (suc n) k pos e = ap (λ o. one_token (suc n) o (longest_token text n)) e
 
-take_beyond : (t u : List ℕ) (k : ℕ) → take (length t + k) (t ++ u) ≡ t ++ take k u
+pub take_beyond : (t u : List ℕ) (k : ℕ) → take (length t + k) (t ++ u) ≡ t ++ take k u
 take_beyond [] u k = ap (λ n. take n u) (zero-add k)
 take_beyond (b ∷ t) u k = let e : suc (length t) + k ≡ suc (length t + k) = omega arith in ap (λ n. take n (b ∷ (t ++ u))) e ∙ ap (λ x. b ∷ x) (take_beyond t u k)
 
@@ -86,10 +83,3 @@ bytes_front (b ∷ t) u h = (h.0, bytes_front t u h.1)
 pub bytes_back : (t u : List ℕ) → AreBytes (t ++ u) → AreBytes u
 bytes_back [] u h = h
 bytes_back (b ∷ t) u h = bytes_back t u h.1
-
-pub longest_in_front : (t u : List ℕ) (k : Token) → AreBytes (t ++ u) → 0 < length t → token_of t ≡ Some k → quiet (run Start t) u ≡ true → longest_token (t ++ u) (length (t ++ u)) ≡ Some (length t, k)
-longest_in_front t u k h pos e q =
-    ap (longest_token (t ++ u)) (length-append t u)
-    ∙ longest_stays (t ++ u) (length t) (length u)
-    (λ m a b. ap token_of (take_beyond t u m) ∙ no_shape_no_token (t ++ take m u) (quiet_none t u (run Start t) m (bytes_back t u h) (reads_run [] t Start (bytes_front t u h) reads_none) q a b))
-    ∙ found_at (t ++ u) (length t) k pos (ap token_of (take-append_seam t u) ∙ e)

@@ -13,6 +13,10 @@ pub mod Sorts
 pub mod Longest
 pub mod Ordered
 pub mod Firsts
+pub mod Following
 pub mod InFront
 pub mod Followed
 pub mod Passing
+pub mod Standing
+pub mod Found
+pub mod Ahead

@@ -1,19 +1,34 @@
 -- What a lexer is to its callers.
-use Rattle.std.specs.Prelude.{refl, codes, ℕ, ◌≡◌, ◌-◌, ◌≤◌, ◌<◌, ◌^◌, List, ◌++◌, length, take, drop, MatchOption, IfSome, if◌then◌else◌, ◌==◌}
+use Rattle.std.specs.Prelude.{refl, codes, ℕ, ◌≡◌, ◌+◌, ◌-◌, ◌≤◌, ◌<◌, ◌^◌, List, [], ◌++◌, length, take, drop, MatchOption, IfSome, Some, None, if◌then◌else◌, ◌==◌}
 use Rattle.std.specs.Str.{IsCharBoundary}
 use Rattle.wac_lexer.specs.Span.{Span, span, end_of}
 use Rattle.wac_lexer.specs.Item.{Item, Handed, handed, behind_first, OnFirst}
 use Rattle.wac_lexer.specs.Items.{items_from, items}
 
--- a source, the place up to which it was read, and the span of the last item that `next` gave
+-- A source, the place up to which it was read, the span of the last item that `next` gave, and how many scans there were.
+-- A scan is one search for the item at a place, also the one that finds the end.
 pub record Reading : Type 0 where
   pub source : List ℕ
   pub place : ℕ
   pub last : Span
+  pub scans : ℕ
 
 -- the items that are still to come
 unfoldable pub left : Reading → List Item
 left reading = items_from reading.source reading.place
+
+-- how many items of a source stand before a place
+abbrev pub items_before : List ℕ → ℕ → ℕ
+items_before source place = length (items source) - length (items_from source place)
+
+-- how many items `next` has given
+abbrev pub answered : Reading → ℕ
+answered reading = items_before reading.source reading.place
+
+-- example: the second of three items stands at 2
+one_before : items_before (codes "a b c") 2 ≡ 1
+unfolding items_from
+one_before = refl
 
 -- the bytes of a span
 abbrev pub slice : List ℕ → Span → List ℕ
@@ -45,6 +60,9 @@ pub record Nexts (old : Reading) (item : Handed) (new : Reading) : Type 0 where
   pub slices : IfSome item (λ x. Slices old.source x.1)
   pub fits : IfSome item (λ x. end_of x.1 < 2 ^ 64)
   pub text : OnFirst (left old) (λ x. x.text ≡ slice old.source x.span)
+  pub scans : new.scans ≤ answered new + 2
+  pub once : new.scans ≤ old.scans + 1
+  pub ended : behind_first (left old) ≡ [] → new.scans ≡ old.scans
 
 -- the place stands between two items of the source: some of them are before it, and the others behind
 abbrev pub BetweenItems : List ℕ → ℕ → Type 0
@@ -55,3 +73,20 @@ pub record IsWithin (source : List ℕ) (place : ℕ) (last : Span) : Type 0 whe
   pub boundary : IsCharBoundary source place
   pub between : BetweenItems source place
   pub last_ends : end_of last ≤ length source
+
+-- what a scan found: the first of these items of a source, or that there is none
+pub record IsFound (source : List ℕ) (items : List Item) (found : Handed) : Type 0 where
+  pub is : found ≡ handed items
+  pub slices : IfSome found (λ x. Slices source x.1)
+  pub fits : IfSome found (λ x. end_of x.1 < 2 ^ 64)
+
+-- the items behind one that was found: none behind the end
+abbrev pub items_behind : List ℕ → Handed → List Item
+items_behind source None = []
+items_behind source (Some x) = items_from source (end_of x.1)
+
+-- what every lexer keeps of the items behind its place: the next two, and how many scans there were at most
+pub record IsAhead (source : List ℕ) (place : ℕ) (first second : Handed) (scans : ℕ) : Type 0 where
+  pub first_is : IsFound source (items_from source place) first
+  pub second_is : IsFound source (items_behind source first) second
+  pub bound : scans ≤ items_before source place + 2

@@ -1,8 +1,7 @@
 // What may stand behind a token: laws of the definitions. Each function does nothing: its contract is the law.
-ghost use Rattle.std.specs.Prelude.{◌≡◌, ◌<◌, ◌++◌, ℕ, List, length, true, Some, Ok};
-ghost use Rattle.std.specs.List.{AllByRecursion};
-ghost use Rattle.wac_lexer.specs.Comments.{gap};
-ghost use Rattle.wac_lexer.specs.Follow.{follows};
+ghost use Rattle.std.specs.Prelude.{◌≡◌, ◌++◌, ◌∷◌, ℕ, List, length, codes, true, Some, Ok};
+ghost use Rattle.wac_lexer.specs.Comments.{gap, is_blank};
+ghost use Rattle.wac_lexer.specs.Follow.{Follows};
 ghost use Rattle.wac_lexer.specs.Items.{first_item};
 ghost use Rattle.wac_lexer.specs.Tokens.{token_of};
 ghost use Rattle.wac_lexer.specs.declared.token.Token.{Token as Kind};
@@ -10,10 +9,15 @@ ghost use Rattle.wac_lexer.specs.declared.token.Token.TheVariants.{Ident, Dot};
 
 /// A token before what may follow it is read as it stands: no gap comes first, and no longer front is a token.
 pub fn tokens_are_read_back()
-    ensures { (text rest : List ℕ) (token : Kind) → AllByRecursion (λ b. b < 256) (text ++ rest) → token_of text ≡ Some token → follows token rest ≡ true → (gap (text ++ rest) ≡ 0) × (first_item (text ++ rest) ≡ Some (Ok token, length text)) }
+    ensures { (text rest : List ℕ) (token : Kind) → Follows token text rest → (gap (text ++ rest) ≡ 0) × (first_item (text ++ rest) ≡ Some (Ok token, length text)) }
 {}
 
 /// An identifier may follow a dot.
 pub fn identifiers_follow_dots()
-    ensures { (text rest : List ℕ) → token_of text ≡ Some Ident → follows Dot (text ++ rest) ≡ true }
+    ensures { (text rest : List ℕ) → token_of text ≡ Some Ident → Follows Dot (codes ".") (text ++ rest) }
+{}
+
+/// A space, TAB, CR or LF may follow any token.
+pub fn blanks_follow_tokens()
+    ensures { (text rest : List ℕ) (token : Kind) (b : ℕ) → token_of text ≡ Some token → is_blank b ≡ true → Follows token text (b ∷ rest) }
 {}

@@ -93,7 +93,7 @@ fn start_of(source: &str, place: usize) -> usize
 }
 
 /// The first item behind a place: the token or fault, and its span.
-pub(crate) fn item_at(source: &str, place: usize) -> Option<Item>
+fn item_at(source: &str, place: usize) -> Option<Item>
     requires { IsCharBoundary source.now place }
     ensures item { result ≡ handed (items_from source.now place) }
     ensures rest { MatchOption result (items_from source.now place ≡ []) (λ item. items_from source.now (end_of item.1) ≡ behind_first (items_from source.now place)) }
@@ -106,4 +106,77 @@ pub(crate) fn item_at(source: &str, place: usize) -> Option<Item>
     let start = start_of(source, place);
     let (found, len) = first_item(&source[start..])?;
     Some((found, SourceSpan::new(start, len)))
+}
+
+/// A source, and how many scans of it there were.
+///
+/// A scan is one search for the item at a place. Items are found here alone, so each scan is counted.
+#[derive(Clone, Drop)]
+pub(crate) struct Scanner<'a> {
+    pub(crate) source: &'a str,
+    scans: usize,
+}
+
+impl<'a> Scanner<'a> {
+    ghost use Rattle.std.specs.Prelude.{◌≡◌, ◌+◌, ◌<◌, ◌^◌, IfSome, MatchOption};
+    ghost use Rattle.std.specs.Str.{IsCharBoundary};
+    ghost use Rattle.wac_lexer.specs.Items.{items_from};
+    ghost use Rattle.wac_lexer.specs.Reading.{Slices, IsFound, IsAhead, items_behind};
+    ghost use Rattle.wac_lexer.specs.Span.{end_of};
+
+    /// A source that was not scanned yet.
+    pub(crate) fn new(source: &'a str) -> Scanner<'a>
+        ensures source { result.source ≡ source.entry }
+        ensures scans { result.scans ≡ 0 }
+    {
+        Scanner { source, scans: 0 }
+    }
+
+    /// How many scans there were.
+    pub(crate) fn scans(&self) -> usize
+        ensures { result ≡ self.now.scans }
+    {
+        self.scans
+    }
+
+    /// Finds the first item behind a place, or that there is none. Either is a scan.
+    fn scan(&mut self, place: usize) -> Option<Item>
+        requires boundary { IsCharBoundary self.old.source.now place }
+        requires counts { self.old.scans + 1 < 2 ^ 64 }
+        ensures item { IsFound self.old.source.now (items_from self.old.source.now place) result }
+        ensures source { self.new.source ≡ self.old.source }
+        ensures scans { self.new.scans ≡ self.old.scans + 1 }
+    {
+        self.scans += 1;
+        item_at(self.source, place)
+    }
+
+    /// Finds the item behind another. Where there is no other the end was found before, and this is no scan.
+    pub(crate) fn scan_behind(&mut self, item: Option<Item>) -> Option<Item>
+        requires slices { IfSome item (λ x. Slices self.old.source.now x.1) }
+        requires fits { IfSome item (λ x. end_of x.1 < 2 ^ 64) }
+        requires counts { self.old.scans + 1 < 2 ^ 64 }
+        ensures item { IsFound self.old.source.now (items_behind self.old.source.now item) result }
+        ensures source { self.new.source ≡ self.old.source }
+        ensures scans { MatchOption item (self.new.scans ≡ self.old.scans) (λ _. self.new.scans ≡ self.old.scans + 1) }
+    {
+        let (_, span) = item?;
+        self.scan(span.offset() + span.len())
+    }
+
+    /// Finds the first two items of a source that was not scanned yet.
+    pub(crate) fn scan_two(&mut self) -> (Option<Item>, Option<Item>)
+        requires boundary { IsCharBoundary self.old.source.now 0 }
+        requires unused { self.old.scans ≡ 0 }
+        ensures ahead { IsAhead self.old.source.now 0 result.0 result.1 self.new.scans }
+        ensures source { self.new.source ≡ self.old.source }
+    {
+        match self.scan(0) {
+            Some((found, span)) => {
+                let second = self.scan_behind(Some((found, span)));
+                (Some((found, span)), second)
+            }
+            None => (None, None),
+        }
+    }
 }

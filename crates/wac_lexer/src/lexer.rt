@@ -2,7 +2,7 @@
 use crate::characters::refused;
 use crate::docs::docs_at;
 use crate::error::Error;
-use crate::items::item_at;
+use crate::items::{Item, Scanner};
 use crate::span::SourceSpan;
 use crate::token::Token;
 use std::alloc::{AllocError, Global};
@@ -14,7 +14,8 @@ pub type LexerResult<T> = Result<T, Error>;
 /// Reads a source item by item, from its start on.
 ///
 /// An item is a token or a fault, with its span in bytes. Blanks and comments stand between items. A token is the
-/// longest text there that has a token's shape. Behind a fault the lexer goes on. No call but `comments` takes memory.
+/// longest text there that has a token's shape. Behind a fault the lexer goes on. The next two items are kept, so each is
+/// searched for once, however often it is peeked at. No call but `comments` takes memory.
 ///
 /// ```
 /// // Writes the documentation comments and the items of a source, each with its place.
@@ -31,28 +32,31 @@ pub type LexerResult<T> = Result<T, Error>;
 /// ```
 #[derive(Clone, Drop)]
 pub struct Lexer<'a> {
-    source: &'a str,
+    scanner: Scanner<'a>,
     place: usize,
     last: SourceSpan,
+    // The next two items. Where there is none the end was found, and it is not looked for again.
+    first: Option<Item>,
+    second: Option<Item>,
 }
 
 impl<'a> Model for Lexer<'a> {
-    ghost use Rattle.wac_lexer.specs.Reading.{Reading, IsWithin};
+    ghost use Rattle.wac_lexer.specs.Reading.{Reading, IsWithin, IsAhead};
 
     ghost Value = { Reading };
 
-    ghost view = { λ l. record { source = l.source.now; place = l.place; last = l.last } };
+    ghost view = { λ l. record { source = l.scanner.source.now; place = l.place; last = l.last; scans = l.scanner.scans } };
 
-    ghost invariant = { λ l. IsWithin l.source.now l.place l.last };
+    ghost invariant = { λ l. IsWithin l.scanner.source.now l.place l.last × IsAhead l.scanner.source.now l.place l.first l.second l.scanner.scans };
 }
 
 impl<'a> Lexer<'a> {
-    ghost use Rattle.std.specs.Prelude.{◌≡◌, ◌<◌, ◌^◌, ◌↔◌, ◌++◌, List, None, map, IsTrue, MatchResult, IfOk, IfSome, Some};
+    ghost use Rattle.std.specs.Prelude.{◌≡◌, ◌<◌, ◌≤◌, ◌+◌, ◌^◌, ◌↔◌, ◌++◌, length, List, None, map, IsTrue, MatchResult, IfOk, IfSome, Some};
     ghost use Rattle.wac_lexer.specs.Characters.{refused};
     ghost use Rattle.wac_lexer.specs.Docs.{docs_at};
     ghost use Rattle.wac_lexer.specs.Item.{Item, handed, behind_first, OnFirst, doc_of};
     ghost use Rattle.wac_lexer.specs.Items.{items};
-    ghost use Rattle.wac_lexer.specs.Reading.{Slices, shown, slice, left};
+    ghost use Rattle.wac_lexer.specs.Reading.{Slices, shown, slice, left, answered};
     ghost use Rattle.wac_lexer.specs.Span.{span, end_of};
 
     /// A lexer at the start of a source.
@@ -66,14 +70,21 @@ impl<'a> Lexer<'a> {
         ensures left { IfOk result (λ l. left l ≡ items source.now) }
         ensures place { IfOk result (λ l. l.place ≡ 0) }
         ensures last { IfOk result (λ l. l.last ≡ span 0 0) }
+        ensures scans { IfOk result (λ l. l.scans ≤ answered l + 2) }
     {
         match refused(source) {
             Some(fault) => Err(fault),
-            None => Ok(Lexer {
-                source,
-                place: 0,
-                last: SourceSpan::new(0, 0),
-            }),
+            None => {
+                let mut scanner = Scanner::new(source);
+                let (first, second) = scanner.scan_two();
+                Ok(Lexer {
+                    scanner,
+                    place: 0,
+                    last: SourceSpan::new(0, 0),
+                    first,
+                    second,
+                })
+            }
         }
     }
 
@@ -83,8 +94,9 @@ impl<'a> Lexer<'a> {
         ensures gives { result ≡ handed (left self.now) }
         ensures slices { IfSome result (λ item. Slices self.now.source item.1) }
         ensures fits { IfSome result (λ item. end_of item.1 < 2 ^ 64) }
+        ensures scans { self.now.scans ≤ answered self.now + 2 }
     {
-        item_at(self.source, self.place)
+        self.first
     }
 
     /// The item after the next one. Both stay.
@@ -93,9 +105,21 @@ impl<'a> Lexer<'a> {
         ensures gives { result ≡ handed (behind_first (left self.now)) }
         ensures slices { IfSome result (λ item. Slices self.now.source item.1) }
         ensures fits { IfSome result (λ item. end_of item.1 < 2 ^ 64) }
+        ensures scans { self.now.scans ≤ answered self.now + 2 }
     {
-        let (_, next) = item_at(self.source, self.place)?;
-        item_at(self.source, next.offset() + next.len())
+        self.second
+    }
+
+    /// How many scans there were: at most two more than `next` has given items.
+    ///
+    /// A scan is one search for the item at a place, also the one that finds the end. Behind the end there is none, and
+    /// to read docs is none.
+    pub fn scans(&self) -> usize
+        ensures count { result ≡ self.now.scans }
+        ensures scans { self.now.scans ≤ answered self.now + 2 }
+        ensures within { result ≤ length self.now.source + 2 }
+    {
+        self.scanner.scans()
     }
 
     /// The documentation comments behind the last item, up to the next item or a comment without an end.
@@ -108,7 +132,7 @@ impl<'a> Lexer<'a> {
         ensures docs { IfOk result (λ v. map doc_of v.items ≡ docs_at self.now.source self.now.place) }
         ensures first { OnFirst (left self.now) (λ x. x.docs ≡ docs_at self.now.source self.now.place) }
     {
-        docs_at(alloc, self.source, self.place)
+        docs_at(alloc, self.scanner.source, self.place)
     }
 
     /// A lexer always stands between two items of its source. This does nothing: its contract is the law.
@@ -116,7 +140,7 @@ impl<'a> Lexer<'a> {
     pub fn stands_between_items(&self)
         ensures { (before : List Item) × (items self.now.source ≡ before ++ left self.now) }
     {
-        let _ = &self.source;
+        let _ = &self.scanner;
     }
 
     /// The span of the item that `next` gave last, for messages.
@@ -128,7 +152,7 @@ impl<'a> Lexer<'a> {
     {
         let offset = self.last.offset();
         let len = self.last.len();
-        if offset + len == self.source.len() {
+        if offset + len == self.scanner.source.len() {
             SourceSpan::new(offset.saturating_sub(1), 1)
         } else {
             self.last
@@ -141,7 +165,8 @@ impl<'a> Lexer<'a> {
     {
         match span.offset().checked_add(span.len()) {
             Some(end) => {
-                self.source.is_char_boundary(span.offset()) && self.source.is_char_boundary(end)
+                self.scanner.source.is_char_boundary(span.offset())
+                    && self.scanner.source.is_char_boundary(end)
             }
             None => false,
         }
@@ -152,7 +177,7 @@ impl<'a> Lexer<'a> {
         requires { Slices self.now.source span }
         ensures { result.now ≡ slice self.now.source span }
     {
-        let (_, rest) = self.source.split_at(span.offset());
+        let (_, rest) = self.scanner.source.split_at(span.offset());
         let (text, _) = rest.split_at(span.len());
         text
     }
@@ -171,14 +196,16 @@ impl Iterator for Lexer<'_> {
 
     #[tactic(auto, unfolding(crate::specs::Reading::left))]
     fn next(&mut self) -> Option<(LexerResult<Token>, SourceSpan)> {
-        match item_at(self.source, self.place) {
+        match self.first {
             Some((found, span)) => {
                 self.place = span.offset() + span.len();
                 self.last = span;
+                self.first = self.second;
+                self.second = self.scanner.scan_behind(self.first);
                 Some((found, span))
             }
             None => {
-                self.place = self.source.len();
+                self.place = self.scanner.source.len();
                 self.last = SourceSpan::new(self.place, 0);
                 None
             }

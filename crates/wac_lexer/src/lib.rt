@@ -19,7 +19,7 @@ mod words;
 
 pub use device::{Blocks, Bytes, Feed, In, Out, Sink, put_all};
 pub use error::Error;
-pub use follow::{identifiers_follow_dots, tokens_are_read_back};
+pub use follow::{blanks_follow_tokens, identifiers_follow_dots, tokens_are_read_back};
 pub use laws::{
     comments_are_pieces, docs_stand_in_the_gap, equality_reads_all, first_items_are_found,
     fronts_are_longest, gap_is_longest, items_stand_in_order, patterns_are_decided,

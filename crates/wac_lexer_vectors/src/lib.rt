@@ -1,4 +1,4 @@
-//! Tests of `wac_lexer`: vectors of the language, names and messages, docs, and devices of bytes.
+//! Tests of `wac_lexer`: vectors of the language, names and messages, docs, scans, and devices of bytes.
 #![tactic(auto)]
 
 #[cfg(test)]
@@ -7,5 +7,7 @@ mod devices;
 mod docs;
 #[cfg(test)]
 mod items;
+#[cfg(test)]
+mod scans;
 #[cfg(test)]
 mod texts;

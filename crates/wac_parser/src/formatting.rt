@@ -7,13 +7,13 @@ ghost use Rattle.wac_syntax.specs.Error.{told_by};
 ghost use Rattle.wac_ast.specs.Statements.{document_of};
 ghost use Rattle.wac_syntax.specs.declared.error.Error.TheVariants.{Memory};
 ghost use Rattle.wac_layout.specs.Joins.{AreBlanks};
-ghost use Rattle.wac_layout.specs.Reread.{printed, ReadsBack};
+ghost use Rattle.wac_layout.specs.Reread.{IsFixed, printed, ReadsBack, WasPrinted};
 ghost use Rattle.wac_printer.specs.Printed.{space_of};
 ghost use Rattle.wac_printer.specs.Sliced.{DocumentSliced};
 
 use std::alloc::{AllocError, Global};
 use wac_ast::{Document, Error, ParseResult};
-use wac_layout::printed_texts_read_back;
+use wac_layout::{printed_texts_read_back, printed_texts_stay};
 use wac_lexer::Bytes;
 use wac_printer::{DocumentPrinter, Page, trees_of_texts_can_be_printed};
 
@@ -29,12 +29,15 @@ pub fn format(alloc: Global, source: &str, space: Option<&str>) -> ParseResult<S
     ensures only { (tree : Tree) → IsTreeOf source.now tree → MatchResult result (λ text. string_bytes text ≡ printed (space_of space.entry) source.now tree) (λ e. e ≡ Memory alloc_error) }
     // Where blanks stand for a depth, the printed text reads back as the same document, and is fixed from the second time on.
     ensures again { AreBlanks (space_of space.entry) → IfOk result (λ text. (tree : Tree) × IsTreeOf source.now tree × ReadsBack (space_of space.entry) source.now tree (string_bytes text)) }
+    // Where the source was itself printed, what is answered has a tree that is printed as the answer.
+    ensures fixed { AreBlanks (space_of space.entry) → WasPrinted source.now → IfOk result (λ text. IsFixed (space_of space.entry) (string_bytes text)) }
     // An error tells of the first place where no document goes on.
     ensures error { IfErr result (λ e. (e ≡ Memory alloc_error) ⊎ ErrorOf (told_by e) source.now) }
 {
     let document = Document::parse(alloc, source)?;
     trees_of_texts_can_be_printed();
     printed_texts_read_back();
+    printed_texts_stay();
     let page = Page {
         document: &document,
     };

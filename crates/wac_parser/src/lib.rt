@@ -1,6 +1,6 @@
 //! The front end of the WebAssembly Composition language (WAC).
 //!
-//! [`Document::parse`] reads a text into its tree, or tells the first place where no document goes on. [`DocumentPrinter`] prints a tree
+//! [`Document::parse`] reads a text into its tree, or reports the first place where no document goes on. [`DocumentPrinter`] prints a tree
 //! into any sink of bytes, and [`format()`] does both:
 //!
 //! ```text

@@ -163,7 +163,7 @@ pub named_is : (source : List ℕ) (depth : ℕ) (x : InstantiationArgument) (a 
 unfolding argument_layout
 named_is source depth x a e = ap (λ y. argument_layout depth (bare_argument source (argument_of y))) e
 
--- ---- the front of a list, and its last item
+-- ---- the start of a list, and its last item
 
 most_in_front : {X : Type 0} (f : X → ℕ) (front : List X) (last : X) → most f front ≤ most f (front ++ last ∷ [])
 most_in_front f [] last = omega arith

@@ -104,7 +104,7 @@ stops old new e r ps qs is h =
     subst (λ x. Prints old x new (ps ++ qs)) (sym is)
     (record { is = (o.0, o.1, o.2, o.3, after-longer (has_failed e) ps qs new.bytes old o.4, o.5); keeps = h.keeps })
 
--- the rest of a call, behind a part that was written
+-- the rest of a call, after a part that was written
 pub goes : {A B : Type 0} (old mid new : Printer) (a : A) (r : Result B PrintError) (ps qs : List Piece) → Prints old (Ok a) mid ps → Prints mid r new qs → Prints old r new (ps ++ qs)
 goes {B = B} old mid new a r ps qs h k = go r k
   where
@@ -129,7 +129,7 @@ goes {B = B} old mid new a r ps qs h k = go r k
           keeps = (k.keeps.0 ∙ h.keeps.0, k.keeps.1 ∙ h.keeps.1, k.keeps.2 ∙ h.keeps.2, k.keeps.3 ∙ h.keeps.3);
         }
 
--- the same for a single piece in front
+-- the same for a single piece before
 pub stop : {A B : Type 0} (old new : Printer) (e : PrintError) (r : Result B PrintError) (p : Piece) (qs : List Piece) → r ≡ Err e → Prints {A = A} old (Err e) new (p ∷ []) → Prints old r new (p ∷ qs)
 stop old new e r p qs is h = stops old new e r (p ∷ []) qs is h
 

@@ -12,18 +12,18 @@ use Rattle.wac_printer.specs.Printed.{Printer, Prints}
 use Rattle.wac_printer.proofs.PartsOf.{joined-of, rows-of}
 use Rattle.wac_printer.proofs.Printing as one
 
--- what the exit of a `?` answers
+-- what the exit of a `?` returns
 pub is_err : {B : Type 0} (r : Result B PrintError) (e : PrintError) → IsErrAnd r (λ y. y ≡ e) → r ≡ Err e
 is_err r e h = let p = err_from_is_err_and r h in p.1 ∙ ap Err p.2
 
--- a piece in front fails, or parts in front do
+-- a piece before fails, or parts before do
 pub fail : {A B : Type 0} {old new : Printer} {e : PrintError} {r : Result B PrintError} {p : Piece} {qs : List Piece} → IsErrAnd r (λ y. y ≡ e) → Prints {A = A} old (Err e) new (p ∷ []) → Prints old r new (p ∷ qs)
 fail {e = e} {r = r} is h = one.stop _ _ _ _ _ _ (is_err r e is) h
 
 pub fails : {A B : Type 0} {old new : Printer} {e : PrintError} {r : Result B PrintError} {ps : List Piece} (qs : List Piece) → IsErrAnd r (λ y. y ≡ e) → Prints {A = A} old (Err e) new ps → Prints old r new (ps ++ qs)
 fails {e = e} {r = r} qs is h = one.stops _ _ _ _ _ _ (is_err r e is) h
 
--- a piece, or parts, and what stands behind
+-- a piece, or parts, and what stands after it
 pub piece : {A B : Type 0} {old mid new : Printer} {a : A} {r : Result B PrintError} {p : Piece} {qs : List Piece} → Prints old (Ok a) mid (p ∷ []) → Prints mid r new qs → Prints old r new (p ∷ qs)
 piece h k = one.go _ _ _ _ _ _ _ h k
 

@@ -1,9 +1,10 @@
 -- A tree whose spans slice the source, as parsing promises it, can be printed.
 use Rattle.std.proofs.Common.{ℕ, List, [], ◌∷◌, Option, Some, None, zero, suc, arith}
 use Rattle.std.specs.List.{All, AllByRecursion}
+use Rattle.wac_lexer.specs.Reading.{Slices}
 use Rattle.wac_grammar.specs.Tree.{Document}
-use Rattle.wac_grammar.specs.Leaves.{IfThere, changed, holds, unchanged}
-use Rattle.wac_grammar.specs.Slices.{sliced, DocumentSlices}
+use Rattle.wac_grammar.specs.Leaves.{IfThere, changed, holds_with_spans, unchanged}
+use Rattle.wac_grammar.specs.Slices.{sliced, DocsSlice, DocumentSlices}
 use Rattle.wac_grammar.proofs.Linked.{Link, link_document}
 use Rattle.wac_printer.specs.Sliced.{IdentSliced, StringSliced, PackageNameSliced, PackagePathSliced, printable, any_docs, DocumentSliced}
 
@@ -17,7 +18,7 @@ perhaps_printable v w u c f None h = tt
 perhaps_printable v w u c f (Some x) h = f x h
 
 -- WHAT SLICES CAN BE PRINTED
-slicing : (source : List ℕ) → Link {0, 1, 1, 0} (changed unchanged) (printable source) (holds (sliced source)) unchanged
+slicing : (source : List ℕ) → Link {0, 1, 1, 0} (changed unchanged) (printable source) (holds_with_spans (sliced source) (Slices source)) unchanged
 unfolding IdentSliced StringSliced PackageNameSliced PackagePathSliced
 slicing source =
     record {
@@ -29,7 +30,7 @@ slicing source =
       none = λ x h. tt;
       each = each_printable;
       perhaps = perhaps_printable;
-      spanned = λ r s h. r h;
+      spanned = λ r s h. r h.0;
       filled = λ e r h. r h.0;
       one = λ r h. r h;
       two = λ r s h. (r h.0, s h.1);
@@ -39,4 +40,4 @@ slicing source =
 
 pub document : (source : List ℕ) (x : Document) → DocumentSlices source x → DocumentSliced source x
 unfolding slicing
-document source x h = link_document (changed unchanged) (printable source) (holds (sliced source)) unchanged (slicing source) (λ ds. ds) (λ ds. ds) any_docs any_docs (λ ds h. h) x h
+document source x h = link_document (changed unchanged) (printable source) (holds_with_spans (sliced source) (Slices source)) unchanged (slicing source) (λ ds. ds) (λ ds. ds) any_docs (DocsSlice source) (λ ds h. tt) x h

@@ -22,7 +22,7 @@ pub record Printer : Type 0 where
   pub depth : ℕ
   -- nothing stands on the line yet
   pub fresh : Bool
-  -- a call has answered that the writer failed
+  -- a call has reported that the writer failed
   pub failed : Bool
 
 -- what stands once for each depth: four spaces unless another text is given
@@ -49,8 +49,8 @@ abbrev pub failures_of : PrintError → ℕ
 failures_of Writer = 1
 failures_of Failed = 0
 
--- A call that was to write these pieces wrote them, or answered an error: `Failed` exactly where the printer had
--- failed before, when it wrote nothing, and `Writer` exactly where a call of the sink failed, when a beginning
+-- A call that was to write these pieces wrote them, or returned an error: `Failed` exactly where the printer had
+-- failed before, when it wrote nothing, and `Writer` exactly where a call of the sink failed, when a prefix
 -- of the text was written, and not the whole.
 abbrev pub Outcome : {A : Type 0} → Printer → Result A PrintError → Printer → List Piece → Type 0
 Outcome old (Ok _) new ps =
@@ -59,7 +59,7 @@ Outcome old (Err e) new ps =
     (old.failed ≡ has_failed e) × (new.failed ≡ true) × (new.failures ≡ old.failures + failures_of e) × (length old.bytes ≤ length new.bytes)
     × (is_front (has_failed e) new.bytes (after ps old).bytes ≡ true) × (has_failed e ≡ true → new.bytes ≡ old.bytes)
 
--- What a call leaves as it was, whatever it answered.
+-- What a call leaves as it was, whatever it returned.
 abbrev pub Keeps : Printer → Printer → Type 0
 Keeps old new = (new.source ≡ old.source) × (new.space ≡ old.space) × (new.depth ≡ old.depth) × (new.borrow ≡ old.borrow)
 

@@ -23,7 +23,7 @@ pub(crate) trait Node {
 
 #[tactic(auto, using(crate::proofs::Steps::steps))]
 impl<'a, S: Sink> DocumentPrinter<'a, S> {
-    /// Prints nodes, one behind the other.
+    /// Prints nodes, one after the other.
     pub(crate) fn each<T: Node>(&mut self, items: &[T]) -> PrintResult
         requires { All (T.sliced self.old.source) items.now }
         ensures { Prints self.old result self.new (flat_map (T.layout self.old.source self.old.depth) items.now) }

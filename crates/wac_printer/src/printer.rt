@@ -117,7 +117,7 @@ impl<'a, S: Sink> DocumentPrinter<'a, S> {
         Ok(())
     }
 
-    /// Tells whether the printer can go on.
+    /// Whether the printer can go on.
     pub(crate) fn ready(&self) -> PrintResult
         ensures { Prints self.now result self.now [] }
     {
@@ -190,7 +190,7 @@ impl<'a, S: Sink> DocumentPrinter<'a, S> {
         self.spelled(path.span)
     }
 
-    /// Goes one deeper, and answers the depth before.
+    /// Goes one deeper, and returns the depth before.
     pub(crate) fn indent(&mut self) -> usize
         ensures { (result ≡ self.old.depth) × (self.new ≡ record self.old { depth = deeper self.old.depth }) }
     {

@@ -12,7 +12,7 @@ use Rattle.wac_graph.specs.Origin.{Naming}
 use Rattle.wac_graph.specs.Resources.{resource_entry}
 use Rattle.wac_graph.specs.Packages.{Contents}
 use Rattle.wac_grammar.specs.Tree.{Ident, PackagePath, UsePath, ResourceMethod, ItemTypeDecl, UseItem, Use}
-use Rattle.wac_resolution_rules.specs.Error.{Error, NamesRule}
+use Rattle.wac_resolution_errors.specs.Error.{Error, NamesRule}
 use Rattle.wac_resolution_rules.specs.Types.{first_params}
 use Rattle.wac_resolution_rules.specs.Declarations.{in_body}
 use Rattle.wac_resolution_rules.specs.Paths.{Setting, is_own, key_of_path, segments_of, beginning_of, IsMember, LeadsFrom, LeadsTo, UseNames}

@@ -12,7 +12,7 @@ use Rattle.wac_resolution_rules.specs.Given.{Given, instantiable, key_named, imp
 use Rattle.wac_resolution_rules.specs.Composition.{Composition, Node, kind_at}
 use Rattle.wac_resolution_rules.specs.Nodes.{node_at, instance_at}
 use Rattle.wac_resolution_rules.specs.Expressions.{At, accessed, Accesses, Giving, nothing_given, name_meant, name_inferred, spread_from, Spreads, spreads_of, has_fill, IsEmpty, Fits, Instantiates, Stands, PrimaryStands, Gives, GivesOne}
-use Rattle.wac_resolution_rules.specs.Error.{Error, Operation, NamesRule}
+use Rattle.wac_resolution_errors.specs.Error.{Error, Operation, NamesRule}
 use Rattle.wac_resolution_rules.specs.BrokenExpressions.{IsNotInstance, IsNotExported, IsUnknownPackage, IsFillNotLast, IsGivenAlready, IsNoMatch, IsNoImport, IsMismatched, IsLeftOut, AccessBroken, SpreadBroken, InstantiationBroken, ExprBroken, PrimaryBroken, ArgumentsBroken, ArgumentBroken}
 use Rattle.wac_resolution_rules.proofs.StepLaws.{steps_once, fails_stop}
 use Rattle.wac_resolution_rules.proofs.Reached.{reached_holds}

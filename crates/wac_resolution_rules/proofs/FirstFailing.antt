@@ -6,7 +6,7 @@ use Rattle.wac_resolution_rules.specs.Given.{Given}
 use Rattle.wac_resolution_rules.specs.Composition.{Composition, start}
 use Rattle.wac_resolution_rules.specs.Statements.{Goes, Composes}
 use Rattle.wac_resolution_rules.specs.Target.{MeetsPath, MeetsTarget}
-use Rattle.wac_resolution_rules.specs.Error.{Error, NamesRule}
+use Rattle.wac_resolution_errors.specs.Error.{Error, NamesRule}
 use Rattle.wac_resolution_rules.specs.BrokenStatements.{StatementBroken, TargetBroken}
 use Rattle.wac_resolution_rules.specs.ResolvedDocument.{Describes, StatementFails, TargetFails, FirstFailing}
 use Rattle.wac_resolution_rules.specs.Places.{Leads, Placed, placed_start}

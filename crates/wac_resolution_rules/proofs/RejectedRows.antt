@@ -1,5 +1,5 @@
 -- Documents that break a rule of statements, expressions or targets: at the last statement, or at the target.
-use Rattle.std.proofs.Common.{◌≡◌, ℕ, List, [], ◌∷◌, refl, Option, Some, None, false, codes, inl, inr}
+use Rattle.std.proofs.Common.{◌≡◌, ◌-◌, ℕ, List, [], ◌∷◌, refl, Option, Some, None, false, codes, inl, inr}
 use Rattle.wac_lexer.specs.Span.{span}
 use Rattle.wac_types.specs.declared.kind.ExternKind.TheVariants as externs
 use Rattle.wac_types.specs.declared.kind.PrimitiveType.TheVariants as primitives
@@ -16,7 +16,7 @@ use Rattle.wac_resolution_rules.specs.Given.{Given}
 use Rattle.wac_resolution_rules.specs.Composition.{Composition, Node, imported, definition, aliased, start}
 use Rattle.wac_resolution_rules.specs.Expressions.{At, at, Giving}
 use Rattle.wac_resolution_rules.specs.Places.{Places}
-use Rattle.wac_resolution_rules.specs.Error.{Operation, undefined_name, duplicate_name, invalid_alias_type, unknown_package, package_missing_export, package_path_missing_export, missing_component_import, duplicate_instantiation_arg, not_an_instance, missing_instance_export, export_requires_as, export_conflict, duplicate_extern_name, invalid_extern_name, spread_instantiation_no_match, spread_export_no_effect, not_world, import_not_in_target, target_mismatch}
+use Rattle.wac_resolution_errors.specs.Error.{Operation, undefined_name, duplicate_name, invalid_alias_type, unknown_package, package_missing_export, package_path_missing_export, missing_component_import, duplicate_instantiation_arg, not_an_instance, missing_instance_export, export_requires_as, export_conflict, duplicate_extern_name, invalid_extern_name, spread_instantiation_no_match, spread_export_no_effect, not_world, import_not_in_target, target_mismatch}
 use Rattle.wac_resolution_rules.specs.BrokenStatements.{StatementBroken, TargetBroken}
 use Rattle.wac_resolution_rules.proofs.StatementRows.{ident, no_params, function, given_in, instance_z, package_cd, key_cd, name_cd, none_pass, node_i, with_cd}
 
@@ -165,10 +165,9 @@ given_log = record { composition = with_log; arguments = (codes "log", 0) ∷ []
 
 -- package a:b; import log: func(); let i = new c:d { log, log: log, ... };
 given_twice : (naming : Naming) (p : Places) → StatementBroken (with_cd naming) with_log p (duplicate_instantiation_arg (codes "log") (span 56 3))
-    (let_at (codes "i") 37
-    (new_at 41 31 name_cd (Arguments.more (InstantiationArgument.inferred (ident (codes "log") 51 3)) (Arguments.more (InstantiationArgument.named (InstantiationArgumentName.ident (ident (codes "log") 56 3)) (Expr.expr (span 61 3) (PrimaryExpr.ident (ident (codes "log") 61 3)) [])) (and_fill 66)))))
+    (let_at (codes "i") 37 (new_at 41 31 name_cd (Arguments.more (InstantiationArgument.inferred (ident (codes "log") 51 3)) (Arguments.more (InstantiationArgument.named (InstantiationArgumentName.ident (ident (codes "log") 56 3)) (Expr.expr (span 61 3) (PrimaryExpr.ident (ident (codes "log") 61 3)) [])) (and_fill 66)))))
 given_twice naming p =
-    inl (inl (inr (inl (package_cd, refl, inr (inr (given_log, (0, import_of (codes "log") function, refl, refl, refl, refl), inr (inl (inr (at with_log 0, (at with_log 0, (0, refl, refl), refl), inr (0, refl, refl)))))))))))
+    inl (inl (inr (inl (package_cd, refl, inr (inr (given_log, (0, import_of (codes "log") function, refl, refl, refl, refl), inr (inl (inr (at with_log 0, (at with_log 0, (0, refl, refl), refl), inr (0, refl, refl))))))))))
 
 abbrev nothing_yet : Composition → Giving
 nothing_yet c = record { composition = c; arguments = [] }

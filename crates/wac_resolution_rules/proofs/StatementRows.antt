@@ -18,7 +18,7 @@ use Rattle.wac_resolution_rules.specs.Find.{find_name}
 use Rattle.wac_resolution_rules.specs.Expressions.{Giving, name_inferred}
 use Rattle.wac_resolution_rules.specs.Statements.{Goes, Composes, unnamed_export}
 use Rattle.wac_resolution_rules.specs.Target.{IsAllowed}
-use Rattle.wac_resolution_rules.specs.Error.{duplicate_extern_name, fill_argument_not_last, import_not_in_target, mismatched_instantiation_arg, missing_instantiation_arg, missing_target_export, unknown_package}
+use Rattle.wac_resolution_errors.specs.Error.{duplicate_extern_name, fill_argument_not_last, import_not_in_target, mismatched_instantiation_arg, missing_instantiation_arg, missing_target_export, unknown_package}
 use Rattle.wac_resolution_rules.specs.BrokenStatements.{StatementBroken, TargetWorldBroken, TargetBroken}
 use Rattle.wac_resolution_rules.specs.Places.{Places}
 

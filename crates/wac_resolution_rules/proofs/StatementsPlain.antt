@@ -10,7 +10,7 @@ use Rattle.wac_graph.specs.Packages.{Contents}
 use Rattle.wac_grammar.specs.Tree.{Ident, PackagePath, ExternName, PostfixExpr, Expr, PrimaryExpr, Arguments, InstantiationArgument, InstantiationArgumentName, ImportType, ImportStatement, LetStatement, ExportOptions, ExportStatement, Statement, Document}
 use Rattle.wac_grammar.specs.Walk.{walk_arguments, walk_export_options, walk_export_statement, walk_expr, walk_extern_name, walk_import_statement, walk_import_type, walk_instantiation_argument, walk_instantiation_argument_name, walk_let_statement, walk_postfix_expr, walk_primary_expr, walk_statement}
 use Rattle.wac_grammar.specs.Leaves.{changed}
-use Rattle.wac_syntax.specs.Names.{extern_name_text}
+use Rattle.wac_grammar.specs.Spans.{extern_name_text}
 use Rattle.wac_layout.specs.Bare.{no_docs}
 use Rattle.wac_layout.specs.PlainTree.{plain, plain_document}
 use Rattle.wac_resolution_rules.specs.Given.{Given, instantiable, key_named, imports_in}

@@ -20,7 +20,7 @@ use Rattle.wac_resolution_rules.specs.Nodes.{node_at, instance_at, imports}
 use Rattle.wac_resolution_rules.specs.Expressions.{At}
 use Rattle.wac_resolution_rules.specs.Statements.{ImportsKind, name_imported, Imports, Lets, definition_bound, ExportsAs, unnamed_export, unexported, ExportsOne, ExportsBy, Exports, Goes}
 use Rattle.wac_resolution_rules.specs.Target.{allowed, open_imports, all_imports, ImportAllowed, ExportMet, IsAllowed, MeetsPath}
-use Rattle.wac_resolution_rules.specs.Error.{Error, Operation, NamesRule}
+use Rattle.wac_resolution_errors.specs.Error.{Error, Operation, NamesRule}
 use Rattle.wac_resolution_rules.specs.BrokenStatements.{IsImportedAlready, IsExportedAlready, IsInvalidName, IsExportConflict, IsUnnamed, IsNoEffect, IsNotWorld, placed_imports, IsNotInTarget, IsImportMismatch, IsMissingExport, IsExportMismatch, ImportKindBroken, ImportBroken, LetBroken, ExportAsBroken, ExportOneBroken, ExportOptionsBroken, ExportBroken, StatementBroken, TargetWorldBroken, TargetBroken}
 use Rattle.wac_resolution_rules.specs.Spans.{identifier_of}
 use Rattle.wac_resolution_rules.specs.Places.{Places, names_at}

@@ -9,7 +9,7 @@ use Rattle.wac_types.specs.Scope.{Named, Scope, StandsFor, IsFresh}
 use Rattle.wac_types.specs.Steps.{Steps}
 use Rattle.wac_types.specs.Shape.{IsA, IsNoneOf, contains_borrow}
 use Rattle.wac_grammar.specs.Tree.{Ident, Ty, OptionalTy, Types, NamedType, ResultList, FuncType, VariantCase, VariantDecl, Field, RecordDecl, Flag, FlagsDecl, EnumCase, EnumDecl, TypeAliasKind, TypeDecl}
-use Rattle.wac_resolution_rules.specs.Error.{Error, NamesRule}
+use Rattle.wac_resolution_errors.specs.Error.{Error, NamesRule}
 use Rattle.wac_resolution_rules.specs.Types.{HasType, HasOptional, HaveTypes, HasParam, HasResults, IsFuncWith}
 use Rattle.wac_resolution_rules.specs.Declarations.{HasOption, HasCase, HasField, HasFlag, HasEnumCase, IsVariant, IsRecord, IsFlags, IsEnum, Aliasing, at_root, alone, IsTypeAlias, IsAlias, IsTypeDecl}
 use Rattle.wac_resolution_rules.specs.BrokenTypes.{IsUndefined, IsNoResource, IsNoValue, TypeBroken, OptionalBroken, TypesBroken, ParamBroken, ParamsBroken, ResultsBroken, FuncBroken}

@@ -9,7 +9,7 @@ use Rattle.wac_types.specs.Scope.{Scope, StandsFor}
 use Rattle.wac_types.specs.Steps.{Steps}
 use Rattle.wac_types.specs.Shape.{IsA, is_world_form, entry_of, imports_of, exports_of}
 use Rattle.wac_grammar.specs.Tree.{Ident, FuncTypeRef, InterfaceItem, ExternType, WorldItemPath, WorldItem, WorldRef, WorldIncludeItem, WorldInclude, TypeStatement}
-use Rattle.wac_resolution_rules.specs.Error.{Error, NamesRule}
+use Rattle.wac_resolution_errors.specs.Error.{Error, NamesRule}
 use Rattle.wac_resolution_rules.specs.Paths.{Setting, WorldNames}
 use Rattle.wac_resolution_rules.specs.Bodies.{Body, empty_body}
 use Rattle.wac_resolution_rules.specs.Includes.{Entries, HasEntry, has_colon, Taking, name_taken, TakesNamed, Takes, Included, HasInclude}

@@ -6,7 +6,7 @@ use Rattle.wac_types.specs.Scope.{Named, Scope, StandsFor}
 use Rattle.wac_types.specs.Steps.{Fails}
 use Rattle.wac_types.specs.Shape.{described}
 use Rattle.wac_grammar.specs.Tree.{Ident, Ty, VariantCase, VariantDecl, Field, RecordDecl, FlagsDecl, EnumDecl, TypeAliasKind, TypeDecl}
-use Rattle.wac_resolution_rules.specs.Error.{Error, duplicate_variant_case, duplicate_record_field, duplicate_enum_case, duplicate_flag, invalid_alias_type, memory}
+use Rattle.wac_resolution_errors.specs.Error.{Error, duplicate_variant_case, duplicate_record_field, duplicate_enum_case, duplicate_flag, invalid_alias_type, memory}
 use Rattle.wac_resolution_rules.specs.Types.{HasType}
 use Rattle.wac_resolution_rules.specs.Declarations.{HasOption, HasCase, HasField, HasFlag, HasEnumCase, Aliasing, at_root, alone}
 use Rattle.wac_resolution_rules.specs.BrokenTypes.{IsUndefined, TypeBroken, FuncBroken}

@@ -10,12 +10,12 @@ use Rattle.wac_types.specs.Shape.{exports_of, described}
 use Rattle.wac_graph.specs.Packages.{Contents}
 use Rattle.wac_grammar.specs.Tree.{Ident, PackageName, PostfixExpr, Expr, PrimaryExpr, Arguments, InstantiationArgument}
 use Rattle.wac_grammar.specs.Grammar.{primary_span, postfix_span, last_span}
-use Rattle.wac_expressions.specs.Expressions.{argument_name_span}
+use Rattle.wac_grammar.specs.Spans.{argument_name_span}
 use Rattle.wac_resolution_rules.specs.Given.{Given, instantiable, imports_in}
 use Rattle.wac_resolution_rules.specs.Composition.{Composition, Node, kind_at}
 use Rattle.wac_resolution_rules.specs.Nodes.{node_at, instance_at}
 use Rattle.wac_resolution_rules.specs.Expressions.{At, accessed, Accesses, Giving, nothing_given, name_meant, name_inferred, spread_from, Spreads, spreads_of, has_fill, IsEmpty, Fits, left_out, Stands, PrimaryStands, Gives, GivesOne}
-use Rattle.wac_resolution_rules.specs.Error.{Error, Operation, duplicate_instantiation_arg, fill_argument_not_last, memory, mismatched_instantiation_arg, missing_component_import, missing_instance_export, missing_instantiation_arg, not_an_instance, spread_instantiation_no_match, unknown_package}
+use Rattle.wac_resolution_errors.specs.Error.{Error, Operation, duplicate_instantiation_arg, fill_argument_not_last, memory, mismatched_instantiation_arg, missing_component_import, missing_instance_export, missing_instantiation_arg, not_an_instance, spread_instantiation_no_match, unknown_package}
 use Rattle.wac_resolution_rules.specs.BrokenTypes.{IsUndefined}
 
 -- x is one of the xs, and P holds of each before it

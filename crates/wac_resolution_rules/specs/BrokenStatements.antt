@@ -11,7 +11,7 @@ use Rattle.wac_types.specs.Steps.{Fails}
 use Rattle.wac_types.specs.Shape.{exports_of, promoted, described}
 use Rattle.wac_types.specs.declared.kind.FuncKind.TheVariants as funcs
 use Rattle.wac_grammar.specs.Tree.{PackagePath, ImportType, ImportStatement, LetStatement, Expr, ExportOptions, ExportStatement, Statement}
-use Rattle.wac_syntax.specs.Names.{extern_name_text, extern_name_span}
+use Rattle.wac_grammar.specs.Spans.{extern_name_text, extern_name_span}
 use Rattle.wac_resolution_rules.specs.Kinds.{world_of}
 use Rattle.wac_resolution_rules.specs.Given.{Given}
 use Rattle.wac_resolution_rules.specs.Paths.{LeadsTo}
@@ -20,7 +20,7 @@ use Rattle.wac_resolution_rules.specs.Nodes.{node_at, instance_at, imports}
 use Rattle.wac_resolution_rules.specs.Expressions.{At, at, alias_at, Stands}
 use Rattle.wac_resolution_rules.specs.Statements.{ImportsKind, name_imported, definition_bound, unnamed_export, unexported, ExportsOne}
 use Rattle.wac_resolution_rules.specs.Target.{allowed, open_imports, all_imports, ImportAllowed, ExportMet}
-use Rattle.wac_resolution_rules.specs.Error.{Error, Operation, duplicate_extern_name, export_conflict, export_requires_as, import_not_in_target, invalid_extern_name, memory, missing_target_export, not_world, spread_export_no_effect, target_mismatch}
+use Rattle.wac_resolution_errors.specs.Error.{Error, Operation, duplicate_extern_name, export_conflict, export_requires_as, import_not_in_target, invalid_extern_name, memory, missing_target_export, not_world, spread_export_no_effect, target_mismatch}
 use Rattle.wac_resolution_rules.specs.BrokenTypes.{IsUndefined, FuncBroken}
 use Rattle.wac_resolution_rules.specs.BrokenBodies.{PathBroken, as_clause}
 use Rattle.wac_resolution_rules.specs.BrokenWorlds.{InterfaceBroken, IsBound, DeclarationBroken}

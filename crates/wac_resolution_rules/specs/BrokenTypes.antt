@@ -6,8 +6,8 @@ use Rattle.wac_types.specs.Scope.{Named, Scope, StandsFor, IsFresh}
 use Rattle.wac_types.specs.Steps.{Steps, Fails}
 use Rattle.wac_types.specs.Shape.{IsNoneOf, is_resource_form, is_resource_or_value_form, described, contains_borrow}
 use Rattle.wac_grammar.specs.Tree.{Ident, Ty, OptionalTy, Types, NamedType, ResultList, FuncType}
-use Rattle.wac_declarations.specs.Types.{ty_span}
-use Rattle.wac_resolution_rules.specs.Error.{Error, undefined_name, not_resource_type, not_value_type, duplicate_parameter, borrow_in_result, memory}
+use Rattle.wac_grammar.specs.Spans.{ty_span}
+use Rattle.wac_resolution_errors.specs.Error.{Error, undefined_name, not_resource_type, not_value_type, duplicate_parameter, borrow_in_result, memory}
 use Rattle.wac_resolution_rules.specs.Types.{HasType, HasOptional, HasParam}
 
 -- the identifier stands for nothing

@@ -10,8 +10,8 @@ use Rattle.wac_types.specs.Scope.{Scope, look_up, StandsFor, IsFresh}
 use Rattle.wac_types.specs.Steps.{Steps, Fails}
 use Rattle.wac_types.specs.Shape.{IsA, IsNoneOf, is_func_form, is_interface_form, is_func_or_interface_form, is_world_form, described, entry_of, imports_of, exports_of}
 use Rattle.wac_grammar.specs.Tree.{Ident, FuncTypeRef, InterfaceItem, ExternType, WorldItemPath, WorldItem, WorldRef, WorldIncludeItem, WorldInclude, TypeStatement}
-use Rattle.wac_worlds.specs.Worlds.{world_ref_name, world_ref_span}
-use Rattle.wac_resolution_rules.specs.Error.{Error, not_func_or_interface, duplicate_world_include_name, not_world, missing_world_include, world_include_conflict, not_func_type, declaration_conflict, duplicate_name, memory}
+use Rattle.wac_grammar.specs.Spans.{world_ref_name, world_ref_span}
+use Rattle.wac_resolution_errors.specs.Error.{Error, not_func_or_interface, duplicate_world_include_name, not_world, missing_world_include, world_include_conflict, not_func_type, declaration_conflict, duplicate_name, memory}
 use Rattle.wac_resolution_rules.specs.Paths.{Setting, LeadsTo, WorldNames}
 use Rattle.wac_resolution_rules.specs.Bodies.{Body, empty_body, externs}
 use Rattle.wac_resolution_rules.specs.Includes.{Entries, HasEntry, has_colon, Taking, name_taken, Takes, HasInclude}

@@ -6,7 +6,6 @@ pub mod Bodies
 pub mod Includes
 pub mod Worlds
 pub mod TypeStatements
-pub mod Error
 pub mod BrokenTypes
 pub mod BrokenDeclarations
 pub mod Spans

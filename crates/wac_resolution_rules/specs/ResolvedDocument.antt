@@ -11,7 +11,7 @@ use Rattle.wac_resolution_rules.specs.Given.{Given, Rules}
 use Rattle.wac_resolution_rules.specs.Composition.{Composition, start}
 use Rattle.wac_resolution_rules.specs.Statements.{Goes, Composes}
 use Rattle.wac_resolution_rules.specs.Target.{MeetsPath, MeetsTarget}
-use Rattle.wac_resolution_rules.specs.Error.{Error, memory}
+use Rattle.wac_resolution_errors.specs.Error.{Error, memory}
 use Rattle.wac_resolution_rules.specs.BrokenStatements.{StatementBroken, TargetBroken}
 use Rattle.wac_resolution_rules.specs.Places.{Leads, Placed, placed_start}
 

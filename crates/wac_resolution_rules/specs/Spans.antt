@@ -2,7 +2,7 @@
 use Rattle.std.specs.Prelude.{ℕ, List, Some, None}
 use Rattle.wac_lexer.specs.Span.{Span}
 use Rattle.wac_grammar.specs.Tree.{Ident, UsePath, ItemTypeDecl, TypeStatement, ImportType, ImportStatement, Expr, ExportOptions, ExportStatement}
-use Rattle.wac_syntax.specs.Names.{extern_name_span}
+use Rattle.wac_grammar.specs.Spans.{extern_name_span}
 use Rattle.wac_resolution_rules.specs.TypeStatements.{declared_as}
 
 -- ---- types and declarations

@@ -7,7 +7,7 @@ use Rattle.wac_types.specs.Scope.{Named, look_up, StandsFor, IsFresh}
 use Rattle.wac_types.specs.Steps.{Steps}
 use Rattle.wac_types.specs.Shape.{kind_of, exports_of, id_of, promoted}
 use Rattle.wac_grammar.specs.Tree.{Ident, ImportType, ImportStatement, LetStatement, ExportOptions, ExportStatement, Statement}
-use Rattle.wac_syntax.specs.Names.{extern_name_text}
+use Rattle.wac_grammar.specs.Spans.{extern_name_text}
 use Rattle.wac_resolution_rules.specs.Types.{IsFunc}
 use Rattle.wac_resolution_rules.specs.Paths.{LeadsTo}
 use Rattle.wac_resolution_rules.specs.Worlds.{IsInterface}

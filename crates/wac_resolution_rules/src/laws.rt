@@ -18,7 +18,7 @@ ghost use Rattle.wac_resolution_rules.specs.Bodies.{Body, IsCovered, empty_body}
 ghost use Rattle.wac_resolution_rules.specs.BrokenStatements.{StatementBroken, TargetBroken};
 ghost use Rattle.wac_resolution_rules.specs.Composition.{Composition, start};
 ghost use Rattle.wac_resolution_rules.specs.Declarations.{IsTypeDecl};
-ghost use Rattle.wac_resolution_rules.specs.Error.{Error, NamesRule};
+ghost use Rattle.wac_resolution_errors.specs.Error.{Error, NamesRule};
 ghost use Rattle.wac_resolution_rules.specs.Expressions.{At, Stands};
 ghost use Rattle.wac_resolution_rules.specs.Given.{Given};
 ghost use Rattle.wac_resolution_rules.specs.Includes.{Entries, HasInclude, Included, has_colon};

@@ -1,4 +1,4 @@
--- Where a production stops: behind the parts that were read, one step a part.
+-- Where a production stops: after the parts that were read, one step a part.
 use Rattle.std.proofs.Common.{◌≡◌, Bool, true, false, cond, ◌⊎◌, inl, inr, Some, List, [], ◌∷◌, ◌++◌, map, Result, Ok, Err, sym as back, refl, subst, ap, ◌∙◌}
 use Rattle.std.specs.Prelude.{IsErrAnd}
 use Rattle.wac_lexer.specs.declared.token.Token.{Token}
@@ -19,7 +19,7 @@ use Rattle.wac_syntax.proofs.Lookaheads.{Looks, tests, looks_on, looks_fail, one
 use Rattle.wac_syntax.proofs.Lists.{never_fails}
 use Rattle.wac_syntax.proofs.Optional.{optional_there, optional_token, token_there, token_missing}
 
--- Reading by this grammar at this place, after these tokens were tried, stops where the error tells.
+-- Reading by this grammar at this place, after these tokens were tried, stops where the error says.
 pub record Stops (e : Error) (g : Grammar) (ts : List Tried) (l : Reading) : Type 0 where
   pub fails : Fails e (end_of_input l) (read_in read g ts (left l))
 
@@ -103,7 +103,7 @@ misses looks peeks is f = other (tests _ _ _ _ _ _ _ looks peeks is) (f (looks_o
 pub last_meets : {e : Error} {l : Reading} {s : Sym} {t : Tried} {ts : List Tried} {ks : List Token} {look new : Looked} {found : Bool} → Looks l ks look → Peeks (begins s) found look new → found ≡ true → Fails e (end_of_input l) (read s (left l)) → Stops e (sym s) (t ∷ ts) l
 last_meets looks peeks is f = record { fails = rw (tests _ _ _ _ _ _ _ looks peeks is) f }
 
--- a lookahead does not find the last part either, and its error is the answer
+-- a lookahead does not find the last part either, and its error is the result
 pub last_misses : {e : Error} {l : Reading} {s : Sym} {t : Tried} {ts : List Tried} {ks : List Token} {look new : Looked} {found : Bool} {a b : Token} {js : List Token} → Looks l ks look → Peeks (begins s) found look new → found ≡ false → told_by e ≡ told_of new
     → ks ++ begins s ≡ a ∷ b ∷ js → (t ∷ ts) ++ map can (begins s) ≡ map can (a ∷ b ∷ js) → told_of (tried (a ∷ b ∷ js) (looked l)) ≡ tells l.source l.last (left l) (a ∷ b ∷ js) → Stops e (sym s) (t ∷ ts) l
 last_misses {e = e} {l = l} {new = new} {a = a} {b = b} {js = js} looks peeks is told names tokens tell =
@@ -125,7 +125,7 @@ last_misses_token {e = e} {l = l} {k = k} {t = t} {ts = ts} {new = new} {a = a} 
     let on = subst (λ (n : List Token). Looks l n new) names (looks_on _ _ _ _ _ _ looks peeks is) in
     here (looks_fail l a b js new e _ on told tell (token_missing (t ∷ ts) k (left l) (tests _ _ _ _ _ _ _ looks peeks is) ∙ ap (λ (n : List Tried). refuse (left l) n) tokens))
 
--- a token that was found is refused for want of memory alone
+-- a token that was found fails only where memory runs out
 pub found_fails : {e : Error} {g : Grammar} {ts : List Tried} {l : Reading} (k : Token) → plain k ≡ true → at_one_of (k ∷ []) (left l) ≡ true → Fails e (end_of_input l) (read_token [] k (left l)) → Stops e g ts l
 found_fails k ok there f = record { fails = never_fails _ _ k _ _ ok (at_one k _ there) f }
 
@@ -149,7 +149,7 @@ word {k = k} {l = l} b m taken f = let p = optional_token k b l m taken in behin
 pub option : {e : Error} {k : Token} {h : Grammar} {l : Reading} {b : Bool} (m : Reading) → b ≡ true → TakesOptional k (Ok b) l m → Stops e h [] m → Stops e (optional (then (token k) h)) [] l
 option {k = k} {l = l} {b = b} m there taken f = let word = optional_there k b l m taken there in chosen (one_test k (left l) true word.0) (took (word.1, tt {0}, word.2) f)
 
--- ---- answers
+-- ---- results
 
 -- a test that the code made
 pub tested : {found is want : Bool} → found ≡ is → found ≡ want → is ≡ want

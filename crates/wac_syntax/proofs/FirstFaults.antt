@@ -1,4 +1,4 @@
--- What is told of a refusal, from where reading its part stopped.
+-- What is reported of a rejection, from where reading its part stopped.
 use Rattle.std.proofs.Common.{◌≡◌, ◌<◌, ℕ, zero, suc, List, [], ◌∷◌, ◌++◌, length, map, take, Option, Some, None, Result, Ok, Err, Bool, true, false, cond, refl, sym as back, ap, subst, ◌∙◌, ◌⊎◌, inl, inr, arith}
 use Rattle.std.specs.Prelude.{alloc_error}
 use Rattle.std.proofs.lemmas.List.{append-nil}
@@ -64,9 +64,9 @@ all_named : (ts : List Tried) → AllNamed ts ts
 all_named [] = tt
 all_named (x ∷ ts) = (named_here x ts, wider ts ts x (all_named ts))
 
--- ---- what is told holds
+-- ---- what is reported holds
 
--- what is told of the tokens that were tried
+-- what is reported of the tokens that were tried
 abbrev tried_told : List Tried → Option Token → Span → Told
 tried_told ts found at = expected (take 10 (names ts)) (length ts) found at
 
@@ -116,7 +116,7 @@ module _ (s : Sym) (end : End) where
       let long : length ks ≡ length (a ∷ b ∷ c ∷ ts) = names_length (a ∷ b ∷ c ∷ ts) in
       inr (ks, f, omega arith, back long, refl, all_expected lead left (a ∷ b ∷ c ∷ ts) (a ∷ b ∷ c ∷ ts) h (all_named (a ∷ b ∷ c ∷ ts)))
 
-  -- what is known of a refusal behind `lead`
+  -- what is known of a rejection after `lead`
   record Known (lead left : List Item) (ts : List Tried) (w : Why) : Type 0 where
     expects : (m : Standing) (k : Token) → named m k ts ≡ true → Expects s lead left k
     can_stand : (k : Token) → named at_once k ts ≡ true → CanStand s lead k
@@ -125,7 +125,7 @@ module _ (s : Sym) (end : End) where
     why : Reason w left ts
     no_string : EndsArgued s lead → is_told w ≡ true
 
-  -- where no text and no empty body is told of
+  -- where no text and no empty body is reported
   other_tells : (lead left : List Item) (ts : List Tried) (told : Told) → Known lead left ts other → Holds s end lead left told → ((x : Item) (others : List Item) (fault : Fault) → left ≡ x ∷ others → x.token ≡ Err fault → told ≡ faulty fault x.span) → Tells s end lead left told
   other_tells lead left ts told k h f = record {
     holds = h;
@@ -215,7 +215,7 @@ module _ (s : Sym) (end : End) where
       no_string = (told_exactly s xs lead stop h f.splits).1;
     }
 
-    -- told of the next item
+    -- reported at the next item
     tells_next : Stopped s xs stop → before stop.why ≡ [] → (told end stop ≡ no_memory) ⊎ TellsFirstFault s end xs (told end stop)
     unfolding told
     tells_next d none =
@@ -228,7 +228,7 @@ module _ (s : Sym) (end : End) where
         put f (inl e) = inl e
         put f (inr r) = inr (inl (d.0, stop.left, f, r))
 
-    -- or told of the string before it
+    -- or reported at the string before it
     tells_string : Stopped s xs stop → (x : Item) → stop.why ≡ told_of_item x → TellsFirstFault s end xs (told end stop)
     unfolding told
     tells_string d x w =
@@ -258,9 +258,9 @@ module _ (s : Sym) (end : End) where
         go version e = tells_next d (ap before e)
         go (told_of_item x) e = inr (tells_string d x e)
 
--- ---- refusals
+-- ---- rejections
 
--- what is told of a refusal lies at the first fault
+-- what is reported of a rejection lies at the first fault
 pub tells_first : (s : Sym) → needs_more s ≡ false → (end : End) (xs : List Item) (stop : Stop) → read s xs ≡ Err stop → (told end stop ≡ no_memory) ⊎ TellsFirstFault s end xs (told end stop)
 tells_first s n end xs stop h = tells_stopped s end xs stop h (stopped s n xs stop h)
 
@@ -280,7 +280,7 @@ tells_refusal : (s : Sym) (end : End) (xs : List Item) (stop : Stop) → read s 
 tells_refusal argument end xs stop h = tells_argument end xs stop h
 tells_refusal _ end xs stop h = tells_first _ refl end xs stop h
 
--- ---- answers
+-- ---- results
 
 pub no_memory_is : (e : Error) → told_by e ≡ no_memory → e ≡ errors.Memory alloc_error
 no_memory_is (errors.Memory _) h = refl
@@ -291,7 +291,7 @@ no_memory_is (errors.ExpectedMultiple a b c d) h = absurd cc
 no_memory_is (errors.EmptyType a b c) h = absurd cc
 no_memory_is (errors.InvalidVersion a b) h = absurd cc
 
--- what an error tells of a reading, where it tells of the place at which this stopped
+-- what an error reports of a reading, where it reports the place at which this stopped
 pub told_of_reading : {A : Type 0} (e : Error) (end : End) (m : Result A Stop) (P : Told → Type 0) → ((stop : Stop) → m ≡ Err stop → (told end stop ≡ no_memory) ⊎ P (told end stop)) → told_in end m ≡ Some (told_by e) → (e ≡ errors.Memory alloc_error) ⊎ P (told_by e)
 told_of_reading e end (Ok x) P h q = absurd cc
 told_of_reading e end (Err stop) P h q = go (h stop refl)
@@ -307,7 +307,7 @@ told_of_reading e end (Err stop) P h q = go (h stop refl)
     go (inl m) = inl (no_memory_is e (back is ∙ m))
     go (inr p) = inr (subst P is p)
 
--- THE ANSWER is a tree that ends where it must, or tells of the first fault
+-- THE RESULT is a tree that ends where it must, or reports the first fault
 pub answers : {X : Type 0} (s : Sym) (view : X → TreeOf s) (result : Result X Error) (old new : Reading) → Gives view result old new (read s (left old)) → Answers s view result old new
 answers s view (Ok x) old new h =
     let d = sound s (left old) (view x) (left new) h.0 in

@@ -6,6 +6,7 @@ pub mod Loops
 pub mod Lists
 pub mod FirstFaults
 pub mod PathParts
+pub mod PathSpans
 pub mod Optional
 pub mod Exits
 pub mod Yields

@@ -1,5 +1,5 @@
 -- Loops over the items of a list.
-use Rattle.std.proofs.Common.{◌≡◌, ◌≤◌, ◌<◌, ◌+◌, arith, ℕ, List, [], ◌∷◌, ◌++◌, length, map, take, Option, None, Result, Ok, Err, Some, Bool, true, false, cond, refl, sym as back, ap, subst, ◌∙◌, ◌⊎◌, inl, inr, append_assoc}
+use Rattle.std.proofs.Common.{◌≡◌, ◌≤◌, ◌<◌, arith, ℕ, List, [], ◌∷◌, ◌++◌, length, map, Result, Ok, Err, Some, Bool, true, false, cond, refl, sym as back, ap, subst, ◌∙◌, inl, inr, append_assoc}
 use Rattle.std.proofs.lemmas.List.{append-nil}
 use Rattle.wac_lexer.specs.Item.{Item}
 use Rattle.wac_lexer.specs.Span.{Span}
@@ -10,10 +10,10 @@ use Rattle.wac_syntax.specs.declared.error.Error.{Error}
 use Rattle.wac_grammar.specs.Tokens.{is_token, at, valid}
 use Rattle.wac_grammar.specs.Grammar.{Sym, Listed, listed, listed_more, Body}
 use Rattle.wac_grammar.specs.Grammar as g
-use Rattle.wac_grammar.specs.Reading.{Stop, can, closes as closing, follows, version, empty_body, refuse, mapped, two, pair_with, read, read_in, read_token, read_sym, at_one_of, begins, empty}
-use Rattle.wac_syntax.specs.Answer.{body_name, part_name, first_span, End, end_of_input, told, told_in, Fails, has_more, plain}
+use Rattle.wac_grammar.specs.Reading.{Stop, can, closes as closing, follows, version, refuse, mapped, two, pair_with, read, read_in, read_token, read_sym, at_one_of, begins, empty}
+use Rattle.wac_syntax.specs.Answer.{End, end_of_input, told, told_in, Fails, has_more, plain}
 use Rattle.std.specs.Prelude.{IsErrAnd}
-use Rattle.wac_syntax.specs.Error.{told_by, empty_type}
+use Rattle.wac_syntax.specs.Error.{told_by}
 use Rattle.wac_syntax.specs.Lookahead.{looked, tried, told_of}
 use Rattle.wac_syntax.proofs.Lookaheads.{no_item_fails, over_fails}
 use Rattle.wac_syntax.specs.Lists.{GivesBy, TakesListBy, GoesOn, Reads, list_by, rest_by, IsCommaList, IsList, unclosed, closes, list_of, more_of, repeats, body_of}
@@ -61,13 +61,13 @@ list_begins list l = record { read = nothing_put (list (left l)); ends = refl; s
 pub moved_end : {A : Type 0} (e : Error) (a b : End) (m : Result A Stop) → a ≡ b → Fails e a m → Fails e b m
 moved_end e a b m eq h = subst (λ (x : End). Fails e x m) eq h
 
--- a failure behind what was read so far
+-- a failure after what was read so far
 pub list_fails : {A : Type 0} (e : Error) (list : List Item → Reads (Listed A)) (front : List A) (old mid : Reading) → ListSoFar list front old mid → Fails e (end_of_input mid) (list (left mid)) → Fails e (end_of_input old) (list (left old))
 list_fails {A = A} e list front old mid so_far f =
     moved_end e (end_of_input mid) (end_of_input old) (list (left old)) so_far.ends
     (subst (λ (m : Reads (Listed A)). Fails e (end_of_input mid) m) so_far.read (fails_bind e (end_of_input mid) (list (left mid)) (λ l. Ok ((front ++ l.0.0, l.0.1), l.1)) f))
 
--- the end of the list behind what was read so far
+-- the end of the list after what was read so far
 pub list_ends : {A : Type 0} (list : List Item → Reads (Listed A)) (front : List A) (old mid : Reading) (last : Item) (xs : List Item) → ListSoFar list front old mid → list (left mid) ≡ Ok (([], last), xs) → list (left old) ≡ Ok ((front, last), xs)
 list_ends {A = A} list front old mid last xs so_far h = back so_far.read ∙ ap (mapped {B = Listed A} (λ (l : Listed A). (front ++ l.0, l.1))) h ∙ ap (λ (l : List A). Ok ((l, last), xs)) (append-nil front)
 
@@ -122,7 +122,7 @@ module _ {A : Type 0} {k : Token} {ks : List Token} {ri : List Item → Reads A}
   rest_over list [] h = list.rest []
   rest_over list (y ∷ ys) h = absurd cc
 
-  -- one more item, behind which the list goes on
+  -- one more item, after which the list goes on
   pub list_goes_on : {front : List A} {old mid new : Reading} {a : A} (behind : Reading) → IsList k ks ri rl rm → ListSoFar rl front old mid → at k (left mid) ≡ false
       → (read_sym ri ks (can k ∷ []) (left mid) ≡ Ok (a, left behind)) × (end_of_input behind ≡ end_of_input mid) → behind.source ≡ mid.source → mid.place ≤ behind.place
       → (rm (left behind) ≡ rl (left new)) × (end_of_input new ≡ end_of_input behind) → new.source ≡ behind.source → behind.place ≤ new.place → ListSoFar rl (front ++ a ∷ []) old new
@@ -130,7 +130,7 @@ module _ {A : Type 0} {k : Token} {ks : List Token} {ri : List Item → Reads A}
       let m : mid.place ≤ new.place = omega arith in
       list_more rl front old mid new a so_far (item_put list h r.0 ∙ ap (mapped {A = Listed A} {B = Listed A} (put a)) on.0) (on.1 ∙ r.1) (source_on ∙ source) m
 
-  -- the closing token behind what was read so far
+  -- the closing token after what was read so far
   pub list_closed : {front : List A} {old new : Reading} → IsList k ks ri rl rm → plain k ≡ true → ListSoFar rl front old new → at k (left new) ≡ true → (unclosed (rl (left old)) ≡ Ok (front, left new)) × (end_of_input new ≡ end_of_input old)
   list_closed {front = front} {old = old} {new = new} list ok so_far h = (go (left new) refl h, so_far.ends)
     where
@@ -249,7 +249,7 @@ item_is_some g.use_item k h = refl
 item_is_some g.include_item k h = refl
 item_is_some _ k h = absurd cc
 
--- ---- the answers of the loop
+-- ---- the results of the loop
 
 pub unclosed_fails : {A : Type 0} (e : Error) (end : End) (m : Reads (Listed A)) → Fails e end m → Fails e end (unclosed m)
 unclosed_fails e end m (inl memory) = inl memory
@@ -259,7 +259,7 @@ unclosed_fails {A = A} e end m (inr tells) = inr (go m tells)
     go (Ok x) h = absurd cc
     go (Err s) h = h
 
--- an error behind what was read so far
+-- an error after what was read so far
 pub so_far_fails : {A : Type 0} {list : List Item → Reads (Listed A)} {front : List A} {old mid : Reading} (e : Error) → ListSoFar list front old mid → Fails e (end_of_input mid) (list (left mid)) → Fails e (end_of_input old) (unclosed (list (left old)))
 so_far_fails {list = list} {front = front} {old = old} {mid = mid} e so_far f = unclosed_fails e (end_of_input old) (list (left old)) (list_fails e list front old mid so_far f)
 
@@ -293,9 +293,14 @@ pub item_missing : {js : List Token} {found : Bool} (e : Error) (l : Reading) (s
 item_missing {js = js} e l s k same is missing tells_it =
     no_item_fails e l (read_in read (g.sym s) (can k ∷ []) (left l)) s k (cond_false (at_one_of (begins s) (left l)) _ _ (ap (λ (ks : List Token). at_one_of ks (left l)) (back same) ∙ back is ∙ missing)) (tells_it ∙ ap (λ (ks : List Token). told_of (tried (k ∷ ks) (looked l))) same)
 
--- the input ends behind an item
+-- the input ends after an item
 pub rest_missing : {js : List Token} (e : Error) (l : Reading) (s : Sym) (k : Token) → closes s ≡ Some k → js ≡ begins s → has_more (left l) ≡ false → told_by e ≡ told_of (tried (k ∷ js) (looked l)) → Fails e (end_of_input l) (more_of s (left l))
 rest_missing e l s k listed same over tells_it = over_fails e l (more_of s (left l)) s k (rest_over (comma_list s k listed) (left l) over) (tells_it ∙ ap (λ (ks : List Token). told_of (tried (k ∷ ks) (looked l))) same)
+
+pub none_left : (ks : List Token) (xs : List Item) → has_more xs ≡ false → at_one_of ks xs ≡ false
+none_left [] xs over = refl
+none_left (k ∷ ks) [] over = none_left ks [] over
+none_left (k ∷ ks) (x ∷ xs) over = absurd cc
 
 -- the list does not go on
 pub stops_there : {X A : Type 0} (e : Error) (list more : List Item → Reads (Listed A)) (r : Result X Error) (old new : Reading) → IsErrAnd r (λ x. x ≡ e) → Fails e (end_of_input old) (more (left old)) → GoesOn list more r old new
@@ -371,7 +376,7 @@ closed_fails {A = A} e end m (inr tells) = inr (go m tells)
     go (Ok x) h = absurd cc
     go (Err s) h = h
 
--- a token that is next is refused for want of memory alone
+-- a token that is next fails only where memory runs out
 pub never_fails : {B : Type 0} (e : Error) (end : End) (k : Token) (xs : List Item) (r : Result B Stop) → plain k ≡ true → at k xs ≡ true → Fails e end (read_token [] k xs) → Fails e end r
 never_fails e end k [] r p h f = absurd cc
 never_fails e end k (x ∷ xs) r p h f = go (subst (λ (m : Reads Item). Fails e end m) (taken k x xs p h) f)

@@ -12,7 +12,7 @@ use Rattle.wac_syntax.specs.declared.error.Error.{Error}
 use Rattle.wac_grammar.specs.Tokens.{at}
 use Rattle.wac_grammar.specs.Grammar as g
 use Rattle.wac_grammar.specs.Grammar.{Sym}
-use Rattle.wac_grammar.specs.Reading.{Stop, Tried, can, follows, other, begins, at_one_of, refuse}
+use Rattle.wac_grammar.specs.Reading.{Stop, Tried, can, follows, begins, at_one_of, refuse}
 use Rattle.wac_syntax.specs.Error.{Told, told_by, expected}
 use Rattle.wac_syntax.specs.Lookahead.{Looked, looked, is_next, is_one_of, tried, refusal, told_of, peeked, Peeks}
 use Rattle.wac_syntax.specs.Lists.{tells}
@@ -132,7 +132,7 @@ one_of_more (k ∷ ks) js next = rw (one_of_more ks js next) (go (is_next k next
     go true = refl
     go false = refl
 
--- a look for these tokens finds one, and those behind are not tried
+-- a look for these tokens finds one, and those after it are not tried
 pub peeks_met : {ks : List Token} (js : List Token) {found result : Bool} {old mid new : Looked} → Peeks ks found old mid → found ≡ true → new ≡ mid → result ≡ true → Peeks (ks ++ js) result old new
 peeks_met {ks = ks} js {old = old} peeks h same is =
     let met : is_one_of ks old.next ≡ true = sym peeks.found ∙ h in
@@ -167,7 +167,7 @@ length_names : (ts : List Tried) → length (map (λ (t : Tried). t.token) ts) �
 length_names [] = refl
 length_names (t ∷ ts) = ap (λ n. suc n) (length_names ts)
 
--- what is told where more than one token is named
+-- what is reported where more than one token is named
 pub named_fail : {A : Type 0} (e : Error) (l : Reading) (a b : Tried) (ts : List Tried) (r : Result A Stop) → r ≡ refuse (left l) (a ∷ b ∷ ts) → told_by e ≡ tells l.source l.last (left l) (map (λ (t : Tried). t.token) (a ∷ b ∷ ts)) → Fails e (end_of_input l) r
 unfolding told end_of_input
 named_fail {A = A} e l a b ts r is h =
@@ -176,7 +176,7 @@ named_fail {A = A} e l a b ts r is h =
     let counted : refusal (handed (left l)) (shown l.source (final_span l.last (left l))) (expected (take 10 names) (length names)) ≡ refusal (handed (left l)) (shown l.source (final_span l.last (left l))) (expected (take 10 names) (length (a ∷ b ∷ ts))) = ap (λ (n : ℕ). refusal (handed (left l)) (shown l.source (final_span l.last (left l))) (expected (take 10 names) n)) (length_names (a ∷ b ∷ ts)) in
     subst (λ (m : Result A Stop). Fails e (end_of_input l) m) (sym is) (inr (ap Some (sym (h ∙ same ∙ counted))))
 
--- ---- the tokens that a symbol begins with
+-- ---- a symbol's first tokens
 
 take_front : {A : Type 0} (n : ℕ) (xs ys : List A) → take n (take n xs ++ ys) ≡ take n (xs ++ ys)
 take_front zero xs ys = refl
@@ -203,7 +203,7 @@ begins_some : (s : Sym) → ltb 0 (length (begins s)) ≡ true
 begins_some g.document = refl
 begins_some _ = refl
 
--- neither this token nor one that the symbol begins with is next
+-- neither this token nor one of the symbol's first tokens is next
 none_fails : {A : Type 0} (e : Error) (l : Reading) (r : Result A Stop) (s : Sym) (k : Token) (ts : List Tried) → r ≡ refuse (left l) (can k ∷ ts) → map (λ (t : Tried). t.token) ts ≡ begins s → told_by e ≡ told_of (tried (k ∷ begins s) (looked l)) → Fails e (end_of_input l) r
 none_fails {A = A} e l r s k ts is names tells_it = go ts is names
   where
@@ -228,7 +228,7 @@ tokens_that_follow (k ∷ ks) = ap (λ (l : List Token). k ∷ l) (tokens_that_f
 pub no_item_fails : {A : Type 0} (e : Error) (l : Reading) (r : Result A Stop) (s : Sym) (k : Token) → r ≡ refuse (left l) (map can (k ∷ begins s)) → told_by e ≡ told_of (tried (k ∷ begins s) (looked l)) → Fails e (end_of_input l) r
 no_item_fails e l r s k is tells_it = none_fails e l r s k (map can (begins s)) is (tokens_of (begins s)) tells_it
 
--- nothing behind an item
+-- nothing after an item
 pub over_fails : {A : Type 0} (e : Error) (l : Reading) (r : Result A Stop) (s : Sym) (k : Token) → r ≡ refuse (left l) (can k ∷ map follows (begins s)) → told_by e ≡ told_of (tried (k ∷ begins s) (looked l)) → Fails e (end_of_input l) r
 over_fails e l r s k is tells_it = none_fails e l r s k (map follows (begins s)) is (tokens_that_follow (begins s)) tells_it
 

@@ -1,13 +1,13 @@
 -- Parts that may be left out.
-use Rattle.std.proofs.Common.{◌≡◌, Bool, true, false, cond, ◌++◌, List, [], ◌∷◌, ◌⊎◌, inl, inr, Some, Result, Ok, Err, refl, sym as back, ap, ◌∙◌}
+use Rattle.std.proofs.Common.{◌≡◌, Bool, true, false, cond, ◌++◌, List, [], ◌∷◌, inl, inr, Result, Ok, Err, refl, sym as back, ap, ◌∙◌}
 use Rattle.wac_lexer.specs.Reading.{Reading, left}
 use Rattle.wac_lexer.specs.declared.token.Token.{Token}
 use Rattle.wac_syntax.specs.declared.error.Error.{Error}
 use Rattle.wac_lexer.specs.Item.{Item}
 use Rattle.wac_grammar.specs.Tokens.{at, is_token, valid}
 use Rattle.wac_grammar.specs.Grammar as g
-use Rattle.wac_grammar.specs.Reading.{Stop, Tried, can, version, refuse, mapped, read, read_in, read_token, at_one_of, not_fault}
-use Rattle.wac_syntax.specs.Answer.{End, end_of_input, Fails, Gives, TakesOptional, first_item}
+use Rattle.wac_grammar.specs.Reading.{Stop, Tried, can, version, refuse, read, read_in, read_token, at_one_of, not_fault}
+use Rattle.wac_syntax.specs.Answer.{end_of_input, Gives, TakesOptional, first_item}
 use Rattle.wac_syntax.specs.Lists.{Reads}
 use Rattle.wac_syntax.proofs.Lookaheads.{one_test}
 use Rattle.wac_syntax.proofs.Lists.{same_fails, moved_end}
@@ -31,12 +31,12 @@ optional_token a false old new (h, f, e) = (inr tt, rw (one_test a (left old) fa
 pub same : {A : Type 0} (a b : A) → ◌≡◌ {A = Result A Stop} (Ok a) (Ok b) → a ≡ b
 same a b h = cc
 
--- an answer behind what was taken
+-- a result after what was taken
 pub gives_behind : {X Y : Type 0} (view : X → Y) (r : Result X Error) (old mid new : Reading) (m n : Reads Y) → n ≡ m → end_of_input mid ≡ end_of_input old → Gives view r mid new m → Gives view r old new n
 gives_behind view (Ok x) old mid new m n is ends gives = (is ∙ gives.0, gives.1 ∙ ends)
 gives_behind view (Err e) old mid new m n is ends gives = same_fails e (end_of_input old) n m is (moved_end e (end_of_input mid) (end_of_input old) m ends gives)
 
--- ---- a token behind others that were tried
+-- ---- a token after others that were tried
 
 -- a token that is there, whatever was tried before it
 pub token_there : (ts : List Tried) (k : Token) (xs : List Item) (r : Item × List Item) → read_token [] k xs ≡ Ok r → read_token ts k xs ≡ Ok r

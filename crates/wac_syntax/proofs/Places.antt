@@ -1,7 +1,6 @@
 -- The tokens that a lookahead keeps stand in front of its places.
-use Rattle.std.proofs.Common.{◌≡◌, ℕ, zero, suc, ◌+◌, ◌<◌, ◌≤◌, List, [], ◌∷◌, ◌++◌, take, length, min, Option, Some, None, slice_set, arith, refl, sym, ap, subst, ◌∙◌, length-append, ◌⊎◌, inl, inr, ◌^◌, ◌-◌}
+use Rattle.std.proofs.Common.{◌≡◌, ℕ, zero, suc, ◌+◌, ◌<◌, ◌≤◌, List, [], ◌∷◌, ◌++◌, take, length, min, Option, Some, slice_set, arith, refl, sym, ap, subst, ◌∙◌, length-append, ◌⊎◌, inl, inr, ◌^◌, ◌-◌}
 use Rattle.std.proofs.lemmas.List.{take-append-le, take_all}
-use Rattle.std.proofs.lemmas.Grind.{common_steps}
 use Rattle.wac_lexer.specs.declared.token.Token.{Token}
 use Rattle.wac_syntax.specs.Error.{places}
 use Rattle.wac_syntax.specs.Lookahead.{kept_in}

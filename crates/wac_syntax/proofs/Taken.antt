@@ -1,5 +1,5 @@
 -- A token that is next, and taken.
-use Rattle.std.proofs.Common.{◌≡◌, ℕ, Bool, true, false, eqb, eq-eqb, cond, take, map, length, List, [], ◌∷◌, ◌⊎◌, inl, inr, Option, Some, None, Result, Ok, Err, refl, sym, ap, subst, ◌∙◌, rules}
+use Rattle.std.proofs.Common.{◌≡◌, ℕ, true, false, eq-eqb, cond, take, map, length, List, [], ◌∷◌, ◌⊎◌, inl, inr, Option, Some, None, Result, Ok, Err, refl, sym, ap, subst, ◌∙◌, rules}
 use denote.Enum.Bare.{sameb, same_true}
 use Rattle.wac_lexer.specs.contracts.token.Token.{the_type}
 use Rattle.wac_lexer.specs.declared.error.Error.{Error as LexError}

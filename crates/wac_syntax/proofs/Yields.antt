@@ -33,19 +33,19 @@ last_took r = record { reads = r.0; ends = r.2 }
 pub last_piece : {g : Grammar} {X Y E : Type 0} {of : Parts g → Y} {made : Error → E → Type 0} {view : X → Y} {x : X} {l m : Reading} (p : GivesPart g of made view (Ok x) l m) → Yields g [] l p.part.0 m
 last_piece p = record { reads = p.part.1; ends = p.part.3 }
 
--- a part, and others behind it
+-- a part, and others after it
 pub both : {g h : Grammar} {ts : List Tried} {l m n : Reading} {p : Parts g} {q : Parts h} → Yields g ts l p m → Yields h [] m q n → Yields (then g h) ts l (p, q) n
 both a b = record { reads = rw (a.reads, b.reads) refl; ends = b.ends ∙ a.ends }
 
--- a symbol, and others behind it
+-- a symbol, and others after it
 pub past : {s : Sym} {h : Grammar} {l m n : Reading} {p : TreeOf s} {q : Parts h} → (read s (left l) ≡ Ok (p, left m)) × (end_of_input m ≡ end_of_input l) → Yields h [] m q n → Yields (then (sym s) h) [] l (p, q) n
 past {s = s} r b = both (last {g = sym s} r) b
 
--- a token, and others behind it
+-- a token, and others after it
 pub took : {k : Token} {h : Grammar} {l m n : Reading} {x : Item} {q : Parts h} {P : Type 0} → (read_token [] k (left l) ≡ Ok (x, left m)) × P × (end_of_input m ≡ end_of_input l) → Yields h [] m q n → Yields (then (token k) h) [] l (x, q) n
 took r b = both (last_took r) b
 
--- a piece, and others behind it
+-- a piece, and others after it
 pub beyond : {g h : Grammar} {X Y E : Type 0} {of : Parts g → Y} {made : Error → E → Type 0} {view : X → Y} {x : X} {l m n : Reading} {q : Parts h} (p : GivesPart g of made view (Ok x) l m) → Yields h [] m q n → Yields (then g h) [] l (p.part.0, q) n
 beyond p b = both (last_piece p) b
 
@@ -53,7 +53,7 @@ beyond p b = both (last_piece p) b
 pub last_listed : {s : Sym} {l m : Reading} {t : Item → TreeOf s} {P : Item → Type 0} (r : (i : Item) × (read s (left l) ≡ Ok (t i, left m)) × P i × (end_of_input m ≡ end_of_input l)) → Yields (sym s) [] l (t r.0) m
 last_listed r = record { reads = r.1; ends = r.3 }
 
--- a list, and others behind it
+-- a list, and others after it
 pub listed : {s : Sym} {h : Grammar} {l m n : Reading} {q : Parts h} {t : Item → TreeOf s} {P : Item → Type 0} (r : (i : Item) × (read s (left l) ≡ Ok (t i, left m)) × P i × (end_of_input m ≡ end_of_input l)) → Yields h [] m q n → Yields (then (sym s) h) [] l (t r.0, q) n
 listed {s = s} r b = both {g = sym s} (last_listed r) b
 
@@ -117,7 +117,7 @@ no_option {k = k} {l = l} {m = m} {b = b} missing taken =
     let word = optional_missing k b l m taken missing in
     record { reads = rw (one_test k (left l) false word.0, word.1, word.2) refl; ends = ap end_of_input word.2 }
 
--- ---- answers
+-- ---- results
 
 -- the tree of what was read
 pub gives : {l m : Reading} (s : Sym) {p : Parts (rule s)} {tree : TreeOf s} → Yields (rule s) [] l p m → build s p ≡ tree → (read s (left l) ≡ Ok (tree, left m)) × (end_of_input m ≡ end_of_input l)

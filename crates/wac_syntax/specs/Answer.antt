@@ -1,17 +1,17 @@
--- What a parser answers, against what reading gives.
+-- What a parser returns, against what reading gives.
 use Rattle.std.specs.Prelude.{◌≡◌, ℕ, List, [], ◌∷◌, ◌++◌, map, take, length, Option, Some, None, Result, Ok, Err, Bool, true, false, codes, ◌⊎◌, ◌-◌}
 use Rattle.wac_lexer.specs.Span.{Span, span, end_of}
 use Rattle.wac_lexer.specs.Item.{Item, handed}
-use Rattle.wac_lexer.specs.Reading.{Reading, left, shown, slice, Slices}
+use Rattle.wac_lexer.specs.Reading.{Reading, left, shown}
 use Rattle.wac_lexer.specs.declared.token.Token.{Token}
 use Rattle.wac_lexer.specs.declared.token.Token.TheVariants as tokens
 use Rattle.wac_lexer.specs.declared.error.Error.TheVariants as faults
 use Rattle.wac_syntax.specs.declared.error.Error.{Error}
 use Rattle.wac_grammar.specs.Version.{version_text}
 use Rattle.wac_grammar.specs.Grammar.{Body, variant_body, record_body, flags_body, enum_body}
-use Rattle.wac_grammar.specs.Reading.{Stop, Tried, Why, other, empty_body, version, told as told_of_item, before, read_token, not_fault}
+use Rattle.wac_grammar.specs.Reading.{Stop, Tried, Why, other, empty_body, version, before, read_token, not_fault}
 use Rattle.wac_grammar.specs.Tokens.{at}
-use Rattle.wac_syntax.specs.Error.{Told, told_by, faulty, expected, expected_one, empty_type, invalid_version, no_memory}
+use Rattle.wac_syntax.specs.Error.{Told, told_by, expected, empty_type, invalid_version, no_memory}
 use Rattle.wac_syntax.specs.Lookahead.{refusal}
 
 -- ---- the end of the input
@@ -30,16 +30,16 @@ final_span before (x ∷ xs) = final_span x.span xs
 unfoldable pub end_of_input : Reading → End
 end_of_input l = record { source = l.source; final = final_span l.last (left l) }
 
--- the place behind the last byte
+-- the place after the last byte
 abbrev pub empty_end : List ℕ → Span
 empty_end source = span (length source) 0
 
--- The span that is told at the end of the input: one token alone was expected in a sequence, several at an alternative or in a list.
+-- The span that is reported at the end of the input: one token alone was expected in a sequence, several at an alternative or in a list.
 abbrev pub end_span : End → List Tried → Span
 end_span end (t ∷ []) = shown end.source (empty_end end.source)
 end_span end ts = shown end.source end.final
 
--- ---- what is told of a stop
+-- ---- what is reported of a stop
 
 abbrev pub body_name : Body → List ℕ
 body_name variant_body = codes "variant"
@@ -78,7 +78,7 @@ told_at end (empty_body body) xs ts = empty_type (body_name body) (part_name bod
 told_at end version xs ts = version_told (first_text xs) (first_span xs)
 told_at end why xs ts = refusal (handed (before why ++ xs)) (end_span end ts) (expected (take 10 (map (λ t. t.token) ts)) (length ts))
 
--- what an error tells of the place where reading stopped
+-- what an error reports of the place where reading stopped
 unfoldable pub told : End → Stop → Told
 told end stop = told_at end stop.why stop.left stop.expected
 
@@ -86,13 +86,13 @@ abbrev pub told_in : {A : Type 0} → End → Result A Stop → Option Told
 told_in end (Ok x) = None
 told_in end (Err stop) = Some (told end stop)
 
--- ---- answers
+-- ---- results
 
--- The error tells of the stop, unless memory ran out.
+-- The error reports the stop, unless memory ran out.
 abbrev pub Fails : {A : Type 0} → Error → End → Result A Stop → Type 0
 Fails error end r = (told_by error ≡ no_memory) ⊎ (told_in end r ≡ Some (told_by error))
 
--- The answer, seen by view, and the items then left are what reading gives.
+-- The result, seen by view, and the items then left are what reading gives.
 abbrev pub Gives : {X Y : Type 0} → (X → Y) → Result X Error → Reading → Reading → Result (Y × List Item) Stop → Type 0
 Gives view (Ok x) old new r = (r ≡ Ok (view x, left new)) × (end_of_input new ≡ end_of_input old)
 Gives view (Err error) old new r = Fails error (end_of_input old) r
@@ -110,7 +110,7 @@ abbrev pub first_item : List Item → Item
 first_item [] = no_item
 first_item (x ∷ xs) = x
 
--- A token was taken, and its span is the answer.
+-- A token was taken, and its span is the result.
 abbrev pub Takes : Token → Result Span Error → Reading → Reading → Type 0
 Takes token (Ok s) old new = (read_token [] token (left old) ≡ Ok (first_item (left old), left new)) × (s ≡ (first_item (left old)).span) × (end_of_input new ≡ end_of_input old)
 Takes token (Err error) old new = Fails error (end_of_input old) (read_token [] token (left old))

@@ -1,4 +1,4 @@
--- What an error tells, without where its texts lie in memory.
+-- What an error reports, without where its texts lie in memory.
 use Rattle.std.specs.Prelude.{ℕ, zero, suc, List, [], ◌∷◌, Option, Some, None, string_bytes}
 use Rattle.wac_lexer.specs.Span.{Span}
 use Rattle.wac_lexer.specs.declared.token.Token.{Token}
@@ -18,7 +18,7 @@ pub data Told : Type 0 where
   invalid_version : List ℕ → Span → Told
   no_memory : Told
 
--- what an error tells
+-- what an error reports
 abbrev pub told_by : Error → Told
 told_by (errors.Lexer fault span) = faulty fault span
 told_by (errors.Expected token found span) = expected_one token found span
@@ -34,7 +34,7 @@ places zero tokens = []
 places (suc n) [] = None ∷ places n []
 places (suc n) (token ∷ tokens) = Some token ∷ places n tokens
 
--- what is told where the kept ones of so many tokens were tried, and another token, or the end, was found
+-- what is reported where the kept ones of so many tokens were tried, and another token, or the end, was found
 abbrev pub expected : List Token → ℕ → Option Token → Span → Told
 expected [] count found span = no_memory
 expected (token ∷ []) count found span = expected_one token found span

@@ -1,4 +1,4 @@
--- What a parser's answer says of the items that it was given: a tree of those that it took, or what an error tells of their first fault.
+-- What a parser's result says of the items that it was given: a tree of those that it took, or what an error reports of their first fault.
 use Rattle.std.specs.Prelude.{◌≡◌, ◌<◌, ℕ, List, [], ◌∷◌, ◌++◌, ◌⊎◌, take, length, Option, Some, None, Result, Ok, Err, true, false, alloc_error}
 use Rattle.wac_lexer.specs.Span.{Span}
 use Rattle.wac_lexer.specs.Item.{Item}
@@ -25,8 +25,8 @@ pub record FirstFault (s : Sym) (items lead left : List Item) : Type 0 where
   pub viable : Viable s lead
   pub fault : IsFault s lead left
 
--- The token can stand there. Two exceptions: it would close a body that is still empty; or the input ends behind an item of a comma
--- list, and the token can stand behind a comma.
+-- The token can stand there. Two exceptions: it would close a body that is still empty; or the input ends after an item of a comma
+-- list, and the token can stand after a comma.
 abbrev pub Expects : Sym → List Item → List Item → Token → Type 0
 Expects s lead left k = CanStand s lead k ⊎ ((is_token t.CloseBrace (Ok k) ≡ true) × (b : Body) × Opens b lead) ⊎ (EndsInList s lead left × CanFollowComma s lead k)
 
@@ -39,16 +39,16 @@ abbrev pub Finds : List Item → Span → Option Token → Span → Type 0
 Finds [] end found s = (found ≡ None) × (s ≡ end)
 Finds (x ∷ left) end found s = (k : Token) × (x.token ≡ Ok k) × (found ≡ Some k) × (s ≡ x.span)
 
--- the end of the input, as a token in a sequence tells it, and as an alternative or a list does: where the last item stands
+-- the end of the input, as a token in a sequence reports it, and as an alternative or a list does: where the last item stands
 abbrev pub end_in_sequence : End → Span
 end_in_sequence end = shown end.source (empty_end end.source)
 
 abbrev pub end_of_choice : End → Span
 end_of_choice end = shown end.source end.final
 
--- ---- what an error tells of the first fault
+-- ---- what an error reports of the first fault
 
--- what holds where this is told
+-- what holds where this is reported
 abbrev pub Holds : Sym → End → List Item → List Item → Told → Type 0
 Holds s end lead left (faulty fault at) = (x : Item) × (others : List Item) × (left ≡ x ∷ others) × (x.token ≡ Err fault) × (at ≡ x.span)
 Holds s end lead left (expected_one k found at) = Finds left (end_in_sequence end) found at × Expects s lead left k
@@ -60,7 +60,7 @@ Holds s end lead left (empty_type ty kind at) = (b : Body) × (x : Item) × (oth
 Holds s end lead left (invalid_version version at) = (k : Token) × (x : Item) × (others : List Item) × (left ≡ x ∷ others) × (is_token k x.token ≡ true) × (valid k x.text ≡ false) × CanStand s lead k × (invalid_version version at ≡ version_told x.text x.span)
 Holds s end lead left no_memory = ⊥
 
--- What is told holds. A fault, a body that is empty, and a text that is no version where another could stand, are told as such; and the
+-- What is reported holds. A fault, a body that is empty, and a text that is no version where another could stand, are reported as such; and the
 -- last viable item is no string that an argument begins with.
 pub record Tells (s : Sym) (end : End) (lead left : List Item) (told : Told) : Type 0 where
   pub holds : Holds s end lead left told
@@ -69,23 +69,23 @@ pub record Tells (s : Sym) (end : End) (lead left : List Item) (told : Told) : T
   pub of_version : (x y : Item) (others : List Item) → left ≡ x ∷ others → x.token ≡ y.token → Viable s (lead ++ (y ∷ [])) → told ≡ version_told x.text x.span
   pub no_string : EndsArgued s lead → ⊥
 
--- What is told lies at the first fault; or the last viable item is a string that an argument begins with, and it is told that an
+-- What is reported lies at the first fault; or the last viable item is a string that an argument begins with, and it is reported that an
 -- identifier is expected in its place.
 abbrev pub TellsFirstFault : Sym → End → List Item → Told → Type 0
 TellsFirstFault s end items told =
     ((lead : List Item) × (left : List Item) × FirstFault s items lead left × Tells s end lead left told)
     ⊎ ((lead : List Item) × (string : Item) × (left : List Item) × FirstFault s items (lead ++ (string ∷ [])) left × EndsArgued s (lead ++ (string ∷ [])) × CanStand s lead t.Ident × (told ≡ expected_one t.Ident (Some t.String) string.span))
 
--- The input ends behind the dots of an argument. They are one where a comma or a closing brace follows; an identifier is asked for.
+-- The input ends after the dots of an argument. They are one where a comma or a closing brace follows; an identifier is asked for.
 abbrev pub TellsCutShort : End → List Item → Told → Type 0
 TellsCutShort end items told = IsAlone t.Ellipsis items × (told ≡ expected_one t.Ident None (end_in_sequence end))
 
--- What is told where a part is refused. An argument alone may be cut short.
+-- What is reported where a part is rejected. An argument alone may be cut short.
 abbrev pub TellsRefusal : Sym → End → List Item → Told → Type 0
 TellsRefusal argument end items told = TellsFirstFault argument end items told ⊎ TellsCutShort end items told
 TellsRefusal s end items told = TellsFirstFault s end items told
 
--- ---- what a parser answers
+-- ---- what a parser returns
 
 -- The items that were taken derive the tree, and the next one does not continue it.
 pub record Parsed (s : Sym) (old new : List Item) (tree : TreeOf s) : Type 0 where
@@ -94,7 +94,7 @@ pub record Parsed (s : Sym) (old new : List Item) (tree : TreeOf s) : Type 0 whe
   pub derives : Derives s taken tree
   pub ends : (x : Item) (rest : List Item) → new ≡ x ∷ rest → Viable s (taken ++ (x ∷ [])) → ⊥
 
--- A tree of the part, or what is told of the part's refusal, unless memory ran out.
+-- A tree of the part, or what is reported of the part's rejection, unless memory ran out.
 abbrev pub Answers : {X : Type 0} → (s : Sym) → (X → TreeOf s) → Result X Error → Reading → Reading → Type 0
 Answers s view (Ok x) old new = Parsed s (left old) (left new) (view x)
 Answers s view (Err error) old new = (error ≡ Memory alloc_error) ⊎ TellsRefusal s (end_of_input old) (left old) (told_by error)

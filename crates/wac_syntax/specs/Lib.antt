@@ -3,7 +3,6 @@ pub mod Lookahead
 pub mod Answer
 pub mod FirstFault
 pub mod Lists
-pub mod Segments
 pub mod Optional
 pub mod Names
 pub mod Pieces

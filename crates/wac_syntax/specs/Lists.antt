@@ -1,5 +1,5 @@
 -- Lists up to a closing token.
-use Rattle.std.specs.Prelude.{◌≡◌, ℕ, List, [], ◌∷◌, ◌++◌, map, take, length, Option, Some, None, Result, Ok, Err, Bool, true, false, cond}
+use Rattle.std.specs.Prelude.{◌≡◌, ℕ, List, [], ◌∷◌, map, take, length, Option, Some, None, Result, Ok, Err, Bool, true, false, cond}
 use Rattle.wac_lexer.specs.Span.{Span}
 use Rattle.wac_lexer.specs.Item.{Item, handed}
 use Rattle.wac_lexer.specs.Reading.{Reading, left, shown}
@@ -8,7 +8,7 @@ use Rattle.wac_lexer.specs.declared.token.Token.TheVariants as t
 use Rattle.wac_syntax.specs.declared.error.Error.{Error}
 use Rattle.wac_grammar.specs.Tokens.{at}
 use Rattle.wac_grammar.specs.Grammar.{Sym, TreeOf, Listed, arguments, more_arguments, argument, cases, more_cases, variant_case, fields, more_fields, field, flags, more_flags, flag, enum_cases, more_enum_cases, enum_case, params, more_params, named_type, types, more_types, ty, use_items, more_use_items, use_item, include_items, more_include_items, include_item, methods, resource_method, interface_items, interface_item, world_items, world_item}
-use Rattle.wac_grammar.specs.Reading.{Stop, Tried, can, follows, refuse, mapped, two, read_token, read_sym, read}
+use Rattle.wac_grammar.specs.Reading.{Stop, can, follows, refuse, mapped, two, read_token, read_sym, read}
 use Rattle.wac_syntax.specs.Error.{Told, expected}
 use Rattle.wac_syntax.specs.Lookahead.{refusal}
 use Rattle.wac_syntax.specs.Answer.{end_of_input, Fails}
@@ -20,7 +20,7 @@ Reads A = Result (A × List Item) Stop
 abbrev pub list_by : {A : Type 0} → Token → List Token → (List Item → Reads A) → (List Item → Reads (Listed A)) → List Item → Reads (Listed A)
 list_by close firsts item more xs = cond (at close xs) (mapped (λ x. ([], x)) (read_token [] close xs)) (mapped (λ p. (p.0 ∷ p.1.0, p.1.1)) (two (read_sym item firsts (can close ∷ []) xs) (λ a. more)))
 
--- behind an item: the closing token, or a comma and the others
+-- after an item: the closing token, or a comma and the others
 abbrev pub rest_by : {A : Type 0} → Token → List Token → (List Item → Reads (Listed A)) → List Item → Reads (Listed A)
 rest_by close firsts list [] = refuse [] (can close ∷ map follows firsts)
 rest_by close firsts list (x ∷ xs) = cond (at close (x ∷ xs)) (mapped (λ y. ([], y)) (read_token [] close (x ∷ xs))) (mapped (λ p. p.1) (two (read_token [] t.Comma (x ∷ xs)) (λ a. list)))
@@ -39,7 +39,7 @@ abbrev pub unclosed : {A : Type 0} → Reads (Listed A) → Reads (List A)
 unclosed (Ok x) = Ok (x.0.0, x.0.1 ∷ x.1)
 unclosed (Err stop) = Err stop
 
--- A list was taken up to its closing token, whose span is answered beside its items; an error is made into another.
+-- A list was taken up to its closing token, whose span is returned beside its items; an error is made into another.
 abbrev pub TakesListBy : {X A E : Type 0} → (Error → E → Type 0) → (X → List A) → Result (X × Span) E → Reading → Reading → Reads (Listed A) → Type 0
 TakesListBy made view (Ok x) old new r = (last : Item) × (r ≡ Ok ((view x.0, last), left new)) × (x.1 ≡ last.span) × (end_of_input new ≡ end_of_input old)
 TakesListBy made view (Err x) old new r = (error : Error) × made error x × Fails error (end_of_input old) r
@@ -48,7 +48,7 @@ abbrev pub GivesBy : {X Y E : Type 0} → (Error → E → Type 0) → (X → Y)
 GivesBy made view (Ok x) old new r = (r ≡ Ok (view x, left new)) × (end_of_input new ≡ end_of_input old)
 GivesBy made view (Err x) old new r = (error : Error) × made error x × Fails error (end_of_input old) r
 
--- Behind an item the list goes on at the new place, or the error tells why it does not.
+-- After an item the list goes on at the new place, or the error says why it does not.
 abbrev pub GoesOn : {X A : Type 0} → (List Item → Reads (Listed A)) → (List Item → Reads (Listed A)) → Result X Error → Reading → Reading → Type 0
 GoesOn list more (Ok x) old new = (more (left old) ≡ list (left new)) × (end_of_input new ≡ end_of_input old)
 GoesOn list more (Err error) old new = Fails error (end_of_input old) (more (left old))
@@ -109,6 +109,6 @@ body_of interface_item = read interface_items
 body_of world_item = read world_items
 body_of _ = λ xs. refuse xs []
 
--- what is told where more than one token was tried
+-- what is reported where more than one token was tried
 abbrev pub tells : List ℕ → Span → List Item → List Token → Told
 tells source last xs ks = refusal (handed xs) (shown source last) (expected (take 10 ks) (length ks))

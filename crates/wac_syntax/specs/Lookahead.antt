@@ -1,5 +1,5 @@
 -- Trying tokens at the next item.
-use Rattle.std.specs.Prelude.{◌≡◌, ℕ, ◌+◌, ◌-◌, ◌^◌, Bool, true, false, ◌||◌, List, [], ◌∷◌, ◌++◌, take, length, min, Option, Some, None, Result, Ok, Err, if◌then◌else◌}
+use Rattle.std.specs.Prelude.{◌≡◌, ℕ, ◌+◌, ◌-◌, ◌^◌, Bool, false, ◌||◌, List, [], ◌∷◌, ◌++◌, take, min, Option, Some, None, Ok, Err, if◌then◌else◌}
 use Rattle.wac_lexer.specs.Span.{Span}
 use Rattle.wac_lexer.specs.Item.{Handed, handed}
 use Rattle.wac_lexer.specs.Reading.{Reading, left, shown}
@@ -7,7 +7,7 @@ use Rattle.wac_lexer.specs.declared.token.Token.{Token}
 use Rattle.wac_grammar.specs.Tokens.{is_token}
 use Rattle.wac_syntax.specs.Error.{Told, faulty, expected}
 
--- what is next, the span that is told at the end of the input, the first ten tokens that were tried, and how many were
+-- what is next, the span that is reported at the end of the input, the first ten tokens that were tried, and how many were
 pub record Looked : Type 0 where
   pub next : Handed
   pub span : Span
@@ -37,13 +37,13 @@ kept_in [] = []
 kept_in (None ∷ others) = kept_in others
 kept_in (Some token ∷ others) = token ∷ kept_in others
 
--- what is told at an item: its own fault, or that another token, or the end, was found
+-- what is reported at an item: its own fault, or that another token, or the end, was found
 abbrev pub refusal : Handed → Span → (Option Token → Span → Told) → Told
 refusal None end other = other None end
 refusal (Some (Ok token, span)) end other = other (Some token) span
 refusal (Some (Err fault, span)) end other = faulty fault span
 
--- what is told where none of the tokens that were tried is next
+-- what is reported where none of the tokens that were tried is next
 abbrev pub told_of : Looked → Told
 told_of l = refusal l.next l.span (expected l.kept l.count)
 
@@ -52,12 +52,12 @@ abbrev pub peeked : List Token → Looked → Looked
 peeked [] l = l
 peeked (token ∷ tokens) l = if is_next token l.next then l else peeked tokens (tried (token ∷ []) l)
 
--- Whether the next item is one of these tokens, of which those in front of it were tried, or all if it is none.
+-- Whether the next item is one of these tokens, of which those before it were tried, or all if it is none.
 pub record Peeks (firsts : List Token) (result : Bool) (old new : Looked) : Type 0 where
   pub found : result ≡ is_one_of firsts old.next
   pub kept : new ≡ peeked firsts old
 
--- what is told of a fault
+-- what is reported of a fault
 abbrev pub fault_at : Handed → Option Told
 fault_at None = None
 fault_at (Some (Ok token, span)) = None

@@ -50,11 +50,3 @@ TakesPackage token (Ok x) old new =
     × (option_map parts_of x.version ≡ version_of (first_item (left old)).text)
     × (end_of_input new ≡ end_of_input old)
 TakesPackage token (Err error) old new = Fails error (end_of_input old) (read_token [] token (left old))
-
-abbrev pub extern_name_text : tree.ExternName → List ℕ
-extern_name_text (tree.ExternName.ident x) = x.string
-extern_name_text (tree.ExternName.string x) = x.value
-
-abbrev pub extern_name_span : tree.ExternName → Span
-extern_name_span (tree.ExternName.ident x) = x.span
-extern_name_span (tree.ExternName.string x) = x.span

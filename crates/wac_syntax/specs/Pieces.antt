@@ -1,4 +1,4 @@
--- What is answered for some of the parts of a production.
+-- What is returned for some of the parts of a production.
 use Rattle.std.specs.Prelude.{◌≡◌, List, [], ◌∷◌, Option, Some, None, Result, Ok, Err, ◌⊎◌}
 use Rattle.std.proofs.Common.{inl, inr}
 use Rattle.wac_lexer.specs.Item.{Item}
@@ -16,15 +16,15 @@ abbrev pub PartOf : {X Y E : Type 0} (g : Grammar) → (Parts g → Y) → (Erro
 PartOf g of made view (Ok x) old new = (p : Parts g) × (read_in read g [] (left old) ≡ Ok (p, left new)) × (of p ≡ view x) × (end_of_input new ≡ end_of_input old)
 PartOf g of made view (Err x) old new = (e : Error) × made e x × Fails e (end_of_input old) (read_in read g [] (left old))
 
--- The parts that are read by this grammar, of which the answer is what some function makes, or the error is told of the place where reading stops.
+-- The parts that are read by this grammar, of which the result is what some function makes, or the error reports the place where reading stops.
 pub record GivesPart {X Y E : Type 0} (g : Grammar) (of : Parts g → Y) (made : Error → E → Type 0) (view : X → Y) (r : Result X E) (old new : Reading) : Type 0 where
   pub part : PartOf g of made view r old new
 
--- a part and the token behind it
+-- a part and the token after it
 abbrev pub part_before : Sym → Token → Grammar
 part_before s close = sym s ▸ token close
 
--- perhaps a token, and then the part behind it
+-- perhaps a token, and then the part after it
 abbrev pub part_after : Token → Sym → Grammar
 part_after word s = optional (token word ▸ sym s)
 

@@ -4,7 +4,7 @@ ghost use Rattle.std.specs.Prelude.{◌≡◌, ◌≤◌, ◌<◌, ◌^◌, [], 
 ghost use Rattle.wac_lexer.specs.Span.{end_of};
 ghost use Rattle.wac_lexer.specs.Reading.{left};
 ghost use Rattle.wac_grammar.specs.Tokens.{at};
-ghost use Rattle.wac_grammar.specs.Grammar.{sym};
+ghost use Rattle.wac_grammar.specs.Grammar.{Sym, sym};
 ghost use Rattle.wac_grammar.specs.Reading.{at_one_of, begins, can, read, read_in};
 ghost use Rattle.wac_syntax.specs.Error.{told_by};
 ghost use Rattle.wac_syntax.specs.Lookahead.{looked, tried, told_of};
@@ -56,10 +56,9 @@ fn parse_item<'a, T: Parse<'a> + Peek + Drop, E: From<Error>>(
 }
 
 /// What stands behind an item of a comma list: the closing token, which stays, or a comma.
-pub fn take_comma<'a, T: Parse<'a> + Peek>(lexer: &mut Lexer<'a>, close: Token) -> ParseResult<()>
-    requires listed { closes T.symbol ≡ Some close }
-    requires begins { T.firsts ≡ begins T.symbol }
-    ensures gives { GoesOn (list_of T.symbol) (more_of T.symbol) result lexer.old lexer.new }
+pub fn take_comma<T: Peek>(lexer: &mut Lexer, close: Token) -> ParseResult<()>
+    // Each list of such items that ends with this token goes on so.
+    ensures gives { (s : Sym) → closes s ≡ Some close → T.firsts ≡ begins s → GoesOn (list_of s) (more_of s) result lexer.old lexer.new }
     ensures source { lexer.new.source ≡ lexer.old.source }
     ensures moves { lexer.old.place ≤ lexer.new.place }
     ensures rest { IfOk result (λ _. length (left lexer.new) ≤ length (left lexer.old)) }

@@ -154,7 +154,7 @@ pub enum Error {
     Memory(AllocError),
 }
 
-/// What a parser answers.
+/// What a parser returns.
 pub type ParseResult<T> = Result<T, Error>;
 
 impl From<(wac_lexer::Error, SourceSpan)> for Error {

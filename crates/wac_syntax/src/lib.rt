@@ -14,7 +14,7 @@ mod version;
 
 pub use delimited::{begins, no_item, parse_body, parse_list, take_comma};
 pub use error::{Error, ParseResult};
-pub use laws::parsers_stop_at_first_faults;
+pub use laws::{parsers_stop_at_first_faults, segments_stand_at_their_spans};
 pub use lookahead::Lookahead;
 pub use names::{DocComment, ExternName, Ident, String};
 pub use package::{PackageName, PackagePath};

@@ -77,7 +77,7 @@ impl Lookahead {
 
     /// The error that none of the tokens that were tried is next.
     ///
-    /// A fault of the text is told as such. At the end of the input the span is what the lexer's
+    /// A fault of the text is reported as such. At the end of the input the span is what the lexer's
     /// `span` was when the look began.
     pub fn error(self) -> Error
         requires { 0 < self.count }

@@ -7,7 +7,8 @@ ghost use Rattle.wac_grammar.specs.Reading.{begins};
 ghost use Rattle.wac_grammar.specs.Grammar.{identifier};
 ghost use Rattle.wac_grammar.specs.Grammar as symbols;
 ghost use Rattle.wac_grammar.specs.Tree.{between_quotes, without_percent};
-ghost use Rattle.wac_syntax.specs.Names.{extern_name_of, extern_name_text, extern_name_span};
+ghost use Rattle.wac_syntax.specs.Names.{extern_name_of};
+ghost use Rattle.wac_grammar.specs.Spans.{extern_name_text, extern_name_span};
 
 use crate::error::ParseResult;
 use crate::lookahead::Lookahead;

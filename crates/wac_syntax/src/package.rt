@@ -6,7 +6,7 @@ ghost use Rattle.wac_grammar.specs.Grammar as symbols;
 ghost use Rattle.wac_grammar.specs.Reading.{begins};
 ghost use Rattle.wac_syntax.specs.Lookahead.{Peeks};
 ghost use Rattle.wac_grammar.specs.Version.{path_name, after_slash, is_slash};
-ghost use Rattle.wac_syntax.specs.Segments.{package_name_span, segment_spans};
+ghost use Rattle.wac_grammar.specs.Segments.{package_name_span, segment_spans};
 ghost use Rattle.wac_syntax.specs.Names.{package_name_of, package_path_of};
 
 use crate::error::ParseResult;
@@ -25,7 +25,7 @@ pub struct PackageName<'a> {
     pub string: &'a str,
     /// The text before `@`.
     pub name: &'a str,
-    /// The version behind `@`.
+    /// The version after `@`.
     pub version: Option<Version>,
     /// Where the whole text stands.
     pub span: SourceSpan,
@@ -59,7 +59,7 @@ pub struct PackagePath<'a> {
     pub name: &'a str,
     /// The segments: the text between the first `/` and `@`.
     pub segments: &'a str,
-    /// The version behind `@`.
+    /// The version after `@`.
     pub version: Option<Version>,
 }
 
@@ -122,7 +122,7 @@ fn before_slash(text: &str) -> &str
     }
 }
 
-/// The text behind the first `/`.
+/// The text after the first `/`.
 fn behind_slash(text: &str) -> &str
     ensures { result.now ≡ after_slash text.now }
 {

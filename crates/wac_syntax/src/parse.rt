@@ -1,4 +1,4 @@
-//! Taking tokens, and what every parser answers.
+//! Taking tokens, and what every parser returns.
 
 ghost use Rattle.std.specs.Prelude.{◌≡◌, ◌≤◌, ◌<◌, ◌^◌, true, false, IfOk, IfErr, Some, Ok, map, [], List, OnOk, ◌++◌, ◌∷◌, alloc_error, IfSome, IsErrAnd, None, MatchResult};
 ghost use Rattle.wac_lexer.specs.Span.{span, end_of};
@@ -28,8 +28,8 @@ use wac_lexer::{Lexer, LexerResult, SourceSpan, Token};
 
 /// A part of a document that can be parsed.
 ///
-/// A parser that refuses leaves the lexer between two items, at its old place or behind it. What else its answer says, of
-/// the item behind a tree and of the place of an error, is the law `parsers_stop_at_first_faults`.
+/// A parser that fails leaves the lexer between two items, at its old place or after it. What else its result says, of
+/// the item after a tree and of the place of an error, is the law `parsers_stop_at_first_faults`.
 pub trait Parse<'a>: Sized {
     /// The production of the grammar.
     ghost symbol: { Sym };
@@ -50,17 +50,17 @@ pub trait Parse<'a>: Sized {
 
 /// A part of a document that is known by its first token.
 pub trait Peek {
-    /// The tokens that the part may begin with, in the order in which they are tried.
+    /// The part's first tokens, in the order in which they are tried.
     ghost firsts: { List the_token.Token };
 
-    /// Whether the next item is one of those tokens. Those in front of it have been tried, or all if it is none.
+    /// Whether the next item is one of those tokens. Those before it have been tried, or all if it is none.
     fn peek(lookahead: &mut Lookahead) -> bool
         ensures { Peeks firsts result lookahead.old lookahead.new };
 }
 
-/// Takes the next item, which must be this token, and answers its span.
+/// Takes the next item, which must be this token, and returns its span.
 ///
-/// The item is taken also where it is refused. At the end of the input the error has the lexer's
+/// The item is taken also where it is rejected. At the end of the input the error has the lexer's
 /// `span` there.
 #[tactic(auto, unfolding(crate::specs::Answer::told, crate::specs::Answer::end_of_input))]
 pub fn parse_token(lexer: &mut Lexer, expected: Token) -> ParseResult<SourceSpan>
@@ -154,7 +154,7 @@ pub fn at(lexer: &Lexer, token: Token) -> bool
     }
 }
 
-/// Whether the item behind the next is this token.
+/// Whether the item after the next is this token.
 pub fn at_second(lexer: &Lexer, token: Token) -> bool
     ensures { result ≡ at token (behind_first (left lexer.now)) }
 {
@@ -196,9 +196,9 @@ pub fn boxed<T: Drop>(alloc: Global, value: T) -> ParseResult<Box<T>>
     }
 }
 
-/// Takes the next item where it is this token, and tells whether it was.
+/// Takes the next item where it is this token, and returns whether it was.
 ///
-/// A fault of the text is refused, and not taken.
+/// A fault of the text is rejected, and not taken.
 pub fn take_optional(lexer: &mut Lexer, expected: Token) -> ParseResult<bool>
     requires { plain expected ≡ true }
     ensures takes { TakesOptional expected result lexer.old lexer.new }
@@ -213,7 +213,7 @@ pub fn take_optional(lexer: &mut Lexer, expected: Token) -> ParseResult<bool>
     Ok(false)
 }
 
-/// Refuses a fault of the text in the next item's place.
+/// Rejects a fault of the text in the next item's place.
 fn refuse_fault(lexer: &Lexer) -> ParseResult<()>
     ensures { MatchResult result (λ _. fault_at (handed (left lexer.now)) ≡ None) (λ e. fault_at (handed (left lexer.now)) ≡ Some (told_by e)) }
 {
@@ -226,22 +226,22 @@ fn refuse_fault(lexer: &Lexer) -> ParseResult<()>
     }
 }
 
-/// Takes the next item where it is this token, and then answers what the callback gives.
+/// Takes the next item where it is this token, and then returns what the callback gives.
 ///
-/// Another token and the end give `None`. A fault of the text is refused. Neither is taken.
+/// Another token and the end give `None`. A fault of the text is rejected. Neither is taken.
 pub fn parse_optional<'a, R, E: From<Error>, F: FnOnce(&mut Lexer<'a>) -> Result<R, E>>(
     lexer: &mut Lexer<'a>,
     expected: Token,
     cb: F,
 ) -> Result<Option<R>, E>
     requires { F.IsAlwaysCallable cb }
-    // Where the token is next it is taken, and the callback's answer is passed on.
+    // Where the token is next it is taken, and the callback's result is passed on.
     ensures called { at expected (left lexer.old) ≡ true → (behind : Reading) × Nexts lexer.old (handed (left lexer.old)) behind × AnswersBy (FnOnceReturnsAtMut F.FnOnce cb behind) result lexer.new }
     // Where each tree that the callback gives derives from the items that it took, so does what is given here.
     ensures derives { (s : Sym) (view : R → TreeOf s) → ((old : Reading) (x : R) (new : Reading) → FnOnceReturnsAtMut F.FnOnce cb old (Ok x) new → Consumed s (left old) (left new) (view x)) → IfOk result (λ o. IfSome o (λ x. Consumed s (behind_first (left lexer.old)) (left lexer.new) (view x))) }
     // Another token and the end give nothing.
     ensures none { at expected (left lexer.old) ≡ false → fault_at (handed (left lexer.old)) ≡ None → (result ≡ Ok None) × (lexer.new ≡ lexer.old) }
-    // A fault is refused, and not taken.
+    // A fault is rejected, and not taken.
     ensures refused { IfSome (fault_at (handed (left lexer.old))) (λ t. IsErrAnd result (λ x. (e : Error) × E.from_gives e x × (told_by e ≡ t)) × (lexer.new ≡ lexer.old)) }
 {
     if at(lexer, expected) {
@@ -255,7 +255,7 @@ pub fn parse_optional<'a, R, E: From<Error>, F: FnOnce(&mut Lexer<'a>) -> Result
     Ok(None)
 }
 
-/// Refuses a closing brace in the next item's place, where a body of this type would have no such part.
+/// Rejects a closing brace in the next item's place, where a body of this type would have no such part.
 pub fn refuse_empty(lexer: &Lexer, ty: &'static str, kind: &'static str) -> ParseResult<()>
     ensures filled { IfOk result (λ _. at tokens.CloseBrace (left lexer.now) ≡ false) }
     ensures refused { IfErr result (λ e. (at tokens.CloseBrace (left lexer.now) ≡ true) × (told_by e ≡ empty_type ty.now kind.now (first_span (left lexer.now)))) }

@@ -17,7 +17,7 @@ use crate::parse::{Parse, Peek, at, refuse_empty, take_optional, take_token};
 use std::alloc::Global;
 use wac_lexer::{Lexer, Token};
 
-/// A part, and the token behind it.
+/// A part, and the token after it.
 pub fn parse_before<'a, T: Parse<'a> + Drop, E: From<Error>>(
     alloc: Global,
     lexer: &mut Lexer<'a>,
@@ -33,7 +33,7 @@ pub fn parse_before<'a, T: Parse<'a> + Drop, E: From<Error>>(
     Ok(part)
 }
 
-/// The part behind a token, where the token is next.
+/// The part after a token, where the token is next.
 pub fn parse_after<'a, T: Parse<'a> + Drop, E: From<Error>>(
     alloc: Global,
     lexer: &mut Lexer<'a>,
@@ -50,7 +50,7 @@ pub fn parse_after<'a, T: Parse<'a> + Drop, E: From<Error>>(
     Ok(None)
 }
 
-/// Takes the next item where it is this token, and tells whether it was.
+/// Takes the next item where it is this token, and returns whether it was.
 ///
 /// Whatever else is next, also a fault of the text, stays.
 pub fn take_word(lexer: &mut Lexer, word: Token) -> ParseResult<bool>
@@ -97,7 +97,7 @@ pub fn parse_filled<'a, T: Parse<'a> + Peek + Drop, E: From<Error>>(
     Ok(items)
 }
 
-/// Refuses a closing brace in the next item's place, for what it is called.
+/// Rejects a closing brace in the next item's place, for what it is called.
 fn refuse_no_part(lexer: &Lexer, kind: BodyKind) -> ParseResult<()>
     ensures filled { IfOk result (λ _. at tokens.CloseBrace (left lexer.now) ≡ false) }
     ensures refused { IfErr result (λ e. (at tokens.CloseBrace (left lexer.now) ≡ true) × (told_by e ≡ empty_type (body_name (body_of kind)) (part_name (body_of kind)) (first_span (left lexer.now)))) }

@@ -16,14 +16,14 @@ use semver::Version;
 use std::alloc::{AllocError, Global};
 use wac_lexer::{Lexer, SourceSpan, Token};
 
-/// A text with a version behind `@`.
+/// A text with a version after `@`.
 #[derive(Debug, Drop)]
 pub struct Versioned<'a> {
     /// The whole text.
     pub text: &'a str,
     /// The text before `@`.
     pub name: &'a str,
-    /// The version behind `@`.
+    /// The version after `@`.
     pub version: Option<Version>,
     /// Where the whole text stands.
     pub span: SourceSpan,
@@ -52,7 +52,7 @@ pub fn take_package<'a>(
     })
 }
 
-/// The text of a package before `@`, and the version behind it.
+/// The text of a package before `@`, and the version after it.
 ///
 /// The span is that of the whole text.
 pub fn parse_version<'a>(

@@ -7,7 +7,6 @@ pub mod Growing
 pub mod Listed
 pub mod Tables
 pub mod Packages
-pub mod Renaming
 pub mod Shapes
 pub mod Parts
 pub mod Maps

@@ -1,5 +1,5 @@
 -- What a kind means, with no table.
-use Rattle.std.specs.Prelude.{◌≡◌, ◌≢◌, ℕ, suc, ◌<◌, Option, Some, None, IfSome, List, [], ◌∷◌, ◌++◌, length, slice_get, slice_index_or}
+use Rattle.std.specs.Prelude.{◌≡◌, ℕ, suc, ◌<◌, Option, Some, None, IfSome, List, [], ◌∷◌, ◌++◌, length, slice_get, slice_index_or}
 use Rattle.std.specs.List.{AllByRecursion}
 use Rattle.wac_types.specs.declared.kind.ItemKind.{ItemKind}
 use Rattle.wac_types.specs.declared.entry.Entry.{Entry}
@@ -94,7 +94,3 @@ IsEarlier es = EarlierFrom 0 es
 -- two entries mean the same, whatever the origins are
 abbrev pub Alike : List Entry → ℕ → ℕ → Type 0
 Alike es i j = (origins : ℕ → ℕ) → IsOneToOne es origins → meaning_at origins es i ≡ meaning_at origins es j
-
--- two entries never mean the same
-abbrev pub Unlike : List Entry → ℕ → ℕ → Type 0
-Unlike es i j = (origins : ℕ → ℕ) → IsOneToOne es origins → meaning_at origins es i ≢ meaning_at origins es j

@@ -110,14 +110,3 @@ import_type_of (import_types.Ident x) = tree.ImportType.ident (ident_of x)
 
 abbrev pub import_statement_of : ImportStatement → tree.ImportStatement
 import_statement_of x = record { docs = map doc_comment_of x.docs.items; id = ident_of x.id; name = option_map extern_name_of x.name; ty = import_type_of x.ty }
-
--- ---- what is read of references and names
-
--- the name, or the whole path
-abbrev pub world_ref_name : tree.WorldRef → List ℕ
-world_ref_name (tree.WorldRef.path x) = x.string
-world_ref_name (tree.WorldRef.ident x) = x.string
-
-abbrev pub world_ref_span : tree.WorldRef → Span
-world_ref_span (tree.WorldRef.path x) = x.span
-world_ref_span (tree.WorldRef.ident x) = x.span

@@ -6,7 +6,8 @@ ghost use Rattle.wac_grammar.specs.Reading.{begins};
 ghost use Rattle.wac_syntax.specs.Lookahead.{Peeks};
 ghost use Rattle.wac_syntax.specs.Pieces.{GivesPart};
 ghost use Rattle.wac_worlds.specs.Tails.{with_part, with_items};
-ghost use Rattle.wac_worlds.specs.Worlds.{world_ref_of, world_include_item_of, extern_type_of, named_world_item_of, world_item_path_of, world_import_of, world_export_of, world_include_of, world_item_of, world_decl_of, world_ref_name, world_ref_span};
+ghost use Rattle.wac_worlds.specs.Worlds.{world_ref_of, world_include_item_of, extern_type_of, named_world_item_of, world_item_path_of, world_import_of, world_export_of, world_include_of, world_item_of, world_decl_of};
+ghost use Rattle.wac_grammar.specs.Spans.{world_ref_name, world_ref_span};
 
 use crate::interface::{InlineInterface, Use};
 use std::alloc::Global;

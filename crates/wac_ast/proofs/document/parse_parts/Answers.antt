@@ -4,9 +4,6 @@ use Rattle.wac_syntax.proofs.Exits as x
 use Rattle.wac_syntax.proofs.Yields as y
 use Rattle.wac_ast.proofs.document.parse_parts.Goals as goal
 
-pub returns-in_err-docs-clause-gives : goal.returns-in_err-docs-clause-gives
-returns-in_err-docs-clause-gives c = x.exits document _ _ _ c.from_residual.ensures.1 (x.memory c.in_err-docs.ensures.refused)
-
 pub returns-in_err-directive-clause-gives : goal.returns-in_err-directive-clause-gives
 returns-in_err-directive-clause-gives c = x.exits document _ _ _ c.from_residual-in_err-directive.ensures.1 (x.with_docs (x.here c.in_err-directive.ensures.gives))
 

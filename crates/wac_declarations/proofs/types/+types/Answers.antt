@@ -1,4 +1,4 @@
-use Rattle.std.proofs.Common.{◌≡◌, ◌<◌, ◌≤◌, ◌++◌, ◌∷◌, [], map, length, Ok, sym, refl, ap, ◌∙◌, arith}
+use Rattle.std.proofs.Common.{◌≡◌, ◌<◌, ◌++◌, ◌∷◌, [], map, length, Ok, sym, refl, ap, ◌∙◌, arith}
 use Rattle.std.proofs.lemmas.List.{map_push}
 use Rattle.wac_lexer.specs.Reading.{left}
 use Rattle.wac_lexer.specs.declared.token.Token.TheVariants as k
@@ -7,7 +7,8 @@ use Rattle.wac_grammar.specs.Tree.{Ty, OptionalTy}
 use Rattle.wac_grammar.specs.Grammar as g
 use Rattle.wac_grammar.specs.Reading.{read, mapped}
 use Rattle.wac_syntax.specs.Error.{told_by}
-use Rattle.wac_declarations.specs.Types.{ty_of, with_payload}
+use Rattle.wac_syntax.specs.Answer.{first_item}
+use Rattle.wac_declarations.specs.Types.{ty_of, optional_of, with_payload}
 use Rattle.wac_grammar.proofs.Fixed.{takes_some}
 use Rattle.wac_syntax.proofs.Lists.{comma_list, item_fails, item_less, item_missing, item_there, list_closed, list_goes_on, moved_end, never_fails, same_fails, so_far_fails, step_fails, token_less}
 use Rattle.wac_syntax.proofs.Optional.{optional_there}
@@ -144,7 +145,7 @@ pub parse_result-returns-in_err-last-clause-gives : goal.parse_result-returns-in
 parse_result-returns-in_err-last-clause-gives t c = x.exits g.result_type _ _ _ c.from_residual-in_err-last.ensures.1 (x.took c.in_ok-first.ensures.takes (x.option c.take_optional.new.lexer c.if-not-branch.false c.in_ok-take_optional.ensures.takes (x.past c.in_ok-ok.ensures.gives (x.beyond c.in_ok-err.ensures.gives (x.last c.in_err-last.ensures.takes)))))
 
 pub parse_result-returns-clause-gives : goal.parse_result-returns-clause-gives
-parse_result-returns-clause-gives t c = y.gives g.result_type (y.took c.in_ok-first.ensures.takes (y.option c.take_optional.new.lexer c.if-not-branch.false c.in_ok-take_optional.ensures.takes (y.past c.in_ok-ok.ensures.gives (y.beyond c.in_ok-err.ensures.gives (y.last_took c.in_ok-last.ensures.takes))))) (result_built _ _ _ c.in_ok-err.ensures.gives.part.0 _ ∙ rw (result_is c.in_ok-ok.ok c.in_ok-err.err c.join.result, c.in_ok-err.ensures.gives.part.2, c.join.ensures, c.in_ok-first.ensures.takes.1, c.in_ok-last.ensures.takes.1))
+parse_result-returns-clause-gives t c = y.gives g.result_type (y.took c.in_ok-first.ensures.takes (y.option c.take_optional.new.lexer c.if-not-branch.false c.in_ok-take_optional.ensures.takes (y.past c.in_ok-ok.ensures.gives (y.beyond c.in_ok-err.ensures.gives (y.last_took c.in_ok-last.ensures.takes))))) (result_built (first_item (left c.args.lexer.now)) (first_item (left c.take_token.new.lexer)) (optional_of c.in_ok-ok.ok) c.in_ok-err.ensures.gives.part.0 (first_item (left c.parse_second_part.new.lexer)) ∙ rw (result_is c.in_ok-ok.ok c.in_ok-err.err c.join.result, c.in_ok-err.ensures.gives.part.2, c.join.ensures, c.in_ok-first.ensures.takes.1, c.in_ok-last.ensures.takes.1))
 
 -- ---- tuples
 
@@ -185,7 +186,7 @@ pub parse_types-returns-in_err-parse_listed-clause-gives : goal.parse_types-retu
 parse_types-returns-in_err-parse_listed-clause-gives t c = x.passed _ _ _ _ _ _ c.from_residual.ensures.1 (so_far_fails _ c.loop-alloc.invariant.so_far (item_fails _ _ _ (comma_list g.ty k.CloseAngle refl).is_list (x.tested c.at.ensures c.loop-alloc-test.true) c.in_err-parse_listed.ensures.gives))
 
 pub parse_types-returns-in_err-take_comma-clause-gives : goal.parse_types-returns-in_err-take_comma-clause-gives
-parse_types-returns-in_err-take_comma-clause-gives t c = x.passed _ _ _ _ _ _ c.from_residual-in_err-take_comma.ensures.1 (so_far_fails _ c.loop-alloc.invariant.so_far (step_fails _ _ _ (comma_list g.ty k.CloseAngle refl).is_list (x.tested c.at.ensures c.loop-alloc-test.true) c.in_ok-parse_listed.ensures.gives c.in_err-take_comma.ensures.gives))
+parse_types-returns-in_err-take_comma-clause-gives t c = x.passed _ _ _ _ _ _ c.from_residual-in_err-take_comma.ensures.1 (so_far_fails _ c.loop-alloc.invariant.so_far (step_fails _ _ _ (comma_list g.ty k.CloseAngle refl).is_list (x.tested c.at.ensures c.loop-alloc-test.true) c.in_ok-parse_listed.ensures.gives (c.in_err-take_comma.ensures.gives g.ty refl refl)))
 
 pub parse_types-loop-alloc-smaller : goal.parse_types-loop-alloc-smaller
 parse_types-loop-alloc-smaller t c =
@@ -202,7 +203,7 @@ parse_types-loop-alloc-preserved t c =
     let rest = comma.rest in
     let before = c.loop-alloc.invariant.shorter in
     record {
-      so_far = rw more (list_goes_on c.parse_listed.new.lexer (comma_list g.ty k.CloseAngle refl).is_list c.loop-alloc.invariant.so_far (x.tested c.at.ensures c.loop-alloc-test.true) item.gives item.source item.moves comma.gives comma.source comma.moves);
+      so_far = rw more (list_goes_on c.parse_listed.new.lexer (comma_list g.ty k.CloseAngle refl).is_list c.loop-alloc.invariant.so_far (x.tested c.at.ensures c.loop-alloc-test.true) item.gives item.source item.moves (comma.gives g.ty refl refl) comma.source comma.moves);
       shorter = omega arith;
     }
 

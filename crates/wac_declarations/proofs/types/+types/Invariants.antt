@@ -1,4 +1,4 @@
-use Rattle.std.proofs.Common.{◌≡◌, ◌≤◌, ◌*◌, ◌+◌, map, length}
+use Rattle.std.proofs.Common.{◌≤◌, ◌*◌, ◌+◌, map, length}
 use Rattle.wac_lexer.specs.Reading.{left}
 use Rattle.wac_grammar.specs.Grammar as g
 use Rattle.wac_grammar.specs.Reading.{read, measure}

@@ -4,7 +4,7 @@ use Rattle.wac_lexer.specs.Reading.{left}
 use Rattle.wac_lexer.specs.declared.token.Token.TheVariants as tokens
 use Rattle.wac_lexer.specs.Span.{end_of}
 use Rattle.wac_grammar.specs.Tree.{PrimaryExpr}
-use Rattle.wac_grammar.specs.Grammar.{expr, named_argument, primary_expr, new_expr, nested_expr, argument, arguments, package_name, primary_span}
+use Rattle.wac_grammar.specs.Grammar.{expr, named_argument, primary_expr, new_expr, nested_expr, argument, arguments, argument_name, package_name, primary_span}
 use Rattle.wac_grammar.specs.Reading.{read}
 use Rattle.wac_expressions.specs.Expressions.{argument_of, expr_of}
 use Rattle.wac_grammar.proofs.Fixed.{takes_some}
@@ -15,7 +15,7 @@ use Rattle.wac_syntax.proofs.Optional.{gives_behind}
 use Rattle.wac_syntax.proofs.Exits as x
 use Rattle.wac_syntax.proofs.Yields as y
 use Rattle.wac_expressions.proofs.ArgumentParts.{argument_is_named, argument_fails, none_begins}
-use Rattle.wac_expressions.proofs.ExprViews.{new_is, nested_is, behind_is}
+use Rattle.wac_expressions.proofs.ExprViews.{new_is, nested_is, after_is}
 use Rattle.wac_expressions.proofs.expr.+parser.Goals as goal
 
 -- ---- expressions
@@ -24,7 +24,7 @@ pub ExprParse::parse-returns-in_err-primary-clause-gives : goal.ExprParse::parse
 ExprParse::parse-returns-in_err-primary-clause-gives t c = x.exits expr _ _ _ c.from_residual.ensures.1 (x.here c.in_err-primary.ensures.gives)
 
 pub ExprParse::parse-returns-clause-gives : goal.ExprParse::parse-returns-clause-gives
-ExprParse::parse-returns-clause-gives t c = gives_behind expr_of c.parse_behind.result c.args.lexer.now c.parse.new.lexer c.parse_behind.new.lexer _ _ (behind_is _ _ _ c.in_ok-primary.ensures.gives.0) c.in_ok-primary.ensures.gives.1 c.parse_behind.ensures.gives
+ExprParse::parse-returns-clause-gives t c = gives_behind expr_of c.parse_accesses_after.result c.args.lexer.now c.parse.new.lexer c.parse_accesses_after.new.lexer _ _ (after_is _ _ _ c.in_ok-primary.ensures.gives.0) c.in_ok-primary.ensures.gives.1 c.parse_accesses_after.ensures.gives
 
 -- ---- primary expressions
 
@@ -116,6 +116,12 @@ InstantiationArgumentParse::parse-returns-in_err-parse-clause-gives t c = x.pass
 
 -- ---- named arguments
 
+pub NamedInstantiationArgumentParse::parse-parse-requires-2 : goal.NamedInstantiationArgumentParse::parse-parse-requires-2
+NamedInstantiationArgumentParse::parse-parse-requires-2 t c =
+    let name : length (left c.parse.new.lexer) < length (left c.args.lexer.now) = takes_some argument_name _ _ _ c.in_ok-name.ensures.gives.0 refl in
+    let colon : length (left c.take_token.new.lexer) < length (left c.parse.new.lexer) = token_less tokens.Colon _ _ _ c.in_ok-take_token.ensures.takes.0 in
+    omega arith
+
 pub NamedInstantiationArgumentParse::parse-returns-in_err-name-clause-gives : goal.NamedInstantiationArgumentParse::parse-returns-in_err-name-clause-gives
 NamedInstantiationArgumentParse::parse-returns-in_err-name-clause-gives t c = x.exits named_argument _ _ _ c.from_residual.ensures.1 (x.here c.in_err-name.ensures.gives)
 
@@ -140,7 +146,7 @@ pub parse_arguments-returns-in_err-parse_listed-clause-gives : goal.parse_argume
 parse_arguments-returns-in_err-parse_listed-clause-gives t c = x.passed _ _ _ _ _ _ c.from_residual.ensures.1 (so_far_fails _ c.loop-alloc.invariant.so_far (item_fails _ _ _ (comma_list argument tokens.CloseBrace refl).is_list (x.tested c.at.ensures c.loop-alloc-test.true) c.in_err-parse_listed.ensures.gives))
 
 pub parse_arguments-returns-in_err-take_comma-clause-gives : goal.parse_arguments-returns-in_err-take_comma-clause-gives
-parse_arguments-returns-in_err-take_comma-clause-gives t c = x.passed _ _ _ _ _ _ c.from_residual-in_err-take_comma.ensures.1 (so_far_fails _ c.loop-alloc.invariant.so_far (step_fails _ _ _ (comma_list argument tokens.CloseBrace refl).is_list (x.tested c.at.ensures c.loop-alloc-test.true) c.in_ok-parse_listed.ensures.gives c.in_err-take_comma.ensures.gives))
+parse_arguments-returns-in_err-take_comma-clause-gives t c = x.passed _ _ _ _ _ _ c.from_residual-in_err-take_comma.ensures.1 (so_far_fails _ c.loop-alloc.invariant.so_far (step_fails _ _ _ (comma_list argument tokens.CloseBrace refl).is_list (x.tested c.at.ensures c.loop-alloc-test.true) c.in_ok-parse_listed.ensures.gives (c.in_err-take_comma.ensures.gives argument refl refl)))
 
 pub parse_arguments-loop-alloc-smaller : goal.parse_arguments-loop-alloc-smaller
 parse_arguments-loop-alloc-smaller t c =
@@ -157,7 +163,7 @@ parse_arguments-loop-alloc-preserved t c =
     let rest = comma.rest in
     let before = c.loop-alloc.invariant.shorter in
     record {
-      so_far = rw more (list_goes_on c.parse_listed.new.lexer (comma_list argument tokens.CloseBrace refl).is_list c.loop-alloc.invariant.so_far (x.tested c.at.ensures c.loop-alloc-test.true) item.gives item.source item.moves comma.gives comma.source comma.moves);
+      so_far = rw more (list_goes_on c.parse_listed.new.lexer (comma_list argument tokens.CloseBrace refl).is_list c.loop-alloc.invariant.so_far (x.tested c.at.ensures c.loop-alloc-test.true) item.gives item.source item.moves (comma.gives argument refl refl) comma.source comma.moves);
       shorter = omega arith;
     }
 

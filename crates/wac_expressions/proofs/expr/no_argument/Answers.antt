@@ -1,4 +1,4 @@
-use Rattle.std.proofs.Common.{◌≡◌, ap, ◌∙◌}
+use Rattle.std.proofs.Common.{ap, ◌∙◌}
 use Rattle.wac_syntax.specs.Lookahead.{told_of}
 use Rattle.wac_syntax.proofs.Lookaheads.{looks, looks_on, none_found}
 use Rattle.wac_expressions.proofs.expr.no_argument.Goals as goal

@@ -23,7 +23,7 @@ loop-alloc-preserved c =
     let more : map postfix_expr_of c.push.new.items.items ≡ map postfix_expr_of c.loop-alloc.postfixes.items ++ postfix_expr_of c.in_ok-parse.field-0 ∷ [] = rw c.in_ok-push.ensures.items (map_push _ c.loop-alloc.postfixes.items c.in_ok-parse.field-0) in
     record {
       so_far = rw more (star_goes_on postfixes_star _ c.args.lexer.now c.loop-alloc.lexer c.parse.new.lexer _ c.loop-alloc.invariant.so_far (x.tested c.begins.ensures c.loop-alloc-test.true) parsed.gives.0 parsed.gives.1 parsed.source parsed.moves);
-      fits = rw more (fits_more _ _ parsed.fits);
+      fits = rw more (fits_more (map postfix_expr_of c.loop-alloc.postfixes.items) (postfix_expr_of c.in_ok-parse.field-0) parsed.fits);
     }
 
 pub returns-clause-gives : goal.returns-clause-gives

@@ -1,4 +1,3 @@
-use Rattle.std.proofs.Common.{◌≡◌, true, refl}
 use denote.Enum.Bare.{same_true, true_same}
 use Rattle.wac_lexer.specs.contracts.token.Token.{the_type}
 use Rattle.wac_lexer.proofs.laws.equality_reads_all.Goals as goal

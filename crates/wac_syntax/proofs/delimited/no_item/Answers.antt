@@ -1,4 +1,4 @@
-use Rattle.std.proofs.Common.{◌≡◌, ◌<◌, ◌∷◌, [], ℕ, ap, sym, subst, ◌∙◌, lit<}
+use Rattle.std.proofs.Common.{◌<◌, ◌∷◌, [], ℕ, ap, sym, subst, ◌∙◌}
 use Rattle.wac_lexer.specs.Reading.{left}
 use Rattle.wac_syntax.specs.Lookahead.{told_of}
 use Rattle.wac_syntax.proofs.Lookaheads.{looks, looks_on, peeks_one, none_found, one_test, counted}

@@ -4,7 +4,7 @@ use Rattle.wac_lexer.specs.declared.token.Token.TheVariants as t
 use Rattle.wac_syntax.specs.Answer.{first_item}
 use Rattle.wac_syntax.specs.Lists.{body_of}
 use Rattle.wac_syntax.proofs.Exits.{same_error}
-use Rattle.wac_syntax.proofs.Lists.{closes_plain, closed_by, closed_fails, never_fails, list_made_fails, moved_end}
+use Rattle.wac_syntax.proofs.Lists.{closed_by, closed_fails, never_fails, list_made_fails, moved_end}
 use Rattle.wac_syntax.proofs.delimited.parse_body.Goals as goal
 
 pub returns-in_err-items-clause-takes : goal.returns-in_err-items-clause-takes

@@ -23,12 +23,12 @@ loop-alloc-preserved g c =
     let item = c.in_ok-parse_item.ensures in
     let comma = c.in_ok-take_comma.ensures in
     let more : map g.T.Parse.tree c.push.new.items.items ≡ map g.T.Parse.tree c.loop-alloc.items.items ++ g.T.Parse.tree c.in_ok-parse_item.field-0 ∷ [] = rw c.in_ok-push.ensures.items (map_push _ c.loop-alloc.items.items c.in_ok-parse_item.field-0) in
-    rw more (list_goes_on c.parse_item.new.lexer list c.loop-alloc.invariant (tested c.at.ensures c.loop-alloc-test.true) item.gives item.source item.moves comma.gives comma.source comma.moves)
+    rw more (list_goes_on c.parse_item.new.lexer list c.loop-alloc.invariant (tested c.at.ensures c.loop-alloc-test.true) item.gives item.source item.moves (comma.gives g.T.Parse.symbol c.requires.listed c.requires.begins) comma.source comma.moves)
 
 pub returns-in_err-take_comma-clause-gives : goal.returns-in_err-take_comma-clause-gives
 returns-in_err-take_comma-clause-gives g c =
     let list = (comma_list g.T.Parse.symbol c.args.until c.requires.listed).is_list in
-    made_fails _ _ _ _ _ _ _ c.from_residual-in_err-take_comma.ensures.1 (so_far_fails _ c.loop-alloc.invariant (step_fails _ _ _ list (tested c.at.ensures c.loop-alloc-test.true) c.in_ok-parse_item.ensures.gives c.in_err-take_comma.ensures.gives))
+    made_fails _ _ _ _ _ _ _ c.from_residual-in_err-take_comma.ensures.1 (so_far_fails _ c.loop-alloc.invariant (step_fails _ _ _ list (tested c.at.ensures c.loop-alloc-test.true) c.in_ok-parse_item.ensures.gives (c.in_err-take_comma.ensures.gives g.T.Parse.symbol c.requires.listed c.requires.begins)))
 
 pub returns-clause-gives : goal.returns-clause-gives
 returns-clause-gives g c = list_closed (comma_list g.T.Parse.symbol c.args.until c.requires.listed).is_list (closes_plain _ _ c.requires.listed) c.loop-alloc.invariant (tested c.at.ensures c.loop-alloc-test.false)

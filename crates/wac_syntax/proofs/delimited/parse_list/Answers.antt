@@ -1,6 +1,5 @@
-use Rattle.std.proofs.Common.{refl, ◌∙◌}
+use Rattle.std.proofs.Common.{◌∙◌}
 use Rattle.wac_lexer.specs.Reading.{left}
-use Rattle.wac_lexer.specs.declared.token.Token.TheVariants as t
 use Rattle.wac_syntax.specs.Answer.{first_item}
 use Rattle.wac_syntax.specs.Lists.{list_of}
 use Rattle.wac_syntax.proofs.Exits.{same_error}

@@ -17,4 +17,4 @@ pub returns-clause-error : goal.returns-clause-error
 returns-clause-error c = is_error document_of c.args.source.now c.parse_document.result c.parse_document.ensures
 
 pub returns-clause-slices : goal.returns-clause-slices
-returns-clause-slices c = is_sliced document_of c.args.source.now c.parse_document.result (c.items_stand_in_order.ensures c.args.source.now c.utf8.source) (is_found document_of c.args.source.now c.parse_document.result c.parse_document.ensures)
+returns-clause-slices c = is_sliced document_of c.args.source.now c.parse_document.result c.utf8.source (c.items_stand_in_order.ensures c.args.source.now c.utf8.source) (is_found document_of c.args.source.now c.parse_document.result c.parse_document.ensures)

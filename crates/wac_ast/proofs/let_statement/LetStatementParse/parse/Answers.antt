@@ -3,9 +3,6 @@ use Rattle.wac_syntax.proofs.Exits as x
 use Rattle.wac_syntax.proofs.Yields as y
 use Rattle.wac_ast.proofs.let_statement.LetStatementParse.parse.Goals as goal
 
-pub returns-in_err-docs-clause-gives : goal.returns-in_err-docs-clause-gives
-returns-in_err-docs-clause-gives c = x.exits let_statement _ _ _ c.from_residual.ensures.1 (x.memory c.in_err-docs.ensures.refused)
-
 pub returns-in_err-take_token-clause-gives : goal.returns-in_err-take_token-clause-gives
 returns-in_err-take_token-clause-gives c = x.exits let_statement _ _ _ c.from_residual-in_err-take_token.ensures.1 (x.with_docs (x.here c.in_err-take_token.ensures.takes))
 

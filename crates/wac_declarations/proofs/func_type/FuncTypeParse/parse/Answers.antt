@@ -1,4 +1,3 @@
-use Rattle.std.proofs.Common.{refl}
 use Rattle.wac_lexer.specs.declared.token.Token.TheVariants as tokens
 use Rattle.wac_grammar.specs.Grammar.{func_type}
 use Rattle.wac_syntax.proofs.Optional.{optional_token}

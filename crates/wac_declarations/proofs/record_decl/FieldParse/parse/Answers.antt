@@ -4,9 +4,6 @@ use Rattle.wac_syntax.proofs.Exits as x
 use Rattle.wac_syntax.proofs.Yields as y
 use Rattle.wac_declarations.proofs.record_decl.FieldParse.parse.Goals as goal
 
-pub returns-in_err-docs-clause-gives : goal.returns-in_err-docs-clause-gives
-returns-in_err-docs-clause-gives c = x.exits field _ _ _ c.from_residual.ensures.1 (x.memory c.in_err-docs.ensures.refused)
-
 pub returns-in_err-named-clause-gives : goal.returns-in_err-named-clause-gives
 returns-in_err-named-clause-gives c = x.exits field _ _ _ c.from_residual-in_err-named.ensures.1 (x.with_docs (x.last c.in_err-named.ensures.gives))
 

@@ -3,9 +3,6 @@ use Rattle.wac_syntax.proofs.Exits as x
 use Rattle.wac_syntax.proofs.Yields as y
 use Rattle.wac_declarations.proofs.resource.ConstructorParse.parse.Goals as goal
 
-pub returns-in_err-docs-clause-gives : goal.returns-in_err-docs-clause-gives
-returns-in_err-docs-clause-gives c = x.exits constructor _ _ _ c.from_residual.ensures.1 (x.memory c.in_err-docs.ensures.refused)
-
 pub returns-in_err-span-clause-gives : goal.returns-in_err-span-clause-gives
 returns-in_err-span-clause-gives c = x.exits constructor _ _ _ c.from_residual-in_err-span.ensures.1 (x.with_docs (x.here c.in_err-span.ensures.takes))
 

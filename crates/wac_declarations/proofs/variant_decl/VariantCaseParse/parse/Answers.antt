@@ -5,9 +5,6 @@ use Rattle.wac_syntax.proofs.Exits as x
 use Rattle.wac_syntax.proofs.Yields as y
 use Rattle.wac_declarations.proofs.variant_decl.VariantCaseParse.parse.Goals as goal
 
-pub returns-in_err-docs-clause-gives : goal.returns-in_err-docs-clause-gives
-returns-in_err-docs-clause-gives c = x.exits variant_case _ _ _ c.from_residual.ensures.1 (x.memory c.in_err-docs.ensures.refused)
-
 pub returns-in_err-id-clause-gives : goal.returns-in_err-id-clause-gives
 returns-in_err-id-clause-gives c = x.exits variant_case _ _ _ c.from_residual-in_err-id.ensures.1 (x.with_docs (x.here c.in_err-id.ensures.gives))
 

@@ -12,7 +12,7 @@ pub invariant_of-self-2 : goal.invariant_of-self-2
 invariant_of-self-2 c =
     let after : Parts = record { types = c.self.inside.types; packages = c.self.inside.packages.items; nodes = c.push.new.self.items; imports = c.self.inside.imports; exports = c.self.inside.exports } in
     let at : slice_get c.args.self.now.packages c.args.package.0 ≡ Some c.index.result.now = subst (λ (g : Parts). slice_get g.packages c.args.package.0 ≡ Some c.index.result.now) c.self.view_is
-        (stands c.self.inside.packages.items c.args.package.0 c.index.result.now (subst (λ (g : Parts). c.args.package.0 < length g.packages) (sym c.self.view_is) c.requires) c.index.ensures) in
+    (stands c.self.inside.packages.items c.args.package.0 c.index.result.now (subst (λ (g : Parts). c.args.package.0 < length g.packages) (sym c.self.view_is) c.requires) c.index.ensures) in
     let is : after ≡ with_instantiation c.args.self.now c.args.package.0 (kinds.Instance c.index.result.now.instance) = search rules in
     subst IsSound (sym is) (sound_instantiation c.args.self.now c.args.package.0 c.index.result.now at (subst IsSound c.self.view_is c.self.invariant))
 
@@ -20,6 +20,6 @@ pub returns-clause-ok : goal.returns-clause-ok
 returns-clause-ok c =
     let after : Parts = record { types = c.self.inside.types; packages = c.self.inside.packages.items; nodes = c.push.new.self.items; imports = c.self.inside.imports; exports = c.self.inside.exports } in
     let at : slice_get c.args.self.now.packages c.args.package.0 ≡ Some c.index.result.now = subst (λ (g : Parts). slice_get g.packages c.args.package.0 ≡ Some c.index.result.now) c.self.view_is
-        (stands c.self.inside.packages.items c.args.package.0 c.index.result.now (subst (λ (g : Parts). c.args.package.0 < length g.packages) (sym c.self.view_is) c.requires) c.index.ensures) in
+    (stands c.self.inside.packages.items c.args.package.0 c.index.result.now (subst (λ (g : Parts). c.args.package.0 < length g.packages) (sym c.self.view_is) c.requires) c.index.ensures) in
     let is : after ≡ with_instantiation c.args.self.now c.args.package.0 (kinds.Instance c.index.result.now.instance) = search rules in
     subst (λ (o : Option HeldPackage). IfSome o (λ p. after ≡ with_instantiation c.args.self.now c.args.package.0 (kinds.Instance p.instance))) (sym at) is

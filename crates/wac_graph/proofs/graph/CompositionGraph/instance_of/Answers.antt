@@ -1,14 +1,14 @@
-use Rattle.std.proofs.Common.{◌≡◌, ◌∙◌, ◌<◌, Some, length, sym, ap, subst}
+use Rattle.std.proofs.Common.{◌≡◌, ◌∙◌, ◌<◌, Some, length, sym, subst}
 use Rattle.std.specs.Prelude.{slice_get, option_map, IfSome}
 use Rattle.wac_types.proofs.Rows.{stands}
-use Rattle.wac_graph.specs.Graph.{Parts, arguments_of, package_of}
-use Rattle.wac_graph.specs.Node.{sort_of, HasPackage, arguments_in, source_in, package_in}
-use Rattle.wac_graph.specs.Sound.{IsSoundNode, NamesNodes}
-use Rattle.wac_graph.proofs.Reading.{has_package, package_there, source_earlier, arguments_earlier, arguments_are, package_is, named_there, source_there, package_within}
+use Rattle.wac_graph.specs.Graph.{Parts, package_of}
+use Rattle.wac_graph.specs.Node.{package_in}
+use Rattle.wac_graph.specs.Sound.{IsSoundNode}
+use Rattle.wac_graph.proofs.Reading.{package_there, package_is, package_within}
 use Rattle.wac_graph.proofs.graph.CompositionGraph.instance_of.Goals as goal
 
-pub returns-clause-package : goal.returns-clause-package
-returns-clause-package c =
+pub returns-clause-of : goal.returns-clause-of
+returns-clause-of c =
     let before : Parts = record { types = c.self.inside.types; packages = c.self.inside.packages.items; nodes = c.self.inside.nodes.items; imports = c.self.inside.imports; exports = c.self.inside.exports } in
     let at : slice_get before.nodes c.args.id.0 ≡ Some c.index.result.now = stands before.nodes c.args.id.0 c.index.result.now (subst (λ (g : Parts). c.args.id.0 < length g.nodes) (sym c.self.view_is) c.requires) c.index.ensures in
     let node : IsSoundNode before c.args.id.0 c.index.result.now = c.self.invariant.nodes c.args.id.0 c.index.result.now at in

@@ -1,10 +1,10 @@
-use Rattle.std.proofs.Common.{◌≡◌, ◌∙◌, ◌<◌, Some, length, sym, ap, subst}
-use Rattle.std.specs.Prelude.{slice_get, option_map, IfSome}
+use Rattle.std.proofs.Common.{◌≡◌, ◌<◌, Some, length, sym, subst}
+use Rattle.std.specs.Prelude.{slice_get}
 use Rattle.wac_types.proofs.Rows.{stands}
-use Rattle.wac_graph.specs.Graph.{Parts, arguments_of, package_of}
-use Rattle.wac_graph.specs.Node.{sort_of, HasPackage, arguments_in, source_in, package_in}
-use Rattle.wac_graph.specs.Sound.{IsSoundNode, NamesNodes}
-use Rattle.wac_graph.proofs.Reading.{has_package, package_there, source_earlier, arguments_earlier, arguments_are, package_is, named_there, source_there, package_within}
+use Rattle.wac_graph.specs.Graph.{Parts}
+use Rattle.wac_graph.specs.Node.{sort_of, HasPackage}
+use Rattle.wac_graph.specs.Sound.{IsSoundNode}
+use Rattle.wac_graph.proofs.Reading.{has_package}
 use Rattle.wac_graph.proofs.graph.CompositionGraph.node.Goals as goal
 
 pub returns-clause-there : goal.returns-clause-there

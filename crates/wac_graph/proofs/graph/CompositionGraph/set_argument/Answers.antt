@@ -1,8 +1,8 @@
-use Rattle.std.proofs.Common.{◌≡◌, ◌∙◌, ◌<◌, Option, Some, length, sym, ap, subst}
+use Rattle.std.proofs.Common.{◌≡◌, ◌∙◌, ◌<◌, Some, length, sym, ap, subst}
 use Rattle.std.specs.Prelude.{slice_get, option_and_then, IsSome}
 use Rattle.wac_types.specs.Scope.{IsFresh}
 use Rattle.wac_types.proofs.Rows.{stands}
-use Rattle.wac_graph.specs.Node.{Node, package_in, arguments_in}
+use Rattle.wac_graph.specs.Node.{package_in, arguments_in}
 use Rattle.wac_graph.specs.Graph.{Parts, with_argument, given_too, import_kind, parameter_kind, arguments_of}
 use Rattle.wac_graph.specs.Sound.{IsSound}
 use Rattle.wac_graph.proofs.Reading.{arguments_are, package_is, parameter_there, with_package}

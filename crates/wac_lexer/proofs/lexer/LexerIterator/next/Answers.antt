@@ -1,39 +1,56 @@
-use Rattle.std.proofs.Common.{◌≡◌, ◌+◌, None, length, subst, arith, refl, rules}
-use Rattle.std.proofs.lemmas.Str.{IsCharBoundary-end}
-use Rattle.wac_lexer.specs.Item.{behind_first}
-use Rattle.wac_lexer.specs.Items.{items_from}
-use Rattle.wac_lexer.specs.Reading.{Nexts, Reading, left}
-use Rattle.wac_lexer.proofs.Unfolded.{between_next, none_left}
+use Rattle.std.proofs.Common.{◌<◌, ◌≤◌, length, arith, rules}
+use Rattle.wac_lexer.specs.Span.{end_of}
+use Rattle.wac_lexer.proofs.Found.{found_ends}
+use Rattle.wac_lexer.proofs.Ahead.{counts, within_next, ahead_next, steps_next, within_end, ahead_end, steps_end}
 use Rattle.wac_lexer.proofs.lexer.LexerIterator.next.Goals as goal
+
+pub scan_behind-self-inside-requires-clause-counts : goal.scan_behind-self-inside-requires-clause-counts
+scan_behind-self-inside-requires-clause-counts c =
+    let l = c.self.inside in
+    let ahead = rw c.in-Some.is at c.self.invariant.1 in
+    counts l.scanner.source.now l.place l.last (c.in-Some.found, c.in-Some.span) l.second l.scanner.scans c.self.invariant.0 ahead (omega (arith, c.self.told.1))
 
 pub invariant_of-self : goal.invariant_of-self
 invariant_of-self c =
-    let source = c.self.inside.source.now in
-    let rest : items_from source (c.offset.result + c.len.result) ≡ behind_first (items_from source c.self.inside.place) = search rules in
-    record { boundary = search rules; between = between_next source c.self.inside.place _ c.self.invariant.between rest; last_ends = search rules }
+    let l = c.self.inside in
+    let source = l.scanner.source.now in
+    let more = c.scan_behind-self-inside in
+    let ahead = rw c.in-Some.is at c.self.invariant.1 in
+    rw (more.ensures.source, c.offset.ensures, c.len.ensures) (
+      within_next source l.place l.last (c.in-Some.found, c.in-Some.span) l.second l.scanner.scans c.self.invariant.0 ahead,
+      ahead_next source l.place l.last (c.in-Some.found, c.in-Some.span) l.second more.result l.scanner.scans more.new.self.scans c.self.invariant.0 ahead more.ensures.item more.ensures.scans,
+    )
 
 pub invariant_of-self-in-None : goal.invariant_of-self-in-None
 invariant_of-self-in-None c =
-    let source = c.self.inside.source.now in
-    record {
-      boundary = IsCharBoundary-end source;
-      between = between_next source c.self.inside.place (length source) c.self.invariant.between (none_left source c.self.inside.place c.in-None.ensures.rest);
-      last_ends = search (rules, arith);
-    }
+    let l = c.self.inside in
+    let source = l.scanner.source.now in
+    let ahead = rw c.in-None.is at c.self.invariant.1 in
+    rw (c.new-self-inside.ensures, c.in-None.is)
+    (within_end source l.place l.last l.second l.scanner.scans c.self.invariant.0 ahead, ahead_end source l.place l.second l.scanner.scans ahead)
+
+pub returns-in-Some-clause-steps : goal.returns-in-Some-clause-steps
+returns-in-Some-clause-steps c =
+    let l = c.self.inside in
+    let source = l.scanner.source.now in
+    let more = c.scan_behind-self-inside in
+    let ahead = rw c.in-Some.is at c.self.invariant.1 in
+    rw (more.ensures.source, c.offset.ensures, c.len.ensures, ← c.self.view_is)
+    (steps_next source l.place l.last (c.in-Some.found, c.in-Some.span) l.second more.result l.scanner.scans more.new.self.scans c.self.invariant.0 ahead more.ensures.item more.ensures.scans)
+
+pub returns-in-Some-clause-goes : goal.returns-in-Some-clause-goes
+returns-in-Some-clause-goes c =
+    let l = c.self.inside in
+    let source = l.scanner.source.now in
+    let ahead = rw c.in-Some.is at c.self.invariant.1 in
+    let ends : l.place < end_of c.in-Some.span = found_ends source l.place (c.in-Some.found, c.in-Some.span) ahead.first_is.is in
+    let within : end_of c.in-Some.span ≤ length source = ahead.first_is.slices.1.0 in
+    rw (c.scan_behind-self-inside.ensures.source, c.offset.ensures, c.len.ensures, ← c.self.view_is) (search (rules, arith, ends, within))
 
 pub returns-in-None-clause-steps : goal.returns-in-None-clause-steps
-unfolding left
 returns-in-None-clause-steps c =
-    let source = c.self.inside.source.now in
-    let P = λ (old : Reading). Nexts old None (record { source = source; place = length source; last = c.new-self-inside.result }) in
-    subst P c.self.view_is (record {
-      gives = c.in-None.ensures.item;
-      rest = none_left source c.self.inside.place c.in-None.ensures.rest;
-      source = refl;
-      moves = c.self.invariant.boundary.0;
-      place = refl;
-      last = c.new-self-inside.ensures;
-      slices = tt;
-      fits = tt;
-      text = c.in-None.ensures.text;
-    })
+    let l = c.self.inside in
+    let source = l.scanner.source.now in
+    let ahead = rw c.in-None.is at c.self.invariant.1 in
+    rw (c.new-self-inside.ensures, ← c.self.view_is)
+    (steps_end source l.place l.last l.second l.scanner.scans c.self.invariant.0 ahead)

@@ -5,7 +5,7 @@ use Rattle.wac_lexer.specs.Span.{Span, span}
 use Rattle.wac_grammar.specs.Version.{is_slash}
 use Rattle.wac_grammar.specs.Tree.{PackagePath}
 
--- so many bytes behind an offset, up to the greatest offset
+-- so many bytes after an offset, up to the greatest offset
 abbrev pub behind : ℕ → ℕ → ℕ
 behind offset bytes = min (offset + bytes) (2 ^ 64 - 1)
 
@@ -27,7 +27,7 @@ segments_left offset (Some text) = segments_from offset text
 abbrev pub package_name_span : PackagePath → Span
 package_name_span path = span path.span.offset (length path.name)
 
--- the segments of a path, which stand behind its name and a slash
+-- the segments of a path, which stand after its name and a slash
 abbrev pub segment_spans : PackagePath → List (List ℕ × Span)
 segment_spans path = segments_from (behind (behind path.span.offset (length path.name)) 1) path.segments
 

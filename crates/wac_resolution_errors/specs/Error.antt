@@ -34,6 +34,7 @@ pub data Error : Type 0 where
   not_resource_type : (name kind : List ℕ) (at : Span) → Error
   not_value_type : (name kind : List ℕ) (at : Span) → Error
   duplicate_parameter : FuncKind → (name : List ℕ) (at : Span) → Error
+  duplicate_result : FuncKind → (name : List ℕ) (at : Span) → Error
   borrow_in_result : (at : Span) → Error
   unknown_package : (name : List ℕ) (at : Span) → Error
   package_missing_export : (kind : Option (List ℕ)) (path name export : List ℕ) (at : Span) → Error

@@ -1,0 +1,10 @@
+use Rattle.std.proofs.Common.{◌≡◌, ◌<◌, ℕ, List, length, rules, sym, subst}
+use Rattle.std.specs.List.{AllByRecursion}
+use Rattle.wac_graph.specs.Numbers.{numbers}
+use Rattle.wac_graph.proofs.Numbers.{numbers_below}
+use Rattle.wac_graph.proofs.graph.CompositionGraph.packages.Goals as goal
+
+pub returns-clause-there : goal.returns-clause-there
+returns-clause-there c =
+    let all : c.new.result ≡ numbers 0 (length c.args.self.now.packages) = search rules in
+    subst (λ (l : List ℕ). AllByRecursion (λ i. i < length c.args.self.now.packages) l) (sym all) (numbers_below (length c.args.self.now.packages))

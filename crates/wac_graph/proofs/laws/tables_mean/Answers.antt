@@ -1,0 +1,12 @@
+use Rattle.wac_types.proofs.Found.{interface_exports_mean, world_exports_mean, world_imports_mean}
+use Rattle.wac_graph.specs.Means.{entry_means, origin_at}
+use Rattle.wac_graph.proofs.laws.tables_mean.Goals as goal
+
+pub returns-clause-interfaces : goal.returns-clause-interfaces
+returns-clause-interfaces c g naming id mean named = interface_exports_mean (λ i. naming (origin_at g i)) g.types (entry_means naming g) (mean naming) id.0 named.1
+
+pub returns-clause-worlds : goal.returns-clause-worlds
+returns-clause-worlds c g naming id mean named = world_exports_mean (λ i. naming (origin_at g i)) g.types (entry_means naming g) (mean naming) id.0 named.1
+
+pub returns-clause-imports : goal.returns-clause-imports
+returns-clause-imports c g naming id mean named = world_imports_mean (λ i. naming (origin_at g i)) g.types (entry_means naming g) (mean naming) id.0 named.1

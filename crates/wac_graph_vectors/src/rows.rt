@@ -1,0 +1,191 @@
+//! Tables and packages, made of rows.
+
+use indexmap::{IndexMap, IndexSet};
+use std::alloc::{AllocError, Global};
+use wac_graph::{
+    DefinedType, Entry, FuncType, Interface, InterfaceId, ItemKind, Package, PackageError,
+    Resource, ResourceAlias, Types, UsedType, ValueType, World, WorldId,
+};
+
+/// An entry of a table, as a test writes it.
+#[derive(Clone, Copy)]
+pub enum Row<'a> {
+    Resource(&'a str, Option<ResourceAlias>),
+    Tuple(&'a [ValueType]),
+    List(ValueType),
+    Alias(ValueType),
+    Stream,
+    Record(&'a [(&'a str, ValueType)]),
+    Variant(&'a [(&'a str, Option<ValueType>)]),
+    Enum(&'a [&'a str]),
+    /// Parameters, and the result of an async function.
+    Func(&'a [(&'a str, ValueType)], Option<ValueType>),
+    /// An interface with its id and exports.
+    Interface(Option<&'a str>, &'a [(&'a str, ItemKind)]),
+    /// An interface that uses, as the first name, the second name of another one.
+    Using(&'a str, InterfaceId, &'a str, &'a [(&'a str, ItemKind)]),
+    /// A world with its imports and exports.
+    World(&'a [(&'a str, ItemKind)], &'a [(&'a str, ItemKind)]),
+}
+
+/// Values by name, in order.
+pub fn named<V: Copy>(
+    alloc: Global,
+    rows: &[(&str, V)],
+) -> Result<IndexMap<String, V>, AllocError> {
+    let mut all = IndexMap::new(alloc);
+    for (name, value) in rows {
+        all.insert(String::from_str(alloc, name)?, *value)?;
+    }
+    Ok(all)
+}
+
+fn names(alloc: Global, rows: &[&str]) -> Result<IndexSet<String>, AllocError> {
+    let mut all = IndexSet::new(alloc);
+    for name in rows {
+        all.insert(String::from_str(alloc, name)?)?;
+    }
+    Ok(all)
+}
+
+fn values(alloc: Global, rows: &[ValueType]) -> Result<Vec<ValueType>, AllocError> {
+    let mut all = Vec::new(alloc);
+    for value in rows {
+        all.push(*value)?;
+    }
+    Ok(all)
+}
+
+fn resource(alloc: Global, name: &str, alias: Option<ResourceAlias>) -> Result<Entry, AllocError> {
+    let name = String::from_str(alloc, name)?;
+    Ok(Entry::Resource(Resource { name, alias }))
+}
+
+fn func(
+    alloc: Global,
+    rows: &[(&str, ValueType)],
+    output: Option<ValueType>,
+) -> Result<Entry, AllocError> {
+    let params = named(alloc, rows)?;
+    Ok(Entry::Func(FuncType {
+        params,
+        result: output,
+        is_async: output.is_some(),
+    }))
+}
+
+fn text(alloc: Global, text: Option<&str>) -> Result<Option<String>, AllocError> {
+    match text {
+        None => Ok(None),
+        Some(text) => Ok(Some(String::from_str(alloc, text)?)),
+    }
+}
+
+fn interface(
+    alloc: Global,
+    id: Option<&str>,
+    rows: &[(&str, ItemKind)],
+) -> Result<Entry, AllocError> {
+    let id = text(alloc, id)?;
+    let exports = named(alloc, rows)?;
+    Ok(Entry::Interface(Interface {
+        id,
+        uses: IndexMap::new(alloc),
+        exports,
+    }))
+}
+
+fn uses(
+    alloc: Global,
+    name: &str,
+    interface: InterfaceId,
+    other: &str,
+) -> Result<IndexMap<String, UsedType>, AllocError> {
+    let mut uses = IndexMap::new(alloc);
+    let name = String::from_str(alloc, name)?;
+    let used = UsedType {
+        interface,
+        name: text(alloc, Some(other))?,
+    };
+    uses.insert(name, used)?;
+    Ok(uses)
+}
+
+fn using(
+    alloc: Global,
+    uses: IndexMap<String, UsedType>,
+    rows: &[(&str, ItemKind)],
+) -> Result<Entry, AllocError> {
+    let exports = named(alloc, rows)?;
+    Ok(Entry::Interface(Interface {
+        id: None,
+        uses,
+        exports,
+    }))
+}
+
+fn world(
+    alloc: Global,
+    imports: &[(&str, ItemKind)],
+    exports: &[(&str, ItemKind)],
+) -> Result<Entry, AllocError> {
+    let imports = named(alloc, imports)?;
+    let exports = named(alloc, exports)?;
+    Ok(Entry::World(World {
+        id: None,
+        uses: IndexMap::new(alloc),
+        imports,
+        exports,
+    }))
+}
+
+fn defined(alloc: Global, row: Row<'_>) -> Result<Entry, AllocError> {
+    Ok(Entry::Defined(match row {
+        Row::Tuple(rows) => DefinedType::Tuple(values(alloc, rows)?),
+        Row::List(of) => DefinedType::List(of),
+        Row::Alias(of) => DefinedType::Alias(of),
+        Row::Record(rows) => DefinedType::Record {
+            fields: named(alloc, rows)?,
+        },
+        Row::Variant(rows) => DefinedType::Variant {
+            cases: named(alloc, rows)?,
+        },
+        Row::Enum(rows) => DefinedType::Enum(names(alloc, rows)?),
+        _ => DefinedType::Stream(None),
+    }))
+}
+
+pub fn entry(alloc: Global, row: Row<'_>) -> Result<Entry, AllocError> {
+    match row {
+        Row::Resource(name, alias) => resource(alloc, name, alias),
+        Row::Func(params, output) => func(alloc, params, output),
+        Row::Interface(id, exports) => interface(alloc, id, exports),
+        Row::Using(name, of, other, exports) => using(
+            alloc,
+            uses(alloc, name, of, other)?,
+            exports,
+        ),
+        Row::World(imports, exports) => world(alloc, imports, exports),
+        _ => defined(alloc, row),
+    }
+}
+
+pub fn table(alloc: Global, rows: &[Row<'_>]) -> Result<Types, AllocError> {
+    let mut types = Types::new(alloc);
+    for row in rows {
+        types.add(entry(alloc, *row)?)?;
+    }
+    Ok(types)
+}
+
+/// The package of a table: numbers of its world and its instance, and what it defines.
+pub fn package(
+    alloc: Global,
+    rows: &[Row<'_>],
+    (world, instance): (usize, usize),
+    definitions: &[(&str, ItemKind)],
+) -> Result<Package, PackageError> {
+    let definitions = named(alloc, definitions)?;
+    let types = table(alloc, rows)?;
+    Package::new(types, WorldId(world), InterfaceId(instance), definitions)
+}

@@ -1,0 +1,676 @@
+//! Why a document can't be resolved.
+
+ghost use Rattle.std.specs.Prelude.{◌≡◌, alloc_error};
+ghost use Rattle.wac_resolution_errors.specs.declared.error.Error.TheVariants.{Memory};
+
+use crate::operation::InstanceOperation;
+use std::alloc::{AllocError, AllocFailed};
+use std::fmt;
+use wac_lexer::SourceSpan;
+use wac_types::{ExternKind, FuncKind, Reason};
+
+/// Why a document can't be resolved: the rule that the first failing statement breaks.
+///
+/// Spans are in bytes of the source. The `Display` is the message, without places.
+#[derive(Debug, Drop)]
+pub enum Error {
+    /// A name stands for nothing where it is used.
+    UndefinedName {
+        /// The name.
+        name: String,
+        /// The identifier, or the segment of a path.
+        span: SourceSpan,
+    },
+    /// A scope has the name already.
+    DuplicateName {
+        /// The name.
+        name: String,
+        /// The identifier.
+        span: SourceSpan,
+        /// Where the name was bound before.
+        previous: SourceSpan,
+    },
+    /// An interface exports the name already.
+    DuplicateInterfaceExport {
+        /// The name.
+        name: String,
+        /// The name of the interface, where it has one.
+        interface_name: Option<String>,
+        /// The identifier.
+        span: SourceSpan,
+    },
+    /// A world imports, or exports, the name already.
+    DuplicateWorldItem {
+        /// Whether it is an import or an export.
+        kind: ExternKind,
+        /// The name.
+        name: String,
+        /// The name of the world.
+        world: String,
+        /// The identifier or path.
+        span: SourceSpan,
+    },
+    /// A world item is typed by something else than a function type or an interface.
+    NotFuncOrInterface {
+        /// The identifier.
+        name: String,
+        /// What it stands for.
+        kind: &'static str,
+        /// The identifier.
+        span: SourceSpan,
+    },
+    /// What is used, imported or exported is no interface.
+    NotInterface {
+        /// The identifier, or the whole path.
+        name: String,
+        /// What it stands for.
+        kind: &'static str,
+        /// The identifier or path.
+        span: SourceSpan,
+    },
+    /// The `with` clause of an include renames one name twice.
+    DuplicateWorldIncludeName {
+        /// The name.
+        name: String,
+        /// The second name to be renamed.
+        span: SourceSpan,
+    },
+    /// What is included or targeted is no world.
+    NotWorld {
+        /// The identifier, or the whole path.
+        name: String,
+        /// What it stands for.
+        kind: &'static str,
+        /// The identifier or path.
+        span: SourceSpan,
+    },
+    /// The `with` clause of an include renames a name that is not there.
+    MissingWorldInclude {
+        /// The included world.
+        world: String,
+        /// The name.
+        name: String,
+        /// The name to be renamed.
+        span: SourceSpan,
+    },
+    /// A name that an include takes over is there already.
+    WorldIncludeConflict {
+        /// Whether it is an import or an export.
+        kind: ExternKind,
+        /// The name, after it was renamed.
+        name: String,
+        /// The included world.
+        from: String,
+        /// The world that includes.
+        to: String,
+        /// The new name where it was renamed, else the world that is included.
+        span: SourceSpan,
+        /// What can be done, where no name was renamed.
+        help: Option<&'static str>,
+    },
+    /// An interface has no type of the name that is used.
+    UndefinedInterfaceType {
+        /// The name.
+        name: String,
+        /// The interface.
+        interface_name: String,
+        /// The name that is used.
+        span: SourceSpan,
+    },
+    /// What is used of an interface is neither a resource nor a type of values.
+    NotInterfaceValueType {
+        /// The name.
+        name: String,
+        /// What it stands for.
+        kind: &'static str,
+        /// The interface.
+        interface_name: String,
+        /// The name that is used.
+        span: SourceSpan,
+    },
+    /// A resource has two constructors.
+    DuplicateResourceConstructor {
+        /// The name of the resource.
+        resource: String,
+        /// The second keyword.
+        span: SourceSpan,
+    },
+    /// A resource has two methods of one name, static or not.
+    DuplicateResourceMethod {
+        /// The name of the method.
+        name: String,
+        /// The name of the resource.
+        resource: String,
+        /// The identifier.
+        span: SourceSpan,
+    },
+    /// A variant has two cases of one name.
+    DuplicateVariantCase {
+        /// The name of the case.
+        case: String,
+        /// The name of the variant.
+        name: String,
+        /// The identifier.
+        span: SourceSpan,
+    },
+    /// A record has two fields of one name.
+    DuplicateRecordField {
+        /// The name of the field.
+        field: String,
+        /// The name of the record.
+        name: String,
+        /// The identifier.
+        span: SourceSpan,
+    },
+    /// An enum has two cases of one name.
+    DuplicateEnumCase {
+        /// The name of the case.
+        case: String,
+        /// The name of the enum.
+        name: String,
+        /// The identifier.
+        span: SourceSpan,
+    },
+    /// Flags of one name.
+    DuplicateFlag {
+        /// The name of the flag.
+        flag: String,
+        /// The name of the flags type.
+        name: String,
+        /// The identifier.
+        span: SourceSpan,
+    },
+    /// An alias of something that can have none.
+    InvalidAliasType {
+        /// The identifier.
+        name: String,
+        /// What it stands for.
+        kind: &'static str,
+        /// The identifier.
+        span: SourceSpan,
+    },
+    /// A function is typed by something that is no function type.
+    NotFuncType {
+        /// The identifier.
+        name: String,
+        /// What it stands for.
+        kind: &'static str,
+        /// The identifier.
+        span: SourceSpan,
+    },
+    /// What is borrowed is no resource.
+    NotResourceType {
+        /// The identifier.
+        name: String,
+        /// What it stands for.
+        kind: &'static str,
+        /// The identifier.
+        span: SourceSpan,
+    },
+    /// What stands for a type of values is none.
+    NotValueType {
+        /// The identifier.
+        name: String,
+        /// What it stands for.
+        kind: &'static str,
+        /// The identifier.
+        span: SourceSpan,
+    },
+    /// A function has two parameters of one name. The first of a method is `self`.
+    DuplicateParameter {
+        /// What the function is.
+        kind: FuncKind,
+        /// The name of the parameter.
+        name: String,
+        /// The identifier.
+        span: SourceSpan,
+    },
+    /// A function has two results of one name. Nothing makes this error yet: results have no names.
+    DuplicateResult {
+        /// What the function is.
+        kind: FuncKind,
+        /// The name of the result.
+        name: String,
+        /// The identifier.
+        span: SourceSpan,
+    },
+    /// The result of a function contains a borrow.
+    BorrowInResult {
+        /// The type of the result.
+        span: SourceSpan,
+    },
+    /// A package was not handed to the resolver.
+    UnknownPackage {
+        /// The package: in `new` with its version, in a path without.
+        name: String,
+        /// The name of the package.
+        span: SourceSpan,
+    },
+    /// A package has nothing at the end of a path.
+    PackageMissingExport {
+        /// The package, without its version.
+        package: String,
+        /// The segment that is missing.
+        export: String,
+        /// What the segment before it stands for, where there is one.
+        kind: Option<&'static str>,
+        /// The segments before it, joined by `/`.
+        path: String,
+        /// The segment.
+        span: SourceSpan,
+    },
+    /// An item of this package has nothing at the end of a path.
+    PackagePathMissingExport {
+        /// The segment before.
+        name: String,
+        /// What that one stands for.
+        kind: &'static str,
+        /// The segment that is missing.
+        export: String,
+        /// The segment.
+        span: SourceSpan,
+    },
+    /// A component imports nothing of an argument's name.
+    MissingComponentImport {
+        /// The package, without its version.
+        package: String,
+        /// The name of the argument.
+        import: String,
+        /// The argument.
+        span: SourceSpan,
+    },
+    /// An argument may not stand for the import of its name.
+    MismatchedInstantiationArg {
+        /// The name of the argument.
+        name: String,
+        /// Why not, as the rules answered.
+        source: Reason,
+        /// The argument.
+        span: SourceSpan,
+    },
+    /// Two arguments have one name.
+    DuplicateInstantiationArg {
+        /// The name.
+        name: String,
+        /// The second argument.
+        span: SourceSpan,
+    },
+    /// An import of a package is given no argument, and no `...` fills it in.
+    MissingInstantiationArg {
+        /// The name of the import.
+        name: String,
+        /// The package, with its version.
+        package: String,
+        /// The name of the package.
+        span: SourceSpan,
+    },
+    /// Something of a node that is no instance is asked for.
+    NotAnInstance {
+        /// What the node is.
+        kind: &'static str,
+        /// What is asked for.
+        operation: InstanceOperation,
+        /// The expression, or what stands before the access.
+        span: SourceSpan,
+    },
+    /// An instance has no export of the name.
+    MissingInstanceExport {
+        /// The name.
+        name: String,
+        /// The access.
+        span: SourceSpan,
+    },
+    /// An export has no name of its own.
+    ExportRequiresAs {
+        /// The expression.
+        span: SourceSpan,
+    },
+    /// The name of a declared type is exported already.
+    DeclarationConflict {
+        /// The name.
+        name: String,
+        /// The identifier.
+        span: SourceSpan,
+        /// Where the name was exported.
+        export: SourceSpan,
+    },
+    /// The name of an export is that of a declared type.
+    ExportConflict {
+        /// The name.
+        name: String,
+        /// What was declared.
+        kind: &'static str,
+        /// The name of the export.
+        span: SourceSpan,
+        /// The identifier that is bound to it.
+        definition: SourceSpan,
+        /// What can be done, where the export has no name of its own.
+        help: Option<&'static str>,
+    },
+    /// A name is imported, or exported, twice.
+    DuplicateExternName {
+        /// Whether it is an import or an export.
+        kind: ExternKind,
+        /// The name.
+        name: String,
+        /// The second name.
+        span: SourceSpan,
+        /// The first.
+        previous: SourceSpan,
+        /// What can be done, where the name was inferred.
+        help: Option<&'static str>,
+    },
+    /// A name may not be that of an import or export.
+    InvalidExternName {
+        /// The name.
+        name: String,
+        /// Whether it is an import or an export.
+        kind: ExternKind,
+        /// Why not, as the rules answered.
+        source: Reason,
+        /// The name.
+        span: SourceSpan,
+    },
+    /// The name of a used type is there already.
+    UseConflict {
+        /// Whether it is an import or an export.
+        kind: ExternKind,
+        /// The name.
+        name: String,
+        /// The name.
+        span: SourceSpan,
+        /// What can be done, where the type has no new name.
+        help: Option<&'static str>,
+    },
+    /// Another argument stands after `...`.
+    FillArgumentNotLast {
+        /// The `...`.
+        span: SourceSpan,
+    },
+    /// A spread argument gives nothing.
+    SpreadInstantiationNoMatch {
+        /// The identifier of the spread.
+        span: SourceSpan,
+    },
+    /// A spread export exports nothing.
+    SpreadExportNoEffect {
+        /// The expression.
+        span: SourceSpan,
+    },
+    /// The target world has no import of a name that the composition imports.
+    ImportNotInTarget {
+        /// The name.
+        name: String,
+        /// The path of the target.
+        world: String,
+        /// The name of the import, or `None` where an instantiation imports it.
+        span: Option<SourceSpan>,
+    },
+    /// The target world exports a name that the composition does not.
+    MissingTargetExport {
+        /// The name.
+        name: String,
+        /// The path of the target.
+        world: String,
+        /// What is to be exported.
+        kind: &'static str,
+        /// The path of the target.
+        span: SourceSpan,
+    },
+    /// An import or export may not stand for that of the target world.
+    TargetMismatch {
+        /// Whether it is an import or an export.
+        kind: ExternKind,
+        /// The name.
+        name: String,
+        /// The path of the target.
+        world: String,
+        /// Why not, as the rules answered.
+        source: Reason,
+        /// The name, or `None` where an instantiation imports it.
+        span: Option<SourceSpan>,
+    },
+    /// A request for memory was refused.
+    Memory(AllocError),
+}
+
+/// What resolving answers.
+pub type ResolutionResult<T> = Result<T, Error>;
+
+impl fmt::Display for Error {
+    ghost use Rattle.std.specs.Prelude.{Some};
+    ghost use Rattle.wac_resolution_errors.specs.Messages.{text_of};
+    ghost use Rattle.wac_resolution_errors.specs.Told.{told};
+
+    ghost output = { λ e. Some (text_of (told e)) };
+
+    fn fmt<W: fmt::Write>(&self, f: &mut fmt::Formatter<W>) -> fmt::Result {
+        match self {
+            Error::UndefinedName { name, .. } => write!(f, "undefined name `{name}`"),
+            Error::DuplicateName { name, .. } => write!(f, "`{name}` is already defined"),
+            Error::DuplicateInterfaceExport {
+                name,
+                interface_name,
+                ..
+            } => match interface_name {
+                Some(interface) => write!(
+                    f,
+                    "duplicate interface export `{name}` for interface `{interface}`"
+                ),
+                None => write!(f, "duplicate interface export `{name}`"),
+            },
+            Error::DuplicateWorldItem {
+                kind,
+                name,
+                world,
+                ..
+            } => write!(
+                f,
+                "{kind} `{name}` conflicts with existing {kind} of the same name in world `{world}`"
+            ),
+            Error::NotFuncOrInterface { name, kind, .. } => write!(
+                f,
+                "`{name}` ({kind}) is not a function type or interface"
+            ),
+            Error::NotInterface { name, kind, .. } => write!(
+                f,
+                "`{name}` ({kind}) is not an interface"
+            ),
+            Error::DuplicateWorldIncludeName { name, .. } => write!(
+                f,
+                "duplicate `{name}` in world include `with` clause"
+            ),
+            Error::NotWorld { name, kind, .. } => write!(f, "`{name}` ({kind}) is not a world"),
+            Error::MissingWorldInclude { world, name, .. } => write!(
+                f,
+                "world `{world}` does not have an import or export named `{name}`"
+            ),
+            Error::WorldIncludeConflict {
+                kind,
+                name,
+                from,
+                to,
+                ..
+            } => write!(
+                f,
+                "{kind} `{name}` from world `{from}` conflicts with {kind} of the same name in world `{to}`"
+            ),
+            Error::UndefinedInterfaceType {
+                name,
+                interface_name,
+                ..
+            } => write!(
+                f,
+                "a type named `{name}` is not defined in interface `{interface_name}`"
+            ),
+            Error::NotInterfaceValueType {
+                name,
+                kind,
+                interface_name,
+                ..
+            } => write!(
+                f,
+                "`{name}` ({kind}) is not a value type in interface `{interface_name}`"
+            ),
+            Error::DuplicateResourceConstructor { resource, .. } => write!(
+                f,
+                "duplicate constructor for resource `{resource}`"
+            ),
+            Error::DuplicateResourceMethod { name, resource, .. } => write!(
+                f,
+                "duplicate method `{name}` for resource `{resource}`"
+            ),
+            Error::DuplicateVariantCase { case, name, .. } => write!(
+                f,
+                "duplicate case `{case}` for variant type `{name}`"
+            ),
+            Error::DuplicateRecordField { field, name, .. } => write!(
+                f,
+                "duplicate field `{field}` for record type `{name}`"
+            ),
+            Error::DuplicateEnumCase { case, name, .. } => write!(
+                f,
+                "duplicate case `{case}` for enum type `{name}`"
+            ),
+            Error::DuplicateFlag { flag, name, .. } => write!(
+                f,
+                "duplicate flag `{flag}` for flags type `{name}`"
+            ),
+            Error::InvalidAliasType { name, kind, .. } => write!(
+                f,
+                "`{name}` ({kind}) cannot be used in a type alias"
+            ),
+            Error::NotFuncType { name, kind, .. } => write!(
+                f,
+                "`{name}` ({kind}) is not a function type"
+            ),
+            Error::NotResourceType { name, kind, .. } => write!(
+                f,
+                "`{name}` ({kind}) is not a resource type"
+            ),
+            Error::NotValueType { name, kind, .. } => write!(
+                f,
+                "`{name}` ({kind}) cannot be used as a value type"
+            ),
+            Error::DuplicateParameter { kind, name, .. } => write!(
+                f,
+                "duplicate {kind} parameter `{name}`"
+            ),
+            Error::DuplicateResult { kind, name, .. } => write!(
+                f,
+                "duplicate {kind} result `{name}`"
+            ),
+            Error::BorrowInResult { .. } => f.write_str(
+                "function result cannot recursively contain a borrow type",
+            ),
+            Error::UnknownPackage { name, .. } => write!(f, "unknown package `{name}`"),
+            Error::PackageMissingExport {
+                package,
+                export,
+                kind,
+                path,
+                ..
+            } => match kind {
+                Some(kind) => write!(
+                    f,
+                    "{kind} `{path}` in package `{package}` has no export named `{export}`"
+                ),
+                None => write!(f, "package `{package}` has no export named `{export}`"),
+            },
+            Error::PackagePathMissingExport {
+                name,
+                kind,
+                export,
+                ..
+            } => write!(f, "`{name}` ({kind}) has no export named `{export}`"),
+            Error::MissingComponentImport {
+                package,
+                import,
+                ..
+            } => write!(f, "component `{package}` has no import named `{import}`"),
+            Error::MismatchedInstantiationArg { name, .. } => write!(
+                f,
+                "mismatched instantiation argument `{name}`"
+            ),
+            Error::DuplicateInstantiationArg { name, .. } => write!(
+                f,
+                "duplicate instantiation argument `{name}`"
+            ),
+            Error::MissingInstantiationArg { name, package, .. } => write!(
+                f,
+                "missing instantiation argument `{name}` for package `{package}`"
+            ),
+            Error::NotAnInstance { operation, .. } => write!(
+                f,
+                "an instance is required to perform {operation}"
+            ),
+            Error::MissingInstanceExport { name, .. } => write!(
+                f,
+                "the instance has no export named `{name}`"
+            ),
+            Error::ExportRequiresAs { .. } => f.write_str(
+                "export statement requires an `as` clause as the export name cannot be inferred",
+            ),
+            Error::DeclarationConflict { name, .. } => write!(
+                f,
+                "type declaration `{name}` conflicts with a previous export of the same name"
+            ),
+            Error::ExportConflict { name, kind, .. } => write!(
+                f,
+                "export `{name}` conflicts with {kind} definition"
+            ),
+            Error::DuplicateExternName { kind, name, .. } => write!(f, "duplicate {kind} `{name}`"),
+            Error::InvalidExternName { name, kind, .. } => write!(
+                f,
+                "{kind} name `{name}` is not valid"
+            ),
+            Error::UseConflict { kind, name, .. } => write!(
+                f,
+                "use of type `{name}` conflicts with an {kind} of the same name"
+            ),
+            Error::FillArgumentNotLast { .. } => f.write_str(
+                "implicit import argument `...` must be the last argument",
+            ),
+            Error::SpreadInstantiationNoMatch { .. } => f.write_str(
+                "the instance has no matching exports for the remaining unsatisfied arguments",
+            ),
+            Error::SpreadExportNoEffect { .. } => f.write_str(
+                "instance has no exports or all exports of the instance match previously exported names",
+            ),
+            Error::ImportNotInTarget { name, world, .. } => write!(
+                f,
+                "target world `{world}` does not have an import named `{name}`"
+            ),
+            Error::MissingTargetExport { name, world, .. } => write!(
+                f,
+                "target world `{world}` requires an export named `{name}`"
+            ),
+            Error::TargetMismatch {
+                kind,
+                name,
+                world,
+                ..
+            } => write!(
+                f,
+                "{kind} `{name}` has a mismatched type for target world `{world}`"
+            ),
+            Error::Memory(_) => f.write_str("out of memory"),
+        }
+    }
+}
+
+impl From<AllocError> for Error {
+    ghost from_gives = { λ _ e. e ≡ Memory alloc_error };
+
+    fn from(_error: AllocError) -> Self {
+        Error::Memory(AllocError)
+    }
+}
+
+impl<T: Drop> From<AllocFailed<T>> for Error {
+    ghost from_gives = { λ _ e. e ≡ Memory alloc_error };
+
+    fn from(_error: AllocFailed<T>) -> Self {
+        Error::Memory(AllocError)
+    }
+}
