@@ -105,14 +105,14 @@ impl Write for Full {
     }
 }
 
-#[test]
-fn sinks(rt: HostRuntime) -> Result<(), Fail> {
-    let mut kept = Bytes::new(rt.alloc());
+/// Asserts what sinks take.
+fn sinks(rt: &impl Abort, alloc: Global) {
+    let mut kept = Bytes::new(alloc);
     assert_eq!(rt; kept.put(b"ab"), Some(2));
     assert_eq!(rt; kept.put(b""), Some(0));
     assert_eq!(rt; kept.put(b"c"), Some(1));
     assert_eq!(rt; kept.into_vec().as_slice(), b"abc".as_slice());
-    let mut written = Vec::new(rt.alloc());
+    let mut written = Vec::new(alloc);
     let mut out = Out::new(&mut written);
     assert_eq!(rt; out.put(b"let"), Some(3));
     assert_eq!(rt; out.put(b""), Some(0));
@@ -127,13 +127,12 @@ fn sinks(rt: HostRuntime) -> Result<(), Fail> {
         let mut out = Out::new(&mut writer);
         assert!(rt; !put_all(&mut out, text), "at {room}");
         assert_eq!(rt; out.put(b"y"), None, "at {room}");
-        writer.holds(&rt, room, room + 2);
+        writer.holds(rt, room, room + 2);
     }
-    Ok(())
 }
 
-#[test]
-fn feeds(rt: HostRuntime) {
+/// Asserts what feeds give.
+fn feeds(rt: &impl Abort) {
     let text: &[u8] = b"let x";
     let mut feed = In::new(text);
     let mut part = [0; 3];
@@ -151,6 +150,12 @@ fn feeds(rt: HostRuntime) {
         }
         assert_eq!(rt; feed.take(&mut part), None);
     }
+}
+
+#[test]
+fn sinks_and_feeds(rt: HostRuntime) {
+    sinks(&rt, rt.alloc());
+    feeds(&rt);
 }
 
 /// So many bytes.
@@ -175,9 +180,8 @@ fn passes(writer: &mut Narrow<'_>, text: &[u8], part: usize) -> bool
     blocks.flush()
 }
 
-#[test]
-fn blocks_are_passed_on_up_to_a_failure(rt: HostRuntime) -> Result<(), Fail> {
-    let text = bytes(rt.alloc(), 16_400)?;
+/// Asserts that a text arrives whole, in so many calls.
+fn blocks_arrive(rt: &impl Abort, text: &[u8]) {
     for (part, width, calls) in [
         (1, usize::MAX, 3),
         (100, usize::MAX, 3),
@@ -185,19 +189,22 @@ fn blocks_are_passed_on_up_to_a_failure(rt: HostRuntime) -> Result<(), Fail> {
         (7, 1, 16_400),
         (8192, 3, 5468),
     ] {
-        let mut writer = Narrow::new(&text, width, usize::MAX);
-        assert!(rt; passes(&mut writer, &text, part), "in parts of {part}");
-        writer.holds(&rt, text.len(), calls);
+        let mut writer = Narrow::new(text, width, usize::MAX);
+        assert!(rt; passes(&mut writer, text, part), "in parts of {part}");
+        writer.holds(rt, text.len(), calls);
     }
-    let mut writer = Narrow::new(&text, 1, 0);
+    let mut writer = Narrow::new(text, 1, 0);
     assert!(rt; passes(&mut writer, b"", 1));
-    writer.holds(&rt, 0, 0);
+    writer.holds(rt, 0, 0);
+}
+
+/// Asserts what arrives where the writer fails, at each byte in turn.
+fn blocks_arrive_up_to_a_failure(rt: &impl Abort, text: &[u8]) {
     for room in 0..text.len() {
-        let mut writer = Narrow::new(&text, usize::MAX, room);
-        assert!(rt; !passes(&mut writer, &text, 4096), "at {room}");
-        writer.holds(&rt, room, room.div_ceil(8192) + 1);
+        let mut writer = Narrow::new(text, usize::MAX, room);
+        assert!(rt; !passes(&mut writer, text, 4096), "at {room}");
+        writer.holds(rt, room, room.div_ceil(8192) + 1);
     }
-    Ok(())
 }
 
 /// A writer of a text that fails at every second call, and takes three bytes at the others.
@@ -221,25 +228,32 @@ impl Write for Faltering<'_> {
     }
 }
 
-#[test]
-fn a_failure_loses_no_byte_and_doubles_none(rt: HostRuntime) -> Result<(), Fail> {
-    let text = bytes(rt.alloc(), 16_400)?;
+/// Asserts that failures lose no byte and double none.
+fn blocks_pass_failures(rt: &impl Abort, text: &[u8]) {
     let mut writer = Faltering {
-        narrow: Narrow::new(&text, 3, usize::MAX),
+        narrow: Narrow::new(text, 3, usize::MAX),
         fails: false,
     };
     let mut blocks = Blocks::new(Out::new(&mut writer));
-    let mut rest = text.as_slice();
+    let mut rest = text;
     let mut flushed = false;
     for _ in 0..10_000 {
         if rest.is_empty() {
             flushed = blocks.flush();
         } else if let Some(n) = blocks.put(rest) {
-            let (_, behind) = rest.split_at(n);
-            rest = behind;
+            let (_, after) = rest.split_at(n);
+            rest = after;
         }
     }
     assert!(rt; flushed);
-    writer.narrow.holds(&rt, text.len(), 5468);
+    writer.narrow.holds(rt, text.len(), 5468);
+}
+
+#[test]
+fn blocks(rt: HostRuntime) -> Result<(), Fail> {
+    let text = bytes(rt.alloc(), 16_400)?;
+    blocks_arrive(&rt, &text);
+    blocks_arrive_up_to_a_failure(&rt, &text);
+    blocks_pass_failures(&rt, &text);
     Ok(())
 }

@@ -139,33 +139,8 @@ const REFUSED: [(&str, Error, usize, usize); 5] = [
     ),
 ];
 
-#[test]
-fn items_of_texts(rt: HostRuntime) -> Result<(), Fail> {
-    for (source, rows) in TEXTS {
-        items_are(&rt, source, rows);
-    }
-    let mut source = String::new(rt.alloc());
-    for _ in 0..200 {
-        source.push_str("/*")?;
-    }
-    for _ in 0..200 {
-        source.push_str("*/")?;
-    }
-    items_are(&rt, source.as_str(), &[]);
-    source.push_str("x")?;
-    items_are(&rt, source.as_str(), &[(Ok(Token::Ident), 800, 1)]);
-    for (source, fault, offset, len) in REFUSED {
-        assert_eq!(rt;
-            Lexer::new(source).err(),
-            Some((fault, SourceSpan::new(offset, len)))
-        );
-    }
-    assert!(rt; Lexer::new("\t\r\n\u{a0}\u{202f}").is_ok());
-    Ok(())
-}
-
-#[test]
-fn peeks_and_spans(rt: HostRuntime) -> Result<(), Fail> {
+/// Asserts what a lexer says ahead of its items and after them.
+fn peeks_and_spans(rt: &impl Abort) -> Result<(), Fail> {
     let Ok(mut lexer) = Lexer::new("let é\"x\"") else {
         panic!(rt; "a source is refused");
     };
@@ -193,4 +168,29 @@ fn peeks_and_spans(rt: HostRuntime) -> Result<(), Fail> {
     assert_eq!(rt; lexer.span(), SourceSpan::new(8, 1));
     lexer.stands_between_items();
     Ok(())
+}
+
+#[test]
+fn items_of_texts(rt: HostRuntime) -> Result<(), Fail> {
+    for (source, rows) in TEXTS {
+        items_are(&rt, source, rows);
+    }
+    let mut source = String::new(rt.alloc());
+    for _ in 0..200 {
+        source.push_str("/*")?;
+    }
+    for _ in 0..200 {
+        source.push_str("*/")?;
+    }
+    items_are(&rt, source.as_str(), &[]);
+    source.push_str("x")?;
+    items_are(&rt, source.as_str(), &[(Ok(Token::Ident), 800, 1)]);
+    for (source, fault, offset, len) in REFUSED {
+        assert_eq!(rt;
+            Lexer::new(source).err(),
+            Some((fault, SourceSpan::new(offset, len)))
+        );
+    }
+    assert!(rt; Lexer::new("\t\r\n\u{a0}\u{202f}").is_ok());
+    peeks_and_spans(&rt)
 }

@@ -5,8 +5,6 @@ mod command;
 mod error;
 mod reporting;
 mod running;
-#[cfg(test)]
-mod tests;
 mod transfer;
 
 pub use command::Command;

@@ -42,7 +42,7 @@ fn lines(alloc: Global) -> Result<String, AllocError> {
     Ok(text)
 }
 
-/// Asserts that the writer is told of as failing, and holds what it had room for.
+/// Asserts that a writer that fails is reported, and holds the bytes that it had room for.
 fn fails_at(
     rt: &impl Abort,
     alloc: Global,
@@ -64,20 +64,26 @@ fn fails_at(
     }
 }
 
-#[test]
-fn a_writer_that_fails_holds_a_beginning(rt: HostRuntime) -> Result<(), Fail> {
-    for (command, input, text) in RUNS {
-        for room in 0..text.len() {
-            fails_at(&rt, rt.alloc(), command, input, text, 1, room);
-        }
+/// Asserts it of a writer that takes a byte a call, for each byte of a text.
+fn fails_at_each(rt: &impl Abort, alloc: Global, command: Command, input: &str, text: &str) {
+    for room in 0..text.len() {
+        fails_at(rt, alloc, command, input, text, 1, room);
     }
-    let input = items(rt.alloc())?;
-    let text = lines(rt.alloc())?;
+}
+
+/// Whether a long text is cut there: at each byte near an end of a block or of the text, and at some of the others.
+fn is_cut(room: usize, len: usize) -> bool {
+    room.saturating_add(16) % 8192 < 32 || room.saturating_add(32) >= len || room % 127 == 0
+}
+
+/// Asserts it of a writer that takes blocks whole.
+fn fails_in_blocks(rt: &impl Abort, alloc: Global, input: &str, text: &str) {
     assert!(rt; text.len() > 16_384);
     for room in 0..text.len() {
-        fails_at(&rt, rt.alloc(), Command::Tokens, &input, &text, 8192, room);
+        if is_cut(room, text.len()) {
+            fails_at(rt, alloc, Command::Tokens, input, text, 8192, room);
+        }
     }
-    Ok(())
 }
 
 /// Asserts that all of a text is written, and in so many calls.
@@ -104,34 +110,35 @@ fn takes_all(
     assert_eq!(rt; writer.moved(), (text.len(), calls), "width {width}");
 }
 
+/// Asserts that a reader that fails after each byte in turn is reported, and nothing written.
+fn reading_fails(rt: &impl Abort, alloc: Global, command: Command) {
+    for room in 0..FIRST.len() + 1 {
+        let mut reader = In::new(Narrow::new(FIRST.as_bytes(), 1, room));
+        let mut writer = Narrow::new(b"", usize::MAX, usize::MAX);
+        match run(alloc, command, &mut reader, &mut Out::new(&mut writer)) {
+            Err(RunError::Input) => assert_eq!(rt; writer.moved(), (0, 0)),
+            _ => assert!(rt; false, "at {room}"),
+        }
+    }
+}
+
 #[test]
-fn writers_take_all(rt: HostRuntime) -> Result<(), Fail> {
+fn readers_and_writers(rt: HostRuntime) -> Result<(), Fail> {
     let alloc = rt.alloc();
     for (command, input, text) in RUNS {
+        fails_at_each(&rt, alloc, command, input, text);
         takes_all(&rt, alloc, command, input, text, 1, text.len());
         takes_all(&rt, alloc, command, input, text, 3, text.len().div_ceil(3));
         let calls = usize::from(!text.is_empty());
         takes_all(&rt, alloc, command, input, text, usize::MAX, calls);
+        reading_fails(&rt, alloc, command);
     }
     let input = items(alloc)?;
     let text = lines(alloc)?;
+    fails_in_blocks(&rt, alloc, &input, &text);
     takes_all(&rt, alloc, Command::Tokens, &input, &text, 1, text.len());
     takes_all(&rt, alloc, Command::Tokens, &input, &text, usize::MAX, 3);
     Ok(())
-}
-
-#[test]
-fn a_reader_that_fails_is_told(rt: HostRuntime) {
-    for command in [Command::Fmt, Command::Tokens, Command::Json] {
-        for room in 0..FIRST.len() + 1 {
-            let mut reader = In::new(Narrow::new(FIRST.as_bytes(), 1, room));
-            let mut writer = Narrow::new(b"", usize::MAX, usize::MAX);
-            match run(rt.alloc(), command, &mut reader, &mut Out::new(&mut writer)) {
-                Err(RunError::Input) => assert_eq!(rt; writer.moved(), (0, 0)),
-                _ => assert!(rt; false, "at {room}"),
-            }
-        }
-    }
 }
 
 /// Passes also where memory is refused, at each allocation in turn.

@@ -1,4 +1,4 @@
-//! Texts, cut at each character: each front has a tree, or an error as the rules of refusals allow.
+//! Texts, cut at each character: each prefix has a tree, or an error as the rules of refusals allow.
 
 use crate::rows::{DOCUMENTS, OTHERS};
 use std::alloc::Global;
@@ -7,6 +7,7 @@ use wac_parser::lexer::{Lexer, LexerResult, SourceSpan, Token};
 use wac_parser::{Document, Error};
 
 /// What stands at a place: the item there, the item before it, and whether all items before are tokens.
+#[derive(Drop)]
 struct Seen {
     item: Option<(LexerResult<Token>, SourceSpan)>,
     before: Option<(LexerResult<Token>, SourceSpan)>,
@@ -120,23 +121,13 @@ fn is_parsed_well(rt: &impl Abort, alloc: Global, text: &str) {
     }
 }
 
-/// Asserts it of each front of a text, and of the whole.
-fn fronts(rt: &impl Abort, alloc: Global, text: &str) {
+/// Asserts it of each prefix of a text, and of the whole.
+fn prefixes(rt: &impl Abort, alloc: Global, text: &str) {
     for (end, _) in text.char_indices() {
-        let (front, _) = text.split_at(end);
-        is_parsed_well(rt, alloc, front);
+        let (prefix, _) = text.split_at(end);
+        is_parsed_well(rt, alloc, prefix);
     }
     is_parsed_well(rt, alloc, text);
-}
-
-#[test]
-fn fronts_of_texts(rt: HostRuntime) {
-    for text in &DOCUMENTS {
-        fronts(&rt, rt.alloc(), text);
-    }
-    for text in &OTHERS {
-        fronts(&rt, rt.alloc(), text);
-    }
 }
 
 /// Asserts whether each text has a tree.
@@ -147,7 +138,13 @@ fn have_trees(rt: &impl Abort, alloc: Global, texts: &[&str], wanted: bool) {
 }
 
 #[test]
-fn documents_have_trees(rt: HostRuntime) {
+fn texts_and_their_prefixes(rt: HostRuntime) {
+    for text in &DOCUMENTS {
+        prefixes(&rt, rt.alloc(), text);
+    }
+    for text in &OTHERS {
+        prefixes(&rt, rt.alloc(), text);
+    }
     have_trees(&rt, rt.alloc(), &DOCUMENTS, true);
     have_trees(&rt, rt.alloc(), &OTHERS, false);
 }

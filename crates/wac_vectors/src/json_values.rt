@@ -14,77 +14,64 @@ fn has_json<T: ToValue>(rt: &impl Abort, alloc: Global, value: &T, json: &str) -
     Ok(())
 }
 
-#[test]
-fn spans(rt: HostRuntime) -> Result<(), Fail> {
-    has_json(
-        &rt,
-        rt.alloc(),
-        &SourceSpan::new(usize::MAX, 0),
-        r#"{"length":0,"offset":18446744073709551615}"#,
-    )
-}
-
-#[test]
-fn identifiers(rt: HostRuntime) -> Result<(), Fail> {
+/// Asserts the JSON of parts that have a place.
+fn placed_parts(rt: &impl Abort, alloc: Global) -> Result<(), Fail> {
     let id = Ident {
         string: "a-B",
         span: SourceSpan::new(3, 4),
     };
-    has_json(
-        &rt,
-        rt.alloc(),
-        &id,
-        r#"{"span":{"length":4,"offset":3},"string":"a-B"}"#,
-    )
-}
-
-#[test]
-fn strings(rt: HostRuntime) -> Result<(), Fail> {
     let string = String {
         value: "",
         span: SourceSpan::new(7, 2),
     };
-    has_json(
-        &rt,
-        rt.alloc(),
-        &string,
-        r#"{"span":{"length":2,"offset":7},"value":""}"#,
-    )
-}
-
-#[test]
-fn doc_comments(rt: HostRuntime) -> Result<(), Fail> {
     let comment = DocComment {
         comment: "a\nb",
         span: SourceSpan::new(0, 10),
     };
     has_json(
-        &rt,
-        rt.alloc(),
+        rt,
+        alloc,
+        &id,
+        r#"{"span":{"length":4,"offset":3},"string":"a-B"}"#,
+    )?;
+    has_json(
+        rt,
+        alloc,
+        &string,
+        r#"{"span":{"length":2,"offset":7},"value":""}"#,
+    )?;
+    has_json(
+        rt,
+        alloc,
         &comment,
         r#"{"comment":"a\nb","span":{"length":10,"offset":0}}"#,
     )
 }
 
+/// Asserts the JSON of a list, and of what may be left out.
+fn lists_and_options(rt: &impl Abort, alloc: Global) -> Result<(), Fail> {
+    let truths = [true, false].to_vec(alloc)?;
+    has_json(rt, alloc, &truths, "[true,false]")?;
+    has_json(rt, alloc, &Some("x"), r#""x""#)?;
+    has_json(rt, alloc, &None::<&str>, "null")
+}
+
 #[test]
-fn versions(rt: HostRuntime) -> Result<(), Fail> {
-    let version = Version::parse(rt.alloc(), "0.0.18446744073709551615-rc.1+build.7")?;
+fn values_as_json(rt: HostRuntime) -> Result<(), Fail> {
+    let alloc = rt.alloc();
     has_json(
         &rt,
-        rt.alloc(),
+        alloc,
+        &SourceSpan::new(usize::MAX, 0),
+        r#"{"length":0,"offset":18446744073709551615}"#,
+    )?;
+    placed_parts(&rt, alloc)?;
+    let version = Version::parse(alloc, "0.0.18446744073709551615-rc.1+build.7")?;
+    has_json(
+        &rt,
+        alloc,
         &version,
         r#""0.0.18446744073709551615-rc.1+build.7""#,
-    )
-}
-
-#[test]
-fn lists(rt: HostRuntime) -> Result<(), Fail> {
-    let truths = [true, false].to_vec(rt.alloc())?;
-    has_json(&rt, rt.alloc(), &truths, "[true,false]")
-}
-
-#[test]
-fn optional_parts(rt: HostRuntime) -> Result<(), Fail> {
-    has_json(&rt, rt.alloc(), &Some("x"), r#""x""#)?;
-    has_json(&rt, rt.alloc(), &None::<&str>, "null")
+    )?;
+    lists_and_options(&rt, alloc)
 }

@@ -60,6 +60,20 @@ const SPACED: [(&str, &str); 2] = [
     ("", "package a:b;\n\nlet x = new c:d {\ny,\n};\n"),
 ];
 
+/// An export of a name in so many parentheses.
+fn nested(alloc: Global, depth: usize) -> Result<String, Fail> {
+    let mut text = String::from_str(alloc, "package a:b;\n\nexport ")?;
+    for _ in 0..depth {
+        text.push_str("(")?;
+    }
+    text.push_str("x")?;
+    for _ in 0..depth {
+        text.push_str(")")?;
+    }
+    text.push_str(";\n")?;
+    Ok(text)
+}
+
 #[test]
 fn texts_are_formatted(rt: HostRuntime) -> Result<(), Fail> {
     for (source, text) in FORMATTED {
@@ -82,6 +96,9 @@ fn texts_are_formatted(rt: HostRuntime) -> Result<(), Fail> {
             "expected `;`, found end of input"
         ),
     }
+    let source = nested(rt.alloc(), 200)?;
+    let text = printed(&rt, rt.alloc(), source.as_str(), None);
+    assert_eq!(rt; text.as_str(), source.as_str());
     Ok(())
 }
 
@@ -91,15 +108,6 @@ fn settles(rt: &impl Abort, alloc: Global, source: &str, space: &str) {
     let twice = printed(rt, alloc, once.as_str(), Some(space));
     let again = printed(rt, alloc, twice.as_str(), Some(space));
     assert_eq!(rt; again.as_str(), twice.as_str(), "of {source}");
-}
-
-#[test]
-fn printing_settles(rt: HostRuntime) {
-    for source in &DOCUMENTS {
-        settles(&rt, rt.alloc(), source, "\t");
-        settles(&rt, rt.alloc(), source, "   ");
-        settles(&rt, rt.alloc(), source, "");
-    }
 }
 
 /// The text with CR LF for LF.
@@ -127,31 +135,12 @@ fn prints_alike(rt: &impl Abort, alloc: Global, source: &str) -> Result<(), Fail
 
 // Two trees of one spelling and one layout of docs print alike, wherever their names stand.
 #[test]
-fn line_ends_do_not_count(rt: HostRuntime) -> Result<(), Fail> {
+fn printing_settles_and_ignores_line_ends(rt: HostRuntime) -> Result<(), Fail> {
     for source in &DOCUMENTS {
+        settles(&rt, rt.alloc(), source, "\t");
+        settles(&rt, rt.alloc(), source, "   ");
+        settles(&rt, rt.alloc(), source, "");
         prints_alike(&rt, rt.alloc(), source)?;
     }
-    Ok(())
-}
-
-/// An export of a name in so many parentheses.
-fn nested(alloc: Global, depth: usize) -> Result<String, Fail> {
-    let mut text = String::from_str(alloc, "package a:b;\n\nexport ")?;
-    for _ in 0..depth {
-        text.push_str("(")?;
-    }
-    text.push_str("x")?;
-    for _ in 0..depth {
-        text.push_str(")")?;
-    }
-    text.push_str(";\n")?;
-    Ok(text)
-}
-
-#[test]
-fn parentheses_two_hundred_deep(rt: HostRuntime) -> Result<(), Fail> {
-    let source = nested(rt.alloc(), 200)?;
-    let text = printed(&rt, rt.alloc(), source.as_str(), None);
-    assert_eq!(rt; text.as_str(), source.as_str());
     Ok(())
 }

@@ -16,6 +16,8 @@ mod parts;
 #[cfg(test)]
 mod places;
 #[cfg(test)]
+mod printed_parts;
+#[cfg(test)]
 mod refusals;
 #[cfg(test)]
 mod rows;

@@ -1,9 +1,8 @@
-//! Calls that take a callback: each answer once, with what is left behind it.
+//! Calls that take a callback: each result once, with the items that it leaves.
 
 use std::alloc::Global;
 use std::process::Abort;
-use std::test::Fail;
-use wac_parser::lexer::{Lexer, SourceSpan, Token};
+use wac_parser::lexer::{Error as Fault, Lexer, LexerResult, SourceSpan, Token};
 use wac_parser::{Error, ParseResult, Type, parse_optional, parse_optional_payload, parse_token};
 use wac_syntax::{at, has_more};
 
@@ -20,73 +19,66 @@ fn name(lexer: &mut Lexer) -> ParseResult<SourceSpan> {
     parse_token(lexer, Token::Ident)
 }
 
-/// The next item is this token.
-fn stands_at(rt: &impl Abort, lexer: &Lexer, token: Token, offset: usize, len: usize) {
-    assert_eq!(rt;
-        lexer.peek(),
-        Some((Ok(token), SourceSpan::new(offset, len)))
-    );
-}
+/// A place: its offset and length.
+type Place = (usize, usize);
 
-#[test]
-fn an_optional_part_is_taken(rt: HostRuntime) {
-    let mut lexer = lexer(&rt, "as x;");
-    match parse_optional(&mut lexer, Token::AsKeyword, |lexer| name(lexer)) {
-        Ok(Some(span)) => assert_eq!(rt; span, SourceSpan::new(3, 1)),
-        _ => panic!(rt; "no name"),
-    }
-    stands_at(&rt, &lexer, Token::Semicolon, 4, 1);
-}
-
-#[test]
-fn another_token_is_left(rt: HostRuntime) {
-    let mut lexer = lexer(&rt, "is x;");
-    match parse_optional(&mut lexer, Token::AsKeyword, |lexer| name(lexer)) {
-        Ok(None) => (),
-        _ => panic!(rt; "a part"),
-    }
-    stands_at(&rt, &lexer, Token::Ident, 0, 2);
-}
-
-#[test]
-fn the_end_is_no_part(rt: HostRuntime) {
-    let mut lexer = lexer(&rt, " ");
-    match parse_optional(&mut lexer, Token::AsKeyword, |lexer| name(lexer)) {
-        Ok(None) => assert_eq!(rt; lexer.peek(), None),
-        _ => panic!(rt; "a part"),
-    }
+/// Where a span lies.
+fn place(span: SourceSpan) -> Place {
+    (span.offset(), span.len())
 }
 
 /// Where an error lies, and the token that was found there.
-fn told(error: &Error) -> Option<(SourceSpan, Option<Token>)> {
+fn told(error: &Error) -> Option<(Place, Option<Token>)> {
     match error {
-        Error::Lexer { span, .. } => Some((*span, None)),
-        Error::Expected { found, span, .. } => Some((*span, *found)),
+        Error::Lexer { span, .. } => Some((place(*span), None)),
+        Error::Expected { found, span, .. } => Some((place(*span), *found)),
         _ => None,
     }
 }
 
-#[test]
-fn a_fault_is_refused_and_left(rt: HostRuntime) {
-    let mut lexer = lexer(&rt, "# x;");
-    match parse_optional(&mut lexer, Token::AsKeyword, |lexer| name(lexer)) {
-        Err(error) => assert_eq!(rt; told(&error), Some((SourceSpan::new(0, 1), None))),
-        _ => panic!(rt; "no fault"),
+/// What an optional part gives: where it lies, nothing, or what is told of an error.
+type Given = Result<Option<Place>, Option<(Place, Option<Token>)>>;
+
+/// What a name after `as` gives, where it may be left out.
+fn given(lexer: &mut Lexer) -> Given {
+    match parse_optional(lexer, Token::AsKeyword, |lexer| name(lexer)) {
+        Ok(Some(span)) => Ok(Some(place(span))),
+        Ok(None) => Ok(None),
+        Err(error) => Err(told(&error)),
     }
-    lexer.next();
-    stands_at(&rt, &lexer, Token::Ident, 2, 1);
 }
 
-#[test]
-fn an_error_is_passed_on(rt: HostRuntime) {
-    let mut lexer = lexer(&rt, "as ;");
-    match parse_optional(&mut lexer, Token::AsKeyword, |lexer| name(lexer)) {
-        Err(error) => assert_eq!(rt;
-            told(&error),
-            Some((SourceSpan::new(3, 1), Some(Token::Semicolon)))
-        ),
-        _ => panic!(rt; "no error"),
+/// Texts, what an optional part at the start of each gives, and the items that are left.
+const OPTIONAL: [(&str, Given, &[(LexerResult<Token>, usize, usize)]); 5] = [
+    ("as x;", Ok(Some((3, 1))), &[(Ok(Token::Semicolon), 4, 1)]),
+    (
+        "is x;",
+        Ok(None),
+        &[
+            (Ok(Token::Ident), 0, 2),
+            (Ok(Token::Ident), 3, 1),
+            (Ok(Token::Semicolon), 4, 1),
+        ],
+    ),
+    (" ", Ok(None), &[]),
+    (
+        "# x;",
+        Err(Some(((0, 1), None))),
+        &[
+            (Err(Fault::UnexpectedToken), 0, 1),
+            (Ok(Token::Ident), 2, 1),
+            (Ok(Token::Semicolon), 3, 1),
+        ],
+    ),
+    ("as ;", Err(Some(((3, 1), Some(Token::Semicolon)))), &[]),
+];
+
+/// Asserts which items are left.
+fn leaves(rt: &impl Abort, mut lexer: Lexer, items: &[(LexerResult<Token>, usize, usize)]) {
+    for (item, offset, len) in items {
+        assert_eq!(rt; lexer.next(), Some((*item, SourceSpan::new(*offset, *len))));
     }
+    assert_eq!(rt; lexer.next(), None);
 }
 
 /// The span of what a stream holds, and of the stream.
@@ -128,15 +120,16 @@ fn taken(rt: &impl Abort, alloc: Global, source: &str) -> (Option<SourceSpan>, S
 }
 
 #[test]
-fn a_payload_is_taken(rt: HostRuntime) {
+fn optional_parts_and_payloads(rt: HostRuntime) {
+    for (source, expected, items) in OPTIONAL {
+        let mut lexer = lexer(&rt, source);
+        assert_eq!(rt; given(&mut lexer), expected, "of {source}");
+        leaves(&rt, lexer, items);
+    }
     assert_eq!(rt;
         taken(&rt, rt.alloc(), "stream<u8> x"),
         (Some(SourceSpan::new(7, 2)), SourceSpan::new(0, 10), true)
     );
-}
-
-#[test]
-fn no_payload_is_none(rt: HostRuntime) {
     assert_eq!(rt;
         taken(&rt, rt.alloc(), "stream x"),
         (None, SourceSpan::new(0, 6), true)

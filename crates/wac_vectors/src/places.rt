@@ -34,19 +34,19 @@ fn has_doc(
     Ok(())
 }
 
-#[test]
-fn docs_behind_the_last_item(rt: HostRuntime) -> Result<(), Fail> {
-    let mut lexer = lexer(&rt, "/// d\na /// x");
-    has_doc(&rt, rt.alloc(), &lexer, "d", SourceSpan::new(0, 5))?;
+/// Asserts the docs after the last item, and after the end.
+fn docs_after_the_last_item(rt: &impl Abort, alloc: Global) -> Result<(), Fail> {
+    let mut lexer = lexer(rt, "/// d\na /// x");
+    has_doc(rt, alloc, &lexer, "d", SourceSpan::new(0, 5))?;
     assert_eq!(rt;
         lexer.next(),
         Some((Ok(Token::Ident), SourceSpan::new(6, 1)))
     );
     assert_eq!(rt; lexer.span(), SourceSpan::new(6, 1));
-    has_doc(&rt, rt.alloc(), &lexer, "x", SourceSpan::new(8, 5))?;
+    has_doc(rt, alloc, &lexer, "x", SourceSpan::new(8, 5))?;
     assert_eq!(rt; lexer.next(), None);
     assert_eq!(rt; lexer.span(), SourceSpan::new(12, 1));
-    assert!(rt; lexer.comments(rt.alloc())?.is_empty());
+    assert!(rt; lexer.comments(alloc)?.is_empty());
     Ok(())
 }
 
@@ -66,16 +66,16 @@ fn is_refused(rt: &impl Abort, lexer: &mut Lexer, span: SourceSpan, found: Optio
     }
 }
 
-#[test]
-fn a_refused_token_is_consumed(rt: HostRuntime) -> Result<(), Fail> {
-    let mut lexer = lexer(&rt, "x /// d\n yz");
-    is_refused(&rt, &mut lexer, SourceSpan::new(0, 1), Some(Token::Ident));
+/// Asserts that a token that was not expected is consumed.
+fn a_refused_token_is_consumed(rt: &impl Abort, alloc: Global) -> Result<(), Fail> {
+    let mut lexer = lexer(rt, "x /// d\n yz");
+    is_refused(rt, &mut lexer, SourceSpan::new(0, 1), Some(Token::Ident));
     assert_eq!(rt; lexer.span(), SourceSpan::new(0, 1));
-    has_doc(&rt, rt.alloc(), &lexer, "d", SourceSpan::new(2, 5))?;
-    is_refused(&rt, &mut lexer, SourceSpan::new(9, 2), Some(Token::Ident));
+    has_doc(rt, alloc, &lexer, "d", SourceSpan::new(2, 5))?;
+    is_refused(rt, &mut lexer, SourceSpan::new(9, 2), Some(Token::Ident));
     // The item ends the text, so the byte before it is told.
     assert_eq!(rt; lexer.span(), SourceSpan::new(8, 1));
-    is_refused(&rt, &mut lexer, SourceSpan::new(10, 1), None);
+    is_refused(rt, &mut lexer, SourceSpan::new(10, 1), None);
     assert_eq!(rt; lexer.span(), SourceSpan::new(10, 1));
     Ok(())
 }
@@ -107,9 +107,9 @@ fn counted(error: &Error) -> Option<(usize, Option<Token>)> {
     }
 }
 
-#[test]
-fn attempts_are_counted(rt: HostRuntime) {
-    let lexer = lexer(&rt, "x");
+/// Asserts what a lookahead counts.
+fn attempts_are_counted(rt: &impl Abort) {
+    let lexer = lexer(rt, "x");
     let mut lookahead = Lookahead::new(&lexer);
     assert_eq!(rt; lookahead.attempts(), 0);
     assert!(rt; lookahead.peek(Token::Ident));
@@ -123,4 +123,12 @@ fn attempts_are_counted(rt: HostRuntime) {
         let error = lookahead.error();
         assert_eq!(rt; counted(&error), Some((11, Some(Token::OpenAngle))));
     }
+}
+
+#[test]
+fn places_and_attempts(rt: HostRuntime) -> Result<(), Fail> {
+    docs_after_the_last_item(&rt, rt.alloc())?;
+    a_refused_token_is_consumed(&rt, rt.alloc())?;
+    attempts_are_counted(&rt);
+    Ok(())
 }

@@ -15,19 +15,15 @@ fn tokens_are(rt: &impl Abort, source: &str, tokens: &[(Token, usize, usize)]) {
     assert_eq!(rt; lexer.next(), None, "at the end of {source}");
 }
 
-#[test]
-fn comments(rt: HostRuntime) {
-    tokens_are(
-        &rt,
+/// Texts, and their tokens.
+const TEXTS: [(&str, &[(Token, usize, usize)]); 5] = [
+    // comments
+    (
         "\n            //\n            // comment\n            /**/\n            /* a block comment */\n            /* a multi\n               line comment\n             */\n            /* a /* /* deeply */ nested */ block comment */\n            ",
         &[],
-    );
-}
-
-#[test]
-fn identifiers(rt: HostRuntime) {
-    tokens_are(
-        &rt,
+    ),
+    // identifiers
+    (
         "\n            foo\n            foo123\n            f-b\n            foo-bar123\n            foo0123-bar0123-baz0123\n            %interface\n            foo123-BAR\n            ",
         &[
             (Token::Ident, 13, 3),
@@ -38,13 +34,9 @@ fn identifiers(rt: HostRuntime) {
             (Token::Ident, 123, 10),
             (Token::Ident, 146, 10),
         ],
-    );
-}
-
-#[test]
-fn strings(rt: HostRuntime) {
-    tokens_are(
-        &rt,
+    ),
+    // strings
+    (
         "\n            \"\"\n            \"foo\"\n            \"foo  bar\"\n            \"foo\n            bar\"\n            ",
         &[
             (Token::String, 13, 2),
@@ -52,107 +44,9 @@ fn strings(rt: HostRuntime) {
             (Token::String, 46, 10),
             (Token::String, 69, 21),
         ],
-    );
-}
-
-/// Package paths, each with where it stands in the text of them all.
-const PATHS: [(&str, usize); 33] = [
-    ("foo:bar/baz/qux/jam", 1),
-    ("foo:bar:baz:qux/jam", 21),
-    ("foo:bar/baz@0.0.4", 41),
-    ("foo:bar/baz@1.2.3", 59),
-    ("foo:bar/baz@10.20.30", 77),
-    ("foo:bar/baz@1.1.2-prerelease+meta", 98),
-    ("foo:bar/baz@1.1.2+meta", 132),
-    ("foo:bar/baz@1.1.2+meta-valid", 155),
-    ("foo:bar/baz@1.0.0-alpha", 184),
-    ("foo:bar/baz@1.0.0-beta", 208),
-    ("foo:bar/baz@1.0.0-alpha.beta", 231),
-    ("foo:bar/baz@1.0.0-alpha.beta.1", 260),
-    ("foo:bar/baz@1.0.0-alpha.1", 291),
-    ("foo:bar/baz@1.0.0-alpha0.valid", 317),
-    ("foo:bar/baz@1.0.0-alpha.0valid", 348),
-    (
-        "foo:bar/baz@1.0.0-alpha-a.b-c-somethinglong+build.1-aef.1-its-okay",
-        379,
     ),
-    ("foo:bar/baz@1.0.0-rc.1+build.1", 446),
-    ("foo:bar/baz@2.0.0-rc.1+build.123", 477),
-    ("foo:bar/baz@1.2.3-beta", 510),
-    ("foo:bar/baz@10.2.3-DEV-SNAPSHOT", 533),
-    ("foo:bar/baz@1.2.3-SNAPSHOT-123", 565),
-    ("foo:bar/baz@1.0.0", 596),
-    ("foo:bar/baz@2.0.0", 614),
-    ("foo:bar/baz@1.1.7", 632),
-    ("foo:bar/baz@2.0.0+build.1848", 650),
-    ("foo:bar/baz@2.0.1-alpha.1227", 679),
-    ("foo:bar/baz@1.0.0-alpha+beta", 708),
-    ("foo:bar/baz@1.2.3----RC-SNAPSHOT.12.9.1--.12+788", 737),
-    ("foo:bar/baz@1.2.3----R-S.12.9.1--.12+meta", 786),
-    ("foo:bar/baz@1.2.3----RC-SNAPSHOT.12.9.1--.12", 828),
-    ("foo:bar/baz@1.0.0+0.build.1-rc.10000aaa-kk-0.1", 873),
+    // keywords
     (
-        "foo:bar/baz@99999999999999999999999.999999999999999999.99999999999999999",
-        920,
-    ),
-    ("foo:bar/baz@1.0.0-0A.is.legal", 993),
-];
-
-#[test]
-fn package_paths(rt: HostRuntime) {
-    let Ok(mut lexer) = Lexer::new(
-        "\n\
-        foo:bar/baz/qux/jam\n\
-        foo:bar:baz:qux/jam\n\
-        foo:bar/baz@0.0.4\n\
-        foo:bar/baz@1.2.3\n\
-        foo:bar/baz@10.20.30\n\
-        foo:bar/baz@1.1.2-prerelease+meta\n\
-        foo:bar/baz@1.1.2+meta\n\
-        foo:bar/baz@1.1.2+meta-valid\n\
-        foo:bar/baz@1.0.0-alpha\n\
-        foo:bar/baz@1.0.0-beta\n\
-        foo:bar/baz@1.0.0-alpha.beta\n\
-        foo:bar/baz@1.0.0-alpha.beta.1\n\
-        foo:bar/baz@1.0.0-alpha.1\n\
-        foo:bar/baz@1.0.0-alpha0.valid\n\
-        foo:bar/baz@1.0.0-alpha.0valid\n\
-        foo:bar/baz@1.0.0-alpha-a.b-c-somethinglong+build.1-aef.1-its-okay\n\
-        foo:bar/baz@1.0.0-rc.1+build.1\n\
-        foo:bar/baz@2.0.0-rc.1+build.123\n\
-        foo:bar/baz@1.2.3-beta\n\
-        foo:bar/baz@10.2.3-DEV-SNAPSHOT\n\
-        foo:bar/baz@1.2.3-SNAPSHOT-123\n\
-        foo:bar/baz@1.0.0\n\
-        foo:bar/baz@2.0.0\n\
-        foo:bar/baz@1.1.7\n\
-        foo:bar/baz@2.0.0+build.1848\n\
-        foo:bar/baz@2.0.1-alpha.1227\n\
-        foo:bar/baz@1.0.0-alpha+beta\n\
-        foo:bar/baz@1.2.3----RC-SNAPSHOT.12.9.1--.12+788\n\
-        foo:bar/baz@1.2.3----R-S.12.9.1--.12+meta\n\
-        foo:bar/baz@1.2.3----RC-SNAPSHOT.12.9.1--.12\n\
-        foo:bar/baz@1.0.0+0.build.1-rc.10000aaa-kk-0.1\n\
-        foo:bar/baz@99999999999999999999999.999999999999999999.99999999999999999\n\
-        foo:bar/baz@1.0.0-0A.is.legal\n",
-    ) else {
-        panic!(rt; "refused");
-    };
-    for (path, offset) in &PATHS {
-        let span = SourceSpan::new(*offset, path.len());
-        assert_eq!(rt;
-            lexer.next(),
-            Some((Ok(Token::PackagePath), span)),
-            "{path}"
-        );
-    }
-    assert_eq!(rt; lexer.next(), None);
-}
-
-#[test]
-fn keywords(rt: HostRuntime) {
-    tokens_are(
-        &rt,
         "\n\
         import\n\
         with\n\
@@ -242,13 +136,9 @@ fn keywords(rt: HostRuntime) {
             (Token::FutureKeyword, 239, 6),
             (Token::ErrorContextKeyword, 246, 13),
         ],
-    );
-}
-
-#[test]
-fn symbols(rt: HostRuntime) {
-    tokens_are(
-        &rt,
+    ),
+    // symbols
+    (
         ";{}:=()-><>_[]. ...,/@",
         &[
             (Token::Semicolon, 0, 1),
@@ -270,5 +160,107 @@ fn symbols(rt: HostRuntime) {
             (Token::Slash, 20, 1),
             (Token::At, 21, 1),
         ],
-    );
+    ),
+];
+
+/// Package paths, each with where it stands in the text of them all.
+const PATHS: [(&str, usize); 33] = [
+    ("foo:bar/baz/qux/jam", 1),
+    ("foo:bar:baz:qux/jam", 21),
+    ("foo:bar/baz@0.0.4", 41),
+    ("foo:bar/baz@1.2.3", 59),
+    ("foo:bar/baz@10.20.30", 77),
+    ("foo:bar/baz@1.1.2-prerelease+meta", 98),
+    ("foo:bar/baz@1.1.2+meta", 132),
+    ("foo:bar/baz@1.1.2+meta-valid", 155),
+    ("foo:bar/baz@1.0.0-alpha", 184),
+    ("foo:bar/baz@1.0.0-beta", 208),
+    ("foo:bar/baz@1.0.0-alpha.beta", 231),
+    ("foo:bar/baz@1.0.0-alpha.beta.1", 260),
+    ("foo:bar/baz@1.0.0-alpha.1", 291),
+    ("foo:bar/baz@1.0.0-alpha0.valid", 317),
+    ("foo:bar/baz@1.0.0-alpha.0valid", 348),
+    (
+        "foo:bar/baz@1.0.0-alpha-a.b-c-somethinglong+build.1-aef.1-its-okay",
+        379,
+    ),
+    ("foo:bar/baz@1.0.0-rc.1+build.1", 446),
+    ("foo:bar/baz@2.0.0-rc.1+build.123", 477),
+    ("foo:bar/baz@1.2.3-beta", 510),
+    ("foo:bar/baz@10.2.3-DEV-SNAPSHOT", 533),
+    ("foo:bar/baz@1.2.3-SNAPSHOT-123", 565),
+    ("foo:bar/baz@1.0.0", 596),
+    ("foo:bar/baz@2.0.0", 614),
+    ("foo:bar/baz@1.1.7", 632),
+    ("foo:bar/baz@2.0.0+build.1848", 650),
+    ("foo:bar/baz@2.0.1-alpha.1227", 679),
+    ("foo:bar/baz@1.0.0-alpha+beta", 708),
+    ("foo:bar/baz@1.2.3----RC-SNAPSHOT.12.9.1--.12+788", 737),
+    ("foo:bar/baz@1.2.3----R-S.12.9.1--.12+meta", 786),
+    ("foo:bar/baz@1.2.3----RC-SNAPSHOT.12.9.1--.12", 828),
+    ("foo:bar/baz@1.0.0+0.build.1-rc.10000aaa-kk-0.1", 873),
+    (
+        "foo:bar/baz@99999999999999999999999.999999999999999999.99999999999999999",
+        920,
+    ),
+    ("foo:bar/baz@1.0.0-0A.is.legal", 993),
+];
+
+/// Asserts that the paths are tokens where they stand.
+fn paths_are_tokens(rt: &impl Abort) {
+    let Ok(mut lexer) = Lexer::new(
+        "\n\
+        foo:bar/baz/qux/jam\n\
+        foo:bar:baz:qux/jam\n\
+        foo:bar/baz@0.0.4\n\
+        foo:bar/baz@1.2.3\n\
+        foo:bar/baz@10.20.30\n\
+        foo:bar/baz@1.1.2-prerelease+meta\n\
+        foo:bar/baz@1.1.2+meta\n\
+        foo:bar/baz@1.1.2+meta-valid\n\
+        foo:bar/baz@1.0.0-alpha\n\
+        foo:bar/baz@1.0.0-beta\n\
+        foo:bar/baz@1.0.0-alpha.beta\n\
+        foo:bar/baz@1.0.0-alpha.beta.1\n\
+        foo:bar/baz@1.0.0-alpha.1\n\
+        foo:bar/baz@1.0.0-alpha0.valid\n\
+        foo:bar/baz@1.0.0-alpha.0valid\n\
+        foo:bar/baz@1.0.0-alpha-a.b-c-somethinglong+build.1-aef.1-its-okay\n\
+        foo:bar/baz@1.0.0-rc.1+build.1\n\
+        foo:bar/baz@2.0.0-rc.1+build.123\n\
+        foo:bar/baz@1.2.3-beta\n\
+        foo:bar/baz@10.2.3-DEV-SNAPSHOT\n\
+        foo:bar/baz@1.2.3-SNAPSHOT-123\n\
+        foo:bar/baz@1.0.0\n\
+        foo:bar/baz@2.0.0\n\
+        foo:bar/baz@1.1.7\n\
+        foo:bar/baz@2.0.0+build.1848\n\
+        foo:bar/baz@2.0.1-alpha.1227\n\
+        foo:bar/baz@1.0.0-alpha+beta\n\
+        foo:bar/baz@1.2.3----RC-SNAPSHOT.12.9.1--.12+788\n\
+        foo:bar/baz@1.2.3----R-S.12.9.1--.12+meta\n\
+        foo:bar/baz@1.2.3----RC-SNAPSHOT.12.9.1--.12\n\
+        foo:bar/baz@1.0.0+0.build.1-rc.10000aaa-kk-0.1\n\
+        foo:bar/baz@99999999999999999999999.999999999999999999.99999999999999999\n\
+        foo:bar/baz@1.0.0-0A.is.legal\n",
+    ) else {
+        panic!(rt; "refused");
+    };
+    for (path, offset) in &PATHS {
+        let span = SourceSpan::new(*offset, path.len());
+        assert_eq!(rt;
+            lexer.next(),
+            Some((Ok(Token::PackagePath), span)),
+            "{path}"
+        );
+    }
+    assert_eq!(rt; lexer.next(), None);
+}
+
+#[test]
+fn tokens_of_texts(rt: HostRuntime) {
+    for (source, tokens) in TEXTS {
+        tokens_are(&rt, source, tokens);
+    }
+    paths_are_tokens(&rt);
 }

@@ -29,53 +29,35 @@ fn alias<'d, 'a>(document: &'d Document<'a>) -> Option<&'d Type<'a>> {
     }
 }
 
-#[test]
-fn a_tuple_and_its_part(rt: HostRuntime) {
-    let document = parsed(&rt, rt.alloc(), "package a:b; type t = tuple<u8>;");
-    match alias(&document) {
-        Some(Type::Tuple(types, span)) => {
-            assert_eq!(rt; *span, SourceSpan::new(22, 9));
-            match types.first() {
-                Some(Type::U8(span)) => assert_eq!(rt; *span, SourceSpan::new(28, 2)),
-                _ => panic!(rt; "no `u8`"),
-            }
-            assert_eq!(rt; types.len(), 1);
-        }
-        _ => panic!(rt; "no tuple"),
+/// The spans of a tuple and of its only type, a `u8`.
+fn tuple_of_one(document: &Document<'_>) -> Option<(SourceSpan, SourceSpan)> {
+    match alias(document)? {
+        Type::Tuple(types, span) if types.len() == 1 => match types.first()? {
+            Type::U8(part) => Some((*span, *part)),
+            _ => None,
+        },
+        _ => None,
     }
 }
 
-#[test]
-fn a_stream_and_its_part(rt: HostRuntime) {
-    let document = parsed(&rt, rt.alloc(), "package a:b; type t = stream<u8>;");
-    match alias(&document) {
-        Some(Type::Stream(Some(ty), span)) => {
-            assert_eq!(rt; *span, SourceSpan::new(22, 10));
-            assert_eq!(rt; ty.span(), SourceSpan::new(29, 2));
-        }
-        _ => panic!(rt; "no stream"),
+/// The spans of a stream and of its type.
+fn stream(document: &Document<'_>) -> Option<(SourceSpan, SourceSpan)> {
+    match alias(document)? {
+        Type::Stream(Some(ty), span) => Some((*span, ty.span())),
+        _ => None,
     }
 }
 
-/// Asserts that the first statement names a result of nothing.
-fn is_bare_result(rt: &impl Abort, alloc: Global, source: &str, length: usize) {
-    let document = parsed(rt, alloc, source);
-    match alias(&document) {
-        Some(
-            Type::Result {
-                ok: None,
-                err: None,
-                span,
-            },
-        ) => assert_eq!(rt; *span, SourceSpan::new(22, length)),
-        _ => panic!(rt; "{source} names no result of nothing"),
+/// The span of a result of nothing.
+fn bare_result(document: &Document<'_>) -> Option<SourceSpan> {
+    match alias(document)? {
+        Type::Result {
+            ok: None,
+            err: None,
+            span,
+        } => Some(*span),
+        _ => None,
     }
-}
-
-#[test]
-fn a_result_of_nothing(rt: HostRuntime) {
-    is_bare_result(&rt, rt.alloc(), "package a:b; type t = result<_, _>;", 12);
-    is_bare_result(&rt, rt.alloc(), "package a:b; type t = result;", 6);
 }
 
 /// The path that the first statement imports.
@@ -89,18 +71,15 @@ fn imported<'d, 'a>(document: &'d Document<'a>) -> Option<&'d PackagePath<'a>> {
     }
 }
 
-#[test]
-fn a_path_and_its_parts(rt: HostRuntime) {
-    let document = parsed(&rt, rt.alloc(), "package a:b; import x: %c:d/e/%f@1.0.0;");
-    match imported(&document) {
-        Some(path) => {
-            assert_eq!(rt; path.name, "%c:d");
-            assert_eq!(rt; path.package_name_span(), SourceSpan::new(23, 4));
-            assert_eq!(rt; path.segments, "e/%f");
-            assert!(rt; path.version.is_some());
-        }
-        None => panic!(rt; "no path"),
-    }
+/// The name of the imported path, where it lies, the segments, and whether there is a version.
+fn path<'a>(document: &Document<'a>) -> Option<(&'a str, SourceSpan, &'a str, bool)> {
+    let path = imported(document)?;
+    Some((
+        path.name,
+        path.package_name_span(),
+        path.segments,
+        path.version.is_some(),
+    ))
 }
 
 /// The segments of the path that a text imports first.
@@ -112,11 +91,9 @@ fn segments<'a>(rt: &impl Abort, alloc: Global, source: &'a str) -> SegmentSpans
     }
 }
 
-// The document is gone where its segments are read: they live as long as the source.
-#[test]
-fn segments_outlive_their_path(rt: HostRuntime) {
-    let source = "package a:b; import x: %c:d/e/%f@1.0.0;";
-    let mut segments = segments(&rt, rt.alloc(), source);
+/// Asserts the segments of a path. The document is gone where they are read: they live as long as the source.
+fn segments_outlive_their_path(rt: &impl Abort, alloc: Global, source: &str) {
+    let mut segments = segments(rt, alloc, source);
     assert_eq!(rt; segments.next(), Some(("e", SourceSpan::new(28, 1))));
     assert_eq!(rt; segments.next(), Some(("%f", SourceSpan::new(30, 2))));
     assert_eq!(rt; segments.next(), None);
@@ -137,16 +114,6 @@ fn function(document: &Document<'_>) -> Option<(bool, bool, usize)> {
         ResultList::Empty => Some((true, func.is_async, func.params.len())),
         ResultList::Scalar(_) => Some((false, func.is_async, func.params.len())),
     }
-}
-
-#[test]
-fn an_arrow_with_nothing_behind(rt: HostRuntime) {
-    let document = parsed(
-        &rt,
-        rt.alloc(),
-        "package a:b; interface i { f: func() -> ; }",
-    );
-    assert_eq!(rt; function(&document), Some((true, false, 0)));
 }
 
 /// The spans of the two accesses of an expression.
@@ -182,34 +149,6 @@ fn inner_spans(document: &Document<'_>) -> Option<(SourceSpan, SourceSpan, Sourc
     Some((nested.span, nested.inner.span, name.span))
 }
 
-#[test]
-fn an_export_of_accesses(rt: HostRuntime) {
-    let source = "package a:b; export (x.y)[ \"q\" ].z as \"n\";";
-    let document = parsed(&rt, rt.alloc(), source);
-    assert_eq!(rt;
-        export_spans(&document),
-        Some((
-            SourceSpan::new(20, 14),
-            SourceSpan::new(25, 7),
-            SourceSpan::new(32, 2)
-        ))
-    );
-}
-
-#[test]
-fn an_export_in_parentheses(rt: HostRuntime) {
-    let source = "package a:b; export (x.y)[ \"q\" ].z as \"n\";";
-    let document = parsed(&rt, rt.alloc(), source);
-    assert_eq!(rt;
-        inner_spans(&document),
-        Some((
-            SourceSpan::new(20, 5),
-            SourceSpan::new(21, 3),
-            SourceSpan::new(38, 3)
-        ))
-    );
-}
-
 /// Whether the first argument of the first `let` is a fill, and how many there are.
 fn filled(document: &Document<'_>) -> Option<(bool, usize)> {
     let Statement::Let(binding) = document.statements.first()? else {
@@ -222,12 +161,6 @@ fn filled(document: &Document<'_>) -> Option<(bool, usize)> {
         InstantiationArgument::Fill(_) => Some((true, new.arguments.len())),
         _ => Some((false, new.arguments.len())),
     }
-}
-
-#[test]
-fn a_fill_and_an_argument(rt: HostRuntime) {
-    let document = parsed(&rt, rt.alloc(), "package a:b; let x = new c:d { ..., y };");
-    assert_eq!(rt; filled(&document), Some((true, 2)));
 }
 
 /// Whether the first method of the first resource is static.
@@ -244,14 +177,6 @@ fn is_static(document: &Document<'_>) -> Option<bool> {
     }
 }
 
-#[test]
-fn a_static_method(rt: HostRuntime) {
-    let source = "package a:b; interface i { resource r { f: static func(); } }";
-    assert_eq!(rt; is_static(&parsed(&rt, rt.alloc(), source)), Some(true));
-    let source = "package a:b; interface i { resource r { f: func(); } }";
-    assert_eq!(rt; is_static(&parsed(&rt, rt.alloc(), source)), Some(false));
-}
-
 /// Whether the docs of the cases of the first variant are these.
 fn are_docs_of_cases(document: &Document<'_>) -> Option<(bool, bool)> {
     let Statement::Ty(TypeStatement::Ty(TypeDecl::Variant(variant))) = document.statements.first()?
@@ -261,13 +186,6 @@ fn are_docs_of_cases(document: &Document<'_>) -> Option<(bool, bool)> {
     let first = variant.cases.get(0)?.docs.first()?;
     let second = variant.cases.get(1)?.docs.first()?;
     Some((first.comment == "one", second.comment == "two"))
-}
-
-#[test]
-fn docs_stand_at_their_cases(rt: HostRuntime) {
-    let source = "package a:b; variant v {\n/// one\na, /// two\nb(u8), }";
-    let document = parsed(&rt, rt.alloc(), source);
-    assert_eq!(rt; are_docs_of_cases(&document), Some((true, true)));
 }
 
 /// A list of lists, so deep, as the type of an alias.
@@ -285,8 +203,76 @@ fn nested(alloc: Global, depth: usize) -> Result<String, Fail> {
 }
 
 #[test]
-fn lists_two_hundred_deep(rt: HostRuntime) -> Result<(), Fail> {
-    let source = nested(rt.alloc(), 200)?;
-    assert!(rt; Document::parse(rt.alloc(), source.as_str()).is_ok());
+fn types_and_paths(rt: HostRuntime) -> Result<(), Fail> {
+    let alloc = rt.alloc();
+    assert_eq!(rt;
+        tuple_of_one(&parsed(&rt, alloc, "package a:b; type t = tuple<u8>;")),
+        Some((SourceSpan::new(22, 9), SourceSpan::new(28, 2)))
+    );
+    assert_eq!(rt;
+        stream(&parsed(&rt, alloc, "package a:b; type t = stream<u8>;")),
+        Some((SourceSpan::new(22, 10), SourceSpan::new(29, 2)))
+    );
+    for (source, len) in [
+        ("package a:b; type t = result<_, _>;", 12),
+        ("package a:b; type t = result;", 6),
+    ] {
+        assert_eq!(rt;
+            bare_result(&parsed(&rt, alloc, source)),
+            Some(SourceSpan::new(22, len))
+        );
+    }
+    let source = "package a:b; import x: %c:d/e/%f@1.0.0;";
+    assert_eq!(rt;
+        path(&parsed(&rt, alloc, source)),
+        Some(("%c:d", SourceSpan::new(23, 4), "e/%f", true))
+    );
+    segments_outlive_their_path(&rt, alloc, source);
+    let source = nested(alloc, 200)?;
+    assert!(rt; Document::parse(alloc, source.as_str()).is_ok());
     Ok(())
+}
+
+/// Asserts the spans of an export's parts.
+fn export_parts(rt: &impl Abort, alloc: Global) {
+    let source = "package a:b; export (x.y)[ \"q\" ].z as \"n\";";
+    let document = parsed(rt, alloc, source);
+    assert_eq!(rt;
+        export_spans(&document),
+        Some((
+            SourceSpan::new(20, 14),
+            SourceSpan::new(25, 7),
+            SourceSpan::new(32, 2)
+        ))
+    );
+    assert_eq!(rt;
+        inner_spans(&document),
+        Some((
+            SourceSpan::new(20, 5),
+            SourceSpan::new(21, 3),
+            SourceSpan::new(38, 3)
+        ))
+    );
+}
+
+#[test]
+fn statements_and_their_parts(rt: HostRuntime) {
+    let alloc = rt.alloc();
+    let source = "package a:b; interface i { f: func() -> ; }";
+    assert_eq!(rt;
+        function(&parsed(&rt, alloc, source)),
+        Some((true, false, 0))
+    );
+    export_parts(&rt, alloc);
+    let source = "package a:b; let x = new c:d { ..., y };";
+    assert_eq!(rt; filled(&parsed(&rt, alloc, source)), Some((true, 2)));
+    let source = "package a:b; interface i { resource r { f: static func(); } }";
+    assert_eq!(rt; is_static(&parsed(&rt, alloc, source)), Some(true));
+    let source = "package a:b; interface i { resource r { f: func(); } }";
+    assert_eq!(rt; is_static(&parsed(&rt, alloc, source)), Some(false));
+    let source = "package a:b; variant v {\n/// one\na, /// two\nb(u8), }";
+    assert_eq!(rt;
+        are_docs_of_cases(&parsed(&rt, alloc, source)),
+        Some((true, true))
+    );
 }
