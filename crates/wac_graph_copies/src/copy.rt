@@ -145,10 +145,7 @@ pub fn copy_uses(
 }
 
 /// A copy of the names.
-pub fn copy_names(
-    alloc: Global,
-    from: &IndexSet<String>,
-) -> Result<IndexSet<String>, AllocError>
+pub fn copy_names(alloc: Global, from: &IndexSet<String>) -> Result<IndexSet<String>, AllocError>
     ensures { IfOk result (λ s. name_children s.keys ≡ name_children from.now.keys) }
 {
     let mut copy = IndexSet::with_capacity(alloc, from.len())?;
@@ -159,11 +156,7 @@ pub fn copy_names(
 }
 
 /// The types with their numbers moved by `n`.
-pub fn copy_tuple(
-    alloc: Global,
-    n: usize,
-    from: &[ValueType],
-) -> Result<Vec<ValueType>, AllocError>
+pub fn copy_tuple(alloc: Global, n: usize, from: &[ValueType]) -> Result<Vec<ValueType>, AllocError>
     requires { EachKind (Fits n) (tuple_children from.now) }
     ensures { IfOk result (λ v. tuple_children v.items ≡ moved_children n (tuple_children from.now)) }
 {
