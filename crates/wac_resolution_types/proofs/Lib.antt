@@ -1,0 +1,4 @@
+pub mod Bound
+pub mod Added
+pub mod Grown
+pub mod Scopes

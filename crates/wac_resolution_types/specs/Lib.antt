@@ -1,0 +1,4 @@
+pub mod Bindings
+pub mod Growth
+pub mod Named
+pub mod Types

@@ -1,0 +1,10 @@
+//! Part of `wac_resolution`: types, function types and declarations of types, resolved into the table of a graph.
+#![tactic(auto)]
+
+mod named;
+mod names;
+mod state;
+
+pub use named::{kind_of, named_resource, named_type};
+pub use names::Names;
+pub use state::State;
