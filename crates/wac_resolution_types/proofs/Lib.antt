@@ -2,3 +2,4 @@ pub mod Bound
 pub mod Added
 pub mod Grown
 pub mod Scopes
+pub mod TypeParts

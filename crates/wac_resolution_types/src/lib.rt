@@ -4,6 +4,7 @@
 mod named;
 mod names;
 mod state;
+mod types;
 
 pub use named::{kind_of, named_resource, named_type};
 pub use names::Names;
