@@ -3,3 +3,5 @@ pub mod Added
 pub mod Grown
 pub mod Scopes
 pub mod TypeParts
+pub mod NamedParts
+pub mod FuncParts

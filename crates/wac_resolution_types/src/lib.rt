@@ -1,6 +1,7 @@
 //! Part of `wac_resolution`: types, function types and declarations of types, resolved into the table of a graph.
 #![tactic(auto)]
 
+mod func;
 mod named;
 mod names;
 mod state;
