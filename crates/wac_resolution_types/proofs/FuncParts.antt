@@ -115,10 +115,6 @@ pub constructor_breaks : (g : Parts) (ks : Named ItemKind) (first : Named ValueT
     → (naming : Naming) → (e ≡ memory) ⊎ ParamsBroken funcs.Constructor (scope_of naming g ks) [] xs e
 constructor_breaks g ks first xs e none h naming = inr (subst (λ (l : Named ValueType). ParamsBroken funcs.Constructor (scope_of naming g ks) (types_named naming g l) xs e) none (h naming))
 
--- a map without names
-pub none_named : (entries : List (String Global × ValueType)) → entries ≡ [] → by_name entries ≡ []
-none_named entries is = ap by_name is
-
 own_params_mean : (naming : Naming) (g : Parts) (is_static : Bool) (resource : ResourceId) → types_named naming g (own_params is_static resource) ≡ first_params is_static (entry_means naming g resource.0)
 own_params_mean naming g true resource = refl
 own_params_mean naming g false resource = refl

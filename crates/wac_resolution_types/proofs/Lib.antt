@@ -5,3 +5,5 @@ pub mod Scopes
 pub mod TypeParts
 pub mod NamedParts
 pub mod FuncParts
+pub mod NamesAlone
+pub mod DeclarationParts

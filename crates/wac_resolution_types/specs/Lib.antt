@@ -4,3 +4,4 @@ pub mod Named
 pub mod Types
 pub mod NamedParts
 pub mod Funcs
+pub mod Declarations

@@ -7,7 +7,8 @@ use Rattle.wac_types.specs.Names.{by_name}
 use Rattle.wac_declarations.specs.Declarations.{named_type_of}
 use Rattle.wac_resolution_errors.specs.Told.{told}
 use Rattle.wac_resolution_types.specs.Bindings.{values_of}
-use Rattle.wac_resolution_types.proofs.FuncParts.{func_kinds, constructor_is, constructor_breaks, none_named}
+use Rattle.wac_resolution_types.proofs.FuncParts.{func_kinds, constructor_is, constructor_breaks}
+use Rattle.wac_resolution_types.proofs.DeclarationParts.{none_named}
 use Rattle.wac_resolution_types.proofs.state.State.constructor.Goals as goal
 
 pub returns-in_err-params-clause-err : goal.returns-in_err-params-clause-err
