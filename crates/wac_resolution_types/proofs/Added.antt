@@ -1,7 +1,6 @@
 -- What is added to the types of a graph.
-use Rattle.std.proofs.Common.{◌≡◌, ◌∙◌, ◌+◌, ℕ, suc, List, [], ◌∷◌, Option, Some, None, refl, sym, ap, subst, arith}
+use Rattle.std.proofs.Common.{◌≡◌, ◌∙◌, ℕ, List, [], ◌∷◌, Option, Some, None, refl, sym, ap, subst, arith}
 use Rattle.std.specs.Prelude.{slice_get, option_map, option_and_then, string_bytes, IfSome}
-use Rattle.wac_types.specs.declared.kind.ItemKind.{ItemKind}
 use Rattle.wac_types.specs.declared.kind.ItemKind.TheVariants as kinds
 use Rattle.wac_types.specs.declared.kind.«Type».TheVariants as types
 use Rattle.wac_types.specs.declared.kind.ValueType.TheVariants as values
@@ -30,10 +29,10 @@ use Rattle.wac_types.specs.Table.{Names, EachEntryNamed}
 use Rattle.wac_types.proofs.Parts.{defined_is, func_is, interface_is, world_is}
 use Rattle.wac_graph.specs.Adds.{Adds}
 use Rattle.wac_graph.specs.Graph.{Parts}
-use Rattle.wac_graph.specs.Means.{means, entry_means, declared_count, origin_at, EntriesMean}
+use Rattle.wac_graph.specs.Means.{entry_means, declared_count, origin_at, EntriesMean}
 use Rattle.wac_graph.specs.Origin.{Naming, declared}
 use Rattle.wac_graph.specs.Resources.{resource_entry, alias_entry}
-use Rattle.wac_resolution_types.specs.Growth.{Grows, GrowsPlainly, AddsDefined, AddsFunc, AddsInterface, AddsWorld, AddsResource}
+use Rattle.wac_resolution_types.specs.Growth.{Grows, AddsDefined, AddsFunc, AddsInterface, AddsWorld, AddsResource}
 
 added_grows : (old new : Parts) (e : Entry) (id : ℕ) → Adds old new e id → Grows old new
 added_grows old new e id a = record {

@@ -1,5 +1,5 @@
 -- Declarations of types, by their parts.
-use Rattle.std.proofs.Common.{◌≡◌, ◌∙◌, ℕ, List, [], ◌∷◌, Option, Some, None, refl, sym, ap, subst, map, inl, inr}
+use Rattle.std.proofs.Common.{◌≡◌, ◌∙◌, ℕ, List, [], ◌∷◌, Option, Some, sym, ap, subst, map, inr}
 use Rattle.std.specs.Prelude.{option_map, string_bytes, String}
 use Rattle.std.specs.declared.alloc.Global.{Global}
 use Rattle.wac_grammar.specs.Tree.{VariantDecl, RecordDecl, FlagsDecl, EnumDecl}
@@ -17,7 +17,7 @@ use Rattle.wac_types.specs.Shape.{defined_type, defined_parts, as_type, naming_e
 use Rattle.wac_types.specs.Steps.{Steps, Fails}
 use Rattle.wac_types.specs.Table.{Names}
 use Rattle.wac_graph.specs.Graph.{Parts}
-use Rattle.wac_graph.specs.Means.{means, entry_means}
+use Rattle.wac_graph.specs.Means.{entry_means}
 use Rattle.wac_graph.specs.Origin.{Naming}
 use Rattle.wac_declarations.specs.Types.{ty_of}
 use Rattle.wac_declarations.specs.declared.types.«Type».{«Type»}
@@ -28,8 +28,8 @@ use Rattle.wac_resolution_rules.specs.BrokenDeclarations.{OptionBroken}
 use Rattle.wac_resolution_types.specs.Growth.{GrowsPlainly, AddsDefined}
 use Rattle.wac_resolution_types.specs.Named.{scope_of}
 use Rattle.wac_resolution_types.specs.NamedParts.{PartStep, PartsGo, parts_mean}
-use Rattle.wac_resolution_types.specs.Funcs.{given, types_named}
-use Rattle.wac_resolution_types.specs.Declarations.{perhaps, cases_named, CasesGo, FieldsGo, names_alone, ValueAdded}
+use Rattle.wac_resolution_types.specs.Funcs.{types_named}
+use Rattle.wac_resolution_types.specs.Declarations.{cases_named, CasesGo, FieldsGo, names_alone, ValueAdded}
 use Rattle.wac_resolution_types.proofs.Grown.{grows_self, plainly_on}
 use Rattle.wac_resolution_types.proofs.NamesAlone.{names_each}
 

@@ -2,7 +2,7 @@
 use Rattle.std.proofs.Common.{◌≡◌, ◌∙◌, ℕ, List, [], ◌∷◌, ◌++◌, Option, Some, None, Bool, true, false, refl, sym, ap, subst, ◌⊎◌, inl, inr}
 use Rattle.std.specs.Prelude.{IfSome, String}
 use Rattle.std.specs.declared.alloc.Global.{Global}
-use Rattle.wac_grammar.specs.Tree.{Ty, ResultList, FuncType, NamedType}
+use Rattle.wac_grammar.specs.Tree.{ResultList, FuncType, NamedType}
 use Rattle.wac_grammar.specs.Spans.{ty_span}
 use Rattle.wac_types.specs.declared.kind.ItemKind.{ItemKind}
 use Rattle.wac_types.specs.declared.kind.ItemKind.TheVariants as kinds
@@ -38,7 +38,7 @@ use Rattle.wac_resolution_types.specs.Named.{scope_of}
 use Rattle.wac_resolution_types.specs.Types.{TypeIs}
 use Rattle.wac_resolution_types.specs.Funcs.{given, types_named, TypesNamed, ParamsGo, ResultIs, FuncAdded, FuncIs, ConstructorIs, own_params}
 use Rattle.wac_resolution_types.proofs.Grown.{grows_self, plainly_on, scope_kept}
-use Rattle.wac_resolution_types.proofs.NamedParts.{parts_kept, parts_still_named, values_named}
+use Rattle.wac_resolution_types.proofs.NamedParts.{parts_kept, values_named}
 
 -- ---- results
 

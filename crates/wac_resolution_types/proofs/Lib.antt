@@ -7,3 +7,5 @@ pub mod NamedParts
 pub mod FuncParts
 pub mod NamesAlone
 pub mod DeclarationParts
+pub mod Aliases
+pub mod TypeDecls

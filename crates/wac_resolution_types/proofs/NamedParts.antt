@@ -1,8 +1,7 @@
 -- Named parts that are taken one after another.
-use Rattle.std.proofs.Common.{◌≡◌, ◌∙◌, ◌+◌, ◌<◌, ℕ, List, [], ◌∷◌, ◌++◌, Option, Some, None, Bool, true, false, cond, refl, sym, ap, subst, map, take, length, get_or, inl, inr}
-use Rattle.std.specs.Prelude.{option_map, IfSome, String, string_bytes}
+use Rattle.std.proofs.Common.{◌≡◌, ◌∙◌, ◌+◌, ◌<◌, ℕ, List, [], ◌∷◌, Option, Some, Bool, true, false, cond, refl, sym, ap, subst, map, take, length, get_or}
+use Rattle.std.specs.Prelude.{option_map, IfSome, String}
 use Rattle.std.specs.declared.alloc.Global.{Global}
-use Rattle.std.specs.List.{AllByRecursion}
 use Rattle.std.specs.Str.{bytes_eq}
 use Rattle.std.proofs.lemmas.List.{map_push}
 use Rattle.wac_grammar.specs.Tree.{Ident}
@@ -14,7 +13,7 @@ use Rattle.wac_types.specs.Meaning.{Meaning, EachKind}
 use Rattle.wac_types.specs.Names.{by_name}
 use Rattle.wac_types.specs.Scope.{Named, Scope, look_up, StandsFor, IsFresh, with_named}
 use Rattle.wac_types.specs.Shape.{optional_means}
-use Rattle.wac_types.specs.Steps.{Steps, Fails}
+use Rattle.wac_types.specs.Steps.{Fails}
 use Rattle.wac_types.specs.Table.{Names, ItemsNamed}
 use Rattle.wac_graph.specs.Graph.{Parts}
 use Rattle.wac_graph.specs.Means.{entry_means}

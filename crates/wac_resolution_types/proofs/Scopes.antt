@@ -1,5 +1,5 @@
 -- What an identifier stands for among kinds is what it stands for among their meanings.
-use Rattle.std.proofs.Common.{◌≡◌, ◌∙◌, ℕ, List, Option, Some, None, refl, sym, ap, subst, inl, inr}
+use Rattle.std.proofs.Common.{◌≡◌, ◌∙◌, ℕ, List, Some, None, refl, ap}
 use Rattle.std.specs.Prelude.{option_map, alloc_error}
 use Rattle.wac_lexer.specs.Span.{Span}
 use Rattle.wac_grammar.specs.Tree.{Ident, Ty}
@@ -10,17 +10,15 @@ use Rattle.wac_types.specs.declared.kind.ValueType.{ValueType}
 use Rattle.wac_types.specs.declared.kind.ValueType.TheVariants as values
 use Rattle.wac_types.specs.declared.kind.ResourceId.{ResourceId}
 use Rattle.wac_types.specs.Scope.{Named, look_up, IsFresh}
-use Rattle.wac_types.specs.Words.{described}
-use Rattle.wac_types.proofs.Shapes.{items_found, word_is}
+use Rattle.wac_types.proofs.Shapes.{items_found}
 use Rattle.wac_types.proofs.Found.{found_named}
 use Rattle.wac_graph.specs.Graph.{Parts}
 use Rattle.wac_graph.specs.Means.{means, entry_means}
 use Rattle.wac_graph.specs.Origin.{Naming}
-use Rattle.wac_resolution_errors.specs.Error.{Error, undefined_name, memory}
+use Rattle.wac_resolution_errors.specs.Error.{memory}
 use Rattle.wac_resolution_errors.specs.Told.{told}
 use Rattle.wac_resolution_errors.specs.declared.error.Error.{Error as CodeError}
 use Rattle.wac_resolution_errors.specs.declared.error.Error.TheVariants as errors
-use Rattle.wac_resolution_rules.specs.BrokenTypes.{IsUndefined}
 use Rattle.wac_resolution_types.specs.Named.{scope_of, KindIs, ValueIs}
 
 -- an error that says that memory ran out

@@ -1,8 +1,8 @@
 -- What a type means, by what its parts mean.
-use Rattle.std.proofs.Common.{◌≡◌, ◌∙◌, ◌+◌, ◌<◌, ◌≤◌, ℕ, zero, suc, List, [], ◌∷◌, ◌++◌, Option, Some, None, refl, sym, ap, subst, map, inl, inr, take, drop, length, get_or, arith}
+use Rattle.std.proofs.Common.{◌≡◌, ◌∙◌, ◌+◌, ◌<◌, ◌≤◌, ℕ, zero, suc, List, [], ◌∷◌, ◌++◌, Option, refl, sym, ap, subst, map, inl, inr, take, drop, length, get_or, arith}
 use Rattle.std.proofs.lemmas.List.{take_more, map_push}
 use denote.Param.Weighed.{most}
-use Rattle.std.specs.Prelude.{Vec, Box, IfSome}
+use Rattle.std.specs.Prelude.{Vec, Box}
 use Rattle.std.specs.declared.alloc.Global.{Global}
 use Rattle.wac_lexer.specs.Span.{Span}
 use Rattle.wac_grammar.specs.Tree as tree
@@ -28,7 +28,7 @@ use Rattle.wac_declarations.specs.declared.types.«Type».{«Type»}
 use Rattle.wac_resolution_errors.specs.Error.{Error, memory}
 use Rattle.wac_resolution_rules.specs.Types.{HasType, HasOptional, HaveTypes}
 use Rattle.wac_resolution_rules.specs.BrokenTypes.{TypeBroken, OptionalBroken, TypesBroken}
-use Rattle.wac_resolution_types.specs.Growth.{Grows, GrowsPlainly, AddsDefined}
+use Rattle.wac_resolution_types.specs.Growth.{Grows, AddsDefined}
 use Rattle.wac_resolution_types.specs.Named.{scope_of, ValueIs}
 use Rattle.wac_resolution_types.specs.Types.{TypeIs, OptionalIs, TypesAre}
 use Rattle.wac_resolution_types.proofs.Grown.{grows_self, plainly_on, scope_kept, child_kept, each_still_named}

@@ -1,5 +1,5 @@
 -- Names of a scope, each with where it was bound and what it stands for.
-use Rattle.std.specs.Prelude.{List, map}
+use Rattle.std.specs.Prelude.{map}
 use Rattle.wac_lexer.specs.Span.{Span}
 use Rattle.wac_types.specs.Scope.{Named}
 

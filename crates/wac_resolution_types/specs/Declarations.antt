@@ -1,5 +1,5 @@
 -- Declarations of types as they are resolved into a graph.
-use Rattle.std.specs.Prelude.{◌≡◌, ℕ, List, map, Option, Some, None, IfSome, string_bytes, String}
+use Rattle.std.specs.Prelude.{◌≡◌, ℕ, List, [], map, Option, Some, None, IfSome, string_bytes, String}
 use Rattle.std.specs.declared.alloc.Global.{Global}
 use Rattle.wac_grammar.specs.Tree.{Ty, VariantCase, Field}
 use Rattle.wac_types.specs.declared.kind.ItemKind.{ItemKind}
@@ -8,18 +8,18 @@ use Rattle.wac_types.specs.declared.kind.«Type».TheVariants as types
 use Rattle.wac_types.specs.declared.kind.ValueType.{ValueType}
 use Rattle.wac_types.specs.Entry.{optional}
 use Rattle.wac_types.specs.Meaning.{Meaning}
-use Rattle.wac_types.specs.Scope.{Named, Scope}
+use Rattle.wac_types.specs.Scope.{Named}
 use Rattle.wac_types.specs.Shape.{nothing, optional_means}
 use Rattle.wac_types.specs.Table.{Names}
 use Rattle.wac_graph.specs.Graph.{Parts}
 use Rattle.wac_graph.specs.Means.{means, entry_means, declared_count}
 use Rattle.wac_graph.specs.Origin.{Naming}
-use Rattle.wac_resolution_rules.specs.Declarations.{HasOption, HasCase, HasField, Aliasing, at_root, in_body}
-use Rattle.wac_resolution_types.specs.declared.alias.Place.{Place}
-use Rattle.wac_resolution_types.specs.declared.alias.Place.TheVariants as places
+use Rattle.wac_resolution_rules.specs.Declarations.{HasOption, HasCase, HasField, Aliasing, Counted, at_root, in_body}
+use Rattle.wac_resolution_types.specs.declared.place.Place.{Place}
+use Rattle.wac_resolution_types.specs.declared.place.Place.TheVariants as places
 use Rattle.wac_resolution_types.specs.Growth.{Grows, GrowsPlainly}
 use Rattle.wac_resolution_types.specs.Named.{scope_of}
-use Rattle.wac_resolution_types.specs.NamedParts.{parts_mean, PartsNamed, PartGoes, PartsGo}
+use Rattle.wac_resolution_types.specs.NamedParts.{parts_mean, PartGoes, PartsGo}
 use Rattle.wac_resolution_types.specs.Funcs.{given}
 
 -- the type of a part that may have none
@@ -71,12 +71,26 @@ abbrev pub aliasing_at : Place → Naming → Aliasing
 aliasing_at places.Root naming = at_root
 aliasing_at places.Body naming = in_body naming
 
--- another name of a kind was made
-pub record IsAliased (aliasing : Naming → Aliasing) (old new : Parts) (name : List ℕ) (k made : ItemKind) : Type 0 where
+-- what is made of the meaning of a kind, with how many resources are declared then, if it can be aliased
+abbrev pub Making : Type 0
+Making = Naming → Meaning → Option Counted
+
+-- at root the name does not matter
+abbrev pub made_at_root : Parts → Making
+made_at_root g naming m = at_root (declared_count g) [] m
+
+abbrev pub made_in_body : Parts → List ℕ → Making
+made_in_body g name naming m = in_body naming (declared_count g) name m
+
+abbrev pub made_at : Place → Parts → List ℕ → Making
+made_at place g name naming m = aliasing_at place naming (declared_count g) name m
+
+-- another name of the kind was made
+pub record IsAliased (old new : Parts) (making : Making) (k made : ItemKind) : Type 0 where
   pub grows : Grows old new
   pub named : Names new.types made
-  pub is : (naming : Naming) → aliasing naming (declared_count old) name (means naming old k) ≡ Some (means naming new made, declared_count new)
+  pub is : (naming : Naming) → making naming (means naming old k) ≡ Some (means naming new made, declared_count new)
 
 -- the kind can't be aliased
-pub record IsNotAliased (aliasing : Naming → Aliasing) (old : Parts) (name : List ℕ) (k : ItemKind) : Type 0 where
-  pub is : (naming : Naming) → aliasing naming (declared_count old) name (means naming old k) ≡ None
+pub record IsNotAliased (old : Parts) (making : Making) (k : ItemKind) : Type 0 where
+  pub is : (naming : Naming) → making naming (means naming old k) ≡ None

@@ -1,5 +1,5 @@
 -- Function types as they are resolved into a graph.
-use Rattle.std.specs.Prelude.{◌≡◌, ℕ, List, [], ◌∷◌, Option, Some, IfSome, Bool, true, false, codes}
+use Rattle.std.specs.Prelude.{List, [], ◌∷◌, Option, Some, IfSome, Bool, true, false, codes}
 use Rattle.wac_grammar.specs.Tree.{NamedType, ResultList, FuncType}
 use Rattle.wac_types.specs.declared.kind.ItemKind.{ItemKind}
 use Rattle.wac_types.specs.declared.kind.ItemKind.TheVariants as kinds

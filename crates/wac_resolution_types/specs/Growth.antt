@@ -1,5 +1,5 @@
 -- What a graph gets as types are resolved: more types, and nothing else.
-use Rattle.std.specs.Prelude.{◌≡◌, ℕ, suc, List, Option}
+use Rattle.std.specs.Prelude.{◌≡◌, suc}
 use Rattle.wac_types.specs.declared.kind.ItemKind.{ItemKind}
 use Rattle.wac_types.specs.declared.kind.ItemKind.TheVariants as kinds
 use Rattle.wac_types.specs.declared.kind.«Type».TheVariants as types

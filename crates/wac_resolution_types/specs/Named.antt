@@ -1,5 +1,5 @@
 -- What identifiers stand for, where each name stands for a kind of a graph.
-use Rattle.std.specs.Prelude.{◌≡◌, ℕ, List}
+use Rattle.std.specs.Prelude.{List}
 use Rattle.wac_grammar.specs.Tree.{Ident, Ty}
 use Rattle.wac_types.specs.declared.kind.ItemKind.{ItemKind}
 use Rattle.wac_types.specs.declared.kind.ItemKind.TheVariants as kinds

@@ -1,5 +1,5 @@
 -- Named parts that are taken one after another: parameters, fields, cases. Each part is read as perhaps a type of values.
-use Rattle.std.specs.Prelude.{◌≡◌, ℕ, List, map, Option, IfSome}
+use Rattle.std.specs.Prelude.{◌≡◌, List, map, Option, IfSome}
 use Rattle.std.specs.List.{AllByRecursion}
 use Rattle.wac_grammar.specs.Tree.{Ident}
 use Rattle.wac_types.specs.declared.kind.ItemKind.{ItemKind}

@@ -6,11 +6,14 @@ mod flags;
 mod func;
 mod named;
 mod names;
+mod place;
 mod record;
 mod state;
+mod type_decl;
 mod types;
 mod variant;
 
 pub use named::{kind_of, named_resource, named_type};
 pub use names::Names;
+pub use place::Place;
 pub use state::State;

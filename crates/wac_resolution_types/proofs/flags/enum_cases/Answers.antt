@@ -1,4 +1,4 @@
-use Rattle.std.proofs.Common.{◌≤◌, List, map, take, length, arith, subst}
+use Rattle.std.proofs.Common.{List, map, arith, subst}
 use Rattle.std.proofs.lemmas.Result.{err_from_is_err_and}
 use Rattle.std.proofs.lemmas.List.{take_all, length-map}
 use Rattle.wac_grammar.specs.Tree as tree

@@ -1,4 +1,4 @@
-use Rattle.std.proofs.Common.{refl, inr, ◌≡◌, ◌∙◌, Some, sym, rules}
+use Rattle.std.proofs.Common.{inr, ◌≡◌, Some, sym, rules}
 use Rattle.wac_types.specs.Names.{by_name}
 use Rattle.wac_types.specs.Scope.{look_up}
 use Rattle.wac_resolution_types.specs.Declarations.{perhaps}

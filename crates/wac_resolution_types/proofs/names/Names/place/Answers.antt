@@ -1,4 +1,4 @@
-use Rattle.std.proofs.Common.{◌≡◌, ℕ, List, Some, Option, None, subst, rules}
+use Rattle.std.proofs.Common.{◌≡◌, ℕ, List, Some, None, subst, rules}
 use Rattle.wac_lexer.specs.Span.{Span}
 use Rattle.wac_types.specs.Scope.{look_up}
 use Rattle.wac_resolution_types.specs.Bindings.{places_of}

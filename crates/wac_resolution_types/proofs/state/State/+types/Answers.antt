@@ -1,4 +1,4 @@
-use Rattle.std.proofs.Common.{◌≡◌, ◌≤◌, List, map, take, length, sym, ap, subst, rules, arith, inl, inr}
+use Rattle.std.proofs.Common.{◌≡◌, List, map, take, sym, ap, subst, arith}
 use Rattle.std.proofs.lemmas.Result.{err_from_is_err_and}
 use Rattle.std.proofs.lemmas.List.{take_all}
 use Rattle.wac_grammar.specs.Tree.{Ty, Types, types_from}

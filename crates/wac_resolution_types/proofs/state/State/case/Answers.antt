@@ -1,6 +1,5 @@
 use Rattle.std.proofs.Common.{inl, inr}
 use Rattle.std.proofs.lemmas.Result.{err_from_is_err_and}
-use Rattle.wac_types.specs.declared.kind.ItemKind.TheVariants as kinds
 use Rattle.wac_types.specs.Names.{by_name}
 use Rattle.wac_types.specs.Shape.{optional_means}
 use Rattle.wac_declarations.specs.Declarations.{variant_case_of}

@@ -1,4 +1,4 @@
-use Rattle.std.proofs.Common.{◌≤◌, map, take, length, arith}
+use Rattle.std.proofs.Common.{map, take, arith}
 use Rattle.std.proofs.lemmas.Result.{err_from_is_err_and}
 use Rattle.std.proofs.lemmas.List.{take_all, length-map}
 use Rattle.wac_types.specs.Names.{by_name}

@@ -1,7 +1,7 @@
 use Rattle.std.proofs.lemmas.Result.{err_from_is_err_and}
 use Rattle.wac_resolution_errors.specs.Told.{told}
 use Rattle.wac_resolution_types.specs.Bindings.{values_of}
-use Rattle.wac_resolution_types.proofs.FuncParts.{scalar_is, scalar_breaks, borrow_breaks}
+use Rattle.wac_resolution_types.proofs.FuncParts.{scalar_breaks, borrow_breaks}
 use Rattle.wac_resolution_types.proofs.state.State.result.Goals as goal
 
 pub returns-in_err-value-in-Scalar-clause-err : goal.returns-in_err-value-in-Scalar-clause-err
