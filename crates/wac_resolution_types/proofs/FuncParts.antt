@@ -1,0 +1,144 @@
+-- Function types, by their parts.
+use Rattle.std.proofs.Common.{◌≡◌, ◌∙◌, ℕ, List, [], ◌∷◌, ◌++◌, Option, Some, None, Bool, true, false, refl, sym, ap, subst, ◌⊎◌, inl, inr}
+use Rattle.std.specs.Prelude.{IfSome, String}
+use Rattle.std.specs.declared.alloc.Global.{Global}
+use Rattle.wac_grammar.specs.Tree.{ResultList, FuncType, NamedType}
+use Rattle.wac_grammar.specs.Spans.{ty_span}
+use Rattle.wac_types.specs.declared.kind.ItemKind.{ItemKind}
+use Rattle.wac_types.specs.declared.kind.ItemKind.TheVariants as kinds
+use Rattle.wac_types.specs.declared.kind.«Type».TheVariants as types
+use Rattle.wac_types.specs.declared.kind.ValueType.{ValueType}
+use Rattle.wac_types.specs.declared.kind.ValueType.TheVariants as values
+use Rattle.wac_types.specs.declared.kind.ResourceId.{ResourceId}
+use Rattle.wac_types.specs.declared.kind.FuncKind.TheVariants as funcs
+use Rattle.wac_types.specs.declared.kind.FuncTypeId.{FuncTypeId}
+use Rattle.wac_types.specs.declared.kind.FuncKind.{FuncKind}
+use Rattle.wac_types.specs.declared.entry.Entry.{Entry}
+use Rattle.wac_types.specs.Entry.{Slot, optional, result_children, value_children}
+use Rattle.wac_types.specs.Meaning.{Meaning, meaning, EachKind}
+use Rattle.wac_types.specs.Names.{by_name}
+use Rattle.wac_types.specs.Scope.{Named, Scope}
+use Rattle.wac_types.specs.Shape.{contains_borrow, entry_of, own_of, one_result, func_entry, results_mean, values_mean}
+use Rattle.wac_types.specs.Table.{Names, ItemsNamed}
+use Rattle.wac_graph.specs.Graph.{Parts}
+use Rattle.wac_graph.specs.Means.{means, entry_means, origin_at}
+use Rattle.wac_graph.specs.Origin.{Naming}
+use Rattle.wac_graph.proofs.Origins.{means_is}
+use Rattle.wac_declarations.specs.Types.{ty_of}
+use Rattle.wac_declarations.specs.Declarations.{result_list_of}
+use Rattle.wac_declarations.specs.declared.types.«Type».{«Type»}
+use Rattle.wac_declarations.specs.declared.func_type.ResultList.{ResultList as CodeResultList}
+use Rattle.wac_declarations.specs.declared.func_type.ResultList.TheVariants as results
+use Rattle.wac_resolution_errors.specs.Error.{Error, borrow_in_result, memory}
+use Rattle.wac_resolution_rules.specs.Types.{HasResults, IsFuncWith, first_params}
+use Rattle.wac_resolution_rules.specs.BrokenTypes.{TypeBroken, ParamsBroken, ResultsBroken, FuncBroken}
+use Rattle.wac_resolution_rules.specs.BrokenBodies.{method_kind}
+use Rattle.wac_resolution_types.specs.Growth.{AddsFunc}
+use Rattle.wac_resolution_types.specs.Named.{scope_of}
+use Rattle.wac_resolution_types.specs.Types.{TypeIs}
+use Rattle.wac_resolution_types.specs.Funcs.{given, types_named, TypesNamed, ParamsGo, ResultIs, FuncAdded, FuncIs, ConstructorIs, own_params}
+use Rattle.wac_resolution_types.proofs.Grown.{grows_self, plainly_on, scope_kept}
+use Rattle.wac_resolution_types.proofs.NamedParts.{parts_kept, values_named}
+
+-- ---- results
+
+-- what the table says of borrows, the meaning says
+pub borrow_is : (g : Parts) (ts : List Entry) (v : ValueType) (b : Bool) → ts ≡ g.types → ((origins : ℕ → ℕ) → b ≡ contains_borrow (meaning origins ts (kinds.Value v))) → (naming : Naming) → contains_borrow (means naming g (kinds.Value v)) ≡ b
+borrow_is g ts v b same has naming =
+    ap contains_borrow (means_is naming g (kinds.Value v))
+    ∙ sym (has (λ i. naming (origin_at g i)) ∙ ap (λ (l : List Entry). contains_borrow (meaning (λ i. naming (origin_at g i)) l (kinds.Value v))) same)
+
+pub no_result : (g : Parts) (ks : Named ItemKind) → ResultIs g g ks ResultList.empty None
+no_result g ks = record { grows = grows_self g; named = tt; is = λ naming. refl }
+
+pub scalar_is : (old new : Parts) (ks : Named ItemKind) (x : CodeResultList) (t : «Type») (v : ValueType) → x ≡ results.Scalar t → TypeIs old new ks (ty_of t) v → ((naming : Naming) → contains_borrow (means naming new (kinds.Value v)) ≡ false) → ResultIs old new ks (result_list_of x) (Some v)
+scalar_is old new ks x t v is h none = subst (λ (y : CodeResultList). ResultIs old new ks (result_list_of y) (Some v)) (sym is) (record {
+  grows = h.grows;
+  named = h.named;
+  is = λ naming. (means naming new (kinds.Value v), h.is naming, none naming, refl);
+})
+
+pub scalar_breaks : (g : Parts) (ks : Named ItemKind) (x : CodeResultList) (t : «Type») (e : Error) → x ≡ results.Scalar t → ((naming : Naming) → TypeBroken (scope_of naming g ks) (ty_of t) e) → (naming : Naming) → ResultsBroken (scope_of naming g ks) (result_list_of x) e
+scalar_breaks g ks x t e is h naming = subst (λ (y : CodeResultList). ResultsBroken (scope_of naming g ks) (result_list_of y) e) (sym is) (inl (h naming))
+
+pub borrow_breaks : (old new : Parts) (ks : Named ItemKind) (x : CodeResultList) (t : «Type») (v : ValueType) (e : Error) → x ≡ results.Scalar t → TypeIs old new ks (ty_of t) v
+    → ((naming : Naming) → contains_borrow (means naming new (kinds.Value v)) ≡ true) → e ≡ borrow_in_result (ty_span (ty_of t)) → (naming : Naming) → ResultsBroken (scope_of naming old ks) (result_list_of x) e
+borrow_breaks old new ks x t v e is h has told naming = subst (λ (y : CodeResultList). ResultsBroken (scope_of naming old ks) (result_list_of y) e) (sym is) (inr (inr (means naming new (kinds.Value v), h.is naming, has naming, told)))
+
+-- ---- function types
+
+each_both : (P : ItemKind → Type 0) (cs ds : List (Slot × Option ItemKind)) → EachKind P cs → EachKind P ds → EachKind P (cs ++ ds)
+each_both P [] ds h i = i
+each_both P (c ∷ cs) ds h i = (h.0, each_both P cs ds h.1 i)
+
+result_named : (es : List Entry) (r : Option ValueType) → IfSome (optional r) (Names es) → EachKind (Names es) (result_children r)
+result_named es None h = tt
+result_named es (Some v) h = (h, tt)
+
+pub func_kinds : (es : List Entry) (r : Option ValueType) (ps : List (String Global × ValueType)) → IfSome (optional r) (Names es) → TypesNamed es (by_name ps) → EachKind (Names es) (result_children r ++ value_children ps)
+func_kinds es r ps h i = each_both (Names es) (result_children r) (value_children ps) (result_named es r h) (values_named es ps i)
+
+pub func_is : (old mid late new : Parts) (ks : Named ItemKind) (first ps : Named ValueType) (f : FuncType) (r : Option ValueType) (id : FuncTypeId)
+    → ItemsNamed old.types ks → ParamsGo old mid ks first ps f.params → ResultIs mid late ks f.results r
+    → AddsFunc late new (λ naming. func_entry f.is_async (results_mean (entry_means naming late) r) (values_mean (entry_means naming late) ps)) id → FuncIs old new ks first f id
+func_is old mid late new ks first ps f r id named p q a = record {
+  grows = plainly_on old mid new p.grows (plainly_on mid late new q.grows a.grows);
+  named = a.named;
+  is = λ naming.
+      let scope : scope_of naming mid ks ≡ scope_of naming old ks = scope_kept old mid ks naming p.grows.grows named in
+      let rs : List (Slot × Meaning) = results_mean (entry_means naming late) r in
+      let kept : types_named naming late ps ≡ types_named naming mid ps = parts_kept given mid late ps naming q.grows.grows p.named in
+      (types_named naming mid ps, rs, p.go naming, subst (λ (s : Scope). HasResults s f.results rs) scope (q.is naming), a.is naming ∙ ap (λ (l : Named Meaning). func_entry f.is_async rs l) kept);
+}
+
+pub func_results_break : (kind : FuncKind) (old mid : Parts) (ks : Named ItemKind) (first ps : Named ValueType) (f : FuncType) (e : Error)
+    → ItemsNamed old.types ks → ParamsGo old mid ks first ps f.params → ((naming : Naming) → ResultsBroken (scope_of naming mid ks) f.results e) → (naming : Naming) → FuncBroken kind (scope_of naming old ks) (types_named naming old first) f e
+func_results_break kind old mid ks first ps f e named p h naming =
+    let scope : scope_of naming mid ks ≡ scope_of naming old ks = scope_kept old mid ks naming p.grows.grows named in
+    inr (inr (types_named naming mid ps, p.go naming, subst (λ (s : Scope). ResultsBroken s f.results e) scope (h naming)))
+
+-- ---- constructors and methods
+
+pub constructor_is : (old mid new : Parts) (ks : Named ItemKind) (first ps : Named ValueType) (resource : ResourceId) (xs : List NamedType) (id : FuncTypeId) → first ≡ [] → Names old.types (kinds.Ty (types.Resource resource)) → ParamsGo old mid ks first ps xs
+    → AddsFunc mid new (λ naming. func_entry false (results_mean (entry_means naming mid) (Some (values.Own resource))) (values_mean (entry_means naming mid) ps)) id → ConstructorIs old new ks resource xs id
+constructor_is old mid new ks first ps resource xs id none there p a =
+    let q : ParamsGo old mid ks [] ps xs = subst (λ (l : Named ValueType). ParamsGo old mid ks l ps xs) none p in
+    record {
+      grows = plainly_on old mid new q.grows a.grows;
+      named = a.named;
+      is = λ naming.
+          let kept : entry_means naming mid resource.0 ≡ entry_means naming old resource.0 = ap entry_of (q.grows.grows.kinds naming (kinds.Ty (types.Resource resource)) there) in
+          (types_named naming mid ps, q.go naming, a.is naming ∙ ap (λ (m : Meaning). func_entry false (one_result (own_of m)) (types_named naming mid ps)) kept);
+    }
+
+pub constructor_breaks : (g : Parts) (ks : Named ItemKind) (first : Named ValueType) (xs : List NamedType) (e : Error) → first ≡ [] → ((naming : Naming) → ParamsBroken funcs.Constructor (scope_of naming g ks) (types_named naming g first) xs e)
+    → (naming : Naming) → (e ≡ memory) ⊎ ParamsBroken funcs.Constructor (scope_of naming g ks) [] xs e
+constructor_breaks g ks first xs e none h naming = inr (subst (λ (l : Named ValueType). ParamsBroken funcs.Constructor (scope_of naming g ks) (types_named naming g l) xs e) none (h naming))
+
+own_params_mean : (naming : Naming) (g : Parts) (is_static : Bool) (resource : ResourceId) → types_named naming g (own_params is_static resource) ≡ first_params is_static (entry_means naming g resource.0)
+own_params_mean naming g true resource = refl
+own_params_mean naming g false resource = refl
+
+own_params_named : (es : List Entry) (is_static : Bool) (resource : ResourceId) → Names es (kinds.Ty (types.Resource resource)) → TypesNamed es (own_params is_static resource)
+own_params_named es true resource h = tt
+own_params_named es false resource h = (h, tt)
+
+pub first_named : (es : List Entry) (is_static : Bool) (resource : ResourceId) (ps : Named ValueType) → ps ≡ own_params is_static resource → Names es (kinds.Ty (types.Resource resource)) → TypesNamed es ps
+first_named es is_static resource ps is h = subst (TypesNamed es) (sym is) (own_params_named es is_static resource h)
+
+first_mean : (naming : Naming) (g : Parts) (is_static : Bool) (resource : ResourceId) (ps : Named ValueType) → ps ≡ own_params is_static resource → types_named naming g ps ≡ first_params is_static (entry_means naming g resource.0)
+first_mean naming g is_static resource ps is = ap (types_named naming g) is ∙ own_params_mean naming g is_static resource
+
+pub method_is : (old new : Parts) (ks : Named ItemKind) (is_static : Bool) (resource : ResourceId) (ps : Named ValueType) (f : FuncType) (id : FuncTypeId) → ps ≡ own_params is_static resource → FuncIs old new ks ps f id
+    → FuncAdded old new ks (λ naming scope entry. IsFuncWith scope (first_params is_static (entry_means naming old resource.0)) f entry) id
+method_is old new ks is_static resource ps f id is h = record {
+  grows = h.grows;
+  named = h.named;
+  is = λ naming. subst (λ (l : Named Meaning). IsFuncWith (scope_of naming old ks) l f (entry_means naming new id.0)) (first_mean naming old is_static resource ps is) (h.is naming);
+}
+
+pub method_breaks : (kind : FuncKind) (g : Parts) (ks : Named ItemKind) (is_static : Bool) (resource : ResourceId) (ps : Named ValueType) (f : FuncType) (e : Error) → kind ≡ method_kind is_static → ps ≡ own_params is_static resource
+    → ((naming : Naming) → FuncBroken kind (scope_of naming g ks) (types_named naming g ps) f e) → (naming : Naming) → FuncBroken (method_kind is_static) (scope_of naming g ks) (first_params is_static (entry_means naming g resource.0)) f e
+method_breaks kind g ks is_static resource ps f e same is h naming =
+    subst (λ (k : FuncKind). FuncBroken k (scope_of naming g ks) (first_params is_static (entry_means naming g resource.0)) f e) same
+    (subst (λ (l : Named Meaning). FuncBroken kind (scope_of naming g ks) l f e) (first_mean naming g is_static resource ps is) (h naming))

@@ -1,0 +1,119 @@
+-- Named parts that are taken one after another.
+use Rattle.std.proofs.Common.{◌≡◌, ◌∙◌, ◌+◌, ◌<◌, ℕ, List, [], ◌∷◌, Option, Some, Bool, true, false, cond, refl, sym, ap, subst, map, take, length, get_or}
+use Rattle.std.specs.Prelude.{option_map, IfSome, String}
+use Rattle.std.specs.declared.alloc.Global.{Global}
+use Rattle.std.specs.Str.{bytes_eq}
+use Rattle.std.proofs.lemmas.List.{map_push}
+use Rattle.wac_grammar.specs.Tree.{Ident}
+use Rattle.wac_types.specs.declared.kind.ItemKind.{ItemKind}
+use Rattle.wac_types.specs.declared.kind.ValueType.{ValueType}
+use Rattle.wac_types.specs.declared.entry.Entry.{Entry}
+use Rattle.wac_types.specs.Entry.{optional, value_children, case_children}
+use Rattle.wac_types.specs.Meaning.{Meaning, EachKind}
+use Rattle.wac_types.specs.Names.{by_name}
+use Rattle.wac_types.specs.Scope.{Named, Scope, look_up, StandsFor, IsFresh, with_named}
+use Rattle.wac_types.specs.Shape.{optional_means}
+use Rattle.wac_types.specs.Steps.{Fails}
+use Rattle.wac_types.specs.Table.{Names, ItemsNamed}
+use Rattle.wac_graph.specs.Graph.{Parts}
+use Rattle.wac_graph.specs.Means.{entry_means}
+use Rattle.wac_graph.specs.Origin.{Naming}
+use Rattle.wac_resolution_rules.proofs.StepLaws.{steps_on_map, fails_at_map}
+use Rattle.wac_resolution_types.specs.Growth.{Grows, GrowsPlainly}
+use Rattle.wac_resolution_types.specs.Named.{scope_of}
+use Rattle.wac_resolution_types.specs.NamedParts.{parts_mean, PartsNamed, PartStep, HasPart, PartGoes, PartsGo}
+use Rattle.wac_resolution_types.proofs.Grown.{grows_self, plainly_on, scope_kept, child_kept, child_named}
+
+-- what a name finds among values, it finds among what is read of them
+pub read_found : {X Y : Type 0} (read : X → Y) (name : List ℕ) (all : Named X) → look_up name (map (λ e. (e.0, read e.1)) all) ≡ option_map read (look_up name all)
+read_found read name [] = refl
+read_found {X} {Y} read name (e ∷ all) = go (read_found read name all) (bytes_eq name e.0)
+  where
+    go : look_up name (map (λ (d : List ℕ × X). (d.0, read d.1)) all) ≡ option_map read (look_up name all) → (b : Bool)
+        → cond b (Some (read e.1)) (look_up name (map (λ (d : List ℕ × X). (d.0, read d.1)) all)) ≡ option_map read (cond b (Some e.1) (look_up name all))
+    go later true = refl
+    go later false = later
+
+-- ---- what stays
+
+pub parts_kept : {V : Type 0} (read : V → Option ValueType) (old new : Parts) (all : Named V) (naming : Naming) → Grows old new → PartsNamed read old.types all → parts_mean read naming new all ≡ parts_mean read naming old all
+parts_kept read old new [] naming g h = refl
+parts_kept read old new (e ∷ all) naming g h =
+    let one : optional_means (entry_means naming new) (read e.1) ≡ optional_means (entry_means naming old) (read e.1) = child_kept old new (optional (read e.1)) naming g h.0 in
+    let rest : parts_mean read naming new all ≡ parts_mean read naming old all = parts_kept read old new all naming g h.1 in
+    cc
+
+pub parts_still_named : {V : Type 0} (read : V → Option ValueType) (old new : Parts) (all : Named V) → Grows old new → PartsNamed read old.types all → PartsNamed read new.types all
+parts_still_named read old new [] g h = tt
+parts_still_named read old new (e ∷ all) g h = (child_named old new (optional (read e.1)) g h.0, parts_still_named read old new all g h.1)
+
+parts_append : {V : Type 0} (read : V → Option ValueType) (es : List Entry) (all : Named V) (name : List ℕ) (v : V) → PartsNamed read es all → IfSome (optional (read v)) (Names es) → PartsNamed read es (with_named all name v)
+parts_append read es [] name v h here = (here, tt)
+parts_append read es (e ∷ all) name v h here = (h.0, parts_append read es all name v h.1 here)
+
+-- ---- one part
+
+pub part_goes : {V X : Type 0} (read : V → Option ValueType) (has : Scope → X → Meaning → Type 0) (id : X → Ident) (old new : Parts) (ks : Named ItemKind) (ps qs : Named V) (x : X) (v : V)
+    → GrowsPlainly old new → PartsNamed read old.types ps → IfSome (optional (read v)) (Names new.types) → ((naming : Naming) → has (scope_of naming old ks) x (optional_means (entry_means naming new) (read v)))
+    → IsFresh (id x).string ps → qs ≡ with_named ps (id x).string v → PartGoes read (HasPart has id) old new ks ps qs x
+part_goes {V} read has id old new ks ps qs x v g named here is fresh added = record {
+  grows = g;
+  named = subst (PartsNamed read new.types) (sym added) (parts_append read new.types ps (id x).string v (parts_still_named read old new ps g.grows named) here);
+  goes = λ naming.
+      let one : V → Meaning = λ (w : V). optional_means (entry_means naming new) (read w) in (
+        one v,
+        is naming,
+        read_found (λ w. optional_means (entry_means naming old) (read w)) (id x).string ps ∙ ap (option_map (λ w. optional_means (entry_means naming old) (read w))) fresh,
+        ap (parts_mean read naming new) added ∙ map_push (λ e. (e.0, one e.1)) ps ((id x).string, v) ∙ ap (λ (l : Named Meaning). with_named l (id x).string (one v)) (parts_kept read old new ps naming g.grows named),
+      );
+}
+
+-- an earlier part has the name
+part_stands : {V : Type 0} (read : V → Option ValueType) (naming : Naming) (g : Parts) (all : Named V) (name : List ℕ) (v : V) → look_up name all ≡ Some v → StandsFor (parts_mean read naming g all) name (optional_means (entry_means naming g) (read v))
+part_stands read naming g all name v is = read_found (λ w. optional_means (entry_means naming g) (read w)) name all ∙ ap (option_map (λ w. optional_means (entry_means naming g) (read w))) is
+
+pub repeated : {V : Type 0} (read : V → Option ValueType) (all : Named V) (name : List ℕ) (v : V) → look_up name all ≡ Some v → (naming : Naming) (g : Parts) → (m : Meaning) × StandsFor (parts_mean read naming g all) name m
+repeated read all name v is naming g = (optional_means (entry_means naming g) (read v), part_stands read naming g all name v is)
+
+-- ---- parts one after another
+
+pub no_parts : {V X : Type 0} (read : V → Option ValueType) (step : PartStep X) (g : Parts) (ks : Named ItemKind) (ps : Named V) → PartsNamed read g.types ps → PartsGo read step g g ks ps ps []
+no_parts read step g ks ps h = record { grows = grows_self g; named = h; go = λ naming. refl }
+
+-- the parts up to the next one
+pub parts_step : {V X Y : Type 0} (read : V → Option ValueType) (step : PartStep X) (f : Y → X) (old mid new : Parts) (ks : Named ItemKind) (ps qs rs : Named V) (ys : List Y) (i : ℕ) (y : Y)
+    → i < length ys → y ≡ get_or ys i y → ItemsNamed old.types ks → PartsGo read step old mid ks ps qs (take i (map f ys)) → PartGoes read step mid new ks qs rs (f y) → PartsGo read step old new ks ps rs (take (i + 1) (map f ys))
+parts_step {V} {X} {Y} read step f old mid new ks ps qs rs ys i y within at named p q = record {
+  grows = plainly_on old mid new p.grows q.grows;
+  named = q.named;
+  go = λ naming.
+      let scope : scope_of naming mid ks ≡ scope_of naming old ks = scope_kept old mid ks naming p.grows.grows named in
+      let here : step (scope_of naming old ks) (parts_mean read naming mid qs) (f y) (parts_mean read naming new rs) = subst (λ (s : Scope). step s (parts_mean read naming mid qs) (f y) (parts_mean read naming new rs)) scope (q.goes naming) in
+      steps_on_map (step (scope_of naming old ks)) f (parts_mean read naming old ps) ys i y (parts_mean read naming mid qs) (parts_mean read naming new rs) within (p.go naming)
+      (subst (λ (z : Y). step (scope_of naming old ks) (parts_mean read naming mid qs) (f z) (parts_mean read naming new rs)) at here);
+}
+
+-- all parts
+pub parts_all : {V X : Type 0} (read : V → Option ValueType) (step : PartStep X) (old new : Parts) (ks : Named ItemKind) (ps qs : Named V) (xs ys : List X) → xs ≡ ys → PartsGo read step old new ks ps qs xs → PartsGo read step old new ks ps qs ys
+parts_all read step old new ks ps qs xs ys is h = subst (PartsGo read step old new ks ps qs) is h
+
+-- the next part is broken
+pub parts_break : {V X Y : Type 0} (read : V → Option ValueType) (step : PartStep X) (broken : Scope → Named Meaning → List X → X → Type 0) (f : Y → X) (old mid : Parts) (ks : Named ItemKind) (ps qs : Named V) (ys : List Y) (i : ℕ) (y : Y)
+    → i < length ys → y ≡ get_or ys i y → ItemsNamed old.types ks → PartsGo read step old mid ks ps qs (take i (map f ys)) → ((naming : Naming) (before : List X) → broken (scope_of naming mid ks) (parts_mean read naming mid qs) before (f y))
+    → (naming : Naming) → Fails (step (scope_of naming old ks)) (broken (scope_of naming old ks)) (parts_mean read naming old ps) (map f ys)
+parts_break {V} {X} {Y} read step broken f old mid ks ps qs ys i y within at named p breaks naming =
+    let scope : scope_of naming mid ks ≡ scope_of naming old ks = scope_kept old mid ks naming p.grows.grows named in
+    let before : List X = take i (map f ys) in
+    fails_at_map (step (scope_of naming old ks)) (broken (scope_of naming old ks)) f (parts_mean read naming old ps) ys i y (parts_mean read naming mid qs) within (p.go naming)
+    (subst (λ (z : Y). broken (scope_of naming old ks) (parts_mean read naming mid qs) before (f z)) at
+    (subst (λ (s : Scope). broken s (parts_mean read naming mid qs) before (f y)) scope (breaks naming before)))
+
+-- ---- what stands in an entry
+
+pub values_named : (es : List Entry) (all : List (String Global × ValueType)) → PartsNamed (λ v. Some v) es (by_name all) → EachKind (Names es) (value_children all)
+values_named es [] h = tt
+values_named es (e ∷ all) h = (h.0, values_named es all h.1)
+
+pub cases_named : (es : List Entry) (all : List (String Global × Option ValueType)) → PartsNamed (λ v. v) es (by_name all) → EachKind (Names es) (case_children all)
+cases_named es [] h = tt
+cases_named es (e ∷ all) h = (h.0, cases_named es all h.1)

@@ -1,0 +1,180 @@
+-- What a type means, by what its parts mean.
+use Rattle.std.proofs.Common.{◌≡◌, ◌∙◌, ◌+◌, ◌<◌, ◌≤◌, ℕ, zero, suc, List, [], ◌∷◌, ◌++◌, Option, refl, sym, ap, subst, map, inl, inr, take, drop, length, get_or, arith}
+use Rattle.std.proofs.lemmas.List.{take_more, map_push}
+use denote.Param.Weighed.{most}
+use Rattle.std.specs.Prelude.{Vec, Box}
+use Rattle.std.specs.declared.alloc.Global.{Global}
+use Rattle.wac_lexer.specs.Span.{Span}
+use Rattle.wac_grammar.specs.Tree as tree
+use Rattle.wac_grammar.specs.Tree.{Ty, Types, OptionalTy, types_from}
+use Rattle.wac_types.specs.declared.kind.ItemKind.{ItemKind}
+use Rattle.wac_types.specs.declared.kind.ItemKind.TheVariants as kinds
+use Rattle.wac_types.specs.declared.kind.ValueType.{ValueType}
+use Rattle.wac_types.specs.declared.entry.Entry.{Entry}
+use Rattle.wac_types.specs.declared.entry.DefinedType.TheVariants as defined
+use Rattle.wac_types.specs.Entry.{optional, tuple_children}
+use Rattle.wac_types.specs.Label.{Plain}
+use Rattle.wac_types.specs.Meaning.{Meaning, EachKind}
+use Rattle.wac_types.specs.Scope.{Named, Scope}
+use Rattle.wac_types.specs.Shape.{types_mean, optional_means, defined_value, result_children}
+use Rattle.wac_types.specs.Table.{Names, ItemsNamed}
+use Rattle.wac_graph.specs.Graph.{Parts}
+use Rattle.wac_graph.specs.Means.{means, entry_means}
+use Rattle.wac_graph.specs.Origin.{Naming}
+use Rattle.wac_declarations.specs.Types.{ty_of, optional_of}
+use Rattle.wac_declarations.proofs.TypeParts.{tuple_is as tuple_tree, result_is as result_tree, stream_is as stream_tree, future_is as future_tree}
+use Rattle.wac_declarations.specs.declared.types.Type as code
+use Rattle.wac_declarations.specs.declared.types.«Type».{«Type»}
+use Rattle.wac_resolution_errors.specs.Error.{Error, memory}
+use Rattle.wac_resolution_rules.specs.Types.{HasType, HasOptional, HaveTypes}
+use Rattle.wac_resolution_rules.specs.BrokenTypes.{TypeBroken, OptionalBroken, TypesBroken}
+use Rattle.wac_resolution_types.specs.Growth.{Grows, AddsDefined}
+use Rattle.wac_resolution_types.specs.Named.{scope_of, ValueIs}
+use Rattle.wac_resolution_types.specs.Types.{TypeIs, OptionalIs, TypesAre}
+use Rattle.wac_resolution_types.proofs.Grown.{grows_self, plainly_on, scope_kept, child_kept, each_still_named}
+
+-- the type of the tree is that of the value
+pub as_ty : (old new : Parts) (ks : Named ItemKind) (v : ValueType) (x : «Type») (t : Ty) → ty_of x ≡ t → TypeIs old new ks t v → TypeIs old new ks (ty_of x) v
+as_ty old new ks v x t e h = subst (λ (u : Ty). TypeIs old new ks u v) (sym e) h
+
+-- nothing was added
+pub value_type_is : (g : Parts) (ks : Named ItemKind) (t : Ty) (v : ValueType) → ItemsNamed g.types ks → ValueIs ks t v → TypeIs g g ks t v
+value_type_is g ks t v named h = record { grows = grows_self g; named = h.named g.types named; is = λ naming. h.is naming g }
+
+pub tuple_is : (old mid new : Parts) (ks : Named ItemKind) (ts : Types) (s : Span) (vs : Vec ValueType Global) (v : ValueType)
+    → TypesAre old mid ks ts vs.items → AddsDefined mid new (defined.Tuple vs) v → TypeIs old new ks (Ty.tuple ts s) v
+tuple_is old mid new ks ts s vs v h a = record {
+  grows = plainly_on old mid new h.grows a.grows;
+  named = a.named;
+  is = λ naming. (types_mean (entry_means naming mid) vs.items, h.are naming, a.is naming);
+}
+
+pub result_is : (old first second new : Parts) (ks : Named ItemKind) (t u : OptionalTy) (s : Span) (x y : Option ValueType) (v : ValueType)
+    → ItemsNamed old.types ks → OptionalIs old first ks t x → OptionalIs first second ks u y → AddsDefined second new (defined.Result x y) v → TypeIs old new ks (Ty.result t u s) v
+result_is old first second new ks t u s x y v named p q a = record {
+  grows = plainly_on old first new p.grows (plainly_on first second new q.grows a.grows);
+  named = a.named;
+  is = λ naming.
+      let scope : scope_of naming first ks ≡ scope_of naming old ks = scope_kept old first ks naming p.grows.grows named in
+      let kept : optional_means (entry_means naming second) x ≡ optional_means (entry_means naming first) x = child_kept first second (optional x) naming q.grows.grows p.named in (
+        optional_means (entry_means naming first) x,
+        optional_means (entry_means naming second) y,
+        p.is naming,
+        subst (λ (sc : Scope). HasOptional sc u (optional_means (entry_means naming second) y)) scope (q.is naming),
+        a.is naming ∙ ap (λ (m : Meaning). defined_value Plain.result (result_children m (optional_means (entry_means naming second) y))) kept,
+      );
+}
+
+pub no_types : (g : Parts) (ks : Named ItemKind) → TypesAre g g ks tree.Types.none []
+no_types g ks = record { grows = grows_self g; named = tt; are = λ naming. refl }
+
+-- one more type
+more_types : (scope : Scope) (ts : List Ty) (ms : List Meaning) (t : Ty) (m : Meaning) → HaveTypes scope (types_from ts) ms → HasType scope t m → HaveTypes scope (types_from (ts ++ t ∷ [])) (ms ++ m ∷ [])
+more_types scope [] ms t m h is = (m, [], is, refl, ap (λ (l : List Meaning). l ++ m ∷ []) h)
+more_types scope (u ∷ ts) ms t m h is = (h.0, h.1 ++ m ∷ [], h.2, more_types scope ts h.1 t m h.3 is, ap (λ (l : List Meaning). l ++ m ∷ []) h.4)
+
+more_named : (es : List Entry) (vs : List ValueType) (v : ValueType) → EachKind (Names es) (tuple_children vs) → Names es (kinds.Value v) → EachKind (Names es) (tuple_children (vs ++ v ∷ []))
+more_named es [] v h here = (here, tt)
+more_named es (w ∷ vs) v h here = (h.0, more_named es vs v h.1 here)
+
+types_kept : (old new : Parts) (vs : List ValueType) (naming : Naming) → Grows old new → EachKind (Names old.types) (tuple_children vs) → types_mean (entry_means naming new) vs ≡ types_mean (entry_means naming old) vs
+types_kept old new [] naming g h = refl
+types_kept old new (v ∷ vs) naming g h =
+    let one : means naming new (kinds.Value v) ≡ means naming old (kinds.Value v) = g.kinds naming (kinds.Value v) h.0 in
+    let rest : types_mean (entry_means naming new) vs ≡ types_mean (entry_means naming old) vs = types_kept old new vs naming g h.1 in
+    cc
+
+types_more : (old mid new : Parts) (ks : Named ItemKind) (ts : List Ty) (vs : List ValueType) (t : Ty) (v : ValueType)
+    → ItemsNamed old.types ks → TypesAre old mid ks (types_from ts) vs → TypeIs mid new ks t v → TypesAre old new ks (types_from (ts ++ t ∷ [])) (vs ++ v ∷ [])
+types_more old mid new ks ts vs t v named p q = record {
+  grows = plainly_on old mid new p.grows q.grows;
+  named = more_named new.types vs v (each_still_named mid new (tuple_children vs) q.grows.grows p.named) q.named;
+  are = λ naming.
+      let f : ℕ → Meaning = entry_means naming new in
+      let scope : scope_of naming mid ks ≡ scope_of naming old ks = scope_kept old mid ks naming p.grows.grows named in
+      let kept : types_mean f vs ≡ types_mean (entry_means naming mid) vs = types_kept mid new vs naming q.grows.grows p.named in
+      subst (HaveTypes (scope_of naming old ks) (types_from (ts ++ t ∷ []))) (sym (map_push (λ w. means naming new (kinds.Value w)) vs v ∙ ap (λ (l : List Meaning). l ++ means naming new (kinds.Value v) ∷ []) kept))
+      (more_types (scope_of naming old ks) ts (types_mean (entry_means naming mid) vs) t (means naming new (kinds.Value v)) (p.are naming) (subst (λ (sc : Scope). HasType sc t (means naming new (kinds.Value v))) scope (q.is naming)));
+}
+
+-- the types up to the next one
+pub types_step : (old mid new : Parts) (ks : Named ItemKind) (xs : List «Type») (i : ℕ) (x : «Type») (vs ws : List ValueType) (v : ValueType)
+    → i < length xs → x ≡ get_or xs i x → ws ≡ vs ++ v ∷ []
+    → ItemsNamed old.types ks → TypesAre old mid ks (types_from (map ty_of (take i xs))) vs → TypeIs mid new ks (ty_of x) v → TypesAre old new ks (types_from (map ty_of (take (i + 1) xs))) ws
+types_step old mid new ks xs i x vs ws v within read pushed named p q =
+    let at : map ty_of (take (i + 1) xs) ≡ map ty_of (take i xs) ++ ty_of x ∷ []
+    = ap (map ty_of) (take_more xs i x within ∙ ap (λ (y : «Type»). take i xs ++ y ∷ []) (sym read)) ∙ map_push ty_of (take i xs) x in
+    subst (λ (l : List Ty). TypesAre old new ks (types_from l) ws) (sym at)
+    (subst (TypesAre old new ks (types_from (map ty_of (take i xs) ++ ty_of x ∷ []))) (sym pushed) (types_more old mid new ks (map ty_of (take i xs)) vs (ty_of x) v named p q))
+
+-- one of them is broken
+breaks_later : (scope : Scope) (ts us : List Ty) (t : Ty) (ms : List Meaning) (e : Error) → HaveTypes scope (types_from ts) ms → TypeBroken scope t e → TypesBroken scope (types_from (ts ++ t ∷ us)) e
+breaks_later scope [] us t ms e h b = inr (inl b)
+breaks_later scope (x ∷ ts) us t ms e h b = inr (inr (h.0, h.2, breaks_later scope ts us t h.1 e h.3 b))
+
+split_at : (xs : List «Type») (i : ℕ) (x : «Type») → i < length xs → x ≡ get_or xs i x → map ty_of xs ≡ map ty_of (take i xs) ++ (ty_of x ∷ map ty_of (drop (suc i) xs))
+split_at [] i x h is = absurd (omega arith)
+split_at (y ∷ xs) zero x h is = ap (λ (z : «Type»). ty_of z ∷ map ty_of xs) (sym is)
+split_at (y ∷ xs) (suc i) x h is = ap (λ (l : List Ty). ty_of y ∷ l) (split_at xs i x (omega arith) is)
+
+pub types_break : (old mid : Parts) (ks : Named ItemKind) (xs : List «Type») (i : ℕ) (x : «Type») (vs : List ValueType) (e : Error)
+    → i < length xs → x ≡ get_or xs i x → ItemsNamed old.types ks → TypesAre old mid ks (types_from (map ty_of (take i xs))) vs
+    → ((naming : Naming) → TypeBroken (scope_of naming mid ks) (ty_of x) e)
+    → (naming : Naming) → TypesBroken (scope_of naming old ks) (types_from (map ty_of xs)) e
+types_break old mid ks xs i x vs e within read named p b naming =
+    let scope : scope_of naming mid ks ≡ scope_of naming old ks = scope_kept old mid ks naming p.grows.grows named in
+    subst (λ (l : List Ty). TypesBroken (scope_of naming old ks) (types_from l) e) (sym (split_at xs i x within read))
+    (breaks_later (scope_of naming old ks) (map ty_of (take i xs)) (map ty_of (drop (suc i) xs)) (ty_of x) (types_mean (entry_means naming mid) vs) e (p.are naming)
+    (subst (λ (sc : Scope). TypeBroken sc (ty_of x) e) scope (b naming)))
+
+pub types_memory : (scope : Scope) (ts : Types) (e : Error) → e ≡ memory → TypesBroken scope ts e
+types_memory scope tree.Types.none e is = is
+types_memory scope (tree.Types.more t ts) e is = inl is
+
+-- ---- by the code's trees
+
+pub tuple_type_is : (old mid new : Parts) (ks : Named ItemKind) (x : «Type») (xs : Vec «Type» Global) (s : Span) (ys : List «Type») (vs : Vec ValueType Global) (v : ValueType)
+    → x ≡ code.Tuple xs s → ys ≡ xs.items → TypesAre old mid ks (types_from (map ty_of ys)) vs.items → AddsDefined mid new (defined.Tuple vs) v → TypeIs old new ks (ty_of x) v
+tuple_type_is old mid new ks x xs s ys vs v is same h a =
+    as_ty old new ks v x (Ty.tuple (types_from (map ty_of xs.items)) s) (ap ty_of is ∙ tuple_tree xs s)
+    (tuple_is old mid new ks (types_from (map ty_of xs.items)) s vs v (subst (λ (l : List «Type»). TypesAre old mid ks (types_from (map ty_of l)) vs.items) same h) a)
+
+pub tuple_breaks : (g : Parts) (ks : Named ItemKind) (x : «Type») (xs : Vec «Type» Global) (s : Span) (ys : List «Type») (e : Error)
+    → x ≡ code.Tuple xs s → ys ≡ xs.items → ((naming : Naming) → TypesBroken (scope_of naming g ks) (types_from (map ty_of ys)) e) → (naming : Naming) → TypeBroken (scope_of naming g ks) (ty_of x) e
+tuple_breaks g ks x xs s ys e is same h naming =
+    subst (λ (t : Ty). TypeBroken (scope_of naming g ks) t e) (sym (ap ty_of is ∙ tuple_tree xs s))
+    (inr (subst (λ (l : List «Type»). TypesBroken (scope_of naming g ks) (types_from (map ty_of l)) e) same (h naming)))
+
+pub result_type_is : (old first second new : Parts) (ks : Named ItemKind) (x : «Type») (o u : Option (Box «Type» Global)) (s : Span) (v w : Option ValueType) (z : ValueType)
+    → x ≡ code.Result o u s → ItemsNamed old.types ks → OptionalIs old first ks (optional_of o) v → OptionalIs first second ks (optional_of u) w → AddsDefined second new (defined.Result v w) z → TypeIs old new ks (ty_of x) z
+result_type_is old first second new ks x o u s v w z is named p q a =
+    as_ty old new ks z x (Ty.result (optional_of o) (optional_of u) s) (ap ty_of is ∙ result_tree o u s)
+    (result_is old first second new ks (optional_of o) (optional_of u) s v w z named p q a)
+
+pub result_breaks : (g : Parts) (ks : Named ItemKind) (x : «Type») (o u : Option (Box «Type» Global)) (s : Span) (e : Error)
+    → x ≡ code.Result o u s → ((naming : Naming) → OptionalBroken (scope_of naming g ks) (optional_of o) e) → (naming : Naming) → TypeBroken (scope_of naming g ks) (ty_of x) e
+result_breaks g ks x o u s e is h naming =
+    subst (λ (t : Ty). TypeBroken (scope_of naming g ks) t e) (sym (ap ty_of is ∙ result_tree o u s)) (inr (inl (h naming)))
+
+pub result_breaks_later : (old mid : Parts) (ks : Named ItemKind) (x : «Type») (o u : Option (Box «Type» Global)) (s : Span) (v : Option ValueType) (e : Error)
+    → x ≡ code.Result o u s → ItemsNamed old.types ks → OptionalIs old mid ks (optional_of o) v → ((naming : Naming) → OptionalBroken (scope_of naming mid ks) (optional_of u) e)
+    → (naming : Naming) → TypeBroken (scope_of naming old ks) (ty_of x) e
+result_breaks_later old mid ks x o u s v e is named p h naming =
+    let scope : scope_of naming mid ks ≡ scope_of naming old ks = scope_kept old mid ks naming p.grows.grows named in
+    subst (λ (t : Ty). TypeBroken (scope_of naming old ks) t e) (sym (ap ty_of is ∙ result_tree o u s))
+    (inr (inr (optional_means (entry_means naming mid) v, p.is naming, subst (λ (sc : Scope). OptionalBroken sc (optional_of u) e) scope (h naming))))
+
+pub stream_breaks : (g : Parts) (ks : Named ItemKind) (x : «Type») (o : Option (Box «Type» Global)) (s : Span) (e : Error)
+    → x ≡ code.Stream o s → ((naming : Naming) → OptionalBroken (scope_of naming g ks) (optional_of o) e) → (naming : Naming) → TypeBroken (scope_of naming g ks) (ty_of x) e
+stream_breaks g ks x o s e is h naming = subst (λ (t : Ty). TypeBroken (scope_of naming g ks) t e) (sym (ap ty_of is ∙ stream_tree o s)) (inr (h naming))
+
+pub future_breaks : (g : Parts) (ks : Named ItemKind) (x : «Type») (o : Option (Box «Type» Global)) (s : Span) (e : Error)
+    → x ≡ code.Future o s → ((naming : Naming) → OptionalBroken (scope_of naming g ks) (optional_of o) e) → (naming : Naming) → TypeBroken (scope_of naming g ks) (ty_of x) e
+future_breaks g ks x o s e is h naming = subst (λ (t : Ty). TypeBroken (scope_of naming g ks) t e) (sym (ap ty_of is ∙ future_tree o s)) (inr (h naming))
+
+-- ---- sizes
+
+pub most_at : {X : Type 0} (f : X → ℕ) (xs : List X) (i : ℕ) (d : X) → i < length xs → f (get_or xs i d) ≤ most f xs
+most_at f [] i d h = absurd (omega arith)
+most_at f (x ∷ xs) zero d h = omega arith
+most_at f (x ∷ xs) (suc i) d h = omega (arith, most_at f xs i d (omega arith))

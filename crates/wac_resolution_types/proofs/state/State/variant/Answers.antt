@@ -1,0 +1,32 @@
+use Rattle.std.proofs.Common.{◌≡◌, [], map, ap, inr, refl, rules}
+use Rattle.std.proofs.lemmas.Result.{err_from_is_err_and}
+use Rattle.wac_types.specs.declared.entry.DefinedType.TheVariants as types
+use Rattle.wac_types.specs.Names.{by_name}
+use Rattle.wac_syntax.specs.Names.{ident_of}
+use Rattle.wac_declarations.specs.Declarations.{variant_case_of, variant_decl_of}
+use Rattle.wac_resolution_errors.specs.Told.{told}
+use Rattle.wac_resolution_rules.specs.Declarations.{HasCase}
+use Rattle.wac_resolution_rules.specs.BrokenDeclarations.{CaseBroken}
+use Rattle.wac_resolution_types.specs.Bindings.{values_of}
+use Rattle.wac_resolution_types.specs.Declarations.{perhaps}
+use Rattle.wac_resolution_types.proofs.NamedParts.{cases_named}
+use Rattle.wac_resolution_types.proofs.DeclarationParts.{none_named, parts_from, parts_fail_from, variant_is}
+use Rattle.wac_resolution_types.proofs.state.State.variant.Goals as goal
+
+pub returns-in_err-cases-clause-err : goal.returns-in_err-cases-clause-err
+returns-in_err-cases-clause-err c =
+    let p = err_from_is_err_and c.from_residual.result c.from_residual.ensures.1 in
+    let empty : c.new-cases.result.entries ≡ [] = search rules in
+    rw (p.1, p.2) (λ naming. inr (parts_fail_from perhaps HasCase (λ s. CaseBroken s (ident_of c.args.decl.now.id) (told c.in_err-cases.field-0.0)) c.args.self.now.graph (values_of c.args.names.now) (by_name c.new-cases.result.entries) (map variant_case_of c.deref.result.now) (map variant_case_of c.args.decl.now.cases.items)
+    (none_named c.new-cases.result.entries empty) (ap (map variant_case_of) c.deref.ensures.value) c.in_err-cases.ensures.err naming))
+
+pub add_defined-requires : goal.add_defined-requires
+add_defined-requires c = cases_named c.cases.new.self.graph.types c.cases.new.all.entries c.in_ok-cases.ensures.ok.named
+
+pub returns-clause-ok : goal.returns-clause-ok
+returns-clause-ok c =
+    let empty : c.new-cases.result.entries ≡ [] = search rules in
+    variant_is c.args.self.now.graph c.cases.new.self.graph c.add_defined.new.self.graph (values_of c.args.names.now) (types.Variant c.cases.new.all) c.cases.new.all.entries (variant_decl_of c.args.decl.now) c.in_ok-add_defined.field-0 refl (λ f. refl)
+    (parts_from perhaps HasCase c.args.self.now.graph c.cases.new.self.graph (values_of c.args.names.now) (by_name c.new-cases.result.entries) (by_name c.cases.new.all.entries) (map variant_case_of c.deref.result.now) (map variant_case_of c.args.decl.now.cases.items)
+    (none_named c.new-cases.result.entries empty) (ap (map variant_case_of) c.deref.ensures.value) c.in_ok-cases.ensures.ok)
+    c.in_ok-add_defined.ensures

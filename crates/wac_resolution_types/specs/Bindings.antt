@@ -1,0 +1,15 @@
+-- Names of a scope, each with where it was bound and what it stands for.
+use Rattle.std.specs.Prelude.{map}
+use Rattle.wac_lexer.specs.Span.{Span}
+use Rattle.wac_types.specs.Scope.{Named}
+
+abbrev pub Bindings : Type 0 → Type 0
+Bindings X = Named (Span × X)
+
+-- where each name was bound
+abbrev pub places_of : {X : Type 0} → Bindings X → Named Span
+places_of all = map (λ b. (b.0, b.1.0)) all
+
+-- what each name stands for
+abbrev pub values_of : {X : Type 0} → Bindings X → Named X
+values_of all = map (λ b. (b.0, b.1.1)) all

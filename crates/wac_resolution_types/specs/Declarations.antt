@@ -1,0 +1,96 @@
+-- Declarations of types as they are resolved into a graph.
+use Rattle.std.specs.Prelude.{◌≡◌, ℕ, List, [], map, Option, Some, None, IfSome, string_bytes, String}
+use Rattle.std.specs.declared.alloc.Global.{Global}
+use Rattle.wac_grammar.specs.Tree.{Ty, VariantCase, Field}
+use Rattle.wac_types.specs.declared.kind.ItemKind.{ItemKind}
+use Rattle.wac_types.specs.declared.kind.ItemKind.TheVariants as kinds
+use Rattle.wac_types.specs.declared.kind.«Type».TheVariants as types
+use Rattle.wac_types.specs.declared.kind.ValueType.{ValueType}
+use Rattle.wac_types.specs.Entry.{optional}
+use Rattle.wac_types.specs.Meaning.{Meaning}
+use Rattle.wac_types.specs.Scope.{Named}
+use Rattle.wac_types.specs.Shape.{nothing, optional_means}
+use Rattle.wac_types.specs.Table.{Names}
+use Rattle.wac_graph.specs.Graph.{Parts}
+use Rattle.wac_graph.specs.Means.{means, entry_means, declared_count}
+use Rattle.wac_graph.specs.Origin.{Naming}
+use Rattle.wac_resolution_rules.specs.Declarations.{HasOption, HasCase, HasField, Aliasing, Counted, at_root, in_body}
+use Rattle.wac_resolution_types.specs.declared.place.Place.{Place}
+use Rattle.wac_resolution_types.specs.declared.place.Place.TheVariants as places
+use Rattle.wac_resolution_types.specs.Growth.{Grows, GrowsPlainly}
+use Rattle.wac_resolution_types.specs.Named.{scope_of}
+use Rattle.wac_resolution_types.specs.NamedParts.{parts_mean, PartGoes, PartsGo}
+use Rattle.wac_resolution_types.specs.Funcs.{given}
+
+-- the type of a part that may have none
+abbrev pub perhaps : Option ValueType → Option ValueType
+perhaps v = v
+
+-- what cases mean
+abbrev pub cases_named : Naming → Parts → Named (Option ValueType) → Named Meaning
+cases_named naming g all = parts_mean perhaps naming g all
+
+abbrev pub CaseGoes : Parts → Parts → Named ItemKind → Named (Option ValueType) → Named (Option ValueType) → VariantCase → Type 0
+CaseGoes old new ks ps qs x = PartGoes perhaps HasCase old new ks ps qs x
+
+abbrev pub CasesGo : Parts → Parts → Named ItemKind → Named (Option ValueType) → Named (Option ValueType) → List VariantCase → Type 0
+CasesGo old new ks ps qs xs = PartsGo perhaps HasCase old new ks ps qs xs
+
+abbrev pub FieldGoes : Parts → Parts → Named ItemKind → Named ValueType → Named ValueType → Field → Type 0
+FieldGoes old new ks ps qs x = PartGoes given HasField old new ks ps qs x
+
+abbrev pub FieldsGo : Parts → Parts → Named ItemKind → Named ValueType → Named ValueType → List Field → Type 0
+FieldsGo old new ks ps qs xs = PartsGo given HasField old new ks ps qs xs
+
+-- the type of a case, which may have none, has these values
+pub record CaseTypeIs (old new : Parts) (ks : Named ItemKind) (t : Option Ty) (v : Option ValueType) : Type 0 where
+  pub grows : GrowsPlainly old new
+  pub named : IfSome (optional v) (Names new.types)
+  pub is : (naming : Naming) → HasOption (scope_of naming old ks) t (optional_means (entry_means naming new) v)
+
+-- names alone, as flags and the cases of an enum
+abbrev pub names_alone : List (String Global) → Named Meaning
+names_alone names = map (λ n. (string_bytes n, nothing)) names
+
+-- a type of values was added, of which this holds as an item of its own
+pub record ValueAdded (old new : Parts) (holds : Naming → Meaning → Type 0) (v : ValueType) : Type 0 where
+  pub grows : GrowsPlainly old new
+  pub named : Names new.types (kinds.Value v)
+  pub is : (naming : Naming) → holds naming (means naming new (kinds.Ty (types.Value v)))
+
+-- a kind was added, of which this holds, with how many resources are declared now
+pub record KindAdded (old new : Parts) (holds : Naming → Meaning → ℕ → Type 0) (k : ItemKind) : Type 0 where
+  pub grows : Grows old new
+  pub named : Names new.types k
+  pub is : (naming : Naming) → holds naming (means naming new k) (declared_count new)
+
+-- ---- aliases
+
+-- what an identifier in an alias makes there
+abbrev pub aliasing_at : Place → Naming → Aliasing
+aliasing_at places.Root naming = at_root
+aliasing_at places.Body naming = in_body naming
+
+-- what is made of the meaning of a kind, with how many resources are declared then, if it can be aliased
+abbrev pub Making : Type 0
+Making = Naming → Meaning → Option Counted
+
+-- at root the name does not matter
+abbrev pub made_at_root : Parts → Making
+made_at_root g naming m = at_root (declared_count g) [] m
+
+abbrev pub made_in_body : Parts → List ℕ → Making
+made_in_body g name naming m = in_body naming (declared_count g) name m
+
+abbrev pub made_at : Place → Parts → List ℕ → Making
+made_at place g name naming m = aliasing_at place naming (declared_count g) name m
+
+-- another name of the kind was made
+pub record IsAliased (old new : Parts) (making : Making) (k made : ItemKind) : Type 0 where
+  pub grows : Grows old new
+  pub named : Names new.types made
+  pub is : (naming : Naming) → making naming (means naming old k) ≡ Some (means naming new made, declared_count new)
+
+-- the kind can't be aliased
+pub record IsNotAliased (old : Parts) (making : Making) (k : ItemKind) : Type 0 where
+  pub is : (naming : Naming) → making naming (means naming old k) ≡ None

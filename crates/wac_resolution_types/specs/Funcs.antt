@@ -1,0 +1,64 @@
+-- Function types as they are resolved into a graph.
+use Rattle.std.specs.Prelude.{List, [], ◌∷◌, Option, Some, IfSome, Bool, true, false, codes}
+use Rattle.wac_grammar.specs.Tree.{NamedType, ResultList, FuncType}
+use Rattle.wac_types.specs.declared.kind.ItemKind.{ItemKind}
+use Rattle.wac_types.specs.declared.kind.ItemKind.TheVariants as kinds
+use Rattle.wac_types.specs.declared.kind.ValueType.{ValueType}
+use Rattle.wac_types.specs.declared.kind.ValueType.TheVariants as values
+use Rattle.wac_types.specs.declared.kind.FuncTypeId.{FuncTypeId}
+use Rattle.wac_types.specs.declared.kind.ResourceId.{ResourceId}
+use Rattle.wac_types.specs.declared.entry.Entry.{Entry}
+use Rattle.wac_types.specs.Entry.{optional}
+use Rattle.wac_types.specs.Meaning.{Meaning}
+use Rattle.wac_types.specs.Scope.{Named, Scope}
+use Rattle.wac_types.specs.Shape.{results_mean}
+use Rattle.wac_types.specs.Table.{Names}
+use Rattle.wac_graph.specs.Graph.{Parts}
+use Rattle.wac_graph.specs.Means.{entry_means}
+use Rattle.wac_graph.specs.Origin.{Naming}
+use Rattle.wac_resolution_rules.specs.Types.{HasParam, HasResults, IsFuncWith, IsConstructor}
+use Rattle.wac_resolution_types.specs.Growth.{GrowsPlainly}
+use Rattle.wac_resolution_types.specs.Named.{scope_of}
+use Rattle.wac_resolution_types.specs.NamedParts.{parts_mean, PartsNamed, PartGoes, PartsGo}
+
+-- the type of a part that always has one
+abbrev pub given : ValueType → Option ValueType
+given v = Some v
+
+-- what parameters and fields mean
+abbrev pub types_named : Naming → Parts → Named ValueType → Named Meaning
+types_named naming g all = parts_mean given naming g all
+
+abbrev pub TypesNamed : List Entry → Named ValueType → Type 0
+TypesNamed es all = PartsNamed given es all
+
+abbrev pub ParamGoes : Parts → Parts → Named ItemKind → Named ValueType → Named ValueType → NamedType → Type 0
+ParamGoes old new ks ps qs x = PartGoes given HasParam old new ks ps qs x
+
+abbrev pub ParamsGo : Parts → Parts → Named ItemKind → Named ValueType → Named ValueType → List NamedType → Type 0
+ParamsGo old new ks ps qs xs = PartsGo given HasParam old new ks ps qs xs
+
+-- what a function gives has these values
+pub record ResultIs (old new : Parts) (ks : Named ItemKind) (r : ResultList) (v : Option ValueType) : Type 0 where
+  pub grows : GrowsPlainly old new
+  pub named : IfSome (optional v) (Names new.types)
+  pub is : (naming : Naming) → HasResults (scope_of naming old ks) r (results_mean (entry_means naming new) v)
+
+-- a function type was added, of an entry of which this holds in the scope
+pub record FuncAdded (old new : Parts) (ks : Named ItemKind) (holds : Naming → Scope → Meaning → Type 0) (f : FuncTypeId) : Type 0 where
+  pub grows : GrowsPlainly old new
+  pub named : Names new.types (kinds.Func f)
+  pub is : (naming : Naming) → holds naming (scope_of naming old ks) (entry_means naming new f.0)
+
+-- a function type, where these parameters come first
+abbrev pub FuncIs : Parts → Parts → Named ItemKind → Named ValueType → FuncType → FuncTypeId → Type 0
+FuncIs old new ks first f id = FuncAdded old new ks (λ naming scope entry. IsFuncWith scope (types_named naming old first) f entry) id
+
+-- the function type of a constructor
+abbrev pub ConstructorIs : Parts → Parts → Named ItemKind → ResourceId → List NamedType → FuncTypeId → Type 0
+ConstructorIs old new ks resource params id = FuncAdded old new ks (λ naming scope entry. IsConstructor scope (entry_means naming old resource.0) params entry) id
+
+-- what comes before the parameters of a method
+abbrev pub own_params : Bool → ResourceId → Named ValueType
+own_params true resource = []
+own_params false resource = (codes "self", values.Borrow resource) ∷ []

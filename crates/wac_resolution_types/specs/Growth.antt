@@ -1,0 +1,61 @@
+-- What a graph gets as types are resolved: more types, and nothing else.
+use Rattle.std.specs.Prelude.{◌≡◌, suc}
+use Rattle.wac_types.specs.declared.kind.ItemKind.{ItemKind}
+use Rattle.wac_types.specs.declared.kind.ItemKind.TheVariants as kinds
+use Rattle.wac_types.specs.declared.kind.«Type».TheVariants as types
+use Rattle.wac_types.specs.declared.kind.ValueType.{ValueType}
+use Rattle.wac_types.specs.declared.kind.ResourceId.{ResourceId}
+use Rattle.wac_types.specs.declared.kind.FuncTypeId.{FuncTypeId}
+use Rattle.wac_types.specs.declared.kind.InterfaceId.{InterfaceId}
+use Rattle.wac_types.specs.declared.kind.WorldId.{WorldId}
+use Rattle.wac_types.specs.declared.entry.DefinedType.{DefinedType}
+use Rattle.wac_types.specs.Growth.{KeepsNames}
+use Rattle.wac_types.specs.Label.{defined_label}
+use Rattle.wac_types.specs.Meaning.{Meaning}
+use Rattle.wac_types.specs.Shape.{defined_value, defined_parts}
+use Rattle.wac_types.specs.Table.{Names}
+use Rattle.wac_graph.specs.Graph.{Parts}
+use Rattle.wac_graph.specs.Means.{means, entry_means, declared_count}
+use Rattle.wac_graph.specs.Origin.{Naming}
+
+-- the new graph has more types than the old one, and each kind means what it meant
+pub record Grows (old new : Parts) : Type 0 where
+  pub same : new ≡ record old { types = new.types }
+  pub named : KeepsNames old.types new.types
+  pub kinds : (naming : Naming) (k : ItemKind) → Names old.types k → means naming new k ≡ means naming old k
+
+-- it has no more declared resources
+pub record GrowsPlainly (old new : Parts) : Type 0 where
+  pub grows : Grows old new
+  pub count : declared_count new ≡ declared_count old
+
+-- one more type of values, which is this defined type
+pub record AddsDefined (old new : Parts) (d : DefinedType) (v : ValueType) : Type 0 where
+  pub grows : GrowsPlainly old new
+  pub named : Names new.types (kinds.Value v)
+  pub is : (naming : Naming) → means naming new (kinds.Value v) ≡ defined_value (defined_label d) (defined_parts (entry_means naming old) d)
+
+-- one more function type, of this entry
+pub record AddsFunc (old new : Parts) (entry : Naming → Meaning) (f : FuncTypeId) : Type 0 where
+  pub grows : GrowsPlainly old new
+  pub named : Names new.types (kinds.Func f)
+  pub is : (naming : Naming) → entry_means naming new f.0 ≡ entry naming
+
+-- one more interface
+pub record AddsInterface (old new : Parts) (entry : Naming → Meaning) (i : InterfaceId) : Type 0 where
+  pub grows : GrowsPlainly old new
+  pub named : Names new.types (kinds.Instance i)
+  pub is : (naming : Naming) → entry_means naming new i.0 ≡ entry naming
+
+-- one more world
+pub record AddsWorld (old new : Parts) (entry : Naming → Meaning) (w : WorldId) : Type 0 where
+  pub grows : GrowsPlainly old new
+  pub named : Names new.types (kinds.Component w)
+  pub is : (naming : Naming) → entry_means naming new w.0 ≡ entry naming
+
+-- one more resource, which is declared
+pub record AddsResource (old new : Parts) (entry : Naming → Meaning) (r : ResourceId) : Type 0 where
+  pub grows : Grows old new
+  pub count : declared_count new ≡ suc (declared_count old)
+  pub named : Names new.types (kinds.Ty (types.Resource r))
+  pub is : (naming : Naming) → entry_means naming new r.0 ≡ entry naming

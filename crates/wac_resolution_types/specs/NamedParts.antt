@@ -1,0 +1,46 @@
+-- Named parts that are taken one after another: parameters, fields, cases. Each part is read as perhaps a type of values.
+use Rattle.std.specs.Prelude.{◌≡◌, List, map, Option, IfSome}
+use Rattle.std.specs.List.{AllByRecursion}
+use Rattle.wac_grammar.specs.Tree.{Ident}
+use Rattle.wac_types.specs.declared.kind.ItemKind.{ItemKind}
+use Rattle.wac_types.specs.declared.kind.ValueType.{ValueType}
+use Rattle.wac_types.specs.declared.entry.Entry.{Entry}
+use Rattle.wac_types.specs.Entry.{optional}
+use Rattle.wac_types.specs.Meaning.{Meaning}
+use Rattle.wac_types.specs.Scope.{Named, Scope, IsFresh, with_named}
+use Rattle.wac_types.specs.Shape.{optional_means}
+use Rattle.wac_types.specs.Steps.{Steps}
+use Rattle.wac_types.specs.Table.{Names}
+use Rattle.wac_graph.specs.Graph.{Parts}
+use Rattle.wac_graph.specs.Means.{entry_means}
+use Rattle.wac_graph.specs.Origin.{Naming}
+use Rattle.wac_resolution_types.specs.Growth.{GrowsPlainly}
+use Rattle.wac_resolution_types.specs.Named.{scope_of}
+
+-- what the parts mean, under a naming of origins
+abbrev pub parts_mean : {V : Type 0} → (V → Option ValueType) → Naming → Parts → Named V → Named Meaning
+parts_mean read naming g all = map (λ e. (e.0, optional_means (entry_means naming g) (read e.1))) all
+
+-- each type among them names an entry of the table
+abbrev pub PartsNamed : {V : Type 0} → (V → Option ValueType) → List Entry → Named V → Type 0
+PartsNamed read es all = AllByRecursion (λ e. IfSome (optional (read e.1)) (Names es)) all
+
+-- how a part leads on, in a scope
+abbrev pub PartStep : Type 0 → Type 1
+PartStep X = Scope → Named Meaning → X → Named Meaning → Type 0
+
+-- a part has a meaning, and no earlier one has its name
+abbrev pub HasPart : {X : Type 0} → (Scope → X → Meaning → Type 0) → (X → Ident) → PartStep X
+HasPart has id scope old x new = (v : Meaning) × has scope x v × IsFresh (id x).string old × (new ≡ with_named old (id x).string v)
+
+-- from the old graph and parts a part leads to the new ones
+pub record PartGoes {V X : Type 0} (read : V → Option ValueType) (step : PartStep X) (old new : Parts) (ks : Named ItemKind) (ps qs : Named V) (x : X) : Type 0 where
+  pub grows : GrowsPlainly old new
+  pub named : PartsNamed read new.types qs
+  pub goes : (naming : Naming) → step (scope_of naming old ks) (parts_mean read naming old ps) x (parts_mean read naming new qs)
+
+-- so do parts one after another
+pub record PartsGo {V X : Type 0} (read : V → Option ValueType) (step : PartStep X) (old new : Parts) (ks : Named ItemKind) (ps qs : Named V) (xs : List X) : Type 0 where
+  pub grows : GrowsPlainly old new
+  pub named : PartsNamed read new.types qs
+  pub go : (naming : Naming) → Steps (step (scope_of naming old ks)) (parts_mean read naming old ps) xs (parts_mean read naming new qs)

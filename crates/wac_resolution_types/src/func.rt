@@ -1,0 +1,217 @@
+//! Function types.
+ghost use Rattle.std.specs.Prelude.{◌≡◌, ◌⊎◌, [], List, IfOk, IfErr, OnOk, map, true, false};
+ghost use Rattle.wac_grammar.specs.Spans.{ty_span};
+ghost use Rattle.wac_grammar.specs.Tree.{NamedType as ParamTree};
+ghost use Rattle.wac_types.specs.declared.kind.FuncKind.TheVariants as funcs;
+ghost use Rattle.wac_types.specs.declared.kind.ItemKind.TheVariants as kinds;
+ghost use Rattle.wac_types.specs.declared.kind.«Type».TheVariants as types;
+ghost use Rattle.wac_types.specs.Names.{by_name};
+ghost use Rattle.wac_types.specs.Scope.{IsFresh};
+ghost use Rattle.wac_types.specs.Shape.{contains_borrow as has_borrow};
+ghost use Rattle.wac_types.specs.Table.{ItemsNamed, Names as NamesEntry};
+ghost use Rattle.wac_syntax.specs.Names.{ident_of};
+ghost use Rattle.wac_declarations.specs.Types.{ty_of};
+ghost use Rattle.wac_declarations.specs.Declarations.{named_type_of, result_list_of, func_type_of};
+ghost use Rattle.wac_graph.specs.Graph.{Parts};
+ghost use Rattle.wac_graph.specs.Means.{means, entry_means};
+ghost use Rattle.wac_graph.specs.Origin.{Naming};
+ghost use Rattle.wac_resolution_errors.specs.Error.{borrow_in_result, memory};
+ghost use Rattle.wac_resolution_errors.specs.Told.{told};
+ghost use Rattle.wac_resolution_rules.specs.Types.{first_params};
+ghost use Rattle.wac_resolution_rules.specs.BrokenTypes.{IsRepeatedParameter, ParamBroken, ParamsBroken, ResultsBroken, FuncBroken};
+ghost use Rattle.wac_resolution_rules.specs.BrokenBodies.{method_kind};
+ghost use Rattle.wac_resolution_types.specs.Bindings.{values_of};
+ghost use Rattle.wac_resolution_types.specs.Funcs.{types_named, TypesNamed, ParamGoes, ParamsGo, ResultIs, FuncAdded, FuncIs, ConstructorIs, own_params};
+ghost use Rattle.wac_resolution_types.specs.Named.{scope_of};
+ghost use Rattle.wac_resolution_rules.specs.Types.{IsFuncWith};
+
+use crate::names::Names;
+use crate::state::State;
+use indexmap::IndexMap;
+use std::alloc::{AllocError, Global};
+use wac_declarations::{FuncType, NamedType, ResultList, Type};
+use wac_graph::names::{find, push};
+use wac_graph::{FuncKind, FuncTypeId, ItemKind, ResourceId, ValueType};
+use wac_resolution_errors::Error;
+use wac_syntax::Ident;
+
+/// Rejects the name of an earlier parameter.
+#[tactic(auto, using(crate::proofs::Scopes::memory_told))]
+fn check_param(
+    alloc: Global,
+    kind: FuncKind,
+    all: &IndexMap<String, ValueType>,
+    id: &Ident<'_>,
+) -> Result<(), Error>
+    ensures ok { OnOk result (IsFresh id.now.string.now (by_name all.now.entries)) }
+    ensures err { IfErr result (λ e. (naming : Naming) (g : Parts) → IsRepeatedParameter kind (types_named naming g (by_name all.now.entries)) (ident_of id.now) (told e)) }
+{
+    match find(all, id.string) {
+        Some(_) => Err(Error::DuplicateParameter {
+            kind,
+            name: String::from_str(alloc, id.string)?,
+            span: id.span,
+        }),
+        None => Ok(()),
+    }
+}
+
+fn kind_of_method(is_static: bool) -> FuncKind
+    ensures { result ≡ method_kind is_static }
+{
+    if is_static {
+        FuncKind::Static
+    } else {
+        FuncKind::Method
+    }
+}
+
+/// What comes before the parameters of a method: itself, borrowed; a static one has nothing there.
+fn method_params(
+    alloc: Global,
+    is_static: bool,
+    resource: ResourceId,
+) -> Result<IndexMap<String, ValueType>, AllocError>
+    ensures { IfOk result (λ ps. by_name ps.entries ≡ own_params is_static resource) }
+{
+    let mut params = IndexMap::new(alloc);
+    if !is_static {
+        push(alloc, &mut params, "self", ValueType::Borrow(resource))?;
+    }
+    Ok(params)
+}
+
+impl State {
+    /// Takes a parameter.
+    fn param(
+        &mut self,
+        names: &Names<'_, ItemKind>,
+        kind: FuncKind,
+        all: &mut IndexMap<String, ValueType>,
+        param: &NamedType<'_>,
+    ) -> Result<(), Error>
+        requires scope { ItemsNamed self.old.graph.types (values_of names.now) }
+        requires parts { TypesNamed self.old.graph.types (by_name all.old.entries) }
+        ensures ok { OnOk result (ParamGoes self.old.graph self.new.graph (values_of names.now) (by_name all.old.entries) (by_name all.new.entries) (named_type_of param.now)) }
+        ensures err { IfErr result (λ e. (naming : Naming) (before : List ParamTree) → ParamBroken kind (scope_of naming self.old.graph (values_of names.now)) (told e) (types_named naming self.old.graph (by_name all.old.entries)) before (named_type_of param.now)) }
+    {
+        let value = self.ty(names, &param.ty)?;
+        check_param(self.alloc, kind, all, &param.id)?;
+        push(self.alloc, all, param.id.string, value)?;
+        Ok(())
+    }
+
+    /// Takes parameters, one after another.
+    fn params(
+        &mut self,
+        names: &Names<'_, ItemKind>,
+        kind: FuncKind,
+        all: &mut IndexMap<String, ValueType>,
+        params: &[NamedType<'_>],
+    ) -> Result<(), Error>
+        requires scope { ItemsNamed self.old.graph.types (values_of names.now) }
+        requires parts { TypesNamed self.old.graph.types (by_name all.old.entries) }
+        ensures ok { OnOk result (ParamsGo self.old.graph self.new.graph (values_of names.now) (by_name all.old.entries) (by_name all.new.entries) (map named_type_of params.now)) }
+        ensures err { IfErr result (λ e. (naming : Naming) → ParamsBroken kind (scope_of naming self.old.graph (values_of names.now)) (types_named naming self.old.graph (by_name all.old.entries)) (map named_type_of params.now) (told e)) }
+    {
+        for param in params {
+            self.param(names, kind, all, param)?;
+        }
+        Ok(())
+    }
+
+    /// Rejects a result that contains a borrow.
+    fn check_result(&self, ty: &Type<'_>, value: ValueType) -> Result<(), Error>
+        requires { NamesEntry self.now.graph.types (kinds.Value value) }
+        ensures ok { OnOk result ((naming : Naming) → has_borrow (means naming self.now.graph (kinds.Value value)) ≡ false) }
+        ensures borrow { IfErr result (λ e. (naming : Naming) → has_borrow (means naming self.now.graph (kinds.Value value)) ≡ true) }
+        ensures err { IfErr result (λ e. told e ≡ borrow_in_result (ty_span (ty_of ty.now))) }
+    {
+        if self.graph.types().contains_borrow(value) {
+            return Err(Error::BorrowInResult { span: ty.span() });
+        }
+        Ok(())
+    }
+
+    /// What a function gives.
+    fn result(
+        &mut self,
+        names: &Names<'_, ItemKind>,
+        results: &ResultList<'_>,
+    ) -> Result<Option<ValueType>, Error>
+        requires { ItemsNamed self.old.graph.types (values_of names.now) }
+        ensures ok { IfOk result (λ v. ResultIs self.old.graph self.new.graph (values_of names.now) (result_list_of results.now) v) }
+        ensures err { IfErr result (λ e. (naming : Naming) → ResultsBroken (scope_of naming self.old.graph (values_of names.now)) (result_list_of results.now) (told e)) }
+    {
+        match results {
+            ResultList::Empty => Ok(None),
+            ResultList::Scalar(ty) => {
+                let value = self.ty(names, ty)?;
+                self.check_result(ty, value)?;
+                Ok(Some(value))
+            }
+        }
+    }
+
+    /// Adds a function type, where these parameters come first.
+    pub fn func(
+        &mut self,
+        names: &Names<'_, ItemKind>,
+        kind: FuncKind,
+        first: IndexMap<String, ValueType>,
+        func: &FuncType<'_>,
+    ) -> Result<FuncTypeId, Error>
+        requires scope { ItemsNamed self.old.graph.types (values_of names.now) }
+        requires parts { TypesNamed self.old.graph.types (by_name first.entries) }
+        ensures ok { IfOk result (λ f. FuncIs self.old.graph self.new.graph (values_of names.now) (by_name first.entries) (func_type_of func.now) f) }
+        ensures err { IfErr result (λ e. (naming : Naming) → FuncBroken kind (scope_of naming self.old.graph (values_of names.now)) (types_named naming self.old.graph (by_name first.entries)) (func_type_of func.now) (told e)) }
+    {
+        let mut params = first;
+        self.params(names, kind, &mut params, &func.params)?;
+        let result = self.result(names, &func.results)?;
+        let is_async = func.is_async;
+        Ok(self.add_func(wac_graph::FuncType {
+            params,
+            result,
+            is_async,
+        })?)
+    }
+
+    /// Adds the function type of a constructor of a resource.
+    pub fn constructor(
+        &mut self,
+        names: &Names<'_, ItemKind>,
+        resource: ResourceId,
+        params: &[NamedType<'_>],
+    ) -> Result<FuncTypeId, Error>
+        requires scope { ItemsNamed self.old.graph.types (values_of names.now) }
+        requires resource { NamesEntry self.old.graph.types (kinds.Ty (types.Resource resource)) }
+        ensures ok { IfOk result (λ f. ConstructorIs self.old.graph self.new.graph (values_of names.now) resource (map named_type_of params.now) f) }
+        ensures err { IfErr result (λ e. (naming : Naming) → (told e ≡ memory) ⊎ ParamsBroken funcs.Constructor (scope_of naming self.old.graph (values_of names.now)) [] (map named_type_of params.now) (told e)) }
+    {
+        let mut all = IndexMap::new(self.alloc);
+        self.params(names, FuncKind::Constructor, &mut all, params)?;
+        Ok(self.add_func(wac_graph::FuncType {
+            params: all,
+            result: Some(ValueType::Own(resource)),
+            is_async: false,
+        })?)
+    }
+
+    /// Adds the function type of a method of a resource.
+    pub fn method(
+        &mut self,
+        names: &Names<'_, ItemKind>,
+        resource: ResourceId,
+        is_static: bool,
+        func: &FuncType<'_>,
+    ) -> Result<FuncTypeId, Error>
+        requires scope { ItemsNamed self.old.graph.types (values_of names.now) }
+        requires resource { NamesEntry self.old.graph.types (kinds.Ty (types.Resource resource)) }
+        ensures ok { IfOk result (λ f. FuncAdded self.old.graph self.new.graph (values_of names.now) (λ naming scope entry. IsFuncWith scope (first_params is_static (entry_means naming self.old.graph resource.0)) (func_type_of func.now) entry) f) }
+        ensures err { IfErr result (λ e. (naming : Naming) → FuncBroken (method_kind is_static) (scope_of naming self.old.graph (values_of names.now)) (first_params is_static (entry_means naming self.old.graph resource.0)) (func_type_of func.now) (told e)) }
+    {
+        let first = method_params(self.alloc, is_static, resource)?;
+        self.func(names, kind_of_method(is_static), first, func)
+    }
+}

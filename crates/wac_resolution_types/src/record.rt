@@ -1,0 +1,104 @@
+//! Records.
+ghost use Rattle.std.specs.Prelude.{◌≡◌, ◌⊎◌, List, IfOk, IfErr, OnOk, map};
+ghost use Rattle.wac_grammar.specs.Tree.{Field as FieldTree};
+ghost use Rattle.wac_types.specs.Names.{by_name};
+ghost use Rattle.wac_types.specs.Scope.{IsFresh};
+ghost use Rattle.wac_types.specs.Steps.{Fails};
+ghost use Rattle.wac_types.specs.Table.{ItemsNamed};
+ghost use Rattle.wac_syntax.specs.Names.{ident_of};
+ghost use Rattle.wac_declarations.specs.Declarations.{field_of, record_decl_of};
+ghost use Rattle.wac_graph.specs.Graph.{Parts};
+ghost use Rattle.wac_graph.specs.Origin.{Naming};
+ghost use Rattle.wac_resolution_errors.specs.Told.{told};
+ghost use Rattle.wac_resolution_rules.specs.Declarations.{HasField, IsRecord};
+ghost use Rattle.wac_resolution_rules.specs.BrokenDeclarations.{IsRepeatedField, FieldBroken, RecordBroken};
+ghost use Rattle.wac_resolution_types.specs.Bindings.{values_of};
+ghost use Rattle.wac_resolution_types.specs.Declarations.{FieldGoes, FieldsGo, ValueAdded};
+ghost use Rattle.wac_resolution_types.specs.Funcs.{types_named, TypesNamed};
+ghost use Rattle.wac_resolution_types.specs.Named.{scope_of};
+
+use crate::names::Names;
+use crate::state::State;
+use indexmap::IndexMap;
+use std::alloc::Global;
+use wac_declarations::{Field, RecordDecl};
+use wac_graph::names::{find, push};
+use wac_graph::{DefinedType, ItemKind, ValueType};
+use wac_resolution_errors::Error;
+use wac_syntax::Ident;
+
+/// Rejects the name of an earlier field.
+#[tactic(auto, using(crate::proofs::Scopes::memory_told))]
+fn check_field(
+    alloc: Global,
+    declared: &Ident<'_>,
+    all: &IndexMap<String, ValueType>,
+    id: &Ident<'_>,
+) -> Result<(), Error>
+    ensures ok { OnOk result (IsFresh id.now.string.now (by_name all.now.entries)) }
+    ensures err { IfErr result (λ e. (naming : Naming) (g : Parts) → IsRepeatedField (ident_of declared.now) (types_named naming g (by_name all.now.entries)) (ident_of id.now) (told e)) }
+{
+    match find(all, id.string) {
+        Some(_) => Err(Error::DuplicateRecordField {
+            field: String::from_str(alloc, id.string)?,
+            name: String::from_str(alloc, declared.string)?,
+            span: id.span,
+        }),
+        None => Ok(()),
+    }
+}
+
+impl State {
+    /// Takes a field.
+    fn field(
+        &mut self,
+        names: &Names<'_, ItemKind>,
+        declared: &Ident<'_>,
+        all: &mut IndexMap<String, ValueType>,
+        field: &Field<'_>,
+    ) -> Result<(), Error>
+        requires scope { ItemsNamed self.old.graph.types (values_of names.now) }
+        requires parts { TypesNamed self.old.graph.types (by_name all.old.entries) }
+        ensures ok { OnOk result (FieldGoes self.old.graph self.new.graph (values_of names.now) (by_name all.old.entries) (by_name all.new.entries) (field_of field.now)) }
+        ensures err { IfErr result (λ e. (naming : Naming) (before : List FieldTree) → FieldBroken (scope_of naming self.old.graph (values_of names.now)) (ident_of declared.now) (told e) (types_named naming self.old.graph (by_name all.old.entries)) before (field_of field.now)) }
+    {
+        let value = self.ty(names, &field.ty)?;
+        check_field(self.alloc, declared, all, &field.id)?;
+        push(self.alloc, all, field.id.string, value)?;
+        Ok(())
+    }
+
+    /// Takes fields, one after another.
+    fn fields(
+        &mut self,
+        names: &Names<'_, ItemKind>,
+        declared: &Ident<'_>,
+        all: &mut IndexMap<String, ValueType>,
+        fields: &[Field<'_>],
+    ) -> Result<(), Error>
+        requires scope { ItemsNamed self.old.graph.types (values_of names.now) }
+        requires parts { TypesNamed self.old.graph.types (by_name all.old.entries) }
+        ensures ok { OnOk result (FieldsGo self.old.graph self.new.graph (values_of names.now) (by_name all.old.entries) (by_name all.new.entries) (map field_of fields.now)) }
+        ensures err { IfErr result (λ e. (naming : Naming) → Fails (HasField (scope_of naming self.old.graph (values_of names.now))) (FieldBroken (scope_of naming self.old.graph (values_of names.now)) (ident_of declared.now) (told e)) (types_named naming self.old.graph (by_name all.old.entries)) (map field_of fields.now)) }
+    {
+        for field in fields {
+            self.field(names, declared, all, field)?;
+        }
+        Ok(())
+    }
+
+    /// Adds a record.
+    pub fn record(
+        &mut self,
+        names: &Names<'_, ItemKind>,
+        decl: &RecordDecl<'_>,
+    ) -> Result<ValueType, Error>
+        requires { ItemsNamed self.old.graph.types (values_of names.now) }
+        ensures ok { IfOk result (λ v. ValueAdded self.old.graph self.new.graph (λ naming m. IsRecord (scope_of naming self.old.graph (values_of names.now)) (record_decl_of decl.now) m) v) }
+        ensures err { IfErr result (λ e. (naming : Naming) → RecordBroken (scope_of naming self.old.graph (values_of names.now)) (record_decl_of decl.now) (told e)) }
+    {
+        let mut fields = IndexMap::new(self.alloc);
+        self.fields(names, &decl.id, &mut fields, &decl.fields)?;
+        Ok(self.add_defined(DefinedType::Record { fields })?)
+    }
+}

@@ -1,0 +1,42 @@
+//! Declarations of types at root.
+ghost use Rattle.std.specs.Prelude.{IfOk, IfErr};
+ghost use Rattle.wac_types.specs.Table.{ItemsNamed};
+ghost use Rattle.wac_declarations.specs.Declarations.{type_decl_of};
+ghost use Rattle.wac_graph.specs.Means.{declared_count};
+ghost use Rattle.wac_graph.specs.Origin.{Naming};
+ghost use Rattle.wac_resolution_errors.specs.Told.{told};
+ghost use Rattle.wac_resolution_rules.specs.Declarations.{IsTypeDecl};
+ghost use Rattle.wac_resolution_rules.specs.BrokenDeclarations.{TypeDeclBroken};
+ghost use Rattle.wac_resolution_types.specs.Bindings.{values_of};
+ghost use Rattle.wac_resolution_types.specs.Declarations.{KindAdded};
+ghost use Rattle.wac_resolution_types.specs.Named.{scope_of};
+
+use crate::names::Names;
+use crate::place::Place;
+use crate::state::State;
+use wac_declarations::TypeDecl;
+use wac_graph::{ItemKind, Type};
+use wac_resolution_errors::Error;
+
+impl State {
+    /// The kind that a declaration at root declares.
+    pub fn type_decl(
+        &mut self,
+        names: &Names<'_, ItemKind>,
+        decl: &TypeDecl<'_>,
+    ) -> Result<ItemKind, Error>
+        requires { ItemsNamed self.old.graph.types (values_of names.now) }
+        ensures ok { IfOk result (λ k. KindAdded self.old.graph self.new.graph (λ naming m after. IsTypeDecl (scope_of naming self.old.graph (values_of names.now)) (declared_count self.old.graph) (type_decl_of decl.now) m after) k) }
+        ensures err { IfErr result (λ e. (naming : Naming) → TypeDeclBroken (scope_of naming self.old.graph (values_of names.now)) (declared_count self.old.graph) (type_decl_of decl.now) (told e)) }
+    {
+        match decl {
+            TypeDecl::Variant(decl) => Ok(ItemKind::Ty(Type::Value(self.variant(names, decl)?))),
+            TypeDecl::Record(decl) => Ok(ItemKind::Ty(Type::Value(self.record(names, decl)?))),
+            TypeDecl::Flags(decl) => Ok(ItemKind::Ty(Type::Value(self.flags(decl)?))),
+            TypeDecl::Enum(decl) => Ok(ItemKind::Ty(Type::Value(self.enumeration(decl)?))),
+            TypeDecl::Alias(decl) => {
+                Ok(self.alias(names, Place::Root, decl.id.string, &decl.kind)?)
+            }
+        }
+    }
+}
