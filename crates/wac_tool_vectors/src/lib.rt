@@ -1,11 +1,5 @@
-//! Tests of `wac_tool`: whole runs, what is said of refusals, and readers, writers and memory that fail.
+//! Tests of `wac_tool`: whole runs, what is said of rejected texts, and readers, writers and memory that fail.
 #![tactic(auto)]
 
-#[cfg(test)]
-mod failing;
-#[cfg(test)]
-mod narrow;
-#[cfg(test)]
-mod rows;
 #[cfg(test)]
 mod runs;

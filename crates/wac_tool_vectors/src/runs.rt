@@ -1,8 +1,8 @@
-//! Whole runs: what a word writes of an input, and what is said where it writes nothing.
+//! Whole runs.
 
-use crate::narrow::Narrow;
-use crate::rows::{DOCUMENTS, FIRST, ITEMS, REFUSED, VALUES};
-use std::alloc::{AllocError, Global};
+use std::alloc::Global;
+use std::io;
+use std::io::{ErrorKind, Read, Write};
 use std::process::Abort;
 use std::test::Fail;
 use wac_lexer::{In, Out};
@@ -73,27 +73,166 @@ fn says(
     Ok(())
 }
 
-/// Asserts what a word writes of each input.
-fn writes_each(
-    rt: &impl Abort,
-    alloc: Global,
-    word: &str,
-    rows: &[(&str, &str)],
-) -> Result<(), Fail> {
-    for (input, text) in rows {
-        writes(rt, alloc, word, input, text)?;
+const FIRST: &str = "package a:b; let x = y; export x.z;";
+
+const FIRST_PRINTED: &str = "package a:b;\n\nlet x = y;\n\nexport x.z;\n";
+
+#[test]
+fn items_are_listed(rt: HostRuntime) -> Result<(), Fail> {
+    for (input, text) in [
+        ("", ""),
+        ("fooBar", "0+3 identifier\n3+1 identifier\n4+2 identifier\n"),
+        ("....", "0+3 `...`\n3+1 `.`\n"),
+        ("x:string", "0+8 package name\n"),
+        (
+            "a /* x */ \"b\" \"",
+            "0+1 identifier\n10+3 string literal\n14+1 an unterminated string was encountered\n",
+        ),
+        (
+            "a#b",
+            "0+1 identifier\n1+1 unexpected token was encountered\n2+1 identifier\n",
+        ),
+        (
+            "import-x %import import",
+            "0+8 identifier\n9+7 identifier\n17+6 `import` keyword\n",
+        ),
+        ("foo-Bar", "0+5 identifier\n5+2 identifier\n"),
+        ("foo-bar:b@1.0.", "0+13 package name\n13+1 `.`\n"),
+    ] {
+        writes(&rt, rt.alloc(), "tokens", input, text)?;
     }
     Ok(())
 }
 
 #[test]
-fn texts_are_written_or_refused(rt: HostRuntime) -> Result<(), Fail> {
-    writes_each(&rt, rt.alloc(), "tokens", &ITEMS)?;
-    writes_each(&rt, rt.alloc(), "fmt", &DOCUMENTS)?;
-    writes_each(&rt, rt.alloc(), "json", &VALUES)?;
-    for (word, input, line) in REFUSED {
+fn documents_are_printed(rt: HostRuntime) -> Result<(), Fail> {
+    for (input, text) in [
+        ("package a:b;", "package a:b;\n\n"),
+        (FIRST, FIRST_PRINTED),
+        (FIRST_PRINTED, FIRST_PRINTED),
+        (
+            "/** a\n\n b */ package a:b;",
+            "/// a\n/// \n/// b\npackage a:b;\n\n",
+        ),
+        (
+            "/// a\n/// \n/// b\npackage a:b;\n\n",
+            "/// a\n/// b\npackage a:b;\n\n",
+        ),
+        (
+            "/// a\n/// b\npackage a:b;\n\n",
+            "/// a\n/// b\npackage a:b;\n\n",
+        ),
+        (
+            "package a:b;\r\n/// d\r\nlet x = y;",
+            "package a:b;\n\n/// d\nlet x = y;\n",
+        ),
+        (
+            "/**/ /***/ //// x\npackage a:b;",
+            "/// / x\npackage a:b;\n\n",
+        ),
+        (
+            "package %a:b@1.2.3; let %x = %y.%z .w;",
+            "package %a:b@1.2.3;\n\nlet %x = %y.%z.w;\n",
+        ),
+    ] {
+        writes(&rt, rt.alloc(), "fmt", input, text)?;
+    }
+    Ok(())
+}
+
+const SECOND: &str = "package a:b;";
+
+const SECOND_AS_JSON: &str =
+    "{\"directive\":{\"package\":{\"name\":\"a:b\",\"span\":{\"length\":3,\"offset\":8},\"string\":\"a:b\",\"version\":null}},\"docs\":[],\"statements\":[]}\n";
+
+#[test]
+fn a_document_as_json(rt: HostRuntime) -> Result<(), Fail> {
+    writes(&rt, rt.alloc(), "json", SECOND, SECOND_AS_JSON)
+}
+
+#[test]
+fn an_expression_as_json(rt: HostRuntime) -> Result<(), Fail> {
+    writes(
+        &rt,
+        rt.alloc(),
+        "json",
+        "package a:b; let x = y.z;",
+        "{\"directive\":{\"package\":{\"name\":\"a:b\",\"span\":{\"length\":3,\"offset\":8},\"string\":\"a:b\",\"version\":null}},\"docs\":[],\"statements\":[{\"Let\":{\"docs\":[],\"expr\":{\"postfix\":[{\"access\":{\"id\":{\"span\":{\"length\":1,\"offset\":23},\"string\":\"z\"},\"span\":{\"length\":2,\"offset\":22}}}],\"primary\":{\"ident\":{\"span\":{\"length\":1,\"offset\":21},\"string\":\"y\"}},\"span\":{\"length\":3,\"offset\":21}},\"id\":{\"span\":{\"length\":1,\"offset\":17},\"string\":\"x\"}}}]}\n",
+    )
+}
+
+#[test]
+fn a_type_as_json(rt: HostRuntime) -> Result<(), Fail> {
+    writes(
+        &rt,
+        rt.alloc(),
+        "json",
+        "package a:b; type t = tuple<u8>;",
+        "{\"directive\":{\"package\":{\"name\":\"a:b\",\"span\":{\"length\":3,\"offset\":8},\"string\":\"a:b\",\"version\":null}},\"docs\":[],\"statements\":[{\"Type\":{\"type\":{\"alias\":{\"docs\":[],\"id\":{\"span\":{\"length\":1,\"offset\":18},\"string\":\"t\"},\"kind\":{\"type\":{\"tuple\":[[{\"u8\":{\"length\":2,\"offset\":28}}],{\"length\":9,\"offset\":22}]}}}}}}]}\n",
+    )
+}
+
+#[test]
+fn refused_texts_are_told(rt: HostRuntime) -> Result<(), Fail> {
+    for (word, input, line) in [
+        (
+            "fmt",
+            "",
+            "error at 0+1: expected `package` keyword, found end of input\n",
+        ),
+        (
+            "fmt",
+            "package a:b; let x y;",
+            "error at 19+1: expected `=`, found identifier\n",
+        ),
+        (
+            "fmt",
+            "package a:b; let x = y",
+            "error at 21+1: expected `;`, found end of input\n",
+        ),
+        (
+            "fmt",
+            "package a:b; x // \u{202a}",
+            "error at 18+3: disallowed bidirectional override codepoint `\\u{202a}`\n",
+        ),
+        (
+            "tokens",
+            "package a:b; x // \u{202a}",
+            "error at 18+3: disallowed bidirectional override codepoint `\\u{202a}`\n",
+        ),
+        (
+            "fmt",
+            "package a:b@01.0.0;",
+            "error at 12+6: `01.0.0` is not a valid semantic version\n",
+        ),
+        (
+            "fmt",
+            "package a:b@99999999999999999999999.0.0;",
+            "error at 12+27: `99999999999999999999999.0.0` is not a valid semantic version\n",
+        ),
+        (
+            "fmt",
+            "package a:b; /* x",
+            "error at 13+4: an unterminated comment was encountered\n",
+        ),
+        (
+            "json",
+            "package a:b; let x y;",
+            "error at 19+1: expected `=`, found identifier\n",
+        ),
+        (
+            "json",
+            "package a:b; x // \u{202a}",
+            "error at 18+3: disallowed bidirectional override codepoint `\\u{202a}`\n",
+        ),
+    ] {
         says(&rt, rt.alloc(), word, input.as_bytes(), line, 1)?;
     }
+    Ok(())
+}
+
+#[test]
+fn other_words_and_bytes_are_told(rt: HostRuntime) -> Result<(), Fail> {
     let usage = "usage: wac tokens|fmt|json|resolve\n";
     for word in [
         "", "format", "fm", "fmts", "FMT", "token", "Json", "jso", "resolve",
@@ -106,13 +245,169 @@ fn texts_are_written_or_refused(rt: HostRuntime) -> Result<(), Fail> {
     Ok(())
 }
 
+/// How many bytes a narrow writer takes at most.
+const WIDTH: usize = 256;
+
+/// A writer that takes a byte a call and has room for so many.
+#[derive(Drop)]
+struct Narrow {
+    bytes: [u8; WIDTH],
+    len: usize,
+    room: usize,
+}
+
+impl Narrow {
+    fn new(room: usize) -> Narrow {
+        Narrow {
+            bytes: [0; WIDTH],
+            len: 0,
+            room,
+        }
+    }
+
+    /// Asserts that it holds a beginning of a text, of this length.
+    fn holds(&self, rt: &impl Abort, text: &str, len: usize) {
+        assert_eq!(rt; self.len, len);
+        assert!(rt; len <= WIDTH && len <= text.len());
+        for i in 0..len {
+            assert_eq!(rt; self.bytes[i], text.as_bytes()[i], "at {i}");
+        }
+    }
+}
+
+impl Write for Narrow {
+    fn write(&mut self, buf: &[u8]) -> io::Result<usize> {
+        let len = self.len;
+        if len >= self.room || len >= WIDTH {
+            return Err(io::Error::from(ErrorKind::BrokenPipe));
+        }
+        match buf.first() {
+            None => Ok(0),
+            Some(byte) => {
+                self.bytes[len] = *byte;
+                self.len = len + 1;
+                Ok(1)
+            }
+        }
+    }
+
+    fn flush(&mut self) -> io::Result<()> {
+        Ok(())
+    }
+}
+
+/// A reader that gives a byte a call, and fails behind so many.
+#[derive(Drop)]
+struct Broken<'a> {
+    bytes: &'a [u8],
+    len: usize,
+    fails_at: usize,
+}
+
+impl Read for Broken<'_> {
+    fn read(&mut self, buf: &mut [u8]) -> io::Result<usize> {
+        let len = self.len;
+        if len >= self.fails_at {
+            return Err(io::Error::from(ErrorKind::BrokenPipe));
+        }
+        if len < self.bytes.len() && !buf.is_empty() {
+            buf[0] = self.bytes[len];
+            self.len = len + 1;
+            return Ok(1);
+        }
+        Ok(0)
+    }
+}
+
+#[test]
+fn a_writer_that_fails_holds_a_beginning(rt: HostRuntime) -> Result<(), Fail> {
+    for (command, input, text) in [
+        (Command::Fmt, FIRST, FIRST_PRINTED),
+        (
+            Command::Tokens,
+            "package a:b",
+            "0+7 `package` keyword\n8+3 package name\n",
+        ),
+        (Command::Json, SECOND, SECOND_AS_JSON),
+    ] {
+        for room in 0..text.len() {
+            let mut writer = Narrow::new(room);
+            match run(
+                rt.alloc(),
+                command,
+                &mut In::new(input.as_bytes()),
+                &mut Out::new(&mut writer),
+            ) {
+                Err(RunError::Output) => writer.holds(&rt, text, room),
+                _ => assert!(rt; false, "at {room}"),
+            }
+        }
+    }
+    Ok(())
+}
+
+#[test]
+fn a_reader_that_fails_is_told(rt: HostRuntime) -> Result<(), Fail> {
+    for command in [Command::Fmt, Command::Tokens, Command::Json] {
+        for fails_at in 0..FIRST.len() + 1 {
+            let mut reader = In::new(Broken {
+                bytes: FIRST.as_bytes(),
+                len: 0,
+                fails_at,
+            });
+            let mut writer = Narrow::new(WIDTH);
+            match run(rt.alloc(), command, &mut reader, &mut Out::new(&mut writer)) {
+                Err(RunError::Input) => writer.holds(&rt, "", 0),
+                _ => assert!(rt; false, "at {fails_at}"),
+            }
+        }
+    }
+    Ok(())
+}
+
+/// Passes also where memory is refused, at each allocation in turn.
+#[test]
+fn want_of_memory_is_told(rt: HostRuntime) -> Result<(), Fail> {
+    for (command, input, text) in [
+        (Command::Fmt, FIRST, FIRST_PRINTED),
+        (
+            Command::Tokens,
+            "package a:b",
+            "0+7 `package` keyword\n8+3 package name\n",
+        ),
+        (Command::Json, SECOND, SECOND_AS_JSON),
+        (Command::Fmt, "package a:b; let", ""),
+        (Command::Json, "package a:b; let", ""),
+        (Command::Tokens, "\u{c}", ""),
+    ] {
+        let mut writer = Narrow::new(WIDTH);
+        let answer = run(
+            rt.alloc(),
+            command,
+            &mut In::new(input.as_bytes()),
+            &mut Out::new(&mut writer),
+        );
+        match answer {
+            Ok(()) => writer.holds(&rt, text, text.len()),
+            Err(RunError::Refused { .. }) => assert_eq!(rt; text, ""),
+            Err(error) => {
+                assert!(rt; matches!(error, RunError::Memory(_)));
+                writer.holds(&rt, text, writer.len);
+                let mut errors = Narrow::new(WIDTH);
+                assert_eq!(rt; report(Some(&error), &mut Out::new(&mut errors)), 4);
+                errors.holds(&rt, "out of memory\n", 14);
+            }
+        }
+    }
+    Ok(())
+}
+
 #[test]
 fn other_refusals_are_reported(rt: HostRuntime) -> Result<(), Fail> {
     for (error, line, status) in [
         (RunError::Input, "input failed\n", 3),
         (RunError::Output, "output failed\n", 3),
         (RunError::NotUtf8, "input is not UTF-8\n", 3),
-        (RunError::Memory(AllocError), "out of memory\n", 4),
         (
             RunError::Refused {
                 span: None,
@@ -122,9 +417,9 @@ fn other_refusals_are_reported(rt: HostRuntime) -> Result<(), Fail> {
             1,
         ),
     ] {
-        let mut errors = Narrow::new(line.as_bytes(), 1, usize::MAX);
+        let mut errors = Narrow::new(WIDTH);
         assert_eq!(rt; report(Some(&error), &mut Out::new(&mut errors)), status);
-        errors.holds(&rt, line.len());
+        errors.holds(&rt, line, line.len());
     }
     Ok(())
 }
