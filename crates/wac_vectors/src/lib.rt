@@ -16,8 +16,6 @@ mod parts;
 #[cfg(test)]
 mod places;
 #[cfg(test)]
-mod printed_parts;
-#[cfg(test)]
 mod refusals;
 #[cfg(test)]
 mod rows;
