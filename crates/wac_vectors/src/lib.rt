@@ -12,8 +12,6 @@ mod layout;
 #[cfg(test)]
 mod optional;
 #[cfg(test)]
-mod parts;
-#[cfg(test)]
 mod places;
 #[cfg(test)]
 mod refusals;
