@@ -11,20 +11,17 @@ use wac_tool::{Command, RunError, report, run};
 fn main(rt: HostRuntime) -> ExitCode {
     match work(&rt) {
         Ok(()) => ExitCode::SUCCESS,
-        Err(refusal) => ExitCode::from(report(refusal.as_ref(), &mut Out::new(rt.stderr()))),
+        Err(rejection) => ExitCode::from(report(rejection.as_ref(), &mut Out::new(rt.stderr()))),
     }
 }
 
 /// Does what the word says. The error is `None` where there is not just one word, or no command of that name.
 fn work(rt: &HostRuntime) -> Result<(), Option<RunError>> {
-    let command = match command(rt) {
-        Ok(Some(command)) => command,
-        Ok(None) => return Err(None),
-        Err(error) => return Err(Some(error.into())),
-    };
-    let mut reader = In::new(rt.stdin().lock());
-    let mut writer = Out::new(rt.stdout());
-    run(rt.alloc(), command, &mut reader, &mut writer).map_err(Some)
+    match command(rt) {
+        Ok(Some(command)) => perform(rt, command).map_err(Some),
+        Ok(None) => Err(None),
+        Err(error) => Err(Some(error.into())),
+    }
 }
 
 /// The command that the program's only word names.
@@ -38,4 +35,11 @@ fn command(rt: &HostRuntime) -> Result<Option<Command>, AllocError> {
         (Some(word), None) => Ok(Command::named(&word)),
         _ => Ok(None),
     }
+}
+
+/// Reads standard input, and writes what the command makes of it to standard output.
+fn perform(rt: &HostRuntime, command: Command) -> Result<(), RunError> {
+    let mut reader = In::new(rt.stdin());
+    let mut writer = Out::new(rt.stdout());
+    run(rt.alloc(), command, &mut reader, &mut writer)
 }

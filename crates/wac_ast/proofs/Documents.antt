@@ -10,15 +10,15 @@ use Rattle.wac_grammar.specs.Tree.{Document}
 use Rattle.wac_grammar.specs.Grammar.{document, Derives}
 use Rattle.wac_grammar.specs.Reading.{read}
 use Rattle.wac_grammar.specs.TextTree.{IsTreeOf}
-use Rattle.wac_syntax.specs.declared.error.Error.{Error}
-use Rattle.wac_syntax.specs.declared.error.Error.TheVariants as errors
-use Rattle.wac_syntax.specs.Error.{told_by}
-use Rattle.wac_syntax.specs.Answer.{told_in}
-use Rattle.wac_syntax.specs.FirstFault.{TellsFirstFault}
+use Rattle.wac_ast_base.specs.declared.error.Error.{Error}
+use Rattle.wac_ast_base.specs.declared.error.Error.TheVariants as errors
+use Rattle.wac_ast_base.specs.Error.{told_by}
+use Rattle.wac_ast_base.specs.Answer.{told_in}
+use Rattle.wac_ast_base.specs.FirstFault.{TellsFirstFault}
 use Rattle.wac_ast.specs.Document.{ErrorOf, end_of_text, refused_or, Parses}
 use Rattle.wac_grammar.proofs.Complete.{complete, tree_or}
 use Rattle.wac_grammar.proofs.Sound.{sound}
-use Rattle.wac_syntax.proofs.FirstFaults.{no_memory_is, tells_first, told_of_reading}
+use Rattle.wac_ast_base.proofs.FirstFaults.{no_memory_is, tells_first, told_of_reading}
 
 -- FOUND: the document that is returned is the text's tree
 pub is_found : {D : Type 0} (view : D → Document) (text : List ℕ) (r : Result D Error) → Parses view r text → IfOk r (λ d. IsTreeOf text (view d))

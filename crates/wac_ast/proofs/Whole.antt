@@ -6,8 +6,8 @@ use Rattle.wac_lexer.specs.Item.{Item}
 use Rattle.wac_lexer.specs.Items.{items}
 use Rattle.wac_lexer.specs.Characters.{refused}
 use Rattle.wac_lexer.specs.Reading.{Reading, left}
-use Rattle.wac_syntax.specs.declared.error.Error.{Error}
-use Rattle.wac_syntax.specs.Answer.{End, end_of_input, Gives, has_more, final_span, told_in}
+use Rattle.wac_ast_base.specs.declared.error.Error.{Error}
+use Rattle.wac_ast_base.specs.Answer.{End, end_of_input, Gives, has_more, final_span, told_in}
 use Rattle.wac_grammar.specs.Tree.{Document}
 use Rattle.wac_grammar.specs.Grammar.{document}
 use Rattle.wac_grammar.specs.Reading.{read}

@@ -7,10 +7,10 @@ use Rattle.wac_lexer.specs.declared.error.Error.{Error as Fault}
 use Rattle.wac_grammar.specs.Tree.{Document}
 use Rattle.wac_grammar.specs.Grammar.{document}
 use Rattle.wac_grammar.specs.Reading.{read}
-use Rattle.wac_syntax.specs.declared.error.Error.{Error}
-use Rattle.wac_syntax.specs.Error.{Told, told_by, faulty, no_memory}
-use Rattle.wac_syntax.specs.Answer.{End, final_span, told_in}
-use Rattle.wac_syntax.specs.FirstFault.{TellsFirstFault}
+use Rattle.wac_ast_base.specs.declared.error.Error.{Error}
+use Rattle.wac_ast_base.specs.Error.{Told, told_by, faulty, no_memory}
+use Rattle.wac_ast_base.specs.Answer.{End, final_span, told_in}
+use Rattle.wac_ast_base.specs.FirstFault.{TellsFirstFault}
 
 -- where the end of the input is reported, as seen from the beginning of a text
 abbrev pub end_of_text : List ℕ → End

@@ -8,15 +8,15 @@ use Rattle.wac_ast.specs.declared.export.ExportOptions.TheVariants as options
 use Rattle.wac_ast.specs.declared.export.ExportStatement.{ExportStatement as CodeExportStatement}
 use Rattle.wac_ast.specs.declared.let_statement.LetStatement.{LetStatement as CodeLetStatement}
 use Rattle.wac_ast.specs.declared.document.PackageDirective.{PackageDirective as CodePackageDirective}
-use Rattle.wac_syntax.specs.Names.{doc_comment_of, ident_of, package_path_of, extern_name_of, package_name_of}
+use Rattle.wac_ast_base.specs.Names.{doc_comment_of, ident_of, package_path_of, extern_name_of, package_name_of}
 use Rattle.wac_ast.specs.declared.type_statement.TypeStatement.{TypeStatement}
 use Rattle.wac_ast.specs.declared.type_statement.TypeStatement.TheVariants as type_statements
-use Rattle.wac_worlds.specs.Worlds.{import_statement_of, interface_decl_of, world_decl_of}
+use Rattle.wac_ast_worlds.specs.Worlds.{import_statement_of, interface_decl_of, world_decl_of}
 use Rattle.wac_ast.specs.declared.statement.Statement.{Statement as CodeStatement}
 use Rattle.wac_ast.specs.declared.statement.Statement.TheVariants as statements
 use Rattle.wac_ast.specs.declared.document.Document.{Document as CodeDocument}
-use Rattle.wac_declarations.specs.Declarations.{type_decl_of}
-use Rattle.wac_expressions.specs.Expressions.{expr_of}
+use Rattle.wac_ast_types.specs.Declarations.{type_decl_of}
+use Rattle.wac_ast_expressions.specs.Expressions.{expr_of}
 
 abbrev pub export_options_of : CodeExportOptions → tree.ExportOptions
 export_options_of options.None = ExportOptions.none

@@ -2,10 +2,10 @@
 
 ghost use Rattle.std.specs.Prelude.{◌≡◌, ◌<◌, ◌⊎◌, [], map, alloc_error, IfOk, IfErr, OnOk, MatchResult};
 ghost use Rattle.wac_lexer.specs.Reading.{left};
-ghost use Rattle.wac_syntax.specs.declared.error.Error.TheVariants.{Memory};
-ghost use Rattle.wac_syntax.specs.Error.{told_by};
+ghost use Rattle.wac_ast_base.specs.declared.error.Error.TheVariants.{Memory};
+ghost use Rattle.wac_ast_base.specs.Error.{told_by};
 ghost use Rattle.wac_grammar.specs.Tree.{Document as Tree};
-ghost use Rattle.wac_syntax.specs.Answer.{Gives};
+ghost use Rattle.wac_ast_base.specs.Answer.{Gives};
 ghost use Rattle.wac_grammar.specs.TextTree.{IsTreeOf};
 ghost use Rattle.wac_ast.specs.Document.{ErrorOf, Parses};
 ghost use Rattle.wac_grammar.specs.Slices.{DocumentSlices};
@@ -16,11 +16,11 @@ ghost use Rattle.wac_ast.specs.Statements.{directive_of, statement_of, document_
 use crate::statement::Statement;
 use std::alloc::Global;
 use std::fmt;
-use wac_lexer::{Lexer, Token, items_stand_in_order};
-use wac_syntax::{
+use wac_ast_base::{
     DocComment, Error, PackageName, PackagePath, Parse, ParseResult, has_more, parse_after,
     parse_docs, push, take_token,
 };
+use wac_lexer::{Lexer, Token, items_stand_in_order};
 
 /// A document.
 #[derive(Drop)]

@@ -2,17 +2,17 @@
 
 ghost use Rattle.wac_grammar.specs.Grammar as symbols;
 ghost use Rattle.wac_grammar.specs.Reading.{begins};
-ghost use Rattle.wac_syntax.specs.Lookahead.{Peeks};
+ghost use Rattle.wac_ast_base.specs.Lookahead.{Peeks};
 ghost use Rattle.wac_ast.specs.Statements.{let_statement_of};
 
 use std::alloc::Global;
 use std::fmt;
-use wac_expressions::Expr;
-use wac_lexer::{Lexer, Token};
-use wac_syntax::{
+use wac_ast_base::{
     DocComment, Error, Ident, Lookahead, Parse, ParseResult, Peek, parse_before, parse_docs,
     take_token,
 };
+use wac_ast_expressions::Expr;
+use wac_lexer::{Lexer, Token};
 
 /// A binding of a name to an expression.
 #[derive(Drop)]

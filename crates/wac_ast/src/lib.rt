@@ -12,30 +12,30 @@ pub use export::{ExportOptions, ExportStatement};
 pub use let_statement::LetStatement;
 pub use statement::Statement;
 pub use type_statement::TypeStatement;
-pub use wac_declarations::{
+pub use wac_ast_base::{
+    DocComment, Error, ExternName, Ident, Lookahead, PackageName, PackagePath, ParseResult,
+    SegmentSpans, String, parse_optional, parse_token,
+};
+pub use wac_ast_expressions::{
+    AccessExpr, Expr, InstantiationArgument, InstantiationArgumentName, NamedAccessExpr,
+    NamedInstantiationArgument, NestedExpr, NewExpr, PostfixExpr, PrimaryExpr,
+};
+pub use wac_ast_types::{
     Constructor, EnumCase, EnumDecl, Field, Flag, FlagsDecl, FuncType, FuncTypeRef, ItemTypeDecl,
     Method, NamedType, RecordDecl, ResourceDecl, ResourceMethod, ResultList, Type, TypeAlias,
     TypeAliasKind, TypeDecl, VariantCase, VariantDecl, parse_optional_payload,
 };
-pub use wac_expressions::{
-    AccessExpr, Expr, InstantiationArgument, InstantiationArgumentName, NamedAccessExpr,
-    NamedInstantiationArgument, NestedExpr, NewExpr, PostfixExpr, PrimaryExpr,
+pub use wac_ast_worlds::{
+    ExternType, ImportStatement, ImportType, InlineInterface, InterfaceDecl, InterfaceExport,
+    InterfaceItem, NamedWorldItem, Use, UseItem, UsePath, WorldDecl, WorldExport, WorldImport,
+    WorldInclude, WorldIncludeItem, WorldItem, WorldItemPath, WorldRef,
 };
 pub use wac_grammar::{
     arguments_are_refused_at_first_faults, refusals_lie_at_first_faults, tokens_have_texts,
     trees_end_where_they_must, trees_stand_in_their_text, what_is_read_derives,
 };
-pub use wac_syntax::{
-    DocComment, Error, ExternName, Ident, Lookahead, PackageName, PackagePath, ParseResult,
-    SegmentSpans, String, parse_optional, parse_token,
-};
-pub use wac_worlds::{
-    ExternType, ImportStatement, ImportType, InlineInterface, InterfaceDecl, InterfaceExport,
-    InterfaceItem, NamedWorldItem, Use, UseItem, UsePath, WorldDecl, WorldExport, WorldImport,
-    WorldInclude, WorldIncludeItem, WorldItem, WorldItemPath, WorldRef,
-};
 
 /// How each part of a document is parsed.
 pub mod internals {
-    pub use wac_syntax::{Parse, Peek, parsers_stop_at_first_faults};
+    pub use wac_ast_base::{Parse, Peek, parsers_stop_at_first_faults};
 }

@@ -9,9 +9,9 @@ use crate::let_statement::LetStatement;
 use crate::type_statement::TypeStatement;
 use std::alloc::Global;
 use std::fmt;
+use wac_ast_base::{Lookahead, Parse, ParseResult, Peek};
+use wac_ast_worlds::ImportStatement;
 use wac_lexer::Lexer;
-use wac_syntax::{Lookahead, Parse, ParseResult, Peek};
-use wac_worlds::ImportStatement;
 
 /// A statement of a document.
 #[derive(Drop)]

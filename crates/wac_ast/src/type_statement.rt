@@ -2,15 +2,15 @@
 
 ghost use Rattle.wac_grammar.specs.Grammar as symbols;
 ghost use Rattle.wac_grammar.specs.Reading.{begins};
-ghost use Rattle.wac_syntax.specs.Lookahead.{Peeks};
+ghost use Rattle.wac_ast_base.specs.Lookahead.{Peeks};
 ghost use Rattle.wac_ast.specs.Statements.{type_statement_of};
 
 use std::alloc::Global;
 use std::fmt;
-use wac_declarations::TypeDecl;
+use wac_ast_base::{Lookahead, Parse, ParseResult, Peek};
+use wac_ast_types::TypeDecl;
+use wac_ast_worlds::{InterfaceDecl, WorldDecl};
 use wac_lexer::Lexer;
-use wac_syntax::{Lookahead, Parse, ParseResult, Peek};
-use wac_worlds::{InterfaceDecl, WorldDecl};
 
 /// A statement that declares something.
 #[derive(Drop)]

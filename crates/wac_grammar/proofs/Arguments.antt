@@ -1,20 +1,19 @@
 -- Where the reading of an argument is rejected.
-use Rattle.std.proofs.Common.{◌≡◌, ℕ, zero, suc, List, [], ◌∷◌, ◌++◌, map, Result, Ok, Err, Bool, true, false, refl, sym as back, ap, subst, ◌∙◌, ◌⊎◌, inl, inr}
+use Rattle.std.proofs.Common.{◌≡◌, ℕ, zero, suc, List, [], ◌∷◌, ◌++◌, Result, Ok, Err, Bool, true, false, refl, sym as back, ap, ◌∙◌, ◌⊎◌, inl, inr}
 use Rattle.std.proofs.lemmas.List.{append-nil}
 use Rattle.wac_lexer.specs.declared.token.Token.{Token}
 use Rattle.wac_lexer.specs.declared.token.Token.TheVariants as t
-use Rattle.wac_lexer.specs.declared.error.Error.{Error}
 use Rattle.wac_lexer.specs.Item.{Item}
 use Rattle.wac_grammar.specs.Tokens.{is_token}
-use Rattle.wac_grammar.specs.Grammar.{Sym, argument, identifier, expr, rule, token, sym, nothing, or_told, one_among, ◌▸◌, ◌¦◌, perhaps, TreeOf, Parts, Grammar, build, DerivesIn, DerivesBy, Derives}
+use Rattle.wac_grammar.specs.Grammar.{argument, identifier, expr, rule, token, sym, or_told, ◌▸◌, perhaps, TreeOf, Parts, Grammar, build, DerivesIn, DerivesBy}
 use Rattle.wac_grammar.specs.Tree.{Ident}
-use Rattle.wac_grammar.specs.Reading.{Stop, Tried, can, other, read, read_in, begins, first, at_one_of}
+use Rattle.wac_grammar.specs.Reading.{Stop, can, other, read, read_in, at_one_of}
 use Rattle.wac_grammar.specs.Arguments.{IsAlone, CutShort}
 use Rattle.wac_grammar.specs.Stopped.{Stopped}
 use Rattle.wac_grammar.proofs.Fixed.{read_is}
 use Rattle.wac_grammar.proofs.Tables.{at_one_of_head, apart_not}
 use Rattle.wac_grammar.proofs.Complete.{Begins, begins_in, complete_in, by_begins, by_completes}
-use Rattle.wac_grammar.proofs.Refused.{NotWhole, stopped_in}
+use Rattle.wac_grammar.proofs.Refused.{stopped_in}
 
 is_alone : (k : Token) (xs : List Item) → IsAlone k xs ⊎ (IsAlone k xs → ⊥)
 is_alone k [] = inr (λ a. let e = a.1 in absurd cc)

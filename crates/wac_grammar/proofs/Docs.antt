@@ -1,5 +1,5 @@
 -- The docs before a production are those of its first item.
-use Rattle.std.proofs.Common.{◌≡◌, ◌<◌, arith, length, Bool, false, List, [], ◌∷◌, Result, Ok, Err}
+use Rattle.std.proofs.Common.{◌≡◌, ◌<◌, arith, length, false, List, [], ◌∷◌, Ok}
 use Rattle.wac_lexer.specs.declared.token.Token.{Token}
 use Rattle.wac_lexer.specs.Item.{Item, Doc, OnFirst}
 use Rattle.wac_grammar.specs.Grammar.{Sym, TreeOf, docs_of}

@@ -1,8 +1,6 @@
 -- What is asked of a tree is asked of all its leaves.
 use Rattle.std.proofs.Common.{◌↔◌, List, [], ◌∷◌, ◌++◌, Option, Some, None}
 use Rattle.std.specs.List.{AllByRecursion, flat_map}
-use Rattle.wac_lexer.specs.Span.{Span}
-use Rattle.wac_lexer.specs.Item.{Doc}
 use Rattle.wac_grammar.specs.Tree.{Document}
 use Rattle.wac_grammar.specs.Walk.{walk_document}
 use Rattle.wac_grammar.specs.Leaves.{IfThere, Leaf, changed, holds_with_spans, of_leaves, leaves, docs_leaf, of_option, unchanged}

@@ -79,7 +79,7 @@ in_order_spelled source place (x ∷ xs) h = (h.3, in_order_spelled source (end_
 pub document_spelled : (source : List ℕ) (tree : Document) → InOrder source 0 (items source) → IsTreeOf source tree → DocumentSpelled source tree
 document_spelled source tree order i = derived_document (spelled source) no_matter (spelled_items source) (items source) tree (in_order_spelled source 0 (items source) order) i.derives
 
--- the document that is answered
+-- the document that is returned
 pub is_sliced : {D E : Type 0} (view : D → Document) (source : List ℕ) (r : Result D E) → IsUtf8 source → InOrder source 0 (items source) → IfOk r (λ d. IsTreeOf source (view d)) → IfOk r (λ d. DocumentSlices source (view d))
 is_sliced view source (Ok d) utf8 order found = document_slices source (view d) utf8 order found
 is_sliced view source (Err e) utf8 order found = tt

@@ -4,8 +4,8 @@ use Rattle.std.specs.Option.{option_map}
 use Rattle.std.specs.List.{AllByRecursion}
 use Rattle.wac_lexer.specs.Span.{Span}
 use Rattle.wac_lexer.specs.Item.{Doc}
-use Rattle.wac_grammar.specs.Tree.{Ident, String, PackageName, PackagePath, Ty, Document}
-use Rattle.wac_grammar.specs.Walk.{Walk, walk_document}
+use Rattle.wac_grammar.specs.Tree.{Ident, String, PackageName, PackagePath, Document}
+use Rattle.wac_grammar.specs.Walk.{walk_document}
 use Rattle.wac_grammar.specs.Leaves.{IfThere, Change, Asked, changed, holds, holds_with_spans, after, unchanged, asked_after}
 use Rattle.wac_grammar.proofs.Linked.{Link, link_document}
 

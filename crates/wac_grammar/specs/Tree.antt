@@ -1,5 +1,5 @@
 -- Trees, without where they lie in memory. A value of a type of the code has a tree of the type of the same name.
-use Rattle.std.specs.Prelude.{ℕ, ◌-◌, ◌==◌, List, [], ◌∷◌, take, drop, length, Option, Bool, if◌then◌else◌}
+use Rattle.std.specs.Prelude.{ℕ, ◌-◌, ◌==◌, List, [], ◌∷◌, Option, Bool, if◌then◌else◌}
 use Rattle.semver.specs.Parse.{Parts}
 use Rattle.wac_lexer.specs.Span.{Span, span, end_of}
 use Rattle.wac_lexer.specs.Item.{Doc}

@@ -42,12 +42,12 @@ pub fn trees_are_as_their_leaves()
     ensures { (test : Leaf → Bool) (tree : Document) → DocumentPasses test tree ↔ AllByRecursion (λ leaf. test leaf ≡ true) (walk_document leaves docs_leaf tree) }
 {}
 
-/// A refusal lies at the first fault of the part that was to be read, and each token that it names can stand there.
+/// A rejection lies at the first fault of the part that was to be read, and each token that it names can stand there.
 pub fn refusals_lie_at_first_faults()
     ensures { (s : Sym) (items : List Item) (stop : Stop) → s ≢ argument → read s items ≡ Err stop → Stopped s items stop }
 {}
 
-/// So it does where an argument was to be read, but where the input ends behind its dots, which may be all of it.
+/// So it does where an argument was to be read, but where the input ends after its dots, which may be all of it.
 pub fn arguments_are_refused_at_first_faults()
     ensures { (items : List Item) (stop : Stop) → read argument items ≡ Err stop → Stopped argument items stop ⊎ CutShort items stop }
 {}

@@ -34,7 +34,7 @@ unfolding Within
 held_within es [] h = tt
 held_within es (p ∷ ps) h = ((h 0 p refl).of_range, held_within es ps (λ i q is. h (suc i) q is))
 
--- what lies behind all packages wasn't copied
+-- what lies after all packages wasn't copied
 outside : (ps : List HeldPackage) (n i : ℕ) → Within n ps → n ≤ i → copied_at ps i ≡ None
 unfolding copied_at Within
 outside [] n i h le = refl
@@ -143,7 +143,7 @@ own_same ps q n (e ∷ es) h =
     let rest : own_from (ps ++ q ∷ []) (suc n) es ≡ own_from ps (suc n) es = own_same ps q (suc n) es (omega arith) in
     cc
 
--- what lies in a package behind all others was copied from it
+-- what lies in a package after all others was copied from it
 copied_in : (ps : List HeldPackage) (q : HeldPackage) (j : ℕ) → Within q.first ps → j < q.size → copied_at (ps ++ q ∷ []) (q.first + j) ≡ Some (copied q.key j)
 unfolding copied_at Within
 copied_in [] q j h w =

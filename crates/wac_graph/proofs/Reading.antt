@@ -48,7 +48,7 @@ arguments_earlier g i n h = go n.form h.placed
     go (alias node export) p = tt
     go (instantiation q arguments) p = p.earlier
 
--- ---- of answers
+-- ---- of results
 
 pub arguments_are : (g : Parts) (i : ℕ) (n : Node) → slice_get g.nodes i ≡ Some n → arguments_of g i ≡ arguments_in n.form
 arguments_are g i n is = ap (λ (o : Option Node). elim o [ None ↦ [] | Some m ↦ arguments_in m.form ]) is

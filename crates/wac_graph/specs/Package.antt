@@ -30,7 +30,7 @@ same_version (Some v) (Some w) = bytes_eq v w
 abbrev pub same_key : Key → Key → Bool
 same_key a b = bytes_eq a.0 b.0 && same_version a.1 b.1
 
--- what a key's hash is made of: the name, and behind it the text of the version
+-- what a key's hash is made of: the name, and after it the text of the version
 abbrev pub hash_of : Key → ℕ
 hash_of k = sip.finish (fold sip.write sip.initial (fed.str k.0 ++ fed.option fed.str k.1))
 

@@ -39,7 +39,7 @@ use wac_types::{
 /// what is imported and exported under which name; the packages; and one table with the types of all these.
 ///
 /// Nodes, packages and types are only added, so ids stay good. The methods take ids of this very graph. What each
-/// asks beyond that stands in its contract, and the readings tell it. The one refusal is want of memory; it leaves
+/// asks beyond that stands in its contract, and the readings show it. The one error is out of memory; it leaves
 /// all as it was, but that [`add_package`](Self::add_package) may have added types.
 ///
 /// A contract sees the parts: lists of types, packages, nodes, imports and exports.
@@ -168,7 +168,7 @@ impl CompositionGraph {
     /// Adds a package under a new key: its types are copied to the end of the table, where each has a new number.
     ///
     /// A copy means what the package's type means, where the resource of number `i` in the package has the origin of
-    /// its copy. A refusal may leave copied types behind.
+    /// its copy. An error may leave copied types behind.
     pub fn add_package(
         &mut self,
         key: &PackageKey,

@@ -9,7 +9,7 @@
 //! entries name earlier entries by number, and two kinds are the same when they mean the same, whatever their numbers
 //! are. A resource is its origin: two resources of one name are two.
 //!
-//! Building calls take what their contract asks, which the readings tell, and refuse only for want of memory; then
+//! Building calls take what their contract asks, which the readings show, and fail only where memory runs out; then
 //! the graph is as before, but that [`add_package`](CompositionGraph::add_package) may have added types. Contracts
 //! see the graph as its lists, in the order in which things were added.
 #![tactic(auto)]

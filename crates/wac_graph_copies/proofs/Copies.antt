@@ -90,7 +90,7 @@ copied_from o n (e ∷ es) (d ∷ ds) ms ns c len h same i within =
     ])
     i (omega arith)
 
--- the copies behind a table mean what the entries meant by themselves
+-- the copies after a table mean what the entries meant by themselves
 pub copies_mean : (o : ℕ → ℕ) (ts es ds : List Entry) → IsEarlier es → AreCopies (length ts) es ds
     → (i : ℕ) → i < length es → meaning_at o (ts ++ ds) (length ts + i) ≡ meaning_at (λ k. o (length ts + k)) es i
 unfolding meaning_at

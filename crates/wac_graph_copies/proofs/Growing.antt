@@ -93,7 +93,7 @@ copied_names old es now k within g (c ∷ cs) h = (one c.1 h.0, copied_names old
     one None h = tt
     one (Some m) h = copy_named old (take k es) now m g (taken_names k es m within h.0 h.1)
 
--- the first k entries were copied behind a table
+-- the first k entries were copied after a table
 pub record Growing (old es now : List Entry) (k : ℕ) : Type 0 where
   pub copies : IsGrownBy old (take k es) now
   pub table : IsTable now

@@ -124,7 +124,7 @@ fn copy_entry(alloc: Global, n: usize, from: &Entry) -> Result<Entry, AllocError
     }
 }
 
-/// Appends copies of the entries, with the numbers that they then have. A refusal leaves those that were copied
+/// Appends copies of the entries, with the numbers that they then have. An error leaves those that were copied
 /// by then.
 fn copy_entries(alloc: Global, types: &mut Types, from: &[Entry]) -> Result<(), AllocError>
     requires into { IsTable types.old }

@@ -1,4 +1,4 @@
-//! Building calls that look first whether they may be made, and answer the number that they made or changed.
+//! Building calls that look first whether they may be made, and return the number that they made or changed.
 ghost use Rattle.std.specs.Prelude.{◌<◌, IsTrue, IsSome, IfSome, length};
 ghost use Rattle.wac_graph.specs.Graph.{parameter_kind};
 

@@ -2,6 +2,8 @@
 #![tactic(auto)]
 
 #[cfg(test)]
+mod borrows;
+#[cfg(test)]
 mod building;
 #[cfg(test)]
 mod fixture;

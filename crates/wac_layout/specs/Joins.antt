@@ -1,4 +1,4 @@
--- Pieces that join: each is what it is meant to be, has no refused character, and what stands behind a token doesn't go on with it.
+-- Pieces that join: each is what it is meant to be, has no refused character, and what stands after a token doesn't go on with it.
 use Rattle.std.specs.Prelude.{◌≡◌, ◌≢◌, ℕ, Bool, true, false, List, [], ◌∷◌, ◌++◌, Some, None, codes, refl}
 use Rattle.std.specs.List.{AllByRecursion}
 use Rattle.std.specs.Str.{trim}

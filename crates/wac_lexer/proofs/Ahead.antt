@@ -11,7 +11,7 @@ use Rattle.wac_lexer.specs.declared.error.Error.{Error}
 use Rattle.wac_lexer.proofs.Found.{IsSome, none_handed, found_rest, found_ends, first_text, before_last, before_next}
 use Rattle.wac_lexer.proofs.Unfolded.{between_next, items_end, none_left}
 
--- how many scans there are once the item behind this one was looked for
+-- how many scans there are once the item after this one was looked for
 abbrev pub Scanned : Handed → ℕ → ℕ → Type 0
 Scanned item scans more = MatchOption item (more ≡ scans) (λ _. more ≡ scans + 1)
 
@@ -19,7 +19,7 @@ once : (item : Handed) (scans more : ℕ) → Scanned item scans more → more �
 once None scans more s = omega (arith, s)
 once (Some x) scans more s = omega (arith, s)
 
--- the item behind the first is that behind the first of the items
+-- the item after the first is that after the first of the items
 pub second_handed : (source : List ℕ) (place : ℕ) (first second : Handed) (scans : ℕ) → IsAhead source place first second scans → second ≡ handed (behind_first (items_from source place))
 second_handed source place None second scans a = a.second_is.is ∙ sym (ap (λ l. handed (behind_first l)) (none_handed (items_from source place) a.first_is.is))
 second_handed source place (Some x) second scans a = a.second_is.is ∙ ap handed (found_rest source place x a.first_is.is)
@@ -28,7 +28,7 @@ second_handed source place (Some x) second scans a = a.second_is.is ∙ ap hande
 pub counts : (source : List ℕ) (place : ℕ) (last : Span) (x : Result Token Error × Span) (second : Handed) (scans : ℕ) → IsWithin source place last → IsAhead source place (Some x) second scans → length source < 2 ^ 63 → scans + 1 < 2 ^ 64
 counts source place last x second scans w a short = omega (arith, a.bound, before_last source place x a.first_is.is w.between)
 
--- ---- the first item is given, and the item behind the second was looked for
+-- ---- the first item is given, and the item after the second was looked for
 
 pub within_next : (source : List ℕ) (place : ℕ) (last : Span) (x : Result Token Error × Span) (second : Handed) (scans : ℕ) → IsWithin source place last → IsAhead source place (Some x) second scans → IsWithin source (end_of x.1) x.1
 within_next source place last x second scans w a =

@@ -1,4 +1,4 @@
--- No character is cut behind a blank or a comment.
+-- No character is cut after a blank or a comment.
 use Rattle.std.proofs.Common.{◌≡◌, ℕ, zero, suc, ◌+◌, ◌-◌, ◌<◌, ◌≤◌, false, List, ◌∷◌, drop, length, get_or, sym, refl, ap, ◌∙◌, subst, arith, ⊎_elim, Option, Some, None, add-zero, add_assoc, length-append}
 use Rattle.std.proofs.Math.Seq.{get_or-append_seam}
 use Rattle.std.proofs.lemmas.Bool.{cond_both, eqb-false}

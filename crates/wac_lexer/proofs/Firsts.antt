@@ -68,7 +68,7 @@ closed : (body : List ℕ) → NoQuote body → AreBytes body → Matches quoted
 closed body none small =
     (34 ∷ [], body ++ 34 ∷ [], refl, (34, refl, refl), (body, 34 ∷ [], refl, body_bytes body none small, (34, refl, refl)))
 
--- where no front is a token, no other quote follows a quote
+-- where no prefix is a token, no other quote follows a quote
 open_quote : (rest : List ℕ) → AreBytes rest → HasNone (34 ∷ rest) → NoQuote rest
 open_quote rest small none =
     ⊎_elim (λ h. h)
@@ -80,7 +80,7 @@ open_quote rest small none =
     absurd (none (length front) String (omega (arith, ap length split, length-append front h.1)) (subst (IsToken String) (sym is) text)))
     (next_quote rest)
 
--- where no other quote follows a quote, no front is a token
+-- where no other quote follows a quote, no prefix is a token
 quote_last : (body : List ℕ) → NoQuote (body ++ 34 ∷ []) → ⊥
 quote_last [] h = h.0 refl
 quote_last (b ∷ body) h = quote_last body h.1

@@ -77,7 +77,7 @@ fit_in [] t k e h = absurd h
 fit_in (entry ∷ table) t k e (inl h) = (λ i. fits (h.0 i) (h.1 i)) ∙ (and_parts (fits entry.0 entry.1) (all_fit table) e).0
 fit_in (entry ∷ table) t k e (inr h) = fit_in table t k (and_parts (fits entry.0 entry.1) (all_fit table) e).1 h
 
--- what a token needs of the text behind it, and what it gives
+-- what a token needs of the text after it, and what it gives
 abbrev pub Stands : Token → List ℕ → Type 0
 Stands k t = ((u : List ℕ) → follows k u ≡ true → quiet (run Start t) u ≡ true) × (begins_well t k ≡ true)
 
@@ -270,6 +270,6 @@ word_shape t k (string m) same = absurd cc
 word_shape t k (name m) same = absurd cc
 word_shape t k (path m) same = absurd cc
 
--- a word may stand behind a dot
+-- a word may stand after a dot
 pub dot_before_word : (t u : List ℕ) → token_of t ≡ Some tokens.Ident → follows tokens.Dot (t ++ u) ≡ true
 dot_before_word t u e = ap (λ b. b && true) (dot_quiet t u shapes.Word refl (word_shape t tokens.Ident (token_meant t tokens.Ident e) refl))

@@ -1,4 +1,4 @@
--- What may stand behind a token, as the walk over a text finds it.
+-- What may stand after a token, as the walk over a text finds it.
 use Rattle.std.specs.Prelude.{◌≡◌, ℕ, Bool, true, false, ◌&&◌, not, List, [], ◌∷◌, is_some, if◌then◌else◌, codes, refl}
 use Rattle.wac_lexer.specs.declared.token.Token.{Token}
 use Rattle.wac_lexer.specs.declared.token.Token.TheVariants as tokens
@@ -9,7 +9,7 @@ use Rattle.wac_lexer.specs.declared.automaton.State.TheVariants.{Small, Capital,
 use Rattle.wac_lexer.specs.Automaton.{class_of, step_of, shape_at}
 use Rattle.wac_lexer.specs.Comments.{begins, opens}
 
--- the state behind a text
+-- the state after a text
 abbrev pub run : State → List ℕ → State
 run state [] = state
 run state (b ∷ text) = run (step_of state (class_of b)) text
@@ -18,7 +18,7 @@ abbrev pub is_dead : State → Bool
 is_dead Dead = true
 is_dead state = false
 
--- from this state no front of the text leads to a state in which a token ends
+-- from this state no prefix of the text leads to a state in which a token ends
 abbrev pub quiet : State → List ℕ → Bool
 quiet state [] = true
 quiet state (b ∷ text) =
@@ -54,7 +54,7 @@ abbrev pub all_quiet : List State → List ℕ → Bool
 all_quiet [] rest = true
 all_quiet (state ∷ states) rest = quiet state rest && all_quiet states rest
 
--- The rest may stand behind each token of this kind: no front of it goes on with the token, and no comment begins.
+-- The rest may stand after each token of this kind: no prefix of it goes on with the token, and no comment begins.
 abbrev pub follows : Token → List ℕ → Bool
 follows tokens.Slash rest = not (begins 47 47 (47 ∷ rest)) && not (opens (47 ∷ rest))
 follows kind rest = all_quiet (ends kind) rest

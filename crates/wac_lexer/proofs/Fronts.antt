@@ -1,4 +1,4 @@
--- A front in a shape is a token, and ASCII.
+-- A prefix in a shape is a token, and ASCII.
 use Rattle.std.proofs.Common.{◌≡◌, ℕ, zero, suc, ◌+◌, ◌-◌, ◌<◌, ◌≤◌, Bool, true, false, cond, List, [], ◌∷◌, ◌++◌, take, length, get_or, sym, refl, ap, ◌∙◌, subst, inl, inr, ⊎_elim, arith, Option, Some, None, append_assoc}
 use Rattle.std.proofs.lemmas.List.{length_push}
 use Rattle.std.specs.Prelude.{◌&&◌, ◌||◌, nat_eq, nat_lt, nat_le, ◌==◌}
@@ -71,7 +71,7 @@ token_plain text shape none e =
 abbrev pub one_token : ℕ → Option Token → Option (ℕ × Token) → Option (ℕ × Token)
 one_token n token found = elim token [ Some k ↦ Some (n, k) | None ↦ found ]
 
--- the longest front in a shape is the longest one that is a token
+-- the longest prefix in a shape is the longest one that is a token
 abbrev pub Fronts : List ℕ → ℕ → Option (ℕ × Shape) → Option (ℕ × Token) → Type 0
 Fronts text n None found = found ≡ None
 Fronts text n (Some front) found =
@@ -140,7 +140,7 @@ shape_last text shape e = go shape (matches_meant (pattern_of shape) text (shape
     go Quoted h = quoted_last text h
     go Symbol h = ascii_texts symbol refl text h (length text - 1)
 
--- no character is cut behind a front of a text that is ASCII
+-- no character is cut after a prefix of a text that is ASCII
 pub boundary_after_ascii : (text : List ℕ) (n : ℕ) → IsUtf8 text → 0 < n → n ≤ length text → get_or text (n - 1) 0 < 128 → IsCharBoundary text n
 boundary_after_ascii text n utf8 positive h b =
     let back : n - 1 + 1 ≡ n = omega arith in
@@ -151,14 +151,14 @@ front_boundary text n shape utf8 positive h e =
     let last = subst (λ k. get_or (take n text) (k - 1) 0 < 128) (length-take-le n text h) (shape_last (take n text) shape e) in
     boundary_after_ascii text n utf8 positive h (subst (λ b. b < 128) (get_or-take n text (n - 1) 0 (omega arith)) last)
 
--- nor behind blanks
+-- nor after blanks
 pub blank_ascii : (b : ℕ) → is_blank b ≡ true → b < 128
 blank_ascii b e =
     ⊎_elim (λ t. omega (arith, eqb-true b 32 t))
     (λ u. ⊎_elim (λ t. omega (arith, eqb-true b 9 t)) (λ v. ⊎_elim (λ t. omega (arith, eqb-true b 13 t)) (λ t. omega (arith, eqb-true b 10 t)) (or_cases (nat_eq b 13) (nat_eq b 10) v)) (or_cases (nat_eq b 9) (nat_eq b 13 || nat_eq b 10) u))
     (or_cases (nat_eq b 32) (nat_eq b 9 || (nat_eq b 13 || nat_eq b 10)) e)
 
--- what the longest front makes of a text that isn't empty and in which no comment begins
+-- what the longest match makes of a text that isn't empty and in which no comment begins
 pub first_item_is : (text : List ℕ) (found : Option (ℕ × Token)) → (length text == 0) ≡ false → opens text ≡ false → longest_token text (length text) ≡ found → first_item text ≡ with_fault found (fault_of text)
 first_item_is text found e o f =
     (λ i. cond (e i) None (cond (o i) (Some (Err UnterminatedComment, length text)) (with_fault (f i) (fault_of text))))

@@ -1,4 +1,4 @@
--- A token's text before a text that doesn't go on with it is the longest front.
+-- A token's text before a text that doesn't go on with it is the longest match.
 use Rattle.std.proofs.Common.{◌≡◌, ℕ, zero, suc, ◌+◌, ◌<◌, ◌≤◌, Bool, true, false, cond, List, [], ◌∷◌, ◌++◌, take, length, sym, refl, ap, ◌∙◌, subst, ⊎_elim, arith, Option, Some, None, add-zero, zero-add, append_assoc, append-nil}
 use Rattle.std.specs.Prelude.{◌&&◌, not, is_some}
 use Rattle.std.proofs.lemmas.Bool.{and_parts, false≢true, cases_Bool}
@@ -34,7 +34,7 @@ none_is : {A : Type 0} (o : Option A) → is_some o ≡ false → o ≡ None
 none_is None e = refl
 none_is (Some x) e = absurd (false≢true (sym e))
 
--- behind a quiet rest nothing is in a shape
+-- after a quiet rest nothing is in a shape
 pub quiet_none : (front u : List ℕ) (state : State) (m : ℕ) → AreBytes u → Reads state front → quiet state u ≡ true → 0 < m → m ≤ length u → shape_of (front ++ take m u) ≡ None
 quiet_none front [] state m h r q pos fits = absurd (omega arith)
 quiet_none front (b ∷ u) state zero h r q pos fits = absurd (omega arith)
@@ -60,7 +60,7 @@ quiet_none front (b ∷ u) state (suc m) h r q pos fits =
             ∙ shape_is (step_of state (class_of b)) (front ++ b ∷ []) there ∙ none
         last_or (suc k) e none rec = rec (omega arith) (omega arith)
 
--- where no front of more than n bytes is a token
+-- where no prefix of more than n bytes is a token
 pub longest_stays : (text : List ℕ) (n m : ℕ) → ((k : ℕ) → 0 < k → k ≤ m → token_of (take (n + k) text) ≡ None) → longest_token text (n + m) ≡ longest_token text n
 longest_stays text n zero f = ap (longest_token text) (add-zero n)
 longest_stays text n (suc m) f =

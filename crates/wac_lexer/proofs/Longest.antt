@@ -1,4 +1,4 @@
--- The front that is found is the longest that is a token.
+-- The prefix that is found is the longest that is a token.
 use Rattle.std.proofs.Common.{[], ◌∷◌, ◌≡◌, ℕ, zero, suc, ◌<◌, ◌≤◌, List, take, length, refl, sym, ap, ◌∙◌, arith, Option, Some, None, ⊎_elim}
 use Rattle.std.specs.Prelude.{MatchOption}
 use Rattle.std.proofs.lemmas.Bool.{cases_lt}
@@ -7,7 +7,7 @@ use Rattle.wac_lexer.proofs.Sorts.{token_found, token_meant}
 use Rattle.wac_lexer.specs.declared.token.Token.{Token}
 use Rattle.wac_lexer.proofs.Fronts.{one_token}
 
--- what the longest among the first n fronts is
+-- what the longest among the first n prefixes is
 abbrev pub Longest : List ℕ → ℕ → Option (ℕ × Token) → Type 0
 Longest text n None = (m : ℕ) → 0 < m → m ≤ n → token_of (take m text) ≡ None
 Longest text n (Some f) = (0 < f.0) × (f.0 ≤ n) × (token_of (take f.0 text) ≡ Some f.1) × ((m : ℕ) → f.0 < m → m ≤ n → token_of (take m text) ≡ None)

@@ -14,7 +14,7 @@ pub all_passed_on : (old new xs : List ℕ) (at n : ℕ) → new ≡ old ++ take
 all_passed_on old new xs at n e h =
     ap (λ x. new ++ x) (sym (drop_all (at + n) xs (omega (arith, h, length-drop at xs)))) ∙ passed_on old new xs at n e
 
--- bytes are written behind those held
+-- bytes are written after those held
 pub written_behind : (front put rest : List ℕ) (at end n : ℕ) → length front ≡ end → length put ≡ n → at ≤ end
     → drop at (take (end + n) (front ++ (put ++ rest))) ≡ drop at front ++ put
 written_behind front put rest at end n e k h =

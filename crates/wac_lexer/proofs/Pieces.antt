@@ -14,7 +14,7 @@ behind_byte n a b text o c =
       | false ↦ elim (c i) [ true ↦ behind n text | false ↦ behind (suc n) (b ∷ text) ]
     ])
 
--- what stands inside is behind its end
+-- what stands inside is after its end
 byte_step : (n b : ℕ) (text rest : List ℕ) → opens (b ∷ text) ≡ false → closes (b ∷ text) ≡ false → Inside text rest → behind (suc n) (b ∷ text) ≡ behind (suc n) text
 byte_step n b [] rest o c p = elim p [ ]
 byte_step n b (a ∷ text) rest o c p = behind_byte n b a text o c

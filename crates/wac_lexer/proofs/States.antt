@@ -37,7 +37,7 @@ colon_id = Then (byte 58) id
 abbrev slash_id : Pattern
 slash_id = Then (byte 47) id
 
--- the rest of a name and of a path, behind the rest of one of their identifiers
+-- the rest of a name and of a path, after the rest of one of their identifiers
 abbrev name_behind : Part → Pattern → Pattern
 name_behind First rest = Then rest (Then (some colon_id) at_version)
 name_behind (Later Name) rest = Then (Then rest (Many colon_id)) at_version
@@ -261,7 +261,7 @@ reads_dead text more r shape = after_all-append text more (pattern_of shape) ∙
     dead shapes.Quoted = refl
     dead shapes.Symbol = refl
 
--- the longest front with at most one byte more
+-- the longest match with at most one byte more
 abbrev pub one_longer : ℕ → Option Shape → Option (ℕ × Shape) → Option (ℕ × Shape)
 one_longer n shape found = elim shape [ Some s ↦ Some (n, s) | None ↦ found ]
 
@@ -270,7 +270,7 @@ longest_more text n shape e =
     let f : shape_of (take (suc n) text) ≡ shape = subst (λ k. shape_of (take k text) ≡ shape) (add-one n) e in
     subst (λ k. longest text k ≡ one_longer k shape (longest text n)) (sym (add-one n)) (ap (λ s. one_longer (suc n) s (longest text n)) f)
 
--- where nothing continues the first n + 1 bytes, no longer front is in a shape
+-- where nothing continues the first n + 1 bytes, no longer prefix is in a shape
 pub longest_dead : (text : List ℕ) (n m : ℕ) → Reads Dead (take (n + 1) text) → longest text (n + m) ≡ longest text n
 longest_dead text n zero r = ap (longest text) (add-zero n)
 longest_dead text n (suc m) r =

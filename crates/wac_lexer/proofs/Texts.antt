@@ -110,7 +110,7 @@ shape_matches text shape e =
 pub symbol_is_found : (text : List ℕ) → shape_of text ≡ Some Symbol → find text symbols ≡ None → ⊥
 symbol_is_found text e none = find_any symbols text (matches_meant symbol text (shape_matches text Symbol e)) none
 
--- a table behind another
+-- a table after another
 pub find_first : (a b : List (List ℕ × Token)) (text : List ℕ) (token : Token) → find text a ≡ Some token → find text (a ++ b) ≡ Some token
 find_first [] b text token e = let f : None ≡ Some token = e in absurd cc
 find_first (entry ∷ a) b text token e =

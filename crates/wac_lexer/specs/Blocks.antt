@@ -14,6 +14,6 @@ pub record Holding : Type 0 where
   pub before : ℕ
   pub borrow : ℕ
 
--- What such a sink was given. In front stands what no call changes, so that who lends it knows this when it comes back.
+-- What such a sink was given. First stands what no call changes, so that who lends it knows this when it comes back.
 abbrev pub given : Holding → List ℕ
 given h = h.before ∷ (h.borrow ∷ (h.sunk ++ h.held))

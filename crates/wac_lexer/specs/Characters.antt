@@ -51,7 +51,7 @@ pub record IsFirstRefused (text : List ℕ) (fault : Error) (at : Span) : Type 0
   pub is : fault_of character ≡ Some fault
   pub place : at ≡ span (sum_by len_utf8 before) (len_utf8 character)
 
--- an example: TAB passes, and behind it U+202A is refused
+-- an example: TAB passes, and after it U+202A is refused
 override : refused (9 ∷ 0xe2 ∷ 0x80 ∷ 0xaa ∷ []) ≡ Some (DisallowedBidirectionalOverride 0x202a, span 1 3)
 unfolding chars
 override = refl

@@ -35,7 +35,7 @@ no_doc = refl
 abbrev pub doc_of_part : ℕ → List ℕ → List Doc
 doc_of_part place part = elim (doc_text part) [ Some text ↦ record { comment = text; span = span place (length part) } ∷ [] | None ↦ [] ]
 
--- the docs among up to n blanks and comments behind a place
+-- the docs among up to n blanks and comments after a place
 abbrev pub docs_upto : ℕ → List ℕ → ℕ → List Doc
 docs_upto zero source place = []
 docs_upto (suc n) source place =

@@ -1,4 +1,4 @@
--- What the first item of a text is, where the text begins behind a gap.
+-- What the first item of a text is, where the text begins after a gap.
 use Rattle.std.specs.Prelude.{◌≡◌, ◌≢◌, ℕ, false, true, List, ◌∷◌, length, Result, Ok, Err}
 use Rattle.std.specs.List.{AllByRecursion}
 use Rattle.wac_lexer.specs.Comments.{opens}
@@ -13,7 +13,7 @@ abbrev pub IsOpenQuote : List ℕ → Type 0
 IsOpenQuote text = (rest : List ℕ) × (text ≡ 34 ∷ rest) × AllByRecursion (λ b. b ≢ 34) rest
 
 -- Where `/*` begins, a comment without an end takes all that is left. A quote that no other follows is a fault of
--- one byte. Else the longest front that is a token, and where there is none a fault of one character.
+-- one byte. Else the longest prefix that is a token, and where there is none a fault of one character.
 pub data IsFirst : List ℕ → Result Token Error → ℕ → Type 0 where
   comment : {text : List ℕ} → opens text ≡ true → IsFirst text (Err UnterminatedComment) (length text)
   quote : {text : List ℕ} → IsOpenQuote text → IsFirst text (Err UnterminatedString) 1

@@ -1,11 +1,11 @@
--- What may stand behind a token, so that the token is read as it stands.
+-- What may stand after a token, so that the token is read as it stands.
 use Rattle.std.specs.Prelude.{◌≡◌, ℕ, false, List, ◌++◌, length, Some, codes, refl}
 use Rattle.wac_lexer.specs.Comments.{begins, opens}
 use Rattle.wac_lexer.specs.Tokens.{IsLongest, longest_token}
 use Rattle.wac_lexer.specs.declared.token.Token.{Token}
 use Rattle.wac_lexer.specs.declared.token.Token.TheVariants.{Ident, PackageName, PackagePath, Dot, Ellipsis}
 
--- The rest may stand behind the text, which is this token: of the two together the text is the longest front that is a token, and no comment
+-- The rest may stand after the text, which is this token: of the two together the text is the longest prefix that is a token, and no comment
 -- begins with it.
 pub record Follows (token : Token) (text rest : List ℕ) : Type 0 where
   pub longest : IsLongest (text ++ rest) (length text) token

@@ -1,4 +1,4 @@
--- The gap before an item: blanks and comments, one behind another.
+-- The gap before an item: blanks and comments, one after another.
 use Rattle.std.specs.Prelude.{◌≡◌, ◌≢◌, ◌≤◌, ◌⊎◌, ℕ, ◌+◌, true, List, [], ◌∷◌, ◌++◌, drop, length, codes}
 use Rattle.std.specs.List.{concat, AllByRecursion}
 use Rattle.wac_lexer.specs.Comments.{Inside, is_blank}
@@ -30,7 +30,7 @@ abbrev pub Gap : List ℕ → List (List ℕ) → List ℕ → Type 0
 Gap text [] rest = text ≡ rest
 Gap text (part ∷ parts) rest = (next : List ℕ) × (text ≡ part ++ next) × IsPart part next × Gap next parts rest
 
--- the first n bytes of the text are a gap, and no gap at its front is longer
+-- the first n bytes of the text are a gap, and no prefix that is a gap is longer
 pub record IsLongestGap (text : List ℕ) (n : ℕ) : Type 0 where
   pub parts : List (List ℕ)
   pub is : Gap text parts (drop n text)

@@ -35,6 +35,6 @@ abbrev pub OnFirst : List Item → (Item → Type 0) → Type 0
 OnFirst [] P = Unit {0}
 OnFirst (item ∷ items) P = P item
 
--- what a call tells of a documentation comment
+-- what a call says of a documentation comment
 abbrev pub doc_of : Bor (List ℕ) × Span → Doc
 doc_of found = record { comment = found.0.now; span = found.1 }

@@ -1,4 +1,4 @@
--- The items of a source: its tokens and faults, behind blanks and comments.
+-- The items of a source: its tokens and faults, after blanks and comments.
 use Rattle.std.specs.Prelude.{◌≡◌, refl, map, codes, ℕ, zero, suc, ◌+◌, nat_eq, List, [], ◌∷◌, take, drop, length, Option, Some, None, if◌then◌else◌, slice_get, slice_index, ◌==◌, Result, Ok, Err}
 use Rattle.std.specs.Option.{option_map}
 use Rattle.std.specs.Char.{len_utf8}
@@ -24,26 +24,26 @@ fault_of text = if nat_eq (slice_index text 0) 34 then (Err UnterminatedString, 
 abbrev pub with_fault : Option (ℕ × Token) → Result Token Error × ℕ → Option (Result Token Error × ℕ)
 with_fault found fault = elim found [ Some front ↦ Some (Ok front.1, front.0) | None ↦ Some fault ]
 
--- what begins a text, and how many bytes it takes: a comment without an end, the longest front that is a token, or else a fault
+-- what begins a text, and how many bytes it takes: a comment without an end, the longest prefix that is a token, or else a fault
 abbrev pub first_item : List ℕ → Option (Result Token Error × ℕ)
 first_item text =
     if length text == 0 then None
     else (if opens text then Some (Err UnterminatedComment, length text)
     else with_fault (longest_token text (length text)) (fault_of text))
 
--- the first item of a source behind a place
+-- the first item of a source after a place
 abbrev pub item_at : List ℕ → ℕ → Option Item
 item_at source place =
     let start = place + gap (drop place source) in
     let text = drop start source in
     option_map (λ found. record { token = found.0; text = take found.1 text; span = span start found.1; docs = docs_at source place }) (first_item text)
 
--- the first n items behind a place, or all where there are fewer
+-- the first n items after a place, or all where there are fewer
 abbrev pub items_upto : ℕ → List ℕ → ℕ → List Item
 items_upto zero source place = []
 items_upto (suc n) source place = elim (item_at source place) [ Some item ↦ item ∷ items_upto n source (end_of item.span) | None ↦ [] ]
 
--- all items behind a place: each has a byte, so there are no more items than bytes
+-- all items after a place: each has a byte, so there are no more items than bytes
 unfoldable pub items_from : List ℕ → ℕ → List Item
 items_from source place = items_upto (length source) source place
 

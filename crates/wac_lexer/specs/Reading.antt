@@ -64,7 +64,7 @@ pub record Nexts (old : Reading) (item : Handed) (new : Reading) : Type 0 where
   pub once : new.scans ≤ old.scans + 1
   pub ended : behind_first (left old) ≡ [] → new.scans ≡ old.scans
 
--- the place stands between two items of the source: some of them are before it, and the others behind
+-- the place stands between two items of the source: some of them are before it, and the others after
 abbrev pub BetweenItems : List ℕ → ℕ → Type 0
 BetweenItems source place = (before : List Item) × (items source ≡ before ++ items_from source place)
 
@@ -80,12 +80,12 @@ pub record IsFound (source : List ℕ) (items : List Item) (found : Handed) : Ty
   pub slices : IfSome found (λ x. Slices source x.1)
   pub fits : IfSome found (λ x. end_of x.1 < 2 ^ 64)
 
--- the items behind one that was found: none behind the end
+-- the items after one that was found: none after the end
 abbrev pub items_behind : List ℕ → Handed → List Item
 items_behind source None = []
 items_behind source (Some x) = items_from source (end_of x.1)
 
--- what every lexer keeps of the items behind its place: the next two, and how many scans there were at most
+-- what every lexer keeps of the items after its place: the next two, and how many scans there were at most
 pub record IsAhead (source : List ℕ) (place : ℕ) (first second : Handed) (scans : ℕ) : Type 0 where
   pub first_is : IsFound source (items_from source place) first
   pub second_is : IsFound source (items_behind source first) second

@@ -1,4 +1,4 @@
--- Which token a whole text is, and the longest front of a text that is one.
+-- Which token a whole text is, and the longest prefix of a text that is one.
 use Rattle.std.specs.Prelude.{◌≡◌, ◌<◌, ◌≤◌, ◌⊎◌, ℕ, zero, suc, List, [], ◌∷◌, take, length, Option, Some, None, codes, refl, if◌then◌else◌}
 use Rattle.wac_lexer.specs.Pattern.{Matches, matches}
 use Rattle.wac_lexer.specs.Shapes.{id, package_name, package_path, quoted}
@@ -18,7 +18,7 @@ token_of text =
           else (if matches quoted text then Some String else None)))
     ]
 
--- the longest front with at most n bytes that is a token: its length, and which
+-- the longest match with at most n bytes that is a token: its length, and which
 abbrev pub longest_token : List ℕ → ℕ → Option (ℕ × Token)
 longest_token text zero = None
 longest_token text (suc n) = elim (token_of (take (suc n) text)) [ Some token ↦ Some (suc n, token) | None ↦ longest_token text n ]
@@ -36,14 +36,14 @@ pub data IsToken : Token → List ℕ → Type 0 where
   name : {text : List ℕ} → Matches package_name text → IsToken PackageName text
   path : {text : List ℕ} → Matches package_path text → IsToken PackagePath text
 
--- the front of n bytes is this token, and no longer front is any
+-- the prefix of n bytes is this token, and no longer prefix is any
 pub record IsLongest (text : List ℕ) (n : ℕ) (token : Token) : Type 0 where
   pub some : 0 < n
   pub within : n ≤ length text
   pub is : IsToken token (take n text)
   pub longest : (m : ℕ) (other : Token) → n < m → m ≤ length text → ¬ (IsToken other (take m text))
 
--- no front is a token
+-- no prefix is a token
 abbrev pub HasNone : List ℕ → Type 0
 HasNone text = (m : ℕ) (token : Token) → m ≤ length text → ¬ (IsToken token (take m text))
 

@@ -1,4 +1,4 @@
-// Finds the longest front of a text that is in any shape, in one walk over its bytes.
+// Finds the longest prefix of a text that is in any shape, in one walk over its bytes.
 ghost use Rattle.std.specs.Prelude.{◌≡◌, length};
 ghost use Rattle.wac_lexer.specs.Automaton.{class_of, behind_word_of, step_of, shape_of_package, shape_at};
 ghost use Rattle.wac_lexer.specs.Front.{longest};
@@ -48,24 +48,24 @@ enum State {
     Small(Part),
     /// In a word of capital letters.
     Capital(Part),
-    /// An identifier comes, behind `:` in a name or `/` in a path.
+    /// An identifier comes, after `:` in a name or `/` in a path.
     Behind(Package),
     /// The first digit of a version comes.
     Version(Package),
     /// In the first number of a version.
     Digits(Package),
-    /// Behind a point of a version.
+    /// After a point of a version.
     Point(Package),
     /// In a later part of a version.
     Tail(Package),
     /// In a string.
     Inside,
-    /// Behind a string.
+    /// After a string.
     Closed,
     Minus,
     OneDot,
     TwoDots,
-    /// Behind a whole symbol, which nothing continues.
+    /// After a whole symbol, which nothing continues.
     Ended,
     /// No text of any shape begins so.
     Dead,
@@ -94,7 +94,7 @@ fn class_of(byte: u8) -> Class
     }
 }
 
-/// The state behind an identifier's word and a byte that is none of its own.
+/// The state after an identifier's word and a byte that is none of its own.
 fn behind_word(part: Part, class: Class) -> State
     ensures { result ≡ behind_word_of part class }
 {
@@ -117,7 +117,7 @@ fn behind_word(part: Part, class: Class) -> State
     }
 }
 
-/// The state behind the first byte.
+/// The state after the first byte.
 fn at_start(class: Class) -> State
     ensures { result ≡ step_of State.Start class }
 {
@@ -135,7 +135,7 @@ fn at_start(class: Class) -> State
     }
 }
 
-/// The state behind the first byte of a word.
+/// The state after the first byte of a word.
 fn at_word(part: Part, class: Class) -> State
     ensures { result ≡ step_of (State.Joined part) class }
 {
@@ -146,7 +146,7 @@ fn at_word(part: Part, class: Class) -> State
     }
 }
 
-/// The state behind the first byte of an identifier that `:` or `/` comes before.
+/// The state after the first byte of an identifier that `:` or `/` comes before.
 fn at_identifier(kind: Package, class: Class) -> State
     ensures { result ≡ step_of (State.Behind kind) class }
 {
@@ -158,7 +158,7 @@ fn at_identifier(kind: Package, class: Class) -> State
     }
 }
 
-/// The state behind a byte of a word of small letters.
+/// The state after a byte of a word of small letters.
 fn in_small(part: Part, class: Class) -> State
     ensures { result ≡ step_of (State.Small part) class }
 {
@@ -168,7 +168,7 @@ fn in_small(part: Part, class: Class) -> State
     }
 }
 
-/// The state behind a byte of a word of capital letters.
+/// The state after a byte of a word of capital letters.
 fn in_capital(part: Part, class: Class) -> State
     ensures { result ≡ step_of (State.Capital part) class }
 {
@@ -178,7 +178,7 @@ fn in_capital(part: Part, class: Class) -> State
     }
 }
 
-/// The state behind a byte of the first number of a version.
+/// The state after a byte of the first number of a version.
 fn in_digits(kind: Package, class: Class) -> State
     ensures { result ≡ step_of (State.Digits kind) class }
 {
@@ -189,7 +189,7 @@ fn in_digits(kind: Package, class: Class) -> State
     }
 }
 
-/// The state behind the first byte of a later part of a version.
+/// The state after the first byte of a later part of a version.
 fn at_tail(kind: Package, class: Class) -> State
     ensures { result ≡ step_of (State.Point kind) class }
 {
@@ -201,7 +201,7 @@ fn at_tail(kind: Package, class: Class) -> State
     }
 }
 
-/// The state behind a byte of a later part of a version.
+/// The state after a byte of a later part of a version.
 fn in_tail(kind: Package, class: Class) -> State
     ensures { result ≡ step_of (State.Tail kind) class }
 {
@@ -211,7 +211,7 @@ fn in_tail(kind: Package, class: Class) -> State
     }
 }
 
-/// The state behind one more byte.
+/// The state after one more byte.
 fn step(state: State, byte: u8) -> State
     ensures { result ≡ step_of state (class_of byte) }
 {
@@ -274,7 +274,7 @@ fn shape_at(state: State) -> Option<Shape>
     }
 }
 
-/// The longest front that is in any shape.
+/// The longest prefix that is in any shape.
 pub(crate) fn longest_front(bytes: &[u8]) -> Option<(usize, Shape)>
     ensures { result ≡ longest bytes.now (length bytes.now) }
 {

@@ -60,7 +60,7 @@ fn line_len(bytes: &[u8]) -> usize
     bytes.iter().take_while(|byte| **byte != b'\n').count()
 }
 
-/// How many bytes a whole block comment takes at the front, and 0 where there is none.
+/// How many bytes a whole block comment takes at the start, and 0 where there is none.
 fn block_len(bytes: &[u8]) -> usize
     requires { opens bytes.now ≡ true }
     ensures len { result ≡ block_len bytes.now }

@@ -20,7 +20,7 @@ pub trait Sink {
     /// Which borrow the sink is, where it is one. All calls leave it, so a sink that was lent and comes back is known.
     ghost borrow: { Self → ℕ } = { λ _. 0 };
 
-    /// Appends bytes from the front of `part`, and answers how many: none only where `part` is empty.
+    /// Appends bytes from the start of `part`, and returns how many: none only where `part` is empty.
     /// `None` appended nothing.
     fn put(&mut self, part: &[u8]) -> Option<usize>
         ensures puts { PutGives (bytes self.old) (failures self.old) part.now result (bytes self.new) (failures self.new) }
@@ -40,7 +40,7 @@ pub trait Feed {
     /// The bytes that it has yet to give, where they are known.
     ghost left: { Self → Option (List ℕ) };
 
-    /// Puts the next bytes at the front of `part`, and answers how many: none only where `part` is empty, or at the
+    /// Puts the next bytes at the start of `part`, and returns how many: none only where `part` is empty, or at the
     /// end. `None` took nothing.
     fn take(&mut self, part: &mut [u8]) -> Option<usize>
         ensures takes { TakeGives (taken self.old) (failures self.old) part.new result (taken self.new) (failures self.new) }
@@ -206,9 +206,9 @@ impl Sink for Bytes {
     }
 }
 
-/// Puts all of some bytes into a sink, in as many calls as it needs, and tells whether it took them.
+/// Puts all of some bytes into a sink, in as many calls as it needs, and returns whether it took them.
 ///
-/// It ends at the first call that fails. What the sink took by then is a beginning of the bytes, and not the whole.
+/// It ends at the first call that fails. What the sink took by then is a prefix of the bytes, and not the whole.
 pub fn put_all<S: Sink>(sink: &mut S, part: &[u8]) -> bool
     ensures taken { result ≡ true → (S.bytes sink.new ≡ S.bytes sink.old ++ part.now) × (S.failures sink.new ≡ S.failures sink.old) }
     ensures failed { result ≡ false → (n : ℕ) × (n < length part.now) × (S.bytes sink.new ≡ S.bytes sink.old ++ take n part.now) × (S.failures sink.new ≡ S.failures sink.old + 1) }
@@ -217,7 +217,7 @@ pub fn put_all<S: Sink>(sink: &mut S, part: &[u8]) -> bool
     put_until_failure(sink, part) == part.len()
 }
 
-/// Puts bytes into a sink until a call fails, and answers how many it took.
+/// Puts bytes into a sink until a call fails, and returns how many it took.
 fn put_until_failure<S: Sink>(sink: &mut S, part: &[u8]) -> usize
     ensures count { result ≤ length part.now }
     ensures taken { S.bytes sink.new ≡ S.bytes sink.old ++ take result part.now }
@@ -283,7 +283,7 @@ impl<S: Sink> Blocks<S> {
         }
     }
 
-    /// Passes on all that is held, and tells whether the sink below took it.
+    /// Passes on all that is held, and returns whether the sink below took it.
     pub fn flush(&mut self) -> bool
         ensures same { given self.new ≡ given self.old }
         ensures passed { result ≡ true → (self.new.held ≡ []) × (self.new.room ≡ 8192) × (self.new.failures ≡ self.old.failures) }
@@ -303,7 +303,7 @@ impl<S: Sink> Blocks<S> {
         true
     }
 
-    /// Holds bytes from the front of `part`, as many as there is room for, and answers how many.
+    /// Holds bytes from the start of `part`, as many as there is room for, and returns how many.
     fn hold(&mut self, part: &[u8]) -> usize
         ensures count { result ≡ min (length part.now) self.old.room }
         ensures held { self.new ≡ record self.old { held = self.old.held ++ take result part.now; room = self.old.room - result } }

@@ -82,7 +82,7 @@ fn first_item(text: &str) -> Option<(Result<Token, Error>, usize)>
     }
 }
 
-/// Where the first item behind a place begins.
+/// Where the first item after a place begins.
 fn start_of(source: &str, place: usize) -> usize
     requires { IsCharBoundary source.now place }
     ensures start { result ≡ place + gap (drop place source.now) }
@@ -92,7 +92,7 @@ fn start_of(source: &str, place: usize) -> usize
     place + gap(rest.as_bytes())
 }
 
-/// The first item behind a place: the token or fault, and its span.
+/// The first item after a place: the token or fault, and its span.
 fn item_at(source: &str, place: usize) -> Option<Item>
     requires { IsCharBoundary source.now place }
     ensures item { result ≡ handed (items_from source.now place) }
@@ -139,7 +139,7 @@ impl<'a> Scanner<'a> {
         self.scans
     }
 
-    /// Finds the first item behind a place, or that there is none. Either is a scan.
+    /// Finds the first item after a place, or that there is none. Either is a scan.
     fn scan(&mut self, place: usize) -> Option<Item>
         requires boundary { IsCharBoundary self.old.source.now place }
         requires counts { self.old.scans + 1 < 2 ^ 64 }
@@ -151,7 +151,7 @@ impl<'a> Scanner<'a> {
         item_at(self.source, place)
     }
 
-    /// Finds the item behind another. Where there is no other the end was found before, and this is no scan.
+    /// Finds the item after another. Where there is no other the end was found before, and this is no scan.
     pub(crate) fn scan_behind(&mut self, item: Option<Item>) -> Option<Item>
         requires slices { IfSome item (λ x. Slices self.old.source.now x.1) }
         requires fits { IfSome item (λ x. end_of x.1 < 2 ^ 64) }

@@ -19,7 +19,7 @@ use crate::error::Error;
 use crate::span::SourceSpan;
 use crate::token::Token;
 
-/// Reading a text byte by byte tells whether it is one of a pattern's.
+/// Reading a text byte by byte shows whether it is one of a pattern's.
 pub fn patterns_are_decided()
     ensures { (p : Pattern) (text : List ℕ) → matches p text ≡ true ↔ Matches p text }
 {}
@@ -45,7 +45,7 @@ pub fn tokens_are_decided()
     ensures one { (text : List ℕ) (a b : Kind) → IsToken a text → IsToken b text → a ≡ b }
 {}
 
-/// The front that is found is the longest that is a token.
+/// The prefix that is found is the longest that is a token.
 pub fn fronts_are_longest()
     ensures { (text : List ℕ) → MatchOption (longest_token text (length text)) (HasNone text) (λ f. IsLongest text f.0 f.1) }
 {}

@@ -14,7 +14,7 @@ pub type LexerResult<T> = Result<T, Error>;
 /// Reads a source item by item, from its start on.
 ///
 /// An item is a token or a fault, with its span in bytes. Blanks and comments stand between items. A token is the
-/// longest text there that has a token's shape. Behind a fault the lexer goes on. The next two items are kept, so each is
+/// longest text there that has a token's shape. After a fault the lexer goes on. The next two items are kept, so each is
 /// searched for once, however often it is peeked at. No call but `comments` takes memory.
 ///
 /// ```
@@ -61,7 +61,7 @@ impl<'a> Lexer<'a> {
 
     /// A lexer at the start of a source.
     ///
-    /// A source that holds a refused character, in a comment or a string too, is refused as a whole: the error is
+    /// A source that holds a refused character, in a comment or a string too, is rejected as a whole: the error is
     /// that of the first one, with its offset and its length in UTF-8.
     #[tactic(auto, unfolding(crate::specs::Reading::left))]
     pub fn new(source: &'a str) -> Result<Lexer<'a>, (Error, SourceSpan)>
@@ -112,7 +112,7 @@ impl<'a> Lexer<'a> {
 
     /// How many scans there were: at most two more than `next` has given items.
     ///
-    /// A scan is one search for the item at a place, also the one that finds the end. Behind the end there is none, and
+    /// A scan is one search for the item at a place, also the one that finds the end. After the end there is none, and
     /// to read docs is none.
     pub fn scans(&self) -> usize
         ensures count { result ≡ self.now.scans }
@@ -122,11 +122,11 @@ impl<'a> Lexer<'a> {
         self.scanner.scans()
     }
 
-    /// The documentation comments behind the last item, up to the next item or a comment without an end.
+    /// The documentation comments after the last item, up to the next item or a comment without an end.
     ///
     /// `///x` and `/**x*/` give x without the white space around it, and the span of the whole comment. Nothing is
-    /// consumed, so a second call gives the same. The docs behind the last item can be read until `next` gives None,
-    /// and no more from then on: the lexer then stands at the end. The only error is want of memory.
+    /// consumed, so a second call gives the same. The docs after the last item can be read until `next` gives None,
+    /// and no more from then on: the lexer then stands at the end. The only error is out of memory.
     #[tactic(auto, unfolding(crate::specs::Reading::left))]
     pub fn comments(&self, alloc: Global) -> Result<Vec<(&'a str, SourceSpan)>, AllocError>
         ensures docs { IfOk result (λ v. map doc_of v.items ≡ docs_at self.now.source self.now.place) }

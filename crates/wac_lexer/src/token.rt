@@ -7,11 +7,11 @@ use std::fmt;
 /// A kind of token. Its `Display` is what messages call it, as "identifier" or "`import` keyword".
 #[derive(Clone, Copy, Debug, PartialEq, Eq)]
 pub enum Token {
-    /// A line comment. A lexer never answers it.
+    /// A line comment. A lexer never returns it.
     Comment,
-    /// A block comment. A lexer never answers it.
+    /// A block comment. A lexer never returns it.
     BlockComment,
-    /// An identifier: words joined by `-`, perhaps behind `%`.
+    /// An identifier: words joined by `-`, perhaps after `%`.
     Ident,
     /// A text between two quotes, without escapes.
     String,

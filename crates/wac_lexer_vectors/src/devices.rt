@@ -9,7 +9,7 @@ use std::process::Abort;
 use std::test::Fail;
 use wac_lexer::{Blocks, Bytes, Feed, In, Out, Sink, put_all};
 
-/// A writer or a reader of a text. It moves at most `width` bytes a call, fails once it has moved `room`, and tells
+/// A writer or a reader of a text. It moves at most `width` bytes a call, fails once it has moved `room`, and returns
 /// whether what was written is the text.
 #[derive(Drop)]
 struct Narrow<'a> {
@@ -167,7 +167,7 @@ fn bytes(alloc: Global, len: usize) -> Result<Vec<u8>, AllocError> {
     Ok(bytes)
 }
 
-/// Puts a text into blocks over a writer, in parts of a length, and tells whether the writer took all of it.
+/// Puts a text into blocks over a writer, in parts of a length, and returns whether the writer took all of it.
 fn passes(writer: &mut Narrow<'_>, text: &[u8], part: usize) -> bool
     requires { 0 < part }
 {

@@ -26,7 +26,7 @@ const TEXTS: [(&str, &[Row]); 11] = [
     ("///\u{a0}a\u{2003}b\u{3000}\n;", &[("a\u{2003}b", 0, 13)]),
 ];
 
-/// Asserts that these are the docs before the first item. Want of memory is no answer, and changes nothing.
+/// Asserts that these are the docs before the first item. Running out of memory is no result, and changes nothing.
 fn docs_are(rt: &impl Abort, alloc: Global, source: &str, rows: &[Row]) {
     let Ok(mut lexer) = Lexer::new(source) else {
         panic!(rt; "{source} is refused");

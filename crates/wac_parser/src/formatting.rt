@@ -3,38 +3,41 @@ ghost use Rattle.std.specs.Prelude.{◌≡◌, ◌⊎◌, IfOk, IfErr, MatchResu
 ghost use Rattle.wac_grammar.specs.Tree.{Document as Tree};
 ghost use Rattle.wac_grammar.specs.TextTree.{IsTreeOf};
 ghost use Rattle.wac_ast.specs.Document.{ErrorOf};
-ghost use Rattle.wac_syntax.specs.Error.{told_by};
+ghost use Rattle.wac_ast_base.specs.Error.{told_by};
 ghost use Rattle.wac_ast.specs.Statements.{document_of};
-ghost use Rattle.wac_syntax.specs.declared.error.Error.TheVariants.{Memory};
+ghost use Rattle.wac_ast_base.specs.declared.error.Error.TheVariants.{Memory};
 ghost use Rattle.wac_layout.specs.Joins.{AreBlanks};
-ghost use Rattle.wac_layout.specs.Reread.{printed, ReadsBack};
+ghost use Rattle.wac_layout.specs.Reread.{IsFixed, printed, ReadsBack, WasPrinted};
 ghost use Rattle.wac_printer.specs.Printed.{space_of};
 ghost use Rattle.wac_printer.specs.Sliced.{DocumentSliced};
 
 use std::alloc::{AllocError, Global};
 use wac_ast::{Document, Error, ParseResult};
-use wac_layout::printed_texts_read_back;
+use wac_layout::{printed_texts_read_back, printed_texts_stay};
 use wac_lexer::Bytes;
 use wac_printer::{DocumentPrinter, Page, trees_of_texts_can_be_printed};
 
 /// Prints the document of a text in the one layout.
 ///
 /// `space` stands once for each depth where a line begins, four spaces where it is `None`. All that the layout of the source said is
-/// replaced; identifiers, strings and package names keep their spelling, and docs keep their lines. Memory is wanted for the tree and
+/// replaced; identifiers, strings and package names keep their spelling, and docs keep their lines. Memory is taken for the tree and
 /// for the text.
 pub fn format(alloc: Global, source: &str, space: Option<&str>) -> ParseResult<String>
-    // What is answered is printed of the text's tree.
+    // What is returned is printed of the text's tree.
     ensures found { IfOk result (λ text. (tree : Tree) × IsTreeOf source.now tree × (string_bytes text ≡ printed (space_of space.entry) source.now tree)) }
     // Where the text has a tree, it is printed, unless memory runs out.
     ensures only { (tree : Tree) → IsTreeOf source.now tree → MatchResult result (λ text. string_bytes text ≡ printed (space_of space.entry) source.now tree) (λ e. e ≡ Memory alloc_error) }
     // Where blanks stand for a depth, the printed text reads back as the same document, and is fixed from the second time on.
     ensures again { AreBlanks (space_of space.entry) → IfOk result (λ text. (tree : Tree) × IsTreeOf source.now tree × ReadsBack (space_of space.entry) source.now tree (string_bytes text)) }
-    // An error tells of the first place where no document goes on.
+    // Where the source was itself printed, what is returned has a tree that is printed as the result.
+    ensures fixed { AreBlanks (space_of space.entry) → WasPrinted source.now → IfOk result (λ text. IsFixed (space_of space.entry) (string_bytes text)) }
+    // An error reports the first place where no document goes on.
     ensures error { IfErr result (λ e. (e ≡ Memory alloc_error) ⊎ ErrorOf (told_by e) source.now) }
 {
     let document = Document::parse(alloc, source)?;
     trees_of_texts_can_be_printed();
     printed_texts_read_back();
+    printed_texts_stay();
     let page = Page {
         document: &document,
     };

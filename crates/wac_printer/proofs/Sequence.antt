@@ -2,8 +2,8 @@
 use Rattle.std.proofs.Common.{◌≡◌, ℕ, List, [], ◌∷◌, ◌++◌, Result, Ok, Err, ap, sym, map, ◌∙◌, subst}
 use Rattle.std.specs.Result.{IsErrAnd}
 use Rattle.std.proofs.lemmas.Result.{err_from_is_err_and}
-use Rattle.wac_syntax.specs.Names.{doc_comment_of}
-use Rattle.wac_syntax.specs.declared.names.DocComment.{DocComment}
+use Rattle.wac_ast_base.specs.Names.{doc_comment_of}
+use Rattle.wac_ast_base.specs.declared.names.DocComment.{DocComment}
 use Rattle.wac_layout.specs.Bare.{doc_lines}
 use Rattle.wac_layout.specs.Parts.{docs_layout, joined, rows}
 use Rattle.wac_printer.specs.declared.error.PrintError.{PrintError}

@@ -12,9 +12,9 @@ use Rattle.wac_layout.specs.TypeLayout.{ty_layout, types_layout, further_types_l
 use Rattle.wac_lexer.specs.Span.{Span}
 use Rattle.wac_grammar.specs.Tree as tree
 use Rattle.wac_grammar.specs.Tree.{types_from}
-use Rattle.wac_declarations.specs.Types.{ty_of, types_of_row}
-use Rattle.wac_declarations.specs.declared.types.«Type».TheViews.{sized-Tuple}
-use Rattle.wac_declarations.specs.declared.types.«Type».{«Type», Tuple, Tuple', Row_of-Type, end_of-Type, more_of-Type, items-the_row-Type, items_hidden-the_row-Type-0, size-Type}
+use Rattle.wac_ast_types.specs.Types.{ty_of, types_of_row}
+use Rattle.wac_ast_types.specs.declared.types.«Type».TheViews.{sized-Tuple}
+use Rattle.wac_ast_types.specs.declared.types.«Type».{«Type», Tuple, Tuple', Row_of-Type, end_of-Type, more_of-Type, items-the_row-Type, items_hidden-the_row-Type-0, size-Type}
 
 of_row : (n : _) (row : Row_of-Type n) → types_of_row row ≡ types_from (map ty_of (items-the_row-Type n row))
 of_row _ end_of-Type = refl

@@ -2,11 +2,11 @@
 ghost use Rattle.std.specs.List.{All};
 ghost use Rattle.std.specs.Prelude.{List, [], ◌∷◌, ◌++◌, codes, map};
 ghost use Rattle.std.specs.Option.{option_map};
-ghost use Rattle.wac_declarations.specs.Declarations.{named_type_of, type_alias_kind_of, field_of, record_decl_of, type_alias_of, variant_case_of, variant_decl_of};
-ghost use Rattle.wac_declarations.specs.Declarations.{constructor_of, item_type_decl_of, method_of, resource_decl_of, resource_method_of, type_decl_of};
-ghost use Rattle.wac_declarations.specs.Declarations.{enum_case_of, enum_decl_of, flag_of, flags_decl_of};
-ghost use Rattle.wac_syntax.specs.Names.{ident_of};
-ghost use Rattle.wac_declarations.specs.Types.{ty_of};
+ghost use Rattle.wac_ast_types.specs.Declarations.{named_type_of, type_alias_kind_of, field_of, record_decl_of, type_alias_of, variant_case_of, variant_decl_of};
+ghost use Rattle.wac_ast_types.specs.Declarations.{constructor_of, item_type_decl_of, method_of, resource_decl_of, resource_method_of, type_decl_of};
+ghost use Rattle.wac_ast_types.specs.Declarations.{enum_case_of, enum_decl_of, flag_of, flags_decl_of};
+ghost use Rattle.wac_ast_base.specs.Names.{ident_of};
+ghost use Rattle.wac_ast_types.specs.Types.{ty_of};
 ghost use Rattle.wac_layout.specs.Printed.{token};
 ghost use Rattle.wac_printer.specs.Printed.{Prints};
 ghost use Rattle.wac_grammar.specs.Leaves.{IfThere};

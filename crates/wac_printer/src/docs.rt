@@ -3,7 +3,7 @@ ghost use Rattle.std.specs.Prelude.{◌≡◌, ℕ, List, [], ◌∷◌, ◌++�
 ghost use Rattle.std.specs.List.{flat_map};
 ghost use Rattle.std.specs.Str.{trim};
 ghost use Rattle.std.specs.Str.Lines.{lines};
-ghost use Rattle.wac_syntax.specs.Names.{doc_comment_of};
+ghost use Rattle.wac_ast_base.specs.Names.{doc_comment_of};
 ghost use Rattle.wac_layout.specs.Printed.{doc};
 ghost use Rattle.wac_printer.specs.Printed.{Prints};
 ghost use Rattle.wac_layout.specs.Bare.{doc_line, doc_lines};

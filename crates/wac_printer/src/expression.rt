@@ -2,8 +2,8 @@
 ghost use Rattle.std.specs.Prelude.{◌≡◌, true, false, List, [], ◌∷◌, ◌++◌, codes, map};
 ghost use Rattle.std.specs.List.{All, flat_map};
 ghost use Rattle.wac_grammar.specs.Tree.{arguments_from};
-ghost use Rattle.wac_expressions.specs.Expressions.{access_expr_of, argument_name_of, argument_of, expr_of, named_access_expr_of, new_expr_of, postfix_expr_of, primary_expr_of};
-ghost use Rattle.wac_syntax.specs.Names.{package_name_of};
+ghost use Rattle.wac_ast_expressions.specs.Expressions.{access_expr_of, argument_name_of, argument_of, expr_of, named_access_expr_of, new_expr_of, postfix_expr_of, primary_expr_of};
+ghost use Rattle.wac_ast_base.specs.Names.{package_name_of};
 ghost use Rattle.wac_layout.specs.Printed.{token, line, deeper};
 ghost use Rattle.wac_printer.specs.Printed.{Prints};
 ghost use Rattle.wac_printer.specs.Sliced.{AccessExprSliced, ArgumentNameSliced, ArgumentSliced, ArgumentsSliced, ExprSliced, NamedAccessExprSliced, PackageNameSliced, PostfixExprSliced, PrimaryExprSliced};

@@ -1,7 +1,7 @@
 //! The printer: how it is made, and what it writes with.
 ghost use Rattle.std.specs.Prelude.{◌≡◌, ◌≤◌, ◌+◌, ℕ, List, [], ◌∷◌, ◌++◌, true, false, Option, Some, None, unwrap_or, codes, length, take, drop};
 ghost use Rattle.wac_lexer.specs.Reading.{slice, Slices};
-ghost use Rattle.wac_syntax.specs.Names.{ident_of, string_of, package_name_of, package_path_of};
+ghost use Rattle.wac_ast_base.specs.Names.{ident_of, string_of, package_name_of, package_path_of};
 ghost use Rattle.wac_layout.specs.Bare.{bare_package_path};
 ghost use Rattle.wac_layout.specs.TypeLayout.{package_path_layout};
 ghost use Rattle.wac_printer.specs.Sliced.{IdentSliced, StringSliced, PackageNameSliced, PackagePathSliced};

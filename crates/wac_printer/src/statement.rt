@@ -3,11 +3,12 @@ ghost use Rattle.std.specs.List.{All};
 ghost use Rattle.std.specs.Prelude.{◌≡◌, map};
 ghost use Rattle.std.specs.Option.{option_map};
 ghost use Rattle.wac_ast.specs.Statements.{directive_of, export_options_of, export_statement_of, let_statement_of};
-ghost use Rattle.wac_syntax.specs.Names.{extern_name_of, package_path_of};
+ghost use Rattle.wac_ast_base.specs.Names.{extern_name_of, package_path_of};
 ghost use Rattle.wac_ast.specs.Statements.{document_of, statement_of};
-ghost use Rattle.wac_worlds.specs.Worlds.{import_statement_of, import_type_of};
+ghost use Rattle.wac_ast_worlds.specs.Worlds.{import_statement_of, import_type_of};
 ghost use Rattle.wac_ast.specs.Statements.{type_statement_of};
 ghost use Rattle.wac_printer.specs.Printed.{Prints};
+ghost use Rattle.wac_printer.specs.ReadBack.{IsReadBack};
 ghost use Rattle.wac_grammar.specs.Leaves.{IfThere};
 ghost use Rattle.wac_printer.specs.Sliced.{DirectiveSliced, DocumentSliced, ExportOptionsSliced, ExportStatementSliced, ExternNameSliced, ImportStatementSliced, ImportTypeSliced, LetStatementSliced, PackagePathSliced, StatementSliced, TypeStatementSliced};
 ghost use Rattle.wac_layout.specs.Bare.{bare_directive, bare_document, bare_export_options, bare_export_statement, bare_extern_name, bare_import_statement, bare_import_type, bare_let_statement, bare_package_path, bare_statement, bare_type_statement, doc_lines};
@@ -15,6 +16,7 @@ ghost use Rattle.wac_layout.specs.StatementLayout.{directive_layout, document_la
 ghost use Rattle.wac_layout.specs.Parts.{spaced};
 
 use crate::error::PrintResult;
+use crate::laws::printed_documents_read_back;
 use crate::lists::Node;
 use crate::printer::DocumentPrinter;
 use std::marker::Model;
@@ -47,8 +49,8 @@ pub struct Page<'t, 'a> {
 impl<'t, 'a> Model for Page<'t, 'a> {
     ghost use Rattle.std.specs.Prelude.{[]};
     ghost use Rattle.std.specs.Coded.{codes};
-    ghost use Rattle.wac_declarations.specs.contracts.types.«Type» as ty;
-    ghost use Rattle.wac_expressions.specs.contracts.expr.PrimaryExpr as primary;
+    ghost use Rattle.wac_ast_types.specs.contracts.types.«Type» as ty;
+    ghost use Rattle.wac_ast_expressions.specs.contracts.expr.PrimaryExpr as primary;
     ghost use mir.Syntax.{erased};
     ghost use Rattle.wac_ast.specs.declared.document.Document.{Document};
 
@@ -70,8 +72,8 @@ struct Statements<'t, 'a> {
 impl<'t, 'a> Model for Statements<'t, 'a> {
     ghost use Rattle.std.specs.Prelude.{List, []};
     ghost use Rattle.std.specs.Coded.{codes};
-    ghost use Rattle.wac_declarations.specs.contracts.types.«Type» as ty;
-    ghost use Rattle.wac_expressions.specs.contracts.expr.PrimaryExpr as primary;
+    ghost use Rattle.wac_ast_types.specs.contracts.types.«Type» as ty;
+    ghost use Rattle.wac_ast_expressions.specs.contracts.expr.PrimaryExpr as primary;
     ghost use mir.Syntax.{erased};
     ghost use Rattle.wac_ast.specs.declared.statement.Statement.{Statement};
 
@@ -101,10 +103,15 @@ impl<'t, 'a> Statements<'t, 'a> {
 #[tactic(auto, using(crate::proofs::Steps::lists))]
 impl<'a, S: Sink> DocumentPrinter<'a, S> {
     /// Prints a document.
+    ///
+    /// What a new printer writes of the tree of its source reads back as the same document, where its space consists of
+    /// blanks, TAB, CR and LF.
     pub fn document(&mut self, document: &Document<'_>) -> PrintResult
         requires { DocumentSliced self.old.source (document_of document.now) }
-        ensures { Prints self.old result self.new (document_layout self.old.depth (bare_document doc_lines self.old.source (document_of document.now))) }
+        ensures prints { Prints self.old result self.new (document_layout self.old.depth (bare_document doc_lines self.old.source (document_of document.now))) }
+        ensures reads_back { IsReadBack self.old result self.new (document_of document.now) }
     {
+        printed_documents_read_back();
         self.page(Page { document })
     }
 

@@ -1,9 +1,9 @@
 //! Printing types.
 ghost use Rattle.std.specs.Prelude.{◌≡◌, List, [], ◌∷◌, ◌++◌, codes, map};
 ghost use Rattle.std.specs.List.{All, flat_map};
-ghost use Rattle.wac_syntax.specs.Names.{extern_name_of, ident_of};
-ghost use Rattle.wac_declarations.specs.Declarations.{func_type_of, func_type_ref_of, named_type_of, result_list_of};
-ghost use Rattle.wac_declarations.specs.Types.{ty_of};
+ghost use Rattle.wac_ast_base.specs.Names.{extern_name_of, ident_of};
+ghost use Rattle.wac_ast_types.specs.Declarations.{func_type_of, func_type_ref_of, named_type_of, result_list_of};
+ghost use Rattle.wac_ast_types.specs.Types.{ty_of};
 ghost use Rattle.wac_layout.specs.Printed.{token};
 ghost use Rattle.wac_printer.specs.Printed.{Prints};
 ghost use Rattle.wac_printer.specs.Sliced.{IdentSliced, ExternNameSliced, FuncTypeRefSliced, FuncTypeSliced, NamedTypeSliced, ResultListSliced, TySliced};

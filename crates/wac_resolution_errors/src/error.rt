@@ -287,7 +287,7 @@ pub enum Error {
     MismatchedInstantiationArg {
         /// The name of the argument.
         name: String,
-        /// Why not, as the rules answered.
+        /// Why not, as the rules returned.
         source: Reason,
         /// The argument.
         span: SourceSpan,
@@ -370,7 +370,7 @@ pub enum Error {
         name: String,
         /// Whether it is an import or an export.
         kind: ExternKind,
-        /// Why not, as the rules answered.
+        /// Why not, as the rules returned.
         source: Reason,
         /// The name.
         span: SourceSpan,
@@ -429,7 +429,7 @@ pub enum Error {
         name: String,
         /// The path of the target.
         world: String,
-        /// Why not, as the rules answered.
+        /// Why not, as the rules returned.
         source: Reason,
         /// The name, or `None` where an instantiation imports it.
         span: Option<SourceSpan>,
@@ -438,7 +438,7 @@ pub enum Error {
     Memory(AllocError),
 }
 
-/// What resolving answers.
+/// What resolving returns.
 pub type ResolutionResult<T> = Result<T, Error>;
 
 impl fmt::Display for Error {

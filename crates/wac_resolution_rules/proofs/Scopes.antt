@@ -17,7 +17,7 @@ use Rattle.wac_resolution_rules.specs.Worlds.{HasInterfaceItem, HasExtern, HasWo
 use Rattle.wac_resolution_rules.proofs.StepLaws.{steps_keep}
 
 -- a name is fresh with one more exactly where it is fresh without, and is another name
-fresh_before : {X : Type 0} (name : List ℕ) (all : Named X) (x : List ℕ) (v : X) → IsFresh name (with_named all x v) → IsFresh name all × (bytes_eq name x ≡ false)
+pub fresh_before : {X : Type 0} (name : List ℕ) (all : Named X) (x : List ℕ) (v : X) → IsFresh name (with_named all x v) → IsFresh name all × (bytes_eq name x ≡ false)
 fresh_before name [] x v h = (refl, go (bytes_eq name x) refl h)
   where
     go : (b : Bool) → bytes_eq name x ≡ b → cond b (Some v) None ≡ None → bytes_eq name x ≡ false
@@ -29,7 +29,7 @@ fresh_before {X} name (y ∷ all) x v h = go (fresh_before name all x v) (bytes_
     go later true f = absurd (cc)
     go later false f = later f
 
-fresh_after : {X : Type 0} (name : List ℕ) (all : Named X) (x : List ℕ) (v : X) → IsFresh name all → bytes_eq name x ≡ false → IsFresh name (with_named all x v)
+pub fresh_after : {X : Type 0} (name : List ℕ) (all : Named X) (x : List ℕ) (v : X) → IsFresh name all → bytes_eq name x ≡ false → IsFresh name (with_named all x v)
 fresh_after name [] x v h other = ap (λ (b : Bool). cond b (Some v) None) other
 fresh_after {X} name (y ∷ all) x v h other = go (λ f. fresh_after name all x v f other) (bytes_eq name y.0) h
   where

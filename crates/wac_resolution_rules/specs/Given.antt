@@ -18,6 +18,10 @@ pub record Rules : Type 0 where
   -- may this be the name of an import or export
   pub named : List ℕ → Option Reason
 
+-- rules that test by these two
+abbrev pub rules_by : (Meaning → Meaning → Option Reason) → (List ℕ → Option Reason) → Rules
+rules_by passes named = record { passes = passes; named = named }
+
 pub record Given : Type 0 where
   pub setting : Setting
   pub rules : Rules

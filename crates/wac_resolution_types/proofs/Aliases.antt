@@ -13,14 +13,14 @@ use Rattle.wac_types.specs.Shape.{alias_type}
 use Rattle.wac_graph.specs.Graph.{Parts}
 use Rattle.wac_graph.specs.Means.{means, entry_means, declared_count}
 use Rattle.wac_graph.specs.Origin.{Naming}
-use Rattle.wac_syntax.specs.declared.names.Ident.{Ident as CodeIdent}
-use Rattle.wac_declarations.specs.Types.{ty_of}
-use Rattle.wac_declarations.specs.Declarations.{func_type_of, type_alias_kind_of}
-use Rattle.wac_declarations.specs.declared.types.Type as code
-use Rattle.wac_declarations.specs.declared.types.«Type».{«Type»}
-use Rattle.wac_declarations.specs.declared.func_type.FuncType.{FuncType}
-use Rattle.wac_declarations.specs.declared.type_alias.TypeAliasKind.{TypeAliasKind}
-use Rattle.wac_declarations.specs.declared.type_alias.TypeAliasKind.TheVariants as aliases
+use Rattle.wac_ast_base.specs.declared.names.Ident.{Ident as CodeIdent}
+use Rattle.wac_ast_types.specs.Types.{ty_of}
+use Rattle.wac_ast_types.specs.Declarations.{func_type_of, type_alias_kind_of}
+use Rattle.wac_ast_types.specs.declared.types.Type as code
+use Rattle.wac_ast_types.specs.declared.types.«Type».{«Type»}
+use Rattle.wac_ast_types.specs.declared.func_type.FuncType.{FuncType}
+use Rattle.wac_ast_types.specs.declared.type_alias.TypeAliasKind.{TypeAliasKind}
+use Rattle.wac_ast_types.specs.declared.type_alias.TypeAliasKind.TheVariants as aliases
 use Rattle.wac_resolution_errors.specs.Error.{Error}
 use Rattle.wac_resolution_rules.specs.Types.{HasType, IsFuncWith}
 use Rattle.wac_resolution_rules.specs.Declarations.{alone, IsTypeAlias, IsAlias}

@@ -19,8 +19,8 @@ use Rattle.wac_types.specs.Table.{Names}
 use Rattle.wac_graph.specs.Graph.{Parts}
 use Rattle.wac_graph.specs.Means.{entry_means}
 use Rattle.wac_graph.specs.Origin.{Naming}
-use Rattle.wac_declarations.specs.Types.{ty_of}
-use Rattle.wac_declarations.specs.declared.types.«Type».{«Type»}
+use Rattle.wac_ast_types.specs.Types.{ty_of}
+use Rattle.wac_ast_types.specs.declared.types.«Type».{«Type»}
 use Rattle.wac_resolution_errors.specs.Error.{Error}
 use Rattle.wac_resolution_rules.specs.Declarations.{HasFlag, HasEnumCase, IsVariant, IsRecord, IsFlags, IsEnum}
 use Rattle.wac_resolution_rules.specs.BrokenTypes.{TypeBroken}

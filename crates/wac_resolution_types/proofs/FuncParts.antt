@@ -24,11 +24,11 @@ use Rattle.wac_graph.specs.Graph.{Parts}
 use Rattle.wac_graph.specs.Means.{means, entry_means, origin_at}
 use Rattle.wac_graph.specs.Origin.{Naming}
 use Rattle.wac_graph.proofs.Origins.{means_is}
-use Rattle.wac_declarations.specs.Types.{ty_of}
-use Rattle.wac_declarations.specs.Declarations.{result_list_of}
-use Rattle.wac_declarations.specs.declared.types.«Type».{«Type»}
-use Rattle.wac_declarations.specs.declared.func_type.ResultList.{ResultList as CodeResultList}
-use Rattle.wac_declarations.specs.declared.func_type.ResultList.TheVariants as results
+use Rattle.wac_ast_types.specs.Types.{ty_of}
+use Rattle.wac_ast_types.specs.Declarations.{result_list_of}
+use Rattle.wac_ast_types.specs.declared.types.«Type».{«Type»}
+use Rattle.wac_ast_types.specs.declared.func_type.ResultList.{ResultList as CodeResultList}
+use Rattle.wac_ast_types.specs.declared.func_type.ResultList.TheVariants as results
 use Rattle.wac_resolution_errors.specs.Error.{Error, borrow_in_result, memory}
 use Rattle.wac_resolution_rules.specs.Types.{HasResults, IsFuncWith, first_params}
 use Rattle.wac_resolution_rules.specs.BrokenTypes.{TypeBroken, ParamsBroken, ResultsBroken, FuncBroken}

@@ -9,8 +9,8 @@ use Rattle.wac_types.specs.Scope.{Named}
 use Rattle.wac_graph.specs.Graph.{Parts}
 use Rattle.wac_graph.specs.Means.{declared_count}
 use Rattle.wac_graph.specs.Origin.{Naming}
-use Rattle.wac_declarations.specs.Declarations.{type_decl_of}
-use Rattle.wac_declarations.specs.declared.type_decl.TypeDecl.{TypeDecl}
+use Rattle.wac_ast_types.specs.Declarations.{type_decl_of}
+use Rattle.wac_ast_types.specs.declared.type_decl.TypeDecl.{TypeDecl}
 use Rattle.wac_resolution_errors.specs.Error.{Error}
 use Rattle.wac_resolution_rules.specs.Declarations.{IsTypeDecl}
 use Rattle.wac_resolution_rules.specs.BrokenDeclarations.{TypeDeclBroken}

@@ -21,10 +21,10 @@ use Rattle.wac_types.specs.Table.{Names, ItemsNamed}
 use Rattle.wac_graph.specs.Graph.{Parts}
 use Rattle.wac_graph.specs.Means.{means, entry_means}
 use Rattle.wac_graph.specs.Origin.{Naming}
-use Rattle.wac_declarations.specs.Types.{ty_of, optional_of}
-use Rattle.wac_declarations.proofs.TypeParts.{tuple_is as tuple_tree, result_is as result_tree, stream_is as stream_tree, future_is as future_tree}
-use Rattle.wac_declarations.specs.declared.types.Type as code
-use Rattle.wac_declarations.specs.declared.types.«Type».{«Type»}
+use Rattle.wac_ast_types.specs.Types.{ty_of, optional_of}
+use Rattle.wac_ast_types.proofs.TypeParts.{tuple_is as tuple_tree, result_is as result_tree, stream_is as stream_tree, future_is as future_tree}
+use Rattle.wac_ast_types.specs.declared.types.Type as code
+use Rattle.wac_ast_types.specs.declared.types.«Type».{«Type»}
 use Rattle.wac_resolution_errors.specs.Error.{Error, memory}
 use Rattle.wac_resolution_rules.specs.Types.{HasType, HasOptional, HaveTypes}
 use Rattle.wac_resolution_rules.specs.BrokenTypes.{TypeBroken, OptionalBroken, TypesBroken}

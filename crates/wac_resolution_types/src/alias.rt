@@ -6,9 +6,9 @@ ghost use Rattle.wac_grammar.specs.Tree.{Ty};
 ghost use Rattle.wac_types.specs.Meaning.{Meaning};
 ghost use Rattle.wac_types.specs.Shape.{alias_type};
 ghost use Rattle.wac_types.specs.Table.{ItemsNamed, Names as NamesEntry};
-ghost use Rattle.wac_syntax.specs.Names.{ident_of};
-ghost use Rattle.wac_declarations.specs.Types.{ty_of};
-ghost use Rattle.wac_declarations.specs.Declarations.{type_alias_kind_of};
+ghost use Rattle.wac_ast_base.specs.Names.{ident_of};
+ghost use Rattle.wac_ast_types.specs.Types.{ty_of};
+ghost use Rattle.wac_ast_types.specs.Declarations.{type_alias_kind_of};
 ghost use Rattle.wac_graph.specs.Means.{declared_count};
 ghost use Rattle.wac_graph.specs.Origin.{Naming};
 ghost use Rattle.wac_resolution_errors.specs.Error.{memory};
@@ -27,10 +27,10 @@ use crate::place::Place;
 use crate::state::State;
 use indexmap::IndexMap;
 use std::alloc::AllocError;
-use wac_declarations::{Type as TypeTree, TypeAliasKind};
+use wac_ast_base::Ident;
+use wac_ast_types::{Type as TypeTree, TypeAliasKind};
 use wac_graph::{DefinedType, FuncKind, ItemKind, Type, ValueType};
 use wac_resolution_errors::Error;
-use wac_syntax::Ident;
 
 /// The identifier that a type is.
 #[tactic(auto, using(crate::proofs::Aliases::not_alone))]

@@ -3,8 +3,8 @@ ghost use Rattle.std.specs.Prelude.{◌≡◌, false, IfOk, IfErr, OnOk, map, st
 ghost use Rattle.std.specs.List.{list_any};
 ghost use Rattle.std.specs.Str.{bytes_eq};
 ghost use Rattle.wac_types.specs.Steps.{Steps, Fails};
-ghost use Rattle.wac_syntax.specs.Names.{ident_of};
-ghost use Rattle.wac_declarations.specs.Declarations.{flag_of, flags_decl_of, enum_case_of, enum_decl_of};
+ghost use Rattle.wac_ast_base.specs.Names.{ident_of};
+ghost use Rattle.wac_ast_types.specs.Declarations.{flag_of, flags_decl_of, enum_case_of, enum_decl_of};
 ghost use Rattle.wac_resolution_errors.specs.Told.{told};
 ghost use Rattle.wac_resolution_rules.specs.Declarations.{HasFlag, HasEnumCase, IsFlags, IsEnum};
 ghost use Rattle.wac_resolution_rules.specs.BrokenDeclarations.{IsRepeatedFlag, IsRepeatedEnumCase, FlagsBroken, EnumBroken};
@@ -13,11 +13,11 @@ ghost use Rattle.wac_resolution_types.specs.Declarations.{names_alone, ValueAdde
 use crate::state::State;
 use indexmap::IndexSet;
 use std::alloc::Global;
-use wac_declarations::{EnumCase, EnumDecl, Flag, FlagsDecl};
+use wac_ast_base::Ident;
+use wac_ast_types::{EnumCase, EnumDecl, Flag, FlagsDecl};
 use wac_graph::names::push_name;
 use wac_graph::{DefinedType, ValueType};
 use wac_resolution_errors::Error;
-use wac_syntax::Ident;
 
 /// Whether a name is one of the names.
 fn has_name(all: &IndexSet<String>, name: &str) -> bool

@@ -9,9 +9,9 @@ ghost use Rattle.wac_types.specs.Names.{by_name};
 ghost use Rattle.wac_types.specs.Scope.{IsFresh};
 ghost use Rattle.wac_types.specs.Shape.{contains_borrow as has_borrow};
 ghost use Rattle.wac_types.specs.Table.{ItemsNamed, Names as NamesEntry};
-ghost use Rattle.wac_syntax.specs.Names.{ident_of};
-ghost use Rattle.wac_declarations.specs.Types.{ty_of};
-ghost use Rattle.wac_declarations.specs.Declarations.{named_type_of, result_list_of, func_type_of};
+ghost use Rattle.wac_ast_base.specs.Names.{ident_of};
+ghost use Rattle.wac_ast_types.specs.Types.{ty_of};
+ghost use Rattle.wac_ast_types.specs.Declarations.{named_type_of, result_list_of, func_type_of};
 ghost use Rattle.wac_graph.specs.Graph.{Parts};
 ghost use Rattle.wac_graph.specs.Means.{means, entry_means};
 ghost use Rattle.wac_graph.specs.Origin.{Naming};
@@ -29,11 +29,11 @@ use crate::names::Names;
 use crate::state::State;
 use indexmap::IndexMap;
 use std::alloc::{AllocError, Global};
-use wac_declarations::{FuncType, NamedType, ResultList, Type};
+use wac_ast_base::Ident;
+use wac_ast_types::{FuncType, NamedType, ResultList, Type};
 use wac_graph::names::{find, push};
 use wac_graph::{FuncKind, FuncTypeId, ItemKind, ResourceId, ValueType};
 use wac_resolution_errors::Error;
-use wac_syntax::Ident;
 
 /// Rejects the name of an earlier parameter.
 #[tactic(auto, using(crate::proofs::Scopes::memory_told))]

@@ -2,7 +2,7 @@
 ghost use Rattle.std.specs.Prelude.{IfOk, IfErr};
 ghost use Rattle.wac_lexer.specs.Span.{Span};
 ghost use Rattle.wac_grammar.specs.Tree.{Ty};
-ghost use Rattle.wac_syntax.specs.Names.{ident_of};
+ghost use Rattle.wac_ast_base.specs.Names.{ident_of};
 ghost use Rattle.wac_graph.specs.Graph.{Parts};
 ghost use Rattle.wac_graph.specs.Origin.{Naming};
 ghost use Rattle.wac_resolution_errors.specs.Told.{told};
@@ -12,9 +12,9 @@ ghost use Rattle.wac_resolution_types.specs.Named.{scope_of, KindIs, ValueIs};
 
 use crate::names::Names;
 use std::alloc::Global;
+use wac_ast_base::Ident;
 use wac_graph::{ItemKind, ResourceId, Type, ValueType};
 use wac_resolution_errors::Error;
-use wac_syntax::Ident;
 
 /// The kind that an identifier stands for.
 #[tactic(auto, using(crate::proofs::Scopes::kinds_found))]

@@ -7,8 +7,8 @@ ghost use Rattle.wac_resolution_types.specs.Bindings.{places_of, values_of};
 
 use std::alloc::{AllocError, Global};
 use std::marker::Model;
+use wac_ast_base::Ident;
 use wac_lexer::SourceSpan;
-use wac_syntax::Ident;
 
 /// A name that is bound. A contract sees the name, and with it the place and what the name stands for.
 #[derive(Drop)]

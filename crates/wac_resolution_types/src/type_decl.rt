@@ -1,7 +1,7 @@
 //! Declarations of types at root.
 ghost use Rattle.std.specs.Prelude.{IfOk, IfErr};
 ghost use Rattle.wac_types.specs.Table.{ItemsNamed};
-ghost use Rattle.wac_declarations.specs.Declarations.{type_decl_of};
+ghost use Rattle.wac_ast_types.specs.Declarations.{type_decl_of};
 ghost use Rattle.wac_graph.specs.Means.{declared_count};
 ghost use Rattle.wac_graph.specs.Origin.{Naming};
 ghost use Rattle.wac_resolution_errors.specs.Told.{told};
@@ -14,7 +14,7 @@ ghost use Rattle.wac_resolution_types.specs.Named.{scope_of};
 use crate::names::Names;
 use crate::place::Place;
 use crate::state::State;
-use wac_declarations::TypeDecl;
+use wac_ast_types::TypeDecl;
 use wac_graph::{ItemKind, Type};
 use wac_resolution_errors::Error;
 

@@ -2,7 +2,7 @@
 ghost use Rattle.std.specs.Prelude.{IfOk, IfErr, map};
 ghost use Rattle.wac_grammar.specs.Tree.{types_from};
 ghost use Rattle.wac_types.specs.Table.{ItemsNamed};
-ghost use Rattle.wac_declarations.specs.Types.{ty_of, optional_of};
+ghost use Rattle.wac_ast_types.specs.Types.{ty_of, optional_of};
 ghost use Rattle.wac_graph.specs.Origin.{Naming};
 ghost use Rattle.wac_resolution_errors.specs.Told.{told};
 ghost use Rattle.wac_resolution_rules.specs.BrokenTypes.{TypeBroken, OptionalBroken, TypesBroken};
@@ -13,7 +13,7 @@ ghost use Rattle.wac_resolution_types.specs.Types.{TypeIs, TypesAre, OptionalIs}
 use crate::named::{named_resource, named_type};
 use crate::names::Names;
 use crate::state::State;
-use wac_declarations::Type;
+use wac_ast_types::Type;
 use wac_graph::{DefinedType, ItemKind, PrimitiveType, ValueType};
 use wac_resolution_errors::Error;
 

@@ -4,9 +4,9 @@ ghost use Rattle.wac_grammar.specs.Tree.{VariantCase as CaseTree};
 ghost use Rattle.wac_types.specs.Names.{by_name};
 ghost use Rattle.wac_types.specs.Scope.{IsFresh};
 ghost use Rattle.wac_types.specs.Table.{ItemsNamed};
-ghost use Rattle.wac_syntax.specs.Names.{ident_of};
-ghost use Rattle.wac_declarations.specs.Types.{ty_of};
-ghost use Rattle.wac_declarations.specs.Declarations.{variant_case_of, variant_decl_of};
+ghost use Rattle.wac_ast_base.specs.Names.{ident_of};
+ghost use Rattle.wac_ast_types.specs.Types.{ty_of};
+ghost use Rattle.wac_ast_types.specs.Declarations.{variant_case_of, variant_decl_of};
 ghost use Rattle.wac_graph.specs.Graph.{Parts};
 ghost use Rattle.wac_graph.specs.Origin.{Naming};
 ghost use Rattle.wac_resolution_errors.specs.Told.{told};
@@ -22,11 +22,11 @@ use crate::names::Names;
 use crate::state::State;
 use indexmap::IndexMap;
 use std::alloc::Global;
-use wac_declarations::{Type, VariantCase, VariantDecl};
+use wac_ast_base::Ident;
+use wac_ast_types::{Type, VariantCase, VariantDecl};
 use wac_graph::names::{find, push};
 use wac_graph::{DefinedType, ItemKind, ValueType};
 use wac_resolution_errors::Error;
-use wac_syntax::Ident;
 
 /// Rejects the name of an earlier case.
 #[tactic(auto, using(crate::proofs::Scopes::memory_told))]

@@ -2,4 +2,10 @@
 #![tactic(auto)]
 
 #[cfg(test)]
+mod entries;
+#[cfg(test)]
 mod errors;
+#[cfg(test)]
+mod scope;
+#[cfg(test)]
+mod types;

@@ -29,7 +29,7 @@ parts old new text b =
     let s = and_parts (nat_eq new.borrow old.borrow) (is_front (new.sunk ++ new.held) ((old.sunk ++ old.held) ++ text)) t.1 in
     (eqb-true new.before old.before t.0, eqb-true new.borrow old.borrow s.0, s.1)
 
--- A beginning of a text was put.
+-- A prefix of a text was put.
 begun : (old new : Holding) (text : List ℕ) → Fresh old → Grown new → Began (given old) (given new) text → Began old.sunk new.sunk text
 begun old new text fresh grown b =
     let p = parts old new text b in

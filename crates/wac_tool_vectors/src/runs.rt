@@ -1,12 +1,22 @@
 //! Whole runs.
 
-use std::alloc::Global;
-use std::io;
-use std::io::{ErrorKind, Read, Write};
+use crate::narrow::Narrow;
+use std::alloc::{AllocError, Global};
+use std::io::{Read, Write};
 use std::process::Abort;
 use std::test::Fail;
 use wac_lexer::{In, Out};
 use wac_tool::{Command, RunError, report, run};
+
+/// Runs over a reader and a writer. It has no contract, so that the proofs of the tests read nothing of that of `run`.
+pub fn ran<R: Read + Drop, W: Write + Drop>(
+    alloc: Global,
+    command: Command,
+    reader: R,
+    writer: W,
+) -> Result<(), RunError> {
+    run(alloc, command, &mut In::new(reader), &mut Out::new(writer))
+}
 
 /// What a run of the program shows.
 struct Outcome {
@@ -21,17 +31,10 @@ fn performed(alloc: Global, word: &str, input: &[u8]) -> Result<Outcome, Fail> {
     let mut said = Vec::new(alloc);
     let status = match Command::named(word) {
         None => report(None, &mut Out::new(&mut said)),
-        Some(command) => {
-            match run(
-                alloc,
-                command,
-                &mut In::new(input),
-                &mut Out::new(&mut written),
-            ) {
-                Ok(()) => 0,
-                Err(error) => report(Some(&error), &mut Out::new(&mut said)),
-            }
-        }
+        Some(command) => match ran(alloc, command, input, &mut written) {
+            Ok(()) => 0,
+            Err(error) => report(Some(&error), &mut Out::new(&mut said)),
+        },
     };
     Ok(Outcome {
         written,
@@ -73,9 +76,9 @@ fn says(
     Ok(())
 }
 
-const FIRST: &str = "package a:b; let x = y; export x.z;";
+pub const FIRST: &str = "package a:b; let x = y; export x.z;";
 
-const FIRST_PRINTED: &str = "package a:b;\n\nlet x = y;\n\nexport x.z;\n";
+pub const FIRST_PRINTED: &str = "package a:b;\n\nlet x = y;\n\nexport x.z;\n";
 
 #[test]
 fn items_are_listed(rt: HostRuntime) -> Result<(), Fail> {
@@ -140,9 +143,9 @@ fn documents_are_printed(rt: HostRuntime) -> Result<(), Fail> {
     Ok(())
 }
 
-const SECOND: &str = "package a:b;";
+pub const SECOND: &str = "package a:b;";
 
-const SECOND_AS_JSON: &str =
+pub const SECOND_AS_JSON: &str =
     "{\"directive\":{\"package\":{\"name\":\"a:b\",\"span\":{\"length\":3,\"offset\":8},\"string\":\"a:b\",\"version\":null}},\"docs\":[],\"statements\":[]}\n";
 
 #[test]
@@ -173,7 +176,7 @@ fn a_type_as_json(rt: HostRuntime) -> Result<(), Fail> {
 }
 
 #[test]
-fn refused_texts_are_told(rt: HostRuntime) -> Result<(), Fail> {
+fn rejected_texts_are_reported(rt: HostRuntime) -> Result<(), Fail> {
     for (word, input, line) in [
         (
             "fmt",
@@ -232,7 +235,7 @@ fn refused_texts_are_told(rt: HostRuntime) -> Result<(), Fail> {
 }
 
 #[test]
-fn other_words_and_bytes_are_told(rt: HostRuntime) -> Result<(), Fail> {
+fn other_words_and_bytes_are_reported(rt: HostRuntime) -> Result<(), Fail> {
     let usage = "usage: wac tokens|fmt|json|resolve\n";
     for word in [
         "", "format", "fm", "fmts", "FMT", "token", "Json", "jso", "resolve",
@@ -245,181 +248,23 @@ fn other_words_and_bytes_are_told(rt: HostRuntime) -> Result<(), Fail> {
     Ok(())
 }
 
-/// How many bytes a narrow writer takes at most.
-const WIDTH: usize = 256;
-
-/// A writer that takes a byte a call and has room for so many.
-#[derive(Drop)]
-struct Narrow {
-    bytes: [u8; WIDTH],
-    len: usize,
-    room: usize,
-}
-
-impl Narrow {
-    fn new(room: usize) -> Narrow {
-        Narrow {
-            bytes: [0; WIDTH],
-            len: 0,
-            room,
-        }
-    }
-
-    /// Asserts that it holds a beginning of a text, of this length.
-    fn holds(&self, rt: &impl Abort, text: &str, len: usize) {
-        assert_eq!(rt; self.len, len);
-        assert!(rt; len <= WIDTH && len <= text.len());
-        for i in 0..len {
-            assert_eq!(rt; self.bytes[i], text.as_bytes()[i], "at {i}");
-        }
-    }
-}
-
-impl Write for Narrow {
-    fn write(&mut self, buf: &[u8]) -> io::Result<usize> {
-        let len = self.len;
-        if len >= self.room || len >= WIDTH {
-            return Err(io::Error::from(ErrorKind::BrokenPipe));
-        }
-        match buf.first() {
-            None => Ok(0),
-            Some(byte) => {
-                self.bytes[len] = *byte;
-                self.len = len + 1;
-                Ok(1)
-            }
-        }
-    }
-
-    fn flush(&mut self) -> io::Result<()> {
-        Ok(())
-    }
-}
-
-/// A reader that gives a byte a call, and fails behind so many.
-#[derive(Drop)]
-struct Broken<'a> {
-    bytes: &'a [u8],
-    len: usize,
-    fails_at: usize,
-}
-
-impl Read for Broken<'_> {
-    fn read(&mut self, buf: &mut [u8]) -> io::Result<usize> {
-        let len = self.len;
-        if len >= self.fails_at {
-            return Err(io::Error::from(ErrorKind::BrokenPipe));
-        }
-        if len < self.bytes.len() && !buf.is_empty() {
-            buf[0] = self.bytes[len];
-            self.len = len + 1;
-            return Ok(1);
-        }
-        Ok(0)
-    }
+/// Asserts what is said of an error.
+pub fn is_reported(rt: &impl Abort, error: &RunError, line: &str, status: u8) {
+    let mut errors = Narrow::new(line, 1, usize::MAX);
+    assert_eq!(rt; report(Some(error), &mut Out::new(&mut errors)), status);
+    errors.holds(rt, line.len());
 }
 
 #[test]
-fn a_writer_that_fails_holds_a_beginning(rt: HostRuntime) -> Result<(), Fail> {
-    for (command, input, text) in [
-        (Command::Fmt, FIRST, FIRST_PRINTED),
-        (
-            Command::Tokens,
-            "package a:b",
-            "0+7 `package` keyword\n8+3 package name\n",
-        ),
-        (Command::Json, SECOND, SECOND_AS_JSON),
-    ] {
-        for room in 0..text.len() {
-            let mut writer = Narrow::new(room);
-            match run(
-                rt.alloc(),
-                command,
-                &mut In::new(input.as_bytes()),
-                &mut Out::new(&mut writer),
-            ) {
-                Err(RunError::Output) => writer.holds(&rt, text, room),
-                _ => assert!(rt; false, "at {room}"),
-            }
-        }
-    }
-    Ok(())
-}
-
-#[test]
-fn a_reader_that_fails_is_told(rt: HostRuntime) -> Result<(), Fail> {
-    for command in [Command::Fmt, Command::Tokens, Command::Json] {
-        for fails_at in 0..FIRST.len() + 1 {
-            let mut reader = In::new(Broken {
-                bytes: FIRST.as_bytes(),
-                len: 0,
-                fails_at,
-            });
-            let mut writer = Narrow::new(WIDTH);
-            match run(rt.alloc(), command, &mut reader, &mut Out::new(&mut writer)) {
-                Err(RunError::Input) => writer.holds(&rt, "", 0),
-                _ => assert!(rt; false, "at {fails_at}"),
-            }
-        }
-    }
-    Ok(())
-}
-
-/// Passes also where memory is refused, at each allocation in turn.
-#[test]
-fn want_of_memory_is_told(rt: HostRuntime) -> Result<(), Fail> {
-    for (command, input, text) in [
-        (Command::Fmt, FIRST, FIRST_PRINTED),
-        (
-            Command::Tokens,
-            "package a:b",
-            "0+7 `package` keyword\n8+3 package name\n",
-        ),
-        (Command::Json, SECOND, SECOND_AS_JSON),
-        (Command::Fmt, "package a:b; let", ""),
-        (Command::Json, "package a:b; let", ""),
-        (Command::Tokens, "\u{c}", ""),
-    ] {
-        let mut writer = Narrow::new(WIDTH);
-        let answer = run(
-            rt.alloc(),
-            command,
-            &mut In::new(input.as_bytes()),
-            &mut Out::new(&mut writer),
-        );
-        match answer {
-            Ok(()) => writer.holds(&rt, text, text.len()),
-            Err(RunError::Refused { .. }) => assert_eq!(rt; text, ""),
-            Err(error) => {
-                assert!(rt; matches!(error, RunError::Memory(_)));
-                writer.holds(&rt, text, writer.len);
-                let mut errors = Narrow::new(WIDTH);
-                assert_eq!(rt; report(Some(&error), &mut Out::new(&mut errors)), 4);
-                errors.holds(&rt, "out of memory\n", 14);
-            }
-        }
-    }
-    Ok(())
-}
-
-#[test]
-fn other_refusals_are_reported(rt: HostRuntime) -> Result<(), Fail> {
-    for (error, line, status) in [
-        (RunError::Input, "input failed\n", 3),
-        (RunError::Output, "output failed\n", 3),
-        (RunError::NotUtf8, "input is not UTF-8\n", 3),
-        (
-            RunError::Refused {
-                span: None,
-                text: String::from_str(rt.alloc(), "not printed yet")?,
-            },
-            "error: not printed yet\n",
-            1,
-        ),
-    ] {
-        let mut errors = Narrow::new(WIDTH);
-        assert_eq!(rt; report(Some(&error), &mut Out::new(&mut errors)), status);
-        errors.holds(&rt, line, line.len());
-    }
+fn other_errors_are_reported(rt: HostRuntime) -> Result<(), Fail> {
+    is_reported(&rt, &RunError::Input, "input failed\n", 3);
+    is_reported(&rt, &RunError::Output, "output failed\n", 3);
+    is_reported(&rt, &RunError::NotUtf8, "input is not UTF-8\n", 3);
+    is_reported(&rt, &RunError::Memory(AllocError), "out of memory\n", 4);
+    let without_place = RunError::Refused {
+        span: None,
+        text: String::from_str(rt.alloc(), "not printed yet")?,
+    };
+    is_reported(&rt, &without_place, "error: not printed yet\n", 1);
     Ok(())
 }

@@ -1,4 +1,4 @@
--- Meanings are equal or not, and renaming their origins one to one changes no such answer.
+-- Meanings are equal or not, and renaming their origins one to one changes no such result.
 use Rattle.std.specs.Prelude.{◌≡◌, ℕ, zero, suc, List, Option, Some, None}
 use Rattle.std.proofs.Math.Decide.{ℕ_discrete}
 use Rattle.std.proofs.Math.Bool.{Bool-discrete}

@@ -4,7 +4,7 @@ use Rattle.wac_types.specs.declared.rules.Reason.{Reason}
 use Rattle.wac_types.specs.Label.{Label, plain, resource}
 use Rattle.wac_types.specs.Meaning.{Meaning, node, Row, done, more}
 
--- what was answered is this verdict: no reason, or a reason against
+-- what was returned is this verdict: no reason, or a reason against
 abbrev pub Answers : Result (Unit {0}) Reason → Option Reason → Type 0
 Answers (Ok _) verdict = verdict ≡ None
 Answers (Err r) verdict = verdict ≡ Some r

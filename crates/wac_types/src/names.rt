@@ -8,7 +8,7 @@ ghost use Rattle.wac_types.specs.Scope.{look_up, with_named, IsFresh};
 use indexmap::{IndexMap, IndexSet};
 use std::alloc::{AllocError, Global};
 
-/// Adds a value under a new name, behind the others. The name is copied.
+/// Adds a value under a new name, after the others. The name is copied.
 pub fn push<V: Drop>(
     alloc: Global,
     all: &mut IndexMap<String, V>,
@@ -45,7 +45,7 @@ pub fn name_at<V: Drop>(
     }
 }
 
-/// Adds a new name, behind the others. It is copied.
+/// Adds a new name, after the others. It is copied.
 pub fn push_name(alloc: Global, all: &mut IndexSet<String>, name: &str) -> Result<(), AllocError>
     requires { list_any (bytes_eq name.now) (map string_bytes all.old.keys) ≡ false }
     ensures ok { OnOk result (map string_bytes all.new.keys ≡ map string_bytes all.old.keys ++ name.now ∷ []) }

@@ -37,7 +37,7 @@ pub enum PackageError {
     /// The instance and the world export other names or meanings, or in another order.
     #[error("instance exports differ from the exports of the world")]
     InstanceExports,
-    /// Memory ran out while the package's parts were made. [`Package::new`] takes none and never answers it.
+    /// Memory ran out while the package's parts were made. [`Package::new`] takes none and never returns it.
     #[error("out of memory")]
     Memory(AllocError),
 }
@@ -326,7 +326,7 @@ impl Package {
     /// The package of these parts, unless it has a fault: then the first one, where each is looked for in the whole
     /// package before the next.
     ///
-    /// It takes no memory. The types, the world and the rest are dropped where it is refused.
+    /// It takes no memory. The types, the world and the rest are dropped where it is rejected.
     pub fn new(
         types: Types,
         world: WorldId,

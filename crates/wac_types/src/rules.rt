@@ -15,7 +15,7 @@ pub struct Reason(pub u32);
 /// Which kinds may stand for which, and which names imports and exports may have.
 ///
 /// Component subtyping and the syntax of names aren't decided here: whoever resolves a document
-/// hands them in. An implementation answers by what the two kinds mean, so neither by their numbers in the
+/// hands them in. An implementation goes by what the two kinds mean, so neither by their numbers in the
 /// table nor by what else stands in it, and it can't tell which origins resources have, only which are the same.
 pub trait Rules {
     /// The reason for which the first may not stand where the second is expected, if there is one.
@@ -35,6 +35,6 @@ pub trait Rules {
     fn extern_name(&self, name: &str) -> Result<(), Reason>
         ensures { Answers result (named self.now name.now) };
 
-    /// The answer stays the same when the origins that occur in the meanings are renamed one to one.
+    /// The result stays the same when the origins that occur in the meanings are renamed one to one.
     ghost alike_renamed: { (x : Self) (f : ℕ → ℕ) (a b : Meaning) → KeepsApart f a b → passes x (renamed f a) (renamed f b) ≡ passes x a b };
 }

@@ -57,7 +57,7 @@ impl Types {
         Ok(())
     }
 
-    /// Appends an entry, and answers its number.
+    /// Appends an entry, and returns its number.
     #[tactic(auto, using(crate::proofs::Growing::keeps_added, crate::proofs::Growing::keeps_unchanged))]
     pub fn add(&mut self, entry: Entry) -> Result<usize, AllocError>
         ensures number { IfOk result (λ id. id ≡ length self.old) }

@@ -6,7 +6,7 @@ use std::alloc::Global;
 use std::process::Abort;
 use wac_parser::Document;
 
-/// Asserts that each front of a text has a tree, or an error that stands in it or at its end.
+/// Asserts that each prefix of a text has a tree, or an error that stands in it or at its end.
 fn fronts(rt: &impl Abort, alloc: Global, text: &str) {
     for (end, _) in text.char_indices() {
         let (front, _) = text.split_at(end);

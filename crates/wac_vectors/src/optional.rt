@@ -2,9 +2,9 @@
 
 use std::alloc::Global;
 use std::process::Abort;
+use wac_ast_base::{at, has_more};
 use wac_parser::lexer::{Error as Fault, Lexer, LexerResult, SourceSpan, Token};
 use wac_parser::{Error, ParseResult, Type, parse_optional, parse_optional_payload, parse_token};
-use wac_syntax::{at, has_more};
 
 /// A lexer of a text.
 fn lexer<'a>(rt: &impl Abort, source: &'a str) -> Lexer<'a> {
@@ -36,7 +36,7 @@ fn told(error: &Error) -> Option<(Place, Option<Token>)> {
     }
 }
 
-/// What an optional part gives: where it lies, nothing, or what is told of an error.
+/// What an optional part gives: where it lies, nothing, or what is reported of an error.
 type Given = Result<Option<Place>, Option<(Place, Option<Token>)>>;
 
 /// What a name after `as` gives, where it may be left out.
@@ -95,7 +95,7 @@ fn stream<'a>(inner: Option<Box<Type<'a>>>, span: SourceSpan) -> Type<'a> {
     Type::Stream(inner, span)
 }
 
-/// What is held, and the item behind it.
+/// What is held, and the item after it.
 fn taken(rt: &impl Abort, alloc: Global, source: &str) -> (Option<SourceSpan>, SourceSpan, bool) {
     let mut lexer = lexer(rt, source);
     if !has_more(&lexer) {

@@ -1,4 +1,4 @@
-//! Where a lexer stands: docs and spans behind the last item, behind the end and behind a refused token; and what a lookahead counts.
+//! Where a lexer stands: docs and spans after the last item, after the end and after a rejected token; and what a lookahead counts.
 
 use std::alloc::Global;
 use std::process::Abort;
@@ -14,7 +14,7 @@ fn lexer<'a>(rt: &impl Abort, source: &'a str) -> Lexer<'a> {
     }
 }
 
-/// Asserts that one doc stands behind the lexer's place.
+/// Asserts that one doc stands after the lexer's place.
 fn has_doc(
     rt: &impl Abort,
     alloc: Global,
@@ -58,7 +58,7 @@ fn told(error: &Error) -> Option<(SourceSpan, Option<Token>)> {
     }
 }
 
-/// Asserts that a semicolon is refused there.
+/// Asserts that a semicolon is rejected there.
 fn is_refused(rt: &impl Abort, lexer: &mut Lexer, span: SourceSpan, found: Option<Token>) {
     match parse_token(lexer, Token::Semicolon) {
         Ok(_) => panic!(rt; "a semicolon"),
@@ -73,7 +73,7 @@ fn a_refused_token_is_consumed(rt: &impl Abort, alloc: Global) -> Result<(), Fai
     assert_eq!(rt; lexer.span(), SourceSpan::new(0, 1));
     has_doc(rt, alloc, &lexer, "d", SourceSpan::new(2, 5))?;
     is_refused(rt, &mut lexer, SourceSpan::new(9, 2), Some(Token::Ident));
-    // The item ends the text, so the byte before it is told.
+    // The item ends the text, so the byte before it is reported.
     assert_eq!(rt; lexer.span(), SourceSpan::new(8, 1));
     is_refused(rt, &mut lexer, SourceSpan::new(10, 1), None);
     assert_eq!(rt; lexer.span(), SourceSpan::new(10, 1));

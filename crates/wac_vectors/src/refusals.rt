@@ -1,14 +1,14 @@
-//! Texts that are no documents: what each is refused for, and where.
+//! Texts that are no documents: what each is rejected for, and where.
 
 use std::alloc::Global;
 use std::process::Abort;
 use std::test::Fail;
 use wac_parser::{Document, Error};
 
-/// A text, what is told of it, and where, in bytes.
+/// A text, what is reported of it, and where, in bytes.
 type Row = (&'static str, &'static str, usize, usize);
 
-/// Texts that are refused at a token.
+/// Texts that are rejected at a token.
 const AT_TOKENS: [Row; 13] = [
     (
         "package a:b; record r { x:u32 }",
@@ -90,7 +90,7 @@ const AT_TOKENS: [Row; 13] = [
     ),
 ];
 
-/// Texts that are refused at their end.
+/// Texts that are rejected at their end.
 const AT_THE_END: [Row; 3] = [
     (
         "package a:b; record r { x: u32",
@@ -228,7 +228,7 @@ pub fn place(error: &Error) -> Option<(usize, usize)> {
     Some((span.offset(), span.len()))
 }
 
-/// Asserts that each text is refused as its row tells.
+/// Asserts that each text is rejected as its row says.
 fn are_refused(rt: &impl Abort, alloc: Global, rows: &[Row]) -> Result<(), Fail> {
     for (source, text, offset, len) in rows {
         match Document::parse(alloc, source) {

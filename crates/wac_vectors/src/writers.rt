@@ -1,10 +1,11 @@
-//! Writers that fail: what then stands in them, and what a printer answers.
+//! Writers that fail: what then stands in them, and what a printer returns.
 
 use crate::rows::{DOCUMENTED, DOCUMENTED_PRINTED};
 use std::alloc::Global;
 use std::io;
 use std::io::{ErrorKind, Write};
 use std::process::Abort;
+use std::test::Fail;
 use wac_parser::lexer::Out;
 use wac_parser::{
     Document, DocumentPrinter, Page, PrintError, PrintResult, trees_of_texts_can_be_printed,
@@ -36,7 +37,7 @@ impl Write for Narrow {
     }
 }
 
-/// What a printer answers to two calls.
+/// What a printer returns to two calls.
 fn printed_twice(
     page: Page<'_, '_>,
     source: &str,
@@ -53,7 +54,7 @@ fn printed_twice(
 ghost use Rattle.wac_ast.specs.Statements.{document_of};
 ghost use Rattle.wac_printer.specs.Sliced.{DocumentSliced};
 
-/// Asserts what stands in a writer with so much room, and what the printer answers.
+/// Asserts what stands in a writer with so much room, and what the printer returns.
 fn is_cut_at(rt: &impl Abort, alloc: Global, source: &str, text: &str, room: usize) {
     let Ok(document) = Document::parse(alloc, source) else {
         panic!(rt; "refused");
@@ -84,4 +85,16 @@ fn a_failing_writer_holds_a_beginning(rt: HostRuntime) {
     for room in 0..DOCUMENTED_PRINTED.len() {
         is_cut_at(&rt, rt.alloc(), DOCUMENTED, DOCUMENTED_PRINTED, room);
     }
+}
+
+#[test]
+fn errors_are_described(rt: HostRuntime) -> Result<(), Fail> {
+    for (error, text) in [
+        (PrintError::Writer, "the writer failed"),
+        (PrintError::Failed, "the printer has failed"),
+    ] {
+        let described = format!(in rt.alloc(); "{error}")?;
+        assert_eq!(rt; described.as_str(), text);
+    }
+    Ok(())
 }

@@ -5,8 +5,8 @@ use Rattle.wac_grammar.specs.Grammar.{statement}
 use Rattle.wac_ast.specs.Statements.{statement_of}
 use Rattle.wac_grammar.proofs.Fixed.{takes_some}
 use Rattle.wac_ast.proofs.Whole.{none_left}
-use Rattle.wac_syntax.proofs.Loops.{star_goes_on, star_fails, star_ends, statements_star}
-use Rattle.wac_syntax.proofs.Exits as x
+use Rattle.wac_ast_base.proofs.Loops.{star_goes_on, star_fails, star_ends, statements_star}
+use Rattle.wac_ast_base.proofs.Exits as x
 use Rattle.wac_ast.proofs.document.parse_statements.Goals as goal
 
 pub returns-in_err-parse-clause-gives : goal.returns-in_err-parse-clause-gives

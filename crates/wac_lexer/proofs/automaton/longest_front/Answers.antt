@@ -4,7 +4,7 @@ use Rattle.wac_lexer.proofs.States.{Reads, walk_reads, walk_longest, walk_ends}
 use Rattle.wac_lexer.proofs.automaton.longest_front.Goals as goal
 use Rattle.wac_lexer.proofs.automaton.longest_front.Goals.{in-Some, in_default-shape_at, After-step-state}
 
--- the state behind the byte knows what may follow
+-- the state after the byte knows what may follow
 next_reads : (c : After-step-state) → Reads c.step-state.result (take (c.loop-i.i + 1) c.args.bytes.now)
 next_reads c = walk_reads c.args.bytes.now c.loop-i.i _ _ c.loop-i-test.true (omega (arith, c.type_inv.bytes c.loop-i.i)) c.loop-i.invariant.reads c.step-state.ensures
 

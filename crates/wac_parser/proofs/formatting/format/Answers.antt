@@ -2,7 +2,7 @@ use Rattle.std.proofs.Common.{◌≡◌, List, ℕ, sym, ap, subst, ◌∙◌, s
 use Rattle.std.proofs.lemmas.Result.{err_from_is_err_and}
 use Rattle.wac_grammar.specs.Tree.{Document}
 use Rattle.wac_ast.specs.Statements.{document_of}
-use Rattle.wac_layout.specs.Reread.{printed, ReadsBack}
+use Rattle.wac_layout.specs.Reread.{printed, ReadsBack, IsFixed}
 use Rattle.wac_printer.specs.Printed.{space_of}
 use Rattle.wac_parser.proofs.formatting.format.Goals as goal
 
@@ -24,3 +24,8 @@ returns-clause-again c = λ blanks.
     let tree = document_of c.in_ok-document.document in
     let back = c.printed_texts_read_back.ensures (space_of c.args.space) c.args.source.now tree blanks c.utf8.source is in
     (tree, is, subst (λ (text : List ℕ). ReadsBack (space_of c.args.space) c.args.source.now tree text) (sym (c.in_ok-text.ensures.ok ∙ c.in_ok-bytes.ensures)) back)
+
+pub returns-clause-fixed : goal.returns-clause-fixed
+returns-clause-fixed c = λ blanks was.
+    let stays = c.printed_texts_stay.ensures (space_of c.args.space) c.args.source.now (document_of c.in_ok-document.document) blanks c.in_ok-document.ensures.found was in
+    subst (λ (text : List ℕ). IsFixed (space_of c.args.space) text) (sym (c.in_ok-text.ensures.ok ∙ c.in_ok-bytes.ensures)) stays

@@ -1,6 +1,6 @@
 use Rattle.std.proofs.Common.{map, take}
 use Rattle.wac_types.specs.Steps.{Steps}
-use Rattle.wac_declarations.specs.Declarations.{enum_case_of}
+use Rattle.wac_ast_types.specs.Declarations.{enum_case_of}
 use Rattle.wac_resolution_rules.specs.Declarations.{HasEnumCase}
 use Rattle.wac_resolution_types.specs.Declarations.{names_alone}
 use Rattle.wac_resolution_types.proofs.flags.enum_cases.Given as goal

@@ -1,7 +1,7 @@
 use Rattle.wac_ast.proofs.Built.{directive_built}
 use Rattle.wac_grammar.specs.Grammar.{directive}
-use Rattle.wac_syntax.proofs.Exits as x
-use Rattle.wac_syntax.proofs.Yields as y
+use Rattle.wac_ast_base.proofs.Exits as x
+use Rattle.wac_ast_base.proofs.Yields as y
 use Rattle.wac_ast.proofs.document.PackageDirectiveParse.parse.Goals as goal
 
 pub returns-in_err-take_token-clause-gives : goal.returns-in_err-take_token-clause-gives

@@ -2,8 +2,8 @@ use Rattle.std.proofs.Common.{refl}
 use Rattle.wac_grammar.specs.Grammar.{export_options}
 use Rattle.wac_lexer.specs.Reading.{left}
 use Rattle.wac_lexer.specs.declared.token.Token.TheVariants as tokens
-use Rattle.wac_syntax.proofs.Exits as x
-use Rattle.wac_syntax.proofs.Yields as y
+use Rattle.wac_ast_base.proofs.Exits as x
+use Rattle.wac_ast_base.proofs.Yields as y
 use Rattle.wac_ast.proofs.export.ExportOptionsParse.parse.Goals as goal
 
 pub returns-in_err-take_token-clause-gives : goal.returns-in_err-take_token-clause-gives

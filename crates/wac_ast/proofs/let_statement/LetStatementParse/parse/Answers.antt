@@ -1,6 +1,6 @@
 use Rattle.wac_grammar.specs.Grammar.{let_statement}
-use Rattle.wac_syntax.proofs.Exits as x
-use Rattle.wac_syntax.proofs.Yields as y
+use Rattle.wac_ast_base.proofs.Exits as x
+use Rattle.wac_ast_base.proofs.Yields as y
 use Rattle.wac_ast.proofs.let_statement.LetStatementParse.parse.Goals as goal
 
 pub returns-in_err-take_token-clause-gives : goal.returns-in_err-take_token-clause-gives

@@ -1,8 +1,8 @@
 use Rattle.std.proofs.Common.{refl}
 use Rattle.wac_grammar.specs.Grammar.{type_statement}
-use Rattle.wac_syntax.proofs.Lookaheads.{looks}
-use Rattle.wac_syntax.proofs.Exits as x
-use Rattle.wac_syntax.proofs.Yields as y
+use Rattle.wac_ast_base.proofs.Lookaheads.{looks}
+use Rattle.wac_ast_base.proofs.Exits as x
+use Rattle.wac_ast_base.proofs.Yields as y
 use Rattle.wac_ast.proofs.type_statement.TypeStatementParse.parse.Goals as goal
 
 pub returns-in_ok-parse-clause-gives : goal.returns-in_ok-parse-clause-gives

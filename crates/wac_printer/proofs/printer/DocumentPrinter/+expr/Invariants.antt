@@ -1,9 +1,9 @@
 use Rattle.std.specs.Prelude.{◌+◌, ◌*◌, false}
 use denote.Param.Weighed.{most}
-use Rattle.wac_expressions.specs.declared.expr.Expr.{size-Expr}
-use Rattle.wac_expressions.specs.declared.expr.InstantiationArgument.{size-InstantiationArgument}
-use Rattle.wac_expressions.specs.declared.expr.NewExpr.{size-NewExpr}
-use Rattle.wac_expressions.specs.declared.expr.PrimaryExpr.{size-PrimaryExpr}
+use Rattle.wac_ast_expressions.specs.declared.expr.Expr.{size-Expr}
+use Rattle.wac_ast_expressions.specs.declared.expr.InstantiationArgument.{size-InstantiationArgument}
+use Rattle.wac_ast_expressions.specs.declared.expr.NewExpr.{size-NewExpr}
+use Rattle.wac_ast_expressions.specs.declared.expr.PrimaryExpr.{size-PrimaryExpr}
 use Rattle.wac_printer.proofs.Arguments.{its_line}
 use Rattle.wac_printer.proofs.Progress.{IsSoFar}
 use Rattle.wac_printer.proofs.printer.DocumentPrinter.+expr.Given as goal

@@ -2,14 +2,14 @@ use Rattle.std.proofs.Common.{arith, ℕ, List, ap, sym, subst, ◌∙◌, ◌�
 use Rattle.wac_printer.specs.declared.error.PrintError.{PrintError}
 use Rattle.std.specs.List.{flat_map, All}
 use denote.Param.Weighed.{most}
-use Rattle.wac_declarations.specs.Types.{ty_of}
+use Rattle.wac_ast_types.specs.Types.{ty_of}
 use Rattle.wac_layout.specs.Printed.{Piece, token}
 use Rattle.wac_layout.specs.Bare.{bare_ty}
 use Rattle.wac_printer.specs.Sliced.{TySliced}
 use Rattle.wac_layout.specs.Parts.{space, joined}
 use Rattle.wac_layout.specs.TypeLayout.{ty_layout}
-use Rattle.wac_declarations.specs.declared.types.«Type» as code
-use Rattle.wac_declarations.specs.declared.types.«Type».{«Type», size-Type}
+use Rattle.wac_ast_types.specs.declared.types.«Type» as code
+use Rattle.wac_ast_types.specs.declared.types.«Type».{«Type», size-Type}
 use Rattle.wac_printer.specs.Printed.{Printer, Prints}
 use Rattle.wac_printer.proofs.Trees.{most_at, most_rest, tuple_sliced, size_tuple, tuple_printed}
 use Rattle.wac_printer.proofs.PartsOf.{joined-none, joined-some, All-rest, no_items}

@@ -1,7 +1,7 @@
 use Rattle.std.specs.Prelude.{◌+◌, ◌*◌, [], ◌∷◌, ◌++◌, codes}
 use denote.Param.Weighed.{most}
-use Rattle.wac_declarations.specs.declared.types.«Type».{size-Type}
-use Rattle.wac_declarations.specs.Types.{ty_of}
+use Rattle.wac_ast_types.specs.declared.types.«Type».{size-Type}
+use Rattle.wac_ast_types.specs.Types.{ty_of}
 use Rattle.wac_layout.specs.Printed.{token}
 use Rattle.wac_layout.specs.Bare.{bare_ty}
 use Rattle.wac_layout.specs.Parts.{space}

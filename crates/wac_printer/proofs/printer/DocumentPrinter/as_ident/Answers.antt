@@ -3,7 +3,7 @@ use Rattle.std.proofs.Common.{[], sym, ◌∙◌, ◌∷◌}
 use Rattle.std.specs.Option.{option_map}
 use Rattle.wac_lexer.specs.Reading.{slice}
 use Rattle.wac_layout.specs.Bare.{bare_ident}
-use Rattle.wac_syntax.specs.Names.{ident_of}
+use Rattle.wac_ast_base.specs.Names.{ident_of}
 use Rattle.wac_layout.specs.InterfaceLayout.{as_layout}
 use Rattle.wac_layout.specs.Printed.{token}
 use Rattle.wac_printer.proofs.printer.DocumentPrinter.as_ident.Goals as goal

@@ -1,4 +1,4 @@
-use Rattle.wac_declarations.specs.Declarations.{named_type_of}
+use Rattle.wac_ast_types.specs.Declarations.{named_type_of}
 use Rattle.std.proofs.Common.{[], codes, map, ◌++◌, ◌∙◌, ◌∷◌}
 use Rattle.wac_printer.proofs.Sequence.{fail, fails, of_docs, parts, piece, printed_at}
 use Rattle.wac_layout.specs.Printed.{line, token}

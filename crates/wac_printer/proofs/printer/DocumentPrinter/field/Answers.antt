@@ -2,9 +2,9 @@ use Rattle.wac_layout.specs.DeclarationLayout.{label_layout}
 use Rattle.wac_layout.specs.Bare.{bare_ident, bare_ty}
 use Rattle.std.proofs.Common.{◌∙◌}
 use Rattle.wac_printer.proofs.Sequence.{fails, of_docs, parts, printed_at, there}
-use Rattle.wac_declarations.specs.Types.{ty_of}
+use Rattle.wac_ast_types.specs.Types.{ty_of}
 use Rattle.wac_layout.specs.TypeLayout.{ty_layout}
-use Rattle.wac_syntax.specs.Names.{ident_of}
+use Rattle.wac_ast_base.specs.Names.{ident_of}
 use Rattle.wac_printer.proofs.printer.DocumentPrinter.field.Goals as goal
 
 pub returns-in_err-docs : goal.returns-in_err-docs

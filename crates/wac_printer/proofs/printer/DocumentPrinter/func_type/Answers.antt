@@ -1,4 +1,4 @@
-use Rattle.wac_declarations.specs.Declarations.{named_type_of, result_list_of}
+use Rattle.wac_ast_types.specs.Declarations.{named_type_of, result_list_of}
 use Rattle.std.proofs.Common.{map, ◌∙◌}
 use Rattle.wac_printer.proofs.Sequence.{fail, fails, parts, piece, printed_at}
 use Rattle.wac_layout.specs.Bare.{bare_named_type, bare_result_list}

@@ -1,11 +1,11 @@
 use Rattle.wac_layout.specs.StatementLayout.{import_name_layout, import_type_layout}
 use Rattle.wac_printer.proofs.Sequence.{fail, fails, of_docs, parts, piece, printed_at, there}
 use Rattle.wac_layout.specs.Bare.{bare_extern_name, bare_ident, bare_import_type, doc_lines}
-use Rattle.wac_syntax.specs.Names.{extern_name_of, ident_of}
+use Rattle.wac_ast_base.specs.Names.{extern_name_of, ident_of}
 use Rattle.wac_layout.specs.DeclarationLayout.{head_layout}
 use Rattle.std.specs.Option.{option_map}
 use Rattle.std.proofs.Common.{codes, ◌∙◌}
-use Rattle.wac_worlds.specs.Worlds.{import_type_of}
+use Rattle.wac_ast_worlds.specs.Worlds.{import_type_of}
 use Rattle.wac_printer.proofs.printer.DocumentPrinter.import_statement.Goals as goal
 
 pub returns-in_err-docs : goal.returns-in_err-docs

@@ -3,9 +3,9 @@ use Rattle.wac_layout.specs.DeclarationLayout.{head_layout}
 use Rattle.wac_layout.specs.Bare.{bare_ident, bare_interface_item, doc_lines}
 use Rattle.wac_printer.proofs.Sequence.{fails, of_docs, parts, printed_at, there}
 use Rattle.wac_layout.specs.Parts.{body}
-use Rattle.wac_worlds.specs.Worlds.{interface_item_of}
+use Rattle.wac_ast_worlds.specs.Worlds.{interface_item_of}
 use Rattle.wac_layout.specs.InterfaceLayout.{interface_item_layout}
-use Rattle.wac_syntax.specs.Names.{ident_of}
+use Rattle.wac_ast_base.specs.Names.{ident_of}
 use Rattle.wac_printer.proofs.printer.DocumentPrinter.interface_decl.Goals as goal
 
 pub returns-in_err-docs : goal.returns-in_err-docs

@@ -1,5 +1,5 @@
 use Rattle.std.proofs.Common.{sym, subst}
-use Rattle.wac_declarations.specs.Declarations.{item_type_decl_of}
+use Rattle.wac_ast_types.specs.Declarations.{item_type_decl_of}
 use Rattle.wac_printer.specs.Printed.{Prints}
 use Rattle.wac_printer.specs.Sliced.{ItemTypeDeclSliced}
 use Rattle.wac_layout.specs.Bare.{bare_item_type_decl, doc_lines}

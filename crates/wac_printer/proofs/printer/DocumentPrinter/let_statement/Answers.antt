@@ -2,9 +2,9 @@ use Rattle.wac_printer.proofs.Sequence.{fail, fails, of_docs, parts, piece, ther
 use Rattle.wac_layout.specs.DeclarationLayout.{head_layout}
 use Rattle.std.proofs.Common.{codes, ◌∙◌}
 use Rattle.wac_layout.specs.ExpressionLayout.{expr_layout}
-use Rattle.wac_expressions.specs.Expressions.{expr_of}
+use Rattle.wac_ast_expressions.specs.Expressions.{expr_of}
 use Rattle.wac_layout.specs.Bare.{bare_expr, bare_ident}
-use Rattle.wac_syntax.specs.Names.{ident_of}
+use Rattle.wac_ast_base.specs.Names.{ident_of}
 use Rattle.wac_printer.proofs.printer.DocumentPrinter.let_statement.Goals as goal
 
 pub returns-in_err-docs : goal.returns-in_err-docs

@@ -1,10 +1,10 @@
-use Rattle.wac_declarations.specs.Declarations.{func_type_of}
+use Rattle.wac_ast_types.specs.Declarations.{func_type_of}
 use Rattle.wac_layout.specs.DeclarationLayout.{label_layout}
 use Rattle.wac_layout.specs.Bare.{bare_func_type, bare_ident}
 use Rattle.std.proofs.Common.{◌∙◌}
 use Rattle.wac_printer.proofs.Sequence.{fails, of_docs, parts, printed_at, there}
 use Rattle.wac_layout.specs.TypeLayout.{func_type_layout}
-use Rattle.wac_syntax.specs.Names.{ident_of}
+use Rattle.wac_ast_base.specs.Names.{ident_of}
 use Rattle.wac_printer.proofs.printer.DocumentPrinter.method.Goals as goal
 
 pub returns-in_err-docs : goal.returns-in_err-docs

@@ -1,5 +1,5 @@
 use Rattle.wac_printer.proofs.Sequence.{fail, fails, parts, piece, printed_at}
-use Rattle.wac_syntax.specs.Names.{package_path_of}
+use Rattle.wac_ast_base.specs.Names.{package_path_of}
 use Rattle.std.proofs.Common.{[], ◌∙◌, ◌∷◌}
 use Rattle.std.specs.Option.{option_map}
 use Rattle.wac_layout.specs.Bare.{bare_package_path}

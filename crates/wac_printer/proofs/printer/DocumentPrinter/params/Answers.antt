@@ -1,4 +1,4 @@
-use Rattle.wac_declarations.specs.Declarations.{named_type_of}
+use Rattle.wac_ast_types.specs.Declarations.{named_type_of}
 use Rattle.wac_printer.specs.Sliced.{NamedTypeSliced}
 use Rattle.wac_printer.proofs.Progress.{All-at}
 use Rattle.wac_printer.proofs.Sequence.{fail, fails, joined_bare, parts, piece, printed_as, printed_at}

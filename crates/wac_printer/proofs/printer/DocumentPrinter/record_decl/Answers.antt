@@ -1,13 +1,13 @@
 use Rattle.std.proofs.Common.{map, sym, subst, ◌∙◌, codes}
 use Rattle.std.specs.List.{All}
-use Rattle.wac_declarations.specs.Declarations.{field_of}
+use Rattle.wac_ast_types.specs.Declarations.{field_of}
 use Rattle.wac_printer.specs.Sliced.{FieldSliced}
 use Rattle.wac_printer.proofs.Progress.{All-at}
 use Rattle.wac_printer.proofs.Sequence.{fails, of_docs, parts, printed_as, printed_at, rows_bare, there}
 use Rattle.wac_layout.specs.DeclarationLayout.{field_layout, head_layout}
 use Rattle.wac_layout.specs.Bare.{bare_field, bare_ident, doc_lines}
 use Rattle.wac_layout.specs.Parts.{rows}
-use Rattle.wac_syntax.specs.Names.{ident_of}
+use Rattle.wac_ast_base.specs.Names.{ident_of}
 use Rattle.wac_printer.proofs.printer.DocumentPrinter.record_decl.Goals as goal
 
 pub rows-requires : goal.rows-requires

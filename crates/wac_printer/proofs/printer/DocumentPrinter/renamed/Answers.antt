@@ -1,4 +1,4 @@
-use Rattle.wac_syntax.specs.Names.{extern_name_of}
+use Rattle.wac_ast_base.specs.Names.{extern_name_of}
 use Rattle.wac_printer.proofs.Sequence.{fail, piece, printed_at}
 use Rattle.std.proofs.Common.{◌∙◌}
 use Rattle.wac_layout.specs.Bare.{bare_extern_name}

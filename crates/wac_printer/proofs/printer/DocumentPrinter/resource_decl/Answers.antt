@@ -3,8 +3,8 @@ use Rattle.wac_layout.specs.DeclarationLayout.{head_layout, resource_method_layo
 use Rattle.wac_layout.specs.Bare.{bare_ident, bare_resource_method, doc_lines}
 use Rattle.wac_printer.proofs.Sequence.{fails, of_docs, parts, printed_at, there}
 use Rattle.wac_layout.specs.Parts.{body}
-use Rattle.wac_declarations.specs.Declarations.{resource_method_of}
-use Rattle.wac_syntax.specs.Names.{ident_of}
+use Rattle.wac_ast_types.specs.Declarations.{resource_method_of}
+use Rattle.wac_ast_base.specs.Names.{ident_of}
 use Rattle.wac_printer.proofs.printer.DocumentPrinter.resource_decl.Goals as goal
 
 pub returns-in_err-docs : goal.returns-in_err-docs

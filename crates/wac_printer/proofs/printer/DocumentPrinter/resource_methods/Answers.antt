@@ -1,5 +1,5 @@
 use Rattle.std.proofs.Common.{map, sym, subst, ◌∙◌}
-use Rattle.wac_declarations.specs.Declarations.{resource_method_of}
+use Rattle.wac_ast_types.specs.Declarations.{resource_method_of}
 use Rattle.wac_printer.specs.Printed.{Prints}
 use Rattle.wac_printer.specs.Sliced.{ResourceMethodSliced}
 use Rattle.wac_layout.specs.Bare.{bare_resource_method, doc_lines}

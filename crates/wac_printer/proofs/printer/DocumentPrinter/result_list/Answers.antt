@@ -1,8 +1,8 @@
 use Rattle.wac_printer.proofs.Sequence.{fail, piece, printed_at}
 use Rattle.wac_layout.specs.Bare.{bare_result_list, bare_ty}
-use Rattle.wac_declarations.specs.Declarations.{result_list_of}
+use Rattle.wac_ast_types.specs.Declarations.{result_list_of}
 use Rattle.std.proofs.Common.{sym, ◌∙◌}
-use Rattle.wac_declarations.specs.Types.{ty_of}
+use Rattle.wac_ast_types.specs.Types.{ty_of}
 use Rattle.wac_layout.specs.TypeLayout.{results_layout, ty_layout}
 use Rattle.wac_printer.proofs.printer.DocumentPrinter.result_list.Goals as goal
 

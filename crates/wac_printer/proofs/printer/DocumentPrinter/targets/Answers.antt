@@ -1,5 +1,5 @@
 use Rattle.wac_printer.proofs.Sequence.{fail, piece, printed_at}
-use Rattle.wac_syntax.specs.Names.{package_path_of}
+use Rattle.wac_ast_base.specs.Names.{package_path_of}
 use Rattle.std.proofs.Common.{[], sym, ◌∙◌, ◌∷◌}
 use Rattle.wac_layout.specs.Bare.{bare_package_path}
 use Rattle.std.specs.Option.{option_map}

@@ -2,8 +2,8 @@ use Rattle.wac_printer.proofs.Sequence.{fail, fails, of_docs, parts, piece, prin
 use Rattle.wac_layout.specs.Bare.{bare_alias_kind, bare_ident}
 use Rattle.wac_layout.specs.DeclarationLayout.{alias_kind_layout, head_layout}
 use Rattle.std.proofs.Common.{codes, ◌∙◌}
-use Rattle.wac_declarations.specs.Declarations.{type_alias_kind_of}
-use Rattle.wac_syntax.specs.Names.{ident_of}
+use Rattle.wac_ast_types.specs.Declarations.{type_alias_kind_of}
+use Rattle.wac_ast_base.specs.Names.{ident_of}
 use Rattle.wac_printer.proofs.printer.DocumentPrinter.type_alias.Goals as goal
 
 pub returns-in_err-docs : goal.returns-in_err-docs

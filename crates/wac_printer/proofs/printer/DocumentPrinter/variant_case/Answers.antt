@@ -4,7 +4,7 @@ use Rattle.wac_layout.specs.Bare.{bare_ty}
 use Rattle.std.proofs.Common.{[], ◌∙◌, ◌∷◌}
 use Rattle.wac_layout.specs.DeclarationLayout.{payload_layout}
 use Rattle.std.specs.Option.{option_map}
-use Rattle.wac_declarations.specs.Types.{ty_of}
+use Rattle.wac_ast_types.specs.Types.{ty_of}
 use Rattle.wac_lexer.specs.Reading.{slice}
 use Rattle.wac_printer.proofs.printer.DocumentPrinter.variant_case.Goals as goal
 

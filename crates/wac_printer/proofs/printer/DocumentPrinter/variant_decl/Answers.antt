@@ -1,13 +1,13 @@
 use Rattle.std.proofs.Common.{map, sym, subst, ◌∙◌, codes}
 use Rattle.std.specs.List.{All}
-use Rattle.wac_declarations.specs.Declarations.{variant_case_of}
+use Rattle.wac_ast_types.specs.Declarations.{variant_case_of}
 use Rattle.wac_printer.specs.Sliced.{VariantCaseSliced}
 use Rattle.wac_printer.proofs.Progress.{All-at}
 use Rattle.wac_printer.proofs.Sequence.{fails, of_docs, parts, printed_as, printed_at, rows_bare, there}
 use Rattle.wac_layout.specs.DeclarationLayout.{head_layout, variant_case_layout}
 use Rattle.wac_layout.specs.Bare.{bare_ident, bare_variant_case, doc_lines}
 use Rattle.wac_layout.specs.Parts.{rows}
-use Rattle.wac_syntax.specs.Names.{ident_of}
+use Rattle.wac_ast_base.specs.Names.{ident_of}
 use Rattle.wac_printer.proofs.printer.DocumentPrinter.variant_decl.Goals as goal
 
 pub rows-requires : goal.rows-requires

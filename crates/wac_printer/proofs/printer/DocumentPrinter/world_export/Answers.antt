@@ -3,7 +3,7 @@ use Rattle.wac_layout.specs.WorldLayout.{world_item_path_layout}
 use Rattle.wac_layout.specs.Bare.{bare_world_item_path, doc_lines}
 use Rattle.std.proofs.Common.{[], ◌∙◌, ◌∷◌}
 use Rattle.wac_layout.specs.Printed.{line}
-use Rattle.wac_worlds.specs.Worlds.{world_item_path_of}
+use Rattle.wac_ast_worlds.specs.Worlds.{world_item_path_of}
 use Rattle.wac_printer.proofs.printer.DocumentPrinter.world_export.Goals as goal
 
 pub returns-in_err-docs : goal.returns-in_err-docs

@@ -1,5 +1,5 @@
 use Rattle.std.proofs.Common.{sym, subst}
-use Rattle.wac_worlds.specs.Worlds.{world_item_path_of}
+use Rattle.wac_ast_worlds.specs.Worlds.{world_item_path_of}
 use Rattle.wac_printer.specs.Printed.{Prints}
 use Rattle.wac_printer.specs.Sliced.{WorldItemPathSliced}
 use Rattle.wac_layout.specs.Bare.{bare_world_item_path, doc_lines}

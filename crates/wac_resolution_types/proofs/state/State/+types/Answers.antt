@@ -4,10 +4,10 @@ use Rattle.std.proofs.lemmas.List.{take_all}
 use Rattle.wac_grammar.specs.Tree.{Ty, Types, types_from}
 use Rattle.wac_types.specs.declared.kind.ValueType.{ValueType}
 use Rattle.wac_types.specs.declared.kind.ValueType.TheVariants as values
-use Rattle.wac_syntax.specs.Names.{ident_of}
-use Rattle.wac_declarations.specs.Types.{ty_of}
-use Rattle.wac_declarations.specs.declared.types.«Type».{«Type», size-Type}
-use Rattle.wac_declarations.specs.declared.types.«Type».TheViews.{sized-Result}
+use Rattle.wac_ast_base.specs.Names.{ident_of}
+use Rattle.wac_ast_types.specs.Types.{ty_of}
+use Rattle.wac_ast_types.specs.declared.types.«Type».{«Type», size-Type}
+use Rattle.wac_ast_types.specs.declared.types.«Type».TheViews.{sized-Result}
 use Rattle.wac_resolution_rules.specs.BrokenTypes.{TypeBroken}
 use Rattle.wac_resolution_errors.specs.Told.{told}
 use Rattle.wac_resolution_types.specs.Named.{scope_of}

@@ -1,6 +1,6 @@
 use Rattle.wac_resolution_types.specs.Bindings.{values_of}
 use Rattle.std.proofs.Common.{map, take}
-use Rattle.wac_declarations.specs.Types.{ty_of}
+use Rattle.wac_ast_types.specs.Types.{ty_of}
 use Rattle.wac_grammar.specs.Tree.{types_from}
 use Rattle.wac_resolution_types.specs.Types.{TypesAre}
 use Rattle.wac_resolution_types.proofs.state.State.+types.Given as goal

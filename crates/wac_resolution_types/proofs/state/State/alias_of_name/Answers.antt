@@ -1,4 +1,4 @@
-use Rattle.wac_syntax.specs.Names.{ident_of}
+use Rattle.wac_ast_base.specs.Names.{ident_of}
 use Rattle.wac_resolution_types.specs.Bindings.{values_of}
 use Rattle.wac_resolution_types.proofs.Aliases.{name_aliased}
 use Rattle.wac_resolution_types.proofs.state.State.alias_of_name.Goals as goal

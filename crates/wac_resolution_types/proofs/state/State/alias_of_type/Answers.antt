@@ -1,6 +1,6 @@
 use Rattle.std.proofs.lemmas.Result.{err_from_is_err_and}
-use Rattle.wac_syntax.specs.Names.{ident_of}
-use Rattle.wac_declarations.specs.Types.{ty_of}
+use Rattle.wac_ast_base.specs.Names.{ident_of}
+use Rattle.wac_ast_types.specs.Types.{ty_of}
 use Rattle.wac_resolution_errors.specs.Told.{told}
 use Rattle.wac_resolution_rules.specs.Declarations.{alone}
 use Rattle.wac_resolution_types.specs.Bindings.{values_of}

@@ -2,8 +2,8 @@ use Rattle.std.proofs.Common.{map, take, arith}
 use Rattle.std.proofs.lemmas.Result.{err_from_is_err_and}
 use Rattle.std.proofs.lemmas.List.{take_all, length-map}
 use Rattle.wac_types.specs.Names.{by_name}
-use Rattle.wac_declarations.specs.Declarations.{variant_case_of}
-use Rattle.wac_syntax.specs.Names.{ident_of}
+use Rattle.wac_ast_types.specs.Declarations.{variant_case_of}
+use Rattle.wac_ast_base.specs.Names.{ident_of}
 use Rattle.wac_resolution_errors.specs.Told.{told}
 use Rattle.wac_resolution_rules.specs.Declarations.{HasCase}
 use Rattle.wac_resolution_rules.specs.BrokenDeclarations.{CaseBroken}

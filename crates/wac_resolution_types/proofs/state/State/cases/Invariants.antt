@@ -1,6 +1,6 @@
 use Rattle.std.proofs.Common.{map, take}
 use Rattle.wac_types.specs.Names.{by_name}
-use Rattle.wac_declarations.specs.Declarations.{variant_case_of}
+use Rattle.wac_ast_types.specs.Declarations.{variant_case_of}
 use Rattle.wac_resolution_types.specs.Bindings.{values_of}
 use Rattle.wac_resolution_types.specs.Declarations.{CasesGo}
 use Rattle.wac_resolution_types.proofs.state.State.cases.Given as goal

@@ -4,7 +4,7 @@ use Rattle.wac_types.specs.declared.kind.ItemKind.TheVariants as kinds
 use Rattle.wac_types.specs.declared.kind.«Type».TheVariants as types
 use Rattle.wac_types.specs.declared.kind.ValueType.TheVariants as values
 use Rattle.wac_types.specs.Names.{by_name}
-use Rattle.wac_declarations.specs.Declarations.{named_type_of}
+use Rattle.wac_ast_types.specs.Declarations.{named_type_of}
 use Rattle.wac_resolution_errors.specs.Told.{told}
 use Rattle.wac_resolution_types.specs.Bindings.{values_of}
 use Rattle.wac_resolution_types.proofs.FuncParts.{func_kinds, constructor_is, constructor_breaks}

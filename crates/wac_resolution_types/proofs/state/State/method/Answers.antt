@@ -1,6 +1,6 @@
 use Rattle.std.proofs.lemmas.Result.{IfOk-weaker, MatchResult-weaker}
 use Rattle.wac_types.specs.Names.{by_name}
-use Rattle.wac_declarations.specs.Declarations.{func_type_of}
+use Rattle.wac_ast_types.specs.Declarations.{func_type_of}
 use Rattle.wac_resolution_errors.specs.Told.{told}
 use Rattle.wac_resolution_types.specs.Bindings.{values_of}
 use Rattle.wac_resolution_types.proofs.FuncParts.{first_named, method_is, method_breaks}

@@ -1,6 +1,6 @@
 use Rattle.std.proofs.Common.{map, take}
 use Rattle.wac_types.specs.Names.{by_name}
-use Rattle.wac_declarations.specs.Declarations.{named_type_of}
+use Rattle.wac_ast_types.specs.Declarations.{named_type_of}
 use Rattle.wac_resolution_types.specs.Bindings.{values_of}
 use Rattle.wac_resolution_types.specs.Funcs.{ParamsGo}
 use Rattle.wac_resolution_types.proofs.state.State.params.Given as goal

@@ -1,6 +1,6 @@
 use Rattle.std.proofs.lemmas.Result.{err_from_is_err_and}
-use Rattle.wac_declarations.specs.Declarations.{variant_decl_of, record_decl_of, flags_decl_of, enum_decl_of}
-use Rattle.wac_declarations.specs.declared.type_decl.TypeDecl.TheVariants as decls
+use Rattle.wac_ast_types.specs.Declarations.{variant_decl_of, record_decl_of, flags_decl_of, enum_decl_of}
+use Rattle.wac_ast_types.specs.declared.type_decl.TypeDecl.TheVariants as decls
 use Rattle.wac_resolution_errors.specs.Told.{told}
 use Rattle.wac_resolution_rules.specs.Declarations.{IsVariant, IsRecord, IsFlags, IsEnum}
 use Rattle.wac_resolution_types.specs.Bindings.{values_of}

@@ -1,14 +1,15 @@
-use Rattle.std.proofs.Common.{◌≡◌, [], map, ap, inr, refl, rules}
+use Rattle.std.proofs.Common.{◌≡◌, [], map, ap, inl, inr, refl, rules}
 use Rattle.std.proofs.lemmas.Result.{err_from_is_err_and}
 use Rattle.wac_types.specs.declared.entry.DefinedType.TheVariants as types
 use Rattle.wac_types.specs.Names.{by_name}
-use Rattle.wac_syntax.specs.Names.{ident_of}
-use Rattle.wac_declarations.specs.Declarations.{variant_case_of, variant_decl_of}
+use Rattle.wac_ast_base.specs.Names.{ident_of}
+use Rattle.wac_ast_types.specs.Declarations.{variant_case_of, variant_decl_of}
 use Rattle.wac_resolution_errors.specs.Told.{told}
 use Rattle.wac_resolution_rules.specs.Declarations.{HasCase}
 use Rattle.wac_resolution_rules.specs.BrokenDeclarations.{CaseBroken}
 use Rattle.wac_resolution_types.specs.Bindings.{values_of}
 use Rattle.wac_resolution_types.specs.Declarations.{perhaps}
+use Rattle.wac_resolution_types.proofs.Scopes.{memory_told}
 use Rattle.wac_resolution_types.proofs.NamedParts.{cases_named}
 use Rattle.wac_resolution_types.proofs.DeclarationParts.{none_named, parts_from, parts_fail_from, variant_is}
 use Rattle.wac_resolution_types.proofs.state.State.variant.Goals as goal
@@ -30,3 +31,8 @@ returns-clause-ok c =
     (parts_from perhaps HasCase c.args.self.now.graph c.cases.new.self.graph (values_of c.args.names.now) (by_name c.new-cases.result.entries) (by_name c.cases.new.all.entries) (map variant_case_of c.deref.result.now) (map variant_case_of c.args.decl.now.cases.items)
     (none_named c.new-cases.result.entries empty) (ap (map variant_case_of) c.deref.ensures.value) c.in_ok-cases.ensures.ok)
     c.in_ok-add_defined.ensures
+
+pub returns-in_err-add_defined-clause-err : goal.returns-in_err-add_defined-clause-err
+returns-in_err-add_defined-clause-err c =
+    let p = err_from_is_err_and c.from_residual-in_err-add_defined.result c.from_residual-in_err-add_defined.ensures.1 in
+    rw p.1 (λ naming. inl (memory_told p.0 p.2))

@@ -1,0 +1,11 @@
+use Rattle.std.proofs.Common.{map, length}
+use Rattle.wac_lexer.specs.Reading.{left}
+use Rattle.wac_ast_base.specs.Lists.{list_of}
+use Rattle.wac_ast_base.proofs.Lists.{ListSoFar}
+use Rattle.wac_ast_base.proofs.delimited.parse_items.Given as goal
+
+abbrev pub invariant-loop-alloc : goal.invariant-loop-alloc
+invariant-loop-alloc g l = ListSoFar (list_of g.T.Parse.symbol) (map g.T.Parse.tree l.items.items) l.fn.lexer l.lexer
+
+abbrev pub decreases-loop-alloc : goal.decreases-loop-alloc
+decreases-loop-alloc g l = length (left l.lexer)

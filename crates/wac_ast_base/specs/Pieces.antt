@@ -1,0 +1,63 @@
+-- What is returned for some of the parts of a production.
+use Rattle.std.specs.Prelude.{◌≡◌, List, [], ◌∷◌, Option, Some, None, Result, Ok, Err, ◌⊎◌}
+use Rattle.std.proofs.Common.{inl, inr}
+use Rattle.wac_lexer.specs.Item.{Item}
+use Rattle.wac_lexer.specs.Reading.{Reading, left}
+use Rattle.wac_lexer.specs.declared.token.Token.{Token}
+use Rattle.wac_ast_base.specs.declared.error.Error.{Error}
+use Rattle.wac_lexer.specs.declared.token.Token.TheVariants as t
+use Rattle.wac_ast_base.specs.declared.pieces.BodyKind.{BodyKind}
+use Rattle.wac_ast_base.specs.declared.pieces.BodyKind.TheVariants as kinds
+use Rattle.wac_grammar.specs.Grammar.{Body, Sym, TreeOf, Grammar, Parts, token, sym, nothing, anything, not_empty, optional, ◌▸◌, variant_body, record_body, flags_body, enum_body, variant_case, more_cases, field, more_fields, flag, more_flags, enum_case, more_enum_cases}
+use Rattle.wac_grammar.specs.Reading.{read, read_in}
+use Rattle.wac_ast_base.specs.Answer.{end_of_input, Fails}
+
+abbrev pub PartOf : {X Y E : Type 0} (g : Grammar) → (Parts g → Y) → (Error → E → Type 0) → (X → Y) → Result X E → Reading → Reading → Type 0
+PartOf g of made view (Ok x) old new = (p : Parts g) × (read_in read g [] (left old) ≡ Ok (p, left new)) × (of p ≡ view x) × (end_of_input new ≡ end_of_input old)
+PartOf g of made view (Err x) old new = (e : Error) × made e x × Fails e (end_of_input old) (read_in read g [] (left old))
+
+-- The parts that are read by this grammar, of which the result is what some function makes, or the error reports the place where reading stops.
+pub record GivesPart {X Y E : Type 0} (g : Grammar) (of : Parts g → Y) (made : Error → E → Type 0) (view : X → Y) (r : Result X E) (old new : Reading) : Type 0 where
+  pub part : PartOf g of made view r old new
+
+-- a part and the token after it
+abbrev pub part_before : Sym → Token → Grammar
+part_before s close = sym s ▸ token close
+
+-- perhaps a token, and then the part after it
+abbrev pub part_after : Token → Sym → Grammar
+part_after word s = optional (token word ▸ sym s)
+
+abbrev pub behind_word : {A : Type 0} → (Item × A) ⊎ Unit {0} → Option A
+behind_word (inl p) = Some p.1
+behind_word (inr u) = None
+
+-- ---- bodies that may not be empty, by their items
+
+abbrev pub body_of : BodyKind → Body
+body_of kinds.Variant = variant_body
+body_of kinds.Record = record_body
+body_of kinds.Flags = flags_body
+body_of kinds.Enum = enum_body
+
+abbrev pub body_of_items : Sym → Option Body
+body_of_items variant_case = Some variant_body
+body_of_items field = Some record_body
+body_of_items flag = Some flags_body
+body_of_items enum_case = Some enum_body
+body_of_items _ = None
+
+-- the body, from its opening brace on
+abbrev pub filled : Sym → Grammar
+filled variant_case = token t.OpenBrace ▸ not_empty variant_body t.CloseBrace (sym variant_case ▸ sym more_cases)
+filled field = token t.OpenBrace ▸ not_empty record_body t.CloseBrace (sym field ▸ sym more_fields)
+filled flag = token t.OpenBrace ▸ not_empty flags_body t.CloseBrace (sym flag ▸ sym more_flags)
+filled enum_case = token t.OpenBrace ▸ not_empty enum_body t.CloseBrace (sym enum_case ▸ sym more_enum_cases)
+filled _ = nothing anything
+
+abbrev pub filled_items : (s : Sym) → Parts (filled s) → List (TreeOf s)
+filled_items variant_case p = p.1.0 ∷ p.1.1.0
+filled_items field p = p.1.0 ∷ p.1.1.0
+filled_items flag p = p.1.0 ∷ p.1.1.0
+filled_items enum_case p = p.1.0 ∷ p.1.1.0
+filled_items _ p = []

@@ -1,0 +1,14 @@
+use Rattle.std.proofs.Common.{refl}
+use Rattle.wac_grammar.specs.Grammar.{result_list}
+use Rattle.wac_ast_base.proofs.Exits as x
+use Rattle.wac_ast_base.proofs.Yields as y
+use Rattle.wac_ast_types.proofs.func_type.ResultListParse.parse.Goals as goal
+
+pub returns-in_err-parse-clause-gives : goal.returns-in_err-parse-clause-gives
+returns-in_err-parse-clause-gives c = x.exits result_list _ _ _ c.from_residual.ensures.1 (x.chosen (x.tested c.begins.ensures c.if-begins.true) (x.last c.in_err-parse.ensures.gives))
+
+pub returns-then-begins-clause-gives : goal.returns-then-begins-clause-gives
+returns-then-begins-clause-gives c = y.gives result_list (y.chosen (x.tested c.begins.ensures c.if-begins.true) (y.last c.in_ok-parse.ensures.gives)) refl
+
+pub returns-clause-gives : goal.returns-clause-gives
+returns-clause-gives c = y.gives result_list (y.other (x.tested c.begins.ensures c.if-begins.false) y.nothing) refl

@@ -1,0 +1,6 @@
+use Rattle.std.proofs.Common.{refl}
+use Rattle.wac_ast_base.proofs.Lookaheads.{peeks_on}
+use Rattle.wac_ast_types.proofs.type_decl.ItemTypeDeclPeek.peek.Goals as goal
+
+pub returns-else-peek : goal.returns-else-peek
+returns-else-peek c = peeks_on c.peek.ensures c.if-peek.false c.peek-else-peek.ensures refl refl

@@ -1,0 +1,5 @@
+use Rattle.wac_ast_base.proofs.Lookaheads.{TriedSoFar}
+use Rattle.wac_ast_types.proofs.types.peek_all.Given as goal
+
+abbrev pub invariant-loop-token : goal.invariant-loop-token
+invariant-loop-token l = TriedSoFar l.fn.tokens l.token-index l.fn.lookahead l.lookahead

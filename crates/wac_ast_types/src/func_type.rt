@@ -1,0 +1,189 @@
+//! Function types.
+
+ghost use Rattle.std.specs.Prelude.{◌≡◌, ◌≤◌};
+ghost use Rattle.wac_grammar.specs.Grammar as symbols;
+ghost use Rattle.wac_grammar.specs.Grammar.{results_of};
+ghost use Rattle.wac_grammar.specs.Reading.{begins};
+ghost use Rattle.wac_ast_base.specs.Lookahead.{Peeks};
+ghost use Rattle.wac_ast_base.specs.Pieces.{GivesPart};
+ghost use Rattle.wac_ast_types.specs.Declarations.{named_type_of, result_list_of, func_type_of, func_type_ref_of, results_rule};
+
+use crate::types::Type;
+use std::alloc::Global;
+use std::fmt;
+use wac_ast_base::{
+    Error, Ident, Lookahead, Parse, ParseResult, Peek, begins, parse_list, take_optional,
+    take_token,
+};
+use wac_lexer::{Lexer, Token};
+
+/// A function type.
+#[derive(Drop)]
+pub struct FuncType<'a> {
+    /// Whether `async` stands before it.
+    pub is_async: bool,
+    /// The parameters, in order.
+    pub params: Vec<NamedType<'a>>,
+    /// What the function gives.
+    pub results: ResultList<'a>,
+}
+
+impl fmt::Debug for FuncType<'_> {
+    fn fmt<W: fmt::Write>(&self, f: &mut fmt::Formatter<W>) -> fmt::Result {
+        let FuncType {
+            is_async,
+            params,
+            results,
+        } = self;
+        write!(
+            f,
+            "FuncType {{ is_async: {is_async:?}, params: {params:?}, results: {results:?} }}"
+        )
+    }
+}
+
+impl<'a> Parse<'a> for FuncType<'a> {
+    ghost symbol = { symbols.func_type };
+
+    ghost tree = { func_type_of };
+
+    fn parse(alloc: Global, lexer: &mut Lexer<'a>) -> ParseResult<Self> {
+        let is_async = take_optional(lexer, Token::AsyncKeyword)?;
+        take_token(lexer, Token::FuncKeyword)?;
+        take_token(lexer, Token::OpenParen)?;
+        let (params, _) = parse_list::<NamedType, Error>(alloc, lexer, Token::CloseParen)?;
+        let results = parse_results(alloc, lexer)?;
+        Ok(FuncType {
+            is_async,
+            params,
+            results,
+        })
+    }
+}
+
+impl<'a> Peek for FuncType<'a> {
+    ghost firsts = { begins symbols.func_type };
+
+    fn peek(lookahead: &mut Lookahead) -> bool
+        ensures { Peeks (begins symbols.func_type) result lookahead.old lookahead.new }
+    {
+        lookahead.peek(Token::AsyncKeyword) || lookahead.peek(Token::FuncKeyword)
+    }
+}
+
+/// What a function gives, after an arrow.
+fn parse_results<'a>(alloc: Global, lexer: &mut Lexer<'a>) -> ParseResult<ResultList<'a>>
+    ensures gives { GivesPart results_rule results_of (λ e x. x ≡ e) result_list_of result lexer.old lexer.new }
+    ensures source { lexer.new.source ≡ lexer.old.source }
+    ensures moves { lexer.old.place ≤ lexer.new.place }
+{
+    if take_optional(lexer, Token::Arrow)? {
+        return Ok(Parse::parse(alloc, lexer)?);
+    }
+    Ok(ResultList::Empty)
+}
+
+/// What a function gives.
+#[derive(Drop)]
+pub enum ResultList<'a> {
+    /// Nothing.
+    Empty,
+    /// A value of a type.
+    Scalar(Type<'a>),
+}
+
+impl fmt::Debug for ResultList<'_> {
+    fn fmt<W: fmt::Write>(&self, f: &mut fmt::Formatter<W>) -> fmt::Result {
+        match self {
+            ResultList::Empty => f.write_str("Empty"),
+            ResultList::Scalar(part) => write!(f, "Scalar({part:?})"),
+        }
+    }
+}
+
+impl<'a> Parse<'a> for ResultList<'a> {
+    ghost symbol = { symbols.result_list };
+
+    ghost tree = { result_list_of };
+
+    fn parse(alloc: Global, lexer: &mut Lexer<'a>) -> ParseResult<Self> {
+        if begins::<Type>(lexer) {
+            return Ok(ResultList::Scalar(Parse::parse(alloc, lexer)?));
+        }
+        Ok(ResultList::Empty)
+    }
+}
+
+/// A name and its type.
+#[derive(Drop)]
+pub struct NamedType<'a> {
+    /// The name.
+    pub id: Ident<'a>,
+    /// The type.
+    pub ty: Type<'a>,
+}
+
+impl fmt::Debug for NamedType<'_> {
+    fn fmt<W: fmt::Write>(&self, f: &mut fmt::Formatter<W>) -> fmt::Result {
+        let NamedType { id, ty } = self;
+        write!(f, "NamedType {{ id: {id:?}, ty: {ty:?} }}")
+    }
+}
+
+impl<'a> Parse<'a> for NamedType<'a> {
+    ghost symbol = { symbols.named_type };
+
+    ghost tree = { named_type_of };
+
+    fn parse(alloc: Global, lexer: &mut Lexer<'a>) -> ParseResult<Self> {
+        let id = Parse::parse(alloc, lexer)?;
+        take_token(lexer, Token::Colon)?;
+        let ty = Parse::parse(alloc, lexer)?;
+        Ok(NamedType { id, ty })
+    }
+}
+
+impl<'a> Peek for NamedType<'a> {
+    ghost firsts = { begins symbols.named_type };
+
+    fn peek(lookahead: &mut Lookahead) -> bool
+        ensures { Peeks (begins symbols.named_type) result lookahead.old lookahead.new }
+    {
+        Ident::peek(lookahead)
+    }
+}
+
+/// A function type, or the name of one.
+#[derive(Drop)]
+pub enum FuncTypeRef<'a> {
+    /// A function type.
+    Func(FuncType<'a>),
+    /// The name of a declared one.
+    Ident(Ident<'a>),
+}
+
+impl fmt::Debug for FuncTypeRef<'_> {
+    fn fmt<W: fmt::Write>(&self, f: &mut fmt::Formatter<W>) -> fmt::Result {
+        match self {
+            FuncTypeRef::Func(part) => write!(f, "Func({part:?})"),
+            FuncTypeRef::Ident(part) => write!(f, "Ident({part:?})"),
+        }
+    }
+}
+
+impl<'a> Parse<'a> for FuncTypeRef<'a> {
+    ghost symbol = { symbols.func_type_ref };
+
+    ghost tree = { func_type_ref_of };
+
+    fn parse(alloc: Global, lexer: &mut Lexer<'a>) -> ParseResult<Self> {
+        let mut lookahead = Lookahead::new(lexer);
+        if FuncType::peek(&mut lookahead) {
+            Ok(FuncTypeRef::Func(Parse::parse(alloc, lexer)?))
+        } else if Ident::peek(&mut lookahead) {
+            Ok(FuncTypeRef::Ident(Parse::parse(alloc, lexer)?))
+        } else {
+            Err(lookahead.error())
+        }
+    }
+}

@@ -1,0 +1,20 @@
+use Rattle.std.proofs.Common.{refl}
+use Rattle.wac_grammar.specs.Grammar.{world_decl}
+use Rattle.wac_ast_base.proofs.Exits as x
+use Rattle.wac_ast_base.proofs.Yields as y
+use Rattle.wac_ast_worlds.proofs.world.WorldDeclParse.parse.Goals as goal
+
+pub returns-in_err-take_token-clause-gives : goal.returns-in_err-take_token-clause-gives
+returns-in_err-take_token-clause-gives c = x.exits world_decl _ _ _ c.from_residual-in_err-take_token.ensures.1 (x.with_docs (x.here c.in_err-take_token.ensures.takes))
+
+pub returns-in_err-id-clause-gives : goal.returns-in_err-id-clause-gives
+returns-in_err-id-clause-gives c = x.exits world_decl _ _ _ c.from_residual-in_err-id.ensures.1 (x.with_docs (x.took c.in_ok-take_token.ensures.takes (x.here c.in_err-id.ensures.gives)))
+
+pub returns-in_err-take_token-2-clause-gives : goal.returns-in_err-take_token-2-clause-gives
+returns-in_err-take_token-2-clause-gives c = x.exits world_decl _ _ _ c.from_residual-in_err-take_token-2.ensures.1 (x.with_docs (x.took c.in_ok-take_token.ensures.takes (x.past c.in_ok-id.ensures.gives (x.here c.in_err-take_token-2.ensures.takes))))
+
+pub returns-in_err-items-clause-gives : goal.returns-in_err-items-clause-gives
+returns-in_err-items-clause-gives c = x.exits world_decl _ _ _ c.from_residual-in_err-items.ensures.1 (x.with_docs (x.took c.in_ok-take_token.ensures.takes (x.past c.in_ok-id.ensures.gives (x.took c.in_ok-take_token-2.ensures.takes (x.last (x.same_error _ _ _ c.in_err-items.ensures.takes))))))
+
+pub returns-clause-gives : goal.returns-clause-gives
+returns-clause-gives c = y.gives world_decl (y.docs_took c.in_ok-docs.ensures.docs c.in_ok-take_token.ensures.takes (y.past c.in_ok-id.ensures.gives (y.took c.in_ok-take_token-2.ensures.takes (y.last_listed c.in_ok-items.ensures.takes)))) refl

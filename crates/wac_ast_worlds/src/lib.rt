@@ -1,0 +1,15 @@
+//! Part of `wac_ast`: interfaces, worlds and imports of WAC: trees and parsers.
+#![tactic(auto)]
+
+mod import;
+mod interface;
+mod world;
+
+pub use import::{ImportStatement, ImportType};
+pub use interface::{
+    InlineInterface, InterfaceDecl, InterfaceExport, InterfaceItem, Use, UseItem, UsePath,
+};
+pub use world::{
+    ExternType, NamedWorldItem, WorldDecl, WorldExport, WorldImport, WorldInclude,
+    WorldIncludeItem, WorldItem, WorldItemPath, WorldRef,
+};

@@ -1,0 +1,469 @@
+//! Worlds.
+
+ghost use Rattle.std.specs.Prelude.{◌≡◌, ◌≤◌, map};
+ghost use Rattle.wac_grammar.specs.Grammar as symbols;
+ghost use Rattle.wac_grammar.specs.Reading.{begins};
+ghost use Rattle.wac_ast_base.specs.Lookahead.{Peeks};
+ghost use Rattle.wac_ast_base.specs.Pieces.{GivesPart};
+ghost use Rattle.wac_ast_worlds.specs.Tails.{with_part, with_items};
+ghost use Rattle.wac_ast_worlds.specs.Worlds.{world_ref_of, world_include_item_of, extern_type_of, named_world_item_of, world_item_path_of, world_import_of, world_export_of, world_include_of, world_item_of, world_decl_of};
+ghost use Rattle.wac_grammar.specs.Spans.{world_ref_name, world_ref_span};
+
+use crate::interface::{InlineInterface, Use};
+use std::alloc::Global;
+use std::fmt;
+use wac_ast_base::{
+    DocComment, Error, Ident, Lookahead, PackagePath, Parse, ParseResult, Peek, at_second,
+    parse_before, parse_body, parse_docs, parse_list, take_optional, take_token,
+};
+use wac_ast_types::{FuncType, ItemTypeDecl};
+use wac_lexer::{Lexer, SourceSpan, Token};
+
+/// Where an included world is found.
+#[derive(Debug, Drop)]
+pub enum WorldRef<'a> {
+    /// A path to an item of a package.
+    Package(PackagePath<'a>),
+    /// A name.
+    Ident(Ident<'a>),
+}
+
+impl<'a> WorldRef<'a> {
+    /// The name, or the whole path with its version.
+    pub fn name(&self) -> &'a str
+        ensures { result.now ≡ world_ref_name (world_ref_of self.now) }
+    {
+        match self {
+            WorldRef::Package(path) => path.string,
+            WorldRef::Ident(ident) => ident.string,
+        }
+    }
+
+    /// Where the reference stands.
+    pub fn span(&self) -> SourceSpan
+        ensures { result ≡ world_ref_span (world_ref_of self.now) }
+    {
+        match self {
+            WorldRef::Package(path) => path.span,
+            WorldRef::Ident(ident) => ident.span,
+        }
+    }
+}
+
+impl<'a> Parse<'a> for WorldRef<'a> {
+    ghost symbol = { symbols.world_ref };
+
+    ghost tree = { world_ref_of };
+
+    fn parse(alloc: Global, lexer: &mut Lexer<'a>) -> ParseResult<Self> {
+        let mut lookahead = Lookahead::new(lexer);
+        if PackagePath::peek(&mut lookahead) {
+            Ok(WorldRef::Package(Parse::parse(alloc, lexer)?))
+        } else if Ident::peek(&mut lookahead) {
+            Ok(WorldRef::Ident(Parse::parse(alloc, lexer)?))
+        } else {
+            Err(lookahead.error())
+        }
+    }
+}
+
+/// A new name for an item of an included world.
+#[derive(Clone, Copy, Debug)]
+pub struct WorldIncludeItem<'a> {
+    /// The name in the included world.
+    pub from: Ident<'a>,
+    /// The name that it is given.
+    pub to: Ident<'a>,
+}
+
+impl<'a> Parse<'a> for WorldIncludeItem<'a> {
+    ghost symbol = { symbols.include_item };
+
+    ghost tree = { world_include_item_of };
+
+    fn parse(alloc: Global, lexer: &mut Lexer<'a>) -> ParseResult<Self> {
+        let from = Parse::parse(alloc, lexer)?;
+        take_token(lexer, Token::AsKeyword)?;
+        let to = Parse::parse(alloc, lexer)?;
+        Ok(WorldIncludeItem { from, to })
+    }
+}
+
+impl<'a> Peek for WorldIncludeItem<'a> {
+    ghost firsts = { begins symbols.include_item };
+
+    fn peek(lookahead: &mut Lookahead) -> bool
+        ensures { Peeks (begins symbols.include_item) result lookahead.old lookahead.new }
+    {
+        Ident::peek(lookahead)
+    }
+}
+
+/// A world.
+#[derive(Drop)]
+pub struct WorldDecl<'a> {
+    /// The documentation before it.
+    pub docs: Vec<DocComment<'a>>,
+    /// The name.
+    pub id: Ident<'a>,
+    /// The items, in order.
+    pub items: Vec<WorldItem<'a>>,
+}
+
+impl fmt::Debug for WorldDecl<'_> {
+    fn fmt<W: fmt::Write>(&self, f: &mut fmt::Formatter<W>) -> fmt::Result {
+        let WorldDecl { docs, id, items } = self;
+        write!(
+            f,
+            "WorldDecl {{ docs: {docs:?}, id: {id:?}, items: {items:?} }}"
+        )
+    }
+}
+
+impl<'a> Parse<'a> for WorldDecl<'a> {
+    ghost symbol = { symbols.world_decl };
+
+    ghost tree = { world_decl_of };
+
+    fn parse(alloc: Global, lexer: &mut Lexer<'a>) -> ParseResult<Self> {
+        let docs = parse_docs(alloc, lexer)?;
+        take_token(lexer, Token::WorldKeyword)?;
+        let id = Parse::parse(alloc, lexer)?;
+        take_token(lexer, Token::OpenBrace)?;
+        let (items, _) = parse_body::<WorldItem, Error>(alloc, lexer)?;
+        Ok(WorldDecl { docs, id, items })
+    }
+}
+
+impl<'a> Peek for WorldDecl<'a> {
+    ghost firsts = { begins symbols.world_decl };
+
+    fn peek(lookahead: &mut Lookahead) -> bool
+        ensures { Peeks (begins symbols.world_decl) result lookahead.old lookahead.new }
+    {
+        lookahead.peek(Token::WorldKeyword)
+    }
+}
+
+/// An item of a world.
+#[derive(Drop)]
+pub enum WorldItem<'a> {
+    /// A use of types of an interface.
+    Use(Use<'a>),
+    /// An import.
+    Import(WorldImport<'a>),
+    /// An export.
+    Export(WorldExport<'a>),
+    /// An inclusion of another world.
+    Include(WorldInclude<'a>),
+    /// A type.
+    Ty(ItemTypeDecl<'a>),
+}
+
+impl fmt::Debug for WorldItem<'_> {
+    fn fmt<W: fmt::Write>(&self, f: &mut fmt::Formatter<W>) -> fmt::Result {
+        match self {
+            WorldItem::Use(part) => write!(f, "Use({part:?})"),
+            WorldItem::Import(part) => write!(f, "Import({part:?})"),
+            WorldItem::Export(part) => write!(f, "Export({part:?})"),
+            WorldItem::Include(part) => write!(f, "Include({part:?})"),
+            WorldItem::Ty(part) => write!(f, "Ty({part:?})"),
+        }
+    }
+}
+
+impl<'a> Parse<'a> for WorldItem<'a> {
+    ghost symbol = { symbols.world_item };
+
+    ghost tree = { world_item_of };
+
+    fn parse(alloc: Global, lexer: &mut Lexer<'a>) -> ParseResult<Self> {
+        let mut lookahead = Lookahead::new(lexer);
+        if Use::peek(&mut lookahead) {
+            Ok(WorldItem::Use(Parse::parse(alloc, lexer)?))
+        } else if WorldImport::peek(&mut lookahead) {
+            Ok(WorldItem::Import(Parse::parse(alloc, lexer)?))
+        } else if WorldExport::peek(&mut lookahead) {
+            Ok(WorldItem::Export(Parse::parse(alloc, lexer)?))
+        } else if WorldInclude::peek(&mut lookahead) {
+            Ok(WorldItem::Include(Parse::parse(alloc, lexer)?))
+        } else if ItemTypeDecl::peek(&mut lookahead) {
+            Ok(WorldItem::Ty(Parse::parse(alloc, lexer)?))
+        } else {
+            Err(lookahead.error())
+        }
+    }
+}
+
+impl<'a> Peek for WorldItem<'a> {
+    ghost firsts = { begins symbols.world_item };
+
+    fn peek(lookahead: &mut Lookahead) -> bool
+        ensures { Peeks (begins symbols.world_item) result lookahead.old lookahead.new }
+    {
+        Use::peek(lookahead)
+            || WorldImport::peek(lookahead)
+            || WorldExport::peek(lookahead)
+            || WorldInclude::peek(lookahead)
+            || ItemTypeDecl::peek(lookahead)
+    }
+}
+
+/// What a world imports.
+#[derive(Drop)]
+pub struct WorldImport<'a> {
+    /// The documentation before it.
+    pub docs: Vec<DocComment<'a>>,
+    /// The item.
+    pub path: WorldItemPath<'a>,
+}
+
+impl fmt::Debug for WorldImport<'_> {
+    fn fmt<W: fmt::Write>(&self, f: &mut fmt::Formatter<W>) -> fmt::Result {
+        let WorldImport { docs, path } = self;
+        write!(f, "WorldImport {{ docs: {docs:?}, path: {path:?} }}")
+    }
+}
+
+impl<'a> Parse<'a> for WorldImport<'a> {
+    ghost symbol = { symbols.world_import };
+
+    ghost tree = { world_import_of };
+
+    fn parse(alloc: Global, lexer: &mut Lexer<'a>) -> ParseResult<Self> {
+        let docs = parse_docs(alloc, lexer)?;
+        take_token(lexer, Token::ImportKeyword)?;
+        let path = parse_before::<WorldItemPath, Error>(alloc, lexer, Token::Semicolon)?;
+        Ok(WorldImport { docs, path })
+    }
+}
+
+impl<'a> Peek for WorldImport<'a> {
+    ghost firsts = { begins symbols.world_import };
+
+    fn peek(lookahead: &mut Lookahead) -> bool
+        ensures { Peeks (begins symbols.world_import) result lookahead.old lookahead.new }
+    {
+        lookahead.peek(Token::ImportKeyword)
+    }
+}
+
+/// What a world exports.
+#[derive(Drop)]
+pub struct WorldExport<'a> {
+    /// The documentation before it.
+    pub docs: Vec<DocComment<'a>>,
+    /// The item.
+    pub path: WorldItemPath<'a>,
+}
+
+impl fmt::Debug for WorldExport<'_> {
+    fn fmt<W: fmt::Write>(&self, f: &mut fmt::Formatter<W>) -> fmt::Result {
+        let WorldExport { docs, path } = self;
+        write!(f, "WorldExport {{ docs: {docs:?}, path: {path:?} }}")
+    }
+}
+
+impl<'a> Parse<'a> for WorldExport<'a> {
+    ghost symbol = { symbols.world_export };
+
+    ghost tree = { world_export_of };
+
+    fn parse(alloc: Global, lexer: &mut Lexer<'a>) -> ParseResult<Self> {
+        let docs = parse_docs(alloc, lexer)?;
+        take_token(lexer, Token::ExportKeyword)?;
+        let path = parse_before::<WorldItemPath, Error>(alloc, lexer, Token::Semicolon)?;
+        Ok(WorldExport { docs, path })
+    }
+}
+
+impl<'a> Peek for WorldExport<'a> {
+    ghost firsts = { begins symbols.world_export };
+
+    fn peek(lookahead: &mut Lookahead) -> bool
+        ensures { Peeks (begins symbols.world_export) result lookahead.old lookahead.new }
+    {
+        lookahead.peek(Token::ExportKeyword)
+    }
+}
+
+/// An item that a world imports or exports.
+#[derive(Drop)]
+pub enum WorldItemPath<'a> {
+    /// A path to an item of a package.
+    Package(PackagePath<'a>),
+    /// A name and its type.
+    Named(NamedWorldItem<'a>),
+    /// A name.
+    Ident(Ident<'a>),
+}
+
+impl fmt::Debug for WorldItemPath<'_> {
+    fn fmt<W: fmt::Write>(&self, f: &mut fmt::Formatter<W>) -> fmt::Result {
+        match self {
+            WorldItemPath::Package(part) => write!(f, "Package({part:?})"),
+            WorldItemPath::Named(part) => write!(f, "Named({part:?})"),
+            WorldItemPath::Ident(part) => write!(f, "Ident({part:?})"),
+        }
+    }
+}
+
+impl<'a> Parse<'a> for WorldItemPath<'a> {
+    ghost symbol = { symbols.world_item_path };
+
+    ghost tree = { world_item_path_of };
+
+    fn parse(alloc: Global, lexer: &mut Lexer<'a>) -> ParseResult<Self> {
+        let mut lookahead = Lookahead::new(lexer);
+        if PackagePath::peek(&mut lookahead) {
+            Ok(WorldItemPath::Package(Parse::parse(alloc, lexer)?))
+        } else if Ident::peek(&mut lookahead) {
+            if at_second(lexer, Token::Colon) {
+                Ok(WorldItemPath::Named(Parse::parse(alloc, lexer)?))
+            } else {
+                Ok(WorldItemPath::Ident(Parse::parse(alloc, lexer)?))
+            }
+        } else {
+            Err(lookahead.error())
+        }
+    }
+}
+
+/// A name and its type, which a world imports or exports.
+#[derive(Drop)]
+pub struct NamedWorldItem<'a> {
+    /// The name.
+    pub id: Ident<'a>,
+    /// The type.
+    pub ty: ExternType<'a>,
+}
+
+impl fmt::Debug for NamedWorldItem<'_> {
+    fn fmt<W: fmt::Write>(&self, f: &mut fmt::Formatter<W>) -> fmt::Result {
+        let NamedWorldItem { id, ty } = self;
+        write!(f, "NamedWorldItem {{ id: {id:?}, ty: {ty:?} }}")
+    }
+}
+
+impl<'a> Parse<'a> for NamedWorldItem<'a> {
+    ghost symbol = { symbols.named_world_item };
+
+    ghost tree = { named_world_item_of };
+
+    fn parse(alloc: Global, lexer: &mut Lexer<'a>) -> ParseResult<Self> {
+        let id = Parse::parse(alloc, lexer)?;
+        take_token(lexer, Token::Colon)?;
+        let ty = Parse::parse(alloc, lexer)?;
+        Ok(NamedWorldItem { id, ty })
+    }
+}
+
+impl<'a> Peek for NamedWorldItem<'a> {
+    ghost firsts = { begins symbols.named_world_item };
+
+    fn peek(lookahead: &mut Lookahead) -> bool
+        ensures { Peeks (begins symbols.named_world_item) result lookahead.old lookahead.new }
+    {
+        Ident::peek(lookahead)
+    }
+}
+
+/// The type of an item that a world imports or exports.
+#[derive(Drop)]
+pub enum ExternType<'a> {
+    /// A name.
+    Ident(Ident<'a>),
+    /// A function type.
+    Func(FuncType<'a>),
+    /// An interface without a name.
+    Interface(InlineInterface<'a>),
+}
+
+impl fmt::Debug for ExternType<'_> {
+    fn fmt<W: fmt::Write>(&self, f: &mut fmt::Formatter<W>) -> fmt::Result {
+        match self {
+            ExternType::Ident(part) => write!(f, "Ident({part:?})"),
+            ExternType::Func(part) => write!(f, "Func({part:?})"),
+            ExternType::Interface(part) => write!(f, "Interface({part:?})"),
+        }
+    }
+}
+
+impl<'a> Parse<'a> for ExternType<'a> {
+    ghost symbol = { symbols.extern_type };
+
+    ghost tree = { extern_type_of };
+
+    fn parse(alloc: Global, lexer: &mut Lexer<'a>) -> ParseResult<Self> {
+        let mut lookahead = Lookahead::new(lexer);
+        if Ident::peek(&mut lookahead) {
+            Ok(ExternType::Ident(Parse::parse(alloc, lexer)?))
+        } else if FuncType::peek(&mut lookahead) {
+            Ok(ExternType::Func(Parse::parse(alloc, lexer)?))
+        } else if InlineInterface::peek(&mut lookahead) {
+            Ok(ExternType::Interface(Parse::parse(alloc, lexer)?))
+        } else {
+            Err(lookahead.error())
+        }
+    }
+}
+
+/// An inclusion of a world in another.
+#[derive(Drop)]
+pub struct WorldInclude<'a> {
+    /// The documentation before it.
+    pub docs: Vec<DocComment<'a>>,
+    /// The world that is included.
+    pub world: WorldRef<'a>,
+    /// The new names for its items.
+    pub with: Vec<WorldIncludeItem<'a>>,
+}
+
+impl fmt::Debug for WorldInclude<'_> {
+    fn fmt<W: fmt::Write>(&self, f: &mut fmt::Formatter<W>) -> fmt::Result {
+        let WorldInclude { docs, world, with } = self;
+        write!(
+            f,
+            "WorldInclude {{ docs: {docs:?}, world: {world:?}, with: {with:?} }}"
+        )
+    }
+}
+
+impl<'a> Parse<'a> for WorldInclude<'a> {
+    ghost symbol = { symbols.world_include };
+
+    ghost tree = { world_include_of };
+
+    fn parse(alloc: Global, lexer: &mut Lexer<'a>) -> ParseResult<Self> {
+        let docs = parse_docs(alloc, lexer)?;
+        take_token(lexer, Token::IncludeKeyword)?;
+        let world = Parse::parse(alloc, lexer)?;
+        let with = parse_with(alloc, lexer)?;
+        take_token(lexer, Token::Semicolon)?;
+        Ok(WorldInclude { docs, world, with })
+    }
+}
+
+/// The new names after `with`, where it is next.
+fn parse_with<'a>(alloc: Global, lexer: &mut Lexer<'a>) -> ParseResult<Vec<WorldIncludeItem<'a>>>
+    ensures gives { GivesPart with_part with_items (λ e x. x ≡ e) (λ v. map world_include_item_of v.items) result lexer.old lexer.new }
+    ensures source { lexer.new.source ≡ lexer.old.source }
+    ensures moves { lexer.old.place ≤ lexer.new.place }
+{
+    if !take_optional(lexer, Token::WithKeyword)? {
+        return Ok(Vec::new(alloc));
+    }
+    take_token(lexer, Token::OpenBrace)?;
+    let (with, _) = parse_list::<WorldIncludeItem, Error>(alloc, lexer, Token::CloseBrace)?;
+    Ok(with)
+}
+
+impl<'a> Peek for WorldInclude<'a> {
+    ghost firsts = { begins symbols.world_include };
+
+    fn peek(lookahead: &mut Lookahead) -> bool
+        ensures { Peeks (begins symbols.world_include) result lookahead.old lookahead.new }
+    {
+        lookahead.peek(Token::IncludeKeyword)
+    }
+}

@@ -1,5 +1,0 @@
-use Rattle.wac_syntax.proofs.Lookaheads.{TriedSoFar}
-use Rattle.wac_declarations.proofs.types.peek_all.Given as goal
-
-abbrev pub invariant-loop-token : goal.invariant-loop-token
-invariant-loop-token l = TriedSoFar l.fn.tokens l.token-index l.fn.lookahead l.lookahead

@@ -1,0 +1,5 @@
+//! Tests of `wac_examples`: what its functions return for the texts that the README shows.
+#![tactic(auto)]
+
+#[cfg(test)]
+mod texts;

@@ -1,0 +1,115 @@
+//! The texts that the README shows, and rows of the language.
+
+use std::test::Fail;
+use wac_examples::{
+    first_error, formatted, imported_packages, is_formatted, list_tokens, position, to_json,
+};
+
+const SOURCE: &str = r#"/* Built every night. */
+/** Puts a cache in front of a service. */
+package example:gateway@1.2.0 targets example:edge/proxy;
+import log: func(line: string);
+let cache = new example:cache { log, ... }; // holds 100 entries
+export cache["example:cache/metrics@0.2.0"] as "metrics";
+"#;
+
+const FORMATTED: &str = r#"/// Puts a cache in front of a service.
+package example:gateway@1.2.0 targets example:edge/proxy;
+
+import log: func(line: string);
+
+let cache = new example:cache {
+    log,
+    ...
+};
+
+export cache["example:cache/metrics@0.2.0"] as "metrics";
+"#;
+
+const FAULTY: &str = r#"package example:gateway;
+let cache = new example:cache { log ... };
+"#;
+
+#[test]
+fn a_document_is_formatted(rt: HostRuntime) -> Result<(), Fail> {
+    let alloc = rt.alloc();
+    for (source, want) in [(SOURCE, false), (FORMATTED, true)] {
+        match is_formatted(alloc, source) {
+            Ok(yes) => assert_eq!(rt; yes, want, "{source}"),
+            Err(_) => panic!(rt; "rejected: {source}"),
+        }
+    }
+    match formatted(alloc, "package a:b; let x = new c:d { ..., y };") {
+        Ok(text) => assert_eq!(rt;
+            text.as_str(),
+            "package a:b;\n\nlet x = new c:d {\n  ...,\n  y,\n};\n"
+        ),
+        Err(_) => panic!(rt; "rejected"),
+    }
+    Ok(())
+}
+
+#[test]
+fn an_error_has_a_place(rt: HostRuntime) -> Result<(), Fail> {
+    assert!(rt; first_error(rt.alloc(), SOURCE)?.is_none());
+    let Some((span, text)) = first_error(rt.alloc(), FAULTY)? else {
+        panic!(rt; "no error")
+    };
+    assert_eq!(rt; (span.offset(), span.len()), (61, 3));
+    assert_eq!(rt; text.as_str(), "expected `,`, found `...`");
+    assert_eq!(rt; position(FAULTY, span.offset()), (1, 36));
+    Ok(())
+}
+
+#[test]
+fn offsets_have_lines_and_columns(rt: HostRuntime) {
+    for (source, offset, want) in [
+        ("", 0, (0, 0)),
+        ("a\nb", 1, (0, 1)),
+        ("a\nb", 2, (1, 0)),
+        ("a\n\nbc", 4, (2, 1)),
+        ("a\nb", 9, (1, 1)),
+    ] {
+        assert_eq!(rt; position(source, offset), want, "of {offset} in {source}");
+    }
+}
+
+#[test]
+fn tokens_are_listed(rt: HostRuntime) -> Result<(), Fail> {
+    for (source, lines) in [
+        (
+            "/// A name.\npackage a:b",
+            "0+11 doc: A name.\n12+7 `package` keyword: package\n20+3 package name: a:b\n",
+        ),
+        ("....", "0+3 `...`: ...\n3+1 `.`: .\n"),
+        (
+            "/* /* unterminated */",
+            "0+21 an unterminated comment was encountered\n",
+        ),
+    ] {
+        assert_eq!(rt; list_tokens(rt.alloc(), source)?.as_str(), lines);
+    }
+    Ok(())
+}
+
+#[test]
+fn packages_are_named_by_imports(rt: HostRuntime) -> Result<(), Fail> {
+    let source = "package a:b; import c: d:e/f@1.0.0; import g: func(); import h: i:j/k;";
+    match imported_packages(rt.alloc(), source) {
+        Ok(names) => assert_eq!(rt; names.as_slice(), ["d:e", "i:j"].as_slice()),
+        Err(_) => panic!(rt; "rejected"),
+    }
+    Ok(())
+}
+
+#[test]
+fn a_document_is_json(rt: HostRuntime) -> Result<(), Fail> {
+    match to_json(rt.alloc(), "package a:b;") {
+        Ok(text) => assert_eq!(rt;
+            text.as_str(),
+            r#"{"directive":{"package":{"name":"a:b","span":{"length":3,"offset":8},"string":"a:b","version":null}},"docs":[],"statements":[]}"#
+        ),
+        Err(_) => panic!(rt; "rejected"),
+    }
+    Ok(())
+}

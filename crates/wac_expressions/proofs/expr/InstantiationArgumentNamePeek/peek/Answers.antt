@@ -1,6 +1,0 @@
-use Rattle.std.proofs.Common.{refl}
-use Rattle.wac_syntax.proofs.Lookaheads.{peeks_on}
-use Rattle.wac_expressions.proofs.expr.InstantiationArgumentNamePeek.peek.Goals as goal
-
-pub returns-else-peek : goal.returns-else-peek
-returns-else-peek c = peeks_on c.peek.ensures c.if-peek.false c.peek-else-peek.ensures refl refl

@@ -1,9 +1,0 @@
-//! Expressions of WAC: trees and parsers.
-#![tactic(auto)]
-
-mod expr;
-
-pub use expr::{
-    AccessExpr, Expr, InstantiationArgument, InstantiationArgumentName, NamedAccessExpr,
-    NamedInstantiationArgument, NestedExpr, NewExpr, PostfixExpr, PrimaryExpr,
-};

@@ -1,0 +1,5 @@
+pub mod Found
+pub mod Lists
+pub mod Going
+pub mod Methods
+pub mod Declared

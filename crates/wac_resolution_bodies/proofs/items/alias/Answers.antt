@@ -1,0 +1,23 @@
+use Rattle.std.proofs.Common.{inl, inr}
+use Rattle.std.proofs.lemmas.Result.{err_from_is_err_and}
+use Rattle.wac_grammar.specs.Tree.{ItemTypeDecl}
+use Rattle.wac_ast_types.specs.Declarations.{type_alias_of}
+use Rattle.wac_graph.specs.Means.{means, declared_count}
+use Rattle.wac_resolution_bodies.specs.Lists.{lists_of}
+use Rattle.wac_resolution_bodies.proofs.Declared.{alias_declared}
+use Rattle.wac_resolution_bodies.proofs.items.alias.Goals as goal
+
+pub returns-in_err-kind-clause-err : goal.returns-in_err-kind-clause-err
+returns-in_err-kind-clause-err c =
+    let p = err_from_is_err_and c.from_residual.result c.from_residual.ensures.1 in
+    rw (p.1, p.2) (λ naming. inl (c.in_err-kind.ensures.err naming))
+
+pub returns-in_err-declare-clause-err : goal.returns-in_err-declare-clause-err
+returns-in_err-declare-clause-err c =
+    let p = err_from_is_err_and c.from_residual-in_err-declare.result c.from_residual-in_err-declare.ensures.1 in
+    rw (p.1, p.2) (λ naming. inr (means naming c.alias.new.self.graph c.in_ok-kind.kind, declared_count c.alias.new.self.graph, c.in_ok-kind.ensures.ok.is naming, c.in_err-declare.ensures.err naming c.args.state.now.graph))
+
+pub returns-clause-ok : goal.returns-clause-ok
+returns-clause-ok c =
+    alias_declared c.args.side c.args.state.now.graph c.alias.new.self.graph (lists_of c.args.body.now) (lists_of c.declare.new.body) (ItemTypeDecl.alias (type_alias_of c.args.decl.now)) _ c.in_ok-kind.kind
+    c.requires c.in_ok-kind.ensures.ok c.in_ok-declare.ensures.ok (λ naming m n after h d. (m, n, h, d))

@@ -1,0 +1,131 @@
+//! Declarations of types in a body.
+ghost use Rattle.std.specs.Prelude.{IfErr, OnOk};
+ghost use Rattle.wac_grammar.specs.Tree.{ItemTypeDecl as ItemTree};
+ghost use Rattle.wac_ast_types.specs.Declarations.{variant_decl_of, record_decl_of, flags_decl_of, enum_decl_of, type_alias_of, item_type_decl_of};
+ghost use Rattle.wac_graph.specs.Origin.{Naming};
+ghost use Rattle.wac_resolution_errors.specs.Told.{told};
+ghost use Rattle.wac_resolution_rules.specs.BrokenBodies.{ItemBroken};
+ghost use Rattle.wac_resolution_types.specs.Bindings.{places_of};
+ghost use Rattle.wac_resolution_bodies.specs.Lists.{lists_of};
+ghost use Rattle.wac_resolution_bodies.specs.Bodies.{body_of, IsBody, ItemGoes};
+ghost use Rattle.wac_resolution_bodies.specs.Owners.{owner_of};
+
+use crate::body::Body;
+use crate::new_name::declare;
+use crate::owner::Owner;
+use crate::resource::resource;
+use wac_ast_types::{EnumDecl, FlagsDecl, ItemTypeDecl, RecordDecl, TypeAlias, VariantDecl};
+use wac_graph::{ExternKind, ItemKind, Type};
+use wac_resolution_errors::Error;
+use wac_resolution_types::{Place, State};
+
+/// Takes a variant.
+fn variant<'a>(
+    state: &mut State,
+    body: &mut Body<'a>,
+    side: ExternKind,
+    owner: &Owner<'_>,
+    decl: &VariantDecl<'a>,
+) -> Result<(), Error>
+    requires { IsBody state.old.graph.types side (lists_of body.old) }
+    ensures ok { OnOk result (ItemGoes side state.old.graph state.new.graph (lists_of body.old) (lists_of body.new) (ItemTree.variant (variant_decl_of decl.now))) }
+    ensures err { IfErr result (λ e. (naming : Naming) → ItemBroken naming (owner_of owner.now) side (places_of body.old.names) (body_of naming state.old.graph body.old) (ItemTree.variant (variant_decl_of decl.now)) (told e)) }
+{
+    let value = state.variant(&body.names, decl)?;
+    let kind = ItemKind::Ty(Type::Value(value));
+    declare(state.alloc, body, side, owner, &decl.id, kind)?;
+    Ok(())
+}
+
+/// Takes a record.
+fn record<'a>(
+    state: &mut State,
+    body: &mut Body<'a>,
+    side: ExternKind,
+    owner: &Owner<'_>,
+    decl: &RecordDecl<'a>,
+) -> Result<(), Error>
+    requires { IsBody state.old.graph.types side (lists_of body.old) }
+    ensures ok { OnOk result (ItemGoes side state.old.graph state.new.graph (lists_of body.old) (lists_of body.new) (ItemTree.record_decl (record_decl_of decl.now))) }
+    ensures err { IfErr result (λ e. (naming : Naming) → ItemBroken naming (owner_of owner.now) side (places_of body.old.names) (body_of naming state.old.graph body.old) (ItemTree.record_decl (record_decl_of decl.now)) (told e)) }
+{
+    let value = state.record(&body.names, decl)?;
+    let kind = ItemKind::Ty(Type::Value(value));
+    declare(state.alloc, body, side, owner, &decl.id, kind)?;
+    Ok(())
+}
+
+/// Takes flags.
+fn flags<'a>(
+    state: &mut State,
+    body: &mut Body<'a>,
+    side: ExternKind,
+    owner: &Owner<'_>,
+    decl: &FlagsDecl<'a>,
+) -> Result<(), Error>
+    requires { IsBody state.old.graph.types side (lists_of body.old) }
+    ensures ok { OnOk result (ItemGoes side state.old.graph state.new.graph (lists_of body.old) (lists_of body.new) (ItemTree.flags (flags_decl_of decl.now))) }
+    ensures err { IfErr result (λ e. (naming : Naming) → ItemBroken naming (owner_of owner.now) side (places_of body.old.names) (body_of naming state.old.graph body.old) (ItemTree.flags (flags_decl_of decl.now)) (told e)) }
+{
+    let value = state.flags(decl)?;
+    let kind = ItemKind::Ty(Type::Value(value));
+    declare(state.alloc, body, side, owner, &decl.id, kind)?;
+    Ok(())
+}
+
+/// Takes an enum.
+fn enumeration<'a>(
+    state: &mut State,
+    body: &mut Body<'a>,
+    side: ExternKind,
+    owner: &Owner<'_>,
+    decl: &EnumDecl<'a>,
+) -> Result<(), Error>
+    requires { IsBody state.old.graph.types side (lists_of body.old) }
+    ensures ok { OnOk result (ItemGoes side state.old.graph state.new.graph (lists_of body.old) (lists_of body.new) (ItemTree.enum (enum_decl_of decl.now))) }
+    ensures err { IfErr result (λ e. (naming : Naming) → ItemBroken naming (owner_of owner.now) side (places_of body.old.names) (body_of naming state.old.graph body.old) (ItemTree.enum (enum_decl_of decl.now)) (told e)) }
+{
+    let value = state.enumeration(decl)?;
+    let kind = ItemKind::Ty(Type::Value(value));
+    declare(state.alloc, body, side, owner, &decl.id, kind)?;
+    Ok(())
+}
+
+/// Takes an alias.
+fn alias<'a>(
+    state: &mut State,
+    body: &mut Body<'a>,
+    side: ExternKind,
+    owner: &Owner<'_>,
+    decl: &TypeAlias<'a>,
+) -> Result<(), Error>
+    requires { IsBody state.old.graph.types side (lists_of body.old) }
+    ensures ok { OnOk result (ItemGoes side state.old.graph state.new.graph (lists_of body.old) (lists_of body.new) (ItemTree.alias (type_alias_of decl.now))) }
+    ensures err { IfErr result (λ e. (naming : Naming) → ItemBroken naming (owner_of owner.now) side (places_of body.old.names) (body_of naming state.old.graph body.old) (ItemTree.alias (type_alias_of decl.now)) (told e)) }
+{
+    let kind = state.alias(&body.names, Place::Body, decl.id.string, &decl.kind)?;
+    declare(state.alloc, body, side, owner, &decl.id, kind)?;
+    Ok(())
+}
+
+/// Takes the declaration of a type.
+pub fn item<'a>(
+    state: &mut State,
+    body: &mut Body<'a>,
+    side: ExternKind,
+    owner: &Owner<'_>,
+    decl: &ItemTypeDecl<'a>,
+) -> Result<(), Error>
+    requires { IsBody state.old.graph.types side (lists_of body.old) }
+    ensures ok { OnOk result (ItemGoes side state.old.graph state.new.graph (lists_of body.old) (lists_of body.new) (item_type_decl_of decl.now)) }
+    ensures err { IfErr result (λ e. (naming : Naming) → ItemBroken naming (owner_of owner.now) side (places_of body.old.names) (body_of naming state.old.graph body.old) (item_type_decl_of decl.now) (told e)) }
+{
+    match decl {
+        ItemTypeDecl::Resource(decl) => resource(state, body, side, owner, decl),
+        ItemTypeDecl::Variant(decl) => variant(state, body, side, owner, decl),
+        ItemTypeDecl::Record(decl) => record(state, body, side, owner, decl),
+        ItemTypeDecl::Flags(decl) => flags(state, body, side, owner, decl),
+        ItemTypeDecl::Enum(decl) => enumeration(state, body, side, owner, decl),
+        ItemTypeDecl::Alias(decl) => alias(state, body, side, owner, decl),
+    }
+}

@@ -1,0 +1,176 @@
+//! Constructors and methods of resources.
+ghost use Rattle.std.specs.Prelude.{◌≡◌, List, IfOk, IfErr, OnOk, map, string_bytes};
+ghost use Rattle.wac_grammar.specs.Tree.{ResourceMethod as MethodTree};
+ghost use Rattle.wac_types.specs.declared.kind.ItemKind.TheVariants as kinds;
+ghost use Rattle.wac_types.specs.declared.kind.«Type».TheVariants as types;
+ghost use Rattle.wac_types.specs.Scope.{IsFresh};
+ghost use Rattle.wac_types.specs.Steps.{Fails};
+ghost use Rattle.wac_types.specs.Table.{Names as NamesEntry};
+ghost use Rattle.wac_ast_base.specs.Names.{ident_of};
+ghost use Rattle.wac_ast_types.specs.Declarations.{constructor_of, method_of, resource_method_of};
+ghost use Rattle.wac_graph.specs.Graph.{Parts};
+ghost use Rattle.wac_graph.specs.Means.{entry_means};
+ghost use Rattle.wac_graph.specs.Origin.{Naming};
+ghost use Rattle.wac_resolution_errors.specs.Error.{duplicate_resource_method};
+ghost use Rattle.wac_resolution_errors.specs.Told.{told};
+ghost use Rattle.wac_resolution_rules.specs.Bodies.{constructor_name as named_constructor, method_name as named_method, static_name as named_static, name_of_method, HasMethod};
+ghost use Rattle.wac_resolution_rules.specs.BrokenBodies.{IsSecondConstructor, IsSecondMethod, MethodBroken};
+ghost use Rattle.wac_resolution_bodies.specs.Lists.{lists_of, kinds_of};
+ghost use Rattle.wac_resolution_bodies.specs.Bodies.{body_of, IsBody, IsTaken, MethodGoes, MethodsGo};
+
+use crate::body::Body;
+use crate::method_names::{constructor_name, method_name, static_name};
+use std::alloc::Global;
+use wac_ast_base::Ident;
+use wac_ast_types::{Constructor, Method, ResourceMethod};
+use wac_graph::{ExternKind, ItemKind, ResourceId};
+use wac_lexer::SourceSpan;
+use wac_resolution_errors::Error;
+use wac_resolution_types::State;
+
+/// The name of the constructor of a resource that has none yet.
+fn new_constructor_name(
+    alloc: Global,
+    body: &Body<'_>,
+    side: ExternKind,
+    resource: &str,
+    span: SourceSpan,
+) -> Result<String, Error>
+    ensures name { IfOk result (λ n. string_bytes n ≡ named_constructor resource.now) }
+    ensures ok { IfOk result (λ n. IsFresh (named_constructor resource.now) (kinds_of side (lists_of body.now))) }
+    ensures err { IfErr result (λ e. (naming : Naming) (g : Parts) → IsSecondConstructor side resource.now (body_of naming g body.now) span (told e)) }
+{
+    let name = constructor_name(alloc, resource)?;
+    match body.find(side, &name) {
+        Some(_) => Err(Error::DuplicateResourceConstructor {
+            resource: String::from_str(alloc, resource)?,
+            span,
+        }),
+        None => Ok(name),
+    }
+}
+
+/// Rejects a method whose name in full is there already.
+fn check_method(
+    alloc: Global,
+    body: &Body<'_>,
+    side: ExternKind,
+    resource: &str,
+    id: &Ident<'_>,
+    full: &str,
+) -> Result<(), Error>
+    ensures ok { OnOk result (IsFresh full.now (kinds_of side (lists_of body.now))) }
+    ensures err { IfErr result (λ e. (naming : Naming) (g : Parts) → IsTaken side (body_of naming g body.now) full.now (duplicate_resource_method id.now.string.now resource.now id.now.span) (told e)) }
+{
+    match body.find(side, full) {
+        Some(_) => Err(Error::DuplicateResourceMethod {
+            name: String::from_str(alloc, id.string)?,
+            resource: String::from_str(alloc, resource)?,
+            span: id.span,
+        }),
+        None => Ok(()),
+    }
+}
+
+/// The name in full of a method, if the resource has no method of its name yet, static or not.
+fn new_method_name(
+    alloc: Global,
+    body: &Body<'_>,
+    side: ExternKind,
+    resource: &str,
+    is_static: bool,
+    id: &Ident<'_>,
+) -> Result<String, Error>
+    ensures name { IfOk result (λ n. string_bytes n ≡ name_of_method is_static resource.now id.now.string.now) }
+    ensures method { IfOk result (λ n. IsFresh (named_method resource.now id.now.string.now) (kinds_of side (lists_of body.now))) }
+    ensures fixed { IfOk result (λ n. IsFresh (named_static resource.now id.now.string.now) (kinds_of side (lists_of body.now))) }
+    ensures err { IfErr result (λ e. (naming : Naming) (g : Parts) → IsSecondMethod side resource.now (body_of naming g body.now) (ident_of id.now) (told e)) }
+{
+    let method = method_name(alloc, resource, id.string)?;
+    check_method(alloc, body, side, resource, id, &method)?;
+    let fixed = static_name(alloc, resource, id.string)?;
+    check_method(alloc, body, side, resource, id, &fixed)?;
+    if is_static { Ok(fixed) } else { Ok(method) }
+}
+
+/// Takes a constructor.
+fn add_constructor(
+    state: &mut State,
+    body: &mut Body<'_>,
+    side: ExternKind,
+    name: &str,
+    resource: ResourceId,
+    constructor: &Constructor<'_>,
+) -> Result<(), Error>
+    requires body { IsBody state.old.graph.types side (lists_of body.old) }
+    requires resource { NamesEntry state.old.graph.types (kinds.Ty (types.Resource resource)) }
+    ensures ok { OnOk result (MethodGoes side state.old.graph state.new.graph name.now resource (lists_of body.old) (lists_of body.new) (MethodTree.constructor (constructor_of constructor.now))) }
+    ensures err { IfErr result (λ e. (naming : Naming) (before : List MethodTree) → MethodBroken side name.now (entry_means naming state.old.graph resource.0) (told e) (body_of naming state.old.graph body.old) before (MethodTree.constructor (constructor_of constructor.now))) }
+{
+    let full = new_constructor_name(state.alloc, body, side, name, constructor.span)?;
+    let func = state.constructor(&body.names, resource, &constructor.params)?;
+    body.add(state.alloc, side, &full, ItemKind::Func(func))?;
+    Ok(())
+}
+
+/// Takes a method, which may be static.
+fn add_method(
+    state: &mut State,
+    body: &mut Body<'_>,
+    side: ExternKind,
+    name: &str,
+    resource: ResourceId,
+    method: &Method<'_>,
+) -> Result<(), Error>
+    requires body { IsBody state.old.graph.types side (lists_of body.old) }
+    requires resource { NamesEntry state.old.graph.types (kinds.Ty (types.Resource resource)) }
+    ensures ok { OnOk result (MethodGoes side state.old.graph state.new.graph name.now resource (lists_of body.old) (lists_of body.new) (MethodTree.method (method_of method.now))) }
+    ensures err { IfErr result (λ e. (naming : Naming) (before : List MethodTree) → MethodBroken side name.now (entry_means naming state.old.graph resource.0) (told e) (body_of naming state.old.graph body.old) before (MethodTree.method (method_of method.now))) }
+{
+    let full = new_method_name(state.alloc, body, side, name, method.is_static, &method.id)?;
+    let func = state.method(&body.names, resource, method.is_static, &method.ty)?;
+    body.add(state.alloc, side, &full, ItemKind::Func(func))?;
+    Ok(())
+}
+
+/// Takes a constructor or a method.
+fn add_either(
+    state: &mut State,
+    body: &mut Body<'_>,
+    side: ExternKind,
+    name: &str,
+    resource: ResourceId,
+    method: &ResourceMethod<'_>,
+) -> Result<(), Error>
+    requires body { IsBody state.old.graph.types side (lists_of body.old) }
+    requires resource { NamesEntry state.old.graph.types (kinds.Ty (types.Resource resource)) }
+    ensures ok { OnOk result (MethodGoes side state.old.graph state.new.graph name.now resource (lists_of body.old) (lists_of body.new) (resource_method_of method.now)) }
+    ensures err { IfErr result (λ e. (naming : Naming) (before : List MethodTree) → MethodBroken side name.now (entry_means naming state.old.graph resource.0) (told e) (body_of naming state.old.graph body.old) before (resource_method_of method.now)) }
+{
+    match method {
+        ResourceMethod::Constructor(constructor) => {
+            add_constructor(state, body, side, name, resource, constructor)
+        }
+        ResourceMethod::Method(method) => add_method(state, body, side, name, resource, method),
+    }
+}
+
+/// Takes the constructors and methods of a resource, one after another.
+pub fn add_methods(
+    state: &mut State,
+    body: &mut Body<'_>,
+    side: ExternKind,
+    name: &str,
+    resource: ResourceId,
+    methods: &[ResourceMethod<'_>],
+) -> Result<(), Error>
+    requires body { IsBody state.old.graph.types side (lists_of body.old) }
+    requires resource { NamesEntry state.old.graph.types (kinds.Ty (types.Resource resource)) }
+    ensures ok { OnOk result (MethodsGo side state.old.graph state.new.graph name.now resource (lists_of body.old) (lists_of body.new) (map resource_method_of methods.now)) }
+    ensures err { IfErr result (λ e. (naming : Naming) → Fails (HasMethod side name.now (entry_means naming state.old.graph resource.0)) (MethodBroken side name.now (entry_means naming state.old.graph resource.0) (told e)) (body_of naming state.old.graph body.old) (map resource_method_of methods.now)) }
+{
+    for method in methods {
+        add_either(state, body, side, name, resource, method)?;
+    }
+    Ok(())
+}

@@ -1,0 +1,108 @@
+//! Whether a name of a body is new.
+ghost use Rattle.std.specs.Prelude.{◌≡◌, IfOk, IfErr, OnOk, option_map, string_bytes};
+ghost use Rattle.wac_types.specs.Scope.{IsFresh};
+ghost use Rattle.wac_ast_base.specs.Names.{ident_of};
+ghost use Rattle.wac_graph.specs.Graph.{Parts};
+ghost use Rattle.wac_graph.specs.Origin.{Naming};
+ghost use Rattle.wac_resolution_errors.specs.Told.{told};
+ghost use Rattle.wac_resolution_rules.specs.BrokenBodies.{IsBoundInBody, IsConflict, NameBroken, conflict as conflict_of};
+ghost use Rattle.wac_resolution_types.specs.Bindings.{values_of, places_of};
+ghost use Rattle.wac_resolution_types.specs.Named.{scope_of};
+ghost use Rattle.wac_resolution_bodies.specs.Lists.{lists_of, kinds_of};
+ghost use Rattle.wac_resolution_bodies.specs.Bodies.{body_of, IsDeclared};
+ghost use Rattle.wac_resolution_bodies.specs.Owners.{owner_of};
+
+use crate::body::Body;
+use crate::owner::Owner;
+use std::alloc::{AllocError, Global};
+use wac_ast_base::Ident;
+use wac_graph::{ExternKind, ItemKind};
+use wac_lexer::SourceSpan;
+use wac_resolution_errors::Error;
+use wac_resolution_types::Names;
+
+/// Rejects an identifier that is bound already.
+pub fn check_name(alloc: Global, names: &Names<'_, ItemKind>, id: &Ident<'_>) -> Result<(), Error>
+    ensures ok { OnOk result (IsFresh id.now.string.now (values_of names.now)) }
+    ensures err { IfErr result (λ e. (naming : Naming) (g : Parts) → IsBoundInBody (places_of names.now) (scope_of naming g (values_of names.now)) (ident_of id.now) (told e)) }
+{
+    match names.place(id.string) {
+        Some(previous) => Err(Error::DuplicateName {
+            name: String::from_str(alloc, id.string)?,
+            span: id.span,
+            previous,
+        }),
+        None => Ok(()),
+    }
+}
+
+/// A text that may be left out, copied.
+fn copied(alloc: Global, text: &Option<&str>) -> Result<Option<String>, AllocError>
+    ensures { IfOk result (λ t. option_map string_bytes t ≡ option_map (λ s. s.now) text.now) }
+{
+    match text {
+        Some(text) => Ok(Some(String::from_str(alloc, text)?)),
+        None => Ok(None),
+    }
+}
+
+/// The error of a name that is imported, or exported, already.
+fn conflict(
+    alloc: Global,
+    owner: &Owner<'_>,
+    side: ExternKind,
+    name: &str,
+    span: SourceSpan,
+) -> Result<Error, AllocError>
+    ensures { IfOk result (λ e. told e ≡ conflict_of (owner_of owner.now) side name.now span) }
+{
+    match owner {
+        Owner::Interface(interface) => Ok(Error::DuplicateInterfaceExport {
+            name: String::from_str(alloc, name)?,
+            interface_name: copied(alloc, interface)?,
+            span,
+        }),
+        Owner::World(world) => Ok(Error::DuplicateWorldItem {
+            kind: side,
+            name: String::from_str(alloc, name)?,
+            world: String::from_str(alloc, world)?,
+            span,
+        }),
+    }
+}
+
+/// Rejects a name that is imported, or exported, already.
+pub fn check_extern(
+    alloc: Global,
+    body: &Body<'_>,
+    owner: &Owner<'_>,
+    side: ExternKind,
+    name: &str,
+    span: SourceSpan,
+) -> Result<(), Error>
+    ensures ok { OnOk result (IsFresh name.now (kinds_of side (lists_of body.now))) }
+    ensures err { IfErr result (λ e. (naming : Naming) (g : Parts) → IsConflict (owner_of owner.now) side (body_of naming g body.now) name.now span (told e)) }
+{
+    match body.find(side, name) {
+        Some(_) => Err(conflict(alloc, owner, side, name, span)?),
+        None => Ok(()),
+    }
+}
+
+/// Declares a type of a new name.
+pub fn declare<'a>(
+    alloc: Global,
+    body: &mut Body<'a>,
+    side: ExternKind,
+    owner: &Owner<'_>,
+    id: &Ident<'a>,
+    kind: ItemKind,
+) -> Result<(), Error>
+    ensures ok { OnOk result (IsDeclared side (lists_of body.old) (lists_of body.new) (ident_of id.now) kind) }
+    ensures err { IfErr result (λ e. (naming : Naming) (g : Parts) → NameBroken (owner_of owner.now) side (places_of body.old.names) (body_of naming g body.old) (ident_of id.now) (told e)) }
+{
+    check_name(alloc, &body.names, id)?;
+    check_extern(alloc, body, owner, side, id.string, id.span)?;
+    body.bind(alloc, side, id, kind)?;
+    Ok(())
+}

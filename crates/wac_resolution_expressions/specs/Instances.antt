@@ -1,0 +1,22 @@
+-- Instances of packages.
+use Rattle.std.specs.Prelude.{◌≡◌, ◌<◌, ℕ, Some, length, slice_get}
+use Rattle.wac_types.specs.declared.kind.ItemKind.TheVariants as kinds
+use Rattle.wac_types.specs.Scope.{Named}
+use Rattle.wac_graph.specs.declared.node.NodeId.{NodeId}
+use Rattle.wac_graph.specs.Graph.{Parts}
+use Rattle.wac_graph.specs.Means.{means}
+use Rattle.wac_graph.specs.Origin.{Naming}
+use Rattle.wac_graph.specs.Package.{HeldPackage}
+use Rattle.wac_resolution_rules.specs.Expressions.{at}
+use Rattle.wac_resolution_rules.specs.Nodes.{next_of, with_instance}
+use Rattle.wac_resolution_nodes.specs.Growth.{GrowsNodes}
+use Rattle.wac_resolution_nodes.specs.Nodes.{composition_of}
+use Rattle.wac_resolution_arguments.specs.Arguments.{given_nodes}
+
+-- the node is the instance of the package with these arguments, which was made
+pub record MakesInstance (old new : Parts) (p : ℕ) (given : Named NodeId) (n : ℕ) : Type 0 where
+  pub grows : GrowsNodes old new
+  pub there : n < length new.nodes
+  pub is : (held : HeldPackage) → slice_get old.packages p ≡ Some held → (naming : Naming) (declared : Named ℕ)
+      → at (composition_of naming new declared) n
+      ≡ at (with_instance (composition_of naming old declared) held.key (means naming old (kinds.Instance held.instance)) (given_nodes given)) (next_of (composition_of naming old declared))

@@ -1,0 +1,6 @@
+pub mod Checks
+pub mod Exporting
+pub mod Unnamed
+pub mod Spreading
+pub mod Each
+pub mod Results

@@ -1,0 +1,5 @@
+use Rattle.wac_resolution_externs.proofs.Each.{SoFar}
+use Rattle.wac_resolution_externs.proofs.spread.export_each.Given as goal
+
+abbrev pub invariant-loop-text : goal.invariant-loop-text
+invariant-loop-text g l = SoFar l.span (g.R.Rules.named l.rules) l.fn.state.graph l.state.graph l.root l.fn.externs l.externs l.node.0 l.names l.text-index

@@ -1,0 +1,8 @@
+use Rattle.std.proofs.Common.{map, ap}
+use Rattle.std.specs.Prelude.{string_bytes}
+use Rattle.wac_types.specs.Names.{by_name}
+use Rattle.wac_resolution_externs.proofs.Spreading.{gathered}
+use Rattle.wac_resolution_externs.proofs.spread.unexported_names.Goals as goal
+
+pub returns : goal.returns
+returns c = gathered c.args.graph.now.exports c.args.all.now.entries (by_name c.loop-name.name-iterator) (map string_bytes c.loop-name.names.items) c.len.ensures.unique (ap by_name c.in-None.ensures.steps.0) c.loop-name.invariant

@@ -1,0 +1,61 @@
+//! Exports.
+ghost use Rattle.std.specs.Prelude.{◌≡◌, ◌<◌, [], ◌∷◌, OnOk, IfErr, IfSome, IsSome, length};
+ghost use Rattle.wac_graph.specs.Graph.{export_kind};
+ghost use Rattle.wac_graph.specs.Means.{means};
+ghost use Rattle.wac_graph.specs.Origin.{Naming};
+ghost use Rattle.wac_resolution_errors.specs.Told.{told};
+ghost use Rattle.wac_resolution_rules.specs.BrokenStatements.{ExportAsBroken};
+ghost use Rattle.wac_resolution_rules.specs.Expressions.{at, alias_at};
+ghost use Rattle.wac_resolution_rules.specs.Statements.{ExportsAs, ExportsOne};
+ghost use Rattle.wac_resolution_nodes.specs.Root.{composed, Agrees};
+ghost use Rattle.wac_resolution_externs.specs.Externs.{help_of, places_in, ArePlaced, Under};
+ghost use Rattle.wac_resolution_externs.specs.Exports.{ExportsGo};
+
+use crate::check::check_export;
+use crate::externs::Externs;
+use crate::name::NewName;
+use wac_graph::{NodeId, Rules};
+use wac_resolution_errors::Error;
+use wac_resolution_nodes::{Root, alias};
+use wac_resolution_types::State;
+
+/// Exports a node under a name.
+pub fn export_as<R: Rules>(
+    state: &mut State,
+    rules: &R,
+    root: &Root<'_>,
+    externs: &mut Externs,
+    name: &NewName<'_>,
+    node: NodeId,
+) -> Result<(), Error>
+    requires agrees { Agrees state.old.graph root.now }
+    requires placed { ArePlaced state.old.graph externs.old }
+    requires there { node.0 < length state.old.graph.nodes }
+    ensures ok { OnOk result (ExportsGo name.now.span state.old.graph state.new.graph root.now externs.old externs.new (name.now.text.now ∷ []) (λ naming c d. Under (R.named rules.now) (λ s. ExportsAs s c name.now.text.now node.0 d))) }
+    ensures err { IfErr result (λ e. (naming : Naming) → Under (R.named rules.now) (λ s. ExportAsBroken s (composed naming state.old.graph root.now) (places_in root.now externs.old) name.now.text.now name.now.span (help_of name.now) (told e))) }
+{
+    check_export(state, rules, root, externs, name)?;
+    state.graph.add_export(name.text, node)?;
+    externs.add_export(state.alloc, name.text, name.span)?;
+    Ok(())
+}
+
+/// Exports the alias of an export of an instance under a name.
+pub fn export_alias<R: Rules>(
+    state: &mut State,
+    rules: &R,
+    root: &Root<'_>,
+    externs: &mut Externs,
+    name: &NewName<'_>,
+    node: NodeId,
+) -> Result<(), Error>
+    requires agrees { Agrees state.old.graph root.now }
+    requires placed { ArePlaced state.old.graph externs.old }
+    requires exported { IsSome (export_kind state.old.graph node.0 name.now.text.now) }
+    ensures ok { OnOk result (IfSome (export_kind state.old.graph node.0 name.now.text.now) (λ k. ExportsGo name.now.span state.old.graph state.new.graph root.now externs.old externs.new (name.now.text.now ∷ []) (λ naming c d. Under (R.named rules.now) (λ s. ExportsOne s node.0 c (name.now.text.now, means naming state.old.graph k) d)))) }
+    ensures err { IfErr result (λ e. IfSome (export_kind state.old.graph node.0 name.now.text.now) (λ k. (naming : Naming) → Under (R.named rules.now) (λ s. ExportAsBroken s (alias_at (at (composed naming state.old.graph root.now) node.0) name.now.text.now (means naming state.old.graph k)).composition (places_in root.now externs.old) name.now.text.now name.now.span (help_of name.now) (told e)))) }
+{
+    let alias = alias(state, node, name.text)?;
+    export_as(state, rules, root, externs, name, alias)?;
+    Ok(())
+}

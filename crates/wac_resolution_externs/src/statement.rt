@@ -1,0 +1,48 @@
+//! Export statements.
+ghost use Rattle.std.specs.Prelude.{◌≡◌, ◌<◌, OnOk, IfErr, length};
+ghost use Rattle.wac_grammar.specs.Tree.{Expr};
+ghost use Rattle.wac_ast.specs.Statements.{export_options_of};
+ghost use Rattle.wac_graph.specs.Origin.{Naming};
+ghost use Rattle.wac_resolution_errors.specs.Told.{told};
+ghost use Rattle.wac_resolution_rules.specs.BrokenStatements.{ExportOptionsBroken};
+ghost use Rattle.wac_resolution_rules.specs.Expressions.{at};
+ghost use Rattle.wac_resolution_rules.specs.Spans.{expr_span, options_span};
+ghost use Rattle.wac_resolution_rules.specs.Statements.{ExportsBy};
+ghost use Rattle.wac_resolution_nodes.specs.Root.{composed, Agrees};
+ghost use Rattle.wac_resolution_externs.specs.Externs.{places_in, ArePlaced, Under};
+ghost use Rattle.wac_resolution_externs.specs.Exports.{Exported};
+
+use crate::externs::Externs;
+use crate::options::{export_renamed, export_unnamed};
+use crate::spread::export_spread;
+use wac_ast::ExportOptions;
+use wac_graph::{NodeId, Rules};
+use wac_lexer::SourceSpan;
+use wac_resolution_errors::Error;
+use wac_resolution_nodes::Root;
+use wac_resolution_types::State;
+
+/// Exports of a node what a statement says. The span is that of the expression that stands for the node.
+pub fn export_node<R: Rules>(
+    state: &mut State,
+    rules: &R,
+    root: &Root<'_>,
+    externs: &mut Externs,
+    node: NodeId,
+    span: SourceSpan,
+    options: &ExportOptions<'_>,
+) -> Result<(), Error>
+    requires agrees { Agrees state.old.graph root.now }
+    requires placed { ArePlaced state.old.graph externs.old }
+    requires there { node.0 < length state.old.graph.nodes }
+    ensures ok { OnOk result ((x : Expr) → expr_span x ≡ span → Exported (options_span x (export_options_of options.now)) state.old.graph state.new.graph root.now externs.old externs.new (λ naming c d. Under (R.named rules.now) (λ s. ExportsBy s (at c node.0) (export_options_of options.now) d))) }
+    ensures err { IfErr result (λ e. (naming : Naming) (x : Expr) → expr_span x ≡ span → Under (R.named rules.now) (λ s. ExportOptionsBroken s (at (composed naming state.old.graph root.now) node.0) (places_in root.now externs.old) (told e) x (export_options_of options.now))) }
+{
+    match options {
+        ExportOptions::None => export_unnamed(state, rules, root, externs, node, span),
+        ExportOptions::Spread(dots) => {
+            export_spread(state, rules, root, externs, node, span, *dots)
+        }
+        ExportOptions::Rename(name) => export_renamed(state, rules, root, externs, node, name),
+    }
+}

@@ -1,0 +1,4 @@
+pub mod Found
+pub mod Read
+pub mod Taken
+pub mod Worlds

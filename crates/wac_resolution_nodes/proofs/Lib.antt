@@ -1,0 +1,5 @@
+pub mod Composed
+pub mod Roots
+pub mod Found
+pub mod Instances
+pub mod NodeNames

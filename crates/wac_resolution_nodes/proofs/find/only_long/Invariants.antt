@@ -1,0 +1,8 @@
+use Rattle.std.specs.Prelude.{option_map}
+use Rattle.wac_types.specs.Names.{by_name}
+use Rattle.wac_resolution_rules.specs.Find.{names_of}
+use Rattle.wac_resolution_nodes.proofs.Found.{Finding}
+use Rattle.wac_resolution_nodes.proofs.find.only_long.Given as goal
+
+abbrev pub invariant-loop-text : goal.invariant-loop-text
+invariant-loop-text l = Finding l.name (names_of (by_name l.all.entries)) (names_of (by_name l.text-iterator)) (option_map (λ s. s.now) l.found)

@@ -1,0 +1,5 @@
+pub mod Nodes
+pub mod Root
+pub mod Growth
+pub mod Instances
+pub mod Accesses

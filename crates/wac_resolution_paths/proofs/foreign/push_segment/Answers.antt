@@ -1,0 +1,8 @@
+use Rattle.std.proofs.Common.{◌∙◌, ◌∷◌, ◌++◌, [], List, ℕ, ap}
+use Rattle.std.specs.Prelude.{string_bytes}
+use Rattle.std.proofs.lemmas.List.{append_assoc}
+use Rattle.wac_resolution_paths.proofs.foreign.push_segment.Goals as goal
+
+pub returns : goal.returns
+unfolding lib.Utf8.encode
+returns c = c.in_ok-push_str.ensures.bytes ∙ ap (λ (l : List ℕ). l ++ c.args.segment.now) c.in_ok-push.ensures.bytes ∙ append_assoc (string_bytes c.args.text.now) (47 ∷ []) c.args.segment.now

@@ -1,0 +1,11 @@
+use Rattle.wac_resolution_paths.proofs.Expanding.{grows_expands, handed_grown, handed_kept}
+use Rattle.wac_resolution_paths.proofs.laws.growing_expands.Goals as goal
+
+pub returns-clause-expands : goal.returns-clause-expands
+returns-clause-expands c = grows_expands
+
+pub returns-clause-handed : goal.returns-clause-handed
+returns-clause-handed c = handed_grown
+
+pub returns-clause-kept : goal.returns-clause-kept
+returns-clause-kept c = handed_kept

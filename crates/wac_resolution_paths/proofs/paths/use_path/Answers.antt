@@ -1,0 +1,26 @@
+use Rattle.std.proofs.Common.{sym, subst}
+use Rattle.std.specs.Prelude.{IfOk, IfErr}
+use Rattle.wac_ast_base.specs.Names.{ident_of}
+use Rattle.wac_ast_worlds.specs.Worlds.{use_path_of}
+use Rattle.wac_ast_worlds.specs.declared.interface.UsePath.{UsePath}
+use Rattle.wac_graph.specs.Origin.{Naming}
+use Rattle.wac_resolution_errors.specs.Told.{told}
+use Rattle.wac_resolution_rules.specs.BrokenBodies.{UsePathBroken}
+use Rattle.wac_resolution_rules.specs.Paths.{UseNames}
+use Rattle.wac_resolution_types.specs.Bindings.{values_of}
+use Rattle.wac_resolution_types.specs.Named.{scope_of}
+use Rattle.wac_resolution_paths.specs.Expands.{Found}
+use Rattle.wac_resolution_paths.specs.Setting.{packages_in, setting_of}
+use Rattle.wac_resolution_paths.proofs.Finding.{ident_broken}
+use Rattle.wac_resolution_paths.proofs.paths.use_path.Goals as goal
+
+pub returns-in-Package-clause-ok : goal.returns-in-Package-clause-ok
+returns-in-Package-clause-ok c =
+    subst (λ (x : UsePath). IfOk c.path.result (λ k. Found (packages_in c.args.setting.now) c.args.state.now.graph c.path.new.state.graph
+    (λ naming m. UseNames (setting_of naming c.args.setting.now) (scope_of naming c.args.state.now.graph (values_of c.args.root.now)) (use_path_of x) m) k))
+    (sym c.in-Package.is) c.path.ensures.ok
+
+pub returns-in-Ident-clause-err : goal.returns-in-Ident-clause-err
+returns-in-Ident-clause-err c =
+    subst (λ (x : UsePath). IfErr c.kind_of.result (λ e. (naming : Naming) → UsePathBroken (setting_of naming c.args.setting.now) (scope_of naming c.args.state.now.graph (values_of c.args.root.now)) (use_path_of x) (told e)))
+    (sym c.in-Ident.is) (ident_broken c.args.state.now.graph (values_of c.args.root.now) (ident_of c.in-Ident.id) c.kind_of.result c.kind_of.ensures.err)

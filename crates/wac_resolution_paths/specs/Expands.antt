@@ -1,0 +1,49 @@
+-- What a graph gets as paths are resolved: more types and packages, and nothing else.
+use Rattle.std.specs.Prelude.{◌≡◌, ◌<◌, ℕ, List, Some, None, option_map, length, slice_get}
+use Rattle.std.specs.List.{AllByRecursion}
+use Rattle.wac_types.specs.declared.kind.ItemKind.{ItemKind}
+use Rattle.wac_types.specs.Growth.{KeepsNames}
+use Rattle.wac_types.specs.Meaning.{Meaning}
+use Rattle.wac_types.specs.Package.{PackageParts}
+use Rattle.wac_types.specs.Table.{Names}
+use Rattle.wac_graph.specs.Graph.{Parts}
+use Rattle.wac_graph.specs.Means.{means, declared_count}
+use Rattle.wac_graph.specs.Origin.{Naming}
+use Rattle.wac_graph.specs.Package.{Key, HeldPackage, IsHeld}
+use Rattle.wac_graph.specs.Packages.{handed, package_of, contents_in}
+
+-- the new graph has more types and perhaps more packages, nothing else, and each kind means what it meant
+pub record Expands (old new : Parts) : Type 0 where
+  pub same : new ≡ record old { types = new.types; packages = new.packages }
+  pub held : (i : ℕ) (p : HeldPackage) → slice_get old.packages i ≡ Some p → slice_get new.packages i ≡ Some p
+  pub named : KeepsNames old.types new.types
+  pub kinds : (naming : Naming) (k : ItemKind) → Names old.types k → means naming new k ≡ means naming old k
+
+-- the graph holds the package with the contents with which it was handed
+pub record IsHandedAs (packages : List (Key × PackageParts)) (g : Parts) (p : HeldPackage) : Type 0 where
+  pub there : IsHeld g.types p
+  pub contents : (naming : Naming) → package_of p.key (handed naming packages) ≡ Some (contents_in naming g p)
+
+-- each package that the graph holds was handed, with the contents that it has there
+abbrev pub HoldsHanded : List (Key × PackageParts) → Parts → Type 0
+HoldsHanded packages g = AllByRecursion (IsHandedAs packages g) g.packages
+
+-- a kind was found, of which this holds; no resource was declared
+pub record Found (packages : List (Key × PackageParts)) (old new : Parts) (holds : Naming → Meaning → Type 0) (k : ItemKind) : Type 0 where
+  pub grows : Expands old new
+  pub handed : HoldsHanded packages new
+  pub count : declared_count new ≡ declared_count old
+  pub named : Names new.types k
+  pub is : (naming : Naming) → holds naming (means naming new k)
+
+-- the package of a key is in the new graph, under this number; no resource was declared
+pub record Loads (packages : List (Key × PackageParts)) (old new : Parts) (key : Key) (id : ℕ) : Type 0 where
+  pub grows : Expands old new
+  pub handed : HoldsHanded packages new
+  pub count : declared_count new ≡ declared_count old
+  pub there : id < length new.packages
+  pub keyed : option_map (λ p. p.key) (slice_get new.packages id) ≡ Some key
+
+-- no package of the key was handed
+pub record IsNotHanded (packages : List (Key × PackageParts)) (key : Key) : Type 0 where
+  pub is : (naming : Naming) → package_of key (handed naming packages) ≡ None

@@ -1,0 +1,3 @@
+pub mod Expands
+pub mod Setting
+pub mod Segments

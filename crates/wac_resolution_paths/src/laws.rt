@@ -1,0 +1,31 @@
+// Laws of graphs that get more types and packages. Each function does nothing: its contract is the law.
+ghost use Rattle.std.specs.Prelude.{◌≡◌, List};
+ghost use Rattle.wac_types.specs.declared.kind.ItemKind.{ItemKind};
+ghost use Rattle.wac_types.specs.Package.{PackageParts};
+ghost use Rattle.wac_types.specs.Scope.{Named};
+ghost use Rattle.wac_types.specs.Table.{ItemsNamed};
+ghost use Rattle.wac_graph.specs.Graph.{Parts};
+ghost use Rattle.wac_graph.specs.Origin.{Naming};
+ghost use Rattle.wac_graph.specs.Package.{Key};
+ghost use Rattle.wac_resolution_types.specs.Growth.{Grows};
+ghost use Rattle.wac_resolution_types.specs.Named.{scope_of};
+ghost use Rattle.wac_resolution_paths.specs.Expands.{Expands, HoldsHanded};
+
+/// A graph that gets nothing expands, and what expands twice expands.
+pub fn expanding_goes_on()
+    ensures nothing { (g : Parts) → Expands g g }
+    ensures twice { (a b c : Parts) → Expands a b → Expands b c → Expands a c }
+{}
+
+/// A graph that gets more types alone expands, and goes on to hold packages as they were handed.
+pub fn growing_expands()
+    ensures expands { (old new : Parts) → Grows old new → Expands old new }
+    ensures handed { (packages : List (Key × PackageParts)) (old new : Parts) → Grows old new → HoldsHanded packages old → HoldsHanded packages new }
+    ensures kept { (packages : List (Key × PackageParts)) (old new : Parts) → Expands old new → new.packages ≡ old.packages → HoldsHanded packages old → HoldsHanded packages new }
+{}
+
+/// Named kinds go on to name types, and mean what they meant.
+pub fn scopes_are_kept()
+    ensures named { (old new : Parts) (ks : Named ItemKind) → Expands old new → ItemsNamed old.types ks → ItemsNamed new.types ks }
+    ensures means { (old new : Parts) (ks : Named ItemKind) (naming : Naming) → Expands old new → ItemsNamed old.types ks → scope_of naming new ks ≡ scope_of naming old ks }
+{}

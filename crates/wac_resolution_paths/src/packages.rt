@@ -1,0 +1,40 @@
+//! Packages that a document mentions.
+ghost use Rattle.std.specs.Prelude.{◌≡◌, IfOk, MatchOption, option_map};
+ghost use Rattle.std.specs.Map.{lookup};
+ghost use Rattle.wac_graph.specs.Package.{key_of, same_key};
+ghost use Rattle.wac_resolution_paths.specs.Expands.{HoldsHanded, Loads, IsNotHanded};
+ghost use Rattle.wac_resolution_paths.specs.Setting.{packages_in};
+
+use crate::setting::Setting;
+use std::alloc::AllocError;
+use wac_graph::{Package, PackageId, PackageKey};
+use wac_resolution_types::State;
+
+/// The handed package of a key.
+fn handed<'s>(setting: &Setting<'s>, key: &PackageKey) -> Option<&'s Package>
+    ensures { option_map (λ p. p.now) result ≡ lookup (λ k. same_key (key_of key.now) k) (packages_in setting.now) }
+{
+    setting.packages.get(key)
+}
+
+/// The package of a key: the graph's own if it holds one, else a copy of the handed one, if one was handed.
+pub fn package(
+    state: &mut State,
+    setting: &Setting<'_>,
+    key: &PackageKey,
+) -> Result<Option<PackageId>, AllocError>
+    requires { HoldsHanded (packages_in setting.now) state.old.graph }
+    ensures { IfOk result (λ o. MatchOption o (IsNotHanded (packages_in setting.now) (key_of key.now)) (λ id. Loads (packages_in setting.now) state.old.graph state.new.graph (key_of key.now) id.0)) }
+{
+    if let Some(id) = state.graph.get_package(key) {
+        return Ok(Some(id));
+    }
+    match handed(setting, key) {
+        Some(package) => {
+            let id = state.graph.add_package(key, package)?;
+            let _held = state.graph.package(id);
+            Ok(Some(id))
+        }
+        None => Ok(None),
+    }
+}

@@ -1,0 +1,85 @@
+//! What paths and references lead to.
+ghost use Rattle.std.specs.Prelude.{◌≡◌, IfOk, IfErr};
+ghost use Rattle.std.specs.Str.{bytes_eq};
+ghost use Rattle.wac_types.specs.Table.{ItemsNamed};
+ghost use Rattle.wac_ast_base.specs.Names.{package_path_of};
+ghost use Rattle.wac_ast_worlds.specs.Worlds.{use_path_of, world_ref_of};
+ghost use Rattle.wac_graph.specs.Origin.{Naming};
+ghost use Rattle.wac_resolution_errors.specs.Told.{told};
+ghost use Rattle.wac_resolution_rules.specs.BrokenBodies.{PathBroken, UsePathBroken};
+ghost use Rattle.wac_resolution_rules.specs.BrokenWorlds.{WorldRefBroken};
+ghost use Rattle.wac_resolution_rules.specs.Paths.{LeadsTo, UseNames, WorldNames};
+ghost use Rattle.wac_resolution_types.specs.Bindings.{values_of};
+ghost use Rattle.wac_resolution_types.specs.Named.{scope_of};
+ghost use Rattle.wac_resolution_paths.specs.Expands.{HoldsHanded, Found};
+ghost use Rattle.wac_resolution_paths.specs.Setting.{packages_in, setting_of};
+
+use crate::foreign::foreign_path;
+use crate::own::own_path;
+use crate::setting::Setting;
+use wac_ast_base::PackagePath;
+use wac_ast_worlds::{UsePath, WorldRef};
+use wac_graph::ItemKind;
+use wac_resolution_errors::Error;
+use wac_resolution_types::{Names, State, kind_of};
+
+/// Whether a path is of the document's own package.
+fn is_own(setting: &Setting<'_>, path: &PackagePath<'_>) -> bool
+    ensures { result ≡ bytes_eq path.now.name.now setting.now.own.now }
+{
+    path.name == setting.own
+}
+
+/// What a path leads to.
+pub fn path(
+    state: &mut State,
+    setting: &Setting<'_>,
+    root: &Names<'_, ItemKind>,
+    path: &PackagePath<'_>,
+) -> Result<ItemKind, Error>
+    requires root { ItemsNamed state.old.graph.types (values_of root.now) }
+    requires handed { HoldsHanded (packages_in setting.now) state.old.graph }
+    ensures ok { IfOk result (λ k. Found (packages_in setting.now) state.old.graph state.new.graph (λ naming m. LeadsTo (setting_of naming setting.now) (scope_of naming state.old.graph (values_of root.now)) (package_path_of path.now) m) k) }
+    ensures err { IfErr result (λ e. (naming : Naming) → PathBroken (setting_of naming setting.now) (scope_of naming state.old.graph (values_of root.now)) (package_path_of path.now) (told e)) }
+{
+    if is_own(setting, path) {
+        return own_path(state, root, path);
+    }
+    foreign_path(state, setting, path)
+}
+
+/// What is used: at root, or of a package.
+pub fn use_path(
+    state: &mut State,
+    setting: &Setting<'_>,
+    root: &Names<'_, ItemKind>,
+    path: &UsePath<'_>,
+) -> Result<ItemKind, Error>
+    requires root { ItemsNamed state.old.graph.types (values_of root.now) }
+    requires handed { HoldsHanded (packages_in setting.now) state.old.graph }
+    ensures ok { IfOk result (λ k. Found (packages_in setting.now) state.old.graph state.new.graph (λ naming m. UseNames (setting_of naming setting.now) (scope_of naming state.old.graph (values_of root.now)) (use_path_of path.now) m) k) }
+    ensures err { IfErr result (λ e. (naming : Naming) → UsePathBroken (setting_of naming setting.now) (scope_of naming state.old.graph (values_of root.now)) (use_path_of path.now) (told e)) }
+{
+    match path {
+        UsePath::Package(package) => crate::paths::path(state, setting, root, package),
+        UsePath::Ident(id) => kind_of(state.alloc, root, id),
+    }
+}
+
+/// What a reference to a world leads to.
+pub fn world_ref(
+    state: &mut State,
+    setting: &Setting<'_>,
+    root: &Names<'_, ItemKind>,
+    world: &WorldRef<'_>,
+) -> Result<ItemKind, Error>
+    requires root { ItemsNamed state.old.graph.types (values_of root.now) }
+    requires handed { HoldsHanded (packages_in setting.now) state.old.graph }
+    ensures ok { IfOk result (λ k. Found (packages_in setting.now) state.old.graph state.new.graph (λ naming m. WorldNames (setting_of naming setting.now) (scope_of naming state.old.graph (values_of root.now)) (world_ref_of world.now) m) k) }
+    ensures err { IfErr result (λ e. (naming : Naming) → WorldRefBroken (setting_of naming setting.now) (scope_of naming state.old.graph (values_of root.now)) (world_ref_of world.now) (told e)) }
+{
+    match world {
+        WorldRef::Package(package) => path(state, setting, root, package),
+        WorldRef::Ident(id) => kind_of(state.alloc, root, id),
+    }
+}

@@ -1,0 +1,15 @@
+//! What a document is resolved in.
+
+use indexmap::IndexMap;
+use wac_graph::{Package, PackageKey};
+
+/// What a document is resolved in: its own package, and the packages that were handed.
+#[derive(Clone, Copy)]
+pub struct Setting<'s> {
+    /// The name of the document's own package.
+    pub own: &'s str,
+    /// Its version.
+    pub version: Option<&'s str>,
+    /// The handed packages.
+    pub packages: &'s IndexMap<PackageKey, Package>,
+}

@@ -1,0 +1,35 @@
+-- Kinds that are compared by rules.
+use Rattle.std.proofs.Common.{◌≡◌, ℕ, List, Option, Result, subst}
+use Rattle.wac_types.specs.declared.rules.Reason.{Reason}
+use Rattle.wac_types.specs.declared.kind.ItemKind.{ItemKind}
+use Rattle.wac_types.specs.declared.kind.ItemKind.TheVariants as kinds
+use Rattle.wac_types.specs.declared.kind.«Type».TheVariants as types
+use Rattle.wac_types.specs.declared.entry.Entry.{Entry}
+use Rattle.wac_types.specs.Kind.{promoted}
+use Rattle.wac_types.specs.Meaning.{Meaning, meaning}
+use Rattle.wac_types.specs.Meaning as tables
+use Rattle.wac_types.specs.Rules.{Answers}
+use Rattle.wac_types.specs.Table.{Names}
+use Rattle.wac_graph.specs.Graph.{Parts}
+use Rattle.wac_graph.specs.Means.{means, origin_at, entry_means_in, OriginsApart}
+use Rattle.wac_graph.specs.Origin.{Naming, IsOneToOne}
+
+-- what rules say of two kinds under the table, they say under a naming that is one to one
+pub compared : (g : Parts) (passes : Meaning → Meaning → Option Reason) (es : List Entry) (r : Result (Unit {0}) Reason) (a b : ItemKind) → es ≡ g.types → OriginsApart g
+    → ((origins : ℕ → ℕ) → tables.IsOneToOne es origins → Answers r (passes (meaning origins es a) (meaning origins es b))) → (naming : Naming) → IsOneToOne naming → Answers r (passes (means naming g a) (means naming g b))
+unfolding entry_means_in
+compared g passes es r a b same apart h naming one =
+    subst (λ (ts : List Entry). (origins : ℕ → ℕ) → tables.IsOneToOne ts origins → Answers r (passes (meaning origins ts a) (meaning origins ts b))) same h (λ n. naming (origin_at g n)) (apart naming one)
+
+pub promoted_named : (es : List Entry) (k : ItemKind) → Names es k → Names es (promoted k)
+promoted_named es (kinds.Ty (types.Resource id)) h = h
+promoted_named es (kinds.Ty (types.Func id)) h = h
+promoted_named es (kinds.Ty (types.Value v)) h = h
+promoted_named es (kinds.Ty (types.Interface id)) h = h
+promoted_named es (kinds.Ty (types.World id)) h = h
+promoted_named es (kinds.Ty (types.Module id)) h = h
+promoted_named es (kinds.Func id) h = h
+promoted_named es (kinds.Instance id) h = h
+promoted_named es (kinds.Component id) h = h
+promoted_named es (kinds.Module id) h = h
+promoted_named es (kinds.Value v) h = h

@@ -1,0 +1,111 @@
+-- A composition and the path of its target.
+use Rattle.std.proofs.Common.{◌≡◌, ◌∙◌, inl, inr, ℕ, zero, suc, List, [], ◌∷◌, Option, Some, sym, ap, subst}
+use Rattle.std.specs.Prelude.{slice_get}
+use Rattle.std.specs.List.{AllByRecursion}
+use Rattle.wac_lexer.specs.Span.{Span}
+use Rattle.wac_types.specs.declared.rules.Reason.{Reason}
+use Rattle.wac_types.specs.declared.kind.ItemKind.{ItemKind}
+use Rattle.wac_types.specs.declared.kind.ItemKind.TheVariants as kinds
+use Rattle.wac_types.specs.declared.kind.«Type».TheVariants as types
+use Rattle.wac_types.specs.Meaning.{Meaning}
+use Rattle.wac_types.specs.Scope.{Named, Scope, look_up}
+use Rattle.wac_types.specs.Table.{Names}
+use Rattle.wac_ast_base.specs.Names.{package_path_of}
+use Rattle.wac_graph.specs.Graph.{Parts}
+use Rattle.wac_graph.specs.Means.{means, entry_means, EntriesMean}
+use Rattle.wac_graph.specs.Origin.{Naming}
+use Rattle.wac_graph.specs.Sound.{IsSound}
+use Rattle.wac_resolution_errors.specs.Error.{Error}
+use Rattle.wac_resolution_nodes.specs.declared.root.Root.{Root}
+use Rattle.wac_resolution_nodes.specs.Nodes.{composition_of}
+use Rattle.wac_resolution_nodes.specs.Root.{numbers_of, composed, Agrees}
+use Rattle.wac_resolution_nodes.proofs.Composed.{composition_expands}
+use Rattle.wac_resolution_nodes.proofs.Roots.{scope_agrees}
+use Rattle.wac_resolution_paths.specs.declared.setting.Setting.{Setting}
+use Rattle.wac_resolution_paths.specs.Expands.{IsHandedAs, HoldsHanded, Found}
+use Rattle.wac_resolution_paths.specs.Setting.{packages_in, setting_of}
+use Rattle.wac_resolution_rules.specs.BrokenBodies.{PathBroken}
+use Rattle.wac_resolution_rules.specs.BrokenStatements.{IsNotWorld, TargetWorldBroken}
+use Rattle.wac_resolution_rules.specs.Composition.{Composition, root_scope, with_resources}
+use Rattle.wac_resolution_rules.specs.Kinds.{world_of}
+use Rattle.wac_resolution_rules.specs.Paths.{LeadsTo}
+use Rattle.wac_resolution_rules.specs.Target.{IsAllowed}
+use Rattle.wac_resolution_types.specs.Bindings.{values_of}
+use Rattle.wac_resolution_types.specs.Named.{scope_of}
+use Rattle.wac_resolution_target.specs.declared.target.Target.{Target}
+use Rattle.wac_resolution_target.specs.Imported.{of_node, of_kind}
+use Rattle.wac_resolution_target.specs.Outcome.{WorldMet, WorldUnmet, Meets, Unmeets}
+use Rattle.wac_resolution_target.specs.Testing.{testing, given_by, SomeDenied, SomeUnmet}
+use Rattle.wac_resolution_target.proofs.Whole.{Holds, whole_allowed, import_denied, open_denied, export_unmet}
+
+all_at : {X : Type 0} (P : X → Type 0) (xs : List X) (i : ℕ) (x : X) → AllByRecursion P xs → slice_get xs i ≡ Some x → P x
+all_at P [] i x h is = absurd (cc)
+all_at {X} P (y ∷ xs) zero x h is = (let same : y ≡ x = cc in subst P same h.0)
+all_at {X} P (y ∷ xs) (suc i) x h is = all_at P xs i x h.1 is
+
+-- what is held was handed
+pub holds_handed : (setting : Setting) (g : Parts) (naming : Naming) → HoldsHanded (packages_in setting) g → Holds g naming (setting_of naming setting)
+holds_handed setting g naming h i p is = (all_at (IsHandedAs (packages_in setting) g) g.packages i p h is).contents naming
+
+module _ (setting : Setting) (passes : Meaning → Meaning → Option Reason) (named : List ℕ → Option Reason) (old : Parts) (root : Root) (target : Target) (agrees : Agrees old root) where
+  pub path_broken : (imported exported : Named Span) (e : Error) → ((naming : Naming) → PathBroken (setting_of naming setting) (scope_of naming old (values_of root.kinds)) (package_path_of target.path.now) e)
+      → Unmeets setting passes named old root (package_path_of target.path.now) imported exported e
+  path_broken imported exported e h naming p one im ex =
+      inl (subst (λ (sc : Scope). PathBroken (setting_of naming setting) sc (package_path_of target.path.now) e) (sym (scope_agrees naming old root agrees)) (h naming))
+
+  abbrev IsFound : Parts → ItemKind → Type 0
+  IsFound new k = Found (packages_in setting) old new (λ naming m. LeadsTo (setting_of naming setting) (scope_of naming old (values_of root.kinds)) (package_path_of target.path.now) m) k
+
+  leads : (new : Parts) (k : ItemKind) → IsFound new k → (naming : Naming) → LeadsTo (setting_of naming setting) (root_scope (composed naming old root)) (package_path_of target.path.now) (means naming new k)
+  leads new k f naming = subst (λ (sc : Scope). LeadsTo (setting_of naming setting) sc (package_path_of target.path.now) (means naming new k)) (sym (scope_agrees naming old root agrees)) (f.is naming)
+
+  pub no_world : (new : Parts) (k : ItemKind) (imported exported : Named Span) (e : Error) → IsFound new k → ((naming : Naming) (g : Parts) → IsNotWorld (package_path_of target.path.now) (means naming g k) e)
+      → Unmeets setting passes named old root (package_path_of target.path.now) imported exported e
+  no_world new k imported exported e f h naming p one im ex = inr (means naming new k, leads new k f naming, inl (h naming new))
+
+  module _ (new : Parts) (k : ItemKind) (f : IsFound new k) (is : k ≡ kinds.Ty (types.World target.world)) (sound : IsSound new) (law : EntriesMean new) where
+    pub world_there : Names new.types (kinds.Component target.world)
+    world_there = subst (Names new.types) is f.named
+
+    same_composition : (naming : Naming) → composition_of naming new (numbers_of root.nodes) ≡ composed naming old root
+    same_composition naming = composition_expands old new (numbers_of root.nodes) naming f.grows.same f.grows.held (f.grows.kinds naming) agrees.nodes ∙ ap (with_resources (composed naming old root)) f.count
+
+    is_world : (naming : Naming) → world_of (means naming new k) ≡ Some (entry_means naming new target.world.0)
+    is_world naming = ap (λ (x : ItemKind). world_of (means naming new x)) is
+
+    pub target_met : WorldMet (testing new passes named target) → Meets setting passes named old new root (package_path_of target.path.now)
+    target_met m = record {
+      grows = f.grows;
+      handed = f.handed;
+      count = f.count;
+      is = λ naming one. (
+        means naming new k,
+        entry_means naming new target.world.0,
+        leads new k f naming,
+        is_world naming,
+        subst (λ (c : Composition). IsAllowed (given_by passes named (setting_of naming setting)) c (entry_means naming new target.world.0)) (same_composition naming)
+            (whole_allowed new passes named target naming one (setting_of naming setting) (numbers_of root.nodes) sound law (holds_handed setting new naming f.handed) world_there m.nodes m.opens m.exports),
+      );
+    }
+
+    pub target_unmet : (imported exported : Named Span) (e : Error) → WorldUnmet (testing new passes named target) imported exported e → Unmeets setting passes named old root (package_path_of target.path.now) imported exported e
+    target_unmet imported exported e u naming p one im ex =
+        inr (
+          means naming new k,
+          leads new k f naming,
+          inr (
+            entry_means naming new target.world.0,
+            is_world naming,
+            subst (λ (c : Composition). TargetWorldBroken (given_by passes named (setting_of naming setting)) c p e (package_path_of target.path.now) (entry_means naming new target.world.0)) (same_composition naming) (go u),
+          ),
+        )
+      where
+        go : WorldUnmet (testing new passes named target) imported exported e
+            → TargetWorldBroken (given_by passes named (setting_of naming setting)) (composition_of naming new (numbers_of root.nodes)) p e (package_path_of target.path.now) (entry_means naming new target.world.0)
+        go (inl d) =
+            import_denied new passes named target naming one (setting_of naming setting) (numbers_of root.nodes) sound law (holds_handed setting new naming f.handed) world_there p e
+            (subst (λ (l : Named Span). SomeDenied (testing new passes named target) (of_node new) (λ x. look_up x.0 l) new.imports e) (sym im) d)
+        go (inr (inl (n, d))) = open_denied new passes named target naming one (setting_of naming setting) (numbers_of root.nodes) sound law (holds_handed setting new naming f.handed) world_there p e n d
+        go (inr (inr (n, o, d))) =
+            export_unmet new passes named target naming one (setting_of naming setting) (numbers_of root.nodes) sound law (holds_handed setting new naming f.handed) world_there p e n o
+            (subst (λ (l : Named Span). SomeUnmet (testing new passes named target) l (of_kind new) (Rattle.wac_types.specs.Readings.world_exports new.types target.world.0) e) (sym ex) d)

@@ -1,0 +1,9 @@
+pub mod Worlds
+pub mod Last
+pub mod Meanings
+pub mod Compared
+pub mod Firsts
+pub mod Tested
+pub mod Opens
+pub mod Whole
+pub mod Ending

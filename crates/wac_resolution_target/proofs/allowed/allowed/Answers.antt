@@ -1,0 +1,19 @@
+use Rattle.std.proofs.Common.{◌∙◌, List, Option, sym, ap, subst}
+use Rattle.std.specs.Prelude.{option_map, IfSome}
+use Rattle.wac_types.specs.declared.entry.Entry.{Entry}
+use Rattle.wac_types.specs.declared.kind.ItemKind.{ItemKind}
+use Rattle.wac_types.specs.Table.{Names}
+use Rattle.wac_graph.specs.Means.{means}
+use Rattle.wac_resolution_target.specs.Used.{allowed_kind}
+use Rattle.wac_resolution_target.proofs.Meanings.{allowed_means, allowed_named}
+use Rattle.wac_resolution_target.proofs.allowed.allowed.Goals as goal
+
+pub returns-clause-means : goal.returns-clause-means
+returns-clause-means c naming =
+    ap (option_map (means naming c.args.state.now.graph)) (c.written.ensures ∙ ap (λ (es : List Entry). allowed_kind es c.args.world.0 c.args.name.now) c.types-types.ensures.types)
+    ∙ allowed_means c.args.state.now.graph c.types-types.ensures.means c.types-types.ensures.entries naming c.args.world c.args.name.now c.requires
+
+pub returns-clause-named : goal.returns-clause-named
+returns-clause-named c =
+    subst (λ (o : Option ItemKind). IfSome o (Names c.args.state.now.graph.types)) (sym (c.written.ensures ∙ ap (λ (es : List Entry). allowed_kind es c.args.world.0 c.args.name.now) c.types-types.ensures.types))
+    (allowed_named c.args.state.now.graph.types c.args.world.0 c.args.name.now c.types-types.ensures.entries)

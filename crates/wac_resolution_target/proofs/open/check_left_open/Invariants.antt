@@ -1,0 +1,14 @@
+use Rattle.wac_types.specs.Names.{by_name}
+use Rattle.wac_types.specs.Table.{ItemsNamed}
+use Rattle.wac_graph.specs.Graph.{arguments_of}
+use Rattle.wac_resolution_target.specs.Imported.{of_kind, left_open}
+use Rattle.wac_resolution_target.specs.Testing.{testing, Allowed}
+use Rattle.wac_resolution_target.proofs.Firsts.{Through}
+use Rattle.wac_resolution_target.proofs.open.check_left_open.Given as goal
+
+abbrev pub invariant-loop-name : goal.invariant-loop-name
+invariant-loop-name g l =
+    record {
+      named : ItemsNamed l.state.graph.types (by_name l.name-iterator);
+      through : Through (λ x. Allowed (testing l.state.graph (g.R.Rules.passes l.rules) (g.R.Rules.named l.rules) l.target) (of_kind l.state.graph x)) (left_open (arguments_of l.state.graph l.node.0) (by_name l.imports.entries)) (left_open (arguments_of l.state.graph l.node.0) (by_name l.name-iterator));
+    }

@@ -1,0 +1,17 @@
+use Rattle.std.proofs.Common.{◌<◌, length}
+use Rattle.std.specs.Prelude.{flat_map}
+use Rattle.std.specs.List.{AllByRecursion}
+use Rattle.wac_graph.specs.Numbers.{numbers}
+use Rattle.wac_resolution_target.specs.Imported.{of_kind, open_at}
+use Rattle.wac_resolution_target.specs.Testing.{testing, Allowed}
+use Rattle.wac_resolution_target.proofs.Firsts.{Through}
+use Rattle.wac_resolution_target.proofs.open.check_open_imports.Given as goal
+
+abbrev pub invariant-loop-node : goal.invariant-loop-node
+invariant-loop-node g l =
+    record {
+      can : (goal.iterator-loop-node g).can_next l.node-iterator;
+      finite : (goal.iterator-loop-node g).is_finite l.node-iterator;
+      there : AllByRecursion (λ i. i < length l.state.graph.nodes) l.node-iterator;
+      through : Through (λ x. Allowed (testing l.state.graph (g.R.Rules.passes l.rules) (g.R.Rules.named l.rules) l.target) (of_kind l.state.graph x)) (flat_map (open_at l.state.graph) (numbers 0 (length l.state.graph.nodes))) (flat_map (open_at l.state.graph) l.node-iterator);
+    }

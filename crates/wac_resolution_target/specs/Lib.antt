@@ -1,0 +1,4 @@
+pub mod Used
+pub mod Testing
+pub mod Imported
+pub mod Outcome

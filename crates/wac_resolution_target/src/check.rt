@@ -1,0 +1,68 @@
+//! Whether a composition is what its target asks for.
+ghost use Rattle.std.specs.Prelude.{◌≡◌, OnOk, IfErr};
+ghost use Rattle.wac_types.specs.Table.{Names};
+ghost use Rattle.wac_ast_base.specs.Names.{package_path_of};
+ghost use Rattle.wac_resolution_errors.specs.Told.{told};
+ghost use Rattle.wac_resolution_rules.specs.Find.{names_of};
+ghost use Rattle.wac_resolution_nodes.specs.Root.{Agrees};
+ghost use Rattle.wac_resolution_paths.specs.Expands.{HoldsHanded};
+ghost use Rattle.wac_resolution_paths.specs.Setting.{packages_in};
+ghost use Rattle.wac_resolution_externs.specs.Externs.{imported_in, exported_in};
+ghost use Rattle.wac_resolution_target.specs.Outcome.{WorldMet, WorldUnmet, Meets, Unmeets};
+ghost use Rattle.wac_resolution_target.specs.Testing.{testing};
+
+use crate::exports::check_exports;
+use crate::imports::check_imports;
+use crate::open::check_open_imports;
+use crate::target::Target;
+use crate::world::world_of;
+use wac_ast_base::PackagePath;
+use wac_graph::{ItemKind, Rules};
+use wac_resolution_errors::Error;
+use wac_resolution_externs::Externs;
+use wac_resolution_nodes::Root;
+use wac_resolution_paths::{Setting, path};
+use wac_resolution_types::State;
+
+/// Rejects a composition that a world does not allow, or that does not meet its exports.
+fn check_world<R: Rules>(
+    state: &State,
+    rules: &R,
+    target: &Target<'_, '_>,
+    externs: &Externs,
+) -> Result<(), Error>
+    requires world { Names state.now.graph.types (ItemKind.Component target.now.world) }
+    requires placed { names_of (exported_in externs.now) ≡ names_of state.now.graph.exports }
+    ensures ok { OnOk result (WorldMet (testing state.now.graph (R.passes rules.now) (R.named rules.now) target.now)) }
+    ensures err { IfErr result (λ e. WorldUnmet (testing state.now.graph (R.passes rules.now) (R.named rules.now) target.now) (imported_in externs.now) (exported_in externs.now) (told e)) }
+{
+    check_imports(state, rules, target, &externs.imported)?;
+    check_open_imports(state, rules, target)?;
+    check_exports(state, rules, target, &externs.exported)
+}
+
+/// Rejects a composition that is not what its target asks for.
+pub fn check_target<R: Rules>(
+    state: &mut State,
+    setting: &Setting<'_>,
+    rules: &R,
+    root: &Root<'_>,
+    externs: &Externs,
+    target: &PackagePath<'_>,
+) -> Result<(), Error>
+    requires agrees { Agrees state.old.graph root.now }
+    requires handed { HoldsHanded (packages_in setting.now) state.old.graph }
+    requires placed { names_of (exported_in externs.now) ≡ names_of state.old.graph.exports }
+    ensures ok { OnOk result (Meets setting.now (R.passes rules.now) (R.named rules.now) state.old.graph state.new.graph root.now (package_path_of target.now)) }
+    ensures err { IfErr result (λ e. Unmeets setting.now (R.passes rules.now) (R.named rules.now) state.old.graph root.now (package_path_of target.now) (imported_in externs.now) (exported_in externs.now) (told e)) }
+{
+    let kind = path(state, setting, &root.kinds, target)?;
+    let world = world_of(state.alloc, kind, target)?;
+    let _nodes = state.graph.nodes();
+    let _types = state.graph.types();
+    let target = Target {
+        path: target,
+        world,
+    };
+    check_world(state, rules, &target, externs)
+}

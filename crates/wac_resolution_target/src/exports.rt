@@ -1,0 +1,107 @@
+//! Exports that a target asks for.
+ghost use Rattle.std.specs.Prelude.{◌≡◌, ◌⊎◌, OnOk, IfOk, IfErr};
+ghost use Rattle.wac_types.specs.Names.{by_name};
+ghost use Rattle.wac_types.specs.Readings.{world_exports};
+ghost use Rattle.wac_types.specs.Table.{Names, ItemsNamed};
+ghost use Rattle.wac_types.specs.Words.{described};
+ghost use Rattle.wac_ast_base.specs.Names.{package_path_of};
+ghost use Rattle.wac_resolution_errors.specs.Error.{memory, missing_target_export};
+ghost use Rattle.wac_resolution_errors.specs.Told.{told};
+ghost use Rattle.wac_resolution_rules.specs.Find.{names_of};
+ghost use Rattle.wac_resolution_target.specs.Imported.{of_kind};
+ghost use Rattle.wac_resolution_target.specs.Testing.{testing, Met, Unmet, AllMet, SomeUnmet};
+
+use crate::imports::mismatch;
+use crate::target::{Target, passes};
+use indexmap::IndexMap;
+use std::alloc::{AllocError, Global};
+use wac_graph::names::find;
+use wac_graph::{ExternKind, ItemKind, Rules};
+use wac_lexer::SourceSpan;
+use wac_resolution_errors::Error;
+use wac_resolution_types::State;
+
+/// What is reported of an export of the target that the composition does not have.
+fn missing(
+    alloc: Global,
+    target: &Target<'_, '_>,
+    name: &str,
+    kind: ItemKind,
+) -> Result<Error, AllocError>
+    ensures { IfOk result (λ e. told e ≡ missing_target_export name.now (package_path_of target.now.path.now).string (described kind) (package_path_of target.now.path.now).span) }
+{
+    Ok(Error::MissingTargetExport {
+        name: String::from_str(alloc, name)?,
+        world: String::from_str(alloc, target.path.string)?,
+        kind: kind.desc(),
+        span: target.path.span,
+    })
+}
+
+/// Rejects an export of the target that the composition does not meet.
+fn check_export<R: Rules>(
+    state: &State,
+    rules: &R,
+    target: &Target<'_, '_>,
+    places: &IndexMap<String, SourceSpan>,
+    name: &str,
+    kind: ItemKind,
+) -> Result<(), Error>
+    requires named { Names state.now.graph.types kind }
+    requires placed { names_of (by_name places.now.entries) ≡ names_of state.now.graph.exports }
+    ensures ok { OnOk result (Met (testing state.now.graph (R.passes rules.now) (R.named rules.now) target.now) (of_kind state.now.graph (name.now, kind))) }
+    ensures err { IfErr result (λ e. (told e ≡ memory) ⊎ Unmet (testing state.now.graph (R.passes rules.now) (R.named rules.now) target.now) (by_name places.now.entries) (of_kind state.now.graph (name.now, kind)) (told e)) }
+{
+    let Some(node) = state.graph.get_export(name) else {
+        return Err(missing(state.alloc, target, name, kind)?);
+    };
+    let exported = state.graph.kind(node);
+    match passes(state, rules, exported, kind.promote()) {
+        Ok(()) => Ok(()),
+        Err(reason) => Err(mismatch(
+            state.alloc,
+            ExternKind::Export,
+            target,
+            name,
+            reason,
+            find(places, name),
+        )?),
+    }
+}
+
+/// Rejects one of these exports that the composition does not meet: the first.
+fn check_each<R: Rules>(
+    state: &State,
+    rules: &R,
+    target: &Target<'_, '_>,
+    places: &IndexMap<String, SourceSpan>,
+    exports: &IndexMap<String, ItemKind>,
+) -> Result<(), Error>
+    requires named { ItemsNamed state.now.graph.types (by_name exports.now.entries) }
+    requires placed { names_of (by_name places.now.entries) ≡ names_of state.now.graph.exports }
+    ensures ok { OnOk result (AllMet (testing state.now.graph (R.passes rules.now) (R.named rules.now) target.now) (of_kind state.now.graph) (by_name exports.now.entries)) }
+    ensures err { IfErr result (λ e. SomeUnmet (testing state.now.graph (R.passes rules.now) (R.named rules.now) target.now) (by_name places.now.entries) (of_kind state.now.graph) (by_name exports.now.entries) (told e)) }
+{
+    for (name, kind) in exports.iter() {
+        check_export(state, rules, target, places, name.as_str(), *kind)?;
+    }
+    Ok(())
+}
+
+/// Rejects an export of the target's world that the composition does not meet: the first.
+pub(crate) fn check_exports<R: Rules>(
+    state: &State,
+    rules: &R,
+    target: &Target<'_, '_>,
+    places: &IndexMap<String, SourceSpan>,
+) -> Result<(), Error>
+    requires { names_of (by_name places.now.entries) ≡ names_of state.now.graph.exports }
+    ensures ok { OnOk result (AllMet (testing state.now.graph (R.passes rules.now) (R.named rules.now) target.now) (of_kind state.now.graph) (world_exports state.now.graph.types target.now.world.0)) }
+    ensures err { IfErr result (λ e. SomeUnmet (testing state.now.graph (R.passes rules.now) (R.named rules.now) target.now) (by_name places.now.entries) (of_kind state.now.graph) (world_exports state.now.graph.types target.now.world.0) (told e)) }
+{
+    let types = state.graph.types();
+    match types.exports(ItemKind::Component(target.world)) {
+        Some(exports) => check_each(state, rules, target, places, exports),
+        None => Ok(()),
+    }
+}

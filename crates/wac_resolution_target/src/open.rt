@@ -1,0 +1,113 @@
+//! Imports that instances of packages leave open, each of which the target allows.
+ghost use Rattle.std.specs.Prelude.{◌<◌, [], ◌∷◌, OnOk, IfErr, length, flat_map};
+ghost use Rattle.wac_types.specs.Names.{by_name};
+ghost use Rattle.wac_types.specs.Table.{Names, ItemsNamed};
+ghost use Rattle.wac_graph.specs.Graph.{arguments_of};
+ghost use Rattle.wac_graph.specs.Numbers.{numbers};
+ghost use Rattle.wac_resolution_errors.specs.Told.{told};
+ghost use Rattle.wac_resolution_target.specs.Imported.{of_kind, left_open, package_imports, open_at};
+ghost use Rattle.wac_resolution_target.specs.Testing.{testing, AllAllowed, SomeDenied, nowhere};
+
+use crate::imports::check_import;
+use crate::target::Target;
+use indexmap::IndexMap;
+use wac_graph::{ItemKind, NodeId, PackageId, Rules};
+use wac_resolution_errors::Error;
+use wac_resolution_types::State;
+
+/// Rejects an import of an instance that the target does not allow, unless there is an argument for it.
+fn check_open_import<R: Rules>(
+    state: &State,
+    rules: &R,
+    target: &Target<'_, '_>,
+    node: NodeId,
+    name: &str,
+    kind: ItemKind,
+) -> Result<(), Error>
+    requires world { Names state.now.graph.types (ItemKind.Component target.now.world) }
+    requires named { Names state.now.graph.types kind }
+    requires there { node.0 < length state.now.graph.nodes }
+    ensures ok { OnOk result (AllAllowed (testing state.now.graph (R.passes rules.now) (R.named rules.now) target.now) (of_kind state.now.graph) (left_open (arguments_of state.now.graph node.0) ((name.now, kind) ∷ []))) }
+    ensures err { IfErr result (λ e. SomeDenied (testing state.now.graph (R.passes rules.now) (R.named rules.now) target.now) (of_kind state.now.graph) nowhere (left_open (arguments_of state.now.graph node.0) ((name.now, kind) ∷ [])) (told e)) }
+{
+    match state.graph.argument(node, name) {
+        Some(_) => Ok(()),
+        None => check_import(state, rules, target, name, kind, None),
+    }
+}
+
+/// Rejects an import that an instance leaves open and the target does not allow: the first.
+fn check_left_open<R: Rules>(
+    state: &State,
+    rules: &R,
+    target: &Target<'_, '_>,
+    node: NodeId,
+    imports: &IndexMap<String, ItemKind>,
+) -> Result<(), Error>
+    requires world { Names state.now.graph.types (ItemKind.Component target.now.world) }
+    requires named { ItemsNamed state.now.graph.types (by_name imports.now.entries) }
+    requires there { node.0 < length state.now.graph.nodes }
+    ensures ok { OnOk result (AllAllowed (testing state.now.graph (R.passes rules.now) (R.named rules.now) target.now) (of_kind state.now.graph) (left_open (arguments_of state.now.graph node.0) (by_name imports.now.entries))) }
+    ensures err { IfErr result (λ e. SomeDenied (testing state.now.graph (R.passes rules.now) (R.named rules.now) target.now) (of_kind state.now.graph) nowhere (left_open (arguments_of state.now.graph node.0) (by_name imports.now.entries)) (told e)) }
+{
+    for (name, kind) in imports.iter() {
+        check_open_import(state, rules, target, node, name.as_str(), *kind)?;
+    }
+    Ok(())
+}
+
+/// Rejects what an instance of a package leaves open and the target does not allow.
+fn check_instance<R: Rules>(
+    state: &State,
+    rules: &R,
+    target: &Target<'_, '_>,
+    node: NodeId,
+    package: PackageId,
+) -> Result<(), Error>
+    requires world { Names state.now.graph.types (ItemKind.Component target.now.world) }
+    requires there { node.0 < length state.now.graph.nodes }
+    requires held { «package».0 < length state.now.graph.packages }
+    ensures ok { OnOk result (AllAllowed (testing state.now.graph (R.passes rules.now) (R.named rules.now) target.now) (of_kind state.now.graph) (left_open (arguments_of state.now.graph node.0) (package_imports state.now.graph «package».0))) }
+    ensures err { IfErr result (λ e. SomeDenied (testing state.now.graph (R.passes rules.now) (R.named rules.now) target.now) (of_kind state.now.graph) nowhere (left_open (arguments_of state.now.graph node.0) (package_imports state.now.graph «package».0)) (told e)) }
+{
+    let held = state.graph.package(package);
+    let types = state.graph.types();
+    match types.imports(held.world) {
+        Some(imports) => check_left_open(state, rules, target, node, imports),
+        None => Ok(()),
+    }
+}
+
+/// Rejects what a node leaves open and the target does not allow.
+fn check_node<R: Rules>(
+    state: &State,
+    rules: &R,
+    target: &Target<'_, '_>,
+    node: NodeId,
+) -> Result<(), Error>
+    requires world { Names state.now.graph.types (ItemKind.Component target.now.world) }
+    requires there { node.0 < length state.now.graph.nodes }
+    ensures ok { OnOk result (AllAllowed (testing state.now.graph (R.passes rules.now) (R.named rules.now) target.now) (of_kind state.now.graph) (open_at state.now.graph node.0)) }
+    ensures err { IfErr result (λ e. SomeDenied (testing state.now.graph (R.passes rules.now) (R.named rules.now) target.now) (of_kind state.now.graph) nowhere (open_at state.now.graph node.0) (told e)) }
+{
+    match state.graph.instance_of(node) {
+        Some(package) => check_instance(state, rules, target, node, package),
+        None => Ok(()),
+    }
+}
+
+/// Rejects an import that an instance of a package leaves open and the target does not allow: the first.
+pub(crate) fn check_open_imports<R: Rules>(
+    state: &State,
+    rules: &R,
+    target: &Target<'_, '_>,
+) -> Result<(), Error>
+    requires { Names state.now.graph.types (ItemKind.Component target.now.world) }
+    ensures ok { OnOk result (AllAllowed (testing state.now.graph (R.passes rules.now) (R.named rules.now) target.now) (of_kind state.now.graph) (flat_map (open_at state.now.graph) (numbers 0 (length state.now.graph.nodes)))) }
+    ensures err { IfErr result (λ e. SomeDenied (testing state.now.graph (R.passes rules.now) (R.named rules.now) target.now) (of_kind state.now.graph) nowhere (flat_map (open_at state.now.graph) (numbers 0 (length state.now.graph.nodes))) (told e)) }
+{
+    for node in state.graph.nodes() {
+        check_node(state, rules, target, node)?;
+    }
+    Ok(())
+}

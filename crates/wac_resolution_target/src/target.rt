@@ -1,0 +1,33 @@
+//! A target, and kinds that are compared for it.
+ghost use Rattle.wac_types.specs.Rules.{Answers};
+ghost use Rattle.wac_types.specs.Table.{Names};
+ghost use Rattle.wac_graph.specs.Means.{means};
+ghost use Rattle.wac_graph.specs.Origin.{Naming, IsOneToOne};
+
+use wac_ast_base::PackagePath;
+use wac_graph::{ItemKind, Reason, Rules, WorldId};
+use wac_resolution_types::State;
+
+/// What a composition is compared with: a path, and the world to which it leads.
+#[derive(Clone, Copy)]
+pub(crate) struct Target<'x, 'a> {
+    /// The path.
+    pub path: &'x PackagePath<'a>,
+    /// The world.
+    pub world: WorldId,
+}
+
+/// Whether the first may stand where the second is expected.
+pub(crate) fn passes<R: Rules>(
+    state: &State,
+    rules: &R,
+    a: ItemKind,
+    b: ItemKind,
+) -> Result<(), Reason>
+    requires first { Names state.now.graph.types a }
+    requires second { Names state.now.graph.types b }
+    ensures { (naming : Naming) → IsOneToOne naming → Answers result (R.passes rules.now (means naming state.now.graph a) (means naming state.now.graph b)) }
+{
+    let types = state.graph.types();
+    rules.subtype(types, a, b)
+}

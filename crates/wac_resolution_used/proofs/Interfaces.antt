@@ -1,0 +1,27 @@
+-- Kinds that are no interfaces.
+use Rattle.std.proofs.Common.{◌≡◌, refl}
+use Rattle.wac_types.specs.declared.kind.InterfaceId.{InterfaceId}
+use Rattle.wac_types.specs.declared.kind.ItemKind.{ItemKind}
+use Rattle.wac_types.specs.declared.kind.ItemKind.TheVariants as kinds
+use Rattle.wac_types.specs.declared.kind.«Type».TheVariants as types
+use Rattle.wac_types.specs.Shape.{IsNoneOf, is_interface_form}
+use Rattle.wac_graph.specs.Graph.{Parts}
+use Rattle.wac_graph.specs.Means.{means}
+use Rattle.wac_graph.specs.Origin.{Naming}
+use Rattle.wac_resolution_types.proofs.Scopes.{memory_told}
+
+-- what is no interface
+pub not_interface : (naming : Naming) (g : Parts) (k : ItemKind) → ((i : InterfaceId) → k ≡ kinds.Ty (types.Interface i) → ⊥) → IsNoneOf is_interface_form (means naming g k)
+not_interface naming g (kinds.Ty (types.Resource r)) p = refl
+not_interface naming g (kinds.Ty (types.Func f)) p = refl
+not_interface naming g (kinds.Ty (types.Value v)) p = refl
+not_interface naming g (kinds.Ty (types.Interface i)) p = absurd (p i refl)
+not_interface naming g (kinds.Ty (types.World w)) p = refl
+not_interface naming g (kinds.Ty (types.Module m)) p = refl
+not_interface naming g (kinds.Func f) p = refl
+not_interface naming g (kinds.Instance i) p = refl
+not_interface naming g (kinds.Component w) p = refl
+not_interface naming g (kinds.Module m) p = refl
+not_interface naming g (kinds.Value v) p = refl
+
+pub ruleset interfaces_found = (not_interface, memory_told)

@@ -1,0 +1,50 @@
+-- The types of an interface that is named, as a body uses them.
+use Rattle.std.specs.Prelude.{◌≡◌, ◌⊎◌, ◌++◌, List}
+use Rattle.wac_lexer.specs.Span.{Span}
+use Rattle.wac_grammar.specs.Tree.{UsePath, Use}
+use Rattle.wac_types.specs.declared.kind.ExternKind.{ExternKind}
+use Rattle.wac_types.specs.declared.kind.InterfaceId.{InterfaceId}
+use Rattle.wac_types.specs.declared.kind.ItemKind.{ItemKind}
+use Rattle.wac_types.specs.declared.kind.ItemKind.TheVariants as kinds
+use Rattle.wac_types.specs.declared.kind.«Type».TheVariants as types
+use Rattle.wac_types.specs.Meaning.{Meaning}
+use Rattle.wac_types.specs.Package.{PackageParts}
+use Rattle.wac_types.specs.Scope.{Named, Scope}
+use Rattle.wac_graph.specs.Graph.{Parts}
+use Rattle.wac_graph.specs.Origin.{Naming}
+use Rattle.wac_graph.specs.Package.{Key}
+use Rattle.wac_resolution_errors.specs.Error.{Error}
+use Rattle.wac_resolution_rules.specs.Bodies.{Body, HasUse}
+use Rattle.wac_resolution_rules.specs.BrokenBodies.{UsePathBroken, IsNoInterface}
+use Rattle.wac_resolution_rules.specs.Paths as rules
+use Rattle.wac_resolution_rules.specs.Places.{used_at}
+use Rattle.wac_resolution_rules.specs.Spans.{use_path_name, use_path_span}
+use Rattle.wac_resolution_types.specs.Bindings.{places_of}
+use Rattle.wac_resolution_types.specs.Named.{scope_of}
+use Rattle.wac_resolution_paths.specs.declared.setting.Setting.{Setting}
+use Rattle.wac_resolution_paths.specs.Expands.{Expands, HoldsHanded, Found}
+use Rattle.wac_resolution_paths.specs.Setting.{packages_in, setting_of}
+use Rattle.wac_resolution_bodies.specs.Lists.{Lists}
+use Rattle.wac_resolution_bodies.specs.Bodies.{body_in, IsBody}
+
+-- the path or identifier names this interface
+abbrev pub IsInterface : Setting → Parts → Parts → Named ItemKind → UsePath → InterfaceId → Type 0
+IsInterface setting old new root path i = Found (packages_in setting) old new (λ naming m. rules.UseNames (setting_of naming setting) (scope_of naming old root) path m) (kinds.Ty (types.Interface i))
+
+-- it names none
+abbrev pub IsNoneNamed : rules.Setting → Scope → UsePath → Error → Type 0
+IsNoneNamed setting root path e = UsePathBroken setting root path e ⊎ ((k : Meaning) × rules.UseNames setting root path k × IsNoInterface k (use_path_name path) (use_path_span path) e)
+
+-- the graph got more types and perhaps more packages, and the body is another one: these names were bound, and of what both bodies mean
+-- this holds
+pub record BodyExpands (packages : List (Key × PackageParts)) (side : ExternKind) (old new : Parts) (b c : Lists) (bound : Named Span) (holds : Naming → Body → Body → Type 0) : Type 0 where
+  pub grows : Expands old new
+  pub handed : HoldsHanded packages new
+  pub body : IsBody new.types side c
+  pub places : places_of c.names ≡ places_of b.names ++ bound
+  pub goes : (naming : Naming) → holds naming (body_in naming old b) (body_in naming new c)
+
+-- what a use comes to
+abbrev pub StatementGoes : Setting → ExternKind → Parts → Parts → Named ItemKind → Lists → Lists → Use → Type 0
+StatementGoes setting side old new root b c u =
+    BodyExpands (packages_in setting) side old new b c (used_at u.items) (λ naming before after. HasUse (setting_of naming setting) (scope_of naming old root) side before u after)

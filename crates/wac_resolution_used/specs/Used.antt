@@ -1,0 +1,35 @@
+-- Types of an interface that a body uses.
+use Rattle.std.specs.Prelude.{◌≡◌, List, ◌∷◌, [], Some}
+use Rattle.wac_grammar.specs.Tree.{UseItem}
+use Rattle.wac_types.specs.declared.kind.ExternKind.{ExternKind}
+use Rattle.wac_types.specs.declared.kind.InterfaceId.{InterfaceId}
+use Rattle.wac_types.specs.declared.kind.ItemKind.{ItemKind}
+use Rattle.wac_types.specs.declared.kind.ItemKind.TheVariants as kinds
+use Rattle.wac_types.specs.Shape.{IsA, is_resource_or_value_form, export_of}
+use Rattle.wac_types.specs.Steps.{Steps}
+use Rattle.wac_types.specs.Table.{Names}
+use Rattle.wac_graph.specs.Graph.{Parts}
+use Rattle.wac_graph.specs.Means.{means}
+use Rattle.wac_graph.specs.Origin.{Naming}
+use Rattle.wac_resolution_rules.specs.Bodies.{used_as, UsesItem}
+use Rattle.wac_resolution_rules.specs.Places.{at_ident, used_at}
+use Rattle.wac_resolution_bodies.specs.Lists.{Lists}
+use Rattle.wac_resolution_bodies.specs.Bodies.{BodyGoes}
+
+-- the interface exports this kind under the name
+pub record IsThere (g : Parts) (i : InterfaceId) (x : UseItem) (k : ItemKind) : Type 0 where
+  pub named : Names g.types k
+  pub is : (naming : Naming) → export_of (means naming g (kinds.Instance i)) x.id.string ≡ Some (means naming g k)
+
+-- and it is a resource or a type of values
+pub record IsUsed (g : Parts) (i : InterfaceId) (x : UseItem) (k : ItemKind) : Type 0 where
+  pub there : IsThere g i x k
+  pub usable : (naming : Naming) → IsA is_resource_or_value_form (means naming g k)
+
+-- one used type: the graph stays
+abbrev pub UseGoes : ExternKind → Parts → InterfaceId → Lists → Lists → UseItem → Type 0
+UseGoes side g i b c x = BodyGoes side g g b c (at_ident (used_as x) ∷ []) (λ naming before after. UsesItem side (means naming g (kinds.Instance i)) before x after)
+
+-- used types, one after another
+abbrev pub UsesGo : ExternKind → Parts → InterfaceId → Lists → Lists → List UseItem → Type 0
+UsesGo side g i b c xs = BodyGoes side g g b c (used_at xs) (λ naming before after. Steps (UsesItem side (means naming g (kinds.Instance i))) before xs after)

@@ -1,0 +1,26 @@
+-- The id of an interface of a graph.
+use Rattle.std.proofs.Common.{◌≡◌, ◌∙◌, ℕ, List, [], Option, Some, None, sym, ap}
+use Rattle.std.specs.Prelude.{slice_get, option_map, option_and_then, unwrap_or, string_bytes}
+use Rattle.wac_types.specs.declared.kind.InterfaceId.{InterfaceId}
+use Rattle.wac_types.specs.declared.entry.Entry.{Entry}
+use Rattle.wac_types.specs.declared.entry.Entry.TheVariants as entries
+use Rattle.wac_types.specs.declared.entry.Interface.{Interface}
+use Rattle.wac_types.specs.Readings.{as_interface}
+use Rattle.wac_types.specs.Shape.{id_of}
+use Rattle.wac_types.proofs.Parts as parts
+use Rattle.wac_graph.specs.Graph.{Parts}
+use Rattle.wac_graph.specs.Means.{entry_means, EntriesMean, origin_at}
+use Rattle.wac_graph.specs.Origin.{Naming}
+
+interface_entry_is : (o : Option Entry) (i : Interface) → option_and_then as_interface o ≡ Some i → o ≡ Some (entries.Interface i)
+interface_entry_is None i h = absurd (cc)
+interface_entry_is (Some (entries.Defined d)) i h = absurd (cc)
+interface_entry_is (Some (entries.Resource r)) i h = absurd (cc)
+interface_entry_is (Some (entries.Func f)) i h = absurd (cc)
+interface_entry_is (Some (entries.Interface j)) i h = cc
+interface_entry_is (Some (entries.World w)) i h = absurd (cc)
+
+pub id_is : (g : Parts) (i : InterfaceId) (x : Interface) (text : List ℕ) → EntriesMean g → Some x ≡ option_and_then as_interface (slice_get g.types i.0) → text ≡ unwrap_or (option_map string_bytes x.id) [] → (naming : Naming) → text ≡ unwrap_or (id_of (entry_means naming g i.0)) []
+id_is g i x text mean read is naming =
+    let at : slice_get g.types i.0 ≡ Some (entries.Interface x) = interface_entry_is (slice_get g.types i.0) x (sym read) in
+    is ∙ sym (ap (λ (o : Option (List ℕ)). unwrap_or o []) (parts.interface_id (entry_means naming g) (entry_means naming g i.0) (naming (origin_at g i.0)) x (mean naming i.0 (entries.Interface x) at)))

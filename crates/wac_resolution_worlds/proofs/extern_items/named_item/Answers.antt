@@ -1,0 +1,26 @@
+use Rattle.std.proofs.Common.{inl, inr}
+use Rattle.std.proofs.lemmas.Result.{err_from_is_err_and}
+use Rattle.wac_ast_worlds.specs.Worlds.{named_world_item_of}
+use Rattle.wac_resolution_types.specs.Bindings.{values_of}
+use Rattle.wac_resolution_bodies.specs.Lists.{lists_of}
+use Rattle.wac_resolution_bodies.proofs.Lists.{extern_fresh}
+use Rattle.wac_resolution_worlds.proofs.WorldItems.{named_goes}
+use Rattle.wac_resolution_worlds.proofs.extern_items.named_item.Goals as goal
+
+pub returns-in_err-check_extern-clause-err : goal.returns-in_err-check_extern-clause-err
+returns-in_err-check_extern-clause-err c =
+    let p = err_from_is_err_and c.from_residual.result c.from_residual.ensures.1 in
+    rw (p.1, p.2) (λ naming. inl (c.in_err-check_extern.ensures.err naming c.args.state.now.graph))
+
+pub extern_type-requires-clause-names : goal.extern_type-requires-clause-names
+extern_type-requires-clause-names c = c.requires.body.names
+
+pub returns-in_err-kind-clause-err : goal.returns-in_err-kind-clause-err
+returns-in_err-kind-clause-err c =
+    let p = err_from_is_err_and c.from_residual-in_err-kind.result c.from_residual-in_err-kind.ensures.1 in
+    rw (p.1, p.2) (λ naming. inr (extern_fresh naming c.args.state.now.graph c.args.side (lists_of c.args.body.now) c.args.item.now.id.string.now c.in_ok-check_extern.ensures.ok, c.in_err-kind.ensures.err naming))
+
+pub returns-clause-ok : goal.returns-clause-ok
+returns-clause-ok c =
+    named_goes c.args.setting.now c.args.side c.args.state.now.graph c.extern_type.new.state.graph (values_of c.args.root.now) (lists_of c.args.body.now) (lists_of c.add.new.self) (named_world_item_of c.args.item.now) c.in_ok-kind.kind
+    c.requires.body c.in_ok-check_extern.ensures.ok c.in_ok-kind.ensures.ok c.in_ok-add.ensures

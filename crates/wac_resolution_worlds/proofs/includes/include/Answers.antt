@@ -1,0 +1,47 @@
+use Rattle.std.proofs.Common.{List, [], inl, map, refl, subst}
+use Rattle.std.proofs.lemmas.Result.{err_from_is_err_and}
+use Rattle.wac_types.specs.Names.{by_name}
+use Rattle.wac_types.specs.Steps.{Fails}
+use Rattle.wac_ast_worlds.specs.Worlds.{world_include_item_of, world_include_of}
+use Rattle.wac_ast_worlds.specs.declared.world.WorldIncludeItem.{WorldIncludeItem}
+use Rattle.wac_resolution_errors.specs.Told.{told}
+use Rattle.wac_resolution_rules.specs.BrokenWorlds.{IsSecondEntry}
+use Rattle.wac_resolution_rules.specs.Includes.{HasEntry}
+use Rattle.wac_resolution_types.specs.Bindings.{values_of}
+use Rattle.wac_resolution_bodies.specs.Lists.{lists_of}
+use Rattle.wac_resolution_includes.specs.Entries.{AreAll}
+use Rattle.wac_resolution_worlds.proofs.Including.{include_goes, world_breaks, taking_breaks}
+use Rattle.wac_resolution_worlds.proofs.includes.include.Goals as goal
+
+pub returns-in_err-renamed-clause-err : goal.returns-in_err-renamed-clause-err
+returns-in_err-renamed-clause-err c =
+    let p = err_from_is_err_and c.from_residual.result c.from_residual.ensures.1 in
+    let h = subst (λ (l : List WorldIncludeItem). Fails HasEntry (IsSecondEntry (told c.in_err-renamed.field-0.0)) [] (map world_include_item_of l)) c.deref.ensures.value c.in_err-renamed.ensures.err in
+    rw (p.1, p.2) (λ naming before. inl h)
+
+pub returns-in_err-kind-clause-err : goal.returns-in_err-kind-clause-err
+returns-in_err-kind-clause-err c =
+    let p = err_from_is_err_and c.from_residual-in_err-kind.result c.from_residual-in_err-kind.ensures.1 in
+    let all = subst (λ (l : List WorldIncludeItem). AreAll (map world_include_item_of l) (by_name c.in_ok-renamed.renamed.entries)) c.deref.ensures.value c.in_ok-renamed.ensures.ok in
+    rw (p.1, p.2) (world_breaks c.args.setting.now c.args.state.now.graph (values_of c.args.root.now) (lists_of c.args.body.now) c.args.world.now (world_include_of c.args.include.now) (by_name c.in_ok-renamed.renamed.entries) (told c.in_err-kind.field-0.0) all c.in_err-kind.ensures.err)
+
+pub take-requires-clause-kind : goal.take-requires-clause-kind
+take-requires-clause-kind c = c.in_ok-kind.ensures.ok.named
+
+pub take-requires-clause-of_clause : goal.take-requires-clause-of_clause
+take-requires-clause-of_clause c =
+    let all = subst (λ (l : List WorldIncludeItem). AreAll (map world_include_item_of l) (by_name c.in_ok-renamed.renamed.entries)) c.deref.ensures.value c.in_ok-renamed.ensures.ok in
+    all.of_clause
+
+pub returns-in_err-take-clause-err : goal.returns-in_err-take-clause-err
+returns-in_err-take-clause-err c =
+    let p = err_from_is_err_and c.from_residual-in_err-take.result c.from_residual-in_err-take.ensures.1 in
+    let all = subst (λ (l : List WorldIncludeItem). AreAll (map world_include_item_of l) (by_name c.in_ok-renamed.renamed.entries)) c.deref.ensures.value c.in_ok-renamed.ensures.ok in
+    rw (p.1, p.2) (taking_breaks c.args.setting.now c.args.state.now.graph c.world_ref.new.state.graph (values_of c.args.root.now) (lists_of c.args.body.now) c.args.world.now (world_include_of c.args.include.now) (by_name c.in_ok-renamed.renamed.entries) c.in_ok-kind.kind (told c.in_err-take.field-0.0)
+    c.requires.body all c.in_ok-kind.ensures.ok c.in_err-take.ensures.err)
+
+pub returns-clause-ok : goal.returns-clause-ok
+returns-clause-ok c =
+    let all = subst (λ (l : List WorldIncludeItem). AreAll (map world_include_item_of l) (by_name c.in_ok-renamed.renamed.entries)) c.deref.ensures.value c.in_ok-renamed.ensures.ok in
+    include_goes c.args.setting.now c.args.state.now.graph c.world_ref.new.state.graph (values_of c.args.root.now) (lists_of c.args.body.now) (lists_of (record c.args.body.now { imports = c.take.new.imports; exports = c.take.new.exports })) (world_include_of c.args.include.now) (by_name c.in_ok-renamed.renamed.entries) c.in_ok-kind.kind
+    c.requires.body all c.in_ok-kind.ensures.ok c.in_ok-take.ensures.ok refl refl

@@ -1,0 +1,20 @@
+use Rattle.std.proofs.Common.{sym}
+use Rattle.std.proofs.lemmas.Result.{err_from_is_err_and}
+use Rattle.wac_ast_worlds.specs.Worlds.{world_include_of, world_item_of}
+use Rattle.wac_resolution_types.specs.Bindings.{values_of}
+use Rattle.wac_resolution_bodies.specs.Lists.{lists_of}
+use Rattle.wac_resolution_worlds.proofs.Including.{no_include, one_include}
+use Rattle.wac_resolution_worlds.proofs.includes.include_item.Goals as goal
+
+pub returns-in_err-include-in-Some-clause-err : goal.returns-in_err-include-in-Some-clause-err
+returns-in_err-include-in-Some-clause-err c =
+    let p = err_from_is_err_and c.from_residual.result c.from_residual.ensures.1 in
+    rw (p.1, p.2) (λ naming before. (world_include_of c.in-Some.clause.now, sym c.in-Some.ensures, c.in_err-include-in-Some.ensures.err naming before))
+
+pub returns-in_ok-include-in-Some-clause-ok : goal.returns-in_ok-include-in-Some-clause-ok
+returns-in_ok-include-in-Some-clause-ok c =
+    one_include c.args.setting.now c.args.state.now.graph c.include.new.state.graph (values_of c.args.root.now) (lists_of c.args.body.now) (lists_of c.include.new.body) (world_item_of c.args.item.now) (world_include_of c.in-Some.clause.now) (sym c.in-Some.ensures) c.in_ok-include-in-Some.ensures.ok
+
+pub returns-in-None-clause-ok : goal.returns-in-None-clause-ok
+returns-in-None-clause-ok c =
+    no_include c.args.setting.now c.args.state.now.graph (values_of c.args.root.now) (lists_of c.args.body.now) (world_item_of c.args.item.now) (sym c.in-None.ensures) c.requires.handed c.requires.body

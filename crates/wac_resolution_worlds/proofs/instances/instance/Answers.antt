@@ -1,0 +1,34 @@
+use Rattle.std.proofs.Common.{inl}
+use Rattle.std.proofs.lemmas.Result.{err_from_is_err_and}
+use Rattle.wac_resolution_errors.specs.Told.{told}
+use Rattle.wac_resolution_types.proofs.Scopes.{memory_told}
+use Rattle.wac_resolution_bodies.specs.Lists.{lists_of}
+use Rattle.wac_resolution_bodies.specs.Owners.{owner_of}
+use Rattle.wac_resolution_worlds.proofs.Refer.{interface_kind}
+use Rattle.wac_resolution_worlds.proofs.WorldItems.{instance_goes, instance_conflicts}
+use Rattle.wac_resolution_worlds.proofs.instances.instance.Goals as goal
+
+pub returns-in_err-interface-clause-err : goal.returns-in_err-interface-clause-err
+returns-in_err-interface-clause-err c =
+    let p = err_from_is_err_and c.from_residual.result c.from_residual.ensures.1 in
+    rw (p.1, p.2) (λ naming. inl (c.in_err-interface.ensures.err naming c.args.state.now.graph))
+
+pub instance_id-id-requires : goal.instance_id-id-requires
+instance_id-id-requires c = (interface_kind c.args.kind c.in_ok-interface.interface c.in_ok-interface.ensures.ok).named c.args.state.now.graph.types c.requires.kind
+
+pub returns-in_err-check_extern-clause-err : goal.returns-in_err-check_extern-clause-err
+returns-in_err-check_extern-clause-err c =
+    let p = err_from_is_err_and c.from_residual-in_err-check_extern.result c.from_residual-in_err-check_extern.ensures.1 in
+    rw (p.1, p.2) (instance_conflicts (owner_of c.args.owner.now) c.args.state.now.graph c.args.side (lists_of c.args.body.now) c.args.kind c.in_ok-interface.interface c.instance_id-id.result.now c.args.name.now c.args.span (told c.in_err-check_extern.field-0.0)
+    (interface_kind c.args.kind c.in_ok-interface.interface c.in_ok-interface.ensures.ok) c.instance_id-id.ensures (λ naming. c.in_err-check_extern.ensures.err naming c.args.state.now.graph))
+
+pub returns-in_err-add-clause-err : goal.returns-in_err-add-clause-err
+returns-in_err-add-clause-err c =
+    let p = err_from_is_err_and c.from_residual-in_err-add.result c.from_residual-in_err-add.ensures.1 in
+    rw p.1 (instance_conflicts (owner_of c.args.owner.now) c.args.state.now.graph c.args.side (lists_of c.args.body.now) c.args.kind c.in_ok-interface.interface c.instance_id-id.result.now c.args.name.now c.args.span (told p.0)
+    (interface_kind c.args.kind c.in_ok-interface.interface c.in_ok-interface.ensures.ok) c.instance_id-id.ensures (λ naming. inl (memory_told p.0 p.2)))
+
+pub returns-clause-ok : goal.returns-clause-ok
+returns-clause-ok c =
+    instance_goes c.args.state.now.graph c.args.side (lists_of c.args.body.now) (lists_of c.add.new.self) c.args.kind c.in_ok-interface.interface c.instance_id-id.result.now
+    c.requires.body c.requires.kind (interface_kind c.args.kind c.in_ok-interface.interface c.in_ok-interface.ensures.ok) c.instance_id-id.ensures c.in_ok-check_extern.ensures.ok c.in_ok-add.ensures

@@ -1,0 +1,35 @@
+use Rattle.std.proofs.Common.{ap}
+use Rattle.wac_ast_types.specs.Declarations.{item_type_decl_of}
+use Rattle.wac_ast_worlds.specs.Worlds.{use_of, world_import_of, world_export_of, world_include_of, world_item_of}
+use Rattle.wac_resolution_types.specs.Bindings.{values_of}
+use Rattle.wac_resolution_bodies.specs.Lists.{lists_of}
+use Rattle.wac_resolution_bodies.specs.Owners.{owner_of}
+use Rattle.wac_resolution_worlds.proofs.WorldBodies.{use_breaks, import_breaks, export_breaks, declaration_breaks, declaration_item, include_item}
+use Rattle.wac_resolution_worlds.proofs.world_items.world_item.Goals as goal
+
+pub returns-in-Use-clause-ok : goal.returns-in-Use-clause-ok
+returns-in-Use-clause-ok c = rw c.in-Use.is c.use_statement.ensures.ok
+
+pub returns-in-Use-clause-err : goal.returns-in-Use-clause-err
+returns-in-Use-clause-err c =
+    use_breaks c.args.setting.now c.args.state.now.graph (values_of c.args.root.now) (owner_of c.args.owner.now) (lists_of c.args.body.now) c.args.item.now (use_of c.in-Use.used) c.use_statement.result (ap world_item_of c.in-Use.is) c.use_statement.ensures.err
+
+pub returns-in-Import-clause-err : goal.returns-in-Import-clause-err
+returns-in-Import-clause-err c =
+    import_breaks c.args.setting.now c.args.state.now.graph (values_of c.args.root.now) (owner_of c.args.owner.now) (lists_of c.args.body.now) c.args.item.now (world_import_of c.in-Import.import) c.extern_item.result (ap world_item_of c.in-Import.is) c.extern_item.ensures.err
+
+pub returns-in-Export-clause-err : goal.returns-in-Export-clause-err
+returns-in-Export-clause-err c =
+    export_breaks c.args.setting.now c.args.state.now.graph (values_of c.args.root.now) (owner_of c.args.owner.now) (lists_of c.args.body.now) c.args.item.now (world_export_of c.in-Export.export) c.extern_item-in-Export.result (ap world_item_of c.in-Export.is) c.extern_item-in-Export.ensures.err
+
+pub returns-in-Include-clause-ok : goal.returns-in-Include-clause-ok
+returns-in-Include-clause-ok c =
+    include_item c.args.setting.now c.args.state.now.graph (values_of c.args.root.now) (lists_of c.args.body.now) c.args.item.now (world_include_of c.in-Include.field-0) (ap world_item_of c.in-Include.is) c.requires.handed c.requires.body
+
+pub returns-in-Ty-clause-ok : goal.returns-in-Ty-clause-ok
+returns-in-Ty-clause-ok c =
+    declaration_item c.args.setting.now c.args.state.now.graph c.item.new.state.graph (values_of c.args.root.now) (lists_of c.args.body.now) (lists_of c.item.new.body) c.args.item.now (item_type_decl_of c.in-Ty.decl) c.item.result (ap world_item_of c.in-Ty.is) c.requires.handed c.item.ensures.ok
+
+pub returns-in-Ty-clause-err : goal.returns-in-Ty-clause-err
+returns-in-Ty-clause-err c =
+    declaration_breaks c.args.setting.now c.args.state.now.graph (values_of c.args.root.now) (owner_of c.args.owner.now) (lists_of c.args.body.now) c.args.item.now (item_type_decl_of c.in-Ty.decl) c.item.result (ap world_item_of c.in-Ty.is) c.item.ensures.err

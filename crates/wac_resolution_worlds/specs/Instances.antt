@@ -1,0 +1,18 @@
+-- Kinds that are interfaces.
+use Rattle.std.specs.Prelude.{◌≡◌, List}
+use Rattle.wac_types.specs.declared.kind.ItemKind.{ItemKind}
+use Rattle.wac_types.specs.declared.kind.ItemKind.TheVariants as kinds
+use Rattle.wac_types.specs.declared.kind.InterfaceId.{InterfaceId}
+use Rattle.wac_types.specs.declared.entry.Entry.{Entry}
+use Rattle.wac_types.specs.Shape.{IsA, is_interface_form, entry_of, promoted}
+use Rattle.wac_types.specs.Table.{Names}
+use Rattle.wac_graph.specs.Graph.{Parts}
+use Rattle.wac_graph.specs.Means.{means, entry_means}
+use Rattle.wac_graph.specs.Origin.{Naming}
+
+-- the kind is an interface, of this entry, whatever the graph is
+pub record IsInterfaceKind (k : ItemKind) (i : InterfaceId) : Type 0 where
+  pub is : (naming : Naming) (g : Parts) → IsA is_interface_form (means naming g k)
+  pub entry : (naming : Naming) (g : Parts) → entry_of (means naming g k) ≡ entry_means naming g i.0
+  pub instance : (naming : Naming) (g : Parts) → means naming g (kinds.Instance i) ≡ promoted (means naming g k)
+  pub named : (es : List Entry) → Names es k → Names es (kinds.Instance i)

@@ -1,0 +1,62 @@
+-- Interfaces, worlds and kinds that are made as bodies are resolved.
+use Rattle.std.specs.Prelude.{ℕ, List, [], Option}
+use Rattle.wac_grammar.specs.Tree.{InterfaceExport, InterfaceItem}
+use Rattle.wac_types.specs.declared.kind.ExternKind.TheVariants as sides
+use Rattle.wac_types.specs.declared.kind.ItemKind.{ItemKind}
+use Rattle.wac_types.specs.declared.kind.ItemKind.TheVariants as kinds
+use Rattle.wac_types.specs.declared.kind.InterfaceId.{InterfaceId}
+use Rattle.wac_types.specs.Meaning.{Meaning}
+use Rattle.wac_types.specs.Package.{PackageParts}
+use Rattle.wac_types.specs.Scope.{Named, Scope}
+use Rattle.wac_types.specs.Shape.{entry_of, interface_entry}
+use Rattle.wac_types.specs.Steps.{Steps}
+use Rattle.wac_types.specs.Table.{Names}
+use Rattle.wac_graph.specs.Graph.{Parts}
+use Rattle.wac_graph.specs.Means.{means, declared_count}
+use Rattle.wac_graph.specs.Origin.{Naming}
+use Rattle.wac_graph.specs.Package.{Key}
+use Rattle.wac_resolution_rules.specs.Paths as rules
+use Rattle.wac_resolution_rules.specs.Places.{bound_in_interface_item, bound_in_interface}
+use Rattle.wac_resolution_rules.specs.Worlds.{HasInterfaceItem, IsInterface}
+use Rattle.wac_resolution_types.specs.Growth.{AddsInterface}
+use Rattle.wac_resolution_types.specs.Named.{scope_of}
+use Rattle.wac_resolution_paths.specs.declared.setting.Setting.{Setting}
+use Rattle.wac_resolution_paths.specs.Expands.{Expands, HoldsHanded}
+use Rattle.wac_resolution_paths.specs.Setting.{packages_in, setting_of}
+use Rattle.wac_resolution_bodies.specs.Lists.{Lists}
+use Rattle.wac_resolution_bodies.specs.Bodies.{body_in, BodyGoes}
+use Rattle.wac_resolution_used.specs.Statements.{BodyExpands}
+
+-- the lists of an empty body
+abbrev pub no_lists : Lists
+no_lists = record { names = []; uses = []; imports = []; exports = [] }
+
+-- a kind was made, of which this holds, with how many resources are declared then
+pub record KindMade (packages : List (Key × PackageParts)) (old new : Parts) (holds : Naming → Meaning → ℕ → Type 0) (k : ItemKind) : Type 0 where
+  pub grows : Expands old new
+  pub handed : HoldsHanded packages new
+  pub named : Names new.types k
+  pub is : (naming : Naming) → holds naming (means naming new k) (declared_count new)
+
+-- what the export of a function comes to, whatever the setting
+abbrev pub ExportGoes : Parts → Parts → Lists → Lists → InterfaceExport → Type 0
+ExportGoes old new b c x = BodyGoes sides.Export old new b c [] (λ naming before after. (setting : rules.Setting) (root : Scope) → HasInterfaceItem setting root before (InterfaceItem.interface_export x) after)
+
+-- what an item of an interface comes to
+abbrev pub InterfaceItemGoes : Setting → Parts → Parts → Named ItemKind → Lists → Lists → InterfaceItem → Type 0
+InterfaceItemGoes setting old new root b c x =
+    BodyExpands (packages_in setting) sides.Export old new b c (bound_in_interface_item x) (λ naming before after. HasInterfaceItem (setting_of naming setting) (scope_of naming old root) before x after)
+
+-- items, one after another
+abbrev pub InterfaceItemsGo : Setting → Parts → Parts → Named ItemKind → Lists → Lists → List InterfaceItem → Type 0
+InterfaceItemsGo setting old new root b c xs =
+    BodyExpands (packages_in setting) sides.Export old new b c (bound_in_interface xs) (λ naming before after. Steps (HasInterfaceItem (setting_of naming setting) (scope_of naming old root)) before xs after)
+
+-- an interface of items
+abbrev pub InterfaceMade : Setting → Parts → Parts → Named ItemKind → Option (List ℕ) → List InterfaceItem → InterfaceId → Type 0
+InterfaceMade setting old new root id items i =
+    KindMade (packages_in setting) old new (λ naming m after. IsInterface (setting_of naming setting) (scope_of naming old root) (declared_count old) id items (entry_of m) after) (kinds.Instance i)
+
+-- an interface of this id, with the uses and exports of a body, was added
+abbrev pub InterfaceOf : Parts → Parts → Option (List ℕ) → Lists → InterfaceId → Type 0
+InterfaceOf old new id b i = AddsInterface old new (λ naming. interface_entry id (body_in naming old b).uses (body_in naming old b).exports) i

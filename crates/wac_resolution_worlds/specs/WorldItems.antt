@@ -1,0 +1,100 @@
+-- Items of worlds, and worlds, as they are resolved into a graph.
+use Rattle.std.specs.Prelude.{ℕ, List, [], Option}
+use Rattle.wac_grammar.specs.Tree.{Ident, ExternType, WorldItemPath, WorldItem, WorldInclude}
+use Rattle.wac_types.specs.declared.kind.ExternKind.{ExternKind}
+use Rattle.wac_types.specs.declared.kind.ExternKind.TheVariants as sides
+use Rattle.wac_types.specs.declared.kind.ItemKind.{ItemKind}
+use Rattle.wac_types.specs.declared.kind.ItemKind.TheVariants as kinds
+use Rattle.wac_types.specs.declared.kind.WorldId.{WorldId}
+use Rattle.wac_types.specs.declared.entry.Entry.{Entry}
+use Rattle.wac_types.specs.Package.{PackageParts}
+use Rattle.wac_types.specs.Scope.{Named}
+use Rattle.wac_types.specs.Shape.{entry_of, world_entry}
+use Rattle.wac_types.specs.Steps.{Steps}
+use Rattle.wac_types.specs.Table.{ItemsNamed}
+use Rattle.wac_graph.specs.Graph.{Parts}
+use Rattle.wac_graph.specs.Means.{means, declared_count}
+use Rattle.wac_graph.specs.Origin.{Naming}
+use Rattle.wac_graph.specs.Package.{Key}
+use Rattle.wac_resolution_rules.specs.Bodies.{Body}
+use Rattle.wac_resolution_rules.specs.Includes.{HasInclude}
+use Rattle.wac_resolution_rules.specs.Paths as rules
+use Rattle.wac_resolution_rules.specs.Places.{bound_in_world_item, bound_in_world}
+use Rattle.wac_resolution_rules.specs.Worlds.{HasExternType, HasInstance, HasExtern, HasWorldItem, IsWorld}
+use Rattle.wac_resolution_types.specs.Bindings.{values_of}
+use Rattle.wac_resolution_types.specs.Growth.{AddsWorld}
+use Rattle.wac_resolution_types.specs.Named.{scope_of}
+use Rattle.wac_resolution_paths.specs.declared.setting.Setting.{Setting}
+use Rattle.wac_resolution_paths.specs.Expands.{Expands, HoldsHanded}
+use Rattle.wac_resolution_paths.specs.Setting.{packages_in, setting_of}
+use Rattle.wac_resolution_bodies.specs.Lists.{Lists}
+use Rattle.wac_resolution_bodies.specs.Bodies.{body_in, UsesNamed, BodyGoes}
+use Rattle.wac_resolution_used.specs.Statements.{BodyExpands}
+use Rattle.wac_resolution_worlds.specs.Made.{KindMade}
+
+-- ---- imports and exports
+
+-- an interface, as an instance under its id
+abbrev pub InstanceGoes : Parts → ExternKind → ItemKind → Lists → Lists → Type 0
+InstanceGoes g side k b c = BodyGoes sides.Import g g b c [] (λ naming before after. HasInstance side before (means naming g k) after)
+
+-- the kind of an import or export that is given a name
+abbrev pub ExternMade : Setting → Parts → Parts → Named ItemKind → Named ItemKind → ExternType → ItemKind → Type 0
+ExternMade setting old new root names x k =
+    KindMade (packages_in setting) old new (λ naming m after. HasExternType (setting_of naming setting) (scope_of naming old root) (scope_of naming old names) (declared_count old) x m after) k
+
+-- what an import or export of what an identifier stands for comes to, whatever the setting
+abbrev pub IdentGoes : ExternKind → Parts → Named ItemKind → Lists → Lists → Ident → Type 0
+IdentGoes side g root b c x = BodyGoes sides.Import g g b c [] (λ naming before after. (setting : rules.Setting) → HasExtern setting (scope_of naming g root) side before (WorldItemPath.ident x) after)
+
+-- what an import or export comes to
+abbrev pub ExternGoes : Setting → ExternKind → Parts → Parts → Named ItemKind → Lists → Lists → WorldItemPath → Type 0
+ExternGoes setting side old new root b c x =
+    BodyExpands (packages_in setting) sides.Import old new b c [] (λ naming before after. HasExtern (setting_of naming setting) (scope_of naming old root) side before x after)
+
+-- ---- items
+
+-- what an item of a world comes to
+abbrev pub WorldItemGoes : Setting → Parts → Parts → Named ItemKind → Lists → Lists → WorldItem → Type 0
+WorldItemGoes setting old new root b c x =
+    BodyExpands (packages_in setting) sides.Import old new b c (bound_in_world_item x) (λ naming before after. HasWorldItem (setting_of naming setting) (scope_of naming old root) before x after)
+
+-- items, one after another
+abbrev pub WorldItemsGo : Setting → Parts → Parts → Named ItemKind → Lists → Lists → List WorldItem → Type 0
+WorldItemsGo setting old new root b c xs =
+    BodyExpands (packages_in setting) sides.Import old new b c (bound_in_world xs) (λ naming before after. Steps (HasWorldItem (setting_of naming setting) (scope_of naming old root)) before xs after)
+
+-- ---- includes
+
+-- the kinds of a body name entries
+pub record AreNamed (es : List Entry) (b : Lists) : Type 0 where
+  pub names : ItemsNamed es (values_of b.names)
+  pub uses : UsesNamed es b.uses
+  pub imports : ItemsNamed es b.imports
+  pub exports : ItemsNamed es b.exports
+
+-- the graph perhaps got packages, and the body is another one: of what both bodies mean this holds
+pub record BodyIncludes (packages : List (Key × PackageParts)) (old new : Parts) (b c : Lists) (holds : Naming → Body → Body → Type 0) : Type 0 where
+  pub grows : Expands old new
+  pub handed : HoldsHanded packages new
+  pub named : AreNamed new.types c
+  pub goes : (naming : Naming) → holds naming (body_in naming old b) (body_in naming new c)
+
+-- what includes come to, one after another
+abbrev pub IncludesGo : Setting → Parts → Parts → Named ItemKind → Lists → Lists → List WorldInclude → Type 0
+IncludesGo setting old new root b c xs = BodyIncludes (packages_in setting) old new b c (λ naming before after. Steps (HasInclude (setting_of naming setting) (scope_of naming old root)) before xs after)
+
+-- what an include comes to
+abbrev pub IncludeGoes : Setting → Parts → Parts → Named ItemKind → Lists → Lists → WorldInclude → Type 0
+IncludeGoes setting old new root b c x = BodyIncludes (packages_in setting) old new b c (λ naming before after. HasInclude (setting_of naming setting) (scope_of naming old root) before x after)
+
+-- ---- worlds
+
+-- a world of this id, with the uses, imports and exports of a body, was added
+abbrev pub WorldOf : Parts → Parts → Option (List ℕ) → Lists → WorldId → Type 0
+WorldOf old new id b w = AddsWorld old new (λ naming. world_entry id (body_in naming old b).uses (body_in naming old b).imports (body_in naming old b).exports) w
+
+-- a world of items
+abbrev pub WorldMade : Setting → Parts → Parts → Named ItemKind → Option (List ℕ) → List WorldItem → WorldId → Type 0
+WorldMade setting old new root id items w =
+    KindMade (packages_in setting) old new (λ naming m after. IsWorld (setting_of naming setting) (scope_of naming old root) (declared_count old) id items (entry_of m) after) (kinds.Component w)

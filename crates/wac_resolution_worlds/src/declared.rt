@@ -1,0 +1,65 @@
+//! Interfaces that the document declares.
+ghost use Rattle.std.specs.Prelude.{◌≡◌, ◌++◌, Some, IfOk, IfErr, OnOk, option_map, string_bytes};
+ghost use Rattle.wac_types.specs.Table.{ItemsNamed};
+ghost use Rattle.wac_ast_worlds.specs.Worlds.{interface_decl_of};
+ghost use Rattle.wac_graph.specs.Means.{declared_count};
+ghost use Rattle.wac_graph.specs.Origin.{Naming};
+ghost use Rattle.wac_resolution_errors.specs.Told.{told};
+ghost use Rattle.wac_resolution_rules.specs.BrokenWorlds.{InterfaceBroken};
+ghost use Rattle.wac_resolution_rules.specs.TypeStatements.{version_part};
+ghost use Rattle.wac_resolution_types.specs.Bindings.{values_of};
+ghost use Rattle.wac_resolution_types.specs.Named.{scope_of};
+ghost use Rattle.wac_resolution_paths.specs.Expands.{HoldsHanded};
+ghost use Rattle.wac_resolution_paths.specs.Setting.{packages_in, setting_of};
+ghost use Rattle.wac_resolution_worlds.specs.Declared.{id_text, InterfaceDeclared};
+
+use crate::interfaces::interface;
+use std::alloc::{AllocError, Global};
+use wac_ast_worlds::InterfaceDecl;
+use wac_graph::{ItemKind, Type};
+use wac_resolution_errors::Error;
+use wac_resolution_paths::Setting;
+use wac_resolution_types::{Names, State};
+
+/// Adds a version after `@`, if there is one.
+fn push_version(text: &mut String, version: Option<&str>) -> Result<(), AllocError>
+    ensures { OnOk result (string_bytes text.new ≡ string_bytes text.old ++ version_part (option_map (λ v. v.now) version.entry)) }
+{
+    match version {
+        Some(version) => {
+            text.push_str("@")?;
+            text.push_str(version)?;
+            Ok(())
+        }
+        None => Ok(()),
+    }
+}
+
+/// The id of an interface or world that the document declares.
+fn declared_id(alloc: Global, setting: &Setting<'_>, name: &str) -> Result<String, AllocError>
+    ensures { IfOk result (λ id. string_bytes id ≡ id_text setting.now name.now) }
+{
+    let mut text = String::from_str(alloc, setting.own)?;
+    text.push_str("/")?;
+    text.push_str(name)?;
+    push_version(&mut text, setting.version)?;
+    Ok(text)
+}
+
+/// The kind of a declared interface.
+pub fn interface_decl(
+    state: &mut State,
+    setting: &Setting<'_>,
+    root: &Names<'_, ItemKind>,
+    decl: &InterfaceDecl<'_>,
+) -> Result<ItemKind, Error>
+    requires root { ItemsNamed state.old.graph.types (values_of root.now) }
+    requires handed { HoldsHanded (packages_in setting.now) state.old.graph }
+    ensures ok { IfOk result (λ k. InterfaceDeclared setting.now state.old.graph state.new.graph (values_of root.now) (interface_decl_of decl.now) k) }
+    ensures err { IfErr result (λ e. (naming : Naming) → InterfaceBroken (setting_of naming setting.now) (scope_of naming state.old.graph (values_of root.now)) (Some decl.now.id.string.now) (declared_count state.old.graph) (interface_decl_of decl.now).items (told e)) }
+{
+    let id = declared_id(state.alloc, setting, decl.id.string)?;
+    let name = Some(decl.id.string);
+    let declared = interface(state, setting, root, Some(id), name, &decl.items)?;
+    Ok(ItemKind::Ty(Type::Interface(declared)))
+}

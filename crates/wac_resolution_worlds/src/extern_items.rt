@@ -1,0 +1,146 @@
+//! Imports and exports of worlds.
+ghost use Rattle.std.specs.Prelude.{IfOk, IfErr, OnOk};
+ghost use Rattle.wac_grammar.specs.Tree.{WorldItemPath as PathTree};
+ghost use Rattle.wac_types.specs.declared.kind.ExternKind.TheVariants as sides;
+ghost use Rattle.wac_types.specs.Table.{ItemsNamed};
+ghost use Rattle.wac_ast_base.specs.Names.{ident_of, package_path_of};
+ghost use Rattle.wac_ast_worlds.specs.Worlds.{extern_type_of, named_world_item_of, world_item_path_of};
+ghost use Rattle.wac_graph.specs.Means.{declared_count};
+ghost use Rattle.wac_graph.specs.Origin.{Naming};
+ghost use Rattle.wac_resolution_errors.specs.Told.{told};
+ghost use Rattle.wac_resolution_rules.specs.BrokenWorlds.{ExternTypeBroken, ExternBroken};
+ghost use Rattle.wac_resolution_rules.specs.Paths as rules;
+ghost use Rattle.wac_resolution_types.specs.Bindings.{values_of};
+ghost use Rattle.wac_resolution_types.specs.Named.{scope_of};
+ghost use Rattle.wac_resolution_paths.specs.Expands.{HoldsHanded};
+ghost use Rattle.wac_resolution_paths.specs.Setting.{packages_in, setting_of};
+ghost use Rattle.wac_resolution_bodies.specs.Lists.{lists_of};
+ghost use Rattle.wac_resolution_bodies.specs.Bodies.{body_of, IsBody};
+ghost use Rattle.wac_resolution_bodies.specs.Owners.{owner_of};
+ghost use Rattle.wac_resolution_worlds.specs.WorldItems.{ExternMade, IdentGoes, ExternGoes};
+
+use crate::externs::named_extern;
+use crate::functions::new_func;
+use crate::instances::instance;
+use crate::interfaces::interface;
+use wac_ast_base::{Ident, PackagePath};
+use wac_ast_worlds::{ExternType, NamedWorldItem, WorldItemPath};
+use wac_graph::{ExternKind, ItemKind};
+use wac_resolution_bodies::{Body, Owner, check_extern};
+use wac_resolution_errors::Error;
+use wac_resolution_paths::{Setting, path};
+use wac_resolution_types::{Names, State, kind_of};
+
+/// The kind of an import or export that is given a name.
+fn extern_type(
+    state: &mut State,
+    setting: &Setting<'_>,
+    root: &Names<'_, ItemKind>,
+    names: &Names<'_, ItemKind>,
+    ty: &ExternType<'_>,
+) -> Result<ItemKind, Error>
+    requires names { ItemsNamed state.old.graph.types (values_of names.now) }
+    requires root { ItemsNamed state.old.graph.types (values_of root.now) }
+    requires handed { HoldsHanded (packages_in setting.now) state.old.graph }
+    ensures ok { IfOk result (λ k. ExternMade setting.now state.old.graph state.new.graph (values_of root.now) (values_of names.now) (extern_type_of ty.now) k) }
+    ensures err { IfErr result (λ e. (naming : Naming) → ExternTypeBroken (setting_of naming setting.now) (scope_of naming state.old.graph (values_of root.now)) (scope_of naming state.old.graph (values_of names.now)) (declared_count state.old.graph) (extern_type_of ty.now) (told e)) }
+{
+    match ty {
+        ExternType::Ident(id) => Ok(named_extern(state.alloc, names, root, id)?),
+        ExternType::Func(func) => Ok(ItemKind::Func(new_func(state, names, func)?)),
+        ExternType::Interface(inline) => Ok(ItemKind::Instance(interface(
+            state,
+            setting,
+            root,
+            None,
+            None,
+            &inline.items,
+        )?)),
+    }
+}
+
+/// Takes an import or export that is given a name: the conflict first, then its type.
+fn named_item(
+    state: &mut State,
+    setting: &Setting<'_>,
+    root: &Names<'_, ItemKind>,
+    body: &mut Body<'_>,
+    owner: &Owner<'_>,
+    side: ExternKind,
+    item: &NamedWorldItem<'_>,
+) -> Result<(), Error>
+    requires body { IsBody state.old.graph.types sides.Import (lists_of body.old) }
+    requires root { ItemsNamed state.old.graph.types (values_of root.now) }
+    requires handed { HoldsHanded (packages_in setting.now) state.old.graph }
+    ensures ok { OnOk result (ExternGoes setting.now side state.old.graph state.new.graph (values_of root.now) (lists_of body.old) (lists_of body.new) (PathTree.named (named_world_item_of item.now))) }
+    ensures err { IfErr result (λ e. (naming : Naming) → ExternBroken (setting_of naming setting.now) (scope_of naming state.old.graph (values_of root.now)) (owner_of owner.now) side (body_of naming state.old.graph body.old) (PathTree.named (named_world_item_of item.now)) (told e)) }
+{
+    let id = &item.id;
+    check_extern(state.alloc, body, owner, side, id.string, id.span)?;
+    let kind = extern_type(state, setting, root, &body.names, &item.ty)?;
+    body.add(state.alloc, side, id.string, kind)?;
+    Ok(())
+}
+
+/// Takes an import or export of what a path leads to.
+fn path_item(
+    state: &mut State,
+    setting: &Setting<'_>,
+    root: &Names<'_, ItemKind>,
+    body: &mut Body<'_>,
+    owner: &Owner<'_>,
+    side: ExternKind,
+    from: &PackagePath<'_>,
+) -> Result<(), Error>
+    requires body { IsBody state.old.graph.types sides.Import (lists_of body.old) }
+    requires root { ItemsNamed state.old.graph.types (values_of root.now) }
+    requires handed { HoldsHanded (packages_in setting.now) state.old.graph }
+    ensures ok { OnOk result (ExternGoes setting.now side state.old.graph state.new.graph (values_of root.now) (lists_of body.old) (lists_of body.new) (PathTree.path (package_path_of from.now))) }
+    ensures err { IfErr result (λ e. (naming : Naming) → ExternBroken (setting_of naming setting.now) (scope_of naming state.old.graph (values_of root.now)) (owner_of owner.now) side (body_of naming state.old.graph body.old) (PathTree.path (package_path_of from.now)) (told e)) }
+{
+    let kind = path(state, setting, root, from)?;
+    instance(state, body, owner, side, kind, from.string, from.span)?;
+    Ok(())
+}
+
+/// Takes an import or export of what an identifier stands for at root.
+fn ident_item(
+    state: &State,
+    root: &Names<'_, ItemKind>,
+    body: &mut Body<'_>,
+    owner: &Owner<'_>,
+    side: ExternKind,
+    id: &Ident<'_>,
+) -> Result<(), Error>
+    requires body { IsBody state.now.graph.types sides.Import (lists_of body.old) }
+    requires root { ItemsNamed state.now.graph.types (values_of root.now) }
+    ensures ok { OnOk result (IdentGoes side state.now.graph (values_of root.now) (lists_of body.old) (lists_of body.new) (ident_of id.now)) }
+    ensures err { IfErr result (λ e. (naming : Naming) (setting : rules.Setting) → ExternBroken setting (scope_of naming state.now.graph (values_of root.now)) (owner_of owner.now) side (body_of naming state.now.graph body.old) (PathTree.ident (ident_of id.now)) (told e)) }
+{
+    let kind = kind_of(state.alloc, root, id)?;
+    instance(state, body, owner, side, kind, id.string, id.span)?;
+    Ok(())
+}
+
+/// Takes an import or export.
+pub fn extern_item(
+    state: &mut State,
+    setting: &Setting<'_>,
+    root: &Names<'_, ItemKind>,
+    body: &mut Body<'_>,
+    owner: &Owner<'_>,
+    side: ExternKind,
+    item: &WorldItemPath<'_>,
+) -> Result<(), Error>
+    requires body { IsBody state.old.graph.types sides.Import (lists_of body.old) }
+    requires root { ItemsNamed state.old.graph.types (values_of root.now) }
+    requires handed { HoldsHanded (packages_in setting.now) state.old.graph }
+    ensures ok { OnOk result (ExternGoes setting.now side state.old.graph state.new.graph (values_of root.now) (lists_of body.old) (lists_of body.new) (world_item_path_of item.now)) }
+    ensures err { IfErr result (λ e. (naming : Naming) → ExternBroken (setting_of naming setting.now) (scope_of naming state.old.graph (values_of root.now)) (owner_of owner.now) side (body_of naming state.old.graph body.old) (world_item_path_of item.now) (told e)) }
+{
+    match item {
+        WorldItemPath::Named(item) => named_item(state, setting, root, body, owner, side, item),
+        WorldItemPath::Package(from) => path_item(state, setting, root, body, owner, side, from),
+        WorldItemPath::Ident(id) => ident_item(state, root, body, owner, side, id),
+    }
+}

@@ -1,0 +1,71 @@
+//! Kinds of imports and exports that are given names.
+ghost use Rattle.std.specs.Prelude.{◌≡◌, ◌++◌, ℕ, IfOk, IfErr};
+ghost use Rattle.wac_grammar.specs.Tree.{ExternType as ExternTree};
+ghost use Rattle.wac_types.specs.Scope.{look_up};
+ghost use Rattle.wac_ast_base.specs.Names.{ident_of};
+ghost use Rattle.wac_graph.specs.Graph.{Parts};
+ghost use Rattle.wac_graph.specs.Origin.{Naming};
+ghost use Rattle.wac_resolution_errors.specs.Told.{told};
+ghost use Rattle.wac_resolution_rules.specs.Paths.{Setting};
+ghost use Rattle.wac_resolution_rules.specs.BrokenWorlds.{ExternTypeBroken};
+ghost use Rattle.wac_resolution_types.specs.Bindings.{values_of};
+ghost use Rattle.wac_resolution_types.specs.Named.{scope_of};
+ghost use Rattle.wac_resolution_worlds.specs.Referred.{IsExternKind, IsNoExternKind, ExternNamed};
+
+use std::alloc::Global;
+use wac_ast_base::Ident;
+use wac_graph::{ItemKind, Type};
+use wac_resolution_errors::Error;
+use wac_resolution_types::Names;
+
+/// What a name stands for in a body, else at root.
+#[tactic(auto, using(crate::proofs::Refer::either_found))]
+fn find_in_either(
+    names: &Names<'_, ItemKind>,
+    root: &Names<'_, ItemKind>,
+    name: &str,
+) -> Option<ItemKind>
+    ensures { result ≡ look_up name.now (values_of names.now ++ values_of root.now) }
+{
+    match names.find(name) {
+        Some(kind) => Some(kind),
+        None => root.find(name),
+    }
+}
+
+/// The kind of the items of a function type or an interface.
+#[tactic(auto, using(crate::proofs::Refer::items_told))]
+fn item_of(alloc: Global, kind: ItemKind, id: &Ident<'_>) -> Result<ItemKind, Error>
+    ensures ok { IfOk result (λ item. IsExternKind kind item) }
+    ensures err { IfErr result (λ e. IsNoExternKind kind (ident_of id.now) (told e)) }
+{
+    match kind {
+        ItemKind::Ty(Type::Func(func)) => Ok(ItemKind::Func(func)),
+        ItemKind::Ty(Type::Interface(interface)) => Ok(ItemKind::Instance(interface)),
+        other => Err(Error::NotFuncOrInterface {
+            name: String::from_str(alloc, id.string)?,
+            kind: other.desc(),
+            span: id.span,
+        }),
+    }
+}
+
+/// The kind of the items of what an identifier stands for in a body, else at root: a function type or an interface.
+#[tactic(auto, using(crate::proofs::Refer::either_told))]
+pub fn named_extern(
+    alloc: Global,
+    names: &Names<'_, ItemKind>,
+    root: &Names<'_, ItemKind>,
+    id: &Ident<'_>,
+) -> Result<ItemKind, Error>
+    ensures ok { IfOk result (λ k. ExternNamed (values_of names.now) (values_of root.now) (ident_of id.now) k) }
+    ensures err { IfErr result (λ e. (naming : Naming) (g : Parts) (setting : Setting) (n : ℕ) → ExternTypeBroken setting (scope_of naming g (values_of root.now)) (scope_of naming g (values_of names.now)) n (ExternTree.ident (ident_of id.now)) (told e)) }
+{
+    match find_in_either(names, root, id.string) {
+        Some(kind) => Ok(item_of(alloc, kind, id)?),
+        None => Err(Error::UndefinedName {
+            name: String::from_str(alloc, id.string)?,
+            span: id.span,
+        }),
+    }
+}

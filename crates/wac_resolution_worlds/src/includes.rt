@@ -1,0 +1,113 @@
+//! Includes of a world.
+ghost use Rattle.std.specs.Prelude.{◌≡◌, ◌∷◌, [], List, Some, IfErr, OnOk, map, option_map};
+ghost use Rattle.wac_grammar.specs.Tree.{WorldInclude as IncludeTree};
+ghost use Rattle.wac_types.specs.Steps.{Fails};
+ghost use Rattle.wac_types.specs.Table.{ItemsNamed};
+ghost use Rattle.wac_ast_worlds.specs.Worlds.{world_include_of, world_item_of};
+ghost use Rattle.wac_graph.specs.Origin.{Naming};
+ghost use Rattle.wac_resolution_errors.specs.Told.{told};
+ghost use Rattle.wac_resolution_rules.specs.BrokenWorlds.{IncludeBroken};
+ghost use Rattle.wac_resolution_rules.specs.Includes.{HasInclude};
+ghost use Rattle.wac_resolution_rules.specs.Worlds.{includes_of, include_in as include_of};
+ghost use Rattle.wac_resolution_types.specs.Bindings.{values_of};
+ghost use Rattle.wac_resolution_types.specs.Named.{scope_of};
+ghost use Rattle.wac_resolution_paths.specs.Expands.{HoldsHanded};
+ghost use Rattle.wac_resolution_paths.specs.Setting.{packages_in, setting_of};
+ghost use Rattle.wac_resolution_bodies.specs.Lists.{lists_of};
+ghost use Rattle.wac_resolution_bodies.specs.Bodies.{body_of};
+ghost use Rattle.wac_resolution_worlds.specs.WorldItems.{AreNamed, IncludeGoes, IncludesGo};
+
+use wac_ast_worlds::{WorldInclude, WorldItem};
+use wac_graph::ItemKind;
+use wac_resolution_bodies::Body;
+use wac_resolution_errors::Error;
+use wac_resolution_includes::{Inclusion, entries};
+use wac_resolution_paths::{Setting, world_ref};
+use wac_resolution_types::{Names, State};
+
+/// Carries out an include into the world of a name.
+fn include(
+    state: &mut State,
+    setting: &Setting<'_>,
+    root: &Names<'_, ItemKind>,
+    body: &mut Body<'_>,
+    world: &str,
+    include: &WorldInclude<'_>,
+) -> Result<(), Error>
+    requires body { AreNamed state.old.graph.types (lists_of body.old) }
+    requires root { ItemsNamed state.old.graph.types (values_of root.now) }
+    requires handed { HoldsHanded (packages_in setting.now) state.old.graph }
+    ensures ok { OnOk result (IncludeGoes setting.now state.old.graph state.new.graph (values_of root.now) (lists_of body.old) (lists_of body.new) (world_include_of include.now)) }
+    ensures err { IfErr result (λ e. (naming : Naming) (before : List IncludeTree) → IncludeBroken (setting_of naming setting.now) (scope_of naming state.old.graph (values_of root.now)) world.now (told e) (body_of naming state.old.graph body.old) before (world_include_of include.now)) }
+{
+    let renamed = entries(state.alloc, &include.with)?;
+    let kind = world_ref(state, setting, root, &include.world)?;
+    let inclusion = Inclusion {
+        alloc: state.alloc,
+        include,
+        world,
+    };
+    inclusion.take(
+        &state.graph,
+        kind,
+        renamed,
+        &mut body.imports,
+        &mut body.exports,
+    )?;
+    Ok(())
+}
+
+/// The include that an item is.
+fn include_in<'x, 'a>(item: &'x WorldItem<'a>) -> Option<&'x WorldInclude<'a>>
+    ensures { option_map (λ x. world_include_of x.now) result ≡ include_of (world_item_of item.now) }
+{
+    match item {
+        WorldItem::Include(include) => Some(include),
+        _ => None,
+    }
+}
+
+/// Carries out an item of a world, if it is an include.
+fn include_item(
+    state: &mut State,
+    setting: &Setting<'_>,
+    root: &Names<'_, ItemKind>,
+    body: &mut Body<'_>,
+    world: &str,
+    item: &WorldItem<'_>,
+) -> Result<(), Error>
+    requires body { AreNamed state.old.graph.types (lists_of body.old) }
+    requires root { ItemsNamed state.old.graph.types (values_of root.now) }
+    requires handed { HoldsHanded (packages_in setting.now) state.old.graph }
+    ensures ok { OnOk result (IncludesGo setting.now state.old.graph state.new.graph (values_of root.now) (lists_of body.old) (lists_of body.new) (includes_of (world_item_of item.now ∷ []))) }
+    ensures err { IfErr result (λ e. (naming : Naming) (before : List IncludeTree) → (x : IncludeTree) × (include_of (world_item_of item.now) ≡ Some x) × IncludeBroken (setting_of naming setting.now) (scope_of naming state.old.graph (values_of root.now)) world.now (told e) (body_of naming state.old.graph body.old) before x) }
+{
+    match include_in(item) {
+        Some(clause) => {
+            include(state, setting, root, body, world, clause)?;
+            Ok(())
+        }
+        None => Ok(()),
+    }
+}
+
+/// Carries out the includes among the items of a world, one after another.
+pub fn includes(
+    state: &mut State,
+    setting: &Setting<'_>,
+    root: &Names<'_, ItemKind>,
+    body: &mut Body<'_>,
+    world: &str,
+    items: &[WorldItem<'_>],
+) -> Result<(), Error>
+    requires body { AreNamed state.old.graph.types (lists_of body.old) }
+    requires root { ItemsNamed state.old.graph.types (values_of root.now) }
+    requires handed { HoldsHanded (packages_in setting.now) state.old.graph }
+    ensures ok { OnOk result (IncludesGo setting.now state.old.graph state.new.graph (values_of root.now) (lists_of body.old) (lists_of body.new) (includes_of (map world_item_of items.now))) }
+    ensures err { IfErr result (λ e. (naming : Naming) → Fails (HasInclude (setting_of naming setting.now) (scope_of naming state.old.graph (values_of root.now))) (IncludeBroken (setting_of naming setting.now) (scope_of naming state.old.graph (values_of root.now)) world.now (told e)) (body_of naming state.old.graph body.old) (includes_of (map world_item_of items.now))) }
+{
+    for item in items {
+        include_item(state, setting, root, body, world, item)?;
+    }
+    Ok(())
+}

@@ -1,0 +1,64 @@
+//! Interfaces that are imported or exported under their ids.
+ghost use Rattle.std.specs.Prelude.{◌≡◌, [], IfErr, OnOk, option_map, unwrap_or, string_bytes};
+ghost use Rattle.wac_types.specs.declared.kind.ExternKind.TheVariants as sides;
+ghost use Rattle.wac_types.specs.declared.kind.ItemKind.TheVariants as kinds;
+ghost use Rattle.wac_types.specs.Shape.{id_of};
+ghost use Rattle.wac_types.specs.Table.{Names};
+ghost use Rattle.wac_graph.specs.Means.{means, entry_means};
+ghost use Rattle.wac_graph.specs.Origin.{Naming};
+ghost use Rattle.wac_resolution_errors.specs.Told.{told};
+ghost use Rattle.wac_resolution_rules.specs.BrokenWorlds.{InstanceBroken};
+ghost use Rattle.wac_resolution_bodies.specs.Lists.{lists_of};
+ghost use Rattle.wac_resolution_bodies.specs.Bodies.{body_of, IsBody};
+ghost use Rattle.wac_resolution_bodies.specs.Owners.{owner_of};
+ghost use Rattle.wac_resolution_worlds.specs.WorldItems.{InstanceGoes};
+
+use wac_graph::{CompositionGraph, ExternKind, InterfaceId, ItemKind};
+use wac_lexer::SourceSpan;
+use wac_resolution_bodies::{Body, Owner, check_extern};
+use wac_resolution_errors::Error;
+use wac_resolution_types::State;
+use wac_resolution_used::interface_of;
+
+/// A text, which is empty if it is left out.
+fn text_or_empty(text: &Option<String>) -> &str
+    ensures { result.now ≡ unwrap_or (option_map string_bytes text.now) [] }
+{
+    match text {
+        Some(text) => text.as_str(),
+        None => "",
+    }
+}
+
+/// The id of an interface, under which it is imported or exported as an instance. Of one without an id it is empty.
+pub fn instance_id(graph: &CompositionGraph, interface: InterfaceId) -> &str
+    requires { Names graph.now.types (kinds.Instance interface) }
+    ensures { (naming : Naming) → result.now ≡ unwrap_or (id_of (entry_means naming graph.now interface.0)) [] }
+{
+    match graph.types().interface(interface) {
+        Some(interface) => text_or_empty(&interface.id),
+        None => "",
+    }
+}
+
+/// Imports or exports an interface as an instance under its id.
+pub fn instance(
+    state: &State,
+    body: &mut Body<'_>,
+    owner: &Owner<'_>,
+    side: ExternKind,
+    kind: ItemKind,
+    name: &str,
+    span: SourceSpan,
+) -> Result<(), Error>
+    requires body { IsBody state.now.graph.types sides.Import (lists_of body.old) }
+    requires kind { Names state.now.graph.types kind }
+    ensures ok { OnOk result (InstanceGoes state.now.graph side kind (lists_of body.old) (lists_of body.new)) }
+    ensures err { IfErr result (λ e. (naming : Naming) → InstanceBroken (owner_of owner.now) side (body_of naming state.now.graph body.old) (means naming state.now.graph kind) name.now span (told e)) }
+{
+    let interface = interface_of(state.alloc, kind, name, span)?;
+    let id = instance_id(&state.graph, interface);
+    check_extern(state.alloc, body, owner, side, id, span)?;
+    body.add(state.alloc, side, id, ItemKind::Instance(interface))?;
+    Ok(())
+}

@@ -1,0 +1,143 @@
+//! Interfaces.
+ghost use Rattle.std.specs.Prelude.{◌≡◌, ◌⊎◌, List, IfOk, IfErr, OnOk, map, option_map, string_bytes};
+ghost use Rattle.wac_grammar.specs.Tree.{InterfaceItem as ItemTree};
+ghost use Rattle.wac_types.specs.declared.kind.ExternKind.TheVariants as sides;
+ghost use Rattle.wac_types.specs.Scope.{Scope};
+ghost use Rattle.wac_types.specs.Steps.{Fails};
+ghost use Rattle.wac_types.specs.Table.{ItemsNamed};
+ghost use Rattle.wac_ast_worlds.specs.Worlds.{interface_export_of, interface_item_of};
+ghost use Rattle.wac_graph.specs.Means.{declared_count};
+ghost use Rattle.wac_graph.specs.Origin.{Naming};
+ghost use Rattle.wac_resolution_errors.specs.Told.{told};
+ghost use Rattle.wac_resolution_rules.specs.BrokenWorlds.{InterfaceItemBroken, InterfaceBroken};
+ghost use Rattle.wac_resolution_rules.specs.Paths as rules;
+ghost use Rattle.wac_resolution_rules.specs.Places.{bound_in_interface};
+ghost use Rattle.wac_resolution_rules.specs.Worlds.{HasInterfaceItem};
+ghost use Rattle.wac_resolution_types.specs.Bindings.{values_of, places_of};
+ghost use Rattle.wac_resolution_types.specs.Named.{scope_of};
+ghost use Rattle.wac_resolution_paths.specs.Expands.{HoldsHanded};
+ghost use Rattle.wac_resolution_paths.specs.Setting.{packages_in, setting_of};
+ghost use Rattle.wac_resolution_bodies.specs.Lists.{lists_of};
+ghost use Rattle.wac_resolution_bodies.specs.Bodies.{body_of, IsBody};
+ghost use Rattle.wac_resolution_bodies.specs.Owners.{owner_of};
+ghost use Rattle.wac_resolution_worlds.specs.Made.{no_lists, ExportGoes, InterfaceItemGoes, InterfaceItemsGo, InterfaceOf, InterfaceMade};
+
+use crate::functions::func_ref;
+use std::alloc::AllocError;
+use wac_ast_worlds::{InterfaceExport, InterfaceItem};
+use wac_graph::{ExternKind, Interface, InterfaceId, ItemKind};
+use wac_resolution_bodies::{Body, Owner, check_extern};
+use wac_resolution_errors::Error;
+use wac_resolution_paths::Setting;
+use wac_resolution_types::{Names, State};
+use wac_resolution_used::use_statement;
+
+/// Takes the export of a function.
+fn interface_export(
+    state: &mut State,
+    body: &mut Body<'_>,
+    owner: &Owner<'_>,
+    export: &InterfaceExport<'_>,
+) -> Result<(), Error>
+    requires { IsBody state.old.graph.types sides.Export (lists_of body.old) }
+    ensures ok { OnOk result (ExportGoes state.old.graph state.new.graph (lists_of body.old) (lists_of body.new) (interface_export_of export.now)) }
+    ensures err { IfErr result (λ e. (naming : Naming) (setting : rules.Setting) (root : Scope) (before : List ItemTree) → InterfaceItemBroken setting root (owner_of owner.now) (told e) (body_of naming state.old.graph body.old) before (ItemTree.interface_export (interface_export_of export.now))) }
+{
+    let func = func_ref(state, &body.names, &export.ty)?;
+    let id = &export.id;
+    check_extern(
+        state.alloc,
+        body,
+        owner,
+        ExternKind::Export,
+        id.string,
+        id.span,
+    )?;
+    body.add(
+        state.alloc,
+        ExternKind::Export,
+        id.string,
+        ItemKind::Func(func),
+    )?;
+    Ok(())
+}
+
+/// Takes an item of an interface.
+fn interface_item<'a>(
+    state: &mut State,
+    setting: &Setting<'_>,
+    root: &Names<'_, ItemKind>,
+    body: &mut Body<'a>,
+    owner: &Owner<'_>,
+    item: &InterfaceItem<'a>,
+) -> Result<(), Error>
+    requires body { IsBody state.old.graph.types sides.Export (lists_of body.old) }
+    requires root { ItemsNamed state.old.graph.types (values_of root.now) }
+    requires handed { HoldsHanded (packages_in setting.now) state.old.graph }
+    ensures ok { OnOk result (InterfaceItemGoes setting.now state.old.graph state.new.graph (values_of root.now) (lists_of body.old) (lists_of body.new) (interface_item_of item.now)) }
+    ensures err { IfErr result (λ e. (naming : Naming) (before : List ItemTree) → places_of body.old.names ≡ bound_in_interface before → InterfaceItemBroken (setting_of naming setting.now) (scope_of naming state.old.graph (values_of root.now)) (owner_of owner.now) (told e) (body_of naming state.old.graph body.old) before (interface_item_of item.now)) }
+{
+    match item {
+        InterfaceItem::Use(used) => {
+            use_statement(state, setting, root, body, ExternKind::Export, used)
+        }
+        InterfaceItem::Export(export) => interface_export(state, body, owner, export),
+        InterfaceItem::Ty(decl) => {
+            wac_resolution_bodies::item(state, body, ExternKind::Export, owner, decl)
+        }
+    }
+}
+
+/// Takes items of an interface, one after another, into an empty body.
+fn interface_items<'a>(
+    state: &mut State,
+    setting: &Setting<'_>,
+    root: &Names<'_, ItemKind>,
+    body: &mut Body<'a>,
+    owner: &Owner<'_>,
+    items: &[InterfaceItem<'a>],
+) -> Result<(), Error>
+    requires empty { lists_of body.old ≡ no_lists }
+    requires root { ItemsNamed state.old.graph.types (values_of root.now) }
+    requires handed { HoldsHanded (packages_in setting.now) state.old.graph }
+    ensures ok { OnOk result (InterfaceItemsGo setting.now state.old.graph state.new.graph (values_of root.now) (lists_of body.old) (lists_of body.new) (map interface_item_of items.now)) }
+    ensures err { IfErr result (λ e. (naming : Naming) → Fails (HasInterfaceItem (setting_of naming setting.now) (scope_of naming state.old.graph (values_of root.now))) (InterfaceItemBroken (setting_of naming setting.now) (scope_of naming state.old.graph (values_of root.now)) (owner_of owner.now) (told e)) (body_of naming state.old.graph body.old) (map interface_item_of items.now)) }
+{
+    for item in items {
+        interface_item(state, setting, root, body, owner, item)?;
+    }
+    Ok(())
+}
+
+/// Adds an interface with the uses and exports of a body.
+fn finish_interface(
+    state: &mut State,
+    id: Option<String>,
+    body: Body<'_>,
+) -> Result<InterfaceId, AllocError>
+    requires { IsBody state.old.graph.types sides.Export (lists_of body) }
+    ensures { IfOk result (λ i. InterfaceOf state.old.graph state.new.graph (option_map string_bytes id) (lists_of body.entry) i) }
+{
+    let Body { uses, exports, .. } = body;
+    state.add_interface(Interface { id, uses, exports })
+}
+
+/// Adds an interface of items, which may have an id, and a name for errors.
+pub fn interface(
+    state: &mut State,
+    setting: &Setting<'_>,
+    root: &Names<'_, ItemKind>,
+    id: Option<String>,
+    name: Option<&str>,
+    items: &[InterfaceItem<'_>],
+) -> Result<InterfaceId, Error>
+    requires root { ItemsNamed state.old.graph.types (values_of root.now) }
+    requires handed { HoldsHanded (packages_in setting.now) state.old.graph }
+    ensures ok { IfOk result (λ i. InterfaceMade setting.now state.old.graph state.new.graph (values_of root.now) (option_map string_bytes id) (map interface_item_of items.now) i) }
+    ensures err { IfErr result (λ e. (naming : Naming) → InterfaceBroken (setting_of naming setting.now) (scope_of naming state.old.graph (values_of root.now)) (option_map (λ n. n.now) name.entry) (declared_count state.old.graph) (map interface_item_of items.now) (told e)) }
+{
+    let mut body = Body::new(state.alloc);
+    let owner = Owner::Interface(name);
+    interface_items(state, setting, root, &mut body, &owner, items)?;
+    Ok(finish_interface(state, id, body)?)
+}

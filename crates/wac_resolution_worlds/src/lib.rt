@@ -1,0 +1,19 @@
+//! Part of `wac_resolution`: interfaces and worlds.
+#![tactic(auto)]
+
+mod declared;
+mod extern_items;
+mod externs;
+mod functions;
+mod includes;
+mod instances;
+mod interfaces;
+mod world_items;
+mod worlds;
+
+pub use declared::interface_decl;
+pub use externs::named_extern;
+pub use functions::{func_ref, new_func};
+pub use instances::instance_id;
+pub use interfaces::interface;
+pub use worlds::world;

@@ -1,0 +1,97 @@
+//! Items of worlds.
+ghost use Rattle.std.specs.Prelude.{◌≡◌, List, IfErr, OnOk, map};
+ghost use Rattle.wac_grammar.specs.Tree.{WorldItem as ItemTree};
+ghost use Rattle.wac_types.specs.declared.kind.ExternKind.TheVariants as sides;
+ghost use Rattle.wac_types.specs.Steps.{Fails};
+ghost use Rattle.wac_types.specs.Table.{ItemsNamed};
+ghost use Rattle.wac_ast_worlds.specs.Worlds.{world_item_of};
+ghost use Rattle.wac_graph.specs.Origin.{Naming};
+ghost use Rattle.wac_resolution_errors.specs.Told.{told};
+ghost use Rattle.wac_resolution_rules.specs.BrokenWorlds.{WorldItemBroken};
+ghost use Rattle.wac_resolution_rules.specs.Places.{bound_in_world};
+ghost use Rattle.wac_resolution_rules.specs.Worlds.{HasWorldItem};
+ghost use Rattle.wac_resolution_types.specs.Bindings.{values_of, places_of};
+ghost use Rattle.wac_resolution_types.specs.Named.{scope_of};
+ghost use Rattle.wac_resolution_paths.specs.Expands.{HoldsHanded};
+ghost use Rattle.wac_resolution_paths.specs.Setting.{packages_in, setting_of};
+ghost use Rattle.wac_resolution_bodies.specs.Lists.{lists_of};
+ghost use Rattle.wac_resolution_bodies.specs.Bodies.{body_of, IsBody};
+ghost use Rattle.wac_resolution_bodies.specs.Owners.{owner_of};
+ghost use Rattle.wac_resolution_worlds.specs.Made.{no_lists};
+ghost use Rattle.wac_resolution_worlds.specs.WorldItems.{WorldItemGoes, WorldItemsGo};
+
+use crate::extern_items::extern_item;
+use wac_ast_worlds::WorldItem;
+use wac_graph::{ExternKind, ItemKind};
+use wac_resolution_bodies::{Body, Owner};
+use wac_resolution_errors::Error;
+use wac_resolution_paths::Setting;
+use wac_resolution_types::{Names, State};
+use wac_resolution_used::use_statement;
+
+/// Takes an item of a world. Includes come afterwards.
+fn world_item<'a>(
+    state: &mut State,
+    setting: &Setting<'_>,
+    root: &Names<'_, ItemKind>,
+    body: &mut Body<'a>,
+    owner: &Owner<'_>,
+    item: &WorldItem<'a>,
+) -> Result<(), Error>
+    requires body { IsBody state.old.graph.types sides.Import (lists_of body.old) }
+    requires root { ItemsNamed state.old.graph.types (values_of root.now) }
+    requires handed { HoldsHanded (packages_in setting.now) state.old.graph }
+    ensures ok { OnOk result (WorldItemGoes setting.now state.old.graph state.new.graph (values_of root.now) (lists_of body.old) (lists_of body.new) (world_item_of item.now)) }
+    ensures err { IfErr result (λ e. (naming : Naming) (before : List ItemTree) → places_of body.old.names ≡ bound_in_world before → WorldItemBroken (setting_of naming setting.now) (scope_of naming state.old.graph (values_of root.now)) (owner_of owner.now) (told e) (body_of naming state.old.graph body.old) before (world_item_of item.now)) }
+{
+    match item {
+        WorldItem::Use(used) => use_statement(state, setting, root, body, ExternKind::Import, used),
+        WorldItem::Import(import) => {
+            extern_item(
+                state,
+                setting,
+                root,
+                body,
+                owner,
+                ExternKind::Import,
+                &import.path,
+            )
+        }
+        WorldItem::Export(export) => {
+            extern_item(
+                state,
+                setting,
+                root,
+                body,
+                owner,
+                ExternKind::Export,
+                &export.path,
+            )
+        }
+        WorldItem::Include(_) => Ok(()),
+        WorldItem::Ty(decl) => {
+            wac_resolution_bodies::item(state, body, ExternKind::Import, owner, decl)
+        }
+    }
+}
+
+/// Takes items of a world, one after another, into an empty body.
+pub fn world_items<'a>(
+    state: &mut State,
+    setting: &Setting<'_>,
+    root: &Names<'_, ItemKind>,
+    body: &mut Body<'a>,
+    owner: &Owner<'_>,
+    items: &[WorldItem<'a>],
+) -> Result<(), Error>
+    requires empty { lists_of body.old ≡ no_lists }
+    requires root { ItemsNamed state.old.graph.types (values_of root.now) }
+    requires handed { HoldsHanded (packages_in setting.now) state.old.graph }
+    ensures ok { OnOk result (WorldItemsGo setting.now state.old.graph state.new.graph (values_of root.now) (lists_of body.old) (lists_of body.new) (map world_item_of items.now)) }
+    ensures err { IfErr result (λ e. (naming : Naming) → Fails (HasWorldItem (setting_of naming setting.now) (scope_of naming state.old.graph (values_of root.now))) (WorldItemBroken (setting_of naming setting.now) (scope_of naming state.old.graph (values_of root.now)) (owner_of owner.now) (told e)) (body_of naming state.old.graph body.old) (map world_item_of items.now)) }
+{
+    for item in items {
+        world_item(state, setting, root, body, owner, item)?;
+    }
+    Ok(())
+}

@@ -1,0 +1,68 @@
+//! Worlds.
+ghost use Rattle.std.specs.Prelude.{IfOk, IfErr, map, option_map, string_bytes};
+ghost use Rattle.wac_types.specs.Table.{ItemsNamed};
+ghost use Rattle.wac_ast_worlds.specs.Worlds.{world_item_of};
+ghost use Rattle.wac_graph.specs.Means.{declared_count};
+ghost use Rattle.wac_graph.specs.Origin.{Naming};
+ghost use Rattle.wac_resolution_errors.specs.Told.{told};
+ghost use Rattle.wac_resolution_rules.specs.BrokenWorlds.{WorldBroken};
+ghost use Rattle.wac_resolution_types.specs.Bindings.{values_of};
+ghost use Rattle.wac_resolution_types.specs.Named.{scope_of};
+ghost use Rattle.wac_resolution_paths.specs.Expands.{HoldsHanded};
+ghost use Rattle.wac_resolution_paths.specs.Setting.{packages_in, setting_of};
+ghost use Rattle.wac_resolution_bodies.specs.Lists.{lists_of};
+ghost use Rattle.wac_resolution_worlds.specs.WorldItems.{AreNamed, WorldOf, WorldMade};
+
+use crate::includes::includes;
+use crate::world_items::world_items;
+use std::alloc::AllocError;
+use wac_ast_worlds::WorldItem;
+use wac_graph::{ItemKind, World, WorldId};
+use wac_resolution_bodies::{Body, Owner};
+use wac_resolution_errors::Error;
+use wac_resolution_paths::Setting;
+use wac_resolution_types::{Names, State};
+
+/// Adds a world with the uses, imports and exports of a body.
+fn finish_world(
+    state: &mut State,
+    id: Option<String>,
+    body: Body<'_>,
+) -> Result<WorldId, AllocError>
+    requires { AreNamed state.old.graph.types (lists_of body) }
+    ensures { IfOk result (λ w. WorldOf state.old.graph state.new.graph (option_map string_bytes id) (lists_of body.entry) w) }
+{
+    let Body {
+        uses,
+        imports,
+        exports,
+        ..
+    } = body;
+    state.add_world(World {
+        id,
+        uses,
+        imports,
+        exports,
+    })
+}
+
+/// Adds a world of items, which may have an id, and a name for errors.
+pub fn world(
+    state: &mut State,
+    setting: &Setting<'_>,
+    root: &Names<'_, ItemKind>,
+    id: Option<String>,
+    name: &str,
+    items: &[WorldItem<'_>],
+) -> Result<WorldId, Error>
+    requires root { ItemsNamed state.old.graph.types (values_of root.now) }
+    requires handed { HoldsHanded (packages_in setting.now) state.old.graph }
+    ensures ok { IfOk result (λ w. WorldMade setting.now state.old.graph state.new.graph (values_of root.now) (option_map string_bytes id) (map world_item_of items.now) w) }
+    ensures err { IfErr result (λ e. (naming : Naming) → WorldBroken (setting_of naming setting.now) (scope_of naming state.old.graph (values_of root.now)) name.now (declared_count state.old.graph) (map world_item_of items.now) (told e)) }
+{
+    let mut body = Body::new(state.alloc);
+    let owner = Owner::World(name);
+    world_items(state, setting, root, &mut body, &owner, items)?;
+    includes(state, setting, root, &mut body, name, items)?;
+    Ok(finish_world(state, id, body)?)
+}

@@ -1,6 +1,0 @@
-use Rattle.std.proofs.Common.{sym, refl}
-use Rattle.wac_syntax.proofs.Lookaheads.{looks, tests}
-use Rattle.wac_syntax.proofs.delimited.begins.Goals as goal
-
-pub returns : goal.returns
-returns g c = sym (tests _ _ _ _ _ _ _ (looks c.args.lexer.now _ c.new-lookahead.ensures) c.peek.ensures refl)

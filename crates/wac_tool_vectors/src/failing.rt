@@ -1,0 +1,197 @@
+//! Readers, writers and memory that fail, and writers that take few bytes a call.
+
+use crate::narrow::Narrow;
+use crate::runs::{FIRST, FIRST_PRINTED, SECOND, SECOND_AS_JSON, is_reported, ran};
+use std::alloc::{AllocError, Global};
+use std::process::Abort;
+use std::test::Fail;
+use wac_tool::{Command, RunError};
+
+/// A command, an input, and what is written of it.
+#[derive(Clone, Copy)]
+struct Row<'a> {
+    command: Command,
+    input: &'a str,
+    text: &'a str,
+}
+
+const ROWS: [Row<'static>; 4] = [
+    Row {
+        command: Command::Fmt,
+        input: FIRST,
+        text: FIRST_PRINTED,
+    },
+    Row {
+        command: Command::Tokens,
+        input: "package a:b",
+        text: "0+7 `package` keyword\n8+3 package name\n",
+    },
+    Row {
+        command: Command::Json,
+        input: SECOND,
+        text: SECOND_AS_JSON,
+    },
+    Row {
+        command: Command::Tokens,
+        input: "",
+        text: "",
+    },
+];
+
+impl Row<'_> {
+    fn written(&self, alloc: Global, writer: &mut Narrow<'_>) -> Result<(), RunError> {
+        ran(alloc, self.command, self.input.as_bytes(), writer)
+    }
+
+    /// Asserts that a writer that fails is reported, and holds the bytes that it had room for.
+    fn fails_at(&self, rt: &impl Abort, alloc: Global, width: usize, room: usize) {
+        let mut writer = Narrow::new(self.text, width, room);
+        match self.written(alloc, &mut writer) {
+            Err(RunError::Output) => writer.holds(rt, room),
+            _ => assert!(rt; false, "at {room}, {width} bytes a call"),
+        }
+    }
+
+    /// Asserts it for each byte of the text.
+    fn fails_at_each(&self, rt: &impl Abort, alloc: Global, width: usize) {
+        for room in 0..self.text.len() {
+            self.fails_at(rt, alloc, width, room);
+        }
+    }
+
+    /// Asserts that a writer takes all of the text, and in so many calls.
+    fn is_taken(&self, rt: &impl Abort, alloc: Global, width: usize, calls: usize) {
+        let mut writer = Narrow::new(self.text, width, usize::MAX);
+        let result = self.written(alloc, &mut writer);
+        assert!(rt; result.is_ok(), "{width} bytes a call");
+        writer.holds(rt, self.text.len());
+        assert_eq!(rt; writer.calls(), calls, "{width} bytes a call");
+    }
+
+    /// Asserts what is written where memory may be refused.
+    fn is_written_or_memory_runs_out(&self, rt: &impl Abort, alloc: Global) {
+        let mut writer = Narrow::new(self.text, 1, usize::MAX);
+        let result = self.written(alloc, &mut writer);
+        writer.holds(rt, writer.moved());
+        match result {
+            Ok(()) => assert_eq!(rt; writer.moved(), self.text.len()),
+            Err(RunError::Refused { .. }) => assert_eq!(rt; self.text, ""),
+            Err(error) => is_reported(rt, &error, "out of memory\n", 4),
+        }
+    }
+}
+
+/// A writer that takes a byte, three bytes or all bytes a call.
+#[test]
+fn narrow_writers(rt: HostRuntime) {
+    for row in ROWS {
+        let len = row.text.len();
+        for (width, calls) in [
+            (1, len),
+            (3, len.div_ceil(3)),
+            (usize::MAX, usize::from(len > 0)),
+        ] {
+            row.is_taken(&rt, rt.alloc(), width, calls);
+            row.fails_at_each(&rt, rt.alloc(), width);
+        }
+    }
+}
+
+/// How many items have lines that fill a block of 8 KB twice, and more.
+const ITEMS: usize = 430;
+
+/// So many items.
+fn items(alloc: Global) -> Result<String, AllocError> {
+    let mut text = String::new(alloc);
+    for _ in 0..ITEMS {
+        text.push('#')?;
+    }
+    Ok(text)
+}
+
+/// Their lines.
+fn lines(alloc: Global) -> Result<String, AllocError> {
+    let mut text = String::new(alloc);
+    for at in 0..ITEMS {
+        let line = format!(in alloc; "{at}+1 unexpected token was encountered\n")?;
+        text.push_str(line.as_str())?;
+    }
+    Ok(text)
+}
+
+/// Lists the items of a text.
+fn listed<'a>(input: &'a str, text: &'a str) -> Row<'a> {
+    Row {
+        command: Command::Tokens,
+        input,
+        text,
+    }
+}
+
+/// A text of three blocks.
+#[test]
+fn long_texts_are_written(rt: HostRuntime) -> Result<(), Fail> {
+    let input = items(rt.alloc())?;
+    let text = lines(rt.alloc())?;
+    let row = listed(&input, &text);
+    assert!(rt; text.len() > 16_384);
+    row.is_taken(&rt, rt.alloc(), 1, text.len());
+    row.is_taken(&rt, rt.alloc(), usize::MAX, 3);
+    Ok(())
+}
+
+/// The proved test takes seconds; by `rt try` it takes minutes.
+#[test]
+fn long_texts_are_cut_at_each_byte(rt: HostRuntime) -> Result<(), Fail> {
+    let input = items(rt.alloc())?;
+    let text = lines(rt.alloc())?;
+    listed(&input, &text).fails_at_each(&rt, rt.alloc(), usize::MAX);
+    Ok(())
+}
+
+/// Asserts that a reader that fails is reported, and that nothing was written.
+fn reading_fails_at(rt: &impl Abort, alloc: Global, command: Command, room: usize) {
+    let mut writer = Narrow::new("", usize::MAX, usize::MAX);
+    match ran(alloc, command, Narrow::new(FIRST, 1, room), &mut writer) {
+        Err(RunError::Input) => assert_eq!(rt; writer.calls(), 0),
+        _ => assert!(rt; false, "at {room}"),
+    }
+}
+
+#[test]
+fn readers(rt: HostRuntime) {
+    for command in [Command::Fmt, Command::Tokens, Command::Json] {
+        for room in 0..FIRST.len() + 1 {
+            reading_fails_at(&rt, rt.alloc(), command, room);
+        }
+    }
+}
+
+const REJECTED: [Row<'static>; 3] = [
+    Row {
+        command: Command::Fmt,
+        input: "package a:b; let",
+        text: "",
+    },
+    Row {
+        command: Command::Json,
+        input: "package a:b; let",
+        text: "",
+    },
+    Row {
+        command: Command::Tokens,
+        input: "\u{c}",
+        text: "",
+    },
+];
+
+/// Passes also where memory is refused, at each allocation in turn.
+#[test]
+fn memory_that_is_refused(rt: HostRuntime) {
+    for row in ROWS {
+        row.is_written_or_memory_runs_out(&rt, rt.alloc());
+    }
+    for row in REJECTED {
+        row.is_written_or_memory_runs_out(&rt, rt.alloc());
+    }
+}

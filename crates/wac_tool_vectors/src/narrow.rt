@@ -1,0 +1,97 @@
+//! A narrow writer and reader.
+
+ghost use Rattle.std.specs.Prelude.{◌≤◌, IfOk};
+
+use std::io;
+use std::io::{ErrorKind, Read, Write};
+use std::process::Abort;
+
+/// A writer or a reader of a text. It moves at most `width` bytes a call, fails once it has moved `room`, and knows whether
+/// what was written is the text.
+#[derive(Drop)]
+pub struct Narrow<'a> {
+    text: &'a [u8],
+    width: usize,
+    room: usize,
+    moved: usize,
+    calls: usize,
+    is_text: bool,
+}
+
+impl<'a> Narrow<'a> {
+    pub fn new(text: &'a str, width: usize, room: usize) -> Self {
+        Narrow {
+            text: text.as_bytes(),
+            width,
+            room,
+            moved: 0,
+            calls: 0,
+            is_text: true,
+        }
+    }
+
+    /// How many of so many bytes a call moves, if it does not fail.
+    fn step(&self, wanted: usize) -> io::Result<usize>
+        ensures { IfOk result (λ n. n ≤ wanted) }
+    {
+        if self.moved >= self.room {
+            return Err(io::Error::from(ErrorKind::BrokenPipe));
+        }
+        Ok(wanted.min(self.width).min(self.room - self.moved))
+    }
+
+    /// What the text has after the bytes that were moved.
+    fn rest(&self) -> &'a [u8] {
+        let (_, rest) = self.text.split_at(self.moved.min(self.text.len()));
+        rest
+    }
+
+    /// How many bytes it has moved.
+    pub fn moved(&self) -> usize {
+        self.moved
+    }
+
+    /// How many calls there were.
+    pub fn calls(&self) -> usize {
+        self.calls
+    }
+
+    /// Asserts that the first so many bytes of the text were written.
+    pub fn holds(&self, rt: &impl Abort, moved: usize) {
+        assert!(rt;
+            self.is_text && self.moved == moved,
+            "{} of {moved}",
+            self.moved
+        );
+    }
+}
+
+impl Write for Narrow<'_> {
+    fn write(&mut self, buf: &[u8]) -> io::Result<usize> {
+        self.calls = self.calls.wrapping_add(1);
+        let n = self.step(buf.len())?;
+        let (part, _) = buf.split_at(n);
+        if !self.rest().starts_with(part) {
+            self.is_text = false;
+        }
+        self.moved = self.moved.wrapping_add(n);
+        Ok(n)
+    }
+
+    fn flush(&mut self) -> io::Result<()> {
+        Ok(())
+    }
+}
+
+impl Read for Narrow<'_> {
+    fn read(&mut self, buf: &mut [u8]) -> io::Result<usize> {
+        self.calls = self.calls.wrapping_add(1);
+        let rest = self.rest();
+        let n = self.step(buf.len().min(rest.len()))?;
+        let (part, _) = buf.split_at_mut(n);
+        let (front, _) = rest.split_at(n);
+        part.copy_from_slice(front);
+        self.moved = self.moved.wrapping_add(n);
+        Ok(n)
+    }
+}
