@@ -30,7 +30,7 @@ impl Externs {
     }
 
     /// Adds the place of an export of a new name.
-    pub(crate) fn add_export(
+    pub fn add_export(
         &mut self,
         alloc: Global,
         name: &str,
@@ -41,6 +41,21 @@ impl Externs {
         ensures imported { OnOk result (imported_in self.new ≡ imported_in self.old) }
     {
         push(alloc, &mut self.exported, name, span)?;
+        Ok(())
+    }
+
+    /// Adds the place of an import of a new name.
+    pub fn add_import(
+        &mut self,
+        alloc: Global,
+        name: &str,
+        span: SourceSpan,
+    ) -> Result<(), AllocError>
+        requires { IsFresh name.now (imported_in self.old) }
+        ensures imported { OnOk result (imported_in self.new ≡ with_named (imported_in self.old) name.now span) }
+        ensures exported { OnOk result (exported_in self.new ≡ exported_in self.old) }
+    {
+        push(alloc, &mut self.imported, name, span)?;
         Ok(())
     }
 }

@@ -1,0 +1,45 @@
+-- What a graph gets as expressions are resolved: more types, packages and nodes, or names for nodes, and nothing else.
+use Rattle.std.specs.Prelude.{◌≡◌, ◌<◌, ℕ, List, Some, length, slice_get}
+use Rattle.wac_types.specs.declared.kind.ItemKind.{ItemKind}
+use Rattle.wac_types.specs.Growth.{KeepsNames}
+use Rattle.wac_types.specs.Package.{PackageParts}
+use Rattle.wac_types.specs.Scope.{Named}
+use Rattle.wac_types.specs.Table.{Names}
+use Rattle.wac_grammar.specs.Tree.{Expr}
+use Rattle.wac_graph.specs.Graph.{Parts}
+use Rattle.wac_graph.specs.Means.{means, declared_count}
+use Rattle.wac_graph.specs.Origin.{Naming, IsOneToOne}
+use Rattle.wac_graph.specs.Package.{Key, HeldPackage}
+use Rattle.wac_resolution_errors.specs.Error.{Error}
+use Rattle.wac_resolution_rules.specs.BrokenExpressions.{ExprBroken}
+use Rattle.wac_resolution_rules.specs.Expressions.{at, Stands}
+use Rattle.wac_resolution_rules.specs.Given.{Given, Rules}
+use Rattle.wac_resolution_nodes.specs.Nodes.{composition_of, kind_in, NodesStand}
+use Rattle.wac_resolution_paths.specs.declared.setting.Setting.{Setting}
+use Rattle.wac_resolution_paths.specs.Expands.{HoldsHanded}
+use Rattle.wac_resolution_paths.specs.Setting.{packages_in, setting_of}
+
+-- no resource was declared, each package and each node goes on to be there, and each kind means what it meant
+pub record Extends (packages : List (Key × PackageParts)) (old new : Parts) : Type 0 where
+  pub same : new ≡ record old { types = new.types; packages = new.packages; nodes = new.nodes }
+  pub held : (i : ℕ) (p : HeldPackage) → slice_get old.packages i ≡ Some p → slice_get new.packages i ≡ Some p
+  pub named : KeepsNames old.types new.types
+  pub kinds : (naming : Naming) (k : ItemKind) → Names old.types k → means naming new k ≡ means naming old k
+  pub nodes : (n : ℕ) (k : ItemKind) → kind_in old.nodes n ≡ Some k → kind_in new.nodes n ≡ Some k
+  pub stand : NodesStand new
+  pub handed : HoldsHanded packages new
+  pub count : declared_count new ≡ declared_count old
+
+-- what a document is resolved with
+abbrev pub given_in : Naming → Setting → Rules → Given
+given_in naming setting rules = record { setting = setting_of naming setting; rules = rules }
+
+-- the expression stands for this node of the new graph
+pub record ExprGoes (setting : Setting) (rules : Rules) (old new : Parts) (declared : Named ℕ) (x : Expr) (n : ℕ) : Type 0 where
+  pub extends : Extends (packages_in setting) old new
+  pub there : n < length new.nodes
+  pub stands : (naming : Naming) → IsOneToOne naming → Stands (given_in naming setting rules) (composition_of naming old declared) x (at (composition_of naming new declared) n)
+
+-- the error names a rule that the expression breaks
+abbrev pub ExprBreaks : Setting → Rules → Parts → Named ℕ → Expr → Error → Type 0
+ExprBreaks setting rules g declared x e = (naming : Naming) → IsOneToOne naming → ExprBroken (given_in naming setting rules) (composition_of naming g declared) e x

@@ -1,0 +1,2 @@
+//! Part of `wac_resolution`: statements.
+#![tactic(auto)]
