@@ -1,5 +1,6 @@
 -- Trees, without where they lie in memory. A value of a type of the code has a tree of the type of the same name.
 use Rattle.std.specs.Prelude.{ℕ, ◌-◌, ◌==◌, List, [], ◌∷◌, Option, Bool, if◌then◌else◌}
+use Rattle.wac_lexer.specs.Ascii.{percent_sign, quotation_mark}
 use Rattle.semver.specs.Parse.{Parts}
 use Rattle.wac_lexer.specs.Span.{Span, span, end_of}
 use Rattle.wac_lexer.specs.Item.{Doc}
@@ -18,7 +19,7 @@ pub record Ident : Type 0 where
 -- a text without a leading '%'
 abbrev pub without_percent : List ℕ → List ℕ
 without_percent [] = []
-without_percent (b ∷ text) = if b == 37 then text else b ∷ text
+without_percent (b ∷ text) = if b == percent_sign then text else b ∷ text
 
 -- the text without the quotes, the span with them
 pub record String : Type 0 where
@@ -28,12 +29,12 @@ pub record String : Type 0 where
 -- the text without a quote at its start
 abbrev pub without_front_quote : List ℕ → List ℕ
 without_front_quote [] = []
-without_front_quote (b ∷ text) = if b == 34 then text else b ∷ text
+without_front_quote (b ∷ text) = if b == quotation_mark then text else b ∷ text
 
 -- the text without a quote at its end
 abbrev pub without_last_quote : List ℕ → List ℕ
 without_last_quote [] = []
-without_last_quote (b ∷ []) = if b == 34 then [] else b ∷ []
+without_last_quote (b ∷ []) = if b == quotation_mark then [] else b ∷ []
 without_last_quote (b ∷ c ∷ text) = b ∷ without_last_quote (c ∷ text)
 
 abbrev pub between_quotes : List ℕ → List ℕ

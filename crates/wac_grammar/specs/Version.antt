@@ -1,13 +1,14 @@
 -- The parts of a package's text: its name, the segments of a path, and the version after '@'.
 use Rattle.std.specs.Prelude.{◌≡◌, ℕ, ◌==◌, nat_lt, List, length, Option, Some, None, Result, Ok, Err, Bool, true, false, if◌then◌else◌, codes, refl}
 use Rattle.std.specs.List.{before_first, after_first, position_or_len}
+use Rattle.wac_lexer.specs.Ascii.{at_sign, slash}
 use Rattle.semver.specs.Parse.{Parts, version_parts, digits_from, scan}
 
 abbrev pub is_at_sign : ℕ → Bool
-is_at_sign b = b == 64
+is_at_sign b = b == at_sign
 
 abbrev pub is_slash : ℕ → Bool
-is_slash b = b == 47
+is_slash b = b == slash
 
 -- the text after '@', if there is one
 abbrev pub version_text : List ℕ → Option (List ℕ)

@@ -2,6 +2,7 @@
 use Rattle.std.specs.Prelude.{◌≡◌, ◌≢◌, ℕ, Bool, true, false, List, [], ◌∷◌, ◌++◌, Some, None, codes, refl}
 use Rattle.std.specs.List.{AllByRecursion}
 use Rattle.std.specs.Str.{trim}
+use Rattle.wac_lexer.specs.Ascii.{line_feed}
 use Rattle.wac_lexer.specs.Comments.{is_blank}
 use Rattle.wac_lexer.specs.Follow.{Follows}
 use Rattle.wac_lexer.specs.Gap.{EndsLine}
@@ -21,7 +22,7 @@ AreBlanks t = AllByRecursion (λ b. is_blank b ≡ true) t
 
 -- a line of docs: trimmed, and without LF and refused characters
 abbrev pub IsDocLine : List ℕ → Type 0
-IsDocLine t = IsAccepted t × (trim t ≡ t) × AllByRecursion (λ b. b ≢ 10) t
+IsDocLine t = IsAccepted t × (trim t ≡ t) × AllByRecursion (λ b. b ≢ line_feed) t
 
 -- a piece is what it is meant to be before the rest
 abbrev pub Fits : List ℕ → Piece → Type 0

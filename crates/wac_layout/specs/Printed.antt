@@ -1,5 +1,6 @@
 -- A printed text as a list of pieces, and what it writes.
-use Rattle.std.specs.Prelude.{ℕ, zero, suc, ◌+◌, Bool, cond, nat_eq, List, [], ◌∷◌, ◌++◌, if◌then◌else◌}
+use Rattle.std.specs.Prelude.{codes, ℕ, zero, suc, ◌+◌, Bool, cond, nat_eq, List, [], ◌∷◌, ◌++◌, if◌then◌else◌}
+use Rattle.wac_lexer.specs.Ascii.{line_feed}
 
 -- what a printed text consists of
 pub data Piece : Type 0 where
@@ -20,14 +21,14 @@ times (suc n) text = text ++ times n text
 -- whether nothing stands on the line after a text: where it is empty, as before it
 abbrev pub fresh_after : Bool → List ℕ → Bool
 fresh_after fresh [] = fresh
-fresh_after fresh (b ∷ text) = fresh_after (nat_eq b 10) text
+fresh_after fresh (b ∷ text) = fresh_after (nat_eq b line_feed) text
 
 -- what a piece writes
 abbrev pub text_of : List ℕ → Bool → Piece → List ℕ
 text_of space fresh (token text) = text
 text_of space fresh (blank text) = text
 text_of space fresh (line depth) = if fresh then times depth space else []
-text_of space fresh (doc text) = 47 ∷ 47 ∷ 47 ∷ 32 ∷ text
+text_of space fresh (doc text) = codes "/// " ++ text
 
 -- what pieces write, one after the other
 abbrev pub text : List ℕ → Bool → List Piece → List ℕ

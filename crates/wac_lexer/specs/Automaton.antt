@@ -1,5 +1,6 @@
 -- The states of the walk over a text, as the code has them. What a token is stands in Shapes and Tokens, which know nothing of them.
 use Rattle.std.specs.Prelude.{ℕ, ◌&&◌, ◌||◌, nat_le, nat_eq, if◌then◌else◌, Option, Some, None}
+use Rattle.wac_lexer.specs.Ascii.{at_sign, capital_a, capital_z, close_brace, close_bracket, close_parenthesis, colon, comma, digit_nine, digit_zero, equals_sign, full_stop, greater_than_sign, hyphen, less_than_sign, open_brace, open_bracket, open_parenthesis, percent_sign, plus_sign, quotation_mark, semicolon, slash, small_a, small_z, underscore}
 use Rattle.wac_lexer.specs.declared.shape.Shape.{Shape}
 use Rattle.wac_lexer.specs.declared.shape.Shape.TheVariants as shapes
 use Rattle.wac_lexer.specs.declared.automaton.Class.{Class}
@@ -13,19 +14,19 @@ use Rattle.wac_lexer.specs.declared.automaton.State.TheVariants.{Start, Joined, 
 
 abbrev pub class_of : ℕ → Class
 class_of b =
-    if nat_le 97 b && nat_le b 122 then Lower
-    else (if nat_le 65 b && nat_le b 90 then Upper
-    else (if nat_le 48 b && nat_le b 57 then Digit
-    else (if nat_eq b 37 then Percent
-    else (if nat_eq b 45 then Dash
-    else (if nat_eq b 43 then Plus
-    else (if nat_eq b 58 then Colon
-    else (if nat_eq b 47 then Slash
-    else (if nat_eq b 64 then At
-    else (if nat_eq b 46 then Dot
-    else (if nat_eq b 34 then Quote
-    else (if nat_eq b 62 then CloseAngle
-    else (if nat_eq b 59 || (nat_eq b 123 || (nat_eq b 125 || (nat_eq b 61 || (nat_eq b 40 || (nat_eq b 41 || (nat_eq b 60 || (nat_eq b 95 || (nat_eq b 91 || (nat_eq b 93 || (nat_eq b 44)))))))))) then OtherSymbol
+    if nat_le small_a b && nat_le b small_z then Lower
+    else (if nat_le capital_a b && nat_le b capital_z then Upper
+    else (if nat_le digit_zero b && nat_le b digit_nine then Digit
+    else (if nat_eq b percent_sign then Percent
+    else (if nat_eq b hyphen then Dash
+    else (if nat_eq b plus_sign then Plus
+    else (if nat_eq b colon then Colon
+    else (if nat_eq b slash then Slash
+    else (if nat_eq b at_sign then At
+    else (if nat_eq b full_stop then Dot
+    else (if nat_eq b quotation_mark then Quote
+    else (if nat_eq b greater_than_sign then CloseAngle
+    else (if nat_eq b semicolon || (nat_eq b open_brace || (nat_eq b close_brace || (nat_eq b equals_sign || (nat_eq b open_parenthesis || (nat_eq b close_parenthesis || (nat_eq b less_than_sign || (nat_eq b underscore || (nat_eq b open_bracket || (nat_eq b close_bracket || (nat_eq b comma)))))))))) then OtherSymbol
     else Other))))))))))))
 
 abbrev pub behind_word_of : Part → Class → State

@@ -3,6 +3,7 @@ use Rattle.std.specs.Prelude.{◌≡◌, refl, ℕ, ◌+◌, ◌++◌, sum_by, B
 use Rattle.std.specs.Char.{len_utf8}
 use Rattle.std.specs.List.{AllByRecursion}
 use Rattle.std.specs.Str.{chars}
+use Rattle.wac_lexer.specs.Ascii.{carriage_return, line_feed, tab}
 use Rattle.wac_lexer.specs.Span.{Span, span}
 use Rattle.wac_lexer.specs.declared.error.Error.{Error}
 use Rattle.wac_lexer.specs.declared.error.Error.TheVariants.{DisallowedBidirectionalOverride, DiscouragedUnicodeCodepoint, DisallowedControlCode}
@@ -21,7 +22,7 @@ is_discouraged c =
 -- U+0000 to U+001F and U+007F to U+009F, but for TAB, LF and CR
 abbrev pub is_refused_control : ℕ → Bool
 is_refused_control c =
-    if nat_eq c 9 || (nat_eq c 10 || nat_eq c 13) then nat_lt c 0
+    if nat_eq c tab || (nat_eq c line_feed || nat_eq c carriage_return) then nat_lt c 0
     else is_within 0 0x1f c || is_within 0x7f 0x9f c
 
 -- the fault that a character is
@@ -52,6 +53,6 @@ pub record IsFirstRefused (text : List ℕ) (fault : Error) (at : Span) : Type 0
   pub place : at ≡ span (sum_by len_utf8 before) (len_utf8 character)
 
 -- an example: TAB passes, and after it U+202A is refused
-override : refused (9 ∷ 0xe2 ∷ 0x80 ∷ 0xaa ∷ []) ≡ Some (DisallowedBidirectionalOverride 0x202a, span 1 3)
+override : refused (tab ∷ 0xe2 ∷ 0x80 ∷ 0xaa ∷ []) ≡ Some (DisallowedBidirectionalOverride 0x202a, span 1 3)
 unfolding chars
 override = refl

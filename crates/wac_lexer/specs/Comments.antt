@@ -1,6 +1,7 @@
 -- Block comments, which nest.
 use Rattle.std.specs.List.{prefix_len}
 use Rattle.std.specs.Prelude.{◌≡◌, refl, codes, ℕ, zero, suc, ◌+◌, ◌-◌, Bool, true, false, ◌&&◌, ◌||◌, not, ◌==◌, slice_index, nat_eq, List, [], ◌∷◌, length, drop, Option, Some, None, if◌then◌else◌}
+use Rattle.wac_lexer.specs.Ascii.{asterisk, carriage_return, line_feed, slash, space, tab}
 
 -- whether a text begins with these two bytes
 abbrev pub begins : ℕ → ℕ → List ℕ → Bool
@@ -9,16 +10,16 @@ begins x y (a ∷ []) = false
 begins x y (a ∷ b ∷ text) = nat_eq a x && nat_eq b y
 
 abbrev pub opens : List ℕ → Bool
-opens = begins 47 42
+opens = begins slash asterisk
 
 abbrev pub closes : List ℕ → Bool
-closes = begins 42 47
+closes = begins asterisk slash
 
 -- From within a comment, past pieces and the comment's end, to the rest: a piece is a whole comment, or one byte
 -- at which neither `/*` nor `*/` begins.
 pub data Inside : List ℕ → List ℕ → Type 0 where
-  ends : {rest : List ℕ} → Inside (42 ∷ 47 ∷ rest) rest
-  comment : {text mid rest : List ℕ} → Inside text mid → Inside mid rest → Inside (47 ∷ 42 ∷ text) rest
+  ends : {rest : List ℕ} → Inside (asterisk ∷ slash ∷ rest) rest
+  comment : {text mid rest : List ℕ} → Inside text mid → Inside mid rest → Inside (slash ∷ asterisk ∷ text) rest
   byte : {b : ℕ} {text rest : List ℕ} → opens (b ∷ text) ≡ false → closes (b ∷ text) ≡ false → Inside text rest → Inside (b ∷ text) rest
 
 -- The same, computed: what follows the ends of n comments that a text stands within.
@@ -27,17 +28,17 @@ behind zero text = Some text
 behind (suc n) [] = None
 behind (suc n) (a ∷ []) = None
 behind (suc n) (a ∷ b ∷ text) =
-    elim (nat_eq a 47 && nat_eq b 42) [
+    elim (nat_eq a slash && nat_eq b asterisk) [
       | true ↦ behind (suc (suc n)) text
-      | false ↦ elim (nat_eq a 42 && nat_eq b 47) [ true ↦ behind n text | false ↦ behind (suc n) (b ∷ text) ]
+      | false ↦ elim (nat_eq a asterisk && nat_eq b slash) [ true ↦ behind n text | false ↦ behind (suc n) (b ∷ text) ]
     ]
 
 -- space, TAB, CR and LF
 abbrev pub is_blank : ℕ → Bool
-is_blank b = nat_eq b 32 || (nat_eq b 9 || (nat_eq b 13 || nat_eq b 10))
+is_blank b = nat_eq b space || (nat_eq b tab || (nat_eq b carriage_return || nat_eq b line_feed))
 
 abbrev pub is_not_line_end : ℕ → Bool
-is_not_line_end b = not (nat_eq b 10)
+is_not_line_end b = not (nat_eq b line_feed)
 
 -- how many bytes come before the first LF
 abbrev pub line_len : List ℕ → ℕ
@@ -52,7 +53,7 @@ abbrev pub part_len : List ℕ → ℕ
 part_len text =
     if length text == 0 then 0
     else (if is_blank (slice_index text 0) then 1
-    else (if begins 47 47 text then line_len text
+    else (if begins slash slash text then line_len text
     else (if opens text then block_len text else 0)))
 
 -- how many bytes up to n blanks and comments take

@@ -1,5 +1,6 @@
 -- What may stand after a token, so that the token is read as it stands.
 use Rattle.std.specs.Prelude.{◌≡◌, ℕ, false, List, ◌++◌, length, Some, codes, refl}
+use Rattle.wac_lexer.specs.Ascii.{slash}
 use Rattle.wac_lexer.specs.Comments.{begins, opens}
 use Rattle.wac_lexer.specs.Tokens.{IsLongest, longest_token}
 use Rattle.wac_lexer.specs.declared.token.Token.{Token}
@@ -9,7 +10,7 @@ use Rattle.wac_lexer.specs.declared.token.Token.TheVariants.{Ident, PackageName,
 -- begins with it.
 pub record Follows (token : Token) (text rest : List ℕ) : Type 0 where
   pub longest : IsLongest (text ++ rest) (length text) token
-  pub no_line : begins 47 47 (text ++ rest) ≡ false
+  pub no_line : begins slash slash (text ++ rest) ≡ false
   pub no_block : opens (text ++ rest) ≡ false
 
 -- a word stays one before a colon and a blank, and without the blank it is a part of a package's name

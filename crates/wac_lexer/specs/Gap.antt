@@ -1,6 +1,7 @@
 -- The gap before an item: blanks and comments, one after another.
 use Rattle.std.specs.Prelude.{◌≡◌, ◌≢◌, ◌≤◌, ◌⊎◌, ℕ, ◌+◌, true, List, [], ◌∷◌, ◌++◌, drop, length, codes}
 use Rattle.std.specs.List.{concat, AllByRecursion}
+use Rattle.wac_lexer.specs.Ascii.{line_feed}
 use Rattle.wac_lexer.specs.Comments.{Inside, is_blank}
 use Rattle.wac_lexer.specs.Docs.{doc_of_part}
 use Rattle.wac_lexer.specs.Item.{Doc}
@@ -12,11 +13,11 @@ IsBlank part = (b : ℕ) × (part ≡ b ∷ []) × (is_blank b ≡ true)
 -- the text ends here, or LF comes
 abbrev pub EndsLine : List ℕ → Type 0
 EndsLine [] = Unit {0}
-EndsLine (b ∷ rest) = b ≡ 10
+EndsLine (b ∷ rest) = b ≡ line_feed
 
 -- a line comment before the rest: `//`, and all up to before LF or the end
 abbrev pub IsLineComment : List ℕ → List ℕ → Type 0
-IsLineComment part rest = (line : List ℕ) × (part ≡ codes "//" ++ line) × AllByRecursion (λ b. b ≢ 10) line × EndsLine rest
+IsLineComment part rest = (line : List ℕ) × (part ≡ codes "//" ++ line) × AllByRecursion (λ b. b ≢ line_feed) line × EndsLine rest
 
 -- a block comment before the rest: `/*`, pieces, and `*/`
 abbrev pub IsBlockComment : List ℕ → List ℕ → Type 0

@@ -3,6 +3,7 @@ use Rattle.std.specs.Prelude.{◌≡◌, refl, map, codes, ℕ, zero, suc, ◌+�
 use Rattle.std.specs.Option.{option_map}
 use Rattle.std.specs.Char.{len_utf8}
 use Rattle.std.specs.Str.{chars}
+use Rattle.wac_lexer.specs.Ascii.{quotation_mark}
 use Rattle.wac_lexer.specs.Span.{Span, span, end_of}
 use Rattle.wac_lexer.specs.declared.token.Token.{Token}
 use Rattle.wac_lexer.specs.declared.token.Token.TheVariants.{Ident, String, Ellipsis, Dot}
@@ -19,7 +20,7 @@ first_char_len text = elim (slice_get (chars text) 0) [ Some c ↦ len_utf8 c | 
 
 -- what a text begins with that no token begins: a quote without another, or a character
 abbrev pub fault_of : List ℕ → Result Token Error × ℕ
-fault_of text = if nat_eq (slice_index text 0) 34 then (Err UnterminatedString, 1) else (Err UnexpectedToken, first_char_len text)
+fault_of text = if nat_eq (slice_index text 0) quotation_mark then (Err UnterminatedString, 1) else (Err UnexpectedToken, first_char_len text)
 
 abbrev pub with_fault : Option (ℕ × Token) → Result Token Error × ℕ → Option (Result Token Error × ℕ)
 with_fault found fault = elim found [ Some front ↦ Some (Ok front.1, front.0) | None ↦ Some fault ]

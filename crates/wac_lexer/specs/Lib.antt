@@ -1,3 +1,4 @@
+pub mod Ascii
 pub mod Span
 pub mod Characters
 pub mod Pattern

@@ -1,5 +1,6 @@
 -- The shapes of the tokens, as sets of whole texts.
-use Rattle.std.specs.Prelude.{ℕ, List, [], ◌∷◌, map, if◌then◌else◌, Option, Some, None}
+use Rattle.std.specs.Prelude.{◌+◌, ◌-◌, ℕ, List, [], ◌∷◌, map, if◌then◌else◌, Option, Some, None}
+use Rattle.wac_lexer.specs.Ascii.{at_sign, capital_a, capital_z, colon, digit_nine, digit_zero, full_stop, hyphen, percent_sign, plus_sign, quotation_mark, slash, small_a, small_z}
 use Rattle.wac_lexer.specs.Pattern.{Pattern, matches}
 use Rattle.wac_lexer.specs.Pattern.Pattern.{Nothing, Empty, Range, Then, Or, Many}
 use Rattle.wac_lexer.specs.Words.{symbols}
@@ -24,13 +25,13 @@ any_of (text ∷ texts) = Or (literal text) (any_of texts)
 
 -- a-z, A-Z, 0-9
 abbrev pub lower : Pattern
-lower = Range 97 122
+lower = Range small_a small_z
 
 abbrev pub upper : Pattern
-upper = Range 65 90
+upper = Range capital_a capital_z
 
 abbrev pub digit : Pattern
-digit = Range 48 57
+digit = Range digit_zero digit_nine
 
 -- [a-z][a-z0-9]* or [A-Z][A-Z0-9]*
 abbrev pub word : Pattern
@@ -38,7 +39,7 @@ word = Or (Then lower (Many (Or lower digit))) (Then upper (Many (Or upper digit
 
 -- an optional %, a word, any number of -word
 abbrev pub id : Pattern
-id = Then (optional (byte 37)) (Then word (Many (Then (byte 45) word)))
+id = Then (optional (byte percent_sign)) (Then word (Many (Then (byte hyphen) word)))
 
 -- one or more
 abbrev pub some : Pattern → Pattern
@@ -46,26 +47,26 @@ some p = Then p (Many p)
 
 -- [0-9]+(\.[0-9a-zA-Z+-]+)*
 abbrev pub version_byte : Pattern
-version_byte = Or digit (Or lower (Or upper (Or (byte 43) (byte 45))))
+version_byte = Or digit (Or lower (Or upper (Or (byte plus_sign) (byte hyphen))))
 
 abbrev pub version : Pattern
-version = Then (some digit) (Many (Then (byte 46) (some version_byte)))
+version = Then (some digit) (Many (Then (byte full_stop) (some version_byte)))
 
 -- an optional @ and version text
 abbrev pub at_version : Pattern
-at_version = optional (Then (byte 64) version)
+at_version = optional (Then (byte at_sign) version)
 
 -- id(:id)+, and a version
 abbrev pub package_name : Pattern
-package_name = Then id (Then (some (Then (byte 58) id)) at_version)
+package_name = Then id (Then (some (Then (byte colon) id)) at_version)
 
 -- id(:id)+(/id)+, and a version
 abbrev pub package_path : Pattern
-package_path = Then id (Then (some (Then (byte 58) id)) (Then (some (Then (byte 47) id)) at_version))
+package_path = Then id (Then (some (Then (byte colon) id)) (Then (some (Then (byte slash) id)) at_version))
 
 -- a quote, bytes that are none, a quote
 abbrev pub quoted : Pattern
-quoted = Then (byte 34) (Then (Many (Or (Range 0 33) (Range 35 255))) (byte 34))
+quoted = Then (byte quotation_mark) (Then (Many (Or (Range 0 (quotation_mark - 1)) (Range (quotation_mark + 1) 255))) (byte quotation_mark))
 
 -- one of the symbols
 abbrev pub symbol : Pattern

@@ -1,6 +1,7 @@
 // What stands between items: blanks and comments.
 ghost use Rattle.std.specs.Prelude.{true, ◌≡◌, ◌↔◌, ◌≤◌, ◌<◌, ◌-◌, ◌+◌, ℕ, List, Some, None, length, drop, MatchOption};
 ghost use Rattle.std.specs.List.{prefix_len};
+ghost use Rattle.wac_lexer.specs.Ascii.{slash};
 ghost use Rattle.wac_lexer.specs.Comments.{Inside, behind, opens, closes, begins, line_len, block_len, part_len, gap, is_blank, is_not_line_end};
 
 pub(crate) fn opens(bytes: &[u8]) -> bool
@@ -47,7 +48,7 @@ fn is_blank(byte: u8) -> bool
 }
 
 fn begins_line(bytes: &[u8]) -> bool
-    ensures { result ≡ begins 47 47 bytes.now }
+    ensures { result ≡ begins slash slash bytes.now }
 {
     bytes.len() >= 2 && bytes[0] == b'/' && bytes[1] == b'/'
 }

@@ -1,6 +1,7 @@
 //! Paths of other packages.
 ghost use Rattle.std.specs.Prelude.{◌≡◌, ◌⊎◌, ◌∷◌, ◌++◌, [], suc, OnOk, Some, None, false, IfOk, IfErr, MatchOption, take, string_bytes};
 ghost use Rattle.std.specs.List.{join_with_byte};
+ghost use Rattle.wac_lexer.specs.Ascii.{slash};
 ghost use Rattle.wac_types.specs.Names.{by_name};
 ghost use Rattle.wac_types.specs.Scope.{look_up};
 ghost use Rattle.wac_types.specs.Shape.{described};
@@ -34,7 +35,7 @@ use wac_resolution_types::State;
 
 /// Appends a segment after a `/`.
 fn push_segment(text: &mut String, segment: &str) -> Result<(), AllocError>
-    ensures { OnOk result (string_bytes text.new ≡ string_bytes text.old ++ 47 ∷ segment.now) }
+    ensures { OnOk result (string_bytes text.new ≡ string_bytes text.old ++ slash ∷ segment.now) }
 {
     text.push('/')?;
     text.push_str(segment)?;
@@ -48,7 +49,7 @@ fn joined(
     rest: SegmentSpans<'_>,
     count: usize,
 ) -> Result<String, AllocError>
-    ensures { IfOk result (λ s. string_bytes s ≡ join_with_byte 47 (first.now ∷ take count (texts rest.entry))) }
+    ensures { IfOk result (λ s. string_bytes s ≡ join_with_byte slash (first.now ∷ take count (texts rest.entry))) }
 {
     let mut rest = rest;
     let mut text = String::from_str(alloc, first)?;
@@ -67,7 +68,7 @@ fn segments_before(
     path: &PackagePath<'_>,
     count: usize,
 ) -> Result<String, AllocError>
-    ensures { IfOk result (λ s. string_bytes s ≡ join_with_byte 47 (take (suc count) (segments_of (package_path_of path.now)))) }
+    ensures { IfOk result (λ s. string_bytes s ≡ join_with_byte slash (take (suc count) (segments_of (package_path_of path.now)))) }
 {
     let mut rest = path.segment_spans();
     let Some((first, _)) = rest.next() else {

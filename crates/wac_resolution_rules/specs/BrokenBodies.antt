@@ -1,6 +1,7 @@
 -- Which rule of paths and bodies an error says is broken, as BrokenTypes.
 use Rattle.std.specs.Prelude.{◌≡◌, ◌⊎◌, ℕ, suc, List, [], ◌∷◌, length, Option, Some, None, slice_get, Bool, true, false, codes}
 use Rattle.std.specs.List.{join_with_byte}
+use Rattle.wac_lexer.specs.Ascii.{slash}
 use Rattle.wac_lexer.specs.Span.{Span}
 use Rattle.wac_types.specs.declared.kind.ExternKind.{ExternKind}
 use Rattle.wac_types.specs.declared.kind.FuncKind.{FuncKind}
@@ -52,7 +53,7 @@ IsNoExport p first e k before segment = (e ≡ memory) ⊎ ((at : Span) × (expo
 
 -- the same in a path of another package
 abbrev pub IsNoPackageExport : PackagePath → List ℕ → Error → Meaning → List (List ℕ) → List ℕ → Type 0
-IsNoPackageExport p first e k before segment = (e ≡ memory) ⊎ ((at : Span) × (export_of k segment ≡ None) × StandsAt p (suc (length before)) segment at × (e ≡ package_missing_export (Some (described k)) (join_with_byte 47 (first ∷ before)) p.name segment at))
+IsNoPackageExport p first e k before segment = (e ≡ memory) ⊎ ((at : Span) × (export_of k segment ≡ None) × StandsAt p (suc (length before)) segment at × (e ≡ package_missing_export (Some (described k)) (join_with_byte slash (first ∷ before)) p.name segment at))
 
 abbrev pub OwnPathBroken : Scope → PackagePath → List (List ℕ) → Error → Type 0
 OwnPathBroken root p [] e = e ≡ memory

@@ -1,6 +1,7 @@
 -- What including a world adds to a world.
 use Rattle.std.specs.Prelude.{◌≡◌, ℕ, ◌==◌, List, [], Some, None, unwrap_or, Bool, true, false}
 use Rattle.std.specs.List.{list_any}
+use Rattle.wac_lexer.specs.Ascii.{colon}
 use Rattle.wac_types.specs.Meaning.{Meaning}
 use Rattle.wac_types.specs.Scope.{Named, Scope, look_up, IsFresh, with_named, without_first}
 use Rattle.wac_types.specs.Steps.{Steps}
@@ -18,7 +19,7 @@ abbrev pub HasEntry : Entries → WorldIncludeItem → Entries → Type 0
 HasEntry old x new = IsFresh x.from.string old × (new ≡ with_named old x.from.string x.to.string)
 
 abbrev pub has_colon : List ℕ → Bool
-has_colon name = list_any (λ b. b == 58) name
+has_colon name = list_any (λ b. b == colon) name
 
 -- the entries that are left, and the imports or exports so far
 pub record Taking : Type 0 where
