@@ -25,12 +25,12 @@ use Rattle.wac_resolution_used.specs.Used.{UsesGo}
 use Rattle.wac_resolution_used.specs.Statements.{IsInterface, IsNoneNamed, StatementGoes}
 
 -- the body means in the graph with the interface what it meant
-body_same : (setting : Setting) (side : ExternKind) (old new : Parts) (root : Named ItemKind) (b : Lists) (path : UsePath) (i : InterfaceId) → IsBody old.types side b → IsInterface setting old new root path i
+body_same : (setting : Setting) (side : ExternKind) (old new : Parts) (root : Named ItemKind) (b : Lists) (used : UsePath) (i : InterfaceId) → IsBody old.types side b → IsInterface setting old new root used i
     → (naming : Naming) → body_in naming new b ≡ body_in naming old b
-body_same setting side old new root b path i body h naming = body_kept naming old new side b (h.grows.kinds naming) body ∙ ap (with_count (body_in naming old b)) h.count
+body_same setting side old new root b used i body h naming = body_kept naming old new side b (h.grows.kinds naming) body ∙ ap (with_count (body_in naming old b)) h.count
 
-pub body_there : (setting : Setting) (side : ExternKind) (old new : Parts) (root : Named ItemKind) (b : Lists) (path : UsePath) (i : InterfaceId) → IsBody old.types side b → IsInterface setting old new root path i → IsBody new.types side b
-body_there setting side old new root b path i body h = body_still old.types new.types side b h.grows.named body
+pub body_there : (setting : Setting) (side : ExternKind) (old new : Parts) (root : Named ItemKind) (b : Lists) (used : UsePath) (i : InterfaceId) → IsBody old.types side b → IsInterface setting old new root used i → IsBody new.types side b
+body_there setting side old new root b used i body h = body_still old.types new.types side b h.grows.named body
 
 pub statement_goes : (setting : Setting) (side : ExternKind) (old new : Parts) (root : Named ItemKind) (b c : Lists) (u : Use) (i : InterfaceId) → IsBody old.types side b → IsInterface setting old new root u.path i
     → UsesGo side new i b c u.items → StatementGoes setting side old new root b c u

@@ -29,11 +29,11 @@ use Rattle.wac_resolution_bodies.specs.Bodies.{body_in, IsBody}
 
 -- the path or identifier names this interface
 abbrev pub IsInterface : Setting → Parts → Parts → Named ItemKind → UsePath → InterfaceId → Type 0
-IsInterface setting old new root path i = Found (packages_in setting) old new (λ naming m. rules.UseNames (setting_of naming setting) (scope_of naming old root) path m) (kinds.Ty (types.Interface i))
+IsInterface setting old new root used i = Found (packages_in setting) old new (λ naming m. rules.UseNames (setting_of naming setting) (scope_of naming old root) used m) (kinds.Ty (types.Interface i))
 
 -- it names none
 abbrev pub IsNoneNamed : rules.Setting → Scope → UsePath → Error → Type 0
-IsNoneNamed setting root path e = UsePathBroken setting root path e ⊎ ((k : Meaning) × rules.UseNames setting root path k × IsNoInterface k (use_path_name path) (use_path_span path) e)
+IsNoneNamed setting root used e = UsePathBroken setting root used e ⊎ ((k : Meaning) × rules.UseNames setting root used k × IsNoInterface k (use_path_name used) (use_path_span used) e)
 
 -- the graph got more types and perhaps more packages, and the body is another one: these names were bound, and of what both bodies mean
 -- this holds
