@@ -1,5 +1,6 @@
 pub mod Error
 pub mod Told
+pub mod Places
 pub mod Messages
 pub mod Shapes
 pub mod Shown

@@ -3,6 +3,7 @@
 ghost use Rattle.std.specs.Prelude.{◌≡◌, alloc_error};
 ghost use Rattle.wac_resolution_errors.specs.declared.error.Error.TheVariants.{Memory};
 ghost use Rattle.wac_resolution_errors.specs.Messages.{text_of};
+ghost use Rattle.wac_resolution_errors.specs.Places.{span_of};
 ghost use Rattle.wac_resolution_errors.specs.Shown.{shown};
 ghost use Rattle.wac_resolution_errors.specs.Told.{told};
 
@@ -452,6 +453,61 @@ impl fmt::Display for Error {
 }
 
 impl Error {
+    /// The bytes of the source at which the error lies: what breaks the rule. There is none where memory ran out, and
+    /// where an instance imports something that the target does not allow, which is written nowhere.
+    pub fn span(&self) -> Option<SourceSpan>
+        ensures { result ≡ span_of (told self.now) }
+    {
+        match self {
+            Error::UndefinedName { span, .. }
+            | Error::DuplicateName { span, .. }
+            | Error::DuplicateInterfaceExport { span, .. }
+            | Error::DuplicateWorldItem { span, .. }
+            | Error::NotFuncOrInterface { span, .. }
+            | Error::NotInterface { span, .. }
+            | Error::DuplicateWorldIncludeName { span, .. }
+            | Error::NotWorld { span, .. }
+            | Error::MissingWorldInclude { span, .. }
+            | Error::WorldIncludeConflict { span, .. }
+            | Error::UndefinedInterfaceType { span, .. }
+            | Error::NotInterfaceValueType { span, .. }
+            | Error::DuplicateResourceConstructor { span, .. }
+            | Error::DuplicateResourceMethod { span, .. }
+            | Error::DuplicateVariantCase { span, .. }
+            | Error::DuplicateRecordField { span, .. }
+            | Error::DuplicateEnumCase { span, .. }
+            | Error::DuplicateFlag { span, .. }
+            | Error::InvalidAliasType { span, .. }
+            | Error::NotFuncType { span, .. }
+            | Error::NotResourceType { span, .. }
+            | Error::NotValueType { span, .. }
+            | Error::DuplicateParameter { span, .. }
+            | Error::DuplicateResult { span, .. }
+            | Error::BorrowInResult { span, .. }
+            | Error::UnknownPackage { span, .. }
+            | Error::PackageMissingExport { span, .. }
+            | Error::PackagePathMissingExport { span, .. }
+            | Error::MissingComponentImport { span, .. }
+            | Error::MismatchedInstantiationArg { span, .. }
+            | Error::DuplicateInstantiationArg { span, .. }
+            | Error::MissingInstantiationArg { span, .. }
+            | Error::NotAnInstance { span, .. }
+            | Error::MissingInstanceExport { span, .. }
+            | Error::ExportRequiresAs { span, .. }
+            | Error::DeclarationConflict { span, .. }
+            | Error::ExportConflict { span, .. }
+            | Error::DuplicateExternName { span, .. }
+            | Error::InvalidExternName { span, .. }
+            | Error::UseConflict { span, .. }
+            | Error::FillArgumentNotLast { span, .. }
+            | Error::SpreadInstantiationNoMatch { span, .. }
+            | Error::SpreadExportNoEffect { span, .. }
+            | Error::MissingTargetExport { span, .. } => Some(*span),
+            Error::ImportNotInTarget { span, .. } | Error::TargetMismatch { span, .. } => *span,
+            Error::Memory(_) => None,
+        }
+    }
+
     /// What is said, as names and the words around them.
     fn message(&self) -> Message<'_>
         ensures { shown result ≡ text_of (told self.now) }
