@@ -1,1 +1,4 @@
 pub mod Standing
+pub mod Kinds
+pub mod Defining
+pub mod Leading
