@@ -15,8 +15,9 @@ use Rattle.wac_graph.specs.Origin.{Naming}
 use Rattle.wac_graph.proofs.Lists.{get_kept, all_more}
 use Rattle.wac_resolution_errors.specs.Error.{Error, declaration_conflict}
 use Rattle.wac_resolution_rules.specs.BrokenWorlds.{IsExported}
-use Rattle.wac_resolution_rules.specs.Composition.{Composition, binding}
+use Rattle.wac_resolution_rules.specs.Composition.{Composition, binding, definition, with_node, with_export}
 use Rattle.wac_resolution_rules.specs.Find.{names_of}
+use Rattle.wac_resolution_rules.specs.Nodes.{next_of}
 use Rattle.wac_resolution_rules.specs.Places.{Places}
 use Rattle.wac_resolution_nodes.specs.declared.root.Root.{Root}
 use Rattle.wac_resolution_nodes.specs.Growth.{GrowsNodes}
@@ -101,7 +102,7 @@ defined old mid new before after x y id k n agrees placed named unexported unbou
     b.is naming
     ∙ ap (λ (g : Parts). binding (composed naming g before) id.string n) is
     ∙ ap (λ (c : Composition). binding c id.string n) (composition_defines old (numbers_of before.nodes) id.string k naming)
-    ∙ ap (binding _ id.string) (number ∙ sym (next_is naming old (numbers_of before.nodes))),
+    ∙ ap (binding (with_export (with_node (composed naming old before) definition (means naming old k)) id.string (next_of (composed naming old before))) id.string) (number ∙ sym (next_is naming old (numbers_of before.nodes))),
   );
   bound = b.places;
   imported = imported;

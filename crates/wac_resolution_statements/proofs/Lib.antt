@@ -1,4 +1,4 @@
 pub mod Standing
-pub mod Kinds
+pub mod DeclaredKinds
 pub mod Defining
 pub mod Leading

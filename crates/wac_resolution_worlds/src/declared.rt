@@ -65,6 +65,13 @@ pub fn interface_decl(
     Ok(ItemKind::Ty(Type::Interface(declared)))
 }
 
+/// The items of a declared world.
+fn items_of<'x, 'a>(decl: &'x WorldDecl<'a>) -> &'x [WorldItem<'a>]
+    ensures { result.now ≡ decl.now.items.items }
+{
+    &decl.items
+}
+
 /// The kind of a declared world of a name and items.
 fn world_of(
     state: &mut State,
@@ -95,5 +102,5 @@ pub fn world_decl(
     ensures ok { IfOk result (λ k. WorldDeclared setting.now state.old.graph state.new.graph (values_of root.now) decl.now.id.string.now (world_decl_of decl.now).items k) }
     ensures err { IfErr result (λ e. (naming : Naming) → WorldBroken (setting_of naming setting.now) (scope_of naming state.old.graph (values_of root.now)) decl.now.id.string.now (declared_count state.old.graph) (world_decl_of decl.now).items (told e)) }
 {
-    world_of(state, setting, root, decl.id.string, &decl.items)
+    world_of(state, setting, root, decl.id.string, items_of(decl))
 }

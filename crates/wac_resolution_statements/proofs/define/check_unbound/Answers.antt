@@ -1,4 +1,4 @@
-use Rattle.std.proofs.Common.{◌×◌, sym, rules}
+use Rattle.std.proofs.Common.{sym, rules}
 use Rattle.wac_lexer.specs.Span.{Span}
 use Rattle.wac_ast_base.specs.Names.{ident_of}
 use Rattle.wac_graph.specs.declared.node.NodeId.{NodeId}

@@ -3,7 +3,7 @@ use Rattle.wac_ast.specs.Statements.{type_statement_of}
 use Rattle.wac_ast_types.specs.Declarations.{type_decl_of}
 use Rattle.wac_ast_worlds.specs.Worlds.{interface_decl_of, world_decl_of}
 use Rattle.wac_resolution_nodes.proofs.Roots.{items_named}
-use Rattle.wac_resolution_statements.proofs.Kinds.{interface_kind, world_kind, type_kind, interface_breaks, world_breaks, type_breaks}
+use Rattle.wac_resolution_statements.proofs.DeclaredKinds.{interface_kind, world_kind, type_kind, interface_breaks, world_breaks, type_breaks}
 use Rattle.wac_resolution_statements.proofs.definitions.declared_kind.Goals as goal
 
 pub interface_decl-requires-clause-root : goal.interface_decl-requires-clause-root

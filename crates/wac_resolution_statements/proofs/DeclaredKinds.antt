@@ -1,5 +1,5 @@
 -- Kinds that type statements declare.
-use Rattle.std.proofs.Common.{◌≡◌, ◌×◌, ℕ, Some, Result, Ok, Err, sym, subst}
+use Rattle.std.proofs.Common.{◌≡◌, ℕ, Some, Result, Ok, Err, sym, subst}
 use Rattle.std.specs.Prelude.{IfOk, IfErr}
 use Rattle.wac_grammar.specs.Tree.{InterfaceDecl, WorldDecl, TypeDecl, TypeStatement}
 use Rattle.wac_types.specs.declared.kind.ItemKind.{ItemKind}
