@@ -1,19 +1,21 @@
 -- Interfaces and worlds that the document declares.
 use Rattle.std.proofs.Common.{◌≡◌, ℕ, List, Option, Some, refl, ap, subst}
-use Rattle.wac_grammar.specs.Tree.{InterfaceDecl}
+use Rattle.wac_grammar.specs.Tree.{InterfaceDecl, WorldItem}
 use Rattle.wac_types.specs.declared.kind.ItemKind.{ItemKind}
 use Rattle.wac_types.specs.declared.kind.ItemKind.TheVariants as kinds
 use Rattle.wac_types.specs.declared.kind.«Type».TheVariants as types
 use Rattle.wac_types.specs.declared.kind.InterfaceId.{InterfaceId}
+use Rattle.wac_types.specs.declared.kind.WorldId.{WorldId}
 use Rattle.wac_types.specs.Scope.{Named}
 use Rattle.wac_graph.specs.Graph.{Parts}
 use Rattle.wac_graph.specs.Means.{entry_means, declared_count}
-use Rattle.wac_resolution_rules.specs.Worlds.{IsInterface}
+use Rattle.wac_resolution_rules.specs.Worlds.{IsInterface, IsWorld}
 use Rattle.wac_resolution_types.specs.Named.{scope_of}
 use Rattle.wac_resolution_paths.specs.declared.setting.Setting.{Setting}
 use Rattle.wac_resolution_paths.specs.Setting.{setting_of}
 use Rattle.wac_resolution_worlds.specs.Made.{InterfaceMade}
-use Rattle.wac_resolution_worlds.specs.Declared.{id_text, InterfaceDeclared}
+use Rattle.wac_resolution_worlds.specs.WorldItems.{WorldMade}
+use Rattle.wac_resolution_worlds.specs.Declared.{id_text, InterfaceDeclared, WorldDeclared}
 
 pub interface_declared : (setting : Setting) (old new : Parts) (root : Named ItemKind) (d : InterfaceDecl) (id : List ℕ) (i : InterfaceId) → id ≡ id_text setting d.id.string
     → InterfaceMade setting old new root (Some id) d.items i → InterfaceDeclared setting old new root d (kinds.Ty (types.Interface i))
@@ -24,6 +26,19 @@ interface_declared setting old new root d id i ids h = record {
   is = λ naming. (
     entry_means naming new i.0,
     subst (λ (o : Option (List ℕ)). IsInterface (setting_of naming setting) (scope_of naming old root) (declared_count old) o d.items (entry_means naming new i.0) (declared_count new)) (ap Some ids) (h.is naming),
+    refl,
+  );
+}
+
+pub world_declared : (setting : Setting) (old new : Parts) (root : Named ItemKind) (name : List ℕ) (items : List WorldItem) (id : List ℕ) (w : WorldId) → id ≡ id_text setting name
+    → WorldMade setting old new root (Some id) items w → WorldDeclared setting old new root name items (kinds.Ty (types.World w))
+world_declared setting old new root name items id w ids h = record {
+  grows = h.grows;
+  handed = h.handed;
+  named = h.named;
+  is = λ naming. (
+    entry_means naming new w.0,
+    subst (λ (o : Option (List ℕ)). IsWorld (setting_of naming setting) (scope_of naming old root) (declared_count old) o items (entry_means naming new w.0) (declared_count new)) (ap Some ids) (h.is naming),
     refl,
   );
 }

@@ -1,15 +1,15 @@
 -- Interfaces and worlds that the document declares.
 use Rattle.std.specs.Prelude.{◌≡◌, ℕ, List, ◌++◌, option_map, codes}
-use Rattle.wac_grammar.specs.Tree.{InterfaceDecl}
+use Rattle.wac_grammar.specs.Tree.{InterfaceDecl, WorldItem}
 use Rattle.wac_types.specs.declared.kind.ItemKind.{ItemKind}
-use Rattle.wac_types.specs.Kind.{an_interface}
+use Rattle.wac_types.specs.Kind.{an_interface, a_world}
 use Rattle.wac_types.specs.Meaning.{Meaning}
 use Rattle.wac_types.specs.Scope.{Named}
 use Rattle.wac_types.specs.Shape.{kind_of}
 use Rattle.wac_graph.specs.Graph.{Parts}
 use Rattle.wac_graph.specs.Means.{declared_count}
 use Rattle.wac_resolution_rules.specs.TypeStatements.{version_part, declared_id}
-use Rattle.wac_resolution_rules.specs.Worlds.{IsInterface}
+use Rattle.wac_resolution_rules.specs.Worlds.{IsInterface, IsWorld}
 use Rattle.wac_resolution_types.specs.Named.{scope_of}
 use Rattle.wac_resolution_paths.specs.declared.setting.Setting.{Setting}
 use Rattle.wac_resolution_paths.specs.Setting.{packages_in, setting_of}
@@ -25,3 +25,10 @@ InterfaceDeclared setting old new root d k =
     KindMade (packages_in setting) old new (λ naming m after. (entry : Meaning)
     × IsInterface (setting_of naming setting) (scope_of naming old root) (declared_count old) (declared_id (setting_of naming setting) d.id.string) d.items entry after
     × (m ≡ kind_of an_interface entry)) k
+
+-- the kind is a declared world of this name and these items
+abbrev pub WorldDeclared : Setting → Parts → Parts → Named ItemKind → List ℕ → List WorldItem → ItemKind → Type 0
+WorldDeclared setting old new root name items k =
+    KindMade (packages_in setting) old new (λ naming m after. (entry : Meaning)
+    × IsWorld (setting_of naming setting) (scope_of naming old root) (declared_count old) (declared_id (setting_of naming setting) name) items entry after
+    × (m ≡ kind_of a_world entry)) k

@@ -1,21 +1,22 @@
-//! Interfaces that the document declares.
-ghost use Rattle.std.specs.Prelude.{◌≡◌, ◌++◌, Some, IfOk, IfErr, OnOk, option_map, string_bytes};
+//! Interfaces and worlds that the document declares.
+ghost use Rattle.std.specs.Prelude.{◌≡◌, ◌++◌, Some, IfOk, IfErr, OnOk, map, option_map, string_bytes};
 ghost use Rattle.wac_types.specs.Table.{ItemsNamed};
-ghost use Rattle.wac_ast_worlds.specs.Worlds.{interface_decl_of};
+ghost use Rattle.wac_ast_worlds.specs.Worlds.{world_item_of, interface_decl_of, world_decl_of};
 ghost use Rattle.wac_graph.specs.Means.{declared_count};
 ghost use Rattle.wac_graph.specs.Origin.{Naming};
 ghost use Rattle.wac_resolution_errors.specs.Told.{told};
-ghost use Rattle.wac_resolution_rules.specs.BrokenWorlds.{InterfaceBroken};
+ghost use Rattle.wac_resolution_rules.specs.BrokenWorlds.{InterfaceBroken, WorldBroken};
 ghost use Rattle.wac_resolution_rules.specs.TypeStatements.{version_part};
 ghost use Rattle.wac_resolution_types.specs.Bindings.{values_of};
 ghost use Rattle.wac_resolution_types.specs.Named.{scope_of};
 ghost use Rattle.wac_resolution_paths.specs.Expands.{HoldsHanded};
 ghost use Rattle.wac_resolution_paths.specs.Setting.{packages_in, setting_of};
-ghost use Rattle.wac_resolution_worlds.specs.Declared.{id_text, InterfaceDeclared};
+ghost use Rattle.wac_resolution_worlds.specs.Declared.{id_text, InterfaceDeclared, WorldDeclared};
 
 use crate::interfaces::interface;
+use crate::worlds::world;
 use std::alloc::{AllocError, Global};
-use wac_ast_worlds::InterfaceDecl;
+use wac_ast_worlds::{InterfaceDecl, WorldDecl, WorldItem};
 use wac_graph::{ItemKind, Type};
 use wac_resolution_errors::Error;
 use wac_resolution_paths::Setting;
@@ -62,4 +63,44 @@ pub fn interface_decl(
     let name = Some(decl.id.string);
     let declared = interface(state, setting, root, Some(id), name, &decl.items)?;
     Ok(ItemKind::Ty(Type::Interface(declared)))
+}
+
+/// The items of a declared world.
+fn items_of<'x, 'a>(decl: &'x WorldDecl<'a>) -> &'x [WorldItem<'a>]
+    ensures { result.now ≡ decl.now.items.items }
+{
+    &decl.items
+}
+
+/// The kind of a declared world of a name and items.
+fn world_of(
+    state: &mut State,
+    setting: &Setting<'_>,
+    root: &Names<'_, ItemKind>,
+    name: &str,
+    items: &[WorldItem<'_>],
+) -> Result<ItemKind, Error>
+    requires root { ItemsNamed state.old.graph.types (values_of root.now) }
+    requires handed { HoldsHanded (packages_in setting.now) state.old.graph }
+    ensures ok { IfOk result (λ k. WorldDeclared setting.now state.old.graph state.new.graph (values_of root.now) name.now (map world_item_of items.now) k) }
+    ensures err { IfErr result (λ e. (naming : Naming) → WorldBroken (setting_of naming setting.now) (scope_of naming state.old.graph (values_of root.now)) name.now (declared_count state.old.graph) (map world_item_of items.now) (told e)) }
+{
+    let id = declared_id(state.alloc, setting, name)?;
+    let declared = world(state, setting, root, Some(id), name, items)?;
+    Ok(ItemKind::Ty(Type::World(declared)))
+}
+
+/// The kind of a declared world.
+pub fn world_decl(
+    state: &mut State,
+    setting: &Setting<'_>,
+    root: &Names<'_, ItemKind>,
+    decl: &WorldDecl<'_>,
+) -> Result<ItemKind, Error>
+    requires root { ItemsNamed state.old.graph.types (values_of root.now) }
+    requires handed { HoldsHanded (packages_in setting.now) state.old.graph }
+    ensures ok { IfOk result (λ k. WorldDeclared setting.now state.old.graph state.new.graph (values_of root.now) decl.now.id.string.now (world_decl_of decl.now).items k) }
+    ensures err { IfErr result (λ e. (naming : Naming) → WorldBroken (setting_of naming setting.now) (scope_of naming state.old.graph (values_of root.now)) decl.now.id.string.now (declared_count state.old.graph) (world_decl_of decl.now).items (told e)) }
+{
+    world_of(state, setting, root, decl.id.string, items_of(decl))
 }

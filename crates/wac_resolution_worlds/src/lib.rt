@@ -11,7 +11,7 @@ mod interfaces;
 mod world_items;
 mod worlds;
 
-pub use declared::interface_decl;
+pub use declared::{interface_decl, world_decl};
 pub use externs::named_extern;
 pub use functions::{func_ref, new_func};
 pub use instances::instance_id;

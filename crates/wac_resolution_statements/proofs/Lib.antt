@@ -1,0 +1,4 @@
+pub mod Standing
+pub mod DeclaredKinds
+pub mod Defining
+pub mod Leading

@@ -1,0 +1,78 @@
+//! Definitions at root.
+ghost use Rattle.std.specs.Prelude.{◌≡◌, ℕ, OnOk, IfErr};
+ghost use Rattle.wac_types.specs.Scope.{Named, IsFresh};
+ghost use Rattle.wac_types.specs.Table.{Names as NamesEntry};
+ghost use Rattle.wac_ast_base.specs.Names.{ident_of};
+ghost use Rattle.wac_graph.specs.Graph.{Parts};
+ghost use Rattle.wac_graph.specs.Origin.{Naming};
+ghost use Rattle.wac_resolution_errors.specs.Told.{told};
+ghost use Rattle.wac_resolution_rules.specs.BrokenWorlds.{IsExported, IsBound, DefinitionBroken};
+ghost use Rattle.wac_resolution_rules.specs.Places.{Places};
+ghost use Rattle.wac_resolution_nodes.specs.Nodes.{composition_of};
+ghost use Rattle.wac_resolution_nodes.specs.Root.{numbers_of, composed, places, Agrees};
+ghost use Rattle.wac_resolution_externs.specs.Externs.{exported_in, places_in, ArePlaced};
+ghost use Rattle.wac_resolution_statements.specs.Definitions.{IsDefined};
+
+use std::alloc::Global;
+use wac_ast_base::Ident;
+use wac_graph::ItemKind;
+use wac_graph::names::find;
+use wac_resolution_errors::Error;
+use wac_resolution_externs::Externs;
+use wac_resolution_nodes::Root;
+use wac_resolution_types::State;
+
+/// Rejects an identifier that is exported already.
+#[tactic(auto, using(wac_resolution_types::proofs::Scopes::memory_told))]
+fn check_unexported(state: &State, externs: &Externs, id: &Ident<'_>) -> Result<(), Error>
+    requires { ArePlaced state.now.graph externs.now }
+    ensures ok { OnOk result (IsFresh id.now.string.now state.now.graph.exports) }
+    ensures err { IfErr result (λ e. (naming : Naming) (declared : Named ℕ) (all : Places) → all.exported ≡ exported_in externs.now → IsExported (composition_of naming state.now.graph declared) all (ident_of id.now) (told e)) }
+{
+    match find(&externs.exported, id.string) {
+        Some(export) => Err(Error::DeclarationConflict {
+            name: String::from_str(state.alloc, id.string)?,
+            span: id.span,
+            export,
+        }),
+        None => Ok(()),
+    }
+}
+
+/// Rejects an identifier that is bound at root already.
+#[tactic(auto, using(wac_resolution_nodes::proofs::Roots::nodes_found))]
+fn check_unbound(alloc: Global, root: &Root<'_>, id: &Ident<'_>) -> Result<(), Error>
+    ensures ok { OnOk result (IsFresh id.now.string.now (numbers_of root.now.nodes)) }
+    ensures err { IfErr result (λ e. (naming : Naming) (g : Parts) (all : Places) → all.bound ≡ places root.now → IsBound (composed naming g root.now) all (ident_of id.now) (told e)) }
+{
+    match root.nodes.place(id.string) {
+        Some(previous) => Err(Error::DuplicateName {
+            name: String::from_str(alloc, id.string)?,
+            span: id.span,
+            previous,
+        }),
+        None => Ok(()),
+    }
+}
+
+/// Adds a definition that is exported under an identifier and bound to it.
+pub(crate) fn define<'a>(
+    state: &mut State,
+    root: &mut Root<'a>,
+    externs: &mut Externs,
+    id: &Ident<'a>,
+    kind: ItemKind,
+) -> Result<(), Error>
+    requires agrees { Agrees state.old.graph root.old }
+    requires placed { ArePlaced state.old.graph externs.old }
+    requires kind { NamesEntry state.old.graph.types kind }
+    ensures ok { OnOk result (IsDefined state.old.graph state.new.graph root.old root.new externs.old externs.new (ident_of id.now) kind) }
+    ensures err { IfErr result (λ e. (naming : Naming) → DefinitionBroken (composed naming state.old.graph root.old) (places_in root.old externs.old) (ident_of id.now) (told e)) }
+{
+    check_unexported(state, externs, id)?;
+    check_unbound(state.alloc, root, id)?;
+    let node = state.graph.add_definition(id.string, kind)?;
+    externs.add_export(state.alloc, id.string, id.span)?;
+    root.bind(state, id, node)?;
+    Ok(())
+}

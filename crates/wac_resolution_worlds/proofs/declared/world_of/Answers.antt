@@ -1,0 +1,17 @@
+use Rattle.std.proofs.Common.{map}
+use Rattle.std.specs.Prelude.{string_bytes}
+use Rattle.std.proofs.lemmas.Result.{err_from_is_err_and}
+use Rattle.wac_ast_worlds.specs.Worlds.{world_item_of}
+use Rattle.wac_resolution_types.specs.Bindings.{values_of}
+use Rattle.wac_resolution_worlds.proofs.Declaring.{world_declared}
+use Rattle.wac_resolution_worlds.proofs.declared.world_of.Goals as goal
+
+pub returns-in_err-declared-clause-err : goal.returns-in_err-declared-clause-err
+returns-in_err-declared-clause-err c =
+    let p = err_from_is_err_and c.from_residual-in_err-declared.result c.from_residual-in_err-declared.ensures.1 in
+    rw (p.1, p.2) c.in_err-declared.ensures.err
+
+pub returns-clause-ok : goal.returns-clause-ok
+returns-clause-ok c =
+    world_declared c.args.setting.now c.args.state.now.graph c.world.new.state.graph (values_of c.args.root.now) c.args.name.now (map world_item_of c.args.items.now) (string_bytes c.in_ok-id.id) c.in_ok-declared.declared
+    c.in_ok-id.ensures c.in_ok-declared.ensures.ok
