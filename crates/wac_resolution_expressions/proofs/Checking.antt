@@ -1,0 +1,180 @@
+-- Arguments that are wrong, and instances that are made of those that are right.
+use Rattle.std.proofs.Common.{◌≡◌, ◌∙◌, ◌<◌, ℕ, List, [], ◌∷◌, ◌++◌, Option, Some, None, true, false, ◌⊎◌, inl, inr, refl, sym, ap, subst, length, is_some}
+use Rattle.std.specs.Prelude.{slice_get, option_and_then, unwrap_or, IsSome}
+use Rattle.std.specs.List.{AllByRecursion}
+use Rattle.std.proofs.lemmas.Option.{slice_get_within}
+use Rattle.wac_lexer.specs.Span.{Span}
+use Rattle.wac_grammar.specs.Tree.{PackageName, Arguments}
+use Rattle.wac_types.specs.declared.entry.Entry.{Entry}
+use Rattle.wac_types.specs.declared.kind.ItemKind.{ItemKind}
+use Rattle.wac_types.specs.declared.kind.ItemKind.TheVariants as kinds
+use Rattle.wac_types.specs.declared.kind.WorldId.{WorldId}
+use Rattle.wac_types.specs.declared.rules.Reason.{Reason}
+use Rattle.wac_types.specs.Meaning.{Meaning}
+use Rattle.wac_types.specs.Readings.{world_imports}
+use Rattle.wac_types.specs.Scope.{Named, look_up, StandsFor, IsFresh}
+use Rattle.wac_types.specs.Shape.{imports_of}
+use Rattle.wac_types.specs.Steps.{Steps, Fails}
+use Rattle.wac_graph.specs.declared.node.NodeId.{NodeId}
+use Rattle.wac_graph.specs.Graph.{Parts, import_kind}
+use Rattle.wac_graph.specs.Means.{means, entry_means}
+use Rattle.wac_graph.specs.Origin.{Naming, IsOneToOne}
+use Rattle.wac_graph.specs.Package.{HeldPackage}
+use Rattle.wac_graph.specs.Packages.{Contents, contents_in}
+use Rattle.wac_resolution_errors.specs.Error.{Error, memory}
+use Rattle.wac_resolution_rules.specs.BrokenExpressions.{ReachedAt, argument_places, SpreadBroken}
+use Rattle.wac_resolution_rules.specs.Composition.{Composition, Node, kind_at}
+use Rattle.wac_resolution_rules.specs.Expressions.{Giving, at, Fits, left_out, has_fill, spreads_of, IsComplete, Spreads, Instantiates}
+use Rattle.wac_resolution_rules.specs.Given.{Rules, imports_in}
+use Rattle.wac_resolution_rules.specs.Nodes.{next_of, with_instance}
+use Rattle.wac_resolution_rules.specs.Paths.{Setting}
+use Rattle.wac_resolution_nodes.specs.Growth.{GrowsNodes}
+use Rattle.wac_resolution_nodes.specs.Nodes.{composition_of}
+use Rattle.wac_resolution_nodes.proofs.Composed.{grows_on}
+use Rattle.wac_resolution_arguments.specs.Arguments.{given_nodes}
+use Rattle.wac_resolution_arguments.specs.Complete.{IsIncomplete}
+use Rattle.wac_resolution_arguments.specs.Fits.{IsImport, IsAgainst, AllFit, IsFirstMisfit}
+use Rattle.wac_resolution_arguments.specs.Giving.{Gave}
+use Rattle.wac_resolution_arguments.specs.Spreads.{giving_of, imports_at}
+use Rattle.wac_resolution_expressions.specs.declared.packages.Loaded.{Loaded}
+use Rattle.wac_resolution_expressions.specs.Completing.{misfit_of, AreRight, AreWrong, Completes, FailsToComplete}
+use Rattle.wac_resolution_expressions.specs.Instances.{MakesInstance}
+use Rattle.wac_resolution_expressions.specs.Loaded.{IsLoaded, IsThere}
+use Rattle.wac_resolution_expressions.specs.Places.{StandThemselves, StandSomewhere}
+use Rattle.wac_resolution_expressions.proofs.Placing.{each_somewhere}
+
+-- ---- wrong arguments
+
+within : {X : Type 0} (P : X → Type 0) (before after : List X) (x : X) → AllByRecursion P (before ++ x ∷ after) → P x
+within P [] after x h = h.0
+within P (y ∷ before) after x h = within P before after x h.1
+
+-- the first one that doesn't fit stands at the span
+module _ (rules : Rules) (g : Parts) (declared : Named ℕ) (w : WorldId) (x : PackageName) (args : Arguments) (given : Named NodeId) (name : List ℕ) (place : Option Span) (span : Span) (e : Error)
+    (stand : StandSomewhere g declared w args given) (found : (naming : Naming) → look_up name (argument_places (composition_of naming g declared) (imports_at naming g w) args) ≡ place) (spanned : span ≡ unwrap_or place x.span) where
+  placed : (r : Option Reason) → IsFirstMisfit rules g w given name r → (naming : Naming) → IsOneToOne naming → StandsFor (argument_places (composition_of naming g declared) (imports_at naming g w) args) name span
+  placed r m naming one =
+      let places : Named Span = argument_places (composition_of naming g declared) (imports_at naming g w) args in
+      go place (found naming) spanned (within (λ (a : List ℕ × ℕ). IsSome (look_up a.0 places)) m.before m.after (name, m.node) (subst (AllByRecursion (λ (a : List ℕ × ℕ). IsSome (look_up a.0 places))) m.split (stand naming one)))
+    where
+      go : (o : Option Span) → look_up name (argument_places (composition_of naming g declared) (imports_at naming g w) args) ≡ o → span ≡ unwrap_or o x.span → IsSome (look_up name (argument_places (composition_of naming g declared) (imports_at naming g w) args))
+          → look_up name (argument_places (composition_of naming g declared) (imports_at naming g w) args) ≡ Some span
+      go None is at some = absurd (let none : is_some (look_up name (argument_places (composition_of naming g declared) (imports_at naming g w) args)) ≡ false = ap is_some is in cc)
+      go (Some s) is at some = is ∙ ap Some (sym at)
+
+  reached : (r : Option Reason) (m : IsFirstMisfit rules g w given name r) (naming : Naming) → IsOneToOne naming → ReachedAt (Fits rules (imports_at naming g w) (composition_of naming g declared).nodes) (given_nodes given) (name, m.node)
+  reached r m naming one = (m.before, m.after, m.split, m.fit naming declared one)
+
+  pub misfit_wrong : (r : Option Reason) → IsFirstMisfit rules g w given name r → e ≡ misfit_of x.name name r span → AreWrong rules g declared w x args given e
+  misfit_wrong None m told naming setting p one same =
+      let c : Composition = composition_of naming g declared in
+      inl (inr (
+        (name, m.node),
+        span,
+        subst (λ (l : Named Meaning). ReachedAt (Fits rules l c.nodes) (given_nodes given) (name, m.node)) (sym same) (reached None m naming one),
+        subst (λ (l : Named Meaning). StandsFor (argument_places c l args) name span) (sym same) (placed None m naming one),
+        subst (λ (l : Named Meaning). IsFresh name l) (sym same) (m.against.is naming),
+        told,
+      ))
+  misfit_wrong (Some r) m told naming setting p one same =
+      let c : Composition = composition_of naming g declared in
+      let u = m.against.is naming declared one in
+      inr (inl (inr (
+        (name, m.node),
+        span,
+        u.0,
+        r,
+        subst (λ (l : Named Meaning). ReachedAt (Fits rules l c.nodes) (given_nodes given) (name, m.node)) (sym same) (reached (Some r) m naming one),
+        subst (λ (l : Named Meaning). StandsFor (argument_places c l args) name span) (sym same) (placed (Some r) m naming one),
+        subst (λ (l : Named Meaning). StandsFor l name u.0) (sym same) u.1,
+        u.2,
+        told,
+      )))
+
+-- an import is left out
+pub left_wrong : (rules : Rules) (g : Parts) (declared : Named ℕ) (w : WorldId) (x : PackageName) (args : Arguments) (given : Named NodeId) (e : Error) → AllFit rules g w given → IsIncomplete g w x args (given_nodes given) e → AreWrong rules g declared w x args given e
+left_wrong rules g declared w x args given e fit (inl is) naming setting p one same = inr (inr (inl is))
+left_wrong rules g declared w x args given e fit (inr h) naming setting p one same =
+    let c : Composition = composition_of naming g declared in
+    let l = h.1 naming in
+    inr (inr (inr (
+      l.0,
+      l.1,
+      subst (λ (i : Named Meaning). AllByRecursion (Fits rules i c.nodes) (given_nodes given)) (sym same) (fit.is naming declared one),
+      h.0,
+      ap (λ (i : Named Meaning). left_out i (given_nodes given)) same ∙ l.2,
+      l.3,
+    )))
+
+-- ---- spreads
+
+imports_kept : (old new : Parts) (w : WorldId) → GrowsNodes old new → (naming : Naming) → imports_at naming new w ≡ imports_at naming old w
+imports_kept old new w g naming = ap (λ (p : Parts). imports_of (entry_means naming p w.0)) g.same
+
+-- spreads were given
+abbrev pub SpreadsGive : Parts → Parts → Named NodeId → Named NodeId → Named ℕ → WorldId → Arguments → Type 0
+SpreadsGive old mid before between declared w args = Gave old mid before between declared (λ naming a b. Steps (Spreads (imports_at naming old w)) a (spreads_of args) b)
+
+module _ (old mid : Parts) (before between : Named NodeId) (declared : Named ℕ) (w : WorldId) (args : Arguments) (s : SpreadsGive old mid before between declared w args) where
+  pub somewhere : StandThemselves old declared w args before → StandSomewhere mid declared w args between
+  somewhere stand naming one =
+      let imports : Named Meaning = imports_at naming old w in
+      let all : AllByRecursion (λ (a : List ℕ × ℕ). IsSome (look_up a.0 (argument_places (composition_of naming mid declared) imports args))) (given_nodes between) =
+      each_somewhere imports args (giving_of naming old declared before) (giving_of naming mid declared between) (s.is naming) (stand naming one) in
+      subst (λ (l : Named Meaning). AllByRecursion (λ (a : List ℕ × ℕ). IsSome (look_up a.0 (argument_places (composition_of naming mid declared) l args))) (given_nodes between)) (sym (imports_kept old mid w s.grows naming)) all
+
+  pub wrong_after : (rules : Rules) (x : PackageName) (e : Error) → AreWrong rules mid declared w x args between e → FailsToComplete rules old declared w x args before e
+  wrong_after rules x e h naming setting p one same = inr (
+    giving_of naming mid declared between,
+    subst (λ (l : Named Meaning). Steps (Spreads l) (giving_of naming old declared before) (spreads_of args) (giving_of naming mid declared between)) (sym same) (s.is naming),
+    h naming setting p one (same ∙ sym (imports_kept old mid w s.grows naming)),
+  )
+
+  pub memory_after : (rules : Rules) (x : PackageName) (e : Error) → e ≡ memory → FailsToComplete rules old declared w x args before e
+  memory_after rules x e is = wrong_after rules x e (λ naming setting p one same. inl (inl is))
+
+pub spreads_fail : (rules : Rules) (old : Parts) (declared : Named ℕ) (w : WorldId) (x : PackageName) (args : Arguments) (before : Named NodeId) (e : Error)
+    → ((naming : Naming) → Fails (Spreads (imports_at naming old w)) (SpreadBroken (imports_at naming old w) e) (giving_of naming old declared before) (spreads_of args)) → FailsToComplete rules old declared w x args before e
+spreads_fail rules old declared w x args before e h naming setting p one same =
+    inl (subst (λ (l : Named Meaning). Fails (Spreads l) (SpreadBroken l e) (giving_of naming old declared before) (spreads_of args)) (sym same) (h naming))
+
+-- ---- the instance
+
+pub loaded_there : (g : Parts) (p : Loaded) → IsThere g p → p.id.0 < length g.packages
+loaded_there g p h = slice_get_within g.packages p.id.0 h.0 h.1.found
+
+-- with more nodes it is there
+pub loaded_nodes : (old new : Parts) (p : Loaded) (held : HeldPackage) → GrowsNodes old new → IsLoaded old p held → slice_get new.packages p.id.0 ≡ Some held
+loaded_nodes old new p held g h = ap (λ (q : Parts). slice_get q.packages p.id.0) g.same ∙ h.found
+
+-- what arguments are given for are imports of the package
+pub imports_named : (rules : Rules) (old new : Parts) (p : Loaded) (given : Named NodeId) → GrowsNodes old new → IsThere old p → AllFit rules new p.world given → AllByRecursion (λ (e : List ℕ × NodeId). IsSome (import_kind new p.id.0 e.0)) given
+imports_named rules old new p given g there fit = go given fit.imports
+  where
+    kind : (name : List ℕ) → import_kind new p.id.0 name ≡ look_up name (world_imports new.types p.world.0)
+    kind name =
+        ap (option_and_then (λ (h : HeldPackage). look_up name (world_imports new.types h.world.0))) (loaded_nodes old new p there.0 g there.1)
+        ∙ ap (λ (v : WorldId). look_up name (world_imports new.types v.0)) there.1.world
+
+    go : (all : Named NodeId) → AllByRecursion (IsImport new p.world) (given_nodes all) → AllByRecursion (λ (e : List ℕ × NodeId). IsSome (import_kind new p.id.0 e.0)) all
+    go [] h = tt
+    go (e ∷ all) h = (subst (λ (o : Option ItemKind). IsSome o) (sym (kind e.0)) h.0, go all h.1)
+
+pub completes : (rules : Rules) (old mid new : Parts) (before between : Named NodeId) (declared : Named ℕ) (p : Loaded) (args : Arguments) (n : ℕ) → SpreadsGive old mid before between declared p.world args → AreRight rules mid p.world args between
+    → MakesInstance mid new p.id.0 between n → Completes rules old new declared p args before n
+completes rules old mid new before between declared p args n s right made = record {
+  grows = grows_on old mid new s.grows made.grows;
+  there = made.there;
+  mid = mid;
+  all = between;
+  spread = s.is;
+  made = λ held loaded naming one.
+      let same : imports_in (contents_in naming old held) ≡ imports_at naming mid p.world = ap (λ (v : WorldId). imports_at naming old v) loaded.world ∙ sym (imports_kept old mid p.world s.grows naming) in
+      let c : Composition = composition_of naming mid declared in record {
+        fit = subst (λ (l : Named Meaning). AllByRecursion (Fits rules l c.nodes) (given_nodes between)) (sym same) (right.fit.is naming declared one);
+        complete = subst (λ (l : Named Meaning). IsComplete l (has_fill args) (given_nodes between)) (sym same) (right.complete naming);
+        made =
+            made.is held (loaded_nodes old mid p held s.grows loaded) naming declared
+            ∙ ap (λ (q : Parts). at (with_instance c held.key (means naming q (kinds.Instance held.instance)) (given_nodes between)) (next_of c)) s.grows.same;
+      };
+}

@@ -1,0 +1,134 @@
+-- What a graph keeps as expressions are resolved.
+use Rattle.std.proofs.Common.{◌≡◌, ◌∙◌, ◌<◌, ℕ, zero, suc, List, [], ◌∷◌, Some, None, refl, sym, ap, subst, length}
+use Rattle.std.specs.Prelude.{slice_get}
+use Rattle.std.specs.List.{AllByRecursion}
+use Rattle.wac_types.specs.declared.entry.Entry.{Entry}
+use Rattle.wac_types.specs.declared.kind.ItemKind.{ItemKind}
+use Rattle.wac_types.specs.declared.kind.ItemKind.TheVariants as kinds
+use Rattle.wac_types.specs.declared.kind.WorldId.{WorldId}
+use Rattle.wac_types.specs.Growth.{KeepsNames}
+use Rattle.wac_types.specs.Meaning.{Meaning}
+use Rattle.wac_types.specs.Package.{PackageParts}
+use Rattle.wac_types.specs.Scope.{Named}
+use Rattle.wac_types.specs.Shape.{entry_of, imports_of}
+use Rattle.wac_types.specs.Table.{Names}
+use Rattle.wac_graph.specs.declared.node.NodeId.{NodeId}
+use Rattle.wac_graph.specs.Graph.{Parts}
+use Rattle.wac_graph.specs.Means.{means, declared_count}
+use Rattle.wac_graph.specs.Node.{Node as GraphNode}
+use Rattle.wac_graph.specs.Origin.{Naming}
+use Rattle.wac_graph.specs.Package.{Key, HeldPackage, IsHeld}
+use Rattle.wac_graph.specs.Packages.{Contents, contents_in, handed, package_of}
+use Rattle.wac_graph.proofs.Lists.{all_implies}
+use Rattle.wac_resolution_rules.specs.Composition.{Composition}
+use Rattle.wac_resolution_nodes.specs.declared.root.Root.{Root}
+use Rattle.wac_resolution_nodes.specs.Growth.{GrowsNodes}
+use Rattle.wac_resolution_nodes.specs.Nodes.{composition_of, kind_in, NodesStand}
+use Rattle.wac_resolution_nodes.specs.Root.{Agrees}
+use Rattle.wac_resolution_nodes.proofs.Composed.{composition_expands, still_stand, still_there}
+use Rattle.wac_resolution_nodes.proofs.Roots.{agrees_expands, agrees_nodes}
+use Rattle.wac_resolution_paths.specs.Expands.{Expands, HoldsHanded, IsHandedAs}
+use Rattle.wac_resolution_arguments.specs.Spreads.{GivenThere, imports_at}
+use Rattle.wac_resolution_expressions.specs.Growth.{Extends}
+
+pub extends_self : (packages : List (Key × PackageParts)) (g : Parts) → NodesStand g → HoldsHanded packages g → Extends packages g g
+extends_self packages g stand h = record { same = refl; held = λ i p is. is; named = λ k is. is; kinds = λ naming k is. refl; nodes = λ n k is. is; stand = stand; handed = h; count = refl }
+
+pub extends_on : (packages : List (Key × PackageParts)) (a b c : Parts) → Extends packages a b → Extends packages b c → Extends packages a c
+extends_on packages a b c p q = record {
+  same = q.same ∙ ap (λ (g : Parts). record g { types = c.types; packages = c.packages; nodes = c.nodes }) p.same;
+  held = λ i h is. q.held i h (p.held i h is);
+  named = λ k is. q.named k (p.named k is);
+  kinds = λ naming k is. q.kinds naming k (p.named k is) ∙ p.kinds naming k is;
+  nodes = λ n k is. q.nodes n k (p.nodes n k is);
+  stand = q.stand;
+  handed = q.handed;
+  count = q.count ∙ p.count;
+}
+
+-- more types and packages
+pub expands_extends : (packages : List (Key × PackageParts)) (old new : Parts) → Expands old new → NodesStand old → HoldsHanded packages new → declared_count new ≡ declared_count old → Extends packages old new
+expands_extends packages old new e stand h count =
+    let nodes : new.nodes ≡ old.nodes = ap (λ (g : Parts). g.nodes) e.same in record {
+      same = e.same ∙ ap (λ (ns : List GraphNode). record old { types = new.types; packages = new.packages; nodes = ns }) (sym nodes);
+      held = e.held;
+      named = e.named;
+      kinds = e.kinds;
+      nodes = λ n k is. ap (λ (ns : List GraphNode). kind_in ns n) nodes ∙ is;
+      stand = still_stand old new e.same e.held e.named stand;
+      handed = h;
+      count = count;
+    }
+
+-- the composition stays the same
+pub composition_same : (old new : Parts) → Expands old new → NodesStand old → declared_count new ≡ declared_count old → (naming : Naming) (declared : Named ℕ) → composition_of naming new declared ≡ composition_of naming old declared
+composition_same old new e stand count naming declared =
+    composition_expands old new declared naming e.same e.held (e.kinds naming) stand ∙ ap (λ (n : ℕ). record (composition_of naming old declared) { resources = n }) count
+
+-- a package is held as it was handed in a graph with other nodes
+handed_nodes : (packages : List (Key × PackageParts)) (old new : Parts) → new ≡ record old { nodes = new.nodes } → (p : HeldPackage) → IsHandedAs packages old p → IsHandedAs packages new p
+handed_nodes packages old new same p h = record {
+  there = subst (λ (es : List Entry). IsHeld es p) (sym (ap (λ (g : Parts). g.types) same)) h.there;
+  contents = λ naming. h.contents naming ∙ ap (λ (g : Parts). Some (contents_in naming g p)) (sym same);
+}
+
+-- more nodes
+pub nodes_extend : (packages : List (Key × PackageParts)) (old new : Parts) → GrowsNodes old new → HoldsHanded packages old → Extends packages old new
+nodes_extend packages old new g h =
+    let types : new.types ≡ old.types = ap (λ (p : Parts). p.types) g.same in
+    let held : new.packages ≡ old.packages = ap (λ (p : Parts). p.packages) g.same in record {
+      same = g.same ∙ ap (λ (es : List Entry). record old { types = es; nodes = new.nodes }) (sym types) ∙ ap (λ (ps : List HeldPackage). record old { types = new.types; packages = ps; nodes = new.nodes }) (sym held);
+      held = λ i p is. ap (λ (ps : List HeldPackage). slice_get ps i) held ∙ is;
+      named = λ k is. subst (λ (es : List Entry). Names es k) (sym types) is;
+      kinds = λ naming k is. ap (λ (p : Parts). means naming p k) g.same;
+      nodes = g.kinds;
+      stand = g.stand;
+      handed = subst (AllByRecursion (IsHandedAs packages new)) (sym held) (all_implies (IsHandedAs packages old) (IsHandedAs packages new) (handed_nodes packages old new g.same) old.packages h);
+      count = ap declared_count g.same;
+    }
+
+each_at : {X : Type 0} (P : X → Type 0) (xs : List X) (i : ℕ) (x : X) → AllByRecursion P xs → slice_get xs i ≡ Some x → P x
+each_at P [] i x h is = absurd (cc)
+each_at {X} P (y ∷ xs) zero x h is = (let same : y ≡ x = cc in subst P same h.0)
+each_at {X} P (y ∷ xs) (suc i) x h is = each_at P xs i x h.1 is
+
+-- what a package that a graph holds was handed with
+pub held_contents : (packages : List (Key × PackageParts)) (g : Parts) (i : ℕ) (p : HeldPackage) → HoldsHanded packages g → slice_get g.packages i ≡ Some p → (naming : Naming) → package_of p.key (handed naming packages) ≡ Some (contents_in naming g p)
+held_contents packages g i p h is naming = (each_at (IsHandedAs packages g) g.packages i p h is).contents naming
+
+-- ---- what is kept
+
+module _ (packages : List (Key × PackageParts)) (old new : Parts) (e : Extends packages old new) where
+  -- the old nodes with the new types and packages
+  between : Parts
+  between = record old { types = new.types; packages = new.packages }
+
+  then_nodes : GrowsNodes between new
+  unfolding between
+  then_nodes = record { same = e.same; kinds = e.nodes; stand = e.stand }
+
+  pub agrees_extended : (root : Root) → Agrees old root → Agrees new root
+  unfolding between
+  agrees_extended root h = agrees_nodes between new root then_nodes (agrees_expands old between root refl e.held e.named h)
+
+  pub node_extended : (n : ℕ) → n < length old.nodes → n < length new.nodes
+  unfolding between
+  node_extended n there = still_there between new n then_nodes there
+
+  pub given_extended : (all : Named NodeId) → GivenThere old all → GivenThere new all
+  given_extended [] h = tt
+  given_extended (x ∷ all) h = (node_extended x.1.0 h.0, given_extended all h.1)
+
+  pub world_extended : (w : WorldId) → Names old.types (kinds.Component w) → Names new.types (kinds.Component w)
+  world_extended w h = e.named (kinds.Component w) h
+
+  -- what a world imports
+  pub imports_extended : (w : WorldId) → Names old.types (kinds.Component w) → (naming : Naming) → imports_at naming new w ≡ imports_at naming old w
+  imports_extended w h naming = ap (λ (m : Meaning). imports_of (entry_of m)) (e.kinds naming (kinds.Component w) h)
+
+  -- what a package holds
+  pub contents_extended : HoldsHanded packages old → (i : ℕ) (p : HeldPackage) → slice_get old.packages i ≡ Some p → (naming : Naming) → contents_in naming new p ≡ contents_in naming old p
+  contents_extended h i p is naming =
+      let before : package_of p.key (handed naming packages) ≡ Some (contents_in naming old p) = held_contents packages old i p h is naming in
+      let after : package_of p.key (handed naming packages) ≡ Some (contents_in naming new p) = held_contents packages new i p e.handed (e.held i p is) naming in
+      cc

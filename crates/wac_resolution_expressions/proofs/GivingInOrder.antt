@@ -1,0 +1,60 @@
+-- Arguments that are given one after another.
+use Rattle.std.proofs.Common.{◌≡◌, ◌∙◌, ◌+◌, ◌<◌, ◌≤◌, ℕ, suc, List, [], ◌∷◌, ◌++◌, Bool, true, false, inl, inr, refl, sym, ap, subst, map, take, drop, length, get_or, arith}
+use Rattle.std.proofs.lemmas.List.{length-map, get_or-map, take_more, take_all, take-append-drop, drop_all}
+use Rattle.std.proofs.Math.Seq.{drop-cons}
+use Rattle.wac_grammar.specs.Tree.{Arguments, InstantiationArgument, arguments_from}
+use Rattle.wac_types.specs.Meaning.{Meaning}
+use Rattle.wac_types.specs.Scope.{Named}
+use Rattle.wac_resolution_errors.specs.Error.{Error, memory}
+use Rattle.wac_resolution_rules.specs.BrokenExpressions.{ArgumentBroken, ArgumentsBroken}
+use Rattle.wac_resolution_rules.specs.Expressions.{Giving, Gives, GivesOne}
+use Rattle.wac_resolution_rules.specs.Given.{Given}
+
+module _ (s : Given) (imports : Named Meaning) where
+  -- the first arguments lead to this, with the rest behind them
+  abbrev pub GivesFirst : Giving → List InstantiationArgument → List InstantiationArgument → Giving → Type 0
+  GivesFirst old [] rest new = new ≡ old
+  GivesFirst old (x ∷ xs) rest new = (mid : Giving) × GivesOne s imports (arguments_from (xs ++ rest)) old x mid × GivesFirst mid xs rest new
+
+  first_more : (xs rest : List InstantiationArgument) (x : InstantiationArgument) (old mid new : Giving) → GivesFirst old xs (x ∷ rest) mid → GivesOne s imports (arguments_from rest) mid x new → GivesFirst old (xs ++ x ∷ []) rest new
+  first_more [] rest x old mid new p q = (new, subst (λ (g : Giving). GivesOne s imports (arguments_from rest) g x new) p q, refl)
+  first_more (y ∷ xs) rest x old mid new p q = (p.0, subst (λ (l : List InstantiationArgument). GivesOne s imports (arguments_from l) old y p.0) (sym (joined xs)) p.1, first_more xs rest x p.0 mid new p.2 q)
+    where
+      joined : (xs : List InstantiationArgument) → (xs ++ x ∷ []) ++ rest ≡ xs ++ x ∷ rest
+      joined [] = refl
+      joined (z ∷ xs) = ap (λ (l : List InstantiationArgument). z ∷ l) (joined xs)
+
+  first_all : (xs : List InstantiationArgument) (old new : Giving) → GivesFirst old xs [] new → Gives s imports old (arguments_from xs) new
+  first_all [] old new p = p
+  first_all (x ∷ xs) old new p = (p.0, subst (λ (l : List InstantiationArgument). GivesOne s imports (arguments_from l) old x p.0) (nothing_behind xs) p.1, first_all xs p.0 new p.2)
+    where
+      nothing_behind : (xs : List InstantiationArgument) → xs ++ [] ≡ xs
+      nothing_behind [] = refl
+      nothing_behind (z ∷ xs) = ap (λ (l : List InstantiationArgument). z ∷ l) (nothing_behind xs)
+
+  first_breaks : (e : Error) (xs rest : List InstantiationArgument) (x : InstantiationArgument) (old mid : Giving) → GivesFirst old xs (x ∷ rest) mid → ArgumentBroken s imports (arguments_from rest) mid e x → ArgumentsBroken s imports old e (arguments_from (xs ++ x ∷ rest))
+  first_breaks e [] rest x old mid p b = inr (inl (subst (λ (g : Giving). ArgumentBroken s imports (arguments_from rest) g e x) p b))
+  first_breaks e (y ∷ xs) rest x old mid p b = inr (inr (p.0, p.1, first_breaks e xs rest x p.0 mid p.2 b))
+
+  pub arguments_memory : (old : Giving) (args : Arguments) (e : Error) → e ≡ memory → ArgumentsBroken s imports old e args
+  arguments_memory old Arguments.none e is = is
+  arguments_memory old (Arguments.more x rest) e is = inl is
+
+  -- the same in a loop
+  module _ (ys : List InstantiationArgument) (i : ℕ) (x : InstantiationArgument) (within : i < length ys) (is : get_or ys i x ≡ x) where
+    behind : drop i ys ≡ x ∷ drop (suc i) ys
+    behind = drop-cons ys i x within ∙ ap (λ (y : InstantiationArgument). y ∷ drop (suc i) ys) is
+
+    pub gives_next : (old mid new : Giving) → GivesFirst old (take i ys) (drop i ys) mid → GivesOne s imports (arguments_from (drop (suc i) ys)) mid x new → GivesFirst old (take (i + 1) ys) (drop (suc i) ys) new
+    gives_next old mid new p q =
+        subst (λ (l : List InstantiationArgument). GivesFirst old l (drop (suc i) ys) new) (sym (take_more ys i x within ∙ ap (λ (y : InstantiationArgument). take i ys ++ y ∷ []) is))
+        (first_more (take i ys) (drop (suc i) ys) x old mid new (subst (λ (l : List InstantiationArgument). GivesFirst old (take i ys) l mid) behind p) q)
+
+    pub gives_breaks : (e : Error) (old mid : Giving) → GivesFirst old (take i ys) (drop i ys) mid → ArgumentBroken s imports (arguments_from (drop (suc i) ys)) mid e x → ArgumentsBroken s imports old e (arguments_from ys)
+    gives_breaks e old mid p b =
+        subst (λ (l : List InstantiationArgument). ArgumentsBroken s imports old e (arguments_from l)) (ap (λ (l : List InstantiationArgument). take i ys ++ l) (sym behind) ∙ take-append-drop i ys)
+        (first_breaks e (take i ys) (drop (suc i) ys) x old mid (subst (λ (l : List InstantiationArgument). GivesFirst old (take i ys) l mid) behind p) b)
+
+  pub gives_end : (ys : List InstantiationArgument) (i : ℕ) (old new : Giving) → length ys ≤ i → GivesFirst old (take i ys) (drop i ys) new → Gives s imports old (arguments_from ys) new
+  gives_end ys i old new past p =
+      first_all ys old new (subst (λ (l : List InstantiationArgument). GivesFirst old l [] new) (take_all i ys past) (subst (λ (l : List InstantiationArgument). GivesFirst old (take i ys) l new) (drop_all i ys past) p))

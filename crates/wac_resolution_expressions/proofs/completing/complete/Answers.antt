@@ -1,0 +1,46 @@
+use Rattle.std.proofs.Common.{List, map, subst}
+use Rattle.std.proofs.lemmas.Result.{err_from_is_err_and}
+use Rattle.wac_types.specs.Names.{by_name}
+use Rattle.wac_grammar.specs.Tree.{arguments_from}
+use Rattle.wac_ast_base.specs.Names.{package_name_of}
+use Rattle.wac_ast_expressions.specs.Expressions.{argument_of}
+use Rattle.wac_ast_expressions.specs.declared.expr.InstantiationArgument.{InstantiationArgument}
+use Rattle.wac_resolution_errors.specs.Told.{told}
+use Rattle.wac_resolution_rules.specs.Given.{rules_by}
+use Rattle.wac_resolution_nodes.specs.Root.{numbers_of}
+use Rattle.wac_resolution_nodes.proofs.Roots.{agrees_nodes}
+use Rattle.wac_resolution_expressions.proofs.Checking.{SpreadsGive, somewhere, wrong_after, loaded_nodes, imports_named, completes}
+use Rattle.std.proofs.lemmas.Option.{slice_get_within}
+use Rattle.wac_resolution_expressions.proofs.completing.complete.Goals as goal
+
+pub check_arguments-requires-clause-agrees : goal.check_arguments-requires-clause-agrees
+check_arguments-requires-clause-agrees g c = agrees_nodes c.args.state.now.graph c.spreads.new.state.graph c.args.root.now c.in_ok-spreads.ensures.ok.grows c.requires.agrees
+
+pub check_arguments-requires-clause-stand : goal.check_arguments-requires-clause-stand
+check_arguments-requires-clause-stand g c =
+    let gave = subst (λ (l : List InstantiationArgument). SpreadsGive c.args.state.now.graph c.spreads.new.state.graph (by_name c.args.given.now.entries) (by_name c.spreads.new.given.entries) (numbers_of c.args.root.now.nodes) c.args.of.world (arguments_from (map argument_of l)))
+    c.deref.ensures.value c.in_ok-spreads.ensures.ok in
+    somewhere c.args.state.now.graph c.spreads.new.state.graph (by_name c.args.given.now.entries) (by_name c.spreads.new.given.entries) (numbers_of c.args.root.now.nodes) c.args.of.world (arguments_from (map argument_of c.args.new.now.arguments.items)) gave c.requires.stand
+
+pub returns-in_err-check_arguments-clause-err : goal.returns-in_err-check_arguments-clause-err
+returns-in_err-check_arguments-clause-err g c =
+    let gave = subst (λ (l : List InstantiationArgument). SpreadsGive c.args.state.now.graph c.spreads.new.state.graph (by_name c.args.given.now.entries) (by_name c.spreads.new.given.entries) (numbers_of c.args.root.now.nodes) c.args.of.world (arguments_from (map argument_of l)))
+    c.deref.ensures.value c.in_ok-spreads.ensures.ok in
+    let p = err_from_is_err_and c.from_residual-in_err-check_arguments.result c.from_residual-in_err-check_arguments.ensures.1 in
+    rw (p.1, p.2) (wrong_after c.args.state.now.graph c.spreads.new.state.graph (by_name c.args.given.now.entries) (by_name c.spreads.new.given.entries) (numbers_of c.args.root.now.nodes) c.args.of.world (arguments_from (map argument_of c.args.new.now.arguments.items)) gave
+    (rules_by (g.R.Rules.passes c.args.rules.now) (g.R.Rules.named c.args.rules.now)) (package_name_of c.args.new.now.«package») (told c.in_err-check_arguments.field-0.0) c.in_err-check_arguments.ensures.err)
+
+pub instantiate-requires-clause-held : goal.instantiate-requires-clause-held
+instantiate-requires-clause-held g c =
+    slice_get_within c.spreads.new.state.graph.packages c.args.of.id.0 c.requires.loaded.0 (loaded_nodes c.args.state.now.graph c.spreads.new.state.graph c.args.of c.requires.loaded.0 c.in_ok-spreads.ensures.ok.grows c.requires.loaded.1)
+
+pub instantiate-requires-clause-imports : goal.instantiate-requires-clause-imports
+instantiate-requires-clause-imports g c =
+    imports_named (rules_by (g.R.Rules.passes c.args.rules.now) (g.R.Rules.named c.args.rules.now)) c.args.state.now.graph c.spreads.new.state.graph c.args.of (by_name c.spreads.new.given.entries) c.in_ok-spreads.ensures.ok.grows c.requires.loaded c.in_ok-check_arguments.ensures.ok.fit
+
+pub returns-clause-ok : goal.returns-clause-ok
+returns-clause-ok g c =
+    let gave = subst (λ (l : List InstantiationArgument). SpreadsGive c.args.state.now.graph c.spreads.new.state.graph (by_name c.args.given.now.entries) (by_name c.spreads.new.given.entries) (numbers_of c.args.root.now.nodes) c.args.of.world (arguments_from (map argument_of l)))
+    c.deref.ensures.value c.in_ok-spreads.ensures.ok in
+    completes (rules_by (g.R.Rules.passes c.args.rules.now) (g.R.Rules.named c.args.rules.now)) c.args.state.now.graph c.spreads.new.state.graph c.instantiate.new.state.graph (by_name c.args.given.now.entries) (by_name c.spreads.new.given.entries)
+    (numbers_of c.args.root.now.nodes) c.args.of (arguments_from (map argument_of c.args.new.now.arguments.items)) c.in_ok-instantiate.field-0.0 gave c.in_ok-check_arguments.ensures.ok c.in_ok-instantiate.ensures

@@ -1,0 +1,18 @@
+use Rattle.std.proofs.Common.{◌∙◌, Some, sym, ap}
+use Rattle.std.proofs.lemmas.Result.{on_ok_weaker}
+use Rattle.wac_types.specs.Names.{by_name}
+use Rattle.wac_ast_base.specs.Names.{ident_of}
+use Rattle.wac_resolution_expressions.proofs.GivingNodes.{inferred_goes, inferred_breaks}
+use Rattle.wac_resolution_expressions.proofs.given.give_inferred.Goals as goal
+
+pub returns-clause-ok : goal.returns-clause-ok
+returns-clause-ok c =
+    on_ok_weaker c.give.result
+    (inferred_goes c.args.state.now.graph c.args.root.now c.args.world (ident_of c.args.id.now) c.in_ok-node.node c.as_str.result.now (by_name c.args.given.now.entries) (by_name c.give.new.given.entries) c.requires.agrees c.in_ok-node.ensures.ok
+    (λ naming declared. c.in_ok-import.ensures naming declared ∙ ap Some (sym c.as_str.ensures.value)) c.requires.there)
+    c.give.ensures.ok
+
+pub returns-clause-err : goal.returns-clause-err
+returns-clause-err c =
+    inferred_breaks c.args.state.now.graph c.args.root.now c.args.world (ident_of c.args.id.now) c.in_ok-node.node c.as_str.result.now (by_name c.args.given.now.entries) c.give.result c.in_ok-node.ensures.ok
+    (λ naming declared. c.in_ok-import.ensures naming declared ∙ ap Some (sym c.as_str.ensures.value)) c.give.ensures.err

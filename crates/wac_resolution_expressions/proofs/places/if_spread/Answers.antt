@@ -1,0 +1,15 @@
+use Rattle.std.proofs.Common.{◌∙◌, ap, append-nil}
+use Rattle.wac_types.specs.Scope.{look_up}
+use Rattle.wac_ast_base.specs.Names.{ident_of}
+use Rattle.wac_ast_expressions.specs.Expressions.{argument_of}
+use Rattle.wac_ast_expressions.specs.declared.expr.InstantiationArgument.{InstantiationArgument}
+use Rattle.wac_resolution_rules.specs.BrokenExpressions.{spread_places}
+use Rattle.wac_resolution_nodes.specs.Root.{composed}
+use Rattle.wac_resolution_expressions.proofs.SpreadPlaces.{place_of}
+use Rattle.wac_resolution_expressions.proofs.places.if_spread.Goals as goal
+
+pub returns-in-Spread : goal.returns-in-Spread
+returns-in-Spread c naming =
+    ap (λ (a : InstantiationArgument). look_up c.args.name.now (place_of (composed naming c.args.state.now.graph c.args.root.now) c.args.name.now (argument_of a))) c.in-Spread.is
+    ∙ ap (look_up c.args.name.now) (append-nil (spread_places (composed naming c.args.state.now.graph c.args.root.now) (ident_of c.in-Spread.id)))
+    ∙ c.spread_place.ensures naming

@@ -1,0 +1,19 @@
+use Rattle.std.proofs.Common.{◌∙◌, map}
+use Rattle.wac_grammar.specs.Tree.{arguments_from}
+use Rattle.wac_ast_expressions.specs.Expressions.{argument_of}
+use Rattle.wac_resolution_rules.specs.BrokenExpressions.{own_places}
+use Rattle.wac_resolution_nodes.specs.Root.{composed}
+use Rattle.wac_resolution_arguments.specs.Spreads.{imports_at}
+use Rattle.wac_resolution_expressions.proofs.SpreadPlaces.{places, after_none, first_found}
+use Rattle.wac_resolution_expressions.proofs.places.place.Goals as goal
+
+pub returns-in-Some : goal.returns-in-Some
+returns-in-Some c naming =
+    first_found c.args.name.now (own_places (composed naming c.args.state.now.graph c.args.root.now) (imports_at naming c.args.state.now.graph c.args.world) (arguments_from (map argument_of c.args.arguments.now)))
+    (places (composed naming c.args.state.now.graph c.args.root.now) c.args.name.now (map argument_of c.args.arguments.now)) c.in-Some.span (c.in-Some.ensures naming)
+
+pub returns-in-None : goal.returns-in-None
+returns-in-None c naming =
+    after_none c.args.name.now (own_places (composed naming c.args.state.now.graph c.args.root.now) (imports_at naming c.args.state.now.graph c.args.world) (arguments_from (map argument_of c.args.arguments.now)))
+    (places (composed naming c.args.state.now.graph c.args.root.now) c.args.name.now (map argument_of c.args.arguments.now)) (c.in-None.ensures naming)
+    ∙ c.spread_places.ensures naming

@@ -1,0 +1,17 @@
+use Rattle.std.proofs.Common.{sym}
+use Rattle.wac_ast_base.specs.Names.{ident_of}
+use Rattle.wac_resolution_nodes.specs.Root.{numbers_of, composed}
+use Rattle.wac_resolution_nodes.proofs.Roots.{node_is, number_fresh}
+use Rattle.wac_resolution_expressions.proofs.SpreadPlaces.{spread_at, spread_nowhere}
+use Rattle.wac_resolution_expressions.proofs.places.spread_place.Goals as goal
+
+pub if_exported-requires : goal.if_exported-requires
+if_exported-requires c = (node_is c.args.root.now (ident_of c.args.id.now) c.in-Some.node (sym c.in-Some.ensures)).there c.args.state.now.graph c.requires
+
+pub returns-in-Some : goal.returns-in-Some
+returns-in-Some c naming =
+    spread_at (composed naming c.args.state.now.graph c.args.root.now) (ident_of c.args.id.now) c.args.name.now c.in-Some.node.0 c.if_exported.result
+    (node_is c.args.root.now (ident_of c.args.id.now) c.in-Some.node (sym c.in-Some.ensures)).is (c.if_exported.ensures naming (numbers_of c.args.root.now.nodes))
+
+pub returns-in-None : goal.returns-in-None
+returns-in-None c naming = spread_nowhere (composed naming c.args.state.now.graph c.args.root.now) (ident_of c.args.id.now) c.args.name.now (number_fresh c.args.root.now c.args.id.now.string.now (sym c.in-None.ensures))

@@ -1,0 +1,10 @@
+use Rattle.std.proofs.Common.{◌≡◌, None, map, take}
+use Rattle.wac_types.specs.Scope.{look_up}
+use Rattle.wac_ast_expressions.specs.Expressions.{argument_of}
+use Rattle.wac_graph.specs.Origin.{Naming}
+use Rattle.wac_resolution_nodes.specs.Root.{composed}
+use Rattle.wac_resolution_expressions.proofs.SpreadPlaces.{places}
+use Rattle.wac_resolution_expressions.proofs.places.spread_places.Given as goal
+
+abbrev pub invariant-loop-argument : goal.invariant-loop-argument
+invariant-loop-argument l = (naming : Naming) → look_up l.name (places (composed naming l.state.graph l.root) l.name (take l.argument-index (map argument_of l.arguments))) ≡ None

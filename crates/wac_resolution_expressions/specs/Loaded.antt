@@ -1,0 +1,35 @@
+-- Packages of which instances are made.
+use Rattle.std.specs.Prelude.{◌≡◌, ℕ, Some, slice_get}
+use Rattle.wac_types.specs.declared.kind.ItemKind.TheVariants as kinds
+use Rattle.wac_types.specs.Scope.{Named}
+use Rattle.wac_types.specs.Table.{Names}
+use Rattle.wac_grammar.specs.Tree.{PackageName}
+use Rattle.wac_graph.specs.Graph.{Parts}
+use Rattle.wac_graph.specs.Origin.{Naming}
+use Rattle.wac_graph.specs.Package.{HeldPackage}
+use Rattle.wac_graph.specs.Packages.{contents_in}
+use Rattle.wac_resolution_rules.specs.Given.{Rules, instantiable, key_named}
+use Rattle.wac_resolution_nodes.specs.Nodes.{composition_of}
+use Rattle.wac_resolution_paths.specs.declared.setting.Setting.{Setting}
+use Rattle.wac_resolution_paths.specs.Setting.{packages_in}
+use Rattle.wac_resolution_expressions.specs.declared.packages.Loaded.{Loaded}
+use Rattle.wac_resolution_expressions.specs.Growth.{Extends, given_in}
+
+-- the graph holds this package under the number, and its world has that number
+pub record IsLoaded (g : Parts) (p : Loaded) (held : HeldPackage) : Type 0 where
+  pub found : slice_get g.packages p.id.0 ≡ Some held
+  pub world : held.world ≡ p.world
+  pub named : Names g.types (kinds.Component p.world)
+
+-- the graph holds it
+abbrev pub IsThere : Parts → Loaded → Type 0
+IsThere g p = (held : HeldPackage) × IsLoaded g p held
+
+-- of the package of the name instances may be made, and the new graph holds it
+pub record IsInstantiable (setting : Setting) (old new : Parts) (x : PackageName) (p : Loaded) : Type 0 where
+  pub extends : Extends (packages_in setting) old new
+  pub composition : (naming : Naming) (declared : Named ℕ) → composition_of naming new declared ≡ composition_of naming old declared
+  pub held : HeldPackage
+  pub loaded : IsLoaded new p held
+  pub key : held.key ≡ key_named x
+  pub is : (naming : Naming) (rules : Rules) → instantiable (given_in naming setting rules) x ≡ Some (contents_in naming new held)

@@ -1,0 +1,29 @@
+-- Where arguments stand.
+use Rattle.std.specs.Prelude.{ℕ, List, [], Option, Some, None, map, IsSome}
+use Rattle.std.specs.List.{AllByRecursion}
+use Rattle.wac_lexer.specs.Span.{Span}
+use Rattle.wac_grammar.specs.Tree.{Arguments}
+use Rattle.wac_types.specs.declared.kind.WorldId.{WorldId}
+use Rattle.wac_types.specs.Meaning.{Meaning}
+use Rattle.wac_types.specs.Scope.{Named, look_up}
+use Rattle.wac_types.specs.Shape.{exports_of}
+use Rattle.wac_graph.specs.declared.node.NodeId.{NodeId}
+use Rattle.wac_graph.specs.Graph.{Parts}
+use Rattle.wac_graph.specs.Origin.{Naming, IsOneToOne}
+use Rattle.wac_resolution_rules.specs.BrokenExpressions.{own_places, argument_places}
+use Rattle.wac_resolution_nodes.specs.Nodes.{composition_of}
+use Rattle.wac_resolution_arguments.specs.Arguments.{given_nodes}
+use Rattle.wac_resolution_arguments.specs.Spreads.{imports_at}
+
+-- what an instance exports, all at one span
+abbrev pub exports_at : Span → Option Meaning → Named Span
+exports_at span None = []
+exports_at span (Some i) = map (λ x. (x.0, span)) (exports_of i)
+
+-- each argument that is given is among those that aren't spreads
+abbrev pub StandThemselves : Parts → Named ℕ → WorldId → Arguments → Named NodeId → Type 0
+StandThemselves g declared w args given = (naming : Naming) → IsOneToOne naming → AllByRecursion (λ a. IsSome (look_up a.0 (own_places (composition_of naming g declared) (imports_at naming g w) args))) (given_nodes given)
+
+-- each is among them, or a spread gives it
+abbrev pub StandSomewhere : Parts → Named ℕ → WorldId → Arguments → Named NodeId → Type 0
+StandSomewhere g declared w args given = (naming : Naming) → IsOneToOne naming → AllByRecursion (λ a. IsSome (look_up a.0 (argument_places (composition_of naming g declared) (imports_at naming g w) args))) (given_nodes given)

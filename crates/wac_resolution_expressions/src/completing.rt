@@ -1,0 +1,120 @@
+//! The rest of an instantiation, after the arguments that aren't spreads were given.
+ghost use Rattle.std.specs.Prelude.{◌≡◌, IfOk, IfErr, OnOk, map};
+ghost use Rattle.wac_grammar.specs.Tree.{arguments_from};
+ghost use Rattle.wac_types.specs.Names.{by_name};
+ghost use Rattle.wac_types.specs.Table.{Names};
+ghost use Rattle.wac_ast_base.specs.Names.{package_name_of};
+ghost use Rattle.wac_ast_expressions.specs.Expressions.{argument_of};
+ghost use Rattle.wac_resolution_errors.specs.Told.{told};
+ghost use Rattle.wac_resolution_rules.specs.Given.{rules_by};
+ghost use Rattle.wac_resolution_nodes.specs.Root.{numbers_of, Agrees};
+ghost use Rattle.wac_resolution_arguments.specs.Fits.{AllFit};
+ghost use Rattle.wac_resolution_arguments.specs.Spreads.{GivenThere};
+ghost use Rattle.wac_resolution_expressions.specs.Completing.{misfit_of, AreRight, AreWrong, Completes, FailsToComplete};
+ghost use Rattle.wac_resolution_expressions.specs.Loaded.{IsThere};
+ghost use Rattle.wac_resolution_expressions.specs.Places.{StandThemselves, StandSomewhere};
+
+use crate::instance::instantiate;
+use crate::packages::Loaded;
+use crate::places::place;
+use indexmap::IndexMap;
+use std::alloc::{AllocError, Global};
+use wac_ast_base::PackageName;
+use wac_ast_expressions::NewExpr;
+use wac_graph::{ItemKind, NodeId, Reason, Rules, WorldId};
+use wac_lexer::SourceSpan;
+use wac_resolution_arguments::{check_complete, misfit, spreads};
+use wac_resolution_errors::Error;
+use wac_resolution_nodes::Root;
+use wac_resolution_types::State;
+
+/// What is reported of an argument that doesn't fit. Without a reason it is for no import.
+fn misfitting(
+    alloc: Global,
+    package: &PackageName<'_>,
+    name: &str,
+    reason: Option<Reason>,
+    span: SourceSpan,
+) -> Result<Error, AllocError>
+    ensures { IfOk result (λ e. told e ≡ misfit_of «package».now.name.now name.now reason span) }
+{
+    match reason {
+        Some(source) => Ok(Error::MismatchedInstantiationArg {
+            name: String::from_str(alloc, name)?,
+            source,
+            span,
+        }),
+        None => Ok(Error::MissingComponentImport {
+            package: String::from_str(alloc, package.name)?,
+            import: String::from_str(alloc, name)?,
+            span,
+        }),
+    }
+}
+
+/// Rejects an argument that doesn't fit.
+fn check_fit<R: Rules>(
+    state: &State,
+    rules: &R,
+    root: &Root<'_>,
+    world: WorldId,
+    new: &NewExpr<'_>,
+    given: &IndexMap<String, NodeId>,
+) -> Result<(), Error>
+    requires agrees { Agrees state.now.graph root.now }
+    requires there { GivenThere state.now.graph (by_name given.now.entries) }
+    requires world { Names state.now.graph.types (ItemKind.Component world) }
+    requires stand { StandSomewhere state.now.graph (numbers_of root.now.nodes) world (arguments_from (map argument_of new.now.arguments.items)) (by_name given.now.entries) }
+    ensures ok { OnOk result (AllFit (rules_by (R.passes rules.now) (R.named rules.now)) state.now.graph world (by_name given.now.entries)) }
+    ensures err { IfErr result (λ e. AreWrong (rules_by (R.passes rules.now) (R.named rules.now)) state.now.graph (numbers_of root.now.nodes) world (package_name_of new.now.«package») (arguments_from (map argument_of new.now.arguments.items)) (by_name given.now.entries) (told e)) }
+{
+    match misfit(state, rules, world, given) {
+        Some((name, reason)) => {
+            let place = place(state, root, world, &new.arguments, name);
+            let span = place.unwrap_or(new.package.span);
+            Err(misfitting(state.alloc, &new.package, name, reason, span)?)
+        }
+        None => Ok(()),
+    }
+}
+
+/// Rejects an argument that doesn't fit, and an import that is left out.
+fn check_arguments<R: Rules>(
+    state: &State,
+    rules: &R,
+    root: &Root<'_>,
+    world: WorldId,
+    new: &NewExpr<'_>,
+    given: &IndexMap<String, NodeId>,
+) -> Result<(), Error>
+    requires agrees { Agrees state.now.graph root.now }
+    requires there { GivenThere state.now.graph (by_name given.now.entries) }
+    requires world { Names state.now.graph.types (ItemKind.Component world) }
+    requires stand { StandSomewhere state.now.graph (numbers_of root.now.nodes) world (arguments_from (map argument_of new.now.arguments.items)) (by_name given.now.entries) }
+    ensures ok { OnOk result (AreRight (rules_by (R.passes rules.now) (R.named rules.now)) state.now.graph world (arguments_from (map argument_of new.now.arguments.items)) (by_name given.now.entries)) }
+    ensures err { IfErr result (λ e. AreWrong (rules_by (R.passes rules.now) (R.named rules.now)) state.now.graph (numbers_of root.now.nodes) world (package_name_of new.now.«package») (arguments_from (map argument_of new.now.arguments.items)) (by_name given.now.entries) (told e)) }
+{
+    check_fit(state, rules, root, world, new, given)?;
+    check_complete(state, &new.package, world, &new.arguments, given)
+}
+
+/// Gives what spreads give, and makes the instance if each argument is right.
+pub fn complete<R: Rules>(
+    state: &mut State,
+    rules: &R,
+    root: &Root<'_>,
+    of: Loaded,
+    new: &NewExpr<'_>,
+    given: &mut IndexMap<String, NodeId>,
+) -> Result<NodeId, Error>
+    requires agrees { Agrees state.old.graph root.now }
+    requires loaded { IsThere state.old.graph of }
+    requires there { GivenThere state.old.graph (by_name given.old.entries) }
+    requires stand { StandThemselves state.old.graph (numbers_of root.now.nodes) of.world (arguments_from (map argument_of new.now.arguments.items)) (by_name given.old.entries) }
+    ensures ok { IfOk result (λ n. Completes (rules_by (R.passes rules.now) (R.named rules.now)) state.old.graph state.new.graph (numbers_of root.now.nodes) of (arguments_from (map argument_of new.now.arguments.items)) (by_name given.old.entries) n.0) }
+    ensures err { IfErr result (λ e. FailsToComplete (rules_by (R.passes rules.now) (R.named rules.now)) state.old.graph (numbers_of root.now.nodes) of.world (package_name_of new.now.«package») (arguments_from (map argument_of new.now.arguments.items)) (by_name given.old.entries) (told e)) }
+{
+    spreads(state, root, of.world, &new.arguments, given)?;
+    check_arguments(state, rules, root, of.world, new, given)?;
+    Ok(instantiate(state, of.id, given)?)
+}

@@ -1,0 +1,38 @@
+// Laws of graphs that are extended. Each function does nothing: its contract is the law.
+ghost use Rattle.std.specs.Prelude.{◌≡◌, ◌<◌, ℕ, List, Some, length, slice_get};
+ghost use Rattle.wac_types.specs.declared.kind.ItemKind.TheVariants as kinds;
+ghost use Rattle.wac_types.specs.declared.kind.WorldId.{WorldId};
+ghost use Rattle.wac_types.specs.Package.{PackageParts};
+ghost use Rattle.wac_types.specs.Scope.{Named};
+ghost use Rattle.wac_types.specs.Table.{Names};
+ghost use Rattle.wac_graph.specs.declared.node.NodeId.{NodeId};
+ghost use Rattle.wac_graph.specs.Graph.{Parts};
+ghost use Rattle.wac_graph.specs.Means.{declared_count};
+ghost use Rattle.wac_graph.specs.Origin.{Naming};
+ghost use Rattle.wac_graph.specs.Package.{Key, HeldPackage};
+ghost use Rattle.wac_graph.specs.Packages.{contents_in};
+ghost use Rattle.wac_resolution_nodes.specs.declared.root.Root.{Root};
+ghost use Rattle.wac_resolution_nodes.specs.Growth.{GrowsNodes};
+ghost use Rattle.wac_resolution_nodes.specs.Nodes.{composition_of, NodesStand};
+ghost use Rattle.wac_resolution_nodes.specs.Root.{Agrees};
+ghost use Rattle.wac_resolution_paths.specs.Expands.{Expands, HoldsHanded};
+ghost use Rattle.wac_resolution_arguments.specs.Spreads.{GivenThere, imports_at};
+ghost use Rattle.wac_resolution_expressions.specs.Growth.{Extends};
+
+/// A graph that gets nothing is extended, and so is one that gets types and packages, or nodes, and one that is extended twice.
+pub fn graphs_extend()
+    ensures nothing { (packages : List (Key × PackageParts)) (g : Parts) → NodesStand g → HoldsHanded packages g → Extends packages g g }
+    ensures expands { (packages : List (Key × PackageParts)) (old new : Parts) → Expands old new → NodesStand old → HoldsHanded packages new → declared_count new ≡ declared_count old → Extends packages old new }
+    ensures nodes { (packages : List (Key × PackageParts)) (old new : Parts) → GrowsNodes old new → HoldsHanded packages old → Extends packages old new }
+    ensures twice { (packages : List (Key × PackageParts)) (a b c : Parts) → Extends packages a b → Extends packages b c → Extends packages a c }
+{}
+
+/// Names at root go on to agree with the graph, given nodes to be there, and worlds and packages to mean what they meant. The composition stays the
+/// same where no node is added.
+pub fn extending_keeps()
+    ensures agrees { (packages : List (Key × PackageParts)) (old new : Parts) → Extends packages old new → (root : Root) → Agrees old root → Agrees new root }
+    ensures given { (packages : List (Key × PackageParts)) (old new : Parts) → Extends packages old new → (all : Named NodeId) → GivenThere old all → GivenThere new all }
+    ensures imports { (packages : List (Key × PackageParts)) (old new : Parts) → Extends packages old new → (w : WorldId) → Names old.types (kinds.Component w) → (naming : Naming) → imports_at naming new w ≡ imports_at naming old w }
+    ensures contents { (packages : List (Key × PackageParts)) (old new : Parts) → Extends packages old new → HoldsHanded packages old → (i : ℕ) (p : HeldPackage) → slice_get old.packages i ≡ Some p → (naming : Naming) → contents_in naming new p ≡ contents_in naming old p }
+    ensures composition { (old new : Parts) → Expands old new → NodesStand old → declared_count new ≡ declared_count old → (naming : Naming) (declared : Named ℕ) → composition_of naming new declared ≡ composition_of naming old declared }
+{}

@@ -1,0 +1,87 @@
+//! Packages of which instances are made.
+ghost use Rattle.std.specs.Prelude.{◌≡◌, IfOk, IfErr, MatchOption};
+ghost use Rattle.std.specs.Str.{bytes_eq};
+ghost use Rattle.wac_ast_base.specs.Names.{package_name_of};
+ghost use Rattle.wac_graph.specs.Origin.{Naming};
+ghost use Rattle.wac_resolution_errors.specs.Error.{unknown_package};
+ghost use Rattle.wac_resolution_errors.specs.Told.{told};
+ghost use Rattle.wac_resolution_rules.specs.BrokenExpressions.{IsUnknownPackage};
+ghost use Rattle.wac_resolution_rules.specs.Given.{Rules, key_named};
+ghost use Rattle.wac_resolution_nodes.specs.Nodes.{NodesStand};
+ghost use Rattle.wac_resolution_paths.specs.Expands.{HoldsHanded, Loads, IsNotHanded};
+ghost use Rattle.wac_resolution_paths.specs.Setting.{packages_in};
+ghost use Rattle.wac_resolution_expressions.specs.Growth.{given_in};
+ghost use Rattle.wac_resolution_expressions.specs.Loaded.{IsInstantiable};
+
+use std::alloc::{AllocError, Global};
+use wac_ast_base::PackageName;
+use wac_graph::{PackageId, WorldId};
+use wac_resolution_errors::Error;
+use wac_resolution_paths::{Setting, package as load_package, package_key};
+use wac_resolution_types::State;
+
+/// A package that the graph holds.
+#[derive(Clone, Copy)]
+pub struct Loaded {
+    /// Its number.
+    pub id: PackageId,
+    /// What it imports and exports.
+    pub world: WorldId,
+}
+
+/// Whether a package is the document's own.
+fn is_own(setting: &Setting<'_>, package: &PackageName<'_>) -> bool
+    ensures { result ≡ bytes_eq «package».now.name.now setting.now.own.now }
+{
+    package.name == setting.own
+}
+
+/// What is reported of a package that was not handed, or is the document's own.
+fn unknown(alloc: Global, package: &PackageName<'_>) -> Result<Error, AllocError>
+    ensures { IfOk result (λ e. told e ≡ unknown_package «package».now.name.now «package».now.span) }
+{
+    Ok(Error::UnknownPackage {
+        name: String::from_str(alloc, package.name)?,
+        span: package.span,
+    })
+}
+
+/// The package of a name.
+fn load(
+    state: &mut State,
+    setting: &Setting<'_>,
+    package: &PackageName<'_>,
+) -> Result<Option<PackageId>, AllocError>
+    requires { HoldsHanded (packages_in setting.now) state.old.graph }
+    ensures { IfOk result (λ o. MatchOption o (IsNotHanded (packages_in setting.now) (key_named (package_name_of «package».now))) (λ id. Loads (packages_in setting.now) state.old.graph state.new.graph (key_named (package_name_of «package».now)) id.0)) }
+{
+    let key = package_key(state.alloc, package.name, package.string)?;
+    load_package(state, setting, &key)
+}
+
+/// The package of which instances are made under a name. It must be handed, and not be the document's own.
+pub fn instantiable(
+    state: &mut State,
+    setting: &Setting<'_>,
+    package: &PackageName<'_>,
+) -> Result<Loaded, Error>
+    requires stand { NodesStand state.old.graph }
+    requires handed { HoldsHanded (packages_in setting.now) state.old.graph }
+    ensures ok { IfOk result (λ p. IsInstantiable setting.now state.old.graph state.new.graph (package_name_of «package».now) p) }
+    ensures err { IfErr result (λ e. (naming : Naming) (rules : Rules) → IsUnknownPackage (given_in naming setting.now rules) (package_name_of «package».now) (told e)) }
+{
+    if is_own(setting, package) {
+        return Err(unknown(state.alloc, package)?);
+    }
+    let loaded = load(state, setting, package)?;
+    match loaded {
+        Some(id) => {
+            let held = state.graph.package(id);
+            Ok(Loaded {
+                id,
+                world: held.world,
+            })
+        }
+        None => Err(unknown(state.alloc, package)?),
+    }
+}

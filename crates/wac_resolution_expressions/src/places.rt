@@ -1,0 +1,108 @@
+//! Where arguments stand.
+ghost use Rattle.std.specs.Prelude.{◌≡◌, ◌<◌, ℕ, length, flat_map, map, option_map, is_some};
+ghost use Rattle.wac_grammar.specs.Tree.{arguments_from};
+ghost use Rattle.wac_types.specs.Scope.{Named, look_up};
+ghost use Rattle.wac_types.specs.Table.{Names};
+ghost use Rattle.wac_ast_base.specs.Names.{ident_of};
+ghost use Rattle.wac_ast_expressions.specs.Expressions.{argument_of};
+ghost use Rattle.wac_graph.specs.Graph.{export_kind};
+ghost use Rattle.wac_graph.specs.Origin.{Naming};
+ghost use Rattle.wac_resolution_rules.specs.BrokenExpressions.{argument_places, spread_places as places_of_spread};
+ghost use Rattle.wac_resolution_rules.specs.Expressions.{spread_of, spreads_of};
+ghost use Rattle.wac_resolution_rules.specs.Nodes.{instance_at};
+ghost use Rattle.wac_resolution_nodes.specs.Nodes.{composition_of};
+ghost use Rattle.wac_resolution_nodes.specs.Root.{composed, Agrees};
+ghost use Rattle.wac_resolution_arguments.specs.Spreads.{imports_at};
+ghost use Rattle.wac_resolution_expressions.specs.Places.{exports_at};
+
+use wac_ast_base::Ident;
+use wac_ast_expressions::InstantiationArgument;
+use wac_graph::{ItemKind, NodeId, WorldId};
+use wac_lexer::SourceSpan;
+use wac_resolution_arguments::own_places;
+use wac_resolution_nodes::Root;
+use wac_resolution_types::State;
+
+/// The span, if the node is an instance that exports the name.
+fn if_exported(state: &State, node: NodeId, name: &str, span: SourceSpan) -> Option<SourceSpan>
+    requires { node.0 < length state.now.graph.nodes }
+    ensures { (naming : Naming) (declared : Named ℕ) → look_up name.now (exports_at span (instance_at (composition_of naming state.now.graph declared) node.0)) ≡ result }
+{
+    let _types = state.graph.types();
+    match state.graph.kind(node) {
+        ItemKind::Instance(_) => match state.graph.export_kind(node, name) {
+            Some(_) => Some(span),
+            None => None,
+        },
+        _ => None,
+    }
+}
+
+/// Where a spread stands, if it is of an instance that exports the name.
+fn spread_place(
+    state: &State,
+    root: &Root<'_>,
+    id: &Ident<'_>,
+    name: &str,
+) -> Option<SourceSpan>
+    requires { Agrees state.now.graph root.now }
+    ensures { (naming : Naming) → look_up name.now (places_of_spread (composed naming state.now.graph root.now) (ident_of id.now)) ≡ result }
+{
+    match root.nodes.find(id.string) {
+        Some(node) => if_exported(state, node, name, id.span),
+        None => None,
+    }
+}
+
+/// Where an argument stands, if it is a spread of an instance that exports the name.
+fn if_spread(
+    state: &State,
+    root: &Root<'_>,
+    argument: &InstantiationArgument<'_>,
+    name: &str,
+) -> Option<SourceSpan>
+    requires { Agrees state.now.graph root.now }
+    ensures { (naming : Naming) → look_up name.now (flat_map (places_of_spread (composed naming state.now.graph root.now)) (spread_of (argument_of argument.now))) ≡ result }
+{
+    match argument {
+        InstantiationArgument::Spread(id) => spread_place(state, root, id, name),
+        _ => None,
+    }
+}
+
+/// Where the first spread of an instance stands that exports the name.
+fn spread_places(
+    state: &State,
+    root: &Root<'_>,
+    arguments: &[InstantiationArgument<'_>],
+    name: &str,
+) -> Option<SourceSpan>
+    requires { Agrees state.now.graph root.now }
+    ensures { (naming : Naming) → look_up name.now (flat_map (places_of_spread (composed naming state.now.graph root.now)) (spreads_of (arguments_from (map argument_of arguments.now)))) ≡ result }
+{
+    for argument in arguments {
+        match if_spread(state, root, argument, name) {
+            Some(span) => return Some(span),
+            None => {}
+        }
+    }
+    None
+}
+
+/// Where the argument of a name stands: the argument itself, else the first spread of an instance that exports the name.
+pub fn place(
+    state: &State,
+    root: &Root<'_>,
+    world: WorldId,
+    arguments: &[InstantiationArgument<'_>],
+    name: &str,
+) -> Option<SourceSpan>
+    requires agrees { Agrees state.now.graph root.now }
+    requires world { Names state.now.graph.types (ItemKind.Component world) }
+    ensures { (naming : Naming) → look_up name.now (argument_places (composed naming state.now.graph root.now) (imports_at naming state.now.graph world) (arguments_from (map argument_of arguments.now))) ≡ result }
+{
+    match own_places(state, root, world, arguments, name) {
+        Some(span) => Some(span),
+        None => spread_places(state, root, arguments, name),
+    }
+}
