@@ -1,5 +1,5 @@
 -- The lines of the nodes of a graph.
-use Rattle.std.proofs.Common.{◌≡◌, ◌∙◌, ◌<◌, ◌≤◌, ℕ, zero, suc, List, [], ◌∷◌, ◌++◌, Option, Some, None, refl, sym, ap, subst, map, length, append_assoc, codes, flat_map, arith, ◌+◌, Result, Err}
+use Rattle.std.proofs.Common.{◌≡◌, ◌∙◌, ◌<◌, ℕ, zero, suc, List, [], ◌∷◌, ◌++◌, Option, Some, None, refl, sym, ap, subst, map, length, append_assoc, codes, flat_map, arith, ◌+◌, Result, Err}
 use Rattle.std.specs.Prelude.{slice_get, option_map, decimal}
 use Rattle.wac_types.specs.declared.kind.ItemKind.{ItemKind}
 use Rattle.wac_types.specs.Shape.{described}

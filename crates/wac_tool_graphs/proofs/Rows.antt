@@ -5,7 +5,7 @@ use Rattle.wac_types.specs.declared.kind.PrimitiveType.TheVariants as primitives
 use Rattle.wac_types.specs.Kind.{func, instance, a_value, primitive}
 use Rattle.wac_types.specs.Meaning.{Meaning}
 use Rattle.wac_types.specs.Shape.{kind_of, bare_kind, func_entry, interface_entry}
-use Rattle.wac_resolution_rules.specs.Composition.{Composition, Node, imported, definition, aliased, instantiated, start}
+use Rattle.wac_resolution_rules.specs.Composition.{Composition, imported, definition, aliased, instantiated, start}
 use Rattle.wac_tool_graphs.specs.Lines.{graph_lines}
 
 -- func()

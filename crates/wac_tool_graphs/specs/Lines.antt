@@ -2,7 +2,6 @@
 use Rattle.std.specs.Prelude.{ℕ, suc, List, [], ◌∷◌, ◌++◌, flat_map, codes, decimal, Option, Some, None}
 use Rattle.wac_types.specs.Scope.{Named}
 use Rattle.wac_types.specs.Shape.{described}
-use Rattle.wac_graph.specs.Package.{Key}
 use Rattle.wac_resolution_rules.specs.Composition.{Composition, Node, NodeForm, imported, definition, aliased, instantiated}
 
 -- ---- parts of a node's line

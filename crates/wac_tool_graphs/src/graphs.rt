@@ -81,15 +81,14 @@ fn write_alias<S: Sink>(
     ensures { Puts result (S.bytes out.old) (S.failures out.old) (S.bytes out.new) (S.failures out.new) (number.now ++ (codes " " ++ form_words (aliased node.0 export.now))) }
 {
     let mut digits = Buffer::new();
-    put_each(&[number, " alias ", digits.format(node.0), " ", export], out)
+    put_each(
+        &[number, " alias ", digits.format(node.0), " ", export],
+        out,
+    )
 }
 
 /// Writes the number of an instance, and the name and the version of its package.
-fn write_instance<S: Sink>(
-    number: &str,
-    key: &PackageKey,
-    out: &mut S,
-) -> Result<(), OutputFailed>
+fn write_instance<S: Sink>(number: &str, key: &PackageKey, out: &mut S) -> Result<(), OutputFailed>
     ensures { Puts result (S.bytes out.old) (S.failures out.old) (S.bytes out.new) (S.failures out.new) (number.now ++ (codes " " ++ form_words (instantiated (key_of key.now)))) }
 {
     let name = key.name.as_str();

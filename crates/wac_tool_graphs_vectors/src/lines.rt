@@ -25,7 +25,10 @@ fn is_written(
         Ok(())
     };
     assert_eq!(rt; result, wanted, "room {room}");
-    assert!(rt; bytes[..written] == LINES.as_bytes()[..written], "room {room}");
+    assert!(rt;
+        bytes[..written] == LINES.as_bytes()[..written],
+        "room {room}"
+    );
     Ok(())
 }
 

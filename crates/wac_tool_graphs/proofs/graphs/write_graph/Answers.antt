@@ -1,4 +1,4 @@
-use Rattle.std.proofs.Common.{ℕ, List, subst}
+use Rattle.std.proofs.Common.{ℕ, subst}
 use Rattle.wac_types.specs.Scope.{Named}
 use Rattle.wac_tool_graphs.specs.Lines.{export_lines}
 use Rattle.wac_tool_graphs.specs.Puts.{Puts}

@@ -1,9 +1,8 @@
-use Rattle.std.proofs.Common.{◌≡◌, ◌+◌, ◌++◌, ◌∙◌, ℕ, List, [], ap, subst, rules, Err, Option, Some, None}
+use Rattle.std.proofs.Common.{◌≡◌, ◌++◌, ◌∙◌, ℕ, [], ap, subst, rules, Err, Option, Some, None}
 use Rattle.std.specs.Prelude.{slice_get}
 use Rattle.wac_types.specs.Scope.{Named}
 use Rattle.wac_graph.specs.Graph.{Parts, arguments_of}
 use Rattle.wac_graph.specs.Node.{Node, arguments_in}
-use Rattle.wac_graph.specs.Origin.{Naming}
 use Rattle.wac_tool_graphs.specs.Lines.{argument_lines}
 use Rattle.wac_tool_graphs.specs.Puts.{Began, Puts}
 use Rattle.wac_tool_graphs.proofs.NodeLines.{kind_is, fails_in_form, fails_in_kind, ends_node}

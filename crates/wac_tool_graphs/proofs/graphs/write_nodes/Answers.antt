@@ -1,7 +1,6 @@
-use Rattle.std.proofs.Common.{◌≡◌, ◌∙◌, ◌++◌, ◌∷◌, ◌<◌, ◌+◌, [], ℕ, List, length, ap, subst, rules, Err}
+use Rattle.std.proofs.Common.{◌≡◌, ◌∙◌, ◌++◌, ◌∷◌, ◌<◌, ◌+◌, [], length, ap, subst, rules, Err}
 use Rattle.std.specs.Prelude.{flat_map}
 use Rattle.std.specs.List.{AllByRecursion}
-use Rattle.wac_graph.specs.Origin.{Naming}
 use Rattle.wac_tool_graphs.specs.Puts.{Began, Puts}
 use Rattle.wac_tool_graphs.proofs.NodeLines.{lines_at, at_lines, lines_by_number}
 use Rattle.wac_tool_graphs.proofs.Putting.{one_more, none_left, put_more, fails_in}
@@ -33,9 +32,9 @@ returns-in_err-write_node g c =
     let old = g.S.Sink.bytes c.loop-id.out in
     let new = g.S.Sink.bytes c.write_node.new.out in
     λ naming. subst (Puts c.from_residual.result _ _ _ _) (lines_by_number naming graph) (
-      fails_in (lines_at naming graph) _ _ _ _ _ _ _ _ i.written _ _ _ id e i.all c.in-Some.ensures.steps (i.put naming) i.failures
-      (at_lines naming graph id (Began old new) there.0 (λ n is. (w naming n is).0))
-      (at_lines naming graph id (λ text. g.S.Sink.failures c.write_node.new.out ≡ g.S.Sink.failures c.loop-id.out + 1) there.0 (λ n is. (w naming n is).1))
+    fails_in (lines_at naming graph) _ _ _ _ _ _ _ _ i.written _ _ _ id e i.all c.in-Some.ensures.steps (i.put naming) i.failures
+    (at_lines naming graph id (Began old new) there.0 (λ n is. (w naming n is).0))
+    (at_lines naming graph id (λ text. g.S.Sink.failures c.write_node.new.out ≡ g.S.Sink.failures c.loop-id.out + 1) there.0 (λ n is. (w naming n is).1))
     )
 
 pub returns : goal.returns

@@ -1,4 +1,4 @@
-use Rattle.std.proofs.Common.{◌≡◌, ◌∙◌, ◌++◌, ◌∷◌, [], ℕ, List, ap, subst, rules, codes, decimal, Err}
+use Rattle.std.proofs.Common.{◌≡◌, ◌∙◌, ◌++◌, ◌∷◌, [], ℕ, List, ap, subst, rules, codes, Err}
 use Rattle.wac_tool_graphs.specs.Lines.{name_line}
 use Rattle.wac_tool_graphs.specs.Puts.{Began}
 use Rattle.wac_tool_graphs.proofs.Putting.{one_more, put_more, fails_in}
