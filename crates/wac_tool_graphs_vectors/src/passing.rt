@@ -1,0 +1,23 @@
+//! Which kinds and which names pass.
+
+use std::test::Fail;
+use wac_graph::{ItemKind, PrimitiveType, Reason, Rules, Type, Types, ValueType};
+use wac_tool_graphs::SameRules;
+
+const BYTE: ValueType = ValueType::Primitive(PrimitiveType::U8);
+
+const CHAR: ValueType = ValueType::Primitive(PrimitiveType::Char);
+
+#[test]
+fn equal_kinds_pass(rt: HostRuntime) -> Result<(), Fail> {
+    let types = Types::new(rt.alloc());
+    let byte = ItemKind::Value(BYTE);
+    assert_eq!(rt; SameRules.subtype(&types, byte, byte), Ok(()));
+    for other in [ItemKind::Value(CHAR), ItemKind::Ty(Type::Value(BYTE))] {
+        assert_eq!(rt; SameRules.subtype(&types, byte, other), Err(Reason(1)));
+    }
+    for name in ["", "a", "a:b/c@1.0.0"] {
+        assert_eq!(rt; SameRules.extern_name(name), Ok(()));
+    }
+    Ok(())
+}
