@@ -2,3 +2,9 @@ pub mod Standing
 pub mod DeclaredKinds
 pub mod Defining
 pub mod Leading
+pub mod PlaceLaws
+pub mod ImportTypes
+pub mod ImportNames
+pub mod ImportTests
+pub mod Importing
+pub mod Imported

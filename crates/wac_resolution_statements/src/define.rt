@@ -6,14 +6,14 @@ ghost use Rattle.wac_ast_base.specs.Names.{ident_of};
 ghost use Rattle.wac_graph.specs.Graph.{Parts};
 ghost use Rattle.wac_graph.specs.Origin.{Naming};
 ghost use Rattle.wac_resolution_errors.specs.Told.{told};
-ghost use Rattle.wac_resolution_rules.specs.BrokenWorlds.{IsExported, IsBound, DefinitionBroken};
+ghost use Rattle.wac_resolution_rules.specs.BrokenWorlds.{IsExported, DefinitionBroken};
 ghost use Rattle.wac_resolution_rules.specs.Places.{Places};
 ghost use Rattle.wac_resolution_nodes.specs.Nodes.{composition_of};
-ghost use Rattle.wac_resolution_nodes.specs.Root.{numbers_of, composed, places, Agrees};
+ghost use Rattle.wac_resolution_nodes.specs.Root.{composed, Agrees};
 ghost use Rattle.wac_resolution_externs.specs.Externs.{exported_in, places_in, ArePlaced};
 ghost use Rattle.wac_resolution_statements.specs.Definitions.{IsDefined};
 
-use std::alloc::Global;
+use crate::unbound::check_unbound;
 use wac_ast_base::Ident;
 use wac_graph::ItemKind;
 use wac_graph::names::find;
@@ -34,22 +34,6 @@ fn check_unexported(state: &State, externs: &Externs, id: &Ident<'_>) -> Result<
             name: String::from_str(state.alloc, id.string)?,
             span: id.span,
             export,
-        }),
-        None => Ok(()),
-    }
-}
-
-/// Rejects an identifier that is bound at root already.
-#[tactic(auto, using(wac_resolution_nodes::proofs::Roots::nodes_found))]
-fn check_unbound(alloc: Global, root: &Root<'_>, id: &Ident<'_>) -> Result<(), Error>
-    ensures ok { OnOk result (IsFresh id.now.string.now (numbers_of root.now.nodes)) }
-    ensures err { IfErr result (λ e. (naming : Naming) (g : Parts) (all : Places) → all.bound ≡ places root.now → IsBound (composed naming g root.now) all (ident_of id.now) (told e)) }
-{
-    match root.nodes.place(id.string) {
-        Some(previous) => Err(Error::DuplicateName {
-            name: String::from_str(alloc, id.string)?,
-            span: id.span,
-            previous,
         }),
         None => Ok(()),
     }
