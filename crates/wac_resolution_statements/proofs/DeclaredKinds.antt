@@ -1,5 +1,5 @@
 -- Kinds that type statements declare.
-use Rattle.std.proofs.Common.{◌≡◌, ℕ, Some, Result, Ok, Err, sym, subst}
+use Rattle.std.proofs.Common.{◌≡◌, Some, Result, Ok, Err, sym, subst}
 use Rattle.std.specs.Prelude.{IfOk, IfErr}
 use Rattle.wac_grammar.specs.Tree.{InterfaceDecl, WorldDecl, TypeDecl, TypeStatement}
 use Rattle.wac_types.specs.declared.kind.ItemKind.{ItemKind}
@@ -12,7 +12,6 @@ use Rattle.wac_ast.specs.declared.type_statement.TypeStatement.{TypeStatement as
 use Rattle.wac_graph.specs.Graph.{Parts}
 use Rattle.wac_graph.specs.Means.{means, declared_count}
 use Rattle.wac_graph.specs.Origin.{Naming}
-use Rattle.wac_resolution_errors.specs.Error.{Error}
 use Rattle.wac_resolution_errors.specs.Told.{told}
 use Rattle.wac_resolution_errors.specs.declared.error.Error.{Error as CodeError}
 use Rattle.wac_resolution_rules.specs.BrokenDeclarations.{TypeDeclBroken}

@@ -10,7 +10,7 @@ use Rattle.wac_types.specs.Scope.{Named, look_up, IsFresh, with_named}
 use Rattle.wac_types.specs.Table.{Names}
 use Rattle.wac_graph.specs.Node.{Node as GraphNode, definition as defined_form}
 use Rattle.wac_graph.specs.Graph.{Parts, plain_node, with_definition}
-use Rattle.wac_graph.specs.Means.{means, declared_count}
+use Rattle.wac_graph.specs.Means.{means}
 use Rattle.wac_graph.specs.Origin.{Naming}
 use Rattle.wac_graph.proofs.Lists.{get_kept, all_more}
 use Rattle.wac_resolution_errors.specs.Error.{Error, declaration_conflict}
@@ -100,9 +100,9 @@ defined old mid new before after x y id k n agrees placed named unexported unbou
     unexported,
     unbound,
     b.is naming
-    ∙ ap (λ (g : Parts). binding (composed naming g before) id.string n) is
-    ∙ ap (λ (c : Composition). binding c id.string n) (composition_defines old (numbers_of before.nodes) id.string k naming)
-    ∙ ap (binding (with_export (with_node (composed naming old before) definition (means naming old k)) id.string (next_of (composed naming old before))) id.string) (number ∙ sym (next_is naming old (numbers_of before.nodes))),
+        ∙ ap (λ (g : Parts). binding (composed naming g before) id.string n) is
+        ∙ ap (λ (c : Composition). binding c id.string n) (composition_defines old (numbers_of before.nodes) id.string k naming)
+        ∙ ap (binding (with_export (with_node (composed naming old before) definition (means naming old k)) id.string (next_of (composed naming old before))) id.string) (number ∙ sym (next_is naming old (numbers_of before.nodes))),
   );
   bound = b.places;
   imported = imported;

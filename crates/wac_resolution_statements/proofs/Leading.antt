@@ -1,7 +1,7 @@
 -- Type statements lead from one composition to the next.
 use Rattle.std.proofs.Common.{◌≡◌, ◌∙◌, ℕ, zero, suc, List, [], ◌∷◌, ◌++◌, Option, None, inl, inr, refl, sym, ap, subst, append-nil}
 use Rattle.std.specs.Prelude.{filter_map}
-use Rattle.std.specs.List.{AllByRecursion, cons_option}
+use Rattle.std.specs.List.{cons_option}
 use Rattle.wac_lexer.specs.Span.{Span}
 use Rattle.wac_grammar.specs.Tree.{TypeStatement, Statement}
 use Rattle.wac_types.specs.declared.kind.ItemKind.{ItemKind}
@@ -11,7 +11,7 @@ use Rattle.wac_types.specs.Scope.{Named, with_named}
 use Rattle.wac_graph.specs.Graph.{Parts}
 use Rattle.wac_graph.specs.Means.{means, declared_count}
 use Rattle.wac_graph.specs.Origin.{Naming}
-use Rattle.wac_graph.specs.Package.{Key, HeldPackage}
+use Rattle.wac_graph.specs.Package.{Key}
 use Rattle.wac_graph.proofs.Lists.{all_implies}
 use Rattle.wac_resolution_errors.specs.Error.{Error}
 use Rattle.wac_resolution_rules.specs.BrokenWorlds.{DefinitionBroken, KindBroken, HasKind}
@@ -19,7 +19,7 @@ use Rattle.wac_resolution_rules.specs.Composition.{Composition, Node, definition
 use Rattle.wac_resolution_rules.specs.Given.{Rules}
 use Rattle.wac_resolution_rules.specs.Nodes.{import_of, imports, next_of}
 use Rattle.wac_resolution_rules.specs.Paths as rules
-use Rattle.wac_resolution_rules.specs.Places.{Places, names_at, more_at, places_after}
+use Rattle.wac_resolution_rules.specs.Places.{Places, more_at, places_after}
 use Rattle.wac_resolution_rules.specs.Spans.{identifier_of}
 use Rattle.wac_resolution_rules.specs.TypeStatements.{Defines, defining, Declares}
 use Rattle.wac_resolution_rules.proofs.Prefixes.{named_at_suc}
