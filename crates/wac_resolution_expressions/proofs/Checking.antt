@@ -1,11 +1,10 @@
 -- Arguments that are wrong, and instances that are made of those that are right.
-use Rattle.std.proofs.Common.{◌≡◌, ◌∙◌, ◌<◌, ℕ, List, [], ◌∷◌, ◌++◌, Option, Some, None, true, false, ◌⊎◌, inl, inr, refl, sym, ap, subst, length, is_some}
+use Rattle.std.proofs.Common.{◌≡◌, ◌∙◌, ◌<◌, ℕ, List, [], ◌∷◌, ◌++◌, Option, Some, None, false, inl, inr, sym, ap, subst, length, is_some}
 use Rattle.std.specs.Prelude.{slice_get, option_and_then, unwrap_or, IsSome}
 use Rattle.std.specs.List.{AllByRecursion}
 use Rattle.std.proofs.lemmas.Option.{slice_get_within}
 use Rattle.wac_lexer.specs.Span.{Span}
 use Rattle.wac_grammar.specs.Tree.{PackageName, Arguments}
-use Rattle.wac_types.specs.declared.entry.Entry.{Entry}
 use Rattle.wac_types.specs.declared.kind.ItemKind.{ItemKind}
 use Rattle.wac_types.specs.declared.kind.ItemKind.TheVariants as kinds
 use Rattle.wac_types.specs.declared.kind.WorldId.{WorldId}
@@ -20,20 +19,19 @@ use Rattle.wac_graph.specs.Graph.{Parts, import_kind}
 use Rattle.wac_graph.specs.Means.{means, entry_means}
 use Rattle.wac_graph.specs.Origin.{Naming, IsOneToOne}
 use Rattle.wac_graph.specs.Package.{HeldPackage}
-use Rattle.wac_graph.specs.Packages.{Contents, contents_in}
+use Rattle.wac_graph.specs.Packages.{contents_in}
 use Rattle.wac_resolution_errors.specs.Error.{Error, memory}
 use Rattle.wac_resolution_rules.specs.BrokenExpressions.{ReachedAt, argument_places, SpreadBroken}
-use Rattle.wac_resolution_rules.specs.Composition.{Composition, Node, kind_at}
-use Rattle.wac_resolution_rules.specs.Expressions.{Giving, at, Fits, left_out, has_fill, spreads_of, IsComplete, Spreads, Instantiates}
+use Rattle.wac_resolution_rules.specs.Composition.{Composition}
+use Rattle.wac_resolution_rules.specs.Expressions.{at, Fits, left_out, has_fill, spreads_of, IsComplete, Spreads}
 use Rattle.wac_resolution_rules.specs.Given.{Rules, imports_in}
 use Rattle.wac_resolution_rules.specs.Nodes.{next_of, with_instance}
-use Rattle.wac_resolution_rules.specs.Paths.{Setting}
 use Rattle.wac_resolution_nodes.specs.Growth.{GrowsNodes}
 use Rattle.wac_resolution_nodes.specs.Nodes.{composition_of}
 use Rattle.wac_resolution_nodes.proofs.Composed.{grows_on}
 use Rattle.wac_resolution_arguments.specs.Arguments.{given_nodes}
 use Rattle.wac_resolution_arguments.specs.Complete.{IsIncomplete}
-use Rattle.wac_resolution_arguments.specs.Fits.{IsImport, IsAgainst, AllFit, IsFirstMisfit}
+use Rattle.wac_resolution_arguments.specs.Fits.{IsImport, AllFit, IsFirstMisfit}
 use Rattle.wac_resolution_arguments.specs.Giving.{Gave}
 use Rattle.wac_resolution_arguments.specs.Spreads.{giving_of, imports_at}
 use Rattle.wac_resolution_expressions.specs.declared.packages.Loaded.{Loaded}

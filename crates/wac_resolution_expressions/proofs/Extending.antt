@@ -1,12 +1,10 @@
 -- What a graph keeps as expressions are resolved.
-use Rattle.std.proofs.Common.{◌≡◌, ◌∙◌, ◌<◌, ℕ, zero, suc, List, [], ◌∷◌, Some, None, refl, sym, ap, subst, length}
+use Rattle.std.proofs.Common.{◌≡◌, ◌∙◌, ◌<◌, ℕ, zero, suc, List, [], ◌∷◌, Some, refl, sym, ap, subst, length}
 use Rattle.std.specs.Prelude.{slice_get}
 use Rattle.std.specs.List.{AllByRecursion}
 use Rattle.wac_types.specs.declared.entry.Entry.{Entry}
-use Rattle.wac_types.specs.declared.kind.ItemKind.{ItemKind}
 use Rattle.wac_types.specs.declared.kind.ItemKind.TheVariants as kinds
 use Rattle.wac_types.specs.declared.kind.WorldId.{WorldId}
-use Rattle.wac_types.specs.Growth.{KeepsNames}
 use Rattle.wac_types.specs.Meaning.{Meaning}
 use Rattle.wac_types.specs.Package.{PackageParts}
 use Rattle.wac_types.specs.Scope.{Named}
@@ -18,9 +16,8 @@ use Rattle.wac_graph.specs.Means.{means, declared_count}
 use Rattle.wac_graph.specs.Node.{Node as GraphNode}
 use Rattle.wac_graph.specs.Origin.{Naming}
 use Rattle.wac_graph.specs.Package.{Key, HeldPackage, IsHeld}
-use Rattle.wac_graph.specs.Packages.{Contents, contents_in, handed, package_of}
+use Rattle.wac_graph.specs.Packages.{contents_in, handed, package_of}
 use Rattle.wac_graph.proofs.Lists.{all_implies}
-use Rattle.wac_resolution_rules.specs.Composition.{Composition}
 use Rattle.wac_resolution_nodes.specs.declared.root.Root.{Root}
 use Rattle.wac_resolution_nodes.specs.Growth.{GrowsNodes}
 use Rattle.wac_resolution_nodes.specs.Nodes.{composition_of, kind_in, NodesStand}

@@ -1,6 +1,6 @@
 -- Arguments that are given one after another.
-use Rattle.std.proofs.Common.{◌≡◌, ◌∙◌, ◌+◌, ◌<◌, ◌≤◌, ℕ, suc, List, [], ◌∷◌, ◌++◌, Bool, true, false, inl, inr, refl, sym, ap, subst, map, take, drop, length, get_or, arith}
-use Rattle.std.proofs.lemmas.List.{length-map, get_or-map, take_more, take_all, take-append-drop, drop_all}
+use Rattle.std.proofs.Common.{◌≡◌, ◌∙◌, ◌+◌, ◌<◌, ◌≤◌, ℕ, suc, List, [], ◌∷◌, ◌++◌, inl, inr, refl, sym, ap, subst, take, drop, length, get_or}
+use Rattle.std.proofs.lemmas.List.{take_more, take_all, take-append-drop, drop_all}
 use Rattle.std.proofs.Math.Seq.{drop-cons}
 use Rattle.wac_grammar.specs.Tree.{Arguments, InstantiationArgument, arguments_from}
 use Rattle.wac_types.specs.Meaning.{Meaning}

@@ -1,7 +1,6 @@
 -- Nodes that are given for names.
-use Rattle.std.proofs.Common.{◌≡◌, ◌∙◌, ◌<◌, ℕ, List, [], ◌∷◌, ◌++◌, Option, Some, None, true, false, ◌⊎◌, inl, inr, Result, refl, sym, ap, subst, length, is_some}
-use Rattle.std.specs.Prelude.{option_map, IfErr, OnOk}
-use Rattle.std.specs.List.{AllByRecursion}
+use Rattle.std.proofs.Common.{◌≡◌, ◌∙◌, ◌<◌, ℕ, List, Option, Some, None, true, inr, Result, refl, sym, ap, subst, length, is_some}
+use Rattle.std.specs.Prelude.{option_map, IfErr}
 use Rattle.std.proofs.lemmas.List.{map_push}
 use Rattle.std.proofs.lemmas.Result.{IfErr-weaker}
 use Rattle.wac_lexer.specs.Span.{Span}
@@ -12,7 +11,7 @@ use Rattle.wac_graph.specs.declared.node.NodeId.{NodeId}
 use Rattle.wac_graph.specs.Graph.{Parts}
 use Rattle.wac_graph.specs.Origin.{Naming}
 use Rattle.wac_graph.proofs.Lists.{all_more}
-use Rattle.wac_resolution_errors.specs.Error.{Error, memory, duplicate_instantiation_arg}
+use Rattle.wac_resolution_errors.specs.Error.{Error, duplicate_instantiation_arg}
 use Rattle.wac_resolution_errors.specs.Told.{told}
 use Rattle.wac_resolution_errors.specs.declared.error.Error.{Error as CodeError}
 use Rattle.wac_resolution_rules.specs.BrokenExpressions.{ArgumentBroken}
@@ -84,5 +83,5 @@ pub inferred_breaks : (g : Parts) (root : Root) (w : WorldId) (x : Ident) (node 
 inferred_breaks g root w x node text before r is inferred h =
     IfErr-weaker r (λ e. IsGiven before text x.span (told e)) (λ e. (naming : Naming) (s : Given) (rest : Arguments) → ArgumentBroken s (imports_at naming g w) rest (giving_of naming g (numbers_of root.nodes) before) (told e) (InstantiationArgument.inferred x))
     (λ e given naming s rest.
-        let n = inferred_node naming g (numbers_of root.nodes) w x node text inferred in
-        inr (node.0, n.0, is.is, n.1, subst (λ (l : List ℕ). IsGiven before l x.span (told e)) (sym n.2) given)) h
+    let n = inferred_node naming g (numbers_of root.nodes) w x node text inferred in
+    inr (node.0, n.0, is.is, n.1, subst (λ (l : List ℕ). IsGiven before l x.span (told e)) (sym n.2) given)) h

@@ -1,12 +1,12 @@
 -- The package of which instances are made under a name.
-use Rattle.std.proofs.Common.{◌≡◌, ◌∙◌, ℕ, List, Option, Some, None, Bool, true, false, cond, refl, sym, ap, subst}
+use Rattle.std.proofs.Common.{◌≡◌, ◌∙◌, Some, None, Bool, false, cond, refl, sym, ap, subst}
 use Rattle.std.specs.Prelude.{slice_get, option_map}
 use Rattle.std.specs.Str.{bytes_eq}
 use Rattle.wac_grammar.specs.Tree.{PackageName}
 use Rattle.wac_graph.specs.declared.node.PackageId.{PackageId}
 use Rattle.wac_graph.specs.Graph.{Parts}
 use Rattle.wac_graph.specs.Package.{Key, HeldPackage, IsHeld}
-use Rattle.wac_graph.specs.Packages.{Contents, contents_in, handed, package_of}
+use Rattle.wac_graph.specs.Packages.{contents_in, handed, package_of}
 use Rattle.wac_resolution_rules.specs.Given.{key_named}
 use Rattle.wac_resolution_nodes.specs.Nodes.{NodesStand}
 use Rattle.wac_resolution_paths.specs.declared.setting.Setting.{Setting}

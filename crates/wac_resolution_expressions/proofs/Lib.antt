@@ -6,3 +6,4 @@ pub mod SpreadPlaces
 pub mod Instantiating
 pub mod GivingNodes
 pub mod Checking
+pub mod Standing

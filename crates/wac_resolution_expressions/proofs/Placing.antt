@@ -5,16 +5,16 @@ use Rattle.std.specs.List.{AllByRecursion}
 use Rattle.std.specs.Str.{bytes_eq}
 use Rattle.std.proofs.lemmas.Slice.Eq.{bytes_eq-Decides}
 use Rattle.wac_lexer.specs.Span.{Span}
-use Rattle.wac_grammar.specs.Tree.{Ident, Expr, Arguments, InstantiationArgument}
+use Rattle.wac_grammar.specs.Tree.{Ident, Arguments, InstantiationArgument}
 use Rattle.wac_grammar.specs.Spans.{argument_name_span}
 use Rattle.wac_types.specs.Meaning.{Meaning}
-use Rattle.wac_types.specs.Scope.{Named, look_up, StandsFor, with_named}
+use Rattle.wac_types.specs.Scope.{Named, look_up}
 use Rattle.wac_types.specs.Shape.{exports_of}
 use Rattle.wac_types.specs.Steps.{Steps}
 use Rattle.wac_graph.proofs.Lists.{get_kept, all_more, all_implies}
 use Rattle.wac_resolution_rules.specs.BrokenExpressions.{argument_place, own_places, spread_places, argument_places}
 use Rattle.wac_resolution_rules.specs.Composition.{Composition, Node, kind_at}
-use Rattle.wac_resolution_rules.specs.Expressions.{At, at, alias_at, Giving, given_too, name_meant, name_inferred, spread_step, Spreads, spreads_of, Stands, Gives, GivesOne}
+use Rattle.wac_resolution_rules.specs.Expressions.{At, at, alias_at, Giving, given_too, name_meant, name_inferred, spread_step, Spreads, spreads_of, Gives, GivesOne}
 use Rattle.wac_resolution_rules.specs.Given.{Given}
 use Rattle.wac_resolution_rules.specs.Kinds.{instance_of}
 use Rattle.wac_resolution_rules.specs.Nodes.{node_at, instance_at}
@@ -73,7 +73,6 @@ IsKept Q = (c d : Composition) (name : List ℕ) → Adds c d → Q c name → Q
 kept_by : (Q : Composition → List ℕ → Type 0) → ((c : Composition) (more : List Node) (name : List ℕ) → Q c name → Q (added c more) name) → IsKept Q
 kept_by Q h c d name a q = subst (λ (x : Composition). Q x name) (sym a.1) (h c a.0 name q)
 
-
 argument_kept : (imports : Named Meaning) (a : InstantiationArgument) → IsKept (λ c name. IsFound (argument_place c imports a) name)
 argument_kept imports a = kept_by (λ c name. IsFound (argument_place c imports a) name) (go a)
   where
@@ -97,8 +96,8 @@ pub own_kept : (imports : Named Meaning) (args : Arguments) → IsKept (λ c nam
 own_kept imports Arguments.none c d name a h = h
 own_kept imports (Arguments.more x rest) c d name a h =
     elim (found_either (argument_place c imports x) (own_places c imports rest) name h) [
-      inl first ↦ found_first (argument_place d imports x) (own_places d imports rest) name (argument_kept imports x c d name a first)
-    | inr later ↦ found_later (argument_place d imports x) (own_places d imports rest) name (own_kept imports rest c d name a later)
+      | inl first ↦ found_first (argument_place d imports x) (own_places d imports rest) name (argument_kept imports x c d name a first)
+      | inr later ↦ found_later (argument_place d imports x) (own_places d imports rest) name (own_kept imports rest c d name a later)
     ]
 
 spread_kept : (id : Ident) → IsKept (λ c name. IsFound (spread_places c id) name)
@@ -159,8 +158,8 @@ gives_placed s imports (Arguments.more x rest) Q keeps old new p each =
     let all = gives_placed s imports rest (λ c name. Q c name ⊎ R c name) both p.0 new p.2 (one_placed s imports rest Q keeps old x p.0 p.1 each) in
     all_implies (λ (y : List ℕ × ℕ). (Q new.composition y.0 ⊎ R new.composition y.0) ⊎ IsFound (own_places new.composition imports rest) y.0) (λ (y : List ℕ × ℕ). Q new.composition y.0 ⊎ IsFound (own_places new.composition imports (Arguments.more x rest)) y.0)
     (λ y h. elim h [
-      inl first ↦ elim first [ inl q ↦ inl q | inr r ↦ inr (found_first (argument_place new.composition imports x) (own_places new.composition imports rest) y.0 r) ]
-    | inr later ↦ inr (found_later (argument_place new.composition imports x) (own_places new.composition imports rest) y.0 later)
+      | inl first ↦ elim first [ inl q ↦ inl q | inr r ↦ inr (found_first (argument_place new.composition imports x) (own_places new.composition imports rest) y.0 r) ]
+      | inr later ↦ inr (found_later (argument_place new.composition imports x) (own_places new.composition imports rest) y.0 later)
     ]) new.arguments all
 
 -- ---- spreads
@@ -201,9 +200,9 @@ spread_placed imports Q keeps old id new p each =
     let there : option_and_then (instance_at old.composition) (look_up id.string old.composition.declared) ≡ Some p.1 = ap (option_and_then (instance_at old.composition)) p.2 ∙ p.3 in
     all_implies (λ (y : List ℕ × ℕ). Q new.composition y.0 ⊎ IsFound exports y.0) (λ (y : List ℕ × ℕ). Q new.composition y.0 ⊎ IsFound (spread_places new.composition id) y.0)
     (λ y h. elim h [
-      inl q ↦ inl q
-    | inr r ↦ inr (spread_kept id old.composition new.composition y.0 (spread_adds imports old id new p)
-      (subst (λ (o : Option Meaning). IsFound (elim o as (λ _. Named Span) [ None ↦ [] | Some i ↦ map (λ (x : List ℕ × Meaning). (x.0, id.span)) (exports_of i) ]) y.0) (sym there) (found_at exports id.span y.0 r)))
+      | inl q ↦ inl q
+      | inr r ↦ inr (spread_kept id old.composition new.composition y.0 (spread_adds imports old id new p)
+          (subst (λ (o : Option Meaning). IsFound (elim o as (λ _. Named Span) [ None ↦ [] | Some i ↦ map (λ (x : List ℕ × Meaning). (x.0, id.span)) (exports_of i) ]) y.0) (sym there) (found_at exports id.span y.0 r)))
     ]) new.arguments all
 
 pub spreads_placed : (imports : Named Meaning) (ids : List Ident) (Q : Composition → List ℕ → Type 0) → IsKept Q → (old new : Giving) → Steps (Spreads imports) old ids new → HoldsOfEach Q old
@@ -215,8 +214,8 @@ spreads_placed imports (id ∷ ids) Q keeps old new p each =
     let all = spreads_placed imports ids (λ c name. Q c name ⊎ R c name) both p.0 new p.2 (spread_placed imports Q keeps old id p.0 p.1 each) in
     all_implies (λ (y : List ℕ × ℕ). (Q new.composition y.0 ⊎ R new.composition y.0) ⊎ IsFound (flat_map (spread_places new.composition) ids) y.0) (λ (y : List ℕ × ℕ). Q new.composition y.0 ⊎ IsFound (flat_map (spread_places new.composition) (id ∷ ids)) y.0)
     (λ y h. elim h [
-      inl first ↦ elim first [ inl q ↦ inl q | inr r ↦ inr (found_first (spread_places new.composition id) (flat_map (spread_places new.composition) ids) y.0 r) ]
-    | inr later ↦ inr (found_later (spread_places new.composition id) (flat_map (spread_places new.composition) ids) y.0 later)
+      | inl first ↦ elim first [ inl q ↦ inl q | inr r ↦ inr (found_first (spread_places new.composition id) (flat_map (spread_places new.composition) ids) y.0 r) ]
+      | inr later ↦ inr (found_later (spread_places new.composition id) (flat_map (spread_places new.composition) ids) y.0 later)
     ]) new.arguments all
 
 -- ---- all of them
@@ -233,6 +232,6 @@ pub each_somewhere : (imports : Named Meaning) (args : Arguments) (old new : Giv
 each_somewhere imports args old new p each =
     all_implies (λ (y : List ℕ × ℕ). IsFound (own_places new.composition imports args) y.0 ⊎ IsFound (flat_map (spread_places new.composition) (spreads_of args)) y.0) (λ (y : List ℕ × ℕ). IsFound (argument_places new.composition imports args) y.0)
     (λ y h. elim h [
-      inl own ↦ found_first (own_places new.composition imports args) (flat_map (spread_places new.composition) (spreads_of args)) y.0 own
-    | inr later ↦ found_later (own_places new.composition imports args) (flat_map (spread_places new.composition) (spreads_of args)) y.0 later
+      | inl own ↦ found_first (own_places new.composition imports args) (flat_map (spread_places new.composition) (spreads_of args)) y.0 own
+      | inr later ↦ found_later (own_places new.composition imports args) (flat_map (spread_places new.composition) (spreads_of args)) y.0 later
     ]) new.arguments (spreads_placed imports (spreads_of args) (λ d name. IsFound (own_places d imports args) name) (own_kept imports args) old new p each)

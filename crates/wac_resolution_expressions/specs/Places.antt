@@ -1,5 +1,5 @@
 -- Where arguments stand.
-use Rattle.std.specs.Prelude.{ℕ, List, [], Option, Some, None, map, IsSome}
+use Rattle.std.specs.Prelude.{ℕ, [], Option, Some, None, map, IsSome}
 use Rattle.std.specs.List.{AllByRecursion}
 use Rattle.wac_lexer.specs.Span.{Span}
 use Rattle.wac_grammar.specs.Tree.{Arguments}

@@ -2,15 +2,13 @@
 #![tactic(auto)]
 
 mod completing;
+mod expr;
 mod given;
 mod instance;
 mod laws;
 mod packages;
 mod places;
 
-pub use completing::complete;
-pub use given::{check_last, give_inferred, give_named};
+pub use expr::expression;
 pub use instance::instantiate;
 pub use laws::{extending_keeps, graphs_extend};
-pub use packages::{Loaded, instantiable};
-pub use places::place;

@@ -39,12 +39,7 @@ fn if_exported(state: &State, node: NodeId, name: &str, span: SourceSpan) -> Opt
 }
 
 /// Where a spread stands, if it is of an instance that exports the name.
-fn spread_place(
-    state: &State,
-    root: &Root<'_>,
-    id: &Ident<'_>,
-    name: &str,
-) -> Option<SourceSpan>
+fn spread_place(state: &State, root: &Root<'_>, id: &Ident<'_>, name: &str) -> Option<SourceSpan>
     requires { Agrees state.now.graph root.now }
     ensures { (naming : Naming) → look_up name.now (places_of_spread (composed naming state.now.graph root.now) (ident_of id.now)) ≡ result }
 {

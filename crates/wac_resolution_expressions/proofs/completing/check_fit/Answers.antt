@@ -1,11 +1,10 @@
-use Rattle.std.proofs.Common.{◌∙◌, map, ap}
+use Rattle.std.proofs.Common.{map}
 use Rattle.wac_types.specs.Names.{by_name}
 use Rattle.wac_grammar.specs.Tree.{arguments_from}
 use Rattle.wac_ast_base.specs.Names.{package_name_of}
 use Rattle.wac_ast_expressions.specs.Expressions.{argument_of}
 use Rattle.wac_ast_expressions.specs.declared.expr.InstantiationArgument.{InstantiationArgument}
-use Rattle.std.proofs.Common.{◌≡◌, List, subst, Option}
-use Rattle.wac_lexer.specs.Span.{Span}
+use Rattle.std.proofs.Common.{◌≡◌, List, subst}
 use Rattle.wac_graph.specs.Origin.{Naming}
 use Rattle.wac_types.specs.Scope.{look_up}
 use Rattle.wac_resolution_errors.specs.Told.{told}

@@ -1,0 +1,276 @@
+-- What expressions stand for, and the rules that they break.
+use Rattle.std.proofs.Common.{◌≡◌, ◌∙◌, ◌+◌, ◌-◌, ◌<◌, ◌≤◌, ℕ, suc, List, [], ◌∷◌, Bool, false, inl, inr, Result, refl, sym, ap, subst, map, take, drop, length, get_or, arith, rules}
+use Rattle.std.specs.Prelude.{IfErr, IsSome, nat_eq}
+use Rattle.std.specs.List.{AllByRecursion}
+use Rattle.std.proofs.lemmas.List.{length-map, get_or-map, length-drop}
+use Rattle.std.proofs.lemmas.Result.{IfErr-weaker}
+use Rattle.wac_lexer.specs.Span.{Span}
+use Rattle.wac_grammar.specs.Tree.{Ident, PackageName, PostfixExpr, Expr, PrimaryExpr, Arguments, InstantiationArgument, InstantiationArgumentName, arguments_from}
+use Rattle.wac_grammar.specs.Grammar.{primary_span}
+use Rattle.wac_grammar.specs.Spans.{argument_name_span}
+use Rattle.wac_types.specs.declared.kind.ItemKind.TheVariants as kinds
+use Rattle.wac_types.specs.declared.kind.WorldId.{WorldId}
+use Rattle.wac_types.specs.Meaning.{Meaning}
+use Rattle.wac_types.specs.Scope.{Named, look_up, IsFresh}
+use Rattle.wac_types.specs.Steps.{Steps, Fails}
+use Rattle.wac_types.specs.Table.{Names}
+use Rattle.wac_ast_expressions.specs.Expressions.{argument_of, expr_of, nested_expr_of}
+use Rattle.wac_ast_expressions.specs.declared.expr.InstantiationArgument.{InstantiationArgument as CodeArgument}
+use Rattle.wac_ast_expressions.specs.declared.expr.NestedExpr.{NestedExpr as CodeNestedExpr, NestedExpr', out-NestedExpr}
+use Rattle.wac_graph.specs.declared.node.NodeId.{NodeId}
+use Rattle.wac_graph.specs.Graph.{Parts}
+use Rattle.wac_graph.specs.Origin.{Naming, IsOneToOne}
+use Rattle.wac_graph.specs.Package.{Key, HeldPackage}
+use Rattle.wac_graph.specs.Packages.{Contents, contents_in}
+use Rattle.wac_resolution_errors.specs.Error.{Error}
+use Rattle.wac_resolution_errors.specs.Told.{told}
+use Rattle.wac_resolution_errors.specs.declared.error.Error.{Error as CodeError}
+use Rattle.wac_resolution_rules.specs.BrokenExpressions.{AccessBroken, ArgumentBroken, ArgumentsBroken, IsFillNotLast, IsGivenAlready, IsUnknownPackage, own_places}
+use Rattle.wac_resolution_rules.specs.Composition.{Composition}
+use Rattle.wac_resolution_rules.specs.Expressions.{at, Accesses, nothing_given, given_too, Gives, GivesOne, name_meant, has_fill, Instantiates, IsEmpty, Spreads, spreads_of}
+use Rattle.wac_resolution_rules.specs.Given.{Given, Rules, imports_in}
+use Rattle.wac_resolution_nodes.specs.declared.root.Root.{Root}
+use Rattle.wac_resolution_nodes.specs.Accesses.{AccessesGo}
+use Rattle.wac_resolution_nodes.specs.Nodes.{composition_of, NodesStand}
+use Rattle.wac_resolution_nodes.specs.Root.{numbers_of, Agrees, NodeIs}
+use Rattle.wac_resolution_paths.specs.declared.setting.Setting.{Setting}
+use Rattle.wac_resolution_paths.specs.Expands.{HoldsHanded}
+use Rattle.wac_resolution_paths.specs.Setting.{packages_in, setting_of}
+use Rattle.wac_resolution_arguments.specs.Arguments.{given_nodes}
+use Rattle.wac_resolution_arguments.specs.Giving.{Gave}
+use Rattle.wac_resolution_arguments.specs.Spreads.{giving_of, imports_at, GivenThere}
+use Rattle.wac_resolution_nodes.proofs.Roots.{fresh_read}
+use Rattle.wac_resolution_expressions.specs.declared.packages.Loaded.{Loaded}
+use Rattle.wac_resolution_expressions.specs.Completing.{Completes, FailsToComplete}
+use Rattle.wac_resolution_expressions.specs.Giving.{is_none, GivesFor, IsGivenFor, GivesOn, ArgumentGoes, ArgumentBreaks, ArgumentsGo, ArgumentsBreak}
+use Rattle.wac_resolution_expressions.specs.Growth.{Extends, given_in, ExprGoes, ExprBreaks}
+use Rattle.wac_resolution_expressions.specs.Loaded.{IsLoaded, IsInstantiable}
+use Rattle.wac_resolution_expressions.specs.Places.{StandThemselves}
+use Rattle.wac_resolution_expressions.specs.Primaries.{PrimaryGoes, PrimaryBreaks}
+use Rattle.wac_resolution_expressions.proofs.Extending.{extends_self, extends_on, nodes_extend, given_extended, imports_extended, contents_extended}
+use Rattle.wac_resolution_expressions.proofs.GivingInOrder.{GivesFirst, gives_next, gives_breaks, gives_end}
+use Rattle.wac_resolution_expressions.proofs.GivingNodes.{after_more, there_more}
+use Rattle.wac_resolution_expressions.proofs.Placing.{each_own}
+
+-- an expression in parentheses
+pub nested_is : (x : CodeNestedExpr) → nested_expr_of x ≡ PrimaryExpr.nested (out-NestedExpr x).span (expr_of (out-NestedExpr x).inner.value)
+unfolding out-NestedExpr denote.Hole.Carrier.out
+nested_is (NestedExpr' s p outer first others) = refl
+
+-- whether arguments are left by their number
+none_left : (l : List InstantiationArgument) → is_none (arguments_from l) ≡ nat_eq (length l) 0
+none_left [] = refl
+none_left (y ∷ l) = (let some : nat_eq (length (y ∷ l)) 0 ≡ false = search rules in sym some)
+
+-- some naming
+all_zero : Naming
+all_zero = λ o. 0
+
+module _ (s : Setting) (rules : Rules) where
+  -- ---- accesses
+
+  pub expr_goes : (old mid new : Parts) (declared : Named ℕ) (span : Span) (first : PrimaryExpr) (others : List PostfixExpr) (n m : ℕ) → PrimaryGoes s rules old mid declared first n → AccessesGo mid new n others m
+      → ExprGoes s rules old new declared (Expr.expr span first others) m
+  expr_goes old mid new declared span first others n m p a = record {
+    extends = extends_on (packages_in s) old mid new p.extends (nodes_extend (packages_in s) mid new a.grows p.extends.handed);
+    there = a.there;
+    stands = λ naming one. (at (composition_of naming mid declared) n, p.stands naming one, a.go naming declared);
+  }
+
+  pub expr_breaks_first : (old : Parts) (declared : Named ℕ) (span : Span) (first : PrimaryExpr) (others : List PostfixExpr) (e : Error) → PrimaryBreaks s rules old declared first e → ExprBreaks s rules old declared (Expr.expr span first others) e
+  expr_breaks_first old declared span first others e h naming one = inl (h naming one)
+
+  -- accesses, of which one is broken
+  abbrev pub AccessesBreak : Parts → Span → ℕ → List PostfixExpr → Error → Type 0
+  AccessesBreak g span n others e = (naming : Naming) (declared : Named ℕ) → Fails Accesses (AccessBroken span e) (at (composition_of naming g declared) n) others
+
+  pub expr_breaks_later : (old mid : Parts) (declared : Named ℕ) (span : Span) (first : PrimaryExpr) (others : List PostfixExpr) (n : ℕ) (r : Result NodeId CodeError) → PrimaryGoes s rules old mid declared first n
+      → IfErr r (λ e. AccessesBreak mid (primary_span first) n others (told e)) → IfErr r (λ e. ExprBreaks s rules old declared (Expr.expr span first others) (told e))
+  expr_breaks_later old mid declared span first others n r p h =
+      IfErr-weaker r (λ e. AccessesBreak mid (primary_span first) n others (told e)) (λ e. ExprBreaks s rules old declared (Expr.expr span first others) (told e))
+      (λ e f naming one. inr (at (composition_of naming mid declared) n, p.stands naming one, f naming declared)) h
+
+  -- ---- what stands first
+
+  pub ident_goes : (g : Parts) (root : Root) (x : Ident) (node : NodeId) → Agrees g root → HoldsHanded (packages_in s) g → NodeIs root x node → PrimaryGoes s rules g g (numbers_of root.nodes) (PrimaryExpr.ident x) node.0
+  ident_goes g root x node agrees handed is = record {
+    extends = extends_self (packages_in s) g agrees.nodes handed;
+    there = is.there g agrees;
+    stands = λ naming one. (node.0, is.is, refl);
+  }
+
+  pub nested_goes : (old new : Parts) (declared : Named ℕ) (span : Span) (x : Expr) (n : ℕ) → ExprGoes s rules old new declared x n → PrimaryGoes s rules old new declared (PrimaryExpr.nested span x) n
+  nested_goes old new declared span x n p = record { extends = p.extends; there = p.there; stands = p.stands }
+
+  -- ---- an instance
+
+  -- a package that is loaded goes on to be there
+  pub loaded_still : (old new : Parts) (p : Loaded) (held : HeldPackage) → Extends (packages_in s) old new → IsLoaded old p held → IsLoaded new p held
+  loaded_still old new p held e l = record { found = e.held p.id.0 held l.found; world = l.world; named = e.named (kinds.Component p.world) l.named }
+
+  module _ (old loaded mid : Parts) (declared : Named ℕ) (span : Span) (x : PackageName) (args : Arguments) (p : Loaded) (given : Named NodeId) (l : IsInstantiable s old loaded x p) (a : ArgumentsGo s rules loaded mid [] given declared p.world args) where
+    -- what it imports is what its world imports
+    same_imports : (naming : Naming) → imports_in (contents_in naming loaded l.held) ≡ imports_at naming loaded p.world
+    same_imports naming = ap (λ (v : WorldId). imports_at naming loaded v) l.loaded.world
+
+    gives : (naming : Naming) → IsOneToOne naming → Gives (given_in naming s rules) (imports_in (contents_in naming loaded l.held)) (nothing_given (composition_of naming old declared)) args (giving_of naming mid declared given)
+    gives naming one =
+        subst (λ (i : Named Meaning). Gives (given_in naming s rules) i (nothing_given (composition_of naming old declared)) args (giving_of naming mid declared given)) (sym (same_imports naming))
+        (subst (λ (c : Composition). Gives (given_in naming s rules) (imports_at naming loaded p.world) (nothing_given c) args (giving_of naming mid declared given)) (l.composition naming declared) (a.is naming one))
+
+    pub themselves : StandThemselves mid declared p.world args given
+    themselves naming one =
+        subst (λ (i : Named Meaning). AllOwn i) (sym (imports_extended (packages_in s) loaded mid a.extends p.world l.loaded.named naming))
+        (each_own (given_in naming s rules) (imports_at naming loaded p.world) args (composition_of naming loaded declared) (giving_of naming mid declared given) (a.is naming one))
+      where
+        AllOwn : Named Meaning → Type 0
+        AllOwn i = AllByRecursion (λ (y : List ℕ × ℕ). IsSome (look_up y.0 (own_places (composition_of naming mid declared) i args))) (given_nodes given)
+
+    contents_same : (naming : Naming) → contents_in naming mid l.held ≡ contents_in naming loaded l.held
+    contents_same naming = contents_extended (packages_in s) loaded mid a.extends l.extends.handed p.id.0 l.held l.loaded.found naming
+
+    imports_same : (naming : Naming) → imports_in (contents_in naming loaded l.held) ≡ imports_at naming mid p.world
+    imports_same naming = same_imports naming ∙ sym (imports_extended (packages_in s) loaded mid a.extends p.world l.loaded.named naming)
+
+    pub new_goes : (new : Parts) (n : ℕ) → Completes rules mid new declared p args given n → PrimaryGoes s rules old new declared (PrimaryExpr.new span x args) n
+    new_goes new n c = record {
+      extends = extends_on (packages_in s) old loaded new l.extends (extends_on (packages_in s) loaded mid new a.extends (nodes_extend (packages_in s) mid new c.grows a.extends.handed));
+      there = c.there;
+      stands = λ naming one. (
+        contents_in naming loaded l.held,
+        giving_of naming mid declared given,
+        giving_of naming c.mid declared c.all,
+        l.is naming rules,
+        gives naming one,
+        subst (λ (i : Named Meaning). Steps (Spreads i) (giving_of naming mid declared given) (spreads_of args) (giving_of naming c.mid declared c.all)) (sym (imports_same naming)) (c.spread naming),
+        subst (λ (k : Key). Instantiates rules (contents_in naming loaded l.held) k (has_fill args) (giving_of naming c.mid declared c.all) (at (composition_of naming new declared) n)) l.key
+            (subst (λ (q : Contents). Instantiates rules q l.held.key (has_fill args) (giving_of naming c.mid declared c.all) (at (composition_of naming new declared) n)) (contents_same naming) (c.made l.held (loaded_still loaded mid p l.held a.extends l.loaded) naming one)),
+      );
+    }
+
+    pub completing_breaks : (e : Error) → FailsToComplete rules mid declared p.world x args given e → PrimaryBreaks s rules old declared (PrimaryExpr.new span x args) e
+    completing_breaks e f naming one =
+        elim (f naming (setting_of naming s) (contents_in naming loaded l.held) one (imports_same naming)) [
+          | inl spread ↦ inr (inr (inl (contents_in naming loaded l.held, giving_of naming mid declared given, l.is naming rules, gives naming one, spread)))
+          | inr b ↦ inr (inr (inr (contents_in naming loaded l.held, giving_of naming mid declared given, b.0, l.is naming rules, gives naming one, b.1, b.2)))
+        ]
+
+  pub unknown_breaks : (old : Parts) (declared : Named ℕ) (span : Span) (x : PackageName) (args : Arguments) (e : Error) → ((naming : Naming) (r : Rules) → IsUnknownPackage (given_in naming s r) x e) → PrimaryBreaks s rules old declared (PrimaryExpr.new span x args) e
+  unknown_breaks old declared span x args e h naming one = inl (h naming rules)
+
+  pub arguments_break : (old loaded : Parts) (declared : Named ℕ) (span : Span) (x : PackageName) (args : Arguments) (p : Loaded) (e : Error) → IsInstantiable s old loaded x p → ArgumentsBreak s rules loaded [] declared p.world args e
+      → PrimaryBreaks s rules old declared (PrimaryExpr.new span x args) e
+  arguments_break old loaded declared span x args p e l h naming one = inr (inl (
+    contents_in naming loaded l.held,
+    l.is naming rules,
+    subst (λ (i : Named Meaning). ArgumentsBroken (given_in naming s rules) i (nothing_given (composition_of naming old declared)) e args) (sym (ap (λ (v : WorldId). imports_at naming loaded v) l.loaded.world))
+        (subst (λ (c : Composition). ArgumentsBroken (given_in naming s rules) (imports_at naming loaded p.world) (nothing_given c) e args) (l.composition naming declared) (h naming one)),
+  ))
+
+  -- ---- arguments in order
+
+  module _ (old : Parts) (before : Named NodeId) (declared : Named ℕ) (w : WorldId) where
+    -- so many arguments were given
+    abbrev pub SoFar : Parts → Named NodeId → List CodeArgument → ℕ → Type 0
+    SoFar now given xs i = GivesOn (packages_in s) old now before given declared
+        (λ naming a b. GivesFirst (given_in naming s rules) (imports_at naming old w) a (take i (map argument_of xs)) (drop i (map argument_of xs)) b)
+
+    -- the same in a loop, with so many left
+    pub record InLoop (now : Parts) (given : Named NodeId) (xs : List CodeArgument) (i count : ℕ) : Type 0 where
+      pub so_far : SoFar now given xs i
+      pub left : count + i ≡ length xs
+
+    pub none_yet : (xs : List CodeArgument) → NodesStand old → HoldsHanded (packages_in s) old → GivenThere old before → SoFar old before xs 0
+    none_yet xs stand handed there = record { extends = extends_self (packages_in s) old stand handed; there = there; is = λ naming one. refl }
+
+    module _ (mid : Parts) (between : Named NodeId) (xs : List CodeArgument) (i : ℕ) (x : CodeArgument) (within : i < length xs) (is : x ≡ get_or xs i x) (named : Names old.types (kinds.Component w)) (f : SoFar mid between xs i) where
+      inside : i < length (map argument_of xs)
+      inside = subst (λ (k : ℕ). i < k) (sym (length-map xs argument_of)) within
+
+      here : get_or (map argument_of xs) i (argument_of x) ≡ argument_of x
+      here = get_or-map argument_of xs i x (argument_of x) within ∙ ap argument_of (sym is)
+
+      -- whether it is the last one
+      last_is : (last : Bool) → last ≡ nat_eq (length xs - suc i) 0 → is_none (arguments_from (drop (suc i) (map argument_of xs))) ≡ last
+      last_is last h = none_left (drop (suc i) (map argument_of xs)) ∙ ap (λ (k : ℕ). nat_eq k 0) (length-drop (suc i) (map argument_of xs) ∙ ap (λ (k : ℕ). k - suc i) (length-map xs argument_of)) ∙ sym h
+
+      pub arguments_next : (new : Parts) (after : Named NodeId) (last : Bool) → last ≡ nat_eq (length xs - suc i) 0 → ArgumentGoes s rules mid new between after declared w last (argument_of x) → SoFar new after xs (i + 1)
+      arguments_next new after last h g = record {
+        extends = extends_on (packages_in s) old mid new f.extends g.extends;
+        there = g.there;
+        is = λ naming one.
+            let step = subst (λ (l : Named Meaning). GivesOne (given_in naming s rules) l (arguments_from (drop (suc i) (map argument_of xs))) (giving_of naming mid declared between) (argument_of x) (giving_of naming new declared after))
+            (imports_extended (packages_in s) old mid f.extends w named naming) (g.is naming one (arguments_from (drop (suc i) (map argument_of xs))) (last_is last h)) in
+            let next : suc i ≡ i + 1 = omega arith in
+            subst (λ (k : ℕ). GivesFirst (given_in naming s rules) (imports_at naming old w) (giving_of naming old declared before) (take (i + 1) (map argument_of xs)) (drop k (map argument_of xs)) (giving_of naming new declared after)) next
+            (gives_next (given_in naming s rules) (imports_at naming old w) (map argument_of xs) i (argument_of x) inside here (giving_of naming old declared before) (giving_of naming mid declared between) (giving_of naming new declared after) (f.is naming one) step);
+      }
+
+      pub argument_breaks : (last : Bool) (e : Error) → last ≡ nat_eq (length xs - suc i) 0 → ArgumentBreaks s rules mid between declared w last (argument_of x) e → ArgumentsBreak s rules old before declared w (arguments_from (map argument_of xs)) e
+      argument_breaks last e h b naming one =
+          let rest : Arguments = arguments_from (drop (suc i) (map argument_of xs)) in
+          gives_breaks (given_in naming s rules) (imports_at naming old w) (map argument_of xs) i (argument_of x) inside here e (giving_of naming old declared before) (giving_of naming mid declared between) (f.is naming one)
+          (subst (λ (l : Named Meaning). ArgumentBroken (given_in naming s rules) l rest (giving_of naming mid declared between) e (argument_of x)) (imports_extended (packages_in s) old mid f.extends w named naming) (b naming rest one (last_is last h)))
+
+    pub arguments_end : (new : Parts) (after : Named NodeId) (xs : List CodeArgument) (i : ℕ) → length xs ≤ i → SoFar new after xs i → ArgumentsGo s rules old new before after declared w (arguments_from (map argument_of xs))
+    arguments_end new after xs i past f = record {
+      extends = f.extends;
+      there = f.there;
+      is = λ naming one. gives_end (given_in naming s rules) (imports_at naming old w) (map argument_of xs) i (giving_of naming old declared before) (giving_of naming new declared after) (subst (λ (k : ℕ). k ≤ i) (sym (length-map xs argument_of)) past) (f.is naming one);
+    }
+
+    -- ---- an argument
+
+    pub spread_goes : (last : Bool) (x : Ident) → NodesStand old → HoldsHanded (packages_in s) old → GivenThere old before → ArgumentGoes s rules old old before before declared w last (InstantiationArgument.spread x)
+    spread_goes last x stand handed there = record { extends = extends_self (packages_in s) old stand handed; there = there; is = λ naming one rest h. refl }
+
+    pub fill_goes : (last : Bool) (span : Span) → NodesStand old → HoldsHanded (packages_in s) old → GivenThere old before → ((rest : Arguments) → is_none rest ≡ last → IsEmpty rest) → ArgumentGoes s rules old old before before declared w last (InstantiationArgument.fill span)
+    fill_goes last span stand handed there h = record { extends = extends_self (packages_in s) old stand handed; there = there; is = λ naming one rest is. (h rest is, refl) }
+
+    pub named_goes : (mid : Parts) (after : Named NodeId) (last : Bool) (name : InstantiationArgumentName) (x : Expr) (node : NodeId) → Names old.types (kinds.Component w) → GivenThere old before → ExprGoes s rules old mid declared x node.0
+        → GivesFor before after (λ naming. name_meant name (imports_at naming mid w)) node → ArgumentGoes s rules old mid before after declared w last (InstantiationArgument.named name x)
+    named_goes mid after last name x node named there e g = record {
+      extends = e.extends;
+      there = there_more mid before after (name_meant name (imports_at all_zero mid w)) node (g.is all_zero).is (given_extended (packages_in s) old mid e.extends before there) e.there;
+      is = λ naming one rest h.
+          let text : List ℕ = name_meant name (imports_at naming mid w) in
+          let same : name_meant name (imports_at naming old w) ≡ text = ap (name_meant name) (sym (imports_extended (packages_in s) old mid e.extends w named naming)) in
+          let fresh : IsFresh text (given_nodes before) = fresh_read (λ (m : NodeId). m.0) before text (g.is naming).fresh in
+          let c : Composition = composition_of naming mid declared in (
+            at c node.0,
+            e.stands naming one,
+            subst (λ (l : List ℕ). IsFresh l (given_nodes before)) (sym same) fresh,
+            ap (λ (l : Named ℕ). record { composition = c; arguments = l }) (after_more before after text node (g.is naming).is) ∙ ap (λ (l : List ℕ). given_too (giving_of naming old declared before) l (at c node.0)) (sym same),
+          );
+    }
+
+    pub named_breaks_first : (last : Bool) (name : InstantiationArgumentName) (x : Expr) (e : Error) → ExprBreaks s rules old declared x e → ArgumentBreaks s rules old before declared w last (InstantiationArgument.named name x) e
+    named_breaks_first last name x e h naming rest one is = inl (h naming one)
+
+    pub named_breaks_later : (mid : Parts) (last : Bool) (name : InstantiationArgumentName) (x : Expr) (node : ℕ) (r : Result (Unit {0}) CodeError) → Names old.types (kinds.Component w) → ExprGoes s rules old mid declared x node
+        → IfErr r (λ e. IsGivenFor before (λ naming. name_meant name (imports_at naming mid w)) (argument_name_span name) (told e)) → IfErr r (λ e. ArgumentBreaks s rules old before declared w last (InstantiationArgument.named name x) (told e))
+    named_breaks_later mid last name x node r named p h =
+        IfErr-weaker r (λ e. IsGivenFor before (λ naming. name_meant name (imports_at naming mid w)) (argument_name_span name) (told e)) (λ e. ArgumentBreaks s rules old before declared w last (InstantiationArgument.named name x) (told e))
+        (λ e given naming rest one is.
+        let same : imports_at naming mid w ≡ imports_at naming old w = imports_extended (packages_in s) old mid p.extends w named naming in
+        inr (
+          at (composition_of naming mid declared) node,
+          p.stands naming one,
+          subst (λ (i : Named Meaning). IsGivenAlready (giving_of naming old declared before) (name_meant name i) (argument_name_span name) (told e)) same (given naming),
+        )) h
+
+    pub fill_breaks : (last : Bool) (span : Span) (r : Result (Unit {0}) CodeError) → IfErr r (λ e. (rest : Arguments) → is_none rest ≡ last → IsFillNotLast rest span (told e)) → IfErr r (λ e. ArgumentBreaks s rules old before declared w last (InstantiationArgument.fill span) (told e))
+    fill_breaks last span r h =
+        IfErr-weaker r (λ e. (rest : Arguments) → is_none rest ≡ last → IsFillNotLast rest span (told e)) (λ e. ArgumentBreaks s rules old before declared w last (InstantiationArgument.fill span) (told e)) (λ e b naming rest one is. b rest is) h
+
+    -- an identifier alone, whose node was given in the same graph
+    pub inferred_goes_on : (after : Named NodeId) (last : Bool) (x : Ident) → HoldsHanded (packages_in s) old → Gave old old before after declared (λ naming a b. (t : Given) (rest : Arguments) → GivesOne t (imports_at naming old w) rest a (InstantiationArgument.inferred x) b)
+        → ArgumentGoes s rules old old before after declared w last (InstantiationArgument.inferred x)
+    inferred_goes_on after last x handed g = record { extends = extends_self (packages_in s) old g.grows.stand handed; there = g.there; is = λ naming one rest is. g.is naming (given_in naming s rules) rest }
+
+    pub inferred_breaks_on : (last : Bool) (x : Ident) (r : Result (Unit {0}) CodeError)
+        → IfErr r (λ e. (naming : Naming) (t : Given) (rest : Arguments) → ArgumentBroken t (imports_at naming old w) rest (giving_of naming old declared before) (told e) (InstantiationArgument.inferred x))
+        → IfErr r (λ e. ArgumentBreaks s rules old before declared w last (InstantiationArgument.inferred x) (told e))
+    inferred_breaks_on last x r h =
+        IfErr-weaker r (λ e. (naming : Naming) (t : Given) (rest : Arguments) → ArgumentBroken t (imports_at naming old w) rest (giving_of naming old declared before) (told e) (InstantiationArgument.inferred x))
+        (λ e. ArgumentBreaks s rules old before declared w last (InstantiationArgument.inferred x) (told e)) (λ e b naming rest one is. b naming (given_in naming s rules) rest) h
