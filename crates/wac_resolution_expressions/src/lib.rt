@@ -2,5 +2,7 @@
 #![tactic(auto)]
 
 mod instance;
+mod stub_expression;
 
 pub use instance::instantiate;
+pub use stub_expression::expression;
