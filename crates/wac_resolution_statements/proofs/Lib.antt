@@ -8,3 +8,8 @@ pub mod ImportNames
 pub mod ImportTests
 pub mod Importing
 pub mod Imported
+pub mod Grown
+pub mod ImportedNames
+pub mod Lets
+pub mod ExportsStated
+pub mod Sequences

@@ -1,3 +1,4 @@
 pub mod Statements
 pub mod Definitions
 pub mod Imports
+pub mod Sequences

@@ -3,11 +3,13 @@
 
 mod define;
 mod definitions;
+mod export_statement;
 mod import_check;
 mod import_kind;
 mod import_name;
 mod imports;
+mod let_statement;
+mod statements;
 mod unbound;
 
-pub use definitions::type_statement;
-pub use imports::import_statement;
+pub use statements::compose;

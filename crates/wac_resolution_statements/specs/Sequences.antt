@@ -1,0 +1,28 @@
+-- Statements that are carried out one after another.
+use Rattle.std.specs.Prelude.{List}
+use Rattle.wac_types.specs.Steps.{Steps, Fails}
+use Rattle.wac_grammar.specs.Tree.{Statement}
+use Rattle.wac_graph.specs.Graph.{Parts}
+use Rattle.wac_graph.specs.Origin.{Naming, IsOneToOne}
+use Rattle.wac_resolution_errors.specs.Error.{Error}
+use Rattle.wac_resolution_rules.specs.BrokenStatements.{StatementBroken}
+use Rattle.wac_resolution_rules.specs.Given.{Given, Rules}
+use Rattle.wac_resolution_rules.specs.Places.{Placed, Leads}
+use Rattle.wac_resolution_nodes.specs.declared.root.Root.{Root}
+use Rattle.wac_resolution_paths.specs.declared.setting.Setting.{Setting}
+use Rattle.wac_resolution_expressions.specs.Growth.{given_in}
+use Rattle.wac_resolution_externs.specs.declared.externs.Externs.{Externs}
+use Rattle.wac_resolution_statements.specs.Statements.{Stand, placed_in}
+
+-- all were carried out: they lead from what was there to what is there, under every naming that is one to one
+pub record AllWent (setting : Setting) (rules : Rules) (old new : Parts) (before after : Root) (x y : Externs) (all : List Statement) : Type 0 where
+  pub stand : Stand setting new after y
+  pub leads : (naming : Naming) → IsOneToOne naming → Steps (Leads (given_in naming setting rules)) (placed_in naming old before x) all (placed_in naming new after y)
+
+-- after others a statement breaks the rule that the error names
+abbrev pub BreaksAfter : Given → Error → Placed → List Statement → Statement → Type 0
+BreaksAfter s e p before x = StatementBroken s p.composition p.places e x
+
+-- those before one were carried out, and the error names a rule that this one breaks
+abbrev pub OneBreaks : Setting → Rules → Parts → Root → Externs → List Statement → Error → Type 0
+OneBreaks setting rules g root x all e = (naming : Naming) → IsOneToOne naming → Fails (Leads (given_in naming setting rules)) (BreaksAfter (given_in naming setting rules) e) (placed_in naming g root x) all
