@@ -56,7 +56,7 @@ fn declared_kind(
 }
 
 /// Carries out a type statement: a definition of the kind that it declares.
-pub fn type_statement<'a>(
+pub(crate) fn type_statement<'a>(
     state: &mut State,
     setting: &Setting<'_>,
     root: &mut Root<'a>,

@@ -77,7 +77,7 @@ fn import_as<'a, R: Rules>(
 }
 
 /// Carries out an import statement.
-pub fn import_statement<'a, R: Rules>(
+pub(crate) fn import_statement<'a, R: Rules>(
     state: &mut State,
     setting: &Setting<'_>,
     rules: &R,
