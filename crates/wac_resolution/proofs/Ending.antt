@@ -1,0 +1,176 @@
+-- What resolving comes to.
+use Rattle.std.proofs.Common.{◌≡◌, ◌∙◌, ◌⊎◌, ℕ, List, map, Option, Some, None, inl, inr, refl, sym, ap, subst}
+use Rattle.std.specs.Prelude.{option_map}
+use Rattle.wac_types.specs.declared.rules.Reason.{Reason}
+use Rattle.wac_types.specs.Meaning.{Meaning}
+use Rattle.wac_types.specs.Package.{PackageParts}
+use Rattle.wac_types.specs.Scope.{Named}
+use Rattle.wac_types.specs.Steps.{Steps, Fails}
+use Rattle.wac_grammar.specs.Tree.{Document, PackagePath, Statement}
+use Rattle.wac_grammar.specs.Version.{version_text}
+use Rattle.wac_ast.specs.declared.document.Document.{Document as CodeDocument}
+use Rattle.wac_ast.specs.declared.statement.Statement.{Statement as CodeStatement}
+use Rattle.wac_ast.specs.Statements.{directive_of, document_of, statement_of}
+use Rattle.wac_ast_base.specs.Names.{package_path_of}
+use Rattle.wac_graph.specs.declared.package_key.PackageKey.{PackageKey}
+use Rattle.wac_graph.specs.Graph.{Parts}
+use Rattle.wac_graph.specs.Origin.{Naming, IsOneToOne}
+use Rattle.wac_graph.specs.Package.{Key}
+use Rattle.wac_graph.specs.Packages.{handed}
+use Rattle.wac_resolution_errors.specs.Error.{Error, memory, NamesRule}
+use Rattle.wac_resolution_rules.specs.Composition.{Composition, start, with_resources}
+use Rattle.wac_resolution_rules.specs.Given.{Given, Rules, rules_by}
+use Rattle.wac_resolution_rules.specs.Places.{Placed, Leads, placed_start}
+use Rattle.wac_resolution_rules.specs.ResolvedDocument.{given_to, Describes, FirstFailing}
+use Rattle.wac_resolution_rules.specs.Statements.{Composes}
+use Rattle.wac_resolution_rules.specs.Target.{MeetsTarget}
+use Rattle.wac_resolution_rules.proofs.FirstFailing.{leads_composes, first_has_none, fails_at, fails_at_target}
+use Rattle.wac_resolution_nodes.specs.declared.root.Root.{Root}
+use Rattle.wac_resolution_nodes.specs.Nodes.{composition_of}
+use Rattle.wac_resolution_nodes.specs.Root.{numbers_of, composed, Agrees}
+use Rattle.wac_resolution_nodes.proofs.Composed.{composition_expands}
+use Rattle.wac_resolution_paths.specs.declared.setting.Setting.{Setting}
+use Rattle.wac_resolution_paths.specs.Setting.{packages_in}
+use Rattle.wac_resolution_expressions.specs.Growth.{given_in}
+use Rattle.wac_resolution_externs.specs.declared.externs.Externs.{Externs}
+use Rattle.wac_resolution_externs.specs.Externs.{imported_in, exported_in, places_in}
+use Rattle.wac_resolution_statements.specs.Statements.{placed_in}
+use Rattle.wac_resolution_statements.specs.Sequences.{AllWent, BreaksAfter, OneBreaks}
+use Rattle.wac_resolution_target.specs.Outcome.{Meets, Unmeets}
+use Rattle.wac_resolution.specs.Resolved.{by_key}
+use Rattle.wac_resolution.specs.Steps.{MeetsIn, MissesIn, Composed, TargetLast, Breaks}
+use Rattle.wac_resolution.proofs.Starting.{IsStart, start_placed}
+use Rattle.wac_resolution.proofs.Told.{memory_or_rule}
+
+-- ---- the target
+
+pub target_met : (setting : Setting) (passes : Meaning → Meaning → Option Reason) (named : List ℕ → Option Reason) (old new : Parts) (root : Root) (path : PackagePath) → Agrees old root → Meets setting passes named old new root path
+    → MeetsIn setting (rules_by passes named) old new root (Some path)
+target_met setting passes named old new root path agrees m = record {
+  kept = λ naming. composition_expands old new (numbers_of root.nodes) naming m.grows.same m.grows.held (m.grows.kinds naming) agrees.nodes ∙ ap (with_resources (composed naming old root)) m.count;
+  met = λ naming one. m.is naming one;
+}
+
+pub no_target : (setting : Setting) (rules : Rules) (g : Parts) (root : Root) → MeetsIn setting rules g g root None
+no_target setting rules g root = record { kept = λ naming. refl; met = λ naming one. tt }
+
+pub target_missed : (setting : Setting) (passes : Meaning → Meaning → Option Reason) (named : List ℕ → Option Reason) (g : Parts) (root : Root) (x : Externs) (path : PackagePath) (e : Error) → Unmeets setting passes named g root path (imported_in x) (exported_in x) e
+    → MissesIn setting (rules_by passes named) g root x (Some path) e
+target_missed setting passes named g root x path e u = record { target = path; has = refl; broken = λ naming one. u naming (places_in root x) one refl refl }
+
+-- ---- the statements, then the target
+
+-- all statements lead from nothing to what is there
+all_lead : (setting : Setting) (rules : Rules) (g mid : Parts) (first root : Root) (x y : Externs) (statements : List Statement) → IsStart g first x → AllWent setting rules g mid first root x y statements
+    → (naming : Naming) → IsOneToOne naming → Steps (Leads (given_in naming setting rules)) (placed_start start) statements (placed_in naming mid root y)
+all_lead setting rules g mid first root x y statements h w naming one =
+    subst (λ (p : Placed). Steps (Leads (given_in naming setting rules)) p statements (placed_in naming mid root y)) (start_placed naming g first x h) (w.leads naming one)
+
+pub all_composed : (setting : Setting) (rules : Rules) (g mid new : Parts) (first root : Root) (x y : Externs) (statements : List Statement) (targets : Option PackagePath) → IsStart g first x → AllWent setting rules g mid first root x y statements
+    → MeetsIn setting rules mid new root targets → Composed setting rules statements targets new
+all_composed setting rules g mid new first root x y statements targets h w m = record {
+  declared = numbers_of root.nodes;
+  composes = λ naming one.
+      subst (λ (c : Composition). Composes (given_in naming setting rules) start statements c) (sym (m.kept naming))
+      (leads_composes (given_in naming setting rules) statements (placed_start start) (placed_in naming mid root y) (all_lead setting rules g mid first root x y statements h w naming one));
+  met = λ naming one. subst (λ (c : Composition). MeetsTarget (given_in naming setting rules) c targets) (sym (m.kept naming)) (m.met naming one);
+}
+
+pub statement_breaks : (setting : Setting) (rules : Rules) (g : Parts) (first : Root) (x : Externs) (statements : List Statement) (targets : Option PackagePath) (e : Error) → IsStart g first x → OneBreaks setting rules g first x statements e → Breaks setting rules statements targets e
+statement_breaks setting rules g first x statements targets e h broken naming one =
+    inl (subst (λ (p : Placed). Fails (Leads (given_in naming setting rules)) (BreaksAfter (given_in naming setting rules) e) p statements) (start_placed naming g first x h) (broken naming one))
+
+pub target_breaks : (setting : Setting) (rules : Rules) (g mid : Parts) (first root : Root) (x y : Externs) (statements : List Statement) (targets : Option PackagePath) (e : Error) → IsStart g first x → AllWent setting rules g mid first root x y statements
+    → MissesIn setting rules mid root y targets e → Breaks setting rules statements targets e
+target_breaks setting rules g mid first root x y statements targets e h w m naming one = inr (record {
+  target = m.target;
+  has = m.has;
+  whole = placed_in naming mid root y;
+  leads = all_lead setting rules g mid first root x y statements h w naming one;
+  broken = m.broken naming one;
+})
+
+-- ---- a document
+
+-- the setting is made of the document and its packages
+pub record IsSettingOf (setting : Setting) (packages : List (Key × PackageParts)) (doc : Document) : Type 0 where
+  pub own : setting.own.now ≡ doc.directive.package_name.name
+  pub version : option_map (λ v. v.now) setting.version ≡ version_text doc.directive.package_name.string
+  pub packages_are : packages_in setting ≡ packages
+
+given_same : (naming : Naming) (setting : Setting) (rules : Rules) (packages : List (Key × PackageParts)) (doc : Document) → IsSettingOf setting packages doc → given_in naming setting rules ≡ given_to naming packages rules doc
+given_same naming setting rules packages doc h = λ i. record { setting = record { naming = naming; own = h.own i; version = h.version i; packages = handed naming (h.packages_are i) }; rules = rules }
+
+pub describes : (setting : Setting) (rules : Rules) (packages : List (Key × PackageParts)) (doc : Document) (g : Parts) → IsSettingOf setting packages doc → (c : Composed setting rules doc.statements doc.directive.targets g)
+    → (naming : Naming) → IsOneToOne naming → Describes (given_to naming packages rules doc) doc (composition_of naming g c.declared)
+describes setting rules packages doc g h c naming one =
+    subst (λ (s : Given). Describes s doc (composition_of naming g c.declared)) (given_same naming setting rules packages doc h) (c.composes naming one, c.met naming one)
+
+failing : (s : Given) (doc : Document) (e : Error) → NamesRule e → Fails (Leads s) (BreaksAfter s e) (placed_start start) doc.statements ⊎ TargetLast s doc.statements doc.directive.targets e → FirstFailing s doc e
+failing s doc e rule (inl f) = fails_at s doc e rule f.before f.failing f.after f.split f.reached f.leads f.breaks
+failing s doc e rule (inr t) = fails_at_target s doc e rule t.target t.has t.whole t.leads t.broken
+
+-- what fails first, unless memory ran out
+pub fails_first : (setting : Setting) (rules : Rules) (packages : List (Key × PackageParts)) (doc : Document) (e : Error) → IsSettingOf setting packages doc → Breaks setting rules doc.statements doc.directive.targets e
+    → (naming : Naming) → IsOneToOne naming → (e ≡ memory) ⊎ FirstFailing (given_to naming packages rules doc) doc e
+fails_first setting rules packages doc e h broken naming one = go (memory_or_rule e)
+  where
+    go : (e ≡ memory) ⊎ NamesRule e → (e ≡ memory) ⊎ FirstFailing (given_to naming packages rules doc) doc e
+    go (inl m) = inl m
+    go (inr rule) = inr (subst (λ (s : Given). FirstFailing s doc e) (given_same naming setting rules packages doc h) (failing (given_in naming setting rules) doc e rule (broken naming one)))
+
+-- what is described is rejected only where memory ran out
+pub only_memory : (setting : Setting) (rules : Rules) (packages : List (Key × PackageParts)) (doc : Document) (e : Error) → IsSettingOf setting packages doc → Breaks setting rules doc.statements doc.directive.targets e
+    → (naming : Naming) → IsOneToOne naming → (c : Composition) → Describes (given_to naming packages rules doc) doc c → e ≡ memory
+only_memory setting rules packages doc e h broken naming one c described = go (fails_first setting rules packages doc e h broken naming one)
+  where
+    go : (e ≡ memory) ⊎ FirstFailing (given_to naming packages rules doc) doc e → e ≡ memory
+    go (inl m) = m
+    go (inr f) = absurd (first_has_none (given_to naming packages rules doc) doc e c f described)
+
+-- ---- a document that is lent
+
+-- the graph is what the document describes, with some names at root
+abbrev pub Described : List (PackageKey × PackageParts) → Rules → Document → Parts → Type 0
+Described packages rules doc g = (declared : Named ℕ) × ((naming : Naming) → IsOneToOne naming → Describes (given_to naming (by_key packages) rules doc) doc (composition_of naming g declared))
+
+-- the parts of a document that is lent, and its setting
+pub record IsLent (setting : Setting) (packages : List (PackageKey × PackageParts)) (lent doc : CodeDocument) (statements : List CodeStatement) : Type 0 where
+  pub same : lent ≡ doc
+  pub own : setting.own.now ≡ (directive_of lent.directive).package_name.name
+  pub version : option_map (λ v. v.now) setting.version ≡ version_text (directive_of lent.directive).package_name.string
+  pub packages_are : packages_in setting ≡ by_key packages
+  pub statements_are : statements ≡ lent.statements.items
+
+lent_setting : (setting : Setting) (packages : List (PackageKey × PackageParts)) (lent doc : CodeDocument) (statements : List CodeStatement) → IsLent setting packages lent doc statements → IsSettingOf setting (by_key packages) (document_of doc)
+lent_setting setting packages lent doc statements h = record {
+  own = h.own ∙ ap (λ (d : CodeDocument). (directive_of d.directive).package_name.name) h.same;
+  version = h.version ∙ ap (λ (d : CodeDocument). version_text (directive_of d.directive).package_name.string) h.same;
+  packages_are = h.packages_are;
+}
+
+-- what is said of lent statements and of the target
+abbrev pub OfParts : Type 1
+OfParts = List Statement → Option PackagePath → Type 0
+
+of_document : (P : OfParts) (setting : Setting) (packages : List (PackageKey × PackageParts)) (lent doc : CodeDocument) (statements : List CodeStatement) → IsLent setting packages lent doc statements
+    → P (map statement_of statements) (option_map package_path_of lent.directive.targets) → P (document_of doc).statements (document_of doc).directive.targets
+of_document P setting packages lent doc statements h p =
+    subst (λ (d : CodeDocument). P (map statement_of d.statements.items) (option_map package_path_of d.directive.targets)) h.same
+    (subst (λ (l : List CodeStatement). P (map statement_of l) (option_map package_path_of lent.directive.targets)) h.statements_are p)
+
+pub lent_described : (setting : Setting) (rules : Rules) (packages : List (PackageKey × PackageParts)) (lent doc : CodeDocument) (statements : List CodeStatement) (g : Parts) → IsLent setting packages lent doc statements
+    → Composed setting rules (map statement_of statements) (option_map package_path_of lent.directive.targets) g → Described packages rules (document_of doc) g
+lent_described setting rules packages lent doc statements g h c =
+    let whole : Composed setting rules (document_of doc).statements (document_of doc).directive.targets g = of_document (λ all targets. Composed setting rules all targets g) setting packages lent doc statements h c in
+    (whole.declared, describes setting rules (by_key packages) (document_of doc) g (lent_setting setting packages lent doc statements h) whole)
+
+pub lent_fails : (setting : Setting) (rules : Rules) (packages : List (PackageKey × PackageParts)) (lent doc : CodeDocument) (statements : List CodeStatement) (e : Error) → IsLent setting packages lent doc statements
+    → Breaks setting rules (map statement_of statements) (option_map package_path_of lent.directive.targets) e → (naming : Naming) → IsOneToOne naming → (e ≡ memory) ⊎ FirstFailing (given_to naming (by_key packages) rules (document_of doc)) (document_of doc) e
+lent_fails setting rules packages lent doc statements e h broken =
+    fails_first setting rules (by_key packages) (document_of doc) e (lent_setting setting packages lent doc statements h) (of_document (λ all targets. Breaks setting rules all targets e) setting packages lent doc statements h broken)
+
+pub lent_only : (setting : Setting) (rules : Rules) (packages : List (PackageKey × PackageParts)) (lent doc : CodeDocument) (statements : List CodeStatement) (e : Error) → IsLent setting packages lent doc statements
+    → Breaks setting rules (map statement_of statements) (option_map package_path_of lent.directive.targets) e → (naming : Naming) → IsOneToOne naming → (c : Composition) → Describes (given_to naming (by_key packages) rules (document_of doc)) (document_of doc) c → e ≡ memory
+lent_only setting rules packages lent doc statements e h broken =
+    only_memory setting rules (by_key packages) (document_of doc) e (lent_setting setting packages lent doc statements h) (of_document (λ all targets. Breaks setting rules all targets e) setting packages lent doc statements h broken)

@@ -1,0 +1,61 @@
+-- What resolving begins with: an empty graph, and nothing beside it.
+use Rattle.std.proofs.Common.{◌≡◌, ◌∙◌, ℕ, [], refl, sym, ap, subst}
+use Rattle.wac_lexer.specs.Span.{Span}
+use Rattle.wac_types.specs.Scope.{Named}
+use Rattle.wac_graph.specs.declared.node.NodeId.{NodeId}
+use Rattle.wac_graph.specs.Graph.{Parts, empty}
+use Rattle.wac_graph.specs.Means.{declared_count, own_from}
+use Rattle.wac_graph.specs.Origin.{Naming}
+use Rattle.wac_resolution_rules.specs.Composition.{start}
+use Rattle.wac_resolution_rules.specs.Find.{names_of}
+use Rattle.wac_resolution_rules.specs.Places.{placed_start}
+use Rattle.wac_resolution_types.specs.Bindings.{Bindings, places_of}
+use Rattle.wac_resolution_nodes.specs.declared.root.Root.{Root}
+use Rattle.wac_resolution_nodes.specs.Nodes.{composition_of}
+use Rattle.wac_resolution_nodes.specs.Root.{numbers_of, composed, Agrees}
+use Rattle.wac_resolution_paths.specs.declared.setting.Setting.{Setting}
+use Rattle.wac_resolution_paths.specs.Expands.{HoldsHanded}
+use Rattle.wac_resolution_paths.specs.Setting.{packages_in}
+use Rattle.wac_resolution_externs.specs.declared.externs.Externs.{Externs}
+use Rattle.wac_resolution_externs.specs.Externs.{imported_in, exported_in}
+use Rattle.wac_resolution_statements.specs.Statements.{Stand, placed_in}
+
+-- nothing is there
+pub record IsStart (g : Parts) (root : Root) (x : Externs) : Type 0 where
+  pub graph : g ≡ empty
+  pub nodes : root.nodes ≡ []
+  pub kinds : root.kinds ≡ []
+  pub imported : imported_in x ≡ []
+  pub exported : exported_in x ≡ []
+
+root_is : (root : Root) → root.nodes ≡ [] → root.kinds ≡ [] → root ≡ record { nodes = []; kinds = [] }
+root_is root nodes kinds = λ i. record { nodes = nodes i; kinds = kinds i }
+
+start_agrees : (root : Root) → root.nodes ≡ [] → root.kinds ≡ [] → Agrees empty root
+start_agrees root nodes kinds = subst (λ (r : Root). Agrees empty r) (sym (root_is root nodes kinds)) (record { nodes = tt; names = tt })
+
+pub start_stands : (setting : Setting) (g : Parts) (root : Root) (x : Externs) → IsStart g root x → Stand setting g root x
+start_stands setting g root x h = record {
+  agrees = subst (λ (p : Parts). Agrees p root) (sym h.graph) (start_agrees root h.nodes h.kinds);
+  placed = record {
+    imported = ap (λ (l : Named Span). names_of l) h.imported ∙ ap (λ (p : Parts). names_of p.imports) (sym h.graph);
+    exported = ap (λ (l : Named Span). names_of l) h.exported ∙ ap (λ (p : Parts). names_of p.exports) (sym h.graph);
+  };
+  handed = subst (λ (p : Parts). HoldsHanded (packages_in setting) p) (sym h.graph) tt;
+}
+
+none_declared : declared_count empty ≡ 0
+unfolding own_from
+none_declared = refl
+
+start_composed : (naming : Naming) (g : Parts) (root : Root) (x : Externs) → IsStart g root x → composed naming g root ≡ start
+start_composed naming g root x h =
+    ap (λ (p : Parts). composition_of naming p (numbers_of root.nodes)) h.graph
+    ∙ ap (λ (l : Bindings NodeId). composition_of naming empty (numbers_of l)) h.nodes
+    ∙ ap (λ (n : ℕ). record start { resources = n }) none_declared
+
+pub start_placed : (naming : Naming) (g : Parts) (root : Root) (x : Externs) → IsStart g root x → placed_in naming g root x ≡ placed_start start
+start_placed naming g root x h =
+    let composition = start_composed naming g root x h in
+    let bound = ap (λ (l : Bindings NodeId). places_of l) h.nodes in
+    λ i. record { composition = composition i; places = record { bound = bound i; imported = h.imported i; exported = h.exported i } }

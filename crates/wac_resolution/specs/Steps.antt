@@ -1,0 +1,52 @@
+-- What resolving comes to, step by step.
+use Rattle.std.specs.Prelude.{◌≡◌, ℕ, List, Option, Some, ◌⊎◌}
+use Rattle.wac_types.specs.Scope.{Named}
+use Rattle.wac_types.specs.Steps.{Steps, Fails}
+use Rattle.wac_grammar.specs.Tree.{PackagePath, Statement}
+use Rattle.wac_graph.specs.Graph.{Parts}
+use Rattle.wac_graph.specs.Origin.{Naming, IsOneToOne}
+use Rattle.wac_resolution_errors.specs.Error.{Error}
+use Rattle.wac_resolution_rules.specs.BrokenStatements.{TargetBroken}
+use Rattle.wac_resolution_rules.specs.Composition.{start}
+use Rattle.wac_resolution_rules.specs.Given.{Given, Rules}
+use Rattle.wac_resolution_rules.specs.Places.{Placed, Leads, placed_start}
+use Rattle.wac_resolution_rules.specs.Statements.{Composes}
+use Rattle.wac_resolution_rules.specs.Target.{MeetsTarget}
+use Rattle.wac_resolution_nodes.specs.declared.root.Root.{Root}
+use Rattle.wac_resolution_nodes.specs.Nodes.{composition_of}
+use Rattle.wac_resolution_nodes.specs.Root.{composed}
+use Rattle.wac_resolution_paths.specs.declared.setting.Setting.{Setting}
+use Rattle.wac_resolution_expressions.specs.Growth.{given_in}
+use Rattle.wac_resolution_externs.specs.declared.externs.Externs.{Externs}
+use Rattle.wac_resolution_statements.specs.Statements.{placed_in}
+use Rattle.wac_resolution_statements.specs.Sequences.{BreaksAfter}
+
+-- the target is met, if there is one, and the composition is as before
+pub record MeetsIn (setting : Setting) (rules : Rules) (old new : Parts) (root : Root) (targets : Option PackagePath) : Type 0 where
+  pub kept : (naming : Naming) → composed naming new root ≡ composed naming old root
+  pub met : (naming : Naming) → IsOneToOne naming → MeetsTarget (given_in naming setting rules) (composed naming old root) targets
+
+-- the error says how the target is not met
+pub record MissesIn (setting : Setting) (rules : Rules) (g : Parts) (root : Root) (x : Externs) (targets : Option PackagePath) (e : Error) : Type 0 where
+  pub target : PackagePath
+  pub has : targets ≡ Some target
+  pub broken : (naming : Naming) → IsOneToOne naming → TargetBroken (given_in naming setting rules) (composed naming g root) (placed_in naming g root x).places e target
+
+-- the statements compose what the graph stands for, with these names at root, and the target is met
+pub record Composed (setting : Setting) (rules : Rules) (statements : List Statement) (targets : Option PackagePath) (g : Parts) : Type 0 where
+  pub declared : Named ℕ
+  pub composes : (naming : Naming) → IsOneToOne naming → Composes (given_in naming setting rules) start statements (composition_of naming g declared)
+  pub met : (naming : Naming) → IsOneToOne naming → MeetsTarget (given_in naming setting rules) (composition_of naming g declared) targets
+
+-- all statements compose, and the target breaks the rule that the error names
+pub record TargetLast (s : Given) (statements : List Statement) (targets : Option PackagePath) (e : Error) : Type 0 where
+  pub target : PackagePath
+  pub has : targets ≡ Some target
+  pub whole : Placed
+  pub leads : Steps (Leads s) (placed_start start) statements whole
+  pub broken : TargetBroken s whole.composition whole.places e target
+
+-- a statement breaks the rule that the error names, after those before it composed; or the target does, after all of them
+abbrev pub Breaks : Setting → Rules → List Statement → Option PackagePath → Error → Type 0
+Breaks setting rules statements targets e = (naming : Naming) → IsOneToOne naming
+    → Fails (Leads (given_in naming setting rules)) (BreaksAfter (given_in naming setting rules) e) (placed_start start) statements ⊎ TargetLast (given_in naming setting rules) statements targets e

@@ -1,0 +1,23 @@
+//! Resolving: the composition graph that a document describes, or the rule that its first failing statement breaks.
+//!
+//! A document is resolved with the packages that it may mention and with rules, which say what may stand where and which names imports
+//! and exports may have:
+//!
+//! ```text
+//! let resolution = AstResolver::new(&document).resolve(alloc, packages, &rules)?;
+//! let graph = resolution.into_graph();
+//! ```
+//!
+//! `docs/RESOLVING.md` says what documents mean. Only `Error::Memory` names no rule: it comes where a request for memory was refused.
+#![tactic(auto)]
+
+mod lent;
+mod resolution;
+mod resolver;
+mod setting;
+mod steps;
+mod target;
+
+pub use resolution::{Resolution, ResolutionResult};
+pub use resolver::AstResolver;
+pub use wac_resolution_errors::{Error, InstanceOperation};

@@ -1,0 +1,78 @@
+//! The resolver of a document.
+ghost use Rattle.std.specs.Prelude.{◌≡◌, ℕ, IfOk};
+ghost use Rattle.wac_ast.specs.Statements.{document_of};
+ghost use Rattle.wac_types.specs.Scope.{Named};
+ghost use Rattle.wac_resolution_rules.specs.Given.{rules_by};
+ghost use Rattle.wac_resolution_rules.specs.ResolvedDocument.{GraphClause, OnlyClause, FirstClause};
+ghost use Rattle.wac_resolution.specs.Resolved.{Promised};
+
+use crate::lent::Statements;
+use crate::resolution::{Resolution, ResolutionResult};
+use crate::setting::setting;
+use crate::steps::composed;
+use indexmap::IndexMap;
+use std::alloc::Global;
+use std::marker::Model;
+use wac_ast::Document;
+use wac_graph::{Package, PackageKey, Rules};
+
+/// A resolver of one document.
+#[derive(Drop)]
+pub struct AstResolver<'d, 'a> {
+    document: &'d Document<'a>,
+}
+
+impl<'d, 'a> Model for AstResolver<'d, 'a> {
+    ghost use Rattle.std.specs.Prelude.{[]};
+    ghost use Rattle.std.specs.Coded.{codes};
+    ghost use Rattle.wac_ast_types.specs.contracts.types.«Type» as ty;
+    ghost use Rattle.wac_ast_expressions.specs.contracts.expr.PrimaryExpr as primary;
+    ghost use mir.Syntax.{erased};
+    ghost use Rattle.wac_ast.specs.declared.document.Document.{Document};
+
+    ghost Value = { Document };
+
+    ghost coded = { Prim.hlevel (codes, (ty.the_row (record { mir = erased; lft = [] })).coded, (primary.the_row (record { mir = erased; lft = [] })).coded) };
+
+    ghost view = { λ r. r.document.now };
+
+    ghost invariant = { λ r. Unit {0} };
+}
+
+impl<'d, 'a> AstResolver<'d, 'a> {
+    /// The resolver of a document.
+    pub fn new(document: &'d Document<'a>) -> Self
+        ensures { result ≡ document.now }
+    {
+        AstResolver { document }
+    }
+
+    /// Resolves the document with packages and rules.
+    ///
+    /// The packages are dropped in the end; those that the document mentions are copied into the graph. The document and the rules stay
+    /// as they are.
+    pub fn resolve<R: Rules>(
+        self,
+        alloc: Global,
+        packages: IndexMap<PackageKey, Package>,
+        rules: &R,
+    ) -> ResolutionResult<Resolution<'d, 'a>>
+        // It is the document's resolution.
+        ensures document { IfOk result (λ r. r.document ≡ self.entry) }
+        // The graph that is returned is described, with the names that the document binds.
+        ensures graph { (declared : Named ℕ) × Promised GraphClause packages.entries (rules_by (R.passes rules.now) (R.named rules.now)) (document_of self.entry) declared result }
+        // What is described is returned, unless memory runs out.
+        ensures only { (declared : Named ℕ) → Promised OnlyClause packages.entries (rules_by (R.passes rules.now) (R.named rules.now)) (document_of self.entry) declared result }
+        // An error names a rule that the first failing statement breaks, unless memory runs out.
+        ensures first { (declared : Named ℕ) → Promised FirstClause packages.entries (rules_by (R.passes rules.now) (R.named rules.now)) (document_of self.entry) declared result }
+    {
+        let document = self.document;
+        let directive = &document.directive;
+        let setting = setting(directive, &packages);
+        let statements = Statements {
+            all: &document.statements,
+        };
+        let graph = composed(alloc, &setting, rules, statements, &directive.targets)?;
+        Ok(Resolution::new(document, graph))
+    }
+}

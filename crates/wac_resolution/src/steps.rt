@@ -1,0 +1,45 @@
+//! Resolving, step by step: the statements, then the target.
+ghost use Rattle.std.specs.Prelude.{IfOk, IfErr, map, option_map};
+ghost use Rattle.wac_ast.specs.Statements.{statement_of};
+ghost use Rattle.wac_ast_base.specs.Names.{package_path_of};
+ghost use Rattle.wac_resolution_errors.specs.Told.{told};
+ghost use Rattle.wac_resolution_rules.specs.Given.{rules_by};
+ghost use Rattle.wac_resolution.specs.Steps.{Composed, Breaks};
+
+use crate::lent::{Statements, carry_out};
+use crate::target::check_targets;
+use std::alloc::Global;
+use wac_ast::PackagePath;
+use wac_graph::{CompositionGraph, Rules};
+use wac_resolution_errors::Error;
+use wac_resolution_externs::Externs;
+use wac_resolution_nodes::Root;
+use wac_resolution_paths::Setting;
+use wac_resolution_types::State;
+
+/// The graph of statements, which the target allows if there is one.
+pub(crate) fn composed<'a, R: Rules>(
+    alloc: Global,
+    setting: &Setting<'_>,
+    rules: &R,
+    statements: Statements<'_, 'a>,
+    targets: &Option<PackagePath<'_>>,
+) -> Result<CompositionGraph, Error>
+    ensures ok { IfOk result (λ g. Composed setting.now (rules_by (R.passes rules.now) (R.named rules.now)) (map statement_of statements.entry) (option_map package_path_of targets.now) g) }
+    ensures err { IfErr result (λ e. Breaks setting.now (rules_by (R.passes rules.now) (R.named rules.now)) (map statement_of statements.entry) (option_map package_path_of targets.now) (told e)) }
+{
+    let graph = CompositionGraph::new(alloc);
+    let mut state = State { alloc, graph };
+    let mut root: Root<'a> = Root::new(alloc);
+    let mut externs = Externs::new(alloc);
+    carry_out(
+        &mut state,
+        setting,
+        rules,
+        &mut root,
+        &mut externs,
+        statements,
+    )?;
+    check_targets(&mut state, setting, rules, &root, &externs, targets)?;
+    Ok(state.graph)
+}

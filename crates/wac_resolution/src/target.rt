@@ -1,0 +1,35 @@
+//! The target of a document.
+ghost use Rattle.std.specs.Prelude.{OnOk, IfErr, option_map};
+ghost use Rattle.wac_ast_base.specs.Names.{package_path_of};
+ghost use Rattle.wac_resolution_errors.specs.Told.{told};
+ghost use Rattle.wac_resolution_rules.specs.Given.{rules_by};
+ghost use Rattle.wac_resolution_statements.specs.Statements.{Stand};
+ghost use Rattle.wac_resolution.specs.Steps.{MeetsIn, MissesIn};
+
+use wac_ast::PackagePath;
+use wac_graph::Rules;
+use wac_resolution_errors::Error;
+use wac_resolution_externs::Externs;
+use wac_resolution_nodes::Root;
+use wac_resolution_paths::Setting;
+use wac_resolution_target::check_target;
+use wac_resolution_types::State;
+
+/// Rejects a composition that is not what its target asks for, if it has one.
+pub(crate) fn check_targets<R: Rules>(
+    state: &mut State,
+    setting: &Setting<'_>,
+    rules: &R,
+    root: &Root<'_>,
+    externs: &Externs,
+    targets: &Option<PackagePath<'_>>,
+) -> Result<(), Error>
+    requires { Stand setting.now state.old.graph root.now externs.now }
+    ensures ok { OnOk result (MeetsIn setting.now (rules_by (R.passes rules.now) (R.named rules.now)) state.old.graph state.new.graph root.now (option_map package_path_of targets.now)) }
+    ensures err { IfErr result (λ e. MissesIn setting.now (rules_by (R.passes rules.now) (R.named rules.now)) state.old.graph root.now externs.now (option_map package_path_of targets.now) (told e)) }
+{
+    match targets {
+        Some(target) => check_target(state, setting, rules, root, externs, target),
+        None => Ok(()),
+    }
+}
