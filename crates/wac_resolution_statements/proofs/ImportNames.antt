@@ -21,7 +21,7 @@ use Rattle.wac_types.specs.Shape.{entry_over, id_of}
 use Rattle.wac_types.specs.Table.{Names}
 use Rattle.wac_types.proofs.Parts as parts
 use Rattle.wac_graph.specs.Graph.{Parts}
-use Rattle.wac_graph.specs.Means.{means, entry_means, origin_at, EntriesMean}
+use Rattle.wac_graph.specs.Means.{entry_means, origin_at, EntriesMean}
 use Rattle.wac_graph.specs.Origin.{Naming}
 use Rattle.wac_graph.specs.Sound.{IsSound}
 use Rattle.wac_resolution_errors.specs.Error.{Error, duplicate_extern_name}

@@ -13,7 +13,6 @@ use Rattle.wac_graph.specs.Means.{means, entry_means, declared_count}
 use Rattle.wac_graph.specs.Origin.{Naming}
 use Rattle.wac_resolution_errors.specs.Error.{Error}
 use Rattle.wac_resolution_rules.specs.BrokenBodies.{PathBroken}
-use Rattle.wac_resolution_rules.specs.BrokenStatements.{ImportKindBroken}
 use Rattle.wac_resolution_rules.specs.BrokenTypes.{IsUndefined, FuncBroken}
 use Rattle.wac_resolution_rules.specs.BrokenWorlds.{InterfaceBroken}
 use Rattle.wac_resolution_rules.specs.Composition.{root_scope}

@@ -1,6 +1,6 @@
 -- Import statements that are carried out, or broken.
 use Rattle.std.proofs.Common.{◌≡◌, ◌∙◌, ℕ, List, [], ◌∷◌, ◌++◌, Option, Some, None, inl, inr, refl, sym, ap, subst, length, append-nil}
-use Rattle.std.specs.Prelude.{slice_get, slice_set, option_map, filter_map}
+use Rattle.std.specs.Prelude.{slice_set, filter_map}
 use Rattle.std.proofs.lemmas.List.Elements.{filter_map-append}
 use Rattle.wac_lexer.specs.Span.{Span}
 use Rattle.wac_grammar.specs.Tree.{ImportStatement, Statement}
@@ -16,11 +16,11 @@ use Rattle.wac_types.specs.Table.{Names}
 use Rattle.wac_types.proofs.Shapes.{promoted_is}
 use Rattle.wac_graph.specs.Graph.{Parts}
 use Rattle.wac_graph.specs.Means.{means, entry_means, declared_count}
-use Rattle.wac_graph.specs.Origin.{Naming, IsOneToOne}
+use Rattle.wac_graph.specs.Origin.{Naming}
 use Rattle.wac_graph.proofs.Lists.{get_last}
 use Rattle.wac_resolution_errors.specs.Error.{Error, memory}
 use Rattle.wac_resolution_rules.specs.BrokenStatements.{ImportNameBroken}
-use Rattle.wac_resolution_rules.specs.Composition.{Composition, Node, NodeForm, imported, with_node, with_resources, named_at, first_name, binding}
+use Rattle.wac_resolution_rules.specs.Composition.{Composition, Node, imported, with_node, with_resources, named_at, first_name, binding}
 use Rattle.wac_resolution_rules.specs.Given.{Rules}
 use Rattle.wac_resolution_rules.specs.Nodes.{import_of, imports, next_of}
 use Rattle.wac_resolution_rules.specs.Places.{places_after}

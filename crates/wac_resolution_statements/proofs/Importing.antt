@@ -1,5 +1,5 @@
 -- An import that is added to a graph.
-use Rattle.std.proofs.Common.{◌≡◌, ◌∙◌, ◌<◌, ℕ, List, [], ◌∷◌, ◌++◌, Some, refl, sym, ap, subst, arith, length, length-append}
+use Rattle.std.proofs.Common.{◌≡◌, ◌∙◌, ◌<◌, ℕ, List, [], ◌∷◌, ◌++◌, Some, sym, ap, subst, arith, length, length-append}
 use Rattle.std.proofs.lemmas.List.{map_push}
 use Rattle.wac_lexer.specs.Span.{Span}
 use Rattle.wac_grammar.specs.Tree.{Ident}
@@ -10,16 +10,14 @@ use Rattle.wac_graph.specs.declared.node.NodeId.{NodeId}
 use Rattle.wac_graph.specs.Graph.{Parts, plain_node, with_import}
 use Rattle.wac_graph.specs.Means.{means}
 use Rattle.wac_graph.specs.Node.{Node as GraphNode, import}
-use Rattle.wac_graph.specs.Origin.{Naming}
 use Rattle.wac_graph.specs.Package.{Key}
 use Rattle.wac_graph.specs.Sound.{IsSound}
 use Rattle.wac_graph.proofs.Lists.{all_implies}
 use Rattle.wac_resolution_rules.specs.Composition.{Composition, imported, with_node, binding}
 use Rattle.wac_resolution_rules.specs.Find.{names_of}
-use Rattle.wac_resolution_rules.specs.Nodes.{next_of}
 use Rattle.wac_resolution_types.specs.Bindings.{Bindings}
 use Rattle.wac_resolution_nodes.specs.declared.root.Root.{Root}
-use Rattle.wac_resolution_nodes.specs.Nodes.{kind_in, composition_of}
+use Rattle.wac_resolution_nodes.specs.Nodes.{kind_in}
 use Rattle.wac_resolution_nodes.specs.Root.{numbers_of, composed, EachAgrees, Agrees, Binds}
 use Rattle.wac_resolution_nodes.proofs.Composed.{sound_stands, grows_more, next_is, composition_imports}
 use Rattle.wac_resolution_paths.specs.Expands.{IsHandedAs, HoldsHanded}

@@ -90,14 +90,7 @@ pub(crate) fn import_statement<'a, R: Rules>(
     ensures err { IfErr result (λ e. Breaks setting.now (rules_by (R.passes rules.now) (R.named rules.now)) state.old.graph root.old externs.old (StatementTree.import_statement (import_statement_of statement.now)) (told e)) }
 {
     let kind = import_kind(state, setting, root, &statement.ty)?;
+    let item = kind.promote();
     let text = import_name(state, statement, kind)?;
-    import_as(
-        state,
-        rules,
-        root,
-        externs,
-        statement,
-        text.as_str(),
-        kind.promote(),
-    )
+    import_as(state, rules, root, externs, statement, text.as_str(), item)
 }

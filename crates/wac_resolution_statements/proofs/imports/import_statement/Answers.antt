@@ -1,8 +1,6 @@
-use Rattle.std.proofs.Common.{◌∙◌, sym, ap}
+use Rattle.std.proofs.Common.{◌∙◌, sym}
 use Rattle.std.proofs.lemmas.Result.{err_from_is_err_and, on_ok_weaker, IfErr-weaker}
-use Rattle.wac_types.specs.Kind.{promoted}
 use Rattle.wac_ast_worlds.specs.Worlds.{import_statement_of}
-use Rattle.wac_graph.specs.Means.{means}
 use Rattle.wac_resolution_errors.specs.Told.{told}
 use Rattle.wac_resolution_rules.specs.Given.{rules_by}
 use Rattle.wac_resolution_types.proofs.Scopes.{memory_told}
@@ -39,14 +37,14 @@ pub import_as-requires-clause-placed : goal.import_as-requires-clause-placed
 import_as-requires-clause-placed g c = placed_kept c.args.state.now.graph c.import_kind.new.state.graph c.args.externs.now c.in_ok-kind.ensures.ok.grows c.requires.placed
 
 pub import_as-requires-clause-kind : goal.import_as-requires-clause-kind
-import_as-requires-clause-kind g c = rw c.promote.ensures (promoted_named c.import_kind.new.state.graph.types c.in_ok-kind.kind c.in_ok-kind.ensures.ok.named)
+import_as-requires-clause-kind g c = rw c.promote-item.ensures (promoted_named c.import_kind.new.state.graph.types c.in_ok-kind.kind c.in_ok-kind.ensures.ok.named)
 
 pub returns-clause-ok : goal.returns-clause-ok
 returns-clause-ok g c =
     on_ok_weaker c.import_as.result
     (λ i. statement_went c.args.setting.now (rules_by (g.R.Rules.passes c.args.rules.now) (g.R.Rules.named c.args.rules.now)) c.args.state.now.graph c.import_kind.new.state.graph c.args.root.now c.args.externs.now (import_statement_of c.args.statement.now)
     c.as_str.result.now c.in_ok-kind.kind c.requires c.in_ok-kind.ensures.ok (λ naming. c.as_str.ensures.value ∙ c.in_ok-text.ensures naming)
-    c.import_as.new.state.graph c.import_as.new.root c.import_as.new.externs (rw (sym c.promote.ensures) i))
+    c.import_as.new.state.graph c.import_as.new.root c.import_as.new.externs (rw (sym c.promote-item.ensures) i))
     c.import_as.ensures.ok
 
 pub returns-clause-err : goal.returns-clause-err
