@@ -1,0 +1,25 @@
+//! Tests of resolving documents.
+#![tactic(auto)]
+
+#[cfg(test)]
+mod asserting;
+#[cfg(test)]
+mod calls;
+#[cfg(test)]
+mod choices;
+#[cfg(test)]
+mod documents;
+#[cfg(test)]
+mod errors;
+#[cfg(test)]
+mod large;
+#[cfg(test)]
+mod memory;
+#[cfg(test)]
+mod packages;
+#[cfg(test)]
+mod reading;
+#[cfg(test)]
+mod rows;
+#[cfg(test)]
+mod rules;
