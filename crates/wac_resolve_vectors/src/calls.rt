@@ -1,6 +1,6 @@
 //! Each public call, where memory is there.
 
-use crate::documents::{With, handed, parsed, resolve};
+use crate::documents::{With, handed, parsed};
 use crate::reading::lines;
 use crate::rules::AllPass;
 use std::alloc::{AllocError, Global};
@@ -27,16 +27,6 @@ fn by_resolver<'d, 'a>(
 ) -> Result<Resolution<'d, 'a>, Error> {
     let packages = handed(rt, alloc, With::Packages)?;
     AstResolver::new(document).resolve(alloc, packages, &AllPass)
-}
-
-/// Resolves a document by its own call.
-fn by_document<'d, 'a>(
-    rt: &impl Abort,
-    alloc: Global,
-    document: &'d Document<'a>,
-) -> Result<Resolution<'d, 'a>, Error> {
-    let packages = handed(rt, alloc, With::Packages)?;
-    resolve(alloc, With::Packages, packages, document)
 }
 
 /// Asserts what a resolution of the composition holds.
@@ -75,26 +65,24 @@ fn says(
     Ok(())
 }
 
-/// Asserts it of both calls, each with packages of its own.
-fn both_hold(rt: &impl Abort, alloc: Global, document: &Document<'_>) -> Result<(), AllocError> {
-    holds(rt, alloc, by_resolver(rt, alloc, document))?;
-    holds(rt, alloc, by_document(rt, alloc, document))
+/// Asserts it of what a resolver returns.
+fn composes(rt: &impl Abort, alloc: Global, document: &Document<'_>) -> Result<(), AllocError> {
+    holds(rt, alloc, by_resolver(rt, alloc, document))
 }
 
-/// Asserts it of both calls, each with packages of its own.
-fn both_say(rt: &impl Abort, alloc: Global, document: &Document<'_>) -> Result<(), AllocError> {
-    says(rt, alloc, by_resolver(rt, alloc, document))?;
-    says(rt, alloc, by_document(rt, alloc, document))
+/// Asserts it of what a resolver returns.
+fn fails(rt: &impl Abort, alloc: Global, document: &Document<'_>) -> Result<(), AllocError> {
+    says(rt, alloc, by_resolver(rt, alloc, document))
 }
 
 #[test]
-fn resolvers_and_documents(rt: HostRuntime) -> Result<(), Fail> {
+fn a_resolver_composes(rt: HostRuntime) -> Result<(), Fail> {
     let document = parsed(&rt, rt.alloc(), COMPOSITION)?;
-    Ok(both_hold(&rt, rt.alloc(), &document)?)
+    Ok(composes(&rt, rt.alloc(), &document)?)
 }
 
 #[test]
-fn errors_of_resolvers_and_documents(rt: HostRuntime) -> Result<(), Fail> {
+fn a_resolver_reports(rt: HostRuntime) -> Result<(), Fail> {
     let document = parsed(&rt, rt.alloc(), INCOMPLETE)?;
-    Ok(both_say(&rt, rt.alloc(), &document)?)
+    Ok(fails(&rt, rt.alloc(), &document)?)
 }
