@@ -1,12 +1,10 @@
 //! Each public call, where memory is there.
 
-use crate::documents::{With, handed, parsed};
+use crate::documents::{With, handed, parsed, resolve};
 use crate::reading::lines;
-use crate::rules::AllPass;
 use std::alloc::{AllocError, Global};
 use std::process::Abort;
 use std::test::Fail;
-use wac_ast::Document;
 use wac_resolution::{AstResolver, Error, Resolution};
 
 const COMPOSITION: &str =
@@ -19,14 +17,14 @@ const INCOMPLETE: &str = "package a:b; import log: func(); let i = new c:d { log
 
 const MESSAGE: &str = "missing instantiation argument `x:y/z` for package `c:d`";
 
-/// Resolves a document by a resolver of its own.
-fn by_resolver<'d, 'a>(
+/// What a resolver returns.
+fn resolved<'d, 'a>(
     rt: &impl Abort,
     alloc: Global,
-    document: &'d Document<'a>,
+    resolver: AstResolver<'d, 'a>,
 ) -> Result<Resolution<'d, 'a>, Error> {
     let packages = handed(rt, alloc, With::Packages)?;
-    AstResolver::new(document).resolve(alloc, packages, &AllPass)
+    resolve(alloc, With::Packages, packages, resolver)
 }
 
 /// Asserts what a resolution of the composition holds.
@@ -66,23 +64,27 @@ fn says(
 }
 
 /// Asserts it of what a resolver returns.
-fn composes(rt: &impl Abort, alloc: Global, document: &Document<'_>) -> Result<(), AllocError> {
-    holds(rt, alloc, by_resolver(rt, alloc, document))
+fn composes(
+    rt: &impl Abort,
+    alloc: Global,
+    resolver: AstResolver<'_, '_>,
+) -> Result<(), AllocError> {
+    holds(rt, alloc, resolved(rt, alloc, resolver))
 }
 
 /// Asserts it of what a resolver returns.
-fn fails(rt: &impl Abort, alloc: Global, document: &Document<'_>) -> Result<(), AllocError> {
-    says(rt, alloc, by_resolver(rt, alloc, document))
+fn fails(rt: &impl Abort, alloc: Global, resolver: AstResolver<'_, '_>) -> Result<(), AllocError> {
+    says(rt, alloc, resolved(rt, alloc, resolver))
 }
 
 #[test]
 fn a_resolver_composes(rt: HostRuntime) -> Result<(), Fail> {
     let document = parsed(&rt, rt.alloc(), COMPOSITION)?;
-    Ok(composes(&rt, rt.alloc(), &document)?)
+    Ok(composes(&rt, rt.alloc(), AstResolver::new(&document))?)
 }
 
 #[test]
 fn a_resolver_reports(rt: HostRuntime) -> Result<(), Fail> {
     let document = parsed(&rt, rt.alloc(), INCOMPLETE)?;
-    Ok(fails(&rt, rt.alloc(), &document)?)
+    Ok(fails(&rt, rt.alloc(), AstResolver::new(&document))?)
 }

@@ -51,18 +51,18 @@ pub fn handed(
     }
 }
 
-/// Resolves a document with packages. It has no contract, so that the proofs of the tests read nothing of that of `resolve`.
+/// Resolves a document with packages. It has no contract, so that the proofs of the tests read nothing of that of the resolver.
 pub fn resolve<'d, 'a>(
     alloc: Global,
     with: With,
     packages: IndexMap<PackageKey, Package>,
-    document: &'d Document<'a>,
+    resolver: AstResolver<'d, 'a>,
 ) -> ResolutionResult<Resolution<'d, 'a>> {
     match with {
-        With::Nothing => AstResolver::new(document).resolve(alloc, packages, &AllPass),
-        With::Packages => AstResolver::new(document).resolve(alloc, packages, &AllPass),
-        With::NothingFits => AstResolver::new(document).resolve(alloc, packages, &NothingFits),
-        With::SameFits => AstResolver::new(document).resolve(alloc, packages, &SameFits),
+        With::Nothing => resolver.resolve(alloc, packages, &AllPass),
+        With::Packages => resolver.resolve(alloc, packages, &AllPass),
+        With::NothingFits => resolver.resolve(alloc, packages, &NothingFits),
+        With::SameFits => resolver.resolve(alloc, packages, &SameFits),
     }
 }
 
@@ -71,10 +71,10 @@ fn composed(
     rt: &impl Abort,
     alloc: Global,
     with: With,
-    document: &Document<'_>,
+    resolver: AstResolver<'_, '_>,
 ) -> Result<CompositionGraph, Error> {
     let packages = handed(rt, alloc, with)?;
-    match resolve(alloc, with, packages, document) {
+    match resolve(alloc, with, packages, resolver) {
         Ok(resolution) => Ok(resolution.into_graph()),
         Err(error) => Err(error),
     }
@@ -88,5 +88,5 @@ pub fn resolved(
     text: &str,
 ) -> Result<CompositionGraph, Error> {
     let document = parsed(rt, alloc, text)?;
-    composed(rt, alloc, with, &document)
+    composed(rt, alloc, with, AstResolver::new(&document))
 }

@@ -9,7 +9,7 @@ use std::process::Abort;
 use std::test::Fail;
 use wac_ast::Document;
 use wac_graph::{CompositionGraph, Package, PackageKey};
-use wac_resolution::Error;
+use wac_resolution::{AstResolver, Error};
 
 /// Documents with what they are resolved with, and their graphs as lines or their errors.
 const DOCUMENTS: &[Resolved] = &[
@@ -86,44 +86,49 @@ fn outcome(
     rt: &impl Abort,
     alloc: Global,
     with: With,
-    document: &Document<'_>,
+    resolver: AstResolver<'_, '_>,
 ) -> Result<Option<String>, AllocError> {
     let packages = handed_again(rt, alloc, with)?;
-    match resolve(alloc, with, packages, document) {
+    match resolve(alloc, with, packages, resolver) {
         Ok(resolution) => Ok(Some(lines_again(alloc, resolution.graph())?)),
         Err(Error::Memory(_)) => Ok(None),
         Err(error) => Ok(Some(shown_again(alloc, &error)?)),
     }
 }
 
-/// What a document comes to. Where memory ran out it is resolved once more.
-fn last_outcome(
+/// Asserts what a document comes to. Where memory runs out it is resolved once more, with the second resolver.
+fn comes_to(
     rt: &impl Abort,
     alloc: Global,
-    with: With,
-    document: &Document<'_>,
-) -> Result<Option<String>, AllocError> {
-    match outcome(rt, alloc, with, document)? {
-        Some(found) => Ok(Some(found)),
-        None => outcome(rt, alloc, with, document),
-    }
-}
-
-/// Asserts what a document comes to.
-fn comes_to(rt: &impl Abort, alloc: Global, row: Resolved) -> Result<(), Fail> {
+    row: Resolved,
+    first: AstResolver<'_, '_>,
+    second: AstResolver<'_, '_>,
+) -> Result<(), AllocError> {
     let (with, text, expected) = row;
-    let document = parsed_again(rt, alloc, text)?;
-    match last_outcome(rt, alloc, with, &document)? {
+    let found = match outcome(rt, alloc, with, first)? {
+        Some(found) => Some(found),
+        None => outcome(rt, alloc, with, second)?,
+    };
+    match found {
         Some(found) => assert_eq!(rt; found.as_str(), expected, "of {text}"),
         None => panic!(rt; "memory runs out twice for {text}"),
     }
     Ok(())
 }
 
+/// Asserts it of the document of a row.
+fn is_as_written(rt: &impl Abort, alloc: Global, row: Resolved) -> Result<(), AllocError> {
+    let (_, text, _) = row;
+    let document = parsed_again(rt, alloc, text)?;
+    let first = AstResolver::new(&document);
+    let second = AstResolver::new(&document);
+    comes_to(rt, alloc, row, first, second)
+}
+
 #[test]
 fn memory_that_is_refused(rt: HostRuntime) -> Result<(), Fail> {
     for row in DOCUMENTS {
-        comes_to(&rt, rt.alloc(), *row)?;
+        is_as_written(&rt, rt.alloc(), *row)?;
     }
     Ok(())
 }
