@@ -5,7 +5,7 @@ use crate::reading::lines;
 use std::alloc::{AllocError, Global};
 use std::process::Abort;
 use std::test::Fail;
-use wac_resolution::{AstResolver, Error, Resolution};
+use wac_resolution::{AstResolver, Resolution};
 
 const COMPOSITION: &str =
     "package a:b; import log: func(); let i = new c:d { log, ... }; export i.run;";
@@ -13,30 +13,12 @@ const COMPOSITION: &str =
 const LINES: &str =
     "0 import log: function [log]\n1 new c:d: instance [i]\n  log = 0\n2 alias 1 run: function\nexport run = 2\n";
 
-const INCOMPLETE: &str = "package a:b; import log: func(); let i = new c:d { log }; export i.run;";
-
-const MESSAGE: &str = "missing instantiation argument `x:y/z` for package `c:d`";
-
-/// What a resolver returns.
-fn resolved<'d, 'a>(
-    rt: &impl Abort,
-    alloc: Global,
-    resolver: AstResolver<'d, 'a>,
-) -> Result<Resolution<'d, 'a>, Error> {
-    let packages = handed(rt, alloc, With::Packages)?;
-    resolve(alloc, With::Packages, packages, resolver)
-}
-
 /// Asserts what a resolution of the composition holds.
-fn holds(
+fn holds<'d, 'a: 'd>(
     rt: &impl Abort,
     alloc: Global,
-    resolution: Result<Resolution<'_, '_>, Error>,
+    resolution: Resolution<'d, 'a>,
 ) -> Result<(), AllocError> {
-    let resolution = match resolution {
-        Ok(resolution) => resolution,
-        Err(error) => panic!(rt; "the composition is rejected: {error:?}"),
-    };
     let document = resolution.document();
     assert_eq!(rt; document.directive.package.string, "a:b");
     assert_eq!(rt; document.statements.len(), 3);
@@ -47,44 +29,21 @@ fn holds(
     Ok(())
 }
 
-/// Asserts why the composition without an argument is rejected.
-fn says(
+/// Asserts it of what a resolver returns.
+fn composes<'d, 'a: 'd>(
     rt: &impl Abort,
     alloc: Global,
-    resolution: Result<Resolution<'_, '_>, Error>,
+    resolver: AstResolver<'d, 'a>,
 ) -> Result<(), AllocError> {
-    match resolution {
-        Ok(_) => panic!(rt; "an argument is missing"),
-        Err(error) => {
-            let text = error.to_string(alloc)?;
-            assert_eq!(rt; text.as_str(), MESSAGE);
-        }
+    let packages = handed(rt, alloc, With::Packages)?;
+    match resolve(alloc, With::Packages, packages, resolver) {
+        Ok(resolution) => holds(rt, alloc, resolution),
+        Err(error) => panic!(rt; "the composition is rejected: {error:?}"),
     }
-    Ok(())
-}
-
-/// Asserts it of what a resolver returns.
-fn composes(
-    rt: &impl Abort,
-    alloc: Global,
-    resolver: AstResolver<'_, '_>,
-) -> Result<(), AllocError> {
-    holds(rt, alloc, resolved(rt, alloc, resolver))
-}
-
-/// Asserts it of what a resolver returns.
-fn fails(rt: &impl Abort, alloc: Global, resolver: AstResolver<'_, '_>) -> Result<(), AllocError> {
-    says(rt, alloc, resolved(rt, alloc, resolver))
 }
 
 #[test]
 fn a_resolver_composes(rt: HostRuntime) -> Result<(), Fail> {
     let document = parsed(&rt, rt.alloc(), COMPOSITION)?;
     Ok(composes(&rt, rt.alloc(), AstResolver::new(&document))?)
-}
-
-#[test]
-fn a_resolver_reports(rt: HostRuntime) -> Result<(), Fail> {
-    let document = parsed(&rt, rt.alloc(), INCOMPLETE)?;
-    Ok(fails(&rt, rt.alloc(), AstResolver::new(&document))?)
 }
