@@ -246,9 +246,9 @@ pub enum Error {
     },
     /// A package was not handed to the resolver.
     UnknownPackage {
-        /// The package: in `new` with its version, in a path without.
+        /// The name of the package, without its version.
         name: String,
-        /// The name of the package.
+        /// The package: in `new` with its version, in a path without.
         span: SourceSpan,
     },
     /// A package has nothing at the end of a path.
