@@ -1,5 +1,6 @@
 pub mod Fronts
 pub mod Printing
 pub mod ItemLines
-pub mod Refusing
+pub mod NoTree
+pub mod GraphTexts
 pub mod InBlocks

@@ -1,0 +1,53 @@
+-- What is written of a graph, and what is returned of an error.
+use Rattle.std.proofs.Common.{◌≡◌, ◌∙◌, ℕ, suc, List, [], ◌∷◌, ◌++◌, map, ⊎_elim, refl, ap}
+use Rattle.std.specs.Prelude.{◌⊎◌, ◌≢◌, alloc_error}
+use Rattle.wac_grammar.specs.Tree.{Document}
+use Rattle.wac_graph.specs.Graph.{Parts}
+use Rattle.wac_graph.specs.Node.{Node as GraphNode, arguments_in}
+use Rattle.wac_graph.specs.Origin.{Naming}
+use Rattle.wac_resolution_errors.specs.Error.{memory}
+use Rattle.wac_resolution_errors.specs.Told.{told}
+use Rattle.wac_resolution_errors.specs.declared.error.Error.{Error}
+use Rattle.wac_resolution_errors.specs.declared.error.Error.TheVariants as errors
+use Rattle.wac_resolution_rules.specs.ResolvedDocument.{FirstFailing, EveryNaming}
+use Rattle.wac_resolution_nodes.specs.Nodes.{composition_of, node_of}
+use Rattle.wac_tool_graphs.specs.Lines.{node_line, node_lines, argument_lines, export_lines, graph_lines}
+use Rattle.wac_tool.specs.Resolving.{alone, IsGraphText, IsGraphOf, HasGraph, IsRejection, IsErrorOf}
+use Rattle.wac_tool.specs.Running.{Writes}
+use Rattle.wac_tool.specs.declared.command.Command.TheVariants.{Resolve}
+use Rattle.wac_tool.specs.declared.error.RunError.{RunError}
+use Rattle.wac_tool.specs.declared.error.RunError.TheVariants.{Refused, Input, Output, Memory, NotUtf8}
+
+-- ---- the lines of a graph
+
+-- A naming of origins for which a graph is read: its lines are the same under each.
+abbrev pub any_naming : Naming
+any_naming = λ origin. 0
+
+abbrev pub lines_of : Parts → List ℕ
+lines_of g = graph_lines (composition_of any_naming g [])
+
+same_lines : (naming other : Naming) (g : Parts) (n : ℕ) (ns : List GraphNode) → node_lines n (map (node_of naming g) ns) ≡ node_lines n (map (node_of other g) ns)
+same_lines naming other g n [] = refl
+same_lines naming other g n (x ∷ ns) = ap (λ l. node_line n (node_of naming g x) ++ (argument_lines (arguments_in x.form) ++ l)) (same_lines naming other g (suc n) ns)
+
+is_text : (document : Document) (g : Parts) → IsGraphOf document g → IsGraphText document (lines_of g)
+is_text document g is = λ naming one. (composition_of naming g is.0, is.1 naming one, ap (λ l. l ++ export_lines g.exports) (same_lines any_naming naming g 0 g.nodes))
+
+-- The lines of the graph of a source's document are what is written of the source.
+pub writes_graph : (source : List ℕ) (g : Parts) → HasGraph source g → Writes Resolve source (lines_of g)
+writes_graph source g has = (has.0, has.1, is_text has.0 g has.2)
+
+-- ---- errors
+
+is_memory : (e : Error) → told e ≡ memory → e ≡ errors.Memory alloc_error
+is_memory (errors.Memory a) h = refl
+is_memory _ h = absurd (cc h)
+
+-- The place of an error of resolving is one of the document.
+pub is_error : (document : Document) (e : Error) (answer : RunError) → EveryNaming (λ naming. (told e ≡ memory) ⊎ FirstFailing (alone naming document) document (told e)) → IsRejection e answer → IsErrorOf document answer
+is_error document e (Refused place message) first is = (told e, (λ naming one. ⊎_elim (λ m. absurd (is.1 (is_memory e m))) (λ x. x) (first naming one), is.0))
+is_error document e (Memory a) first is = tt
+is_error document e Input first is = absurd is
+is_error document e Output first is = absurd is
+is_error document e NotUtf8 first is = absurd is

@@ -1,0 +1,61 @@
+-- What resolving a document alone comes to: with no package given, and by the rules of the program.
+use Rattle.std.specs.Prelude.{◌≡◌, ◌≢◌, ℕ, List, [], Option, None, alloc_error}
+use Rattle.wac_lexer.specs.Span.{Span}
+use Rattle.wac_types.specs.Scope.{Named}
+use Rattle.wac_grammar.specs.Tree.{Document}
+use Rattle.wac_grammar.specs.TextTree.{IsTreeOf}
+use Rattle.wac_graph.specs.Graph.{Parts}
+use Rattle.wac_graph.specs.Origin.{Naming}
+use Rattle.wac_resolution_errors.specs.Error.{Error as Told}
+use Rattle.wac_resolution_errors.specs.Places.{span_of}
+use Rattle.wac_resolution_errors.specs.Told.{told}
+use Rattle.wac_resolution_errors.specs.declared.error.Error.{Error}
+use Rattle.wac_resolution_errors.specs.declared.error.Error.TheVariants as errors
+use Rattle.wac_resolution_rules.specs.Composition.{Composition}
+use Rattle.wac_resolution_rules.specs.Given.{Given, Rules, rules_by}
+use Rattle.wac_resolution_rules.specs.ResolvedDocument.{given_to, Describes, FirstFailing, EveryNaming}
+use Rattle.wac_resolution_nodes.specs.Nodes.{composition_of}
+use Rattle.wac_tool_graphs.specs.Lines.{graph_lines}
+use Rattle.wac_tool_graphs.specs.Rules.{same_passes}
+use Rattle.wac_tool.specs.declared.error.RunError.{RunError}
+use Rattle.wac_tool.specs.declared.error.RunError.TheVariants.{Refused, Memory}
+
+-- a kind may stand for one of equal meaning, and any text may be a name
+abbrev pub same_rules : Rules
+same_rules = rules_by same_passes (λ name. None)
+
+-- what a document is resolved with
+abbrev pub alone : Naming → Document → Given
+alone naming document = given_to naming [] same_rules document
+
+-- ---- what is written, and what is rejected
+
+-- The document describes a composition, and these are its lines.
+abbrev pub IsGraphText : Document → List ℕ → Type 0
+IsGraphText document out = EveryNaming (λ naming. (c : Composition) × Describes (alone naming document) document c × (out ≡ graph_lines c))
+
+-- The document breaks a rule, and its error lies at this place.
+abbrev pub IsRejected : Document → Option Span → Type 0
+IsRejected document place = (e : Told) × EveryNaming (λ naming. FirstFailing (alone naming document) document e) × (place ≡ span_of e)
+
+-- ---- graphs and errors
+
+-- The graph stands for what the document describes, where some names are bound at root.
+abbrev pub IsGraphOf : Document → Parts → Type 0
+IsGraphOf document g = (declared : Named ℕ) × EveryNaming (λ naming. Describes (alone naming document) document (composition_of naming g declared))
+
+-- The source has a document, and the graph is that document's.
+abbrev pub HasGraph : List ℕ → Parts → Type 0
+HasGraph source g = (document : Document) × IsTreeOf source document × IsGraphOf document g
+
+-- what is returned for an error: its place, unless memory ran out
+abbrev pub IsRejection : Error → RunError → Type 0
+IsRejection e (Refused place message) = (place ≡ span_of (told e)) × (e ≢ errors.Memory alloc_error)
+IsRejection e (Memory _) = Unit {0}
+IsRejection e answer = ⊥
+
+-- what is returned for a document that can't be resolved: where it breaks a rule, unless memory ran out
+abbrev pub IsErrorOf : Document → RunError → Type 0
+IsErrorOf document (Refused place message) = IsRejected document place
+IsErrorOf document (Memory _) = Unit {0}
+IsErrorOf document answer = ⊥
