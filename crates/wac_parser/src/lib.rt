@@ -15,6 +15,7 @@
 
 mod formatting;
 pub mod lexer;
+pub mod resolution;
 
 pub use formatting::format;
 pub use wac_ast::{

@@ -3,7 +3,9 @@
 
 mod command;
 mod error;
+mod refusing;
 mod reporting;
+mod resolving;
 mod running;
 mod transfer;
 
