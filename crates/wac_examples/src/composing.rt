@@ -3,7 +3,9 @@
 use indexmap::IndexMap;
 use std::alloc::{AllocError, Global};
 use wac_parser::lexer::SourceSpan;
-use wac_parser::resolution::{AstResolver, Error, ItemKind, Package, PackageKey, Reason, Rules, Types};
+use wac_parser::resolution::{
+    AstResolver, Error, ItemKind, Package, PackageKey, Reason, Rules, Types,
+};
 use wac_parser::{Document, ParseResult};
 
 /// What an import of a package asks for is met by what means the same, and by nothing else. Each name may be used.

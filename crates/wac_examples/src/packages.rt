@@ -30,19 +30,33 @@ pub fn cache(alloc: Global) -> Result<Package, PackageError> {
 }
 
 /// One item by its name.
-fn one(alloc: Global, name: &str, kind: ItemKind) -> Result<IndexMap<String, ItemKind>, AllocError> {
+fn one(
+    alloc: Global,
+    name: &str,
+    kind: ItemKind,
+) -> Result<IndexMap<String, ItemKind>, AllocError> {
     let mut items = IndexMap::new(alloc);
     items.insert(String::from_str(alloc, name)?, kind)?;
     Ok(items)
 }
 
-/// The cache under its name, as it is handed to the resolver.
-pub fn packages(alloc: Global) -> Result<IndexMap<PackageKey, Package>, PackageError> {
+/// The cache alone, as it is handed to the resolver: under its name.
+pub fn cache_alone(alloc: Global) -> Result<IndexMap<PackageKey, Package>, PackageError> {
+    let package = cache(alloc)?;
+    Ok(under(alloc, "example:cache", package)?)
+}
+
+fn under(
+    alloc: Global,
+    name: &str,
+    package: Package,
+) -> Result<IndexMap<PackageKey, Package>, AllocError> {
     let mut packages = IndexMap::new(alloc);
+    let name = String::from_str(alloc, name)?;
     let key = PackageKey {
-        name: String::from_str(alloc, "example:cache")?,
+        name,
         version: None,
     };
-    packages.insert(key, cache(alloc)?)?;
+    packages.insert(key, package)?;
     Ok(packages)
 }
