@@ -1,16 +1,20 @@
 //! A user's crate over `wac_parser`: what a formatter, an editor service and a checker of packages do with it. The README quotes it.
 #![tactic(auto)]
 
+mod composing;
 mod errors;
 mod formatting;
 mod imports;
 mod json;
 mod lines;
+mod packages;
 mod tokens;
 
+pub use composing::{SameTypes, composition_error};
 pub use errors::first_error;
 pub use formatting::{formatted, is_formatted};
 pub use imports::imported_packages;
 pub use json::to_json;
 pub use lines::position;
+pub use packages::{cache, cache_alone};
 pub use tokens::list_tokens;

@@ -2,7 +2,8 @@
 
 use std::test::Fail;
 use wac_examples::{
-    first_error, formatted, imported_packages, is_formatted, list_tokens, position, to_json,
+    cache_alone, composition_error, first_error, formatted, imported_packages, is_formatted,
+    list_tokens, position, to_json,
 };
 
 const SOURCE: &str = r#"/* Built every night. */
@@ -28,6 +29,18 @@ export cache["example:cache/metrics@0.2.0"] as "metrics";
 
 const FAULTY: &str = r#"package example:gateway;
 let cache = new example:cache { log ... };
+"#;
+
+const COMPOSED: &str = r#"package example:app;
+import log: func();
+let cache = new example:cache { log };
+export cache.get;
+"#;
+
+const MISMATCHED: &str = r#"package example:app;
+import log: func(line: string);
+let cache = new example:cache { log };
+export cache.get;
 "#;
 
 #[test]
@@ -109,6 +122,24 @@ fn a_document_is_json(rt: HostRuntime) -> Result<(), Fail> {
             text.as_str(),
             r#"{"directive":{"package":{"name":"a:b","span":{"length":3,"offset":8},"string":"a:b","version":null}},"docs":[],"statements":[]}"#
         ),
+        Err(_) => panic!(rt; "rejected"),
+    }
+    Ok(())
+}
+
+#[test]
+fn a_document_composes_packages(rt: HostRuntime) -> Result<(), Fail> {
+    let alloc = rt.alloc();
+    match composition_error(alloc, COMPOSED, cache_alone(alloc)?) {
+        Ok(found) => assert!(rt; found.is_none()),
+        Err(_) => panic!(rt; "rejected"),
+    }
+    match composition_error(alloc, MISMATCHED, cache_alone(alloc)?) {
+        Ok(Some((Some(span), text))) => {
+            assert_eq!(rt; (span.offset(), span.len()), (85, 3));
+            assert_eq!(rt; text.as_str(), "mismatched instantiation argument `log`");
+        }
+        Ok(_) => panic!(rt; "no error with a place"),
         Err(_) => panic!(rt; "rejected"),
     }
     Ok(())

@@ -1,0 +1,57 @@
+//! Testing what documents compose.
+
+use indexmap::IndexMap;
+use std::alloc::{AllocError, Global};
+use wac_parser::lexer::SourceSpan;
+use wac_parser::resolution::{
+    AstResolver, Error, ItemKind, Package, PackageKey, Reason, Rules, Types,
+};
+use wac_parser::{Document, ParseResult};
+
+/// What an import of a package asks for is met by what means the same, and by nothing else. Each name may be used.
+pub struct SameTypes;
+
+impl Rules for SameTypes {
+    ghost use Rattle.std.specs.Prelude.{None};
+    ghost use Rattle.wac_types.specs.Equality.{equal_or, meaning_discrete, equal_or-renamed};
+
+    ghost passes = { λ _ a b. equal_or (record { 0 = 1 }) (meaning_discrete a b) };
+
+    ghost named = { λ _ _. None };
+
+    ghost alike_renamed = { λ _ f a b apart. equal_or-renamed (record { 0 = 1 }) f a b apart };
+
+    fn subtype(&self, types: &Types, a: ItemKind, b: ItemKind) -> Result<(), Reason> {
+        if types.same(a, b) {
+            Ok(())
+        } else {
+            Err(Reason(1))
+        }
+    }
+
+    fn extern_name(&self, _name: &str) -> Result<(), Reason> {
+        Ok(())
+    }
+}
+
+/// Why these packages can't be composed as a document says, and where it says so. `None` where they can.
+pub fn composition_error(
+    alloc: Global,
+    source: &str,
+    packages: IndexMap<PackageKey, Package>,
+) -> ParseResult<Option<(Option<SourceSpan>, String)>> {
+    let document = Document::parse(alloc, source)?;
+    error_of(alloc, AstResolver::new(&document), packages)
+}
+
+fn error_of(
+    alloc: Global,
+    resolver: AstResolver<'_, '_>,
+    packages: IndexMap<PackageKey, Package>,
+) -> ParseResult<Option<(Option<SourceSpan>, String)>> {
+    match resolver.resolve(alloc, packages, &SameTypes) {
+        Ok(_) => Ok(None),
+        Err(Error::Memory(_)) => Err(AllocError.into()),
+        Err(error) => Ok(Some((error.span(), error.to_string(alloc)?))),
+    }
+}

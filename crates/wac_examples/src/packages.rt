@@ -1,0 +1,62 @@
+//! A package, built in code.
+
+use indexmap::IndexMap;
+use std::alloc::{AllocError, Global};
+use wac_parser::resolution::{
+    FuncType, Interface, ItemKind, Package, PackageError, PackageKey, Types, World,
+};
+
+/// A package that imports the function `log` and exports the function `get`, both without parameters and results.
+pub fn cache(alloc: Global) -> Result<Package, PackageError> {
+    let mut types = Types::new(alloc);
+    let func = FuncType {
+        params: IndexMap::new(alloc),
+        result: None,
+        is_async: false,
+    };
+    let func = ItemKind::Func(types.add_func_type(func)?);
+    let world = types.add_world(World {
+        id: None,
+        uses: IndexMap::new(alloc),
+        imports: one(alloc, "log", func)?,
+        exports: one(alloc, "get", func)?,
+    })?;
+    let instance = types.add_interface(Interface {
+        id: None,
+        uses: IndexMap::new(alloc),
+        exports: one(alloc, "get", func)?,
+    })?;
+    Package::new(types, world, instance, IndexMap::new(alloc))
+}
+
+/// One item by its name.
+fn one(
+    alloc: Global,
+    name: &str,
+    kind: ItemKind,
+) -> Result<IndexMap<String, ItemKind>, AllocError> {
+    let mut items = IndexMap::new(alloc);
+    items.insert(String::from_str(alloc, name)?, kind)?;
+    Ok(items)
+}
+
+/// The cache alone, as it is handed to the resolver: under its name.
+pub fn cache_alone(alloc: Global) -> Result<IndexMap<PackageKey, Package>, PackageError> {
+    let package = cache(alloc)?;
+    Ok(under(alloc, "example:cache", package)?)
+}
+
+fn under(
+    alloc: Global,
+    name: &str,
+    package: Package,
+) -> Result<IndexMap<PackageKey, Package>, AllocError> {
+    let mut packages = IndexMap::new(alloc);
+    let name = String::from_str(alloc, name)?;
+    let key = PackageKey {
+        name,
+        version: None,
+    };
+    packages.insert(key, package)?;
+    Ok(packages)
+}
