@@ -236,7 +236,7 @@ fn rejected_texts_are_reported(rt: HostRuntime) -> Result<(), Fail> {
 
 #[test]
 fn other_words_and_bytes_are_reported(rt: HostRuntime) -> Result<(), Fail> {
-    let usage = "usage: wac tokens|fmt|json|resolve|packages|check\n";
+    let usage = "usage: wac tokens|fmt|json|resolve\n";
     for word in [
         "", "format", "fm", "fmts", "FMT", "token", "Json", "jso", "resolve",
     ] {
