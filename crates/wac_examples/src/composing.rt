@@ -40,8 +40,10 @@ pub fn composition_error(
     source: &str,
     packages: IndexMap<PackageKey, Package>,
 ) -> ParseResult<Option<(Option<SourceSpan>, String)>> {
-    let document = Document::parse(alloc, source)?;
-    error_of(alloc, AstResolver::new(&document), packages)
+    match Document::parse(alloc, source) {
+        Ok(document) => error_of(alloc, AstResolver::new(&document), packages),
+        Err(error) => Err(error),
+    }
 }
 
 fn error_of(

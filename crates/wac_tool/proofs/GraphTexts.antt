@@ -1,19 +1,26 @@
 -- What is written of a graph, and what is returned of an error.
-use Rattle.std.proofs.Common.{◌≡◌, ◌∙◌, ℕ, suc, List, [], ◌∷◌, ◌++◌, map, ⊎_elim, refl, ap}
-use Rattle.std.specs.Prelude.{◌⊎◌, ◌≢◌, alloc_error}
+use Rattle.std.proofs.Common.{◌≡◌, ◌∙◌, ℕ, suc, List, [], ◌∷◌, ◌++◌, map, ⊎_elim, refl, sym, subst, ap, inr, Ok, Err}
+use Rattle.std.specs.Prelude.{◌⊎◌, ◌≢◌, Result, IfOk, IfErr, alloc_error}
+use Rattle.wac_ast.specs.Statements.{document_of}
+use Rattle.wac_ast.specs.declared.document.Document.{Document as CodeDocument}
+use Rattle.wac_grammar.specs.TextTree.{IsTreeOf}
 use Rattle.wac_grammar.specs.Tree.{Document}
 use Rattle.wac_graph.specs.Graph.{Parts}
 use Rattle.wac_graph.specs.Node.{Node as GraphNode, arguments_in}
 use Rattle.wac_graph.specs.Origin.{Naming}
+use Rattle.wac_graph.specs.declared.package_key.PackageKey.{PackageKey}
+use Rattle.wac_types.specs.Package.{PackageParts}
+use Rattle.wac_types.specs.Scope.{Named}
+use Rattle.wac_resolution.specs.Resolved.{Resolved, Promised}
 use Rattle.wac_resolution_errors.specs.Error.{memory}
 use Rattle.wac_resolution_errors.specs.Told.{told}
 use Rattle.wac_resolution_errors.specs.declared.error.Error.{Error}
 use Rattle.wac_resolution_errors.specs.declared.error.Error.TheVariants as errors
-use Rattle.wac_resolution_rules.specs.ResolvedDocument.{FirstFailing, EveryNaming}
+use Rattle.wac_resolution_rules.specs.ResolvedDocument.{FirstFailing, EveryNaming, GraphClause, FirstClause}
 use Rattle.wac_resolution_nodes.specs.Nodes.{composition_of, node_of}
 use Rattle.wac_tool_graphs.specs.Lines.{node_line, node_lines, argument_lines, export_lines, graph_lines}
-use Rattle.wac_tool.specs.Resolving.{alone, IsGraphText, IsGraphOf, HasGraph, IsRejection, IsErrorOf}
-use Rattle.wac_tool.specs.Running.{Writes}
+use Rattle.wac_tool.specs.Resolving.{alone, same_rules, IsGraphText, IsGraphOf, HasGraph, IsRejection, IsErrorOf}
+use Rattle.wac_tool.specs.Running.{Writes, Rejects}
 use Rattle.wac_tool.specs.declared.command.Command.TheVariants.{Resolve}
 use Rattle.wac_tool.specs.declared.error.RunError.{RunError}
 use Rattle.wac_tool.specs.declared.error.RunError.TheVariants.{Refused, Input, Output, Memory, NotUtf8}
@@ -46,8 +53,41 @@ is_memory _ h = absurd (cc h)
 
 -- The place of an error of resolving is one of the document.
 pub is_error : (document : Document) (e : Error) (answer : RunError) → EveryNaming (λ naming. (told e ≡ memory) ⊎ FirstFailing (alone naming document) document (told e)) → IsRejection e answer → IsErrorOf document answer
-is_error document e (Refused place message) first is = (told e, (λ naming one. ⊎_elim (λ m. absurd (is.1 (is_memory e m))) (λ x. x) (first naming one), is.0))
+is_error document e (Refused place message) first is = (told e, (λ naming one. ⊎_elim (λ m. absurd (is.1 (is_memory e m))) (λ x. x) (first naming one)), is.0)
 is_error document e (Memory a) first is = tt
 is_error document e Input first is = absurd is
 is_error document e Output first is = absurd is
 is_error document e NotUtf8 first is = absurd is
+
+-- ---- what resolving returns where no package is handed
+
+-- The graph is the document's.
+pub is_graph : (packages : List (PackageKey × PackageParts)) (document : Document) (r : Resolved) (g : Parts) → packages ≡ [] → g ≡ r.graph
+    → ((declared : Named ℕ) × Promised GraphClause packages same_rules document declared (Ok r)) → IsGraphOf document g
+is_graph packages document r g none same has =
+    subst (λ x. IsGraphOf document x) (sym same) (subst (λ ps. (declared : Named ℕ) × Promised GraphClause ps same_rules document declared (Ok r)) none has)
+
+-- The error names a rule that the document breaks.
+pub is_rejected : (packages : List (PackageKey × PackageParts)) (document : Document) (e : Error) (answer : RunError) → packages ≡ []
+    → ((declared : Named ℕ) → Promised FirstClause packages same_rules document declared (Err e)) → IsRejection e answer → IsErrorOf document answer
+is_rejected packages document e answer none first is =
+    is_error document e answer (subst (λ ps. (declared : Named ℕ) → Promised FirstClause ps same_rules document declared (Err e)) none first []) is
+
+-- ---- of a source that has a document
+
+pub has_graph : (source : List ℕ) (document resolver : CodeDocument) (result : Result Parts RunError) → IsTreeOf source (document_of document) → resolver ≡ document
+    → IfOk result (λ g. IsGraphOf (document_of resolver) g) → IfOk result (λ g. HasGraph source g)
+has_graph source document resolver (Ok g) tree same is = (document_of document, tree, subst (λ d. IsGraphOf (document_of d) g) same is)
+has_graph source document resolver (Err e) tree same is = tt
+
+rejects_error : (source : List ℕ) (document : Document) (answer : RunError) → IsTreeOf source document → IsErrorOf document answer → Rejects Resolve source answer
+rejects_error source document (Refused place message) tree is = inr (document, tree, is)
+rejects_error source document (Memory a) tree is = tt
+rejects_error source document Input tree is = absurd is
+rejects_error source document Output tree is = absurd is
+rejects_error source document NotUtf8 tree is = absurd is
+
+pub rejects_document : (source : List ℕ) (document resolver : CodeDocument) (result : Result Parts RunError) → IsTreeOf source (document_of document) → resolver ≡ document
+    → IfErr result (λ e. IsErrorOf (document_of resolver) e) → IfErr result (λ e. Rejects Resolve source e)
+rejects_document source document resolver (Ok g) tree same is = tt
+rejects_document source document resolver (Err e) tree same is = rejects_error source (document_of document) e tree (subst (λ d. IsErrorOf (document_of d) e) same is)
