@@ -4,9 +4,8 @@ use indexmap::IndexMap;
 use std::alloc::{AllocError, Global};
 use wac_parser::lexer::SourceSpan;
 use wac_parser::resolution::{
-    AstResolver, Error, ItemKind, Package, PackageKey, Reason, Rules, Types,
+    AstResolver, Error, ItemKind, Package, PackageKey, Reason, ResolutionResult, Rules, Types,
 };
-use wac_parser::{Document, ParseResult};
 
 /// What an import of a package asks for is met by what means the same, and by nothing else. Each name may be used.
 pub struct SameTypes;
@@ -37,23 +36,12 @@ impl Rules for SameTypes {
 /// Why these packages can't be composed as a document says, and where it says so. `None` where they can.
 pub fn composition_error(
     alloc: Global,
-    source: &str,
-    packages: IndexMap<PackageKey, Package>,
-) -> ParseResult<Option<(Option<SourceSpan>, String)>> {
-    match Document::parse(alloc, source) {
-        Ok(document) => error_of(alloc, AstResolver::new(&document), packages),
-        Err(error) => Err(error),
-    }
-}
-
-fn error_of(
-    alloc: Global,
     resolver: AstResolver<'_, '_>,
     packages: IndexMap<PackageKey, Package>,
-) -> ParseResult<Option<(Option<SourceSpan>, String)>> {
+) -> ResolutionResult<Option<(Option<SourceSpan>, String)>> {
     match resolver.resolve(alloc, packages, &SameTypes) {
         Ok(_) => Ok(None),
-        Err(Error::Memory(_)) => Err(AllocError.into()),
+        Err(Error::Memory(_)) => Err(Error::Memory(AllocError)),
         Err(error) => Ok(Some((error.span(), error.to_string(alloc)?))),
     }
 }

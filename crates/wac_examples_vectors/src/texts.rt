@@ -1,10 +1,14 @@
 //! The texts that the README shows, and rows of the language.
 
+use std::alloc::{AllocError, Global};
 use std::test::Fail;
 use wac_examples::{
     cache_alone, composition_error, first_error, formatted, imported_packages, is_formatted,
     list_tokens, position, to_json,
 };
+use wac_parser::Document;
+use wac_parser::lexer::SourceSpan;
+use wac_parser::resolution::AstResolver;
 
 const SOURCE: &str = r#"/* Built every night. */
 /** Puts a cache in front of a service. */
@@ -127,20 +131,38 @@ fn a_document_is_json(rt: HostRuntime) -> Result<(), Fail> {
     Ok(())
 }
 
+/// Why the cache can't be composed as a document says.
+fn error_with_cache(
+    alloc: Global,
+    source: &str,
+) -> Result<Option<(Option<SourceSpan>, String)>, AllocError> {
+    match Document::parse(alloc, source) {
+        Ok(document) => error_of(alloc, AstResolver::new(&document)),
+        Err(_) => Err(AllocError),
+    }
+}
+
+fn error_of(
+    alloc: Global,
+    resolver: AstResolver<'_, '_>,
+) -> Result<Option<(Option<SourceSpan>, String)>, AllocError> {
+    match cache_alone(alloc) {
+        Ok(packages) => match composition_error(alloc, resolver, packages) {
+            Ok(found) => Ok(found),
+            Err(_) => Err(AllocError),
+        },
+        Err(_) => Err(AllocError),
+    }
+}
+
 #[test]
 fn a_document_composes_packages(rt: HostRuntime) -> Result<(), Fail> {
     let alloc = rt.alloc();
-    match composition_error(alloc, COMPOSED, cache_alone(alloc)?) {
-        Ok(found) => assert!(rt; found.is_none()),
-        Err(_) => panic!(rt; "rejected"),
-    }
-    match composition_error(alloc, MISMATCHED, cache_alone(alloc)?) {
-        Ok(Some((Some(span), text))) => {
-            assert_eq!(rt; (span.offset(), span.len()), (85, 3));
-            assert_eq!(rt; text.as_str(), "mismatched instantiation argument `log`");
-        }
-        Ok(_) => panic!(rt; "no error with a place"),
-        Err(_) => panic!(rt; "rejected"),
-    }
+    assert!(rt; error_with_cache(alloc, COMPOSED)?.is_none());
+    let Some((Some(span), text)) = error_with_cache(alloc, MISMATCHED)? else {
+        panic!(rt; "no error with a place")
+    };
+    assert_eq!(rt; (span.offset(), span.len()), (85, 3));
+    assert_eq!(rt; text.as_str(), "mismatched instantiation argument `log`");
     Ok(())
 }
