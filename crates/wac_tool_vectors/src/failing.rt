@@ -15,7 +15,7 @@ struct Row<'a> {
     text: &'a str,
 }
 
-const ROWS: [Row<'static>; 4] = [
+const ROWS: [Row<'static>; 5] = [
     Row {
         command: Command::Fmt,
         input: FIRST,
@@ -30,6 +30,11 @@ const ROWS: [Row<'static>; 4] = [
         command: Command::Json,
         input: SECOND,
         text: SECOND_AS_JSON,
+    },
+    Row {
+        command: Command::Resolve,
+        input: "package a:b; import x: interface { f: func(); }; export x.f;",
+        text: "0 import x: instance [x]\n1 alias 0 f: function\nexport f = 1\n",
     },
     Row {
         command: Command::Tokens,
@@ -160,14 +165,19 @@ fn reading_fails_at(rt: &impl Abort, alloc: Global, command: Command, room: usiz
 
 #[test]
 fn readers(rt: HostRuntime) {
-    for command in [Command::Fmt, Command::Tokens, Command::Json] {
+    for command in [
+        Command::Fmt,
+        Command::Tokens,
+        Command::Json,
+        Command::Resolve,
+    ] {
         for room in 0..FIRST.len() + 1 {
             reading_fails_at(&rt, rt.alloc(), command, room);
         }
     }
 }
 
-const REJECTED: [Row<'static>; 3] = [
+const REJECTED: [Row<'static>; 5] = [
     Row {
         command: Command::Fmt,
         input: "package a:b; let",
@@ -176,6 +186,16 @@ const REJECTED: [Row<'static>; 3] = [
     Row {
         command: Command::Json,
         input: "package a:b; let",
+        text: "",
+    },
+    Row {
+        command: Command::Resolve,
+        input: "package a:b; let",
+        text: "",
+    },
+    Row {
+        command: Command::Resolve,
+        input: "package a:b targets a:b/w; world w { export run: func(); }",
         text: "",
     },
     Row {

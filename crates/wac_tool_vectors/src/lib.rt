@@ -6,4 +6,6 @@ mod failing;
 #[cfg(test)]
 mod narrow;
 #[cfg(test)]
+mod resolving;
+#[cfg(test)]
 mod runs;

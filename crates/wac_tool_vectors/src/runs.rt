@@ -44,7 +44,13 @@ fn performed(alloc: Global, word: &str, input: &[u8]) -> Result<Outcome, Fail> {
 }
 
 /// Asserts what a run writes.
-fn writes(rt: &impl Abort, alloc: Global, word: &str, input: &str, text: &str) -> Result<(), Fail> {
+pub fn writes(
+    rt: &impl Abort,
+    alloc: Global,
+    word: &str,
+    input: &str,
+    text: &str,
+) -> Result<(), Fail> {
     let Outcome {
         written,
         said,
@@ -57,7 +63,7 @@ fn writes(rt: &impl Abort, alloc: Global, word: &str, input: &str, text: &str) -
 }
 
 /// Asserts what a run says where it writes nothing.
-fn says(
+pub fn says(
     rt: &impl Abort,
     alloc: Global,
     word: &str,
@@ -238,11 +244,11 @@ fn rejected_texts_are_reported(rt: HostRuntime) -> Result<(), Fail> {
 fn other_words_and_bytes_are_reported(rt: HostRuntime) -> Result<(), Fail> {
     let usage = "usage: wac tokens|fmt|json|resolve\n";
     for word in [
-        "", "format", "fm", "fmts", "FMT", "token", "Json", "jso", "resolve",
+        "", "format", "fm", "fmts", "FMT", "token", "Json", "jso", "resolved",
     ] {
         says(&rt, rt.alloc(), word, FIRST.as_bytes(), usage, 2)?;
     }
-    for word in ["tokens", "fmt", "json"] {
+    for word in ["tokens", "fmt", "json", "resolve"] {
         says(&rt, rt.alloc(), word, b"a\xff", "input is not UTF-8\n", 3)?;
     }
     Ok(())
