@@ -32,6 +32,7 @@ pub use wac_ast::{
     parse_token, tokens_have_texts, trees_stand_in_their_text, what_is_read_derives,
 };
 pub use wac_json::ToValue;
+pub use wac_parser_packages::packages;
 pub use wac_printer::{
     DocumentPrinter, Page, PrintError, PrintResult, equal_bare_trees_print_equally,
     printed_documents_read_back, trees_of_texts_can_be_printed,

@@ -1,3 +1,4 @@
+pub mod Alike
 pub mod Starting
 pub mod Ending
 pub mod Told

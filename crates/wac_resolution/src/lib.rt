@@ -11,6 +11,7 @@
 //! `docs/RESOLVING.md` says what documents mean. Only `Error::Memory` names no rule: it comes where a request for memory was refused.
 #![tactic(auto)]
 
+mod laws;
 mod lent;
 mod resolution;
 mod resolver;
@@ -18,6 +19,7 @@ mod setting;
 mod steps;
 mod target;
 
+pub use laws::formatting_changes_no_graph;
 pub use resolution::{Resolution, ResolutionResult};
 pub use resolver::AstResolver;
 pub use wac_resolution_errors::{Error, InstanceOperation};

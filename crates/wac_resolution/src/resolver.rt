@@ -1,9 +1,11 @@
 //! The resolver of a document.
 ghost use Rattle.std.specs.Prelude.{◌≡◌, ℕ, IfOk};
 ghost use Rattle.wac_ast.specs.Statements.{document_of};
+ghost use Rattle.wac_grammar.specs.Tree.{Document as Tree};
 ghost use Rattle.wac_types.specs.Scope.{Named};
 ghost use Rattle.wac_resolution_rules.specs.Given.{rules_by};
 ghost use Rattle.wac_resolution_rules.specs.ResolvedDocument.{GraphClause, OnlyClause, FirstClause};
+ghost use Rattle.wac_resolution.specs.Layout.{DescribedClause, SameBareTree};
 ghost use Rattle.wac_resolution.specs.Resolved.{Promised};
 
 use crate::lent::Statements;
@@ -65,6 +67,8 @@ impl<'d, 'a> AstResolver<'d, 'a> {
         ensures only { (declared : Named ℕ) → Promised OnlyClause packages.entries (rules_by (R.passes rules.now) (R.named rules.now)) (document_of self.entry) declared result }
         // An error names a rule that the first failing statement breaks, unless memory runs out.
         ensures first { (declared : Named ℕ) → Promised FirstClause packages.entries (rules_by (R.passes rules.now) (R.named rules.now)) (document_of self.entry) declared result }
+        // It is as right for each document with the same bare tree: layout carries no meaning.
+        ensures layout { (declared : Named ℕ) × ((other : Tree) → SameBareTree (document_of self.entry) other → Promised DescribedClause packages.entries (rules_by (R.passes rules.now) (R.named rules.now)) other declared result) }
     {
         let document = self.document;
         let directive = &document.directive;

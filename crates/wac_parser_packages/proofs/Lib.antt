@@ -1,0 +1,4 @@
+pub mod Arguments
+pub mod FirstMentions
+pub mod Keys
+pub mod Noting

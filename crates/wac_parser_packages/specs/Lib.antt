@@ -1,0 +1,3 @@
+pub mod FirstMentions
+pub mod Noted
+pub mod Packages

@@ -1,0 +1,16 @@
+// Laws of the definitions that the contracts cite. Each function does nothing: its contract is the law.
+ghost use Rattle.wac_grammar.specs.Tree.{Document};
+ghost use Rattle.wac_resolution_rules.specs.Mentions.{Mention, mentions};
+ghost use Rattle.std.specs.Prelude.{List};
+ghost use Rattle.wac_parser_packages.specs.FirstMentions.{first_mentions};
+ghost use Rattle.wac_parser_packages.specs.Packages.{AreFirst, OnlyTheseMatter};
+
+use wac_resolution_rules::only_mentioned_packages_matter;
+
+/// The first mentions say of each key what all mentions say of it, and of the packages that are handed to resolving no others matter.
+pub fn only_first_mentions_matter()
+    ensures first { (ms : List Mention) → AreFirst ms (first_mentions ms) }
+    ensures matter { (document : Document) → OnlyTheseMatter document (first_mentions (mentions document)) }
+{
+    only_mentioned_packages_matter();
+}

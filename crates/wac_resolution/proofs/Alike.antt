@@ -1,0 +1,80 @@
+-- Layout carries no meaning.
+use Rattle.std.proofs.Common.{◌≡◌, ℕ, List, [], Result, Ok, Err, sym}
+use Rattle.std.specs.Str.{IsUtf8}
+use Rattle.wac_types.specs.Package.{PackageParts}
+use Rattle.wac_types.specs.Scope.{Named}
+use Rattle.wac_graph.specs.declared.package_key.PackageKey.{PackageKey}
+use Rattle.wac_graph.specs.Graph.{Parts}
+use Rattle.wac_graph.specs.Origin.{Naming, IsOneToOne}
+use Rattle.wac_graph.specs.Package.{Key}
+use Rattle.wac_grammar.specs.Slices.{DocumentSlices}
+use Rattle.wac_grammar.specs.Spelled.{DocumentSpelled}
+use Rattle.wac_grammar.specs.TextTree.{IsTreeOf}
+use Rattle.wac_grammar.specs.Tree.{Document}
+use Rattle.wac_layout.specs.Bare.{Keep, doc_lines, bare_document}
+use Rattle.wac_layout.specs.Reread.{IsReread, read_docs}
+use Rattle.wac_resolution_errors.specs.declared.error.Error.{Error as CodeError}
+use Rattle.wac_resolution_errors.specs.Error.{Error, memory}
+use Rattle.wac_resolution_errors.specs.Told.{told}
+use Rattle.wac_resolution_rules.specs.Composition.{Composition}
+use Rattle.wac_resolution_rules.specs.Given.{Rules}
+use Rattle.wac_resolution_rules.specs.ResolvedDocument.{given_to, Describes, DescribeAlike}
+use Rattle.wac_resolution_rules.proofs.Alike.{bare_alike}
+use Rattle.wac_resolution_rules.proofs.FirstFailing.{describes_once}
+use Rattle.wac_resolution_nodes.specs.Nodes.{composition_of}
+use Rattle.wac_resolution.specs.Layout.{SameBareTree, DescribedClause, ReturnedAlike}
+use Rattle.wac_resolution.specs.Resolved.{Resolved, by_key, returned, Promised}
+use Rattle.wac_resolution.proofs.Ending.{Described}
+
+pub same_alike : (document other : Document) → SameBareTree document other → DescribeAlike document other
+same_alike document other h = bare_alike h.keep h.other_keep h.source h.text document other h.spelled h.other_spelled h.bare
+
+-- ---- what is returned for one document
+
+-- what is right for a document is right for one that describes the same
+described_alike : (naming : Naming) (packages : List (Key × PackageParts)) (rules : Rules) (document other : Document) (r : Result Composition Error) → DescribeAlike document other
+    → DescribedClause (given_to naming packages rules document) document r → DescribedClause (given_to naming packages rules other) other r
+described_alike naming packages rules document other (Ok c) alike h = ((alike naming packages rules c).0 h.0, tt)
+described_alike naming packages rules document other (Err e) alike h = (tt, λ c d. h.1 c ((alike naming packages rules c).1 d))
+
+-- with some names at root, what is returned is right for each document with the same bare tree
+abbrev pub RightForSame : List (PackageKey × PackageParts) → Rules → Document → Result Resolved CodeError → Type 0
+RightForSame packages rules document result = (declared : Named ℕ) × ((other : Document) → SameBareTree document other → Promised DescribedClause packages rules other declared result)
+
+pub graph_is_right : (packages : List (PackageKey × PackageParts)) (rules : Rules) (document : Document) (r : Resolved) → Described packages rules document r.graph → RightForSame packages rules document (Ok r)
+graph_is_right packages rules document r h =
+    (h.0, λ other same naming one. described_alike naming (by_key packages) rules document other (Ok (composition_of naming r.graph h.0)) (same_alike document other same) (h.1 naming one, tt))
+
+-- what is described is rejected only where memory ran out
+abbrev pub OnlyMemory : List (PackageKey × PackageParts) → Rules → Document → Error → Type 0
+OnlyMemory packages rules document e = (naming : Naming) → IsOneToOne naming → (c : Composition) → Describes (given_to naming (by_key packages) rules document) document c → e ≡ memory
+
+pub error_is_right : (packages : List (PackageKey × PackageParts)) (rules : Rules) (document : Document) (e : CodeError) → OnlyMemory packages rules document (told e) → RightForSame packages rules document (Err e)
+error_is_right packages rules document e h =
+    ([], λ other same naming one. described_alike naming (by_key packages) rules document other (Err (told e)) (same_alike document other same) (tt, h naming one))
+
+-- ---- what is returned for two documents
+
+pub results_alike : (naming : Naming) (packages : List (Key × PackageParts)) (rules : Rules) (a b : Document) (r s : Result Composition Error) → DescribeAlike a b
+    → DescribedClause (given_to naming packages rules a) a r → DescribedClause (given_to naming packages rules b) b s → ReturnedAlike r s
+results_alike naming packages rules a b (Ok c) (Ok d) alike h k = describes_once (given_to naming packages rules b) b c d ((alike naming packages rules c).0 h.0) k.0
+results_alike naming packages rules a b (Ok c) (Err e) alike h k = k.1 c ((alike naming packages rules c).0 h.0)
+results_alike naming packages rules a b (Err e) (Ok d) alike h k = h.1 d ((alike naming packages rules d).1 k.0)
+results_alike naming packages rules a b (Err e) (Err f) alike h k = tt
+
+-- ---- what is printed
+
+-- names, strings and paths of a text's tree are spelled there
+abbrev pub Stand : Type 0
+Stand = (text : List ℕ) (tree : Document) → IsUtf8 text → IsTreeOf text tree → DocumentSlices text tree × DocumentSpelled text tree
+
+pub reread_same : Stand → (source text : List ℕ) (document again : Document) → IsUtf8 source → IsTreeOf source document → IsUtf8 text → IsTreeOf text again → IsReread text again source document → SameBareTree document again
+reread_same stand source text document again utf8 is text_utf8 text_is e = record {
+  source = source;
+  spelled = (stand source document utf8 is).1;
+  text = text;
+  other_spelled = (stand text again text_utf8 text_is).1;
+  keep = doc_lines;
+  other_keep = read_docs;
+  bare = sym e;
+}
