@@ -242,13 +242,14 @@ fn rejected_texts_are_reported(rt: HostRuntime) -> Result<(), Fail> {
 
 #[test]
 fn other_words_and_bytes_are_reported(rt: HostRuntime) -> Result<(), Fail> {
-    let usage = "usage: wac tokens|fmt|json|resolve\n";
+    let usage = "usage: wac tokens|fmt|json|resolve|packages|check\n";
     for word in [
-        "", "format", "fm", "fmts", "FMT", "token", "Json", "jso", "resolved",
+        "", "format", "fm", "fmts", "FMT", "token", "Json", "jso", "resolved", "package", "checks",
+        "-check",
     ] {
         says(&rt, rt.alloc(), word, FIRST.as_bytes(), usage, 2)?;
     }
-    for word in ["tokens", "fmt", "json", "resolve"] {
+    for word in ["tokens", "fmt", "json", "resolve", "packages", "check"] {
         says(&rt, rt.alloc(), word, b"a\xff", "input is not UTF-8\n", 3)?;
     }
     Ok(())
