@@ -7,6 +7,7 @@ mod formatting;
 mod imports;
 mod json;
 mod lines;
+mod missing;
 mod packages;
 mod tokens;
 
@@ -16,5 +17,6 @@ pub use formatting::{formatted, is_formatted};
 pub use imports::imported_packages;
 pub use json::to_json;
 pub use lines::position;
+pub use missing::missing_packages;
 pub use packages::{cache, cache_alone};
 pub use tokens::list_tokens;

@@ -4,11 +4,11 @@ use std::alloc::{AllocError, Global};
 use std::test::Fail;
 use wac_examples::{
     cache_alone, composition_error, first_error, formatted, imported_packages, is_formatted,
-    list_tokens, position, to_json,
+    list_tokens, missing_packages, position, to_json,
 };
-use wac_parser::Document;
 use wac_parser::lexer::SourceSpan;
 use wac_parser::resolution::AstResolver;
+use wac_parser::{Document, Page};
 
 const SOURCE: &str = r#"/* Built every night. */
 /** Puts a cache in front of a service. */
@@ -164,5 +164,30 @@ fn a_document_composes_packages(rt: HostRuntime) -> Result<(), Fail> {
     };
     assert_eq!(rt; (span.offset(), span.len()), (85, 3));
     assert_eq!(rt; text.as_str(), "mismatched instantiation argument `log`");
+    Ok(())
+}
+
+/// The packages that a document mentions, but for the cache.
+fn missing_beside_the_cache(alloc: Global, source: &str) -> Result<String, AllocError> {
+    let Ok(packages) = cache_alone(alloc) else {
+        return Err(AllocError);
+    };
+    match Document::parse(alloc, source) {
+        Ok(document) => {
+            let page = Page {
+                document: &document,
+            };
+            missing_packages(alloc, page, &packages)
+        }
+        Err(_) => Err(AllocError),
+    }
+}
+
+#[test]
+fn packages_that_are_missing_are_listed(rt: HostRuntime) -> Result<(), Fail> {
+    let source =
+        "package a:b targets c:d/e@1.0.0; import x: f:g/h; let y = new c:d@1.0.0 { ... }; let z = new example:cache { ... };";
+    let lines = missing_beside_the_cache(rt.alloc(), source)?;
+    assert_eq!(rt; lines.as_str(), "c:d at 20+3\nf:g at 43+3\n");
     Ok(())
 }

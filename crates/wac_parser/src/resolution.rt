@@ -1,10 +1,10 @@
 //! Resolving: the composition graph that a document describes, or the rule that its first failing statement breaks.
 //!
-//! [`AstResolver`] resolves a document with the packages that it may mention and with [`Rules`], which say what may stand where and
+//! [`resolve`] resolves a document with the packages that it may mention and with [`Rules`], which say what may stand where and
 //! which names imports and exports may have:
 //!
 //! ```text
-//! match AstResolver::new(&document).resolve(alloc, packages, &rules) {
+//! match resolve(alloc, &document, packages, &rules) {
 //!     Ok(resolution) => count(resolution.graph()),
 //!     Err(error) => println!(rt; "{error}")?,         // undefined name `y`
 //! }
@@ -20,4 +20,6 @@ pub use wac_graph::{
     Resource, ResourceAlias, ResourceId, Rules, Type, Types, UsedType, ValueType, World, WorldId,
     names,
 };
-pub use wac_resolution::{AstResolver, Error, InstanceOperation, Resolution, ResolutionResult};
+pub use wac_resolution::{
+    AstResolver, Error, InstanceOperation, Resolution, ResolutionResult, resolve,
+};

@@ -29,10 +29,7 @@ const ROWS: [Row; 13] = [
         "package a:b; let x = new c:d {}; let y = new c:d@1.0.0 {}; let z = new c:d {};",
         "25+3 c:d\n45+9 c:d@1.0.0\n",
     ),
-    (
-        "package a:b; interface i { use c:d/e.{t}; }",
-        "31+3 c:d\n",
-    ),
+    ("package a:b; interface i { use c:d/e.{t}; }", "31+3 c:d\n"),
     (
         "package a:b; world w { include c:d/e; use f:g/h.{t}; import i:j/k; export l:m/n@0.2.0; }",
         "31+3 c:d\n42+3 f:g\n60+3 i:j\n74+3 l:m@0.2.0\n",

@@ -4,13 +4,14 @@
 //! and exports may have:
 //!
 //! ```text
-//! let resolution = AstResolver::new(&document).resolve(alloc, packages, &rules)?;
+//! let resolution = resolve(alloc, &document, packages, &rules)?;
 //! let graph = resolution.into_graph();
 //! ```
 //!
 //! `docs/RESOLVING.md` says what documents mean. Only `Error::Memory` names no rule: it comes where a request for memory was refused.
 #![tactic(auto)]
 
+mod documents;
 mod laws;
 mod lent;
 mod resolution;
@@ -19,6 +20,7 @@ mod setting;
 mod steps;
 mod target;
 
+pub use documents::resolve;
 pub use laws::formatting_changes_no_graph;
 pub use resolution::{Resolution, ResolutionResult};
 pub use resolver::AstResolver;

@@ -1,0 +1,45 @@
+//! Resolving a document, in one call.
+ghost use Rattle.std.specs.Prelude.{◌≡◌, ℕ, IfOk};
+ghost use Rattle.wac_ast.specs.Statements.{document_of};
+ghost use Rattle.wac_grammar.specs.Tree.{Document as Tree};
+ghost use Rattle.wac_types.specs.Scope.{Named};
+ghost use Rattle.wac_resolution_rules.specs.Given.{rules_by};
+ghost use Rattle.wac_resolution_rules.specs.ResolvedDocument.{GraphClause, OnlyClause, FirstClause};
+ghost use Rattle.wac_resolution.specs.Layout.{DescribedClause, SameBareTree};
+ghost use Rattle.wac_resolution.specs.Resolved.{Promised};
+
+use crate::resolution::{Resolution, ResolutionResult};
+use crate::resolver::AstResolver;
+use indexmap::IndexMap;
+use std::alloc::Global;
+use wac_ast::Document;
+use wac_graph::{Package, PackageKey, Rules};
+
+/// Resolves a document with the packages that it may mention and with rules.
+///
+/// The packages are dropped in the end; those that the document mentions are copied into the graph. The document and the rules stay
+/// as they are. An error names a rule and its place in bytes, or says that memory ran out.
+///
+/// ```text
+/// package a:b; import x: func(); export x as "y";     one node, exported as `y`
+/// package a:b; export x;                              undefined name `x`, at 20+1
+/// ```
+pub fn resolve<'d, 'a, R: Rules>(
+    alloc: Global,
+    document: &'d Document<'a>,
+    packages: IndexMap<PackageKey, Package>,
+    rules: &R,
+) -> ResolutionResult<Resolution<'d, 'a>>
+    // It is the document's resolution.
+    ensures document { IfOk result (λ r. r.document ≡ document.now) }
+    // The graph that is returned is described, with the names that the document binds.
+    ensures graph { (declared : Named ℕ) × Promised GraphClause packages.entries (rules_by (R.passes rules.now) (R.named rules.now)) (document_of document.now) declared result }
+    // What is described is returned, unless memory runs out.
+    ensures only { (declared : Named ℕ) → Promised OnlyClause packages.entries (rules_by (R.passes rules.now) (R.named rules.now)) (document_of document.now) declared result }
+    // An error names a rule that the first failing statement breaks, unless memory runs out.
+    ensures first { (declared : Named ℕ) → Promised FirstClause packages.entries (rules_by (R.passes rules.now) (R.named rules.now)) (document_of document.now) declared result }
+    // It is as right for each document with the same bare tree: layout carries no meaning.
+    ensures layout { (declared : Named ℕ) × ((other : Tree) → SameBareTree (document_of document.now) other → Promised DescribedClause packages.entries (rules_by (R.passes rules.now) (R.named rules.now)) other declared result) }
+{
+    AstResolver::new(document).resolve(alloc, packages, rules)
+}
