@@ -43,24 +43,3 @@ fn other_documents_are_reported(rt: HostRuntime) -> Result<(), Fail> {
     }
     Ok(())
 }
-
-#[test]
-fn texts_without_a_tree_are_reported(rt: HostRuntime) -> Result<(), Fail> {
-    for (input, line) in [
-        (
-            "",
-            "error at 0+1: expected `package` keyword, found end of input\n",
-        ),
-        (
-            "package a:b;\n\nlet x y;\n",
-            "error at 20+1: expected `=`, found identifier\n",
-        ),
-        (
-            "package a:b; // \u{202a}",
-            "error at 16+3: disallowed bidirectional override codepoint `\\u{202a}`\n",
-        ),
-    ] {
-        says(&rt, rt.alloc(), "check", input.as_bytes(), line, 1)?;
-    }
-    Ok(())
-}
