@@ -16,7 +16,7 @@ fn printed_documents_pass(rt: HostRuntime) -> Result<(), Fail> {
     Ok(())
 }
 
-/// The second is the first printing of a document whose second printing differs.
+/// The second is what the first is printed as. Printed once more it changes, and from then on it stays.
 #[test]
 fn other_documents_are_reported(rt: HostRuntime) -> Result<(), Fail> {
     for input in [
