@@ -1,8 +1,10 @@
 //! What the program `wac` does, over any feed and any sink.
 #![tactic(auto)]
 
+mod checking;
 mod command;
 mod error;
+mod packages;
 mod refusing;
 mod reporting;
 mod resolving;

@@ -15,7 +15,7 @@ struct Row<'a> {
     text: &'a str,
 }
 
-const ROWS: [Row<'static>; 5] = [
+const ROWS: [Row<'static>; 7] = [
     Row {
         command: Command::Fmt,
         input: FIRST,
@@ -35,6 +35,16 @@ const ROWS: [Row<'static>; 5] = [
         command: Command::Resolve,
         input: "package a:b; import x: interface { f: func(); }; export x.f;",
         text: "0 import x: instance [x]\n1 alias 0 f: function\nexport f = 1\n",
+    },
+    Row {
+        command: Command::Packages,
+        input: "package a:b; import x: c:d/e@1.0.0; let y = new f:g { ... };",
+        text: "c:d@1.0.0\nf:g\n",
+    },
+    Row {
+        command: Command::Check,
+        input: FIRST_PRINTED,
+        text: "",
     },
     Row {
         command: Command::Tokens,
@@ -170,6 +180,8 @@ fn readers(rt: HostRuntime) {
         Command::Tokens,
         Command::Json,
         Command::Resolve,
+        Command::Packages,
+        Command::Check,
     ] {
         for room in 0..FIRST.len() + 1 {
             reading_fails_at(&rt, rt.alloc(), command, room);
@@ -177,7 +189,7 @@ fn readers(rt: HostRuntime) {
     }
 }
 
-const REJECTED: [Row<'static>; 5] = [
+const REJECTED: [Row<'static>; 8] = [
     Row {
         command: Command::Fmt,
         input: "package a:b; let",
@@ -196,6 +208,21 @@ const REJECTED: [Row<'static>; 5] = [
     Row {
         command: Command::Resolve,
         input: "package a:b targets a:b/w; world w { export run: func(); }",
+        text: "",
+    },
+    Row {
+        command: Command::Packages,
+        input: "package a:b; let",
+        text: "",
+    },
+    Row {
+        command: Command::Check,
+        input: "package a:b; let",
+        text: "",
+    },
+    Row {
+        command: Command::Check,
+        input: "package a:b;",
         text: "",
     },
     Row {

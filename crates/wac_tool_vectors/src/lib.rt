@@ -2,9 +2,13 @@
 #![tactic(auto)]
 
 #[cfg(test)]
+mod checking;
+#[cfg(test)]
 mod failing;
 #[cfg(test)]
 mod narrow;
+#[cfg(test)]
+mod packages;
 #[cfg(test)]
 mod resolving;
 #[cfg(test)]

@@ -234,6 +234,31 @@ fn rejected_texts_are_reported(rt: HostRuntime) -> Result<(), Fail> {
             "package a:b; x // \u{202a}",
             "error at 18+3: disallowed bidirectional override codepoint `\\u{202a}`\n",
         ),
+        (
+            "packages",
+            "package a:b; import x: c:d/e; let x y;",
+            "error at 36+1: expected `=`, found identifier\n",
+        ),
+        (
+            "packages",
+            "package a:b; import x: c:d/e; // \u{202a}",
+            "error at 33+3: disallowed bidirectional override codepoint `\\u{202a}`\n",
+        ),
+        (
+            "check",
+            "",
+            "error at 0+1: expected `package` keyword, found end of input\n",
+        ),
+        (
+            "check",
+            "package a:b;\n\nlet x y;\n",
+            "error at 20+1: expected `=`, found identifier\n",
+        ),
+        (
+            "check",
+            "package a:b; // \u{202a}",
+            "error at 16+3: disallowed bidirectional override codepoint `\\u{202a}`\n",
+        ),
     ] {
         says(&rt, rt.alloc(), word, input.as_bytes(), line, 1)?;
     }
@@ -242,13 +267,14 @@ fn rejected_texts_are_reported(rt: HostRuntime) -> Result<(), Fail> {
 
 #[test]
 fn other_words_and_bytes_are_reported(rt: HostRuntime) -> Result<(), Fail> {
-    let usage = "usage: wac tokens|fmt|json|resolve\n";
+    let usage = "usage: wac tokens|fmt|json|resolve|packages|check\n";
     for word in [
-        "", "format", "fm", "fmts", "FMT", "token", "Json", "jso", "resolved",
+        "", "format", "fm", "fmts", "FMT", "token", "Json", "jso", "resolved", "package", "checks",
+        "-check",
     ] {
         says(&rt, rt.alloc(), word, FIRST.as_bytes(), usage, 2)?;
     }
-    for word in ["tokens", "fmt", "json", "resolve"] {
+    for word in ["tokens", "fmt", "json", "resolve", "packages", "check"] {
         says(&rt, rt.alloc(), word, b"a\xff", "input is not UTF-8\n", 3)?;
     }
     Ok(())
