@@ -12,6 +12,8 @@ mod layout;
 #[cfg(test)]
 mod optional;
 #[cfg(test)]
+mod packages;
+#[cfg(test)]
 mod places;
 #[cfg(test)]
 mod refusals;

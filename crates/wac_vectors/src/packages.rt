@@ -3,9 +3,7 @@
 use std::alloc::{AllocError, Global};
 use std::process::Abort;
 use std::test::Fail;
-use wac_ast::{Document, Error};
-use wac_parser_packages::packages;
-use wac_printer::Page;
+use wac_parser::{Document, Error, Page, packages};
 
 /// A document, and a line `OFFSET+LEN NAME` or `OFFSET+LEN NAME@VERSION` for each package.
 type Row = (&'static str, &'static str);
