@@ -6,8 +6,8 @@ use crate::rules::{Fixed, SameFits};
 use indexmap::IndexMap;
 use std::alloc::{AllocError, Global};
 use std::process::Abort;
-use wac_ast::{Document, Error as ParseError};
-use wac_graph::{CompositionGraph, Package, PackageError, PackageKey, Reason, Rules};
+use wac_ast::Document;
+use wac_graph::{CompositionGraph, Package, PackageKey, Reason, Rules};
 use wac_resolution::{AstResolver, Error};
 
 /// What a document is resolved with.
@@ -28,19 +28,22 @@ pub enum With {
 /// What a document is resolved with, its text, and what is asked of it.
 pub type Row = (With, &'static str, &'static str);
 
-/// The packages of the tests, or none.
-pub fn handed(
-    rt: &impl Abort,
-    alloc: Global,
-    with: With,
-) -> Result<IndexMap<PackageKey, Package>, AllocError> {
+/// What is asked of a document, and what it is resolved with.
+#[derive(Clone, Copy)]
+pub struct Question {
+    pub alloc: Global,
+    pub asked: Asked,
+    pub with: With,
+}
+
+/// The packages of the tests, or none. They are all as packages have to be, so that the only error is that memory runs out.
+pub fn handed(alloc: Global, with: With) -> Result<IndexMap<PackageKey, Package>, AllocError> {
     if let With::Nothing = with {
         return Ok(IndexMap::new(alloc));
     }
     match packages(alloc) {
         Ok(packages) => Ok(packages),
-        Err(PackageError::Memory(error)) => Err(error),
-        Err(_) => panic!(rt; "the packages are rejected"),
+        Err(_) => Err(AllocError),
     }
 }
 
@@ -74,39 +77,27 @@ fn resolved(
     composed(alloc, packages, &rules, resolver)
 }
 
-/// What is asked of a document.
-pub fn answer(
-    rt: &impl Abort,
-    alloc: Global,
-    asked: Asked,
-    with: With,
-    resolver: AstResolver<'_, '_>,
-) -> Result<String, AllocError> {
-    let packages = handed(rt, alloc, with)?;
+/// The answer to a question of a document.
+fn answer(question: Question, resolver: AstResolver<'_, '_>) -> Result<String, AllocError> {
+    let Question { alloc, asked, with } = question;
+    let packages = handed(alloc, with)?;
     told(alloc, asked, resolved(alloc, with, packages, resolver))
 }
 
-/// What is asked of the document of a text.
-pub fn answer_of(
-    rt: &impl Abort,
-    alloc: Global,
-    asked: Asked,
-    with: With,
-    text: &str,
-) -> Result<String, AllocError> {
-    match Document::parse(alloc, text) {
-        Ok(document) => answer(rt, alloc, asked, with, AstResolver::new(&document)),
-        Err(ParseError::Memory(error)) => Err(error),
-        Err(_) => panic!(rt; "{text} has no tree"),
+/// The answer to a question of the document of a text. Each text of the tests has a tree, so that the only error is that memory runs out.
+pub fn answer_of(question: Question, text: &str) -> Result<String, AllocError> {
+    match Document::parse(question.alloc, text) {
+        Ok(document) => answer(question, AstResolver::new(&document)),
+        Err(_) => Err(AllocError),
     }
 }
 
 /// Asserts of each row what it says of its document.
 pub fn hold(rt: &impl Abort, alloc: Global, asked: Asked, rows: &[Row]) -> Result<(), AllocError> {
     for row in rows {
-        let (with, text, expected) = *row;
-        let found = answer_of(rt, alloc, asked, with, text)?;
-        assert_eq!(rt; found.as_str(), expected, "of {text}");
+        let (with, text, wanted) = *row;
+        let found = answer_of(Question { alloc, asked, with }, text)?;
+        assert_eq!(rt; found.as_str(), wanted, "of {text}");
     }
     Ok(())
 }

@@ -1,6 +1,6 @@
 //! A large composition.
 
-use crate::documents::{With, answer_of};
+use crate::documents::{Question, With, answer_of};
 use crate::readings::Asked;
 use std::alloc::{AllocError, Global};
 use std::test::Fail;
@@ -61,7 +61,12 @@ fn expected(alloc: Global) -> Result<String, AllocError> {
 #[test]
 fn a_large_composition(rt: HostRuntime) -> Result<(), Fail> {
     let text = composition(rt.alloc())?;
-    let found = answer_of(&rt, rt.alloc(), Asked::Answer, With::Packages, &text)?;
+    let question = Question {
+        alloc: rt.alloc(),
+        asked: Asked::Answer,
+        with: With::Packages,
+    };
+    let found = answer_of(question, &text)?;
     let expected = expected(rt.alloc())?;
     assert_eq!(rt; found.as_str(), expected.as_str());
     Ok(())

@@ -1,9 +1,8 @@
 //! Resolving where memory is refused: the test passes whichever request for memory is the one that is refused.
 
-use crate::documents::{Row, With, answer_of};
+use crate::documents::{Question, Row, With, answer_of};
 use crate::readings::Asked;
 use std::alloc::{AllocError, Global};
-use std::process::Abort;
 use std::test::Fail;
 
 /// Documents with what they are resolved with, and their graphs as lines or their errors.
@@ -41,15 +40,15 @@ const DOCUMENTS: &[Row] = &[
 ];
 
 /// What a document comes to. Where memory runs out it is asked once more.
-fn answer_again(
-    rt: &impl Abort,
-    alloc: Global,
-    with: With,
-    text: &str,
-) -> Result<String, AllocError> {
-    match answer_of(rt, alloc, Asked::Answer, with, text) {
+fn answer_again(alloc: Global, with: With, text: &str) -> Result<String, AllocError> {
+    let question = Question {
+        alloc,
+        asked: Asked::Answer,
+        with,
+    };
+    match answer_of(question, text) {
         Ok(found) => Ok(found),
-        Err(_) => answer_of(rt, alloc, Asked::Answer, with, text),
+        Err(_) => answer_of(question, text),
     }
 }
 
@@ -57,7 +56,7 @@ fn answer_again(
 fn memory_that_is_refused(rt: HostRuntime) -> Result<(), Fail> {
     for row in DOCUMENTS {
         let (with, text, expected) = *row;
-        let found = answer_again(&rt, rt.alloc(), with, text)?;
+        let found = answer_again(rt.alloc(), with, text)?;
         assert_eq!(rt; found.as_str(), expected, "of {text}");
     }
     Ok(())
