@@ -1,0 +1,87 @@
+//! Each public call, where memory is there.
+
+use crate::documents::{With, handed};
+use crate::readings::lines;
+use crate::rules::Fixed;
+use std::alloc::{AllocError, Global};
+use std::process::Abort;
+use std::test::Fail;
+use wac_ast::Document;
+use wac_resolution::{AstResolver, Resolution, resolve};
+
+const COMPOSITION: &str =
+    "package a:b; import log: func(); let i = new c:d { log, ... }; export i.run;";
+
+const LINES: &str =
+    "0 import log: function [log]\n1 new c:d: instance [i]\n  log = 0\n2 alias 1 run: function\nexport run = 2\n";
+
+const ALL_PASS: Fixed = Fixed {
+    kinds: None,
+    names: None,
+};
+
+/// A document that is lent.
+#[derive(Drop)]
+struct Lent<'d, 'a> {
+    document: &'d Document<'a>,
+}
+
+/// Asserts what a resolution of the composition holds.
+fn holds<'d, 'a: 'd>(
+    rt: &impl Abort,
+    alloc: Global,
+    resolution: Resolution<'d, 'a>,
+) -> Result<(), AllocError> {
+    let lent = lines(alloc, resolution.graph());
+    let taken = lines(alloc, &resolution.into_graph());
+    assert_eq!(rt; lent?.as_str(), LINES);
+    assert_eq!(rt; taken?.as_str(), LINES);
+    Ok(())
+}
+
+/// Asserts it of what a resolver returns.
+fn composes<'d, 'a: 'd>(
+    rt: &impl Abort,
+    alloc: Global,
+    resolver: AstResolver<'d, 'a>,
+) -> Result<(), AllocError> {
+    let packages = handed(alloc, With::Packages)?;
+    match resolver.resolve(alloc, packages, &ALL_PASS) {
+        Ok(resolution) => holds(rt, alloc, resolution),
+        Err(error) => panic!(rt; "the composition is rejected: {error:?}"),
+    }
+}
+
+/// Asserts it of what resolving in one call returns.
+fn resolves<'d, 'a: 'd>(
+    rt: &impl Abort,
+    alloc: Global,
+    lent: Lent<'d, 'a>,
+) -> Result<(), AllocError> {
+    let packages = handed(alloc, With::Packages)?;
+    match resolve(alloc, lent.document, packages, &ALL_PASS) {
+        Ok(resolution) => holds(rt, alloc, resolution),
+        Err(error) => panic!(rt; "the composition is rejected: {error:?}"),
+    }
+}
+
+#[test]
+fn a_resolver_composes(rt: HostRuntime) -> Result<(), Fail> {
+    match Document::parse(rt.alloc(), COMPOSITION) {
+        Ok(document) => Ok(composes(&rt, rt.alloc(), AstResolver::new(&document))?),
+        Err(_) => panic!(rt; "the composition has no tree"),
+    }
+}
+
+#[test]
+fn a_document_is_resolved(rt: HostRuntime) -> Result<(), Fail> {
+    match Document::parse(rt.alloc(), COMPOSITION) {
+        Ok(document) => {
+            let lent = Lent {
+                document: &document,
+            };
+            Ok(resolves(&rt, rt.alloc(), lent)?)
+        }
+        Err(_) => panic!(rt; "the composition has no tree"),
+    }
+}

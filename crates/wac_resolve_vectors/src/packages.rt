@@ -1,0 +1,105 @@
+//! Packages that are handed to the resolver.
+
+use indexmap::IndexMap;
+use std::alloc::{AllocError, Global};
+use wac_graph::{
+    FuncType, FuncTypeId, Interface, InterfaceId, ItemKind, Package, PackageError, PackageKey,
+    Type, Types, World, WorldId,
+};
+
+type Items = &'static [(&'static str, ItemKind)];
+
+const FUNC: ItemKind = ItemKind::Func(FuncTypeId(0));
+
+const IMPORTS: Items = &[("log", FUNC), ("x:y/z", ItemKind::Instance(InterfaceId(1)))];
+
+const DEFINITIONS: Items = &[
+    ("z", ItemKind::Ty(Type::Interface(InterfaceId(1)))),
+    ("w", ItemKind::Ty(Type::World(WorldId(2)))),
+];
+
+fn items(alloc: Global, rows: Items) -> Result<IndexMap<String, ItemKind>, AllocError> {
+    let mut all = IndexMap::new(alloc);
+    for (name, kind) in rows {
+        all.insert(String::from_str(alloc, name)?, *kind)?;
+    }
+    Ok(all)
+}
+
+fn func(alloc: Global) -> FuncType {
+    FuncType {
+        params: IndexMap::new(alloc),
+        result: None,
+        is_async: false,
+    }
+}
+
+fn text(alloc: Global, text: Option<&str>) -> Result<Option<String>, AllocError> {
+    match text {
+        None => Ok(None),
+        Some(text) => Ok(Some(String::from_str(alloc, text)?)),
+    }
+}
+
+/// An interface that exports one function.
+fn interface(alloc: Global, id: Option<&str>, export: Items) -> Result<Interface, AllocError> {
+    let id = text(alloc, id)?;
+    Ok(Interface {
+        id,
+        uses: IndexMap::new(alloc),
+        exports: items(alloc, export)?,
+    })
+}
+
+fn world(alloc: Global) -> Result<World, AllocError> {
+    let imports = items(alloc, IMPORTS)?;
+    Ok(World {
+        id: None,
+        uses: IndexMap::new(alloc),
+        imports,
+        exports: items(alloc, &[("run", FUNC)])?,
+    })
+}
+
+/// A function, an interface that exports it, the world of the package, and the interface of its instances.
+fn table(alloc: Global) -> Result<Types, AllocError> {
+    let mut types = Types::new(alloc);
+    types.add_func_type(func(alloc))?;
+    types.add_interface(interface(alloc, Some("x:y/z"), &[("f", FUNC)])?)?;
+    types.add_world(world(alloc)?)?;
+    types.add_interface(interface(alloc, None, &[("run", FUNC)])?)?;
+    Ok(types)
+}
+
+/// A package that imports the function `log` and the instance `x:y/z`, which exports `f`, and exports the function `run`.
+fn package(alloc: Global) -> Result<Package, PackageError> {
+    let definitions = items(alloc, DEFINITIONS)?;
+    Package::new(table(alloc)?, WorldId(2), InterfaceId(3), definitions)
+}
+
+fn key(alloc: Global, version: Option<&str>) -> Result<PackageKey, AllocError> {
+    let name = String::from_str(alloc, "c:d")?;
+    let version = text(alloc, version)?;
+    Ok(PackageKey { name, version })
+}
+
+/// Hands the package in under its key.
+fn hand(
+    alloc: Global,
+    all: &mut IndexMap<PackageKey, Package>,
+    version: Option<&str>,
+    package: Package,
+) -> Result<(), AllocError> {
+    let key = key(alloc, version)?;
+    all.insert(key, package)?;
+    Ok(())
+}
+
+/// The package, as `c:d` and as `c:d@1.0.0`.
+pub fn packages(alloc: Global) -> Result<IndexMap<PackageKey, Package>, PackageError> {
+    let mut all = IndexMap::new(alloc);
+    for version in [None, Some("1.0.0")] {
+        hand(alloc, &mut all, version, package(alloc)?)?;
+    }
+    Ok(all)
+}

@@ -1,0 +1,109 @@
+//! What a document comes to, as a text.
+
+use indexmap::IndexMap;
+use std::alloc::{AllocError, Global};
+use wac_graph::{CompositionGraph, ItemKind, Type, World};
+use wac_lexer::Bytes;
+use wac_resolution::Error;
+use wac_tool_graphs::write_graph;
+
+/// What a row says of its document.
+#[derive(Clone, Copy)]
+pub enum Asked {
+    /// The lines of the graph; or where the error lies, what it says, and all its fields.
+    Answer,
+    /// What the world `w` uses, imports and exports.
+    World,
+    /// Whether what is exported as `x` and as `y` means the same.
+    Same,
+}
+
+/// The lines of a graph.
+pub fn lines(alloc: Global, graph: &CompositionGraph) -> Result<String, AllocError> {
+    let mut out = Bytes::new(alloc);
+    if write_graph(graph, &mut out).is_err() {
+        return Err(AllocError);
+    }
+    match String::from_utf8(out.into_vec()) {
+        Ok(text) => Ok(text),
+        Err(_) => String::from_str(alloc, "the lines are not UTF-8"),
+    }
+}
+
+/// The world that is exported as `w`.
+fn world(graph: &CompositionGraph) -> Option<&World> {
+    match graph.kind(graph.get_export("w")?) {
+        ItemKind::Ty(Type::World(id)) => graph.types().world(id),
+        _ => None,
+    }
+}
+
+fn push_items(
+    text: &mut String,
+    word: &str,
+    items: &IndexMap<String, ItemKind>,
+) -> Result<(), AllocError> {
+    for (name, kind) in items.iter() {
+        writeln!(text, "{word} {name}: {}", kind.desc())?;
+    }
+    Ok(())
+}
+
+fn push_uses(text: &mut String, world: &World) -> Result<(), AllocError> {
+    for (name, _) in world.uses.iter() {
+        writeln!(text, "use {name}")?;
+    }
+    Ok(())
+}
+
+/// A line for each use, each import and each export of the world `w`.
+fn world_lines(alloc: Global, graph: &CompositionGraph) -> Result<String, AllocError> {
+    let mut text = String::new(alloc);
+    if let Some(world) = world(graph) {
+        push_uses(&mut text, world)?;
+        push_items(&mut text, "import", &world.imports)?;
+        push_items(&mut text, "export", &world.exports)?;
+    }
+    Ok(text)
+}
+
+/// Whether `x` and `y` mean the same.
+fn same(graph: &CompositionGraph) -> Option<bool> {
+    let a = graph.kind(graph.get_export("x")?);
+    let b = graph.kind(graph.get_export("y")?);
+    Some(graph.types().same(a, b))
+}
+
+/// What is asked of a graph.
+fn reading(alloc: Global, asked: Asked, graph: &CompositionGraph) -> Result<String, AllocError> {
+    match asked {
+        Asked::Answer => lines(alloc, graph),
+        Asked::World => world_lines(alloc, graph),
+        Asked::Same => match same(graph) {
+            Some(true) => String::from_str(alloc, "same"),
+            Some(false) => String::from_str(alloc, "different"),
+            None => String::from_str(alloc, "missing"),
+        },
+    }
+}
+
+/// Where an error lies and what it says, and all its fields.
+fn message(alloc: Global, error: &Error) -> Result<String, AllocError> {
+    match error.span() {
+        Some(span) => format!(in alloc; "{}+{}: {error}\n{error:?}", span.offset(), span.len()),
+        None => format!(in alloc; "{error}\n{error:?}"),
+    }
+}
+
+/// What is asked of a document, of which this is the graph or the error.
+pub fn told(
+    alloc: Global,
+    asked: Asked,
+    composed: Result<CompositionGraph, Error>,
+) -> Result<String, AllocError> {
+    match composed {
+        Ok(graph) => reading(alloc, asked, &graph),
+        Err(Error::Memory(error)) => Err(error),
+        Err(error) => message(alloc, &error),
+    }
+}
