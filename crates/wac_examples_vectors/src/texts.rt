@@ -169,16 +169,20 @@ fn a_document_composes_packages(rt: HostRuntime) -> Result<(), Fail> {
 
 /// The packages that a document mentions, but for the cache.
 fn missing_beside_the_cache(alloc: Global, source: &str) -> Result<String, AllocError> {
-    let Ok(packages) = cache_alone(alloc) else {
-        return Err(AllocError);
-    };
     match Document::parse(alloc, source) {
-        Ok(document) => {
-            let page = Page {
+        Ok(document) => missing_of(
+            alloc,
+            Page {
                 document: &document,
-            };
-            missing_packages(alloc, page, &packages)
-        }
+            },
+        ),
+        Err(_) => Err(AllocError),
+    }
+}
+
+fn missing_of(alloc: Global, page: Page<'_, '_>) -> Result<String, AllocError> {
+    match cache_alone(alloc) {
+        Ok(packages) => missing_packages(alloc, page, &packages),
         Err(_) => Err(AllocError),
     }
 }
