@@ -6,6 +6,8 @@ mod checking;
 #[cfg(test)]
 mod failing;
 #[cfg(test)]
+mod layouts;
+#[cfg(test)]
 mod narrow;
 #[cfg(test)]
 mod packages;
