@@ -31,7 +31,7 @@ pub(crate) const DOCUMENTED_PRINTED: &str =
     /// Doc comment #10!\nexport x as \"foo\";\n";
 
 /// Texts that have a tree.
-pub(crate) const DOCUMENTS: [&str; 24] = [
+pub(crate) const DOCUMENTS: [&str; 25] = [
     "package a:b;",
     "package a:b targets c:d/e;",
     DOCUMENTED,
@@ -56,6 +56,7 @@ pub(crate) const DOCUMENTS: [&str; 24] = [
     "package a:b; world w { include v with { a as b }; include u with {}; }",
     "package a:b; variant v { a, /// one\nb(list<option<u8>>), } flags f { g } enum e { h, }",
     "package a:b; interface i { resource r { constructor(x: u8); m: static async func() -> borrow<r>; } }",
+    "package a:b; let x = new c:d { \"e\" : y, ...z, i, };",
 ];
 
 /// Texts that have none.
