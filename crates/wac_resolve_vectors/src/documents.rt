@@ -2,13 +2,14 @@
 
 use crate::packages::packages;
 use crate::readings::{Asked, told};
-use crate::rules::{Fixed, SameFits};
+use crate::rules::Fixed;
 use indexmap::IndexMap;
 use std::alloc::{AllocError, Global};
 use std::process::Abort;
 use wac_ast::Document;
 use wac_graph::{CompositionGraph, Package, PackageKey, Reason, Rules};
 use wac_resolution::{AstResolver, Error};
+use wac_tool_graphs::SameRules;
 
 /// What a document is resolved with.
 #[derive(Clone, Copy)]
@@ -72,7 +73,7 @@ fn resolved(
         With::Nothing | With::Packages => fixed(None, None),
         With::NothingFits => fixed(Some(Reason(7)), None),
         With::NoNames => fixed(None, Some(Reason(8))),
-        With::SameFits => return composed(alloc, packages, &SameFits, resolver),
+        With::SameFits => return composed(alloc, packages, &SameRules, resolver),
     };
     composed(alloc, packages, &rules, resolver)
 }
