@@ -3,6 +3,7 @@
 
 mod document;
 mod export;
+mod lent;
 mod let_statement;
 mod statement;
 mod type_statement;
@@ -35,7 +36,8 @@ pub use wac_grammar::{
     trees_end_where_they_must, trees_stand_in_their_text, what_is_read_derives,
 };
 
-/// How each part of a document is parsed.
+/// How each part of a document is parsed, and what callers that are proved themselves lend.
 pub mod internals {
+    pub use crate::lent::Statements;
     pub use wac_ast_base::{Parse, Peek, parsers_stop_at_first_faults};
 }

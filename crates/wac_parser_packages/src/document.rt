@@ -7,11 +7,11 @@ ghost use Rattle.wac_parser_packages.specs.Noted.{mentioned_by, mentions_in};
 ghost use Rattle.wac_parser_packages.specs.Packages.{AreFirst, OnlyTheseMatter};
 
 use crate::laws::only_first_mentions_matter;
-use crate::lent::Statements;
 use crate::mentions::Mentions;
 use crate::statements::{all_statements, target};
 use indexmap::IndexMap;
 use std::alloc::{AllocError, Global};
+use wac_ast::internals::Statements;
 use wac_ast::{Document, PackageDirective};
 use wac_graph::PackageKey;
 use wac_lexer::SourceSpan;

@@ -5,7 +5,6 @@ mod document;
 mod expressions;
 mod interfaces;
 mod laws;
-mod lent;
 mod mentions;
 mod statements;
 mod worlds;

@@ -8,10 +8,10 @@ ghost use Rattle.wac_parser_packages.specs.Noted.{Notes};
 
 use crate::expressions::expression;
 use crate::interfaces::interface_items;
-use crate::lent::Statements;
 use crate::mentions::Mentions;
 use crate::worlds::world;
 use std::alloc::AllocError;
+use wac_ast::internals::Statements;
 use wac_ast::{Statement, TypeStatement};
 use wac_ast_base::PackagePath;
 use wac_ast_worlds::ImportType;

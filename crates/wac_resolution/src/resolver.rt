@@ -8,7 +8,6 @@ ghost use Rattle.wac_resolution_rules.specs.ResolvedDocument.{GraphClause, OnlyC
 ghost use Rattle.wac_resolution.specs.Layout.{DescribedClause, SameBareTree};
 ghost use Rattle.wac_resolution.specs.Resolved.{Promised};
 
-use crate::lent::Statements;
 use crate::resolution::{Resolution, ResolutionResult};
 use crate::setting::setting;
 use crate::steps::composed;
@@ -16,6 +15,7 @@ use indexmap::IndexMap;
 use std::alloc::Global;
 use std::marker::Model;
 use wac_ast::Document;
+use wac_ast::internals::Statements;
 use wac_graph::{Package, PackageKey, Rules};
 
 /// A resolver of one document.

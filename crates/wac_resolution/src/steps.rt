@@ -6,10 +6,11 @@ ghost use Rattle.wac_resolution_errors.specs.Told.{told};
 ghost use Rattle.wac_resolution_rules.specs.Given.{rules_by};
 ghost use Rattle.wac_resolution.specs.Steps.{Composed, Breaks};
 
-use crate::lent::{Statements, carry_out};
+use crate::lent::carry_out;
 use crate::target::check_targets;
 use std::alloc::Global;
 use wac_ast::PackagePath;
+use wac_ast::internals::Statements;
 use wac_graph::{CompositionGraph, Rules};
 use wac_resolution_errors::Error;
 use wac_resolution_externs::Externs;

@@ -1,13 +1,13 @@
 //! Statements that are lent.
 
+use crate::statement::Statement;
 use std::marker::Model;
-use wac_ast::Statement;
 
 /// The statements of a document. The prover follows them through a call at far less cost in here than as a slice.
 #[derive(Drop)]
-pub(crate) struct Statements<'t, 'a> {
+pub struct Statements<'t, 'a> {
     /// All of them, in order.
-    pub(crate) all: &'t [Statement<'a>],
+    pub all: &'t [Statement<'a>],
 }
 
 impl<'t, 'a> Model for Statements<'t, 'a> {
