@@ -15,7 +15,11 @@ pub fn missing_packages(
     let mut lines = String::new(alloc);
     for (key, place) in &packages(alloc, document)? {
         if !given.contains_key(key) {
-            writeln!(lines, "{} at {}+{}", key.name, place.offset(), place.len())?;
+            match &key.version {
+                Some(version) => write!(lines, "{}@{version}", key.name)?,
+                None => write!(lines, "{}", key.name)?,
+            }
+            writeln!(lines, " at {}+{}", place.offset(), place.len())?;
         }
     }
     Ok(lines)

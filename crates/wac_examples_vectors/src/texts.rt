@@ -192,6 +192,6 @@ fn packages_that_are_missing_are_listed(rt: HostRuntime) -> Result<(), Fail> {
     let source =
         "package a:b targets c:d/e@1.0.0; import x: f:g/h; let y = new c:d@1.0.0 { ... }; let z = new example:cache { ... };";
     let lines = missing_beside_the_cache(rt.alloc(), source)?;
-    assert_eq!(rt; lines.as_str(), "c:d at 20+3\nf:g at 43+3\n");
+    assert_eq!(rt; lines.as_str(), "c:d@1.0.0 at 20+3\nf:g at 43+3\n");
     Ok(())
 }
