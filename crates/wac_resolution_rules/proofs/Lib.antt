@@ -27,6 +27,8 @@ pub mod StatementRows
 pub mod RejectedRows
 pub mod TypesMention
 pub mod StatementsMention
+pub mod BrokenTypesMention
+pub mod BrokenMention
 pub mod Places
 pub mod ExpressionsKeep
 pub mod Names

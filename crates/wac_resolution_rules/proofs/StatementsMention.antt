@@ -25,7 +25,7 @@ use Rattle.wac_resolution_rules.specs.Mentions.{Mention, name_mentions, expr_men
 use Rattle.wac_resolution_rules.specs.Spans.{identifier_of}
 use Rattle.wac_resolution_rules.proofs.StatementsStop.{all_append, all_prefix, declares_what}
 use Rattle.wac_resolution_rules.proofs.Prefixes.{named_at_suc}
-use Rattle.wac_resolution_rules.proofs.TypesMention.{agree_prefix, steps_agree, path_agrees, interface_agrees, declares_agrees}
+use Rattle.wac_resolution_rules.proofs.TypesMention.{along, agree_prefix, steps_agree, path_agrees, interface_agrees, declares_agrees}
 
 -- ---- expressions
 
@@ -33,14 +33,14 @@ handed_agrees : (ps qs : Packages) (b : Bool) (m : Mention) → Agree ps qs (if 
 handed_agrees ps qs true m h = refl
 handed_agrees ps qs false m h = h.0
 
-instantiable_agrees : (g : Given) (ps qs : Packages) (x : PackageName) → Agree ps qs (name_mentions g.setting.own x) → instantiable (given_over g ps) x ≡ instantiable (given_over g qs) x
+pub instantiable_agrees : (g : Given) (ps qs : Packages) (x : PackageName) → Agree ps qs (name_mentions g.setting.own x) → instantiable (given_over g ps) x ≡ instantiable (given_over g qs) x
 instantiable_agrees g ps qs x h = handed_agrees ps qs (bytes_eq x.name g.setting.own) (key_named x, x.span) h
 
 mutual
   pub stands_agree : (g : Given) (ps qs : Packages) (old : Composition) (x : Expr) → Agree ps qs (expr_mentions g.setting.own x) → Stands (given_over g ps) old x ≡ Stands (given_over g qs) old x
   stands_agree g ps qs old (Expr.expr span first others) h = λ i new. (mid : At) × first_agrees g ps qs old first h i mid × Steps Accesses mid others new
 
-  first_agrees : (g : Given) (ps qs : Packages) (old : Composition) (x : PrimaryExpr) → Agree ps qs (primary_mentions g.setting.own x) → PrimaryStands (given_over g ps) old x ≡ PrimaryStands (given_over g qs) old x
+  pub first_agrees : (g : Given) (ps qs : Packages) (old : Composition) (x : PrimaryExpr) → Agree ps qs (primary_mentions g.setting.own x) → PrimaryStands (given_over g ps) old x ≡ PrimaryStands (given_over g qs) old x
   first_agrees g ps qs old (PrimaryExpr.new span name args) h =
       let r = agree_prefix ps qs (name_mentions g.setting.own name) (arguments_mentions g.setting.own args) h in
       λ i new. (p : Contents) × (given : Giving) × (all : Giving) × (instantiable_agrees g ps qs name r.0 i ≡ Some p)
@@ -48,13 +48,13 @@ mutual
   first_agrees g ps qs old (PrimaryExpr.nested span x) h = stands_agree g ps qs old x h
   first_agrees g ps qs old (PrimaryExpr.ident id) h = refl
 
-  gives_agree : (g : Given) (ps qs : Packages) (imports : Named Meaning) (old : Giving) (x : Arguments) → Agree ps qs (arguments_mentions g.setting.own x) → Gives (given_over g ps) imports old x ≡ Gives (given_over g qs) imports old x
+  pub gives_agree : (g : Given) (ps qs : Packages) (imports : Named Meaning) (old : Giving) (x : Arguments) → Agree ps qs (arguments_mentions g.setting.own x) → Gives (given_over g ps) imports old x ≡ Gives (given_over g qs) imports old x
   gives_agree g ps qs imports old Arguments.none h = refl
   gives_agree g ps qs imports old (Arguments.more a rest) h =
       let r = agree_prefix ps qs (argument_mentions g.setting.own a) (arguments_mentions g.setting.own rest) h in
       λ i new. (mid : Giving) × give_agrees g ps qs imports rest old a r.0 i mid × gives_agree g ps qs imports mid rest r.1 i new
 
-  give_agrees : (g : Given) (ps qs : Packages) (imports : Named Meaning) (rest : Arguments) (old : Giving) (x : InstantiationArgument) → Agree ps qs (argument_mentions g.setting.own x)
+  pub give_agrees : (g : Given) (ps qs : Packages) (imports : Named Meaning) (rest : Arguments) (old : Giving) (x : InstantiationArgument) → Agree ps qs (argument_mentions g.setting.own x)
       → GivesOne (given_over g ps) imports rest old x ≡ GivesOne (given_over g qs) imports rest old x
   give_agrees g ps qs imports rest old (InstantiationArgument.fill span) h = refl
   give_agrees g ps qs imports rest old (InstantiationArgument.spread id) h = refl
@@ -64,7 +64,7 @@ mutual
 
 -- ---- statements
 
-kind_agrees : (g : Given) (ps qs : Packages) (old : Composition) (x : ImportType) → Agree ps qs (import_type_mentions g.setting.own x) → ImportsKind (given_over g ps) old x ≡ ImportsKind (given_over g qs) old x
+pub kind_agrees : (g : Given) (ps qs : Packages) (old : Composition) (x : ImportType) → Agree ps qs (import_type_mentions g.setting.own x) → ImportsKind (given_over g ps) old x ≡ ImportsKind (given_over g qs) old x
 kind_agrees g ps qs old (ImportType.func x) h = refl
 kind_agrees g ps qs old (ImportType.interface x) h = λ i k after. (entry : Meaning) × interface_agrees g.setting ps qs (root_scope old) old.resources None x.items h i entry after × (k ≡ kind_of instance entry)
 kind_agrees g ps qs old (ImportType.path x) h = λ i k after. path_agrees g.setting ps qs (root_scope old) x h i k × (after ≡ old.resources)
@@ -185,7 +185,7 @@ keys_goes g P old (Statement.type_statement x) new m h p =
     let d = declares_what g.setting old x new p in
     subst (λ (c : Composition). KeysHold P c.nodes) (sym d.2.2) (keys_binding P (with_node (with_resources old d.1) definition d.0).nodes (next_of old) (identifier_of x).string (keys_and P old.nodes _ h tt))
 
-keys_composes : (g : Given) (P : Key → Type 0) (xs : List Statement) (old new : Composition) → EachMention P (flat_map (statement_mentions g.setting.own) xs) → KeysHold P old.nodes → Composes g old xs new → KeysHold P new.nodes
+pub keys_composes : (g : Given) (P : Key → Type 0) (xs : List Statement) (old new : Composition) → EachMention P (flat_map (statement_mentions g.setting.own) xs) → KeysHold P old.nodes → Composes g old xs new → KeysHold P new.nodes
 keys_composes g P [] old new m h p = subst (λ (c : Composition). KeysHold P c.nodes) (sym p) h
 keys_composes g P (x ∷ xs) old new m h p =
     let r = all_prefix (λ (m : Mention). P m.0) (statement_mentions g.setting.own x) (flat_map (statement_mentions g.setting.own) xs) m in
@@ -201,19 +201,16 @@ open_agree g ps qs n h = go (key_of_node n.form) h
     go None k = refl
     go (Some key) k = ap (λ (o : Option Contents). elim o as (λ _. Named Meaning) [ None ↦ [] | Some p ↦ left_out (imports_in p) n.arguments ]) k
 
-opens_agree : (g : Given) (ps qs : Packages) (ns : List Node) → KeysHold (λ key. package_of key ps ≡ package_of key qs) ns → flat_map (open_imports (given_over g ps)) ns ≡ flat_map (open_imports (given_over g qs)) ns
+pub opens_agree : (g : Given) (ps qs : Packages) (ns : List Node) → KeysHold (λ key. package_of key ps ≡ package_of key qs) ns → flat_map (open_imports (given_over g ps)) ns ≡ flat_map (open_imports (given_over g qs)) ns
 opens_agree g ps qs [] h = refl
 opens_agree g ps qs (n ∷ ns) h = λ i. open_agree g ps qs n h.0 i ++ opens_agree g ps qs ns h.1 i
 
-target_agrees : (g : Given) (ps qs : Packages) (c : Composition) (t : Option PackagePath) → Agree ps qs (target_mentions g.setting.own t) → KeysHold (λ key. package_of key ps ≡ package_of key qs) c.nodes → MeetsTarget (given_over g ps) c t ≡ MeetsTarget (given_over g qs) c t
+pub target_agrees : (g : Given) (ps qs : Packages) (c : Composition) (t : Option PackagePath) → Agree ps qs (target_mentions g.setting.own t) → KeysHold (λ key. package_of key ps ≡ package_of key qs) c.nodes → MeetsTarget (given_over g ps) c t ≡ MeetsTarget (given_over g qs) c t
 target_agrees g ps qs c None m h = refl
 target_agrees g ps qs c (Some p) m h = λ i. (k : Meaning) × (w : Meaning) × path_agrees g.setting ps qs (root_scope c) p m i k × (world_of k ≡ Some w)
     × (AllByRecursion (ImportAllowed (given_over g ps) w) (imports c ++ opens_agree g ps qs c.nodes h i) × AllByRecursion (ExportMet (given_over g ps) c) (exports_of w))
 
 -- ---- documents
-
-along : {A B : Type 0} → A ≡ B → A → B
-along e a = subst (λ (T : Type 0). T) e a
 
 -- a document describes what it describes with other packages that agree on what it mentions
 pub describes_agree : (g : Given) (ps qs : Packages) (doc : Document) (c : Composition) → g.setting.own ≡ doc.directive.package_name.name → Agree ps qs (mentions doc) → Describes (given_over g ps) doc c → Describes (given_over g qs) doc c
@@ -224,7 +221,7 @@ describes_agree g ps qs doc c own m p =
       along (target_agrees g ps qs c doc.directive.targets r.0 (keys_composes (given_over g ps) (λ key. package_of key ps ≡ package_of key qs) doc.statements start c r.1 tt p.0)) p.1,
     )
 
-agree_back : (ps qs : Packages) (ms : List Mention) → Agree ps qs ms → Agree qs ps ms
+pub agree_back : (ps qs : Packages) (ms : List Mention) → Agree ps qs ms → Agree qs ps ms
 agree_back ps qs [] h = tt
 agree_back ps qs (m ∷ ms) h = (sym h.0, agree_back ps qs ms h.1)
 
@@ -237,7 +234,7 @@ or_right true b e = refl
 or_right false b e = e
 
 -- the packages that are kept are those that are mentioned
-kept_agree : (all ms : List Mention) (ps : Packages) → ((k : Key) → list_any (λ (n : Mention). same_key n.0 k) ms ≡ true → list_any (λ (n : Mention). same_key n.0 k) all ≡ true) → Agree (kept all ps) ps ms
+pub kept_agree : (all ms : List Mention) (ps : Packages) → ((k : Key) → list_any (λ (n : Mention). same_key n.0 k) ms ≡ true → list_any (λ (n : Mention). same_key n.0 k) all ≡ true) → Agree (kept all ps) ps ms
 kept_agree all [] ps sub = tt
 kept_agree all (m ∷ ms) ps sub = (
   lookup-filter-keys (λ k. same_key m.0 k) (λ k. list_any (λ (n : Mention). same_key n.0 k) all) true (λ k e. sub k (or_left (same_key m.0 k) (list_any (λ (n : Mention). same_key n.0 k) ms) e)) ps,

@@ -1,5 +1,5 @@
 -- Of the packages only those that types and declarations mention matter to them.
-use Rattle.std.proofs.Common.{◌≡◌, ℕ, List, [], ◌∷◌, ◌++◌, refl, ap, Option, Some, None, Bool, true, false}
+use Rattle.std.proofs.Common.{◌≡◌, ℕ, List, [], ◌∷◌, ◌++◌, refl, ap, subst, Option, Some, None, Bool, true, false}
 use Rattle.std.specs.Prelude.{flat_map, option_map, if◌then◌else◌}
 use Rattle.std.specs.Str.{bytes_eq}
 use Rattle.wac_types.specs.declared.kind.ExternKind.{ExternKind}
@@ -20,8 +20,12 @@ use Rattle.wac_resolution_rules.specs.TypeStatements.{Declares, Defines, declare
 use Rattle.wac_resolution_rules.specs.Mentions.{Mention, path_mentions, use_path_mentions, interface_item_mentions, interface_mentions, extern_type_mentions, extern_mentions, world_ref_mentions, world_item_mentions, type_mentions, Agree, over}
 use Rattle.wac_resolution_rules.proofs.StatementsStop.{all_prefix, all_append}
 
-abbrev same : Packages → Packages → Mention → Type 0
+abbrev pub same : Packages → Packages → Mention → Type 0
 same ps qs m = package_of m.0 ps ≡ package_of m.0 qs
+
+-- along an equality of types
+pub along : {A B : Type 0} → A ≡ B → A → B
+along e a = subst (λ (T : Type 0). T) e a
 
 pub agree_prefix : (ps qs : Packages) (ms ns : List Mention) → Agree ps qs (ms ++ ns) → Agree ps qs ms × Agree ps qs ns
 agree_prefix ps qs ms ns h = all_prefix (same ps qs) ms ns h
@@ -40,14 +44,14 @@ begins_agree ps qs root false m h = ap (λ (o : Option Contents). option_map (λ
 pub path_agrees : (s : Setting) (ps qs : Packages) (root : Scope) (p : PackagePath) → Agree ps qs (path_mentions s.own p) → LeadsTo (over s ps) root p ≡ LeadsTo (over s qs) root p
 path_agrees s ps qs root p h = λ i m. (from : Scope) × (begins_agree ps qs root (bytes_eq p.name s.own) (key_of_path p, _) h i ≡ Some from) × LeadsFrom from (segments_of p) m
 
-use_path_agrees : (s : Setting) (ps qs : Packages) (root : Scope) (p : UsePath) → Agree ps qs (use_path_mentions s.own p) → UseNames (over s ps) root p ≡ UseNames (over s qs) root p
+pub use_path_agrees : (s : Setting) (ps qs : Packages) (root : Scope) (p : UsePath) → Agree ps qs (use_path_mentions s.own p) → UseNames (over s ps) root p ≡ UseNames (over s qs) root p
 use_path_agrees s ps qs root (UsePath.path p) h = path_agrees s ps qs root p h
 use_path_agrees s ps qs root (UsePath.ident x) h = refl
 
 use_agrees : (s : Setting) (ps qs : Packages) (root : Scope) (side : ExternKind) (old : Body) (u : Use) → Agree ps qs (use_path_mentions s.own u.path) → HasUse (over s ps) root side old u ≡ HasUse (over s qs) root side old u
 use_agrees s ps qs root side old u h = λ i new. (k : Meaning) × use_path_agrees s ps qs root u.path h i k × IsA is_interface_form k × Steps (UsesItem side (promoted k)) old u.items new
 
-interface_item_agrees : (s : Setting) (ps qs : Packages) (root : Scope) (old : Body) (x : InterfaceItem) → Agree ps qs (interface_item_mentions s.own x) → HasInterfaceItem (over s ps) root old x ≡ HasInterfaceItem (over s qs) root old x
+pub interface_item_agrees : (s : Setting) (ps qs : Packages) (root : Scope) (old : Body) (x : InterfaceItem) → Agree ps qs (interface_item_mentions s.own x) → HasInterfaceItem (over s ps) root old x ≡ HasInterfaceItem (over s qs) root old x
 interface_item_agrees s ps qs root old (InterfaceItem.use_statement u) h = use_agrees s ps qs root sides.Export old u h
 interface_item_agrees s ps qs root old (InterfaceItem.interface_export x) h = refl
 interface_item_agrees s ps qs root old (InterfaceItem.ty d) h = refl
@@ -71,25 +75,25 @@ extern_agrees s ps qs root side old (WorldItemPath.named x) h = λ i new.
 extern_agrees s ps qs root side old (WorldItemPath.path p) h = λ i new. (k : Meaning) × path_agrees s ps qs root p h i k × HasInstance side old k new
 extern_agrees s ps qs root side old (WorldItemPath.ident x) h = refl
 
-world_item_agrees : (s : Setting) (ps qs : Packages) (root : Scope) (old : Body) (x : WorldItem) → Agree ps qs (world_item_mentions s.own x) → HasWorldItem (over s ps) root old x ≡ HasWorldItem (over s qs) root old x
+pub world_item_agrees : (s : Setting) (ps qs : Packages) (root : Scope) (old : Body) (x : WorldItem) → Agree ps qs (world_item_mentions s.own x) → HasWorldItem (over s ps) root old x ≡ HasWorldItem (over s qs) root old x
 world_item_agrees s ps qs root old (WorldItem.use_statement u) h = use_agrees s ps qs root sides.Import old u h
 world_item_agrees s ps qs root old (WorldItem.world_import x) h = extern_agrees s ps qs root sides.Import old x.path h
 world_item_agrees s ps qs root old (WorldItem.world_export x) h = extern_agrees s ps qs root sides.Export old x.path h
 world_item_agrees s ps qs root old (WorldItem.world_include x) h = refl
 world_item_agrees s ps qs root old (WorldItem.ty d) h = refl
 
-world_ref_agrees : (s : Setting) (ps qs : Packages) (root : Scope) (x : WorldRef) → Agree ps qs (world_ref_mentions s.own x) → WorldNames (over s ps) root x ≡ WorldNames (over s qs) root x
+pub world_ref_agrees : (s : Setting) (ps qs : Packages) (root : Scope) (x : WorldRef) → Agree ps qs (world_ref_mentions s.own x) → WorldNames (over s ps) root x ≡ WorldNames (over s qs) root x
 world_ref_agrees s ps qs root (WorldRef.path p) h = path_agrees s ps qs root p h
 world_ref_agrees s ps qs root (WorldRef.ident x) h = refl
 
-abbrev include_mentions : List ℕ → WorldInclude → List Mention
+abbrev pub include_mentions : List ℕ → WorldInclude → List Mention
 include_mentions own x = world_ref_mentions own x.world
 
-include_agrees : (s : Setting) (ps qs : Packages) (root : Scope) (old : Body) (x : WorldInclude) → Agree ps qs (include_mentions s.own x) → HasInclude (over s ps) root old x ≡ HasInclude (over s qs) root old x
+pub include_agrees : (s : Setting) (ps qs : Packages) (root : Scope) (old : Body) (x : WorldInclude) → Agree ps qs (include_mentions s.own x) → HasInclude (over s ps) root old x ≡ HasInclude (over s qs) root old x
 include_agrees s ps qs root old x h = λ i new. (entries : Entries) × (k : Meaning) × Steps HasEntry [] x.items entries × world_ref_agrees s ps qs root x.world h i k × IsA is_world_form k × Included entries (entry_of k) old new
 
 -- what the includes mention the items mention
-includes_agree : (own : List ℕ) (ps qs : Packages) (items : List WorldItem) → Agree ps qs (flat_map (world_item_mentions own) items) → Agree ps qs (flat_map (include_mentions own) (includes_of items))
+pub includes_agree : (own : List ℕ) (ps qs : Packages) (items : List WorldItem) → Agree ps qs (flat_map (world_item_mentions own) items) → Agree ps qs (flat_map (include_mentions own) (includes_of items))
 includes_agree own ps qs [] h = tt
 includes_agree own ps qs (WorldItem.use_statement u ∷ items) h = includes_agree own ps qs items (agree_prefix ps qs (use_path_mentions own u.path) (flat_map (world_item_mentions own) items) h).1
 includes_agree own ps qs (WorldItem.world_import x ∷ items) h = includes_agree own ps qs items (agree_prefix ps qs (extern_mentions own x.path) (flat_map (world_item_mentions own) items) h).1

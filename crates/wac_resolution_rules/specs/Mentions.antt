@@ -1,5 +1,5 @@
 -- Which foreign packages a document mentions, and where: in order of mention, with repetitions.
-use Rattle.std.specs.Prelude.{◌≡◌, List, [], ◌∷◌, ◌++◌, Option, Some, None, flat_map, ℕ, filter, true, if◌then◌else◌}
+use Rattle.std.specs.Prelude.{◌≡◌, List, [], ◌∷◌, ◌++◌, Option, Some, None, flat_map, ℕ, filter, Bool, true, if◌then◌else◌}
 use Rattle.std.specs.List.{AllByRecursion, list_any}
 use Rattle.std.specs.Str.{bytes_eq}
 use Rattle.wac_lexer.specs.Span.{Span}
@@ -107,8 +107,11 @@ abbrev pub mentions : Document → List Mention
 mentions doc = target_mentions doc.directive.package_name.name doc.directive.targets ++ flat_map (statement_mentions doc.directive.package_name.name) doc.statements
 
 -- a key is among the mentioned ones
+abbrev pub is_mentioned : List Mention → Key → Bool
+is_mentioned ms key = list_any (λ (m : Mention). same_key m.0 key) ms
+
 abbrev pub IsMentioned : List Mention → Key → Type 0
-IsMentioned ms key = list_any (λ (m : Mention). same_key m.0 key) ms ≡ true
+IsMentioned ms key = is_mentioned ms key ≡ true
 
 -- what is asked of the package of which a node is an instance, if it is one
 abbrev pub KeyHolds : (Key → Type 0) → Option Key → Type 0
@@ -131,6 +134,6 @@ over s ps = record { naming = s.naming; own = s.own; version = s.version; packag
 abbrev pub given_over : Given → Packages → Given
 given_over g ps = record { setting = over g.setting ps; rules = g.rules }
 
--- the packages whose keys are mentioned
-abbrev pub kept : List Mention → Packages → Packages
-kept ms ps = filter (λ p. list_any (λ (m : Mention). same_key m.0 p.0) ms) ps
+-- of the entries under keys those whose keys are mentioned
+abbrev pub kept : {X : Type 0} → List Mention → List (Key × X) → List (Key × X)
+kept ms ps = filter (λ p. is_mentioned ms p.0) ps

@@ -93,10 +93,12 @@ pub fn names_stand_once()
     ensures { (s : Given) (statements : List Statement) (c : Composition) → Composes s start statements c → NamesOnce c }
 {}
 
-/// Of the packages only those that a document mentions matter, and each package of which it makes an instance is mentioned.
+/// Of the packages only those that a document mentions matter, to what it describes and to what fails in it first, and each package of which it makes an instance is mentioned.
 pub fn only_mentioned_packages_matter()
     ensures kept { (s : Given) (packages : Packages) (document : Document) (c : Composition) → s.setting.own ≡ document.directive.package_name.name
         → Describes (given_over s (kept (mentions document) packages)) document c ↔ Describes (given_over s packages) document c }
+    ensures fails { (s : Given) (packages : Packages) (document : Document) (e : Error) → s.setting.own ≡ document.directive.package_name.name
+        → FirstFailing (given_over s (kept (mentions document) packages)) document e ↔ FirstFailing (given_over s packages) document e }
     ensures agree { (s : Given) (packages others : Packages) (document : Document) (c : Composition) → s.setting.own ≡ document.directive.package_name.name
         → Agree packages others (mentions document) → Describes (given_over s packages) document c → Describes (given_over s others) document c }
     ensures instances { (s : Given) (document : Document) (c : Composition) → s.setting.own ≡ document.directive.package_name.name → Describes s document c → KeysHold (IsMentioned (mentions document)) c.nodes }
