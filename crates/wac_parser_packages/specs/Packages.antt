@@ -5,10 +5,11 @@ use Rattle.std.specs.Map.{keys_of, lookup}
 use Rattle.wac_graph.specs.Package.{Key, same_key}
 use Rattle.wac_graph.specs.Packages.{Packages}
 use Rattle.wac_grammar.specs.Tree.{Document}
+use Rattle.wac_resolution_errors.specs.Error.{Error}
 use Rattle.wac_resolution_rules.specs.Composition.{Composition}
 use Rattle.wac_resolution_rules.specs.Given.{Given}
 use Rattle.wac_resolution_rules.specs.Mentions.{IsMentioned, KeysHold, Mention, given_over, kept}
-use Rattle.wac_resolution_rules.specs.ResolvedDocument.{Describes}
+use Rattle.wac_resolution_rules.specs.ResolvedDocument.{Describes, FirstFailing}
 
 -- These are the first of all mentions.
 pub record AreFirst (all these : List Mention) : Type 0 where
@@ -24,5 +25,8 @@ pub record OnlyTheseMatter (document : Document) (these : List Mention) : Type 0
   -- whatever packages are handed, the document describes with these alone what it describes with all of them
   pub describes : (s : Given) (packages : Packages) (c : Composition) → s.setting.own ≡ document.directive.package_name.name
       → Describes (given_over s (kept these packages)) document c ↔ Describes (given_over s packages) document c
+  -- and with these alone the same fails in it first
+  pub fails : (s : Given) (packages : Packages) (e : Error) → s.setting.own ≡ document.directive.package_name.name
+      → FirstFailing (given_over s (kept these packages)) document e ↔ FirstFailing (given_over s packages) document e
   -- each package of which a described composition has an instance is one of these
   pub instances : (s : Given) (c : Composition) → s.setting.own ≡ document.directive.package_name.name → Describes s document c → KeysHold (IsMentioned these) c.nodes

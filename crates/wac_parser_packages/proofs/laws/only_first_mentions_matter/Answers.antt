@@ -2,7 +2,7 @@ use Rattle.std.proofs.Common.{◌∙◌, sym, subst}
 use Rattle.std.specs.Prelude.{◌↔◌}
 use Rattle.wac_graph.specs.Packages.{Packages}
 use Rattle.wac_resolution_rules.specs.Mentions.{IsMentioned, given_over, mentions}
-use Rattle.wac_resolution_rules.specs.ResolvedDocument.{Describes}
+use Rattle.wac_resolution_rules.specs.ResolvedDocument.{Describes, FirstFailing}
 use Rattle.wac_parser_packages.specs.FirstMentions.{first_mentions}
 use Rattle.wac_parser_packages.proofs.FirstMentions.{any_first, are_first, kept_first, keys_hold}
 use Rattle.wac_parser_packages.proofs.laws.only_first_mentions_matter.Goals as goal
@@ -16,6 +16,8 @@ returns-clause-matter c = λ document.
     record {
       describes = λ s packages it own.
           subst (λ (ps : Packages). Describes (given_over s ps) document it ↔ Describes (given_over s packages) document it) (sym (kept_first (mentions document) packages)) (law.kept s packages document it own);
+      fails = λ s packages it own.
+          subst (λ (ps : Packages). FirstFailing (given_over s ps) document it ↔ FirstFailing (given_over s packages) document it) (sym (kept_first (mentions document) packages)) (law.fails s packages document it own);
       instances = λ s it own described.
           keys_hold (IsMentioned (mentions document)) (IsMentioned (first_mentions (mentions document))) it.nodes (λ key h. any_first key (mentions document) ∙ h) (law.instances s document it own described);
     }
