@@ -4,26 +4,25 @@ use Rattle.std.specs.Str.{IsUtf8}
 use Rattle.wac_types.specs.Package.{PackageParts}
 use Rattle.wac_types.specs.Scope.{Named}
 use Rattle.wac_graph.specs.declared.package_key.PackageKey.{PackageKey}
-use Rattle.wac_graph.specs.Graph.{Parts}
 use Rattle.wac_graph.specs.Origin.{Naming, IsOneToOne}
 use Rattle.wac_graph.specs.Package.{Key}
 use Rattle.wac_grammar.specs.Slices.{DocumentSlices}
 use Rattle.wac_grammar.specs.Spelled.{DocumentSpelled}
 use Rattle.wac_grammar.specs.TextTree.{IsTreeOf}
 use Rattle.wac_grammar.specs.Tree.{Document}
-use Rattle.wac_layout.specs.Bare.{Keep, doc_lines, bare_document}
+use Rattle.wac_layout.specs.Bare.{doc_lines}
 use Rattle.wac_layout.specs.Reread.{IsReread, read_docs}
 use Rattle.wac_resolution_errors.specs.declared.error.Error.{Error as CodeError}
 use Rattle.wac_resolution_errors.specs.Error.{Error, memory}
 use Rattle.wac_resolution_errors.specs.Told.{told}
 use Rattle.wac_resolution_rules.specs.Composition.{Composition}
 use Rattle.wac_resolution_rules.specs.Given.{Rules}
-use Rattle.wac_resolution_rules.specs.ResolvedDocument.{given_to, Describes, DescribeAlike}
+use Rattle.wac_resolution_rules.specs.ResolvedDocument.{given_to, Describes, DescribeAlike, GraphClause, OnlyClause}
 use Rattle.wac_resolution_rules.proofs.Alike.{bare_alike}
 use Rattle.wac_resolution_rules.proofs.FirstFailing.{describes_once}
 use Rattle.wac_resolution_nodes.specs.Nodes.{composition_of}
 use Rattle.wac_resolution.specs.Layout.{SameBareTree, DescribedClause, ReturnedAlike}
-use Rattle.wac_resolution.specs.Resolved.{Resolved, by_key, returned, Promised}
+use Rattle.wac_resolution.specs.Resolved.{Resolved, by_key, Promised}
 use Rattle.wac_resolution.proofs.Ending.{Described}
 
 pub same_alike : (document other : Document) → SameBareTree document other → DescribeAlike document other
@@ -41,7 +40,7 @@ described_alike naming packages rules document other (Err e) alike h = (tt, λ c
 abbrev pub RightForSame : List (PackageKey × PackageParts) → Rules → Document → Result Resolved CodeError → Type 0
 RightForSame packages rules document result = (declared : Named ℕ) × ((other : Document) → SameBareTree document other → Promised DescribedClause packages rules other declared result)
 
-pub graph_is_right : (packages : List (PackageKey × PackageParts)) (rules : Rules) (document : Document) (r : Resolved) → Described packages rules document r.graph → RightForSame packages rules document (Ok r)
+graph_is_right : (packages : List (PackageKey × PackageParts)) (rules : Rules) (document : Document) (r : Resolved) → Described packages rules document r.graph → RightForSame packages rules document (Ok r)
 graph_is_right packages rules document r h =
     (h.0, λ other same naming one. described_alike naming (by_key packages) rules document other (Ok (composition_of naming r.graph h.0)) (same_alike document other same) (h.1 naming one, tt))
 
@@ -52,6 +51,12 @@ OnlyMemory packages rules document e = (naming : Naming) → IsOneToOne naming �
 pub error_is_right : (packages : List (PackageKey × PackageParts)) (rules : Rules) (document : Document) (e : CodeError) → OnlyMemory packages rules document (told e) → RightForSame packages rules document (Err e)
 error_is_right packages rules document e h =
     ([], λ other same naming one. described_alike naming (by_key packages) rules document other (Err (told e)) (same_alike document other same) (tt, h naming one))
+
+-- what is returned is right for those where it is described, and where what is described is returned
+pub result_is_right : (packages : List (PackageKey × PackageParts)) (rules : Rules) (document : Document) (result : Result Resolved CodeError) (declared : Named ℕ) → Promised GraphClause packages rules document declared result
+    → ((names : Named ℕ) → Promised OnlyClause packages rules document names result) → RightForSame packages rules document result
+result_is_right packages rules document (Ok r) declared graph only = graph_is_right packages rules document r (declared, graph)
+result_is_right packages rules document (Err e) declared graph only = error_is_right packages rules document e (only [])
 
 -- ---- what is returned for two documents
 

@@ -30,6 +30,7 @@ use Rattle.wac_resolution_nodes.specs.Nodes.{composition_of}
 use Rattle.wac_resolution_nodes.specs.Root.{numbers_of, composed, Agrees}
 use Rattle.wac_resolution_nodes.proofs.Composed.{composition_expands}
 use Rattle.wac_resolution_paths.specs.declared.setting.Setting.{Setting}
+use Rattle.wac_resolution_paths.specs.Expands.{HoldsHanded}
 use Rattle.wac_resolution_paths.specs.Setting.{packages_in}
 use Rattle.wac_resolution_expressions.specs.Growth.{given_in}
 use Rattle.wac_resolution_externs.specs.declared.externs.Externs.{Externs}
@@ -47,12 +48,13 @@ use Rattle.wac_resolution.proofs.Told.{memory_or_rule}
 pub target_met : (setting : Setting) (passes : Meaning → Meaning → Option Reason) (named : List ℕ → Option Reason) (old new : Parts) (root : Root) (path : PackagePath) → Agrees old root → Meets setting passes named old new root path
     → MeetsIn setting (rules_by passes named) old new root (Some path)
 target_met setting passes named old new root path agrees m = record {
+  handed = m.handed;
   kept = λ naming. composition_expands old new (numbers_of root.nodes) naming m.grows.same m.grows.held (m.grows.kinds naming) agrees.nodes ∙ ap (with_resources (composed naming old root)) m.count;
   met = λ naming one. m.is naming one;
 }
 
-pub no_target : (setting : Setting) (rules : Rules) (g : Parts) (root : Root) → MeetsIn setting rules g g root None
-no_target setting rules g root = record { kept = λ naming. refl; met = λ naming one. tt }
+pub no_target : (setting : Setting) (rules : Rules) (g : Parts) (root : Root) → HoldsHanded (packages_in setting) g → MeetsIn setting rules g g root None
+no_target setting rules g root handed = record { handed = handed; kept = λ naming. refl; met = λ naming one. tt }
 
 pub target_missed : (setting : Setting) (passes : Meaning → Meaning → Option Reason) (named : List ℕ → Option Reason) (g : Parts) (root : Root) (x : Externs) (path : PackagePath) (e : Error) → Unmeets setting passes named g root path (imported_in x) (exported_in x) e
     → MissesIn setting (rules_by passes named) g root x (Some path) e
@@ -70,6 +72,7 @@ pub all_composed : (setting : Setting) (rules : Rules) (g mid new : Parts) (firs
     → MeetsIn setting rules mid new root targets → Composed setting rules statements targets new
 all_composed setting rules g mid new first root x y statements targets h w m = record {
   declared = numbers_of root.nodes;
+  handed = m.handed;
   composes = λ naming one.
       subst (λ (c : Composition). Composes (given_in naming setting rules) start statements c) (sym (m.kept naming))
       (leads_composes (given_in naming setting rules) statements (placed_start start) (placed_in naming mid root y) (all_lead setting rules g mid first root x y statements h w naming one));
@@ -164,6 +167,11 @@ pub lent_described : (setting : Setting) (rules : Rules) (packages : List (Packa
 lent_described setting rules packages lent doc statements g h c =
     let whole : Composed setting rules (document_of doc).statements (document_of doc).directive.targets g = of_document (λ all targets. Composed setting rules all targets g) setting packages lent doc statements h c in
     (whole.declared, describes setting rules (by_key packages) (document_of doc) g (lent_setting setting packages lent doc statements h) whole)
+
+-- the packages that the graph holds were handed
+pub lent_handed : (setting : Setting) (rules : Rules) (packages : List (PackageKey × PackageParts)) (lent doc : CodeDocument) (statements : List CodeStatement) (g : Parts) → IsLent setting packages lent doc statements
+    → Composed setting rules (map statement_of statements) (option_map package_path_of lent.directive.targets) g → HoldsHanded (by_key packages) g
+lent_handed setting rules packages lent doc statements g h c = subst (λ (l : List (Key × PackageParts)). HoldsHanded l g) h.packages_are c.handed
 
 pub lent_fails : (setting : Setting) (rules : Rules) (packages : List (PackageKey × PackageParts)) (lent doc : CodeDocument) (statements : List CodeStatement) (e : Error) → IsLent setting packages lent doc statements
     → Breaks setting rules (map statement_of statements) (option_map package_path_of lent.directive.targets) e → (naming : Naming) → IsOneToOne naming → (e ≡ memory) ⊎ FirstFailing (given_to naming (by_key packages) rules (document_of doc)) (document_of doc) e

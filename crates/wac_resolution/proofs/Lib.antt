@@ -2,3 +2,4 @@ pub mod Alike
 pub mod Starting
 pub mod Ending
 pub mod Told
+pub mod Kept

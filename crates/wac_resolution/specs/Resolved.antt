@@ -1,18 +1,20 @@
 -- What resolving is given and returns, in the words of the rules.
 use Rattle.std.specs.Prelude.{ℕ, List, map, Result, Ok, Err}
+use Rattle.std.specs.List.{AllByRecursion}
 use Rattle.wac_types.specs.Package.{PackageParts}
 use Rattle.wac_types.specs.Scope.{Named}
 use Rattle.wac_ast.specs.declared.document.Document.{Document as CodeDocument}
 use Rattle.wac_graph.specs.declared.package_key.PackageKey.{PackageKey}
 use Rattle.wac_graph.specs.Graph.{Parts}
 use Rattle.wac_graph.specs.Origin.{Naming}
-use Rattle.wac_graph.specs.Package.{Key, key_of}
+use Rattle.wac_graph.specs.Package.{HeldPackage, Key, key_of}
 use Rattle.wac_grammar.specs.Tree.{Document}
 use Rattle.wac_resolution_errors.specs.Error as told_errors
 use Rattle.wac_resolution_errors.specs.declared.error.Error.{Error}
 use Rattle.wac_resolution_errors.specs.Told.{told}
 use Rattle.wac_resolution_rules.specs.Composition.{Composition}
 use Rattle.wac_resolution_rules.specs.Given.{Given, Rules}
+use Rattle.wac_resolution_rules.specs.Mentions.{IsMentioned, Mention}
 use Rattle.wac_resolution_rules.specs.ResolvedDocument.{given_to, EveryNaming}
 use Rattle.wac_resolution_nodes.specs.Nodes.{composition_of}
 
@@ -33,3 +35,7 @@ returned naming declared (Err e) = Err (told e)
 -- this clause holds of what is returned for the document, under every naming of origins that is one to one
 abbrev pub Promised : (Given → Document → Result Composition told_errors.Error → Type 0) → List (PackageKey × PackageParts) → Rules → Document → Named ℕ → Result Resolved Error → Type 0
 Promised Clause packages rules document declared result = EveryNaming (λ naming. Clause (given_to naming (by_key packages) rules document) document (returned naming declared result))
+
+-- each package that the graph holds is mentioned
+abbrev pub HoldsMentioned : List Mention → Parts → Type 0
+HoldsMentioned ms g = AllByRecursion (λ (p : HeldPackage). IsMentioned ms p.key) g.packages

@@ -16,13 +16,16 @@ use Rattle.wac_resolution_nodes.specs.declared.root.Root.{Root}
 use Rattle.wac_resolution_nodes.specs.Nodes.{composition_of}
 use Rattle.wac_resolution_nodes.specs.Root.{composed}
 use Rattle.wac_resolution_paths.specs.declared.setting.Setting.{Setting}
+use Rattle.wac_resolution_paths.specs.Expands.{HoldsHanded}
+use Rattle.wac_resolution_paths.specs.Setting.{packages_in}
 use Rattle.wac_resolution_expressions.specs.Growth.{given_in}
 use Rattle.wac_resolution_externs.specs.declared.externs.Externs.{Externs}
 use Rattle.wac_resolution_statements.specs.Statements.{placed_in}
 use Rattle.wac_resolution_statements.specs.Sequences.{BreaksAfter}
 
--- the target is met, if there is one, and the composition is as before
+-- the target is met, if there is one, the composition is as before, and the graph holds packages that were handed
 pub record MeetsIn (setting : Setting) (rules : Rules) (old new : Parts) (root : Root) (targets : Option PackagePath) : Type 0 where
+  pub handed : HoldsHanded (packages_in setting) new
   pub kept : (naming : Naming) → composed naming new root ≡ composed naming old root
   pub met : (naming : Naming) → IsOneToOne naming → MeetsTarget (given_in naming setting rules) (composed naming old root) targets
 
@@ -32,9 +35,10 @@ pub record MissesIn (setting : Setting) (rules : Rules) (g : Parts) (root : Root
   pub has : targets ≡ Some target
   pub broken : (naming : Naming) → IsOneToOne naming → TargetBroken (given_in naming setting rules) (composed naming g root) (placed_in naming g root x).places e target
 
--- the statements compose what the graph stands for, with these names at root, and the target is met
+-- the statements compose what the graph stands for, with these names at root, the target is met, and the graph holds packages that were handed
 pub record Composed (setting : Setting) (rules : Rules) (statements : List Statement) (targets : Option PackagePath) (g : Parts) : Type 0 where
   pub declared : Named ℕ
+  pub handed : HoldsHanded (packages_in setting) g
   pub composes : (naming : Naming) → IsOneToOne naming → Composes (given_in naming setting rules) start statements (composition_of naming g declared)
   pub met : (naming : Naming) → IsOneToOne naming → MeetsTarget (given_in naming setting rules) (composition_of naming g declared) targets
 

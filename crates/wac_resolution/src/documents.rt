@@ -4,9 +4,10 @@ ghost use Rattle.wac_ast.specs.Statements.{document_of};
 ghost use Rattle.wac_grammar.specs.Tree.{Document as Tree};
 ghost use Rattle.wac_types.specs.Scope.{Named};
 ghost use Rattle.wac_resolution_rules.specs.Given.{rules_by};
+ghost use Rattle.wac_resolution_rules.specs.Mentions.{mentions};
 ghost use Rattle.wac_resolution_rules.specs.ResolvedDocument.{GraphClause, OnlyClause, FirstClause};
 ghost use Rattle.wac_resolution.specs.Layout.{DescribedClause, SameBareTree};
-ghost use Rattle.wac_resolution.specs.Resolved.{Promised};
+ghost use Rattle.wac_resolution.specs.Resolved.{HoldsMentioned, Promised};
 
 use crate::resolution::{Resolution, ResolutionResult};
 use crate::resolver::AstResolver;
@@ -17,8 +18,8 @@ use wac_graph::{Package, PackageKey, Rules};
 
 /// Resolves a document with the packages that it may mention and with rules.
 ///
-/// The packages are dropped in the end; those that the document mentions are copied into the graph. The document and the rules stay
-/// as they are. An error names a rule and its place in bytes, or says that memory ran out.
+/// The packages are dropped in the end; those that the document mentions are copied into the graph, and no others. The document and the
+/// rules stay as they are. An error names a rule and its place in bytes, or says that memory ran out.
 ///
 /// ```text
 /// package a:b; import x: func(); export x as "y";     one node, exported as `y`
@@ -32,6 +33,8 @@ pub fn resolve<'d, 'a, R: Rules>(
 ) -> ResolutionResult<Resolution<'d, 'a>>
     // It is the document's resolution.
     ensures document { IfOk result (λ r. r.document ≡ document.now) }
+    // The graph holds no package that the document doesn't mention.
+    ensures held { IfOk result (λ r. HoldsMentioned (mentions (document_of document.now)) r.graph) }
     // The graph that is returned is described, with the names that the document binds.
     ensures graph { (declared : Named ℕ) × Promised GraphClause packages.entries (rules_by (R.passes rules.now) (R.named rules.now)) (document_of document.now) declared result }
     // What is described is returned, unless memory runs out.

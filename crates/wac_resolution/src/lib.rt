@@ -12,6 +12,7 @@
 #![tactic(auto)]
 
 mod documents;
+mod keeping;
 mod laws;
 mod lent;
 mod resolution;

@@ -3,20 +3,27 @@ ghost use Rattle.std.specs.Prelude.{◌≡◌, ℕ, IfOk};
 ghost use Rattle.wac_ast.specs.Statements.{document_of};
 ghost use Rattle.wac_grammar.specs.Tree.{Document as Tree};
 ghost use Rattle.wac_types.specs.Scope.{Named};
+ghost use Rattle.wac_parser_packages.specs.Noted.{mentions_in};
+ghost use Rattle.wac_parser_packages.specs.Packages.{AreFirst, OnlyTheseMatter};
+ghost use Rattle.wac_resolution_paths.specs.Expands.{HoldsHanded};
 ghost use Rattle.wac_resolution_rules.specs.Given.{rules_by};
+ghost use Rattle.wac_resolution_rules.specs.Mentions.{mentions};
 ghost use Rattle.wac_resolution_rules.specs.ResolvedDocument.{GraphClause, OnlyClause, FirstClause};
 ghost use Rattle.wac_resolution.specs.Layout.{DescribedClause, SameBareTree};
-ghost use Rattle.wac_resolution.specs.Resolved.{Promised};
+ghost use Rattle.wac_resolution.specs.Resolved.{HoldsMentioned, Promised, by_key};
 
+use crate::keeping::keep_mentioned;
 use crate::resolution::{Resolution, ResolutionResult};
 use crate::setting::setting;
 use crate::steps::composed;
 use indexmap::IndexMap;
-use std::alloc::Global;
+use std::alloc::{AllocError, Global};
 use std::marker::Model;
 use wac_ast::Document;
 use wac_ast::internals::Statements;
 use wac_graph::{Package, PackageKey, Rules};
+use wac_lexer::SourceSpan;
+use wac_parser_packages::packages;
 
 /// A resolver of one document.
 #[derive(Drop)]
@@ -49,26 +56,27 @@ impl<'d, 'a> AstResolver<'d, 'a> {
         AstResolver { document }
     }
 
-    /// Resolves the document with packages and rules.
-    ///
-    /// The packages are dropped in the end; those that the document mentions are copied into the graph. The document and the rules stay
-    /// as they are.
-    pub fn resolve<R: Rules>(
+    /// The packages that the document mentions, each with the place of its first mention.
+    fn first_mentions(self, alloc: Global) -> Result<IndexMap<PackageKey, SourceSpan>, AllocError>
+        ensures first { IfOk result (λ m. AreFirst (mentions (document_of self.entry)) (mentions_in m.entries)) }
+        ensures matter { IfOk result (λ m. OnlyTheseMatter (document_of self.entry) (mentions_in m.entries)) }
+    {
+        let AstResolver { document } = self;
+        packages(alloc, document)
+    }
+
+    /// Resolves the document with all of these packages.
+    fn resolve_with<R: Rules>(
         self,
         alloc: Global,
         packages: IndexMap<PackageKey, Package>,
         rules: &R,
     ) -> ResolutionResult<Resolution<'d, 'a>>
-        // It is the document's resolution.
         ensures document { IfOk result (λ r. r.document ≡ self.entry) }
-        // The graph that is returned is described, with the names that the document binds.
+        ensures handed { IfOk result (λ r. HoldsHanded (by_key packages.entries) r.graph) }
         ensures graph { (declared : Named ℕ) × Promised GraphClause packages.entries (rules_by (R.passes rules.now) (R.named rules.now)) (document_of self.entry) declared result }
-        // What is described is returned, unless memory runs out.
         ensures only { (declared : Named ℕ) → Promised OnlyClause packages.entries (rules_by (R.passes rules.now) (R.named rules.now)) (document_of self.entry) declared result }
-        // An error names a rule that the first failing statement breaks, unless memory runs out.
         ensures first { (declared : Named ℕ) → Promised FirstClause packages.entries (rules_by (R.passes rules.now) (R.named rules.now)) (document_of self.entry) declared result }
-        // It is as right for each document with the same bare tree: layout carries no meaning.
-        ensures layout { (declared : Named ℕ) × ((other : Tree) → SameBareTree (document_of self.entry) other → Promised DescribedClause packages.entries (rules_by (R.passes rules.now) (R.named rules.now)) other declared result) }
     {
         let document = self.document;
         let directive = &document.directive;
@@ -78,5 +86,33 @@ impl<'d, 'a> AstResolver<'d, 'a> {
         };
         let graph = composed(alloc, &setting, rules, statements, &directive.targets)?;
         Ok(Resolution::new(document, graph))
+    }
+
+    /// Resolves the document with packages and rules.
+    ///
+    /// The packages are dropped in the end; those that the document mentions are copied into the graph, and no others. The document and the rules stay
+    /// as they are.
+    pub fn resolve<R: Rules>(
+        self,
+        alloc: Global,
+        packages: IndexMap<PackageKey, Package>,
+        rules: &R,
+    ) -> ResolutionResult<Resolution<'d, 'a>>
+        // It is the document's resolution.
+        ensures document { IfOk result (λ r. r.document ≡ self.entry) }
+        // The graph holds no package that the document doesn't mention.
+        ensures held { IfOk result (λ r. HoldsMentioned (mentions (document_of self.entry)) r.graph) }
+        // The graph that is returned is described, with the names that the document binds.
+        ensures graph { (declared : Named ℕ) × Promised GraphClause packages.entries (rules_by (R.passes rules.now) (R.named rules.now)) (document_of self.entry) declared result }
+        // What is described is returned, unless memory runs out.
+        ensures only { (declared : Named ℕ) → Promised OnlyClause packages.entries (rules_by (R.passes rules.now) (R.named rules.now)) (document_of self.entry) declared result }
+        // An error names a rule that the first failing statement breaks, unless memory runs out.
+        ensures first { (declared : Named ℕ) → Promised FirstClause packages.entries (rules_by (R.passes rules.now) (R.named rules.now)) (document_of self.entry) declared result }
+        // It is as right for each document with the same bare tree: layout carries no meaning.
+        ensures layout { (declared : Named ℕ) × ((other : Tree) → SameBareTree (document_of self.entry) other → Promised DescribedClause packages.entries (rules_by (R.passes rules.now) (R.named rules.now)) other declared result) }
+    {
+        let mentioned = AstResolver::new(self.document).first_mentions(alloc)?;
+        let kept = keep_mentioned(packages, &mentioned);
+        self.resolve_with(alloc, kept, rules)
     }
 }

@@ -1,13 +1,17 @@
-use Rattle.std.specs.Prelude.{ℕ}
+use Rattle.std.specs.Prelude.{ℕ, IfOk}
 use Rattle.std.proofs.Common.{subst}
 use Rattle.wac_ast.specs.Statements.{document_of}
 use Rattle.wac_ast.specs.declared.document.Document.{Document as CodeDocument}
 use Rattle.wac_grammar.specs.Tree.{Document as Tree}
 use Rattle.wac_types.specs.Scope.{Named}
 use Rattle.wac_resolution_rules.specs.Given.{rules_by}
+use Rattle.wac_resolution_rules.specs.Mentions.{mentions}
 use Rattle.wac_resolution.specs.Layout.{DescribedClause, SameBareTree}
-use Rattle.wac_resolution.specs.Resolved.{Promised}
+use Rattle.wac_resolution.specs.Resolved.{HoldsMentioned, Promised}
 use Rattle.wac_resolution.proofs.documents.resolve.Goals as goal
+
+pub returns-clause-held : goal.returns-clause-held
+returns-clause-held g c = subst (λ (d : CodeDocument). IfOk c.resolve.result (λ r. HoldsMentioned (mentions (document_of d)) r.graph)) c.new.ensures c.resolve.ensures.held
 
 pub returns-clause-layout : goal.returns-clause-layout
 returns-clause-layout g c =

@@ -16,4 +16,4 @@ returns-in-Some-clause-err g c =
     (if_err _ _ c.check_target.result (λ e u. target_missed c.args.setting.now (g.R.Rules.passes c.args.rules.now) (g.R.Rules.named c.args.rules.now) c.args.state.now.graph c.args.root.now c.args.externs.now (package_path_of c.in-Some.target) (told e) u) c.check_target.ensures.err)
 
 pub returns-in-None-clause-ok : goal.returns-in-None-clause-ok
-returns-in-None-clause-ok g c = rw c.in-None.is (no_target c.args.setting.now (rules_by (g.R.Rules.passes c.args.rules.now) (g.R.Rules.named c.args.rules.now)) c.args.state.now.graph c.args.root.now)
+returns-in-None-clause-ok g c = rw c.in-None.is (no_target c.args.setting.now (rules_by (g.R.Rules.passes c.args.rules.now) (g.R.Rules.named c.args.rules.now)) c.args.state.now.graph c.args.root.now c.requires.handed)

@@ -1,44 +1,50 @@
-use Rattle.std.proofs.Common.{sym, subst}
-use Rattle.std.proofs.lemmas.Result.{err_from_is_err_and}
+use Rattle.std.proofs.Common.{◌∙◌, inl}
+use Rattle.std.proofs.lemmas.Result.{IfOk-weaker, err_from_is_err_and}
 use Rattle.wac_ast.specs.Statements.{document_of}
-use Rattle.wac_graph.specs.Graph.{Parts}
-use Rattle.wac_resolution_errors.specs.Told.{told}
+use Rattle.wac_parser_packages.specs.Noted.{mentions_in}
+use Rattle.wac_resolution_paths.specs.Expands.{HoldsHanded}
 use Rattle.wac_resolution_rules.specs.Given.{rules_by}
-use Rattle.wac_resolution.proofs.Alike.{graph_is_right, error_is_right}
-use Rattle.wac_resolution.proofs.Ending.{Described, lent_described, lent_fails, lent_only}
+use Rattle.wac_resolution_rules.specs.Mentions.{mentions}
+use Rattle.wac_resolution_types.proofs.Scopes.{memory_told}
+use Rattle.wac_resolution.specs.Resolved.{HoldsMentioned, by_key}
+use Rattle.wac_resolution.proofs.Alike.{error_is_right, result_is_right}
+use Rattle.wac_resolution.proofs.Kept.{holds_mentioned, kept_for, promised_first, promised_graph, promised_only}
 use Rattle.wac_resolution.proofs.resolver.AstResolver.resolve.Goals as goal
 
-pub returns-in_err-graph-clause-only : goal.returns-in_err-graph-clause-only
-returns-in_err-graph-clause-only g c =
+pub returns-in_err-mentioned-clause-only : goal.returns-in_err-mentioned-clause-only
+returns-in_err-mentioned-clause-only g c =
     let p = err_from_is_err_and c.from_residual.result c.from_residual.ensures.1 in
-    rw (p.1, p.2)
-    (λ declared. lent_only c.setting-setting.result (rules_by (g.R.Rules.passes c.args.rules.now) (g.R.Rules.named c.args.rules.now)) c.args.packages.entries c.self.inside.document.now c.args.self c.deref.result.now (told c.in_err-graph.field-0.0)
-    (record { same = c.self.view_is; own = c.setting-setting.ensures.own; version = c.setting-setting.ensures.version; packages_are = c.setting-setting.ensures.packages; statements_are = c.deref.ensures.value }) c.in_err-graph.ensures.err)
+    rw p.1 (λ declared naming one composition described. memory_told p.0 p.2)
 
-pub returns-in_err-graph-clause-first : goal.returns-in_err-graph-clause-first
-returns-in_err-graph-clause-first g c =
+pub returns-in_err-mentioned-clause-first : goal.returns-in_err-mentioned-clause-first
+returns-in_err-mentioned-clause-first g c =
     let p = err_from_is_err_and c.from_residual.result c.from_residual.ensures.1 in
-    rw (p.1, p.2)
-    (λ declared. lent_fails c.setting-setting.result (rules_by (g.R.Rules.passes c.args.rules.now) (g.R.Rules.named c.args.rules.now)) c.args.packages.entries c.self.inside.document.now c.args.self c.deref.result.now (told c.in_err-graph.field-0.0)
-    (record { same = c.self.view_is; own = c.setting-setting.ensures.own; version = c.setting-setting.ensures.version; packages_are = c.setting-setting.ensures.packages; statements_are = c.deref.ensures.value }) c.in_err-graph.ensures.err)
+    rw p.1 (λ declared naming one. inl (memory_told p.0 p.2))
+
+pub returns-in_err-mentioned-clause-layout : goal.returns-in_err-mentioned-clause-layout
+returns-in_err-mentioned-clause-layout g c =
+    let p = err_from_is_err_and c.from_residual.result c.from_residual.ensures.1 in
+    rw p.1 (error_is_right c.args.packages.entries (rules_by (g.R.Rules.passes c.args.rules.now) (g.R.Rules.named c.args.rules.now)) (document_of c.args.self) p.0 (λ naming one composition described. memory_told p.0 p.2))
+
+pub returns-clause-held : goal.returns-clause-held
+returns-clause-held g c =
+    IfOk-weaker c.resolve_with.result (λ r. HoldsHanded (by_key c.keep_mentioned-kept.result.entries) r.graph) (λ r. HoldsMentioned (mentions (document_of c.args.self)) r.graph)
+    (λ r handed. holds_mentioned (document_of c.args.self) c.args.packages.entries c.keep_mentioned-kept.result.entries r.graph (kept_for c.new.result c.args.self c.args.packages.entries c.keep_mentioned-kept.result.entries (mentions_in c.in_ok-mentioned.mentioned.entries) (c.new.ensures ∙ c.self.view_is) c.in_ok-mentioned.ensures.first c.in_ok-mentioned.ensures.matter c.keep_mentioned-kept.ensures) handed) c.resolve_with.ensures.handed
 
 pub returns-clause-graph : goal.returns-clause-graph
 returns-clause-graph g c =
-    subst (λ (p : Parts). Described c.args.packages.entries (rules_by (g.R.Rules.passes c.args.rules.now) (g.R.Rules.named c.args.rules.now)) (document_of c.args.self) p) (sym c.new.ensures.graph)
-    (lent_described c.setting-setting.result (rules_by (g.R.Rules.passes c.args.rules.now) (g.R.Rules.named c.args.rules.now)) c.args.packages.entries c.self.inside.document.now c.args.self c.deref.result.now c.in_ok-graph.graph
-    (record { same = c.self.view_is; own = c.setting-setting.ensures.own; version = c.setting-setting.ensures.version; packages_are = c.setting-setting.ensures.packages; statements_are = c.deref.ensures.value }) c.in_ok-graph.ensures.ok)
+    (c.resolve_with.ensures.graph.0, promised_graph (document_of c.args.self) c.args.packages.entries c.keep_mentioned-kept.result.entries (kept_for c.new.result c.args.self c.args.packages.entries c.keep_mentioned-kept.result.entries (mentions_in c.in_ok-mentioned.mentioned.entries) (c.new.ensures ∙ c.self.view_is) c.in_ok-mentioned.ensures.first c.in_ok-mentioned.ensures.matter c.keep_mentioned-kept.ensures) (rules_by (g.R.Rules.passes c.args.rules.now) (g.R.Rules.named c.args.rules.now)) c.resolve_with.ensures.graph.0 c.resolve_with.result c.resolve_with.ensures.graph.1)
 
-pub returns-in_err-graph-clause-layout : goal.returns-in_err-graph-clause-layout
-returns-in_err-graph-clause-layout g c =
-    let p = err_from_is_err_and c.from_residual.result c.from_residual.ensures.1 in
-    rw (p.1, p.2)
-    (error_is_right c.args.packages.entries (rules_by (g.R.Rules.passes c.args.rules.now) (g.R.Rules.named c.args.rules.now)) (document_of c.args.self) c.in_err-graph.field-0.0
-    (lent_only c.setting-setting.result (rules_by (g.R.Rules.passes c.args.rules.now) (g.R.Rules.named c.args.rules.now)) c.args.packages.entries c.self.inside.document.now c.args.self c.deref.result.now (told c.in_err-graph.field-0.0)
-    (record { same = c.self.view_is; own = c.setting-setting.ensures.own; version = c.setting-setting.ensures.version; packages_are = c.setting-setting.ensures.packages; statements_are = c.deref.ensures.value }) c.in_err-graph.ensures.err))
+pub returns-clause-only : goal.returns-clause-only
+returns-clause-only g c =
+    λ declared. promised_only (document_of c.args.self) c.args.packages.entries c.keep_mentioned-kept.result.entries (kept_for c.new.result c.args.self c.args.packages.entries c.keep_mentioned-kept.result.entries (mentions_in c.in_ok-mentioned.mentioned.entries) (c.new.ensures ∙ c.self.view_is) c.in_ok-mentioned.ensures.first c.in_ok-mentioned.ensures.matter c.keep_mentioned-kept.ensures) (rules_by (g.R.Rules.passes c.args.rules.now) (g.R.Rules.named c.args.rules.now)) declared c.resolve_with.result (c.resolve_with.ensures.only declared)
+
+pub returns-clause-first : goal.returns-clause-first
+returns-clause-first g c =
+    λ declared. promised_first (document_of c.args.self) c.args.packages.entries c.keep_mentioned-kept.result.entries (kept_for c.new.result c.args.self c.args.packages.entries c.keep_mentioned-kept.result.entries (mentions_in c.in_ok-mentioned.mentioned.entries) (c.new.ensures ∙ c.self.view_is) c.in_ok-mentioned.ensures.first c.in_ok-mentioned.ensures.matter c.keep_mentioned-kept.ensures) (rules_by (g.R.Rules.passes c.args.rules.now) (g.R.Rules.named c.args.rules.now)) declared c.resolve_with.result (c.resolve_with.ensures.first declared)
 
 pub returns-clause-layout : goal.returns-clause-layout
 returns-clause-layout g c =
-    graph_is_right c.args.packages.entries (rules_by (g.R.Rules.passes c.args.rules.now) (g.R.Rules.named c.args.rules.now)) (document_of c.args.self) c.new.result
-    (subst (λ (p : Parts). Described c.args.packages.entries (rules_by (g.R.Rules.passes c.args.rules.now) (g.R.Rules.named c.args.rules.now)) (document_of c.args.self) p) (sym c.new.ensures.graph)
-    (lent_described c.setting-setting.result (rules_by (g.R.Rules.passes c.args.rules.now) (g.R.Rules.named c.args.rules.now)) c.args.packages.entries c.self.inside.document.now c.args.self c.deref.result.now c.in_ok-graph.graph
-    (record { same = c.self.view_is; own = c.setting-setting.ensures.own; version = c.setting-setting.ensures.version; packages_are = c.setting-setting.ensures.packages; statements_are = c.deref.ensures.value }) c.in_ok-graph.ensures.ok))
+    result_is_right c.args.packages.entries (rules_by (g.R.Rules.passes c.args.rules.now) (g.R.Rules.named c.args.rules.now)) (document_of c.args.self) c.resolve_with.result c.resolve_with.ensures.graph.0
+    (promised_graph (document_of c.args.self) c.args.packages.entries c.keep_mentioned-kept.result.entries (kept_for c.new.result c.args.self c.args.packages.entries c.keep_mentioned-kept.result.entries (mentions_in c.in_ok-mentioned.mentioned.entries) (c.new.ensures ∙ c.self.view_is) c.in_ok-mentioned.ensures.first c.in_ok-mentioned.ensures.matter c.keep_mentioned-kept.ensures) (rules_by (g.R.Rules.passes c.args.rules.now) (g.R.Rules.named c.args.rules.now)) c.resolve_with.ensures.graph.0 c.resolve_with.result c.resolve_with.ensures.graph.1)
+    (λ declared. promised_only (document_of c.args.self) c.args.packages.entries c.keep_mentioned-kept.result.entries (kept_for c.new.result c.args.self c.args.packages.entries c.keep_mentioned-kept.result.entries (mentions_in c.in_ok-mentioned.mentioned.entries) (c.new.ensures ∙ c.self.view_is) c.in_ok-mentioned.ensures.first c.in_ok-mentioned.ensures.matter c.keep_mentioned-kept.ensures) (rules_by (g.R.Rules.passes c.args.rules.now) (g.R.Rules.named c.args.rules.now)) declared c.resolve_with.result (c.resolve_with.ensures.only declared))

@@ -1,0 +1,139 @@
+-- What is right with the packages that are mentioned is right with all that were handed.
+use Rattle.std.proofs.Common.{◌≡◌, ◌∙◌, ◌↔◌, ℕ, List, [], ◌∷◌, filter, Some, Result, Ok, Err, Bool, true, false, cond, inl, inr, refl, sym, ap, subst}
+use Rattle.std.specs.List.{AllByRecursion}
+use Rattle.wac_types.specs.Package.{PackageParts}
+use Rattle.wac_types.specs.Scope.{Named}
+use Rattle.wac_grammar.specs.Tree.{Document}
+use Rattle.wac_grammar.specs.Version.{version_text}
+use Rattle.wac_ast.specs.declared.document.Document.{Document as CodeDocument}
+use Rattle.wac_ast.specs.Statements.{document_of}
+use Rattle.wac_graph.proofs.Keys.{keys_same}
+use Rattle.wac_graph.specs.declared.package_key.PackageKey.{PackageKey}
+use Rattle.wac_graph.specs.Graph.{Parts}
+use Rattle.wac_graph.specs.Origin.{Naming}
+use Rattle.wac_graph.specs.Package.{HeldPackage, Key, key_of, same_key}
+use Rattle.wac_graph.specs.Packages.{Contents, Packages, contents_in, contents_of, handed, package_of}
+use Rattle.wac_resolution_errors.specs.declared.error.Error.{Error as CodeError}
+use Rattle.wac_resolution_errors.specs.Error.{Error}
+use Rattle.wac_resolution_rules.specs.Composition.{Composition}
+use Rattle.wac_resolution_rules.specs.Given.{Given, Rules}
+use Rattle.wac_resolution_rules.specs.Mentions.{IsMentioned, Mention, given_over, is_mentioned, kept, mentions}
+use Rattle.wac_resolution_rules.specs.ResolvedDocument.{Describes, FirstClause, FirstFailing, GraphClause, OnlyClause, given_to}
+use Rattle.wac_resolution_paths.specs.Expands.{HoldsHanded, IsHandedAs}
+use Rattle.wac_parser_packages.specs.Packages.{AreFirst, OnlyTheseMatter}
+use Rattle.wac_resolution.specs.Resolved.{HoldsMentioned, Promised, Resolved, by_key, returned}
+
+-- ---- what is kept
+
+pub by_key_kept : (ms : List Mention) (es : List (PackageKey × PackageParts)) → by_key (filter (λ e. is_mentioned ms (key_of e.0)) es) ≡ kept ms (by_key es)
+by_key_kept ms [] = refl
+by_key_kept ms (e ∷ es) = go (is_mentioned ms (key_of e.0)) (by_key_kept ms es)
+  where
+    go : (b : Bool) → by_key (filter (λ e. is_mentioned ms (key_of e.0)) es) ≡ kept ms (by_key es)
+        → by_key (cond b (e ∷ filter (λ e. is_mentioned ms (key_of e.0)) es) (filter (λ e. is_mentioned ms (key_of e.0)) es)) ≡ cond b ((key_of e.0, e.1) ∷ kept ms (by_key es)) (kept ms (by_key es))
+    go true same = ap (λ (l : List (Key × PackageParts)). (key_of e.0, e.1) ∷ l) same
+    go false same = same
+
+handed_kept : (naming : Naming) (ms : List Mention) (ps : List (Key × PackageParts)) → handed naming (kept ms ps) ≡ kept ms (handed naming ps)
+handed_kept naming ms [] = refl
+handed_kept naming ms (p ∷ ps) = go (is_mentioned ms p.0) (handed_kept naming ms ps)
+  where
+    go : (b : Bool) → handed naming (kept ms ps) ≡ kept ms (handed naming ps)
+        → handed naming (cond b (p ∷ kept ms ps) (kept ms ps)) ≡ cond b ((p.0, contents_of naming p.0 p.1) ∷ kept ms (handed naming ps)) (kept ms (handed naming ps))
+    go true same = ap (λ (l : Packages). (p.0, contents_of naming p.0 p.1) ∷ l) same
+    go false same = same
+
+-- a package that is found among those that are kept is mentioned
+found_mentioned : (ms : List Mention) (key : Key) (ps : Packages) (p : Contents) → package_of key (kept ms ps) ≡ Some p → IsMentioned ms key
+found_mentioned ms key [] p h = absurd (cc)
+found_mentioned ms key (e ∷ es) p h = go (is_mentioned ms e.0) (same_key key e.0) refl refl h (found_mentioned ms key es p)
+  where
+    go : (b same : Bool) → is_mentioned ms e.0 ≡ b → same_key key e.0 ≡ same → package_of key (cond b (e ∷ kept ms es) (kept ms es)) ≡ Some p
+        → (package_of key (kept ms es) ≡ Some p → IsMentioned ms key) → IsMentioned ms key
+    go false same m s found later = later found
+    go true true m s found later = ap (is_mentioned ms) (keys_same key e.0 s) ∙ m
+    go true false m s found later = later (sym (ap (λ (b : Bool). cond b (Some e.1) (package_of key (kept ms es))) s) ∙ found)
+
+-- ---- a document
+
+-- of the packages those are kept that are among mentions beside which nothing matters to the document
+pub record IsKept (doc : Document) (packages others : List (PackageKey × PackageParts)) : Type 0 where
+  pub these : List Mention
+  pub first : AreFirst (mentions doc) these
+  pub matter : OnlyTheseMatter doc these
+  pub are : by_key others ≡ kept these (by_key packages)
+
+-- what was kept for a document that is lent
+pub kept_for : (lent doc : CodeDocument) (packages others : List (PackageKey × PackageParts)) (these : List Mention) → lent ≡ doc → AreFirst (mentions (document_of lent)) these → OnlyTheseMatter (document_of lent) these
+    → by_key others ≡ kept these (by_key packages) → IsKept (document_of doc) packages others
+kept_for lent doc packages others these same first matter are = subst (λ (d : CodeDocument). IsKept (document_of d) packages others) same (record { these = these; first = first; matter = matter; are = are })
+
+-- any naming serves, since keys are no part of it
+some_naming : Naming
+some_naming origin = 0
+
+pub holds_mentioned : (doc : Document) (packages others : List (PackageKey × PackageParts)) (g : Parts) → IsKept doc packages others → HoldsHanded (by_key others) g → HoldsMentioned (mentions doc) g
+holds_mentioned doc packages others g k h = each g.packages (subst (λ (l : List (Key × PackageParts)). HoldsHanded l g) k.are h)
+  where
+    each : (held : List HeldPackage) → AllByRecursion (IsHandedAs (kept k.these (by_key packages)) g) held → AllByRecursion (λ (p : HeldPackage). IsMentioned (mentions doc) p.key) held
+    each [] all = tt
+    each (p ∷ held) all =
+        let contents : Contents = contents_in some_naming g p in
+        let found = subst (λ (ps : Packages). package_of p.key ps ≡ Some contents) (handed_kept some_naming k.these (by_key packages)) (all.0.contents some_naming) in
+        ((k.first.keys p.key).0 (found_mentioned k.these p.key (handed some_naming (by_key packages)) contents found), each held all.1)
+
+given_kept : (naming : Naming) (ms : List Mention) (ps : List (Key × PackageParts)) (rules : Rules) (doc : Document) → given_to naming (kept ms ps) rules doc ≡ given_over (given_to naming ps rules doc) (kept ms (handed naming ps))
+given_kept naming ms ps rules doc = λ i. record {
+  setting = record { naming = naming; own = doc.directive.package_name.name; version = version_text doc.directive.package_name.string; packages = handed_kept naming ms ps i };
+  rules = rules;
+}
+
+describes_with_all : (doc : Document) (these : List Mention) → OnlyTheseMatter doc these → (naming : Naming) (ps : List (Key × PackageParts)) (rules : Rules) (c : Composition)
+    → Describes (given_to naming (kept these ps) rules doc) doc c ↔ Describes (given_to naming ps rules doc) doc c
+describes_with_all doc these only naming ps rules c =
+    subst (λ (s : Given). Describes s doc c ↔ Describes (given_to naming ps rules doc) doc c) (sym (given_kept naming these ps rules doc)) (only.describes (given_to naming ps rules doc) (handed naming ps) c refl)
+
+fails_with_all : (doc : Document) (these : List Mention) → OnlyTheseMatter doc these → (naming : Naming) (ps : List (Key × PackageParts)) (rules : Rules) (e : Error)
+    → FirstFailing (given_to naming (kept these ps) rules doc) doc e ↔ FirstFailing (given_to naming ps rules doc) doc e
+fails_with_all doc these only naming ps rules e =
+    subst (λ (s : Given). FirstFailing s doc e ↔ FirstFailing (given_to naming ps rules doc) doc e) (sym (given_kept naming these ps rules doc)) (only.fails (given_to naming ps rules doc) (handed naming ps) e refl)
+
+-- ---- what is promised
+
+abbrev Clauses : Type 1
+Clauses = Given → Document → Result Composition Error → Type 0
+
+-- a clause that holds with these of the packages holds with all of them
+abbrev WithAll : Clauses → Document → Type 0
+WithAll Clause doc = (these : List Mention) → OnlyTheseMatter doc these → (naming : Naming) (ps : List (Key × PackageParts)) (rules : Rules) (r : Result Composition Error)
+    → Clause (given_to naming (kept these ps) rules doc) doc r → Clause (given_to naming ps rules doc) doc r
+
+graph_with_all : (doc : Document) → WithAll GraphClause doc
+graph_with_all doc these only naming ps rules (Ok c) h = (describes_with_all doc these only naming ps rules c).0 h
+graph_with_all doc these only naming ps rules (Err e) h = h
+
+only_with_all : (doc : Document) → WithAll OnlyClause doc
+only_with_all doc these only naming ps rules (Ok c) h = h
+only_with_all doc these only naming ps rules (Err e) h = λ c described. h c ((describes_with_all doc these only naming ps rules c).1 described)
+
+first_with_all : (doc : Document) → WithAll FirstClause doc
+first_with_all doc these only naming ps rules (Ok c) h = h
+first_with_all doc these only naming ps rules (Err e) (inl m) = inl m
+first_with_all doc these only naming ps rules (Err e) (inr f) = inr ((fails_with_all doc these only naming ps rules e).0 f)
+
+promised_with_all : (Clause : Clauses) (doc : Document) → WithAll Clause doc → (packages others : List (PackageKey × PackageParts)) → IsKept doc packages others → (rules : Rules) (declared : Named ℕ) (result : Result Resolved CodeError)
+    → Promised Clause others rules doc declared result → Promised Clause packages rules doc declared result
+promised_with_all Clause doc step packages others k rules declared result h = λ naming one.
+    step k.these k.matter naming (by_key packages) rules (returned naming declared result) (subst (λ (l : List (Key × PackageParts)). Clause (given_to naming l rules doc) doc (returned naming declared result)) k.are (h naming one))
+
+pub promised_graph : (doc : Document) (packages others : List (PackageKey × PackageParts)) → IsKept doc packages others → (rules : Rules) (declared : Named ℕ) (result : Result Resolved CodeError)
+    → Promised GraphClause others rules doc declared result → Promised GraphClause packages rules doc declared result
+promised_graph doc packages others k rules declared result h = promised_with_all GraphClause doc (graph_with_all doc) packages others k rules declared result h
+
+pub promised_only : (doc : Document) (packages others : List (PackageKey × PackageParts)) → IsKept doc packages others → (rules : Rules) (declared : Named ℕ) (result : Result Resolved CodeError)
+    → Promised OnlyClause others rules doc declared result → Promised OnlyClause packages rules doc declared result
+promised_only doc packages others k rules declared result h = promised_with_all OnlyClause doc (only_with_all doc) packages others k rules declared result h
+
+pub promised_first : (doc : Document) (packages others : List (PackageKey × PackageParts)) → IsKept doc packages others → (rules : Rules) (declared : Named ℕ) (result : Result Resolved CodeError)
+    → Promised FirstClause others rules doc declared result → Promised FirstClause packages rules doc declared result
+promised_first doc packages others k rules declared result h = promised_with_all FirstClause doc (first_with_all doc) packages others k rules declared result h

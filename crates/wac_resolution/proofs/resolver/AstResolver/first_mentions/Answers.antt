@@ -1,0 +1,10 @@
+use Rattle.std.proofs.Common.{IfOk, subst}
+use Rattle.wac_ast.specs.declared.document.Document.{Document}
+use Rattle.wac_ast.specs.Statements.{document_of}
+use Rattle.wac_parser_packages.specs.Noted.{mentions_in}
+use Rattle.wac_parser_packages.specs.Packages.{AreFirst}
+use Rattle.wac_resolution_rules.specs.Mentions.{mentions}
+use Rattle.wac_resolution.proofs.resolver.AstResolver.first_mentions.Goals as goal
+
+pub returns-clause-first : goal.returns-clause-first
+returns-clause-first c = subst (λ (d : Document). IfOk c.packages.result (λ m. AreFirst (mentions (document_of d)) (mentions_in m.entries))) c.self.view_is c.packages.ensures.first
