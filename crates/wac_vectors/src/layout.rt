@@ -15,7 +15,7 @@ fn printed(rt: &impl Abort, alloc: Global, source: &str, space: Option<&str>) ->
 }
 
 /// Texts, and what each is formatted to.
-const FORMATTED: [(&str, &str); 10] = [
+pub(crate) const FORMATTED: [(&str, &str); 10] = [
     ("package a:b;", "package a:b;\n\n"),
     (
         "package a:b targets c:d/e;",

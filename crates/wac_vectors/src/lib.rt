@@ -10,6 +10,8 @@ mod json_values;
 #[cfg(test)]
 mod layout;
 #[cfg(test)]
+mod memory;
+#[cfg(test)]
 mod optional;
 #[cfg(test)]
 mod packages;

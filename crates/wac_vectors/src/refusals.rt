@@ -6,10 +6,10 @@ use std::test::Fail;
 use wac_parser::{Document, Error};
 
 /// A text, what is reported of it, and where, in bytes.
-type Row = (&'static str, &'static str, usize, usize);
+pub(crate) type Row = (&'static str, &'static str, usize, usize);
 
 /// Texts that are rejected at a token.
-const AT_TOKENS: [Row; 13] = [
+pub(crate) const AT_TOKENS: [Row; 13] = [
     (
         "package a:b; record r { x:u32 }",
         "expected `}` or identifier, found package name",
@@ -113,7 +113,7 @@ const AT_THE_END: [Row; 3] = [
 ];
 
 /// Bodies without an item.
-const EMPTY: [Row; 4] = [
+pub(crate) const EMPTY: [Row; 4] = [
     (
         "package a:b; variant v {}",
         "variant must contain at least one case",
@@ -141,7 +141,7 @@ const EMPTY: [Row; 4] = [
 ];
 
 /// Versions that are none.
-const VERSIONS: [Row; 7] = [
+pub(crate) const VERSIONS: [Row; 7] = [
     (
         "package a:b@01.0.0;",
         "`01.0.0` is not a valid semantic version",
