@@ -1,31 +1,46 @@
 -- What is found among names that are bound.
 use Rattle.std.proofs.Common.{◌≡◌, ◌∙◌, ℕ, List, [], ◌∷◌, Option, Some, None, Bool, true, false, cond, refl, sym, ap, map, Bor}
 use Rattle.std.specs.Prelude.{option_map}
-use Rattle.std.specs.List.{find}
+use Rattle.std.specs.Map.{lookup}
 use Rattle.std.specs.Str.{bytes_eq}
-use Rattle.wac_types.specs.Scope.{Named, look_up}
+use Rattle.indexmap.specs.IndexMap.{insert_entry}
+use Rattle.wac_types.specs.Scope.{Named, look_up, with_named, IsFresh}
+use Rattle.wac_resolution_types.specs.Bindings.{by_text}
 
--- what is read of the first that has a name is what the name stands for, where each stands for what is read of it
-found_first : {X Y : Type 0} (read : X → Y) (name : List ℕ) (all : Named X) → option_map (λ e. read e.1) (find (λ e. bytes_eq name e.0) all) ≡ look_up name (map (λ e. (e.0, read e.1)) all)
-found_first read name [] = refl
-found_first {X} {Y} read name (d ∷ all) = go (bytes_eq name d.0) (found_first read name all)
+-- what a map has under a text is found by the text
+pub text_found : {X : Type 0} (name : List ℕ) (es : List (Bor (List ℕ) × X)) → lookup (λ k. bytes_eq name k.now) es ≡ look_up name (by_text es)
+text_found name [] = refl
+text_found {X} name (e ∷ es) = ap (cond (bytes_eq name e.0.now) (Some e.1)) (text_found name es)
+
+-- what is read of what a name stands for is what it stands for, where each stands for what is read of it
+read_found : {X Y : Type 0} (read : X → Y) (name : List ℕ) (all : Named X) → option_map read (look_up name all) ≡ look_up name (map (λ e. (e.0, read e.1)) all)
+read_found read name [] = refl
+read_found {X} {Y} read name (e ∷ all) = go (bytes_eq name e.0) (read_found read name all)
   where
-    go : (b : Bool) → option_map (λ (e : List ℕ × X). read e.1) (find (λ e. bytes_eq name e.0) all) ≡ look_up name (map (λ (e : List ℕ × X). (e.0, read e.1)) all)
-        → option_map (λ (e : List ℕ × X). read e.1) (cond b (Some d) (find (λ e. bytes_eq name e.0) all)) ≡ cond b (Some (read d.1)) (look_up name (map (λ (e : List ℕ × X). (e.0, read e.1)) all))
+    go : (b : Bool) → option_map read (look_up name all) ≡ look_up name (map (λ (d : List ℕ × X). (d.0, read d.1)) all)
+        → option_map read (cond b (Some e.1) (look_up name all)) ≡ cond b (Some (read e.1)) (look_up name (map (λ (d : List ℕ × X). (d.0, read d.1)) all))
     go true later = refl
     go false later = later
 
-found_some : {X Y : Type 0} (read : X → Y) (name : List ℕ) (all : Named X) (d : List ℕ × X) (y : Y) → find (λ e. bytes_eq name e.0) all ≡ Some d → y ≡ read d.1 → Some y ≡ look_up name (map (λ e. (e.0, read e.1)) all)
-found_some {X} read name all d y is same = ap Some same ∙ sym (ap (option_map (λ (e : List ℕ × X). read e.1)) is) ∙ found_first read name all
+pub read_some : {X Y : Type 0} (read : X → Y) (name : List ℕ) (all : Named X) (r : Option X) (x : X) → r ≡ look_up name all → r ≡ Some x → Some (read x) ≡ look_up name (map (λ e. (e.0, read e.1)) all)
+read_some read name all r x found is = ap (option_map read) (sym is ∙ found) ∙ read_found read name all
 
-found_none : {X Y : Type 0} (read : X → Y) (name : List ℕ) (all : Named X) → find (λ e. bytes_eq name e.0) all ≡ None → None ≡ look_up name (map (λ e. (e.0, read e.1)) all)
-found_none {X} read name all is = sym (ap (option_map (λ (e : List ℕ × X). read e.1)) is) ∙ found_first read name all
+pub read_none : {X Y : Type 0} (read : X → Y) (name : List ℕ) (all : Named X) (r : Option X) (o : Option Y) → r ≡ look_up name all → r ≡ None → o ≡ None → o ≡ look_up name (map (λ e. (e.0, read e.1)) all)
+read_none read name all r o found is same = same ∙ ap (option_map read) (sym is ∙ found) ∙ read_found read name all
 
--- the same of a reference to the first
-pub read_some : {X Y : Type 0} (read : X → Y) (name : List ℕ) (all : Named X) (r : Option (Bor (List ℕ × X))) (b : Bor (List ℕ × X)) (y : Y)
-    → option_map (λ e. e.now) r ≡ find (λ e. bytes_eq name e.0) all → r ≡ Some b → y ≡ read b.now.1 → Some y ≡ look_up name (map (λ e. (e.0, read e.1)) all)
-read_some {X} read name all r b y found is same = found_some read name all b.now y (sym found ∙ ap (option_map (λ (e : Bor (List ℕ × X)). e.now)) is) same
+abbrev same_text : Bor (List ℕ) → Bor (List ℕ) → Bool
+same_text a b = bytes_eq a.now b.now
 
-pub read_none : {X Y : Type 0} (read : X → Y) (name : List ℕ) (all : Named X) (r : Option (Bor (List ℕ × X))) (o : Option Y)
-    → option_map (λ e. e.now) r ≡ find (λ e. bytes_eq name e.0) all → r ≡ None → o ≡ None → o ≡ look_up name (map (λ e. (e.0, read e.1)) all)
-read_none {X} read name all r o found is same = same ∙ found_none read name all (sym found ∙ ap (option_map (λ (e : Bor (List ℕ × X)). e.now)) is)
+-- a new text goes last
+text_last : {X : Type 0} (k : Bor (List ℕ)) (x : X) (es : List (Bor (List ℕ) × X)) → IsFresh k.now (by_text es) → by_text (insert_entry same_text es k x) ≡ with_named (by_text es) k.now x
+text_last k x [] new = refl
+text_last {X} k x (e ∷ es) new = go (text_last k x es) (bytes_eq k.now e.0.now) new
+  where
+    go : (IsFresh k.now (by_text es) → by_text (insert_entry same_text es k x) ≡ with_named (by_text es) k.now x)
+        → (b : Bool) → cond b (Some e.1) (look_up k.now (by_text es)) ≡ None
+        → by_text (cond b ((e.0, x) ∷ es) (e ∷ insert_entry same_text es k x)) ≡ with_named (by_text (e ∷ es)) k.now x
+    go later true h = absurd (cc)
+    go later false h = ap (λ (l : Named X). (e.0.now, e.1) ∷ l) (later h)
+
+pub text_bound : {X : Type 0} (k : Bor (List ℕ)) (x : X) (es news : List (Bor (List ℕ) × X)) → news ≡ insert_entry same_text es k x → IsFresh k.now (by_text es) → by_text news ≡ with_named (by_text es) k.now x
+text_bound k x es news is new = ap by_text is ∙ text_last k x es new
