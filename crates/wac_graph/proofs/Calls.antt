@@ -13,7 +13,7 @@ use Rattle.wac_graph.proofs.Lists.{get_last, set_here, set_other, set_read, foun
 
 -- ---- the first that passes
 
-first_of : {X : Type 0} (p : X → Bool) (x : X) (xs : List X) → position p (x ∷ xs) ≡ cond (p x) (Some 0) (option_map suc (position p xs))
+pub first_of : {X : Type 0} (p : X → Bool) (x : X) (xs : List X) → position p (x ∷ xs) ≡ cond (p x) (Some 0) (option_map suc (position p xs))
 first_of p x xs = go (p x)
   where
     next : (a n : ℕ) → nat_lt (1 + a) (suc n) ≡ nat_lt a n
@@ -125,7 +125,7 @@ argument_nodes g node name value i other = go (slice_get g.nodes node)
     go None = refl
     go (Some n) = ap given_to (set_other g.nodes node i (record n { form = given_too n.form name value }) other)
 
-same_alias : (f : Form) (name : List ℕ) (value m : ℕ) (export : List ℕ) → is_alias_of m export (given_too f name value) ≡ is_alias_of m export f
+pub same_alias : (f : Form) (name : List ℕ) (value m : ℕ) (export : List ℕ) → is_alias_of m export (given_too f name value) ≡ is_alias_of m export f
 same_alias (import x) name value m export = refl
 same_alias definition name value m export = refl
 same_alias (alias y e) name value m export = refl

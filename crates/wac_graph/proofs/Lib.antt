@@ -9,6 +9,10 @@ pub mod Entries
 pub mod Contents
 pub mod Added
 pub mod Keys
+pub mod Keyed
+pub mod Indexed
+pub mod Changed
 pub mod Lists
+pub mod NamedNodes
 pub mod Keeping
 pub mod Stays

@@ -1,7 +1,7 @@
 -- Lists by number and by name, as one more element is appended, or one is put in another's place.
-use Rattle.std.proofs.Common.{Bor, ◌≡◌, ◌∙◌, ◌<◌, ◌≤◌, ◌+◌, ℕ, zero, suc, Option, Some, None, List, [], ◌∷◌, ◌++◌, length, refl, sym, ap, subst, arith, Bool, true, false, cond, ◌⊎◌, inl, inr, map}
+use Rattle.std.proofs.Common.{◌≡◌, ◌∙◌, ◌<◌, ◌≤◌, ◌+◌, ℕ, zero, suc, Option, Some, None, List, [], ◌∷◌, ◌++◌, length, refl, sym, ap, subst, arith, Bool, true, false, cond, ◌⊎◌, inl, inr, map}
 use Rattle.std.specs.Prelude.{option_map, slice_get, slice_set, nat_lt, not}
-use Rattle.std.specs.List.{AllByRecursion, find, position, position_or_len}
+use Rattle.std.specs.List.{AllByRecursion, position, position_or_len}
 use Rattle.std.specs.Str.{bytes_eq}
 use Rattle.std.proofs.lemmas.Bool.{lt-ltb}
 use Rattle.std.proofs.lemmas.Slice.Eq.{bytes_eq-Decides}
@@ -86,22 +86,6 @@ differ_more {X} {Y} f xs y h new i j a b at_i at_j same = elim (get_more xs y a 
 
 same_name : (a b : List ℕ) → a ≡ b → bytes_eq a b ≡ true
 same_name a b e = (bytes_eq-Decides a b).1 e
-
--- what a name stands for is that of the first that has the name
-found_first : {X : Type 0} (name : List ℕ) (all : Named X) → option_map (λ e. e.1) (find (λ e. bytes_eq name e.0) all) ≡ look_up name all
-found_first name [] = refl
-found_first {X} name (d ∷ all) = go (bytes_eq name d.0) (found_first name all)
-  where
-    go : (b : Bool) → option_map (λ (e : List ℕ × X). e.1) (find (λ e. bytes_eq name e.0) all) ≡ look_up name all → option_map (λ (e : List ℕ × X). e.1) (cond b (Some d) (find (λ e. bytes_eq name e.0) all)) ≡ cond b (Some d.1) (look_up name all)
-    go true later = refl
-    go false later = later
-
-pub found_by : {X : Type 0} (name : List ℕ) (all : Named X) (r : Option (Bor (List ℕ × X))) → option_map (λ e. e.now) r ≡ find (λ e. bytes_eq name e.0) all → option_map (λ e. e.now.1) r ≡ look_up name all
-found_by {X} name all r is = by r ∙ ap (option_map (λ (e : List ℕ × X). e.1)) is ∙ found_first name all
-  where
-    by : (o : Option (Bor (List ℕ × X))) → option_map (λ (e : Bor (List ℕ × X)). e.now.1) o ≡ option_map (λ (e : List ℕ × X). e.1) (option_map (λ (e : Bor (List ℕ × X)). e.now) o)
-    by None = refl
-    by (Some e) = refl
 
 -- a name that is fresh is none of the names
 pub fresh_other : {X : Type 0} (name : List ℕ) (all : Named X) (i : ℕ) (e : List ℕ × X) → IsFresh name all → slice_get all i ≡ Some e → e.0 ≡ name → ⊥

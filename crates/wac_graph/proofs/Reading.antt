@@ -71,16 +71,9 @@ package_within packages None s is h = tt
 package_within packages (Some x) None is h = absurd (cc)
 package_within packages (Some x) (Some y) is h = (let same : x.0 ≡ y = cc in omega arith)
 
--- a node that has a parameter is there, and is an instance
-pub parameter_there : (g : Parts) (node : ℕ) (name : List ℕ) → IsSome (parameter_kind g node name) → node < length g.nodes
-parameter_there g node name is = go (slice_get g.nodes node) refl is
-  where
-    go : (o : Option Node) → slice_get g.nodes node ≡ o → IsSome (option_and_then (λ p. import_kind g p name) (option_and_then (λ (n : Node). package_in n.form) o)) → node < length g.nodes
-    go None at h = absurd (cc)
-    go (Some n) at h = slice_get_within g.nodes node n at
-
-pub with_package : (g : Parts) (node : ℕ) (n : Node) (name : List ℕ) → slice_get g.nodes node ≡ Some n → IsSome (parameter_kind g node name) → IsSome (package_in n.form)
-with_package g node n name at is = go (package_in n.form) (subst (λ (o : Option ℕ). IsSome (option_and_then (λ p. import_kind g p name) o)) (package_is g node n at) is)
+-- a node that has a parameter is an instance
+pub parameter_instance : (g : Parts) (node : ℕ) (name : List ℕ) → IsSome (parameter_kind g node name) → IsSome (package_of g node)
+parameter_instance g node name is = go (package_of g node) is
   where
     go : (o : Option ℕ) → IsSome (option_and_then (λ p. import_kind g p name) o) → IsSome o
     go None h = absurd (cc)

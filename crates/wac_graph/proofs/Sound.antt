@@ -20,7 +20,7 @@ use Rattle.wac_graph_copies.specs.Moved.{moved_items}
 use Rattle.wac_graph_copies.specs.Copied.{IsGrown, IsGrownBy}
 use Rattle.wac_graph.specs.Package.{Key, HeldPackage, IsHeld, moved_package, package_keyed, same_key}
 use Rattle.wac_graph.specs.Node.{Node, Form, import, definition, alias, instantiation, import_in, source_in, package_in, arguments_in, is_alias_of}
-use Rattle.wac_graph.specs.Graph.{Parts, empty, plain_node, with_entry, with_import, with_definition, with_export, with_alias, with_instantiation, with_name, with_argument, changed, given_too, export_kind, import_kind, alias_in}
+use Rattle.wac_graph.specs.Graph.{Parts, empty, plain_node, with_entry, with_import, with_definition, with_export, with_alias, with_instantiation, with_name, with_argument, changed, given_too, export_kind, import_kind, parameter_kind, arguments_of, alias_in}
 use Rattle.wac_graph.specs.Kept.{Keeps}
 use Rattle.wac_graph.specs.Sound.{EachAt, NamesNodes, IsPlaced, IsSoundNode, AliasedOnce, imports_from, IsSound}
 use Rattle.wac_graph.proofs.Exported.{export_kind_names, exporting_there}
@@ -333,23 +333,26 @@ same_source definition name value = refl
 same_source (alias node export) name value = refl
 same_source (instantiation q arguments) name value = refl
 
-changed_is : (g : Parts) (i : ℕ) (n : Node) (f : Node → Node) → slice_get g.nodes i ≡ Some n → record g { nodes = slice_set g.nodes i (f n) } ≡ changed g i f
-changed_is g i n f is = sym (ap (λ (o : Option Node). record g { nodes = elim o [ None ↦ g.nodes | Some x ↦ slice_set g.nodes i (f x) ] }) is)
+-- a node of this number is changed, if there is one
+sound_changed_in : (g : Parts) (i : ℕ) (f : Node → Node) → ((n : Node) → slice_get g.nodes i ≡ Some n → IsSound (record g { nodes = slice_set g.nodes i (f n) })) → IsSound g → IsSound (changed g i f)
+sound_changed_in g i f each h = go (slice_get g.nodes i) refl
+  where
+    go : (o : Option Node) → slice_get g.nodes i ≡ o → IsSound (record g { nodes = elim o [ None ↦ g.nodes | Some n ↦ slice_set g.nodes i (f n) ] })
+    go None is = h
+    go (Some n) is = each n is
 
--- a node that was changed to this
-pub changed_to : (g : Parts) (i : ℕ) (n m : Node) (f : Node → Node) → slice_get g.nodes i ≡ Some n → m ≡ f n → record g { nodes = slice_set g.nodes i m } ≡ changed g i f
-changed_to g i n m f is to = ap (λ (x : Node). record g { nodes = slice_set g.nodes i x }) to ∙ changed_is g i n f is
+pub sound_given : (g : Parts) (i : ℕ) (name : List ℕ) (value : ℕ) → IsSome (parameter_kind g i name) → IsFresh name (arguments_of g i) → value < i → IsSound g → IsSound (with_argument g i name value)
+sound_given g i name value asked new lt h =
+    sound_changed_in g i (λ n. record n { form = given_too n.form name value })
+    (λ n is. (
+      let imported : IsSome (option_and_then (λ p. import_kind g p name) (package_in n.form)) = subst (λ (o : Option Node). IsSome (option_and_then (λ p. import_kind g p name) (option_and_then (λ (m : Node). package_in m.form) o))) is asked in
+      let fresh : IsFresh name (arguments_in n.form) = subst (λ (o : Option Node). IsFresh name (elim o [ None ↦ [] | Some m ↦ arguments_in m.form ])) is new in
+      sound_changed g i n (record n { form = given_too n.form name value }) is refl (same_import n.form name value) (same_source n.form name value) (argument_placed g i n.kind n.form name value imported fresh lt) h
+    ))
+    h
 
-pub sound_argument : (g : Parts) (i : ℕ) (n : Node) (name : List ℕ) (value : ℕ) → slice_get g.nodes i ≡ Some n → IsSome (option_and_then (λ p. import_kind g p name) (package_in n.form)) → IsFresh name (arguments_in n.form) → value < i
-    → IsSound g → IsSound (with_argument g i name value)
-sound_argument g i n name value is imported new lt h =
-    subst IsSound (changed_is g i n (λ x. record x { form = given_too x.form name value }) is)
-    (sound_changed g i n (record n { form = given_too n.form name value }) is refl (same_import n.form name value) (same_source n.form name value) (argument_placed g i n.kind n.form name value imported new lt) h)
-
-pub sound_name : (g : Parts) (i : ℕ) (n : Node) (name : List ℕ) → slice_get g.nodes i ≡ Some n → IsSound g → IsSound (with_name g i name)
-sound_name g i n name is h =
-    subst IsSound (changed_is g i n (λ x. record x { name = Some name }) is)
-    (sound_changed g i n (record n { name = Some name }) is refl refl refl (λ p. p) h)
+pub sound_named : (g : Parts) (i : ℕ) (name : List ℕ) → IsSound g → IsSound (with_name g i name)
+sound_named g i name h = sound_changed_in g i (λ n. record n { name = Some name }) (λ n is. sound_changed g i n (record n { name = Some name }) is refl refl refl (λ p. p) h) h
 
 items_named : (old es new : List Entry) (ds : List (List ℕ × ItemKind)) → IsGrownBy old es new → ItemsNamed es ds → ItemsNamed new (moved_items (length old) ds)
 items_named old es new [] g h = tt

@@ -1,7 +1,10 @@
 pub mod Numbers
 pub mod Node
+pub mod NodeNames
 pub mod Package
+pub mod PackageCopies
 pub mod Graph
+pub mod HeldNodes
 pub mod Sound
 pub mod Kept
 pub mod Aliased

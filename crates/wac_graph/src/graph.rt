@@ -22,11 +22,12 @@ ghost use Rattle.wac_graph.specs.Package.{key_of, package_keyed, IsHeld};
 ghost use Rattle.wac_graph.specs.Readings.{held_of};
 ghost use Rattle.wac_graph.specs.Sound.{IsSound, NamesNodes, name_in};
 
+use crate::held_nodes::HeldNodes;
 use crate::ids::{Nodes, Packages};
 use crate::named::{Names, NodeNames};
 use crate::node::{Node, NodeId, NodeKind, PackageId};
 use crate::package_key::PackageKey;
-use crate::packages::{GraphPackage, HeldPackage};
+use crate::packages::{GraphPackage, HeldPackages, PackageCopy};
 use std::alloc::{AllocError, Global};
 use std::marker::Model;
 use wac_graph_copies::copy_types;
@@ -47,8 +48,8 @@ use wac_types::{
 pub struct CompositionGraph {
     alloc: Global,
     types: Types,
-    packages: Vec<HeldPackage>,
-    nodes: Vec<Node>,
+    packages: HeldPackages,
+    nodes: HeldNodes,
     imports: NodeNames,
     exports: NodeNames,
 }
@@ -63,21 +64,9 @@ impl Model for CompositionGraph {
 
     ghost coded = { Prim.hlevel (codes, entry.the_row.coded) };
 
-    ghost view = { λ g. record { types = g.types; packages = g.packages.items; nodes = g.nodes.items; imports = g.imports; exports = g.exports } };
+    ghost view = { λ g. record { types = g.types; packages = g.packages; nodes = g.nodes.items; imports = g.imports; exports = g.exports } };
 
-    ghost invariant = { λ g. IsSound (record { types = g.types; packages = g.packages.items; nodes = g.nodes.items; imports = g.imports; exports = g.exports }) };
-}
-
-fn first_alias(nodes: &[Node], node: NodeId, export: &str) -> Option<usize>
-    ensures { result ≡ alias_in nodes.now node.0 export.now }
-{
-    nodes.iter().position(|n| n.is_alias(node, export))
-}
-
-fn first_keyed(packages: &[HeldPackage], key: &PackageKey) -> Option<usize>
-    ensures { result ≡ package_keyed (key_of key.now) packages.now }
-{
-    packages.iter().position(|p| p.has_key(key))
+    ghost invariant = { λ g. IsSound (record { types = g.types; packages = g.packages; nodes = g.nodes.items; imports = g.imports; exports = g.exports }) };
 }
 
 impl CompositionGraph {
@@ -88,8 +77,8 @@ impl CompositionGraph {
         CompositionGraph {
             alloc,
             types: Types::new(alloc),
-            packages: Vec::new(alloc),
-            nodes: Vec::new(alloc),
+            packages: HeldPackages::new(alloc),
+            nodes: HeldNodes::new(alloc),
             imports: NodeNames::new(alloc),
             exports: NodeNames::new(alloc),
         }
@@ -206,10 +195,9 @@ impl CompositionGraph {
         let id = PackageId(self.packages.len());
         let number = self.types.entries().len();
         self.types.reserve(package.types().entries().len())?;
-        self.packages.reserve(1)?;
-        let held = HeldPackage::moved(self.alloc, number, key, package)?;
+        let copy = PackageCopy::moved(self.alloc, number, package)?;
         copy_types(self.alloc, &mut self.types, package.types())?;
-        self.packages.push(held)?;
+        self.packages.push(self.alloc, key, copy)?;
         Ok(id)
     }
 
@@ -223,9 +211,10 @@ impl CompositionGraph {
     {
         let id = NodeId(self.nodes.len());
         let text = String::from_str(self.alloc, name)?;
-        self.nodes.reserve(1)?;
+        self.nodes.reserve()?;
         self.imports.push(self.alloc, name, id)?;
-        self.nodes.push(Node::import(self.alloc, text, kind))?;
+        self.nodes
+            .push(self.alloc, Node::import(self.alloc, text, kind));
         Ok(id)
     }
 
@@ -238,9 +227,10 @@ impl CompositionGraph {
         ensures err { OnErr result (self.new ≡ self.old) }
     {
         let id = NodeId(self.nodes.len());
-        self.nodes.reserve(1)?;
+        self.nodes.reserve()?;
         self.exports.push(self.alloc, name, id)?;
-        self.nodes.push(Node::definition(self.alloc, kind))?;
+        self.nodes
+            .push(self.alloc, Node::definition(self.alloc, kind));
         Ok(id)
     }
 
@@ -268,8 +258,7 @@ impl CompositionGraph {
     fn alias_of(&self, node: NodeId, export: &str) -> Option<NodeId>
         ensures { option_map (λ n. n.0) result ≡ alias_in self.now.nodes node.0 export.now }
     {
-        let place = first_alias(&self.nodes, node, export)?;
-        Some(NodeId(place))
+        self.nodes.alias_of(node, export)
     }
 
     /// The node that is the alias of an export of an instance: the one that is there, else a new one.
@@ -294,8 +283,7 @@ impl CompositionGraph {
     {
         let kind = self.export_kind(node, export).unwrap();
         let id = NodeId(self.nodes.len());
-        let name = String::from_str(self.alloc, export)?;
-        self.nodes.push(Node::alias(self.alloc, node, name, kind))?;
+        self.nodes.push_alias(self.alloc, node, export, kind)?;
         Ok(id)
     }
 
@@ -306,10 +294,13 @@ impl CompositionGraph {
         ensures ok { OnOk result (IfSome (slice_get self.old.packages «package».0) (λ p. self.new ≡ with_instantiation self.old «package».0 (ItemKind.Instance p.instance))) }
         ensures err { OnErr result (self.new ≡ self.old) }
     {
-        let instance = self.packages[package.0].package().instance;
+        let instance = self.packages.get(package.0).instance;
         let id = NodeId(self.nodes.len());
-        self.nodes
-            .push(Node::instantiation(self.alloc, package, instance))?;
+        self.nodes.reserve()?;
+        self.nodes.push(
+            self.alloc,
+            Node::instantiation(self.alloc, package, instance),
+        );
         Ok(id)
     }
 
@@ -326,7 +317,8 @@ impl CompositionGraph {
         ensures ok { OnOk result (self.new ≡ with_argument self.old node.0 import.now value.0) }
         ensures err { OnErr result (self.new ≡ self.old) }
     {
-        self.nodes[node.0].set_argument(self.alloc, import, value)?;
+        self.nodes
+            .set_argument(self.alloc, node.0, import, value)?;
         Ok(())
     }
 
@@ -338,7 +330,7 @@ impl CompositionGraph {
         ensures err { OnErr result (self.new ≡ self.old) }
     {
         let text = String::from_str(self.alloc, name)?;
-        self.nodes[node.0].set_name(text);
+        self.nodes.set_name(node.0, text);
         Ok(())
     }
 
@@ -358,7 +350,7 @@ impl CompositionGraph {
         ensures node { option_map (λ n. sort_in n.form) (slice_get self.now.nodes id.0) ≡ Some (sort_of result.now) }
         ensures there { HasPackage (length self.now.packages) (sort_of result.now) }
     {
-        self.nodes[id.0].node()
+        self.nodes.at(id.0).node()
     }
 
     /// The package of which a node is an instance.
@@ -367,7 +359,7 @@ impl CompositionGraph {
         ensures of { option_map (λ p. p.0) result ≡ package_of self.now id.0 }
         ensures there { IfSome result (λ p. p.0 < length self.now.packages) }
     {
-        self.nodes[id.0].package()
+        self.nodes.at(id.0).package()
     }
 
     /// The kind of the item that a node stands for.
@@ -376,7 +368,7 @@ impl CompositionGraph {
         ensures kind { option_map (λ n. n.kind) (slice_get self.now.nodes id.0) ≡ Some result }
         ensures named { NamesEntry self.now.types result }
     {
-        self.nodes[id.0].kind()
+        self.nodes.at(id.0).kind()
     }
 
     /// The name that [`set_name`](Self::set_name) gave.
@@ -384,7 +376,7 @@ impl CompositionGraph {
         requires { id.0 < length self.now.nodes }
         ensures { option_map (λ n. n.name) (slice_get self.now.nodes id.0) ≡ Some (option_map (λ s. s.now) result) }
     {
-        self.nodes[id.0].name()
+        self.nodes.at(id.0).name()
     }
 
     /// The name under which a node is imported.
@@ -392,7 +384,7 @@ impl CompositionGraph {
         requires { id.0 < length self.now.nodes }
         ensures { option_map (λ n. import_in n.form) (slice_get self.now.nodes id.0) ≡ Some (option_map (λ s. s.now) result) }
     {
-        self.nodes[id.0].import_name()
+        self.nodes.at(id.0).import_name()
     }
 
     /// The instance and the name of its export, of a node that is an alias.
@@ -401,7 +393,7 @@ impl CompositionGraph {
         ensures source { option_map (λ n. source_in n.form) (slice_get self.now.nodes id.0) ≡ Some (option_map (λ s. (s.0.0, s.1.now)) result) }
         ensures earlier { IfSome result (λ s. s.0.0 < id.0) }
     {
-        self.nodes[id.0].source()
+        self.nodes.at(id.0).source()
     }
 
     /// The arguments of an instantiation, in the order in which they were given. Other nodes have none.
@@ -410,7 +402,7 @@ impl CompositionGraph {
         ensures arguments { result ≡ arguments_of self.now id.0 }
         ensures earlier { NamesNodes id.0 result }
     {
-        self.nodes[id.0].arguments().iter()
+        self.nodes.at(id.0).arguments().iter()
     }
 
     /// The node that was given for an import of an instantiation.
@@ -419,7 +411,7 @@ impl CompositionGraph {
         ensures node { option_map (λ n. n.0) result ≡ look_up import.now (arguments_of self.now id.0) }
         ensures earlier { IfSome result (λ n. n.0 < id.0) }
     {
-        self.nodes[id.0].arguments().get(import)
+        self.nodes.at(id.0).arguments().get(import)
     }
 
     /// The imported nodes by name, in the order in which they were added.
@@ -468,7 +460,7 @@ impl CompositionGraph {
         ensures found { option_map (λ p. p.0) result ≡ package_keyed (key_of key.now) self.now.packages }
         ensures there { IfSome result (λ p. p.0 < length self.now.packages) }
     {
-        let place = first_keyed(&self.packages, key)?;
+        let place = self.packages.find(key)?;
         Some(PackageId(place))
     }
 
@@ -478,7 +470,7 @@ impl CompositionGraph {
         ensures found { slice_get self.now.packages id.0 ≡ Some (held_of result) }
         ensures named { IsHeld self.now.types (held_of result) }
     {
-        self.packages[id.0].package()
+        self.packages.get(id.0)
     }
 
     /// What a package imports under a name.
@@ -487,7 +479,7 @@ impl CompositionGraph {
         ensures kind { result ≡ kind_imported self.now id.0 name.now }
         ensures named { IfSome result (NamesEntry self.now.types) }
     {
-        self.types.import(self.packages[id.0].package().world, name)
+        self.types.import(self.packages.get(id.0).world, name)
     }
 
     /// The name of a package's import at a place. It is copied, so it can be handed to calls that change the graph.
@@ -495,7 +487,7 @@ impl CompositionGraph {
         requires { id.0 < length self.now.packages }
         ensures { IfOk result (λ n. option_map string_bytes n ≡ option_map name_in (option_and_then (λ p. slice_get (world_imports self.now.types p.world.0) at) (slice_get self.now.packages id.0))) }
     {
-        let world = self.packages[id.0].package().world;
+        let world = self.packages.get(id.0).world;
         self.types.import_name(self.alloc, world, at)
     }
 

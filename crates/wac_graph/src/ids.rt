@@ -2,14 +2,15 @@
 ghost use Rattle.std.specs.Prelude.{◌≡◌};
 ghost use Rattle.wac_graph.specs.Numbers.{numbers};
 
-use crate::node::{Node, NodeId, PackageId};
-use crate::packages::HeldPackage;
+use crate::held_nodes::HeldNodes;
+use crate::node::{NodeId, PackageId};
+use crate::packages::HeldPackages;
 use std::marker::Model;
 
 /// Goes over the nodes of a graph in order. A contract sees the list of the numbers that are left.
 #[derive(Drop)]
 pub struct Nodes<'a> {
-    nodes: &'a [Node],
+    nodes: &'a HeldNodes,
     at: usize,
 }
 
@@ -19,14 +20,14 @@ impl<'a> Model for Nodes<'a> {
 
     ghost Value = { List ℕ };
 
-    ghost view = { λ n. numbers n.at (length n.nodes.now - n.at) };
+    ghost view = { λ n. numbers n.at (length n.nodes.now.items - n.at) };
 }
 
 impl<'a> Nodes<'a> {
     ghost use Rattle.std.specs.Prelude.{length};
 
-    pub(crate) fn new(nodes: &'a [Node]) -> Self
-        ensures { result ≡ numbers 0 (length nodes.now) }
+    pub(crate) fn new(nodes: &'a HeldNodes) -> Self
+        ensures { result ≡ numbers 0 (length nodes.now.items) }
     {
         Nodes { nodes, at: 0 }
     }
@@ -55,7 +56,7 @@ impl<'a> Iterator for Nodes<'a> {
 /// Goes over the packages of a graph in order. A contract sees the list of the numbers that are left.
 #[derive(Drop)]
 pub struct Packages<'a> {
-    packages: &'a [HeldPackage],
+    packages: &'a HeldPackages,
     at: usize,
 }
 
@@ -71,7 +72,7 @@ impl<'a> Model for Packages<'a> {
 impl<'a> Packages<'a> {
     ghost use Rattle.std.specs.Prelude.{length};
 
-    pub(crate) fn new(packages: &'a [HeldPackage]) -> Self
+    pub(crate) fn new(packages: &'a HeldPackages) -> Self
         ensures { result ≡ numbers 0 (length packages.now) }
     {
         Packages { packages, at: 0 }

@@ -16,6 +16,7 @@
 
 mod equal;
 mod graph;
+mod held_nodes;
 mod ids;
 mod laws;
 mod named;

@@ -1,52 +1,19 @@
 //! Nodes by name, in order.
 ghost use Rattle.std.specs.Prelude.{◌≡◌, [], ◌∷◌, ◌++◌, OnOk, OnErr, IfOk, option_map, length};
 ghost use Rattle.std.specs.Iterator.{YieldsFirstBy, item_count};
-ghost use Rattle.std.specs.Str.{bytes_eq};
-ghost use Rattle.wac_types.specs.Scope.{look_up, with_named};
+ghost use Rattle.wac_types.specs.Scope.{look_up, with_named, IsFresh};
 
 use crate::node::NodeId;
+use indexmap::IndexMap;
+use indexmap::map::Iter;
 use std::alloc::{AllocError, Global};
 use std::marker::Model;
-
-/// A node that has a name.
-#[derive(Drop)]
-struct Named {
-    name: String,
-    node: NodeId,
-}
-
-impl Model for Named {
-    ghost use Rattle.std.specs.Prelude.{List, ℕ, string_bytes};
-
-    ghost Value = { List ℕ × ℕ };
-
-    ghost view = { λ n. (string_bytes n.name, n.node.0) };
-}
-
-impl Named {
-    fn has(&self, name: &str) -> bool
-        ensures { result ≡ bytes_eq name.now self.now.0 }
-    {
-        name == self.name.as_str()
-    }
-
-    fn node(&self) -> NodeId
-        ensures { result.0 ≡ self.now.1 }
-    {
-        self.node
-    }
-
-    fn pair(&self) -> (&str, NodeId)
-        ensures { (result.0.now, result.1.0) ≡ self.now }
-    {
-        (self.name.as_str(), self.node)
-    }
-}
+use wac_types::names::{find, push};
 
 /// Nodes by name. A contract sees the list of names and numbers.
 #[derive(Drop)]
 pub struct NodeNames {
-    items: Vec<Named>,
+    nodes: IndexMap<String, NodeId>,
 }
 
 impl Model for NodeNames {
@@ -54,7 +21,10 @@ impl Model for NodeNames {
 
     ghost Value = { List (List ℕ × ℕ) };
 
-    ghost view = { λ n. n.items.items };
+    ghost use Rattle.wac_types.specs.Names.{by_name};
+    ghost use Rattle.wac_graph.specs.NodeNames.{numbers_of};
+
+    ghost view = { λ n. numbers_of (by_name n.nodes.entries) };
 }
 
 impl NodeNames {
@@ -62,37 +32,38 @@ impl NodeNames {
         ensures { result ≡ [] }
     {
         NodeNames {
-            items: Vec::new(alloc),
+            nodes: IndexMap::new(alloc),
         }
     }
 
     pub fn get(&self, name: &str) -> Option<NodeId>
         ensures { option_map (λ n. n.0) result ≡ look_up name.now self.now }
     {
-        let there = self.items.iter().find(|n| n.has(name))?;
-        Some(there.node())
+        find(&self.nodes, name)
     }
 
+    /// Adds a node under a new name, after the others.
     pub fn push(&mut self, alloc: Global, name: &str, node: NodeId) -> Result<(), AllocError>
+        requires { IsFresh name.now self.old }
         ensures ok { OnOk result (self.new ≡ with_named self.old name.now node.0) }
         ensures err { OnErr result (self.new ≡ self.old) }
     {
-        let name = String::from_str(alloc, name)?;
-        self.items.push(Named { name, node })?;
-        Ok(())
+        push(alloc, &mut self.nodes, name, node)
     }
 
     pub fn iter(&self) -> Names<'_>
         ensures { result ≡ self.now }
     {
-        Names { rest: &self.items }
+        Names {
+            rest: self.nodes.iter(),
+        }
     }
 }
 
 /// Goes over names and nodes in order. A contract sees the list of those that are left.
 #[derive(Drop)]
 pub struct Names<'a> {
-    rest: &'a [Named],
+    rest: Iter<'a, String, NodeId>,
 }
 
 impl<'a> Model for Names<'a> {
@@ -100,7 +71,10 @@ impl<'a> Model for Names<'a> {
 
     ghost Value = { List (List ℕ × ℕ) };
 
-    ghost view = { λ n. n.rest.now };
+    ghost use Rattle.wac_types.specs.Names.{by_name};
+    ghost use Rattle.wac_graph.specs.NodeNames.{numbers_of};
+
+    ghost view = { λ n. numbers_of (by_name n.rest) };
 }
 
 impl<'a> Iterator for Names<'a> {
@@ -113,8 +87,7 @@ impl<'a> Iterator for Names<'a> {
     ghost remaining = { item_count (λ s. s) };
 
     fn next(&mut self) -> Option<(&'a str, NodeId)> {
-        let (first, others) = self.rest.split_first()?;
-        self.rest = others;
-        Some(first.pair())
+        let (name, node) = self.rest.next()?;
+        Some((name.as_str(), *node))
     }
 }

@@ -1,7 +1,8 @@
 //! The nodes of a composition.
 ghost use Rattle.std.specs.Prelude.{◌≡◌, [], OnOk, OnErr, option_map, IsSome, Some, None, string_bytes};
+ghost use Rattle.wac_types.specs.Scope.{IsFresh};
 ghost use Rattle.wac_graph.specs.Graph.{given_too, plain_node};
-ghost use Rattle.wac_graph.specs.Node.{import, definition, alias, instantiation, sort_in, sort_of, source_in, import_in, package_in, arguments_in, is_alias_of};
+ghost use Rattle.wac_graph.specs.Node.{import, definition, alias, instantiation, sort_in, sort_of, source_in, import_in, package_in, arguments_in};
 
 use crate::named::NodeNames;
 use std::alloc::{AllocError, Global};
@@ -152,16 +153,6 @@ impl Node {
         &self.arguments
     }
 
-    /// Whether it is the alias of that export of that node.
-    pub fn is_alias(&self, node: NodeId, export: &str) -> bool
-        ensures { result ≡ is_alias_of node.0 export.now self.now.form }
-    {
-        match self.source() {
-            None => false,
-            Some((source, name)) => source.0 == node.0 && name == export,
-        }
-    }
-
     pub fn set_name(&mut self, name: String)
         ensures { self.new ≡ record self.old { name = Some (string_bytes name) } }
     {
@@ -175,7 +166,8 @@ impl Node {
         import: &str,
         value: NodeId,
     ) -> Result<(), AllocError>
-        requires { IsSome (package_in self.old.form) }
+        requires instance { IsSome (package_in self.old.form) }
+        requires open { IsFresh import.now (arguments_in self.old.form) }
         ensures ok { OnOk result (self.new ≡ record self.old { form = given_too self.old.form import.now value.0 }) }
         ensures err { OnErr result (self.new ≡ self.old) }
     {

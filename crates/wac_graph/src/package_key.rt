@@ -1,6 +1,6 @@
 //! What names a package.
-ghost use Rattle.std.specs.Prelude.{◌≡◌, IfOk, option_map, string_bytes};
-ghost use Rattle.wac_graph.specs.Package.{key_of, same_key, same_version};
+ghost use Rattle.std.specs.Prelude.{◌≡◌, IfOk};
+ghost use Rattle.wac_graph.specs.Package.{key_of};
 
 use std::alloc::{AllocError, Global};
 use wac_graph_copies::copy_text;
@@ -14,24 +14,7 @@ pub struct PackageKey {
     pub version: Option<String>,
 }
 
-fn has_version(first: &Option<String>, second: &Option<String>) -> bool
-    ensures { result ≡ same_version (option_map string_bytes first.now) (option_map string_bytes second.now) }
-{
-    match (first, second) {
-        (None, None) => true,
-        (Some(first), Some(second)) => first.as_str() == second.as_str(),
-        _ => false,
-    }
-}
-
 impl PackageKey {
-    /// Whether both name one package.
-    pub(crate) fn is(&self, other: &PackageKey) -> bool
-        ensures { result ≡ same_key (key_of self.now) (key_of other.now) }
-    {
-        self.name.as_str() == other.name.as_str() && has_version(&self.version, &other.version)
-    }
-
     pub(crate) fn copy(&self, alloc: Global) -> Result<PackageKey, AllocError>
         ensures { IfOk result (λ k. key_of k ≡ key_of self.now) }
     {

@@ -1,7 +1,8 @@
 //! Packages that were added to a graph.
-ghost use Rattle.std.specs.Prelude.{◌≡◌, ◌+◌, ◌<◌, ◌^◌, IfOk, length};
+ghost use Rattle.std.specs.Prelude.{◌≡◌, ◌+◌, ◌<◌, ◌^◌, [], ◌∷◌, ◌++◌, None, Some, OnOk, OnErr, IfOk, length, slice_get};
 ghost use Rattle.wac_types.specs.Names.{by_name};
-ghost use Rattle.wac_graph.specs.Package.{key_of, same_key, moved_package};
+ghost use Rattle.wac_graph.specs.Package.{Key, key_of, package_keyed, moved_package};
+ghost use Rattle.wac_graph.specs.PackageCopies.{held_under};
 ghost use Rattle.wac_graph.specs.Readings.{held_of};
 
 use crate::package_key::PackageKey;
@@ -11,24 +12,14 @@ use std::marker::Model;
 use wac_graph_copies::copy_items;
 use wac_types::{InterfaceId, ItemKind, Package, WorldId};
 
-/// A package in the graph's numbers. A contract sees its parts.
+/// What was copied of a package, in the graph's numbers.
 #[derive(Drop)]
-pub struct HeldPackage {
-    key: PackageKey,
-    first: usize,
-    size: usize,
-    world: WorldId,
-    instance: InterfaceId,
-    definitions: IndexMap<String, ItemKind>,
-}
-
-impl Model for HeldPackage {
-    ghost use Rattle.wac_types.specs.Names.{by_name};
-    ghost use Rattle.wac_graph.specs.Package.{HeldPackage as Held, key_of};
-
-    ghost Value = { Held };
-
-    ghost view = { λ h. record { key = key_of h.key; first = h.first; size = h.size; world = h.world; instance = h.instance; definitions = by_name h.definitions.entries } };
+pub struct PackageCopy {
+    pub first: usize,
+    pub size: usize,
+    pub world: WorldId,
+    pub instance: InterfaceId,
+    pub definitions: IndexMap<String, ItemKind>,
 }
 
 /// What a graph holds of a package. The numbers are those of the graph's table.
@@ -46,21 +37,14 @@ pub struct GraphPackage<'a> {
     pub definitions: &'a IndexMap<String, ItemKind>,
 }
 
-impl HeldPackage {
+impl PackageCopy {
     /// The package with its numbers moved by `n`.
-    pub(crate) fn moved(
-        alloc: Global,
-        n: usize,
-        key: &PackageKey,
-        from: &Package,
-    ) -> Result<Self, AllocError>
+    pub(crate) fn moved(alloc: Global, n: usize, from: &Package) -> Result<Self, AllocError>
         requires { n + length from.now.types < 2 ^ 64 }
-        ensures { IfOk result (λ h. h ≡ moved_package n (key_of key.now) from.now) }
+        ensures { IfOk result (λ c. (key : Key) → held_under key c ≡ moved_package n key from.now) }
     {
-        let key = key.copy(alloc)?;
         let definitions = copy_items(alloc, n, from.definitions())?;
-        Ok(HeldPackage {
-            key,
+        Ok(PackageCopy {
             first: n,
             size: from.types().entries().len(),
             world: WorldId(n + from.world().0),
@@ -69,22 +53,83 @@ impl HeldPackage {
         })
     }
 
-    pub(crate) fn has_key(&self, key: &PackageKey) -> bool
-        ensures { result ≡ same_key (key_of key.now) self.now.key }
-    {
-        key.is(&self.key)
-    }
-
-    pub(crate) fn package(&self) -> GraphPackage<'_>
-        ensures { held_of result ≡ self.now }
+    fn under<'a>(&'a self, key: &'a PackageKey) -> GraphPackage<'a>
+        ensures { held_of result ≡ held_under (key_of key.now) self.now }
     {
         GraphPackage {
-            key: &self.key,
+            key,
             first: self.first,
             size: self.size,
             world: self.world,
             instance: self.instance,
             definitions: &self.definitions,
         }
+    }
+}
+
+/// Packages by key. A contract sees the list of them, in the order in which they were added.
+#[derive(Drop)]
+pub struct HeldPackages {
+    copies: IndexMap<PackageKey, PackageCopy>,
+}
+
+impl Model for HeldPackages {
+    ghost use Rattle.std.specs.Prelude.{List};
+    ghost use Rattle.wac_graph.specs.Package.{HeldPackage};
+
+    ghost Value = { List HeldPackage };
+
+    ghost use Rattle.wac_graph.specs.PackageCopies.{held_in};
+
+    ghost view = { λ p. held_in p.copies.entries };
+}
+
+impl HeldPackages {
+    pub(crate) fn new(alloc: Global) -> Self
+        ensures { result ≡ [] }
+    {
+        HeldPackages {
+            copies: IndexMap::new(alloc),
+        }
+    }
+
+    pub(crate) fn len(&self) -> usize
+        ensures { result ≡ length self.now }
+    {
+        self.copies.len()
+    }
+
+    /// The number of the package of a key.
+    pub(crate) fn find(&self, key: &PackageKey) -> Option<usize>
+        ensures { result ≡ package_keyed (key_of key.now) self.now }
+    {
+        self.copies.get_index_of(key)
+    }
+
+    /// The package of a number.
+    pub(crate) fn get(&self, number: usize) -> GraphPackage<'_>
+        requires { number < length self.now }
+        ensures { slice_get self.now number ≡ Some (held_of result) }
+    {
+        let Some((key, copy)) = self.copies.get_index(number) else {
+            unreachable!()
+        };
+        copy.under(key)
+    }
+
+    /// Adds a package under a new key, after the others. The key is copied.
+    pub(crate) fn push(
+        &mut self,
+        alloc: Global,
+        key: &PackageKey,
+        copy: PackageCopy,
+    ) -> Result<(), AllocError>
+        requires { package_keyed (key_of key.now) self.old ≡ None }
+        ensures ok { OnOk result (self.new ≡ self.old ++ held_under (key_of key.now) copy ∷ []) }
+        ensures err { OnErr result (self.new ≡ self.old) }
+    {
+        let key = key.copy(alloc)?;
+        self.copies.insert(key, copy)?;
+        Ok(())
     }
 }

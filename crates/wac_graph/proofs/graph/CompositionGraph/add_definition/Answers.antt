@@ -6,6 +6,6 @@ use Rattle.wac_graph.proofs.graph.CompositionGraph.add_definition.Goals as goal
 
 pub invariant_of-self-2 : goal.invariant_of-self-2
 invariant_of-self-2 c =
-    let after : Parts = record { types = c.self.inside.types; packages = c.self.inside.packages.items; nodes = c.push-2.new.self.items; imports = c.self.inside.imports; exports = c.push.new.self } in
+    let after : Parts = record { types = c.self.inside.types; packages = c.self.inside.packages; nodes = c.push-2.new.self.items; imports = c.self.inside.imports; exports = c.push.new.self } in
     let is : after ≡ with_definition c.args.self.now c.args.name.now c.args.kind = search rules in
     subst IsSound (sym is) (sound_definition c.args.self.now c.args.name.now c.args.kind c.requires.new c.requires.kind (subst IsSound c.self.view_is c.self.invariant))

@@ -1,6 +1,5 @@
 use Rattle.std.proofs.Common.{◌≡◌, ◌∙◌, ◌<◌, Some, length, sym, ap, subst}
 use Rattle.std.specs.Prelude.{slice_get}
-use Rattle.wac_types.proofs.Rows.{stands}
 use Rattle.wac_graph.specs.Graph.{Parts, arguments_of}
 use Rattle.wac_graph.specs.Sound.{IsSoundNode, NamesNodes}
 use Rattle.wac_graph.proofs.Reading.{arguments_earlier, arguments_are}
@@ -8,14 +7,14 @@ use Rattle.wac_graph.proofs.graph.CompositionGraph.arguments.Goals as goal
 
 pub returns-clause-arguments : goal.returns-clause-arguments
 returns-clause-arguments c =
-    let before : Parts = record { types = c.self.inside.types; packages = c.self.inside.packages.items; nodes = c.self.inside.nodes.items; imports = c.self.inside.imports; exports = c.self.inside.exports } in
-    let at : slice_get before.nodes c.args.id.0 ≡ Some c.index.result.now = stands before.nodes c.args.id.0 c.index.result.now (subst (λ (g : Parts). c.args.id.0 < length g.nodes) (sym c.self.view_is) c.requires) c.index.ensures in
-    let node : IsSoundNode before c.args.id.0 c.index.result.now = c.self.invariant.nodes c.args.id.0 c.index.result.now at in
-    c.iter.ensures ∙ c.arguments.ensures ∙ sym (arguments_are before c.args.id.0 c.index.result.now at) ∙ ap (λ (g : Parts). arguments_of g c.args.id.0) c.self.view_is
+    let before : Parts = record { types = c.self.inside.types; packages = c.self.inside.packages; nodes = c.self.inside.nodes.items; imports = c.self.inside.imports; exports = c.self.inside.exports } in
+    let at : slice_get before.nodes c.args.id.0 ≡ Some c.at.result.now = c.at.ensures in
+    let node : IsSoundNode before c.args.id.0 c.at.result.now = c.self.invariant.nodes c.args.id.0 c.at.result.now at in
+    c.iter.ensures ∙ c.arguments.ensures ∙ sym (arguments_are before c.args.id.0 c.at.result.now at) ∙ ap (λ (g : Parts). arguments_of g c.args.id.0) c.self.view_is
 
 pub returns-clause-earlier : goal.returns-clause-earlier
 returns-clause-earlier c =
-    let before : Parts = record { types = c.self.inside.types; packages = c.self.inside.packages.items; nodes = c.self.inside.nodes.items; imports = c.self.inside.imports; exports = c.self.inside.exports } in
-    let at : slice_get before.nodes c.args.id.0 ≡ Some c.index.result.now = stands before.nodes c.args.id.0 c.index.result.now (subst (λ (g : Parts). c.args.id.0 < length g.nodes) (sym c.self.view_is) c.requires) c.index.ensures in
-    let node : IsSoundNode before c.args.id.0 c.index.result.now = c.self.invariant.nodes c.args.id.0 c.index.result.now at in
-    subst (NamesNodes c.args.id.0) (sym (c.iter.ensures ∙ c.arguments.ensures)) (arguments_earlier before c.args.id.0 c.index.result.now node)
+    let before : Parts = record { types = c.self.inside.types; packages = c.self.inside.packages; nodes = c.self.inside.nodes.items; imports = c.self.inside.imports; exports = c.self.inside.exports } in
+    let at : slice_get before.nodes c.args.id.0 ≡ Some c.at.result.now = c.at.ensures in
+    let node : IsSoundNode before c.args.id.0 c.at.result.now = c.self.invariant.nodes c.args.id.0 c.at.result.now at in
+    subst (NamesNodes c.args.id.0) (sym (c.iter.ensures ∙ c.arguments.ensures)) (arguments_earlier before c.args.id.0 c.at.result.now node)

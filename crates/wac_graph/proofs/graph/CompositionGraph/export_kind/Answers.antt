@@ -6,7 +6,6 @@ use Rattle.wac_types.specs.Scope.{look_up}
 use Rattle.wac_types.specs.Table.{Names}
 use Rattle.wac_types.proofs.Found.{instance_exports_named, found_named}
 use Rattle.wac_types.proofs.Tables.{each_entry_named}
-use Rattle.wac_types.proofs.Rows.{stands}
 use Rattle.wac_graph.specs.Node.{Node}
 use Rattle.wac_graph.specs.Graph.{Parts, export_kind}
 use Rattle.wac_graph.proofs.Exported.{each_named, no_exports, exported_is}
@@ -14,7 +13,7 @@ use Rattle.wac_graph.proofs.graph.CompositionGraph.export_kind.Goals as goal
 
 pub returns-in-Instance-clause-named : goal.returns-in-Instance-clause-named
 returns-in-Instance-clause-named c =
-    let before : Parts = record { types = c.self.inside.types; packages = c.self.inside.packages.items; nodes = c.self.inside.nodes.items; imports = c.self.inside.imports; exports = c.self.inside.exports } in
+    let before : Parts = record { types = c.self.inside.types; packages = c.self.inside.packages; nodes = c.self.inside.nodes.items; imports = c.self.inside.imports; exports = c.self.inside.exports } in
     let exports = instance_exports before.types (kinds.Instance c.in-Instance.id) in
     subst (λ (g : Parts). IfSome c.export.result (Names g.types)) c.self.view_is
     (each_named before.types c.export.result (look_up c.args.export.now exports) c.export.ensures
@@ -22,9 +21,7 @@ returns-in-Instance-clause-named c =
 
 pub returns-in_default : goal.returns-in_default
 returns-in_default c =
-    let before : Parts = record { types = c.self.inside.types; packages = c.self.inside.packages.items; nodes = c.self.inside.nodes.items; imports = c.self.inside.imports; exports = c.self.inside.exports } in
-    let looked = c.in_ok-get.ensures.lookup in
-    let at : slice_get before.nodes c.args.node.0 ≡ Some c.in_ok-get.field-0.now
-    = subst (λ (l : List Node). slice_get l c.args.node.0 ≡ Some c.in_ok-get.field-0.now) c.deref.ensures.value (stands c.deref.result.now c.args.node.0 c.in_ok-get.field-0.now looked.3.0 looked.1) in
+    let before : Parts = record { types = c.self.inside.types; packages = c.self.inside.packages; nodes = c.self.inside.nodes.items; imports = c.self.inside.imports; exports = c.self.inside.exports } in
+    let at : slice_get before.nodes c.args.node.0 ≡ Some c.in_ok-get.field-0.now = sym c.in_ok-get.ensures in
     let none : None ≡ export_kind before c.args.node.0 c.args.export.now = sym (exported_is before c.args.node.0 c.in_ok-get.field-0.now c.args.export.now at ∙ ap (look_up c.args.export.now) (no_exports before.types c.in_ok-get.field-0.now.kind (λ id is. c.in_default.not-Instance id (c.kind.ensures ∙ is)))) in
     record { kind = subst (λ (g : Parts). None ≡ export_kind g c.args.node.0 c.args.export.now) c.self.view_is none; named = tt }

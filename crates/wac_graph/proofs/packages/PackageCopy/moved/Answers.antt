@@ -3,7 +3,7 @@ use Rattle.wac_types.specs.declared.kind.WorldId.{WorldId}
 use Rattle.wac_types.specs.declared.kind.InterfaceId.{InterfaceId}
 use Rattle.wac_graph_copies.specs.Moved.{ItemsFit}
 use Rattle.wac_graph_copies.proofs.Fitting.{items_fit}
-use Rattle.wac_graph.proofs.packages.HeldPackage.moved.Goals as goal
+use Rattle.wac_graph.proofs.packages.PackageCopy.moved.Goals as goal
 
 pub copy_items-requires : goal.copy_items-requires
 copy_items-requires c = subst (ItemsFit c.args.n) (sym c.definitions.ensures.definitions) (items_fit c.args.n c.args.from.now.types c.args.from.now.definitions c.definitions.ensures.named c.requires)
