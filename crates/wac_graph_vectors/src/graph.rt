@@ -250,24 +250,64 @@ fn make_filled(alloc: Global) -> Result<Filled, PackageError> {
     })
 }
 
-/// In a run in which one request for memory is refused, whatever made it is done again. Where it was `add_package`,
-/// the graph holds what it held.
+/// What a graph holds as text, read a second time where memory was refused.
+fn shown_again(alloc: Global, graph: &CompositionGraph) -> Result<String, AllocError> {
+    match shown(alloc, graph) {
+        Ok(text) => Ok(text),
+        Err(_) => shown(alloc, graph),
+    }
+}
+
+/// Takes a step, a second time where memory was refused and the graph holds what it held; else it gives no number.
+fn make_again(
+    alloc: Global,
+    all: &mut Filled,
+    step: Step<'_>,
+) -> Result<Option<usize>, AllocError> {
+    match make(alloc, &mut all.graph, &all.package, step) {
+        Ok(number) => Ok(number),
+        Err(_) => {
+            let left = shown(alloc, &all.graph)?;
+            if left.as_str() != all.held.as_str() {
+                return Ok(None);
+            }
+            make(alloc, &mut all.graph, &all.package, step)
+        }
+    }
+}
+
+/// Calls that add to each list of a composed graph.
+const INSERTED: Steps = &[
+    (Step::Import("c"), Some(8)),
+    (Step::Define("v"), Some(9)),
+    (Step::Export(1, "z"), Some(1)),
+    (Step::Instantiate(1), Some(10)),
+    (Step::Give(10, "log", 0), Some(10)),
+    (Step::Alias(10, "run"), Some(11)),
+    (Step::Name(10, "m"), Some(10)),
+    (Step::Add("2.0.0"), Some(2)),
+];
+
+/// Takes the steps, up to one that gives another number than is written beside it; whether there is none.
+fn insert_all(alloc: Global, all: &mut Filled) -> Result<bool, AllocError> {
+    for (step, number) in INSERTED {
+        if make_again(alloc, all, *step)? != *number {
+            return Ok(false);
+        }
+        all.held = shown_again(alloc, &all.graph)?;
+    }
+    Ok(true)
+}
+
+/// In a run in which one request for memory is refused, whatever made it is done again. Where it was a call that adds
+/// to a graph, the graph holds what it held.
 #[test]
-fn adds_a_package_after_a_refusal(rt: HostRuntime) -> Result<(), Fail> {
+fn adds_after_a_refusal(rt: HostRuntime) -> Result<(), Fail> {
     let mut all = match make_filled(rt.alloc()) {
         Ok(all) => all,
         Err(_) => make_filled(rt.alloc())?,
     };
-    let step = Step::Add("2.0.0");
-    match make(rt.alloc(), &mut all.graph, &all.package, step) {
-        Ok(number) => assert_eq!(rt; number, Some(2)),
-        Err(_) => {
-            let held = shown(rt.alloc(), &all.graph)?;
-            assert_eq!(rt; held.as_str(), all.held.as_str());
-            let number = make(rt.alloc(), &mut all.graph, &all.package, step)?;
-            assert_eq!(rt; number, Some(2));
-        }
-    }
+    assert!(rt; insert_all(rt.alloc(), &mut all)?);
     assert_eq!(rt; same_worlds(&all.graph, 0, 2), Some(false));
     Ok(())
 }
