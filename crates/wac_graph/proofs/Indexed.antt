@@ -15,18 +15,7 @@ use Rattle.wac_graph.proofs.Calls.{first_of, position_more, position_set}
 use Rattle.wac_graph.proofs.Keys.{itself}
 use Rattle.wac_graph.proofs.Lists.{set_here, set_other, set_length, found_last, found_other}
 
-pub nothing_indexed : AreIndexed [] []
-nothing_indexed = record { each = refl; found = λ node export. refl }
-
 -- ---- aliases of a node
-
--- what the aliases of a node have under an export
-pub alias_found : (ns : List Node) (all : List (Named ℕ)) (node : ℕ) (export : List ℕ) (own : Named ℕ) → slice_get all node ≡ Some own → AreIndexed ns all → look_up export own ≡ alias_in ns node export
-alias_found ns all node export own is h = sym (ap (λ (o : Option (Named ℕ)). look_up export (unwrap_or o [])) is) ∙ h.found node export
-
--- a node that is not there has no alias
-pub no_alias_found : (ns : List Node) (all : List (Named ℕ)) (node : ℕ) (export : List ℕ) → slice_get all node ≡ None → AreIndexed ns all → None ≡ alias_in ns node export
-no_alias_found ns all node export is h = sym (ap (λ (o : Option (Named ℕ)). look_up export (unwrap_or o [])) is) ∙ h.found node export
 
 no_more : (all : List (Named ℕ)) (node : ℕ) → aliases_at (all ++ [] ∷ []) node ≡ aliases_at all node
 no_more [] zero = refl

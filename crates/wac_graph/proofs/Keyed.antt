@@ -7,7 +7,6 @@ use Rattle.std.specs.Map.{keys_of}
 use Rattle.std.specs.Option.{option_eq}
 use Rattle.std.specs.Str.{bytes_eq}
 use Rattle.std.specs.String.{string_eq}
-use Rattle.std.proofs.lemmas.Option.{slice_get-map}
 use Rattle.indexmap.specs.IndexMap.{insert_entry}
 use Rattle.wac_graph.specs.Package.{HeldPackage, key_of, same_key, same_version, package_keyed}
 use Rattle.wac_graph.specs.PackageCopies.{held_under, held_in}
@@ -40,10 +39,6 @@ place_or_end key (e ∷ es) = (λ i. cond (not (key_eq key e.0 i)) (1 + place_or
 -- the place of a key among the keys is that of its package
 pub keyed_place : (key : PackageKey) (es : List (PackageKey × PackageCopy)) → position ((keys.eq-value).it key) (keys_of es) ≡ package_keyed (key_of key) (held_in es)
 keyed_place key es = (λ i. cond (nat_lt (place_or_end key es i) (held_length es i)) (Some (place_or_end key es i)) None)
-
--- the package of a number
-pub held_at : (es : List (PackageKey × PackageCopy)) (i : ℕ) → slice_get (held_in es) i ≡ option_map (λ e. held_under (key_of e.0) e.1) (slice_get es i)
-held_at es i = slice_get-map (λ (e : PackageKey × PackageCopy). held_under (key_of e.0) e.1) es i
 
 -- a package of a new key goes last
 pub keyed_last : (key : PackageKey) (copy : PackageCopy) (es : List (PackageKey × PackageCopy)) → package_keyed (key_of key) (held_in es) ≡ None
