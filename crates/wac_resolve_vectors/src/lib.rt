@@ -14,6 +14,8 @@ mod large;
 #[cfg(test)]
 mod memory;
 #[cfg(test)]
+mod names;
+#[cfg(test)]
 mod packages;
 #[cfg(test)]
 mod readings;
