@@ -1,9 +1,9 @@
 -- Aliases are found as nodes are added and changed.
-use Rattle.std.proofs.Common.{◌≡◌, ◌∙◌, ◌<◌, ◌+◌, ℕ, zero, suc, Option, Some, None, List, [], ◌∷◌, ◌++◌, length, refl, sym, ap, subst, arith, Bool, true, false, cond, ◌&&◌, ◌⊎◌, inl, inr}
+use Rattle.std.proofs.Common.{◌≡◌, ◌∙◌, ◌+◌, ℕ, zero, suc, Option, Some, None, List, [], ◌∷◌, ◌++◌, length, refl, sym, ap, subst, Bool, true, false, cond, ◌&&◌, ◌⊎◌, inl, inr}
 use Rattle.std.specs.Prelude.{slice_get, slice_set, option_map, unwrap_or, nat_eq}
 use Rattle.std.specs.List.{position}
 use Rattle.std.specs.Str.{bytes_eq}
-use Rattle.std.proofs.lemmas.Bool.Decides.{nat_tests, Decides-eqb}
+use Rattle.std.proofs.lemmas.Bool.Decides.{Decides-eqb}
 use Rattle.std.proofs.lemmas.Slice.Eq.{bytes_eq-Decides}
 use Rattle.std.proofs.lemmas.List.{length-append}
 use Rattle.wac_types.specs.declared.kind.ItemKind.{ItemKind}
@@ -118,16 +118,16 @@ module _ (ns : List Node) (all : List (Named ℕ)) (node : ℕ) (export : List �
   found_own : (e : List ℕ) → look_up e more ≡ alias_in (ns ++ new ∷ []) node e
   found_own e = elim (texts export e) [
     | inl same ↦ subst (λ (x : List ℕ). look_up x more ≡ alias_in (ns ++ new ∷ []) node x) same
-      (found_last export own (length ns) no_alias_yet ∙ sym (first_last (λ (x : Node). is_alias_of node export x.form) ns new none (itself node export)))
+        (found_last export own (length ns) no_alias_yet ∙ sym (first_last (λ (x : Node). is_alias_of node export x.form) ns new none (itself node export)))
     | inr differ ↦ found_other e export own (length ns) (text_differs export e differ) ∙ ap (look_up e) (sym mine) ∙ h.found node e
-      ∙ sym (position_more (λ (x : Node). is_alias_of node e x.form) ns new (second_fails (nat_eq node node) (bytes_eq export e) differ))
+        ∙ sym (position_more (λ (x : Node). is_alias_of node e x.form) ns new (second_fails (nat_eq node node) (bytes_eq export e) differ))
   ]
 
   found_each : (m : ℕ) (e : List ℕ) → look_up e (aliases_at (slice_set all node more) m) ≡ alias_in (ns ++ new ∷ []) m e
   found_each m e = elim (numbers node m) [
     | inl same ↦ subst (λ (x : ℕ). look_up e (aliases_at (slice_set all node more) x) ≡ alias_in (ns ++ new ∷ []) x e) same (ap (look_up e) (changed_aliases all node own more is) ∙ found_own e)
     | inr differ ↦ ap (look_up e) (other_aliases all node m more (number_differs node m differ)) ∙ h.found m e
-      ∙ sym (position_more (λ (x : Node). is_alias_of m e x.form) ns new (first_fails (nat_eq node m) (bytes_eq export e) differ))
+        ∙ sym (position_more (λ (x : Node). is_alias_of m e x.form) ns new (first_fails (nat_eq node m) (bytes_eq export e) differ))
   ]
 
   pub alias_indexed : AreIndexed (ns ++ new ∷ []) (slice_set all node more ++ [] ∷ [])

@@ -1,5 +1,5 @@
 -- What is read of a graph is there.
-use Rattle.std.proofs.Common.{◌≡◌, ◌<◌, ℕ, Option, Some, None, List, [], length, refl, sym, ap, subst, arith, rules, Bor}
+use Rattle.std.proofs.Common.{◌≡◌, ◌<◌, ℕ, Option, Some, None, List, [], length, sym, ap, arith, rules, Bor}
 use Rattle.std.specs.Prelude.{slice_get, option_map, option_and_then, IfSome, IsSome}
 use Rattle.std.proofs.lemmas.Option.{slice_get_within}
 use Rattle.wac_types.specs.Scope.{Named, look_up}

@@ -345,9 +345,9 @@ pub sound_given : (g : Parts) (i : ℕ) (name : List ℕ) (value : ℕ) → IsSo
 sound_given g i name value asked new lt h =
     sound_changed_in g i (λ n. record n { form = given_too n.form name value })
     (λ n is. (
-      let imported : IsSome (option_and_then (λ p. import_kind g p name) (package_in n.form)) = subst (λ (o : Option Node). IsSome (option_and_then (λ p. import_kind g p name) (option_and_then (λ (m : Node). package_in m.form) o))) is asked in
-      let fresh : IsFresh name (arguments_in n.form) = subst (λ (o : Option Node). IsFresh name (elim o [ None ↦ [] | Some m ↦ arguments_in m.form ])) is new in
-      sound_changed g i n (record n { form = given_too n.form name value }) is refl (same_import n.form name value) (same_source n.form name value) (argument_placed g i n.kind n.form name value imported fresh lt) h
+    let imported : IsSome (option_and_then (λ p. import_kind g p name) (package_in n.form)) = subst (λ (o : Option Node). IsSome (option_and_then (λ p. import_kind g p name) (option_and_then (λ (m : Node). package_in m.form) o))) is asked in
+    let fresh : IsFresh name (arguments_in n.form) = subst (λ (o : Option Node). IsFresh name (elim o [ None ↦ [] | Some m ↦ arguments_in m.form ])) is new in
+    sound_changed g i n (record n { form = given_too n.form name value }) is refl (same_import n.form name value) (same_source n.form name value) (argument_placed g i n.kind n.form name value imported fresh lt) h
     ))
     h
 

@@ -317,8 +317,7 @@ impl CompositionGraph {
         ensures ok { OnOk result (self.new ≡ with_argument self.old node.0 import.now value.0) }
         ensures err { OnErr result (self.new ≡ self.old) }
     {
-        self.nodes
-            .set_argument(self.alloc, node.0, import, value)?;
+        self.nodes.set_argument(self.alloc, node.0, import, value)?;
         Ok(())
     }
 

@@ -1,4 +1,4 @@
-use Rattle.std.proofs.Common.{◌≡◌, ◌∙◌, ℕ, List, [], ◌∷◌, ◌++◌, sym, ap, subst}
+use Rattle.std.proofs.Common.{◌∙◌, ℕ, List, [], ◌∷◌, ◌++◌, sym, ap, subst}
 use Rattle.wac_types.specs.Scope.{Named}
 use Rattle.wac_graph.specs.Node.{Node}
 use Rattle.wac_graph.specs.HeldNodes.{AreIndexed}

@@ -14,9 +14,9 @@ pub returns-clause-ok : goal.returns-clause-ok
 returns-clause-ok c =
     on_ok_weaker c.push.result
     (λ (is : by_name c.push.new.all.entries ≡ with_named (by_name c.self.inside.nodes.entries) c.args.name.now c.args.node).
-      ap (λ (l : Named NodeId). numbers_of l) is
-      ∙ one_more_number (by_name c.self.inside.nodes.entries) c.args.name.now c.args.node
-      ∙ ap (λ (l : Named ℕ). with_named l c.args.name.now c.args.node.0) c.self.view_is)
+    ap (λ (l : Named NodeId). numbers_of l) is
+    ∙ one_more_number (by_name c.self.inside.nodes.entries) c.args.name.now c.args.node
+    ∙ ap (λ (l : Named ℕ). with_named l c.args.name.now c.args.node.0) c.self.view_is)
     c.push.ensures.ok
 
 pub returns-clause-err : goal.returns-clause-err
