@@ -123,16 +123,25 @@ fn compose(alloc: Global, graph: &mut CompositionGraph) -> Result<bool, PackageE
     Ok(take_all(alloc, graph, &package)?)
 }
 
+/// Whether what is read of a composed graph is what was put in.
+fn is_composed(alloc: Global, graph: &CompositionGraph) -> Result<bool, AllocError> {
+    let text = shown(alloc, graph)?;
+    Ok(text.as_str() == COMPOSED)
+}
+
+/// Whether a world means what it does itself, and each copy has resources of its own.
+fn has_copies(graph: &CompositionGraph) -> bool {
+    same_worlds(graph, 0, 0) == Some(true)
+        && same_worlds(graph, 0, 1) == Some(false)
+        && same_worlds(graph, 0, 2).is_none()
+}
+
 #[test]
 fn composes(rt: HostRuntime) -> Result<(), Fail> {
     let mut graph = CompositionGraph::new(rt.alloc());
     assert!(rt; compose(rt.alloc(), &mut graph)?);
-    let text = shown(rt.alloc(), &graph)?;
-    assert_eq!(rt; text.as_str(), COMPOSED);
-    // A world means what it does itself, and each copy has resources of its own.
-    assert_eq!(rt; same_worlds(&graph, 0, 0), Some(true));
-    assert_eq!(rt; same_worlds(&graph, 0, 1), Some(false));
-    assert_eq!(rt; same_worlds(&graph, 0, 2), None);
+    assert!(rt; is_composed(rt.alloc(), &graph)?);
+    assert!(rt; has_copies(&graph));
     Ok(())
 }
 

@@ -4,8 +4,8 @@ use crate::building::{node_at, package_at};
 use crate::fixture::key;
 use std::alloc::{AllocError, Global};
 use wac_graph::{
-    CompositionGraph, DefinedTypeId, FuncTypeId, InterfaceId, ItemKind, Names, NodeKind, PackageId,
-    ResourceId, Types, WorldId,
+    CompositionGraph, DefinedTypeId, FuncTypeId, InterfaceId, ItemKind, Names, NodeId, NodeKind,
+    PackageId, ResourceId, Types, WorldId,
 };
 
 /// What a node is, in a word.
@@ -112,12 +112,28 @@ pub enum Asked<'a> {
     Instance(usize),
 }
 
+fn number(id: Option<NodeId>) -> Option<usize> {
+    let id = id?;
+    Some(id.0)
+}
+
+fn argument(graph: &CompositionGraph, node: usize, name: &str) -> Option<usize> {
+    let id = node_at(graph, node)?;
+    number(graph.argument(id, name))
+}
+
+fn instance(graph: &CompositionGraph, node: usize) -> Option<usize> {
+    let id = node_at(graph, node)?;
+    let package = graph.instance_of(id)?;
+    Some(package.0)
+}
+
 pub fn found(graph: &CompositionGraph, asked: Asked<'_>) -> Option<usize> {
     match asked {
-        Asked::Import(name) => Some(graph.get_import(name)?.0),
-        Asked::Export(name) => Some(graph.get_export(name)?.0),
-        Asked::Argument(node, name) => Some(graph.argument(node_at(graph, node)?, name)?.0),
-        Asked::Instance(node) => Some(graph.instance_of(node_at(graph, node)?)?.0),
+        Asked::Import(name) => number(graph.get_import(name)),
+        Asked::Export(name) => number(graph.get_export(name)),
+        Asked::Argument(node, name) => argument(graph, node, name),
+        Asked::Instance(node) => instance(graph, node),
     }
 }
 
