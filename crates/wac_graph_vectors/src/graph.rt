@@ -222,20 +222,45 @@ fn finds_by_name(rt: HostRuntime) -> Result<(), Fail> {
     Ok(())
 }
 
-/// Names that are copied out of the table can be handed to calls that change the graph.
+fn has_parameters(alloc: Global, graph: &CompositionGraph) -> Result<bool, AllocError> {
+    let text = parameters(alloc, graph, 1)?;
+    Ok(text.as_str() == "log x:y/z ")
+}
+
+/// Adds the alias of an export whose name is read of a package; it is handed to a call that changes the graph.
+fn add_alias_by_name(
+    alloc: Global,
+    graph: &mut CompositionGraph,
+    package: &Package,
+) -> Result<Option<usize>, AllocError> {
+    match export_name(graph, 1, 0)? {
+        Some(name) => make(alloc, graph, package, Step::Alias(3, name.as_str())),
+        None => Ok(None),
+    }
+}
+
+fn alias_by_name(
+    alloc: Global,
+    graph: &mut CompositionGraph,
+) -> Result<Option<usize>, PackageError> {
+    let package = component(alloc)?;
+    Ok(add_alias_by_name(alloc, graph, &package)?)
+}
+
+fn has_one_export(graph: &CompositionGraph) -> Result<bool, AllocError> {
+    Ok(export_name(graph, 1, 1)?.is_none())
+}
+
+fn has_names(alloc: Global, graph: &CompositionGraph) -> Result<bool, AllocError> {
+    Ok(has_parameters(alloc, graph)? && has_one_export(graph)?)
+}
+
 #[test]
 fn reads_names(rt: HostRuntime) -> Result<(), Fail> {
     let mut graph = CompositionGraph::new(rt.alloc());
     compose(rt.alloc(), &mut graph)?;
-    let text = parameters(rt.alloc(), &graph, 1)?;
-    assert_eq!(rt; text.as_str(), "log x:y/z ");
-    assert!(rt; export_name(&graph, 1, 1)?.is_none());
-    let Some(name) = export_name(&graph, 1, 0)? else {
-        panic!(rt; "an export is missing");
-    };
-    let package = component(rt.alloc())?;
-    let step = Step::Alias(3, name.as_str());
-    assert_eq!(rt; make(rt.alloc(), &mut graph, &package, step)?, Some(7));
+    assert!(rt; has_names(rt.alloc(), &graph)?);
+    assert_eq!(rt; alias_by_name(rt.alloc(), &mut graph)?, Some(7));
     Ok(())
 }
 
