@@ -26,41 +26,36 @@ struct Lent<'d, 'a> {
     document: &'d Document<'a>,
 }
 
-/// Asserts what a resolution of the composition holds.
-fn holds<'d, 'a: 'd>(
-    rt: &impl Abort,
+/// The graph that a resolution hands on, as lines.
+fn taken_lines<'d, 'a: 'd>(
     alloc: Global,
     resolution: Resolution<'d, 'a>,
-) -> Result<(), AllocError> {
-    let lent = lines(alloc, resolution.graph());
-    let taken = lines(alloc, &resolution.into_graph());
-    assert_eq!(rt; lent?.as_str(), LINES);
-    assert_eq!(rt; taken?.as_str(), LINES);
-    Ok(())
+) -> Result<String, AllocError> {
+    lines(alloc, &resolution.into_graph())
 }
 
-/// Asserts it of what a resolver returns.
-fn composes<'d, 'a: 'd>(
+/// What a resolver returns.
+fn composed<'d, 'a: 'd>(
     rt: &impl Abort,
     alloc: Global,
     resolver: AstResolver<'d, 'a>,
-) -> Result<(), AllocError> {
+) -> Result<String, AllocError> {
     let packages = handed(alloc, With::Packages)?;
     match resolver.resolve(alloc, packages, &ALL_PASS) {
-        Ok(resolution) => holds(rt, alloc, resolution),
+        Ok(resolution) => taken_lines(alloc, resolution),
         Err(error) => panic!(rt; "the composition is rejected: {error:?}"),
     }
 }
 
-/// Asserts it of what resolving in one call returns.
-fn resolves<'d, 'a: 'd>(
+/// What resolving in one call returns.
+fn resolved<'d, 'a: 'd>(
     rt: &impl Abort,
     alloc: Global,
     lent: Lent<'d, 'a>,
-) -> Result<(), AllocError> {
+) -> Result<String, AllocError> {
     let packages = handed(alloc, With::Packages)?;
     match resolve(alloc, lent.document, packages, &ALL_PASS) {
-        Ok(resolution) => holds(rt, alloc, resolution),
+        Ok(resolution) => taken_lines(alloc, resolution),
         Err(error) => panic!(rt; "the composition is rejected: {error:?}"),
     }
 }
@@ -68,7 +63,11 @@ fn resolves<'d, 'a: 'd>(
 #[test]
 fn a_resolver_composes(rt: HostRuntime) -> Result<(), Fail> {
     match Document::parse(rt.alloc(), COMPOSITION) {
-        Ok(document) => Ok(composes(&rt, rt.alloc(), AstResolver::new(&document))?),
+        Ok(document) => {
+            let found = composed(&rt, rt.alloc(), AstResolver::new(&document))?;
+            assert_eq!(rt; found.as_str(), LINES);
+            Ok(())
+        }
         Err(_) => panic!(rt; "the composition has no tree"),
     }
 }
@@ -80,7 +79,9 @@ fn a_document_is_resolved(rt: HostRuntime) -> Result<(), Fail> {
             let lent = Lent {
                 document: &document,
             };
-            Ok(resolves(&rt, rt.alloc(), lent)?)
+            let found = resolved(&rt, rt.alloc(), lent)?;
+            assert_eq!(rt; found.as_str(), LINES);
+            Ok(())
         }
         Err(_) => panic!(rt; "the composition has no tree"),
     }
