@@ -3,11 +3,13 @@
 use crate::documents::{With, handed};
 use crate::readings::lines;
 use crate::rules::Fixed;
+use indexmap::IndexMap;
 use std::alloc::{AllocError, Global};
 use std::process::Abort;
 use std::test::Fail;
 use wac_ast::Document;
-use wac_resolution::{AstResolver, Resolution, resolve};
+use wac_graph::{Package, PackageKey};
+use wac_resolution::{AstResolver, Resolution, ResolutionResult, resolve};
 
 const COMPOSITION: &str =
     "package a:b; import log: func(); let i = new c:d { log, ... }; export i.run;";
@@ -47,14 +49,23 @@ fn composed<'d, 'a: 'd>(
     }
 }
 
-/// What resolving in one call returns.
+/// What resolving in one call returns. It is a function of its own, for the prover's sake.
 fn resolved<'d, 'a: 'd>(
+    alloc: Global,
+    lent: Lent<'d, 'a>,
+    packages: IndexMap<PackageKey, Package>,
+) -> ResolutionResult<Resolution<'d, 'a>> {
+    resolve(alloc, lent.document, packages, &ALL_PASS)
+}
+
+/// Its graph, as lines.
+fn resolved_lines<'d, 'a: 'd>(
     rt: &impl Abort,
     alloc: Global,
     lent: Lent<'d, 'a>,
 ) -> Result<String, AllocError> {
     let packages = handed(alloc, With::Packages)?;
-    match resolve(alloc, lent.document, packages, &ALL_PASS) {
+    match resolved(alloc, lent, packages) {
         Ok(resolution) => taken_lines(alloc, resolution),
         Err(error) => panic!(rt; "the composition is rejected: {error:?}"),
     }
@@ -79,7 +90,7 @@ fn a_document_is_resolved(rt: HostRuntime) -> Result<(), Fail> {
             let lent = Lent {
                 document: &document,
             };
-            let found = resolved(&rt, rt.alloc(), lent)?;
+            let found = resolved_lines(&rt, rt.alloc(), lent)?;
             assert_eq!(rt; found.as_str(), LINES);
             Ok(())
         }
