@@ -1,2 +1,3 @@
 pub mod TypeParts
+pub mod NamedResults
 pub mod Built

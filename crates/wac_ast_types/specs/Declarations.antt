@@ -1,5 +1,5 @@
 -- The trees of function types, and of declarations of types.
-use Rattle.std.specs.Prelude.{map}
+use Rattle.std.specs.Prelude.{List, ◌∷◌, map}
 use Rattle.std.specs.Option.{option_map}
 use Rattle.wac_grammar.specs.Tree as tree
 use Rattle.wac_ast_types.specs.declared.flags_decl.Flag.{Flag as CodeFlag}
@@ -9,7 +9,7 @@ use Rattle.wac_ast_types.specs.declared.enum_decl.EnumDecl.{EnumDecl as CodeEnum
 use Rattle.wac_ast_base.specs.Names.{ident_of, doc_comment_of}
 use Rattle.wac_ast_types.specs.Types.{ty_of}
 use Rattle.wac_lexer.specs.declared.token.Token.TheVariants as tokens
-use Rattle.wac_grammar.specs.Grammar.{Grammar, token, sym, optional, ◌▸◌, result_list}
+use Rattle.wac_grammar.specs.Grammar.{Grammar, Parts, token, sym, optional, ◌▸◌, result_list, named_type, more_params}
 use Rattle.wac_ast_types.specs.declared.func_type.NamedType.{NamedType}
 use Rattle.wac_ast_types.specs.declared.func_type.ResultList.{ResultList}
 use Rattle.wac_ast_types.specs.declared.func_type.ResultList.TheVariants as results
@@ -51,6 +51,7 @@ named_type_of x = record { id = ident_of x.id; ty = ty_of x.ty }
 abbrev pub result_list_of : ResultList → tree.ResultList
 result_list_of results.Empty = tree.ResultList.empty
 result_list_of (results.Scalar x) = tree.ResultList.scalar (ty_of x)
+result_list_of (results.Named xs) = tree.ResultList.named (map named_type_of xs.items)
 
 abbrev pub func_type_of : FuncType → tree.FuncType
 func_type_of x = record { is_async = x.is_async; params = map named_type_of x.params.items; results = result_list_of x.results }
@@ -81,6 +82,13 @@ record_decl_of x = record { docs = map doc_comment_of x.docs.items; id = ident_o
 -- what a function gives, after an arrow
 abbrev pub results_rule : Grammar
 results_rule = optional (token tokens.Arrow ▸ sym result_list)
+
+-- results with names
+abbrev pub named_rule : Grammar
+named_rule = token tokens.OpenParen ▸ sym named_type ▸ sym more_params
+
+abbrev pub named_results : Parts named_rule → List tree.NamedType
+named_results p = p.1.0 ∷ p.1.1.0
 
 -- ---- resources
 

@@ -1,18 +1,22 @@
 //! Function types.
 
-ghost use Rattle.std.specs.Prelude.{◌≡◌, ◌≤◌};
+ghost use Rattle.std.specs.Prelude.{◌≡◌, ◌≤◌, [], true, map, OnOk, IfErr};
+ghost use Rattle.wac_lexer.specs.Reading.{left};
+ghost use Rattle.wac_lexer.specs.declared.token.Token.TheVariants as tokens;
 ghost use Rattle.wac_grammar.specs.Grammar as symbols;
 ghost use Rattle.wac_grammar.specs.Grammar.{results_of};
-ghost use Rattle.wac_grammar.specs.Reading.{begins};
+ghost use Rattle.wac_grammar.specs.Reading.{begins, read_token};
+ghost use Rattle.wac_grammar.specs.Tokens.{at};
+ghost use Rattle.wac_ast_base.specs.Answer.{Fails, end_of_input};
 ghost use Rattle.wac_ast_base.specs.Lookahead.{Peeks};
 ghost use Rattle.wac_ast_base.specs.Pieces.{GivesPart};
-ghost use Rattle.wac_ast_types.specs.Declarations.{named_type_of, result_list_of, func_type_of, func_type_ref_of, results_rule};
+ghost use Rattle.wac_ast_types.specs.Declarations.{named_type_of, result_list_of, func_type_of, func_type_ref_of, results_rule, named_rule, named_results};
 
 use crate::types::Type;
 use std::alloc::Global;
 use std::fmt;
 use wac_ast_base::{
-    Error, Ident, Lookahead, Parse, ParseResult, Peek, begins, parse_list, take_optional,
+    Error, Ident, Lookahead, Parse, ParseResult, Peek, at, begins, parse_list, take_optional,
     take_token,
 };
 use wac_lexer::{Lexer, Token};
@@ -90,6 +94,8 @@ pub enum ResultList<'a> {
     Empty,
     /// A value of a type.
     Scalar(Type<'a>),
+    /// Values with names, in order. Where it was parsed there is at least one.
+    Named(Vec<NamedType<'a>>),
 }
 
 impl fmt::Debug for ResultList<'_> {
@@ -97,6 +103,7 @@ impl fmt::Debug for ResultList<'_> {
         match self {
             ResultList::Empty => f.write_str("Empty"),
             ResultList::Scalar(part) => write!(f, "Scalar({part:?})"),
+            ResultList::Named(part) => write!(f, "Named({part:?})"),
         }
     }
 }
@@ -107,11 +114,40 @@ impl<'a> Parse<'a> for ResultList<'a> {
     ghost tree = { result_list_of };
 
     fn parse(alloc: Global, lexer: &mut Lexer<'a>) -> ParseResult<Self> {
+        if at(lexer, Token::OpenParen) {
+            return Ok(ResultList::Named(parse_named(alloc, lexer)?));
+        }
         if begins::<Type>(lexer) {
             return Ok(ResultList::Scalar(Parse::parse(alloc, lexer)?));
         }
         Ok(ResultList::Empty)
     }
+}
+
+/// Results with names, in parentheses: at least one.
+fn parse_named<'a>(alloc: Global, lexer: &mut Lexer<'a>) -> ParseResult<Vec<NamedType<'a>>>
+    ensures gives { GivesPart named_rule named_results (λ e x. x ≡ e) (λ v. map named_type_of v.items) result lexer.old lexer.new }
+    ensures source { lexer.new.source ≡ lexer.old.source }
+    ensures moves { lexer.old.place ≤ lexer.new.place }
+{
+    take_token(lexer, Token::OpenParen)?;
+    test_name(lexer)?;
+    let (named, _) = parse_list::<NamedType, Error>(alloc, lexer, Token::CloseParen)?;
+    Ok(named)
+}
+
+/// Rejects anything but an identifier in the next item's place, as where one is expected in a sequence.
+fn test_name(lexer: &mut Lexer) -> ParseResult<()>
+    ensures ok { OnOk result ((lexer.new ≡ lexer.old) × (at tokens.Ident (left lexer.old) ≡ true)) }
+    ensures refused { IfErr result (λ e. Fails e (end_of_input lexer.old) (read_token [] tokens.Ident (left lexer.old))) }
+    ensures source { lexer.new.source ≡ lexer.old.source }
+    ensures moves { lexer.old.place ≤ lexer.new.place }
+{
+    if at(lexer, Token::Ident) {
+        return Ok(());
+    }
+    take_token(lexer, Token::Ident)?;
+    Ok(())
 }
 
 /// A name and its type.

@@ -3,7 +3,7 @@
 use indexmap::IndexMap;
 use std::alloc::{AllocError, Global};
 use wac_parser::resolution::{
-    FuncType, Interface, ItemKind, Package, PackageError, PackageKey, Types, World,
+    FuncResults, FuncType, Interface, ItemKind, Package, PackageError, PackageKey, Types, World,
 };
 
 /// A package that imports the function `log` and exports the function `get`, both without parameters and results.
@@ -11,7 +11,7 @@ pub fn cache(alloc: Global) -> Result<Package, PackageError> {
     let mut types = Types::new(alloc);
     let func = FuncType {
         params: IndexMap::new(alloc),
-        result: None,
+        results: FuncResults::None,
         is_async: false,
     };
     let func = ItemKind::Func(types.add_func_type(func)?);

@@ -276,8 +276,9 @@ module _ (P : Asked) (S : Span → Type 0) (D : List Doc → Type 0) (M : Made P
   build_holds params (inr (x, others)) h = (h.0, h.1)
   build_holds more_params (inl last) h = tt
   build_holds more_params (inr (_, others)) h = h.1
-  build_holds result_list (inl x) h = h
-  build_holds result_list (inr _) h = tt
+  build_holds result_list (inl (_, (x, others))) h = ((h.1.0, h.1.1), M.filled)
+  build_holds result_list (inr (inl x)) h = h
+  build_holds result_list (inr (inr _)) h = tt
   build_holds named_type (id, (_, value)) h = (h.0, h.1.1)
   build_holds ty (inl x) h = (tt, N.item x h.0)
   build_holds ty (inr (inl x)) h = (tt, N.item x h.0)

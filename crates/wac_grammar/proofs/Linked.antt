@@ -77,6 +77,7 @@ module _ {ℓ κ μ ρ} (V : Walk {ℓ}) (W : Walk {κ}) (U : Walk {μ}) (g : Ch
   pub link_result_list : (x : ResultList) → L.R x (walk_result_list V (walk_result_list (changed g) x)) (walk_result_list W x) (walk_result_list U x)
   link_result_list tree.ResultList.empty = L.none tree.ResultList.empty
   link_result_list (tree.ResultList.scalar a) = L.one (link_ty a)
+  link_result_list (tree.ResultList.named a) = L.filled (items_stay (walk_named_type (changed g)) a) (L.one (L.each (walk_named_type V) (walk_named_type W) (walk_named_type U) (walk_named_type (changed g)) link_named_type a))
 
   pub link_func_type : (x : FuncType) → L.R x (walk_func_type V (walk_func_type (changed g) x)) (walk_func_type W x) (walk_func_type U x)
   link_func_type x = L.two (L.each (walk_named_type V) (walk_named_type W) (walk_named_type U) (walk_named_type (changed g)) link_named_type x.params) (link_result_list x.results)

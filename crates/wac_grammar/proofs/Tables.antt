@@ -113,7 +113,7 @@ others ks = away_from ks all_tokens
 abbrev pub clashes : Sym → List Token
 clashes document = all_tokens
 clashes statements = all_tokens
-clashes import_type = t.Arrow ∷ t.OpenAngle ∷ begins ty
+clashes import_type = t.Arrow ∷ t.OpenAngle ∷ begins result_list
 clashes export_options = t.AsKeyword ∷ t.Ellipsis ∷ []
 clashes expr = t.OpenBracket ∷ t.Dot ∷ []
 clashes argument = others (t.CloseBrace ∷ t.Comma ∷ [])
@@ -121,10 +121,10 @@ clashes named_argument = t.OpenBracket ∷ t.Dot ∷ []
 clashes postfixes = t.OpenBracket ∷ t.Dot ∷ []
 clashes variant_case = t.OpenParen ∷ []
 clashes field = t.OpenAngle ∷ []
-clashes type_alias_kind = t.Arrow ∷ t.OpenAngle ∷ begins ty
-clashes func_type_ref = t.Arrow ∷ t.OpenAngle ∷ begins ty
-clashes func_type = t.Arrow ∷ t.OpenAngle ∷ begins ty
-clashes result_list = t.OpenAngle ∷ begins ty
+clashes type_alias_kind = t.Arrow ∷ t.OpenAngle ∷ begins result_list
+clashes func_type_ref = t.Arrow ∷ t.OpenAngle ∷ begins result_list
+clashes func_type = t.Arrow ∷ t.OpenAngle ∷ begins result_list
+clashes result_list = t.OpenAngle ∷ begins result_list
 clashes named_type = t.OpenAngle ∷ []
 clashes ty = t.OpenAngle ∷ []
 clashes result_type = t.OpenAngle ∷ []
@@ -133,9 +133,9 @@ clashes future_type = t.OpenAngle ∷ []
 clashes result_part = t.OpenAngle ∷ []
 clashes payload = t.OpenAngle ∷ []
 clashes use_item = t.AsKeyword ∷ []
-clashes world_item_path = t.Colon ∷ t.Arrow ∷ t.OpenAngle ∷ begins ty
-clashes named_world_item = t.Arrow ∷ t.OpenAngle ∷ begins ty
-clashes extern_type = t.Arrow ∷ t.OpenAngle ∷ begins ty
+clashes world_item_path = t.Colon ∷ t.Arrow ∷ t.OpenAngle ∷ begins result_list
+clashes named_world_item = t.Arrow ∷ t.OpenAngle ∷ begins result_list
+clashes extern_type = t.Arrow ∷ t.OpenAngle ∷ begins result_list
 clashes _ = []
 
 -- something must follow

@@ -211,7 +211,7 @@ rule func_type_ref = sym func_type ¦ sym identifier
 rule func_type = optional (token t.AsyncKeyword) ▸ token t.FuncKeyword ▸ token t.OpenParen ▸ sym params ▸ optional (token t.Arrow ▸ sym result_list)
 rule params = token t.CloseParen ¦ sym named_type ▸ sym more_params
 rule more_params = rest_of t.CloseParen named_type params
-rule result_list = perhaps (sym ty)
+rule result_list = token t.OpenParen ▸ sym named_type ▸ sym more_params ¦ perhaps (sym ty)
 rule named_type = sym identifier ▸ token t.Colon ▸ sym ty
 rule ty = token t.U8Keyword ¦ token t.S8Keyword ¦ token t.U16Keyword ¦ token t.S16Keyword ¦ token t.U32Keyword ¦ token t.S32Keyword ¦ token t.U64Keyword ¦ token t.S64Keyword ¦ token t.F32Keyword ¦ token t.F64Keyword ¦ token t.CharKeyword ¦ token t.BoolKeyword ¦ token t.StringKeyword ¦ sym tuple_type ¦ sym list_type ¦ sym option_type ¦ sym result_type ¦ sym borrow_type ¦ sym stream_type ¦ sym future_type ¦ token t.ErrorContextKeyword ¦ sym identifier
 rule tuple_type = token t.TupleKeyword ▸ token t.OpenAngle ▸ sym ty ▸ sym more_types
@@ -495,8 +495,9 @@ build func_type_ref (inr x) = FuncTypeRef.ident x
 build func_type (first, (_, (_, (xs, results)))) = record { is_async = is_there first; params = xs.0; results = results_of results }
 build params p = listed p
 build more_params p = listed_more p
-build result_list (inl x) = ResultList.scalar x
-build result_list (inr _) = ResultList.empty
+build result_list (inl (_, (x, others))) = ResultList.named (x ∷ others.0)
+build result_list (inr (inl x)) = ResultList.scalar x
+build result_list (inr (inr _)) = ResultList.empty
 build named_type (id, (_, value)) = record { id = id; ty = value }
 build ty (inl x) = Ty.u8 x.span
 build ty (inr (inl x)) = Ty.s8 x.span

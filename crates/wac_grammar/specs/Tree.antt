@@ -107,6 +107,8 @@ pub record NamedType : Type 0 where
 pub data ResultList : Type 0 where
   empty : ResultList
   scalar : Ty → ResultList
+  -- with names
+  named : List NamedType → ResultList
 
 pub record FuncType : Type 0 where
   pub is_async : Bool

@@ -83,6 +83,7 @@ walk_named_type W x = W.two (λ a b. record { id = a; ty = b }) (W.ident x.id) (
 abbrev pub walk_result_list {ℓ} : (W : Walk {ℓ}) → ResultList → W.Of ResultList
 walk_result_list W tree.ResultList.empty = W.none tree.ResultList.empty
 walk_result_list W (tree.ResultList.scalar a) = W.one tree.ResultList.scalar (walk_ty W a)
+walk_result_list W (tree.ResultList.named a) = W.filled (has_item a) (W.one tree.ResultList.named (W.each (walk_named_type W) a))
 
 abbrev pub walk_func_type {ℓ} : (W : Walk {ℓ}) → FuncType → W.Of FuncType
 walk_func_type W x = W.two (λ a b. record { is_async = x.is_async; params = a; results = b }) (W.each (walk_named_type W) x.params) (walk_result_list W x.results)

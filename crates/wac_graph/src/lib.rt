@@ -31,7 +31,8 @@ pub use node::{NodeId, NodeKind, PackageId};
 pub use package_key::PackageKey;
 pub use packages::GraphPackage;
 pub use wac_types::{
-    DefinedType, DefinedTypeId, Entry, ExternKind, FuncKind, FuncType, FuncTypeId, Interface,
-    InterfaceId, ItemKind, ModuleTypeId, Package, PackageError, PrimitiveType, Reason, Resource,
-    ResourceAlias, ResourceId, Rules, Type, Types, UsedType, ValueType, World, WorldId, names,
+    DefinedType, DefinedTypeId, Entry, ExternKind, FuncKind, FuncResults, FuncType, FuncTypeId,
+    Interface, InterfaceId, ItemKind, ModuleTypeId, Package, PackageError, PrimitiveType, Reason,
+    Resource, ResourceAlias, ResourceId, Rules, Type, Types, UsedType, ValueType, World, WorldId,
+    names,
 };

@@ -1,5 +1,5 @@
 -- What stands in an entry, seen by name.
-use Rattle.std.proofs.Common.{◌≡◌, ◌∙◌, ◌+◌, ℕ, zero, suc, Option, Some, None, List, [], ◌∷◌, ◌++◌, refl, sym, ap, subst, map, take, length, get_or, ◌<◌, add-one, arith}
+use Rattle.std.proofs.Common.{◌≡◌, ◌∙◌, ◌+◌, ℕ, zero, suc, Bool, Option, Some, None, List, [], ◌∷◌, ◌++◌, refl, sym, ap, subst, map, take, length, get_or, ◌<◌, add-one, arith}
 use Rattle.std.specs.Prelude.{string_bytes, option_map, slice_get, IfSome, String}
 use Rattle.std.specs.declared.alloc.Global.{Global}
 use Rattle.wac_types.specs.declared.kind.ValueType.{ValueType}
@@ -11,10 +11,11 @@ use Rattle.wac_types.specs.Names.{by_name}
 use Rattle.wac_graph_copies.specs.Moved.{moved, moved_value, moved_child, moved_children, moved_items, Fits, ItemsFit}
 use Rattle.wac_graph_copies.specs.Copied.{IsCopy}
 use Rattle.wac_types.specs.declared.entry.Entry.TheVariants as entries
+use Rattle.wac_types.specs.declared.entry.FuncType.{FuncType}
 use Rattle.wac_types.specs.declared.entry.Interface.{Interface}
 use Rattle.wac_types.specs.declared.entry.World.{World}
-use Rattle.wac_types.specs.Label.{plain, interface, world}
-use Rattle.wac_types.specs.Entry.{Slot, only, named, tuple_children, used, import, export, optional, value_children, case_children, name_children, use_children, import_children, export_children}
+use Rattle.wac_types.specs.Label.{plain, func, interface, world}
+use Rattle.wac_types.specs.Entry.{Slot, only, named, given, tuple_children, used, import, export, optional, value_children, named_result_children, result_children, case_children, name_children, use_children, import_children, export_children}
 
 abbrev pub value_child : List ℕ × ValueType → Slot × Option ItemKind
 value_child e = (named e.0, Some (kinds.Value e.1))
@@ -141,6 +142,40 @@ imports_moved n es fs is = import_view fs ∙ ap (map import_child) is ∙ items
 
 pub exports_moved : (n : ℕ) (es fs : List (String Global × ItemKind)) → by_name fs ≡ moved_items n (by_name es) → export_children fs ≡ moved_children n (export_children es)
 exports_moved n es fs is = export_view fs ∙ ap (map export_child) is ∙ items_moved n export (by_name es) ∙ ap (moved_children n) (sym (export_view es))
+
+-- the slot of a result with the name of a parameter
+abbrev result_slot : Slot → Slot
+result_slot (named t) = given (Some t)
+result_slot s = s
+
+abbrev result_child : Slot × Option ItemKind → Slot × Option ItemKind
+result_child c = (result_slot c.0, c.1)
+
+result_view : (es : List (String Global × ValueType)) → named_result_children es ≡ map result_child (value_children es)
+result_view [] = refl
+result_view (e ∷ es) = ap (λ (l : List (Slot × Option ItemKind)). (given (Some (string_bytes e.0)), Some (kinds.Value e.1)) ∷ l) (result_view es)
+
+slots_moved : (n : ℕ) (cs : List (Slot × Option ItemKind)) → map result_child (moved_children n cs) ≡ moved_children n (map result_child cs)
+slots_moved n [] = refl
+slots_moved n (c ∷ cs) = ap (λ (l : List (Slot × Option ItemKind)). result_child (moved_child n c) ∷ l) (slots_moved n cs)
+
+-- results with names are moved as parameters are
+pub results_moved : (n : ℕ) (es fs : List (String Global × ValueType)) → value_children fs ≡ moved_children n (value_children es) → named_result_children fs ≡ moved_children n (named_result_children es)
+results_moved n es fs is = result_view fs ∙ ap (map result_child) is ∙ slots_moved n (value_children es) ∙ ap (moved_children n) (sym (result_view es))
+
+pub results_fit : (n : ℕ) (es : List (String Global × ValueType)) → EachKind (Fits n) (named_result_children es) → EachKind (Fits n) (value_children es)
+results_fit n [] h = tt
+results_fit n (e ∷ es) h = (h.0, results_fit n es h.1)
+
+pub func_copy : (n : ℕ) (f g : FuncType) → g.is_async ≡ f.is_async → result_children g.results ≡ moved_children n (result_children f.results)
+    → value_children g.params.entries ≡ moved_children n (value_children f.params.entries) → IsCopy n (entries.Func f) (entries.Func g)
+func_copy n f g is_async results params = record {
+  sorts = refl;
+  labels = λ o. ap (λ (b : Bool). plain (func b)) is_async;
+  kinds =
+      let both : result_children g.results ++ value_children g.params.entries ≡ moved_children n (result_children f.results) ++ moved_children n (value_children f.params.entries) = cc in
+      both ∙ sym (moved_append n (result_children f.results) (value_children f.params.entries));
+}
 
 pub interface_copy : (n : ℕ) (i j : Interface) → option_map string_bytes j.id ≡ option_map string_bytes i.id → use_children j.uses.entries ≡ moved_children n (use_children i.uses.entries)
     → by_name j.exports.entries ≡ moved_items n (by_name i.exports.entries) → IsCopy n (entries.Interface i) (entries.Interface j)

@@ -14,8 +14,8 @@ use crate::copy::{
 };
 use std::alloc::{AllocError, Global};
 use wac_types::{
-    DefinedType, Entry, FuncType, Interface, InterfaceId, Resource, ResourceAlias, ResourceId,
-    Types, World,
+    DefinedType, Entry, FuncResults, FuncType, Interface, InterfaceId, Resource, ResourceAlias,
+    ResourceId, Types, World,
 };
 
 fn copy_defined(alloc: Global, n: usize, from: &DefinedType) -> Result<DefinedType, AllocError>
@@ -72,14 +72,27 @@ fn copy_resource(alloc: Global, n: usize, from: &Resource) -> Result<Resource, A
     })
 }
 
+/// The results with their numbers moved by `n`.
+fn copy_results(alloc: Global, n: usize, from: &FuncResults) -> Result<FuncResults, AllocError>
+    requires { EachKind (Fits n) (result_children from.now) }
+    ensures { IfOk result (λ r. result_children r ≡ moved_children n (result_children from.now)) }
+{
+    match from {
+        FuncResults::None => Ok(FuncResults::None),
+        FuncResults::Scalar(value) => Ok(FuncResults::Scalar(moved_value(n, *value))),
+        FuncResults::Named(results) => Ok(FuncResults::Named(copy_values(alloc, n, results)?)),
+    }
+}
+
 fn copy_func(alloc: Global, n: usize, from: &FuncType) -> Result<FuncType, AllocError>
     requires { EachKind (Fits n) (children (entries.Func from.now)) }
     ensures { IfOk result (λ f. IsCopy n (entries.Func from.now) (entries.Func f)) }
 {
     let params = copy_values(alloc, n, &from.params)?;
+    let results = copy_results(alloc, n, &from.results)?;
     Ok(FuncType {
         params,
-        result: moved_optional(n, from.result),
+        results,
         is_async: from.is_async,
     })
 }

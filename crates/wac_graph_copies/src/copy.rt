@@ -57,7 +57,7 @@ pub fn moved_optional(n: usize, value: Option<ValueType>) -> Option<ValueType>
     }
 }
 
-/// The parameters or fields with their numbers moved by `n`.
+/// The parameters, fields or named results with their numbers moved by `n`.
 pub fn copy_values(
     alloc: Global,
     n: usize,

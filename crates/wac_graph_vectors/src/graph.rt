@@ -9,8 +9,8 @@ use indexmap::IndexMap;
 use std::alloc::{AllocError, Global};
 use std::test::Fail;
 use wac_graph::{
-    CompositionGraph, DefinedType, FuncType, Interface, Package, PackageError, PackageId,
-    PrimitiveType, Resource, ValueType, World,
+    CompositionGraph, DefinedType, FuncResults, FuncType, Interface, Package, PackageError,
+    PackageId, PrimitiveType, Resource, ValueType, World,
 };
 
 type Steps = &'static [(Step<'static>, Option<usize>)];
@@ -359,7 +359,7 @@ fn add_resource(alloc: Global, graph: &mut CompositionGraph) -> Result<usize, Al
 fn add_func(alloc: Global, graph: &mut CompositionGraph) -> Result<usize, AllocError> {
     let func = FuncType {
         params: IndexMap::new(alloc),
-        result: None,
+        results: FuncResults::None,
         is_async: false,
     };
     Ok(graph.add_func_type(func)?.0)

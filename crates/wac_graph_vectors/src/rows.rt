@@ -3,8 +3,8 @@
 use indexmap::{IndexMap, IndexSet};
 use std::alloc::{AllocError, Global};
 use wac_graph::{
-    DefinedType, Entry, FuncType, Interface, InterfaceId, ItemKind, Package, PackageError,
-    Resource, ResourceAlias, Types, UsedType, ValueType, World, WorldId,
+    DefinedType, Entry, FuncResults, FuncType, Interface, InterfaceId, ItemKind, Package,
+    PackageError, Resource, ResourceAlias, Types, UsedType, ValueType, World, WorldId,
 };
 
 /// An entry of a table, as a test writes it.
@@ -20,6 +20,10 @@ pub enum Row<'a> {
     Enum(&'a [&'a str]),
     /// Parameters, and the result of an async function.
     Func(&'a [(&'a str, ValueType)], Option<ValueType>),
+    /// The results of a function without parameters, by name.
+    Giving(&'a [(&'a str, ValueType)]),
+    /// The result of a function without parameters. It has no name.
+    GivingOne(ValueType),
     /// An interface with its id and exports.
     Interface(Option<&'a str>, &'a [(&'a str, ItemKind)]),
     /// An interface that uses, as the first name, the second name of another one.
@@ -66,9 +70,20 @@ fn func(
     let params = named(alloc, rows)?;
     Ok(Entry::Func(FuncType {
         params,
-        result: output,
+        results: match output {
+            None => FuncResults::None,
+            Some(value) => FuncResults::Scalar(value),
+        },
         is_async: output.is_some(),
     }))
+}
+
+fn giving(alloc: Global, results: FuncResults) -> Entry {
+    Entry::Func(FuncType {
+        params: IndexMap::new(alloc),
+        results,
+        is_async: false,
+    })
 }
 
 fn text(alloc: Global, text: Option<&str>) -> Result<Option<String>, AllocError> {
@@ -156,6 +171,11 @@ fn entry(alloc: Global, row: Row<'_>) -> Result<Entry, AllocError> {
     match row {
         Row::Resource(name, alias) => resource(alloc, name, alias),
         Row::Func(params, output) => func(alloc, params, output),
+        Row::Giving(rows) => {
+            let results = named(alloc, rows)?;
+            Ok(giving(alloc, FuncResults::Named(results)))
+        }
+        Row::GivingOne(value) => Ok(giving(alloc, FuncResults::Scalar(value))),
         Row::Interface(id, exports) => interface(alloc, id, exports),
         Row::Using(name, of, other, exports) => using(
             alloc,

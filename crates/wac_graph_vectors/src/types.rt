@@ -8,9 +8,9 @@ use indexmap::IndexMap;
 use std::alloc::{AllocError, Global};
 use std::test::Fail;
 use wac_graph::{
-    DefinedType, DefinedTypeId, ExternKind, FuncKind, FuncType, FuncTypeId, Interface, InterfaceId,
-    ItemKind, ModuleTypeId, Package, PackageError, PrimitiveType, Reason, Resource, ResourceAlias,
-    ResourceId, Rules, Type, Types, ValueType, World, WorldId,
+    DefinedType, DefinedTypeId, ExternKind, FuncKind, FuncResults, FuncType, FuncTypeId, Interface,
+    InterfaceId, ItemKind, ModuleTypeId, Package, PackageError, PrimitiveType, Reason, Resource,
+    ResourceAlias, ResourceId, Rules, Type, Types, ValueType, World, WorldId,
 };
 
 type Definitions = &'static [(&'static str, ItemKind)];
@@ -27,10 +27,17 @@ const SECOND: ValueType = ValueType::Defined(DefinedTypeId(2));
 
 const THIRD: ItemKind = ItemKind::Ty(Type::Value(ValueType::Defined(DefinedTypeId(3))));
 
+const FOURTH: ValueType = ValueType::Defined(DefinedTypeId(4));
+
+const NINTH: ValueType = ValueType::Defined(DefinedTypeId(9));
+
+/// An owned resource by the number of an interface.
+const OWNED: ValueType = ValueType::Own(ResourceId(0));
+
 const OTHER_EXPORTS: &str = "instance exports differ from the exports of the world";
 
 /// Entries, the numbers of the world and of the instance, definitions, and what is wrong with them.
-const FAULTS: [(&[Row<'static>], (usize, usize), Definitions, &str); 8] = [
+const FAULTS: [(&[Row<'static>], (usize, usize), Definitions, &str); 11] = [
     (&[INSTANCE, WORLD], (1, 0), &[], "nothing"),
     (&[INSTANCE, WORLD], (5, 0), &[], "id out of range"),
     (&[INSTANCE, WORLD], (0, 0), &[], "id of another sort"),
@@ -45,6 +52,30 @@ const FAULTS: [(&[Row<'static>], (usize, usize), Definitions, &str); 8] = [
             INSTANCE,
             WORLD,
             Row::Interface(None, &[("t", THIRD)]),
+            Row::Stream,
+        ],
+        (1, 0),
+        &[],
+        "id is not earlier",
+    ),
+    (
+        &[INSTANCE, WORLD, Row::Giving(&[("a", BYTE), ("b", NINTH)])],
+        (1, 0),
+        &[],
+        "id out of range",
+    ),
+    (
+        &[INSTANCE, WORLD, Row::Giving(&[("a", BYTE), ("b", OWNED)])],
+        (1, 0),
+        &[],
+        "id of another sort",
+    ),
+    (
+        &[
+            INSTANCE,
+            WORLD,
+            Row::Giving(&[("a", BYTE), ("b", FOURTH)]),
+            Row::Stream,
             Row::Stream,
         ],
         (1, 0),
@@ -176,6 +207,51 @@ fn compares_meanings(rt: HostRuntime) -> Result<(), Fail> {
     Ok(())
 }
 
+/// Functions that differ in their results alone.
+const GIVING: [Row<'static>; 10] = [
+    INSTANCE,
+    WORLD,
+    Row::Giving(&[("a", BYTE)]),
+    Row::Giving(&[("a", BYTE)]),
+    Row::Giving(&[("b", BYTE)]),
+    Row::GivingOne(BYTE),
+    Row::Giving(&[("a", BYTE), ("b", BYTE)]),
+    Row::Giving(&[("b", BYTE), ("a", BYTE)]),
+    Row::Giving(&[]),
+    Row::Func(&[], None),
+];
+
+const GIVEN: [(&str, ItemKind); 8] = [
+    ("a", ItemKind::Ty(Type::Func(FuncTypeId(2)))),
+    ("b", ItemKind::Ty(Type::Func(FuncTypeId(3)))),
+    ("c", ItemKind::Ty(Type::Func(FuncTypeId(4)))),
+    ("d", ItemKind::Ty(Type::Func(FuncTypeId(5)))),
+    ("e", ItemKind::Ty(Type::Func(FuncTypeId(6)))),
+    ("f", ItemKind::Ty(Type::Func(FuncTypeId(7)))),
+    ("g", ItemKind::Ty(Type::Func(FuncTypeId(8)))),
+    ("h", ItemKind::Ty(Type::Func(FuncTypeId(9)))),
+];
+
+/// Which definitions of [`GIVEN`] mean the same.
+const SAME_RESULTS: [(usize, usize, bool); 7] = [
+    (0, 0, true),
+    (0, 1, true),
+    (0, 2, false),
+    (0, 3, false),
+    (0, 4, false),
+    (4, 5, false),
+    (6, 7, true),
+];
+
+#[test]
+fn names_of_results_count(rt: HostRuntime) -> Result<(), Fail> {
+    let package = package(rt.alloc(), &GIVING, (1, 0), &GIVEN)?;
+    for (i, j, is) in SAME_RESULTS {
+        assert_eq!(rt; same(&package, i, j), Some(is), "{i} and {j}");
+    }
+    Ok(())
+}
+
 /// In a run in which one request for memory is refused, its parts may have to be made again; the package then is made
 /// at once.
 #[test]
@@ -232,7 +308,7 @@ fn asked<R: Rules>(rules: &R, package: &Package, i: usize, j: usize) -> Option<R
 fn func(alloc: Global) -> FuncType {
     FuncType {
         params: IndexMap::new(alloc),
-        result: None,
+        results: FuncResults::None,
         is_async: false,
     }
 }

@@ -23,6 +23,7 @@ impl ToValue for ResultList<'_> {
         match self {
             ResultList::Empty => text(alloc, "empty"),
             ResultList::Scalar(ty) => variant_of(alloc, "scalar", ty),
+            ResultList::Named(named) => variant_of(alloc, "named", named),
         }
     }
 }

@@ -17,7 +17,7 @@ use Rattle.wac_grammar.proofs.Completed.{by_rule}
 use Rattle.wac_layout.proofs.Means.{Means, split}
 use Rattle.wac_layout.proofs.NamesBack.{alone, word_back}
 use Rattle.wac_layout.proofs.TypesBack.{ty_back}
-use Rattle.wac_layout.proofs.ListsBack.{joined_back}
+use Rattle.wac_layout.proofs.ListsBack.{joined_back, joined_first}
 
 module _ (S P : List ℕ) where
   pub named_type_back : (x : NamedType) (ys : List Item) → NamedTypeHas Spelled (bare_named_type S x) → Means P [] ys (named_type_layout (bare_named_type S x))
@@ -44,12 +44,27 @@ module _ (S P : List ℕ) where
       (λ c zs rest q e t l. (q, by_rule more_params zs (inr (c, q)) (c ∷ [], rest, e, (refl, t, refl), l), refl))
       xs [] ys is h
 
+  -- names of which there is at least one
+  names_back : (x : NamedType) (xs : List NamedType) (ys : List Item) → AllByRecursion (NamedTypeHas Spelled) (map (bare_named_type S) (x ∷ xs)) → Means P [] ys (joined named_type_layout (map (bare_named_type S) (x ∷ xs)) ++ token (codes ")") ∷ [])
+      → (front : List Item) × (rest : List Item) × (u : NamedType) × (q : List NamedType × Item) × (ys ≡ front ++ rest) × Derives named_type front u × Derives more_params rest q × (bare_named_type P u ≡ bare_named_type S x) × (map (bare_named_type P) q.0 ≡ map (bare_named_type S) xs)
+  names_back x xs ys is h =
+      joined_first P (bare_named_type S) (bare_named_type P) (NamedTypeHas Spelled) named_type_layout (Derives named_type) (Derives params) (λ q. q.0) (token (codes ")") ∷ []) named_type_back params_nil
+      (Derives more_params) more_params_nil
+      (λ zs front rest u q e d m. ((u ∷ q.0, q.1), by_rule params zs (inr (u, q)) (front, rest, e, d, m), refl))
+      (λ c zs rest q e t l. (q, by_rule more_params zs (inr (c, q)) (c ∷ [], rest, e, (refl, t, refl), l), refl))
+      x xs ys is h
+
   results_back : (x : ResultList) (ds : List (List ℕ)) (ys : List Item) → ResultListHas Spelled (bare_result_list S x) → Means P ds ys (results_layout (bare_result_list S x))
       → (p : (Item × ResultList) ⊎ Unit {0}) × DerivesIn Derives (optional (then (one_token kinds.Arrow) (one_sym result_list))) ys p × (bare_result_list P (results_of p) ≡ bare_result_list S x)
   results_back tree.ResultList.empty ds ys is h = (inr tt, h, refl)
   results_back (tree.ResultList.scalar x) ds ys is h =
       let r = ty_back S P x _ h.1 is h.4 in
-      (inl (h.0, tree.ResultList.scalar r.0), (h.0 ∷ [], h.1, h.2, (refl, ap (is_token kinds.Arrow) h.3.0, refl), by_rule result_list h.1 (inl r.0) r.1), ap tree.ResultList.scalar r.2)
+      (inl (h.0, tree.ResultList.scalar r.0), (h.0 ∷ [], h.1, h.2, (refl, ap (is_token kinds.Arrow) h.3.0, refl), by_rule result_list h.1 (inr (inl r.0)) r.1), ap tree.ResultList.scalar r.2)
+  results_back (tree.ResultList.named []) ds ys is h = absurd is.1
+  results_back (tree.ResultList.named (x ∷ xs)) ds ys is h =
+      let h1 = h.4 in
+      let f = names_back x xs h1.1 is.0 h1.4 in
+      (inl (h.0, tree.ResultList.named (f.2 ∷ f.3.0)), (h.0 ∷ [], h.1, h.2, (refl, ap (is_token kinds.Arrow) h.3.0, refl), by_rule result_list h.1 (inl (h1.0, (f.2, f.3))) (h1.0 ∷ [], h1.1, h1.2, (refl, ap (is_token kinds.OpenParen) h1.3.0, refl), (f.0, f.1, f.4, f.5, f.6))), (λ i. tree.ResultList.named (f.7 i ∷ f.8 i)))
 
   async_back : (b : Bool) (ds : List (List ℕ)) (ys : List Item) → Means P ds ys (async_layout b) → (p : Item ⊎ Unit {0}) × DerivesIn Derives (optional (one_token kinds.AsyncKeyword)) ys p × (is_there p ≡ b)
   async_back true ds ys h = (inl h.0, (alone h.0 h.1 ys h.2 h.4, ap (is_token kinds.AsyncKeyword) h.3.0, refl), refl)

@@ -100,3 +100,7 @@ module _ (P : List ℕ) {X Q : Type 0} (bS bP : X → X) (Good : X → Type 0) (
     unfolding joined
     joined_back [] ds ys is h = nil [] ys h
     joined_back (x ∷ xs) ds ys is h = whole x xs ys (first_of x xs ys is.0 h (λ es zs m. later_back xs es zs is.1 m))
+
+    pub joined_first : (x : X) (xs : List X) (ys : List Item) → AllByRecursion Good (map bS (x ∷ xs)) → Means P [] ys (joined f (map bS (x ∷ xs)) ++ end) → FirstBack x xs ys
+    unfolding joined
+    joined_first x xs ys is h = first_of x xs ys is.0 h (λ es zs m. later_back xs es zs is.1 m)

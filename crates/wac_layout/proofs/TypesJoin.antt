@@ -85,6 +85,7 @@ module _ (gap : List ℕ) where
   results_join : (x : ResultList) (rest : List ℕ) (fresh : Bool) → ResultListHas Spelled x → follows kinds.Ident rest ≡ true → J gap rest fresh (results_layout x)
   results_join tree.ResultList.empty rest fresh is h = tt
   results_join (tree.ResultList.scalar x) rest fresh is h = ((refl, tt), (arrow _, ((refl, tt), ty_join x rest _ is h)))
+  results_join (tree.ResultList.named xs) rest fresh is h = ((refl, tt), (arrow _, ((refl, tt), params_join xs rest false is.0)))
 
   async_join : (is_async : Bool) (rest : List ℕ) (fresh : Bool) → J gap rest fresh (async_layout is_async)
   async_join true rest fresh = (known _ refl _ refl, ((refl, tt), tt))

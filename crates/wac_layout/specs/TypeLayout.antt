@@ -62,16 +62,18 @@ abbrev mutual
 abbrev pub named_type_layout : NamedType → List Piece
 named_type_layout x = token x.id.string ∷ token (codes ":") ∷ space ∷ ty_layout x.ty
 
+-- parameters, or results with names, in parentheses
+abbrev pub params_layout : List NamedType → List Piece
+params_layout params = token (codes "(") ∷ (joined named_type_layout params ++ token (codes ")") ∷ [])
+
 abbrev pub results_layout : ResultList → List Piece
 results_layout tree.ResultList.empty = []
 results_layout (tree.ResultList.scalar x) = space ∷ token (codes "->") ∷ space ∷ ty_layout x
+results_layout (tree.ResultList.named xs) = space ∷ token (codes "->") ∷ space ∷ params_layout xs
 
 abbrev pub async_layout : Bool → List Piece
 async_layout true = token (codes "async") ∷ space ∷ []
 async_layout false = []
-
-abbrev pub params_layout : List NamedType → List Piece
-params_layout params = token (codes "(") ∷ (joined named_type_layout params ++ token (codes ")") ∷ [])
 
 abbrev pub func_type_layout : FuncType → List Piece
 func_type_layout x = async_layout x.is_async ++ token (codes "func") ∷ (params_layout x.params ++ results_layout x.results)
@@ -86,3 +88,7 @@ result_1 = refl
 func_1 : text [] false (func_type_layout (record { is_async = true; params = record { id = record { string = codes "x"; span = nowhere }; ty = tree.Ty.u8 nowhere } ∷ []; results = tree.ResultList.scalar (tree.Ty.bool nowhere) })) ≡ codes "async func(x: u8) -> bool"
 unfolding joined
 func_1 = refl
+
+func_2 : text [] false (func_type_layout (record { is_async = false; params = []; results = tree.ResultList.named (record { id = record { string = codes "a"; span = nowhere }; ty = tree.Ty.u32 nowhere } ∷ record { id = record { string = codes "b"; span = nowhere }; ty = tree.Ty.string nowhere } ∷ []) })) ≡ codes "func() -> (a: u32, b: string)"
+unfolding joined
+func_2 = refl

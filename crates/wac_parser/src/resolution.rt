@@ -14,11 +14,11 @@
 //! [`CompositionGraph`].
 
 pub use wac_graph::{
-    CompositionGraph, DefinedType, DefinedTypeId, Entry, ExternKind, FuncKind, FuncType,
-    FuncTypeId, GraphPackage, Interface, InterfaceId, ItemKind, ModuleTypeId, Names, NodeId,
-    NodeKind, Nodes, Package, PackageError, PackageId, PackageKey, Packages, PrimitiveType, Reason,
-    Resource, ResourceAlias, ResourceId, Rules, Type, Types, UsedType, ValueType, World, WorldId,
-    names,
+    CompositionGraph, DefinedType, DefinedTypeId, Entry, ExternKind, FuncKind, FuncResults,
+    FuncType, FuncTypeId, GraphPackage, Interface, InterfaceId, ItemKind, ModuleTypeId, Names,
+    NodeId, NodeKind, Nodes, Package, PackageError, PackageId, PackageKey, Packages, PrimitiveType,
+    Reason, Resource, ResourceAlias, ResourceId, Rules, Type, Types, UsedType, ValueType, World,
+    WorldId, names,
 };
 pub use wac_resolution::{
     AstResolver, Error, InstanceOperation, Resolution, ResolutionResult, resolve,

@@ -73,7 +73,7 @@ impl<'a, S: Sink> DocumentPrinter<'a, S> {
         }
     }
 
-    /// Prints parameters in parentheses.
+    /// Prints parameters, or results with names, in parentheses.
     pub(crate) fn params(&mut self, params: &[NamedType<'_>]) -> PrintResult
         requires { All (NamedTypeSliced self.old.source) (map named_type_of params.now) }
         ensures { Prints self.old result self.new (params_layout (map (bare_named_type self.old.source) (map named_type_of params.now))) }
@@ -100,12 +100,22 @@ impl<'a, S: Sink> DocumentPrinter<'a, S> {
         match results {
             ResultList::Empty => self.ready(),
             ResultList::Scalar(ty) => {
-                self.blank(" ")?;
-                self.token("->")?;
-                self.blank(" ")?;
+                self.arrow()?;
                 self.ty(ty)
             }
+            ResultList::Named(named) => {
+                self.arrow()?;
+                self.params(named)
+            }
         }
+    }
+
+    fn arrow(&mut self) -> PrintResult
+        ensures { Prints self.old result self.new (space ∷ token (codes "->") ∷ space ∷ []) }
+    {
+        self.blank(" ")?;
+        self.token("->")?;
+        self.blank(" ")
     }
 }
 

@@ -230,7 +230,7 @@ pub enum Error {
         /// The identifier.
         span: SourceSpan,
     },
-    /// A function has two results of one name. Nothing makes this error yet: results have no names.
+    /// A function has two results of one name.
     DuplicateResult {
         /// What the function is.
         kind: FuncKind,

@@ -25,6 +25,7 @@ pub mod StatementsPlain
 pub mod Alike
 pub mod StatementRows
 pub mod RejectedRows
+pub mod FunctionRows
 pub mod TypesMention
 pub mod StatementsMention
 pub mod BrokenTypesMention

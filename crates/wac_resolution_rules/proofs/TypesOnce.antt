@@ -4,9 +4,9 @@ use Rattle.wac_types.specs.Label.{Plain}
 use Rattle.wac_types.specs.Entry.{Slot}
 use Rattle.wac_types.specs.Meaning.{Meaning}
 use Rattle.wac_types.specs.Scope.{Named, Scope, StandsFor, with_named}
-use Rattle.wac_types.specs.Shape.{entry_of, as_value, borrow_of, own_of, defined_value, in_order, one_child, result_children, one_result, func_entry}
+use Rattle.wac_types.specs.Shape.{entry_of, as_value, borrow_of, own_of, defined_value, in_order, one_child, result_children, one_result, named_results, func_entry}
 use Rattle.wac_grammar.specs.Tree.{Ty, OptionalTy, Types, NamedType, ResultList, FuncType}
-use Rattle.wac_resolution_rules.specs.Types.{HasType, HasOptional, HaveTypes, HasParam, HasResults, IsFuncWith, IsConstructor}
+use Rattle.wac_resolution_rules.specs.Types.{HasType, HasOptional, HaveTypes, HasParam, HasResult, HasResults, IsFuncWith, IsConstructor}
 use Rattle.wac_resolution_rules.proofs.StepLaws.{IsOnce, steps_once}
 
 -- a name stands for one thing
@@ -52,9 +52,13 @@ mutual
 pub param_once : (scope : Scope) → IsOnce (HasParam scope)
 param_once scope old x a b p q = p.3 ∙ ap (with_named old x.id.string) (type_once scope x.ty p.0 q.0 p.1 q.1) ∙ sym q.3
 
+pub result_once : (scope : Scope) → IsOnce (HasResult scope)
+result_once scope old x a b p q = p.3 ∙ ap (with_named old x.id.string) (type_once scope x.ty p.0 q.0 p.1.0 q.1.0) ∙ sym q.3
+
 pub results_once : (scope : Scope) (rs : ResultList) (a b : List (Slot × Meaning)) → HasResults scope rs a → HasResults scope rs b → a ≡ b
 results_once scope ResultList.empty a b p q = p ∙ sym q
-results_once scope (ResultList.scalar t) a b p q = p.3 ∙ ap one_result (type_once scope t p.0 q.0 p.1 q.1) ∙ sym q.3
+results_once scope (ResultList.scalar t) a b p q = p.2 ∙ ap one_result (type_once scope t p.0 q.0 p.1.0 q.1.0) ∙ sym q.2
+results_once scope (ResultList.named xs) a b p q = p.2 ∙ ap named_results (steps_once (HasResult scope) (result_once scope) [] xs p.0 q.0 p.1 q.1) ∙ sym q.2
 
 pub func_once : (scope : Scope) (first : Named Meaning) (f : FuncType) (a b : Meaning) → IsFuncWith scope first f a → IsFuncWith scope first f b → a ≡ b
 func_once scope first f a b p q =

@@ -7,13 +7,13 @@ use Rattle.wac_types.specs.Kind.{a_func}
 use Rattle.wac_types.specs.Meaning.{Meaning}
 use Rattle.wac_types.specs.Scope.{Named, Scope, IsFresh, with_named}
 use Rattle.wac_types.specs.Steps.{Steps}
-use Rattle.wac_types.specs.Shape.{kind_of, defined_value, defined_type, naming_each, in_order, one_child, result_children, one_result, own_of, func_entry, contains_borrow, alias_type}
+use Rattle.wac_types.specs.Shape.{kind_of, defined_value, defined_type, naming_each, in_order, one_child, result_children, one_result, named_results, own_of, func_entry, contains_borrow, alias_type}
 use Rattle.wac_grammar.specs.Tree.{Ident, Ty, OptionalTy, Types, NamedType, ResultList, FuncType, VariantCase, VariantDecl, Field, RecordDecl, FlagsDecl, EnumDecl, TypeAliasKind, TypeDecl}
 use Rattle.wac_grammar.specs.Walk.{walk_enum_case, walk_enum_decl, walk_field, walk_flag, walk_flags_decl, walk_func_type, walk_named_type, walk_optional_ty, walk_record_decl, walk_result_list, walk_ty, walk_type_alias_kind, walk_type_decl, walk_types, walk_variant_case, walk_variant_decl}
 use Rattle.wac_grammar.specs.Leaves.{changed}
 use Rattle.wac_layout.specs.Bare.{no_docs}
 use Rattle.wac_layout.specs.PlainTree.{plain}
-use Rattle.wac_resolution_rules.specs.Types.{HasType, HasOptional, HaveTypes, HasParam, HasResults, IsFuncWith, IsConstructor}
+use Rattle.wac_resolution_rules.specs.Types.{HasType, HasOptional, HaveTypes, HasParam, HasResult, HasResults, IsFuncWith, IsConstructor}
 use Rattle.wac_resolution_rules.specs.Declarations.{HasOption, HasCase, HasField, HasFlag, HasEnumCase, IsVariant, IsRecord, IsFlags, IsEnum, Aliasing, at_root, alone, IsTypeAlias, IsAlias, IsTypeDecl}
 use Rattle.wac_resolution_rules.proofs.StepLaws.{steps_map}
 
@@ -56,9 +56,13 @@ param_plain scope old p = λ i new. (v : Meaning) × type_plain scope p.ty i v �
 pub params_plain : (scope : Scope) (first : Named Meaning) (ps : List NamedType) → Steps (HasParam scope) first (map (walk_named_type (changed plain)) ps) ≡ Steps (HasParam scope) first ps
 params_plain scope first ps = steps_map (HasParam scope) (walk_named_type (changed plain)) (param_plain scope) first ps
 
+result_plain : (scope : Scope) (old : Named Meaning) (r : NamedType) → HasResult scope old (walk_named_type (changed plain) r) ≡ HasResult scope old r
+result_plain scope old r = λ i new. (v : Meaning) × (type_plain scope r.ty i v × (contains_borrow v ≡ false)) × IsFresh r.id.string old × (new ≡ with_named old r.id.string v)
+
 pub results_plain : (scope : Scope) (rs : ResultList) → HasResults scope (walk_result_list (changed plain) rs) ≡ HasResults scope rs
 results_plain scope ResultList.empty = refl
-results_plain scope (ResultList.scalar t) = λ i rs. (v : Meaning) × type_plain scope t i v × (contains_borrow v ≡ false) × (rs ≡ one_result v)
+results_plain scope (ResultList.scalar t) = λ i rs. (v : Meaning) × (type_plain scope t i v × (contains_borrow v ≡ false)) × (rs ≡ one_result v)
+results_plain scope (ResultList.named xs) = λ i rs. (all : Named Meaning) × steps_map (HasResult scope) (walk_named_type (changed plain)) (result_plain scope) [] xs i all × (rs ≡ named_results all)
 
 pub func_with_plain : (scope : Scope) (first : Named Meaning) (f : FuncType) → IsFuncWith scope first (walk_func_type (changed plain) f) ≡ IsFuncWith scope first f
 func_with_plain scope first f = λ i entry. (ps : Named Meaning) × (rs : List (Slot × Meaning)) × params_plain scope first f.params i ps × results_plain scope f.results i rs × (entry ≡ func_entry f.is_async rs ps)

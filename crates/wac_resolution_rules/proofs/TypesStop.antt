@@ -10,12 +10,12 @@ use Rattle.wac_types.specs.Steps.{Steps}
 use Rattle.wac_types.specs.Shape.{IsA, IsNoneOf, contains_borrow}
 use Rattle.wac_grammar.specs.Tree.{Ident, Ty, OptionalTy, Types, NamedType, ResultList, FuncType, VariantCase, VariantDecl, Field, RecordDecl, Flag, FlagsDecl, EnumCase, EnumDecl, TypeAliasKind, TypeDecl}
 use Rattle.wac_resolution_errors.specs.Error.{Error, NamesRule}
-use Rattle.wac_resolution_rules.specs.Types.{HasType, HasOptional, HaveTypes, HasParam, HasResults, IsFuncWith}
+use Rattle.wac_resolution_rules.specs.Types.{HasType, HasOptional, HaveTypes, HasParam, HasResultType, HasResult, HasResults, IsFuncWith}
 use Rattle.wac_resolution_rules.specs.Declarations.{HasOption, HasCase, HasField, HasFlag, HasEnumCase, IsVariant, IsRecord, IsFlags, IsEnum, Aliasing, at_root, alone, IsTypeAlias, IsAlias, IsTypeDecl}
-use Rattle.wac_resolution_rules.specs.BrokenTypes.{IsUndefined, IsNoResource, IsNoValue, TypeBroken, OptionalBroken, TypesBroken, ParamBroken, ParamsBroken, ResultsBroken, FuncBroken}
+use Rattle.wac_resolution_rules.specs.BrokenTypes.{IsUndefined, IsNoResource, IsNoValue, TypeBroken, OptionalBroken, TypesBroken, ParamBroken, ParamsBroken, ResultTypeBroken, ResultBroken, ResultsBroken, FuncBroken}
 use Rattle.wac_resolution_rules.specs.BrokenDeclarations.{IsRepeatedEnumCase, IsRepeatedFlag, OptionBroken, CaseBroken, FieldBroken, VariantBroken, RecordBroken, FlagsBroken, EnumBroken, TypeAliasBroken, AliasBroken, TypeDeclBroken}
 use Rattle.wac_resolution_rules.proofs.StepLaws.{fails_stop}
-use Rattle.wac_resolution_rules.proofs.TypesOnce.{stands_once, type_once, param_once}
+use Rattle.wac_resolution_rules.proofs.TypesOnce.{stands_once, type_once, param_once, result_once}
 use Rattle.wac_resolution_rules.proofs.DeclarationsOnce.{case_once, field_once, flag_once, enum_case_once}
 use Rattle.wac_resolution_rules.proofs.Options.{neither}
 
@@ -95,18 +95,27 @@ param_stops kind scope e rule old before p new (inr (v, has, inr b)) q = fresh_s
 pub params_stop : (kind : FuncKind) (scope : Scope) (first : Named Meaning) (ps : List NamedType) (e : Error) (all : Named Meaning) → NamesRule e → ParamsBroken kind scope first ps e → Steps (HasParam scope) first ps all → ⊥
 params_stop kind scope first ps e all rule b q = fails_stop (HasParam scope) (ParamBroken kind scope e) (param_once scope) (param_stops kind scope e rule) first ps all b q
 
-results_stop : (scope : Scope) (rs : ResultList) (e : Error) (all : List (Slot × Meaning)) → NamesRule e → ResultsBroken scope rs e → HasResults scope rs all → ⊥
-results_stop scope ResultList.empty e all rule b q = rule b
-results_stop scope (ResultList.scalar t) e all rule (inl b) q = type_stops scope t e q.0 rule b q.1
-results_stop scope (ResultList.scalar t) e all rule (inr (inl b)) q = rule b
-results_stop scope (ResultList.scalar t) e all rule (inr (inr b)) q =
-    let f : contains_borrow q.0 ≡ true = ap contains_borrow (type_once scope t q.0 b.0 q.1 b.1) ∙ b.2 in
-    let d : false ≡ true = sym q.2 ∙ f in cc
+result_type_stops : (scope : Scope) (t : Ty) (e : Error) (m : Meaning) → NamesRule e → ResultTypeBroken scope t e → HasResultType scope t m → ⊥
+result_type_stops scope t e m rule (inl b) q = type_stops scope t e m rule b q.0
+result_type_stops scope t e m rule (inr (inl b)) q = rule b
+result_type_stops scope t e m rule (inr (inr b)) q =
+    let f : contains_borrow m ≡ true = ap contains_borrow (type_once scope t m b.0 q.0 b.1) ∙ b.2 in
+    let d : false ≡ true = sym q.1 ∙ f in cc
+
+result_stops : (kind : FuncKind) (scope : Scope) (e : Error) → NamesRule e → (old : Named Meaning) (before : List NamedType) (r : NamedType) (new : Named Meaning) → ResultBroken kind scope e old before r → HasResult scope old r new → ⊥
+result_stops kind scope e rule old before r new (inl b) q = result_type_stops scope r.ty e q.0 rule b q.1
+result_stops kind scope e rule old before r new (inr (v, has, inl b)) q = rule b
+result_stops kind scope e rule old before r new (inr (v, has, inr b)) q = fresh_stops r.id.string old b.0 q.2 b.1
+
+results_stop : (kind : FuncKind) (scope : Scope) (rs : ResultList) (e : Error) (all : List (Slot × Meaning)) → NamesRule e → ResultsBroken kind scope rs e → HasResults scope rs all → ⊥
+results_stop kind scope ResultList.empty e all rule b q = rule b
+results_stop kind scope (ResultList.scalar t) e all rule b q = result_type_stops scope t e q.0 rule b q.1
+results_stop kind scope (ResultList.named xs) e all rule b q = fails_stop (HasResult scope) (ResultBroken kind scope e) (result_once scope) (result_stops kind scope e rule) [] xs q.0 b q.1
 
 pub func_stops : (kind : FuncKind) (scope : Scope) (first : Named Meaning) (f : FuncType) (e : Error) (m : Meaning) → NamesRule e → FuncBroken kind scope first f e → IsFuncWith scope first f m → ⊥
 func_stops kind scope first f e m rule (inl b) q = rule b
 func_stops kind scope first f e m rule (inr (inl b)) q = params_stop kind scope first f.params e q.0 rule b q.2
-func_stops kind scope first f e m rule (inr (inr b)) q = results_stop scope f.results e q.1 rule b.2 q.3
+func_stops kind scope first f e m rule (inr (inr b)) q = results_stop kind scope f.results e q.1 rule b.2 q.3
 
 -- ---- declarations of types
 

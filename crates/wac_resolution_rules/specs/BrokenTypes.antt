@@ -1,5 +1,5 @@
 -- Which rule of types an error says is broken. `Is..` is one rule; `..Broken` says where rules are tested, each after the tests before it passed.
-use Rattle.std.specs.Prelude.{◌≡◌, ◌⊎◌, List, true}
+use Rattle.std.specs.Prelude.{◌≡◌, ◌⊎◌, List, [], true}
 use Rattle.wac_types.specs.declared.kind.FuncKind.{FuncKind}
 use Rattle.wac_types.specs.Meaning.{Meaning}
 use Rattle.wac_types.specs.Scope.{Named, Scope, StandsFor, IsFresh}
@@ -7,8 +7,8 @@ use Rattle.wac_types.specs.Steps.{Steps, Fails}
 use Rattle.wac_types.specs.Shape.{IsNoneOf, is_resource_form, is_resource_or_value_form, described, contains_borrow}
 use Rattle.wac_grammar.specs.Tree.{Ident, Ty, OptionalTy, Types, NamedType, ResultList, FuncType}
 use Rattle.wac_grammar.specs.Spans.{ty_span}
-use Rattle.wac_resolution_errors.specs.Error.{Error, undefined_name, not_resource_type, not_value_type, duplicate_parameter, borrow_in_result, memory}
-use Rattle.wac_resolution_rules.specs.Types.{HasType, HasOptional, HasParam}
+use Rattle.wac_resolution_errors.specs.Error.{Error, undefined_name, not_resource_type, not_value_type, duplicate_parameter, duplicate_result, borrow_in_result, memory}
+use Rattle.wac_resolution_rules.specs.Types.{HasType, HasOptional, HasParam, HasResultType, HasResult}
 
 -- the identifier stands for nothing
 abbrev pub IsUndefined : {X : Type 0} → Named X → Ident → Error → Type 0
@@ -59,11 +59,22 @@ ParamsBroken kind scope first ps e = Fails (HasParam scope) (ParamBroken kind sc
 abbrev pub IsBorrowInResult : Scope → Ty → Error → Type 0
 IsBorrowInResult scope t e = (e ≡ memory) ⊎ ((v : Meaning) × HasType scope t v × (contains_borrow v ≡ true) × (e ≡ borrow_in_result (ty_span t)))
 
-abbrev pub ResultsBroken : Scope → ResultList → Error → Type 0
-ResultsBroken scope ResultList.empty e = e ≡ memory
-ResultsBroken scope (ResultList.scalar t) e = TypeBroken scope t e ⊎ IsBorrowInResult scope t e
+-- an earlier result has the name
+abbrev pub IsRepeatedResult : FuncKind → Named Meaning → Ident → Error → Type 0
+IsRepeatedResult kind old x e = (e ≡ memory) ⊎ ((v : Meaning) × StandsFor old x.string v × (e ≡ duplicate_result kind x.string x.span))
+
+abbrev pub ResultTypeBroken : Scope → Ty → Error → Type 0
+ResultTypeBroken scope t e = TypeBroken scope t e ⊎ IsBorrowInResult scope t e
+
+abbrev pub ResultBroken : FuncKind → Scope → Error → Named Meaning → List NamedType → NamedType → Type 0
+ResultBroken kind scope e old before r = ResultTypeBroken scope r.ty e ⊎ ((v : Meaning) × HasResultType scope r.ty v × IsRepeatedResult kind old r.id e)
+
+abbrev pub ResultsBroken : FuncKind → Scope → ResultList → Error → Type 0
+ResultsBroken kind scope ResultList.empty e = e ≡ memory
+ResultsBroken kind scope (ResultList.scalar t) e = ResultTypeBroken scope t e
+ResultsBroken kind scope (ResultList.named xs) e = Fails (HasResult scope) (ResultBroken kind scope e) [] xs
 
 -- a function type, where these parameters come first
 abbrev pub FuncBroken : FuncKind → Scope → Named Meaning → FuncType → Error → Type 0
 FuncBroken kind scope first f e =
-    (e ≡ memory) ⊎ (ParamsBroken kind scope first f.params e ⊎ ((ps : Named Meaning) × Steps (HasParam scope) first f.params ps × ResultsBroken scope f.results e))
+    (e ≡ memory) ⊎ (ParamsBroken kind scope first f.params e ⊎ ((ps : Named Meaning) × Steps (HasParam scope) first f.params ps × ResultsBroken kind scope f.results e))

@@ -6,7 +6,7 @@ use Rattle.wac_types.specs.Entry.{Slot}
 use Rattle.wac_types.specs.Meaning.{Meaning}
 use Rattle.wac_types.specs.Scope.{Named, Scope, StandsFor, IsFresh, with_named}
 use Rattle.wac_types.specs.Steps.{Steps}
-use Rattle.wac_types.specs.Shape.{IsA, is_resource_form, is_resource_or_value_form, entry_of, as_value, nothing, primitive_value, borrow_of, own_of, defined_value, in_order, one_child, result_children, one_result, func_entry, contains_borrow}
+use Rattle.wac_types.specs.Shape.{IsA, is_resource_form, is_resource_or_value_form, entry_of, as_value, nothing, primitive_value, borrow_of, own_of, defined_value, in_order, one_child, result_children, one_result, named_results, func_entry, contains_borrow}
 use Rattle.wac_grammar.specs.Tree.{Ty, OptionalTy, Types, NamedType, ResultList, FuncType}
 
 abbrev mutual
@@ -52,9 +52,17 @@ abbrev pub HasParam : Scope → Named Meaning → NamedType → Named Meaning �
 HasParam scope old p new = (v : Meaning) × HasType scope p.ty v × IsFresh p.id.string old × (new ≡ with_named old p.id.string v)
 
 -- a result has a type that contains no borrow
+abbrev pub HasResultType : Scope → Ty → Meaning → Type 0
+HasResultType scope t v = HasType scope t v × (contains_borrow v ≡ false)
+
+-- a result with a name: no earlier one has it
+abbrev pub HasResult : Scope → Named Meaning → NamedType → Named Meaning → Type 0
+HasResult scope old r new = (v : Meaning) × HasResultType scope r.ty v × IsFresh r.id.string old × (new ≡ with_named old r.id.string v)
+
 abbrev pub HasResults : Scope → ResultList → List (Slot × Meaning) → Type 0
 HasResults scope ResultList.empty rs = rs ≡ []
-HasResults scope (ResultList.scalar t) rs = (v : Meaning) × HasType scope t v × (contains_borrow v ≡ false) × (rs ≡ one_result v)
+HasResults scope (ResultList.scalar t) rs = (v : Meaning) × HasResultType scope t v × (rs ≡ one_result v)
+HasResults scope (ResultList.named xs) rs = (all : Named Meaning) × Steps (HasResult scope) [] xs all × (rs ≡ named_results all)
 
 -- the entry of a function type, where these parameters come first
 abbrev pub IsFuncWith : Scope → Named Meaning → FuncType → Meaning → Type 0

@@ -53,7 +53,7 @@ adds_defined old new d id a there = record {
 }
 
 pub adds_func : (old new : Parts) (f : FuncType) (id : FuncTypeId) → Adds old new (entries.Func f) id.0 → Names new.types (kinds.Func id)
-    → AddsFunc old new (λ naming. func_entry f.is_async (results_mean (entry_means naming old) f.result) (values_mean (entry_means naming old) (by_name f.params.entries))) id
+    → AddsFunc old new (λ naming. func_entry f.is_async (results_mean (entry_means naming old) f.results) (values_mean (entry_means naming old) (by_name f.params.entries))) id
 adds_func old new f id a there = record {
   grows = record { grows = added_grows old new (entries.Func f) id.0 a; count = omega (arith, a.count) };
   named = there;

@@ -1,8 +1,8 @@
 -- Function types, by their parts.
-use Rattle.std.proofs.Common.{◌≡◌, ◌∙◌, ℕ, List, [], ◌∷◌, ◌++◌, Option, Some, None, Bool, true, false, refl, sym, ap, subst, ◌⊎◌, inl, inr}
-use Rattle.std.specs.Prelude.{IfSome, String}
+use Rattle.std.proofs.Common.{◌≡◌, ◌∙◌, ℕ, List, [], ◌∷◌, ◌++◌, Option, Bool, true, false, refl, sym, ap, subst, map, ◌⊎◌, inr}
+use Rattle.std.specs.Prelude.{String, Vec}
 use Rattle.std.specs.declared.alloc.Global.{Global}
-use Rattle.wac_grammar.specs.Tree.{ResultList, FuncType, NamedType}
+use Rattle.wac_grammar.specs.Tree.{Ty, FuncType, NamedType}
 use Rattle.wac_grammar.specs.Spans.{ty_span}
 use Rattle.wac_types.specs.declared.kind.ItemKind.{ItemKind}
 use Rattle.wac_types.specs.declared.kind.ItemKind.TheVariants as kinds
@@ -14,31 +14,35 @@ use Rattle.wac_types.specs.declared.kind.FuncKind.TheVariants as funcs
 use Rattle.wac_types.specs.declared.kind.FuncTypeId.{FuncTypeId}
 use Rattle.wac_types.specs.declared.kind.FuncKind.{FuncKind}
 use Rattle.wac_types.specs.declared.entry.Entry.{Entry}
-use Rattle.wac_types.specs.Entry.{Slot, optional, result_children, value_children}
+use Rattle.wac_types.specs.declared.entry.FuncResults.{FuncResults}
+use Rattle.wac_types.specs.declared.entry.FuncResults.TheVariants as given_results
+use Rattle.wac_types.specs.Entry.{Slot, result_children, named_result_children, value_children}
 use Rattle.wac_types.specs.Meaning.{Meaning, meaning, EachKind}
 use Rattle.wac_types.specs.Names.{by_name}
 use Rattle.wac_types.specs.Scope.{Named, Scope}
-use Rattle.wac_types.specs.Shape.{contains_borrow, entry_of, own_of, one_result, func_entry, results_mean, values_mean}
+use Rattle.wac_types.specs.Shape.{contains_borrow, entry_of, own_of, one_result, named_results, func_entry, results_mean, values_mean}
+use Rattle.wac_types.specs.Steps.{Fails}
 use Rattle.wac_types.specs.Table.{Names, ItemsNamed}
 use Rattle.wac_graph.specs.Graph.{Parts}
 use Rattle.wac_graph.specs.Means.{means, entry_means, origin_at}
 use Rattle.wac_graph.specs.Origin.{Naming}
 use Rattle.wac_graph.proofs.Origins.{means_is}
 use Rattle.wac_ast_types.specs.Types.{ty_of}
-use Rattle.wac_ast_types.specs.Declarations.{result_list_of}
+use Rattle.wac_ast_types.specs.Declarations.{named_type_of, result_list_of}
 use Rattle.wac_ast_types.specs.declared.types.«Type».{«Type»}
+use Rattle.wac_ast_types.specs.declared.func_type.NamedType.{NamedType as CodeNamedType}
 use Rattle.wac_ast_types.specs.declared.func_type.ResultList.{ResultList as CodeResultList}
 use Rattle.wac_ast_types.specs.declared.func_type.ResultList.TheVariants as results
 use Rattle.wac_resolution_errors.specs.Error.{Error, borrow_in_result, memory}
-use Rattle.wac_resolution_rules.specs.Types.{HasResults, IsFuncWith, first_params}
-use Rattle.wac_resolution_rules.specs.BrokenTypes.{TypeBroken, ParamsBroken, ResultsBroken, FuncBroken}
+use Rattle.wac_resolution_rules.specs.Types.{HasResult, HasResults, IsFuncWith, first_params}
+use Rattle.wac_resolution_rules.specs.BrokenTypes.{ParamsBroken, ResultTypeBroken, ResultBroken, ResultsBroken, FuncBroken}
 use Rattle.wac_resolution_rules.specs.BrokenBodies.{method_kind}
 use Rattle.wac_resolution_types.specs.Growth.{AddsFunc}
 use Rattle.wac_resolution_types.specs.Named.{scope_of}
 use Rattle.wac_resolution_types.specs.Types.{TypeIs}
-use Rattle.wac_resolution_types.specs.Funcs.{given, types_named, TypesNamed, ParamsGo, ResultIs, FuncAdded, FuncIs, ConstructorIs, own_params}
-use Rattle.wac_resolution_types.proofs.Grown.{grows_self, plainly_on, scope_kept}
-use Rattle.wac_resolution_types.proofs.NamedParts.{parts_kept, values_named}
+use Rattle.wac_resolution_types.specs.Funcs.{given, types_named, TypesNamed, ParamsGo, ResultTypeIs, ResultsGo, ResultsAre, FuncAdded, FuncIs, ConstructorIs, own_params}
+use Rattle.wac_resolution_types.proofs.Grown.{plainly_on, scope_kept}
+use Rattle.wac_resolution_types.proofs.NamedParts.{parts_kept, values_named, results_named}
 
 -- ---- results
 
@@ -48,22 +52,39 @@ borrow_is g ts v b same has naming =
     ap contains_borrow (means_is naming g (kinds.Value v))
     ∙ sym (has (λ i. naming (origin_at g i)) ∙ ap (λ (l : List Entry). contains_borrow (meaning (λ i. naming (origin_at g i)) l (kinds.Value v))) same)
 
-pub no_result : (g : Parts) (ks : Named ItemKind) → ResultIs g g ks ResultList.empty None
-no_result g ks = record { grows = grows_self g; named = tt; is = λ naming. refl }
+-- the type of a result
+pub result_type_is : (old new : Parts) (ks : Named ItemKind) (t : Ty) (v : ValueType) → TypeIs old new ks t v → ((naming : Naming) → contains_borrow (means naming new (kinds.Value v)) ≡ false) → ResultTypeIs old new ks t v
+result_type_is old new ks t v h none = record { grows = h.grows; named = h.named; is = λ naming. (h.is naming, none naming) }
 
-pub scalar_is : (old new : Parts) (ks : Named ItemKind) (x : CodeResultList) (t : «Type») (v : ValueType) → x ≡ results.Scalar t → TypeIs old new ks (ty_of t) v → ((naming : Naming) → contains_borrow (means naming new (kinds.Value v)) ≡ false) → ResultIs old new ks (result_list_of x) (Some v)
-scalar_is old new ks x t v is h none = subst (λ (y : CodeResultList). ResultIs old new ks (result_list_of y) (Some v)) (sym is) (record {
+pub borrow_breaks : (old new : Parts) (ks : Named ItemKind) (t : Ty) (v : ValueType) (e : Error) → TypeIs old new ks t v → ((naming : Naming) → contains_borrow (means naming new (kinds.Value v)) ≡ true) → e ≡ borrow_in_result (ty_span t)
+    → (naming : Naming) → ResultTypeBroken (scope_of naming old ks) t e
+borrow_breaks old new ks t v e h has told naming = inr (inr (means naming new (kinds.Value v), h.is naming, has naming, told))
+
+pub scalar_is : (old new : Parts) (ks : Named ItemKind) (x : CodeResultList) (t : «Type») (v : ValueType) → x ≡ results.Scalar t → ResultTypeIs old new ks (ty_of t) v → ResultsAre old new ks (result_list_of x) (given_results.Scalar v)
+scalar_is old new ks x t v is h = subst (λ (y : CodeResultList). ResultsAre old new ks (result_list_of y) (given_results.Scalar v)) (sym is) (record {
   grows = h.grows;
-  named = h.named;
-  is = λ naming. (means naming new (kinds.Value v), h.is naming, none naming, refl);
+  named = (h.named, tt);
+  are = λ naming. (means naming new (kinds.Value v), h.is naming, refl);
 })
 
-pub scalar_breaks : (g : Parts) (ks : Named ItemKind) (x : CodeResultList) (t : «Type») (e : Error) → x ≡ results.Scalar t → ((naming : Naming) → TypeBroken (scope_of naming g ks) (ty_of t) e) → (naming : Naming) → ResultsBroken (scope_of naming g ks) (result_list_of x) e
-scalar_breaks g ks x t e is h naming = subst (λ (y : CodeResultList). ResultsBroken (scope_of naming g ks) (result_list_of y) e) (sym is) (inl (h naming))
+pub scalar_breaks : (kind : FuncKind) (g : Parts) (ks : Named ItemKind) (x : CodeResultList) (t : «Type») (e : Error) → x ≡ results.Scalar t → ((naming : Naming) → ResultTypeBroken (scope_of naming g ks) (ty_of t) e) → (naming : Naming) → ResultsBroken kind (scope_of naming g ks) (result_list_of x) e
+scalar_breaks kind g ks x t e is h naming = subst (λ (y : CodeResultList). ResultsBroken kind (scope_of naming g ks) (result_list_of y) e) (sym is) (h naming)
 
-pub borrow_breaks : (old new : Parts) (ks : Named ItemKind) (x : CodeResultList) (t : «Type») (v : ValueType) (e : Error) → x ≡ results.Scalar t → TypeIs old new ks (ty_of t) v
-    → ((naming : Naming) → contains_borrow (means naming new (kinds.Value v)) ≡ true) → e ≡ borrow_in_result (ty_span (ty_of t)) → (naming : Naming) → ResultsBroken (scope_of naming old ks) (result_list_of x) e
-borrow_breaks old new ks x t v e is h has told naming = subst (λ (y : CodeResultList). ResultsBroken (scope_of naming old ks) (result_list_of y) e) (sym is) (inr (inr (means naming new (kinds.Value v), h.is naming, has naming, told)))
+-- results with names, of which the code has these trees and this map
+pub named_are : (old new : Parts) (ks : Named ItemKind) (x : CodeResultList) (l : Vec CodeNamedType Global) (xs : List NamedType) (rs : FuncResults) (all : List (String Global × ValueType)) → x ≡ results.Named l → xs ≡ map named_type_of l.items
+    → result_children rs ≡ named_result_children all → ((f : ℕ → Meaning) → results_mean f rs ≡ named_results (values_mean f (by_name all))) → ResultsGo old new ks [] (by_name all) xs → ResultsAre old new ks (result_list_of x) rs
+named_are old new ks x l xs rs all is trees children means h =
+    let p : ResultsGo old new ks [] (by_name all) (map named_type_of l.items) = subst (ResultsGo old new ks [] (by_name all)) trees h in
+    subst (λ (y : CodeResultList). ResultsAre old new ks (result_list_of y) rs) (sym is) (record {
+      grows = p.grows;
+      named = subst (EachKind (Names new.types)) (sym children) (results_named new.types all p.named);
+      are = λ naming. (types_named naming new (by_name all), p.go naming, means (entry_means naming new));
+    })
+
+pub named_break : (kind : FuncKind) (g : Parts) (ks : Named ItemKind) (x : CodeResultList) (l : Vec CodeNamedType Global) (xs : List NamedType) (e : Error) → x ≡ results.Named l → xs ≡ map named_type_of l.items
+    → ((naming : Naming) → Fails (HasResult (scope_of naming g ks)) (ResultBroken kind (scope_of naming g ks) e) [] xs) → (naming : Naming) → ResultsBroken kind (scope_of naming g ks) (result_list_of x) e
+named_break kind g ks x l xs e is trees h naming =
+    subst (λ (y : CodeResultList). ResultsBroken kind (scope_of naming g ks) (result_list_of y) e) (sym is) (subst (Fails (HasResult (scope_of naming g ks)) (ResultBroken kind (scope_of naming g ks) e) []) trees (h naming))
 
 -- ---- function types
 
@@ -71,15 +92,11 @@ each_both : (P : ItemKind → Type 0) (cs ds : List (Slot × Option ItemKind)) �
 each_both P [] ds h i = i
 each_both P (c ∷ cs) ds h i = (h.0, each_both P cs ds h.1 i)
 
-result_named : (es : List Entry) (r : Option ValueType) → IfSome (optional r) (Names es) → EachKind (Names es) (result_children r)
-result_named es None h = tt
-result_named es (Some v) h = (h, tt)
+pub func_kinds : (es : List Entry) (r : FuncResults) (ps : List (String Global × ValueType)) → EachKind (Names es) (result_children r) → TypesNamed es (by_name ps) → EachKind (Names es) (result_children r ++ value_children ps)
+func_kinds es r ps h i = each_both (Names es) (result_children r) (value_children ps) h (values_named es ps i)
 
-pub func_kinds : (es : List Entry) (r : Option ValueType) (ps : List (String Global × ValueType)) → IfSome (optional r) (Names es) → TypesNamed es (by_name ps) → EachKind (Names es) (result_children r ++ value_children ps)
-func_kinds es r ps h i = each_both (Names es) (result_children r) (value_children ps) (result_named es r h) (values_named es ps i)
-
-pub func_is : (old mid late new : Parts) (ks : Named ItemKind) (first ps : Named ValueType) (f : FuncType) (r : Option ValueType) (id : FuncTypeId)
-    → ItemsNamed old.types ks → ParamsGo old mid ks first ps f.params → ResultIs mid late ks f.results r
+pub func_is : (old mid late new : Parts) (ks : Named ItemKind) (first ps : Named ValueType) (f : FuncType) (r : FuncResults) (id : FuncTypeId)
+    → ItemsNamed old.types ks → ParamsGo old mid ks first ps f.params → ResultsAre mid late ks f.results r
     → AddsFunc late new (λ naming. func_entry f.is_async (results_mean (entry_means naming late) r) (values_mean (entry_means naming late) ps)) id → FuncIs old new ks first f id
 func_is old mid late new ks first ps f r id named p q a = record {
   grows = plainly_on old mid new p.grows (plainly_on mid late new q.grows a.grows);
@@ -88,19 +105,19 @@ func_is old mid late new ks first ps f r id named p q a = record {
       let scope : scope_of naming mid ks ≡ scope_of naming old ks = scope_kept old mid ks naming p.grows.grows named in
       let rs : List (Slot × Meaning) = results_mean (entry_means naming late) r in
       let kept : types_named naming late ps ≡ types_named naming mid ps = parts_kept given mid late ps naming q.grows.grows p.named in
-      (types_named naming mid ps, rs, p.go naming, subst (λ (s : Scope). HasResults s f.results rs) scope (q.is naming), a.is naming ∙ ap (λ (l : Named Meaning). func_entry f.is_async rs l) kept);
+      (types_named naming mid ps, rs, p.go naming, subst (λ (s : Scope). HasResults s f.results rs) scope (q.are naming), a.is naming ∙ ap (λ (l : Named Meaning). func_entry f.is_async rs l) kept);
 }
 
 pub func_results_break : (kind : FuncKind) (old mid : Parts) (ks : Named ItemKind) (first ps : Named ValueType) (f : FuncType) (e : Error)
-    → ItemsNamed old.types ks → ParamsGo old mid ks first ps f.params → ((naming : Naming) → ResultsBroken (scope_of naming mid ks) f.results e) → (naming : Naming) → FuncBroken kind (scope_of naming old ks) (types_named naming old first) f e
+    → ItemsNamed old.types ks → ParamsGo old mid ks first ps f.params → ((naming : Naming) → ResultsBroken kind (scope_of naming mid ks) f.results e) → (naming : Naming) → FuncBroken kind (scope_of naming old ks) (types_named naming old first) f e
 func_results_break kind old mid ks first ps f e named p h naming =
     let scope : scope_of naming mid ks ≡ scope_of naming old ks = scope_kept old mid ks naming p.grows.grows named in
-    inr (inr (types_named naming mid ps, p.go naming, subst (λ (s : Scope). ResultsBroken s f.results e) scope (h naming)))
+    inr (inr (types_named naming mid ps, p.go naming, subst (λ (s : Scope). ResultsBroken kind s f.results e) scope (h naming)))
 
 -- ---- constructors and methods
 
 pub constructor_is : (old mid new : Parts) (ks : Named ItemKind) (first ps : Named ValueType) (resource : ResourceId) (xs : List NamedType) (id : FuncTypeId) → first ≡ [] → Names old.types (kinds.Ty (types.Resource resource)) → ParamsGo old mid ks first ps xs
-    → AddsFunc mid new (λ naming. func_entry false (results_mean (entry_means naming mid) (Some (values.Own resource))) (values_mean (entry_means naming mid) ps)) id → ConstructorIs old new ks resource xs id
+    → AddsFunc mid new (λ naming. func_entry false (results_mean (entry_means naming mid) (given_results.Scalar (values.Own resource))) (values_mean (entry_means naming mid) ps)) id → ConstructorIs old new ks resource xs id
 constructor_is old mid new ks first ps resource xs id none there p a =
     let q : ParamsGo old mid ks [] ps xs = subst (λ (l : Named ValueType). ParamsGo old mid ks l ps xs) none p in
     record {

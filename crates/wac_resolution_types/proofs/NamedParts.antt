@@ -8,7 +8,7 @@ use Rattle.wac_grammar.specs.Tree.{Ident}
 use Rattle.wac_types.specs.declared.kind.ItemKind.{ItemKind}
 use Rattle.wac_types.specs.declared.kind.ValueType.{ValueType}
 use Rattle.wac_types.specs.declared.entry.Entry.{Entry}
-use Rattle.wac_types.specs.Entry.{optional, value_children, case_children}
+use Rattle.wac_types.specs.Entry.{optional, value_children, named_result_children, case_children}
 use Rattle.wac_types.specs.Meaning.{Meaning, EachKind}
 use Rattle.wac_types.specs.Names.{by_name}
 use Rattle.wac_types.specs.Scope.{Named, Scope, look_up, StandsFor, IsFresh, with_named}
@@ -113,6 +113,10 @@ parts_break {V} {X} {Y} read step broken f old mid ks ps qs ys i y within at nam
 pub values_named : (es : List Entry) (all : List (String Global × ValueType)) → PartsNamed (λ v. Some v) es (by_name all) → EachKind (Names es) (value_children all)
 values_named es [] h = tt
 values_named es (e ∷ all) h = (h.0, values_named es all h.1)
+
+pub results_named : (es : List Entry) (all : List (String Global × ValueType)) → PartsNamed (λ v. Some v) es (by_name all) → EachKind (Names es) (named_result_children all)
+results_named es [] h = tt
+results_named es (e ∷ all) h = (h.0, results_named es all h.1)
 
 pub cases_named : (es : List Entry) (all : List (String Global × Option ValueType)) → PartsNamed (λ v. v) es (by_name all) → EachKind (Names es) (case_children all)
 cases_named es [] h = tt

@@ -1,6 +1,6 @@
 -- Function types as they are resolved into a graph.
-use Rattle.std.specs.Prelude.{List, [], ◌∷◌, Option, Some, IfSome, Bool, true, false, codes}
-use Rattle.wac_grammar.specs.Tree.{NamedType, ResultList, FuncType}
+use Rattle.std.specs.Prelude.{List, [], ◌∷◌, Option, Some, Bool, true, false, codes}
+use Rattle.wac_grammar.specs.Tree.{Ty, NamedType, ResultList, FuncType}
 use Rattle.wac_types.specs.declared.kind.ItemKind.{ItemKind}
 use Rattle.wac_types.specs.declared.kind.ItemKind.TheVariants as kinds
 use Rattle.wac_types.specs.declared.kind.ValueType.{ValueType}
@@ -8,15 +8,16 @@ use Rattle.wac_types.specs.declared.kind.ValueType.TheVariants as values
 use Rattle.wac_types.specs.declared.kind.FuncTypeId.{FuncTypeId}
 use Rattle.wac_types.specs.declared.kind.ResourceId.{ResourceId}
 use Rattle.wac_types.specs.declared.entry.Entry.{Entry}
-use Rattle.wac_types.specs.Entry.{optional}
-use Rattle.wac_types.specs.Meaning.{Meaning}
+use Rattle.wac_types.specs.declared.entry.FuncResults.{FuncResults}
+use Rattle.wac_types.specs.Entry.{result_children}
+use Rattle.wac_types.specs.Meaning.{Meaning, EachKind}
 use Rattle.wac_types.specs.Scope.{Named, Scope}
 use Rattle.wac_types.specs.Shape.{results_mean}
 use Rattle.wac_types.specs.Table.{Names}
 use Rattle.wac_graph.specs.Graph.{Parts}
-use Rattle.wac_graph.specs.Means.{entry_means}
+use Rattle.wac_graph.specs.Means.{means, entry_means}
 use Rattle.wac_graph.specs.Origin.{Naming}
-use Rattle.wac_resolution_rules.specs.Types.{HasParam, HasResults, IsFuncWith, IsConstructor}
+use Rattle.wac_resolution_rules.specs.Types.{HasParam, HasResultType, HasResult, HasResults, IsFuncWith, IsConstructor}
 use Rattle.wac_resolution_types.specs.Growth.{GrowsPlainly}
 use Rattle.wac_resolution_types.specs.Named.{scope_of}
 use Rattle.wac_resolution_types.specs.NamedParts.{parts_mean, PartsNamed, PartGoes, PartsGo}
@@ -25,7 +26,7 @@ use Rattle.wac_resolution_types.specs.NamedParts.{parts_mean, PartsNamed, PartGo
 abbrev pub given : ValueType → Option ValueType
 given v = Some v
 
--- what parameters and fields mean
+-- what parameters, fields and results with names mean
 abbrev pub types_named : Naming → Parts → Named ValueType → Named Meaning
 types_named naming g all = parts_mean given naming g all
 
@@ -38,11 +39,24 @@ ParamGoes old new ks ps qs x = PartGoes given HasParam old new ks ps qs x
 abbrev pub ParamsGo : Parts → Parts → Named ItemKind → Named ValueType → Named ValueType → List NamedType → Type 0
 ParamsGo old new ks ps qs xs = PartsGo given HasParam old new ks ps qs xs
 
--- what a function gives has these values
-pub record ResultIs (old new : Parts) (ks : Named ItemKind) (r : ResultList) (v : Option ValueType) : Type 0 where
+-- the type of a result has these values
+pub record ResultTypeIs (old new : Parts) (ks : Named ItemKind) (t : Ty) (v : ValueType) : Type 0 where
   pub grows : GrowsPlainly old new
-  pub named : IfSome (optional v) (Names new.types)
-  pub is : (naming : Naming) → HasResults (scope_of naming old ks) r (results_mean (entry_means naming new) v)
+  pub named : Names new.types (kinds.Value v)
+  pub is : (naming : Naming) → HasResultType (scope_of naming old ks) t (means naming new (kinds.Value v))
+
+-- a result with a name, and such results one after another
+abbrev pub ResultGoes : Parts → Parts → Named ItemKind → Named ValueType → Named ValueType → NamedType → Type 0
+ResultGoes old new ks ps qs x = PartGoes given HasResult old new ks ps qs x
+
+abbrev pub ResultsGo : Parts → Parts → Named ItemKind → Named ValueType → Named ValueType → List NamedType → Type 0
+ResultsGo old new ks ps qs xs = PartsGo given HasResult old new ks ps qs xs
+
+-- what a function gives has these values
+pub record ResultsAre (old new : Parts) (ks : Named ItemKind) (r : ResultList) (rs : FuncResults) : Type 0 where
+  pub grows : GrowsPlainly old new
+  pub named : EachKind (Names new.types) (result_children rs)
+  pub are : (naming : Naming) → HasResults (scope_of naming old ks) r (results_mean (entry_means naming new) rs)
 
 -- a function type was added, of an entry of which this holds in the scope
 pub record FuncAdded (old new : Parts) (ks : Named ItemKind) (holds : Naming → Scope → Meaning → Type 0) (f : FuncTypeId) : Type 0 where

@@ -1,27 +1,24 @@
 //! Function types.
-ghost use Rattle.std.specs.Prelude.{◌≡◌, ◌⊎◌, [], List, IfOk, IfErr, OnOk, map, true, false};
-ghost use Rattle.wac_grammar.specs.Spans.{ty_span};
+ghost use Rattle.std.specs.Prelude.{◌≡◌, ◌⊎◌, [], List, IfOk, IfErr, OnOk, map};
 ghost use Rattle.wac_grammar.specs.Tree.{NamedType as ParamTree};
 ghost use Rattle.wac_types.specs.declared.kind.FuncKind.TheVariants as funcs;
 ghost use Rattle.wac_types.specs.declared.kind.ItemKind.TheVariants as kinds;
 ghost use Rattle.wac_types.specs.declared.kind.«Type».TheVariants as types;
 ghost use Rattle.wac_types.specs.Names.{by_name};
 ghost use Rattle.wac_types.specs.Scope.{IsFresh};
-ghost use Rattle.wac_types.specs.Shape.{contains_borrow as has_borrow};
 ghost use Rattle.wac_types.specs.Table.{ItemsNamed, Names as NamesEntry};
 ghost use Rattle.wac_ast_base.specs.Names.{ident_of};
-ghost use Rattle.wac_ast_types.specs.Types.{ty_of};
-ghost use Rattle.wac_ast_types.specs.Declarations.{named_type_of, result_list_of, func_type_of};
+ghost use Rattle.wac_ast_types.specs.Declarations.{named_type_of, func_type_of};
 ghost use Rattle.wac_graph.specs.Graph.{Parts};
-ghost use Rattle.wac_graph.specs.Means.{means, entry_means};
+ghost use Rattle.wac_graph.specs.Means.{entry_means};
 ghost use Rattle.wac_graph.specs.Origin.{Naming};
-ghost use Rattle.wac_resolution_errors.specs.Error.{borrow_in_result, memory};
+ghost use Rattle.wac_resolution_errors.specs.Error.{memory};
 ghost use Rattle.wac_resolution_errors.specs.Told.{told};
 ghost use Rattle.wac_resolution_rules.specs.Types.{first_params};
-ghost use Rattle.wac_resolution_rules.specs.BrokenTypes.{IsRepeatedParameter, ParamBroken, ParamsBroken, ResultsBroken, FuncBroken};
+ghost use Rattle.wac_resolution_rules.specs.BrokenTypes.{IsRepeatedParameter, ParamBroken, ParamsBroken, FuncBroken};
 ghost use Rattle.wac_resolution_rules.specs.BrokenBodies.{method_kind};
 ghost use Rattle.wac_resolution_types.specs.Bindings.{values_of};
-ghost use Rattle.wac_resolution_types.specs.Funcs.{types_named, TypesNamed, ParamGoes, ParamsGo, ResultIs, FuncAdded, FuncIs, ConstructorIs, own_params};
+ghost use Rattle.wac_resolution_types.specs.Funcs.{types_named, TypesNamed, ParamGoes, ParamsGo, FuncAdded, FuncIs, ConstructorIs, own_params};
 ghost use Rattle.wac_resolution_types.specs.Named.{scope_of};
 ghost use Rattle.wac_resolution_rules.specs.Types.{IsFuncWith};
 
@@ -30,9 +27,9 @@ use crate::state::State;
 use indexmap::IndexMap;
 use std::alloc::{AllocError, Global};
 use wac_ast_base::Ident;
-use wac_ast_types::{FuncType, NamedType, ResultList, Type};
+use wac_ast_types::{FuncType, NamedType};
 use wac_graph::names::{find, push};
-use wac_graph::{FuncKind, FuncTypeId, ItemKind, ResourceId, ValueType};
+use wac_graph::{FuncKind, FuncResults, FuncTypeId, ItemKind, ResourceId, ValueType};
 use wac_resolution_errors::Error;
 
 /// Rejects the name of an earlier parameter.
@@ -120,39 +117,6 @@ impl State {
         Ok(())
     }
 
-    /// Rejects a result that contains a borrow.
-    fn check_result(&self, ty: &Type<'_>, value: ValueType) -> Result<(), Error>
-        requires { NamesEntry self.now.graph.types (kinds.Value value) }
-        ensures ok { OnOk result ((naming : Naming) → has_borrow (means naming self.now.graph (kinds.Value value)) ≡ false) }
-        ensures borrow { IfErr result (λ e. (naming : Naming) → has_borrow (means naming self.now.graph (kinds.Value value)) ≡ true) }
-        ensures err { IfErr result (λ e. told e ≡ borrow_in_result (ty_span (ty_of ty.now))) }
-    {
-        if self.graph.types().contains_borrow(value) {
-            return Err(Error::BorrowInResult { span: ty.span() });
-        }
-        Ok(())
-    }
-
-    /// What a function gives.
-    fn result(
-        &mut self,
-        names: &Names<'_, ItemKind>,
-        results: &ResultList<'_>,
-    ) -> Result<Option<ValueType>, Error>
-        requires { ItemsNamed self.old.graph.types (values_of names.now) }
-        ensures ok { IfOk result (λ v. ResultIs self.old.graph self.new.graph (values_of names.now) (result_list_of results.now) v) }
-        ensures err { IfErr result (λ e. (naming : Naming) → ResultsBroken (scope_of naming self.old.graph (values_of names.now)) (result_list_of results.now) (told e)) }
-    {
-        match results {
-            ResultList::Empty => Ok(None),
-            ResultList::Scalar(ty) => {
-                let value = self.ty(names, ty)?;
-                self.check_result(ty, value)?;
-                Ok(Some(value))
-            }
-        }
-    }
-
     /// Adds a function type, where these parameters come first.
     pub fn func(
         &mut self,
@@ -168,11 +132,11 @@ impl State {
     {
         let mut params = first;
         self.params(names, kind, &mut params, &func.params)?;
-        let result = self.result(names, &func.results)?;
+        let results = self.results(names, kind, &func.results)?;
         let is_async = func.is_async;
         Ok(self.add_func(wac_graph::FuncType {
             params,
-            result,
+            results,
             is_async,
         })?)
     }
@@ -193,7 +157,7 @@ impl State {
         self.params(names, FuncKind::Constructor, &mut all, params)?;
         Ok(self.add_func(wac_graph::FuncType {
             params: all,
-            result: Some(ValueType::Own(resource)),
+            results: FuncResults::Scalar(ValueType::Own(resource)),
             is_async: false,
         })?)
     }

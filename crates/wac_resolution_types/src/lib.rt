@@ -8,6 +8,7 @@ mod named;
 mod names;
 mod place;
 mod record;
+mod results;
 mod state;
 mod type_decl;
 mod types;

@@ -39,7 +39,7 @@ impl State {
     /// Adds a function type.
     pub fn add_func(&mut self, func: FuncType) -> Result<FuncTypeId, AllocError>
         requires { EachKind (Names self.old.graph.types) (children (entries.Func func)) }
-        ensures { IfOk result (λ f. AddsFunc self.old.graph self.new.graph (λ naming. func_entry func.is_async (results_mean (entry_means naming self.old.graph) func.result) (values_mean (entry_means naming self.old.graph) (by_name func.params.entries))) f) }
+        ensures { IfOk result (λ f. AddsFunc self.old.graph self.new.graph (λ naming. func_entry func.is_async (results_mean (entry_means naming self.old.graph) func.results) (values_mean (entry_means naming self.old.graph) (by_name func.params.entries))) f) }
     {
         Ok(self.graph.add_func_type(func)?)
     }

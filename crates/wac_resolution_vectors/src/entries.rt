@@ -2,7 +2,7 @@
 
 use indexmap::{IndexMap, IndexSet};
 use std::alloc::{AllocError, Global};
-use wac_types::{DefinedType, Entry, FuncType, Resource, Types, ValueType};
+use wac_types::{DefinedType, Entry, FuncResults, FuncType, Resource, Types, ValueType};
 
 fn push_value(text: &mut String, value: ValueType) -> Result<(), AllocError> {
     match value {
@@ -107,12 +107,20 @@ fn push_resource(text: &mut String, resource: &Resource) -> Result<(), AllocErro
     }
 }
 
+fn push_results(text: &mut String, results: &FuncResults) -> Result<(), AllocError> {
+    match results {
+        FuncResults::None => write!(text, " -"),
+        FuncResults::Scalar(value) => push_value(text, *value),
+        FuncResults::Named(named) => push_parts(text, named),
+    }
+}
+
 fn push_func(text: &mut String, func: &FuncType) -> Result<(), AllocError> {
     let word = if func.is_async { "async func" } else { "func" };
     write!(text, "{word}")?;
     push_parts(text, &func.params)?;
     write!(text, " ->")?;
-    push_optional(text, func.result)
+    push_results(text, &func.results)
 }
 
 fn push_entry(text: &mut String, entry: &Entry) -> Result<(), AllocError> {

@@ -12,7 +12,8 @@ use std::process::Abort;
 use wac_ast_base::{Error as ParseError, Ident, Parse};
 use wac_ast_types::{ResourceDecl, ResourceMethod, TypeAlias, TypeDecl};
 use wac_graph::{
-    CompositionGraph, FuncType, Interface, InterfaceId, ItemKind, Resource, ResourceAlias, Type,
+    CompositionGraph, FuncResults, FuncType, Interface, InterfaceId, ItemKind, Resource,
+    ResourceAlias, Type,
 };
 use wac_lexer::{Lexer, SourceSpan};
 use wac_resolution_errors::Error;
@@ -213,7 +214,7 @@ fn give_function(
 {
     let func = state.add_func(FuncType {
         params: IndexMap::new(state.alloc),
-        result: None,
+        results: FuncResults::None,
         is_async: false,
     })?;
     bind(rt, state, names, &named("f"), ItemKind::Func(func))

@@ -12,7 +12,7 @@ use wac_resolution_errors::Error;
 const GIVEN: usize = 4;
 
 /// Texts that are declared one after another, and the entries that they add.
-const TYPES: [(Form, &[&str], &str); 20] = [
+const TYPES: [(Form, &[&str], &str); 23] = [
     (Form::AtRoot, &["type a = u8;"], "alias U8; "),
     (
         Form::AtRoot,
@@ -69,6 +69,16 @@ const TYPES: [(Form, &[&str], &str); 20] = [
     ),
     (
         Form::AtRoot,
+        &["type a = func(x: u8) -> (x: u8, y: list<r>);"],
+        "list own 0; func x: U8 -> x: U8 y: 4; ",
+    ),
+    (
+        Form::InBody,
+        &["type a = async func() -> (%a: r,);"],
+        "async func -> a: own 0; ",
+    ),
+    (
+        Form::AtRoot,
         &["type a = async func();", "type b = a;", "type c = f;"],
         "async func -> -; ",
     ),
@@ -95,10 +105,17 @@ const TYPES: [(Form, &[&str], &str); 20] = [
         &["resource q { constructor(); m: func(); }"],
         "func -> own 3; func self: borrow 3 -> -; ",
     ),
+    (
+        Form::Methods,
+        &[
+            "resource r { constructor(); m: func() -> (self: u8, x: r); s: static func() -> (a: u8); }",
+        ],
+        "func -> own 0; func self: borrow 0 -> self: U8 x: own 0; func -> a: U8; ",
+    ),
 ];
 
 /// Texts of which the last one breaks a rule, what is reported, and where in that text it stands.
-const ERRORS: [(Form, &[&str], &str, (usize, usize)); 28] = [
+const ERRORS: [(Form, &[&str], &str, (usize, usize)); 36] = [
     (
         Form::AtRoot,
         &["type a = list<%x>;"],
@@ -205,6 +222,54 @@ const ERRORS: [(Form, &[&str], &str, (usize, usize)); 28] = [
     ),
     (
         Form::AtRoot,
+        &["type a = func() -> (a: u8, a: u8);"],
+        "duplicate function result `a`",
+        (27, 1),
+    ),
+    (
+        Form::AtRoot,
+        &["type a = func() -> (a: u8, a: y);"],
+        "undefined name `y`",
+        (30, 1),
+    ),
+    (
+        Form::AtRoot,
+        &["type a = func() -> (a: borrow<r>, b: y);"],
+        "function result cannot recursively contain a borrow type",
+        (23, 9),
+    ),
+    (
+        Form::AtRoot,
+        &["type a = func() -> (a: u8, a: list<borrow<r>>);"],
+        "function result cannot recursively contain a borrow type",
+        (30, 15),
+    ),
+    (
+        Form::AtRoot,
+        &["type a = func(x: y) -> (a: z);"],
+        "undefined name `y`",
+        (17, 1),
+    ),
+    (
+        Form::Methods,
+        &["resource r { m: func() -> (a: u8, a: u8); }"],
+        "duplicate method result `a`",
+        (34, 1),
+    ),
+    (
+        Form::Methods,
+        &["resource r { s: static func() -> (a: u8, %a: u8); }"],
+        "duplicate static method result `a`",
+        (41, 2),
+    ),
+    (
+        Form::Methods,
+        &["resource r { m: func() -> (a: u8, b: list<borrow<r>>); }"],
+        "function result cannot recursively contain a borrow type",
+        (37, 15),
+    ),
+    (
+        Form::AtRoot,
         &["type a = i;"],
         "`i` (interface) cannot be used in a type alias",
         (9, 1),
@@ -270,6 +335,7 @@ fn span(error: &Error) -> Option<SourceSpan> {
         | Error::DuplicateEnumCase { span, .. }
         | Error::DuplicateFlag { span, .. }
         | Error::DuplicateParameter { span, .. }
+        | Error::DuplicateResult { span, .. }
         | Error::BorrowInResult { span }
         | Error::InvalidAliasType { span, .. } => Some(*span),
         _ => None,

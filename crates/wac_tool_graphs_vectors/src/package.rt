@@ -3,13 +3,14 @@
 use indexmap::IndexMap;
 use std::alloc::{AllocError, Global};
 use wac_graph::{
-    FuncType, FuncTypeId, Interface, ItemKind, Package, PackageError, PackageKey, Types, World,
+    FuncResults, FuncType, FuncTypeId, Interface, ItemKind, Package, PackageError, PackageKey,
+    Types, World,
 };
 
 fn func(alloc: Global) -> FuncType {
     FuncType {
         params: IndexMap::new(alloc),
-        result: None,
+        results: FuncResults::None,
         is_async: false,
     }
 }

@@ -36,6 +36,10 @@ fn graphs_are_written(rt: HostRuntime) -> Result<(), Fail> {
             "0 import x: instance [x]\n1 alias 0 f: function [h]\n2 alias 0 g: function\nexport f = 1\nexport g = 2\n",
         ),
         (
+            "package a:b; import x: interface { f: func() -> (a: u32, b: string,); }; export x.f;",
+            "0 import x: instance [x]\n1 alias 0 f: function\nexport f = 1\n",
+        ),
+        (
             "package a:b targets a:b/w; interface i { f: func(x: u8); } world w { import i; export f: func(x: u8); } import x: a:b/i; export x.f;",
             "0 definition: interface [i]\n1 definition: world [w]\n2 import a:b/i: instance [x]\n3 alias 2 f: function\nexport i = 0\nexport w = 1\nexport f = 3\n",
         ),
@@ -71,6 +75,10 @@ fn rejected_documents_are_reported(rt: HostRuntime) -> Result<(), Fail> {
         (
             "package a:b; import i: interface { resource r; }; let x = i.r; type y = x;",
             "error at 72+1: `x` (resource) cannot be used in a type alias\n",
+        ),
+        (
+            "package a:b; interface i { f: func() -> (a: u8, a: u8); }",
+            "error at 48+1: duplicate function result `a`\n",
         ),
         (
             "package a:b; let x = new c:d { ..., y };",
@@ -111,6 +119,10 @@ fn rejected_documents_are_reported(rt: HostRuntime) -> Result<(), Fail> {
         (
             "package a:b targets a:b/w; world w { import f: func(); } import f: func(x: u8);",
             "error at 64+1: import `f` has a mismatched type for target world `a:b/w`\n",
+        ),
+        (
+            "package a:b targets a:b/w; world w { import f: func() -> (a: u8); } import f: func() -> (b: u8);",
+            "error at 75+1: import `f` has a mismatched type for target world `a:b/w`\n",
         ),
         (
             "package a:b targets a:b/w; world w { export run: func(); }",

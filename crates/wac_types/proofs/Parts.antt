@@ -8,6 +8,8 @@ use Rattle.wac_types.specs.declared.kind.ValueType.{ValueType}
 use Rattle.wac_types.specs.declared.entry.Entry.TheVariants as entries
 use Rattle.wac_types.specs.declared.entry.DefinedType.{DefinedType}
 use Rattle.wac_types.specs.declared.entry.DefinedType.TheVariants as defined
+use Rattle.wac_types.specs.declared.entry.FuncResults.{FuncResults}
+use Rattle.wac_types.specs.declared.entry.FuncResults.TheVariants as results
 use Rattle.wac_types.specs.declared.entry.FuncType.{FuncType}
 use Rattle.wac_types.specs.declared.entry.Interface.{Interface}
 use Rattle.wac_types.specs.declared.entry.World.{World}
@@ -17,7 +19,7 @@ use Rattle.wac_types.specs.Entry.{Slot, children, defined_children, use_children
 use Rattle.wac_types.specs.Label.{Plain, plain, defined_label}
 use Rattle.wac_types.specs.Meaning.{Meaning, node, Row, row, of_kind, of_child}
 use Rattle.wac_types.specs.Names.{by_name}
-use Rattle.wac_types.specs.Shape.{nothing, row_from, exporting, importing, using, naming_each, tuple_children, name_children, interface_entry, world_entry, func_entry, exports_of, imports_of, uses_of, id_of, items_mean, values_mean, cases_mean, types_mean, uses_mean, optional_means, results_mean, entry_over, defined_parts, items_in, slot_export}
+use Rattle.wac_types.specs.Shape.{nothing, row_from, exporting, importing, using, naming_each, tuple_children, name_children, interface_entry, world_entry, func_entry, named_results, exports_of, imports_of, uses_of, id_of, items_mean, values_mean, cases_mean, types_mean, uses_mean, optional_means, results_mean, entry_over, defined_parts, items_in, slot_export}
 use Rattle.wac_types.proofs.Shapes.{exports_back, interface_exports_back, interface_uses_back, world_exports_back, world_imports_back, world_uses_back}
 
 -- what stands in an entry, each with its meaning
@@ -67,9 +69,14 @@ types_meant : (f : ℕ → Meaning) (ts : List ValueType) → meant f (slots.tup
 types_meant f [] = refl
 types_meant f (t ∷ ts) = ap (λ l. (Slot.only, of_kind f (kinds.Value t)) ∷ l) (types_meant f ts)
 
-results_meant : (f : ℕ → Meaning) (t : Option ValueType) → meant f (slots.result_children t) ≡ results_mean f t
-results_meant f None = refl
-results_meant f (Some t) = refl
+named_meant : (f : ℕ → Meaning) (rs : List (String Global × ValueType)) → meant f (slots.named_result_children rs) ≡ named_results (values_mean f (by_name rs))
+named_meant f [] = refl
+named_meant f (r ∷ rs) = ap (λ l. (Slot.given (Some (string_bytes r.0)), of_kind f (kinds.Value r.1)) ∷ l) (named_meant f rs)
+
+results_meant : (f : ℕ → Meaning) (rs : FuncResults) → meant f (slots.result_children rs) ≡ results_mean f rs
+results_meant f results.None = refl
+results_meant f (results.Scalar t) = refl
+results_meant f (results.Named rs) = named_meant f rs.entries
 
 pub interface_is : (f : ℕ → Meaning) (origin : ℕ) (i : Interface)
     → entry_over f origin (entries.Interface i) ≡ interface_entry (option_map string_bytes i.id) (uses_mean f (by_name i.uses.entries)) (items_mean f (by_name i.exports.entries))
@@ -94,12 +101,12 @@ world_is f origin w =
     ∙ ap (λ l. (using (uses_mean f (by_name w.uses.entries)) ++ importing (items_mean f (by_name w.imports.entries))) ++ l) (exports_meant f w.exports.entries)))
 
 pub func_is : (f : ℕ → Meaning) (origin : ℕ) (t : FuncType)
-    → entry_over f origin (entries.Func t) ≡ func_entry t.is_async (results_mean f t.result) (values_mean f (by_name t.params.entries))
+    → entry_over f origin (entries.Func t) ≡ func_entry t.is_async (results_mean f t.results) (values_mean f (by_name t.params.entries))
 func_is f origin t = ap (node (plain (Plain.func t.is_async)))
-    (row_is f (slots.result_children t.result ++ value_children t.params.entries)
-    ∙ ap row_from (meant_append f (slots.result_children t.result) (value_children t.params.entries)
-    ∙ ap (λ l. l ++ meant f (value_children t.params.entries)) (results_meant f t.result)
-    ∙ ap (λ l. results_mean f t.result ++ l) (values_meant f t.params.entries)))
+    (row_is f (slots.result_children t.results ++ value_children t.params.entries)
+    ∙ ap row_from (meant_append f (slots.result_children t.results) (value_children t.params.entries)
+    ∙ ap (λ l. l ++ meant f (value_children t.params.entries)) (results_meant f t.results)
+    ∙ ap (λ l. results_mean f t.results ++ l) (values_meant f t.params.entries)))
 
 parts_are : (f : ℕ → Meaning) (d : DefinedType) → meant f (defined_children d) ≡ defined_parts f d
 parts_are f (defined.Tuple ts) = types_meant f ts.items

@@ -11,6 +11,8 @@ use Rattle.wac_types.specs.declared.entry.Entry.{Entry}
 use Rattle.wac_types.specs.declared.entry.Entry.TheVariants as entries
 use Rattle.wac_types.specs.declared.entry.DefinedType.{DefinedType}
 use Rattle.wac_types.specs.declared.entry.DefinedType.TheVariants as defined
+use Rattle.wac_types.specs.declared.entry.FuncResults.{FuncResults}
+use Rattle.wac_types.specs.declared.entry.FuncResults.TheVariants as results
 use Rattle.wac_types.specs.declared.entry.ResourceAlias.{ResourceAlias}
 use Rattle.wac_types.specs.declared.entry.UsedType.{UsedType}
 use Rattle.wac_types.specs.declared.child.Place.{Place}
@@ -22,7 +24,8 @@ pub data Slot : Type 0 where
   ok : Slot
   err : Slot
   named : List ℕ → Slot
-  given : Slot
+  -- a result, with its name, if it has one
+  given : Option (List ℕ) → Slot
   owner : Slot
   source : Slot
   used : List ℕ → Option (List ℕ) → Slot
@@ -35,7 +38,7 @@ slot_of places.Only = only
 slot_of places.Ok = ok
 slot_of places.Err = err
 slot_of (places.Named n) = named n.now
-slot_of places.Given = given
+slot_of (places.Given n) = given (option_map (λ s. s.now) n)
 slot_of places.Owner = owner
 slot_of places.Source = source
 slot_of (places.Used n m) = used n.now (option_map (λ s. s.now) m)
@@ -87,14 +90,18 @@ abbrev pub alias_children : Option ResourceAlias → List (Slot × Option ItemKi
 alias_children None = []
 alias_children (Some a) = (owner, option_map (λ i. kinds.Instance i) a.owner) ∷ (source, Some (kinds.Ty (types.Resource a.source))) ∷ []
 
-abbrev pub result_children : Option ValueType → List (Slot × Option ItemKind)
-result_children None = []
-result_children (Some t) = (given, Some (kinds.Value t)) ∷ []
+abbrev pub named_result_children : List (String Global × ValueType) → List (Slot × Option ItemKind)
+named_result_children rs = map (λ e. (given (Some (string_bytes e.0)), Some (kinds.Value e.1))) rs
+
+abbrev pub result_children : FuncResults → List (Slot × Option ItemKind)
+result_children results.None = []
+result_children (results.Scalar t) = (given None, Some (kinds.Value t)) ∷ []
+result_children (results.Named rs) = named_result_children rs.entries
 
 abbrev pub children : Entry → List (Slot × Option ItemKind)
 children (entries.Defined d) = defined_children d
 children (entries.Resource r) = alias_children r.alias
-children (entries.Func f) = result_children f.result ++ value_children f.params.entries
+children (entries.Func f) = result_children f.results ++ value_children f.params.entries
 children (entries.Interface i) = use_children i.uses.entries ++ export_children i.exports.entries
 children (entries.World w) = use_children w.uses.entries ++ import_children w.imports.entries ++ export_children w.exports.entries
 

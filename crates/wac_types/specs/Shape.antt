@@ -5,6 +5,8 @@ use Rattle.wac_types.specs.declared.kind.ValueType.{ValueType}
 use Rattle.wac_types.specs.declared.kind.ItemKind.{ItemKind}
 use Rattle.wac_types.specs.declared.kind.ItemKind.TheVariants as kinds
 use Rattle.wac_types.specs.declared.entry.UsedType.{UsedType}
+use Rattle.wac_types.specs.declared.entry.FuncResults.{FuncResults}
+use Rattle.wac_types.specs.declared.entry.FuncResults.TheVariants as results
 use Rattle.wac_types.specs.declared.entry.DefinedType.{DefinedType}
 use Rattle.wac_types.specs.declared.entry.DefinedType.TheVariants as types
 use Rattle.wac_types.specs.declared.entry.Entry.{Entry}
@@ -278,7 +280,11 @@ func_entry is_async results params = node (plain (Plain.func is_async)) (row_fro
 
 -- a result without a name
 abbrev pub one_result : Meaning → List (Slot × Meaning)
-one_result m = (given, m) ∷ []
+one_result m = (given None, m) ∷ []
+
+-- results with names
+abbrev pub named_results : Named Meaning → List (Slot × Meaning)
+named_results all = map (λ e. (given (Some e.0), e.1)) all
 
 abbrev pub in_slot_owner : Row → Meaning
 in_slot_owner done = nothing
@@ -366,9 +372,10 @@ cases_mean f all = map (λ e. (e.0, optional_means f e.1)) all
 abbrev pub types_mean : (ℕ → Meaning) → List ValueType → List Meaning
 types_mean f all = map (λ t. of_kind f (kinds.Value t)) all
 
-abbrev pub results_mean : (ℕ → Meaning) → Option ValueType → List (Slot × Meaning)
-results_mean f None = []
-results_mean f (Some t) = one_result (of_kind f (kinds.Value t))
+abbrev pub results_mean : (ℕ → Meaning) → FuncResults → List (Slot × Meaning)
+results_mean f results.None = []
+results_mean f (results.Scalar t) = one_result (of_kind f (kinds.Value t))
+results_mean f (results.Named rs) = named_results (values_mean f (by_name rs.entries))
 
 -- what stands in a defined type
 abbrev pub defined_parts : (ℕ → Meaning) → DefinedType → List (Slot × Meaning)

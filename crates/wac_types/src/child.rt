@@ -1,8 +1,10 @@
 //! The kinds that stand in an entry, one by one.
-ghost use Rattle.std.specs.Prelude.{◌≡◌, [], ◌∷◌, ◌++◌, ◌<◌, IsTrue, ◌↔◌, length, slice_get, option_map};
-ghost use Rattle.wac_types.specs.Entry.{children, child_view, slot_of, value_children, case_children, name_children, tuple_children, use_children, import_children, export_children, sort_of};
+ghost use Rattle.std.specs.Prelude.{◌≡◌, [], ◌∷◌, ◌++◌, ◌<◌, ◌^◌, IsTrue, ◌↔◌, length, slice_get, option_map};
+ghost use Rattle.wac_types.specs.Entry.{children, child_view, slot_of, value_children, case_children, name_children, tuple_children, use_children, import_children, export_children, named_result_children, result_children, sort_of};
 
-use crate::entry::{DefinedType, Entry, FuncType, Interface, Resource, UsedType, World};
+use crate::entry::{
+    DefinedType, Entry, FuncResults, FuncType, Interface, Resource, UsedType, World,
+};
 use crate::kind::{ItemKind, Sort, Type, ValueType};
 use indexmap::{IndexMap, IndexSet};
 
@@ -13,7 +15,7 @@ pub enum Place<'a> {
     Ok,
     Err,
     Named(&'a str),
-    Given,
+    Given(Option<&'a str>),
     Owner,
     Source,
     Used(&'a str, Option<&'a str>),
@@ -47,7 +49,7 @@ impl<'a> Place<'a> {
             (Place::Ok, Place::Ok) => true,
             (Place::Err, Place::Err) => true,
             (Place::Named(a), Place::Named(b)) => a == b,
-            (Place::Given, Place::Given) => true,
+            (Place::Given(a), Place::Given(b)) => same_text(a, b),
             (Place::Owner, Place::Owner) => true,
             (Place::Source, Place::Source) => true,
             (Place::Used(a, c), Place::Used(b, d)) => a == b && same_text(c, d),
@@ -103,6 +105,16 @@ fn named(fields: &IndexMap<String, ValueType>, at: usize) -> Option<Child<'_>>
     let (name, v) = fields.get_index(at)?;
     Some(Child {
         place: Place::Named(name.as_str()),
+        kind: Some(ItemKind::Value(*v)),
+    })
+}
+
+fn given(results: &IndexMap<String, ValueType>, at: usize) -> Option<Child<'_>>
+    ensures { option_map child_view result ≡ slice_get (named_result_children results.now.entries) at }
+{
+    let (name, v) = results.get_index(at)?;
+    Some(Child {
+        place: Place::Given(Some(name.as_str())),
         kind: Some(ItemKind::Value(*v)),
     })
 }
@@ -254,31 +266,44 @@ impl Resource {
     }
 }
 
+impl FuncResults {
+    fn len(&self) -> usize
+        ensures len { result ≡ length (result_children self.now) }
+        ensures small { result < 2 ^ 63 }
+    {
+        match self {
+            FuncResults::None => 0,
+            FuncResults::Scalar(_) => 1,
+            FuncResults::Named(results) => results.len(),
+        }
+    }
+
+    fn child(&self, at: usize) -> Option<Child<'_>>
+        ensures { option_map child_view result ≡ slice_get (result_children self.now) at }
+    {
+        match self {
+            FuncResults::None => None,
+            FuncResults::Scalar(v) => only(at, Place::Given(None), value(Some(*v))),
+            FuncResults::Named(results) => given(results, at),
+        }
+    }
+}
+
 impl FuncType {
     fn len(&self) -> usize
         ensures { result ≡ length (children (Entry.Func self.now)) }
     {
-        match self.result {
-            None => self.params.len(),
-            Some(_) => self.params.len() + 1,
-        }
+        self.results.len() + self.params.len()
     }
 
     fn child(&self, at: usize) -> Option<Child<'_>>
         ensures { option_map child_view result ≡ slice_get (children (Entry.Func self.now)) at }
     {
-        match self.result {
-            None => named(&self.params, at),
-            Some(v) => {
-                if at == 0 {
-                    Some(Child {
-                        place: Place::Given,
-                        kind: Some(ItemKind::Value(v)),
-                    })
-                } else {
-                    named(&self.params, at - 1)
-                }
-            }
+        let results = self.results.len();
+        if at < results {
+            self.results.child(at)
+        } else {
+            named(&self.params, at - results)
         }
     }
 }

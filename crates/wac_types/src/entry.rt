@@ -26,11 +26,22 @@ pub enum DefinedType {
     Future(Option<ValueType>),
 }
 
+/// What a function gives.
+#[derive(Drop)]
+pub enum FuncResults {
+    /// Nothing.
+    None,
+    /// A value, without a name.
+    Scalar(ValueType),
+    /// A value under each name. Without any name it means the same as `None`.
+    Named(IndexMap<String, ValueType>),
+}
+
 /// The type of a function.
 #[derive(Drop)]
 pub struct FuncType {
     pub params: IndexMap<String, ValueType>,
-    pub result: Option<ValueType>,
+    pub results: FuncResults,
     pub is_async: bool,
 }
 

@@ -23,7 +23,7 @@ mod rules;
 mod types;
 
 pub use entry::{
-    DefinedType, Entry, FuncType, Interface, Resource, ResourceAlias, UsedType, World,
+    DefinedType, Entry, FuncResults, FuncType, Interface, Resource, ResourceAlias, UsedType, World,
 };
 pub use kind::{
     DefinedTypeId, ExternKind, FuncKind, FuncTypeId, InterfaceId, ItemKind, ModuleTypeId,

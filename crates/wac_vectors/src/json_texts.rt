@@ -58,7 +58,7 @@ fn has_json(rt: &impl Abort, alloc: Global, source: &str, json: &str) -> Result<
 }
 
 /// Texts, and the JSON of the tree of each.
-const TEXTS: [(&str, &str); 13] = [
+const TEXTS: [(&str, &str); 14] = [
     // directive alone
     (
         "package a:b;",
@@ -103,6 +103,11 @@ const TEXTS: [(&str, &str); 13] = [
     (
         "package a:b; type t = tuple<list<u8>, option<t>, result, result<u8>, result<_, u8>, result<u8, list<u8>>, result<_, _>, borrow<r>, stream, stream<u8>, future, future<u8>, tuple<tuple<u8>>>;",
         r#"{"directive":{"package":{"name":"a:b","span":{"length":3,"offset":8},"string":"a:b","version":null}},"docs":[],"statements":[{"Type":{"type":{"alias":{"docs":[],"id":{"span":{"length":1,"offset":18},"string":"t"},"kind":{"type":{"tuple":[[{"list":[{"u8":{"length":2,"offset":33}},{"length":8,"offset":28}]},{"option":[{"ident":{"span":{"length":1,"offset":45},"string":"t"}},{"length":9,"offset":38}]},{"result":{"err":null,"ok":null,"span":{"length":6,"offset":49}}},{"result":{"err":null,"ok":{"u8":{"length":2,"offset":64}},"span":{"length":10,"offset":57}}},{"result":{"err":{"u8":{"length":2,"offset":79}},"ok":null,"span":{"length":13,"offset":69}}},{"result":{"err":{"list":[{"u8":{"length":2,"offset":100}},{"length":8,"offset":95}]},"ok":{"u8":{"length":2,"offset":91}},"span":{"length":20,"offset":84}}},{"result":{"err":null,"ok":null,"span":{"length":12,"offset":106}}},{"borrow":[{"span":{"length":1,"offset":127},"string":"r"},{"length":9,"offset":120}]},{"stream":[null,{"length":6,"offset":131}]},{"stream":[{"u8":{"length":2,"offset":146}},{"length":10,"offset":139}]},{"future":[null,{"length":6,"offset":151}]},{"future":[{"u8":{"length":2,"offset":166}},{"length":10,"offset":159}]},{"tuple":[[{"tuple":[[{"u8":{"length":2,"offset":183}}],{"length":9,"offset":177}]}],{"length":16,"offset":171}]}],{"length":166,"offset":22}]}}}}}}]}"#,
+    ),
+    // results with names
+    (
+        "package a:b; type t = func() -> (a: u8, b: t);",
+        r#"{"directive":{"package":{"name":"a:b","span":{"length":3,"offset":8},"string":"a:b","version":null}},"docs":[],"statements":[{"Type":{"type":{"alias":{"docs":[],"id":{"span":{"length":1,"offset":18},"string":"t"},"kind":{"func":{"isAsync":false,"params":[],"results":{"named":[{"id":{"span":{"length":1,"offset":33},"string":"a"},"ty":{"u8":{"length":2,"offset":36}}},{"id":{"span":{"length":1,"offset":40},"string":"b"},"ty":{"ident":{"span":{"length":1,"offset":43},"string":"t"}}}]}}}}}}}]}"#,
     ),
     // declarations
     (

@@ -15,7 +15,7 @@ fn printed(rt: &impl Abort, alloc: Global, source: &str, space: Option<&str>) ->
 }
 
 /// Texts, and what each is formatted to.
-pub(crate) const FORMATTED: [(&str, &str); 10] = [
+pub(crate) const FORMATTED: [(&str, &str); 12] = [
     ("package a:b;", "package a:b;\n\n"),
     (
         "package a:b targets c:d/e;",
@@ -48,6 +48,14 @@ pub(crate) const FORMATTED: [(&str, &str); 10] = [
     (
         "package a:b; world w { include v with { a as b }; include u with {}; }",
         "package a:b;\n\nworld w {\n    include v with {\n        a as b,\n    };\n\n    include u;\n}\n",
+    ),
+    (
+        "package a:b; interface i { f: func() -> (a: u32, b: string,); }",
+        "package a:b;\n\ninterface i {\n    f: func() -> (a: u32, b: string);\n}\n",
+    ),
+    (
+        "package a:b; interface i { resource r { m: static async func(x:u8)->(%y :r); } }",
+        "package a:b;\n\ninterface i {\n    resource r {\n        m: static async func(x: u8) -> (%y: r);\n    }\n}\n",
     ),
     (DOCUMENTED, DOCUMENTED_PRINTED),
 ];

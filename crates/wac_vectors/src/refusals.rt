@@ -9,7 +9,7 @@ use wac_parser::{Document, Error};
 pub(crate) type Row = (&'static str, &'static str, usize, usize);
 
 /// Texts that are rejected at a token.
-pub(crate) const AT_TOKENS: [Row; 13] = [
+pub(crate) const AT_TOKENS: [Row; 17] = [
     (
         "package a:b; record r { x:u32 }",
         "expected `}` or identifier, found package name",
@@ -88,10 +88,34 @@ pub(crate) const AT_TOKENS: [Row; 13] = [
         49,
         1,
     ),
+    (
+        "package a:b; interface i { f: func() -> (); }",
+        "expected identifier, found `)`",
+        41,
+        1,
+    ),
+    (
+        "package a:b; interface i { f: func() -> (a: u8 b: u8); }",
+        "expected `,`, found identifier",
+        47,
+        1,
+    ),
+    (
+        "package a:b; interface i { f: func() -> (a: u8,,); }",
+        "expected `)` or identifier, found `,`",
+        47,
+        1,
+    ),
+    (
+        "package a:b; interface i { resource r { constructor() -> (a: u8); } }",
+        "expected `;`, found `->`",
+        54,
+        2,
+    ),
 ];
 
 /// Texts that are rejected at their end.
-const AT_THE_END: [Row; 3] = [
+const AT_THE_END: [Row; 5] = [
     (
         "package a:b; record r { x: u32",
         "expected `}` or identifier, found end of input",
@@ -108,6 +132,18 @@ const AT_THE_END: [Row; 3] = [
         "package a:b; import x: interface {",
         "expected either `}`, `use` keyword, identifier, `resource` keyword, `variant` keyword, `record` keyword, `flags` keyword, `enum` keyword, or `type` keyword, found end of input",
         32,
+        1,
+    ),
+    (
+        "package a:b; interface i { f: func() -> (",
+        "expected identifier, found end of input",
+        40,
+        1,
+    ),
+    (
+        "package a:b; interface i { f: func() -> (a: u8",
+        "expected `)` or identifier, found end of input",
+        43,
         1,
     ),
 ];

@@ -31,7 +31,7 @@ pub(crate) const DOCUMENTED_PRINTED: &str =
     /// Doc comment #10!\nexport x as \"foo\";\n";
 
 /// Texts that have a tree.
-pub(crate) const DOCUMENTS: [&str; 25] = [
+pub(crate) const DOCUMENTS: [&str; 26] = [
     "package a:b;",
     "package a:b targets c:d/e;",
     DOCUMENTED,
@@ -51,6 +51,8 @@ pub(crate) const DOCUMENTS: [&str; 25] = [
     "package a:b; import x: %c:d/e/%f@1.0.0;",
     "package a:b@18446744073709551615.0.0;",
     "package a:b; interface i { f: func() -> ; }",
+    "package a:b; interface i { f: func() -> (a: u32, b: string,); }",
+    "package a:b; type t = func(a: u8) -> (%a: tuple<u8, u8>);",
     "package a:b; export (x.y)[ \"q\" ].z as \"n\";",
     "package a:b; interface i { resource r; use j.{}; }",
     "package a:b; world w { include v with { a as b }; include u with {}; }",
@@ -60,7 +62,7 @@ pub(crate) const DOCUMENTS: [&str; 25] = [
 ];
 
 /// Texts that have none.
-pub(crate) const OTHERS: [&str; 22] = [
+pub(crate) const OTHERS: [&str; 25] = [
     "",
     "package a:b; x // \u{202a}",
     "package a:b; record r { x:u32 }",
@@ -83,4 +85,7 @@ pub(crate) const OTHERS: [&str; 22] = [
     "package a:b; let x = new c:d { \"e\" # };",
     "package a:b@1.0.0-;",
     "package a:b@18446744073709551616.0.0;",
+    "package a:b; interface i { f: func() -> (); }",
+    "package a:b; interface i { f: func() -> (a: u8 b: u8); }",
+    "package a:b; interface i { resource r { constructor() -> (a: u8); } }",
 ];

@@ -5,9 +5,10 @@ use std::process::Abort;
 use std::test::Fail;
 use wac_parser::lexer::SourceSpan;
 use wac_parser::{
-    Document, ExportOptions, Expr, ExternName, FuncTypeRef, ImportType, InstantiationArgument,
-    InterfaceItem, ItemTypeDecl, PackagePath, PostfixExpr, PrimaryExpr, ResourceMethod, ResultList,
-    SegmentSpans, Statement, Type, TypeAliasKind, TypeDecl, TypeStatement,
+    Document, ExportOptions, Expr, ExternName, FuncType, FuncTypeRef, ImportType,
+    InstantiationArgument, InterfaceItem, ItemTypeDecl, PackagePath, PostfixExpr, PrimaryExpr,
+    ResourceMethod, ResultList, SegmentSpans, Statement, Type, TypeAliasKind, TypeDecl,
+    TypeStatement,
 };
 
 /// The document of a text that has a tree.
@@ -99,8 +100,8 @@ fn segments_outlive_their_path(rt: &impl Abort, alloc: Global, source: &str) {
     assert_eq!(rt; segments.next(), None);
 }
 
-/// Whether the first function of the first interface gives nothing, whether it is `async`, and how many parameters it has.
-fn function(document: &Document<'_>) -> Option<(bool, bool, usize)> {
+/// The first function of the first interface.
+fn first_function<'d, 'a>(document: &'d Document<'a>) -> Option<&'d FuncType<'a>> {
     let Statement::Ty(TypeStatement::Interface(interface)) = document.statements.first()? else {
         return None;
     };
@@ -110,9 +111,25 @@ fn function(document: &Document<'_>) -> Option<(bool, bool, usize)> {
     let FuncTypeRef::Func(func) = &export.ty else {
         return None;
     };
+    Some(func)
+}
+
+/// Whether the first function gives nothing, whether it is `async`, and how many parameters it has.
+fn function(document: &Document<'_>) -> Option<(bool, bool, usize)> {
+    let func = first_function(document)?;
     match &func.results {
         ResultList::Empty => Some((true, func.is_async, func.params.len())),
-        ResultList::Scalar(_) => Some((false, func.is_async, func.params.len())),
+        ResultList::Scalar(_) | ResultList::Named(_) => {
+            Some((false, func.is_async, func.params.len()))
+        }
+    }
+}
+
+/// The names of the first function's two results.
+fn result_names<'a>(document: &Document<'a>) -> Option<(&'a str, &'a str)> {
+    match &first_function(document)?.results {
+        ResultList::Named(named) => Some((named.get(0)?.id.string, named.get(1)?.id.string)),
+        ResultList::Empty | ResultList::Scalar(_) => None,
     }
 }
 
@@ -263,6 +280,8 @@ fn statements_and_their_parts(rt: HostRuntime) {
         function(&parsed(&rt, alloc, source)),
         Some((true, false, 0))
     );
+    let source = "package a:b; interface i { f: func() -> (a: u32, %b: string,); }";
+    assert_eq!(rt; result_names(&parsed(&rt, alloc, source)), Some(("a", "b")));
     export_parts(&rt, alloc);
     let source = "package a:b; let x = new c:d { ..., y };";
     assert_eq!(rt; filled(&parsed(&rt, alloc, source)), Some((true, 2)));

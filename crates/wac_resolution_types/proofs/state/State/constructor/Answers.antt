@@ -1,8 +1,9 @@
-use Rattle.std.proofs.Common.{map, [], ◌≡◌, Some, rules}
+use Rattle.std.proofs.Common.{map, [], ◌≡◌, rules}
 use Rattle.std.proofs.lemmas.Result.{err_from_is_err_and}
 use Rattle.wac_types.specs.declared.kind.ItemKind.TheVariants as kinds
 use Rattle.wac_types.specs.declared.kind.«Type».TheVariants as types
 use Rattle.wac_types.specs.declared.kind.ValueType.TheVariants as values
+use Rattle.wac_types.specs.declared.entry.FuncResults.TheVariants as given_results
 use Rattle.wac_types.specs.Names.{by_name}
 use Rattle.wac_ast_types.specs.Declarations.{named_type_of}
 use Rattle.wac_resolution_errors.specs.Told.{told}
@@ -20,7 +21,7 @@ returns-in_err-params-clause-err c =
 
 pub add_func-requires : goal.add_func-requires
 add_func-requires c =
-    func_kinds c.params.new.self.graph.types (Some (values.Own c.args.resource)) c.params.new.all.entries (c.in_ok-params.ensures.ok.grows.grows.named (kinds.Ty (types.Resource c.args.resource)) c.requires.resource) c.in_ok-params.ensures.ok.named
+    func_kinds c.params.new.self.graph.types (given_results.Scalar (values.Own c.args.resource)) c.params.new.all.entries (c.in_ok-params.ensures.ok.grows.grows.named (kinds.Ty (types.Resource c.args.resource)) c.requires.resource, tt) c.in_ok-params.ensures.ok.named
 
 pub returns-clause-ok : goal.returns-clause-ok
 returns-clause-ok c =

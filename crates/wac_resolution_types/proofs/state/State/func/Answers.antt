@@ -10,20 +10,20 @@ use Rattle.wac_resolution_types.proofs.NamedParts.{parts_still_named}
 use Rattle.wac_resolution_types.proofs.FuncParts.{func_is, func_kinds, func_results_break}
 use Rattle.wac_resolution_types.proofs.state.State.func.Goals as goal
 
-pub returns-in_err-result-clause-err : goal.returns-in_err-result-clause-err
-returns-in_err-result-clause-err c =
+pub returns-in_err-results-clause-err : goal.returns-in_err-results-clause-err
+returns-in_err-results-clause-err c =
     let go = subst (λ (l : List NamedType). ParamsGo c.args.self.now.graph c.params.new.self.graph (values_of c.args.names.now) (by_name c.args.first.entries) (by_name c.params.new.all.entries) (map named_type_of l)) c.deref.ensures.value c.in_ok-params.ensures.ok in
-    let p = err_from_is_err_and c.from_residual-in_err-result.result c.from_residual-in_err-result.ensures.1 in
-    rw (p.1, p.2) (func_results_break c.args.kind c.args.self.now.graph c.params.new.self.graph (values_of c.args.names.now) (by_name c.args.first.entries) (by_name c.params.new.all.entries) (func_type_of c.args.func.now) (told c.in_err-result.field-0.0)
-    c.requires.scope go c.in_err-result.ensures.err)
+    let p = err_from_is_err_and c.from_residual-in_err-results.result c.from_residual-in_err-results.ensures.1 in
+    rw (p.1, p.2) (func_results_break c.args.kind c.args.self.now.graph c.params.new.self.graph (values_of c.args.names.now) (by_name c.args.first.entries) (by_name c.params.new.all.entries) (func_type_of c.args.func.now) (told c.in_err-results.field-0.0)
+    c.requires.scope go c.in_err-results.ensures.err)
 
 pub add_func-requires : goal.add_func-requires
 add_func-requires c =
-    func_kinds c.result.new.self.graph.types c.in_ok-result.result c.params.new.all.entries c.in_ok-result.ensures.ok.named
-    (parts_still_named given c.params.new.self.graph c.result.new.self.graph (by_name c.params.new.all.entries) c.in_ok-result.ensures.ok.grows.grows c.in_ok-params.ensures.ok.named)
+    func_kinds c.results.new.self.graph.types c.in_ok-results.results c.params.new.all.entries c.in_ok-results.ensures.ok.named
+    (parts_still_named given c.params.new.self.graph c.results.new.self.graph (by_name c.params.new.all.entries) c.in_ok-results.ensures.ok.grows.grows c.in_ok-params.ensures.ok.named)
 
 pub returns-clause-ok : goal.returns-clause-ok
 returns-clause-ok c =
     let go = subst (λ (l : List NamedType). ParamsGo c.args.self.now.graph c.params.new.self.graph (values_of c.args.names.now) (by_name c.args.first.entries) (by_name c.params.new.all.entries) (map named_type_of l)) c.deref.ensures.value c.in_ok-params.ensures.ok in
-    func_is c.args.self.now.graph c.params.new.self.graph c.result.new.self.graph c.add_func.new.self.graph (values_of c.args.names.now) (by_name c.args.first.entries) (by_name c.params.new.all.entries) (func_type_of c.args.func.now) c.in_ok-result.result c.in_ok-add_func.field-0
-    c.requires.scope go c.in_ok-result.ensures.ok c.in_ok-add_func.ensures
+    func_is c.args.self.now.graph c.params.new.self.graph c.results.new.self.graph c.add_func.new.self.graph (values_of c.args.names.now) (by_name c.args.first.entries) (by_name c.params.new.all.entries) (func_type_of c.args.func.now) c.in_ok-results.results c.in_ok-add_func.field-0
+    c.requires.scope go c.in_ok-results.ensures.ok c.in_ok-add_func.ensures

@@ -1,0 +1,142 @@
+//! What functions give.
+ghost use Rattle.std.specs.Prelude.{◌≡◌, [], List, IfOk, IfErr, OnOk, map, true, false};
+ghost use Rattle.wac_grammar.specs.Spans.{ty_span};
+ghost use Rattle.wac_grammar.specs.Tree.{NamedType as ResultTree};
+ghost use Rattle.wac_types.specs.declared.kind.ItemKind.TheVariants as kinds;
+ghost use Rattle.wac_types.specs.Names.{by_name};
+ghost use Rattle.wac_types.specs.Scope.{IsFresh};
+ghost use Rattle.wac_types.specs.Shape.{contains_borrow as has_borrow};
+ghost use Rattle.wac_types.specs.Steps.{Fails};
+ghost use Rattle.wac_types.specs.Table.{ItemsNamed, Names as NamesEntry};
+ghost use Rattle.wac_ast_base.specs.Names.{ident_of};
+ghost use Rattle.wac_ast_types.specs.Types.{ty_of};
+ghost use Rattle.wac_ast_types.specs.Declarations.{named_type_of, result_list_of};
+ghost use Rattle.wac_graph.specs.Graph.{Parts};
+ghost use Rattle.wac_graph.specs.Means.{means};
+ghost use Rattle.wac_graph.specs.Origin.{Naming};
+ghost use Rattle.wac_resolution_errors.specs.Error.{borrow_in_result};
+ghost use Rattle.wac_resolution_errors.specs.Told.{told};
+ghost use Rattle.wac_resolution_rules.specs.Types.{HasResult};
+ghost use Rattle.wac_resolution_rules.specs.BrokenTypes.{IsRepeatedResult, ResultTypeBroken, ResultBroken, ResultsBroken};
+ghost use Rattle.wac_resolution_types.specs.Bindings.{values_of};
+ghost use Rattle.wac_resolution_types.specs.Funcs.{types_named, TypesNamed, ResultTypeIs, ResultGoes, ResultsGo, ResultsAre};
+ghost use Rattle.wac_resolution_types.specs.Named.{scope_of};
+
+use crate::names::Names;
+use crate::state::State;
+use indexmap::IndexMap;
+use std::alloc::Global;
+use wac_ast_base::Ident;
+use wac_ast_types::{NamedType, ResultList, Type};
+use wac_graph::names::{find, push};
+use wac_graph::{FuncKind, FuncResults, ItemKind, ValueType};
+use wac_resolution_errors::Error;
+
+/// Rejects the name of an earlier result.
+#[tactic(auto, using(crate::proofs::Scopes::memory_told))]
+fn check_result_name(
+    alloc: Global,
+    kind: FuncKind,
+    all: &IndexMap<String, ValueType>,
+    id: &Ident<'_>,
+) -> Result<(), Error>
+    ensures ok { OnOk result (IsFresh id.now.string.now (by_name all.now.entries)) }
+    ensures err { IfErr result (λ e. (naming : Naming) (g : Parts) → IsRepeatedResult kind (types_named naming g (by_name all.now.entries)) (ident_of id.now) (told e)) }
+{
+    match find(all, id.string) {
+        Some(_) => Err(Error::DuplicateResult {
+            kind,
+            name: String::from_str(alloc, id.string)?,
+            span: id.span,
+        }),
+        None => Ok(()),
+    }
+}
+
+impl State {
+    /// Rejects a result that contains a borrow.
+    fn check_result(&self, ty: &Type<'_>, value: ValueType) -> Result<(), Error>
+        requires { NamesEntry self.now.graph.types (kinds.Value value) }
+        ensures ok { OnOk result ((naming : Naming) → has_borrow (means naming self.now.graph (kinds.Value value)) ≡ false) }
+        ensures borrow { IfErr result (λ e. (naming : Naming) → has_borrow (means naming self.now.graph (kinds.Value value)) ≡ true) }
+        ensures err { IfErr result (λ e. told e ≡ borrow_in_result (ty_span (ty_of ty.now))) }
+    {
+        if self.graph.types().contains_borrow(value) {
+            return Err(Error::BorrowInResult { span: ty.span() });
+        }
+        Ok(())
+    }
+
+    /// The type of a result.
+    fn result_type(
+        &mut self,
+        names: &Names<'_, ItemKind>,
+        ty: &Type<'_>,
+    ) -> Result<ValueType, Error>
+        requires { ItemsNamed self.old.graph.types (values_of names.now) }
+        ensures ok { IfOk result (λ v. ResultTypeIs self.old.graph self.new.graph (values_of names.now) (ty_of ty.now) v) }
+        ensures err { IfErr result (λ e. (naming : Naming) → ResultTypeBroken (scope_of naming self.old.graph (values_of names.now)) (ty_of ty.now) (told e)) }
+    {
+        let value = self.ty(names, ty)?;
+        self.check_result(ty, value)?;
+        Ok(value)
+    }
+
+    /// Takes a result with a name.
+    fn named_result(
+        &mut self,
+        names: &Names<'_, ItemKind>,
+        kind: FuncKind,
+        all: &mut IndexMap<String, ValueType>,
+        named: &NamedType<'_>,
+    ) -> Result<(), Error>
+        requires scope { ItemsNamed self.old.graph.types (values_of names.now) }
+        requires parts { TypesNamed self.old.graph.types (by_name all.old.entries) }
+        ensures ok { OnOk result (ResultGoes self.old.graph self.new.graph (values_of names.now) (by_name all.old.entries) (by_name all.new.entries) (named_type_of named.now)) }
+        ensures err { IfErr result (λ e. (naming : Naming) (before : List ResultTree) → ResultBroken kind (scope_of naming self.old.graph (values_of names.now)) (told e) (types_named naming self.old.graph (by_name all.old.entries)) before (named_type_of named.now)) }
+    {
+        let value = self.result_type(names, &named.ty)?;
+        check_result_name(self.alloc, kind, all, &named.id)?;
+        push(self.alloc, all, named.id.string, value)?;
+        Ok(())
+    }
+
+    /// Takes results with names, one after another.
+    fn named_results(
+        &mut self,
+        names: &Names<'_, ItemKind>,
+        kind: FuncKind,
+        named: &[NamedType<'_>],
+    ) -> Result<IndexMap<String, ValueType>, Error>
+        requires { ItemsNamed self.old.graph.types (values_of names.now) }
+        ensures ok { IfOk result (λ all. ResultsGo self.old.graph self.new.graph (values_of names.now) [] (by_name all.entries) (map named_type_of named.now)) }
+        ensures err { IfErr result (λ e. (naming : Naming) → let scope = scope_of naming self.old.graph (values_of names.now) in Fails (HasResult scope) (ResultBroken kind scope (told e)) [] (map named_type_of named.now)) }
+    {
+        let mut all = IndexMap::new(self.alloc);
+        for result in named {
+            self.named_result(names, kind, &mut all, result)?;
+        }
+        Ok(all)
+    }
+
+    /// What a function gives.
+    pub(crate) fn results(
+        &mut self,
+        names: &Names<'_, ItemKind>,
+        kind: FuncKind,
+        results: &ResultList<'_>,
+    ) -> Result<FuncResults, Error>
+        requires { ItemsNamed self.old.graph.types (values_of names.now) }
+        ensures ok { IfOk result (λ rs. ResultsAre self.old.graph self.new.graph (values_of names.now) (result_list_of results.now) rs) }
+        ensures err { IfErr result (λ e. (naming : Naming) → ResultsBroken kind (scope_of naming self.old.graph (values_of names.now)) (result_list_of results.now) (told e)) }
+    {
+        match results {
+            ResultList::Empty => Ok(FuncResults::None),
+            ResultList::Scalar(ty) => Ok(FuncResults::Scalar(self.result_type(names, ty)?)),
+            ResultList::Named(named) => {
+                let all = self.named_results(names, kind, named)?;
+                Ok(FuncResults::Named(all))
+            }
+        }
+    }
+}
