@@ -54,7 +54,7 @@ pub(crate) const FORMATTED: [(&str, &str); 12] = [
         "package a:b;\n\ninterface i {\n    f: func() -> (a: u32, b: string);\n}\n",
     ),
     (
-        "package a:b; interface i { resource r { m: static async func(x:u8)->(%y :r); } }",
+        "package a:b; interface i { resource r { m: static async func(x :u8)->(%y :r); } }",
         "package a:b;\n\ninterface i {\n    resource r {\n        m: static async func(x: u8) -> (%y: r);\n    }\n}\n",
     ),
     (DOCUMENTED, DOCUMENTED_PRINTED),

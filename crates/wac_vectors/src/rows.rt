@@ -31,7 +31,7 @@ pub(crate) const DOCUMENTED_PRINTED: &str =
     /// Doc comment #10!\nexport x as \"foo\";\n";
 
 /// Texts that have a tree.
-pub(crate) const DOCUMENTS: [&str; 26] = [
+pub(crate) const DOCUMENTS: [&str; 27] = [
     "package a:b;",
     "package a:b targets c:d/e;",
     DOCUMENTED,
