@@ -27,13 +27,14 @@ const SORTS: [Sort; ENTRIES] = [
 ];
 
 /// The ids of the package that was not tampered with.
-const IDS: Ids = [0, 0, 1, 0, 3, 2, 4, 3, 4, 6, 6, 5];
+const IDS: Ids = [0, 0, 1, 1, 0, 3, 2, 4, 3, 4, 6, 6, 5];
 
 /// For each id the entry that it stands in, or the count of entries where it stands in none, and what it has to name.
-const PLACES: [(usize, Sort); 12] = [
+const PLACES: [(usize, Sort); 13] = [
     (1, Sort::Resource),
     (2, Sort::Resource),
     (2, Sort::Value),
+    (3, Sort::Value),
     (4, Sort::Resource),
     (5, Sort::Func),
     (6, Sort::Func),
@@ -59,9 +60,9 @@ fn wrong(id: usize, (entry, sort): (usize, Sort)) -> Option<&'static str> {
 /// instances, which has no id; their interface may be the other one, whose exports have other names; and the functions mean
 /// different things.
 fn wrong_meaning(ids: &Ids) -> &'static str {
-    if ids[8] == 5 {
+    if ids[9] == 5 {
         "interface type without an id"
-    } else if ids[11] == 4 || ids[4] != ids[7] {
+    } else if ids[12] == 4 || ids[5] != ids[8] {
         "instance exports differ from the exports of the world"
     } else {
         "nothing"

@@ -3,12 +3,12 @@
 use indexmap::IndexMap;
 use std::alloc::{AllocError, Global};
 use wac_graph::{
-    DefinedType, DefinedTypeId, FuncType, FuncTypeId, Interface, InterfaceId, ItemKind, Package,
-    PackageError, Resource, ResourceId, Type, Types, ValueType, World, WorldId,
+    DefinedType, DefinedTypeId, FuncResults, FuncType, FuncTypeId, Interface, InterfaceId,
+    ItemKind, Package, PackageError, Resource, ResourceId, Type, Types, ValueType, World, WorldId,
 };
 
 /// The ids of a package.
-pub type Ids = [usize; 12];
+pub type Ids = [usize; 13];
 
 /// How many entries it has.
 pub const ENTRIES: usize = 7;
@@ -42,17 +42,18 @@ fn add_values(alloc: Global, types: &mut Types, ids: &Ids) -> Result<(), AllocEr
     Ok(())
 }
 
-/// A function that borrows the resource and returns the record, and one that takes and returns nothing.
+/// A function that borrows the resource and returns the record, and one that takes nothing and returns the record under a name.
 fn add_funcs(alloc: Global, types: &mut Types, ids: &Ids) -> Result<(), AllocError> {
     let params = one(alloc, "a", ValueType::Borrow(ResourceId(ids[1])))?;
     types.add_func_type(FuncType {
         params,
-        result: Some(ValueType::Defined(DefinedTypeId(ids[2]))),
+        results: FuncResults::Scalar(ValueType::Defined(DefinedTypeId(ids[2]))),
         is_async: false,
     })?;
+    let results = one(alloc, "b", ValueType::Defined(DefinedTypeId(ids[3])))?;
     types.add_func_type(FuncType {
         params: IndexMap::new(alloc),
-        result: None,
+        results: FuncResults::Named(results),
         is_async: false,
     })?;
     Ok(())
@@ -61,14 +62,14 @@ fn add_funcs(alloc: Global, types: &mut Types, ids: &Ids) -> Result<(), AllocErr
 /// The interface `x:y/z`, which exports the resource, and the interface of the instances.
 fn add_interfaces(alloc: Global, types: &mut Types, ids: &Ids) -> Result<(), AllocError> {
     let id = String::from_str(alloc, "x:y/z")?;
-    let resource = ItemKind::Ty(Type::Resource(ResourceId(ids[3])));
+    let resource = ItemKind::Ty(Type::Resource(ResourceId(ids[4])));
     let exports = one(alloc, "r", resource)?;
     types.add_interface(Interface {
         id: Some(id),
         uses: IndexMap::new(alloc),
         exports,
     })?;
-    let exports = one(alloc, "run", func(ids[4]))?;
+    let exports = one(alloc, "run", func(ids[5]))?;
     types.add_interface(Interface {
         id: None,
         uses: IndexMap::new(alloc),
@@ -78,9 +79,9 @@ fn add_interfaces(alloc: Global, types: &mut Types, ids: &Ids) -> Result<(), All
 }
 
 fn add_world(alloc: Global, types: &mut Types, ids: &Ids) -> Result<(), AllocError> {
-    let instance = ItemKind::Instance(InterfaceId(ids[6]));
-    let imports = two(alloc, ("log", func(ids[5])), ("x:y/z", instance))?;
-    let exports = one(alloc, "run", func(ids[7]))?;
+    let instance = ItemKind::Instance(InterfaceId(ids[7]));
+    let imports = two(alloc, ("log", func(ids[6])), ("x:y/z", instance))?;
+    let exports = one(alloc, "run", func(ids[8]))?;
     types.add_world(World {
         id: None,
         uses: IndexMap::new(alloc),
@@ -102,9 +103,9 @@ fn table(alloc: Global, ids: &Ids) -> Result<Types, AllocError> {
 /// A package that imports the function `log` and the instance `x:y/z`, exports the function `run`, and defines that interface and
 /// its own world.
 pub fn package(alloc: Global, ids: &Ids) -> Result<Package, PackageError> {
-    let interface = ItemKind::Ty(Type::Interface(InterfaceId(ids[8])));
-    let world = ItemKind::Ty(Type::World(WorldId(ids[9])));
+    let interface = ItemKind::Ty(Type::Interface(InterfaceId(ids[9])));
+    let world = ItemKind::Ty(Type::World(WorldId(ids[10])));
     let definitions = two(alloc, ("z", interface), ("w", world))?;
     let types = table(alloc, ids)?;
-    Package::new(types, WorldId(ids[10]), InterfaceId(ids[11]), definitions)
+    Package::new(types, WorldId(ids[11]), InterfaceId(ids[12]), definitions)
 }

@@ -175,6 +175,16 @@ const TYPES: &[Row] = &[
         "package a:b; interface i { resource r { m: func() -> borrow<r>; } }",
         "53+9: function result cannot recursively contain a borrow type\nBorrowInResult { span: SourceSpan { offset: 53, len: 9 } }",
     ),
+    (
+        With::Nothing,
+        "package a:b; interface i { resource r { m: static func() -> (x: u8, x: u8); } }",
+        "68+1: duplicate static method result `x`\nDuplicateResult { kind: Static, name: \"x\", span: SourceSpan { offset: 68, len: 1 } }",
+    ),
+    (
+        With::Nothing,
+        "package a:b; interface i { resource r { m: func() -> (x: u8, y: list<borrow<r>>); } }",
+        "64+15: function result cannot recursively contain a borrow type\nBorrowInResult { span: SourceSpan { offset: 64, len: 15 } }",
+    ),
 ];
 
 /// Of packages and arguments.

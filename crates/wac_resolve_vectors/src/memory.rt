@@ -24,7 +24,7 @@ const DOCUMENTS: &[Row] = &[
     ),
     (
         With::Nothing,
-        "package a:b; interface i { resource r { constructor(x: u8); m: func() -> list<r>; } type t = r; f: func(x: borrow<t>) -> result<u8, string>; } interface j { use i.{ r as q }; g: func(x: q); }",
+        "package a:b; interface i { resource r { constructor(x: u8); m: func() -> list<r>; } type t = r; f: func(x: borrow<t>) -> result<u8, string>; } interface j { use i.{ r as q }; g: func(x: q) -> (a: q, b: u8); }",
         "0 definition: interface [i]\n1 definition: interface [j]\nexport i = 0\nexport j = 1\n",
     ),
     (

@@ -3,8 +3,8 @@
 use indexmap::IndexMap;
 use std::alloc::{AllocError, Global};
 use wac_graph::{
-    FuncType, FuncTypeId, Interface, InterfaceId, ItemKind, Package, PackageError, PackageKey,
-    Type, Types, World, WorldId,
+    FuncResults, FuncType, FuncTypeId, Interface, InterfaceId, ItemKind, Package, PackageError,
+    PackageKey, Type, Types, World, WorldId,
 };
 
 type Items = &'static [(&'static str, ItemKind)];
@@ -29,7 +29,7 @@ fn items(alloc: Global, rows: Items) -> Result<IndexMap<String, ItemKind>, Alloc
 fn func(alloc: Global) -> FuncType {
     FuncType {
         params: IndexMap::new(alloc),
-        result: None,
+        results: FuncResults::None,
         is_async: false,
     }
 }

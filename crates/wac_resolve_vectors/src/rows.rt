@@ -33,6 +33,11 @@ const DECLARATIONS: &[Row] = &[
     ),
     (
         With::Nothing,
+        "package a:b; interface i { f: func() -> (a: u8, a: u8); }",
+        "48+1: duplicate function result `a`\nDuplicateResult { kind: Free, name: \"a\", span: SourceSpan { offset: 48, len: 1 } }",
+    ),
+    (
+        With::Nothing,
         "package a:b; interface i { resource r { m: func(self: u8); } }",
         "48+4: duplicate method parameter `self`\nDuplicateParameter { kind: Method, name: \"self\", span: SourceSpan { offset: 48, len: 4 } }",
     ),
