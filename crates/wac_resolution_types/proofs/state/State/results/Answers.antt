@@ -19,10 +19,10 @@ returns-in_ok-result_type-in-Scalar-clause-ok c =
 pub returns-in_err-all-in-Named-clause-err : goal.returns-in_err-all-in-Named-clause-err
 returns-in_err-all-in-Named-clause-err c =
     let p = err_from_is_err_and c.from_residual-in_err-all-in-Named.result c.from_residual-in_err-all-in-Named.ensures.1 in
-    rw (p.1, p.2) (named_break c.args.kind c.args.self.now.graph (values_of c.args.names.now) c.args.results.now c.in-Named.named (map named_type_of c.deref-in-Named.result.now) (told c.in_err-all-in-Named.field-0.0) c.in-Named.is
-    (ap (map named_type_of) c.deref-in-Named.ensures.value) c.in_err-all-in-Named.ensures.err)
+    rw (p.1, p.2) (named_break c.args.kind c.args.self.now.graph (values_of c.args.names.now) c.args.results.now c.in-Named.named (map named_type_of c.deref.result.now) (told c.in_err-all-in-Named.field-0.0) c.in-Named.is
+    (ap (map named_type_of) c.deref.ensures.value) c.in_err-all-in-Named.ensures.err)
 
 pub returns-in_ok-all-in-Named-clause-ok : goal.returns-in_ok-all-in-Named-clause-ok
 returns-in_ok-all-in-Named-clause-ok c =
-    named_are c.args.self.now.graph c.named_results.new.self.graph (values_of c.args.names.now) c.args.results.now c.in-Named.named (map named_type_of c.deref-in-Named.result.now) (given_results.Named c.in_ok-all-in-Named.all) c.in_ok-all-in-Named.all.entries c.in-Named.is
-    (ap (map named_type_of) c.deref-in-Named.ensures.value) refl (λ f. refl) c.in_ok-all-in-Named.ensures.ok
+    named_are c.args.self.now.graph c.named_results.new.self.graph (values_of c.args.names.now) c.args.results.now c.in-Named.named (map named_type_of c.deref.result.now) (given_results.Named c.in_ok-all-in-Named.all) c.in_ok-all-in-Named.all.entries c.in-Named.is
+    (ap (map named_type_of) c.deref.ensures.value) refl (λ f. refl) c.in_ok-all-in-Named.ensures.ok
