@@ -19,8 +19,8 @@ returns-in_ok-arrow-in-Scalar g c = printed_at (λ z. results_layout (bare_resul
 pub params-requires : goal.params-requires
 params-requires g c =
     let sliced = subst (λ z. ResultListSliced c.args.self.now.source (result_list_of z)) c.in-Named.is c.requires in
-    subst (λ source. All (NamedTypeSliced source) (map named_type_of c.deref-in-Named.result.now)) (sym c.in_ok-arrow-in-Named.ensures.keeps.0)
-    (subst (λ xs. All (NamedTypeSliced c.args.self.now.source) (map named_type_of xs)) (sym c.deref-in-Named.ensures.value) sliced)
+    subst (λ source. All (NamedTypeSliced source) (map named_type_of c.deref.result.now)) (sym c.in_ok-arrow-in-Named.ensures.keeps.0)
+    (subst (λ xs. All (NamedTypeSliced c.args.self.now.source) (map named_type_of xs)) (sym c.deref.ensures.value) sliced)
 
 pub returns-in_err-arrow-in-Named : goal.returns-in_err-arrow-in-Named
 returns-in_err-arrow-in-Named g c = printed_at (λ z. results_layout (bare_result_list c.args.self.now.source (result_list_of z))) (sym c.in-Named.is)
@@ -28,7 +28,7 @@ returns-in_err-arrow-in-Named g c = printed_at (λ z. results_layout (bare_resul
 
 pub returns-in_ok-arrow-in-Named : goal.returns-in_ok-arrow-in-Named
 returns-in_ok-arrow-in-Named g c = printed_at (λ z. results_layout (bare_result_list c.args.self.now.source (result_list_of z))) (sym c.in-Named.is)
-    (parts c.in_ok-arrow-in-Named.ensures (printed_at (λ xs. params_layout (map (bare_named_type c.args.self.now.source) (map named_type_of xs))) c.deref-in-Named.ensures.value (printed_at (λ source. params_layout (map (bare_named_type source) (map named_type_of c.deref-in-Named.result.now))) c.in_ok-arrow-in-Named.ensures.keeps.0 c.params.ensures)))
+    (parts c.in_ok-arrow-in-Named.ensures (printed_at (λ xs. params_layout (map (bare_named_type c.args.self.now.source) (map named_type_of xs))) c.deref.ensures.value (printed_at (λ source. params_layout (map (bare_named_type source) (map named_type_of c.deref.result.now))) c.in_ok-arrow-in-Named.ensures.keeps.0 c.params.ensures)))
 
 pub returns-in-Empty : goal.returns-in-Empty
 returns-in-Empty g c = printed_at (λ z. results_layout (bare_result_list c.args.self.now.source (result_list_of z))) (sym c.in-Empty.is) c.ready.ensures
