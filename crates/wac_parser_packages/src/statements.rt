@@ -49,7 +49,7 @@ fn type_statement(
 {
     match declaration {
         TypeStatement::Interface(interface) => interface_items(mentions, &interface.items),
-        TypeStatement::World(declared) => world(mentions, declared),
+        TypeStatement::World(declared) => world(declared, mentions),
         TypeStatement::Ty(_) => Ok(()),
     }
 }

@@ -70,8 +70,8 @@ fn items_of<'x, 'a>(world: &'x WorldDecl<'a>) -> &'x [WorldItem<'a>]
     &world.items
 }
 
-/// Notes what a declared world mentions.
-pub(crate) fn world(mentions: &mut Mentions<'_>, world: &WorldDecl<'_>) -> Result<(), AllocError>
+/// Notes what a declared world mentions. The world comes first: the prover's work grows with the number of lifetimes before its own.
+pub(crate) fn world(world: &WorldDecl<'_>, mentions: &mut Mentions<'_>) -> Result<(), AllocError>
     ensures { OnOk result (Notes mentions.old mentions.new (flat_map (world_item_mentions mentions.old.own) (world_decl_of world.now).items)) }
 {
     world_items(mentions, items_of(world))

@@ -50,7 +50,7 @@ fn declared_kind(
 {
     match statement {
         TypeStatement::Interface(decl) => interface_decl(state, setting, &root.kinds, decl),
-        TypeStatement::World(decl) => world_decl(state, setting, &root.kinds, decl),
+        TypeStatement::World(decl) => world_decl(decl, state, setting, &root.kinds),
         TypeStatement::Ty(decl) => state.type_decl(&root.kinds, decl),
     }
 }

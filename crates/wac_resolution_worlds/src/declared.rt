@@ -90,12 +90,12 @@ fn world_of(
     Ok(ItemKind::Ty(Type::World(declared)))
 }
 
-/// The kind of a declared world.
+/// The kind of a declared world. The world comes first: the prover's work grows with the number of lifetimes before its own.
 pub fn world_decl(
+    decl: &WorldDecl<'_>,
     state: &mut State,
     setting: &Setting<'_>,
     root: &Names<'_, ItemKind>,
-    decl: &WorldDecl<'_>,
 ) -> Result<ItemKind, Error>
     requires root { ItemsNamed state.old.graph.types (values_of root.now) }
     requires handed { HoldsHanded (packages_in setting.now) state.old.graph }
