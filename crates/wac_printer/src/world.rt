@@ -45,6 +45,15 @@ fn items_of<'t, 'a>(decl: &'t WorldDecl<'a>) -> &'t [WorldItem<'a>]
     &decl.items
 }
 
+/// Prints the items of a world, which comes first: the prover's work grows with the number of lifetimes before its own.
+#[tactic(auto, using(crate::proofs::Steps::lists))]
+fn print_items<S: Sink>(decl: &WorldDecl<'_>, printer: &mut DocumentPrinter<'_, S>) -> PrintResult
+    requires { All (WorldItemSliced printer.old.source) (map world_item_of decl.now.items.items) }
+    ensures { Prints printer.old result printer.new (body world_item_layout printer.old.depth (map (bare_world_item doc_lines printer.old.source) (map world_item_of decl.now.items.items))) }
+{
+    printer.world_items(items_of(decl))
+}
+
 #[tactic(auto, using(crate::proofs::Steps::lists))]
 impl<'a, S: Sink> DocumentPrinter<'a, S> {
     /// Prints a world.
@@ -54,7 +63,7 @@ impl<'a, S: Sink> DocumentPrinter<'a, S> {
     {
         self.docs(&decl.docs)?;
         self.head("world", &decl.id)?;
-        self.world_items(items_of(decl))
+        print_items(decl, self)
     }
 
     fn world_items(&mut self, items: &[WorldItem<'_>]) -> PrintResult

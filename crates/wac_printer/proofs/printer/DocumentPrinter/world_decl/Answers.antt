@@ -1,7 +1,7 @@
 use Rattle.wac_layout.specs.Bare.{bare_ident, bare_world_item, doc_lines}
 use Rattle.std.proofs.Common.{codes, map, ◌∙◌}
 use Rattle.wac_layout.specs.DeclarationLayout.{head_layout}
-use Rattle.wac_printer.proofs.Sequence.{fails, of_docs, parts, printed_at, there}
+use Rattle.wac_printer.proofs.Sequence.{fails, of_docs, parts, there}
 use Rattle.wac_layout.specs.Parts.{body}
 use Rattle.wac_ast_worlds.specs.Worlds.{world_item_of}
 use Rattle.wac_layout.specs.WorldLayout.{world_item_layout}
@@ -15,4 +15,4 @@ pub returns-in_err-head : goal.returns-in_err-head
 returns-in_err-head g c = parts (of_docs c.deref.ensures.value c.in_ok-docs.ensures) (fails _ c.from_residual-in_err-head.ensures.1 (there (λ source depth. head_layout depth (codes "world") (bare_ident source (ident_of c.args.decl.now.id))) (c.in_ok-docs.ensures.keeps.0) (c.in_ok-docs.ensures.keeps.2) c.in_err-head.ensures))
 
 pub returns : goal.returns
-returns g c = parts (of_docs c.deref.ensures.value c.in_ok-docs.ensures) (parts (there (λ source depth. head_layout depth (codes "world") (bare_ident source (ident_of c.args.decl.now.id))) (c.in_ok-docs.ensures.keeps.0) (c.in_ok-docs.ensures.keeps.2) c.in_ok-head.ensures) (printed_at (λ xs. body world_item_layout c.args.self.now.depth (map (bare_world_item doc_lines c.args.self.now.source) (map world_item_of xs))) c.items_of.ensures (there (λ source depth. body world_item_layout depth (map (bare_world_item doc_lines source) (map world_item_of c.items_of.result.now))) (c.in_ok-head.ensures.keeps.0 ∙ c.in_ok-docs.ensures.keeps.0) (c.in_ok-head.ensures.keeps.2 ∙ c.in_ok-docs.ensures.keeps.2) c.world_items.ensures)))
+returns g c = parts (of_docs c.deref.ensures.value c.in_ok-docs.ensures) (parts (there (λ source depth. head_layout depth (codes "world") (bare_ident source (ident_of c.args.decl.now.id))) (c.in_ok-docs.ensures.keeps.0) (c.in_ok-docs.ensures.keeps.2) c.in_ok-head.ensures) (there (λ source depth. body world_item_layout depth (map (bare_world_item doc_lines source) (map world_item_of c.args.decl.now.items.items))) (c.in_ok-head.ensures.keeps.0 ∙ c.in_ok-docs.ensures.keeps.0) (c.in_ok-head.ensures.keeps.2 ∙ c.in_ok-docs.ensures.keeps.2) c.print_items.ensures))
