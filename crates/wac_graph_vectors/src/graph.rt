@@ -7,6 +7,7 @@ use crate::reading::{
 };
 use indexmap::IndexMap;
 use std::alloc::{AllocError, Global};
+use std::process::Abort;
 use std::test::Fail;
 use wac_graph::{
     CompositionGraph, DefinedType, FuncResults, FuncType, Interface, Package, PackageError,
@@ -255,13 +256,22 @@ fn has_names(alloc: Global, graph: &CompositionGraph) -> Result<bool, AllocError
     Ok(has_parameters(alloc, graph)? && has_one_export(graph)?)
 }
 
+/// Asserts the names of a composition, made in an empty graph.
+fn names_are_read(
+    rt: &impl Abort,
+    alloc: Global,
+    graph: &mut CompositionGraph,
+) -> Result<(), PackageError> {
+    compose(alloc, graph)?;
+    assert!(rt; has_names(alloc, graph)?);
+    assert_eq!(rt; alias_by_name(alloc, graph)?, Some(7));
+    Ok(())
+}
+
 #[test]
 fn reads_names(rt: HostRuntime) -> Result<(), Fail> {
     let mut graph = CompositionGraph::new(rt.alloc());
-    compose(rt.alloc(), &mut graph)?;
-    assert!(rt; has_names(rt.alloc(), &graph)?);
-    assert_eq!(rt; alias_by_name(rt.alloc(), &mut graph)?, Some(7));
-    Ok(())
+    Ok(names_are_read(&rt, rt.alloc(), &mut graph)?)
 }
 
 /// A composed graph, a package to add to it, and what it holds as text.
@@ -272,16 +282,24 @@ struct Filled {
     held: String,
 }
 
+/// Composes, and keeps what the graph then holds as text.
+fn fill(alloc: Global, all: &mut Filled) -> Result<(), PackageError> {
+    compose(alloc, &mut all.graph)?;
+    all.held = shown(alloc, &all.graph)?;
+    Ok(())
+}
+
 fn make_filled(alloc: Global) -> Result<Filled, PackageError> {
-    let mut graph = CompositionGraph::new(alloc);
-    compose(alloc, &mut graph)?;
-    let held = shown(alloc, &graph)?;
     let package = component(alloc)?;
-    Ok(Filled {
-        graph,
+    let mut all = Filled {
+        graph: CompositionGraph::new(alloc),
         package,
-        held,
-    })
+        held: String::new(alloc),
+    };
+    match fill(alloc, &mut all) {
+        Ok(()) => Ok(all),
+        Err(error) => Err(error),
+    }
 }
 
 /// What a graph holds as text, read a second time where memory was refused.
