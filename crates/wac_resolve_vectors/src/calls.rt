@@ -49,24 +49,41 @@ fn composed<'d, 'a: 'd>(
     }
 }
 
-/// What resolving in one call returns. It is a function of its own, for the prover's sake.
+/// What resolving in one call returns. It is a function of its own, and the document comes first, for the prover's sake.
 fn resolved<'d, 'a: 'd>(
-    alloc: Global,
     lent: Lent<'d, 'a>,
+    alloc: Global,
     packages: IndexMap<PackageKey, Package>,
 ) -> ResolutionResult<Resolution<'d, 'a>> {
     resolve(alloc, lent.document, packages, &ALL_PASS)
 }
 
-/// Its graph, as lines.
-fn resolved_lines<'d, 'a: 'd>(
+/// The same lines, for those who resolve.
+fn lines_of(alloc: Global, resolution: Resolution<'_, '_>) -> ResolutionResult<String> {
+    Ok(taken_lines(alloc, resolution)?)
+}
+
+/// The graph that resolving in one call gives, as lines.
+fn resolved_lines(
+    lent: Lent<'_, '_>,
+    alloc: Global,
+    packages: IndexMap<PackageKey, Package>,
+) -> ResolutionResult<String> {
+    match resolved(lent, alloc, packages) {
+        Ok(resolution) => lines_of(alloc, resolution),
+        Err(error) => Err(error),
+    }
+}
+
+/// The lines of the graph of a document that is lent.
+fn document_lines(
     rt: &impl Abort,
     alloc: Global,
-    lent: Lent<'d, 'a>,
+    lent: Lent<'_, '_>,
 ) -> Result<String, AllocError> {
     let packages = handed(alloc, With::Packages)?;
-    match resolved(alloc, lent, packages) {
-        Ok(resolution) => taken_lines(alloc, resolution),
+    match resolved_lines(lent, alloc, packages) {
+        Ok(text) => Ok(text),
         Err(error) => panic!(rt; "the composition is rejected: {error:?}"),
     }
 }
@@ -90,7 +107,7 @@ fn a_document_is_resolved(rt: HostRuntime) -> Result<(), Fail> {
             let lent = Lent {
                 document: &document,
             };
-            let found = resolved_lines(&rt, rt.alloc(), lent)?;
+            let found = document_lines(&rt, rt.alloc(), lent)?;
             assert_eq!(rt; found.as_str(), LINES);
             Ok(())
         }
