@@ -5,6 +5,7 @@ use crate::readings::lines;
 use crate::rules::Fixed;
 use indexmap::IndexMap;
 use std::alloc::{AllocError, Global};
+use std::marker::Model;
 use std::process::Abort;
 use std::test::Fail;
 use wac_ast::Document;
@@ -22,10 +23,27 @@ const ALL_PASS: Fixed = Fixed {
     names: None,
 };
 
-/// A document that is lent.
+/// A document that is lent. The prover follows it through a call at far less cost when it stands in a struct with a model.
 #[derive(Drop)]
 struct Lent<'d, 'a> {
     document: &'d Document<'a>,
+}
+
+impl<'d, 'a> Model for Lent<'d, 'a> {
+    ghost use Rattle.std.specs.Prelude.{[]};
+    ghost use Rattle.std.specs.Coded.{codes};
+    ghost use Rattle.wac_ast_types.specs.contracts.types.«Type» as ty;
+    ghost use Rattle.wac_ast_expressions.specs.contracts.expr.PrimaryExpr as primary;
+    ghost use mir.Syntax.{erased};
+    ghost use Rattle.wac_ast.specs.declared.document.Document.{Document};
+
+    ghost Value = { Document };
+
+    ghost coded = { Prim.hlevel (codes, (ty.the_row (record { mir = erased; lft = [] })).coded, (primary.the_row (record { mir = erased; lft = [] })).coded) };
+
+    ghost view = { λ p. p.document.now };
+
+    ghost invariant = { λ p. Unit {0} };
 }
 
 /// The graph that a resolution hands on, as lines.
