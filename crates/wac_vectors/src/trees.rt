@@ -223,73 +223,15 @@ fn nested(alloc: Global, depth: usize) -> Result<String, Fail> {
     Ok(text)
 }
 
-// What stands in the document of a text. Each document stands in a function of its own: several in one cost the prover much.
-
-fn tuple_in(rt: &impl Abort, alloc: Global, source: &str) -> Option<(SourceSpan, SourceSpan)> {
-    tuple_of_one(&parsed(rt, alloc, source))
-}
-
-fn stream_in(rt: &impl Abort, alloc: Global, source: &str) -> Option<(SourceSpan, SourceSpan)> {
-    stream(&parsed(rt, alloc, source))
-}
-
-fn bare_result_in(rt: &impl Abort, alloc: Global, source: &str) -> Option<SourceSpan> {
-    bare_result(&parsed(rt, alloc, source))
-}
-
-fn path_in<'a>(
-    rt: &impl Abort,
-    alloc: Global,
-    source: &'a str,
-) -> Option<(&'a str, SourceSpan, &'a str, bool)> {
-    path(&parsed(rt, alloc, source))
-}
-
-fn function_in(rt: &impl Abort, alloc: Global, source: &str) -> Option<(bool, bool, usize)> {
-    function(&parsed(rt, alloc, source))
-}
-
-fn names_in(rt: &impl Abort, alloc: Global, source: &str) -> Option<(bool, bool)> {
-    are_names_of_results(&parsed(rt, alloc, source))
-}
-
-fn export_in(
-    rt: &impl Abort,
-    alloc: Global,
-    source: &str,
-) -> Option<(SourceSpan, SourceSpan, SourceSpan)> {
-    export_spans(&parsed(rt, alloc, source))
-}
-
-fn nested_in(
-    rt: &impl Abort,
-    alloc: Global,
-    source: &str,
-) -> Option<(SourceSpan, SourceSpan, SourceSpan)> {
-    inner_spans(&parsed(rt, alloc, source))
-}
-
-fn fill_in(rt: &impl Abort, alloc: Global, source: &str) -> Option<(bool, usize)> {
-    filled(&parsed(rt, alloc, source))
-}
-
-fn is_static_in(rt: &impl Abort, alloc: Global, source: &str) -> Option<bool> {
-    is_static(&parsed(rt, alloc, source))
-}
-
-fn docs_in(rt: &impl Abort, alloc: Global, source: &str) -> Option<(bool, bool)> {
-    are_docs_of_cases(&parsed(rt, alloc, source))
-}
-
 #[test]
 fn types_and_paths(rt: HostRuntime) -> Result<(), Fail> {
     let alloc = rt.alloc();
     assert_eq!(rt;
-        tuple_in(&rt, alloc, "package a:b; type t = tuple<u8>;"),
+        tuple_of_one(&parsed(&rt, alloc, "package a:b; type t = tuple<u8>;")),
         Some((SourceSpan::new(22, 9), SourceSpan::new(28, 2)))
     );
     assert_eq!(rt;
-        stream_in(&rt, alloc, "package a:b; type t = stream<u8>;"),
+        stream(&parsed(&rt, alloc, "package a:b; type t = stream<u8>;")),
         Some((SourceSpan::new(22, 10), SourceSpan::new(29, 2)))
     );
     for (source, len) in [
@@ -297,13 +239,13 @@ fn types_and_paths(rt: HostRuntime) -> Result<(), Fail> {
         ("package a:b; type t = result;", 6),
     ] {
         assert_eq!(rt;
-            bare_result_in(&rt, alloc, source),
+            bare_result(&parsed(&rt, alloc, source)),
             Some(SourceSpan::new(22, len))
         );
     }
     let source = "package a:b; import x: %c:d/e/%f@1.0.0;";
     assert_eq!(rt;
-        path_in(&rt, alloc, source),
+        path(&parsed(&rt, alloc, source)),
         Some(("%c:d", SourceSpan::new(23, 4), "e/%f", true))
     );
     segments_outlive_their_path(&rt, alloc, source);
@@ -312,16 +254,12 @@ fn types_and_paths(rt: HostRuntime) -> Result<(), Fail> {
     Ok(())
 }
 
-#[test]
-fn statements_and_their_parts(rt: HostRuntime) {
-    let alloc = rt.alloc();
-    let source = "package a:b; interface i { f: func() -> ; }";
-    assert_eq!(rt; function_in(&rt, alloc, source), Some((true, false, 0)));
-    let source = "package a:b; interface i { f: func() -> (a: u32, %b: string,); }";
-    assert_eq!(rt; names_in(&rt, alloc, source), Some((true, true)));
+/// Asserts the spans of an export's parts.
+fn export_parts(rt: &impl Abort, alloc: Global) {
     let source = "package a:b; export (x.y)[ \"q\" ].z as \"n\";";
+    let document = parsed(rt, alloc, source);
     assert_eq!(rt;
-        export_in(&rt, alloc, source),
+        export_spans(&document),
         Some((
             SourceSpan::new(20, 14),
             SourceSpan::new(25, 7),
@@ -329,19 +267,38 @@ fn statements_and_their_parts(rt: HostRuntime) {
         ))
     );
     assert_eq!(rt;
-        nested_in(&rt, alloc, source),
+        inner_spans(&document),
         Some((
             SourceSpan::new(20, 5),
             SourceSpan::new(21, 3),
             SourceSpan::new(38, 3)
         ))
     );
+}
+
+#[test]
+fn statements_and_their_parts(rt: HostRuntime) {
+    let alloc = rt.alloc();
+    let source = "package a:b; interface i { f: func() -> ; }";
+    assert_eq!(rt;
+        function(&parsed(&rt, alloc, source)),
+        Some((true, false, 0))
+    );
+    let source = "package a:b; interface i { f: func() -> (a: u32, %b: string,); }";
+    assert_eq!(rt;
+        are_names_of_results(&parsed(&rt, alloc, source)),
+        Some((true, true))
+    );
+    export_parts(&rt, alloc);
     let source = "package a:b; let x = new c:d { ..., y };";
-    assert_eq!(rt; fill_in(&rt, alloc, source), Some((true, 2)));
+    assert_eq!(rt; filled(&parsed(&rt, alloc, source)), Some((true, 2)));
     let source = "package a:b; interface i { resource r { f: static func(); } }";
-    assert_eq!(rt; is_static_in(&rt, alloc, source), Some(true));
+    assert_eq!(rt; is_static(&parsed(&rt, alloc, source)), Some(true));
     let source = "package a:b; interface i { resource r { f: func(); } }";
-    assert_eq!(rt; is_static_in(&rt, alloc, source), Some(false));
+    assert_eq!(rt; is_static(&parsed(&rt, alloc, source)), Some(false));
     let source = "package a:b; variant v {\n/// one\na, /// two\nb(u8), }";
-    assert_eq!(rt; docs_in(&rt, alloc, source), Some((true, true)));
+    assert_eq!(rt;
+        are_docs_of_cases(&parsed(&rt, alloc, source)),
+        Some((true, true))
+    );
 }
