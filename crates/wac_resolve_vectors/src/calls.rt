@@ -5,11 +5,11 @@ use crate::readings::lines;
 use crate::rules::Fixed;
 use indexmap::IndexMap;
 use std::alloc::{AllocError, Global};
-use std::marker::Model;
 use std::process::Abort;
 use std::test::Fail;
 use wac_ast::Document;
 use wac_graph::{Package, PackageKey};
+use wac_printer::Page;
 use wac_resolution::{AstResolver, Resolution, ResolutionResult, resolve};
 
 const COMPOSITION: &str =
@@ -22,29 +22,6 @@ const ALL_PASS: Fixed = Fixed {
     kinds: None,
     names: None,
 };
-
-/// A document that is lent. The prover follows it through a call at far less cost when it stands in a struct with a model.
-#[derive(Drop)]
-struct Lent<'d, 'a> {
-    document: &'d Document<'a>,
-}
-
-impl<'d, 'a> Model for Lent<'d, 'a> {
-    ghost use Rattle.std.specs.Prelude.{[]};
-    ghost use Rattle.std.specs.Coded.{codes};
-    ghost use Rattle.wac_ast_types.specs.contracts.types.«Type» as ty;
-    ghost use Rattle.wac_ast_expressions.specs.contracts.expr.PrimaryExpr as primary;
-    ghost use mir.Syntax.{erased};
-    ghost use Rattle.wac_ast.specs.declared.document.Document.{Document};
-
-    ghost Value = { Document };
-
-    ghost coded = { Prim.hlevel (codes, (ty.the_row (record { mir = erased; lft = [] })).coded, (primary.the_row (record { mir = erased; lft = [] })).coded) };
-
-    ghost view = { λ p. p.document.now };
-
-    ghost invariant = { λ p. Unit {0} };
-}
 
 /// The graph that a resolution hands on, as lines.
 fn taken_lines<'d, 'a: 'd>(
@@ -69,11 +46,11 @@ fn composed<'d, 'a: 'd>(
 
 /// What resolving in one call returns. It is a function of its own, and the document comes first, for the prover's sake.
 fn resolved<'d, 'a: 'd>(
-    lent: Lent<'d, 'a>,
+    page: Page<'d, 'a>,
     alloc: Global,
     packages: IndexMap<PackageKey, Package>,
 ) -> ResolutionResult<Resolution<'d, 'a>> {
-    resolve(alloc, lent.document, packages, &ALL_PASS)
+    resolve(alloc, page.document, packages, &ALL_PASS)
 }
 
 /// The same lines, for those who resolve.
@@ -83,11 +60,11 @@ fn lines_of(alloc: Global, resolution: Resolution<'_, '_>) -> ResolutionResult<S
 
 /// The graph that resolving in one call gives, as lines.
 fn resolved_lines(
-    lent: Lent<'_, '_>,
+    page: Page<'_, '_>,
     alloc: Global,
     packages: IndexMap<PackageKey, Package>,
 ) -> ResolutionResult<String> {
-    match resolved(lent, alloc, packages) {
+    match resolved(page, alloc, packages) {
         Ok(resolution) => lines_of(alloc, resolution),
         Err(error) => Err(error),
     }
@@ -97,10 +74,10 @@ fn resolved_lines(
 fn document_lines(
     rt: &impl Abort,
     alloc: Global,
-    lent: Lent<'_, '_>,
+    page: Page<'_, '_>,
 ) -> Result<String, AllocError> {
     let packages = handed(alloc, With::Packages)?;
-    match resolved_lines(lent, alloc, packages) {
+    match resolved_lines(page, alloc, packages) {
         Ok(text) => Ok(text),
         Err(error) => panic!(rt; "the composition is rejected: {error:?}"),
     }
@@ -122,10 +99,10 @@ fn a_resolver_composes(rt: HostRuntime) -> Result<(), Fail> {
 fn a_document_is_resolved(rt: HostRuntime) -> Result<(), Fail> {
     match Document::parse(rt.alloc(), COMPOSITION) {
         Ok(document) => {
-            let lent = Lent {
+            let page = Page {
                 document: &document,
             };
-            let found = document_lines(&rt, rt.alloc(), lent)?;
+            let found = document_lines(&rt, rt.alloc(), page)?;
             assert_eq!(rt; found.as_str(), LINES);
             Ok(())
         }

@@ -4,15 +4,9 @@
 #[cfg(test)]
 mod cuts;
 #[cfg(test)]
-mod json_texts;
-#[cfg(test)]
-mod json_values;
-#[cfg(test)]
 mod layout;
 #[cfg(test)]
 mod memory;
-#[cfg(test)]
-mod optional;
 #[cfg(test)]
 mod packages;
 #[cfg(test)]
@@ -23,7 +17,5 @@ mod refusals;
 mod rows;
 #[cfg(test)]
 mod tokens;
-#[cfg(test)]
-mod trees;
 #[cfg(test)]
 mod writers;

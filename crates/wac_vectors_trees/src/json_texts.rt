@@ -2,37 +2,13 @@
 //! texts were made from the grammar and the rules of `docs/JSON.md` by other means than this code.
 
 use std::alloc::{AllocError, Global};
-use std::marker::Model;
 use std::process::Abort;
 use std::test::Fail;
-use wac_parser::{Document, Error, ToValue};
-
-/// A document that is lent. The prover follows it through a call at far less cost when it stands in a struct with a model.
-#[derive(Drop)]
-struct Lent<'d, 'a> {
-    document: &'d Document<'a>,
-}
-
-impl<'d, 'a> Model for Lent<'d, 'a> {
-    ghost use Rattle.std.specs.Prelude.{[]};
-    ghost use Rattle.std.specs.Coded.{codes};
-    ghost use Rattle.wac_ast_types.specs.contracts.types.«Type» as ty;
-    ghost use Rattle.wac_ast_expressions.specs.contracts.expr.PrimaryExpr as primary;
-    ghost use mir.Syntax.{erased};
-    ghost use Rattle.wac_ast.specs.declared.document.Document.{Document};
-
-    ghost Value = { Document };
-
-    ghost coded = { Prim.hlevel (codes, (ty.the_row (record { mir = erased; lft = [] })).coded, (primary.the_row (record { mir = erased; lft = [] })).coded) };
-
-    ghost view = { λ p. p.document.now };
-
-    ghost invariant = { λ p. Unit {0} };
-}
+use wac_parser::{Document, Error, Page, ToValue};
 
 /// The JSON of a document.
-fn text_of(alloc: Global, lent: Lent<'_, '_>) -> Result<String, AllocError> {
-    let Lent { document } = lent;
+fn text_of(alloc: Global, page: Page<'_, '_>) -> Result<String, AllocError> {
+    let Page { document } = page;
     document.to_value(alloc)?.to_string(alloc)
 }
 
@@ -40,10 +16,10 @@ fn text_of(alloc: Global, lent: Lent<'_, '_>) -> Result<String, AllocError> {
 fn json_of(rt: &impl Abort, alloc: Global, source: &str) -> Result<String, AllocError> {
     match Document::parse(alloc, source) {
         Ok(document) => {
-            let lent = Lent {
+            let page = Page {
                 document: &document,
             };
-            text_of(alloc, lent)
+            text_of(alloc, page)
         }
         Err(Error::Memory(_)) => Err(AllocError),
         Err(_) => panic!(rt; "{source} is refused"),

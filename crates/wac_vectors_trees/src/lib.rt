@@ -1,0 +1,11 @@
+//! A part of the tests of `wac_vectors`: what stands in trees, and their JSON.
+#![tactic(auto)]
+
+#[cfg(test)]
+mod json_texts;
+#[cfg(test)]
+mod json_values;
+#[cfg(test)]
+mod optional;
+#[cfg(test)]
+mod trees;
