@@ -73,3 +73,29 @@ fn deep_texts_are_printed_and_resolved(rt: HostRuntime) -> Result<(), Fail> {
     }
     Ok(())
 }
+
+/// How many types name the one before them twice.
+const DOUBLINGS: usize = 40;
+
+/// What stands in an interface: types that each name the one before them twice, and a function over the last.
+fn doubled_types(alloc: Global) -> Result<String, AllocError> {
+    let mut text = String::from_str(alloc, "type t0 = u8;")?;
+    for before in 0..DOUBLINGS {
+        let at = before + 1;
+        write!(text, " type t{at} = tuple<t{before}, t{before}>;")?;
+    }
+    write!(text, " f: func(a: t{DOUBLINGS}) -> t{DOUBLINGS};")?;
+    Ok(text)
+}
+
+/// A document that its own target allows. At each `@` stands the same.
+const DOUBLED: &str =
+    "package a:b targets a:b/w; world w { import x: interface { @ }; } import x: interface { @ };";
+
+#[test]
+fn types_named_twice_are_gone_through_once(rt: HostRuntime) -> Result<(), Fail> {
+    let types = doubled_types(rt.alloc())?;
+    let source = DOUBLED.replace(rt.alloc(), "@", &types)?;
+    let graph = "0 definition: world [w]\n1 import x: instance [x]\nexport w = 0\n";
+    writes(&rt, rt.alloc(), "resolve", &source, graph)
+}

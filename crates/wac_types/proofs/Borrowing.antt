@@ -1,5 +1,6 @@
--- Whether an entry's meaning contains a borrow is decided by what stands in it, place by place.
-use Rattle.std.proofs.Common.{◌≡◌, ◌∙◌, ◌+◌, ◌<◌, ℕ, suc, List, [], length, drop, Option, Some, Bool, true, false, ◌||◌, refl, sym, ap, subst, get_or, add-one}
+-- Whether an entry's meaning contains a borrow is decided by what stands in it, place by place, and known of each entry.
+use Rattle.std.proofs.Common.{◌≡◌, ◌∙◌, ◌+◌, ℕ, zero, suc, List, [], ◌∷◌, ◌++◌, length, drop, map, Option, Some, None, Bool, true, false, ◌||◌, refl, sym, ap, subst, add-one}
+use Rattle.std.proofs.lemmas.List.{map-append}
 use Rattle.std.specs.Prelude.{slice_get}
 use Rattle.wac_types.specs.declared.kind.ItemKind.{ItemKind}
 use Rattle.wac_types.specs.declared.entry.Entry.{Entry}
@@ -7,11 +8,12 @@ use Rattle.wac_types.specs.declared.entry.Entry.TheVariants as entries
 use Rattle.wac_types.specs.declared.entry.DefinedType.TheVariants as defined
 use Rattle.wac_types.specs.Entry.{Slot, children}
 use Rattle.wac_types.specs.Label.{label}
-use Rattle.wac_types.specs.Meaning.{Meaning, meaning_at, of_child, row, IsEarlier}
+use Rattle.wac_types.specs.Meaning.{Meaning, look, over, meanings_from, of_child, row}
+use Rattle.wac_types.specs.Borrows.{AreBorrows}
 use Rattle.wac_types.specs.Readings.{is_resource}
 use Rattle.wac_types.specs.Shape.{borrows, contains_borrow, row_contains_borrow}
-use Rattle.wac_types.proofs.Meanings.{meaning_at_entry}
-use Rattle.wac_types.proofs.Rows.{drop_some, drop_past, stands}
+use Rattle.wac_types.proofs.Meanings.{split}
+use Rattle.wac_types.proofs.Rows.{drop_some, drop_past}
 
 -- what is left from place k has a borrow if and only if the whole has
 pub record RestBorrows (f : ℕ → Meaning) (cs : List (Slot × Option ItemKind)) (k : ℕ) : Type 0 where
@@ -61,13 +63,32 @@ other_label origin (entries.Func f) rest h = refl
 other_label origin (entries.Interface i) rest h = refl
 other_label origin (entries.World w) rest h = refl
 
--- the entry at i: its label over what stands in it
-entry_is : (o : ℕ → ℕ) (es : List Entry) (i : ℕ) (e : Entry) → IsEarlier es → i < length es → e ≡ get_or es i e → contains_borrow (meaning_at o es i) ≡ borrows (label (o i) e) (row_contains_borrow (row (meaning_at o es) (children e)))
-entry_is o es i e earlier there is = ap contains_borrow (meaning_at_entry o es i e earlier (stands es i e there is))
+pub resource_has_none : (o : ℕ → ℕ) (ms : List Meaning) (e : Entry) → true ≡ is_resource e → false ≡ contains_borrow (over o ms e)
+resource_has_none o ms e res = sym (resource_label (o (length ms)) e (row_contains_borrow (row (look ms) (children e))) res)
 
-pub resource_has_none : (o : ℕ → ℕ) (es : List Entry) (i : ℕ) (e : Entry) → IsEarlier es → i < length es → e ≡ get_or es i e → true ≡ is_resource e → false ≡ contains_borrow (meaning_at o es i)
-resource_has_none o es i e earlier there is res = sym (entry_is o es i e earlier there is ∙ resource_label (o i) e (row_contains_borrow (row (meaning_at o es) (children e))) res)
+pub entry_has : (o : ℕ → ℕ) (ms : List Meaning) (e : Entry) (b : Bool) → false ≡ is_resource e → row_contains_borrow (row (look ms) (children e)) ≡ b → b ≡ contains_borrow (over o ms e)
+entry_has o ms e b res found = sym (other_label (o (length ms)) e (row_contains_borrow (row (look ms) (children e))) res ∙ found)
 
-pub entry_has : (o : ℕ → ℕ) (es : List Entry) (i : ℕ) (e : Entry) (b : Bool) → IsEarlier es → i < length es → e ≡ get_or es i e → false ≡ is_resource e
-    → row_contains_borrow (row (meaning_at o es) (children e)) ≡ b → b ≡ contains_borrow (meaning_at o es i)
-entry_has o es i e b earlier there is res found = sym (entry_is o es i e earlier there is ∙ other_label (o i) e (row_contains_borrow (row (meaning_at o es) (children e))) res ∙ found)
+-- what is known of a number is what its meaning has, and what names no entry has none
+pub known_some : (ms : List Meaning) (i : ℕ) (b : Bool) → slice_get (map contains_borrow ms) i ≡ Some b → b ≡ contains_borrow (look ms i)
+known_some [] i b is = absurd (cc)
+known_some (m ∷ ms) zero b is = let e : contains_borrow m ≡ b = cc in sym e
+known_some (m ∷ ms) (suc i) b is = known_some ms i b is
+
+pub known_none : (ms : List Meaning) (i : ℕ) → slice_get (map contains_borrow ms) i ≡ None → false ≡ contains_borrow (look ms i)
+known_none [] i is = refl
+known_none (m ∷ ms) zero is = absurd (cc)
+known_none (m ∷ ms) (suc i) is = known_none ms i is
+
+-- one more entry, and what is known of it
+pub borrows_added : (es : List Entry) (known : List Bool) (e : Entry) (b : Bool)
+    → ((o : ℕ → ℕ) (ms : List Meaning) → known ≡ map contains_borrow ms → b ≡ contains_borrow (over o ms e))
+    → AreBorrows es known → AreBorrows (es ++ e ∷ []) (known ++ b ∷ [])
+borrows_added es known e b is all = record {
+  each = λ o.
+      let ms : List Meaning = meanings_from o [] es in
+      ap (λ (l : List Bool). l ++ b ∷ []) (all.each o)
+      ∙ ap (λ (c : Bool). map contains_borrow ms ++ c ∷ []) (is o ms (all.each o))
+      ∙ sym (map-append contains_borrow ms (over o ms e ∷ []))
+      ∙ ap (map contains_borrow) (sym (split o es (e ∷ []) []));
+}

@@ -13,3 +13,4 @@ pub mod Maps
 pub mod Borrowing
 pub mod Tested
 pub mod Found
+pub mod Remembered

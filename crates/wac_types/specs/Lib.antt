@@ -14,3 +14,5 @@ pub mod Equality
 pub mod Scope
 pub mod Steps
 pub mod Shape
+pub mod Borrows
+pub mod Pairs

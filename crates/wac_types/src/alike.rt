@@ -1,10 +1,12 @@
 //! Whether two kinds mean the same.
-ghost use Rattle.std.specs.Prelude.{option_map, string_bytes, ◌≡◌, ℕ, ◌<◌, length, IsTrue, ◌↔◌, IfSome};
+ghost use Rattle.std.specs.Prelude.{option_map, string_bytes, ◌≡◌, ◌≢◌, ℕ, ◌<◌, length, IsTrue, ◌↔◌, IfSome};
 ghost use Rattle.wac_types.specs.Label.{label, defined_label};
 ghost use Rattle.wac_types.specs.Meaning.{IsEarlier, IsOneToOne, IsResource, NamesBefore, meaning, meaning_at, of_child};
+ghost use Rattle.wac_types.specs.Pairs.{AreAlike};
 
 use crate::entry::{DefinedType, Entry};
 use crate::kind::ItemKind;
+use crate::pairs::Pairs;
 
 fn same_id(first: &Option<String>, second: &Option<String>) -> bool
     ensures { IsTrue result ↔ (option_map string_bytes first.now ≡ option_map string_bytes second.now) }
@@ -35,14 +37,13 @@ fn same_shape(first: &DefinedType, second: &DefinedType) -> bool
     }
 }
 
-/// Whether the entries of these numbers are alike beside the kinds in them.
-fn same_label(i: usize, first: &Entry, j: usize, second: &Entry) -> bool
-    requires { i ≡ j → first.now ≡ second.now }
-    ensures { (p q : ℕ) → (i ≡ j → p ≡ q) → (IsResource first.now → IsResource second.now → p ≡ q → i ≡ j) → (IsTrue result ↔ (label p first.now ≡ label q second.now)) }
+/// Whether two entries are alike beside the kinds in them. No two resources are.
+fn same_label(first: &Entry, second: &Entry) -> bool
+    ensures { (p q : ℕ) → (IsResource first.now → IsResource second.now → p ≢ q) → (IsTrue result ↔ (label p first.now ≡ label q second.now)) }
 {
     match (first, second) {
         (Entry::Defined(a), Entry::Defined(b)) => same_shape(a, b),
-        (Entry::Resource(_), Entry::Resource(_)) => i == j,
+        (Entry::Resource(_), Entry::Resource(_)) => false,
         (Entry::Func(a), Entry::Func(b)) => a.is_async == b.is_async,
         (Entry::Interface(a), Entry::Interface(b)) => same_id(&a.id, &b.id),
         (Entry::World(a), Entry::World(b)) => same_id(&a.id, &b.id),
@@ -50,12 +51,15 @@ fn same_label(i: usize, first: &Entry, j: usize, second: &Entry) -> bool
     }
 }
 
+/// Whether two kinds that stand in entries mean the same. What is found to is added to `found`.
 #[cycle(same)]
-pub(crate) fn same_child(entries: &[Entry], a: Option<ItemKind>, b: Option<ItemKind>) -> bool
+fn same_kind(entries: &[Entry], found: &mut Pairs, a: Option<ItemKind>, b: Option<ItemKind>) -> bool
     requires earlier { IsEarlier entries.now }
     requires first { IfSome a (NamesBefore (length entries.now)) }
     requires second { IfSome b (NamesBefore (length entries.now)) }
-    ensures { (origins : ℕ → ℕ) → IsOneToOne entries.now origins → (IsTrue result ↔ (of_child (meaning_at origins entries.now) a ≡ of_child (meaning_at origins entries.now) b)) }
+    requires found { AreAlike entries.now found.old }
+    ensures same { (origins : ℕ → ℕ) → IsOneToOne entries.now origins → (IsTrue result ↔ (of_child (meaning_at origins entries.now) a ≡ of_child (meaning_at origins entries.now) b)) }
+    ensures found { AreAlike entries.now found.new }
 {
     match (a, b) {
         (None, None) => true,
@@ -65,7 +69,7 @@ pub(crate) fn same_child(entries: &[Entry], a: Option<ItemKind>, b: Option<ItemK
             }
             match (x.id(), y.id()) {
                 (None, None) => true,
-                (Some(i), Some(j)) => same_at(entries, i, j),
+                (Some(i), Some(j)) => same_at(entries, found, i, j),
                 _ => false,
             }
         }
@@ -74,15 +78,24 @@ pub(crate) fn same_child(entries: &[Entry], a: Option<ItemKind>, b: Option<ItemK
 }
 
 #[cycle(same)]
-fn same_at(entries: &[Entry], i: usize, j: usize) -> bool
+fn same_at(entries: &[Entry], found: &mut Pairs, i: usize, j: usize) -> bool
     requires earlier { IsEarlier entries.now }
     requires first { i < length entries.now }
     requires second { j < length entries.now }
-    ensures { (origins : ℕ → ℕ) → IsOneToOne entries.now origins → (IsTrue result ↔ (meaning_at origins entries.now i ≡ meaning_at origins entries.now j)) }
+    requires found { AreAlike entries.now found.old }
+    ensures same { (origins : ℕ → ℕ) → IsOneToOne entries.now origins → (IsTrue result ↔ (meaning_at origins entries.now i ≡ meaning_at origins entries.now j)) }
+    ensures found { AreAlike entries.now found.new }
 {
+    // Types that name others twice, which do so themselves, would else be gone through twice as often at each level.
+    if i == j {
+        return true;
+    }
+    if found.has(i, j) {
+        return true;
+    }
     let first = &entries[i];
     let second = &entries[j];
-    if !same_label(i, first, j, second) {
+    if !same_label(first, second) {
         return false;
     }
     let count = first.len();
@@ -95,14 +108,26 @@ fn same_at(entries: &[Entry], i: usize, j: usize) -> bool
                 if !c.place.same(d.place) {
                     return false;
                 }
-                if !same_child(entries, c.kind, d.kind) {
+                if !same_kind(entries, found, c.kind, d.kind) {
                     return false;
                 }
             }
             _ => return false,
         }
     }
+    found.add(i, j);
     true
+}
+
+/// Whether two kinds that stand in entries mean the same.
+pub(crate) fn same_child(entries: &[Entry], a: Option<ItemKind>, b: Option<ItemKind>) -> bool
+    requires earlier { IsEarlier entries.now }
+    requires first { IfSome a (NamesBefore (length entries.now)) }
+    requires second { IfSome b (NamesBefore (length entries.now)) }
+    ensures { (origins : ℕ → ℕ) → IsOneToOne entries.now origins → (IsTrue result ↔ (of_child (meaning_at origins entries.now) a ≡ of_child (meaning_at origins entries.now) b)) }
+{
+    let mut found = Pairs::new();
+    same_kind(entries, &mut found, a, b)
 }
 
 /// Whether two kinds of one table mean the same.

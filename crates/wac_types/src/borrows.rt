@@ -1,7 +1,7 @@
-//! Whether a type contains a borrow.
-ghost use Rattle.std.specs.Prelude.{◌≡◌, ℕ, ◌<◌, length, IfSome};
+//! Whether an entry contains a borrow, as it is known of the entries before it.
+ghost use Rattle.std.specs.Prelude.{◌≡◌, ℕ, List, map};
 ghost use Rattle.wac_types.specs.Kind.{form};
-ghost use Rattle.wac_types.specs.Meaning.{IsEarlier, NamesBefore, meaning, meaning_at, of_child};
+ghost use Rattle.wac_types.specs.Meaning.{Meaning, look, of_child, over};
 ghost use Rattle.wac_types.specs.Readings.{is_resource as resource_entry};
 ghost use Rattle.wac_types.specs.Shape.{contains_borrow as has_borrow, is_borrow_form};
 
@@ -26,11 +26,19 @@ fn is_resource(entry: &Entry) -> bool
     }
 }
 
-#[cycle(borrow)]
-fn child_has_borrow(entries: &[Entry], child: Option<ItemKind>) -> bool
-    requires earlier { IsEarlier entries.now }
-    requires named { IfSome child (NamesBefore (length entries.now)) }
-    ensures { (origins : ℕ → ℕ) → result ≡ has_borrow (of_child (meaning_at origins entries.now) child) }
+/// What is known of the entry of a number. What names no entry contains nothing.
+fn is_known(known: &[bool], number: usize) -> bool
+    ensures { (ms : List Meaning) → known.now ≡ map has_borrow ms → result ≡ has_borrow (look ms number) }
+{
+    match known.get(number) {
+        Some(borrow) => *borrow,
+        None => false,
+    }
+}
+
+/// Whether what stands in an entry contains a borrow.
+pub(crate) fn child_has_borrow(known: &[bool], child: Option<ItemKind>) -> bool
+    ensures { (ms : List Meaning) → known.now ≡ map has_borrow ms → result ≡ has_borrow (of_child (look ms) child) }
 {
     match child {
         None => false,
@@ -40,19 +48,16 @@ fn child_has_borrow(entries: &[Entry], child: Option<ItemKind>) -> bool
             }
             match kind.id() {
                 None => false,
-                Some(i) => entry_has_borrow(entries, i),
+                Some(number) => is_known(known, number),
             }
         }
     }
 }
 
-#[cycle(borrow)]
-fn entry_has_borrow(entries: &[Entry], i: usize) -> bool
-    requires earlier { IsEarlier entries.now }
-    requires there { i < length entries.now }
-    ensures { (origins : ℕ → ℕ) → result ≡ has_borrow (meaning_at origins entries.now i) }
+/// Whether an entry contains a borrow. What a resource is an alias of doesn't count.
+pub(crate) fn entry_has_borrow(known: &[bool], entry: &Entry) -> bool
+    ensures { (origins : ℕ → ℕ) (ms : List Meaning) → known.now ≡ map has_borrow ms → result ≡ has_borrow (over origins ms entry.now) }
 {
-    let entry = &entries[i];
     if is_resource(entry) {
         return false;
     }
@@ -60,20 +65,11 @@ fn entry_has_borrow(entries: &[Entry], i: usize) -> bool
         match entry.child(at) {
             None => return false,
             Some(child) => {
-                if child_has_borrow(entries, child.kind) {
+                if child_has_borrow(known, child.kind) {
                     return true;
                 }
             }
         }
     }
     false
-}
-
-/// Whether what a kind means contains a borrow.
-pub fn contains_borrow(entries: &[Entry], kind: ItemKind) -> bool
-    requires earlier { IsEarlier entries.now }
-    requires named { NamesBefore (length entries.now) kind }
-    ensures { (origins : ℕ → ℕ) → result ≡ has_borrow (meaning origins entries.now kind) }
-{
-    child_has_borrow(entries, Some(kind))
 }

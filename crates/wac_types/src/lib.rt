@@ -19,6 +19,7 @@ mod equal;
 mod kind;
 pub mod names;
 mod package;
+mod pairs;
 mod rules;
 mod types;
 

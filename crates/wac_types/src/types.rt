@@ -22,6 +22,8 @@ use std::marker::Model;
 #[derive(Drop)]
 pub struct Types {
     entries: Vec<Entry>,
+    /// For each entry whether it contains a borrow, so that it's asked at once however often a type is named.
+    borrows: Vec<bool>,
 }
 
 impl Model for Types {
@@ -29,12 +31,15 @@ impl Model for Types {
     ghost use Rattle.std.specs.Coded.{codes};
     ghost use Rattle.wac_types.specs.declared.entry.Entry.{Entry};
     ghost use Rattle.wac_types.specs.contracts.entry.Entry as entry;
+    ghost use Rattle.wac_types.specs.Borrows.{AreBorrows};
 
     ghost Value = { List Entry };
 
     ghost coded = { Prim.hlevel (codes, entry.the_row.coded) };
 
     ghost view = { λ t. t.entries.items };
+
+    ghost invariant = { λ t. AreBorrows t.entries.items t.borrows.items };
 }
 
 impl Types {
@@ -44,6 +49,7 @@ impl Types {
     {
         Types {
             entries: Vec::new(alloc),
+            borrows: Vec::new(alloc),
         }
     }
 
@@ -53,6 +59,7 @@ impl Types {
         ensures room { OnOk result (length self.old + additional < 2 ^ 64) }
     {
         self.entries.reserve(additional)?;
+        self.borrows.reserve(additional)?;
         let _room = self.entries.capacity();
         Ok(())
     }
@@ -66,7 +73,11 @@ impl Types {
         ensures keeps { KeepsMeanings self.old self.new }
     {
         let id = self.entries.len();
-        self.entries.push(entry)?;
+        let borrow = borrows::entry_has_borrow(&self.borrows, &entry);
+        self.entries.reserve(1)?;
+        self.borrows.reserve(1)?;
+        self.entries.push_reserved(entry);
+        self.borrows.push_reserved(borrow);
         Ok(id)
     }
 
@@ -259,7 +270,7 @@ impl Types {
     }
 
     /// Whether two kinds mean the same, whatever the origins of resources are. It takes no memory, and recurses as
-    /// deep as the types nest.
+    /// deep as the types nest. Pairs that it has found to mean the same it remembers, up to 512 of them.
     pub fn same(&self, a: ItemKind, b: ItemKind) -> bool
         requires table { IsTable self.now }
         requires first { Names self.now a }
@@ -269,13 +280,11 @@ impl Types {
         alike::same(&self.entries, a, b)
     }
 
-    /// Whether a value of the type contains a borrow anywhere. What a resource is an alias of doesn't count. It takes no
-    /// memory, and recurses as deep as the types nest.
+    /// Whether a value of the type contains a borrow anywhere. What a resource is an alias of doesn't count, and what
+    /// names no entry contains none. It is known of each entry, so nothing is gone through.
     pub fn contains_borrow(&self, value: ValueType) -> bool
-        requires table { IsTable self.now }
-        requires named { Names self.now (ItemKind.Value value) }
         ensures { (origins : ℕ → ℕ) → result ≡ has_borrow (meaning origins self.now (ItemKind.Value value)) }
     {
-        borrows::contains_borrow(&self.entries, ItemKind::Value(value))
+        borrows::child_has_borrow(&self.borrows, Some(ItemKind::Value(value)))
     }
 }
