@@ -8,7 +8,7 @@ use Rattle.wac_types.specs.declared.entry.Entry.TheVariants as entries
 use Rattle.wac_types.specs.declared.entry.DefinedType.TheVariants as defined
 use Rattle.wac_types.specs.Entry.{Slot, children}
 use Rattle.wac_types.specs.Label.{label}
-use Rattle.wac_types.specs.Meaning.{Meaning, look, over, meanings_from, of_child, row}
+use Rattle.wac_types.specs.Meaning.{Meaning, look, over, meanings_from, meaning_at, meaning, of_child, row}
 use Rattle.wac_types.specs.Borrows.{AreBorrows}
 use Rattle.wac_types.specs.Readings.{is_resource}
 use Rattle.wac_types.specs.Shape.{borrows, contains_borrow, row_contains_borrow}
@@ -92,3 +92,10 @@ borrows_added es known e b is all = record {
       ∙ sym (map-append contains_borrow ms (over o ms e ∷ []))
       ∙ ap (map contains_borrow) (sym (split o es (e ∷ []) []));
 }
+
+-- so it is known of what a kind means
+pub known_of : (o : ℕ → ℕ) (es : List Entry) (known : List Bool) (k : ItemKind) (b : Bool) → AreBorrows es known
+    → ((ms : List Meaning) → known ≡ map contains_borrow ms → b ≡ contains_borrow (of_child (look ms) (Some k)))
+    → b ≡ contains_borrow (meaning o es k)
+unfolding meaning_at
+known_of o es known k b all is = is (meanings_from o [] es) (all.each o)

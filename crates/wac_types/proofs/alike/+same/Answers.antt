@@ -6,7 +6,7 @@ use Rattle.wac_types.proofs.alike.+same.Goals as goal
 
 pub same_at-returns-then-not-same_label-clause-same : goal.same_at-returns-then-not-same_label-clause-same
 same_at-returns-then-not-same_label-clause-same t c = λ o one. refuted (λ same.
-    let h = c.if-not-same_label.ensures (o c.args.i) (o c.args.j) (λ r s e. c.if-i-j.ensures (one c.args.i c.args.j _ _ (stands c.args.entries.now c.args.i c.index-entries-i.result c.requires.first c.index-entries-i.is) (stands c.args.entries.now c.args.j c.index-entries-j.result c.requires.second c.index-entries-j.is) r s e)) in
+    let h = c.if-not-same_label.ensures (o c.args.i) (o c.args.j) (λ r s e. c.if-i-j.false (one c.args.i c.args.j _ _ (stands c.args.entries.now c.args.i c.index-entries-i.result c.requires.first c.index-entries-i.is) (stands c.args.entries.now c.args.j c.index-entries-j.result c.requires.second c.index-entries-j.is) r s e)) in
     let p = node_same o _ _ _ _ _ c.requires.earlier c.requires.first c.index-entries-i.is c.requires.second c.index-entries-j.is same in
     let f = h.1 p.0 in cc)
 
@@ -45,4 +45,7 @@ same_at-loop-at-preserved t c = (
 )
 
 pub same_at-returns-clause-same : goal.same_at-returns-clause-same
-same_at-returns-clause-same t c = λ o one. shown (same_node o _ _ _ _ _ c.requires.earlier c.requires.first c.index-entries-i.is c.requires.second c.index-entries-j.is ((c.if-not-same_label.ensures (o c.args.i) (o c.args.j) (λ r s e. c.if-i-j.ensures (one c.args.i c.args.j _ _ (stands c.args.entries.now c.args.i c.index-entries-i.result c.requires.first c.index-entries-i.is) (stands c.args.entries.now c.args.j c.index-entries-j.result c.requires.second c.index-entries-j.is) r s e))).0 refl) (rest_decides_end (meaning_at o c.args.entries.now) _ _ c.loop-at.at (omega arith) (omega arith) (c.loop-at.invariant.1 o one)))
+same_at-returns-clause-same t c = λ o one. shown (same_node o _ _ _ _ _ c.requires.earlier c.requires.first c.index-entries-i.is c.requires.second c.index-entries-j.is ((c.if-not-same_label.ensures (o c.args.i) (o c.args.j) (λ r s e. c.if-i-j.false (one c.args.i c.args.j _ _ (stands c.args.entries.now c.args.i c.index-entries-i.result c.requires.first c.index-entries-i.is) (stands c.args.entries.now c.args.j c.index-entries-j.result c.requires.second c.index-entries-j.is) r s e))).0 refl) (rest_decides_end (meaning_at o c.args.entries.now) _ _ c.loop-at.at (omega arith) (omega arith) (c.loop-at.invariant.1 o one)))
+
+pub same_at-returns-clause-found : goal.same_at-returns-clause-found
+same_at-returns-clause-found t c = c.add.ensures c.args.entries.now c.loop-at.invariant.0 (λ o one. same_node o _ _ _ _ _ c.requires.earlier c.requires.first c.index-entries-i.is c.requires.second c.index-entries-j.is ((c.if-not-same_label.ensures (o c.args.i) (o c.args.j) (λ r s e. c.if-i-j.false (one c.args.i c.args.j _ _ (stands c.args.entries.now c.args.i c.index-entries-i.result c.requires.first c.index-entries-i.is) (stands c.args.entries.now c.args.j c.index-entries-j.result c.requires.second c.index-entries-j.is) r s e))).0 refl) (rest_decides_end (meaning_at o c.args.entries.now) _ _ c.loop-at.at (omega arith) (omega arith) (c.loop-at.invariant.1 o one)))

@@ -6,4 +6,4 @@ use Rattle.wac_types.proofs.Borrowing.{RestBorrows}
 use Rattle.wac_types.proofs.borrows.entry_has_borrow.Given as goal
 
 abbrev pub invariant-loop-at : goal.invariant-loop-at
-invariant-loop-at l = (ms : List Meaning) → l.fn.known.now ≡ map contains_borrow ms → RestBorrows (look ms) (children l.fn.entry.now) l.at
+invariant-loop-at l = (ms : List Meaning) → l.known ≡ map contains_borrow ms → RestBorrows (look ms) (children l.entry) l.at

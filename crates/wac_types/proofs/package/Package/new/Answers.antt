@@ -16,6 +16,11 @@ is_package : (read es : List Entry) (w : WorldId) (i : InterfaceId) (ds : List (
     → IdsInRange (parts read w i ds) → IdsOfSort (parts read w i ds) → IdsEarlier read → HaveIds read ds → SameExports read w i → IsPackage (parts es w i ds)
 is_package read es w i ds is r s e h x = subst (λ (l : List Entry). IsPackage (parts l w i ds)) is (record { in_range = r; of_sort = s; earlier = e; ids = h; exports = x })
 
+pub returns-then-not-have_ids-clause-err : goal.returns-then-not-have_ids-clause-err
+returns-then-not-have_ids-clause-err c =
+    subst (λ (l : List Entry). FirstFault errors.NoInterfaceId (parts l c.args.world c.args.instance (by_name c.args.definitions.entries))) c.entries-entries.ensures
+    (c.if-not-ids_in_range.ensures.0 refl, c.if-not-ids_of_sort.ensures.0 refl, c.if-not-ids_earlier.ensures.0 refl, λ h. let f = c.if-not-have_ids.ensures.1 h in cc)
+
 pub returns-then-not-same_exports-clause-err : goal.returns-then-not-same_exports-clause-err
 returns-then-not-same_exports-clause-err c =
     subst (λ (l : List Entry). FirstFault errors.InstanceExports (parts l c.args.world c.args.instance (by_name c.args.definitions.entries))) c.entries-entries.ensures
