@@ -44,7 +44,6 @@ use wac_types::{
 /// all as it was, but that [`add_package`](Self::add_package) may have added types.
 ///
 /// A contract sees the parts: lists of types, packages, nodes, imports and exports.
-#[derive(Drop)]
 pub struct CompositionGraph {
     alloc: Global,
     types: Types,
@@ -67,6 +66,20 @@ impl Model for CompositionGraph {
     ghost view = { λ g. record { types = g.types; packages = g.packages; nodes = g.nodes.items; imports = g.imports; exports = g.exports } };
 
     ghost invariant = { λ g. IsSound (record { types = g.types; packages = g.packages; nodes = g.nodes.items; imports = g.imports; exports = g.exports }) };
+}
+
+// Written out, so that a crate above, which may drop a graph, need not prove how its parts are dropped.
+impl Drop for CompositionGraph {
+    fn drop(self) {
+        let CompositionGraph {
+            alloc: _,
+            types: _,
+            packages: _,
+            nodes: _,
+            imports: _,
+            exports: _,
+        } = self;
+    }
 }
 
 impl CompositionGraph {

@@ -56,7 +56,6 @@ impl From<AllocError> for PackageError {
 /// A component's types: its world, the instance that it becomes, and the types that it defines, by name.
 ///
 /// The numbers in it are those of its own table. A contract sees its parts.
-#[derive(Drop)]
 pub struct Package {
     types: Types,
     world: WorldId,
@@ -77,6 +76,18 @@ impl Model for Package {
     ghost view = { λ p. record { types = p.types; world = p.world; instance = p.instance; definitions = by_name p.definitions.entries } };
 
     ghost invariant = { λ p. IsPackage (record { types = p.types; world = p.world; instance = p.instance; definitions = by_name p.definitions.entries }) };
+}
+
+// Written out, so that a crate above, which may drop a package, need not prove how its parts are dropped.
+impl Drop for Package {
+    fn drop(self) {
+        let Package {
+            types: _,
+            world: _,
+            instance: _,
+            definitions: _,
+        } = self;
+    }
 }
 
 /// What each kind of a package is tested for.

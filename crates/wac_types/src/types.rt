@@ -19,7 +19,6 @@ use std::alloc::{AllocError, Global};
 use std::marker::Model;
 
 /// A table of types. A contract sees the list of its entries. Growth keeps the meaning of each older kind.
-#[derive(Drop)]
 pub struct Types {
     entries: Vec<Entry>,
     /// For each entry whether it contains a borrow, so that it's asked at once however often a type is named.
@@ -40,6 +39,16 @@ impl Model for Types {
     ghost view = { λ t. t.entries.items };
 
     ghost invariant = { λ t. AreBorrows t.entries.items t.borrows.items };
+}
+
+// Written out, so that a crate above, which may drop a table, need not prove how its entries are dropped.
+impl Drop for Types {
+    fn drop(self) {
+        let Types {
+            entries: _,
+            borrows: _,
+        } = self;
+    }
 }
 
 impl Types {

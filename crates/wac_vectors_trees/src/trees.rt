@@ -323,6 +323,20 @@ fn cases_have_docs(rt: &impl Abort, alloc: Global) {
     assert_eq!(rt; are_docs_of_cases(&document), Some((true, true)));
 }
 
+/// Asserts that a document is taken apart and put together again.
+fn document_is_taken_apart(rt: &impl Abort, alloc: Global) {
+    let source = "/// one\npackage a:b; let x = new c:d { ... }; export x;";
+    let (docs, directive, statements) = parsed(rt, alloc, source).into_parts();
+    assert_eq!(rt; (docs.len(), statements.len()), (1, 2));
+    assert_eq!(rt; directive.package.name, "a:b");
+    let again = Document {
+        docs,
+        directive,
+        statements,
+    };
+    assert_eq!(rt; again.statements.len(), 2);
+}
+
 #[test]
 fn statements_and_their_parts(rt: HostRuntime) {
     let alloc = rt.alloc();
@@ -336,4 +350,5 @@ fn statements_and_their_parts(rt: HostRuntime) {
     let source = "package a:b; interface i { resource r { f: func(); } }";
     method_is_static(&rt, alloc, source, false);
     cases_have_docs(&rt, alloc);
+    document_is_taken_apart(&rt, alloc);
 }
