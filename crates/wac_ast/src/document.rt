@@ -22,7 +22,8 @@ use wac_ast_base::{
 };
 use wac_lexer::{Lexer, Token, items_stand_in_order};
 
-/// A document. [`into_parts`](Self::into_parts) takes it apart.
+/// A document.
+#[derive(Drop)]
 pub struct Document<'a> {
     /// The documentation of the package.
     pub docs: Vec<DocComment<'a>>,
@@ -45,17 +46,6 @@ impl fmt::Debug for Document<'_> {
     }
 }
 
-// Written out, so that a crate above, which may drop a document, need not prove how its parts are dropped.
-impl Drop for Document<'_> {
-    fn drop(self) {
-        let Document {
-            docs: _,
-            directive: _,
-            statements: _,
-        } = self;
-    }
-}
-
 impl<'a> Document<'a> {
     /// Parses a text as a document.
     ///
@@ -75,26 +65,6 @@ impl<'a> Document<'a> {
     {
         items_stand_in_order();
         parse_document(alloc, source)
-    }
-
-    /// The document's parts: its documentation, its directive and its statements.
-    pub fn into_parts(
-        self,
-    ) -> (
-        Vec<DocComment<'a>>,
-        PackageDirective<'a>,
-        Vec<Statement<'a>>,
-    )
-        ensures docs { result.0 ≡ self.entry.docs }
-        ensures directive { result.1 ≡ self.entry.directive }
-        ensures statements { result.2 ≡ self.entry.statements }
-    {
-        let Document {
-            docs,
-            directive,
-            statements,
-        } = self;
-        (docs, directive, statements)
     }
 }
 

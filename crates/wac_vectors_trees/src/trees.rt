@@ -223,42 +223,31 @@ fn nested(alloc: Global, depth: usize) -> Result<String, Fail> {
     Ok(text)
 }
 
-/// Asserts the spans of a type's parts.
-fn tuple_has_spans(rt: &impl Abort, alloc: Global) {
-    let document = parsed(rt, alloc, "package a:b; type t = tuple<u8>;");
-    let spans = (SourceSpan::new(22, 9), SourceSpan::new(28, 2));
-    assert_eq!(rt; tuple_of_one(&document), Some(spans));
-}
-
-/// Asserts the spans of a stream's parts.
-fn stream_has_spans(rt: &impl Abort, alloc: Global) {
-    let document = parsed(rt, alloc, "package a:b; type t = stream<u8>;");
-    let spans = (SourceSpan::new(22, 10), SourceSpan::new(29, 2));
-    assert_eq!(rt; stream(&document), Some(spans));
-}
-
-/// Asserts how long a result of nothing is in the text.
-fn result_has_length(rt: &impl Abort, alloc: Global, source: &str, length: usize) {
-    let document = parsed(rt, alloc, source);
-    assert_eq!(rt; bare_result(&document), Some(SourceSpan::new(22, length)));
-}
-
-/// Asserts the parts of an imported path.
-fn path_has_parts(rt: &impl Abort, alloc: Global, source: &str) {
-    let document = parsed(rt, alloc, source);
-    let parts = ("%c:d", SourceSpan::new(23, 4), "e/%f", true);
-    assert_eq!(rt; path(&document), Some(parts));
-}
-
 #[test]
 fn types_and_paths(rt: HostRuntime) -> Result<(), Fail> {
     let alloc = rt.alloc();
-    tuple_has_spans(&rt, alloc);
-    stream_has_spans(&rt, alloc);
-    result_has_length(&rt, alloc, "package a:b; type t = result<_, _>;", 12);
-    result_has_length(&rt, alloc, "package a:b; type t = result;", 6);
+    assert_eq!(rt;
+        tuple_of_one(&parsed(&rt, alloc, "package a:b; type t = tuple<u8>;")),
+        Some((SourceSpan::new(22, 9), SourceSpan::new(28, 2)))
+    );
+    assert_eq!(rt;
+        stream(&parsed(&rt, alloc, "package a:b; type t = stream<u8>;")),
+        Some((SourceSpan::new(22, 10), SourceSpan::new(29, 2)))
+    );
+    for (source, len) in [
+        ("package a:b; type t = result<_, _>;", 12),
+        ("package a:b; type t = result;", 6),
+    ] {
+        assert_eq!(rt;
+            bare_result(&parsed(&rt, alloc, source)),
+            Some(SourceSpan::new(22, len))
+        );
+    }
     let source = "package a:b; import x: %c:d/e/%f@1.0.0;";
-    path_has_parts(&rt, alloc, source);
+    assert_eq!(rt;
+        path(&parsed(&rt, alloc, source)),
+        Some(("%c:d", SourceSpan::new(23, 4), "e/%f", true))
+    );
     segments_outlive_their_path(&rt, alloc, source);
     let source = nested(alloc, 200)?;
     assert!(rt; Document::parse(alloc, source.as_str()).is_ok());
@@ -269,86 +258,47 @@ fn types_and_paths(rt: HostRuntime) -> Result<(), Fail> {
 fn export_parts(rt: &impl Abort, alloc: Global) {
     let source = "package a:b; export (x.y)[ \"q\" ].z as \"n\";";
     let document = parsed(rt, alloc, source);
-    let spans = (
-        SourceSpan::new(20, 14),
-        SourceSpan::new(25, 7),
-        SourceSpan::new(32, 2),
+    assert_eq!(rt;
+        export_spans(&document),
+        Some((
+            SourceSpan::new(20, 14),
+            SourceSpan::new(25, 7),
+            SourceSpan::new(32, 2)
+        ))
     );
-    assert_eq!(rt; export_spans(&document), Some(spans));
-}
-
-/// Asserts the spans of what stands in an export's parentheses, and of its new name.
-fn inner_parts(rt: &impl Abort, alloc: Global) {
-    let source = "package a:b; export (x.y)[ \"q\" ].z as \"n\";";
-    let document = parsed(rt, alloc, source);
-    let spans = (
-        SourceSpan::new(20, 5),
-        SourceSpan::new(21, 3),
-        SourceSpan::new(38, 3),
+    assert_eq!(rt;
+        inner_spans(&document),
+        Some((
+            SourceSpan::new(20, 5),
+            SourceSpan::new(21, 3),
+            SourceSpan::new(38, 3)
+        ))
     );
-    assert_eq!(rt; inner_spans(&document), Some(spans));
-}
-
-/// Asserts that a function without results gives nothing.
-fn function_gives_nothing(rt: &impl Abort, alloc: Global) {
-    let source = "package a:b; interface i { f: func() -> ; }";
-    let document = parsed(rt, alloc, source);
-    assert_eq!(rt; function(&document), Some((true, false, 0)));
-}
-
-/// Asserts the names of two results.
-fn results_have_names(rt: &impl Abort, alloc: Global) {
-    let source = "package a:b; interface i { f: func() -> (a: u32, %b: string,); }";
-    let document = parsed(rt, alloc, source);
-    assert_eq!(rt; are_names_of_results(&document), Some((true, true)));
-}
-
-/// Asserts that a fill is an argument like another.
-fn fill_is_an_argument(rt: &impl Abort, alloc: Global) {
-    let source = "package a:b; let x = new c:d { ..., y };";
-    let document = parsed(rt, alloc, source);
-    assert_eq!(rt; filled(&document), Some((true, 2)));
-}
-
-/// Asserts whether the text's first method is static.
-fn method_is_static(rt: &impl Abort, alloc: Global, source: &str, expected: bool) {
-    let document = parsed(rt, alloc, source);
-    assert_eq!(rt; is_static(&document), Some(expected));
-}
-
-/// Asserts that each case has its own docs.
-fn cases_have_docs(rt: &impl Abort, alloc: Global) {
-    let source = "package a:b; variant v {\n/// one\na, /// two\nb(u8), }";
-    let document = parsed(rt, alloc, source);
-    assert_eq!(rt; are_docs_of_cases(&document), Some((true, true)));
-}
-
-/// Asserts that a document is taken apart and put together again.
-fn document_is_taken_apart(rt: &impl Abort, alloc: Global) {
-    let source = "/// one\npackage a:b; let x = new c:d { ... }; export x;";
-    let (docs, directive, statements) = parsed(rt, alloc, source).into_parts();
-    assert_eq!(rt; (docs.len(), statements.len()), (1, 2));
-    assert_eq!(rt; directive.package.name, "a:b");
-    let again = Document {
-        docs,
-        directive,
-        statements,
-    };
-    assert_eq!(rt; again.statements.len(), 2);
 }
 
 #[test]
 fn statements_and_their_parts(rt: HostRuntime) {
     let alloc = rt.alloc();
-    function_gives_nothing(&rt, alloc);
-    results_have_names(&rt, alloc);
+    let source = "package a:b; interface i { f: func() -> ; }";
+    assert_eq!(rt;
+        function(&parsed(&rt, alloc, source)),
+        Some((true, false, 0))
+    );
+    let source = "package a:b; interface i { f: func() -> (a: u32, %b: string,); }";
+    assert_eq!(rt;
+        are_names_of_results(&parsed(&rt, alloc, source)),
+        Some((true, true))
+    );
     export_parts(&rt, alloc);
-    inner_parts(&rt, alloc);
-    fill_is_an_argument(&rt, alloc);
+    let source = "package a:b; let x = new c:d { ..., y };";
+    assert_eq!(rt; filled(&parsed(&rt, alloc, source)), Some((true, 2)));
     let source = "package a:b; interface i { resource r { f: static func(); } }";
-    method_is_static(&rt, alloc, source, true);
+    assert_eq!(rt; is_static(&parsed(&rt, alloc, source)), Some(true));
     let source = "package a:b; interface i { resource r { f: func(); } }";
-    method_is_static(&rt, alloc, source, false);
-    cases_have_docs(&rt, alloc);
-    document_is_taken_apart(&rt, alloc);
+    assert_eq!(rt; is_static(&parsed(&rt, alloc, source)), Some(false));
+    let source = "package a:b; variant v {\n/// one\na, /// two\nb(u8), }";
+    assert_eq!(rt;
+        are_docs_of_cases(&parsed(&rt, alloc, source)),
+        Some((true, true))
+    );
 }
