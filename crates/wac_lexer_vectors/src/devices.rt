@@ -105,35 +105,53 @@ impl Write for Full {
     }
 }
 
-/// Asserts what sinks take.
-fn sinks(rt: &impl Abort, alloc: Global) {
+/// Asserts that what is kept in memory is what was put.
+fn keeps(rt: &impl Abort, alloc: Global) {
     let mut kept = Bytes::new(alloc);
     assert_eq!(rt; kept.put(b"ab"), Some(2));
     assert_eq!(rt; kept.put(b""), Some(0));
     assert_eq!(rt; kept.put(b"c"), Some(1));
     assert_eq!(rt; kept.into_vec().as_slice(), b"abc".as_slice());
+}
+
+/// Asserts that what is written is what was put.
+fn writes(rt: &impl Abort, alloc: Global) {
     let mut written = Vec::new(alloc);
     let mut out = Out::new(&mut written);
     assert_eq!(rt; out.put(b"let"), Some(3));
     assert_eq!(rt; out.put(b""), Some(0));
     assert_eq!(rt; out.put(b" x"), Some(2));
     assert_eq!(rt; written.as_slice(), b"let x".as_slice());
+}
+
+/// Asserts that a writer that takes nothing fails, but of nothing.
+fn is_full(rt: &impl Abort) {
     let mut full = Out::new(Full);
     assert_eq!(rt; full.put(b"y"), None);
     assert_eq!(rt; full.put(b""), Some(0));
-    let text = b"let x";
-    for room in 0..text.len() {
-        let mut writer = Narrow::new(text, 1, room);
-        let mut out = Out::new(&mut writer);
-        assert!(rt; !put_all(&mut out, text), "at {room}");
-        assert_eq!(rt; out.put(b"y"), None, "at {room}");
-        writer.holds(rt, room, room + 2);
+}
+
+/// Asserts what a writer took that fails after so many bytes.
+fn fails_at(rt: &impl Abort, text: &[u8], room: usize) {
+    let mut writer = Narrow::new(text, 1, room);
+    let mut out = Out::new(&mut writer);
+    assert!(rt; !put_all(&mut out, text), "at {room}");
+    assert_eq!(rt; out.put(b"y"), None, "at {room}");
+    writer.holds(rt, room, room.saturating_add(2));
+}
+
+#[test]
+fn sinks(rt: HostRuntime) {
+    keeps(&rt, rt.alloc());
+    writes(&rt, rt.alloc());
+    is_full(&rt);
+    for room in 0..5 {
+        fails_at(&rt, b"let x", room);
     }
 }
 
-/// Asserts what feeds give.
-fn feeds(rt: &impl Abort) {
-    let text: &[u8] = b"let x";
+/// Asserts that a feed gives its text in parts.
+fn gives(rt: &impl Abort, text: &[u8]) {
     let mut feed = In::new(text);
     let mut part = [0; 3];
     assert_eq!(rt; feed.take(&mut []), Some(0));
@@ -142,20 +160,25 @@ fn feeds(rt: &impl Abort) {
     assert_eq!(rt; feed.take(&mut part), Some(2));
     assert_eq!(rt; &part[..2], b" x".as_slice());
     assert_eq!(rt; feed.take(&mut part), Some(0));
-    for room in 0..text.len() {
-        let mut feed = In::new(Narrow::new(text, 1, room));
-        for at in 0..room {
-            assert_eq!(rt; feed.take(&mut part), Some(1));
-            assert_eq!(rt; part[0], text[at], "at {at}");
-        }
-        assert_eq!(rt; feed.take(&mut part), None);
+}
+
+/// Asserts that a feed gives each byte up to a failure, and then fails.
+fn gives_up_to(rt: &impl Abort, text: &[u8], room: usize) {
+    let mut feed = In::new(Narrow::new(text, 1, room));
+    let mut part = [0; 3];
+    for byte in text.iter().take(room) {
+        assert_eq!(rt; feed.take(&mut part), Some(1));
+        assert_eq!(rt; part[0], *byte, "of {room}");
     }
+    assert_eq!(rt; feed.take(&mut part), None);
 }
 
 #[test]
-fn sinks_and_feeds(rt: HostRuntime) {
-    sinks(&rt, rt.alloc());
-    feeds(&rt);
+fn feeds(rt: HostRuntime) {
+    gives(&rt, b"let x");
+    for room in 0..5 {
+        gives_up_to(&rt, b"let x", room);
+    }
 }
 
 /// So many bytes.

@@ -1,5 +1,6 @@
 //! Items of texts, and refused characters.
 
+use std::alloc::{AllocError, Global};
 use std::process::Abort;
 use std::test::Fail;
 use wac_lexer::{Error, Lexer, LexerResult, SourceSpan, Token};
@@ -139,35 +140,86 @@ const REFUSED: [(&str, Error, usize, usize); 5] = [
     ),
 ];
 
-/// Asserts what a lexer says ahead of its items and after them.
-fn peeks_and_spans(rt: &impl Abort) -> Result<(), Fail> {
-    let Ok(mut lexer) = Lexer::new("let é\"x\"") else {
-        panic!(rt; "a source is refused");
-    };
-    let (first, second) = (SourceSpan::new(0, 3), SourceSpan::new(4, 2));
+/// A lexer of a source of three items, the second of which is a fault.
+fn three_items(rt: &impl Abort) -> Lexer<'static> {
+    match Lexer::new("let é\"x\"") {
+        Ok(lexer) => lexer,
+        Err(_) => panic!(rt; "a source is refused"),
+    }
+}
+
+/// The span of the second of the three items.
+fn second() -> SourceSpan {
+    SourceSpan::new(4, 2)
+}
+
+/// Asserts what a lexer says ahead of its items.
+fn looks_ahead(rt: &impl Abort) {
+    let mut lexer = three_items(rt);
+    let first = SourceSpan::new(0, 3);
     assert_eq!(rt; lexer.span(), SourceSpan::new(0, 0));
     assert_eq!(rt; lexer.peek(), Some((Ok(Token::LetKeyword), first)));
-    assert_eq!(rt; lexer.peek2(), Some((Err(Error::UnexpectedToken), second)));
+    assert_eq!(rt;
+        lexer.peek2(),
+        Some((Err(Error::UnexpectedToken), second()))
+    );
     assert_eq!(rt; lexer.next(), Some((Ok(Token::LetKeyword), first)));
     assert_eq!(rt; lexer.span(), first);
+}
+
+/// Asserts that a clone goes on by itself.
+fn clones(rt: &impl Abort) -> Result<(), Fail> {
+    let mut lexer = three_items(rt);
+    lexer.next();
     let mut copy = lexer.clone()?;
-    assert_eq!(rt; copy.next(), Some((Err(Error::UnexpectedToken), second)));
-    assert_eq!(rt; lexer.next(), Some((Err(Error::UnexpectedToken), second)));
-    assert!(rt; lexer.holds(second));
-    assert_eq!(rt; lexer.source(second), "é");
-    assert!(rt; !lexer.holds(SourceSpan::new(5, 1)));
-    assert!(rt; !lexer.holds(SourceSpan::new(9, 1)));
-    assert!(rt; !lexer.holds(SourceSpan::new(1, usize::MAX)));
-    assert_eq!(rt;
-        lexer.next(),
-        Some((Ok(Token::String), SourceSpan::new(6, 3)))
-    );
+    let item = Some((Err(Error::UnexpectedToken), second()));
+    assert_eq!(rt; copy.next(), item);
+    assert_eq!(rt; lexer.next(), item);
+    Ok(())
+}
+
+/// Asserts which spans a source has, and what stands there.
+fn slices(rt: &impl Abort) {
+    let lexer = three_items(rt);
+    assert!(rt; lexer.holds(second()));
+    assert_eq!(rt; lexer.source(second()), "é");
+    for (offset, len) in [(5, 1), (9, 1), (1, usize::MAX)] {
+        assert!(rt; !lexer.holds(SourceSpan::new(offset, len)), "at {offset}");
+    }
+}
+
+/// Asserts what a lexer says after its last item.
+fn ends(rt: &impl Abort) {
+    let mut lexer = three_items(rt);
+    lexer.next();
+    lexer.next();
+    let third = SourceSpan::new(6, 3);
+    assert_eq!(rt; lexer.next(), Some((Ok(Token::String), third)));
     assert_eq!(rt; lexer.span(), SourceSpan::new(5, 1));
     assert_eq!(rt; lexer.peek2(), None);
     assert_eq!(rt; lexer.next(), None);
     assert_eq!(rt; lexer.span(), SourceSpan::new(8, 1));
     lexer.stands_between_items();
-    Ok(())
+}
+
+#[test]
+fn places_of_a_lexer(rt: HostRuntime) -> Result<(), Fail> {
+    looks_ahead(&rt);
+    slices(&rt);
+    ends(&rt);
+    clones(&rt)
+}
+
+/// A block comment that nests 200 levels deep.
+fn nested(alloc: Global) -> Result<String, AllocError> {
+    let mut source = String::new(alloc);
+    for _ in 0..200 {
+        source.push_str("/*")?;
+    }
+    for _ in 0..200 {
+        source.push_str("*/")?;
+    }
+    Ok(source)
 }
 
 #[test]
@@ -175,13 +227,7 @@ fn items_of_texts(rt: HostRuntime) -> Result<(), Fail> {
     for (source, rows) in TEXTS {
         items_are(&rt, source, rows);
     }
-    let mut source = String::new(rt.alloc());
-    for _ in 0..200 {
-        source.push_str("/*")?;
-    }
-    for _ in 0..200 {
-        source.push_str("*/")?;
-    }
+    let mut source = nested(rt.alloc())?;
     items_are(&rt, source.as_str(), &[]);
     source.push_str("x")?;
     items_are(&rt, source.as_str(), &[(Ok(Token::Ident), 800, 1)]);
@@ -192,5 +238,5 @@ fn items_of_texts(rt: HostRuntime) -> Result<(), Fail> {
         );
     }
     assert!(rt; Lexer::new("\t\r\n\u{a0}\u{202f}").is_ok());
-    peeks_and_spans(&rt)
+    Ok(())
 }
