@@ -26,6 +26,14 @@ const TEXTS: [(&str, &[Row]); 11] = [
     ("///\u{a0}a\u{2003}b\u{3000}\n;", &[("a\u{2003}b", 0, 13)]),
 ];
 
+/// Asserts the text of a doc, and where it stands.
+fn is_doc(rt: &impl Abort, doc: &(&str, SourceSpan), row: &Row) {
+    let (text, span) = doc;
+    let (expected, offset, len) = row;
+    assert_eq!(rt; *text, *expected);
+    assert_eq!(rt; *span, SourceSpan::new(*offset, *len));
+}
+
 /// Asserts that these are the docs before the first item. Running out of memory is no result, and changes nothing.
 fn docs_are(rt: &impl Abort, alloc: Global, source: &str, rows: &[Row]) {
     let Ok(mut lexer) = Lexer::new(source) else {
@@ -34,9 +42,8 @@ fn docs_are(rt: &impl Abort, alloc: Global, source: &str, rows: &[Row]) {
     let first = lexer.peek();
     if let Ok(docs) = lexer.comments(alloc) {
         assert_eq!(rt; docs.len(), rows.len(), "in {source}");
-        for ((text, span), (expected, offset, len)) in docs.iter().zip(rows) {
-            assert_eq!(rt; *text, *expected, "in {source}");
-            assert_eq!(rt; *span, SourceSpan::new(*offset, *len), "in {source}");
+        for (doc, row) in docs.iter().zip(rows) {
+            is_doc(rt, doc, row);
         }
     }
     assert_eq!(rt; lexer.next(), first);

@@ -181,8 +181,9 @@ fn clones(rt: &impl Abort) -> Result<(), Fail> {
 /// Asserts which spans a source has, and what stands there.
 fn slices(rt: &impl Abort) {
     let lexer = three_items(rt);
-    assert!(rt; lexer.holds(second()));
-    assert_eq!(rt; lexer.source(second()), "é");
+    let span = second();
+    assert!(rt; lexer.holds(span));
+    assert_eq!(rt; lexer.source(span), "é");
     for (offset, len) in [(5, 1), (9, 1), (1, usize::MAX)] {
         assert!(rt; !lexer.holds(SourceSpan::new(offset, len)), "at {offset}");
     }
@@ -210,15 +211,19 @@ fn places_of_a_lexer(rt: HostRuntime) -> Result<(), Fail> {
     clones(&rt)
 }
 
+/// Adds a text that many times as a comment nests.
+fn push_levels(source: &mut String, text: &str) -> Result<(), AllocError> {
+    for _ in 0..200 {
+        source.push_str(text)?;
+    }
+    Ok(())
+}
+
 /// A block comment that nests 200 levels deep.
 fn nested(alloc: Global) -> Result<String, AllocError> {
     let mut source = String::new(alloc);
-    for _ in 0..200 {
-        source.push_str("/*")?;
-    }
-    for _ in 0..200 {
-        source.push_str("*/")?;
-    }
+    push_levels(&mut source, "/*")?;
+    push_levels(&mut source, "*/")?;
     Ok(source)
 }
 

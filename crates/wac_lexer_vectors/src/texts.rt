@@ -128,22 +128,44 @@ const FAULTS: [(Error, &str); 6] = [
     ),
 ];
 
+/// Asserts the names of tokens that are no words of their own.
+fn tokens_are_named(rt: &impl Abort, alloc: Global) -> Result<(), Fail> {
+    for (token, expected) in TOKENS {
+        let text = format!(in alloc; "{token}")?;
+        assert_eq!(rt; text.as_str(), expected);
+    }
+    Ok(())
+}
+
+/// Asserts the texts of faults.
+fn faults_are_told(rt: &impl Abort, alloc: Global) -> Result<(), Fail> {
+    for (fault, expected) in FAULTS {
+        let text = format!(in alloc; "{fault}")?;
+        assert_eq!(rt; text.as_str(), expected);
+    }
+    Ok(())
+}
+
 #[test]
-fn names_and_messages(rt: HostRuntime) -> Result<(), Fail> {
+fn keywords(rt: HostRuntime) -> Result<(), Fail> {
     for (text, token) in KEYWORDS {
         is_word(&rt, rt.alloc(), text, token, " keyword")?;
     }
+    Ok(())
+}
+
+#[test]
+fn symbols(rt: HostRuntime) -> Result<(), Fail> {
     for (text, token) in SYMBOLS {
         is_word(&rt, rt.alloc(), text, token, "")?;
     }
-    for (token, expected) in TOKENS {
-        let text = format!(in rt.alloc(); "{token}")?;
-        assert_eq!(rt; text.as_str(), expected);
-    }
-    for (fault, expected) in FAULTS {
-        let text = format!(in rt.alloc(); "{fault}")?;
-        assert_eq!(rt; text.as_str(), expected);
-    }
+    Ok(())
+}
+
+#[test]
+fn names_and_messages(rt: HostRuntime) -> Result<(), Fail> {
+    tokens_are_named(&rt, rt.alloc())?;
+    faults_are_told(&rt, rt.alloc())?;
     assert_eq!(rt; Error::default(), Error::UnexpectedToken);
     assert_eq!(rt; Error::from(()), Error::UnexpectedToken);
     Ok(())
