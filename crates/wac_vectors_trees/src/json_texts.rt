@@ -34,7 +34,7 @@ fn has_json(rt: &impl Abort, alloc: Global, source: &str, json: &str) -> Result<
 }
 
 /// Texts, and the JSON of the tree of each.
-const TEXTS: [(&str, &str); 14] = [
+const TEXTS: [(&str, &str); 24] = [
     // directive alone
     (
         "package a:b;",
@@ -99,6 +99,56 @@ const TEXTS: [(&str, &str); 14] = [
     (
         "package a:b; /// w\nworld w { use j.{t}; resource r; variant v { a } record q { x: u8 } flags f { a } enum e { a } type t = u8; /// i\nimport c:d/e; import f: func(); import g: interface { h: k; }; import i; import h: t; /// e\nexport c:d/e@1.0.0; export f: func(); export g: interface { }; export i; export h: t; /// n\ninclude x; include c:d/v with { a as b, %c as d }; include y with {}; }",
         r#"{"directive":{"package":{"name":"a:b","span":{"length":3,"offset":8},"string":"a:b","version":null}},"docs":[],"statements":[{"Type":{"world":{"docs":[{"comment":"w","span":{"length":5,"offset":13}}],"id":{"span":{"length":1,"offset":25},"string":"w"},"items":[{"use":{"docs":[],"items":[{"asId":null,"id":{"span":{"length":1,"offset":36},"string":"t"}}],"path":{"ident":{"span":{"length":1,"offset":33},"string":"j"}}}},{"type":{"resource":{"docs":[],"id":{"span":{"length":1,"offset":49},"string":"r"},"methods":[]}}},{"type":{"variant":{"cases":[{"docs":[],"id":{"span":{"length":1,"offset":64},"string":"a"},"ty":null}],"docs":[],"id":{"span":{"length":1,"offset":60},"string":"v"}}}},{"type":{"record":{"docs":[],"fields":[{"docs":[],"id":{"span":{"length":1,"offset":79},"string":"x"},"ty":{"u8":{"length":2,"offset":82}}}],"id":{"span":{"length":1,"offset":75},"string":"q"}}}},{"type":{"flags":{"docs":[],"flags":[{"docs":[],"id":{"span":{"length":1,"offset":97},"string":"a"}}],"id":{"span":{"length":1,"offset":93},"string":"f"}}}},{"type":{"enum":{"cases":[{"docs":[],"id":{"span":{"length":1,"offset":110},"string":"a"}}],"docs":[],"id":{"span":{"length":1,"offset":106},"string":"e"}}}},{"type":{"alias":{"docs":[],"id":{"span":{"length":1,"offset":119},"string":"t"},"kind":{"type":{"u8":{"length":2,"offset":123}}}}}},{"import":{"docs":[{"comment":"i","span":{"length":5,"offset":127}}],"path":{"package":{"name":"c:d","segments":"e","span":{"length":5,"offset":140},"string":"c:d/e","version":null}}}},{"import":{"docs":[],"path":{"named":{"id":{"span":{"length":1,"offset":154},"string":"f"},"ty":{"func":{"isAsync":false,"params":[],"results":"empty"}}}}}},{"import":{"docs":[],"path":{"named":{"id":{"span":{"length":1,"offset":172},"string":"g"},"ty":{"interface":{"items":[{"export":{"docs":[],"id":{"span":{"length":1,"offset":187},"string":"h"},"ty":{"ident":{"span":{"length":1,"offset":190},"string":"k"}}}}]}}}}}},{"import":{"docs":[],"path":{"ident":{"span":{"length":1,"offset":203},"string":"i"}}}},{"import":{"docs":[],"path":{"named":{"id":{"span":{"length":1,"offset":213},"string":"h"},"ty":{"ident":{"span":{"length":1,"offset":216},"string":"t"}}}}}},{"export":{"docs":[{"comment":"e","span":{"length":5,"offset":219}}],"path":{"package":{"name":"c:d","segments":"e","span":{"length":11,"offset":232},"string":"c:d/e@1.0.0","version":"1.0.0"}}}},{"export":{"docs":[],"path":{"named":{"id":{"span":{"length":1,"offset":252},"string":"f"},"ty":{"func":{"isAsync":false,"params":[],"results":"empty"}}}}}},{"export":{"docs":[],"path":{"named":{"id":{"span":{"length":1,"offset":270},"string":"g"},"ty":{"interface":{"items":[]}}}}}},{"export":{"docs":[],"path":{"ident":{"span":{"length":1,"offset":295},"string":"i"}}}},{"export":{"docs":[],"path":{"named":{"id":{"span":{"length":1,"offset":305},"string":"h"},"ty":{"ident":{"span":{"length":1,"offset":308},"string":"t"}}}}}},{"include":{"docs":[{"comment":"n","span":{"length":5,"offset":311}}],"with":[],"world":{"ident":{"span":{"length":1,"offset":325},"string":"x"}}}},{"include":{"docs":[],"with":[{"from":{"span":{"length":1,"offset":349},"string":"a"},"to":{"span":{"length":1,"offset":354},"string":"b"}},{"from":{"span":{"length":2,"offset":357},"string":"c"},"to":{"span":{"length":1,"offset":363},"string":"d"}}],"world":{"package":{"name":"c:d","segments":"v","span":{"length":5,"offset":336},"string":"c:d/v","version":null}}}},{"include":{"docs":[],"with":[],"world":{"ident":{"span":{"length":1,"offset":376},"string":"y"}}}}]}}}]}"#,
+    ),
+    // stream
+    (
+        "package a:b; type t = stream<u8>;",
+        r#"{"directive":{"package":{"name":"a:b","span":{"length":3,"offset":8},"string":"a:b","version":null}},"docs":[],"statements":[{"Type":{"type":{"alias":{"docs":[],"id":{"span":{"length":1,"offset":18},"string":"t"},"kind":{"type":{"stream":[{"u8":{"length":2,"offset":29}},{"length":10,"offset":22}]}}}}}}]}"#,
+    ),
+    // result of nothing, in brackets
+    (
+        "package a:b; type t = result<_, _>;",
+        r#"{"directive":{"package":{"name":"a:b","span":{"length":3,"offset":8},"string":"a:b","version":null}},"docs":[],"statements":[{"Type":{"type":{"alias":{"docs":[],"id":{"span":{"length":1,"offset":18},"string":"t"},"kind":{"type":{"result":{"err":null,"ok":null,"span":{"length":12,"offset":22}}}}}}}}]}"#,
+    ),
+    // result of nothing
+    (
+        "package a:b; type t = result;",
+        r#"{"directive":{"package":{"name":"a:b","span":{"length":3,"offset":8},"string":"a:b","version":null}},"docs":[],"statements":[{"Type":{"type":{"alias":{"docs":[],"id":{"span":{"length":1,"offset":18},"string":"t"},"kind":{"type":{"result":{"err":null,"ok":null,"span":{"length":6,"offset":22}}}}}}}}]}"#,
+    ),
+    // function that gives nothing, with an arrow
+    (
+        "package a:b; interface i { f: func() -> ; }",
+        r#"{"directive":{"package":{"name":"a:b","span":{"length":3,"offset":8},"string":"a:b","version":null}},"docs":[],"statements":[{"Type":{"interface":{"docs":[],"id":{"span":{"length":1,"offset":23},"string":"i"},"items":[{"export":{"docs":[],"id":{"span":{"length":1,"offset":27},"string":"f"},"ty":{"func":{"isAsync":false,"params":[],"results":"empty"}}}}]}}}]}"#,
+    ),
+    // results with names, the last with a comma
+    (
+        "package a:b; interface i { f: func() -> (a: u32, %b: string,); }",
+        r#"{"directive":{"package":{"name":"a:b","span":{"length":3,"offset":8},"string":"a:b","version":null}},"docs":[],"statements":[{"Type":{"interface":{"docs":[],"id":{"span":{"length":1,"offset":23},"string":"i"},"items":[{"export":{"docs":[],"id":{"span":{"length":1,"offset":27},"string":"f"},"ty":{"func":{"isAsync":false,"params":[],"results":{"named":[{"id":{"span":{"length":1,"offset":41},"string":"a"},"ty":{"u32":{"length":3,"offset":44}}},{"id":{"span":{"length":2,"offset":49},"string":"b"},"ty":{"string":{"length":6,"offset":53}}}]}}}}}]}}}]}"#,
+    ),
+    // export with accesses
+    (
+        "package a:b; export (x.y)[ \"q\" ].z as \"n\";",
+        r#"{"directive":{"package":{"name":"a:b","span":{"length":3,"offset":8},"string":"a:b","version":null}},"docs":[],"statements":[{"Export":{"docs":[],"expr":{"postfix":[{"namedAccess":{"span":{"length":7,"offset":25},"string":{"span":{"length":3,"offset":27},"value":"q"}}},{"access":{"id":{"span":{"length":1,"offset":33},"string":"z"},"span":{"length":2,"offset":32}}}],"primary":{"nested":{"inner":{"postfix":[{"access":{"id":{"span":{"length":1,"offset":23},"string":"y"},"span":{"length":2,"offset":22}}}],"primary":{"ident":{"span":{"length":1,"offset":21},"string":"x"}},"span":{"length":3,"offset":21}},"span":{"length":5,"offset":20}}},"span":{"length":14,"offset":20}},"options":{"rename":{"string":{"span":{"length":3,"offset":38},"value":"n"}}}}}]}"#,
+    ),
+    // fill before another argument
+    (
+        "package a:b; let x = new c:d { ..., y };",
+        r#"{"directive":{"package":{"name":"a:b","span":{"length":3,"offset":8},"string":"a:b","version":null}},"docs":[],"statements":[{"Let":{"docs":[],"expr":{"postfix":[],"primary":{"new":{"arguments":[{"fill":{"length":3,"offset":31}},{"inferred":{"span":{"length":1,"offset":36},"string":"y"}}],"package":{"name":"c:d","span":{"length":3,"offset":25},"string":"c:d","version":null},"span":{"length":18,"offset":21}}},"span":{"length":18,"offset":21}},"id":{"span":{"length":1,"offset":17},"string":"x"}}}]}"#,
+    ),
+    // static method
+    (
+        "package a:b; interface i { resource r { f: static func(); } }",
+        r#"{"directive":{"package":{"name":"a:b","span":{"length":3,"offset":8},"string":"a:b","version":null}},"docs":[],"statements":[{"Type":{"interface":{"docs":[],"id":{"span":{"length":1,"offset":23},"string":"i"},"items":[{"type":{"resource":{"docs":[],"id":{"span":{"length":1,"offset":36},"string":"r"},"methods":[{"method":{"docs":[],"id":{"span":{"length":1,"offset":40},"string":"f"},"isStatic":true,"ty":{"isAsync":false,"params":[],"results":"empty"}}}]}}}]}}}]}"#,
+    ),
+    // method
+    (
+        "package a:b; interface i { resource r { f: func(); } }",
+        r#"{"directive":{"package":{"name":"a:b","span":{"length":3,"offset":8},"string":"a:b","version":null}},"docs":[],"statements":[{"Type":{"interface":{"docs":[],"id":{"span":{"length":1,"offset":23},"string":"i"},"items":[{"type":{"resource":{"docs":[],"id":{"span":{"length":1,"offset":36},"string":"r"},"methods":[{"method":{"docs":[],"id":{"span":{"length":1,"offset":40},"string":"f"},"isStatic":false,"ty":{"isAsync":false,"params":[],"results":"empty"}}}]}}}]}}}]}"#,
+    ),
+    // docs of cases
+    (
+        "package a:b; variant v {\n/// one\na, /// two\nb(u8), }",
+        r#"{"directive":{"package":{"name":"a:b","span":{"length":3,"offset":8},"string":"a:b","version":null}},"docs":[],"statements":[{"Type":{"type":{"variant":{"cases":[{"docs":[{"comment":"one","span":{"length":7,"offset":25}}],"id":{"span":{"length":1,"offset":33},"string":"a"},"ty":null},{"docs":[{"comment":"two","span":{"length":7,"offset":36}}],"id":{"span":{"length":1,"offset":44},"string":"b"},"ty":{"u8":{"length":2,"offset":46}}}],"docs":[],"id":{"span":{"length":1,"offset":21},"string":"v"}}}}}]}"#,
     ),
     // escaped text
     (

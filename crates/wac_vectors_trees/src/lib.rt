@@ -1,4 +1,4 @@
-//! A part of the tests of `wac_vectors`: what stands in trees, and their JSON.
+//! A part of the tests of `wac_vectors`: what stands in trees, as their JSON shows it, and what reads their paths.
 #![tactic(auto)]
 
 #[cfg(test)]
@@ -8,4 +8,4 @@ mod json_values;
 #[cfg(test)]
 mod optional;
 #[cfg(test)]
-mod trees;
+mod paths;

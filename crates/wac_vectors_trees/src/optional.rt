@@ -7,7 +7,7 @@ use wac_parser::lexer::{Error as Fault, Lexer, LexerResult, SourceSpan, Token};
 use wac_parser::{Error, ParseResult, Type, parse_optional, parse_optional_payload, parse_token};
 
 /// A lexer of a text.
-fn lexer<'a>(rt: &impl Abort, source: &'a str) -> Lexer<'a> {
+pub(crate) fn lexer<'a>(rt: &impl Abort, source: &'a str) -> Lexer<'a> {
     match Lexer::new(source) {
         Ok(lexer) => lexer,
         Err(_) => panic!(rt; "{source} is refused"),

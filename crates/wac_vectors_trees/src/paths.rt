@@ -1,0 +1,43 @@
+//! Paths of packages: their names and segments, and where these stand.
+
+use std::alloc::Global;
+use std::test::Fail;
+use wac_ast_base::Parse;
+use wac_parser::lexer::{Error as Fault, Lexer, SourceSpan};
+use wac_parser::{PackagePath, ParseResult, SegmentSpans};
+
+/// A lexer at the path that an import of a text has. It stands after six tokens.
+fn at_path(source: &str) -> Result<Lexer<'_>, (Fault, SourceSpan)> {
+    let mut lexer = Lexer::new(source)?;
+    for _ in 0..6 {
+        lexer.next();
+    }
+    Ok(lexer)
+}
+
+/// The path that an import of a text has.
+fn imported(alloc: Global, source: &str) -> ParseResult<PackagePath<'_>> {
+    let mut lexer = at_path(source)?;
+    Parse::parse(alloc, &mut lexer)
+}
+
+/// The segments of the path that an import of a text has. The path is gone where they are read: they live as long as the source.
+fn segments(alloc: Global, source: &str) -> ParseResult<SegmentSpans<'_>> {
+    let path = imported(alloc, source)?;
+    Ok(path.segment_spans())
+}
+
+#[test]
+fn names_and_segments(rt: HostRuntime) -> Result<(), Fail> {
+    let alloc = rt.alloc();
+    let source = "package a:b; import x: %c:d/e/%f@1.0.0;";
+    let path = imported(alloc, source)?;
+    assert_eq!(rt; (path.name, path.segments), ("%c:d", "e/%f"));
+    assert_eq!(rt; path.package_name_span(), SourceSpan::new(23, 4));
+    assert!(rt; path.version.is_some());
+    let mut segments = segments(alloc, source)?;
+    assert_eq!(rt; segments.next(), Some(("e", SourceSpan::new(28, 1))));
+    assert_eq!(rt; segments.next(), Some(("%f", SourceSpan::new(30, 2))));
+    assert_eq!(rt; segments.next(), None);
+    Ok(())
+}
