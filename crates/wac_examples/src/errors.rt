@@ -22,7 +22,7 @@ pub fn first_error(alloc: Global, source: &str) -> Result<Option<(SourceSpan, St
 }
 
 /// Where an error lies: nowhere where memory ran out.
-fn place_of(error: &Error) -> Option<SourceSpan>
+pub(crate) fn place_of(error: &Error) -> Option<SourceSpan>
     ensures { error.now ≡ Memory alloc_error → result ≡ None }
 {
     match error {

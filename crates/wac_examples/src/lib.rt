@@ -1,6 +1,7 @@
 //! A user's crate over `wac_parser`: what a formatter, an editor service and a checker of packages do with it. The README quotes it.
 #![tactic(auto)]
 
+mod cached;
 mod composing;
 mod errors;
 mod formatting;
@@ -11,6 +12,7 @@ mod missing;
 mod packages;
 mod tokens;
 
+pub use cached::{error_with_cache, missing_beside_cache};
 pub use composing::{SameTypes, composition_error};
 pub use errors::first_error;
 pub use formatting::{formatted, is_formatted};

@@ -1,14 +1,10 @@
 //! The texts that the README shows, and rows of the language.
 
-use std::alloc::{AllocError, Global};
 use std::test::Fail;
 use wac_examples::{
-    cache_alone, composition_error, first_error, formatted, imported_packages, is_formatted,
-    list_tokens, missing_packages, position, to_json,
+    error_with_cache, first_error, formatted, imported_packages, is_formatted, list_tokens,
+    missing_beside_cache, position, to_json,
 };
-use wac_parser::lexer::SourceSpan;
-use wac_parser::resolution::AstResolver;
-use wac_parser::{Document, Page};
 
 const SOURCE: &str = r#"/* Built every night. */
 /** Puts a cache in front of a service. */
@@ -131,34 +127,15 @@ fn a_document_is_json(rt: HostRuntime) -> Result<(), Fail> {
     Ok(())
 }
 
-/// Why the cache can't be composed as a document says.
-fn error_with_cache(
-    alloc: Global,
-    source: &str,
-) -> Result<Option<(Option<SourceSpan>, String)>, AllocError> {
-    match Document::parse(alloc, source) {
-        Ok(document) => error_of(alloc, AstResolver::new(&document)),
-        Err(_) => Err(AllocError),
-    }
-}
-
-fn error_of(
-    alloc: Global,
-    resolver: AstResolver<'_, '_>,
-) -> Result<Option<(Option<SourceSpan>, String)>, AllocError> {
-    match cache_alone(alloc) {
-        Ok(packages) => match composition_error(alloc, resolver, packages) {
-            Ok(found) => Ok(found),
-            Err(_) => Err(AllocError),
-        },
-        Err(_) => Err(AllocError),
-    }
-}
-
 #[test]
 fn a_document_composes_packages(rt: HostRuntime) -> Result<(), Fail> {
     let alloc = rt.alloc();
     assert!(rt; error_with_cache(alloc, COMPOSED)?.is_none());
+    let Some((Some(span), text)) = error_with_cache(alloc, FAULTY)? else {
+        panic!(rt; "no error of a text")
+    };
+    assert_eq!(rt; (span.offset(), span.len()), (61, 3));
+    assert_eq!(rt; text.as_str(), "expected `,`, found `...`");
     let Some((Some(span), text)) = error_with_cache(alloc, MISMATCHED)? else {
         panic!(rt; "no error with a place")
     };
@@ -167,31 +144,11 @@ fn a_document_composes_packages(rt: HostRuntime) -> Result<(), Fail> {
     Ok(())
 }
 
-/// The packages that a document mentions, but for the cache.
-fn missing_beside_the_cache(alloc: Global, source: &str) -> Result<String, AllocError> {
-    match Document::parse(alloc, source) {
-        Ok(document) => missing_of(
-            alloc,
-            Page {
-                document: &document,
-            },
-        ),
-        Err(_) => Err(AllocError),
-    }
-}
-
-fn missing_of(alloc: Global, page: Page<'_, '_>) -> Result<String, AllocError> {
-    match cache_alone(alloc) {
-        Ok(packages) => missing_packages(alloc, page, &packages),
-        Err(_) => Err(AllocError),
-    }
-}
-
 #[test]
 fn packages_that_are_missing_are_listed(rt: HostRuntime) -> Result<(), Fail> {
     let source =
         "package a:b targets c:d/e@1.0.0; import x: f:g/h; let y = new c:d@1.0.0 { ... }; let z = new example:cache { ... };";
-    let lines = missing_beside_the_cache(rt.alloc(), source)?;
+    let lines = missing_beside_cache(rt.alloc(), source)?;
     assert_eq!(rt; lines.as_str(), "c:d@1.0.0 at 20+3\nf:g at 43+3\n");
     Ok(())
 }

@@ -8,6 +8,8 @@ mod choices;
 #[cfg(test)]
 mod documents;
 #[cfg(test)]
+mod entries;
+#[cfg(test)]
 mod errors;
 #[cfg(test)]
 mod large;
@@ -23,3 +25,5 @@ mod readings;
 mod rows;
 #[cfg(test)]
 mod rules;
+#[cfg(test)]
+mod types;

@@ -1,5 +1,6 @@
 //! What a document comes to, as a text.
 
+use crate::entries::entries;
 use indexmap::IndexMap;
 use std::alloc::{AllocError, Global};
 use wac_graph::{CompositionGraph, ItemKind, Type, World};
@@ -12,6 +13,8 @@ use wac_tool_graphs::write_graph;
 pub enum Asked {
     /// The lines of the graph; or where the error lies, what it says, and all its fields.
     Answer,
+    /// The entries of the table of the graph.
+    Entries,
     /// What the world `w` uses, imports and exports.
     World,
     /// Whether what is exported as `x` and as `y` means the same.
@@ -78,6 +81,7 @@ fn same(graph: &CompositionGraph) -> Option<bool> {
 fn reading(alloc: Global, asked: Asked, graph: &CompositionGraph) -> Result<String, AllocError> {
     match asked {
         Asked::Answer => lines(alloc, graph),
+        Asked::Entries => entries(alloc, graph.types()),
         Asked::World => world_lines(alloc, graph),
         Asked::Same => match same(graph) {
             Some(true) => String::from_str(alloc, "same"),

@@ -2,7 +2,7 @@
 
 use indexmap::{IndexMap, IndexSet};
 use std::alloc::{AllocError, Global};
-use wac_types::{DefinedType, Entry, FuncResults, FuncType, Resource, Types, ValueType};
+use wac_graph::{DefinedType, Entry, FuncResults, FuncType, Resource, Types, ValueType};
 
 fn push_value(text: &mut String, value: ValueType) -> Result<(), AllocError> {
     match value {
@@ -133,10 +133,10 @@ fn push_entry(text: &mut String, entry: &Entry) -> Result<(), AllocError> {
     }
 }
 
-/// The entries of a table from the one of this number on.
-pub fn entries_from(alloc: Global, types: &Types, number: usize) -> Result<String, AllocError> {
+/// The entries of a table, in order.
+pub fn entries(alloc: Global, types: &Types) -> Result<String, AllocError> {
     let mut text = String::new(alloc);
-    for entry in types.entries().iter().skip(number) {
+    for entry in types.entries() {
         push_entry(&mut text, entry)?;
         write!(text, "; ")?;
     }
