@@ -83,10 +83,10 @@ impl<'a, S: Sink> DocumentPrinter<'a, S> {
         requires { IdentSliced self.old.source (ident_of id.now) }
         ensures { Prints self.old result self.new (head_layout self.old.depth keyword.now (bare_ident self.old.source (ident_of id.now))) }
     {
-        self.line()?;
-        self.token(keyword)?;
-        self.blank(" ")?;
-        self.ident(id)
+        self.line()
+            .and(self.token(keyword))
+            .and(self.blank(" "))
+            .and(self.ident(id))
     }
 
     /// Prints an identifier and a colon on a line.
@@ -94,10 +94,10 @@ impl<'a, S: Sink> DocumentPrinter<'a, S> {
         requires { IdentSliced self.old.source (ident_of id.now) }
         ensures { Prints self.old result self.new (label_layout self.old.depth (bare_ident self.old.source (ident_of id.now))) }
     {
-        self.line()?;
-        self.ident(id)?;
-        self.token(":")?;
-        self.blank(" ")
+        self.line()
+            .and(self.ident(id))
+            .and(self.token(":"))
+            .and(self.blank(" "))
     }
 
     /// Prints the declaration of a type in an interface or a world.
@@ -135,9 +135,9 @@ impl<'a, S: Sink> DocumentPrinter<'a, S> {
         requires { ResourceDeclSliced self.old.source (resource_decl_of decl.now) }
         ensures { Prints self.old result self.new (resource_decl_layout self.old.depth (bare_resource_decl doc_lines self.old.source (resource_decl_of decl.now))) }
     {
-        self.docs(&decl.docs)?;
-        self.resource_head(&decl.id)?;
-        self.resource_methods(&decl.methods)
+        self.docs(&decl.docs)
+            .and(self.resource_head(&decl.id))
+            .and(self.resource_methods(&decl.methods))
     }
 
     fn resource_methods(&mut self, items: &[ResourceMethod<'_>]) -> PrintResult
@@ -164,10 +164,10 @@ impl<'a, S: Sink> DocumentPrinter<'a, S> {
         requires { ConstructorSliced self.old.source (constructor_of constructor.now) }
         ensures { Prints self.old result self.new (constructor_layout self.old.depth (bare_constructor doc_lines self.old.source (constructor_of constructor.now))) }
     {
-        self.docs(&constructor.docs)?;
-        self.line()?;
-        self.constructor_keyword()?;
-        self.signature(&constructor.params)
+        self.docs(&constructor.docs)
+            .and(self.line())
+            .and(self.constructor_keyword())
+            .and(self.signature(&constructor.params))
     }
 
     fn constructor_keyword(&mut self) -> PrintResult
@@ -188,8 +188,7 @@ impl<'a, S: Sink> DocumentPrinter<'a, S> {
         requires { All (NamedTypeSliced self.old.source) (map named_type_of params.now) }
         ensures { Prints self.old result self.new (params_layout (map (bare_named_type self.old.source) (map named_type_of params.now)) ++ token (codes ";") ∷ []) }
     {
-        self.params(params)?;
-        self.token(";")
+        self.params(params).and(self.token(";"))
     }
 
     /// Prints a method: `m: static func();`.
@@ -197,11 +196,11 @@ impl<'a, S: Sink> DocumentPrinter<'a, S> {
         requires { MethodSliced self.old.source (method_of method.now) }
         ensures { Prints self.old result self.new (method_layout self.old.depth (bare_method doc_lines self.old.source (method_of method.now))) }
     {
-        self.docs(&method.docs)?;
-        self.label(&method.id)?;
-        self.static_keyword(method.is_static)?;
-        self.func_type(&method.ty)?;
-        self.token(";")
+        self.docs(&method.docs)
+            .and(self.label(&method.id))
+            .and(self.static_keyword(method.is_static))
+            .and(self.func_type(&method.ty))
+            .and(self.token(";"))
     }
 
     fn static_keyword(&mut self, is_static: bool) -> PrintResult
@@ -220,9 +219,9 @@ impl<'a, S: Sink> DocumentPrinter<'a, S> {
         requires { VariantDeclSliced self.old.source (variant_decl_of decl.now) }
         ensures { Prints self.old result self.new (variant_decl_layout self.old.depth (bare_variant_decl doc_lines self.old.source (variant_decl_of decl.now))) }
     {
-        self.docs(&decl.docs)?;
-        self.head("variant", &decl.id)?;
-        self.rows(&decl.cases)
+        self.docs(&decl.docs)
+            .and(self.head("variant", &decl.id))
+            .and(self.rows(&decl.cases))
     }
 
     /// Prints a case of a variant: `a`, or `b(u8)`.
@@ -230,10 +229,10 @@ impl<'a, S: Sink> DocumentPrinter<'a, S> {
         requires { VariantCaseSliced self.old.source (variant_case_of case.now) }
         ensures { Prints self.old result self.new (variant_case_layout self.old.depth (bare_variant_case doc_lines self.old.source (variant_case_of case.now))) }
     {
-        self.docs(&case.docs)?;
-        self.line()?;
-        self.ident(&case.id)?;
-        self.payload(&case.ty)
+        self.docs(&case.docs)
+            .and(self.line())
+            .and(self.ident(&case.id))
+            .and(self.payload(&case.ty))
     }
 
     fn payload(&mut self, ty: &Option<Type<'_>>) -> PrintResult
@@ -255,18 +254,18 @@ impl<'a, S: Sink> DocumentPrinter<'a, S> {
         requires { RecordDeclSliced self.old.source (record_decl_of decl.now) }
         ensures { Prints self.old result self.new (record_decl_layout self.old.depth (bare_record_decl doc_lines self.old.source (record_decl_of decl.now))) }
     {
-        self.docs(&decl.docs)?;
-        self.head("record", &decl.id)?;
-        self.rows(&decl.fields)
+        self.docs(&decl.docs)
+            .and(self.head("record", &decl.id))
+            .and(self.rows(&decl.fields))
     }
 
     fn field(&mut self, field: &Field<'_>) -> PrintResult
         requires { FieldSliced self.old.source (field_of field.now) }
         ensures { Prints self.old result self.new (field_layout self.old.depth (bare_field doc_lines self.old.source (field_of field.now))) }
     {
-        self.docs(&field.docs)?;
-        self.label(&field.id)?;
-        self.ty(&field.ty)
+        self.docs(&field.docs)
+            .and(self.label(&field.id))
+            .and(self.ty(&field.ty))
     }
 
     /// Prints flags.
@@ -274,18 +273,18 @@ impl<'a, S: Sink> DocumentPrinter<'a, S> {
         requires { FlagsDeclSliced self.old.source (flags_decl_of decl.now) }
         ensures { Prints self.old result self.new (flags_decl_layout self.old.depth (bare_flags_decl doc_lines self.old.source (flags_decl_of decl.now))) }
     {
-        self.docs(&decl.docs)?;
-        self.head("flags", &decl.id)?;
-        self.rows(&decl.flags)
+        self.docs(&decl.docs)
+            .and(self.head("flags", &decl.id))
+            .and(self.rows(&decl.flags))
     }
 
     fn flag(&mut self, flag: &Flag<'_>) -> PrintResult
         requires { FlagSliced self.old.source (flag_of flag.now) }
         ensures { Prints self.old result self.new (flag_layout self.old.depth (bare_flag doc_lines self.old.source (flag_of flag.now))) }
     {
-        self.docs(&flag.docs)?;
-        self.line()?;
-        self.ident(&flag.id)
+        self.docs(&flag.docs)
+            .and(self.line())
+            .and(self.ident(&flag.id))
     }
 
     /// Prints an enum.
@@ -293,18 +292,18 @@ impl<'a, S: Sink> DocumentPrinter<'a, S> {
         requires { EnumDeclSliced self.old.source (enum_decl_of decl.now) }
         ensures { Prints self.old result self.new (enum_decl_layout self.old.depth (bare_enum_decl doc_lines self.old.source (enum_decl_of decl.now))) }
     {
-        self.docs(&decl.docs)?;
-        self.head("enum", &decl.id)?;
-        self.rows(&decl.cases)
+        self.docs(&decl.docs)
+            .and(self.head("enum", &decl.id))
+            .and(self.rows(&decl.cases))
     }
 
     fn enum_case(&mut self, case: &EnumCase<'_>) -> PrintResult
         requires { EnumCaseSliced self.old.source (enum_case_of case.now) }
         ensures { Prints self.old result self.new (enum_case_layout self.old.depth (bare_enum_case doc_lines self.old.source (enum_case_of case.now))) }
     {
-        self.docs(&case.docs)?;
-        self.line()?;
-        self.ident(&case.id)
+        self.docs(&case.docs)
+            .and(self.line())
+            .and(self.ident(&case.id))
     }
 
     /// Prints a type alias: `type t = u8;`.
@@ -312,13 +311,13 @@ impl<'a, S: Sink> DocumentPrinter<'a, S> {
         requires { TypeAliasSliced self.old.source (type_alias_of alias.now) }
         ensures { Prints self.old result self.new (type_alias_layout self.old.depth (bare_type_alias doc_lines self.old.source (type_alias_of alias.now))) }
     {
-        self.docs(&alias.docs)?;
-        self.head("type", &alias.id)?;
-        self.blank(" ")?;
-        self.token("=")?;
-        self.blank(" ")?;
-        self.alias_kind(&alias.kind)?;
-        self.token(";")
+        self.docs(&alias.docs)
+            .and(self.head("type", &alias.id))
+            .and(self.blank(" "))
+            .and(self.token("="))
+            .and(self.blank(" "))
+            .and(self.alias_kind(&alias.kind))
+            .and(self.token(";"))
     }
 
     fn alias_kind(&mut self, kind: &TypeAliasKind<'_>) -> PrintResult

@@ -47,9 +47,7 @@ impl<'a, S: Sink> DocumentPrinter<'a, S> {
     fn doc_line(&mut self, text: &str) -> PrintResult
         ensures { Prints self.old result self.new (doc_layout self.old.depth (doc_line text.now)) }
     {
-        self.line()?;
-        self.doc(text.trim())?;
-        self.blank("\n")
+        self.line().and(self.doc(text.trim())).and(self.blank("\n"))
     }
 
     #[tactic(auto, using(crate::proofs::Printing::doc_is))]

@@ -57,8 +57,7 @@ impl<'a, S: Sink> DocumentPrinter<'a, S> {
         requires { AccessExprSliced self.old.source (access_expr_of access.now) }
         ensures { Prints self.old result self.new (access_expr_layout (bare_access_expr self.old.source (access_expr_of access.now))) }
     {
-        self.token(".")?;
-        self.ident(&access.id)
+        self.token(".").and(self.ident(&access.id))
     }
 
     /// Prints an access by string: `["x"]`.
@@ -66,9 +65,9 @@ impl<'a, S: Sink> DocumentPrinter<'a, S> {
         requires { NamedAccessExprSliced self.old.source (named_access_expr_of access.now) }
         ensures { Prints self.old result self.new (named_access_expr_layout (bare_named_access_expr self.old.source (named_access_expr_of access.now))) }
     {
-        self.token("[")?;
-        self.string(&access.string)?;
-        self.token("]")
+        self.token("[")
+            .and(self.string(&access.string))
+            .and(self.token("]"))
     }
 
     fn argument_name(&mut self, name: &InstantiationArgumentName<'_>) -> PrintResult
@@ -139,19 +138,17 @@ impl<'a, S: Sink> DocumentPrinter<'a, S> {
         requires { PackageNameSliced self.old.source (package_name_of name.now) }
         ensures { Prints self.old result self.new (new_head_layout (bare_package_name self.old.source (package_name_of name.now))) }
     {
-        self.token("new")?;
-        self.blank(" ")?;
-        self.package_name(name)?;
-        self.blank(" ")?;
-        self.token("{")
+        self.token("new")
+            .and(self.blank(" "))
+            .and(self.package_name(name))
+            .and(self.blank(" "))
+            .and(self.token("{"))
     }
 
     fn fill_alone(&mut self) -> PrintResult
         ensures { Prints self.old result self.new (space ∷ token (codes "...") ∷ space ∷ []) }
     {
-        self.blank(" ")?;
-        self.token("...")?;
-        self.blank(" ")
+        self.blank(" ").and(self.token("...")).and(self.blank(" "))
     }
 
     /// Prints what stands between the braces of an instantiation.

@@ -50,9 +50,9 @@ impl<'a, S: Sink> DocumentPrinter<'a, S> {
         requires { InterfaceDeclSliced self.old.source (interface_decl_of decl.now) }
         ensures { Prints self.old result self.new (interface_decl_layout self.old.depth (bare_interface_decl doc_lines self.old.source (interface_decl_of decl.now))) }
     {
-        self.docs(&decl.docs)?;
-        self.interface_head(&decl.id)?;
-        self.interface_items(&decl.items)
+        self.docs(&decl.docs)
+            .and(self.interface_head(&decl.id))
+            .and(self.interface_items(&decl.items))
     }
 
     /// Prints an interface that has no name.
@@ -102,10 +102,10 @@ impl<'a, S: Sink> DocumentPrinter<'a, S> {
         requires { InterfaceExportSliced self.old.source (interface_export_of export.now) }
         ensures { Prints self.old result self.new (interface_export_layout self.old.depth (bare_interface_export doc_lines self.old.source (interface_export_of export.now))) }
     {
-        self.docs(&export.docs)?;
-        self.label(&export.id)?;
-        self.func_type_ref(&export.ty)?;
-        self.token(";")
+        self.docs(&export.docs)
+            .and(self.label(&export.id))
+            .and(self.func_type_ref(&export.ty))
+            .and(self.token(";"))
     }
 
     /// Prints a `use`: `use a:b/c.{ t, u as v };`.
@@ -113,25 +113,25 @@ impl<'a, S: Sink> DocumentPrinter<'a, S> {
         requires { UseSliced self.old.source (use_of decl.now) }
         ensures { Prints self.old result self.new (use_layout self.old.depth (bare_use doc_lines self.old.source (use_of decl.now))) }
     {
-        self.docs(&decl.docs)?;
-        self.line()?;
-        self.token("use")?;
-        self.blank(" ")?;
-        self.use_path(&decl.path)?;
-        self.use_items(&decl.items)?;
-        self.token(";")
+        self.docs(&decl.docs)
+            .and(self.line())
+            .and(self.token("use"))
+            .and(self.blank(" "))
+            .and(self.use_path(&decl.path))
+            .and(self.use_items(&decl.items))
+            .and(self.token(";"))
     }
 
     fn use_items(&mut self, items: &[UseItem<'_>]) -> PrintResult
         requires { All (UseItemSliced self.old.source) (map use_item_of items.now) }
         ensures { Prints self.old result self.new (use_items_layout (map (bare_use_item self.old.source) (map use_item_of items.now))) }
     {
-        self.token(".")?;
-        self.token("{")?;
-        self.blank(" ")?;
-        self.joined(items)?;
-        self.blank(" ")?;
-        self.token("}")
+        self.token(".")
+            .and(self.token("{"))
+            .and(self.blank(" "))
+            .and(self.joined(items))
+            .and(self.blank(" "))
+            .and(self.token("}"))
     }
 
     /// Prints the path of a `use`.
@@ -149,8 +149,7 @@ impl<'a, S: Sink> DocumentPrinter<'a, S> {
         requires { UseItemSliced self.old.source (use_item_of item.now) }
         ensures { Prints self.old result self.new (use_item_layout (bare_use_item self.old.source (use_item_of item.now))) }
     {
-        self.ident(&item.id)?;
-        self.as_ident(&item.as_id)
+        self.ident(&item.id).and(self.as_ident(&item.as_id))
     }
 
     fn as_ident(&mut self, id: &Option<Ident<'_>>) -> PrintResult

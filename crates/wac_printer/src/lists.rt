@@ -64,9 +64,7 @@ impl<'a, S: Sink> DocumentPrinter<'a, S> {
         requires { T.sliced self.old.source item.now }
         ensures { Prints self.old result self.new ((token (codes ",") ∷ space ∷ []) ++ T.layout self.old.source self.old.depth item.now) }
     {
-        self.token(",")?;
-        self.blank(" ")?;
-        item.print(self)
+        self.token(",").and(self.blank(" ")).and(item.print(self))
     }
 
     /// Prints nodes, each ended by a newline, with an empty line between two.
@@ -98,16 +96,14 @@ impl<'a, S: Sink> DocumentPrinter<'a, S> {
         requires { T.sliced self.old.source item.now }
         ensures { Prints self.old result self.new (newline ∷ (T.layout self.old.source self.old.depth item.now ++ newline ∷ [])) }
     {
-        self.blank("\n")?;
-        self.ended(item)
+        self.blank("\n").and(self.ended(item))
     }
 
     fn ended<T: Node>(&mut self, item: &T) -> PrintResult
         requires { T.sliced self.old.source item.now }
         ensures { Prints self.old result self.new (T.layout self.old.source self.old.depth item.now ++ newline ∷ []) }
     {
-        item.print(self)?;
-        self.blank("\n")
+        item.print(self).and(self.blank("\n"))
     }
 
     /// Prints nodes in braces, one deeper, with an empty line between two.
@@ -116,9 +112,9 @@ impl<'a, S: Sink> DocumentPrinter<'a, S> {
         requires { All (T.sliced self.old.source) items.now }
         ensures { Prints self.old result self.new (body (T.layout self.old.source) self.old.depth items.now) }
     {
-        self.open_body()?;
-        self.deeper_spaced(items)?;
-        self.close_body()
+        self.open_body()
+            .and(self.deeper_spaced(items))
+            .and(self.close_body())
     }
 
     fn deeper_spaced<T: Node>(&mut self, items: &[T]) -> PrintResult
@@ -137,9 +133,9 @@ impl<'a, S: Sink> DocumentPrinter<'a, S> {
         requires { All (T.sliced self.old.source) items.now }
         ensures { Prints self.old result self.new (rows (T.layout self.old.source) self.old.depth items.now) }
     {
-        self.open_body()?;
-        self.deeper_rows(items)?;
-        self.close_body()
+        self.open_body()
+            .and(self.deeper_rows(items))
+            .and(self.close_body())
     }
 
     fn deeper_rows<T: Node>(&mut self, items: &[T]) -> PrintResult
@@ -167,23 +163,18 @@ impl<'a, S: Sink> DocumentPrinter<'a, S> {
         requires { T.sliced self.old.source item.now }
         ensures { Prints self.old result self.new (T.layout self.old.source self.old.depth item.now ++ token (codes ",") ∷ newline ∷ []) }
     {
-        item.print(self)?;
-        self.token(",")?;
-        self.blank("\n")
+        item.print(self).and(self.token(",")).and(self.blank("\n"))
     }
 
     fn open_body(&mut self) -> PrintResult
         ensures { Prints self.old result self.new open_body }
     {
-        self.blank(" ")?;
-        self.token("{")?;
-        self.blank("\n")
+        self.blank(" ").and(self.token("{")).and(self.blank("\n"))
     }
 
     fn close_body(&mut self) -> PrintResult
         ensures { Prints self.old result self.new (close_body self.old.depth) }
     {
-        self.line()?;
-        self.token("}")
+        self.line().and(self.token("}"))
     }
 }

@@ -122,9 +122,9 @@ impl<'a, S: Sink> DocumentPrinter<'a, S> {
     {
         let Page { document } = page;
         let statements = Statements { document };
-        self.docs(&document.docs)?;
-        self.package_directive(&document.directive)?;
-        self.statements(statements.all())
+        self.docs(&document.docs)
+            .and(self.package_directive(&document.directive))
+            .and(self.statements(statements.all()))
     }
 
     fn statements(&mut self, statements: &[Statement<'_>]) -> PrintResult
@@ -139,14 +139,14 @@ impl<'a, S: Sink> DocumentPrinter<'a, S> {
         requires { DirectiveSliced self.old.source (directive_of directive.now) }
         ensures { Prints self.old result self.new (directive_layout self.old.depth (bare_directive self.old.source (directive_of directive.now))) }
     {
-        self.line()?;
-        self.token("package")?;
-        self.blank(" ")?;
-        self.package_name(&directive.package)?;
-        self.targets(&directive.targets)?;
-        self.token(";")?;
-        self.blank("\n")?;
-        self.blank("\n")
+        self.line()
+            .and(self.token("package"))
+            .and(self.blank(" "))
+            .and(self.package_name(&directive.package))
+            .and(self.targets(&directive.targets))
+            .and(self.token(";"))
+            .and(self.blank("\n"))
+            .and(self.blank("\n"))
     }
 
     fn targets(&mut self, path: &Option<PackagePath<'_>>) -> PrintResult
@@ -194,13 +194,13 @@ impl<'a, S: Sink> DocumentPrinter<'a, S> {
         requires { ImportStatementSliced self.old.source (import_statement_of statement.now) }
         ensures { Prints self.old result self.new (import_statement_layout self.old.depth (bare_import_statement doc_lines self.old.source (import_statement_of statement.now))) }
     {
-        self.docs(&statement.docs)?;
-        self.head("import", &statement.id)?;
-        self.import_name(&statement.name)?;
-        self.token(":")?;
-        self.blank(" ")?;
-        self.import_type(&statement.ty)?;
-        self.token(";")
+        self.docs(&statement.docs)
+            .and(self.head("import", &statement.id))
+            .and(self.import_name(&statement.name))
+            .and(self.token(":"))
+            .and(self.blank(" "))
+            .and(self.import_type(&statement.ty))
+            .and(self.token(";"))
     }
 
     fn import_name(&mut self, name: &Option<ExternName<'_>>) -> PrintResult
@@ -217,10 +217,10 @@ impl<'a, S: Sink> DocumentPrinter<'a, S> {
         requires { ExternNameSliced self.old.source (extern_name_of name.now) }
         ensures { Prints self.old result self.new (renamed_layout (bare_extern_name self.old.source (extern_name_of name.now))) }
     {
-        self.blank(" ")?;
-        self.token("as")?;
-        self.blank(" ")?;
-        self.extern_name(name)
+        self.blank(" ")
+            .and(self.token("as"))
+            .and(self.blank(" "))
+            .and(self.extern_name(name))
     }
 
     /// Prints the type of an import.
@@ -241,13 +241,13 @@ impl<'a, S: Sink> DocumentPrinter<'a, S> {
         requires { LetStatementSliced self.old.source (let_statement_of statement.now) }
         ensures { Prints self.old result self.new (let_statement_layout self.old.depth (bare_let_statement doc_lines self.old.source (let_statement_of statement.now))) }
     {
-        self.docs(&statement.docs)?;
-        self.head("let", &statement.id)?;
-        self.blank(" ")?;
-        self.token("=")?;
-        self.blank(" ")?;
-        self.expr(&statement.expr)?;
-        self.token(";")
+        self.docs(&statement.docs)
+            .and(self.head("let", &statement.id))
+            .and(self.blank(" "))
+            .and(self.token("="))
+            .and(self.blank(" "))
+            .and(self.expr(&statement.expr))
+            .and(self.token(";"))
     }
 
     /// Prints an export.
@@ -255,13 +255,13 @@ impl<'a, S: Sink> DocumentPrinter<'a, S> {
         requires { ExportStatementSliced self.old.source (export_statement_of statement.now) }
         ensures { Prints self.old result self.new (export_statement_layout self.old.depth (bare_export_statement doc_lines self.old.source (export_statement_of statement.now))) }
     {
-        self.docs(&statement.docs)?;
-        self.line()?;
-        self.token("export")?;
-        self.blank(" ")?;
-        self.expr(&statement.expr)?;
-        self.export_options(&statement.options)?;
-        self.token(";")
+        self.docs(&statement.docs)
+            .and(self.line())
+            .and(self.token("export"))
+            .and(self.blank(" "))
+            .and(self.expr(&statement.expr))
+            .and(self.export_options(&statement.options))
+            .and(self.token(";"))
     }
 
     fn export_options(&mut self, options: &ExportOptions<'_>) -> PrintResult

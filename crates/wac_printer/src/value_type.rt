@@ -45,10 +45,10 @@ impl<'a, S: Sink> DocumentPrinter<'a, S> {
         requires { FuncTypeSliced self.old.source (func_type_of ty.now) }
         ensures { Prints self.old result self.new (func_type_layout (bare_func_type self.old.source (func_type_of ty.now))) }
     {
-        self.async_keyword(ty.is_async)?;
-        self.token("func")?;
-        self.params(&ty.params)?;
-        self.result_list(&ty.results)
+        self.async_keyword(ty.is_async)
+            .and(self.token("func"))
+            .and(self.params(&ty.params))
+            .and(self.result_list(&ty.results))
     }
 
     /// Prints a function type, or the name of one.
@@ -78,19 +78,19 @@ impl<'a, S: Sink> DocumentPrinter<'a, S> {
         requires { All (NamedTypeSliced self.old.source) (map named_type_of params.now) }
         ensures { Prints self.old result self.new (params_layout (map (bare_named_type self.old.source) (map named_type_of params.now))) }
     {
-        self.token("(")?;
-        self.joined(params)?;
-        self.token(")")
+        self.token("(")
+            .and(self.joined(params))
+            .and(self.token(")"))
     }
 
     fn named_type(&mut self, named: &NamedType<'_>) -> PrintResult
         requires { NamedTypeSliced self.old.source (named_type_of named.now) }
         ensures { Prints self.old result self.new (named_type_layout (bare_named_type self.old.source (named_type_of named.now))) }
     {
-        self.ident(&named.id)?;
-        self.token(":")?;
-        self.blank(" ")?;
-        self.ty(&named.ty)
+        self.ident(&named.id)
+            .and(self.token(":"))
+            .and(self.blank(" "))
+            .and(self.ty(&named.ty))
     }
 
     fn result_list(&mut self, results: &ResultList<'_>) -> PrintResult
@@ -274,9 +274,9 @@ impl<'a, S: Sink> DocumentPrinter<'a, S> {
         requires { IdentSliced self.old.source (ident_of id.now) }
         ensures { Prints self.old result self.new (token (codes "borrow") ∷ token (codes "<") ∷ token (slice self.old.source id.now.span) ∷ token (codes ">") ∷ []) }
     {
-        self.token("borrow")?;
-        self.token("<")?;
-        self.ident(id)?;
-        self.token(">")
+        self.token("borrow")
+            .and(self.token("<"))
+            .and(self.ident(id))
+            .and(self.token(">"))
     }
 }

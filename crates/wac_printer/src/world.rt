@@ -61,9 +61,9 @@ impl<'a, S: Sink> DocumentPrinter<'a, S> {
         requires { WorldDeclSliced self.old.source (world_decl_of decl.now) }
         ensures { Prints self.old result self.new (world_decl_layout self.old.depth (bare_world_decl doc_lines self.old.source (world_decl_of decl.now))) }
     {
-        self.docs(&decl.docs)?;
-        self.head("world", &decl.id)?;
-        print_items(decl, self)
+        self.docs(&decl.docs)
+            .and(self.head("world", &decl.id))
+            .and(print_items(decl, self))
     }
 
     fn world_items(&mut self, items: &[WorldItem<'_>]) -> PrintResult
@@ -92,12 +92,12 @@ impl<'a, S: Sink> DocumentPrinter<'a, S> {
         requires { WorldImportSliced self.old.source (world_import_of import.now) }
         ensures { Prints self.old result self.new (world_import_layout self.old.depth (bare_world_import doc_lines self.old.source (world_import_of import.now))) }
     {
-        self.docs(&import.docs)?;
-        self.line()?;
-        self.token("import")?;
-        self.blank(" ")?;
-        self.world_item_path(&import.path)?;
-        self.token(";")
+        self.docs(&import.docs)
+            .and(self.line())
+            .and(self.token("import"))
+            .and(self.blank(" "))
+            .and(self.world_item_path(&import.path))
+            .and(self.token(";"))
     }
 
     /// Prints an export of a world.
@@ -105,12 +105,12 @@ impl<'a, S: Sink> DocumentPrinter<'a, S> {
         requires { WorldExportSliced self.old.source (world_export_of export.now) }
         ensures { Prints self.old result self.new (world_export_layout self.old.depth (bare_world_export doc_lines self.old.source (world_export_of export.now))) }
     {
-        self.docs(&export.docs)?;
-        self.line()?;
-        self.token("export")?;
-        self.blank(" ")?;
-        self.world_item_path(&export.path)?;
-        self.token(";")
+        self.docs(&export.docs)
+            .and(self.line())
+            .and(self.token("export"))
+            .and(self.blank(" "))
+            .and(self.world_item_path(&export.path))
+            .and(self.token(";"))
     }
 
     /// Prints what a world imports or exports.
@@ -130,10 +130,10 @@ impl<'a, S: Sink> DocumentPrinter<'a, S> {
         requires { NamedWorldItemSliced self.old.source (named_world_item_of item.now) }
         ensures { Prints self.old result self.new (named_world_item_layout self.old.depth (bare_named_world_item doc_lines self.old.source (named_world_item_of item.now))) }
     {
-        self.ident(&item.id)?;
-        self.token(":")?;
-        self.blank(" ")?;
-        self.extern_type(&item.ty)
+        self.ident(&item.id)
+            .and(self.token(":"))
+            .and(self.blank(" "))
+            .and(self.extern_type(&item.ty))
     }
 
     /// Prints the type of an item of a world.
@@ -153,13 +153,13 @@ impl<'a, S: Sink> DocumentPrinter<'a, S> {
         requires { WorldIncludeSliced self.old.source (world_include_of include.now) }
         ensures { Prints self.old result self.new (world_include_layout self.old.depth (bare_world_include doc_lines self.old.source (world_include_of include.now))) }
     {
-        self.docs(&include.docs)?;
-        self.line()?;
-        self.token("include")?;
-        self.blank(" ")?;
-        self.world_ref(&include.world)?;
-        self.with_items(&include.with)?;
-        self.token(";")
+        self.docs(&include.docs)
+            .and(self.line())
+            .and(self.token("include"))
+            .and(self.blank(" "))
+            .and(self.world_ref(&include.world))
+            .and(self.with_items(&include.with))
+            .and(self.token(";"))
     }
 
     /// Prints the world that is included.
@@ -187,20 +187,20 @@ impl<'a, S: Sink> DocumentPrinter<'a, S> {
         requires { All (WorldIncludeItemSliced self.old.source) (map world_include_item_of items.now) }
         ensures { Prints self.old result self.new (space ∷ token (codes "with") ∷ rows world_include_item_layout self.old.depth (map (bare_world_include_item self.old.source) (map world_include_item_of items.now))) }
     {
-        self.blank(" ")?;
-        self.token("with")?;
-        self.rows(items)
+        self.blank(" ")
+            .and(self.token("with"))
+            .and(self.rows(items))
     }
 
     fn world_include_item(&mut self, item: &WorldIncludeItem<'_>) -> PrintResult
         requires { WorldIncludeItemSliced self.old.source (world_include_item_of item.now) }
         ensures { Prints self.old result self.new (world_include_item_layout self.old.depth (bare_world_include_item self.old.source (world_include_item_of item.now))) }
     {
-        self.line()?;
-        self.ident(&item.from)?;
-        self.blank(" ")?;
-        self.token("as")?;
-        self.blank(" ")?;
-        self.ident(&item.to)
+        self.line()
+            .and(self.ident(&item.from))
+            .and(self.blank(" "))
+            .and(self.token("as"))
+            .and(self.blank(" "))
+            .and(self.ident(&item.to))
     }
 }

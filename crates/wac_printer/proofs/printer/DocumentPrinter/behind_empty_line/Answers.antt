@@ -1,10 +1,7 @@
-use Rattle.wac_printer.proofs.Sequence.{fail, piece, there}
+use Rattle.wac_printer.proofs.Sequence.{first, last, there}
 use Rattle.std.proofs.Common.{[], ◌++◌, ◌∷◌}
 use Rattle.wac_layout.specs.Parts.{newline}
 use Rattle.wac_printer.proofs.printer.DocumentPrinter.behind_empty_line.Goals as goal
 
-pub returns-in_err-blank : goal.returns-in_err-blank
-returns-in_err-blank g c = fail c.from_residual.ensures.1 c.in_err-blank.ensures
-
 pub returns : goal.returns
-returns g c = piece c.in_ok-blank.ensures (there (λ source depth. g.T.Node.layout source depth c.args.item.now ++ newline ∷ []) (c.in_ok-blank.ensures.keeps.0) (c.in_ok-blank.ensures.keeps.2) c.ended.ensures)
+returns g c = last c.and.ensures (first c.blank.ensures) (there (λ source depth. g.T.Node.layout source depth c.args.item.now ++ newline ∷ []) (c.blank.ensures.keeps.0) (c.blank.ensures.keeps.2) c.ended.ensures)

@@ -1,17 +1,8 @@
-use Rattle.wac_printer.proofs.Sequence.{fail, piece, printed_at}
+use Rattle.wac_printer.proofs.Sequence.{after, first, last, printed_at}
 use Rattle.std.proofs.Common.{[], ◌∙◌, ◌∷◌}
 use Rattle.wac_lexer.specs.Reading.{slice}
 use Rattle.wac_layout.specs.Printed.{token}
 use Rattle.wac_printer.proofs.printer.DocumentPrinter.head.Goals as goal
 
-pub returns-in_err-line : goal.returns-in_err-line
-returns-in_err-line g c = fail c.from_residual.ensures.1 c.in_err-line.ensures
-
-pub returns-in_err-token : goal.returns-in_err-token
-returns-in_err-token g c = piece c.in_ok-line.ensures (fail c.from_residual-in_err-token.ensures.1 c.in_err-token.ensures)
-
-pub returns-in_err-blank : goal.returns-in_err-blank
-returns-in_err-blank g c = piece c.in_ok-line.ensures (piece c.in_ok-token.ensures (fail c.from_residual-in_err-blank.ensures.1 c.in_err-blank.ensures))
-
 pub returns : goal.returns
-returns g c = piece c.in_ok-line.ensures (piece c.in_ok-token.ensures (piece c.in_ok-blank.ensures (printed_at (λ source. token (slice source c.args.id.now.span) ∷ []) (c.in_ok-blank.ensures.keeps.0 ∙ c.in_ok-token.ensures.keeps.0 ∙ c.in_ok-line.ensures.keeps.0) c.ident.ensures)))
+returns g c = last c.and-3.ensures (after c.and-2.ensures (after c.and.ensures (first c.line.ensures) c.token.ensures) c.blank.ensures) (printed_at (λ source. token (slice source c.args.id.now.span) ∷ []) (c.blank.ensures.keeps.0 ∙ c.token.ensures.keeps.0 ∙ c.line.ensures.keeps.0) c.ident.ensures)

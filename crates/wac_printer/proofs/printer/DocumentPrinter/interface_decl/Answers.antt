@@ -1,18 +1,12 @@
 use Rattle.std.proofs.Common.{codes, map, ◌∙◌}
 use Rattle.wac_layout.specs.DeclarationLayout.{head_layout}
 use Rattle.wac_layout.specs.Bare.{bare_ident, bare_interface_item, doc_lines}
-use Rattle.wac_printer.proofs.Sequence.{fails, of_docs, parts, printed_at, there}
+use Rattle.wac_printer.proofs.Sequence.{after, first, last, of_docs, printed_at, there}
 use Rattle.wac_layout.specs.Parts.{body}
 use Rattle.wac_ast_worlds.specs.Worlds.{interface_item_of}
 use Rattle.wac_layout.specs.InterfaceLayout.{interface_item_layout}
 use Rattle.wac_ast_base.specs.Names.{ident_of}
 use Rattle.wac_printer.proofs.printer.DocumentPrinter.interface_decl.Goals as goal
 
-pub returns-in_err-docs : goal.returns-in_err-docs
-returns-in_err-docs g c = fails _ c.from_residual.ensures.1 (of_docs c.deref.ensures.value c.in_err-docs.ensures)
-
-pub returns-in_err-interface_head : goal.returns-in_err-interface_head
-returns-in_err-interface_head g c = parts (of_docs c.deref.ensures.value c.in_ok-docs.ensures) (fails _ c.from_residual-in_err-interface_head.ensures.1 (there (λ source depth. head_layout depth (codes "interface") (bare_ident source (ident_of c.args.decl.now.id))) (c.in_ok-docs.ensures.keeps.0) (c.in_ok-docs.ensures.keeps.2) c.in_err-interface_head.ensures))
-
 pub returns : goal.returns
-returns g c = parts (of_docs c.deref.ensures.value c.in_ok-docs.ensures) (parts (there (λ source depth. head_layout depth (codes "interface") (bare_ident source (ident_of c.args.decl.now.id))) (c.in_ok-docs.ensures.keeps.0) (c.in_ok-docs.ensures.keeps.2) c.in_ok-interface_head.ensures) (printed_at (λ xs. body interface_item_layout c.args.self.now.depth (map (bare_interface_item doc_lines c.args.self.now.source) (map interface_item_of xs))) c.deref-2.ensures.value (there (λ source depth. body interface_item_layout depth (map (bare_interface_item doc_lines source) (map interface_item_of c.deref-2.result.now))) (c.in_ok-interface_head.ensures.keeps.0 ∙ c.in_ok-docs.ensures.keeps.0) (c.in_ok-interface_head.ensures.keeps.2 ∙ c.in_ok-docs.ensures.keeps.2) c.interface_items.ensures)))
+returns g c = last c.and-2.ensures (after c.and.ensures (first (of_docs c.deref.ensures.value c.docs.ensures)) (there (λ source depth. head_layout depth (codes "interface") (bare_ident source (ident_of c.args.decl.now.id))) (c.docs.ensures.keeps.0) (c.docs.ensures.keeps.2) c.interface_head.ensures)) (printed_at (λ xs. body interface_item_layout c.args.self.now.depth (map (bare_interface_item doc_lines c.args.self.now.source) (map interface_item_of xs))) c.deref-2.ensures.value (there (λ source depth. body interface_item_layout depth (map (bare_interface_item doc_lines source) (map interface_item_of c.deref-2.result.now))) (c.interface_head.ensures.keeps.0 ∙ c.docs.ensures.keeps.0) (c.interface_head.ensures.keeps.2 ∙ c.docs.ensures.keeps.2) c.interface_items.ensures))

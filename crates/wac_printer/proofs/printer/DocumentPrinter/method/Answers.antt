@@ -2,22 +2,10 @@ use Rattle.wac_ast_types.specs.Declarations.{func_type_of}
 use Rattle.wac_layout.specs.DeclarationLayout.{label_layout}
 use Rattle.wac_layout.specs.Bare.{bare_func_type, bare_ident}
 use Rattle.std.proofs.Common.{◌∙◌}
-use Rattle.wac_printer.proofs.Sequence.{fails, of_docs, parts, printed_at, there}
+use Rattle.wac_printer.proofs.Sequence.{after, first, last, of_docs, printed_at, there}
 use Rattle.wac_layout.specs.TypeLayout.{func_type_layout}
 use Rattle.wac_ast_base.specs.Names.{ident_of}
 use Rattle.wac_printer.proofs.printer.DocumentPrinter.method.Goals as goal
 
-pub returns-in_err-docs : goal.returns-in_err-docs
-returns-in_err-docs g c = fails _ c.from_residual.ensures.1 (of_docs c.deref.ensures.value c.in_err-docs.ensures)
-
-pub returns-in_err-label : goal.returns-in_err-label
-returns-in_err-label g c = parts (of_docs c.deref.ensures.value c.in_ok-docs.ensures) (fails _ c.from_residual-in_err-label.ensures.1 (there (λ source depth. label_layout depth (bare_ident source (ident_of c.args.method.now.id))) (c.in_ok-docs.ensures.keeps.0) (c.in_ok-docs.ensures.keeps.2) c.in_err-label.ensures))
-
-pub returns-in_err-static_keyword : goal.returns-in_err-static_keyword
-returns-in_err-static_keyword g c = parts (of_docs c.deref.ensures.value c.in_ok-docs.ensures) (parts (there (λ source depth. label_layout depth (bare_ident source (ident_of c.args.method.now.id))) (c.in_ok-docs.ensures.keeps.0) (c.in_ok-docs.ensures.keeps.2) c.in_ok-label.ensures) (fails _ c.from_residual-in_err-static_keyword.ensures.1 c.in_err-static_keyword.ensures))
-
-pub returns-in_err-func_type : goal.returns-in_err-func_type
-returns-in_err-func_type g c = parts (of_docs c.deref.ensures.value c.in_ok-docs.ensures) (parts (there (λ source depth. label_layout depth (bare_ident source (ident_of c.args.method.now.id))) (c.in_ok-docs.ensures.keeps.0) (c.in_ok-docs.ensures.keeps.2) c.in_ok-label.ensures) (parts c.in_ok-static_keyword.ensures (fails _ c.from_residual-in_err-func_type.ensures.1 (printed_at (λ source. func_type_layout (bare_func_type source (func_type_of c.args.method.now.ty))) (c.in_ok-static_keyword.ensures.keeps.0 ∙ c.in_ok-label.ensures.keeps.0 ∙ c.in_ok-docs.ensures.keeps.0) c.in_err-func_type.ensures))))
-
 pub returns : goal.returns
-returns g c = parts (of_docs c.deref.ensures.value c.in_ok-docs.ensures) (parts (there (λ source depth. label_layout depth (bare_ident source (ident_of c.args.method.now.id))) (c.in_ok-docs.ensures.keeps.0) (c.in_ok-docs.ensures.keeps.2) c.in_ok-label.ensures) (parts c.in_ok-static_keyword.ensures (parts (printed_at (λ source. func_type_layout (bare_func_type source (func_type_of c.args.method.now.ty))) (c.in_ok-static_keyword.ensures.keeps.0 ∙ c.in_ok-label.ensures.keeps.0 ∙ c.in_ok-docs.ensures.keeps.0) c.in_ok-func_type.ensures) (c.token.ensures))))
+returns g c = last c.and-4.ensures (after c.and-3.ensures (after c.and-2.ensures (after c.and.ensures (first (of_docs c.deref.ensures.value c.docs.ensures)) (there (λ source depth. label_layout depth (bare_ident source (ident_of c.args.method.now.id))) (c.docs.ensures.keeps.0) (c.docs.ensures.keeps.2) c.label.ensures)) c.static_keyword.ensures) (printed_at (λ source. func_type_layout (bare_func_type source (func_type_of c.args.method.now.ty))) (c.static_keyword.ensures.keeps.0 ∙ c.label.ensures.keeps.0 ∙ c.docs.ensures.keeps.0) c.func_type.ensures)) c.token.ensures

@@ -2,18 +2,10 @@ use Rattle.std.proofs.Common.{map, ◌∙◌}
 use Rattle.wac_layout.specs.Bare.{bare_directive, bare_document, bare_statement, doc_lines}
 use Rattle.wac_layout.specs.StatementLayout.{directive_layout, document_layout, statement_layout}
 use Rattle.wac_ast.specs.Statements.{directive_of, document_of, statement_of}
-use Rattle.wac_printer.proofs.Sequence.{fails, of_docs, parts, printed_at, there}
+use Rattle.wac_printer.proofs.Sequence.{after, first, last, of_docs, printed_at, there}
 use Rattle.wac_layout.specs.Parts.{spaced}
 use Rattle.wac_printer.proofs.printer.DocumentPrinter.page.Goals as goal
 
-pub returns-in_err-docs : goal.returns-in_err-docs
-returns-in_err-docs g c = printed_at (λ z. document_layout c.args.self.now.depth (bare_document doc_lines c.args.self.now.source (document_of z))) c.page.view_is
-    (fails _ c.from_residual.ensures.1 (of_docs c.deref.ensures.value c.in_err-docs.ensures))
-
-pub returns-in_err-package_directive : goal.returns-in_err-package_directive
-returns-in_err-package_directive g c = printed_at (λ z. document_layout c.args.self.now.depth (bare_document doc_lines c.args.self.now.source (document_of z))) c.page.view_is
-    (parts (of_docs c.deref.ensures.value c.in_ok-docs.ensures) (fails _ c.from_residual-in_err-package_directive.ensures.1 (there (λ source depth. directive_layout depth (bare_directive source (directive_of c.page.inside.document.now.directive))) (c.in_ok-docs.ensures.keeps.0) (c.in_ok-docs.ensures.keeps.2) c.in_err-package_directive.ensures)))
-
 pub returns : goal.returns
 returns g c = printed_at (λ z. document_layout c.args.self.now.depth (bare_document doc_lines c.args.self.now.source (document_of z))) c.page.view_is
-    (parts (of_docs c.deref.ensures.value c.in_ok-docs.ensures) (parts (there (λ source depth. directive_layout depth (bare_directive source (directive_of c.page.inside.document.now.directive))) (c.in_ok-docs.ensures.keeps.0) (c.in_ok-docs.ensures.keeps.2) c.in_ok-package_directive.ensures) (printed_at (λ xs. spaced (statement_layout c.args.self.now.depth) (map (bare_statement doc_lines c.args.self.now.source) (map statement_of xs))) c.all.ensures (there (λ source depth. spaced (statement_layout depth) (map (bare_statement doc_lines source) (map statement_of c.all.result.now))) (c.in_ok-package_directive.ensures.keeps.0 ∙ c.in_ok-docs.ensures.keeps.0) (c.in_ok-package_directive.ensures.keeps.2 ∙ c.in_ok-docs.ensures.keeps.2) c.statements.ensures))))
+    (last c.and-2.ensures (after c.and.ensures (first (of_docs c.deref.ensures.value c.docs.ensures)) (there (λ source depth. directive_layout depth (bare_directive source (directive_of c.page.inside.document.now.directive))) (c.docs.ensures.keeps.0) (c.docs.ensures.keeps.2) c.package_directive.ensures)) (printed_at (λ xs. spaced (statement_layout c.args.self.now.depth) (map (bare_statement doc_lines c.args.self.now.source) (map statement_of xs))) c.all.ensures (there (λ source depth. spaced (statement_layout depth) (map (bare_statement doc_lines source) (map statement_of c.all.result.now))) (c.package_directive.ensures.keeps.0 ∙ c.docs.ensures.keeps.0) (c.package_directive.ensures.keeps.2 ∙ c.docs.ensures.keeps.2) c.statements.ensures)))

@@ -3,7 +3,7 @@ use Rattle.std.specs.List.{All}
 use Rattle.wac_ast_types.specs.Declarations.{field_of}
 use Rattle.wac_printer.specs.Sliced.{FieldSliced}
 use Rattle.wac_printer.proofs.Progress.{All-at}
-use Rattle.wac_printer.proofs.Sequence.{fails, of_docs, parts, printed_as, printed_at, rows_bare, there}
+use Rattle.wac_printer.proofs.Sequence.{after, first, last, of_docs, printed_as, printed_at, rows_bare, there}
 use Rattle.wac_layout.specs.DeclarationLayout.{field_layout, head_layout}
 use Rattle.wac_layout.specs.Bare.{bare_field, bare_ident, doc_lines}
 use Rattle.wac_layout.specs.Parts.{rows}
@@ -11,13 +11,7 @@ use Rattle.wac_ast_base.specs.Names.{ident_of}
 use Rattle.wac_printer.proofs.printer.DocumentPrinter.record_decl.Goals as goal
 
 pub rows-requires : goal.rows-requires
-rows-requires g c = All-at FieldSliced field_of c.deref-2.result.now _ _ (c.in_ok-head.ensures.keeps.0 ∙ c.in_ok-docs.ensures.keeps.0) (subst (λ xs. All (FieldSliced c.args.self.now.source) (map field_of xs)) (sym c.deref-2.ensures.value) c.requires.2)
-
-pub returns-in_err-docs : goal.returns-in_err-docs
-returns-in_err-docs g c = fails _ c.from_residual.ensures.1 (of_docs c.deref.ensures.value c.in_err-docs.ensures)
-
-pub returns-in_err-head : goal.returns-in_err-head
-returns-in_err-head g c = parts (of_docs c.deref.ensures.value c.in_ok-docs.ensures) (fails _ c.from_residual-in_err-head.ensures.1 (there (λ source depth. head_layout depth (codes "record") (bare_ident source (ident_of c.args.decl.now.id))) (c.in_ok-docs.ensures.keeps.0) (c.in_ok-docs.ensures.keeps.2) c.in_err-head.ensures))
+rows-requires g c = All-at FieldSliced field_of c.deref-2.result.now _ _ (c.head.ensures.keeps.0 ∙ c.docs.ensures.keeps.0) (subst (λ xs. All (FieldSliced c.args.self.now.source) (map field_of xs)) (sym c.deref-2.ensures.value) c.requires.2)
 
 pub returns : goal.returns
-returns g c = parts (of_docs c.deref.ensures.value c.in_ok-docs.ensures) (parts (there (λ source depth. head_layout depth (codes "record") (bare_ident source (ident_of c.args.decl.now.id))) (c.in_ok-docs.ensures.keeps.0) (c.in_ok-docs.ensures.keeps.2) c.in_ok-head.ensures) (printed_as (rows_bare field_layout (bare_field doc_lines c.args.self.now.source) field_of c.args.self.now.depth c.args.decl.now.fields.items) (printed_at (λ xs. rows (λ d x. field_layout d (bare_field doc_lines c.args.self.now.source (field_of x))) c.args.self.now.depth xs) c.deref-2.ensures.value (there (λ source depth. rows (λ d x. field_layout d (bare_field doc_lines source (field_of x))) depth c.deref-2.result.now) (c.in_ok-head.ensures.keeps.0 ∙ c.in_ok-docs.ensures.keeps.0) (c.in_ok-head.ensures.keeps.2 ∙ c.in_ok-docs.ensures.keeps.2) c.rows.ensures))))
+returns g c = last c.and-2.ensures (after c.and.ensures (first (of_docs c.deref.ensures.value c.docs.ensures)) (there (λ source depth. head_layout depth (codes "record") (bare_ident source (ident_of c.args.decl.now.id))) (c.docs.ensures.keeps.0) (c.docs.ensures.keeps.2) c.head.ensures)) (printed_as (rows_bare field_layout (bare_field doc_lines c.args.self.now.source) field_of c.args.self.now.depth c.args.decl.now.fields.items) (printed_at (λ xs. rows (λ d x. field_layout d (bare_field doc_lines c.args.self.now.source (field_of x))) c.args.self.now.depth xs) c.deref-2.ensures.value (there (λ source depth. rows (λ d x. field_layout d (bare_field doc_lines source (field_of x))) depth c.deref-2.result.now) (c.head.ensures.keeps.0 ∙ c.docs.ensures.keeps.0) (c.head.ensures.keeps.2 ∙ c.docs.ensures.keeps.2) c.rows.ensures)))

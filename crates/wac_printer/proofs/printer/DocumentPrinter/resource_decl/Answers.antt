@@ -1,17 +1,11 @@
 use Rattle.std.proofs.Common.{codes, map, ◌∙◌}
 use Rattle.wac_layout.specs.DeclarationLayout.{head_layout, resource_method_layout}
 use Rattle.wac_layout.specs.Bare.{bare_ident, bare_resource_method, doc_lines}
-use Rattle.wac_printer.proofs.Sequence.{fails, of_docs, parts, printed_at, there}
+use Rattle.wac_printer.proofs.Sequence.{after, first, last, of_docs, printed_at, there}
 use Rattle.wac_layout.specs.Parts.{body}
 use Rattle.wac_ast_types.specs.Declarations.{resource_method_of}
 use Rattle.wac_ast_base.specs.Names.{ident_of}
 use Rattle.wac_printer.proofs.printer.DocumentPrinter.resource_decl.Goals as goal
 
-pub returns-in_err-docs : goal.returns-in_err-docs
-returns-in_err-docs g c = fails _ c.from_residual.ensures.1 (of_docs c.deref.ensures.value c.in_err-docs.ensures)
-
-pub returns-in_err-resource_head : goal.returns-in_err-resource_head
-returns-in_err-resource_head g c = parts (of_docs c.deref.ensures.value c.in_ok-docs.ensures) (fails _ c.from_residual-in_err-resource_head.ensures.1 (there (λ source depth. head_layout depth (codes "resource") (bare_ident source (ident_of c.args.decl.now.id))) (c.in_ok-docs.ensures.keeps.0) (c.in_ok-docs.ensures.keeps.2) c.in_err-resource_head.ensures))
-
 pub returns : goal.returns
-returns g c = parts (of_docs c.deref.ensures.value c.in_ok-docs.ensures) (parts (there (λ source depth. head_layout depth (codes "resource") (bare_ident source (ident_of c.args.decl.now.id))) (c.in_ok-docs.ensures.keeps.0) (c.in_ok-docs.ensures.keeps.2) c.in_ok-resource_head.ensures) (printed_at (λ xs. body resource_method_layout c.args.self.now.depth (map (bare_resource_method doc_lines c.args.self.now.source) (map resource_method_of xs))) c.deref-2.ensures.value (there (λ source depth. body resource_method_layout depth (map (bare_resource_method doc_lines source) (map resource_method_of c.deref-2.result.now))) (c.in_ok-resource_head.ensures.keeps.0 ∙ c.in_ok-docs.ensures.keeps.0) (c.in_ok-resource_head.ensures.keeps.2 ∙ c.in_ok-docs.ensures.keeps.2) c.resource_methods.ensures)))
+returns g c = last c.and-2.ensures (after c.and.ensures (first (of_docs c.deref.ensures.value c.docs.ensures)) (there (λ source depth. head_layout depth (codes "resource") (bare_ident source (ident_of c.args.decl.now.id))) (c.docs.ensures.keeps.0) (c.docs.ensures.keeps.2) c.resource_head.ensures)) (printed_at (λ xs. body resource_method_layout c.args.self.now.depth (map (bare_resource_method doc_lines c.args.self.now.source) (map resource_method_of xs))) c.deref-2.ensures.value (there (λ source depth. body resource_method_layout depth (map (bare_resource_method doc_lines source) (map resource_method_of c.deref-2.result.now))) (c.resource_head.ensures.keeps.0 ∙ c.docs.ensures.keeps.0) (c.resource_head.ensures.keeps.2 ∙ c.docs.ensures.keeps.2) c.resource_methods.ensures))

@@ -3,7 +3,7 @@ use Rattle.std.specs.List.{All}
 use Rattle.wac_ast_types.specs.Declarations.{variant_case_of}
 use Rattle.wac_printer.specs.Sliced.{VariantCaseSliced}
 use Rattle.wac_printer.proofs.Progress.{All-at}
-use Rattle.wac_printer.proofs.Sequence.{fails, of_docs, parts, printed_as, printed_at, rows_bare, there}
+use Rattle.wac_printer.proofs.Sequence.{after, first, last, of_docs, printed_as, printed_at, rows_bare, there}
 use Rattle.wac_layout.specs.DeclarationLayout.{head_layout, variant_case_layout}
 use Rattle.wac_layout.specs.Bare.{bare_ident, bare_variant_case, doc_lines}
 use Rattle.wac_layout.specs.Parts.{rows}
@@ -11,13 +11,7 @@ use Rattle.wac_ast_base.specs.Names.{ident_of}
 use Rattle.wac_printer.proofs.printer.DocumentPrinter.variant_decl.Goals as goal
 
 pub rows-requires : goal.rows-requires
-rows-requires g c = All-at VariantCaseSliced variant_case_of c.deref-2.result.now _ _ (c.in_ok-head.ensures.keeps.0 ∙ c.in_ok-docs.ensures.keeps.0) (subst (λ xs. All (VariantCaseSliced c.args.self.now.source) (map variant_case_of xs)) (sym c.deref-2.ensures.value) c.requires.2)
-
-pub returns-in_err-docs : goal.returns-in_err-docs
-returns-in_err-docs g c = fails _ c.from_residual.ensures.1 (of_docs c.deref.ensures.value c.in_err-docs.ensures)
-
-pub returns-in_err-head : goal.returns-in_err-head
-returns-in_err-head g c = parts (of_docs c.deref.ensures.value c.in_ok-docs.ensures) (fails _ c.from_residual-in_err-head.ensures.1 (there (λ source depth. head_layout depth (codes "variant") (bare_ident source (ident_of c.args.decl.now.id))) (c.in_ok-docs.ensures.keeps.0) (c.in_ok-docs.ensures.keeps.2) c.in_err-head.ensures))
+rows-requires g c = All-at VariantCaseSliced variant_case_of c.deref-2.result.now _ _ (c.head.ensures.keeps.0 ∙ c.docs.ensures.keeps.0) (subst (λ xs. All (VariantCaseSliced c.args.self.now.source) (map variant_case_of xs)) (sym c.deref-2.ensures.value) c.requires.2)
 
 pub returns : goal.returns
-returns g c = parts (of_docs c.deref.ensures.value c.in_ok-docs.ensures) (parts (there (λ source depth. head_layout depth (codes "variant") (bare_ident source (ident_of c.args.decl.now.id))) (c.in_ok-docs.ensures.keeps.0) (c.in_ok-docs.ensures.keeps.2) c.in_ok-head.ensures) (printed_as (rows_bare variant_case_layout (bare_variant_case doc_lines c.args.self.now.source) variant_case_of c.args.self.now.depth c.args.decl.now.cases.items) (printed_at (λ xs. rows (λ d x. variant_case_layout d (bare_variant_case doc_lines c.args.self.now.source (variant_case_of x))) c.args.self.now.depth xs) c.deref-2.ensures.value (there (λ source depth. rows (λ d x. variant_case_layout d (bare_variant_case doc_lines source (variant_case_of x))) depth c.deref-2.result.now) (c.in_ok-head.ensures.keeps.0 ∙ c.in_ok-docs.ensures.keeps.0) (c.in_ok-head.ensures.keeps.2 ∙ c.in_ok-docs.ensures.keeps.2) c.rows.ensures))))
+returns g c = last c.and-2.ensures (after c.and.ensures (first (of_docs c.deref.ensures.value c.docs.ensures)) (there (λ source depth. head_layout depth (codes "variant") (bare_ident source (ident_of c.args.decl.now.id))) (c.docs.ensures.keeps.0) (c.docs.ensures.keeps.2) c.head.ensures)) (printed_as (rows_bare variant_case_layout (bare_variant_case doc_lines c.args.self.now.source) variant_case_of c.args.self.now.depth c.args.decl.now.cases.items) (printed_at (λ xs. rows (λ d x. variant_case_layout d (bare_variant_case doc_lines c.args.self.now.source (variant_case_of x))) c.args.self.now.depth xs) c.deref-2.ensures.value (there (λ source depth. rows (λ d x. variant_case_layout d (bare_variant_case doc_lines source (variant_case_of x))) depth c.deref-2.result.now) (c.head.ensures.keeps.0 ∙ c.docs.ensures.keeps.0) (c.head.ensures.keeps.2 ∙ c.docs.ensures.keeps.2) c.rows.ensures)))

@@ -2,20 +2,14 @@ use Rattle.std.proofs.Common.{◌∙◌}
 use Rattle.wac_ast_worlds.specs.Worlds.{world_include_item_of}
 use Rattle.wac_printer.specs.Sliced.{WorldIncludeItemSliced}
 use Rattle.wac_printer.proofs.Progress.{All-at}
-use Rattle.wac_printer.proofs.Sequence.{fail, piece, printed_as, rows_bare, there}
+use Rattle.wac_printer.proofs.Sequence.{after, first, last, printed_as, rows_bare, there}
 use Rattle.wac_layout.specs.Parts.{rows}
 use Rattle.wac_layout.specs.WorldLayout.{world_include_item_layout}
 use Rattle.wac_layout.specs.Bare.{bare_world_include_item}
 use Rattle.wac_printer.proofs.printer.DocumentPrinter.with_rows.Goals as goal
 
 pub rows-requires : goal.rows-requires
-rows-requires g c = All-at WorldIncludeItemSliced world_include_item_of c.args.items.now _ _ (c.in_ok-token.ensures.keeps.0 ∙ c.in_ok-blank.ensures.keeps.0) c.requires
-
-pub returns-in_err-blank : goal.returns-in_err-blank
-returns-in_err-blank g c = fail c.from_residual.ensures.1 c.in_err-blank.ensures
-
-pub returns-in_err-token : goal.returns-in_err-token
-returns-in_err-token g c = piece c.in_ok-blank.ensures (fail c.from_residual-in_err-token.ensures.1 c.in_err-token.ensures)
+rows-requires g c = All-at WorldIncludeItemSliced world_include_item_of c.args.items.now _ _ (c.token.ensures.keeps.0 ∙ c.blank.ensures.keeps.0) c.requires
 
 pub returns : goal.returns
-returns g c = piece c.in_ok-blank.ensures (piece c.in_ok-token.ensures (printed_as (rows_bare world_include_item_layout (bare_world_include_item c.args.self.now.source) world_include_item_of c.args.self.now.depth c.args.items.now) (there (λ source depth. rows (λ d x. world_include_item_layout d (bare_world_include_item source (world_include_item_of x))) depth c.args.items.now) (c.in_ok-token.ensures.keeps.0 ∙ c.in_ok-blank.ensures.keeps.0) (c.in_ok-token.ensures.keeps.2 ∙ c.in_ok-blank.ensures.keeps.2) c.rows.ensures)))
+returns g c = last c.and-2.ensures (after c.and.ensures (first c.blank.ensures) c.token.ensures) (printed_as (rows_bare world_include_item_layout (bare_world_include_item c.args.self.now.source) world_include_item_of c.args.self.now.depth c.args.items.now) (there (λ source depth. rows (λ d x. world_include_item_layout d (bare_world_include_item source (world_include_item_of x))) depth c.args.items.now) (c.token.ensures.keeps.0 ∙ c.blank.ensures.keeps.0) (c.token.ensures.keeps.2 ∙ c.blank.ensures.keeps.2) c.rows.ensures))
