@@ -241,11 +241,7 @@ impl<'a, S: Sink> DocumentPrinter<'a, S> {
     {
         match ty {
             None => self.ready(),
-            Some(ty) => {
-                self.token("(")?;
-                self.ty(ty)?;
-                self.token(")")
-            }
+            Some(ty) => self.token("(").and(self.ty(ty)).and(self.token(")")),
         }
     }
 

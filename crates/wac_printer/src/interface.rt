@@ -158,12 +158,11 @@ impl<'a, S: Sink> DocumentPrinter<'a, S> {
     {
         match id {
             None => self.ready(),
-            Some(id) => {
-                self.blank(" ")?;
-                self.token("as")?;
-                self.blank(" ")?;
-                self.ident(id)
-            }
+            Some(id) => self
+                .blank(" ")
+                .and(self.token("as"))
+                .and(self.blank(" "))
+                .and(self.ident(id)),
         }
     }
 }

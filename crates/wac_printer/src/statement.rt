@@ -155,12 +155,11 @@ impl<'a, S: Sink> DocumentPrinter<'a, S> {
     {
         match path {
             None => self.ready(),
-            Some(path) => {
-                self.blank(" ")?;
-                self.token("targets")?;
-                self.blank(" ")?;
-                self.package_path(path)
-            }
+            Some(path) => self
+                .blank(" ")
+                .and(self.token("targets"))
+                .and(self.blank(" "))
+                .and(self.package_path(path)),
         }
     }
 

@@ -99,14 +99,8 @@ impl<'a, S: Sink> DocumentPrinter<'a, S> {
     {
         match results {
             ResultList::Empty => self.ready(),
-            ResultList::Scalar(ty) => {
-                self.arrow()?;
-                self.ty(ty)
-            }
-            ResultList::Named(named) => {
-                self.arrow()?;
-                self.params(named)
-            }
+            ResultList::Scalar(ty) => self.arrow().and(self.ty(ty)),
+            ResultList::Named(named) => self.arrow().and(self.params(named)),
         }
     }
 

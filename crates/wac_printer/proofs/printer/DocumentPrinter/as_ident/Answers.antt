@@ -1,4 +1,4 @@
-use Rattle.wac_printer.proofs.Sequence.{fail, piece, printed_at}
+use Rattle.wac_printer.proofs.Sequence.{after, first, last, printed_at}
 use Rattle.std.proofs.Common.{[], sym, ◌∙◌, ◌∷◌}
 use Rattle.std.specs.Option.{option_map}
 use Rattle.wac_lexer.specs.Reading.{slice}
@@ -8,21 +8,9 @@ use Rattle.wac_layout.specs.InterfaceLayout.{as_layout}
 use Rattle.wac_layout.specs.Printed.{token}
 use Rattle.wac_printer.proofs.printer.DocumentPrinter.as_ident.Goals as goal
 
-pub returns-in_err-blank-in-Some : goal.returns-in_err-blank-in-Some
-returns-in_err-blank-in-Some g c = printed_at (λ z. as_layout (option_map (bare_ident c.args.self.now.source) (option_map ident_of z))) (sym c.in-Some.is)
-    (fail c.from_residual.ensures.1 c.in_err-blank-in-Some.ensures)
-
-pub returns-in_err-token-in-Some : goal.returns-in_err-token-in-Some
-returns-in_err-token-in-Some g c = printed_at (λ z. as_layout (option_map (bare_ident c.args.self.now.source) (option_map ident_of z))) (sym c.in-Some.is)
-    (piece c.in_ok-blank-in-Some.ensures (fail c.from_residual-in_err-token-in-Some.ensures.1 c.in_err-token-in-Some.ensures))
-
-pub returns-in_err-blank-in-Some-2 : goal.returns-in_err-blank-in-Some-2
-returns-in_err-blank-in-Some-2 g c = printed_at (λ z. as_layout (option_map (bare_ident c.args.self.now.source) (option_map ident_of z))) (sym c.in-Some.is)
-    (piece c.in_ok-blank-in-Some.ensures (piece c.in_ok-token-in-Some.ensures (fail c.from_residual-in_err-blank-in-Some-2.ensures.1 c.in_err-blank-in-Some-2.ensures)))
-
-pub returns-in_ok-blank-in-Some-2 : goal.returns-in_ok-blank-in-Some-2
-returns-in_ok-blank-in-Some-2 g c = printed_at (λ z. as_layout (option_map (bare_ident c.args.self.now.source) (option_map ident_of z))) (sym c.in-Some.is)
-    (piece c.in_ok-blank-in-Some.ensures (piece c.in_ok-token-in-Some.ensures (piece c.in_ok-blank-in-Some-2.ensures (printed_at (λ source. token (slice source c.in-Some.id.span) ∷ []) (c.in_ok-blank-in-Some-2.ensures.keeps.0 ∙ c.in_ok-token-in-Some.ensures.keeps.0 ∙ c.in_ok-blank-in-Some.ensures.keeps.0) c.ident.ensures))))
+pub returns-in-Some : goal.returns-in-Some
+returns-in-Some g c = printed_at (λ z. as_layout (option_map (bare_ident c.args.self.now.source) (option_map ident_of z))) (sym c.in-Some.is)
+    (last c.and-in-Some-2.ensures (after c.and-in-Some.ensures (after c.and.ensures (first c.blank.ensures) c.token.ensures) c.blank-in-Some.ensures) (printed_at (λ source. token (slice source c.in-Some.id.span) ∷ []) (c.blank-in-Some.ensures.keeps.0 ∙ c.token.ensures.keeps.0 ∙ c.blank.ensures.keeps.0) c.ident.ensures))
 
 pub returns-in-None : goal.returns-in-None
 returns-in-None g c = printed_at (λ z. as_layout (option_map (bare_ident c.args.self.now.source) (option_map ident_of z))) (sym c.in-None.is) c.ready.ensures

@@ -5,30 +5,22 @@ use Rattle.wac_ast_types.specs.Declarations.{named_type_of, result_list_of}
 use Rattle.wac_layout.specs.Bare.{bare_named_type, bare_result_list, bare_ty}
 use Rattle.wac_layout.specs.TypeLayout.{params_layout, results_layout, ty_layout}
 use Rattle.wac_printer.specs.Sliced.{NamedTypeSliced, ResultListSliced}
-use Rattle.wac_printer.proofs.Sequence.{fails, parts, printed_at}
+use Rattle.wac_printer.proofs.Sequence.{first, last, printed_at}
 use Rattle.wac_printer.proofs.printer.DocumentPrinter.result_list.Goals as goal
 
-pub returns-in_err-arrow-in-Scalar : goal.returns-in_err-arrow-in-Scalar
-returns-in_err-arrow-in-Scalar g c = printed_at (λ z. results_layout (bare_result_list c.args.self.now.source (result_list_of z))) (sym c.in-Scalar.is)
-    (fails _ c.from_residual.ensures.1 c.in_err-arrow-in-Scalar.ensures)
-
-pub returns-in_ok-arrow-in-Scalar : goal.returns-in_ok-arrow-in-Scalar
-returns-in_ok-arrow-in-Scalar g c = printed_at (λ z. results_layout (bare_result_list c.args.self.now.source (result_list_of z))) (sym c.in-Scalar.is)
-    (parts c.in_ok-arrow-in-Scalar.ensures (printed_at (λ source. ty_layout (bare_ty source (ty_of c.in-Scalar.ty))) c.in_ok-arrow-in-Scalar.ensures.keeps.0 c.ty.ensures))
+pub returns-in-Scalar : goal.returns-in-Scalar
+returns-in-Scalar g c = printed_at (λ z. results_layout (bare_result_list c.args.self.now.source (result_list_of z))) (sym c.in-Scalar.is)
+    (last c.and.ensures (first c.arrow.ensures) (printed_at (λ source. ty_layout (bare_ty source (ty_of c.in-Scalar.ty))) c.arrow.ensures.keeps.0 c.ty.ensures))
 
 pub params-requires : goal.params-requires
 params-requires g c =
     let sliced = subst (λ z. ResultListSliced c.args.self.now.source (result_list_of z)) c.in-Named.is c.requires in
-    subst (λ source. All (NamedTypeSliced source) (map named_type_of c.deref.result.now)) (sym c.in_ok-arrow-in-Named.ensures.keeps.0)
+    subst (λ source. All (NamedTypeSliced source) (map named_type_of c.deref.result.now)) (sym c.arrow-in-Named.ensures.keeps.0)
     (subst (λ xs. All (NamedTypeSliced c.args.self.now.source) (map named_type_of xs)) (sym c.deref.ensures.value) sliced)
 
-pub returns-in_err-arrow-in-Named : goal.returns-in_err-arrow-in-Named
-returns-in_err-arrow-in-Named g c = printed_at (λ z. results_layout (bare_result_list c.args.self.now.source (result_list_of z))) (sym c.in-Named.is)
-    (fails _ c.from_residual-in_err-arrow-in-Named.ensures.1 c.in_err-arrow-in-Named.ensures)
-
-pub returns-in_ok-arrow-in-Named : goal.returns-in_ok-arrow-in-Named
-returns-in_ok-arrow-in-Named g c = printed_at (λ z. results_layout (bare_result_list c.args.self.now.source (result_list_of z))) (sym c.in-Named.is)
-    (parts c.in_ok-arrow-in-Named.ensures (printed_at (λ xs. params_layout (map (bare_named_type c.args.self.now.source) (map named_type_of xs))) c.deref.ensures.value (printed_at (λ source. params_layout (map (bare_named_type source) (map named_type_of c.deref.result.now))) c.in_ok-arrow-in-Named.ensures.keeps.0 c.params.ensures)))
+pub returns-in-Named : goal.returns-in-Named
+returns-in-Named g c = printed_at (λ z. results_layout (bare_result_list c.args.self.now.source (result_list_of z))) (sym c.in-Named.is)
+    (last c.and-in-Named.ensures (first c.arrow-in-Named.ensures) (printed_at (λ xs. params_layout (map (bare_named_type c.args.self.now.source) (map named_type_of xs))) c.deref.ensures.value (printed_at (λ source. params_layout (map (bare_named_type source) (map named_type_of c.deref.result.now))) c.arrow-in-Named.ensures.keeps.0 c.params.ensures)))
 
 pub returns-in-Empty : goal.returns-in-Empty
 returns-in-Empty g c = printed_at (λ z. results_layout (bare_result_list c.args.self.now.source (result_list_of z))) (sym c.in-Empty.is) c.ready.ensures
