@@ -48,14 +48,14 @@ fn a_document_is_formatted(rt: HostRuntime) -> Result<(), Fail> {
     let alloc = rt.alloc();
     for (source, want) in [(SOURCE, false), (FORMATTED, true)] {
         match is_formatted(alloc, source) {
-            Ok(yes) => assert_eq!(rt; yes, want, "{source}"),
+            Ok(yes) => assert!(rt; yes == want, "of {source}"),
             Err(_) => panic!(rt; "rejected: {source}"),
         }
     }
     match formatted(alloc, "package a:b; let x = new c:d { ..., y };") {
-        Ok(text) => assert_eq!(rt;
-            text.as_str(),
-            "package a:b;\n\nlet x = new c:d {\n  ...,\n  y,\n};\n"
+        Ok(text) => assert!(rt;
+            text.as_str() == "package a:b;\n\nlet x = new c:d {\n  ...,\n  y,\n};\n",
+            "arguments"
         ),
         Err(_) => panic!(rt; "rejected"),
     }
@@ -68,9 +68,12 @@ fn an_error_has_a_place(rt: HostRuntime) -> Result<(), Fail> {
     let Some((span, text)) = first_error(rt.alloc(), FAULTY)? else {
         panic!(rt; "no error")
     };
-    assert_eq!(rt; (span.offset(), span.len()), (61, 3));
-    assert_eq!(rt; text.as_str(), "expected `,`, found `...`");
-    assert_eq!(rt; position(FAULTY, span.offset()), (1, 36));
+    assert!(rt; (span.offset(), span.len()) == (61, 3), "of {FAULTY}");
+    assert!(rt;
+        text.as_str() == "expected `,`, found `...`",
+        "{text} of {FAULTY}"
+    );
+    assert!(rt; position(FAULTY, span.offset()) == (1, 36), "of {FAULTY}");
     Ok(())
 }
 
@@ -83,7 +86,7 @@ fn offsets_have_lines_and_columns(rt: HostRuntime) {
         ("a\n\nbc", 4, (2, 1)),
         ("a\nb", 9, (1, 1)),
     ] {
-        assert_eq!(rt; position(source, offset), want, "of {offset} in {source}");
+        assert!(rt; position(source, offset) == want, "of {source}");
     }
 }
 
@@ -100,7 +103,10 @@ fn tokens_are_listed(rt: HostRuntime) -> Result<(), Fail> {
             "0+21 an unterminated comment was encountered\n",
         ),
     ] {
-        assert_eq!(rt; list_tokens(rt.alloc(), source)?.as_str(), lines);
+        assert!(rt;
+            list_tokens(rt.alloc(), source)?.as_str() == lines,
+            "of {source}"
+        );
     }
     Ok(())
 }
@@ -109,7 +115,10 @@ fn tokens_are_listed(rt: HostRuntime) -> Result<(), Fail> {
 fn packages_are_named_by_imports(rt: HostRuntime) -> Result<(), Fail> {
     let source = "package a:b; import c: d:e/f@1.0.0; import g: func(); import h: i:j/k;";
     match imported_packages(rt.alloc(), source) {
-        Ok(names) => assert_eq!(rt; names.as_slice(), ["d:e", "i:j"].as_slice()),
+        Ok(names) => assert!(rt;
+            names.as_slice() == ["d:e", "i:j"].as_slice(),
+            "of {source}"
+        ),
         Err(_) => panic!(rt; "rejected"),
     }
     Ok(())
@@ -118,9 +127,10 @@ fn packages_are_named_by_imports(rt: HostRuntime) -> Result<(), Fail> {
 #[test]
 fn a_document_is_json(rt: HostRuntime) -> Result<(), Fail> {
     match to_json(rt.alloc(), "package a:b;") {
-        Ok(text) => assert_eq!(rt;
-            text.as_str(),
-            r#"{"directive":{"package":{"name":"a:b","span":{"length":3,"offset":8},"string":"a:b","version":null}},"docs":[],"statements":[]}"#
+        Ok(text) => assert!(rt;
+            text.as_str()
+                == r#"{"directive":{"package":{"name":"a:b","span":{"length":3,"offset":8},"string":"a:b","version":null}},"docs":[],"statements":[]}"#,
+            "a directive"
         ),
         Err(_) => panic!(rt; "rejected"),
     }
@@ -134,13 +144,19 @@ fn a_document_composes_packages(rt: HostRuntime) -> Result<(), Fail> {
     let Some((Some(span), text)) = error_with_cache(alloc, FAULTY)? else {
         panic!(rt; "no error of a text")
     };
-    assert_eq!(rt; (span.offset(), span.len()), (61, 3));
-    assert_eq!(rt; text.as_str(), "expected `,`, found `...`");
+    assert!(rt; (span.offset(), span.len()) == (61, 3), "of {FAULTY}");
+    assert!(rt;
+        text.as_str() == "expected `,`, found `...`",
+        "{text} of {FAULTY}"
+    );
     let Some((Some(span), text)) = error_with_cache(alloc, MISMATCHED)? else {
         panic!(rt; "no error with a place")
     };
-    assert_eq!(rt; (span.offset(), span.len()), (85, 3));
-    assert_eq!(rt; text.as_str(), "mismatched instantiation argument `log`");
+    assert!(rt; (span.offset(), span.len()) == (85, 3), "of {MISMATCHED}");
+    assert!(rt;
+        text.as_str() == "mismatched instantiation argument `log`",
+        "{text} of {MISMATCHED}"
+    );
     Ok(())
 }
 
@@ -149,6 +165,9 @@ fn packages_that_are_missing_are_listed(rt: HostRuntime) -> Result<(), Fail> {
     let source =
         "package a:b targets c:d/e@1.0.0; import x: f:g/h; let y = new c:d@1.0.0 { ... }; let z = new example:cache { ... };";
     let lines = missing_beside_cache(rt.alloc(), source)?;
-    assert_eq!(rt; lines.as_str(), "c:d@1.0.0 at 20+3\nf:g at 43+3\n");
+    assert!(rt;
+        lines.as_str() == "c:d@1.0.0 at 20+3\nf:g at 43+3\n",
+        "{lines} of {source}"
+    );
     Ok(())
 }

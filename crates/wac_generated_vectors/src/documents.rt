@@ -33,12 +33,10 @@ fn tree(rt: &impl Abort, alloc: Global, source: &str) -> Result<String, AllocErr
 fn printed(rt: &impl Abort, alloc: Global, source: &str) -> Result<String, AllocError> {
     let text = written(rt, alloc, Command::Fmt, source)?;
     let again = written(rt, alloc, Command::Fmt, &text)?;
-    assert_eq!(rt; again.as_str(), text.as_str(), "of {source}");
-    assert_eq!(rt;
-        tree(rt, alloc, &text)?,
-        tree(rt, alloc, source)?,
-        "of {source}"
-    );
+    assert!(rt; again.as_str() == text.as_str(), "{again} of {source}");
+    let one = tree(rt, alloc, &text)?;
+    let other = tree(rt, alloc, source)?;
+    assert!(rt; one.as_str() == other.as_str(), "{one} of {source}");
     Ok(text)
 }
 
@@ -50,7 +48,7 @@ fn is_resolved_to(
     wanted: &str,
 ) -> Result<(), AllocError> {
     let found = answer(rt, alloc, Command::Resolve, source)?;
-    assert_eq!(rt; found.as_str(), wanted, "of {source}");
+    assert!(rt; found.as_str() == wanted, "{found} of {source}");
     Ok(())
 }
 

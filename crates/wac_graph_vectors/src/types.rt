@@ -124,10 +124,10 @@ fn fault(
 fn names_the_first_fault(rt: HostRuntime) -> Result<(), Fail> {
     for (rows, places, definitions, wrong) in FAULTS {
         let text = fault(rt.alloc(), rows, places, definitions)?;
-        assert_eq!(rt; text.as_str(), wrong);
+        assert!(rt; text.as_str() == wrong, "{text} of {wrong}");
     }
     let text = format!(in rt.alloc(); "{}", PackageError::Memory(AllocError))?;
-    assert_eq!(rt; text.as_str(), "out of memory");
+    assert!(rt; text.as_str() == "out of memory", "memory");
     Ok(())
 }
 
@@ -196,14 +196,21 @@ const SAME: [(usize, usize, bool); 6] = [
 #[test]
 fn compares_meanings(rt: HostRuntime) -> Result<(), Fail> {
     let package = defining(rt.alloc())?;
-    assert_eq!(rt; numbers(&package), (WorldId(1), InterfaceId(0), 8, 6));
+    let numbers = numbers(&package);
+    assert!(rt; numbers == (WorldId(1), InterfaceId(0), 8, 6), "numbers");
     for (i, j, is) in SAME {
-        assert_eq!(rt; same(&package, i, j), Some(is), "{i} and {j}");
+        assert!(rt; same(&package, i, j) == Some(is), "of {j}");
     }
-    assert_eq!(rt; asked(&OnlySame, &package, 0, 1), Some(Ok(())));
-    assert_eq!(rt; asked(&OnlySame, &package, 0, 2), Some(Err(Reason(7))));
-    assert_eq!(rt; OnlySame.extern_name("a"), Ok(()));
-    assert_eq!(rt; OnlySame.extern_name(""), Err(Reason(8)));
+    assert!(rt;
+        asked(&OnlySame, &package, 0, 1) == Some(Ok(())),
+        "the same kind"
+    );
+    assert!(rt;
+        asked(&OnlySame, &package, 0, 2) == Some(Err(Reason(7))),
+        "another kind"
+    );
+    assert!(rt; OnlySame.extern_name("a") == Ok(()), "a");
+    assert!(rt; OnlySame.extern_name("") == Err(Reason(8)), "no name");
     Ok(())
 }
 
@@ -247,7 +254,7 @@ const SAME_RESULTS: [(usize, usize, bool); 7] = [
 fn names_of_results_count(rt: HostRuntime) -> Result<(), Fail> {
     let package = package(rt.alloc(), &GIVING, (1, 0), &GIVEN)?;
     for (i, j, is) in SAME_RESULTS {
-        assert_eq!(rt; same(&package, i, j), Some(is), "{i} and {j}");
+        assert!(rt; same(&package, i, j) == Some(is), "of {j}");
     }
     Ok(())
 }
@@ -344,7 +351,8 @@ fn add_each(alloc: Global, types: &mut Types) -> Result<[usize; 5], AllocError> 
 #[test]
 fn adds_entries(rt: HostRuntime) -> Result<(), Fail> {
     let mut types = Types::new(rt.alloc());
-    assert_eq!(rt; add_each(rt.alloc(), &mut types)?, [0, 1, 2, 3, 4]);
+    let added = add_each(rt.alloc(), &mut types)?;
+    assert!(rt; added == [0, 1, 2, 3, 4], "entries");
     assert!(rt; has_each(&types));
     assert!(rt; types.interface(InterfaceId(4)).is_none());
     Ok(())
@@ -377,8 +385,8 @@ const CALLED: [(ItemKind, &str, &str); 8] = [
 #[test]
 fn describes_kinds(rt: HostRuntime) -> Result<(), Fail> {
     for (kind, words, promoted) in CALLED {
-        assert_eq!(rt; kind.desc(), words);
-        assert_eq!(rt; kind.promote().desc(), promoted);
+        assert!(rt; kind.desc() == words, "of {words}");
+        assert!(rt; kind.promote().desc() == promoted, "of {words}");
     }
     let text = format!(in rt.alloc();
         "{} {} {} {} {} {}",
@@ -389,9 +397,9 @@ fn describes_kinds(rt: HostRuntime) -> Result<(), Fail> {
         FuncKind::Static,
         FuncKind::Constructor
     )?;
-    assert_eq!(rt;
-        text.as_str(),
-        "import export function method static method constructor"
+    assert!(rt;
+        text.as_str() == "import export function method static method constructor",
+        "kinds"
     );
     Ok(())
 }

@@ -45,19 +45,8 @@ impl<'a> Narrow<'a> {
 
     /// Asserts that the first so many bytes of the text were written, and in so many calls.
     fn holds(&self, rt: &impl Abort, moved: usize, calls: usize) {
-        assert!(rt; self.is_text, "room {}, width {}", self.room, self.width);
-        assert_eq!(rt;
-            self.moved,
-            moved,
-            "room {}, width {}",
-            self.room, self.width
-        );
-        assert_eq!(rt;
-            self.calls,
-            calls,
-            "room {}, width {}",
-            self.room, self.width
-        );
+        let found = (self.is_text, self.moved, self.calls);
+        assert!(rt; found == (true, moved, calls), "of {}", self.room);
     }
 }
 
@@ -108,27 +97,27 @@ impl Write for Full {
 /// Asserts that what is kept in memory is what was put.
 fn keeps(rt: &impl Abort, alloc: Global) {
     let mut kept = Bytes::new(alloc);
-    assert_eq!(rt; kept.put(b"ab"), Some(2));
-    assert_eq!(rt; kept.put(b""), Some(0));
-    assert_eq!(rt; kept.put(b"c"), Some(1));
-    assert_eq!(rt; kept.into_vec().as_slice(), b"abc".as_slice());
+    assert!(rt; kept.put(b"ab") == Some(2), "ab");
+    assert!(rt; kept.put(b"") == Some(0), "nothing");
+    assert!(rt; kept.put(b"c") == Some(1), "c");
+    assert!(rt; kept.into_vec().as_slice() == b"abc".as_slice(), "abc");
 }
 
 /// Asserts that what is written is what was put.
 fn writes(rt: &impl Abort, alloc: Global) {
     let mut written = Vec::new(alloc);
     let mut out = Out::new(&mut written);
-    assert_eq!(rt; out.put(b"let"), Some(3));
-    assert_eq!(rt; out.put(b""), Some(0));
-    assert_eq!(rt; out.put(b" x"), Some(2));
-    assert_eq!(rt; written.as_slice(), b"let x".as_slice());
+    assert!(rt; out.put(b"let") == Some(3), "let");
+    assert!(rt; out.put(b"") == Some(0), "nothing");
+    assert!(rt; out.put(b" x") == Some(2), "x");
+    assert!(rt; written.as_slice() == b"let x".as_slice(), "let x");
 }
 
 /// Asserts that a writer that takes nothing fails, but of nothing.
 fn is_full(rt: &impl Abort) {
     let mut full = Out::new(Full);
-    assert_eq!(rt; full.put(b"y"), None);
-    assert_eq!(rt; full.put(b""), Some(0));
+    assert!(rt; full.put(b"y") == None, "y");
+    assert!(rt; full.put(b"") == Some(0), "nothing");
 }
 
 /// Asserts what a writer took that fails after so many bytes.
@@ -136,7 +125,7 @@ fn fails_at(rt: &impl Abort, text: &[u8], room: usize) {
     let mut writer = Narrow::new(text, 1, room);
     let mut out = Out::new(&mut writer);
     assert!(rt; !put_all(&mut out, text), "at {room}");
-    assert_eq!(rt; out.put(b"y"), None, "at {room}");
+    assert!(rt; out.put(b"y") == None, "of {room}");
     writer.holds(rt, room, room.saturating_add(2));
 }
 
@@ -154,12 +143,12 @@ fn sinks(rt: HostRuntime) {
 fn gives(rt: &impl Abort, text: &[u8]) {
     let mut feed = In::new(text);
     let mut part = [0; 3];
-    assert_eq!(rt; feed.take(&mut []), Some(0));
-    assert_eq!(rt; feed.take(&mut part), Some(3));
-    assert_eq!(rt; part.as_slice(), b"let".as_slice());
-    assert_eq!(rt; feed.take(&mut part), Some(2));
-    assert_eq!(rt; &part[..2], b" x".as_slice());
-    assert_eq!(rt; feed.take(&mut part), Some(0));
+    assert!(rt; feed.take(&mut []) == Some(0), "nothing");
+    assert!(rt; feed.take(&mut part) == Some(3), "let");
+    assert!(rt; part == *b"let", "let");
+    assert!(rt; feed.take(&mut part) == Some(2), "x");
+    assert!(rt; part == *b" xt", "x");
+    assert!(rt; feed.take(&mut part) == Some(0), "the end");
 }
 
 /// Asserts that a feed gives each byte up to a failure, and then fails.
@@ -167,10 +156,10 @@ fn gives_up_to(rt: &impl Abort, text: &[u8], room: usize) {
     let mut feed = In::new(Narrow::new(text, 1, room));
     let mut part = [0; 3];
     for byte in text.iter().take(room) {
-        assert_eq!(rt; feed.take(&mut part), Some(1));
-        assert_eq!(rt; part[0], *byte, "of {room}");
+        assert!(rt; feed.take(&mut part) == Some(1), "of {room}");
+        assert!(rt; part[0] == *byte, "of {room}");
     }
-    assert_eq!(rt; feed.take(&mut part), None);
+    assert!(rt; feed.take(&mut part) == None, "of {room}");
 }
 
 #[test]

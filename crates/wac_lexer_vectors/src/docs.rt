@@ -28,10 +28,10 @@ const TEXTS: [(&str, &[Row]); 11] = [
 
 /// Asserts the text of a doc, and where it stands.
 fn is_doc(rt: &impl Abort, doc: &(&str, SourceSpan), row: &Row) {
-    let (text, span) = doc;
-    let (expected, offset, len) = row;
-    assert_eq!(rt; *text, *expected);
-    assert_eq!(rt; *span, SourceSpan::new(*offset, *len));
+    let (text, span) = *doc;
+    let (expected, offset, len) = *row;
+    assert!(rt; text == expected, "of {offset}");
+    assert!(rt; span == SourceSpan::new(offset, len), "of {offset}");
 }
 
 /// Asserts that these are the docs before the first item. Running out of memory is no result, and changes nothing.
@@ -41,12 +41,12 @@ fn docs_are(rt: &impl Abort, alloc: Global, source: &str, rows: &[Row]) {
     };
     let first = lexer.peek();
     if let Ok(docs) = lexer.comments(alloc) {
-        assert_eq!(rt; docs.len(), rows.len(), "in {source}");
+        assert!(rt; docs.len() == rows.len(), "of {source}");
         for (doc, row) in docs.iter().zip(rows) {
             is_doc(rt, doc, row);
         }
     }
-    assert_eq!(rt; lexer.next(), first);
+    assert!(rt; lexer.next() == first, "of {source}");
 }
 
 #[test]
@@ -57,6 +57,7 @@ fn docs_of_texts(rt: HostRuntime) -> Result<(), Fail> {
     let Ok(lexer) = Lexer::new("/// a\n/// b\npackage") else {
         panic!(rt; "a source is refused");
     };
-    assert_eq!(rt; lexer.comments(rt.alloc())?.len(), 2);
+    let docs = lexer.comments(rt.alloc())?.len();
+    assert!(rt; docs == 2, "docs");
     Ok(())
 }

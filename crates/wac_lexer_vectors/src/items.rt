@@ -13,13 +13,10 @@ fn items_are(rt: &impl Abort, source: &str, rows: &[Row]) {
         panic!(rt; "{source} is refused");
     };
     for (item, offset, len) in rows {
-        assert_eq!(rt;
-            lexer.next(),
-            Some((*item, SourceSpan::new(*offset, *len))),
-            "in {source}"
-        );
+        let item = Some((*item, SourceSpan::new(*offset, *len)));
+        assert!(rt; lexer.next() == item, "of {source}");
     }
-    assert_eq!(rt; lexer.next(), None, "at the end of {source}");
+    assert!(rt; lexer.next() == None, "of {source}");
 }
 
 /// Texts and their items.
@@ -148,23 +145,29 @@ fn three_items(rt: &impl Abort) -> Lexer<'static> {
     }
 }
 
+/// The first of the three items.
+fn keyword() -> Option<(LexerResult<Token>, SourceSpan)> {
+    Some((Ok(Token::LetKeyword), SourceSpan::new(0, 3)))
+}
+
 /// The span of the second of the three items.
 fn second() -> SourceSpan {
     SourceSpan::new(4, 2)
 }
 
+/// The second of the three items.
+fn fault() -> Option<(LexerResult<Token>, SourceSpan)> {
+    Some((Err(Error::UnexpectedToken), second()))
+}
+
 /// Asserts what a lexer says ahead of its items.
 fn looks_ahead(rt: &impl Abort) {
     let mut lexer = three_items(rt);
-    let first = SourceSpan::new(0, 3);
-    assert_eq!(rt; lexer.span(), SourceSpan::new(0, 0));
-    assert_eq!(rt; lexer.peek(), Some((Ok(Token::LetKeyword), first)));
-    assert_eq!(rt;
-        lexer.peek2(),
-        Some((Err(Error::UnexpectedToken), second()))
-    );
-    assert_eq!(rt; lexer.next(), Some((Ok(Token::LetKeyword), first)));
-    assert_eq!(rt; lexer.span(), first);
+    assert!(rt; lexer.span() == SourceSpan::new(0, 0), "the start");
+    assert!(rt; lexer.peek() == keyword(), "peek");
+    assert!(rt; lexer.peek2() == fault(), "peek2");
+    assert!(rt; lexer.next() == keyword(), "next");
+    assert!(rt; lexer.span() == SourceSpan::new(0, 3), "next");
 }
 
 /// Asserts that a clone goes on by itself.
@@ -172,9 +175,8 @@ fn clones(rt: &impl Abort) -> Result<(), Fail> {
     let mut lexer = three_items(rt);
     lexer.next();
     let mut copy = lexer.clone()?;
-    let item = Some((Err(Error::UnexpectedToken), second()));
-    assert_eq!(rt; copy.next(), item);
-    assert_eq!(rt; lexer.next(), item);
+    assert!(rt; copy.next() == fault(), "the clone");
+    assert!(rt; lexer.next() == fault(), "the cloned lexer");
     Ok(())
 }
 
@@ -183,7 +185,7 @@ fn slices(rt: &impl Abort) {
     let lexer = three_items(rt);
     let span = second();
     assert!(rt; lexer.holds(span));
-    assert_eq!(rt; lexer.source(span), "é");
+    assert!(rt; lexer.source(span) == "é", "the second item");
     for (offset, len) in [(5, 1), (9, 1), (1, usize::MAX)] {
         assert!(rt; !lexer.holds(SourceSpan::new(offset, len)), "at {offset}");
     }
@@ -195,11 +197,12 @@ fn ends(rt: &impl Abort) {
     lexer.next();
     lexer.next();
     let third = SourceSpan::new(6, 3);
-    assert_eq!(rt; lexer.next(), Some((Ok(Token::String), third)));
-    assert_eq!(rt; lexer.span(), SourceSpan::new(5, 1));
-    assert_eq!(rt; lexer.peek2(), None);
-    assert_eq!(rt; lexer.next(), None);
-    assert_eq!(rt; lexer.span(), SourceSpan::new(8, 1));
+    let item = Some((Ok(Token::String), third));
+    assert!(rt; lexer.next() == item, "the last item");
+    assert!(rt; lexer.span() == SourceSpan::new(5, 1), "the last item");
+    assert!(rt; lexer.peek2() == None, "the last item");
+    assert!(rt; lexer.next() == None, "the end");
+    assert!(rt; lexer.span() == SourceSpan::new(8, 1), "the end");
     lexer.stands_between_items();
 }
 
@@ -237,10 +240,8 @@ fn items_of_texts(rt: HostRuntime) -> Result<(), Fail> {
     source.push_str("x")?;
     items_are(&rt, source.as_str(), &[(Ok(Token::Ident), 800, 1)]);
     for (source, fault, offset, len) in REFUSED {
-        assert_eq!(rt;
-            Lexer::new(source).err(),
-            Some((fault, SourceSpan::new(offset, len)))
-        );
+        let fault = Some((fault, SourceSpan::new(offset, len)));
+        assert!(rt; Lexer::new(source).err() == fault, "of {source}");
     }
     assert!(rt; Lexer::new("\t\r\n\u{a0}\u{202f}").is_ok());
     Ok(())

@@ -11,3 +11,5 @@ mod items;
 mod scans;
 #[cfg(test)]
 mod texts;
+#[cfg(test)]
+mod tokens;

@@ -83,14 +83,12 @@ fn is_word(
     let Ok(mut lexer) = Lexer::new(text) else {
         panic!(rt; "{text} is refused");
     };
-    assert_eq!(rt;
-        lexer.next(),
-        Some((Ok(token), SourceSpan::new(0, text.len())))
-    );
-    assert_eq!(rt; lexer.next(), None, "behind {text}");
+    let item = Some((Ok(token), SourceSpan::new(0, text.len())));
+    assert!(rt; lexer.next() == item, "of {text}");
+    assert!(rt; lexer.next() == None, "of {text}");
     let name = format!(in alloc; "{token}")?;
     let expected = format!(in alloc; "`{text}`{kind}")?;
-    assert_eq!(rt; name.as_str(), expected.as_str());
+    assert!(rt; name.as_str() == expected.as_str(), "{name} of {text}");
     Ok(())
 }
 
@@ -132,7 +130,7 @@ const FAULTS: [(Error, &str); 6] = [
 fn tokens_are_named(rt: &impl Abort, alloc: Global) -> Result<(), Fail> {
     for (token, expected) in TOKENS {
         let text = format!(in alloc; "{token}")?;
-        assert_eq!(rt; text.as_str(), expected);
+        assert!(rt; text.as_str() == expected, "{text} of {expected}");
     }
     Ok(())
 }
@@ -141,7 +139,7 @@ fn tokens_are_named(rt: &impl Abort, alloc: Global) -> Result<(), Fail> {
 fn faults_are_told(rt: &impl Abort, alloc: Global) -> Result<(), Fail> {
     for (fault, expected) in FAULTS {
         let text = format!(in alloc; "{fault}")?;
-        assert_eq!(rt; text.as_str(), expected);
+        assert!(rt; text.as_str() == expected, "{text} of {expected}");
     }
     Ok(())
 }
@@ -166,7 +164,7 @@ fn symbols(rt: HostRuntime) -> Result<(), Fail> {
 fn names_and_messages(rt: HostRuntime) -> Result<(), Fail> {
     tokens_are_named(&rt, rt.alloc())?;
     faults_are_told(&rt, rt.alloc())?;
-    assert_eq!(rt; Error::default(), Error::UnexpectedToken);
-    assert_eq!(rt; Error::from(()), Error::UnexpectedToken);
+    assert!(rt; Error::default() == Error::UnexpectedToken, "default");
+    assert!(rt; Error::from(()) == Error::UnexpectedToken, "from");
     Ok(())
 }

@@ -88,7 +88,7 @@ fn a_resolver_composes(rt: HostRuntime) -> Result<(), Fail> {
     match Document::parse(rt.alloc(), COMPOSITION) {
         Ok(document) => {
             let found = composed(&rt, rt.alloc(), AstResolver::new(&document))?;
-            assert_eq!(rt; found.as_str(), LINES);
+            assert!(rt; found.as_str() == LINES, "{found} of {COMPOSITION}");
             Ok(())
         }
         Err(_) => panic!(rt; "the composition has no tree"),
@@ -103,7 +103,7 @@ fn a_document_is_resolved(rt: HostRuntime) -> Result<(), Fail> {
                 document: &document,
             };
             let found = document_lines(&rt, rt.alloc(), page)?;
-            assert_eq!(rt; found.as_str(), LINES);
+            assert!(rt; found.as_str() == LINES, "{found} of {COMPOSITION}");
             Ok(())
         }
         Err(_) => panic!(rt; "the composition has no tree"),

@@ -98,7 +98,7 @@ pub fn hold(rt: &impl Abort, alloc: Global, asked: Asked, rows: &[Row]) -> Resul
     for row in rows {
         let (with, text, wanted) = *row;
         let found = answer_of(Question { alloc, asked, with }, text)?;
-        assert_eq!(rt; found.as_str(), wanted, "of {text}");
+        assert!(rt; found.as_str() == wanted, "{found} of {text}");
     }
     Ok(())
 }

@@ -68,6 +68,6 @@ fn a_large_composition(rt: HostRuntime) -> Result<(), Fail> {
     };
     let found = answer_of(question, &text)?;
     let expected = expected(rt.alloc())?;
-    assert_eq!(rt; found.as_str(), expected.as_str());
+    assert!(rt; found.as_str() == expected.as_str(), "{found} of {COUNT}");
     Ok(())
 }

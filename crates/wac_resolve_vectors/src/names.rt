@@ -27,6 +27,9 @@ fn many_names_of_one_import(rt: HostRuntime) -> Result<(), Fail> {
         with: With::Nothing,
     };
     let found = answer_of(question, &text)?;
-    assert_eq!(rt; found.as_str(), "0 import x: function [x]\n");
+    assert!(rt;
+        found.as_str() == "0 import x: function [x]\n",
+        "{found} of {COUNT}"
+    );
     Ok(())
 }

@@ -24,7 +24,7 @@ fn is_written(
     } else {
         Ok(())
     };
-    assert_eq!(rt; result, wanted, "room {room}");
+    assert!(rt; result == wanted, "of {room}");
     assert!(rt;
         bytes[..written] == LINES.as_bytes()[..written],
         "room {room}"
@@ -49,5 +49,5 @@ fn writes_nothing_of_an_empty_graph(rt: HostRuntime) {
     let graph = CompositionGraph::new(rt.alloc());
     let mut full: [u8; 0] = [];
     let mut out = Out::new(full.as_mut_slice());
-    assert_eq!(rt; write_graph(&graph, &mut out), Ok(()));
+    assert!(rt; write_graph(&graph, &mut out) == Ok(()), "nothing");
 }

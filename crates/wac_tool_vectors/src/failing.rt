@@ -80,7 +80,7 @@ impl Row<'_> {
         let result = self.written(alloc, &mut writer);
         assert!(rt; result.is_ok(), "{width} bytes a call");
         writer.holds(rt, self.text.len());
-        assert_eq!(rt; writer.calls(), calls, "{width} bytes a call");
+        assert!(rt; writer.calls() == calls, "of {width}");
     }
 
     /// Asserts what is written where memory may be refused.
@@ -89,8 +89,8 @@ impl Row<'_> {
         let result = self.written(alloc, &mut writer);
         writer.holds(rt, writer.moved());
         match result {
-            Ok(()) => assert_eq!(rt; writer.moved(), self.text.len()),
-            Err(RunError::Refused { .. }) => assert_eq!(rt; self.text, ""),
+            Ok(()) => assert!(rt; writer.moved() == self.text.len(), "of {}", self.text),
+            Err(RunError::Refused { .. }) => assert!(rt; self.text == "", "what is rejected"),
             Err(error) => is_reported(rt, &error, "out of memory\n", 4),
         }
     }
@@ -168,7 +168,7 @@ fn long_texts_are_cut_at_each_byte(rt: HostRuntime) -> Result<(), Fail> {
 fn reading_fails_at(rt: &impl Abort, alloc: Global, command: Command, room: usize) {
     let mut writer = Narrow::new("", usize::MAX, usize::MAX);
     match ran(alloc, command, Narrow::new(FIRST, 1, room), &mut writer) {
-        Err(RunError::Input) => assert_eq!(rt; writer.calls(), 0),
+        Err(RunError::Input) => assert!(rt; writer.calls() == 0, "of {room}"),
         _ => assert!(rt; false, "at {room}"),
     }
 }

@@ -56,9 +56,9 @@ pub fn writes(
         said,
         status,
     } = performed(alloc, word, input.as_bytes())?;
-    assert_eq!(rt; said.as_slice(), b"".as_slice(), "said of {input}");
-    assert_eq!(rt; written.as_slice(), text.as_bytes(), "written of {input}");
-    assert_eq!(rt; status, 0, "of {input}");
+    assert!(rt; said.as_slice() == b"".as_slice(), "of {input}");
+    assert!(rt; written.as_slice() == text.as_bytes(), "of {input}");
+    assert!(rt; status == 0, "of {input}");
     Ok(())
 }
 
@@ -76,9 +76,9 @@ pub fn says(
         said,
         status,
     } = performed(alloc, word, input)?;
-    assert_eq!(rt; said.as_slice(), line.as_bytes());
-    assert_eq!(rt; written.as_slice(), b"".as_slice(), "at {line}");
-    assert_eq!(rt; status, code, "at {line}");
+    assert!(rt; said.as_slice() == line.as_bytes(), "of {line}");
+    assert!(rt; written.as_slice() == b"".as_slice(), "of {line}");
+    assert!(rt; status == code, "of {line}");
     Ok(())
 }
 
@@ -283,7 +283,8 @@ fn other_words_and_bytes_are_reported(rt: HostRuntime) -> Result<(), Fail> {
 /// Asserts what is said of an error.
 pub fn is_reported(rt: &impl Abort, error: &RunError, line: &str, status: u8) {
     let mut errors = Narrow::new(line, 1, usize::MAX);
-    assert_eq!(rt; report(Some(error), &mut Out::new(&mut errors)), status);
+    let found = report(Some(error), &mut Out::new(&mut errors));
+    assert!(rt; found == status, "of {line}");
     errors.holds(rt, line.len());
 }
 

@@ -85,28 +85,23 @@ fn nested(alloc: Global, depth: usize) -> Result<String, Fail> {
 #[test]
 fn texts_are_formatted(rt: HostRuntime) -> Result<(), Fail> {
     for (source, text) in FORMATTED {
-        assert_eq!(rt;
-            printed(&rt, rt.alloc(), source, None).as_str(),
-            text,
-            "of {source}"
-        );
+        let found = printed(&rt, rt.alloc(), source, None);
+        assert!(rt; found.as_str() == text, "{found} of {source}");
     }
     for (space, text) in SPACED {
-        assert_eq!(rt;
-            printed(&rt, rt.alloc(), ARGUMENTS, Some(space)).as_str(),
-            text
-        );
+        let found = printed(&rt, rt.alloc(), ARGUMENTS, Some(space));
+        assert!(rt; found.as_str() == text, "{found} of {space}");
     }
     match format(rt.alloc(), "package a:b", None) {
         Ok(_) => panic!(rt; "formatted"),
-        Err(error) => assert_eq!(rt;
-            error.to_string(rt.alloc())?.as_str(),
-            "expected `;`, found end of input"
+        Err(error) => assert!(rt;
+            error.to_string(rt.alloc())?.as_str() == "expected `;`, found end of input",
+            "a directive"
         ),
     }
     let source = nested(rt.alloc(), 200)?;
     let text = printed(&rt, rt.alloc(), source.as_str(), None);
-    assert_eq!(rt; text.as_str(), source.as_str());
+    assert!(rt; text.as_str() == source.as_str(), "nested");
     Ok(())
 }
 
@@ -115,7 +110,7 @@ fn settles(rt: &impl Abort, alloc: Global, source: &str, space: &str) {
     let once = printed(rt, alloc, source, Some(space));
     let twice = printed(rt, alloc, once.as_str(), Some(space));
     let again = printed(rt, alloc, twice.as_str(), Some(space));
-    assert_eq!(rt; again.as_str(), twice.as_str(), "of {source}");
+    assert!(rt; again.as_str() == twice.as_str(), "{again} of {source}");
 }
 
 /// The text with CR LF for LF.
@@ -133,11 +128,9 @@ fn with_returns(alloc: Global, text: &str) -> Result<String, Fail> {
 /// Asserts that a text is printed as it is with LF where it has CR LF.
 fn prints_alike(rt: &impl Abort, alloc: Global, source: &str) -> Result<(), Fail> {
     let other = with_returns(alloc, source)?;
-    assert_eq!(rt;
-        printed(rt, alloc, other.as_str(), None).as_str(),
-        printed(rt, alloc, source, None).as_str(),
-        "of {source}"
-    );
+    let one = printed(rt, alloc, source, None);
+    let other = printed(rt, alloc, other.as_str(), None);
+    assert!(rt; other.as_str() == one.as_str(), "{other} of {source}");
     Ok(())
 }
 

@@ -1,4 +1,4 @@
-//! Tests that cross the crates of WAC: vectors of the language, and whole rows of the program.
+//! Tests of `wac_parser`: texts that are documents, rejected or cut, their layout, writers and memory that fail, and mentions of packages.
 #![tactic(auto)]
 
 #[cfg(test)]
@@ -10,12 +10,8 @@ mod memory;
 #[cfg(test)]
 mod packages;
 #[cfg(test)]
-mod places;
-#[cfg(test)]
 mod refusals;
 #[cfg(test)]
 mod rows;
-#[cfg(test)]
-mod tokens;
 #[cfg(test)]
 mod writers;

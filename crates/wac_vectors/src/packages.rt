@@ -81,7 +81,7 @@ fn listed(alloc: Global, text: &str) -> Result<String, Error> {
 fn documents_mention_packages(rt: HostRuntime) -> Result<(), Fail> {
     for (text, wanted) in ROWS {
         match listed(rt.alloc(), text) {
-            Ok(lines) => assert_eq!(rt; lines.as_str(), wanted, "{text}"),
+            Ok(lines) => assert!(rt; lines.as_str() == wanted, "{lines} of {text}"),
             Err(_) => panic!(rt; "rejected: {text}"),
         }
     }
@@ -93,7 +93,10 @@ fn documents_mention_packages(rt: HostRuntime) -> Result<(), Fail> {
 fn packages_are_listed_or_memory_runs_out(rt: HostRuntime) -> Result<(), Fail> {
     let text = "package a:b targets c:d/e@1.0.0; let x = new c:d@1.0.0 { y: new f:g {} };";
     match listed(rt.alloc(), text) {
-        Ok(lines) => assert_eq!(rt; lines.as_str(), "20+3 c:d@1.0.0\n64+3 f:g\n"),
+        Ok(lines) => assert!(rt;
+            lines.as_str() == "20+3 c:d@1.0.0\n64+3 f:g\n",
+            "{lines} of {text}"
+        ),
         Err(error) => assert!(rt; matches!(error, Error::Memory(_))),
     }
     Ok(())

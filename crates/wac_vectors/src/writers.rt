@@ -68,12 +68,9 @@ fn is_cut_at(rt: &impl Abort, alloc: Global, source: &str, text: &str, room: usi
         document: &document,
     };
     let answers = printed_twice(page, source, &mut writer);
-    assert_eq!(rt;
-        answers,
-        (Err(PrintError::Writer), Err(PrintError::Failed)),
-        "at {room}"
-    );
-    assert_eq!(rt; writer.bytes.len(), room);
+    let failures = (Err(PrintError::Writer), Err(PrintError::Failed));
+    assert!(rt; answers == failures, "of {room}");
+    assert!(rt; writer.bytes.len() == room, "of {text}");
     assert!(rt;
         text.as_bytes().starts_with(writer.bytes.as_slice()),
         "at {room}"
@@ -94,7 +91,7 @@ fn errors_are_described(rt: HostRuntime) -> Result<(), Fail> {
         (PrintError::Failed, "the printer has failed"),
     ] {
         let described = format!(in rt.alloc(); "{error}")?;
-        assert_eq!(rt; described.as_str(), text);
+        assert!(rt; described.as_str() == text, "{described} of {text}");
     }
     Ok(())
 }

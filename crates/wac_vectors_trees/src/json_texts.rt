@@ -29,7 +29,7 @@ fn json_of(rt: &impl Abort, alloc: Global, source: &str) -> Result<String, Alloc
 /// Asserts the JSON of a text's tree.
 fn has_json(rt: &impl Abort, alloc: Global, source: &str, json: &str) -> Result<(), Fail> {
     let text = json_of(rt, alloc, source)?;
-    assert_eq!(rt; text.as_str(), json, "of {source}");
+    assert!(rt; text.as_str() == json, "{text} of {source}");
     Ok(())
 }
 
@@ -170,12 +170,11 @@ fn trees_as_json(rt: HostRuntime) -> Result<(), Fail> {
 fn want_of_memory_is_told(rt: HostRuntime) {
     let json = json_of(&rt, rt.alloc(), "package a:b;");
     match json {
-        Ok(text) => {
-            assert_eq!(rt;
-                text.as_str(),
-                r#"{"directive":{"package":{"name":"a:b","span":{"length":3,"offset":8},"string":"a:b","version":null}},"docs":[],"statements":[]}"#
-            );
-        }
+        Ok(text) => assert!(rt;
+            text.as_str()
+                == r#"{"directive":{"package":{"name":"a:b","span":{"length":3,"offset":8},"string":"a:b","version":null}},"docs":[],"statements":[]}"#,
+            "a directive"
+        ),
         Err(AllocError) => {}
     }
 }

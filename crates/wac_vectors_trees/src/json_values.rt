@@ -10,7 +10,7 @@ use wac_parser::{DocComment, Ident, String, ToValue};
 /// Asserts the JSON of a value.
 fn has_json<T: ToValue>(rt: &impl Abort, alloc: Global, value: &T, json: &str) -> Result<(), Fail> {
     let text = value.to_value(alloc)?.to_string(alloc)?;
-    assert_eq!(rt; text.as_str(), json);
+    assert!(rt; text.as_str() == json, "{text} of {json}");
     Ok(())
 }
 

@@ -1,11 +1,7 @@
-//! A part of the tests of `wac_vectors`: what stands in trees, as their JSON shows it, and what reads their paths.
+//! A part of the tests of `wac_vectors`: what stands in trees, as their JSON shows it.
 #![tactic(auto)]
 
 #[cfg(test)]
 mod json_texts;
 #[cfg(test)]
 mod json_values;
-#[cfg(test)]
-mod optional;
-#[cfg(test)]
-mod paths;

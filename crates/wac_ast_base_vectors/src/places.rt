@@ -3,8 +3,8 @@
 use std::alloc::Global;
 use std::process::Abort;
 use std::test::Fail;
-use wac_parser::lexer::{Lexer, SourceSpan, Token};
-use wac_parser::{Error, Lookahead, parse_token};
+use wac_ast_base::{Error, Lookahead, parse_token};
+use wac_lexer::{Lexer, SourceSpan, Token};
 
 /// A lexer of a text.
 fn lexer<'a>(rt: &impl Abort, source: &'a str) -> Lexer<'a> {
@@ -23,11 +23,11 @@ fn has_doc(
     span: SourceSpan,
 ) -> Result<(), Fail> {
     let docs = lexer.comments(alloc)?;
-    assert_eq!(rt; docs.len(), 1);
+    assert!(rt; docs.len() == 1, "of {text}");
     match docs.first() {
         Some((doc, place)) => {
-            assert_eq!(rt; *doc, text);
-            assert_eq!(rt; *place, span);
+            assert!(rt; *doc == text, "of {text}");
+            assert!(rt; *place == span, "of {text}");
         }
         None => panic!(rt; "no doc"),
     }
@@ -38,14 +38,12 @@ fn has_doc(
 fn docs_after_the_last_item(rt: &impl Abort, alloc: Global) -> Result<(), Fail> {
     let mut lexer = lexer(rt, "/// d\na /// x");
     has_doc(rt, alloc, &lexer, "d", SourceSpan::new(0, 5))?;
-    assert_eq!(rt;
-        lexer.next(),
-        Some((Ok(Token::Ident), SourceSpan::new(6, 1)))
-    );
-    assert_eq!(rt; lexer.span(), SourceSpan::new(6, 1));
+    let item = Some((Ok(Token::Ident), SourceSpan::new(6, 1)));
+    assert!(rt; lexer.next() == item, "a");
+    assert!(rt; lexer.span() == SourceSpan::new(6, 1), "a");
     has_doc(rt, alloc, &lexer, "x", SourceSpan::new(8, 5))?;
-    assert_eq!(rt; lexer.next(), None);
-    assert_eq!(rt; lexer.span(), SourceSpan::new(12, 1));
+    assert!(rt; lexer.next() == None, "the end");
+    assert!(rt; lexer.span() == SourceSpan::new(12, 1), "the end");
     assert!(rt; lexer.comments(alloc)?.is_empty());
     Ok(())
 }
@@ -62,7 +60,7 @@ fn told(error: &Error) -> Option<(SourceSpan, Option<Token>)> {
 fn is_refused(rt: &impl Abort, lexer: &mut Lexer, span: SourceSpan, found: Option<Token>) {
     match parse_token(lexer, Token::Semicolon) {
         Ok(_) => panic!(rt; "a semicolon"),
-        Err(error) => assert_eq!(rt; told(&error), Some((span, found))),
+        Err(error) => assert!(rt; told(&error) == Some((span, found)), "of {}", span.offset()),
     }
 }
 
@@ -70,13 +68,13 @@ fn is_refused(rt: &impl Abort, lexer: &mut Lexer, span: SourceSpan, found: Optio
 fn a_refused_token_is_consumed(rt: &impl Abort, alloc: Global) -> Result<(), Fail> {
     let mut lexer = lexer(rt, "x /// d\n yz");
     is_refused(rt, &mut lexer, SourceSpan::new(0, 1), Some(Token::Ident));
-    assert_eq!(rt; lexer.span(), SourceSpan::new(0, 1));
+    assert!(rt; lexer.span() == SourceSpan::new(0, 1), "x");
     has_doc(rt, alloc, &lexer, "d", SourceSpan::new(2, 5))?;
     is_refused(rt, &mut lexer, SourceSpan::new(9, 2), Some(Token::Ident));
     // The item ends the text, so the byte before it is reported.
-    assert_eq!(rt; lexer.span(), SourceSpan::new(8, 1));
+    assert!(rt; lexer.span() == SourceSpan::new(8, 1), "yz");
     is_refused(rt, &mut lexer, SourceSpan::new(10, 1), None);
-    assert_eq!(rt; lexer.span(), SourceSpan::new(10, 1));
+    assert!(rt; lexer.span() == SourceSpan::new(10, 1), "the end");
     Ok(())
 }
 
@@ -111,17 +109,18 @@ fn counted(error: &Error) -> Option<(usize, Option<Token>)> {
 fn attempts_are_counted(rt: &impl Abort) {
     let lexer = lexer(rt, "x");
     let mut lookahead = Lookahead::new(&lexer);
-    assert_eq!(rt; lookahead.attempts(), 0);
+    assert!(rt; lookahead.attempts() == 0, "no token");
     assert!(rt; lookahead.peek(Token::Ident));
-    assert_eq!(rt; lookahead.attempts(), 0);
+    assert!(rt; lookahead.attempts() == 0, "the token that is there");
     for token in &ELEVEN {
         assert!(rt; !lookahead.peek(*token));
     }
     assert!(rt; lookahead.peek(Token::Ident));
-    assert_eq!(rt; lookahead.attempts(), 11);
+    assert!(rt; lookahead.attempts() == 11, "eleven other tokens");
     if lookahead.attempts() > 0 {
         let error = lookahead.error();
-        assert_eq!(rt; counted(&error), Some((11, Some(Token::OpenAngle))));
+        let last = Some(Token::OpenAngle);
+        assert!(rt; counted(&error) == Some((11, last)), "the error");
     }
 }
 

@@ -2,9 +2,8 @@
 
 use std::alloc::Global;
 use std::test::Fail;
-use wac_ast_base::Parse;
-use wac_parser::lexer::{Error as Fault, Lexer, SourceSpan};
-use wac_parser::{PackagePath, ParseResult, SegmentSpans};
+use wac_ast_base::{PackagePath, Parse, ParseResult, SegmentSpans};
+use wac_lexer::{Error as Fault, Lexer, SourceSpan};
 
 /// A lexer at the path that an import of a text has. It stands after six tokens.
 fn at_path(source: &str) -> Result<Lexer<'_>, (Fault, SourceSpan)> {
@@ -32,8 +31,14 @@ fn names_and_segments(rt: HostRuntime) -> Result<(), Fail> {
     let alloc = rt.alloc();
     let source = "package a:b; import x: %c:d/e/%f@1.0.0;";
     let path = imported(alloc, source)?;
-    assert_eq!(rt; (path.name, path.segments), ("%c:d", "e/%f"));
-    assert_eq!(rt; path.package_name_span(), SourceSpan::new(23, 4));
+    assert!(rt;
+        (path.name, path.segments) == ("%c:d", "e/%f"),
+        "of {source}"
+    );
+    assert!(rt;
+        path.package_name_span() == SourceSpan::new(23, 4),
+        "of {source}"
+    );
     assert!(rt; path.version.is_some());
     let mut segments = segments(alloc, source)?;
     assert_eq!(rt; segments.next(), Some(("e", SourceSpan::new(28, 1))));

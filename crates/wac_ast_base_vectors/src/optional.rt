@@ -2,9 +2,9 @@
 
 use std::alloc::Global;
 use std::process::Abort;
-use wac_ast_base::{at, has_more};
-use wac_parser::lexer::{Error as Fault, Lexer, LexerResult, SourceSpan, Token};
-use wac_parser::{Error, ParseResult, Type, parse_optional, parse_optional_payload, parse_token};
+use wac_ast_base::{Error, ParseResult, at, has_more, parse_optional, parse_token};
+use wac_ast_types::{Type, parse_optional_payload};
+use wac_lexer::{Error as Fault, Lexer, LexerResult, SourceSpan, Token};
 
 /// A lexer of a text.
 pub(crate) fn lexer<'a>(rt: &impl Abort, source: &'a str) -> Lexer<'a> {
@@ -76,9 +76,10 @@ const OPTIONAL: [(&str, Given, &[(LexerResult<Token>, usize, usize)]); 5] = [
 /// Asserts which items are left.
 fn leaves(rt: &impl Abort, mut lexer: Lexer, items: &[(LexerResult<Token>, usize, usize)]) {
     for (item, offset, len) in items {
-        assert_eq!(rt; lexer.next(), Some((*item, SourceSpan::new(*offset, *len))));
+        let item = Some((*item, SourceSpan::new(*offset, *len)));
+        assert!(rt; lexer.next() == item, "of {offset}");
     }
-    assert_eq!(rt; lexer.next(), None);
+    assert!(rt; lexer.next() == None, "the end");
 }
 
 /// The span of what a stream holds, and of the stream.
@@ -123,15 +124,13 @@ fn taken(rt: &impl Abort, alloc: Global, source: &str) -> (Option<SourceSpan>, S
 fn optional_parts_and_payloads(rt: HostRuntime) {
     for (source, expected, items) in OPTIONAL {
         let mut lexer = lexer(&rt, source);
-        assert_eq!(rt; given(&mut lexer), expected, "of {source}");
+        assert!(rt; given(&mut lexer) == expected, "of {source}");
         leaves(&rt, lexer, items);
     }
-    assert_eq!(rt;
-        taken(&rt, rt.alloc(), "stream<u8> x"),
-        (Some(SourceSpan::new(7, 2)), SourceSpan::new(0, 10), true)
-    );
-    assert_eq!(rt;
-        taken(&rt, rt.alloc(), "stream x"),
-        (None, SourceSpan::new(0, 6), true)
-    );
+    let held = (Some(SourceSpan::new(7, 2)), SourceSpan::new(0, 10), true);
+    let source = "stream<u8> x";
+    assert!(rt; taken(&rt, rt.alloc(), source) == held, "of {source}");
+    let nothing = (None, SourceSpan::new(0, 6), true);
+    let source = "stream x";
+    assert!(rt; taken(&rt, rt.alloc(), source) == nothing, "of {source}");
 }

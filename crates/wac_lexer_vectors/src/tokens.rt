@@ -1,7 +1,7 @@
 //! The vectors of the lexer: texts, and each token with its offset and length in bytes.
 
 use std::process::Abort;
-use wac_parser::lexer::{Lexer, SourceSpan, Token};
+use wac_lexer::{Lexer, SourceSpan, Token};
 
 /// Asserts that the items of a text are these tokens.
 fn tokens_are(rt: &impl Abort, source: &str, tokens: &[(Token, usize, usize)]) {
@@ -10,9 +10,9 @@ fn tokens_are(rt: &impl Abort, source: &str, tokens: &[(Token, usize, usize)]) {
     };
     for (token, offset, len) in tokens {
         let span = SourceSpan::new(*offset, *len);
-        assert_eq!(rt; lexer.next(), Some((Ok(*token), span)), "in {source}");
+        assert!(rt; lexer.next() == Some((Ok(*token), span)), "of {source}");
     }
-    assert_eq!(rt; lexer.next(), None, "at the end of {source}");
+    assert!(rt; lexer.next() == None, "of {source}");
 }
 
 /// Texts, and their tokens.
@@ -248,13 +248,12 @@ fn paths_are_tokens(rt: &impl Abort) {
     };
     for (path, offset) in &PATHS {
         let span = SourceSpan::new(*offset, path.len());
-        assert_eq!(rt;
-            lexer.next(),
-            Some((Ok(Token::PackagePath), span)),
-            "{path}"
+        assert!(rt;
+            lexer.next() == Some((Ok(Token::PackagePath), span)),
+            "of {path}"
         );
     }
-    assert_eq!(rt; lexer.next(), None);
+    assert!(rt; lexer.next() == None, "the end");
 }
 
 #[test]
