@@ -11,16 +11,14 @@ ghost use Rattle.wac_ast.specs.Document.{ErrorOf, Parses};
 ghost use Rattle.wac_grammar.specs.Slices.{DocumentSlices};
 ghost use Rattle.wac_grammar.specs.Reading.{read};
 ghost use Rattle.wac_grammar.specs.Grammar as symbols;
-ghost use Rattle.wac_ast.specs.Statements.{directive_of, statement_of, document_of};
+ghost use Rattle.wac_ast.specs.Statements.{statement_of, document_of};
 
 use crate::statement::Statement;
 use std::alloc::Global;
 use std::fmt;
-use wac_ast_base::{
-    DocComment, Error, PackageName, PackagePath, Parse, ParseResult, has_more, parse_after,
-    parse_docs, push, take_token,
-};
-use wac_lexer::{Lexer, Token, items_stand_in_order};
+use wac_ast_base::{DocComment, Error, Parse, ParseResult, has_more, parse_docs, push};
+use wac_ast_statements::PackageDirective;
+use wac_lexer::{Lexer, items_stand_in_order};
 
 /// A document.
 #[derive(Drop)]
@@ -101,37 +99,4 @@ fn parse_statements<'a>(alloc: Global, lexer: &mut Lexer<'a>) -> ParseResult<Vec
         push(&mut statements, Parse::parse(alloc, lexer)?)?;
     }
     Ok(statements)
-}
-
-/// The beginning of a document.
-#[derive(Drop)]
-pub struct PackageDirective<'a> {
-    /// The package that the document makes.
-    pub package: PackageName<'a>,
-    /// The world that its composition is made for, where it is given.
-    pub targets: Option<PackagePath<'a>>,
-}
-
-impl fmt::Debug for PackageDirective<'_> {
-    fn fmt<W: fmt::Write>(&self, f: &mut fmt::Formatter<W>) -> fmt::Result {
-        let PackageDirective { package, targets } = self;
-        write!(
-            f,
-            "PackageDirective {{ package: {package:?}, targets: {targets:?} }}"
-        )
-    }
-}
-
-impl<'a> Parse<'a> for PackageDirective<'a> {
-    ghost symbol = { symbols.directive };
-
-    ghost tree = { directive_of };
-
-    fn parse(alloc: Global, lexer: &mut Lexer<'a>) -> ParseResult<Self> {
-        take_token(lexer, Token::PackageKeyword)?;
-        let package = Parse::parse(alloc, lexer)?;
-        let targets = parse_after::<PackagePath, Error>(alloc, lexer, Token::TargetsKeyword)?;
-        take_token(lexer, Token::Semicolon)?;
-        Ok(PackageDirective { package, targets })
-    }
 }

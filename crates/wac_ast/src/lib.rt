@@ -2,15 +2,11 @@
 #![tactic(auto)]
 
 mod document;
-mod export;
 mod lent;
-mod let_statement;
 mod statement;
 mod type_statement;
 
-pub use document::{Document, PackageDirective};
-pub use export::{ExportOptions, ExportStatement};
-pub use let_statement::LetStatement;
+pub use document::Document;
 pub use statement::Statement;
 pub use type_statement::TypeStatement;
 pub use wac_ast_base::{
@@ -21,15 +17,16 @@ pub use wac_ast_expressions::{
     AccessExpr, Expr, InstantiationArgument, InstantiationArgumentName, NamedAccessExpr,
     NamedInstantiationArgument, NestedExpr, NewExpr, PostfixExpr, PrimaryExpr,
 };
+pub use wac_ast_statements::{ExportOptions, ExportStatement, LetStatement, PackageDirective};
 pub use wac_ast_types::{
     Constructor, EnumCase, EnumDecl, Field, Flag, FlagsDecl, FuncType, FuncTypeRef, ItemTypeDecl,
     Method, NamedType, RecordDecl, ResourceDecl, ResourceMethod, ResultList, Type, TypeAlias,
     TypeAliasKind, TypeDecl, VariantCase, VariantDecl, parse_optional_payload,
 };
+pub use wac_ast_uses::{Use, UseItem, UsePath, WorldInclude, WorldIncludeItem, WorldRef};
 pub use wac_ast_worlds::{
     ExternType, ImportStatement, ImportType, InlineInterface, InterfaceDecl, InterfaceExport,
-    InterfaceItem, NamedWorldItem, Use, UseItem, UsePath, WorldDecl, WorldExport, WorldImport,
-    WorldInclude, WorldIncludeItem, WorldItem, WorldItemPath, WorldRef,
+    InterfaceItem, NamedWorldItem, WorldDecl, WorldExport, WorldImport, WorldItem, WorldItemPath,
 };
 pub use wac_grammar::{
     arguments_are_refused_at_first_faults, refusals_lie_at_first_faults, tokens_have_texts,

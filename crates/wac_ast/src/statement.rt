@@ -4,12 +4,11 @@ ghost use Rattle.std.specs.Prelude.{◌<◌};
 ghost use Rattle.wac_grammar.specs.Grammar as symbols;
 ghost use Rattle.wac_ast.specs.Statements.{statement_of};
 
-use crate::export::ExportStatement;
-use crate::let_statement::LetStatement;
 use crate::type_statement::TypeStatement;
 use std::alloc::Global;
 use std::fmt;
 use wac_ast_base::{Lookahead, Parse, ParseResult, Peek};
+use wac_ast_statements::{ExportStatement, LetStatement};
 use wac_ast_worlds::ImportStatement;
 use wac_lexer::Lexer;
 

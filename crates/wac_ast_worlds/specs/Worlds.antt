@@ -3,15 +3,8 @@ use Rattle.std.specs.Prelude.{ℕ, List, map}
 use Rattle.std.specs.Option.{option_map}
 use Rattle.wac_lexer.specs.Span.{Span}
 use Rattle.wac_grammar.specs.Tree as tree
-use Rattle.wac_grammar.specs.Tree.{UsePath, WorldRef}
-use Rattle.wac_ast_worlds.specs.declared.interface.UseItem.{UseItem as CodeUseItem}
-use Rattle.wac_ast_worlds.specs.declared.interface.UsePath.{UsePath as CodeUsePath}
-use Rattle.wac_ast_worlds.specs.declared.interface.UsePath.TheVariants as uses
-use Rattle.wac_ast_worlds.specs.declared.interface.Use.{Use as CodeUse}
-use Rattle.wac_ast_worlds.specs.declared.world.WorldRef.{WorldRef as CodeWorldRef}
-use Rattle.wac_ast_worlds.specs.declared.world.WorldRef.TheVariants as worlds
-use Rattle.wac_ast_worlds.specs.declared.world.WorldIncludeItem.{WorldIncludeItem as CodeWorldIncludeItem}
 use Rattle.wac_ast_base.specs.Names.{doc_comment_of, ident_of, package_path_of, extern_name_of}
+use Rattle.wac_ast_uses.specs.Uses.{use_of, world_include_of}
 use Rattle.wac_ast_types.specs.Declarations.{func_type_of, func_type_ref_of, item_type_decl_of}
 use Rattle.wac_ast_worlds.specs.declared.import.ImportStatement.{ImportStatement}
 use Rattle.wac_ast_worlds.specs.declared.import.ImportType.{ImportType}
@@ -27,28 +20,10 @@ use Rattle.wac_ast_worlds.specs.declared.world.NamedWorldItem.{NamedWorldItem}
 use Rattle.wac_ast_worlds.specs.declared.world.WorldDecl.{WorldDecl}
 use Rattle.wac_ast_worlds.specs.declared.world.WorldExport.{WorldExport}
 use Rattle.wac_ast_worlds.specs.declared.world.WorldImport.{WorldImport}
-use Rattle.wac_ast_worlds.specs.declared.world.WorldInclude.{WorldInclude}
 use Rattle.wac_ast_worlds.specs.declared.world.WorldItem.{WorldItem}
 use Rattle.wac_ast_worlds.specs.declared.world.WorldItem.TheVariants as world_items
 use Rattle.wac_ast_worlds.specs.declared.world.WorldItemPath.{WorldItemPath}
 use Rattle.wac_ast_worlds.specs.declared.world.WorldItemPath.TheVariants as world_item_paths
-
-abbrev pub use_item_of : CodeUseItem → tree.UseItem
-use_item_of x = record { id = ident_of x.id; as_id = option_map ident_of x.as_id }
-
-abbrev pub use_path_of : CodeUsePath → tree.UsePath
-use_path_of (uses.Package x) = UsePath.path (package_path_of x)
-use_path_of (uses.Ident x) = UsePath.ident (ident_of x)
-
-abbrev pub use_of : CodeUse → tree.Use
-use_of x = record { docs = map doc_comment_of x.docs.items; path = use_path_of x.path; items = map use_item_of x.items.items }
-
-abbrev pub world_ref_of : CodeWorldRef → tree.WorldRef
-world_ref_of (worlds.Package x) = WorldRef.path (package_path_of x)
-world_ref_of (worlds.Ident x) = WorldRef.ident (ident_of x)
-
-abbrev pub world_include_item_of : CodeWorldIncludeItem → tree.WorldIncludeItem
-world_include_item_of x = record { from = ident_of x.from; to = ident_of x.to }
 
 -- ---- interfaces
 
@@ -86,9 +61,6 @@ world_import_of x = record { docs = map doc_comment_of x.docs.items; path = worl
 
 abbrev pub world_export_of : WorldExport → tree.WorldExport
 world_export_of x = record { docs = map doc_comment_of x.docs.items; path = world_item_path_of x.path }
-
-abbrev pub world_include_of : WorldInclude → tree.WorldInclude
-world_include_of x = record { docs = map doc_comment_of x.docs.items; world = world_ref_of x.world; items = map world_include_item_of x.with.items }
 
 abbrev pub world_item_of : WorldItem → tree.WorldItem
 world_item_of (world_items.Use x) = tree.WorldItem.use_statement (use_of x)

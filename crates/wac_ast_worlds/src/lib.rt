@@ -6,10 +6,7 @@ mod interface;
 mod world;
 
 pub use import::{ImportStatement, ImportType};
-pub use interface::{
-    InlineInterface, InterfaceDecl, InterfaceExport, InterfaceItem, Use, UseItem, UsePath,
-};
+pub use interface::{InlineInterface, InterfaceDecl, InterfaceExport, InterfaceItem};
 pub use world::{
-    ExternType, NamedWorldItem, WorldDecl, WorldExport, WorldImport, WorldInclude,
-    WorldIncludeItem, WorldItem, WorldItemPath, WorldRef,
+    ExternType, NamedWorldItem, WorldDecl, WorldExport, WorldImport, WorldItem, WorldItemPath,
 };

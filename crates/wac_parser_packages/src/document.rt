@@ -1,6 +1,7 @@
 //! The packages that a document mentions.
 ghost use Rattle.std.specs.Prelude.{◌≡◌, IfOk, map};
-ghost use Rattle.wac_ast.specs.Statements.{directive_of, document_of, statement_of};
+ghost use Rattle.wac_ast.specs.Statements.{document_of, statement_of};
+ghost use Rattle.wac_ast_statements.specs.Statements.{directive_of};
 ghost use Rattle.wac_resolution_rules.specs.Mentions.{mentions};
 ghost use Rattle.wac_parser_packages.specs.FirstMentions.{first_mentions};
 ghost use Rattle.wac_parser_packages.specs.Noted.{mentioned_by, mentions_in};

@@ -1,12 +1,14 @@
 //! What the items of interfaces mention.
 ghost use Rattle.std.specs.Prelude.{OnOk, map};
-ghost use Rattle.wac_ast_worlds.specs.Worlds.{interface_item_of, use_path_of};
+ghost use Rattle.wac_ast_worlds.specs.Worlds.{interface_item_of};
+ghost use Rattle.wac_ast_uses.specs.Uses.{use_path_of};
 ghost use Rattle.wac_resolution_rules.specs.Mentions.{interface_item_mentions, interface_mentions, use_path_mentions};
 ghost use Rattle.wac_parser_packages.specs.Noted.{Notes};
 
 use crate::mentions::Mentions;
 use std::alloc::AllocError;
-use wac_ast_worlds::{InterfaceItem, UsePath};
+use wac_ast_uses::UsePath;
+use wac_ast_worlds::InterfaceItem;
 
 /// Notes what the path of a `use` mentions.
 pub(crate) fn use_path(mentions: &mut Mentions<'_>, path: &UsePath<'_>) -> Result<(), AllocError>

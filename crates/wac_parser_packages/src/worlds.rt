@@ -1,13 +1,15 @@
 //! What the items of worlds mention.
 ghost use Rattle.std.specs.Prelude.{◌≡◌, OnOk, map, flat_map};
-ghost use Rattle.wac_ast_worlds.specs.Worlds.{extern_type_of, world_decl_of, world_item_of, world_item_path_of, world_ref_of};
+ghost use Rattle.wac_ast_worlds.specs.Worlds.{extern_type_of, world_decl_of, world_item_of, world_item_path_of};
+ghost use Rattle.wac_ast_uses.specs.Uses.{world_ref_of};
 ghost use Rattle.wac_resolution_rules.specs.Mentions.{extern_mentions, extern_type_mentions, world_item_mentions, world_ref_mentions};
 ghost use Rattle.wac_parser_packages.specs.Noted.{Notes};
 
 use crate::interfaces::{interface_items, use_path};
 use crate::mentions::Mentions;
 use std::alloc::AllocError;
-use wac_ast_worlds::{ExternType, WorldDecl, WorldItem, WorldItemPath, WorldRef};
+use wac_ast_uses::WorldRef;
+use wac_ast_worlds::{ExternType, WorldDecl, WorldItem, WorldItemPath};
 
 /// Notes what the type of a named item mentions.
 fn extern_type(mentions: &mut Mentions<'_>, ty: &ExternType<'_>) -> Result<(), AllocError>

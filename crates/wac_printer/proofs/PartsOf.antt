@@ -7,8 +7,8 @@ use Rattle.std.specs.Str.Lines.{lines}
 use Rattle.wac_lexer.specs.Item.{Doc}
 use Rattle.wac_ast_base.specs.Names.{doc_comment_of}
 use Rattle.wac_ast_base.specs.declared.names.DocComment.{DocComment}
-use Rattle.wac_ast_worlds.specs.Worlds.{world_include_item_of}
-use Rattle.wac_ast_worlds.specs.declared.world.WorldIncludeItem.{WorldIncludeItem}
+use Rattle.wac_ast_uses.specs.Uses.{world_include_item_of}
+use Rattle.wac_ast_uses.specs.declared.includes.WorldIncludeItem.{WorldIncludeItem}
 use Rattle.wac_layout.specs.WorldLayout.{with_layout, world_include_item_layout}
 use Rattle.wac_layout.specs.Bare.{doc_line, doc_lines, bare_world_include_item}
 use Rattle.wac_printer.proofs.Printing.{flat_map-of, flat_map-append}

@@ -3,7 +3,7 @@ ghost use Rattle.std.specs.Prelude.{map, List, [], ◌∷◌, ◌++◌, codes};
 ghost use Rattle.std.specs.List.{All};
 ghost use Rattle.std.specs.Option.{option_map};
 ghost use Rattle.wac_ast_base.specs.Names.{ident_of};
-ghost use Rattle.wac_ast_worlds.specs.Worlds.{use_item_of, use_of, use_path_of};
+ghost use Rattle.wac_ast_uses.specs.Uses.{use_item_of, use_of, use_path_of};
 ghost use Rattle.wac_ast_worlds.specs.Worlds.{inline_interface_of, interface_decl_of, interface_export_of, interface_item_of};
 ghost use Rattle.wac_layout.specs.Printed.{token};
 ghost use Rattle.wac_printer.specs.Printed.{Prints};

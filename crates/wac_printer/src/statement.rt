@@ -2,7 +2,7 @@
 ghost use Rattle.std.specs.List.{All};
 ghost use Rattle.std.specs.Prelude.{◌≡◌, map};
 ghost use Rattle.std.specs.Option.{option_map};
-ghost use Rattle.wac_ast.specs.Statements.{directive_of, export_options_of, export_statement_of, let_statement_of};
+ghost use Rattle.wac_ast_statements.specs.Statements.{directive_of, export_options_of, export_statement_of, let_statement_of};
 ghost use Rattle.wac_ast_base.specs.Names.{extern_name_of, package_path_of};
 ghost use Rattle.wac_ast.specs.Statements.{document_of, statement_of};
 ghost use Rattle.wac_ast_worlds.specs.Worlds.{import_statement_of, import_type_of};

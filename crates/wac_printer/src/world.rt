@@ -1,8 +1,9 @@
 //! Printing worlds.
 ghost use Rattle.std.specs.Prelude.{◌≡◌, List, ◌∷◌, codes, map};
 ghost use Rattle.std.specs.List.{All};
-ghost use Rattle.wac_ast_worlds.specs.Worlds.{extern_type_of, named_world_item_of, world_decl_of, world_export_of, world_import_of, world_include_of, world_item_of, world_item_path_of};
-ghost use Rattle.wac_ast_worlds.specs.Worlds.{world_include_item_of, world_ref_of};
+ghost use Rattle.wac_ast_worlds.specs.Worlds.{extern_type_of, named_world_item_of, world_decl_of, world_export_of, world_import_of, world_item_of, world_item_path_of};
+ghost use Rattle.wac_ast_uses.specs.Uses.{world_include_of};
+ghost use Rattle.wac_ast_uses.specs.Uses.{world_include_item_of, world_ref_of};
 ghost use Rattle.wac_layout.specs.Printed.{token};
 ghost use Rattle.wac_printer.specs.Printed.{Prints};
 ghost use Rattle.wac_printer.specs.Sliced.{ExternTypeSliced, NamedWorldItemSliced, WorldDeclSliced, WorldExportSliced, WorldImportSliced, WorldIncludeItemSliced, WorldIncludeSliced, WorldItemPathSliced, WorldItemSliced, WorldRefSliced};

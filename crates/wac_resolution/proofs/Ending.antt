@@ -10,7 +10,8 @@ use Rattle.wac_grammar.specs.Tree.{Document, PackagePath, Statement}
 use Rattle.wac_grammar.specs.Version.{version_text}
 use Rattle.wac_ast.specs.declared.document.Document.{Document as CodeDocument}
 use Rattle.wac_ast.specs.declared.statement.Statement.{Statement as CodeStatement}
-use Rattle.wac_ast.specs.Statements.{directive_of, document_of, statement_of}
+use Rattle.wac_ast.specs.Statements.{document_of, statement_of}
+use Rattle.wac_ast_statements.specs.Statements.{directive_of}
 use Rattle.wac_ast_base.specs.Names.{package_path_of}
 use Rattle.wac_graph.specs.declared.package_key.PackageKey.{PackageKey}
 use Rattle.wac_graph.specs.Graph.{Parts}

@@ -9,8 +9,8 @@ use Rattle.wac_lexer.specs.Span.{Span}
 use Rattle.wac_grammar.specs.Tree.{WorldInclude, WorldIncludeItem}
 use Rattle.wac_types.specs.Names.{by_name}
 use Rattle.wac_types.specs.Scope.{Named, look_up, without_first}
-use Rattle.wac_ast_worlds.specs.Worlds.{world_include_item_of}
-use Rattle.wac_ast_worlds.specs.declared.world.WorldIncludeItem.{WorldIncludeItem as CodeWorldIncludeItem}
+use Rattle.wac_ast_uses.specs.Uses.{world_include_item_of}
+use Rattle.wac_ast_uses.specs.declared.includes.WorldIncludeItem.{WorldIncludeItem as CodeWorldIncludeItem}
 use Rattle.wac_resolution_errors.specs.Error.{memory, missing_world_include}
 use Rattle.wac_resolution_errors.specs.Told.{told}
 use Rattle.wac_resolution_errors.specs.declared.error.Error.{Error as CodeError}

@@ -8,8 +8,8 @@ use Rattle.wac_lexer.proofs.Texts.{bytes_eq_same}
 use Rattle.wac_grammar.specs.Tree.{WorldIncludeItem}
 use Rattle.wac_types.specs.Scope.{Named, look_up, IsFresh, with_named}
 use Rattle.wac_types.specs.Steps.{Steps, Fails}
-use Rattle.wac_ast_worlds.specs.Worlds.{world_include_item_of}
-use Rattle.wac_ast_worlds.specs.declared.world.WorldIncludeItem.{WorldIncludeItem as CodeWorldIncludeItem}
+use Rattle.wac_ast_uses.specs.Uses.{world_include_item_of}
+use Rattle.wac_ast_uses.specs.declared.includes.WorldIncludeItem.{WorldIncludeItem as CodeWorldIncludeItem}
 use Rattle.wac_resolution_rules.specs.Includes.{Entries, HasEntry}
 use Rattle.wac_resolution_rules.specs.BrokenWorlds.{entry_named}
 use Rattle.wac_resolution_rules.proofs.StepLaws.{steps_on_map, fails_at_map}

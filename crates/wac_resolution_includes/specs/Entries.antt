@@ -5,8 +5,8 @@ use Rattle.std.specs.List.{AllByRecursion}
 use Rattle.wac_grammar.specs.Tree.{WorldIncludeItem}
 use Rattle.wac_types.specs.Scope.{Named}
 use Rattle.wac_types.specs.Steps.{Steps}
-use Rattle.wac_ast_worlds.specs.Worlds.{world_include_item_of}
-use Rattle.wac_ast_worlds.specs.declared.world.WorldIncludeItem.{WorldIncludeItem as CodeWorldIncludeItem}
+use Rattle.wac_ast_uses.specs.Uses.{world_include_item_of}
+use Rattle.wac_ast_uses.specs.declared.includes.WorldIncludeItem.{WorldIncludeItem as CodeWorldIncludeItem}
 use Rattle.wac_resolution_rules.specs.Includes.{Entries, HasEntry}
 use Rattle.wac_resolution_rules.specs.BrokenWorlds.{entry_named}
 

@@ -12,7 +12,7 @@ use Rattle.wac_types.specs.Table.{Names, ItemsNamed}
 use Rattle.wac_graph.specs.Graph.{Parts}
 use Rattle.wac_graph.specs.Means.{means, entry_means}
 use Rattle.wac_graph.specs.Origin.{Naming}
-use Rattle.wac_ast_worlds.specs.Worlds.{world_include_of}
+use Rattle.wac_ast_uses.specs.Uses.{world_include_of}
 use Rattle.wac_resolution_rules.specs.Bodies.{Body}
 use Rattle.wac_resolution_rules.specs.Includes.{Entries, Taking, Takes, Included}
 use Rattle.wac_resolution_includes.specs.declared.inclusion.Inclusion.{Inclusion}

@@ -4,7 +4,7 @@ ghost use Rattle.wac_grammar.specs.Tree.{WorldIncludeItem as Item};
 ghost use Rattle.wac_types.specs.Names.{by_name};
 ghost use Rattle.wac_types.specs.Scope.{with_named, IsFresh};
 ghost use Rattle.wac_types.specs.Steps.{Fails};
-ghost use Rattle.wac_ast_worlds.specs.Worlds.{world_include_item_of};
+ghost use Rattle.wac_ast_uses.specs.Uses.{world_include_item_of};
 ghost use Rattle.wac_resolution_errors.specs.Told.{told};
 ghost use Rattle.wac_resolution_rules.specs.Includes.{HasEntry};
 ghost use Rattle.wac_resolution_rules.specs.BrokenWorlds.{IsSecondEntry};
@@ -12,7 +12,7 @@ ghost use Rattle.wac_resolution_includes.specs.Entries.{entries_of, AreAll};
 
 use indexmap::IndexMap;
 use std::alloc::Global;
-use wac_ast_worlds::WorldIncludeItem;
+use wac_ast_uses::WorldIncludeItem;
 use wac_graph::names::{find, push};
 use wac_resolution_errors::Error;
 

@@ -15,7 +15,7 @@ ghost use Rattle.wac_resolution_includes.specs.Taking.{tree_of, clause_of, takin
 use crate::renamed::name_taken;
 use indexmap::IndexMap;
 use std::alloc::Global;
-use wac_ast_worlds::{WorldInclude, WorldIncludeItem};
+use wac_ast_uses::{WorldInclude, WorldIncludeItem};
 use wac_graph::names::find;
 use wac_graph::{ExternKind, ItemKind, Type, WorldId};
 use wac_lexer::SourceSpan;

@@ -8,7 +8,7 @@ ghost use Rattle.wac_resolution_includes.specs.Taking.{unless_there};
 
 use indexmap::IndexMap;
 use std::alloc::{AllocError, Global};
-use wac_ast_worlds::WorldIncludeItem;
+use wac_ast_uses::WorldIncludeItem;
 use wac_graph::ItemKind;
 use wac_graph::names::{find, push};
 

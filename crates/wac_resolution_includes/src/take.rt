@@ -21,7 +21,7 @@ ghost use Rattle.wac_resolution_includes.specs.Taking.{tree_of, clause_of, takin
 use crate::inclusion::Inclusion;
 use crate::renamed::{add_missing, add_renamed, has_colon};
 use indexmap::IndexMap;
-use wac_ast_worlds::WorldIncludeItem;
+use wac_ast_uses::WorldIncludeItem;
 use wac_graph::{CompositionGraph, ExternKind, ItemKind, WorldId};
 use wac_resolution_errors::Error;
 

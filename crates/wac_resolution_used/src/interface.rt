@@ -1,6 +1,6 @@
 //! What a path or an identifier names, as an interface.
 ghost use Rattle.std.specs.Prelude.{◌≡◌, IfOk, IfErr};
-ghost use Rattle.wac_ast_worlds.specs.Worlds.{use_path_of};
+ghost use Rattle.wac_ast_uses.specs.Uses.{use_path_of};
 ghost use Rattle.wac_graph.specs.Graph.{Parts};
 ghost use Rattle.wac_graph.specs.Means.{means};
 ghost use Rattle.wac_graph.specs.Origin.{Naming};
@@ -9,7 +9,7 @@ ghost use Rattle.wac_resolution_rules.specs.BrokenBodies.{IsNoInterface};
 ghost use Rattle.wac_resolution_rules.specs.Spans.{use_path_name, use_path_span};
 
 use std::alloc::Global;
-use wac_ast_worlds::UsePath;
+use wac_ast_uses::UsePath;
 use wac_graph::{InterfaceId, ItemKind, Type};
 use wac_lexer::SourceSpan;
 use wac_resolution_errors::Error;

@@ -4,7 +4,7 @@ ghost use Rattle.wac_types.specs.declared.kind.ItemKind.TheVariants as kinds;
 ghost use Rattle.wac_types.specs.Scope.{IsFresh};
 ghost use Rattle.wac_types.specs.Table.{Names as NamesEntry};
 ghost use Rattle.wac_ast_base.specs.Names.{ident_of};
-ghost use Rattle.wac_ast_worlds.specs.Worlds.{use_item_of};
+ghost use Rattle.wac_ast_uses.specs.Uses.{use_item_of};
 ghost use Rattle.wac_graph.specs.Graph.{Parts};
 ghost use Rattle.wac_graph.specs.Means.{means};
 ghost use Rattle.wac_graph.specs.Origin.{Naming};
@@ -17,7 +17,7 @@ ghost use Rattle.wac_resolution_used.specs.Used.{IsThere, IsUsed};
 
 use std::alloc::{AllocError, Global};
 use wac_ast_base::Ident;
-use wac_ast_worlds::UseItem;
+use wac_ast_uses::UseItem;
 use wac_graph::{ExternKind, InterfaceId, ItemKind, Type};
 use wac_resolution_bodies::Body;
 use wac_resolution_errors::Error;

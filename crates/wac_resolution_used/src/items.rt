@@ -4,7 +4,7 @@ ghost use Rattle.wac_grammar.specs.Tree.{UseItem as ItemTree};
 ghost use Rattle.wac_types.specs.declared.kind.ItemKind.TheVariants as kinds;
 ghost use Rattle.wac_types.specs.Steps.{Fails};
 ghost use Rattle.wac_types.specs.Table.{Names as NamesEntry};
-ghost use Rattle.wac_ast_worlds.specs.Worlds.{use_item_of};
+ghost use Rattle.wac_ast_uses.specs.Uses.{use_item_of};
 ghost use Rattle.wac_graph.specs.Means.{means};
 ghost use Rattle.wac_graph.specs.Origin.{Naming};
 ghost use Rattle.wac_resolution_errors.specs.Told.{told};
@@ -15,7 +15,7 @@ ghost use Rattle.wac_resolution_bodies.specs.Bodies.{body_of, IsBody};
 ghost use Rattle.wac_resolution_used.specs.Used.{UseGoes, UsesGo};
 
 use crate::item::{check_use, renamed, used_as, used_kind};
-use wac_ast_worlds::UseItem;
+use wac_ast_uses::UseItem;
 use wac_graph::{ExternKind, InterfaceId, UsedType};
 use wac_resolution_bodies::Body;
 use wac_resolution_errors::Error;

@@ -1,7 +1,7 @@
 //! The types of an interface that is named.
 ghost use Rattle.std.specs.Prelude.{IfOk, IfErr, OnOk};
 ghost use Rattle.wac_types.specs.Table.{ItemsNamed};
-ghost use Rattle.wac_ast_worlds.specs.Worlds.{use_of, use_path_of};
+ghost use Rattle.wac_ast_uses.specs.Uses.{use_of, use_path_of};
 ghost use Rattle.wac_graph.specs.Origin.{Naming};
 ghost use Rattle.wac_resolution_errors.specs.Told.{told};
 ghost use Rattle.wac_resolution_rules.specs.BrokenBodies.{UseBroken};
@@ -15,7 +15,7 @@ ghost use Rattle.wac_resolution_used.specs.Statements.{IsInterface, IsNoneNamed,
 
 use crate::interface::{interface_of, path_name, path_span};
 use crate::items::use_items;
-use wac_ast_worlds::{Use, UsePath};
+use wac_ast_uses::{Use, UsePath};
 use wac_graph::{ExternKind, InterfaceId, ItemKind};
 use wac_resolution_bodies::Body;
 use wac_resolution_errors::Error;

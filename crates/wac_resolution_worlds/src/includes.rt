@@ -3,7 +3,8 @@ ghost use Rattle.std.specs.Prelude.{◌≡◌, ◌∷◌, [], List, Some, IfErr,
 ghost use Rattle.wac_grammar.specs.Tree.{WorldInclude as IncludeTree};
 ghost use Rattle.wac_types.specs.Steps.{Fails};
 ghost use Rattle.wac_types.specs.Table.{ItemsNamed};
-ghost use Rattle.wac_ast_worlds.specs.Worlds.{world_include_of, world_item_of};
+ghost use Rattle.wac_ast_worlds.specs.Worlds.{world_item_of};
+ghost use Rattle.wac_ast_uses.specs.Uses.{world_include_of};
 ghost use Rattle.wac_graph.specs.Origin.{Naming};
 ghost use Rattle.wac_resolution_errors.specs.Told.{told};
 ghost use Rattle.wac_resolution_rules.specs.BrokenWorlds.{IncludeBroken};
@@ -17,7 +18,8 @@ ghost use Rattle.wac_resolution_bodies.specs.Lists.{lists_of};
 ghost use Rattle.wac_resolution_bodies.specs.Bodies.{body_of};
 ghost use Rattle.wac_resolution_worlds.specs.WorldItems.{AreNamed, IncludeGoes, IncludesGo};
 
-use wac_ast_worlds::{WorldInclude, WorldItem};
+use wac_ast_uses::WorldInclude;
+use wac_ast_worlds::WorldItem;
 use wac_graph::ItemKind;
 use wac_resolution_bodies::Body;
 use wac_resolution_errors::Error;

@@ -1,6 +1,7 @@
 use Rattle.std.proofs.Common.{◌≡◌, ◌∙◌, List, ap, map, sym, subst}
 use Rattle.std.proofs.lemmas.Result.{IfOk-weaker}
-use Rattle.wac_ast.specs.Statements.{directive_of, document_of, statement_of}
+use Rattle.wac_ast.specs.Statements.{document_of, statement_of}
+use Rattle.wac_ast_statements.specs.Statements.{directive_of}
 use Rattle.wac_ast.specs.declared.statement.Statement.{Statement}
 use Rattle.wac_parser_packages.specs.FirstMentions.{first_mentions}
 use Rattle.wac_parser_packages.specs.Noted.{mentioned_by, mentions_in}

@@ -1,8 +1,8 @@
 use Rattle.std.proofs.Common.{sym, subst}
 use Rattle.std.specs.Prelude.{IfOk, IfErr}
 use Rattle.wac_ast_base.specs.Names.{ident_of}
-use Rattle.wac_ast_worlds.specs.Worlds.{use_path_of}
-use Rattle.wac_ast_worlds.specs.declared.interface.UsePath.{UsePath}
+use Rattle.wac_ast_uses.specs.Uses.{use_path_of}
+use Rattle.wac_ast_uses.specs.declared.uses.UsePath.{UsePath}
 use Rattle.wac_graph.specs.Origin.{Naming}
 use Rattle.wac_resolution_errors.specs.Told.{told}
 use Rattle.wac_resolution_rules.specs.BrokenBodies.{UsePathBroken}

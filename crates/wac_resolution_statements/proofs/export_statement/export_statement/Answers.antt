@@ -1,6 +1,6 @@
 use Rattle.std.proofs.Common.{refl}
 use Rattle.std.proofs.lemmas.Result.{err_from_is_err_and}
-use Rattle.wac_ast.specs.Statements.{export_statement_of}
+use Rattle.wac_ast_statements.specs.Statements.{export_statement_of}
 use Rattle.wac_ast_expressions.specs.Expressions.{expr_of}
 use Rattle.wac_resolution_errors.specs.Told.{told}
 use Rattle.wac_resolution_nodes.specs.Root.{numbers_of}

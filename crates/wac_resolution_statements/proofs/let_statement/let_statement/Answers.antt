@@ -1,5 +1,5 @@
 use Rattle.std.proofs.lemmas.Result.{err_from_is_err_and}
-use Rattle.wac_ast.specs.Statements.{let_statement_of}
+use Rattle.wac_ast_statements.specs.Statements.{let_statement_of}
 use Rattle.wac_resolution_errors.specs.Told.{told}
 use Rattle.wac_resolution_rules.specs.Given.{rules_by}
 use Rattle.wac_resolution_paths.specs.Setting.{packages_in}

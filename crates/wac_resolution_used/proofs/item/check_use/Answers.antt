@@ -1,7 +1,7 @@
 use Rattle.std.proofs.Common.{sym, rules}
 use Rattle.std.specs.Prelude.{option_map}
 use Rattle.wac_ast_base.specs.Names.{ident_of}
-use Rattle.wac_ast_worlds.specs.Worlds.{use_item_of}
+use Rattle.wac_ast_uses.specs.Uses.{use_item_of}
 use Rattle.wac_graph.specs.Means.{means}
 use Rattle.wac_resolution_bodies.specs.Lists.{lists_of}
 use Rattle.wac_resolution_bodies.specs.Bodies.{body_of}

@@ -1,5 +1,5 @@
 use Rattle.std.proofs.Common.{inr, rules}
-use Rattle.wac_ast_worlds.specs.Worlds.{use_item_of}
+use Rattle.wac_ast_uses.specs.Uses.{use_item_of}
 use Rattle.wac_resolution_used.proofs.Uses.{kind_there, nothing_there}
 use Rattle.wac_resolution_used.proofs.item.exported.Goals as goal
 

@@ -1,7 +1,7 @@
 use Rattle.std.proofs.Common.{inr, refl}
 use Rattle.std.proofs.lemmas.Result.{err_from_is_err_and}
 use Rattle.wac_ast_base.specs.Names.{ident_of}
-use Rattle.wac_ast_worlds.specs.Worlds.{use_item_of}
+use Rattle.wac_ast_uses.specs.Uses.{use_item_of}
 use Rattle.wac_graph.specs.Means.{means}
 use Rattle.wac_resolution_errors.specs.Told.{told}
 use Rattle.wac_resolution_bodies.specs.Lists.{lists_of}

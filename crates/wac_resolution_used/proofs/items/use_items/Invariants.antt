@@ -1,5 +1,5 @@
 use Rattle.std.proofs.Common.{map, take}
-use Rattle.wac_ast_worlds.specs.Worlds.{use_item_of}
+use Rattle.wac_ast_uses.specs.Uses.{use_item_of}
 use Rattle.wac_resolution_bodies.specs.Lists.{lists_of}
 use Rattle.wac_resolution_used.specs.Used.{UsesGo}
 use Rattle.wac_resolution_used.proofs.items.use_items.Given as goal

@@ -2,8 +2,8 @@ use Rattle.std.proofs.Common.{ℕ, List, map, subst}
 use Rattle.std.proofs.lemmas.Result.{err_from_is_err_and}
 use Rattle.wac_types.specs.declared.kind.ItemKind.TheVariants as kinds
 use Rattle.wac_types.specs.Steps.{Fails}
-use Rattle.wac_ast_worlds.specs.declared.interface.UseItem.{UseItem}
-use Rattle.wac_ast_worlds.specs.Worlds.{use_item_of, use_of, use_path_of}
+use Rattle.wac_ast_uses.specs.declared.uses.UseItem.{UseItem}
+use Rattle.wac_ast_uses.specs.Uses.{use_item_of, use_of, use_path_of}
 use Rattle.wac_graph.specs.Means.{means}
 use Rattle.wac_graph.specs.Origin.{Naming}
 use Rattle.wac_resolution_errors.specs.Told.{told}

@@ -2,8 +2,9 @@ use Rattle.std.proofs.Common.{ap, subst}
 use Rattle.std.specs.Prelude.{IfErr, OnOk}
 use Rattle.wac_types.specs.declared.kind.ExternKind.TheVariants as sides
 use Rattle.wac_ast_types.specs.Declarations.{item_type_decl_of}
-use Rattle.wac_ast_worlds.specs.Worlds.{use_of, interface_export_of, interface_item_of}
-use Rattle.wac_ast_worlds.specs.declared.interface.Use.{Use}
+use Rattle.wac_ast_worlds.specs.Worlds.{interface_export_of, interface_item_of}
+use Rattle.wac_ast_uses.specs.Uses.{use_of}
+use Rattle.wac_ast_uses.specs.declared.uses.Use.{Use}
 use Rattle.wac_graph.specs.Origin.{Naming}
 use Rattle.wac_resolution_errors.specs.Told.{told}
 use Rattle.wac_resolution_rules.specs.BrokenBodies.{UseBroken}

@@ -4,7 +4,7 @@ use Rattle.std.proofs.Common.{[], ◌∙◌, ◌∷◌}
 use Rattle.wac_layout.specs.ExpressionLayout.{expr_layout}
 use Rattle.wac_layout.specs.Printed.{line}
 use Rattle.wac_layout.specs.Bare.{bare_export_options, bare_expr}
-use Rattle.wac_ast.specs.Statements.{export_options_of}
+use Rattle.wac_ast_statements.specs.Statements.{export_options_of}
 use Rattle.wac_ast_expressions.specs.Expressions.{expr_of}
 use Rattle.wac_printer.proofs.printer.DocumentPrinter.export_statement.Goals as goal
 

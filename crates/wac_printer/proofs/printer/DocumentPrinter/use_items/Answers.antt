@@ -1,5 +1,5 @@
 use Rattle.std.proofs.Common.{◌∙◌}
-use Rattle.wac_ast_worlds.specs.Worlds.{use_item_of}
+use Rattle.wac_ast_uses.specs.Uses.{use_item_of}
 use Rattle.wac_printer.specs.Sliced.{UseItemSliced}
 use Rattle.wac_printer.proofs.Progress.{All-at}
 use Rattle.wac_printer.proofs.Sequence.{after, first, joined_bare, last, printed_as, printed_at}

@@ -1,5 +1,5 @@
 use Rattle.std.proofs.Common.{◌∙◌}
-use Rattle.wac_ast_worlds.specs.Worlds.{world_include_item_of}
+use Rattle.wac_ast_uses.specs.Uses.{world_include_item_of}
 use Rattle.wac_printer.specs.Sliced.{WorldIncludeItemSliced}
 use Rattle.wac_printer.proofs.Progress.{All-at}
 use Rattle.wac_printer.proofs.Sequence.{after, first, last, printed_as, rows_bare, there}

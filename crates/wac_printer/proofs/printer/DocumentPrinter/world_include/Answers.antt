@@ -3,7 +3,7 @@ use Rattle.wac_printer.proofs.Sequence.{after, first, last, of_docs, printed_at,
 use Rattle.wac_layout.specs.WorldLayout.{with_layout, world_ref_layout}
 use Rattle.wac_layout.specs.Bare.{bare_world_include_item, bare_world_ref}
 use Rattle.wac_layout.specs.Printed.{line}
-use Rattle.wac_ast_worlds.specs.Worlds.{world_include_item_of, world_ref_of}
+use Rattle.wac_ast_uses.specs.Uses.{world_include_item_of, world_ref_of}
 use Rattle.wac_printer.proofs.printer.DocumentPrinter.world_include.Goals as goal
 
 pub returns : goal.returns
