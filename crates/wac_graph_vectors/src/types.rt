@@ -124,7 +124,7 @@ fn fault(
 fn names_the_first_fault(rt: HostRuntime) -> Result<(), Fail> {
     for (rows, places, definitions, wrong) in FAULTS {
         let text = fault(rt.alloc(), rows, places, definitions)?;
-        assert!(rt; text.as_str() == wrong, "{text} of {wrong}");
+        assert_eq!(rt; text.as_str(), wrong);
     }
     let text = format!(in rt.alloc(); "{}", PackageError::Memory(AllocError))?;
     assert!(rt; text.as_str() == "out of memory", "memory");

@@ -8,11 +8,12 @@ use wac_ast::{InlineInterface, InterfaceDecl, InterfaceExport, InterfaceItem};
 
 impl ToValue for InterfaceDecl<'_> {
     fn to_value(&self, alloc: Global) -> Result<Value, AllocError> {
+        let items = self.items.to_value(alloc)?;
         Ok(
             Object::new(alloc)
                 .with("docs", &self.docs)?
                 .with("id", &self.id)?
-                .with("items", &self.items)?
+                .with_value("items", items)?
                 .into_value(),
         )
     }

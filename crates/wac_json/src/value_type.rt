@@ -92,10 +92,13 @@ fn result_value(
     requires err { IsFloatless err }
     ensures { IfOk result IsFloatless }
 {
-    let contents = Object::new(alloc)
-        .with_value("ok", ok)?
-        .with_value("err", err)?
-        .with("span", span)?
-        .into_value();
-    variant(alloc, "result", contents)
+    let placed = placed_value(alloc, ok, span)?;
+    variant(alloc, "result", placed.with_value("err", err)?.into_value())
+}
+
+/// The members of a result but its second type.
+fn placed_value(alloc: Global, ok: Value, span: &SourceSpan) -> Result<Object, AllocError>
+    requires { IsFloatless ok }
+{
+    Object::new(alloc).with_value("ok", ok)?.with("span", span)
 }
