@@ -1,4 +1,4 @@
-//! Each public call, where memory is there.
+//! Resolving in one call, where memory is there. The other documents of the tests are resolved by `AstResolver`.
 
 use crate::documents::{With, handed};
 use crate::readings::lines;
@@ -10,7 +10,7 @@ use std::test::Fail;
 use wac_ast::Document;
 use wac_graph::{Package, PackageKey};
 use wac_printer::Page;
-use wac_resolution::{AstResolver, Resolution, ResolutionResult, resolve};
+use wac_resolution::{Resolution, ResolutionResult, resolve};
 
 const COMPOSITION: &str =
     "package a:b; import log: func(); let i = new c:d { log, ... }; export i.run;";
@@ -23,27 +23,6 @@ const ALL_PASS: Fixed = Fixed {
     names: None,
 };
 
-/// The graph that a resolution hands on, as lines.
-fn taken_lines<'d, 'a: 'd>(
-    alloc: Global,
-    resolution: Resolution<'d, 'a>,
-) -> Result<String, AllocError> {
-    lines(alloc, &resolution.into_graph())
-}
-
-/// What a resolver returns.
-fn composed<'d, 'a: 'd>(
-    rt: &impl Abort,
-    alloc: Global,
-    resolver: AstResolver<'d, 'a>,
-) -> Result<String, AllocError> {
-    let packages = handed(alloc, With::Packages)?;
-    match resolver.resolve(alloc, packages, &ALL_PASS) {
-        Ok(resolution) => taken_lines(alloc, resolution),
-        Err(error) => panic!(rt; "the composition is rejected: {error:?}"),
-    }
-}
-
 /// What resolving in one call returns. It is a function of its own, and the document comes first, for the prover's sake.
 fn resolved<'d, 'a: 'd>(
     page: Page<'d, 'a>,
@@ -51,6 +30,14 @@ fn resolved<'d, 'a: 'd>(
     packages: IndexMap<PackageKey, Package>,
 ) -> ResolutionResult<Resolution<'d, 'a>> {
     resolve(alloc, page.document, packages, &ALL_PASS)
+}
+
+/// The graph that a resolution hands on, as lines.
+fn taken_lines<'d, 'a: 'd>(
+    alloc: Global,
+    resolution: Resolution<'d, 'a>,
+) -> Result<String, AllocError> {
+    lines(alloc, &resolution.into_graph())
 }
 
 /// The same lines, for those who resolve.
@@ -80,18 +67,6 @@ fn document_lines(
     match resolved_lines(page, alloc, packages) {
         Ok(text) => Ok(text),
         Err(error) => panic!(rt; "the composition is rejected: {error:?}"),
-    }
-}
-
-#[test]
-fn a_resolver_composes(rt: HostRuntime) -> Result<(), Fail> {
-    match Document::parse(rt.alloc(), COMPOSITION) {
-        Ok(document) => {
-            let found = composed(&rt, rt.alloc(), AstResolver::new(&document))?;
-            assert!(rt; found.as_str() == LINES, "{found} of {COMPOSITION}");
-            Ok(())
-        }
-        Err(_) => panic!(rt; "the composition has no tree"),
     }
 }
 

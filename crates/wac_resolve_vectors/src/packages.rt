@@ -18,10 +18,11 @@ const DEFINITIONS: Items = &[
     ("w", ItemKind::Ty(Type::World(WorldId(2)))),
 ];
 
-fn items(alloc: Global, rows: Items) -> Result<IndexMap<String, ItemKind>, AllocError> {
+/// Values by their names. It is proved for any values, once, which takes a tenth of a proof for kinds of items.
+fn named<V: Copy>(alloc: Global, rows: &[(&str, V)]) -> Result<IndexMap<String, V>, AllocError> {
     let mut all = IndexMap::new(alloc);
-    for (name, kind) in rows {
-        all.insert(String::from_str(alloc, name)?, *kind)?;
+    for (name, value) in rows {
+        all.insert(String::from_str(alloc, name)?, *value)?;
     }
     Ok(all)
 }
@@ -47,17 +48,17 @@ fn interface(alloc: Global, id: Option<&str>, export: Items) -> Result<Interface
     Ok(Interface {
         id,
         uses: IndexMap::new(alloc),
-        exports: items(alloc, export)?,
+        exports: named(alloc, export)?,
     })
 }
 
 fn world(alloc: Global) -> Result<World, AllocError> {
-    let imports = items(alloc, IMPORTS)?;
+    let imports = named(alloc, IMPORTS)?;
     Ok(World {
         id: None,
         uses: IndexMap::new(alloc),
         imports,
-        exports: items(alloc, &[("run", FUNC)])?,
+        exports: named(alloc, &[("run", FUNC)])?,
     })
 }
 
@@ -73,7 +74,7 @@ fn table(alloc: Global) -> Result<Types, AllocError> {
 
 /// A package that imports the function `log` and the instance `x:y/z`, which exports `f`, and exports the function `run`.
 fn package(alloc: Global) -> Result<Package, PackageError> {
-    let definitions = items(alloc, DEFINITIONS)?;
+    let definitions = named(alloc, DEFINITIONS)?;
     Package::new(table(alloc)?, WorldId(2), InterfaceId(3), definitions)
 }
 
