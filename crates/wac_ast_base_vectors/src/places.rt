@@ -1,18 +1,11 @@
 //! Where a lexer stands: docs and spans after the last item, after the end and after a rejected token; and what a lookahead counts.
 
+use crate::optional::lexer;
 use std::alloc::Global;
 use std::process::Abort;
 use std::test::Fail;
 use wac_ast_base::{Error, Lookahead, parse_token};
 use wac_lexer::{Lexer, SourceSpan, Token};
-
-/// A lexer of a text.
-fn lexer<'a>(rt: &impl Abort, source: &'a str) -> Lexer<'a> {
-    match Lexer::new(source) {
-        Ok(lexer) => lexer,
-        Err(_) => panic!(rt; "{source} is refused"),
-    }
-}
 
 /// Asserts that one doc stands after the lexer's place.
 fn has_doc(
