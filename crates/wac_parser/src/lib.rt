@@ -13,11 +13,9 @@
 //! Spans are in bytes. Each call that takes memory takes the allocator first; `Error::Memory` comes only where a request was refused.
 #![tactic(auto)]
 
-mod formatting;
 pub mod lexer;
 pub mod resolution;
 
-pub use formatting::format;
 pub use wac_ast::{
     AccessExpr, Constructor, DocComment, Document, EnumCase, EnumDecl, Error, ExportOptions,
     ExportStatement, Expr, ExternName, ExternType, Field, Flag, FlagsDecl, FuncType, FuncTypeRef,
@@ -32,6 +30,7 @@ pub use wac_ast::{
     parse_token, tokens_have_texts, trees_stand_in_their_text, what_is_read_derives,
 };
 pub use wac_json::ToValue;
+pub use wac_parser_formatting::format;
 pub use wac_parser_packages::packages;
 pub use wac_printer::{
     DocumentPrinter, Page, PrintError, PrintResult, equal_bare_trees_print_equally,

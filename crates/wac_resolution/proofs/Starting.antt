@@ -9,7 +9,7 @@ use Rattle.wac_graph.specs.Origin.{Naming}
 use Rattle.wac_resolution_rules.specs.Composition.{start}
 use Rattle.wac_resolution_rules.specs.Find.{names_of}
 use Rattle.wac_resolution_rules.specs.Places.{placed_start}
-use Rattle.wac_resolution_types.specs.Bindings.{Bindings, places_of}
+use Rattle.wac_resolution_state.specs.Bindings.{Bindings, places_of}
 use Rattle.wac_resolution_nodes.specs.declared.root.Root.{Root}
 use Rattle.wac_resolution_nodes.specs.Nodes.{composition_of}
 use Rattle.wac_resolution_nodes.specs.Root.{numbers_of, composed, Agrees}

@@ -12,8 +12,8 @@ use wac_resolution_errors::Error;
 use wac_resolution_externs::Externs;
 use wac_resolution_nodes::Root;
 use wac_resolution_paths::Setting;
+use wac_resolution_state::State;
 use wac_resolution_statements::compose;
-use wac_resolution_types::State;
 
 /// Carries lent statements out, one after another.
 pub(crate) fn carry_out<'a, R: Rules>(

@@ -16,7 +16,7 @@ use wac_resolution_errors::Error;
 use wac_resolution_externs::Externs;
 use wac_resolution_nodes::Root;
 use wac_resolution_paths::Setting;
-use wac_resolution_types::State;
+use wac_resolution_state::State;
 
 /// The graph of statements, which the target allows if there is one.
 pub(crate) fn composed<'a, R: Rules>(

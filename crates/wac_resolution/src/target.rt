@@ -12,8 +12,8 @@ use wac_resolution_errors::Error;
 use wac_resolution_externs::Externs;
 use wac_resolution_nodes::Root;
 use wac_resolution_paths::Setting;
+use wac_resolution_state::State;
 use wac_resolution_target::check_target;
-use wac_resolution_types::State;
 
 /// Rejects a composition that is not what its target asks for, if it has one.
 pub(crate) fn check_targets<R: Rules>(

@@ -23,7 +23,7 @@ use Rattle.wac_graph.specs.Origin.{Naming}
 use Rattle.wac_resolution_rules.specs.Expressions.{At, Giving, at, alias_at, given_too, spread_step}
 use Rattle.wac_resolution_rules.specs.Find.{names_of}
 use Rattle.wac_resolution_rules.specs.Kinds.{instance_of}
-use Rattle.wac_resolution_types.proofs.NamedParts.{read_found}
+use Rattle.wac_resolution_state.proofs.Bound.{read_found}
 use Rattle.wac_resolution_nodes.specs.Accesses.{AliasGoes}
 use Rattle.wac_resolution_nodes.specs.Growth.{GrowsNodes}
 use Rattle.wac_resolution_nodes.specs.Instances.{IsInstance}

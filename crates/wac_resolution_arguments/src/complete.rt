@@ -18,7 +18,7 @@ use wac_ast_base::PackageName;
 use wac_ast_expressions::InstantiationArgument;
 use wac_graph::{ItemKind, NodeId, WorldId};
 use wac_resolution_errors::Error;
-use wac_resolution_types::State;
+use wac_resolution_state::State;
 
 /// Whether an argument is `...`.
 fn is_fill(argument: &InstantiationArgument<'_>) -> bool

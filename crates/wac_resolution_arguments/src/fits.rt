@@ -16,7 +16,7 @@ ghost use Rattle.wac_resolution_arguments.specs.Spreads.{GivenThere};
 use indexmap::IndexMap;
 use wac_graph::names::find;
 use wac_graph::{ItemKind, NodeId, Reason, Rules, WorldId};
-use wac_resolution_types::State;
+use wac_resolution_state::State;
 
 /// What a world imports under a name.
 fn import_kind(state: &State, world: WorldId, name: &str) -> Option<ItemKind>

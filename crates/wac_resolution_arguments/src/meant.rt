@@ -20,7 +20,7 @@ use wac_ast_expressions::InstantiationArgumentName;
 use wac_graph::names::find;
 use wac_graph::{ItemKind, NodeId, WorldId};
 use wac_resolution_nodes::{find_name, instance_id, own_name};
-use wac_resolution_types::State;
+use wac_resolution_state::State;
 
 /// The import that an argument's name means: an identifier by find, a string as it stands.
 #[tactic(auto, using(wac_resolution_nodes::proofs::Found::found_meant))]

@@ -14,7 +14,7 @@ use wac_ast_expressions::InstantiationArgument;
 use wac_graph::{ItemKind, WorldId};
 use wac_lexer::SourceSpan;
 use wac_resolution_nodes::Root;
-use wac_resolution_types::State;
+use wac_resolution_state::State;
 
 /// Where a name stands, if it is this one.
 fn if_named(text: &str, span: SourceSpan, name: &str) -> Option<SourceSpan>

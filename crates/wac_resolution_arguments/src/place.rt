@@ -16,7 +16,7 @@ use wac_ast_expressions::InstantiationArgument;
 use wac_graph::{ItemKind, WorldId};
 use wac_lexer::SourceSpan;
 use wac_resolution_nodes::Root;
-use wac_resolution_types::State;
+use wac_resolution_state::State;
 
 /// The name for which the node of an identifier is given, and where it stands.
 fn inferred_place<'x>(

@@ -12,7 +12,7 @@ use std::alloc::{AllocError, Global};
 use wac_graph::names::{find, push};
 use wac_graph::{ItemKind, NodeId, WorldId};
 use wac_resolution_nodes::alias;
-use wac_resolution_types::State;
+use wac_resolution_state::State;
 
 /// The names, copied.
 fn copied_names(alloc: Global, all: &IndexMap<String, ItemKind>) -> Result<Vec<String>, AllocError>

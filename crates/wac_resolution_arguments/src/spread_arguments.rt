@@ -24,7 +24,7 @@ use wac_graph::{ItemKind, NodeId, WorldId};
 use wac_lexer::SourceSpan;
 use wac_resolution_errors::{Error, InstanceOperation};
 use wac_resolution_nodes::{Root, instance};
-use wac_resolution_types::State;
+use wac_resolution_state::State;
 
 /// Rejects a spread that gave nothing: so many arguments were given before it.
 fn check_more(
@@ -43,7 +43,7 @@ fn check_more(
 }
 
 /// Gives exports of an instance for the imports for which nothing is given yet. It gives something.
-#[tactic(auto, using(wac_resolution_types::proofs::Scopes::memory_told))]
+#[tactic(auto, using(wac_resolution_state::proofs::Scopes::memory_told))]
 fn spread(
     state: &mut State,
     root: &Root<'_>,

@@ -24,10 +24,10 @@ use Rattle.wac_resolution_rules.specs.Bodies.{Body, with_count, with_type, with_
 use Rattle.wac_resolution_rules.specs.BrokenBodies.{Owner, NameBroken, MethodBroken, ItemBroken}
 use Rattle.wac_resolution_rules.specs.Places.{at_ident}
 use Rattle.wac_resolution_rules.specs.Spans.{item_identifier}
-use Rattle.wac_resolution_types.specs.Bindings.{values_of, places_of}
+use Rattle.wac_resolution_state.specs.Bindings.{values_of, places_of}
 use Rattle.wac_resolution_types.specs.Declarations.{ValueAdded, KindAdded}
-use Rattle.wac_resolution_types.specs.Growth.{Grows, AddsResource}
-use Rattle.wac_resolution_types.proofs.Grown.{grows_on}
+use Rattle.wac_resolution_state.specs.Growth.{Grows, AddsResource}
+use Rattle.wac_resolution_state.proofs.Grown.{grows_on}
 use Rattle.wac_resolution_bodies.specs.Lists.{Lists, kinds_of, with_kind, with_bound}
 use Rattle.wac_resolution_bodies.specs.Bodies.{body_in, IsBody, BodyGoes, MethodsGo, ResourceGoes, IsDeclared, ItemGoes}
 use Rattle.wac_resolution_bodies.proofs.Lists.{body_still, body_kept, body_with_bound, means_with_bound, extern_fresh, bound_fresh, places_append}

@@ -4,8 +4,8 @@ use Rattle.std.specs.Prelude.{option_map}
 use Rattle.std.specs.Str.{bytes_eq}
 use Rattle.wac_lexer.specs.Span.{Span}
 use Rattle.wac_types.specs.Scope.{Named, look_up, IsFresh, with_named}
-use Rattle.wac_resolution_types.specs.Bindings.{Bindings, places_of, values_of}
-use Rattle.wac_resolution_types.proofs.NamedParts.{read_found}
+use Rattle.wac_resolution_state.specs.Bindings.{Bindings, places_of, values_of}
+use Rattle.wac_resolution_state.proofs.Bound.{read_found}
 
 -- ---- options
 

@@ -8,8 +8,8 @@ use Rattle.wac_graph.specs.Graph.{Parts}
 use Rattle.wac_graph.specs.Origin.{Naming}
 use Rattle.wac_resolution_rules.specs.Bodies.{Body}
 use Rattle.wac_resolution_rules.proofs.StepLaws.{steps_on_map, fails_at_map}
-use Rattle.wac_resolution_types.specs.Bindings.{places_of}
-use Rattle.wac_resolution_types.proofs.Grown.{grows_self, grows_on}
+use Rattle.wac_resolution_state.specs.Bindings.{places_of}
+use Rattle.wac_resolution_state.proofs.Grown.{grows_self, grows_on}
 use Rattle.wac_resolution_bodies.specs.Lists.{Lists}
 use Rattle.wac_resolution_bodies.specs.Bodies.{body_in, IsBody, BodyGoes}
 

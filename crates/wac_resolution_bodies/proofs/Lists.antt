@@ -19,8 +19,8 @@ use Rattle.wac_graph.specs.Graph.{Parts}
 use Rattle.wac_graph.specs.Means.{means, entry_means, declared_count}
 use Rattle.wac_graph.specs.Origin.{Naming}
 use Rattle.wac_resolution_rules.specs.Bodies.{Body, externs, with_extern, with_count, with_type}
-use Rattle.wac_resolution_types.specs.Bindings.{Bindings, values_of, places_of}
-use Rattle.wac_resolution_types.specs.Named.{scope_of}
+use Rattle.wac_resolution_state.specs.Bindings.{Bindings, values_of, places_of}
+use Rattle.wac_resolution_state.specs.Named.{scope_of}
 use Rattle.wac_resolution_bodies.specs.Lists.{Lists, kinds_of, with_kind, with_bound}
 use Rattle.wac_resolution_bodies.specs.Bodies.{body_in, UsesNamed, Covers, IsBody}
 use Rattle.wac_resolution_rules.proofs.Scopes.{fresh_before, fresh_after}

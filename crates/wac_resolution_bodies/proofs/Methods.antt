@@ -24,10 +24,10 @@ use Rattle.wac_resolution_rules.specs.Types.{IsFuncWith, IsConstructor, first_pa
 use Rattle.wac_resolution_rules.specs.Bodies.{Body, externs, with_extern, with_count, constructor_name, method_name, static_name, name_of_method, HasMethod}
 use Rattle.wac_resolution_rules.specs.BrokenTypes.{ParamsBroken, FuncBroken}
 use Rattle.wac_resolution_rules.specs.BrokenBodies.{IsSecondMethod, MethodBroken, method_kind}
-use Rattle.wac_resolution_types.specs.Bindings.{values_of, places_of}
+use Rattle.wac_resolution_state.specs.Bindings.{values_of, places_of}
 use Rattle.wac_resolution_types.specs.Funcs.{FuncAdded}
-use Rattle.wac_resolution_types.specs.Growth.{Grows, GrowsPlainly}
-use Rattle.wac_resolution_types.specs.Named.{scope_of}
+use Rattle.wac_resolution_state.specs.Growth.{Grows, GrowsPlainly}
+use Rattle.wac_resolution_state.specs.Named.{scope_of}
 use Rattle.wac_resolution_bodies.specs.Lists.{Lists, kinds_of, with_kind}
 use Rattle.wac_resolution_bodies.specs.Bodies.{body_in, IsBody, BodyGoes, IsTaken, MethodGoes, MethodsGo}
 use Rattle.wac_resolution_bodies.proofs.Lists.{body_still, body_kept, body_with_kind, means_with_kind, extern_fresh}

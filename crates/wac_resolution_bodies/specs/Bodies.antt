@@ -23,9 +23,9 @@ use Rattle.wac_resolution_errors.specs.Error.{Error, memory}
 use Rattle.wac_resolution_rules.specs.Bodies.{Body, externs, HasMethod, with_resource, HasItem}
 use Rattle.wac_resolution_rules.specs.Places.{at_ident}
 use Rattle.wac_resolution_rules.specs.Spans.{item_identifier}
-use Rattle.wac_resolution_types.specs.Bindings.{values_of, places_of}
-use Rattle.wac_resolution_types.specs.Growth.{Grows}
-use Rattle.wac_resolution_types.specs.Named.{scope_of}
+use Rattle.wac_resolution_state.specs.Bindings.{values_of, places_of}
+use Rattle.wac_resolution_state.specs.Growth.{Grows}
+use Rattle.wac_resolution_state.specs.Named.{scope_of}
 use Rattle.wac_resolution_bodies.specs.declared.body.Body.{Body as CodeBody}
 use Rattle.wac_resolution_bodies.specs.Lists.{Lists, lists_of, kinds_of, with_bound}
 

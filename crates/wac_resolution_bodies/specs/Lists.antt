@@ -7,7 +7,7 @@ use Rattle.wac_types.specs.declared.kind.ItemKind.{ItemKind}
 use Rattle.wac_types.specs.declared.entry.UsedType.{UsedType}
 use Rattle.wac_types.specs.Names.{by_name}
 use Rattle.wac_types.specs.Scope.{Named, with_named}
-use Rattle.wac_resolution_types.specs.Bindings.{Bindings}
+use Rattle.wac_resolution_state.specs.Bindings.{Bindings}
 use Rattle.wac_resolution_bodies.specs.declared.body.Body.{Body}
 
 -- what the identifiers of a body stand for, and where each was bound; the types that it uses; its imports and exports

@@ -1,7 +1,7 @@
 //! Bodies of interfaces and worlds.
 ghost use Rattle.std.specs.Prelude.{◌≡◌, [], OnOk};
 ghost use Rattle.wac_types.specs.Scope.{look_up, IsFresh};
-ghost use Rattle.wac_resolution_types.specs.Bindings.{values_of};
+ghost use Rattle.wac_resolution_state.specs.Bindings.{values_of};
 ghost use Rattle.wac_resolution_bodies.specs.Lists.{lists_of, kinds_of, with_kind, with_bound, with_used};
 
 use indexmap::IndexMap;
@@ -9,7 +9,7 @@ use std::alloc::{AllocError, Global};
 use wac_ast_base::Ident;
 use wac_graph::names::{find, push};
 use wac_graph::{ExternKind, ItemKind, UsedType};
-use wac_resolution_types::Names;
+use wac_resolution_state::Names;
 
 /// The body of an interface or a world so far.
 #[derive(Drop)]

@@ -5,7 +5,7 @@ ghost use Rattle.wac_ast_types.specs.Declarations.{variant_decl_of, record_decl_
 ghost use Rattle.wac_graph.specs.Origin.{Naming};
 ghost use Rattle.wac_resolution_errors.specs.Told.{told};
 ghost use Rattle.wac_resolution_rules.specs.BrokenBodies.{ItemBroken};
-ghost use Rattle.wac_resolution_types.specs.Bindings.{places_of};
+ghost use Rattle.wac_resolution_state.specs.Bindings.{places_of};
 ghost use Rattle.wac_resolution_bodies.specs.Lists.{lists_of};
 ghost use Rattle.wac_resolution_bodies.specs.Bodies.{body_of, IsBody, ItemGoes};
 ghost use Rattle.wac_resolution_bodies.specs.Owners.{owner_of};
@@ -17,7 +17,8 @@ use crate::resource::resource;
 use wac_ast_types::{EnumDecl, FlagsDecl, ItemTypeDecl, RecordDecl, TypeAlias, VariantDecl};
 use wac_graph::{ExternKind, ItemKind, Type};
 use wac_resolution_errors::Error;
-use wac_resolution_types::{Place, State};
+use wac_resolution_state::State;
+use wac_resolution_types::Place;
 
 /// Takes a variant.
 fn variant<'a>(
@@ -31,7 +32,7 @@ fn variant<'a>(
     ensures ok { OnOk result (ItemGoes side state.old.graph state.new.graph (lists_of body.old) (lists_of body.new) (ItemTree.variant (variant_decl_of decl.now))) }
     ensures err { IfErr result (λ e. (naming : Naming) → ItemBroken naming (owner_of owner.now) side (places_of body.old.names) (body_of naming state.old.graph body.old) (ItemTree.variant (variant_decl_of decl.now)) (told e)) }
 {
-    let value = state.variant(&body.names, decl)?;
+    let value = wac_resolution_types::variant(state, &body.names, decl)?;
     let kind = ItemKind::Ty(Type::Value(value));
     declare(state.alloc, body, side, owner, &decl.id, kind)?;
     Ok(())
@@ -49,7 +50,7 @@ fn record<'a>(
     ensures ok { OnOk result (ItemGoes side state.old.graph state.new.graph (lists_of body.old) (lists_of body.new) (ItemTree.record_decl (record_decl_of decl.now))) }
     ensures err { IfErr result (λ e. (naming : Naming) → ItemBroken naming (owner_of owner.now) side (places_of body.old.names) (body_of naming state.old.graph body.old) (ItemTree.record_decl (record_decl_of decl.now)) (told e)) }
 {
-    let value = state.record(&body.names, decl)?;
+    let value = wac_resolution_types::record(state, &body.names, decl)?;
     let kind = ItemKind::Ty(Type::Value(value));
     declare(state.alloc, body, side, owner, &decl.id, kind)?;
     Ok(())
@@ -67,7 +68,7 @@ fn flags<'a>(
     ensures ok { OnOk result (ItemGoes side state.old.graph state.new.graph (lists_of body.old) (lists_of body.new) (ItemTree.flags (flags_decl_of decl.now))) }
     ensures err { IfErr result (λ e. (naming : Naming) → ItemBroken naming (owner_of owner.now) side (places_of body.old.names) (body_of naming state.old.graph body.old) (ItemTree.flags (flags_decl_of decl.now)) (told e)) }
 {
-    let value = state.flags(decl)?;
+    let value = wac_resolution_types::flags(state, decl)?;
     let kind = ItemKind::Ty(Type::Value(value));
     declare(state.alloc, body, side, owner, &decl.id, kind)?;
     Ok(())
@@ -85,7 +86,7 @@ fn enumeration<'a>(
     ensures ok { OnOk result (ItemGoes side state.old.graph state.new.graph (lists_of body.old) (lists_of body.new) (ItemTree.enum (enum_decl_of decl.now))) }
     ensures err { IfErr result (λ e. (naming : Naming) → ItemBroken naming (owner_of owner.now) side (places_of body.old.names) (body_of naming state.old.graph body.old) (ItemTree.enum (enum_decl_of decl.now)) (told e)) }
 {
-    let value = state.enumeration(decl)?;
+    let value = wac_resolution_types::enumeration(state, decl)?;
     let kind = ItemKind::Ty(Type::Value(value));
     declare(state.alloc, body, side, owner, &decl.id, kind)?;
     Ok(())
@@ -103,7 +104,13 @@ fn alias<'a>(
     ensures ok { OnOk result (ItemGoes side state.old.graph state.new.graph (lists_of body.old) (lists_of body.new) (ItemTree.alias (type_alias_of decl.now))) }
     ensures err { IfErr result (λ e. (naming : Naming) → ItemBroken naming (owner_of owner.now) side (places_of body.old.names) (body_of naming state.old.graph body.old) (ItemTree.alias (type_alias_of decl.now)) (told e)) }
 {
-    let kind = state.alias(&body.names, Place::Body, decl.id.string, &decl.kind)?;
+    let kind = wac_resolution_types::alias(
+        state,
+        &body.names,
+        Place::Body,
+        decl.id.string,
+        &decl.kind,
+    )?;
     declare(state.alloc, body, side, owner, &decl.id, kind)?;
     Ok(())
 }

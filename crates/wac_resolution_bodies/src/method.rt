@@ -26,7 +26,7 @@ use wac_ast_types::{Constructor, Method, ResourceMethod};
 use wac_graph::{ExternKind, ItemKind, ResourceId};
 use wac_lexer::SourceSpan;
 use wac_resolution_errors::Error;
-use wac_resolution_types::State;
+use wac_resolution_state::State;
 
 /// The name of the constructor of a resource that has none yet.
 fn new_constructor_name(
@@ -108,7 +108,12 @@ fn add_constructor(
     ensures err { IfErr result (λ e. (naming : Naming) (before : List MethodTree) → MethodBroken side name.now (entry_means naming state.old.graph resource.0) (told e) (body_of naming state.old.graph body.old) before (MethodTree.constructor (constructor_of constructor.now))) }
 {
     let full = new_constructor_name(state.alloc, body, side, name, constructor.span)?;
-    let func = state.constructor(&body.names, resource, &constructor.params)?;
+    let func = wac_resolution_types::constructor(
+        state,
+        &body.names,
+        resource,
+        &constructor.params,
+    )?;
     body.add(state.alloc, side, &full, ItemKind::Func(func))?;
     Ok(())
 }
@@ -128,7 +133,13 @@ fn add_method(
     ensures err { IfErr result (λ e. (naming : Naming) (before : List MethodTree) → MethodBroken side name.now (entry_means naming state.old.graph resource.0) (told e) (body_of naming state.old.graph body.old) before (MethodTree.method (method_of method.now))) }
 {
     let full = new_method_name(state.alloc, body, side, name, method.is_static, &method.id)?;
-    let func = state.method(&body.names, resource, method.is_static, &method.ty)?;
+    let func = wac_resolution_types::method(
+        state,
+        &body.names,
+        resource,
+        method.is_static,
+        &method.ty,
+    )?;
     body.add(state.alloc, side, &full, ItemKind::Func(func))?;
     Ok(())
 }

@@ -6,8 +6,8 @@ ghost use Rattle.wac_graph.specs.Graph.{Parts};
 ghost use Rattle.wac_graph.specs.Origin.{Naming};
 ghost use Rattle.wac_resolution_errors.specs.Told.{told};
 ghost use Rattle.wac_resolution_rules.specs.BrokenBodies.{IsBoundInBody, IsConflict, NameBroken, conflict as conflict_of};
-ghost use Rattle.wac_resolution_types.specs.Bindings.{values_of, places_of};
-ghost use Rattle.wac_resolution_types.specs.Named.{scope_of};
+ghost use Rattle.wac_resolution_state.specs.Bindings.{values_of, places_of};
+ghost use Rattle.wac_resolution_state.specs.Named.{scope_of};
 ghost use Rattle.wac_resolution_bodies.specs.Lists.{lists_of, kinds_of};
 ghost use Rattle.wac_resolution_bodies.specs.Bodies.{body_of, IsDeclared};
 ghost use Rattle.wac_resolution_bodies.specs.Owners.{owner_of};
@@ -19,7 +19,7 @@ use wac_ast_base::Ident;
 use wac_graph::{ExternKind, ItemKind};
 use wac_lexer::SourceSpan;
 use wac_resolution_errors::Error;
-use wac_resolution_types::Names;
+use wac_resolution_state::Names;
 
 /// Rejects an identifier that is bound already.
 pub fn check_name(alloc: Global, names: &Names<'_, ItemKind>, id: &Ident<'_>) -> Result<(), Error>

@@ -7,7 +7,7 @@ ghost use Rattle.wac_graph.specs.Graph.{Parts};
 ghost use Rattle.wac_graph.specs.Origin.{Naming};
 ghost use Rattle.wac_resolution_errors.specs.Told.{told};
 ghost use Rattle.wac_resolution_rules.specs.BrokenBodies.{NameBroken, ItemBroken};
-ghost use Rattle.wac_resolution_types.specs.Bindings.{places_of};
+ghost use Rattle.wac_resolution_state.specs.Bindings.{places_of};
 ghost use Rattle.wac_resolution_bodies.specs.Lists.{lists_of};
 ghost use Rattle.wac_resolution_bodies.specs.Bodies.{body_of, IsBody, ResourceGoes, ItemGoes};
 ghost use Rattle.wac_resolution_bodies.specs.Owners.{owner_of};
@@ -20,7 +20,7 @@ use wac_ast_base::Ident;
 use wac_ast_types::ResourceDecl;
 use wac_graph::{ExternKind, ItemKind, ResourceId, Type};
 use wac_resolution_errors::Error;
-use wac_resolution_types::State;
+use wac_resolution_state::State;
 
 /// Declares a resource of a new name, without its methods.
 fn declare_resource<'a>(

@@ -24,7 +24,7 @@ use Rattle.wac_resolution_nodes.specs.Nodes.{composition_of}
 use Rattle.wac_resolution_nodes.specs.Root.{numbers_of, Agrees, NodeIs}
 use Rattle.wac_resolution_nodes.proofs.Composed.{grows_none}
 use Rattle.wac_resolution_nodes.proofs.Roots.{fresh_read}
-use Rattle.wac_resolution_types.proofs.NamedParts.{read_found}
+use Rattle.wac_resolution_state.proofs.Bound.{read_found}
 use Rattle.wac_resolution_arguments.specs.Arguments.{given_nodes}
 use Rattle.wac_resolution_arguments.specs.Giving.{Gave}
 use Rattle.wac_resolution_arguments.specs.Spreads.{giving_of, imports_at, GivenThere}

@@ -24,7 +24,7 @@ use Rattle.wac_resolution_rules.specs.Composition.{Composition}
 use Rattle.wac_resolution_rules.specs.Expressions.{spread_of, spreads_of}
 use Rattle.wac_resolution_rules.specs.Kinds.{instance_of}
 use Rattle.wac_resolution_rules.specs.Nodes.{instance_at}
-use Rattle.wac_resolution_types.proofs.NamedParts.{read_found}
+use Rattle.wac_resolution_state.proofs.Bound.{read_found}
 use Rattle.wac_resolution_nodes.specs.Instances.{IsInstance}
 use Rattle.wac_resolution_nodes.specs.Nodes.{composition_of, kind_in}
 use Rattle.wac_resolution_nodes.proofs.Instances.{is_instance, no_instance, export_meant}

@@ -26,7 +26,7 @@ use wac_lexer::SourceSpan;
 use wac_resolution_arguments::{check_complete, misfit, spreads};
 use wac_resolution_errors::Error;
 use wac_resolution_nodes::Root;
-use wac_resolution_types::State;
+use wac_resolution_state::State;
 
 /// What is reported of an argument that doesn't fit. Without a reason it is for no import.
 fn misfitting(

@@ -23,7 +23,7 @@ use wac_graph::{ItemKind, NodeId, Rules, WorldId};
 use wac_resolution_errors::Error;
 use wac_resolution_nodes::{Root, accesses};
 use wac_resolution_paths::Setting;
-use wac_resolution_types::State;
+use wac_resolution_state::State;
 
 /// The node that an expression stands for.
 #[cycle(expression)]

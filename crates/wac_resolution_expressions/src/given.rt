@@ -28,10 +28,10 @@ use wac_lexer::SourceSpan;
 use wac_resolution_arguments::{inferred_name, written_name};
 use wac_resolution_errors::Error;
 use wac_resolution_nodes::Root;
-use wac_resolution_types::State;
+use wac_resolution_state::State;
 
 /// Gives a node for a name for which none is given yet.
-#[tactic(auto, using(wac_resolution_types::proofs::Scopes::memory_told))]
+#[tactic(auto, using(wac_resolution_state::proofs::Scopes::memory_told))]
 fn give(
     alloc: Global,
     given: &mut IndexMap<String, NodeId>,
@@ -69,7 +69,7 @@ pub fn give_named(
 }
 
 /// Gives the node of an identifier for the import that is inferred.
-#[tactic(auto, using(wac_resolution_types::proofs::Scopes::memory_told))]
+#[tactic(auto, using(wac_resolution_state::proofs::Scopes::memory_told))]
 pub fn give_inferred(
     state: &State,
     root: &Root<'_>,

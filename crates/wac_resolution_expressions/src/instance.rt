@@ -9,7 +9,7 @@ ghost use Rattle.wac_resolution_expressions.specs.Instances.{MakesInstance};
 use indexmap::IndexMap;
 use std::alloc::AllocError;
 use wac_graph::{NodeId, PackageId};
-use wac_resolution_types::State;
+use wac_resolution_state::State;
 
 /// The instance of a package with these arguments: the next node.
 pub fn instantiate(

@@ -18,7 +18,7 @@ use wac_ast_base::PackageName;
 use wac_graph::{PackageId, WorldId};
 use wac_resolution_errors::Error;
 use wac_resolution_paths::{Setting, package as load_package, package_key};
-use wac_resolution_types::State;
+use wac_resolution_state::State;
 
 /// A package that the graph holds.
 #[derive(Clone, Copy)]

@@ -21,7 +21,7 @@ use wac_graph::{ItemKind, NodeId, WorldId};
 use wac_lexer::SourceSpan;
 use wac_resolution_arguments::own_places;
 use wac_resolution_nodes::Root;
-use wac_resolution_types::State;
+use wac_resolution_state::State;
 
 /// The span, if the node is an instance that exports the name.
 fn if_exported(state: &State, node: NodeId, name: &str, span: SourceSpan) -> Option<SourceSpan>

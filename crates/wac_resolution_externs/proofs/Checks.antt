@@ -24,8 +24,8 @@ use Rattle.wac_resolution_rules.specs.Find.{names_of}
 use Rattle.wac_resolution_rules.specs.Nodes.{node_at, is_definition}
 use Rattle.wac_resolution_rules.specs.Places.{Places}
 use Rattle.wac_resolution_rules.specs.Statements.{if_definition, definition_bound}
-use Rattle.wac_resolution_types.specs.Bindings.{Bindings, values_of}
-use Rattle.wac_resolution_types.proofs.NamedParts.{read_found}
+use Rattle.wac_resolution_state.specs.Bindings.{Bindings, values_of}
+use Rattle.wac_resolution_state.proofs.Bound.{read_found}
 use Rattle.wac_resolution_nodes.specs.declared.root.Root.{Root}
 use Rattle.wac_resolution_nodes.specs.Nodes.{instance_form, form_in, node_of, composition_of, kind_in, Stands, NodesStand}
 use Rattle.wac_resolution_nodes.specs.Root.{numbers_of, composed, places, Agrees}

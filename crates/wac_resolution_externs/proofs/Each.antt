@@ -28,7 +28,7 @@ use Rattle.wac_resolution_rules.specs.Places.{Places, names_at}
 use Rattle.wac_resolution_rules.specs.Spans.{expr_span}
 use Rattle.wac_resolution_rules.specs.Statements.{ExportsBy, ExportsOne}
 use Rattle.wac_resolution_rules.proofs.StepLaws.{steps_on_map, fails_at_map}
-use Rattle.wac_resolution_types.specs.Bindings.{Bindings}
+use Rattle.wac_resolution_state.specs.Bindings.{Bindings}
 use Rattle.wac_resolution_nodes.specs.declared.root.Root.{Root}
 use Rattle.wac_resolution_nodes.specs.Instances.{IsInstance}
 use Rattle.wac_resolution_nodes.specs.Nodes.{composition_of}

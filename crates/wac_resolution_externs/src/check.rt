@@ -20,7 +20,7 @@ use wac_graph::{ExternKind, ItemKind, NodeKind, Rules};
 use wac_lexer::SourceSpan;
 use wac_resolution_errors::Error;
 use wac_resolution_nodes::Root;
-use wac_resolution_types::State;
+use wac_resolution_state::State;
 
 /// The kind of the definition to which a name is bound at root, and where.
 fn definition(state: &State, root: &Root<'_>, name: &str) -> Option<(ItemKind, SourceSpan)>
@@ -37,7 +37,7 @@ fn definition(state: &State, root: &Root<'_>, name: &str) -> Option<(ItemKind, S
 }
 
 /// Rejects a name that is bound at root to a definition.
-#[tactic(auto, using(wac_resolution_types::proofs::Scopes::memory_told))]
+#[tactic(auto, using(wac_resolution_state::proofs::Scopes::memory_told))]
 fn check_undefined(state: &State, root: &Root<'_>, name: &NewName<'_>) -> Result<(), Error>
     requires { Agrees state.now.graph root.now }
     ensures ok { OnOk result ((naming : Naming) → definition_bound (composed naming state.now.graph root.now) name.now.text.now ≡ None) }
@@ -56,7 +56,7 @@ fn check_undefined(state: &State, root: &Root<'_>, name: &NewName<'_>) -> Result
 }
 
 /// Rejects a name that is exported already.
-#[tactic(auto, using(wac_resolution_types::proofs::Scopes::memory_told))]
+#[tactic(auto, using(wac_resolution_state::proofs::Scopes::memory_told))]
 fn check_unexported(state: &State, externs: &Externs, name: &NewName<'_>) -> Result<(), Error>
     requires { ArePlaced state.now.graph externs.now }
     ensures ok { OnOk result (IsFresh name.now.text.now state.now.graph.exports) }
@@ -75,7 +75,7 @@ fn check_unexported(state: &State, externs: &Externs, name: &NewName<'_>) -> Res
 }
 
 /// Rejects a name that no import or export may have.
-#[tactic(auto, using(wac_resolution_types::proofs::Scopes::memory_told))]
+#[tactic(auto, using(wac_resolution_state::proofs::Scopes::memory_told))]
 pub fn check_name<R: Rules>(
     alloc: Global,
     rules: &R,

@@ -17,7 +17,7 @@ use crate::name::NewName;
 use wac_graph::{NodeId, Rules};
 use wac_resolution_errors::Error;
 use wac_resolution_nodes::{Root, alias};
-use wac_resolution_types::State;
+use wac_resolution_state::State;
 
 /// Exports a node under a name.
 pub fn export_as<R: Rules>(

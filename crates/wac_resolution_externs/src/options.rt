@@ -24,7 +24,7 @@ use wac_graph::{NodeId, Rules};
 use wac_lexer::SourceSpan;
 use wac_resolution_errors::Error;
 use wac_resolution_nodes::{Root, instance_id, own_name};
-use wac_resolution_types::State;
+use wac_resolution_state::State;
 
 /// The name under which a node is exported without `as`: the id of its instance, else its own name.
 fn unnamed(state: &State, node: NodeId) -> Option<&str>
@@ -38,7 +38,7 @@ fn unnamed(state: &State, node: NodeId) -> Option<&str>
 }
 
 /// The name under which a node is exported without `as`, copied.
-#[tactic(auto, using(wac_resolution_types::proofs::Scopes::memory_told))]
+#[tactic(auto, using(wac_resolution_state::proofs::Scopes::memory_told))]
 fn unnamed_name(state: &State, node: NodeId, span: SourceSpan) -> Result<String, Error>
     requires { node.0 < length state.now.graph.nodes }
     ensures ok { IfOk result (λ s. (naming : Naming) (declared : Named ℕ) → option_and_then unnamed_export (node_at (composition_of naming state.now.graph declared) node.0) ≡ Some (string_bytes s)) }

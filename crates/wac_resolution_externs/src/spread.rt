@@ -24,7 +24,7 @@ use wac_graph::{CompositionGraph, InterfaceId, ItemKind, NodeId, Rules};
 use wac_lexer::SourceSpan;
 use wac_resolution_errors::{Error, InstanceOperation};
 use wac_resolution_nodes::{Root, instance};
-use wac_resolution_types::State;
+use wac_resolution_state::State;
 
 /// The names that the graph doesn't export yet, copied.
 fn unexported_names(

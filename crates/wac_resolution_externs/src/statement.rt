@@ -20,7 +20,7 @@ use wac_graph::{NodeId, Rules};
 use wac_lexer::SourceSpan;
 use wac_resolution_errors::Error;
 use wac_resolution_nodes::Root;
-use wac_resolution_types::State;
+use wac_resolution_state::State;
 
 /// Exports of a node what a statement says. The span is that of the expression that stands for the node.
 pub fn export_node<R: Rules>(

@@ -18,8 +18,8 @@ use Rattle.wac_resolution_errors.specs.declared.error.Error.TheVariants as error
 use Rattle.wac_resolution_rules.specs.Includes.{name_taken}
 use Rattle.wac_resolution_rules.specs.BrokenWorlds.{entry_named, span_of_entry, span_taken, IsLeftOver}
 use Rattle.wac_grammar.specs.Spans.{world_ref_name, world_ref_span}
-use Rattle.wac_resolution_types.proofs.NamedParts.{read_found}
-use Rattle.wac_resolution_types.proofs.Scopes.{memory_told}
+use Rattle.wac_resolution_state.proofs.Bound.{read_found}
+use Rattle.wac_resolution_state.proofs.Scopes.{memory_told}
 use Rattle.wac_resolution_includes.specs.Entries.{Renamings, entries_of, AreOf}
 
 -- the name that an entry gives

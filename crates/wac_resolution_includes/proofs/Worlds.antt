@@ -22,7 +22,7 @@ use Rattle.wac_resolution_rules.specs.Includes.{Entries, Takes, Included}
 use Rattle.wac_resolution_rules.specs.BrokenWorlds.{IsIncludeConflict, IsLeftOver, IsNoWorld, TakingBroken}
 use Rattle.wac_resolution_includes.specs.Entries.{Renamings, entries_of}
 use Rattle.wac_resolution_includes.specs.Taking.{taking_of, NamesTaken, IsWorldKind, with_both, WorldTaken, IsIncluded}
-use Rattle.wac_resolution_types.proofs.Scopes.{memory_told}
+use Rattle.wac_resolution_state.proofs.Scopes.{memory_told}
 
 -- ---- which kinds are worlds
 

@@ -61,7 +61,7 @@ impl<'x, 'a> Inclusion<'x, 'a> {
     }
 
     /// Rejects a name without a colon that is there, after it is renamed.
-    #[tactic(auto, using(wac_resolution_types::proofs::Scopes::memory_told))]
+    #[tactic(auto, using(wac_resolution_state::proofs::Scopes::memory_told))]
     pub(crate) fn check_taken(
         &self,
         side: ExternKind,
@@ -89,7 +89,7 @@ impl<'x, 'a> Inclusion<'x, 'a> {
     }
 
     /// Rejects an entry that is left over: the first.
-    #[tactic(auto, using(wac_resolution_types::proofs::Scopes::memory_told))]
+    #[tactic(auto, using(wac_resolution_state::proofs::Scopes::memory_told))]
     pub(crate) fn check_left(
         &self,
         entries: &IndexMap<String, &'x WorldIncludeItem<'a>>,

@@ -22,7 +22,7 @@ use Rattle.wac_graph.proofs.Calls.{position_map}
 use Rattle.wac_resolution_rules.specs.Composition.{Composition, Node, NodeForm, imported, definition, aliased, with_node, with_export, with_resources, named_at, first_name}
 use Rattle.wac_resolution_rules.specs.Expressions.{at}
 use Rattle.wac_resolution_rules.specs.Nodes.{is_alias_of, alias_in, alias_number, next_of, with_alias, with_instance}
-use Rattle.wac_resolution_types.specs.Growth.{Grows}
+use Rattle.wac_resolution_state.specs.Growth.{Grows}
 use Rattle.wac_resolution_nodes.specs.Nodes.{instance_form, form_in, node_of, composition_of, kind_in, Stands, NodesStand}
 use Rattle.wac_resolution_nodes.specs.Growth.{GrowsNodes, IsNamed}
 use Rattle.wac_resolution_nodes.specs.Accesses.{AliasGoes}

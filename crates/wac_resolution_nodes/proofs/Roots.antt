@@ -22,11 +22,11 @@ use Rattle.wac_resolution_errors.specs.Error.{Error, duplicate_name}
 use Rattle.wac_resolution_rules.specs.BrokenWorlds.{IsBound}
 use Rattle.wac_resolution_rules.specs.Composition.{Node, kind_at, root_scope}
 use Rattle.wac_resolution_rules.specs.Places.{Places}
-use Rattle.wac_resolution_types.specs.Bindings.{Bindings, places_of, values_of}
-use Rattle.wac_resolution_types.specs.Growth.{Grows}
-use Rattle.wac_resolution_types.specs.Named.{scope_of}
-use Rattle.wac_resolution_types.proofs.NamedParts.{read_found}
-use Rattle.wac_resolution_types.proofs.Scopes.{memory_told}
+use Rattle.wac_resolution_state.specs.Bindings.{Bindings, places_of, values_of}
+use Rattle.wac_resolution_state.specs.Growth.{Grows}
+use Rattle.wac_resolution_state.specs.Named.{scope_of}
+use Rattle.wac_resolution_state.proofs.Bound.{read_found}
+use Rattle.wac_resolution_state.proofs.Scopes.{memory_told}
 use Rattle.wac_resolution_nodes.specs.declared.root.Root.{Root}
 use Rattle.wac_resolution_nodes.specs.Growth.{GrowsNodes, IsNamed}
 use Rattle.wac_resolution_nodes.specs.Nodes.{node_of, composition_of, kind_in, Stands, NodesStand}

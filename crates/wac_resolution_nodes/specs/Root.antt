@@ -8,7 +8,7 @@ use Rattle.wac_graph.specs.declared.node.NodeId.{NodeId}
 use Rattle.wac_graph.specs.Graph.{Parts}
 use Rattle.wac_graph.specs.Origin.{Naming}
 use Rattle.wac_resolution_rules.specs.Composition.{Composition, binding}
-use Rattle.wac_resolution_types.specs.Bindings.{Bindings, places_of}
+use Rattle.wac_resolution_state.specs.Bindings.{Bindings, places_of}
 use Rattle.wac_resolution_nodes.specs.declared.root.Root.{Root}
 use Rattle.wac_resolution_nodes.specs.Nodes.{composition_of, kind_in, NodesStand}
 use Rattle.wac_resolution_nodes.specs.Growth.{GrowsNodes}

@@ -15,7 +15,7 @@ use std::alloc::AllocError;
 use wac_graph::{InterfaceId, ItemKind, NodeId};
 use wac_lexer::SourceSpan;
 use wac_resolution_errors::{Error, InstanceOperation};
-use wac_resolution_types::State;
+use wac_resolution_state::State;
 
 /// Names a node that has no name. One that has a name keeps it.
 #[tactic(auto, using(crate::proofs::Composed::node_names))]

@@ -24,7 +24,7 @@ use wac_ast_expressions::PostfixExpr;
 use wac_graph::{InterfaceId, ItemKind, NodeId};
 use wac_lexer::SourceSpan;
 use wac_resolution_errors::{Error, InstanceOperation};
-use wac_resolution_types::State;
+use wac_resolution_state::State;
 
 /// The node that is the alias of an export of an instance: the one that is there, else a new one.
 pub fn alias(state: &mut State, node: NodeId, export: &str) -> Result<NodeId, AllocError>

@@ -15,7 +15,7 @@ use std::alloc::Global;
 use wac_ast_base::Ident;
 use wac_graph::{ItemKind, NodeId};
 use wac_resolution_errors::Error;
-use wac_resolution_types::{Names, State};
+use wac_resolution_state::{Names, State};
 
 /// The names that are bound at root: each stands for a node and, where types are resolved, for the node's kind.
 #[derive(Drop)]

@@ -21,8 +21,8 @@ use Rattle.wac_graph.specs.Origin.{Naming}
 use Rattle.wac_graph.specs.Package.{Key, HeldPackage, IsHeld}
 use Rattle.wac_graph.specs.Packages.{Contents, contents_in}
 use Rattle.wac_graph.proofs.Lists.{all_implies}
-use Rattle.wac_resolution_types.specs.Growth.{Grows}
-use Rattle.wac_resolution_types.specs.Named.{scope_of}
+use Rattle.wac_resolution_state.specs.Growth.{Grows}
+use Rattle.wac_resolution_state.specs.Named.{scope_of}
 use Rattle.wac_resolution_paths.specs.Expands.{Expands, IsHandedAs, HoldsHanded}
 
 pub expands_self : (g : Parts) → Expands g g

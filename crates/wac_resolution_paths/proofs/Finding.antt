@@ -19,7 +19,7 @@ use Rattle.wac_resolution_errors.specs.declared.error.Error.{Error as CodeError}
 use Rattle.wac_resolution_rules.specs.BrokenBodies.{OwnPathBroken, ForeignPathBroken, path_broken, PathBroken}
 use Rattle.wac_resolution_rules.specs.BrokenTypes.{IsUndefined}
 use Rattle.wac_resolution_rules.specs.Paths.{key_of_path, segments_of, beginning_of, LeadsTo}
-use Rattle.wac_resolution_types.specs.Named.{scope_of, KindIs}
+use Rattle.wac_resolution_state.specs.Named.{scope_of, KindIs}
 use Rattle.wac_resolution_paths.specs.declared.setting.Setting.{Setting}
 use Rattle.wac_resolution_paths.specs.Expands.{HoldsHanded, Found, Loads, IsNotHanded}
 use Rattle.wac_resolution_paths.specs.Segments.{SegmentsLead, LeadsAs}

@@ -22,8 +22,8 @@ use Rattle.wac_resolution_rules.specs.BrokenBodies.{last_of, StandsAt, IsNoExpor
 use Rattle.wac_resolution_rules.specs.BrokenTypes.{IsUndefined}
 use Rattle.wac_resolution_rules.specs.Paths.{segments_of, IsMember, LeadsFrom}
 use Rattle.wac_resolution_rules.proofs.StepLaws.{fails_at}
-use Rattle.wac_resolution_types.specs.Named.{scope_of, KindIs}
-use Rattle.wac_resolution_types.proofs.Scopes.{kind_fresh}
+use Rattle.wac_resolution_state.specs.Named.{scope_of, KindIs}
+use Rattle.wac_resolution_state.proofs.Scopes.{kind_fresh}
 use Rattle.wac_resolution_paths.specs.declared.members.Missing.{Missing}
 use Rattle.wac_resolution_paths.specs.Segments.{Spans, texts, SegmentsLead, MembersLead, Misses}
 

@@ -13,7 +13,7 @@ use Rattle.wac_graph.specs.Origin.{Naming}
 use Rattle.wac_grammar.specs.Tree.{PackagePath}
 use Rattle.wac_resolution_rules.specs.BrokenBodies.{last_of}
 use Rattle.wac_resolution_rules.specs.Paths.{Setting, key_of_path, segments_of, beginning_of, IsMember, LeadsFrom}
-use Rattle.wac_resolution_types.specs.Named.{scope_of}
+use Rattle.wac_resolution_state.specs.Named.{scope_of}
 use Rattle.wac_resolution_paths.specs.declared.members.Missing.{Missing}
 
 -- segments, each with where it stands

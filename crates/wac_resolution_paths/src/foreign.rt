@@ -15,7 +15,7 @@ ghost use Rattle.wac_resolution_errors.specs.Error.{memory, package_missing_expo
 ghost use Rattle.wac_resolution_errors.specs.Told.{told};
 ghost use Rattle.wac_resolution_rules.specs.BrokenBodies.{ForeignPathBroken, path_broken};
 ghost use Rattle.wac_resolution_rules.specs.Paths.{key_of_path, segments_of};
-ghost use Rattle.wac_resolution_types.specs.Named.{scope_of};
+ghost use Rattle.wac_resolution_state.specs.Named.{scope_of};
 ghost use Rattle.wac_resolution_paths.specs.Expands.{HoldsHanded, Found, Loads, IsNotHanded};
 ghost use Rattle.wac_resolution_paths.specs.Segments.{texts, SegmentsLead, LeadsAs};
 ghost use Rattle.wac_resolution_paths.specs.Setting.{packages_in, setting_of};
@@ -31,7 +31,7 @@ use wac_graph::names::find;
 use wac_graph::{ItemKind, PackageId};
 use wac_lexer::SourceSpan;
 use wac_resolution_errors::Error;
-use wac_resolution_types::State;
+use wac_resolution_state::State;
 
 /// Appends a segment after a `/`.
 fn push_segment(text: &mut String, segment: &str) -> Result<(), AllocError>

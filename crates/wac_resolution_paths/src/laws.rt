@@ -7,8 +7,8 @@ ghost use Rattle.wac_types.specs.Table.{ItemsNamed};
 ghost use Rattle.wac_graph.specs.Graph.{Parts};
 ghost use Rattle.wac_graph.specs.Origin.{Naming};
 ghost use Rattle.wac_graph.specs.Package.{Key};
-ghost use Rattle.wac_resolution_types.specs.Growth.{Grows};
-ghost use Rattle.wac_resolution_types.specs.Named.{scope_of};
+ghost use Rattle.wac_resolution_state.specs.Growth.{Grows};
+ghost use Rattle.wac_resolution_state.specs.Named.{scope_of};
 ghost use Rattle.wac_resolution_paths.specs.Expands.{Expands, HoldsHanded};
 
 /// A graph that gets nothing expands, and what expands twice expands.

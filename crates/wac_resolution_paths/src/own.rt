@@ -10,8 +10,8 @@ ghost use Rattle.wac_resolution_errors.specs.Error.{package_path_missing_export}
 ghost use Rattle.wac_resolution_errors.specs.Told.{told};
 ghost use Rattle.wac_resolution_rules.specs.BrokenBodies.{OwnPathBroken};
 ghost use Rattle.wac_resolution_rules.specs.Paths.{segments_of};
-ghost use Rattle.wac_resolution_types.specs.Bindings.{values_of};
-ghost use Rattle.wac_resolution_types.specs.Named.{scope_of};
+ghost use Rattle.wac_resolution_state.specs.Bindings.{values_of};
+ghost use Rattle.wac_resolution_state.specs.Named.{scope_of};
 ghost use Rattle.wac_resolution_paths.specs.Segments.{SegmentsLead};
 
 use crate::members::{Missing, members};
@@ -19,7 +19,7 @@ use std::alloc::{AllocError, Global};
 use wac_ast_base::{Ident, PackagePath};
 use wac_graph::ItemKind;
 use wac_resolution_errors::Error;
-use wac_resolution_types::{Names, State, kind_of};
+use wac_resolution_state::{Names, State, kind_of};
 
 /// What is reported of a segment that is not exported.
 fn not_exported(alloc: Global, missing: Missing<'_>) -> Result<Error, AllocError>

@@ -8,7 +8,7 @@ ghost use Rattle.wac_resolution_paths.specs.Setting.{packages_in};
 use crate::setting::Setting;
 use std::alloc::AllocError;
 use wac_graph::{Package, PackageId, PackageKey};
-use wac_resolution_types::State;
+use wac_resolution_state::State;
 
 /// The handed package of a key.
 fn handed<'s>(setting: &Setting<'s>, key: &PackageKey) -> Option<&'s Package>

@@ -9,8 +9,8 @@ ghost use Rattle.wac_resolution_errors.specs.Told.{told};
 ghost use Rattle.wac_resolution_rules.specs.BrokenBodies.{PathBroken, UsePathBroken};
 ghost use Rattle.wac_resolution_rules.specs.BrokenWorlds.{WorldRefBroken};
 ghost use Rattle.wac_resolution_rules.specs.Paths.{LeadsTo, UseNames, WorldNames};
-ghost use Rattle.wac_resolution_types.specs.Bindings.{values_of};
-ghost use Rattle.wac_resolution_types.specs.Named.{scope_of};
+ghost use Rattle.wac_resolution_state.specs.Bindings.{values_of};
+ghost use Rattle.wac_resolution_state.specs.Named.{scope_of};
 ghost use Rattle.wac_resolution_paths.specs.Expands.{HoldsHanded, Found};
 ghost use Rattle.wac_resolution_paths.specs.Setting.{packages_in, setting_of};
 
@@ -21,7 +21,7 @@ use wac_ast_base::PackagePath;
 use wac_ast_uses::{UsePath, WorldRef};
 use wac_graph::ItemKind;
 use wac_resolution_errors::Error;
-use wac_resolution_types::{Names, State, kind_of};
+use wac_resolution_state::{Names, State, kind_of};
 
 /// Whether a path is of the document's own package.
 fn is_own(setting: &Setting<'_>, path: &PackagePath<'_>) -> bool

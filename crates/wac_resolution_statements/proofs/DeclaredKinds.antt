@@ -20,9 +20,9 @@ use Rattle.wac_resolution_rules.specs.Composition.{root_scope}
 use Rattle.wac_resolution_rules.specs.Declarations.{IsTypeDecl}
 use Rattle.wac_resolution_rules.specs.TypeStatements.{declared_id}
 use Rattle.wac_resolution_rules.specs.Worlds.{IsInterface, IsWorld}
-use Rattle.wac_resolution_types.specs.Bindings.{values_of}
+use Rattle.wac_resolution_state.specs.Bindings.{values_of}
 use Rattle.wac_resolution_types.specs.Declarations.{KindAdded}
-use Rattle.wac_resolution_types.specs.Named.{scope_of}
+use Rattle.wac_resolution_state.specs.Named.{scope_of}
 use Rattle.wac_resolution_nodes.specs.declared.root.Root.{Root}
 use Rattle.wac_resolution_nodes.specs.Root.{composed, Agrees}
 use Rattle.wac_resolution_nodes.proofs.Roots.{scope_agrees}

@@ -9,7 +9,7 @@ use Rattle.wac_graph.specs.Graph.{Parts}
 use Rattle.wac_graph.specs.Node.{Node as GraphNode}
 use Rattle.wac_graph.specs.Package.{Key, HeldPackage}
 use Rattle.wac_resolution_rules.specs.Find.{names_of}
-use Rattle.wac_resolution_types.specs.Bindings.{Bindings}
+use Rattle.wac_resolution_state.specs.Bindings.{Bindings}
 use Rattle.wac_resolution_nodes.specs.declared.root.Root.{Root}
 use Rattle.wac_resolution_nodes.specs.Nodes.{kind_in, NodesStand}
 use Rattle.wac_resolution_nodes.specs.Root.{EachAgrees, Agrees}

@@ -15,7 +15,7 @@ use Rattle.wac_graph.specs.Sound.{IsSound}
 use Rattle.wac_graph.proofs.Lists.{all_implies}
 use Rattle.wac_resolution_rules.specs.Composition.{Composition, imported, with_node, binding}
 use Rattle.wac_resolution_rules.specs.Find.{names_of}
-use Rattle.wac_resolution_types.specs.Bindings.{Bindings}
+use Rattle.wac_resolution_state.specs.Bindings.{Bindings}
 use Rattle.wac_resolution_nodes.specs.declared.root.Root.{Root}
 use Rattle.wac_resolution_nodes.specs.Nodes.{kind_in}
 use Rattle.wac_resolution_nodes.specs.Root.{numbers_of, composed, EachAgrees, Agrees, Binds}

@@ -19,10 +19,10 @@ use wac_graph::names::find;
 use wac_resolution_errors::Error;
 use wac_resolution_externs::Externs;
 use wac_resolution_nodes::Root;
-use wac_resolution_types::State;
+use wac_resolution_state::State;
 
 /// Rejects an identifier that is exported already.
-#[tactic(auto, using(wac_resolution_types::proofs::Scopes::memory_told))]
+#[tactic(auto, using(wac_resolution_state::proofs::Scopes::memory_told))]
 fn check_unexported(state: &State, externs: &Externs, id: &Ident<'_>) -> Result<(), Error>
     requires { ArePlaced state.now.graph externs.now }
     ensures ok { OnOk result (IsFresh id.now.string.now state.now.graph.exports) }

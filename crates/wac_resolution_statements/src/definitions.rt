@@ -22,7 +22,7 @@ use wac_resolution_errors::Error;
 use wac_resolution_externs::Externs;
 use wac_resolution_nodes::Root;
 use wac_resolution_paths::Setting;
-use wac_resolution_types::State;
+use wac_resolution_state::State;
 use wac_resolution_worlds::{interface_decl, world_decl};
 
 /// The identifier that a type statement declares.
@@ -51,7 +51,7 @@ fn declared_kind(
     match statement {
         TypeStatement::Interface(decl) => interface_decl(state, setting, &root.kinds, decl),
         TypeStatement::World(decl) => world_decl(decl, state, setting, &root.kinds),
-        TypeStatement::Ty(decl) => state.type_decl(&root.kinds, decl),
+        TypeStatement::Ty(decl) => wac_resolution_types::type_decl(state, &root.kinds, decl),
     }
 }
 

@@ -13,7 +13,7 @@ use wac_resolution_expressions::expression;
 use wac_resolution_externs::{Externs, export_node};
 use wac_resolution_nodes::Root;
 use wac_resolution_paths::Setting;
-use wac_resolution_types::State;
+use wac_resolution_state::State;
 
 /// Exports of the node of an expression what an export statement says.
 pub(crate) fn export_statement<R: Rules>(

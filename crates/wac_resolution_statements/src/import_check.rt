@@ -13,10 +13,10 @@ use wac_graph::ExternKind;
 use wac_graph::names::find;
 use wac_resolution_errors::Error;
 use wac_resolution_externs::{Externs, NewName};
-use wac_resolution_types::State;
+use wac_resolution_state::State;
 
 /// Rejects a name that is imported already.
-#[tactic(auto, using(wac_resolution_types::proofs::Scopes::memory_told))]
+#[tactic(auto, using(wac_resolution_state::proofs::Scopes::memory_told))]
 pub(crate) fn check_unimported(
     state: &State,
     externs: &Externs,

@@ -12,7 +12,7 @@ use wac_graph::ItemKind;
 use wac_resolution_errors::Error;
 use wac_resolution_nodes::Root;
 use wac_resolution_paths::{Setting, path};
-use wac_resolution_types::{State, kind_of};
+use wac_resolution_state::{State, kind_of};
 use wac_resolution_worlds::{interface, new_func};
 
 /// The kind that the type of an import means, before it is promoted.

@@ -17,7 +17,7 @@ use wac_ast_worlds::{ImportStatement, ImportType};
 use wac_graph::{InterfaceId, ItemKind, WorldId};
 use wac_lexer::SourceSpan;
 use wac_resolution_externs::NewName;
-use wac_resolution_types::State;
+use wac_resolution_state::State;
 
 /// A text, where it is given.
 fn text_of(text: &Option<String>) -> Option<&str>

@@ -27,7 +27,7 @@ use wac_resolution_errors::Error;
 use wac_resolution_externs::{Externs, NewName, check_name};
 use wac_resolution_nodes::Root;
 use wac_resolution_paths::Setting;
-use wac_resolution_types::State;
+use wac_resolution_state::State;
 
 /// Adds an import of a new name, and binds an identifier to it.
 fn add_import<'a>(

@@ -18,7 +18,7 @@ use wac_resolution_errors::Error;
 use wac_resolution_expressions::expression;
 use wac_resolution_nodes::Root;
 use wac_resolution_paths::Setting;
-use wac_resolution_types::State;
+use wac_resolution_state::State;
 
 /// Binds the identifier of a `let` to the node of its expression. Nothing is imported or exported, so it needs no
 /// places of imports and exports; its contract says that they stay those of the graph.

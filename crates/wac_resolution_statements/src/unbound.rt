@@ -15,7 +15,7 @@ use wac_resolution_errors::Error;
 use wac_resolution_nodes::Root;
 
 /// Rejects an identifier that is bound at root already.
-#[tactic(auto, using(wac_resolution_types::proofs::Scopes::memory_told))]
+#[tactic(auto, using(wac_resolution_state::proofs::Scopes::memory_told))]
 pub(crate) fn check_unbound(alloc: Global, root: &Root<'_>, id: &Ident<'_>) -> Result<(), Error>
     ensures ok { OnOk result (IsFresh id.now.string.now (numbers_of root.now.nodes)) }
     ensures err { IfErr result (λ e. (naming : Naming) (g : Parts) (all : Places) → all.bound ≡ places root.now → IsBound (composed naming g root.now) all (ident_of id.now) (told e)) }

@@ -30,8 +30,8 @@ use Rattle.wac_resolution_rules.specs.Composition.{Composition, root_scope, with
 use Rattle.wac_resolution_rules.specs.Kinds.{world_of}
 use Rattle.wac_resolution_rules.specs.Paths.{LeadsTo}
 use Rattle.wac_resolution_rules.specs.Target.{IsAllowed}
-use Rattle.wac_resolution_types.specs.Bindings.{values_of}
-use Rattle.wac_resolution_types.specs.Named.{scope_of}
+use Rattle.wac_resolution_state.specs.Bindings.{values_of}
+use Rattle.wac_resolution_state.specs.Named.{scope_of}
 use Rattle.wac_resolution_target.specs.declared.target.Target.{Target}
 use Rattle.wac_resolution_target.specs.Imported.{of_node, of_kind}
 use Rattle.wac_resolution_target.specs.Outcome.{WorldMet, WorldUnmet, Meets, Unmeets}

@@ -8,7 +8,7 @@ use Rattle.wac_graph.specs.Graph.{Parts}
 use Rattle.wac_graph.specs.Means.{means}
 use Rattle.wac_graph.specs.Origin.{Naming}
 use Rattle.wac_resolution_rules.specs.Kinds.{world_of}
-use Rattle.wac_resolution_types.proofs.Scopes.{memory_told}
+use Rattle.wac_resolution_state.proofs.Scopes.{memory_told}
 
 -- what is no world type
 pub no_world : (naming : Naming) (g : Parts) (k : ItemKind) → ((w : WorldId) → k ≡ kinds.Ty (types.World w) → ⊥) → world_of (means naming g k) ≡ None

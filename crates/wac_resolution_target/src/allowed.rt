@@ -8,7 +8,7 @@ ghost use Rattle.wac_resolution_target.specs.Used.{allowed_kind};
 
 use crate::used::used_under;
 use wac_graph::{ItemKind, Types, WorldId};
-use wac_resolution_types::State;
+use wac_resolution_state::State;
 
 /// What a world allows under a name, as its entry says: the interface that is used, else its own import.
 fn written(types: &Types, world: WorldId, name: &str) -> Option<ItemKind>

@@ -22,7 +22,7 @@ use wac_resolution_errors::Error;
 use wac_resolution_externs::Externs;
 use wac_resolution_nodes::Root;
 use wac_resolution_paths::{Setting, path};
-use wac_resolution_types::State;
+use wac_resolution_state::State;
 
 /// Rejects a composition that a world does not allow, or that does not meet its exports.
 fn check_world<R: Rules>(

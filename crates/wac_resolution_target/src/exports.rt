@@ -19,7 +19,7 @@ use wac_graph::names::find;
 use wac_graph::{ExternKind, ItemKind, Rules};
 use wac_lexer::SourceSpan;
 use wac_resolution_errors::Error;
-use wac_resolution_types::State;
+use wac_resolution_state::State;
 
 /// What is reported of an export of the target that the composition does not have.
 fn missing(

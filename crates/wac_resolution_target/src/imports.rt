@@ -17,7 +17,7 @@ use wac_graph::names::find;
 use wac_graph::{ExternKind, ItemKind, Reason, Rules};
 use wac_lexer::SourceSpan;
 use wac_resolution_errors::Error;
-use wac_resolution_types::State;
+use wac_resolution_state::State;
 
 /// What is reported of an import that the target does not have.
 fn not_in_target(

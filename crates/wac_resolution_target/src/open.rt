@@ -13,7 +13,7 @@ use crate::target::Target;
 use indexmap::IndexMap;
 use wac_graph::{ItemKind, NodeId, PackageId, Rules};
 use wac_resolution_errors::Error;
-use wac_resolution_types::State;
+use wac_resolution_state::State;
 
 /// Rejects an import of an instance that the target does not allow, unless there is an argument for it.
 fn check_open_import<R: Rules>(

@@ -6,7 +6,7 @@ ghost use Rattle.wac_graph.specs.Origin.{Naming, IsOneToOne};
 
 use wac_ast_base::PackagePath;
 use wac_graph::{ItemKind, Reason, Rules, WorldId};
-use wac_resolution_types::State;
+use wac_resolution_state::State;
 
 /// What a composition is compared with: a path, and the world to which it leads.
 #[derive(Clone, Copy)]

@@ -25,12 +25,12 @@ use Rattle.wac_resolution_errors.specs.Error.{Error}
 use Rattle.wac_resolution_rules.specs.Declarations.{HasFlag, HasEnumCase, IsVariant, IsRecord, IsFlags, IsEnum}
 use Rattle.wac_resolution_rules.specs.BrokenTypes.{TypeBroken}
 use Rattle.wac_resolution_rules.specs.BrokenDeclarations.{OptionBroken}
-use Rattle.wac_resolution_types.specs.Growth.{GrowsPlainly, AddsDefined}
-use Rattle.wac_resolution_types.specs.Named.{scope_of}
+use Rattle.wac_resolution_state.specs.Growth.{GrowsPlainly, AddsDefined}
+use Rattle.wac_resolution_state.specs.Named.{scope_of}
 use Rattle.wac_resolution_types.specs.NamedParts.{PartStep, PartsGo, parts_mean}
 use Rattle.wac_resolution_types.specs.Funcs.{types_named}
 use Rattle.wac_resolution_types.specs.Declarations.{cases_named, CasesGo, FieldsGo, names_alone, ValueAdded}
-use Rattle.wac_resolution_types.proofs.Grown.{grows_self, plainly_on}
+use Rattle.wac_resolution_state.proofs.Grown.{grows_self, plainly_on}
 use Rattle.wac_resolution_types.proofs.NamesAlone.{names_each}
 
 -- a defined type, as an item of its own

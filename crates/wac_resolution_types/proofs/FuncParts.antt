@@ -37,11 +37,11 @@ use Rattle.wac_resolution_errors.specs.Error.{Error, borrow_in_result, memory}
 use Rattle.wac_resolution_rules.specs.Types.{HasResult, HasResults, IsFuncWith, first_params}
 use Rattle.wac_resolution_rules.specs.BrokenTypes.{ParamsBroken, ResultTypeBroken, ResultBroken, ResultsBroken, FuncBroken}
 use Rattle.wac_resolution_rules.specs.BrokenBodies.{method_kind}
-use Rattle.wac_resolution_types.specs.Growth.{AddsFunc}
-use Rattle.wac_resolution_types.specs.Named.{scope_of}
+use Rattle.wac_resolution_state.specs.Growth.{AddsFunc}
+use Rattle.wac_resolution_state.specs.Named.{scope_of}
 use Rattle.wac_resolution_types.specs.Types.{TypeIs}
 use Rattle.wac_resolution_types.specs.Funcs.{given, types_named, TypesNamed, ParamsGo, ResultTypeIs, ResultsGo, ResultsAre, FuncAdded, FuncIs, ConstructorIs, own_params}
-use Rattle.wac_resolution_types.proofs.Grown.{plainly_on, scope_kept}
+use Rattle.wac_resolution_state.proofs.Grown.{plainly_on, scope_kept}
 use Rattle.wac_resolution_types.proofs.NamedParts.{parts_kept, values_named, results_named}
 
 -- ---- results

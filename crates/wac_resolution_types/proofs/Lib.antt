@@ -1,11 +1,7 @@
-pub mod Bound
-pub mod Added
-pub mod Grown
-pub mod Scopes
 pub mod TypeParts
 pub mod NamedParts
 pub mod FuncParts
 pub mod NamesAlone
 pub mod DeclarationParts
-pub mod Aliases
+pub mod Aliasing
 pub mod TypeDecls

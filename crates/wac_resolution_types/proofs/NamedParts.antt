@@ -19,20 +19,11 @@ use Rattle.wac_graph.specs.Graph.{Parts}
 use Rattle.wac_graph.specs.Means.{entry_means}
 use Rattle.wac_graph.specs.Origin.{Naming}
 use Rattle.wac_resolution_rules.proofs.StepLaws.{steps_on_map, fails_at_map}
-use Rattle.wac_resolution_types.specs.Growth.{Grows, GrowsPlainly}
-use Rattle.wac_resolution_types.specs.Named.{scope_of}
+use Rattle.wac_resolution_state.specs.Growth.{Grows, GrowsPlainly}
+use Rattle.wac_resolution_state.specs.Named.{scope_of}
 use Rattle.wac_resolution_types.specs.NamedParts.{parts_mean, PartsNamed, PartStep, HasPart, PartGoes, PartsGo}
-use Rattle.wac_resolution_types.proofs.Grown.{grows_self, plainly_on, scope_kept, child_kept, child_named}
-
--- what a name finds among values, it finds among what is read of them
-pub read_found : {X Y : Type 0} (read : X → Y) (name : List ℕ) (all : Named X) → look_up name (map (λ e. (e.0, read e.1)) all) ≡ option_map read (look_up name all)
-read_found read name [] = refl
-read_found {X} {Y} read name (e ∷ all) = go (read_found read name all) (bytes_eq name e.0)
-  where
-    go : look_up name (map (λ (d : List ℕ × X). (d.0, read d.1)) all) ≡ option_map read (look_up name all) → (b : Bool)
-        → cond b (Some (read e.1)) (look_up name (map (λ (d : List ℕ × X). (d.0, read d.1)) all)) ≡ option_map read (cond b (Some e.1) (look_up name all))
-    go later true = refl
-    go later false = later
+use Rattle.wac_resolution_state.proofs.Bound.{read_found}
+use Rattle.wac_resolution_state.proofs.Grown.{grows_self, plainly_on, scope_kept, child_kept, child_named}
 
 -- ---- what stays
 

@@ -12,7 +12,7 @@ use Rattle.wac_types.specs.Shape.{nothing, naming_each, name_children}
 use Rattle.wac_types.specs.Steps.{Steps, Fails}
 use Rattle.wac_resolution_rules.proofs.StepLaws.{steps_on_map, fails_at_map}
 use Rattle.wac_resolution_types.specs.Declarations.{names_alone}
-use Rattle.wac_resolution_types.proofs.Scopes.{memory_told}
+use Rattle.wac_resolution_state.proofs.Scopes.{memory_told}
 
 -- whether a text is that of one of the names
 pub any_text : (name : List ℕ) (names : List (String Global)) → list_any (λ k. bytes_eq name (string_bytes k)) names ≡ list_any (bytes_eq name) (map string_bytes names)

@@ -14,7 +14,7 @@ use Rattle.wac_ast_types.specs.declared.type_decl.TypeDecl.{TypeDecl}
 use Rattle.wac_resolution_errors.specs.Error.{Error}
 use Rattle.wac_resolution_rules.specs.Declarations.{IsTypeDecl}
 use Rattle.wac_resolution_rules.specs.BrokenDeclarations.{TypeDeclBroken}
-use Rattle.wac_resolution_types.specs.Named.{scope_of}
+use Rattle.wac_resolution_state.specs.Named.{scope_of}
 use Rattle.wac_resolution_types.specs.Declarations.{ValueAdded, KindAdded}
 
 -- a declaration of this kind

@@ -28,10 +28,10 @@ use Rattle.wac_ast_types.specs.declared.types.«Type».{«Type»}
 use Rattle.wac_resolution_errors.specs.Error.{Error, memory}
 use Rattle.wac_resolution_rules.specs.Types.{HasType, HasOptional, HaveTypes}
 use Rattle.wac_resolution_rules.specs.BrokenTypes.{TypeBroken, OptionalBroken, TypesBroken}
-use Rattle.wac_resolution_types.specs.Growth.{Grows, AddsDefined}
-use Rattle.wac_resolution_types.specs.Named.{scope_of, ValueIs}
+use Rattle.wac_resolution_state.specs.Growth.{Grows, AddsDefined}
+use Rattle.wac_resolution_state.specs.Named.{scope_of, ValueIs}
 use Rattle.wac_resolution_types.specs.Types.{TypeIs, OptionalIs, TypesAre}
-use Rattle.wac_resolution_types.proofs.Grown.{grows_self, plainly_on, scope_kept, child_kept, each_still_named}
+use Rattle.wac_resolution_state.proofs.Grown.{grows_self, plainly_on, scope_kept, child_kept, each_still_named}
 
 -- the type of the tree is that of the value
 pub as_ty : (old new : Parts) (ks : Named ItemKind) (v : ValueType) (x : «Type») (t : Ty) → ty_of x ≡ t → TypeIs old new ks t v → TypeIs old new ks (ty_of x) v
@@ -171,10 +171,3 @@ stream_breaks g ks x o s e is h naming = subst (λ (t : Ty). TypeBroken (scope_o
 pub future_breaks : (g : Parts) (ks : Named ItemKind) (x : «Type») (o : Option (Box «Type» Global)) (s : Span) (e : Error)
     → x ≡ code.Future o s → ((naming : Naming) → OptionalBroken (scope_of naming g ks) (optional_of o) e) → (naming : Naming) → TypeBroken (scope_of naming g ks) (ty_of x) e
 future_breaks g ks x o s e is h naming = subst (λ (t : Ty). TypeBroken (scope_of naming g ks) t e) (sym (ap ty_of is ∙ future_tree o s)) (inr (h naming))
-
--- ---- sizes
-
-pub most_at : {X : Type 0} (f : X → ℕ) (xs : List X) (i : ℕ) (d : X) → i < length xs → f (get_or xs i d) ≤ most f xs
-most_at f [] i d h = absurd (omega arith)
-most_at f (x ∷ xs) zero d h = omega arith
-most_at f (x ∷ xs) (suc i) d h = omega (arith, most_at f xs i d (omega arith))

@@ -17,8 +17,8 @@ use Rattle.wac_graph.specs.Origin.{Naming}
 use Rattle.wac_resolution_rules.specs.Declarations.{HasOption, HasCase, HasField, Aliasing, Counted, at_root, in_body}
 use Rattle.wac_resolution_types.specs.declared.place.Place.{Place}
 use Rattle.wac_resolution_types.specs.declared.place.Place.TheVariants as places
-use Rattle.wac_resolution_types.specs.Growth.{Grows, GrowsPlainly}
-use Rattle.wac_resolution_types.specs.Named.{scope_of}
+use Rattle.wac_resolution_state.specs.Growth.{Grows, GrowsPlainly}
+use Rattle.wac_resolution_state.specs.Named.{scope_of}
 use Rattle.wac_resolution_types.specs.NamedParts.{parts_mean, PartGoes, PartsGo}
 use Rattle.wac_resolution_types.specs.Funcs.{given}
 

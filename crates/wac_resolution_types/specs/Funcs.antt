@@ -18,8 +18,8 @@ use Rattle.wac_graph.specs.Graph.{Parts}
 use Rattle.wac_graph.specs.Means.{means, entry_means}
 use Rattle.wac_graph.specs.Origin.{Naming}
 use Rattle.wac_resolution_rules.specs.Types.{HasParam, HasResultType, HasResult, HasResults, IsFuncWith, IsConstructor}
-use Rattle.wac_resolution_types.specs.Growth.{GrowsPlainly}
-use Rattle.wac_resolution_types.specs.Named.{scope_of}
+use Rattle.wac_resolution_state.specs.Growth.{GrowsPlainly}
+use Rattle.wac_resolution_state.specs.Named.{scope_of}
 use Rattle.wac_resolution_types.specs.NamedParts.{parts_mean, PartsNamed, PartGoes, PartsGo}
 
 -- the type of a part that always has one

@@ -14,8 +14,8 @@ use Rattle.wac_types.specs.Table.{Names}
 use Rattle.wac_graph.specs.Graph.{Parts}
 use Rattle.wac_graph.specs.Means.{entry_means}
 use Rattle.wac_graph.specs.Origin.{Naming}
-use Rattle.wac_resolution_types.specs.Growth.{GrowsPlainly}
-use Rattle.wac_resolution_types.specs.Named.{scope_of}
+use Rattle.wac_resolution_state.specs.Growth.{GrowsPlainly}
+use Rattle.wac_resolution_state.specs.Named.{scope_of}
 
 -- what the parts mean, under a naming of origins
 abbrev pub parts_mean : {V : Type 0} → (V → Option ValueType) → Naming → Parts → Named V → Named Meaning

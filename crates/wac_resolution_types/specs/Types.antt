@@ -13,8 +13,8 @@ use Rattle.wac_graph.specs.Graph.{Parts}
 use Rattle.wac_graph.specs.Means.{means, entry_means}
 use Rattle.wac_graph.specs.Origin.{Naming}
 use Rattle.wac_resolution_rules.specs.Types.{HasType, HasOptional, HaveTypes}
-use Rattle.wac_resolution_types.specs.Growth.{GrowsPlainly}
-use Rattle.wac_resolution_types.specs.Named.{scope_of}
+use Rattle.wac_resolution_state.specs.Growth.{GrowsPlainly}
+use Rattle.wac_resolution_state.specs.Named.{scope_of}
 
 -- the type has these values
 pub record TypeIs (old new : Parts) (ks : Named ItemKind) (t : Ty) (v : ValueType) : Type 0 where

@@ -17,13 +17,13 @@ ghost use Rattle.wac_resolution_errors.specs.Told.{told};
 ghost use Rattle.wac_resolution_rules.specs.Types.{first_params};
 ghost use Rattle.wac_resolution_rules.specs.BrokenTypes.{IsRepeatedParameter, ParamBroken, ParamsBroken, FuncBroken};
 ghost use Rattle.wac_resolution_rules.specs.BrokenBodies.{method_kind};
-ghost use Rattle.wac_resolution_types.specs.Bindings.{values_of};
+ghost use Rattle.wac_resolution_state.specs.Bindings.{values_of};
 ghost use Rattle.wac_resolution_types.specs.Funcs.{types_named, TypesNamed, ParamGoes, ParamsGo, FuncAdded, FuncIs, ConstructorIs, own_params};
-ghost use Rattle.wac_resolution_types.specs.Named.{scope_of};
+ghost use Rattle.wac_resolution_state.specs.Named.{scope_of};
 ghost use Rattle.wac_resolution_rules.specs.Types.{IsFuncWith};
 
-use crate::names::Names;
-use crate::state::State;
+use crate::results::results;
+use crate::types::value_type;
 use indexmap::IndexMap;
 use std::alloc::{AllocError, Global};
 use wac_ast_base::Ident;
@@ -31,9 +31,10 @@ use wac_ast_types::{FuncType, NamedType};
 use wac_graph::names::{find, push};
 use wac_graph::{FuncKind, FuncResults, FuncTypeId, ItemKind, ResourceId, ValueType};
 use wac_resolution_errors::Error;
+use wac_resolution_state::{Names, State};
 
 /// Rejects the name of an earlier parameter.
-#[tactic(auto, using(crate::proofs::Scopes::memory_told))]
+#[tactic(auto, using(wac_resolution_state::proofs::Scopes::memory_told))]
 fn check_param(
     alloc: Global,
     kind: FuncKind,
@@ -78,104 +79,102 @@ fn method_params(
     Ok(params)
 }
 
-impl State {
-    /// Takes a parameter.
-    fn param(
-        &mut self,
-        names: &Names<'_, ItemKind>,
-        kind: FuncKind,
-        all: &mut IndexMap<String, ValueType>,
-        param: &NamedType<'_>,
-    ) -> Result<(), Error>
-        requires scope { ItemsNamed self.old.graph.types (values_of names.now) }
-        requires parts { TypesNamed self.old.graph.types (by_name all.old.entries) }
-        ensures ok { OnOk result (ParamGoes self.old.graph self.new.graph (values_of names.now) (by_name all.old.entries) (by_name all.new.entries) (named_type_of param.now)) }
-        ensures err { IfErr result (λ e. (naming : Naming) (before : List ParamTree) → ParamBroken kind (scope_of naming self.old.graph (values_of names.now)) (told e) (types_named naming self.old.graph (by_name all.old.entries)) before (named_type_of param.now)) }
-    {
-        let value = self.ty(names, &param.ty)?;
-        check_param(self.alloc, kind, all, &param.id)?;
-        push(self.alloc, all, param.id.string, value)?;
-        Ok(())
-    }
+/// Takes a parameter.
+fn take_param(
+    state: &mut State,
+    names: &Names<'_, ItemKind>,
+    kind: FuncKind,
+    all: &mut IndexMap<String, ValueType>,
+    param: &NamedType<'_>,
+) -> Result<(), Error>
+    requires scope { ItemsNamed state.old.graph.types (values_of names.now) }
+    requires parts { TypesNamed state.old.graph.types (by_name all.old.entries) }
+    ensures ok { OnOk result (ParamGoes state.old.graph state.new.graph (values_of names.now) (by_name all.old.entries) (by_name all.new.entries) (named_type_of param.now)) }
+    ensures err { IfErr result (λ e. (naming : Naming) (before : List ParamTree) → ParamBroken kind (scope_of naming state.old.graph (values_of names.now)) (told e) (types_named naming state.old.graph (by_name all.old.entries)) before (named_type_of param.now)) }
+{
+    let value = value_type(state, names, &param.ty)?;
+    check_param(state.alloc, kind, all, &param.id)?;
+    push(state.alloc, all, param.id.string, value)?;
+    Ok(())
+}
 
-    /// Takes parameters, one after another.
-    fn params(
-        &mut self,
-        names: &Names<'_, ItemKind>,
-        kind: FuncKind,
-        all: &mut IndexMap<String, ValueType>,
-        params: &[NamedType<'_>],
-    ) -> Result<(), Error>
-        requires scope { ItemsNamed self.old.graph.types (values_of names.now) }
-        requires parts { TypesNamed self.old.graph.types (by_name all.old.entries) }
-        ensures ok { OnOk result (ParamsGo self.old.graph self.new.graph (values_of names.now) (by_name all.old.entries) (by_name all.new.entries) (map named_type_of params.now)) }
-        ensures err { IfErr result (λ e. (naming : Naming) → ParamsBroken kind (scope_of naming self.old.graph (values_of names.now)) (types_named naming self.old.graph (by_name all.old.entries)) (map named_type_of params.now) (told e)) }
-    {
-        for param in params {
-            self.param(names, kind, all, param)?;
-        }
-        Ok(())
+/// Takes parameters, one after another.
+fn take_params(
+    state: &mut State,
+    names: &Names<'_, ItemKind>,
+    kind: FuncKind,
+    all: &mut IndexMap<String, ValueType>,
+    params: &[NamedType<'_>],
+) -> Result<(), Error>
+    requires scope { ItemsNamed state.old.graph.types (values_of names.now) }
+    requires parts { TypesNamed state.old.graph.types (by_name all.old.entries) }
+    ensures ok { OnOk result (ParamsGo state.old.graph state.new.graph (values_of names.now) (by_name all.old.entries) (by_name all.new.entries) (map named_type_of params.now)) }
+    ensures err { IfErr result (λ e. (naming : Naming) → ParamsBroken kind (scope_of naming state.old.graph (values_of names.now)) (types_named naming state.old.graph (by_name all.old.entries)) (map named_type_of params.now) (told e)) }
+{
+    for param in params {
+        take_param(state, names, kind, all, param)?;
     }
+    Ok(())
+}
 
-    /// Adds a function type, where these parameters come first.
-    pub fn func(
-        &mut self,
-        names: &Names<'_, ItemKind>,
-        kind: FuncKind,
-        first: IndexMap<String, ValueType>,
-        func: &FuncType<'_>,
-    ) -> Result<FuncTypeId, Error>
-        requires scope { ItemsNamed self.old.graph.types (values_of names.now) }
-        requires parts { TypesNamed self.old.graph.types (by_name first.entries) }
-        ensures ok { IfOk result (λ f. FuncIs self.old.graph self.new.graph (values_of names.now) (by_name first.entries) (func_type_of func.now) f) }
-        ensures err { IfErr result (λ e. (naming : Naming) → FuncBroken kind (scope_of naming self.old.graph (values_of names.now)) (types_named naming self.old.graph (by_name first.entries)) (func_type_of func.now) (told e)) }
-    {
-        let mut params = first;
-        self.params(names, kind, &mut params, &func.params)?;
-        let results = self.results(names, kind, &func.results)?;
-        let is_async = func.is_async;
-        Ok(self.add_func(wac_graph::FuncType {
-            params,
-            results,
-            is_async,
-        })?)
-    }
+/// Adds a function type, where these parameters come first.
+pub fn function(
+    state: &mut State,
+    names: &Names<'_, ItemKind>,
+    kind: FuncKind,
+    first: IndexMap<String, ValueType>,
+    func: &FuncType<'_>,
+) -> Result<FuncTypeId, Error>
+    requires scope { ItemsNamed state.old.graph.types (values_of names.now) }
+    requires parts { TypesNamed state.old.graph.types (by_name first.entries) }
+    ensures ok { IfOk result (λ f. FuncIs state.old.graph state.new.graph (values_of names.now) (by_name first.entries) (func_type_of func.now) f) }
+    ensures err { IfErr result (λ e. (naming : Naming) → FuncBroken kind (scope_of naming state.old.graph (values_of names.now)) (types_named naming state.old.graph (by_name first.entries)) (func_type_of func.now) (told e)) }
+{
+    let mut params = first;
+    take_params(state, names, kind, &mut params, &func.params)?;
+    let results = results(state, names, kind, &func.results)?;
+    let is_async = func.is_async;
+    Ok(state.add_func(wac_graph::FuncType {
+        params,
+        results,
+        is_async,
+    })?)
+}
 
-    /// Adds the function type of a constructor of a resource.
-    pub fn constructor(
-        &mut self,
-        names: &Names<'_, ItemKind>,
-        resource: ResourceId,
-        params: &[NamedType<'_>],
-    ) -> Result<FuncTypeId, Error>
-        requires scope { ItemsNamed self.old.graph.types (values_of names.now) }
-        requires resource { NamesEntry self.old.graph.types (kinds.Ty (types.Resource resource)) }
-        ensures ok { IfOk result (λ f. ConstructorIs self.old.graph self.new.graph (values_of names.now) resource (map named_type_of params.now) f) }
-        ensures err { IfErr result (λ e. (naming : Naming) → (told e ≡ memory) ⊎ ParamsBroken funcs.Constructor (scope_of naming self.old.graph (values_of names.now)) [] (map named_type_of params.now) (told e)) }
-    {
-        let mut all = IndexMap::new(self.alloc);
-        self.params(names, FuncKind::Constructor, &mut all, params)?;
-        Ok(self.add_func(wac_graph::FuncType {
-            params: all,
-            results: FuncResults::Scalar(ValueType::Own(resource)),
-            is_async: false,
-        })?)
-    }
+/// Adds the function type of a constructor of a resource.
+pub fn constructor(
+    state: &mut State,
+    names: &Names<'_, ItemKind>,
+    resource: ResourceId,
+    params: &[NamedType<'_>],
+) -> Result<FuncTypeId, Error>
+    requires scope { ItemsNamed state.old.graph.types (values_of names.now) }
+    requires resource { NamesEntry state.old.graph.types (kinds.Ty (types.Resource resource)) }
+    ensures ok { IfOk result (λ f. ConstructorIs state.old.graph state.new.graph (values_of names.now) resource (map named_type_of params.now) f) }
+    ensures err { IfErr result (λ e. (naming : Naming) → (told e ≡ memory) ⊎ ParamsBroken funcs.Constructor (scope_of naming state.old.graph (values_of names.now)) [] (map named_type_of params.now) (told e)) }
+{
+    let mut all = IndexMap::new(state.alloc);
+    take_params(state, names, FuncKind::Constructor, &mut all, params)?;
+    Ok(state.add_func(wac_graph::FuncType {
+        params: all,
+        results: FuncResults::Scalar(ValueType::Own(resource)),
+        is_async: false,
+    })?)
+}
 
-    /// Adds the function type of a method of a resource.
-    pub fn method(
-        &mut self,
-        names: &Names<'_, ItemKind>,
-        resource: ResourceId,
-        is_static: bool,
-        func: &FuncType<'_>,
-    ) -> Result<FuncTypeId, Error>
-        requires scope { ItemsNamed self.old.graph.types (values_of names.now) }
-        requires resource { NamesEntry self.old.graph.types (kinds.Ty (types.Resource resource)) }
-        ensures ok { IfOk result (λ f. FuncAdded self.old.graph self.new.graph (values_of names.now) (λ naming scope entry. IsFuncWith scope (first_params is_static (entry_means naming self.old.graph resource.0)) (func_type_of func.now) entry) f) }
-        ensures err { IfErr result (λ e. (naming : Naming) → FuncBroken (method_kind is_static) (scope_of naming self.old.graph (values_of names.now)) (first_params is_static (entry_means naming self.old.graph resource.0)) (func_type_of func.now) (told e)) }
-    {
-        let first = method_params(self.alloc, is_static, resource)?;
-        self.func(names, kind_of_method(is_static), first, func)
-    }
+/// Adds the function type of a method of a resource.
+pub fn method(
+    state: &mut State,
+    names: &Names<'_, ItemKind>,
+    resource: ResourceId,
+    is_static: bool,
+    func: &FuncType<'_>,
+) -> Result<FuncTypeId, Error>
+    requires scope { ItemsNamed state.old.graph.types (values_of names.now) }
+    requires resource { NamesEntry state.old.graph.types (kinds.Ty (types.Resource resource)) }
+    ensures ok { IfOk result (λ f. FuncAdded state.old.graph state.new.graph (values_of names.now) (λ naming scope entry. IsFuncWith scope (first_params is_static (entry_means naming state.old.graph resource.0)) (func_type_of func.now) entry) f) }
+    ensures err { IfErr result (λ e. (naming : Naming) → FuncBroken (method_kind is_static) (scope_of naming state.old.graph (values_of names.now)) (first_params is_static (entry_means naming state.old.graph resource.0)) (func_type_of func.now) (told e)) }
+{
+    let first = method_params(state.alloc, is_static, resource)?;
+    function(state, names, kind_of_method(is_static), first, func)
 }

@@ -1,20 +1,21 @@
 //! Part of `wac_resolution`: types, function types and declarations of types, resolved into the table of a graph.
 #![tactic(auto)]
 
-mod alias;
-mod flags;
+mod aliases;
+mod declarations;
 mod func;
-mod named;
-mod names;
+mod names_alone;
 mod place;
-mod record;
+mod records;
 mod results;
-mod state;
-mod type_decl;
 mod types;
-mod variant;
+mod variants;
 
-pub use named::{kind_of, named_resource, named_type};
-pub use names::Names;
+pub use aliases::alias;
+pub use declarations::type_decl;
+pub use func::{constructor, function, method};
+pub use names_alone::{enumeration, flags};
 pub use place::Place;
-pub use state::State;
+pub use records::record;
+pub use types::value_type;
+pub use variants::variant;

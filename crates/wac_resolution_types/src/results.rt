@@ -18,12 +18,11 @@ ghost use Rattle.wac_resolution_errors.specs.Error.{borrow_in_result};
 ghost use Rattle.wac_resolution_errors.specs.Told.{told};
 ghost use Rattle.wac_resolution_rules.specs.Types.{HasResult};
 ghost use Rattle.wac_resolution_rules.specs.BrokenTypes.{IsRepeatedResult, ResultTypeBroken, ResultBroken, ResultsBroken};
-ghost use Rattle.wac_resolution_types.specs.Bindings.{values_of};
+ghost use Rattle.wac_resolution_state.specs.Bindings.{values_of};
 ghost use Rattle.wac_resolution_types.specs.Funcs.{types_named, TypesNamed, ResultTypeIs, ResultGoes, ResultsGo, ResultsAre};
-ghost use Rattle.wac_resolution_types.specs.Named.{scope_of};
+ghost use Rattle.wac_resolution_state.specs.Named.{scope_of};
 
-use crate::names::Names;
-use crate::state::State;
+use crate::types::value_type;
 use indexmap::IndexMap;
 use std::alloc::Global;
 use wac_ast_base::Ident;
@@ -31,9 +30,10 @@ use wac_ast_types::{NamedType, ResultList, Type};
 use wac_graph::names::{find, push};
 use wac_graph::{FuncKind, FuncResults, ItemKind, ValueType};
 use wac_resolution_errors::Error;
+use wac_resolution_state::{Names, State};
 
 /// Rejects the name of an earlier result.
-#[tactic(auto, using(crate::proofs::Scopes::memory_told))]
+#[tactic(auto, using(wac_resolution_state::proofs::Scopes::memory_told))]
 fn check_result_name(
     alloc: Global,
     kind: FuncKind,
@@ -53,90 +53,88 @@ fn check_result_name(
     }
 }
 
-impl State {
-    /// Rejects a result that contains a borrow.
-    fn check_result(&self, ty: &Type<'_>, value: ValueType) -> Result<(), Error>
-        requires { NamesEntry self.now.graph.types (kinds.Value value) }
-        ensures ok { OnOk result ((naming : Naming) → has_borrow (means naming self.now.graph (kinds.Value value)) ≡ false) }
-        ensures borrow { IfErr result (λ e. (naming : Naming) → has_borrow (means naming self.now.graph (kinds.Value value)) ≡ true) }
-        ensures err { IfErr result (λ e. told e ≡ borrow_in_result (ty_span (ty_of ty.now))) }
-    {
-        if self.graph.types().contains_borrow(value) {
-            return Err(Error::BorrowInResult { span: ty.span() });
-        }
-        Ok(())
+/// Rejects a result that contains a borrow.
+fn check_result(state: &State, ty: &Type<'_>, value: ValueType) -> Result<(), Error>
+    requires { NamesEntry state.now.graph.types (kinds.Value value) }
+    ensures ok { OnOk result ((naming : Naming) → has_borrow (means naming state.now.graph (kinds.Value value)) ≡ false) }
+    ensures borrow { IfErr result (λ e. (naming : Naming) → has_borrow (means naming state.now.graph (kinds.Value value)) ≡ true) }
+    ensures err { IfErr result (λ e. told e ≡ borrow_in_result (ty_span (ty_of ty.now))) }
+{
+    if state.graph.types().contains_borrow(value) {
+        return Err(Error::BorrowInResult { span: ty.span() });
     }
+    Ok(())
+}
 
-    /// The type of a result.
-    fn result_type(
-        &mut self,
-        names: &Names<'_, ItemKind>,
-        ty: &Type<'_>,
-    ) -> Result<ValueType, Error>
-        requires { ItemsNamed self.old.graph.types (values_of names.now) }
-        ensures ok { IfOk result (λ v. ResultTypeIs self.old.graph self.new.graph (values_of names.now) (ty_of ty.now) v) }
-        ensures err { IfErr result (λ e. (naming : Naming) → ResultTypeBroken (scope_of naming self.old.graph (values_of names.now)) (ty_of ty.now) (told e)) }
-    {
-        let value = self.ty(names, ty)?;
-        self.check_result(ty, value)?;
-        Ok(value)
+/// The type of a result.
+fn result_type(
+    state: &mut State,
+    names: &Names<'_, ItemKind>,
+    ty: &Type<'_>,
+) -> Result<ValueType, Error>
+    requires { ItemsNamed state.old.graph.types (values_of names.now) }
+    ensures ok { IfOk result (λ v. ResultTypeIs state.old.graph state.new.graph (values_of names.now) (ty_of ty.now) v) }
+    ensures err { IfErr result (λ e. (naming : Naming) → ResultTypeBroken (scope_of naming state.old.graph (values_of names.now)) (ty_of ty.now) (told e)) }
+{
+    let value = value_type(state, names, ty)?;
+    check_result(state, ty, value)?;
+    Ok(value)
+}
+
+/// Takes a result with a name.
+fn named_result(
+    state: &mut State,
+    names: &Names<'_, ItemKind>,
+    kind: FuncKind,
+    all: &mut IndexMap<String, ValueType>,
+    named: &NamedType<'_>,
+) -> Result<(), Error>
+    requires scope { ItemsNamed state.old.graph.types (values_of names.now) }
+    requires parts { TypesNamed state.old.graph.types (by_name all.old.entries) }
+    ensures ok { OnOk result (ResultGoes state.old.graph state.new.graph (values_of names.now) (by_name all.old.entries) (by_name all.new.entries) (named_type_of named.now)) }
+    ensures err { IfErr result (λ e. (naming : Naming) (before : List ResultTree) → ResultBroken kind (scope_of naming state.old.graph (values_of names.now)) (told e) (types_named naming state.old.graph (by_name all.old.entries)) before (named_type_of named.now)) }
+{
+    let value = result_type(state, names, &named.ty)?;
+    check_result_name(state.alloc, kind, all, &named.id)?;
+    push(state.alloc, all, named.id.string, value)?;
+    Ok(())
+}
+
+/// Takes results with names, one after another.
+fn named_results(
+    state: &mut State,
+    names: &Names<'_, ItemKind>,
+    kind: FuncKind,
+    named: &[NamedType<'_>],
+) -> Result<IndexMap<String, ValueType>, Error>
+    requires { ItemsNamed state.old.graph.types (values_of names.now) }
+    ensures ok { IfOk result (λ all. ResultsGo state.old.graph state.new.graph (values_of names.now) [] (by_name all.entries) (map named_type_of named.now)) }
+    ensures err { IfErr result (λ e. (naming : Naming) → let scope = scope_of naming state.old.graph (values_of names.now) in Fails (HasResult scope) (ResultBroken kind scope (told e)) [] (map named_type_of named.now)) }
+{
+    let mut all = IndexMap::new(state.alloc);
+    for result in named {
+        named_result(state, names, kind, &mut all, result)?;
     }
+    Ok(all)
+}
 
-    /// Takes a result with a name.
-    fn named_result(
-        &mut self,
-        names: &Names<'_, ItemKind>,
-        kind: FuncKind,
-        all: &mut IndexMap<String, ValueType>,
-        named: &NamedType<'_>,
-    ) -> Result<(), Error>
-        requires scope { ItemsNamed self.old.graph.types (values_of names.now) }
-        requires parts { TypesNamed self.old.graph.types (by_name all.old.entries) }
-        ensures ok { OnOk result (ResultGoes self.old.graph self.new.graph (values_of names.now) (by_name all.old.entries) (by_name all.new.entries) (named_type_of named.now)) }
-        ensures err { IfErr result (λ e. (naming : Naming) (before : List ResultTree) → ResultBroken kind (scope_of naming self.old.graph (values_of names.now)) (told e) (types_named naming self.old.graph (by_name all.old.entries)) before (named_type_of named.now)) }
-    {
-        let value = self.result_type(names, &named.ty)?;
-        check_result_name(self.alloc, kind, all, &named.id)?;
-        push(self.alloc, all, named.id.string, value)?;
-        Ok(())
-    }
-
-    /// Takes results with names, one after another.
-    fn named_results(
-        &mut self,
-        names: &Names<'_, ItemKind>,
-        kind: FuncKind,
-        named: &[NamedType<'_>],
-    ) -> Result<IndexMap<String, ValueType>, Error>
-        requires { ItemsNamed self.old.graph.types (values_of names.now) }
-        ensures ok { IfOk result (λ all. ResultsGo self.old.graph self.new.graph (values_of names.now) [] (by_name all.entries) (map named_type_of named.now)) }
-        ensures err { IfErr result (λ e. (naming : Naming) → let scope = scope_of naming self.old.graph (values_of names.now) in Fails (HasResult scope) (ResultBroken kind scope (told e)) [] (map named_type_of named.now)) }
-    {
-        let mut all = IndexMap::new(self.alloc);
-        for result in named {
-            self.named_result(names, kind, &mut all, result)?;
-        }
-        Ok(all)
-    }
-
-    /// What a function gives.
-    pub(crate) fn results(
-        &mut self,
-        names: &Names<'_, ItemKind>,
-        kind: FuncKind,
-        results: &ResultList<'_>,
-    ) -> Result<FuncResults, Error>
-        requires { ItemsNamed self.old.graph.types (values_of names.now) }
-        ensures ok { IfOk result (λ rs. ResultsAre self.old.graph self.new.graph (values_of names.now) (result_list_of results.now) rs) }
-        ensures err { IfErr result (λ e. (naming : Naming) → ResultsBroken kind (scope_of naming self.old.graph (values_of names.now)) (result_list_of results.now) (told e)) }
-    {
-        match results {
-            ResultList::Empty => Ok(FuncResults::None),
-            ResultList::Scalar(ty) => Ok(FuncResults::Scalar(self.result_type(names, ty)?)),
-            ResultList::Named(named) => {
-                let all = self.named_results(names, kind, named)?;
-                Ok(FuncResults::Named(all))
-            }
+/// What a function gives.
+pub(crate) fn results(
+    state: &mut State,
+    names: &Names<'_, ItemKind>,
+    kind: FuncKind,
+    results: &ResultList<'_>,
+) -> Result<FuncResults, Error>
+    requires { ItemsNamed state.old.graph.types (values_of names.now) }
+    ensures ok { IfOk result (λ rs. ResultsAre state.old.graph state.new.graph (values_of names.now) (result_list_of results.now) rs) }
+    ensures err { IfErr result (λ e. (naming : Naming) → ResultsBroken kind (scope_of naming state.old.graph (values_of names.now)) (result_list_of results.now) (told e)) }
+{
+    match results {
+        ResultList::Empty => Ok(FuncResults::None),
+        ResultList::Scalar(ty) => Ok(FuncResults::Scalar(result_type(state, names, ty)?)),
+        ResultList::Named(named) => {
+            let all = named_results(state, names, kind, named)?;
+            Ok(FuncResults::Named(all))
         }
     }
 }

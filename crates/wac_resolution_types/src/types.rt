@@ -6,103 +6,103 @@ ghost use Rattle.wac_ast_types.specs.Types.{ty_of, optional_of};
 ghost use Rattle.wac_graph.specs.Origin.{Naming};
 ghost use Rattle.wac_resolution_errors.specs.Told.{told};
 ghost use Rattle.wac_resolution_rules.specs.BrokenTypes.{TypeBroken, OptionalBroken, TypesBroken};
-ghost use Rattle.wac_resolution_types.specs.Bindings.{values_of};
-ghost use Rattle.wac_resolution_types.specs.Named.{scope_of};
+ghost use Rattle.wac_resolution_state.specs.Bindings.{values_of};
+ghost use Rattle.wac_resolution_state.specs.Named.{scope_of};
 ghost use Rattle.wac_resolution_types.specs.Types.{TypeIs, TypesAre, OptionalIs};
 
-use crate::named::{named_resource, named_type};
-use crate::names::Names;
-use crate::state::State;
 use wac_ast_types::Type;
 use wac_graph::{DefinedType, ItemKind, PrimitiveType, ValueType};
 use wac_resolution_errors::Error;
+use wac_resolution_state::{Names, State, named_resource, named_type};
 
-impl State {
-    /// The type of values that a type means.
-    #[cycle(types)]
-    pub fn ty(&mut self, names: &Names<'_, ItemKind>, ty: &Type<'_>) -> Result<ValueType, Error>
-        requires { ItemsNamed self.old.graph.types (values_of names.now) }
-        ensures ok { IfOk result (λ v. TypeIs self.old.graph self.new.graph (values_of names.now) (ty_of ty.now) v) }
-        ensures err { IfErr result (λ e. (naming : Naming) → TypeBroken (scope_of naming self.old.graph (values_of names.now)) (ty_of ty.now) (told e)) }
-    {
-        match ty {
-            Type::U8(_) => Ok(ValueType::Primitive(PrimitiveType::U8)),
-            Type::S8(_) => Ok(ValueType::Primitive(PrimitiveType::S8)),
-            Type::U16(_) => Ok(ValueType::Primitive(PrimitiveType::U16)),
-            Type::S16(_) => Ok(ValueType::Primitive(PrimitiveType::S16)),
-            Type::U32(_) => Ok(ValueType::Primitive(PrimitiveType::U32)),
-            Type::S32(_) => Ok(ValueType::Primitive(PrimitiveType::S32)),
-            Type::U64(_) => Ok(ValueType::Primitive(PrimitiveType::U64)),
-            Type::S64(_) => Ok(ValueType::Primitive(PrimitiveType::S64)),
-            Type::F32(_) => Ok(ValueType::Primitive(PrimitiveType::F32)),
-            Type::F64(_) => Ok(ValueType::Primitive(PrimitiveType::F64)),
-            Type::Char(_) => Ok(ValueType::Primitive(PrimitiveType::Char)),
-            Type::Bool(_) => Ok(ValueType::Primitive(PrimitiveType::Bool)),
-            Type::String(_) => Ok(ValueType::Primitive(PrimitiveType::String)),
-            Type::Tuple(types, _) => {
-                let values = self.types(names, types)?;
-                Ok(self.add_defined(DefinedType::Tuple(values))?)
-            }
-            Type::List(inner, _) => {
-                let value = self.ty(names, inner)?;
-                Ok(self.add_defined(DefinedType::List(value))?)
-            }
-            Type::Option(inner, _) => {
-                let value = self.ty(names, inner)?;
-                Ok(self.add_defined(DefinedType::Option(value))?)
-            }
-            Type::Result { ok, err, .. } => {
-                let ok = self.optional(names, ok)?;
-                let err = self.optional(names, err)?;
-                Ok(self.add_defined(DefinedType::Result { ok, err })?)
-            }
-            Type::Borrow(id, _) => Ok(ValueType::Borrow(named_resource(self.alloc, names, id)?)),
-            Type::Stream(inner, _) => {
-                let value = self.optional(names, inner)?;
-                Ok(self.add_defined(DefinedType::Stream(value))?)
-            }
-            Type::Future(inner, _) => {
-                let value = self.optional(names, inner)?;
-                Ok(self.add_defined(DefinedType::Future(value))?)
-            }
-            Type::ErrorContext(_) => Ok(ValueType::Primitive(PrimitiveType::ErrorContext)),
-            Type::Ident(id) => named_type(self.alloc, names, id),
+/// The type of values that a type means.
+#[cycle(types)]
+pub fn value_type(
+    state: &mut State,
+    names: &Names<'_, ItemKind>,
+    ty: &Type<'_>,
+) -> Result<ValueType, Error>
+    requires { ItemsNamed state.old.graph.types (values_of names.now) }
+    ensures ok { IfOk result (λ v. TypeIs state.old.graph state.new.graph (values_of names.now) (ty_of ty.now) v) }
+    ensures err { IfErr result (λ e. (naming : Naming) → TypeBroken (scope_of naming state.old.graph (values_of names.now)) (ty_of ty.now) (told e)) }
+{
+    match ty {
+        Type::U8(_) => Ok(ValueType::Primitive(PrimitiveType::U8)),
+        Type::S8(_) => Ok(ValueType::Primitive(PrimitiveType::S8)),
+        Type::U16(_) => Ok(ValueType::Primitive(PrimitiveType::U16)),
+        Type::S16(_) => Ok(ValueType::Primitive(PrimitiveType::S16)),
+        Type::U32(_) => Ok(ValueType::Primitive(PrimitiveType::U32)),
+        Type::S32(_) => Ok(ValueType::Primitive(PrimitiveType::S32)),
+        Type::U64(_) => Ok(ValueType::Primitive(PrimitiveType::U64)),
+        Type::S64(_) => Ok(ValueType::Primitive(PrimitiveType::S64)),
+        Type::F32(_) => Ok(ValueType::Primitive(PrimitiveType::F32)),
+        Type::F64(_) => Ok(ValueType::Primitive(PrimitiveType::F64)),
+        Type::Char(_) => Ok(ValueType::Primitive(PrimitiveType::Char)),
+        Type::Bool(_) => Ok(ValueType::Primitive(PrimitiveType::Bool)),
+        Type::String(_) => Ok(ValueType::Primitive(PrimitiveType::String)),
+        Type::Tuple(types, _) => {
+            let values = value_types(state, names, types)?;
+            Ok(state.add_defined(DefinedType::Tuple(values))?)
         }
+        Type::List(inner, _) => {
+            let value = value_type(state, names, inner)?;
+            Ok(state.add_defined(DefinedType::List(value))?)
+        }
+        Type::Option(inner, _) => {
+            let value = value_type(state, names, inner)?;
+            Ok(state.add_defined(DefinedType::Option(value))?)
+        }
+        Type::Result { ok, err, .. } => {
+            let ok = optional(state, names, ok)?;
+            let err = optional(state, names, err)?;
+            Ok(state.add_defined(DefinedType::Result { ok, err })?)
+        }
+        Type::Borrow(id, _) => Ok(ValueType::Borrow(named_resource(state.alloc, names, id)?)),
+        Type::Stream(inner, _) => {
+            let value = optional(state, names, inner)?;
+            Ok(state.add_defined(DefinedType::Stream(value))?)
+        }
+        Type::Future(inner, _) => {
+            let value = optional(state, names, inner)?;
+            Ok(state.add_defined(DefinedType::Future(value))?)
+        }
+        Type::ErrorContext(_) => Ok(ValueType::Primitive(PrimitiveType::ErrorContext)),
+        Type::Ident(id) => named_type(state.alloc, names, id),
     }
+}
 
-    /// The type that may be left out.
-    #[cycle(types)]
-    fn optional(
-        &mut self,
-        names: &Names<'_, ItemKind>,
-        ty: &Option<Box<Type<'_>>>,
-    ) -> Result<Option<ValueType>, Error>
-        requires { ItemsNamed self.old.graph.types (values_of names.now) }
-        ensures ok { IfOk result (λ v. OptionalIs self.old.graph self.new.graph (values_of names.now) (optional_of ty.now) v) }
-        ensures err { IfErr result (λ e. (naming : Naming) → OptionalBroken (scope_of naming self.old.graph (values_of names.now)) (optional_of ty.now) (told e)) }
-    {
-        match ty {
-            Some(ty) => Ok(Some(self.ty(names, ty)?)),
-            None => Ok(None),
-        }
+/// The type that may be left out.
+#[cycle(types)]
+fn optional(
+    state: &mut State,
+    names: &Names<'_, ItemKind>,
+    ty: &Option<Box<Type<'_>>>,
+) -> Result<Option<ValueType>, Error>
+    requires { ItemsNamed state.old.graph.types (values_of names.now) }
+    ensures ok { IfOk result (λ v. OptionalIs state.old.graph state.new.graph (values_of names.now) (optional_of ty.now) v) }
+    ensures err { IfErr result (λ e. (naming : Naming) → OptionalBroken (scope_of naming state.old.graph (values_of names.now)) (optional_of ty.now) (told e)) }
+{
+    match ty {
+        Some(ty) => Ok(Some(value_type(state, names, ty)?)),
+        None => Ok(None),
     }
+}
 
-    /// The types of values that types mean, in order.
-    #[cycle(types)]
-    fn types(
-        &mut self,
-        names: &Names<'_, ItemKind>,
-        types: &[Type<'_>],
-    ) -> Result<Vec<ValueType>, Error>
-        requires { ItemsNamed self.old.graph.types (values_of names.now) }
-        ensures ok { IfOk result (λ vs. TypesAre self.old.graph self.new.graph (values_of names.now) (types_from (map ty_of types.now)) vs.items) }
-        ensures err { IfErr result (λ e. (naming : Naming) → TypesBroken (scope_of naming self.old.graph (values_of names.now)) (types_from (map ty_of types.now)) (told e)) }
-    {
-        let mut values = Vec::new(self.alloc);
-        for ty in types {
-            let value = self.ty(names, ty)?;
-            values.push(value)?;
-        }
-        Ok(values)
+/// The types of values that types mean, in order.
+#[cycle(types)]
+fn value_types(
+    state: &mut State,
+    names: &Names<'_, ItemKind>,
+    types: &[Type<'_>],
+) -> Result<Vec<ValueType>, Error>
+    requires { ItemsNamed state.old.graph.types (values_of names.now) }
+    ensures ok { IfOk result (λ vs. TypesAre state.old.graph state.new.graph (values_of names.now) (types_from (map ty_of types.now)) vs.items) }
+    ensures err { IfErr result (λ e. (naming : Naming) → TypesBroken (scope_of naming state.old.graph (values_of names.now)) (types_from (map ty_of types.now)) (told e)) }
+{
+    let mut values = Vec::new(state.alloc);
+    for ty in types {
+        let value = value_type(state, names, ty)?;
+        values.push(value)?;
     }
+    Ok(values)
 }

@@ -8,7 +8,7 @@ use Rattle.wac_types.specs.Shape.{IsNoneOf, is_interface_form}
 use Rattle.wac_graph.specs.Graph.{Parts}
 use Rattle.wac_graph.specs.Means.{means}
 use Rattle.wac_graph.specs.Origin.{Naming}
-use Rattle.wac_resolution_types.proofs.Scopes.{memory_told}
+use Rattle.wac_resolution_state.proofs.Scopes.{memory_told}
 
 -- what is no interface
 pub not_interface : (naming : Naming) (g : Parts) (k : ItemKind) → ((i : InterfaceId) → k ≡ kinds.Ty (types.Interface i) → ⊥) → IsNoneOf is_interface_form (means naming g k)

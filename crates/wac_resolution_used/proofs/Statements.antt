@@ -15,7 +15,7 @@ use Rattle.wac_resolution_errors.specs.Error.{Error}
 use Rattle.wac_resolution_rules.specs.Bodies.{Body, with_count, UsesItem}
 use Rattle.wac_resolution_rules.specs.BrokenBodies.{UseItemBroken, UseBroken}
 use Rattle.wac_resolution_rules.specs.Spans.{use_path_name}
-use Rattle.wac_resolution_types.specs.Named.{scope_of}
+use Rattle.wac_resolution_state.specs.Named.{scope_of}
 use Rattle.wac_resolution_paths.specs.declared.setting.Setting.{Setting}
 use Rattle.wac_resolution_paths.specs.Setting.{setting_of}
 use Rattle.wac_resolution_bodies.specs.Lists.{Lists}

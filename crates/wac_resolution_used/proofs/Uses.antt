@@ -25,9 +25,9 @@ use Rattle.wac_resolution_errors.specs.Error.{Error, use_conflict}
 use Rattle.wac_resolution_rules.specs.Bodies.{Body, externs, with_type, used_as, renamed_from, UsesItem}
 use Rattle.wac_resolution_rules.specs.BrokenBodies.{IsNoTypeThere, IsNoUsableType, IsUseConflict, UseItemBroken, help_of_use}
 use Rattle.wac_resolution_rules.specs.Places.{at_ident, used_at}
-use Rattle.wac_resolution_types.specs.Bindings.{values_of, places_of}
-use Rattle.wac_resolution_types.proofs.Grown.{grows_self}
-use Rattle.wac_resolution_types.proofs.Scopes.{memory_told}
+use Rattle.wac_resolution_state.specs.Bindings.{values_of, places_of}
+use Rattle.wac_resolution_state.proofs.Grown.{grows_self}
+use Rattle.wac_resolution_state.proofs.Scopes.{memory_told}
 use Rattle.wac_resolution_bodies.specs.Lists.{Lists, kinds_of, with_bound, with_used}
 use Rattle.wac_resolution_bodies.specs.Bodies.{body_in, UsesNamed, Covers, IsBody}
 use Rattle.wac_resolution_rules.proofs.Scopes.{fresh_before, fresh_after}

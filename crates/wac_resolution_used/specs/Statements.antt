@@ -19,8 +19,8 @@ use Rattle.wac_resolution_rules.specs.BrokenBodies.{UsePathBroken, IsNoInterface
 use Rattle.wac_resolution_rules.specs.Paths as rules
 use Rattle.wac_resolution_rules.specs.Places.{used_at}
 use Rattle.wac_resolution_rules.specs.Spans.{use_path_name, use_path_span}
-use Rattle.wac_resolution_types.specs.Bindings.{places_of}
-use Rattle.wac_resolution_types.specs.Named.{scope_of}
+use Rattle.wac_resolution_state.specs.Bindings.{places_of}
+use Rattle.wac_resolution_state.specs.Named.{scope_of}
 use Rattle.wac_resolution_paths.specs.declared.setting.Setting.{Setting}
 use Rattle.wac_resolution_paths.specs.Expands.{Expands, HoldsHanded, Found}
 use Rattle.wac_resolution_paths.specs.Setting.{packages_in, setting_of}

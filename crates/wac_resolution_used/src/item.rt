@@ -21,7 +21,7 @@ use wac_ast_uses::UseItem;
 use wac_graph::{ExternKind, InterfaceId, ItemKind, Type};
 use wac_resolution_bodies::Body;
 use wac_resolution_errors::Error;
-use wac_resolution_types::State;
+use wac_resolution_state::State;
 
 /// The identifier by which a used type goes here.
 pub fn used_as<'x, 'a>(item: &'x UseItem<'a>) -> &'x Ident<'a>

@@ -19,7 +19,7 @@ use wac_ast_uses::UseItem;
 use wac_graph::{ExternKind, InterfaceId, UsedType};
 use wac_resolution_bodies::Body;
 use wac_resolution_errors::Error;
-use wac_resolution_types::State;
+use wac_resolution_state::State;
 
 /// Takes a type of an interface over.
 fn use_item<'a>(

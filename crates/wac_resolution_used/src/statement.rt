@@ -5,8 +5,8 @@ ghost use Rattle.wac_ast_uses.specs.Uses.{use_of, use_path_of};
 ghost use Rattle.wac_graph.specs.Origin.{Naming};
 ghost use Rattle.wac_resolution_errors.specs.Told.{told};
 ghost use Rattle.wac_resolution_rules.specs.BrokenBodies.{UseBroken};
-ghost use Rattle.wac_resolution_types.specs.Bindings.{values_of};
-ghost use Rattle.wac_resolution_types.specs.Named.{scope_of};
+ghost use Rattle.wac_resolution_state.specs.Bindings.{values_of};
+ghost use Rattle.wac_resolution_state.specs.Named.{scope_of};
 ghost use Rattle.wac_resolution_paths.specs.Expands.{HoldsHanded};
 ghost use Rattle.wac_resolution_paths.specs.Setting.{packages_in, setting_of};
 ghost use Rattle.wac_resolution_bodies.specs.Lists.{lists_of};
@@ -20,7 +20,7 @@ use wac_graph::{ExternKind, InterfaceId, ItemKind};
 use wac_resolution_bodies::Body;
 use wac_resolution_errors::Error;
 use wac_resolution_paths::{Setting, use_path};
-use wac_resolution_types::{Names, State};
+use wac_resolution_state::{Names, State};
 
 /// The interface that a path or an identifier names.
 fn used_interface(

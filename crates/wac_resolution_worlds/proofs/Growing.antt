@@ -14,8 +14,8 @@ use Rattle.wac_graph.specs.Origin.{Naming}
 use Rattle.wac_graph.specs.Package.{Key}
 use Rattle.wac_resolution_rules.specs.Bodies.{Body}
 use Rattle.wac_resolution_rules.proofs.StepLaws.{steps_on_map, fails_at_map}
-use Rattle.wac_resolution_types.specs.Bindings.{places_of}
-use Rattle.wac_resolution_types.specs.Named.{scope_of}
+use Rattle.wac_resolution_state.specs.Bindings.{places_of}
+use Rattle.wac_resolution_state.specs.Named.{scope_of}
 use Rattle.wac_resolution_paths.specs.Expands.{HoldsHanded}
 use Rattle.wac_resolution_paths.proofs.Expanding.{expands_self, expands_on, grows_expands, handed_grown, scope_expanded}
 use Rattle.wac_resolution_bodies.specs.Lists.{Lists}

@@ -22,8 +22,8 @@ use Rattle.wac_resolution_rules.specs.BrokenWorlds.{WorldRefBroken, IsNoWorld, T
 use Rattle.wac_resolution_rules.specs.Includes.{Included, HasInclude}
 use Rattle.wac_resolution_rules.specs.Paths as rules
 use Rattle.wac_resolution_rules.specs.Worlds.{include_in, includes_of}
-use Rattle.wac_resolution_types.specs.Bindings.{values_of}
-use Rattle.wac_resolution_types.specs.Named.{scope_of}
+use Rattle.wac_resolution_state.specs.Bindings.{values_of}
+use Rattle.wac_resolution_state.specs.Named.{scope_of}
 use Rattle.wac_resolution_paths.specs.declared.setting.Setting.{Setting}
 use Rattle.wac_resolution_paths.specs.Expands.{Expands, HoldsHanded, Found}
 use Rattle.wac_resolution_paths.specs.Setting.{packages_in, setting_of}

@@ -32,8 +32,8 @@ use Rattle.wac_resolution_rules.specs.BrokenWorlds.{InterfaceItemBroken, Interfa
 use Rattle.wac_resolution_rules.specs.Paths as rules
 use Rattle.wac_resolution_rules.specs.Places.{bound_in_interface_item, bound_in_interface}
 use Rattle.wac_resolution_rules.specs.Worlds.{IsFuncRef, HasInterfaceItem}
-use Rattle.wac_resolution_types.specs.Bindings.{values_of, places_of}
-use Rattle.wac_resolution_types.specs.Named.{scope_of}
+use Rattle.wac_resolution_state.specs.Bindings.{values_of, places_of}
+use Rattle.wac_resolution_state.specs.Named.{scope_of}
 use Rattle.wac_resolution_paths.specs.declared.setting.Setting.{Setting}
 use Rattle.wac_resolution_paths.specs.Expands.{HoldsHanded}
 use Rattle.wac_resolution_paths.specs.Setting.{packages_in, setting_of}

@@ -28,9 +28,9 @@ use Rattle.wac_resolution_rules.specs.Paths.{Setting}
 use Rattle.wac_ast_types.specs.Declarations.{func_type_ref_of}
 use Rattle.wac_ast_types.specs.declared.func_type.FuncTypeRef.{FuncTypeRef as CodeFuncTypeRef}
 use Rattle.wac_resolution_types.specs.Funcs.{types_named, FuncIs}
-use Rattle.wac_resolution_types.specs.Named.{scope_of, KindIs}
-use Rattle.wac_resolution_types.proofs.Grown.{grows_self}
-use Rattle.wac_resolution_types.proofs.Scopes.{memory_told}
+use Rattle.wac_resolution_state.specs.Named.{scope_of, KindIs}
+use Rattle.wac_resolution_state.proofs.Grown.{grows_self}
+use Rattle.wac_resolution_state.proofs.Scopes.{memory_told}
 use Rattle.wac_resolution_worlds.specs.Referred.{FuncNamed, NewFunc, FuncRefIs, IsExternKind, IsNoExternKind, ExternNamed}
 use Rattle.wac_resolution_worlds.specs.Instances.{IsInterfaceKind}
 

@@ -30,8 +30,8 @@ use Rattle.wac_resolution_rules.specs.BrokenWorlds.{ExternBroken, WorldItemBroke
 use Rattle.wac_resolution_rules.specs.Includes.{HasInclude}
 use Rattle.wac_resolution_rules.specs.Places.{bound_in_world_item, bound_in_world}
 use Rattle.wac_resolution_rules.specs.Worlds.{HasWorldItem, includes_of}
-use Rattle.wac_resolution_types.specs.Bindings.{places_of}
-use Rattle.wac_resolution_types.specs.Named.{scope_of}
+use Rattle.wac_resolution_state.specs.Bindings.{places_of}
+use Rattle.wac_resolution_state.specs.Named.{scope_of}
 use Rattle.wac_resolution_paths.specs.declared.setting.Setting.{Setting}
 use Rattle.wac_resolution_paths.specs.Expands.{HoldsHanded}
 use Rattle.wac_resolution_paths.specs.Setting.{packages_in, setting_of}

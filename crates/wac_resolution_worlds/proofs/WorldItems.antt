@@ -31,9 +31,9 @@ use Rattle.wac_resolution_rules.specs.BrokenBodies.{Owner, IsConflict}
 use Rattle.wac_resolution_rules.specs.BrokenWorlds.{ExternTypeBroken, InstanceBroken, ExternBroken}
 use Rattle.wac_resolution_rules.specs.Paths as rules
 use Rattle.wac_resolution_rules.specs.Worlds.{id_or_empty, HasInstance, HasExtern}
-use Rattle.wac_resolution_types.specs.Bindings.{values_of, places_of}
-use Rattle.wac_resolution_types.specs.Named.{scope_of, KindIs}
-use Rattle.wac_resolution_types.proofs.Grown.{grows_self}
+use Rattle.wac_resolution_state.specs.Bindings.{values_of, places_of}
+use Rattle.wac_resolution_state.specs.Named.{scope_of, KindIs}
+use Rattle.wac_resolution_state.proofs.Grown.{grows_self}
 use Rattle.wac_resolution_paths.specs.declared.setting.Setting.{Setting}
 use Rattle.wac_resolution_paths.specs.Expands.{Expands, HoldsHanded, Found}
 use Rattle.wac_resolution_paths.specs.Setting.{packages_in, setting_of}

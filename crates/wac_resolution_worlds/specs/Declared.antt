@@ -10,7 +10,7 @@ use Rattle.wac_graph.specs.Graph.{Parts}
 use Rattle.wac_graph.specs.Means.{declared_count}
 use Rattle.wac_resolution_rules.specs.TypeStatements.{version_part, declared_id}
 use Rattle.wac_resolution_rules.specs.Worlds.{IsInterface, IsWorld}
-use Rattle.wac_resolution_types.specs.Named.{scope_of}
+use Rattle.wac_resolution_state.specs.Named.{scope_of}
 use Rattle.wac_resolution_paths.specs.declared.setting.Setting.{Setting}
 use Rattle.wac_resolution_paths.specs.Setting.{packages_in, setting_of}
 use Rattle.wac_resolution_worlds.specs.Made.{KindMade}

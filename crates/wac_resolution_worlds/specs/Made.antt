@@ -18,8 +18,8 @@ use Rattle.wac_graph.specs.Package.{Key}
 use Rattle.wac_resolution_rules.specs.Paths as rules
 use Rattle.wac_resolution_rules.specs.Places.{bound_in_interface_item, bound_in_interface}
 use Rattle.wac_resolution_rules.specs.Worlds.{HasInterfaceItem, IsInterface}
-use Rattle.wac_resolution_types.specs.Growth.{AddsInterface}
-use Rattle.wac_resolution_types.specs.Named.{scope_of}
+use Rattle.wac_resolution_state.specs.Growth.{AddsInterface}
+use Rattle.wac_resolution_state.specs.Named.{scope_of}
 use Rattle.wac_resolution_paths.specs.declared.setting.Setting.{Setting}
 use Rattle.wac_resolution_paths.specs.Expands.{Expands, HoldsHanded}
 use Rattle.wac_resolution_paths.specs.Setting.{packages_in, setting_of}

@@ -16,7 +16,7 @@ use Rattle.wac_resolution_rules.specs.Paths.{Setting}
 use Rattle.wac_resolution_rules.specs.Types.{IsFunc}
 use Rattle.wac_resolution_rules.specs.Worlds.{IsFuncRef, HasExternType}
 use Rattle.wac_resolution_types.specs.Funcs.{FuncAdded}
-use Rattle.wac_resolution_types.specs.Named.{scope_of}
+use Rattle.wac_resolution_state.specs.Named.{scope_of}
 
 -- the identifier stands for a function or function type, of this entry, whatever the graph is
 pub record FuncNamed (ks : Named ItemKind) (x : Ident) (f : FuncTypeId) : Type 0 where

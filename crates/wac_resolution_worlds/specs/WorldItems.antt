@@ -21,9 +21,9 @@ use Rattle.wac_resolution_rules.specs.Includes.{HasInclude}
 use Rattle.wac_resolution_rules.specs.Paths as rules
 use Rattle.wac_resolution_rules.specs.Places.{bound_in_world_item, bound_in_world}
 use Rattle.wac_resolution_rules.specs.Worlds.{HasExternType, HasInstance, HasExtern, HasWorldItem, IsWorld}
-use Rattle.wac_resolution_types.specs.Bindings.{values_of}
-use Rattle.wac_resolution_types.specs.Growth.{AddsWorld}
-use Rattle.wac_resolution_types.specs.Named.{scope_of}
+use Rattle.wac_resolution_state.specs.Bindings.{values_of}
+use Rattle.wac_resolution_state.specs.Growth.{AddsWorld}
+use Rattle.wac_resolution_state.specs.Named.{scope_of}
 use Rattle.wac_resolution_paths.specs.declared.setting.Setting.{Setting}
 use Rattle.wac_resolution_paths.specs.Expands.{Expands, HoldsHanded}
 use Rattle.wac_resolution_paths.specs.Setting.{packages_in, setting_of}

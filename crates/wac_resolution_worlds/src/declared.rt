@@ -7,8 +7,8 @@ ghost use Rattle.wac_graph.specs.Origin.{Naming};
 ghost use Rattle.wac_resolution_errors.specs.Told.{told};
 ghost use Rattle.wac_resolution_rules.specs.BrokenWorlds.{InterfaceBroken, WorldBroken};
 ghost use Rattle.wac_resolution_rules.specs.TypeStatements.{version_part};
-ghost use Rattle.wac_resolution_types.specs.Bindings.{values_of};
-ghost use Rattle.wac_resolution_types.specs.Named.{scope_of};
+ghost use Rattle.wac_resolution_state.specs.Bindings.{values_of};
+ghost use Rattle.wac_resolution_state.specs.Named.{scope_of};
 ghost use Rattle.wac_resolution_paths.specs.Expands.{HoldsHanded};
 ghost use Rattle.wac_resolution_paths.specs.Setting.{packages_in, setting_of};
 ghost use Rattle.wac_resolution_worlds.specs.Declared.{id_text, InterfaceDeclared, WorldDeclared};
@@ -20,7 +20,7 @@ use wac_ast_worlds::{InterfaceDecl, WorldDecl, WorldItem};
 use wac_graph::{ItemKind, Type};
 use wac_resolution_errors::Error;
 use wac_resolution_paths::Setting;
-use wac_resolution_types::{Names, State};
+use wac_resolution_state::{Names, State};
 
 /// Adds a version after `@`, if there is one.
 fn push_version(text: &mut String, version: Option<&str>) -> Result<(), AllocError>

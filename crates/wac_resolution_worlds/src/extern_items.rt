@@ -10,8 +10,8 @@ ghost use Rattle.wac_graph.specs.Origin.{Naming};
 ghost use Rattle.wac_resolution_errors.specs.Told.{told};
 ghost use Rattle.wac_resolution_rules.specs.BrokenWorlds.{ExternTypeBroken, ExternBroken};
 ghost use Rattle.wac_resolution_rules.specs.Paths as rules;
-ghost use Rattle.wac_resolution_types.specs.Bindings.{values_of};
-ghost use Rattle.wac_resolution_types.specs.Named.{scope_of};
+ghost use Rattle.wac_resolution_state.specs.Bindings.{values_of};
+ghost use Rattle.wac_resolution_state.specs.Named.{scope_of};
 ghost use Rattle.wac_resolution_paths.specs.Expands.{HoldsHanded};
 ghost use Rattle.wac_resolution_paths.specs.Setting.{packages_in, setting_of};
 ghost use Rattle.wac_resolution_bodies.specs.Lists.{lists_of};
@@ -29,7 +29,7 @@ use wac_graph::{ExternKind, ItemKind};
 use wac_resolution_bodies::{Body, Owner, check_extern};
 use wac_resolution_errors::Error;
 use wac_resolution_paths::{Setting, path};
-use wac_resolution_types::{Names, State, kind_of};
+use wac_resolution_state::{Names, State, kind_of};
 
 /// The kind of an import or export that is given a name.
 fn extern_type(

@@ -8,15 +8,15 @@ ghost use Rattle.wac_graph.specs.Origin.{Naming};
 ghost use Rattle.wac_resolution_errors.specs.Told.{told};
 ghost use Rattle.wac_resolution_rules.specs.Paths.{Setting};
 ghost use Rattle.wac_resolution_rules.specs.BrokenWorlds.{ExternTypeBroken};
-ghost use Rattle.wac_resolution_types.specs.Bindings.{values_of};
-ghost use Rattle.wac_resolution_types.specs.Named.{scope_of};
+ghost use Rattle.wac_resolution_state.specs.Bindings.{values_of};
+ghost use Rattle.wac_resolution_state.specs.Named.{scope_of};
 ghost use Rattle.wac_resolution_worlds.specs.Referred.{IsExternKind, IsNoExternKind, ExternNamed};
 
 use std::alloc::Global;
 use wac_ast_base::Ident;
 use wac_graph::{ItemKind, Type};
 use wac_resolution_errors::Error;
-use wac_resolution_types::Names;
+use wac_resolution_state::Names;
 
 /// What a name stands for in a body, else at root.
 #[tactic(auto, using(crate::proofs::Refer::either_found))]

@@ -10,8 +10,8 @@ ghost use Rattle.wac_graph.specs.Origin.{Naming};
 ghost use Rattle.wac_resolution_errors.specs.Told.{told};
 ghost use Rattle.wac_resolution_rules.specs.BrokenTypes.{FuncBroken};
 ghost use Rattle.wac_resolution_rules.specs.BrokenWorlds.{FuncRefBroken};
-ghost use Rattle.wac_resolution_types.specs.Bindings.{values_of};
-ghost use Rattle.wac_resolution_types.specs.Named.{scope_of};
+ghost use Rattle.wac_resolution_state.specs.Bindings.{values_of};
+ghost use Rattle.wac_resolution_state.specs.Named.{scope_of};
 ghost use Rattle.wac_resolution_worlds.specs.Referred.{FuncNamed, NewFunc, FuncRefIs};
 
 use indexmap::IndexMap;
@@ -20,7 +20,7 @@ use wac_ast_base::Ident;
 use wac_ast_types::{FuncType, FuncTypeRef};
 use wac_graph::{FuncKind, FuncTypeId, ItemKind, Type};
 use wac_resolution_errors::Error;
-use wac_resolution_types::{Names, State, kind_of};
+use wac_resolution_state::{Names, State, kind_of};
 
 /// The function type that an identifier of a function or function type stands for.
 #[tactic(auto, using(crate::proofs::Refer::funcs_found))]
@@ -54,7 +54,7 @@ pub fn new_func(
     ensures err { IfErr result (λ e. (naming : Naming) → FuncBroken funcs.Free (scope_of naming state.old.graph (values_of names.now)) [] (func_type_of func.now) (told e)) }
 {
     let first = IndexMap::new(state.alloc);
-    Ok(state.func(names, FuncKind::Free, first, func)?)
+    Ok(wac_resolution_types::function(state, names, FuncKind::Free, first, func)?)
 }
 
 /// The function type of a reference.

@@ -10,8 +10,8 @@ ghost use Rattle.wac_resolution_errors.specs.Told.{told};
 ghost use Rattle.wac_resolution_rules.specs.BrokenWorlds.{IncludeBroken};
 ghost use Rattle.wac_resolution_rules.specs.Includes.{HasInclude};
 ghost use Rattle.wac_resolution_rules.specs.Worlds.{includes_of, include_in as include_of};
-ghost use Rattle.wac_resolution_types.specs.Bindings.{values_of};
-ghost use Rattle.wac_resolution_types.specs.Named.{scope_of};
+ghost use Rattle.wac_resolution_state.specs.Bindings.{values_of};
+ghost use Rattle.wac_resolution_state.specs.Named.{scope_of};
 ghost use Rattle.wac_resolution_paths.specs.Expands.{HoldsHanded};
 ghost use Rattle.wac_resolution_paths.specs.Setting.{packages_in, setting_of};
 ghost use Rattle.wac_resolution_bodies.specs.Lists.{lists_of};
@@ -25,7 +25,7 @@ use wac_resolution_bodies::Body;
 use wac_resolution_errors::Error;
 use wac_resolution_includes::{Inclusion, entries};
 use wac_resolution_paths::{Setting, world_ref};
-use wac_resolution_types::{Names, State};
+use wac_resolution_state::{Names, State};
 
 /// Carries out an include into the world of a name.
 fn include(

@@ -17,7 +17,7 @@ use wac_graph::{CompositionGraph, ExternKind, InterfaceId, ItemKind};
 use wac_lexer::SourceSpan;
 use wac_resolution_bodies::{Body, Owner, check_extern};
 use wac_resolution_errors::Error;
-use wac_resolution_types::State;
+use wac_resolution_state::State;
 use wac_resolution_used::interface_of;
 
 /// A text, which is empty if it is left out.

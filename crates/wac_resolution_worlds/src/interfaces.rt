@@ -13,8 +13,8 @@ ghost use Rattle.wac_resolution_rules.specs.BrokenWorlds.{InterfaceItemBroken, I
 ghost use Rattle.wac_resolution_rules.specs.Paths as rules;
 ghost use Rattle.wac_resolution_rules.specs.Places.{bound_in_interface};
 ghost use Rattle.wac_resolution_rules.specs.Worlds.{HasInterfaceItem};
-ghost use Rattle.wac_resolution_types.specs.Bindings.{values_of, places_of};
-ghost use Rattle.wac_resolution_types.specs.Named.{scope_of};
+ghost use Rattle.wac_resolution_state.specs.Bindings.{values_of, places_of};
+ghost use Rattle.wac_resolution_state.specs.Named.{scope_of};
 ghost use Rattle.wac_resolution_paths.specs.Expands.{HoldsHanded};
 ghost use Rattle.wac_resolution_paths.specs.Setting.{packages_in, setting_of};
 ghost use Rattle.wac_resolution_bodies.specs.Lists.{lists_of};
@@ -29,7 +29,7 @@ use wac_graph::{ExternKind, Interface, InterfaceId, ItemKind};
 use wac_resolution_bodies::{Body, Owner, check_extern};
 use wac_resolution_errors::Error;
 use wac_resolution_paths::Setting;
-use wac_resolution_types::{Names, State};
+use wac_resolution_state::{Names, State};
 use wac_resolution_used::use_statement;
 
 /// Takes the export of a function.

@@ -10,8 +10,8 @@ ghost use Rattle.wac_resolution_errors.specs.Told.{told};
 ghost use Rattle.wac_resolution_rules.specs.BrokenWorlds.{WorldItemBroken};
 ghost use Rattle.wac_resolution_rules.specs.Places.{bound_in_world};
 ghost use Rattle.wac_resolution_rules.specs.Worlds.{HasWorldItem};
-ghost use Rattle.wac_resolution_types.specs.Bindings.{values_of, places_of};
-ghost use Rattle.wac_resolution_types.specs.Named.{scope_of};
+ghost use Rattle.wac_resolution_state.specs.Bindings.{values_of, places_of};
+ghost use Rattle.wac_resolution_state.specs.Named.{scope_of};
 ghost use Rattle.wac_resolution_paths.specs.Expands.{HoldsHanded};
 ghost use Rattle.wac_resolution_paths.specs.Setting.{packages_in, setting_of};
 ghost use Rattle.wac_resolution_bodies.specs.Lists.{lists_of};
@@ -26,7 +26,7 @@ use wac_graph::{ExternKind, ItemKind};
 use wac_resolution_bodies::{Body, Owner};
 use wac_resolution_errors::Error;
 use wac_resolution_paths::Setting;
-use wac_resolution_types::{Names, State};
+use wac_resolution_state::{Names, State};
 use wac_resolution_used::use_statement;
 
 /// Takes an item of a world. Includes come afterwards.

@@ -6,8 +6,8 @@ ghost use Rattle.wac_graph.specs.Means.{declared_count};
 ghost use Rattle.wac_graph.specs.Origin.{Naming};
 ghost use Rattle.wac_resolution_errors.specs.Told.{told};
 ghost use Rattle.wac_resolution_rules.specs.BrokenWorlds.{WorldBroken};
-ghost use Rattle.wac_resolution_types.specs.Bindings.{values_of};
-ghost use Rattle.wac_resolution_types.specs.Named.{scope_of};
+ghost use Rattle.wac_resolution_state.specs.Bindings.{values_of};
+ghost use Rattle.wac_resolution_state.specs.Named.{scope_of};
 ghost use Rattle.wac_resolution_paths.specs.Expands.{HoldsHanded};
 ghost use Rattle.wac_resolution_paths.specs.Setting.{packages_in, setting_of};
 ghost use Rattle.wac_resolution_bodies.specs.Lists.{lists_of};
@@ -21,7 +21,7 @@ use wac_graph::{ItemKind, World, WorldId};
 use wac_resolution_bodies::{Body, Owner};
 use wac_resolution_errors::Error;
 use wac_resolution_paths::Setting;
-use wac_resolution_types::{Names, State};
+use wac_resolution_state::{Names, State};
 
 /// Adds a world with the uses, imports and exports of a body.
 fn finish_world(

@@ -8,9 +8,9 @@ use Rattle.wac_resolution_errors.specs.Error.{memory}
 use Rattle.wac_resolution_errors.specs.Told.{told}
 use Rattle.wac_resolution_rules.specs.Bodies.{constructor_name}
 use Rattle.wac_resolution_rules.specs.BrokenTypes.{ParamsBroken}
-use Rattle.wac_resolution_types.specs.Bindings.{values_of}
+use Rattle.wac_resolution_state.specs.Bindings.{values_of}
 use Rattle.wac_resolution_types.specs.Funcs.{ConstructorIs}
-use Rattle.wac_resolution_types.specs.Named.{scope_of}
+use Rattle.wac_resolution_state.specs.Named.{scope_of}
 use Rattle.wac_resolution_bodies.specs.Lists.{lists_of}
 use Rattle.wac_resolution_bodies.proofs.Methods.{constructor_goes, params_break}
 use Rattle.wac_resolution_bodies.proofs.method.add_constructor.Goals as goal
@@ -28,7 +28,7 @@ returns-in_err-func-clause-err c =
 
 pub returns-clause-ok : goal.returns-clause-ok
 returns-clause-ok c =
-    let added = subst (λ (l : List NamedType). ConstructorIs c.args.state.now.graph c.constructor.new.self.graph (values_of c.args.body.now.names) c.args.resource (map named_type_of l) c.in_ok-func.func) c.deref.ensures.value c.in_ok-func.ensures.ok in
+    let added = subst (λ (l : List NamedType). ConstructorIs c.args.state.now.graph c.constructor.new.state.graph (values_of c.args.body.now.names) c.args.resource (map named_type_of l) c.in_ok-func.func) c.deref.ensures.value c.in_ok-func.ensures.ok in
     let same : c.deref-2.result.now ≡ constructor_name c.args.name.now = c.deref-2.ensures ∙ c.in_ok-full.ensures.name in
-    constructor_goes c.args.side c.args.state.now.graph c.constructor.new.self.graph (lists_of c.args.body.now) (lists_of c.add.new.self) c.args.name.now c.deref-2.result.now c.args.resource (constructor_of c.args.constructor.now) c.in_ok-func.func
+    constructor_goes c.args.side c.args.state.now.graph c.constructor.new.state.graph (lists_of c.args.body.now) (lists_of c.add.new.self) c.args.name.now c.deref-2.result.now c.args.resource (constructor_of c.args.constructor.now) c.in_ok-func.func
     c.requires.body c.in_ok-full.ensures.ok same added c.in_ok-add.ensures

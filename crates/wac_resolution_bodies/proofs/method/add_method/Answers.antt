@@ -20,5 +20,5 @@ returns-in_err-func-clause-err c =
 pub returns-clause-ok : goal.returns-clause-ok
 returns-clause-ok c =
     let same : c.deref.result.now ≡ name_of_method c.args.method.now.is_static c.args.name.now c.args.method.now.id.string.now = c.deref.ensures ∙ c.in_ok-full.ensures.name in
-    method_goes c.args.side c.args.state.now.graph c.method.new.self.graph (lists_of c.args.body.now) (lists_of c.add.new.self) c.args.name.now c.deref.result.now c.args.resource (method_of c.args.method.now) c.in_ok-func.func
+    method_goes c.args.side c.args.state.now.graph c.method.new.state.graph (lists_of c.args.body.now) (lists_of c.add.new.self) c.args.name.now c.deref.result.now c.args.resource (method_of c.args.method.now) c.in_ok-func.func
     c.requires.body c.in_ok-full.ensures.method c.in_ok-full.ensures.fixed same c.in_ok-func.ensures.ok c.in_ok-add.ensures

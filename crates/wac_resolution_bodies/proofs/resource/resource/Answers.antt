@@ -8,7 +8,7 @@ use Rattle.wac_graph.specs.Origin.{Naming}
 use Rattle.wac_resolution_errors.specs.Told.{told}
 use Rattle.wac_resolution_rules.specs.Bodies.{HasMethod}
 use Rattle.wac_resolution_rules.specs.BrokenBodies.{MethodBroken}
-use Rattle.wac_resolution_types.specs.Bindings.{places_of}
+use Rattle.wac_resolution_state.specs.Bindings.{places_of}
 use Rattle.wac_resolution_bodies.specs.Lists.{lists_of}
 use Rattle.wac_resolution_bodies.specs.Bodies.{body_of, MethodsGo}
 use Rattle.wac_resolution_bodies.specs.Owners.{owner_of}

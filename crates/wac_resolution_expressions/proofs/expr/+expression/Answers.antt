@@ -15,7 +15,7 @@ use Rattle.wac_ast_expressions.proofs.ExprViews.{new_is}
 use Rattle.wac_resolution_errors.specs.Told.{told}
 use Rattle.wac_resolution_rules.specs.BrokenTypes.{IsUndefined}
 use Rattle.wac_resolution_rules.specs.Given.{rules_by}
-use Rattle.wac_resolution_types.proofs.TypeParts.{most_at}
+use Rattle.wac_resolution_state.proofs.Sizes.{most_at}
 use Rattle.wac_resolution_nodes.specs.Accesses.{AccessesGo}
 use Rattle.wac_resolution_nodes.specs.Root.{numbers_of, NodeIs}
 use Rattle.wac_resolution_paths.specs.Setting.{packages_in}

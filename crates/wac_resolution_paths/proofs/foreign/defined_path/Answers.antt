@@ -9,7 +9,7 @@ use Rattle.wac_ast_base.specs.Names.{package_path_of}
 use Rattle.wac_grammar.specs.Segments.{segment_spans}
 use Rattle.wac_resolution_errors.specs.Error.{memory, package_missing_export}
 use Rattle.wac_resolution_errors.specs.Told.{told}
-use Rattle.wac_resolution_types.proofs.Scopes.{kind_is}
+use Rattle.wac_resolution_state.proofs.Scopes.{kind_is}
 use Rattle.wac_resolution_paths.proofs.Leading.{segments_lead, foreign_misses, foreign_undefined}
 use Rattle.wac_resolution_paths.proofs.foreign.defined_path.Goals as goal
 

@@ -6,8 +6,8 @@ use Rattle.wac_ast_base.specs.Names.{package_path_of}
 use Rattle.wac_grammar.specs.Segments.{segment_spans}
 use Rattle.wac_resolution_errors.specs.Told.{told}
 use Rattle.wac_resolution_rules.specs.BrokenTypes.{IsUndefined}
-use Rattle.wac_resolution_types.specs.Bindings.{values_of}
-use Rattle.wac_resolution_types.specs.Named.{scope_of, KindIs}
+use Rattle.wac_resolution_state.specs.Bindings.{values_of}
+use Rattle.wac_resolution_state.specs.Named.{scope_of, KindIs}
 use Rattle.wac_resolution_paths.proofs.Leading.{segments_lead, own_misses, own_undefined}
 use Rattle.wac_resolution_paths.proofs.own.own_path.Goals as goal
 

@@ -7,8 +7,8 @@ use Rattle.wac_graph.specs.Origin.{Naming}
 use Rattle.wac_resolution_errors.specs.Told.{told}
 use Rattle.wac_resolution_rules.specs.BrokenWorlds.{WorldRefBroken}
 use Rattle.wac_resolution_rules.specs.Paths.{WorldNames}
-use Rattle.wac_resolution_types.specs.Bindings.{values_of}
-use Rattle.wac_resolution_types.specs.Named.{scope_of}
+use Rattle.wac_resolution_state.specs.Bindings.{values_of}
+use Rattle.wac_resolution_state.specs.Named.{scope_of}
 use Rattle.wac_resolution_paths.specs.Expands.{Found}
 use Rattle.wac_resolution_paths.specs.Setting.{packages_in, setting_of}
 use Rattle.wac_resolution_paths.proofs.Finding.{ident_broken}

@@ -33,7 +33,7 @@ type_decl-requires c = items_named c.args.state.now.graph c.args.root.now c.requ
 
 pub returns-in-Ty-clause-ok : goal.returns-in-Ty-clause-ok
 returns-in-Ty-clause-ok c =
-    type_kind c.args.setting.now c.args.state.now.graph c.type_decl.new.self.graph c.args.root.now c.args.statement.now (type_decl_of c.in-Ty.decl) c.type_decl.result (ap type_statement_of c.in-Ty.is) c.requires.agrees c.requires.handed c.type_decl.ensures.ok
+    type_kind c.args.setting.now c.args.state.now.graph c.type_decl.new.state.graph c.args.root.now c.args.statement.now (type_decl_of c.in-Ty.decl) c.type_decl.result (ap type_statement_of c.in-Ty.is) c.requires.agrees c.requires.handed c.type_decl.ensures.ok
 
 pub returns-in-Ty-clause-err : goal.returns-in-Ty-clause-err
 returns-in-Ty-clause-err c =

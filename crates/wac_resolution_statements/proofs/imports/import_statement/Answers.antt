@@ -3,7 +3,7 @@ use Rattle.std.proofs.lemmas.Result.{err_from_is_err_and, on_ok_weaker, IfErr-we
 use Rattle.wac_ast_worlds.specs.Worlds.{import_statement_of}
 use Rattle.wac_resolution_errors.specs.Told.{told}
 use Rattle.wac_resolution_rules.specs.Given.{rules_by}
-use Rattle.wac_resolution_types.proofs.Scopes.{memory_told}
+use Rattle.wac_resolution_state.proofs.Scopes.{memory_told}
 use Rattle.wac_resolution_statements.proofs.Imported.{promoted_named, type_breaks, memory_breaks, name_breaks, statement_went}
 use Rattle.wac_resolution_statements.proofs.Standing.{agrees_kept, placed_kept}
 use Rattle.wac_resolution_statements.proofs.imports.import_statement.Goals as goal

@@ -8,8 +8,8 @@ use Rattle.wac_resolution_errors.specs.Told.{told}
 use Rattle.wac_resolution_rules.specs.BrokenBodies.{IsNoInterface}
 use Rattle.wac_resolution_rules.specs.Paths.{UseNames}
 use Rattle.wac_resolution_rules.specs.Spans.{use_path_name}
-use Rattle.wac_resolution_types.specs.Bindings.{values_of}
-use Rattle.wac_resolution_types.specs.Named.{scope_of}
+use Rattle.wac_resolution_state.specs.Bindings.{values_of}
+use Rattle.wac_resolution_state.specs.Named.{scope_of}
 use Rattle.wac_resolution_paths.specs.Expands.{Found}
 use Rattle.wac_resolution_paths.specs.Setting.{packages_in, setting_of}
 use Rattle.wac_resolution_used.proofs.statement.used_interface.Goals as goal

@@ -2,7 +2,7 @@ use Rattle.std.proofs.Common.{map}
 use Rattle.std.specs.Prelude.{string_bytes}
 use Rattle.std.proofs.lemmas.Result.{err_from_is_err_and}
 use Rattle.wac_ast_worlds.specs.Worlds.{world_item_of}
-use Rattle.wac_resolution_types.specs.Bindings.{values_of}
+use Rattle.wac_resolution_state.specs.Bindings.{values_of}
 use Rattle.wac_resolution_worlds.proofs.Declaring.{world_declared}
 use Rattle.wac_resolution_worlds.proofs.declared.world_of.Goals as goal
 

@@ -7,7 +7,7 @@ use Rattle.wac_ast_uses.specs.declared.includes.WorldIncludeItem.{WorldIncludeIt
 use Rattle.wac_resolution_errors.specs.Told.{told}
 use Rattle.wac_resolution_rules.specs.BrokenWorlds.{IsSecondEntry}
 use Rattle.wac_resolution_rules.specs.Includes.{HasEntry}
-use Rattle.wac_resolution_types.specs.Bindings.{values_of}
+use Rattle.wac_resolution_state.specs.Bindings.{values_of}
 use Rattle.wac_resolution_bodies.specs.Lists.{lists_of}
 use Rattle.wac_resolution_includes.specs.Entries.{AreAll}
 use Rattle.wac_resolution_worlds.proofs.Including.{include_goes, world_breaks, taking_breaks}

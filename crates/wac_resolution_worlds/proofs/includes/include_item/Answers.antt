@@ -2,7 +2,7 @@ use Rattle.std.proofs.Common.{sym}
 use Rattle.std.proofs.lemmas.Result.{err_from_is_err_and}
 use Rattle.wac_ast_worlds.specs.Worlds.{world_item_of}
 use Rattle.wac_ast_uses.specs.Uses.{world_include_of}
-use Rattle.wac_resolution_types.specs.Bindings.{values_of}
+use Rattle.wac_resolution_state.specs.Bindings.{values_of}
 use Rattle.wac_resolution_bodies.specs.Lists.{lists_of}
 use Rattle.wac_resolution_worlds.proofs.Including.{no_include, one_include}
 use Rattle.wac_resolution_worlds.proofs.includes.include_item.Goals as goal

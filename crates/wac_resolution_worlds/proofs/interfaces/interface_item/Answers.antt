@@ -8,8 +8,8 @@ use Rattle.wac_ast_uses.specs.declared.uses.Use.{Use}
 use Rattle.wac_graph.specs.Origin.{Naming}
 use Rattle.wac_resolution_errors.specs.Told.{told}
 use Rattle.wac_resolution_rules.specs.BrokenBodies.{UseBroken}
-use Rattle.wac_resolution_types.specs.Bindings.{values_of}
-use Rattle.wac_resolution_types.specs.Named.{scope_of}
+use Rattle.wac_resolution_state.specs.Bindings.{values_of}
+use Rattle.wac_resolution_state.specs.Named.{scope_of}
 use Rattle.wac_resolution_paths.specs.Setting.{setting_of}
 use Rattle.wac_resolution_bodies.specs.Bodies.{body_of}
 use Rattle.wac_resolution_used.specs.Statements.{StatementGoes}

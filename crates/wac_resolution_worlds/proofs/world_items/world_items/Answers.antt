@@ -7,7 +7,7 @@ use Rattle.wac_resolution_errors.specs.Told.{told}
 use Rattle.wac_resolution_rules.specs.BrokenWorlds.{WorldItemBroken}
 use Rattle.wac_resolution_rules.specs.Places.{bound_in_world_item}
 use Rattle.wac_resolution_rules.specs.Worlds.{HasWorldItem}
-use Rattle.wac_resolution_types.specs.Bindings.{values_of, places_of}
+use Rattle.wac_resolution_state.specs.Bindings.{values_of, places_of}
 use Rattle.wac_resolution_paths.specs.Setting.{packages_in, setting_of}
 use Rattle.wac_resolution_paths.proofs.Expanding.{items_expanded}
 use Rattle.wac_resolution_bodies.specs.Lists.{lists_of}

@@ -3,7 +3,7 @@ use Rattle.std.specs.Prelude.{option_map, string_bytes}
 use Rattle.std.proofs.lemmas.Result.{err_from_is_err_and}
 use Rattle.wac_ast_worlds.specs.Worlds.{world_item_of}
 use Rattle.wac_resolution_errors.specs.Told.{told}
-use Rattle.wac_resolution_types.specs.Bindings.{values_of}
+use Rattle.wac_resolution_state.specs.Bindings.{values_of}
 use Rattle.wac_resolution_paths.proofs.Expanding.{items_expanded}
 use Rattle.wac_resolution_bodies.specs.Lists.{lists_of}
 use Rattle.wac_resolution_worlds.proofs.WorldBodies.{body_named, world_made, items_broken, includes_broken}

@@ -5,7 +5,7 @@ use Rattle.wac_parser_packages.specs.Noted.{mentions_in}
 use Rattle.wac_resolution_paths.specs.Expands.{HoldsHanded}
 use Rattle.wac_resolution_rules.specs.Given.{rules_by}
 use Rattle.wac_resolution_rules.specs.Mentions.{mentions}
-use Rattle.wac_resolution_types.proofs.Scopes.{memory_told}
+use Rattle.wac_resolution_state.proofs.Scopes.{memory_told}
 use Rattle.wac_resolution.specs.Resolved.{HoldsMentioned, by_key}
 use Rattle.wac_resolution.proofs.Alike.{error_is_right, result_is_right}
 use Rattle.wac_resolution.proofs.Kept.{holds_mentioned, kept_for, promised_first, promised_graph, promised_only}

@@ -1,0 +1,50 @@
+-- What stays as a graph gets more types.
+use Rattle.std.proofs.Common.{◌≡◌, ◌∙◌, List, [], ◌∷◌, Option, Some, None, refl, ap}
+use Rattle.std.specs.Prelude.{IfSome}
+use Rattle.wac_types.specs.declared.kind.ItemKind.{ItemKind}
+use Rattle.wac_types.specs.Entry.{Slot}
+use Rattle.wac_types.specs.Meaning.{of_child, EachKind}
+use Rattle.wac_types.specs.Scope.{Named}
+use Rattle.wac_types.specs.Table.{Names, ItemsNamed}
+use Rattle.wac_graph.specs.Graph.{Parts}
+use Rattle.wac_graph.specs.Means.{means, entry_means}
+use Rattle.wac_graph.specs.Origin.{Naming}
+use Rattle.wac_resolution_state.specs.Growth.{Grows, GrowsPlainly}
+use Rattle.wac_resolution_state.specs.Named.{scope_of}
+
+pub grows_self : (g : Parts) → GrowsPlainly g g
+grows_self g = record { grows = record { same = refl; named = λ k h. h; kinds = λ naming k h. refl }; count = refl }
+
+pub grows_on : (a b c : Parts) → Grows a b → Grows b c → Grows a c
+grows_on a b c p q = record {
+  same = q.same ∙ ap (λ (g : Parts). record g { types = c.types }) p.same;
+  named = λ k h. q.named k (p.named k h);
+  kinds = λ naming k h. q.kinds naming k (p.named k h) ∙ p.kinds naming k h;
+}
+
+pub plainly_on : (a b c : Parts) → GrowsPlainly a b → GrowsPlainly b c → GrowsPlainly a c
+plainly_on a b c p q = record { grows = grows_on a b c p.grows q.grows; count = q.count ∙ p.count }
+
+pub still_named : (old new : Parts) (ks : Named ItemKind) → Grows old new → ItemsNamed old.types ks → ItemsNamed new.types ks
+still_named old new [] g h = tt
+still_named old new (k ∷ ks) g h = (g.named k.1 h.0, still_named old new ks g h.1)
+
+-- named kinds go on to mean the same
+pub scope_kept : (old new : Parts) (ks : Named ItemKind) (naming : Naming) → Grows old new → ItemsNamed old.types ks → scope_of naming new ks ≡ scope_of naming old ks
+scope_kept old new [] naming g h = refl
+scope_kept old new (k ∷ ks) naming g h =
+    let one : means naming new k.1 ≡ means naming old k.1 = g.kinds naming k.1 h.0 in
+    let rest : scope_of naming new ks ≡ scope_of naming old ks = scope_kept old new ks naming g h.1 in
+    cc
+
+pub child_kept : (old new : Parts) (x : Option ItemKind) (naming : Naming) → Grows old new → IfSome x (Names old.types) → of_child (entry_means naming new) x ≡ of_child (entry_means naming old) x
+child_kept old new None naming g h = refl
+child_kept old new (Some k) naming g h = g.kinds naming k h
+
+pub child_named : (old new : Parts) (x : Option ItemKind) → Grows old new → IfSome x (Names old.types) → IfSome x (Names new.types)
+child_named old new None g h = tt
+child_named old new (Some k) g h = g.named k h
+
+pub each_still_named : (old new : Parts) (cs : List (Slot × Option ItemKind)) → Grows old new → EachKind (Names old.types) cs → EachKind (Names new.types) cs
+each_still_named old new [] g h = tt
+each_still_named old new (c ∷ cs) g h = (child_named old new c.1 g h.0, each_still_named old new cs g h.1)

@@ -1,0 +1,5 @@
+pub mod Bound
+pub mod Added
+pub mod Grown
+pub mod Scopes
+pub mod Sizes

@@ -1,0 +1,3 @@
+pub mod Bindings
+pub mod Growth
+pub mod Named

@@ -1,0 +1,77 @@
+//! What identifiers stand for.
+ghost use Rattle.std.specs.Prelude.{IfOk, IfErr};
+ghost use Rattle.wac_lexer.specs.Span.{Span};
+ghost use Rattle.wac_grammar.specs.Tree.{Ty};
+ghost use Rattle.wac_ast_base.specs.Names.{ident_of};
+ghost use Rattle.wac_graph.specs.Graph.{Parts};
+ghost use Rattle.wac_graph.specs.Origin.{Naming};
+ghost use Rattle.wac_resolution_errors.specs.Told.{told};
+ghost use Rattle.wac_resolution_rules.specs.BrokenTypes.{IsUndefined, TypeBroken};
+ghost use Rattle.wac_resolution_state.specs.Bindings.{values_of};
+ghost use Rattle.wac_resolution_state.specs.Named.{scope_of, KindIs, ValueIs};
+
+use crate::names::Names;
+use std::alloc::Global;
+use wac_ast_base::Ident;
+use wac_graph::{ItemKind, ResourceId, Type, ValueType};
+use wac_resolution_errors::Error;
+
+/// The kind that an identifier stands for.
+#[tactic(auto, using(crate::proofs::Scopes::kinds_found))]
+pub fn kind_of(
+    alloc: Global,
+    names: &Names<'_, ItemKind>,
+    id: &Ident<'_>,
+) -> Result<ItemKind, Error>
+    ensures ok { IfOk result (λ k. KindIs (values_of names.now) (ident_of id.now) k) }
+    ensures err { IfErr result (λ e. (naming : Naming) (g : Parts) → IsUndefined (scope_of naming g (values_of names.now)) (ident_of id.now) (told e)) }
+{
+    match names.find(id.string) {
+        Some(kind) => Ok(kind),
+        None => Err(Error::UndefinedName {
+            name: String::from_str(alloc, id.string)?,
+            span: id.span,
+        }),
+    }
+}
+
+/// The type of values that an identifier stands for.
+#[tactic(auto, using(crate::proofs::Scopes::values_found))]
+pub fn named_type(
+    alloc: Global,
+    names: &Names<'_, ItemKind>,
+    id: &Ident<'_>,
+) -> Result<ValueType, Error>
+    ensures ok { IfOk result (λ v. ValueIs (values_of names.now) (Ty.ident (ident_of id.now)) v) }
+    ensures err { IfErr result (λ e. (naming : Naming) (g : Parts) → TypeBroken (scope_of naming g (values_of names.now)) (Ty.ident (ident_of id.now)) (told e)) }
+{
+    match kind_of(alloc, names, id)? {
+        ItemKind::Ty(Type::Resource(resource)) => Ok(ValueType::Own(resource)),
+        ItemKind::Ty(Type::Value(value)) => Ok(value),
+        other => Err(Error::NotValueType {
+            name: String::from_str(alloc, id.string)?,
+            kind: other.desc(),
+            span: id.span,
+        }),
+    }
+}
+
+/// The resource type that an identifier stands for.
+#[tactic(auto, using(crate::proofs::Scopes::values_found))]
+pub fn named_resource(
+    alloc: Global,
+    names: &Names<'_, ItemKind>,
+    id: &Ident<'_>,
+) -> Result<ResourceId, Error>
+    ensures ok { IfOk result (λ r. (s : Span) → ValueIs (values_of names.now) (Ty.borrow (ident_of id.now) s) (ValueType.Borrow r)) }
+    ensures err { IfErr result (λ e. (naming : Naming) (g : Parts) (s : Span) → TypeBroken (scope_of naming g (values_of names.now)) (Ty.borrow (ident_of id.now) s) (told e)) }
+{
+    match kind_of(alloc, names, id)? {
+        ItemKind::Ty(Type::Resource(resource)) => Ok(resource),
+        other => Err(Error::NotResourceType {
+            name: String::from_str(alloc, id.string)?,
+            kind: other.desc(),
+            span: id.span,
+        }),
+    }
+}

@@ -1,9 +1,0 @@
-use Rattle.std.proofs.Common.{map, take}
-use Rattle.wac_types.specs.Steps.{Steps}
-use Rattle.wac_ast_types.specs.Declarations.{enum_case_of}
-use Rattle.wac_resolution_rules.specs.Declarations.{HasEnumCase}
-use Rattle.wac_resolution_types.specs.Declarations.{names_alone}
-use Rattle.wac_resolution_types.proofs.flags.enum_cases.Given as goal
-
-abbrev pub invariant-loop-item : goal.invariant-loop-item
-invariant-loop-item l = Steps HasEnumCase (names_alone l.fn.all.keys) (take l.item-index (map enum_case_of l.cases)) (names_alone l.all.keys)

@@ -1,9 +1,0 @@
-use Rattle.std.proofs.Common.{map, take}
-use Rattle.wac_types.specs.Steps.{Steps}
-use Rattle.wac_ast_types.specs.Declarations.{flag_of}
-use Rattle.wac_resolution_rules.specs.Declarations.{HasFlag}
-use Rattle.wac_resolution_types.specs.Declarations.{names_alone}
-use Rattle.wac_resolution_types.proofs.flags.flags.Given as goal
-
-abbrev pub invariant-loop-item : goal.invariant-loop-item
-invariant-loop-item l = Steps HasFlag (names_alone l.fn.all.keys) (take l.item-index (map flag_of l.flags)) (names_alone l.all.keys)

@@ -1,6 +1,0 @@
-use Rattle.std.proofs.Common.{◌∙◌}
-use Rattle.wac_resolution_types.proofs.NamesAlone.{any_text}
-use Rattle.wac_resolution_types.proofs.flags.has_name.Goals as goal
-
-pub returns : goal.returns
-returns c = c.contains.ensures ∙ any_text c.args.name.now c.args.all.now.keys

@@ -1,0 +1,18 @@
+use Rattle.std.proofs.lemmas.Result.{IfOk-weaker, MatchResult-weaker}
+use Rattle.wac_types.specs.Names.{by_name}
+use Rattle.wac_ast_types.specs.Declarations.{func_type_of}
+use Rattle.wac_resolution_errors.specs.Told.{told}
+use Rattle.wac_resolution_state.specs.Bindings.{values_of}
+use Rattle.wac_resolution_types.proofs.FuncParts.{first_named, method_is, method_breaks}
+use Rattle.wac_resolution_types.proofs.func.method.Goals as goal
+
+pub function-requires-clause-parts : goal.function-requires-clause-parts
+function-requires-clause-parts c = first_named c.args.state.now.graph.types c.args.is_static c.args.resource (by_name c.in_ok-first.first.entries) c.in_ok-first.ensures c.requires.resource
+
+pub returns-clause-ok : goal.returns-clause-ok
+returns-clause-ok c =
+    IfOk-weaker c.function.result _ _ (λ f h. method_is c.args.state.now.graph c.function.new.state.graph (values_of c.args.names.now) c.args.is_static c.args.resource (by_name c.in_ok-first.first.entries) (func_type_of c.args.func.now) f c.in_ok-first.ensures h) c.function.ensures.ok
+
+pub returns-clause-err : goal.returns-clause-err
+returns-clause-err c =
+    MatchResult-weaker c.function.result c.function.ensures.err (λ f h. h) (λ e h. method_breaks c.kind_of_method.result c.args.state.now.graph (values_of c.args.names.now) c.args.is_static c.args.resource (by_name c.in_ok-first.first.entries) (func_type_of c.args.func.now) (told e) c.kind_of_method.ensures c.in_ok-first.ensures h)

@@ -1,0 +1,21 @@
+use Rattle.std.proofs.Common.{inr}
+use Rattle.std.proofs.lemmas.Result.{err_from_is_err_and}
+use Rattle.wac_types.specs.declared.kind.ItemKind.TheVariants as kinds
+use Rattle.wac_types.specs.Names.{by_name}
+use Rattle.wac_ast_types.specs.Declarations.{named_type_of}
+use Rattle.wac_graph.specs.Means.{means}
+use Rattle.wac_resolution_rules.specs.Types.{HasType}
+use Rattle.wac_resolution_state.specs.Bindings.{values_of}
+use Rattle.wac_resolution_types.specs.Funcs.{given}
+use Rattle.wac_resolution_types.proofs.NamedParts.{part_goes}
+use Rattle.wac_resolution_types.proofs.func.take_param.Goals as goal
+
+pub returns-in_err-check_param-clause-err : goal.returns-in_err-check_param-clause-err
+returns-in_err-check_param-clause-err c =
+    let p = err_from_is_err_and c.from_residual-in_err-check_param.result c.from_residual-in_err-check_param.ensures.1 in
+    rw (p.1, p.2) (λ naming before. inr (means naming c.value_type.new.state.graph (kinds.Value c.in_ok-value.value), c.in_ok-value.ensures.ok.is naming, c.in_err-check_param.ensures.err naming c.args.state.now.graph))
+
+pub returns-clause-ok : goal.returns-clause-ok
+returns-clause-ok c =
+    part_goes given (λ s p. HasType s p.ty) (λ p. p.id) c.args.state.now.graph c.value_type.new.state.graph (values_of c.args.names.now) (by_name c.args.all.now.entries) (by_name c.push.new.all.entries) (named_type_of c.args.param.now) c.in_ok-value.value
+    c.in_ok-value.ensures.ok.grows c.requires.parts c.in_ok-value.ensures.ok.named c.in_ok-value.ensures.ok.is c.in_ok-check_param.ensures.ok c.in_ok-push.ensures.ok

@@ -1,9 +1,0 @@
-use Rattle.wac_ast_base.specs.Names.{ident_of}
-use Rattle.wac_resolution_types.specs.Bindings.{values_of}
-use Rattle.wac_resolution_types.proofs.Aliases.{name_aliased}
-use Rattle.wac_resolution_types.proofs.state.State.alias_of_name.Goals as goal
-
-pub returns-in-Some-clause-ok : goal.returns-in-Some-clause-ok
-returns-in-Some-clause-ok c =
-    let made = rw c.in-Some.is at c.in_ok-made.ensures in
-    name_aliased c.args.self.now.graph c.aliased.new.self.graph (values_of c.args.names.now) c.args.place c.args.name.now (ident_of c.args.id.now) c.in_ok-kind.kind c.in-Some.made c.in_ok-kind.ensures.ok made

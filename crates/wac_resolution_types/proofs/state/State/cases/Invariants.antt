@@ -1,9 +1,0 @@
-use Rattle.std.proofs.Common.{map, take}
-use Rattle.wac_types.specs.Names.{by_name}
-use Rattle.wac_ast_types.specs.Declarations.{variant_case_of}
-use Rattle.wac_resolution_types.specs.Bindings.{values_of}
-use Rattle.wac_resolution_types.specs.Declarations.{CasesGo}
-use Rattle.wac_resolution_types.proofs.state.State.cases.Given as goal
-
-abbrev pub invariant-loop-case : goal.invariant-loop-case
-invariant-loop-case l = CasesGo l.fn.self.graph l.self.graph (values_of l.names) (by_name l.fn.all.entries) (by_name l.all.entries) (take l.case-index (map variant_case_of l.cases))

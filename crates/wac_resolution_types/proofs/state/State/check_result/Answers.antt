@@ -1,9 +1,0 @@
-use Rattle.std.proofs.Common.{◌∙◌}
-use Rattle.wac_resolution_types.proofs.FuncParts.{borrow_is}
-use Rattle.wac_resolution_types.proofs.state.State.check_result.Goals as goal
-
-pub returns-then-contains_borrow-clause-borrow : goal.returns-then-contains_borrow-clause-borrow
-returns-then-contains_borrow-clause-borrow c naming = borrow_is c.args.self.now.graph c.types.result.now c.args.value c.contains_borrow.result c.types.ensures.types c.contains_borrow.ensures naming ∙ c.if-contains_borrow.true
-
-pub returns-clause-ok : goal.returns-clause-ok
-returns-clause-ok c naming = borrow_is c.args.self.now.graph c.types.result.now c.args.value c.contains_borrow.result c.types.ensures.types c.contains_borrow.ensures naming ∙ c.if-contains_borrow.false

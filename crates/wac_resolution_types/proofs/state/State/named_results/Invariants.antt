@@ -1,9 +1,0 @@
-use Rattle.std.proofs.Common.{[], map, take}
-use Rattle.wac_types.specs.Names.{by_name}
-use Rattle.wac_ast_types.specs.Declarations.{named_type_of}
-use Rattle.wac_resolution_types.specs.Bindings.{values_of}
-use Rattle.wac_resolution_types.specs.Funcs.{ResultsGo}
-use Rattle.wac_resolution_types.proofs.state.State.named_results.Given as goal
-
-abbrev pub invariant-loop-result : goal.invariant-loop-result
-invariant-loop-result l = ResultsGo l.fn.self.graph l.self.graph (values_of l.names) [] (by_name l.all.entries) (take l.result-index (map named_type_of l.named))

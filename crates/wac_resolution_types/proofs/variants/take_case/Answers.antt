@@ -1,0 +1,26 @@
+use Rattle.std.proofs.Common.{inl, inr}
+use Rattle.std.proofs.lemmas.Result.{err_from_is_err_and}
+use Rattle.wac_types.specs.Names.{by_name}
+use Rattle.wac_types.specs.Shape.{optional_means}
+use Rattle.wac_ast_types.specs.Declarations.{variant_case_of}
+use Rattle.wac_graph.specs.Means.{entry_means}
+use Rattle.wac_resolution_rules.specs.Declarations.{HasOption}
+use Rattle.wac_resolution_state.specs.Bindings.{values_of}
+use Rattle.wac_resolution_types.specs.Declarations.{perhaps}
+use Rattle.wac_resolution_types.proofs.NamedParts.{part_goes}
+use Rattle.wac_resolution_types.proofs.variants.take_case.Goals as goal
+
+pub returns-in_err-check_case-clause-err : goal.returns-in_err-check_case-clause-err
+returns-in_err-check_case-clause-err c =
+    let p = err_from_is_err_and c.from_residual-in_err-check_case.result c.from_residual-in_err-check_case.ensures.1 in
+    rw (p.1, p.2) (λ naming before. inr (optional_means (entry_means naming c.case_type.new.state.graph) c.in_ok-value.value, c.in_ok-value.ensures.ok.is naming, c.in_err-check_case.ensures.err naming c.args.state.now.graph))
+
+pub returns-clause-ok : goal.returns-clause-ok
+returns-clause-ok c =
+    part_goes perhaps (λ s p. HasOption s p.ty) (λ p. p.id) c.args.state.now.graph c.case_type.new.state.graph (values_of c.args.names.now) (by_name c.args.all.now.entries) (by_name c.push.new.all.entries) (variant_case_of c.args.case.now) c.in_ok-value.value
+    c.in_ok-value.ensures.ok.grows c.requires.parts c.in_ok-value.ensures.ok.named c.in_ok-value.ensures.ok.is c.in_ok-check_case.ensures.ok c.in_ok-push.ensures.ok
+
+pub returns-in_err-value-clause-err : goal.returns-in_err-value-clause-err
+returns-in_err-value-clause-err c =
+    let p = err_from_is_err_and c.from_residual.result c.from_residual.ensures.1 in
+    rw (p.1, p.2) (λ naming before. inl (c.in_err-value.ensures.err naming))

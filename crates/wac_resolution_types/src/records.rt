@@ -1,0 +1,102 @@
+//! Records.
+ghost use Rattle.std.specs.Prelude.{◌≡◌, ◌⊎◌, List, IfOk, IfErr, OnOk, map};
+ghost use Rattle.wac_grammar.specs.Tree.{Field as FieldTree};
+ghost use Rattle.wac_types.specs.Names.{by_name};
+ghost use Rattle.wac_types.specs.Scope.{IsFresh};
+ghost use Rattle.wac_types.specs.Steps.{Fails};
+ghost use Rattle.wac_types.specs.Table.{ItemsNamed};
+ghost use Rattle.wac_ast_base.specs.Names.{ident_of};
+ghost use Rattle.wac_ast_types.specs.Declarations.{field_of, record_decl_of};
+ghost use Rattle.wac_graph.specs.Graph.{Parts};
+ghost use Rattle.wac_graph.specs.Origin.{Naming};
+ghost use Rattle.wac_resolution_errors.specs.Told.{told};
+ghost use Rattle.wac_resolution_rules.specs.Declarations.{HasField, IsRecord};
+ghost use Rattle.wac_resolution_rules.specs.BrokenDeclarations.{IsRepeatedField, FieldBroken, RecordBroken};
+ghost use Rattle.wac_resolution_state.specs.Bindings.{values_of};
+ghost use Rattle.wac_resolution_types.specs.Declarations.{FieldGoes, FieldsGo, ValueAdded};
+ghost use Rattle.wac_resolution_types.specs.Funcs.{types_named, TypesNamed};
+ghost use Rattle.wac_resolution_state.specs.Named.{scope_of};
+
+use crate::types::value_type;
+use indexmap::IndexMap;
+use std::alloc::Global;
+use wac_ast_base::Ident;
+use wac_ast_types::{Field, RecordDecl};
+use wac_graph::names::{find, push};
+use wac_graph::{DefinedType, ItemKind, ValueType};
+use wac_resolution_errors::Error;
+use wac_resolution_state::{Names, State};
+
+/// Rejects the name of an earlier field.
+#[tactic(auto, using(wac_resolution_state::proofs::Scopes::memory_told))]
+fn check_field(
+    alloc: Global,
+    declared: &Ident<'_>,
+    all: &IndexMap<String, ValueType>,
+    id: &Ident<'_>,
+) -> Result<(), Error>
+    ensures ok { OnOk result (IsFresh id.now.string.now (by_name all.now.entries)) }
+    ensures err { IfErr result (λ e. (naming : Naming) (g : Parts) → IsRepeatedField (ident_of declared.now) (types_named naming g (by_name all.now.entries)) (ident_of id.now) (told e)) }
+{
+    match find(all, id.string) {
+        Some(_) => Err(Error::DuplicateRecordField {
+            field: String::from_str(alloc, id.string)?,
+            name: String::from_str(alloc, declared.string)?,
+            span: id.span,
+        }),
+        None => Ok(()),
+    }
+}
+
+/// Takes a field.
+fn take_field(
+    state: &mut State,
+    names: &Names<'_, ItemKind>,
+    declared: &Ident<'_>,
+    all: &mut IndexMap<String, ValueType>,
+    field: &Field<'_>,
+) -> Result<(), Error>
+    requires scope { ItemsNamed state.old.graph.types (values_of names.now) }
+    requires parts { TypesNamed state.old.graph.types (by_name all.old.entries) }
+    ensures ok { OnOk result (FieldGoes state.old.graph state.new.graph (values_of names.now) (by_name all.old.entries) (by_name all.new.entries) (field_of field.now)) }
+    ensures err { IfErr result (λ e. (naming : Naming) (before : List FieldTree) → FieldBroken (scope_of naming state.old.graph (values_of names.now)) (ident_of declared.now) (told e) (types_named naming state.old.graph (by_name all.old.entries)) before (field_of field.now)) }
+{
+    let value = value_type(state, names, &field.ty)?;
+    check_field(state.alloc, declared, all, &field.id)?;
+    push(state.alloc, all, field.id.string, value)?;
+    Ok(())
+}
+
+/// Takes fields, one after another.
+fn take_fields(
+    state: &mut State,
+    names: &Names<'_, ItemKind>,
+    declared: &Ident<'_>,
+    all: &mut IndexMap<String, ValueType>,
+    fields: &[Field<'_>],
+) -> Result<(), Error>
+    requires scope { ItemsNamed state.old.graph.types (values_of names.now) }
+    requires parts { TypesNamed state.old.graph.types (by_name all.old.entries) }
+    ensures ok { OnOk result (FieldsGo state.old.graph state.new.graph (values_of names.now) (by_name all.old.entries) (by_name all.new.entries) (map field_of fields.now)) }
+    ensures err { IfErr result (λ e. (naming : Naming) → Fails (HasField (scope_of naming state.old.graph (values_of names.now))) (FieldBroken (scope_of naming state.old.graph (values_of names.now)) (ident_of declared.now) (told e)) (types_named naming state.old.graph (by_name all.old.entries)) (map field_of fields.now)) }
+{
+    for field in fields {
+        take_field(state, names, declared, all, field)?;
+    }
+    Ok(())
+}
+
+/// Adds a record.
+pub fn record(
+    state: &mut State,
+    names: &Names<'_, ItemKind>,
+    decl: &RecordDecl<'_>,
+) -> Result<ValueType, Error>
+    requires { ItemsNamed state.old.graph.types (values_of names.now) }
+    ensures ok { IfOk result (λ v. ValueAdded state.old.graph state.new.graph (λ naming m. IsRecord (scope_of naming state.old.graph (values_of names.now)) (record_decl_of decl.now) m) v) }
+    ensures err { IfErr result (λ e. (naming : Naming) → RecordBroken (scope_of naming state.old.graph (values_of names.now)) (record_decl_of decl.now) (told e)) }
+{
+    let mut fields = IndexMap::new(state.alloc);
+    take_fields(state, names, &decl.id, &mut fields, &decl.fields)?;
+    Ok(state.add_defined(DefinedType::Record { fields })?)
+}

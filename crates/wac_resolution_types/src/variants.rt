@@ -1,0 +1,119 @@
+//! Variants.
+ghost use Rattle.std.specs.Prelude.{◌≡◌, ◌⊎◌, List, IfOk, IfErr, OnOk, map, option_map};
+ghost use Rattle.wac_grammar.specs.Tree.{VariantCase as CaseTree};
+ghost use Rattle.wac_types.specs.Names.{by_name};
+ghost use Rattle.wac_types.specs.Scope.{IsFresh};
+ghost use Rattle.wac_types.specs.Table.{ItemsNamed};
+ghost use Rattle.wac_ast_base.specs.Names.{ident_of};
+ghost use Rattle.wac_ast_types.specs.Types.{ty_of};
+ghost use Rattle.wac_ast_types.specs.Declarations.{variant_case_of, variant_decl_of};
+ghost use Rattle.wac_graph.specs.Graph.{Parts};
+ghost use Rattle.wac_graph.specs.Origin.{Naming};
+ghost use Rattle.wac_resolution_errors.specs.Told.{told};
+ghost use Rattle.wac_resolution_rules.specs.Declarations.{HasCase, IsVariant};
+ghost use Rattle.wac_resolution_rules.specs.BrokenDeclarations.{IsRepeatedCase, OptionBroken, CaseBroken, VariantBroken};
+ghost use Rattle.wac_resolution_state.specs.Bindings.{values_of};
+ghost use Rattle.wac_resolution_types.specs.Declarations.{perhaps, cases_named, CaseTypeIs, CaseGoes, CasesGo, ValueAdded};
+ghost use Rattle.wac_resolution_state.specs.Named.{scope_of};
+ghost use Rattle.wac_resolution_types.specs.NamedParts.{PartsNamed};
+ghost use Rattle.wac_types.specs.Steps.{Fails};
+
+use crate::types::value_type;
+use indexmap::IndexMap;
+use std::alloc::Global;
+use wac_ast_base::Ident;
+use wac_ast_types::{Type, VariantCase, VariantDecl};
+use wac_graph::names::{find, push};
+use wac_graph::{DefinedType, ItemKind, ValueType};
+use wac_resolution_errors::Error;
+use wac_resolution_state::{Names, State};
+
+/// Rejects the name of an earlier case.
+#[tactic(auto, using(wac_resolution_state::proofs::Scopes::memory_told))]
+fn check_case(
+    alloc: Global,
+    declared: &Ident<'_>,
+    all: &IndexMap<String, Option<ValueType>>,
+    id: &Ident<'_>,
+) -> Result<(), Error>
+    ensures ok { OnOk result (IsFresh id.now.string.now (by_name all.now.entries)) }
+    ensures err { IfErr result (λ e. (naming : Naming) (g : Parts) → IsRepeatedCase (ident_of declared.now) (cases_named naming g (by_name all.now.entries)) (ident_of id.now) (told e)) }
+{
+    match find(all, id.string) {
+        Some(_) => Err(Error::DuplicateVariantCase {
+            case: String::from_str(alloc, id.string)?,
+            name: String::from_str(alloc, declared.string)?,
+            span: id.span,
+        }),
+        None => Ok(()),
+    }
+}
+
+/// The type of a case, which may have none.
+fn case_type(
+    state: &mut State,
+    names: &Names<'_, ItemKind>,
+    ty: &Option<Type<'_>>,
+) -> Result<Option<ValueType>, Error>
+    requires { ItemsNamed state.old.graph.types (values_of names.now) }
+    ensures ok { IfOk result (λ v. CaseTypeIs state.old.graph state.new.graph (values_of names.now) (option_map ty_of ty.now) v) }
+    ensures err { IfErr result (λ e. (naming : Naming) → OptionBroken (scope_of naming state.old.graph (values_of names.now)) (option_map ty_of ty.now) (told e)) }
+{
+    match ty {
+        Some(ty) => Ok(Some(value_type(state, names, ty)?)),
+        None => Ok(None),
+    }
+}
+
+/// Takes a case.
+fn take_case(
+    state: &mut State,
+    names: &Names<'_, ItemKind>,
+    declared: &Ident<'_>,
+    all: &mut IndexMap<String, Option<ValueType>>,
+    case: &VariantCase<'_>,
+) -> Result<(), Error>
+    requires scope { ItemsNamed state.old.graph.types (values_of names.now) }
+    requires parts { PartsNamed perhaps state.old.graph.types (by_name all.old.entries) }
+    ensures ok { OnOk result (CaseGoes state.old.graph state.new.graph (values_of names.now) (by_name all.old.entries) (by_name all.new.entries) (variant_case_of case.now)) }
+    ensures err { IfErr result (λ e. (naming : Naming) (before : List CaseTree) → CaseBroken (scope_of naming state.old.graph (values_of names.now)) (ident_of declared.now) (told e) (cases_named naming state.old.graph (by_name all.old.entries)) before (variant_case_of case.now)) }
+{
+    let value = case_type(state, names, &case.ty)?;
+    check_case(state.alloc, declared, all, &case.id)?;
+    push(state.alloc, all, case.id.string, value)?;
+    Ok(())
+}
+
+/// Takes cases, one after another.
+fn take_cases(
+    state: &mut State,
+    names: &Names<'_, ItemKind>,
+    declared: &Ident<'_>,
+    all: &mut IndexMap<String, Option<ValueType>>,
+    cases: &[VariantCase<'_>],
+) -> Result<(), Error>
+    requires scope { ItemsNamed state.old.graph.types (values_of names.now) }
+    requires parts { PartsNamed perhaps state.old.graph.types (by_name all.old.entries) }
+    ensures ok { OnOk result (CasesGo state.old.graph state.new.graph (values_of names.now) (by_name all.old.entries) (by_name all.new.entries) (map variant_case_of cases.now)) }
+    ensures err { IfErr result (λ e. (naming : Naming) → Fails (HasCase (scope_of naming state.old.graph (values_of names.now))) (CaseBroken (scope_of naming state.old.graph (values_of names.now)) (ident_of declared.now) (told e)) (cases_named naming state.old.graph (by_name all.old.entries)) (map variant_case_of cases.now)) }
+{
+    for case in cases {
+        take_case(state, names, declared, all, case)?;
+    }
+    Ok(())
+}
+
+/// Adds a variant.
+pub fn variant(
+    state: &mut State,
+    names: &Names<'_, ItemKind>,
+    decl: &VariantDecl<'_>,
+) -> Result<ValueType, Error>
+    requires { ItemsNamed state.old.graph.types (values_of names.now) }
+    ensures ok { IfOk result (λ v. ValueAdded state.old.graph state.new.graph (λ naming m. IsVariant (scope_of naming state.old.graph (values_of names.now)) (variant_decl_of decl.now) m) v) }
+    ensures err { IfErr result (λ e. (naming : Naming) → VariantBroken (scope_of naming state.old.graph (values_of names.now)) (variant_decl_of decl.now) (told e)) }
+{
+    let mut cases = IndexMap::new(state.alloc);
+    take_cases(state, names, &decl.id, &mut cases, &decl.cases)?;
+    Ok(state.add_defined(DefinedType::Variant { cases })?)
+}
