@@ -36,7 +36,7 @@ use Rattle.wac_resolution_paths.specs.Setting.{packages_in}
 use Rattle.wac_resolution_expressions.specs.Growth.{given_in}
 use Rattle.wac_resolution_externs.specs.declared.externs.Externs.{Externs}
 use Rattle.wac_resolution_externs.specs.Externs.{imported_in, exported_in, places_in}
-use Rattle.wac_resolution_statements.specs.Statements.{placed_in}
+use Rattle.wac_resolution_bindings.specs.Statements.{placed_in}
 use Rattle.wac_resolution_statements.specs.Sequences.{AllWent, BreaksAfter, OneBreaks}
 use Rattle.wac_resolution_target.specs.Outcome.{Meets, Unmeets}
 use Rattle.wac_resolution.specs.Resolved.{by_key}

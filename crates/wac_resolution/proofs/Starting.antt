@@ -18,7 +18,7 @@ use Rattle.wac_resolution_paths.specs.Expands.{HoldsHanded}
 use Rattle.wac_resolution_paths.specs.Setting.{packages_in}
 use Rattle.wac_resolution_externs.specs.declared.externs.Externs.{Externs}
 use Rattle.wac_resolution_externs.specs.Externs.{imported_in, exported_in}
-use Rattle.wac_resolution_statements.specs.Statements.{Stand, placed_in}
+use Rattle.wac_resolution_bindings.specs.Statements.{Stand, placed_in}
 
 -- nothing is there
 pub record IsStart (g : Parts) (root : Root) (x : Externs) : Type 0 where

@@ -20,7 +20,7 @@ use Rattle.wac_resolution_paths.specs.Expands.{HoldsHanded}
 use Rattle.wac_resolution_paths.specs.Setting.{packages_in}
 use Rattle.wac_resolution_expressions.specs.Growth.{given_in}
 use Rattle.wac_resolution_externs.specs.declared.externs.Externs.{Externs}
-use Rattle.wac_resolution_statements.specs.Statements.{placed_in}
+use Rattle.wac_resolution_bindings.specs.Statements.{placed_in}
 use Rattle.wac_resolution_statements.specs.Sequences.{BreaksAfter}
 
 -- the target is met, if there is one, the composition is as before, and the graph holds packages that were handed

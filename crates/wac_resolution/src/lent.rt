@@ -4,7 +4,7 @@ ghost use Rattle.wac_ast.specs.Statements.{statement_of};
 ghost use Rattle.wac_resolution_errors.specs.Told.{told};
 ghost use Rattle.wac_resolution_rules.specs.Given.{rules_by};
 ghost use Rattle.wac_resolution_statements.specs.Sequences.{AllWent, OneBreaks};
-ghost use Rattle.wac_resolution_statements.specs.Statements.{Stand};
+ghost use Rattle.wac_resolution_bindings.specs.Statements.{Stand};
 
 use wac_ast::internals::Statements;
 use wac_graph::Rules;

@@ -3,7 +3,7 @@ ghost use Rattle.std.specs.Prelude.{OnOk, IfErr, option_map};
 ghost use Rattle.wac_ast_base.specs.Names.{package_path_of};
 ghost use Rattle.wac_resolution_errors.specs.Told.{told};
 ghost use Rattle.wac_resolution_rules.specs.Given.{rules_by};
-ghost use Rattle.wac_resolution_statements.specs.Statements.{Stand};
+ghost use Rattle.wac_resolution_bindings.specs.Statements.{Stand};
 ghost use Rattle.wac_resolution.specs.Steps.{MeetsIn, MissesIn};
 
 use wac_ast::PackagePath;

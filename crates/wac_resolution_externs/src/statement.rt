@@ -15,7 +15,7 @@ ghost use Rattle.wac_resolution_externs.specs.Exports.{Exported};
 use crate::externs::Externs;
 use crate::options::{export_renamed, export_unnamed};
 use crate::spread::export_spread;
-use wac_ast::ExportOptions;
+use wac_ast_statements::ExportOptions;
 use wac_graph::{NodeId, Rules};
 use wac_lexer::SourceSpan;
 use wac_resolution_errors::Error;

@@ -30,7 +30,7 @@ use Rattle.wac_resolution_paths.specs.Setting.{packages_in, setting_of}
 use Rattle.wac_resolution_paths.proofs.Expanding.{expands_self, grows_expands, handed_grown}
 use Rattle.wac_resolution_worlds.specs.Made.{InterfaceMade}
 use Rattle.wac_resolution_worlds.specs.Referred.{NewFunc}
-use Rattle.wac_resolution_statements.specs.Imports.{ImportMade, ImportTypeBreaks}
+use Rattle.wac_resolution_statements.specs.ImportTypes.{ImportMade, ImportTypeBreaks}
 
 module _ (setting : Setting) (old : Parts) (root : Root) (agrees : Agrees old root) where
   -- what holds in the scope of the code holds at root

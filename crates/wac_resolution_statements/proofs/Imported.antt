@@ -33,11 +33,12 @@ use Rattle.wac_resolution_paths.specs.Setting.{packages_in}
 use Rattle.wac_resolution_expressions.specs.Growth.{given_in}
 use Rattle.wac_resolution_externs.specs.declared.externs.Externs.{Externs}
 use Rattle.wac_resolution_externs.specs.Externs.{imported_in, exported_in, places_in, Under}
-use Rattle.wac_resolution_statements.specs.Imports.{ImportMade, ImportTypeBreaks, ImportsAs}
-use Rattle.wac_resolution_statements.specs.Statements.{Stand, Went, Breaks}
-use Rattle.wac_resolution_statements.proofs.PlaceLaws.{one_more_at, no_more_at, same_places}
-use Rattle.wac_resolution_statements.proofs.Standing.{placed_kept, composed_kept}
-use Rattle.wac_resolution_statements.proofs.Importing.{placed_imported, handed_imported}
+use Rattle.wac_resolution_bindings.specs.Imports.{ImportsAs}
+use Rattle.wac_resolution_statements.specs.ImportTypes.{ImportMade, ImportTypeBreaks}
+use Rattle.wac_resolution_bindings.specs.Statements.{Stand, Went, Breaks}
+use Rattle.wac_resolution_bindings.proofs.PlaceLaws.{one_more_at, no_more_at, same_places}
+use Rattle.wac_resolution_bindings.proofs.Standing.{placed_kept, composed_kept}
+use Rattle.wac_resolution_bindings.proofs.Importing.{placed_imported, handed_imported}
 
 -- ---- the imports of a composition with one more
 

@@ -31,9 +31,10 @@ use Rattle.wac_resolution_paths.specs.Setting.{packages_in, setting_of}
 use Rattle.wac_resolution_externs.specs.declared.externs.Externs.{Externs}
 use Rattle.wac_resolution_externs.specs.Externs.{places_in}
 use Rattle.wac_resolution_externs.specs.Exports.{GrowsExports}
-use Rattle.wac_resolution_statements.specs.Definitions.{DeclaresKind, KindDeclared, IsDefined}
-use Rattle.wac_resolution_statements.specs.Statements.{Stand, Went, Breaks}
-use Rattle.wac_resolution_statements.proofs.Standing.{composed_kept}
+use Rattle.wac_resolution_bindings.specs.Defined.{IsDefined}
+use Rattle.wac_resolution_statements.specs.Definitions.{DeclaresKind, KindDeclared}
+use Rattle.wac_resolution_bindings.specs.Statements.{Stand, Went, Breaks}
+use Rattle.wac_resolution_bindings.proofs.Standing.{composed_kept}
 
 -- ---- the judgement
 

@@ -1,15 +1,5 @@
-pub mod Standing
 pub mod DeclaredKinds
-pub mod Defining
 pub mod Leading
-pub mod PlaceLaws
 pub mod ImportTypes
-pub mod ImportNames
-pub mod ImportTests
-pub mod Importing
 pub mod Imported
-pub mod Grown
-pub mod ImportedNames
-pub mod Lets
-pub mod ExportsStated
 pub mod Sequences

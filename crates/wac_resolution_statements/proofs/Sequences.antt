@@ -14,7 +14,7 @@ use Rattle.wac_resolution_paths.specs.declared.setting.Setting.{Setting}
 use Rattle.wac_resolution_expressions.specs.Growth.{given_in}
 use Rattle.wac_resolution_externs.specs.declared.externs.Externs.{Externs}
 use Rattle.wac_resolution_externs.specs.Externs.{places_in}
-use Rattle.wac_resolution_statements.specs.Statements.{Stand, placed_in, Went, Breaks}
+use Rattle.wac_resolution_bindings.specs.Statements.{Stand, placed_in, Went, Breaks}
 use Rattle.wac_resolution_statements.specs.Sequences.{AllWent, BreaksAfter, OneBreaks}
 
 pub none_went : (setting : Setting) (rules : Rules) (g : Parts) (root : Root) (x : Externs) → Stand setting g root x → AllWent setting rules g g root root x x []

@@ -1,4 +1,3 @@
-pub mod Statements
 pub mod Definitions
-pub mod Imports
+pub mod ImportTypes
 pub mod Sequences

@@ -12,7 +12,7 @@ use Rattle.wac_resolution_nodes.specs.declared.root.Root.{Root}
 use Rattle.wac_resolution_paths.specs.declared.setting.Setting.{Setting}
 use Rattle.wac_resolution_expressions.specs.Growth.{given_in}
 use Rattle.wac_resolution_externs.specs.declared.externs.Externs.{Externs}
-use Rattle.wac_resolution_statements.specs.Statements.{Stand, placed_in}
+use Rattle.wac_resolution_bindings.specs.Statements.{Stand, placed_in}
 
 -- all were carried out: they lead from what was there to what is there, under every naming that is one to one
 pub record AllWent (setting : Setting) (rules : Rules) (old new : Parts) (before after : Root) (x y : Externs) (all : List Statement) : Type 0 where

@@ -12,12 +12,12 @@ ghost use Rattle.wac_resolution_nodes.specs.Root.{composed, Agrees};
 ghost use Rattle.wac_resolution_paths.specs.Expands.{HoldsHanded};
 ghost use Rattle.wac_resolution_paths.specs.Setting.{packages_in, setting_of};
 ghost use Rattle.wac_resolution_statements.specs.Definitions.{KindDeclared};
-ghost use Rattle.wac_resolution_statements.specs.Statements.{Stand, Went, Breaks};
+ghost use Rattle.wac_resolution_bindings.specs.Statements.{Stand, Went, Breaks};
 
-use crate::define::define;
 use wac_ast::TypeStatement;
 use wac_ast_base::Ident;
 use wac_graph::ItemKind;
+use wac_resolution_bindings::define;
 use wac_resolution_errors::Error;
 use wac_resolution_externs::Externs;
 use wac_resolution_nodes::Root;

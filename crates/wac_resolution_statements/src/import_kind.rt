@@ -5,7 +5,7 @@ ghost use Rattle.wac_resolution_errors.specs.Told.{told};
 ghost use Rattle.wac_resolution_nodes.specs.Root.{Agrees};
 ghost use Rattle.wac_resolution_paths.specs.Expands.{HoldsHanded};
 ghost use Rattle.wac_resolution_paths.specs.Setting.{packages_in};
-ghost use Rattle.wac_resolution_statements.specs.Imports.{ImportMade, ImportTypeBreaks};
+ghost use Rattle.wac_resolution_statements.specs.ImportTypes.{ImportMade, ImportTypeBreaks};
 
 use wac_ast_worlds::ImportType;
 use wac_graph::ItemKind;

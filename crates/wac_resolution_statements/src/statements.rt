@@ -3,15 +3,14 @@ ghost use Rattle.std.specs.Prelude.{OnOk, IfErr, map};
 ghost use Rattle.wac_ast.specs.Statements.{statement_of};
 ghost use Rattle.wac_resolution_errors.specs.Told.{told};
 ghost use Rattle.wac_resolution_rules.specs.Given.{rules_by};
-ghost use Rattle.wac_resolution_statements.specs.Statements.{Stand, Went, Breaks};
+ghost use Rattle.wac_resolution_bindings.specs.Statements.{Stand, Went, Breaks};
 ghost use Rattle.wac_resolution_statements.specs.Sequences.{AllWent, OneBreaks};
 
 use crate::definitions::type_statement;
-use crate::export_statement::export_statement;
 use crate::imports::import_statement;
-use crate::let_statement::let_statement;
 use wac_ast::Statement;
 use wac_graph::Rules;
+use wac_resolution_bindings::{export_statement, let_statement};
 use wac_resolution_errors::Error;
 use wac_resolution_externs::Externs;
 use wac_resolution_nodes::Root;

@@ -7,8 +7,8 @@ use Rattle.wac_resolution_errors.specs.Told.{told}
 use Rattle.wac_resolution_rules.specs.BrokenWorlds.{DefinitionBroken}
 use Rattle.wac_resolution_nodes.specs.Root.{composed}
 use Rattle.wac_resolution_externs.specs.Externs.{places_in}
-use Rattle.wac_resolution_statements.specs.Definitions.{IsDefined}
-use Rattle.wac_resolution_statements.proofs.Standing.{agrees_kept, placed_kept}
+use Rattle.wac_resolution_bindings.specs.Defined.{IsDefined}
+use Rattle.wac_resolution_bindings.proofs.Standing.{agrees_kept, placed_kept}
 use Rattle.wac_resolution_statements.proofs.Leading.{went, kind_breaks, definition_breaks}
 use Rattle.wac_resolution_statements.proofs.definitions.type_statement.Goals as goal
 

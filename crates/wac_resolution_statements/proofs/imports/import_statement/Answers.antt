@@ -5,7 +5,7 @@ use Rattle.wac_resolution_errors.specs.Told.{told}
 use Rattle.wac_resolution_rules.specs.Given.{rules_by}
 use Rattle.wac_resolution_state.proofs.Scopes.{memory_told}
 use Rattle.wac_resolution_statements.proofs.Imported.{promoted_named, type_breaks, memory_breaks, name_breaks, statement_went}
-use Rattle.wac_resolution_statements.proofs.Standing.{agrees_kept, placed_kept}
+use Rattle.wac_resolution_bindings.proofs.Standing.{agrees_kept, placed_kept}
 use Rattle.wac_resolution_statements.proofs.imports.import_statement.Goals as goal
 
 pub returns-in_err-kind-clause-err : goal.returns-in_err-kind-clause-err

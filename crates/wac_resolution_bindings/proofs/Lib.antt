@@ -1,0 +1,10 @@
+pub mod Standing
+pub mod Defining
+pub mod PlaceLaws
+pub mod ImportNames
+pub mod ImportTests
+pub mod Importing
+pub mod Grown
+pub mod ImportedNames
+pub mod Lets
+pub mod ExportsStated

@@ -1,0 +1,39 @@
+-- What stands beside a graph goes on to stand there as the graph gets types and packages.
+use Rattle.std.proofs.Common.{◌≡◌, ◌∙◌, sym, ap}
+use Rattle.wac_graph.specs.Graph.{Parts}
+use Rattle.wac_graph.specs.Means.{declared_count}
+use Rattle.wac_graph.specs.Origin.{Naming}
+use Rattle.wac_resolution_rules.specs.Composition.{root_scope, with_resources}
+use Rattle.wac_resolution_rules.specs.Find.{names_of}
+use Rattle.wac_resolution_nodes.specs.declared.root.Root.{Root}
+use Rattle.wac_resolution_nodes.specs.Root.{numbers_of, composed, Agrees}
+use Rattle.wac_resolution_nodes.proofs.Composed.{composition_expands}
+use Rattle.wac_resolution_nodes.proofs.Roots.{agrees_expands}
+use Rattle.wac_resolution_paths.specs.declared.setting.Setting.{Setting}
+use Rattle.wac_resolution_paths.specs.Expands.{Expands, HoldsHanded}
+use Rattle.wac_resolution_paths.specs.Setting.{packages_in}
+use Rattle.wac_resolution_externs.specs.declared.externs.Externs.{Externs}
+use Rattle.wac_resolution_externs.specs.Externs.{ArePlaced}
+use Rattle.wac_resolution_bindings.specs.Statements.{Stand}
+
+-- the names at root go on to stand for nodes and their kinds
+pub agrees_kept : (old new : Parts) (root : Root) → Expands old new → Agrees old root → Agrees new root
+agrees_kept old new root e h = agrees_expands old new root e.same e.held e.named h
+
+-- the places go on to be those of the imports and exports
+pub placed_kept : (old new : Parts) (x : Externs) → Expands old new → ArePlaced old x → ArePlaced new x
+placed_kept old new x e h = record {
+  imported = h.imported ∙ sym (ap (λ (g : Parts). names_of g.imports) e.same);
+  exported = h.exported ∙ sym (ap (λ (g : Parts). names_of g.exports) e.same);
+}
+
+pub stand_kept : (setting : Setting) (old new : Parts) (root : Root) (x : Externs) → Stand setting old root x → Expands old new → HoldsHanded (packages_in setting) new → Stand setting new root x
+stand_kept setting old new root x h e handed = record { agrees = agrees_kept old new root e h.agrees; placed = placed_kept old new x e h.placed; handed = handed }
+
+-- the composition has at most more resources
+pub composed_kept : (old new : Parts) (root : Root) (naming : Naming) → Expands old new → Agrees old root → composed naming new root ≡ with_resources (composed naming old root) (declared_count new)
+composed_kept old new root naming e h = composition_expands old new (numbers_of root.nodes) naming e.same e.held (e.kinds naming) h.nodes
+
+-- the names at root go on to mean the same
+pub scope_kept : (old new : Parts) (root : Root) (naming : Naming) → Expands old new → Agrees old root → root_scope (composed naming new root) ≡ root_scope (composed naming old root)
+scope_kept old new root naming e h = ap root_scope (composed_kept old new root naming e h)

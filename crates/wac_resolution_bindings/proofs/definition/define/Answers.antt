@@ -1,0 +1,42 @@
+use Rattle.std.proofs.Common.{inl, inr, refl, sym}
+use Rattle.std.proofs.lemmas.Result.{err_from_is_err_and}
+use Rattle.wac_ast_base.specs.Names.{ident_of}
+use Rattle.wac_resolution_nodes.specs.Root.{numbers_of}
+use Rattle.wac_resolution_externs.specs.Externs.{exported_in, places_in}
+use Rattle.wac_resolution_externs.proofs.Checks.{fresh_too}
+use Rattle.wac_resolution_externs.proofs.Each.{agrees_exports}
+use Rattle.wac_resolution_bindings.proofs.Defining.{definition_grows, definition_there, defined}
+use Rattle.wac_resolution_bindings.proofs.definition.define.Goals as goal
+
+pub returns-in_err-check_unexported-clause-err : goal.returns-in_err-check_unexported-clause-err
+returns-in_err-check_unexported-clause-err c =
+    let p = err_from_is_err_and c.from_residual.result c.from_residual.ensures.1 in
+    rw (p.1, p.2) (λ naming. inl (c.in_err-check_unexported.ensures.err naming (numbers_of c.args.root.now.nodes) (places_in c.args.root.now c.args.externs.now) refl))
+
+pub returns-in_err-check_unbound-clause-err : goal.returns-in_err-check_unbound-clause-err
+returns-in_err-check_unbound-clause-err c =
+    let p = err_from_is_err_and c.from_residual-in_err-check_unbound.result c.from_residual-in_err-check_unbound.ensures.1 in
+    rw (p.1, p.2) (λ naming. inr (c.in_ok-check_unexported.ensures.ok, c.in_err-check_unbound.ensures.err naming c.args.state.now.graph (places_in c.args.root.now c.args.externs.now) refl))
+
+pub add_export-requires : goal.add_export-requires
+add_export-requires c = fresh_too c.args.id.now.string.now c.args.state.now.graph.exports (exported_in c.args.externs.now) (sym c.requires.placed.exported) c.in_ok-check_unexported.ensures.ok
+
+pub bind-requires-clause-there : goal.bind-requires-clause-there
+bind-requires-clause-there c =
+    definition_there c.args.state.now.graph c.add_definition.new.self c.args.id.now.string.now c.args.kind c.in_ok-node.node.0 c.in_ok-node.ensures.ok c.in_ok-node.ensures.number
+
+pub bind-requires-clause-agrees : goal.bind-requires-clause-agrees
+bind-requires-clause-agrees c =
+    agrees_exports c.args.state.now.graph c.add_definition.new.self c.args.root.now
+    (definition_grows c.args.state.now.graph c.add_definition.new.self c.args.id.now.string.now c.args.kind c.requires.agrees.nodes c.requires.kind c.in_ok-node.ensures.ok) c.requires.agrees
+
+pub returns-in_err-bind-clause-err : goal.returns-in_err-bind-clause-err
+returns-in_err-bind-clause-err c =
+    let p = err_from_is_err_and c.from_residual-in_err-bind.result c.from_residual-in_err-bind.ensures.1 in
+    rw (p.1, p.2) (λ naming. inr (c.in_ok-check_unexported.ensures.ok, c.in_err-bind.ensures.err naming (places_in c.args.root.now c.args.externs.now) refl))
+
+pub returns-clause-ok : goal.returns-clause-ok
+returns-clause-ok c =
+    defined c.args.state.now.graph c.add_definition.new.self c.bind.new.state.graph c.args.root.now c.bind.new.self c.args.externs.now c.add_export.new.self (ident_of c.args.id.now) c.args.kind c.in_ok-node.node.0
+    c.requires.agrees c.requires.placed c.requires.kind c.in_ok-check_unexported.ensures.ok c.in_ok-check_unbound.ensures.ok c.in_ok-node.ensures.ok c.in_ok-node.ensures.number
+    c.in_ok-add_export.ensures.exported c.in_ok-add_export.ensures.imported c.in_ok-bind.ensures.ok

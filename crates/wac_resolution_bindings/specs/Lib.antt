@@ -1,0 +1,3 @@
+pub mod Statements
+pub mod Defined
+pub mod Imports

@@ -1,0 +1,37 @@
+//! Export statements.
+ghost use Rattle.std.specs.Prelude.{OnOk, IfErr};
+ghost use Rattle.wac_ast_statements.specs.Statements.{export_statement_of};
+ghost use Rattle.wac_grammar.specs.Tree.{Statement};
+ghost use Rattle.wac_resolution_errors.specs.Told.{told};
+ghost use Rattle.wac_resolution_rules.specs.Given.{rules_by};
+ghost use Rattle.wac_resolution_bindings.specs.Statements.{Stand, Went, Breaks};
+
+use wac_ast_statements::ExportStatement;
+use wac_graph::Rules;
+use wac_resolution_errors::Error;
+use wac_resolution_expressions::expression;
+use wac_resolution_externs::{Externs, export_node};
+use wac_resolution_nodes::Root;
+use wac_resolution_paths::Setting;
+use wac_resolution_state::State;
+
+/// Exports of the node of an expression what an export statement says.
+pub fn export_statement<R: Rules>(
+    state: &mut State,
+    setting: &Setting<'_>,
+    rules: &R,
+    root: &Root<'_>,
+    externs: &mut Externs,
+    statement: &ExportStatement<'_>,
+) -> Result<(), Error>
+    requires { Stand setting.now state.old.graph root.now externs.old }
+    ensures ok { OnOk result (Went setting.now (rules_by (R.passes rules.now) (R.named rules.now)) state.old.graph state.new.graph root.now root.now externs.old externs.new (Statement.export_statement (export_statement_of statement.now))) }
+    ensures err { IfErr result (λ e. Breaks setting.now (rules_by (R.passes rules.now) (R.named rules.now)) state.old.graph root.now externs.old (Statement.export_statement (export_statement_of statement.now)) (told e)) }
+{
+    let _before = state.graph.nodes();
+    let node = expression(state, setting, rules, root, &statement.expr)?;
+    let span = statement.expr.span;
+    export_node(state, rules, root, externs, node, span, &statement.options)?;
+    let _after = state.graph.nodes();
+    Ok(())
+}

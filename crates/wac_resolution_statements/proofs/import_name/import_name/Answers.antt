@@ -1,6 +1,0 @@
-use Rattle.std.proofs.Common.{◌∙◌}
-use Rattle.std.proofs.lemmas.Result.{IfOk-weaker}
-use Rattle.wac_resolution_statements.proofs.import_name.import_name.Goals as goal
-
-pub returns : goal.returns
-returns c = IfOk-weaker c.from_str.result _ _ (λ s copied naming. copied ∙ c.name_imported.ensures naming) c.from_str.ensures.ok

@@ -1,0 +1,24 @@
+-- What imports import, as it is added to a graph.
+use Rattle.wac_grammar.specs.Tree.{ImportType}
+use Rattle.wac_types.specs.declared.kind.ItemKind.{ItemKind}
+use Rattle.wac_graph.specs.Graph.{Parts}
+use Rattle.wac_graph.specs.Means.{means}
+use Rattle.wac_graph.specs.Origin.{Naming}
+use Rattle.wac_resolution_errors.specs.Error.{Error}
+use Rattle.wac_resolution_rules.specs.BrokenStatements.{ImportKindBroken}
+use Rattle.wac_resolution_rules.specs.Given.{Rules}
+use Rattle.wac_resolution_rules.specs.Statements.{ImportsKind}
+use Rattle.wac_resolution_nodes.specs.declared.root.Root.{Root}
+use Rattle.wac_resolution_nodes.specs.Root.{composed}
+use Rattle.wac_resolution_paths.specs.declared.setting.Setting.{Setting}
+use Rattle.wac_resolution_paths.specs.Setting.{packages_in}
+use Rattle.wac_resolution_worlds.specs.Made.{KindMade}
+use Rattle.wac_resolution_expressions.specs.Growth.{given_in}
+
+-- a kind was made that the type of an import means, whatever the rules
+abbrev pub ImportMade : Setting → Parts → Parts → Root → ImportType → ItemKind → Type 0
+ImportMade setting old new root x k = KindMade (packages_in setting) old new (λ naming m after. (rules : Rules) → ImportsKind (given_in naming setting rules) (composed naming old root) x m after) k
+
+-- the error names a rule that the type of an import breaks
+abbrev pub ImportTypeBreaks : Setting → Parts → Root → ImportType → Error → Type 0
+ImportTypeBreaks setting g root x e = (naming : Naming) (rules : Rules) → ImportKindBroken (given_in naming setting rules) (composed naming g root) e x
