@@ -14,3 +14,4 @@ pub mod Borrowing
 pub mod Tested
 pub mod Found
 pub mod Remembered
+pub mod Read

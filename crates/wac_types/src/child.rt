@@ -1,5 +1,5 @@
 //! The kinds that stand in an entry, one by one.
-ghost use Rattle.std.specs.Prelude.{◌≡◌, [], ◌∷◌, ◌++◌, ◌<◌, ◌^◌, IsTrue, ◌↔◌, length, slice_get, option_map};
+ghost use Rattle.std.specs.Prelude.{◌≡◌, [], ◌∷◌, ◌++◌, ◌<◌, ◌^◌, IsTrue, ◌↔◌, length, slice_get, option_map, string_bytes};
 ghost use Rattle.wac_types.specs.Entry.{children, child_view, slot_of, value_children, case_children, name_children, tuple_children, use_children, import_children, export_children, named_result_children, result_children, sort_of};
 
 use crate::entry::{
@@ -82,85 +82,106 @@ fn value(kind: Option<ValueType>) -> Option<ItemKind>
 fn item(types: &[ValueType], at: usize) -> Option<Child<'_>>
     ensures { option_map child_view result ≡ slice_get (tuple_children types.now) at }
 {
-    let v = types.get(at)?;
-    Some(Child {
-        place: Place::Only,
-        kind: Some(ItemKind::Value(*v)),
-    })
+    match types.get(at) {
+        None => None,
+        Some(v) => Some(Child {
+            place: Place::Only,
+            kind: Some(ItemKind::Value(*v)),
+        }),
+    }
 }
 
 fn case(cases: &IndexMap<String, Option<ValueType>>, at: usize) -> Option<Child<'_>>
     ensures { option_map child_view result ≡ slice_get (case_children cases.now.entries) at }
 {
-    let (name, v) = cases.get_index(at)?;
-    Some(Child {
-        place: Place::Named(name.as_str()),
-        kind: value(*v),
-    })
+    match cases.get_index(at) {
+        None => None,
+        Some((name, v)) => Some(Child {
+            place: Place::Named(name.as_str()),
+            kind: value(*v),
+        }),
+    }
 }
 
 fn named(fields: &IndexMap<String, ValueType>, at: usize) -> Option<Child<'_>>
     ensures { option_map child_view result ≡ slice_get (value_children fields.now.entries) at }
 {
-    let (name, v) = fields.get_index(at)?;
-    Some(Child {
-        place: Place::Named(name.as_str()),
-        kind: Some(ItemKind::Value(*v)),
-    })
+    match fields.get_index(at) {
+        None => None,
+        Some((name, v)) => Some(Child {
+            place: Place::Named(name.as_str()),
+            kind: Some(ItemKind::Value(*v)),
+        }),
+    }
 }
 
 fn given(results: &IndexMap<String, ValueType>, at: usize) -> Option<Child<'_>>
     ensures { option_map child_view result ≡ slice_get (named_result_children results.now.entries) at }
 {
-    let (name, v) = results.get_index(at)?;
-    Some(Child {
-        place: Place::Given(Some(name.as_str())),
-        kind: Some(ItemKind::Value(*v)),
-    })
+    match results.get_index(at) {
+        None => None,
+        Some((name, v)) => Some(Child {
+            place: Place::Given(Some(name.as_str())),
+            kind: Some(ItemKind::Value(*v)),
+        }),
+    }
 }
 
 fn name(names: &IndexSet<String>, at: usize) -> Option<Child<'_>>
     ensures { option_map child_view result ≡ slice_get (name_children names.now.keys) at }
 {
-    let name = names.get_index(at)?;
-    Some(Child {
-        place: Place::Named(name.as_str()),
-        kind: None,
-    })
+    match names.get_index(at) {
+        None => None,
+        Some(name) => Some(Child {
+            place: Place::Named(name.as_str()),
+            kind: None,
+        }),
+    }
+}
+
+fn text(name: &Option<String>) -> Option<&str>
+    ensures { option_map (λ s. s.now) result ≡ option_map string_bytes name.now }
+{
+    match name {
+        None => None,
+        Some(text) => Some(text.as_str()),
+    }
 }
 
 fn used(uses: &IndexMap<String, UsedType>, at: usize) -> Option<Child<'_>>
     ensures { option_map child_view result ≡ slice_get (use_children uses.now.entries) at }
 {
-    let (name, u) = uses.get_index(at)?;
-    let renamed = match &u.name {
+    match uses.get_index(at) {
         None => None,
-        Some(text) => Some(text.as_str()),
-    };
-    Some(Child {
-        place: Place::Used(name.as_str(), renamed),
-        kind: Some(ItemKind::Instance(u.interface)),
-    })
+        Some((name, u)) => Some(Child {
+            place: Place::Used(name.as_str(), text(&u.name)),
+            kind: Some(ItemKind::Instance(u.interface)),
+        }),
+    }
 }
 
 fn import(imports: &IndexMap<String, ItemKind>, at: usize) -> Option<Child<'_>>
     ensures { option_map child_view result ≡ slice_get (import_children imports.now.entries) at }
 {
-    let (name, kind) = imports.get_index(at)?;
-    Some(Child {
-        place: Place::Import(name.as_str()),
-        kind: Some(*kind),
-    })
+    match imports.get_index(at) {
+        None => None,
+        Some((name, kind)) => Some(Child {
+            place: Place::Import(name.as_str()),
+            kind: Some(*kind),
+        }),
+    }
 }
 
 pub(crate) fn export(exports: &IndexMap<String, ItemKind>, at: usize) -> Option<Child<'_>>
     ensures { option_map child_view result ≡ slice_get (export_children exports.now.entries) at }
 {
-    let (name, kind) = exports.get_index(at)?;
-    Some(Child {
-        place: Place::Export(name.as_str()),
-        kind: Some(*kind),
-    })
+    match exports.get_index(at) {
+        None => None,
+        Some((name, kind)) => Some(Child {
+            place: Place::Export(name.as_str()),
+            kind: Some(*kind),
+        }),
+    }
 }
 
 fn extern_at<'a>(

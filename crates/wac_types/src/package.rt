@@ -12,9 +12,9 @@ ghost use Rattle.wac_types.specs.Tests.{Passes, EntriesPass, DefinitionsPass, Al
 
 use crate::alike::same_child;
 use crate::child::export;
-use crate::entry::{Entry, Interface, World};
+use crate::entry::Entry;
 use crate::kind::{InterfaceId, ItemKind, Type, WorldId};
-use crate::types::Types;
+use crate::types::{Types, interface_at, world_at};
 use indexmap::IndexMap;
 use std::alloc::AllocError;
 use std::marker::Model;
@@ -105,9 +105,9 @@ fn has_id(entries: &[Entry], kind: ItemKind) -> bool
     let ItemKind::Ty(Type::Interface(id)) = kind else {
         return true;
     };
-    match entries.get(id.0) {
-        Some(Entry::Interface(interface)) => interface.id.is_some(),
-        _ => false,
+    match interface_at(entries, id) {
+        Some(interface) => interface.id.is_some(),
+        None => false,
     }
 }
 
@@ -275,24 +275,6 @@ fn same_externs(
         }
     }
     true
-}
-
-fn interface_at(entries: &[Entry], id: InterfaceId) -> Option<&Interface>
-    ensures { option_copied result ≡ option_and_then as_interface (slice_get entries.now id.0) }
-{
-    match entries.get(id.0)? {
-        Entry::Interface(interface) => Some(interface),
-        _ => None,
-    }
-}
-
-fn world_at(entries: &[Entry], id: WorldId) -> Option<&World>
-    ensures { option_copied result ≡ option_and_then as_world (slice_get entries.now id.0) }
-{
-    match entries.get(id.0)? {
-        Entry::World(world) => Some(world),
-        _ => None,
-    }
 }
 
 #[tactic(auto, using(crate::proofs::Exports::read_interface_before))]

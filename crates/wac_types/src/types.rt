@@ -1,5 +1,5 @@
 //! The table of types.
-ghost use Rattle.std.specs.Prelude.{◌≡◌, ℕ, ◌+◌, ◌<◌, ◌^◌, ◌++◌, [], ◌∷◌, IsTrue, ◌↔◌, IfOk, OnOk, OnErr, length, slice_get, option_copied, option_and_then, option_map, unwrap_or, string_bytes};
+ghost use Rattle.std.specs.Prelude.{◌≡◌, ℕ, ◌+◌, ◌<◌, ◌^◌, ◌++◌, [], ◌∷◌, IsTrue, ◌↔◌, IfOk, OnOk, OnErr, length, slice_get, option_copied, option_and_then, option_map, unwrap_or, string_bytes, vec_len, vec_capacity};
 ghost use Rattle.wac_types.specs.Growth.{KeepsMeanings};
 ghost use Rattle.wac_types.specs.Meaning.{IsOneToOne, meaning};
 ghost use Rattle.wac_types.specs.Shape.{contains_borrow as has_borrow};
@@ -51,6 +51,38 @@ impl Drop for Types {
     }
 }
 
+/// Makes room for one more entry, and for what is known of it. It holds no entry, which each `?` here would have to
+/// drop.
+fn make_room(entries: &mut Vec<Entry>, borrows: &mut Vec<bool>) -> Result<(), AllocError>
+    ensures entries { entries.new.items ≡ entries.old.items }
+    ensures borrows { borrows.new.items ≡ borrows.old.items }
+    ensures entry { OnOk result (vec_len entries.new < vec_capacity entries.new) }
+    ensures borrow { OnOk result (vec_len borrows.new < vec_capacity borrows.new) }
+{
+    entries.reserve(1)?;
+    borrows.reserve(1)
+}
+
+/// The interface of that number among the entries, if there is one.
+pub(crate) fn interface_at(entries: &[Entry], id: InterfaceId) -> Option<&Interface>
+    ensures { option_copied result ≡ option_and_then as_interface (slice_get entries.now id.0) }
+{
+    match entries.get(id.0)? {
+        Entry::Interface(interface) => Some(interface),
+        _ => None,
+    }
+}
+
+/// The world of that number among the entries, if there is one.
+pub(crate) fn world_at(entries: &[Entry], id: WorldId) -> Option<&World>
+    ensures { option_copied result ≡ option_and_then as_world (slice_get entries.now id.0) }
+{
+    match entries.get(id.0)? {
+        Entry::World(world) => Some(world),
+        _ => None,
+    }
+}
+
 impl Types {
     /// An empty table, which takes its memory from `alloc`.
     pub fn new(alloc: Global) -> Self
@@ -83,8 +115,7 @@ impl Types {
     {
         let id = self.entries.len();
         let borrow = borrows::entry_has_borrow(&self.borrows, &entry);
-        self.entries.reserve(1)?;
-        self.borrows.reserve(1)?;
+        make_room(&mut self.entries, &mut self.borrows)?;
         self.entries.push_reserved(entry);
         self.borrows.push_reserved(borrow);
         Ok(id)
@@ -174,20 +205,14 @@ impl Types {
     pub fn interface(&self, id: InterfaceId) -> Option<&Interface>
         ensures { option_copied result ≡ option_and_then as_interface (slice_get self.now id.0) }
     {
-        match self.entries.get(id.0)? {
-            Entry::Interface(interface) => Some(interface),
-            _ => None,
-        }
+        interface_at(&self.entries, id)
     }
 
     /// The world of that number, if there is one.
     pub fn world(&self, id: WorldId) -> Option<&World>
         ensures { option_copied result ≡ option_and_then as_world (slice_get self.now id.0) }
     {
-        match self.entries.get(id.0)? {
-            Entry::World(world) => Some(world),
-            _ => None,
-        }
+        world_at(&self.entries, id)
     }
 
     fn interface_exports(&self, id: InterfaceId) -> Option<&IndexMap<String, ItemKind>>
