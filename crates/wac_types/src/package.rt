@@ -1,5 +1,5 @@
 //! Packages.
-ghost use Rattle.std.specs.Prelude.{◌≡◌, ℕ, ◌<◌, length, slice_get, option_map, option_and_then, option_copied, IsTrue, ◌↔◌, IfOk, IfErr, IfSome};
+ghost use Rattle.std.specs.Prelude.{◌≡◌, ℕ, ◌<◌, length, slice_get, option_map, option_and_then, option_copied, IsTrue, ◌↔◌, IfOk, IfErr, OnOk, IfSome};
 ghost use Rattle.std.specs.List.{AllByRecursion};
 ghost use Rattle.wac_types.specs.Entry.{children, export_children};
 ghost use Rattle.wac_types.specs.Meaning.{row, meaning_at, IsOneToOne, IsEarlier, ChildrenBefore, EachKind};
@@ -315,6 +315,35 @@ fn same_exports(entries: &[Entry], world: WorldId, instance: InterfaceId) -> boo
     same_externs(entries, first, second)
 }
 
+/// Looks for each fault in the whole package before the next. It borrows the parts, which each exit would else have to
+/// drop.
+fn test_parts(
+    entries: &[Entry],
+    world: WorldId,
+    instance: InterfaceId,
+    definitions: &IndexMap<String, ItemKind>,
+) -> Result<(), PackageError>
+    ensures ok { OnOk result (IsPackage (record { types = entries.now; world = world; instance = instance; definitions = by_name definitions.now.entries })) }
+    ensures err { IfErr result (λ e. FirstFault e (record { types = entries.now; world = world; instance = instance; definitions = by_name definitions.now.entries })) }
+{
+    if !ids_in_range(entries, world, instance, definitions) {
+        return Err(PackageError::OutOfRange);
+    }
+    if !ids_of_sort(entries, world, instance, definitions) {
+        return Err(PackageError::OtherSort);
+    }
+    if !ids_earlier(entries) {
+        return Err(PackageError::NotEarlier);
+    }
+    if !have_ids(entries, definitions) {
+        return Err(PackageError::NoInterfaceId);
+    }
+    if !same_exports(entries, world, instance) {
+        return Err(PackageError::InstanceExports);
+    }
+    Ok(())
+}
+
 impl Package {
     /// The package of these parts, unless it has a fault: then the first one, where each is looked for in the whole
     /// package before the next.
@@ -330,28 +359,15 @@ impl Package {
         ensures ok { IfOk result IsPackage }
         ensures err { IfErr result (λ e. FirstFault e (record { types = types; world = world; instance = instance; definitions = by_name definitions.entries })) }
     {
-        let entries = types.entries();
-        if !ids_in_range(entries, world, instance, &definitions) {
-            return Err(PackageError::OutOfRange);
+        match test_parts(types.entries(), world, instance, &definitions) {
+            Err(fault) => Err(fault),
+            Ok(()) => Ok(Package {
+                types,
+                world,
+                instance,
+                definitions,
+            }),
         }
-        if !ids_of_sort(entries, world, instance, &definitions) {
-            return Err(PackageError::OtherSort);
-        }
-        if !ids_earlier(entries) {
-            return Err(PackageError::NotEarlier);
-        }
-        if !have_ids(entries, &definitions) {
-            return Err(PackageError::NoInterfaceId);
-        }
-        if !same_exports(entries, world, instance) {
-            return Err(PackageError::InstanceExports);
-        }
-        Ok(Package {
-            types,
-            world,
-            instance,
-            definitions,
-        })
     }
 
     /// Its table of types.

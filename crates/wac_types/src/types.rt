@@ -51,8 +51,7 @@ impl Drop for Types {
     }
 }
 
-/// Makes room for one more entry, and for what is known of it. It holds no entry, which each `?` here would have to
-/// drop.
+/// Makes room for one more entry, and for what is known of it. The entry isn't handed in, so the `?` has none to drop.
 fn make_room(entries: &mut Vec<Entry>, borrows: &mut Vec<bool>) -> Result<(), AllocError>
     ensures entries { entries.new.items ≡ entries.old.items }
     ensures borrows { borrows.new.items ≡ borrows.old.items }
@@ -115,10 +114,18 @@ impl Types {
     {
         let id = self.entries.len();
         let borrow = borrows::entry_has_borrow(&self.borrows, &entry);
-        make_room(&mut self.entries, &mut self.borrows)?;
-        self.entries.push_reserved(entry);
-        self.borrows.push_reserved(borrow);
-        Ok(id)
+        match make_room(&mut self.entries, &mut self.borrows) {
+            Err(refused) => {
+                // Spelled out, since a proof in which each way out drops the entry by itself is dear.
+                drop(entry);
+                Err(refused)
+            }
+            Ok(()) => {
+                self.entries.push_reserved(entry);
+                self.borrows.push_reserved(borrow);
+                Ok(id)
+            }
+        }
     }
 
     /// Appends a defined type. Nothing is asked of the ids in it: [`Package::new`](crate::Package::new) is the test.

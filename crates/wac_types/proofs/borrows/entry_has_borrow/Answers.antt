@@ -2,7 +2,7 @@ use Rattle.std.proofs.Common.{sym, arith}
 use Rattle.wac_types.specs.Entry.{children, child_view}
 use Rattle.wac_types.specs.Meaning.{look}
 use Rattle.wac_types.proofs.Rows.{none_within}
-use Rattle.wac_types.proofs.Borrowing.{resource_has_none, entry_has, rest_borrows_start, rest_borrows_step, rest_borrows_found, rest_borrows_end}
+use Rattle.wac_types.proofs.Borrowing.{resource_has_none, entry_has, rest_borrows_step, rest_borrows_found, rest_borrows_end}
 use Rattle.wac_types.proofs.borrows.entry_has_borrow.Goals as goal
 
 pub returns-then-is_resource : goal.returns-then-is_resource
