@@ -1,4 +1,4 @@
-use Rattle.std.proofs.Common.{◌∙◌, None, Some, ap}
+use Rattle.std.proofs.Common.{None, Some}
 use Rattle.std.specs.Prelude.{string_bytes}
 use Rattle.wac_types.specs.declared.kind.ItemKind.TheVariants as kinds
 use Rattle.wac_types.specs.Entry.{Slot}
@@ -7,8 +7,3 @@ use Rattle.wac_types.proofs.child.given.Goals as goal
 
 pub returns-in-None : goal.returns-in-None
 returns-in-None c = mapped_at (λ e. (Slot.given (Some (string_bytes e.0)), Some (kinds.Value e.1))) c.args.results.now.entries c.args.at None c.in-None.ensures.entry
-
-pub returns-in-Some : goal.returns-in-Some
-returns-in-Some c =
-    ap (λ t. Some (Slot.given (Some t), Some (kinds.Value c.in-Some.v.now))) c.as_str.ensures.value
-    ∙ mapped_at (λ e. (Slot.given (Some (string_bytes e.0)), Some (kinds.Value e.1))) c.args.results.now.entries c.args.at (Some (c.in-Some.name.now, c.in-Some.v.now)) c.in-Some.ensures.entry

@@ -1,4 +1,4 @@
-use Rattle.std.proofs.Common.{◌∙◌, None, Some, ap, arith}
+use Rattle.std.proofs.Common.{◌∙◌, None, ap, arith}
 use Rattle.std.specs.Prelude.{option_copied}
 use Rattle.wac_types.specs.Readings.{as_interface}
 use Rattle.wac_types.proofs.Read.{read_at, read_past, no_interface}
@@ -12,7 +12,7 @@ returns-in_err-interface c =
 pub returns-in-Interface : goal.returns-in-Interface
 returns-in-Interface c =
     let h = c.in_ok-interface.ensures.lookup in
-    read_at as_interface c.args.entries.now c.args.id.0 c.in_ok-interface.field-0.now (Some c.in-Interface.interface) (omega arith) h.1 (ap as_interface c.in-Interface.is)
+    read_at as_interface c.args.entries.now c.args.id.0 c.in_ok-interface.field-0.now _ (omega arith) h.1 (ap as_interface c.in-Interface.is)
 
 pub returns-in_default : goal.returns-in_default
 returns-in_default c =

@@ -1,4 +1,4 @@
-use Rattle.std.proofs.Common.{◌∙◌, None, Some, ap, arith}
+use Rattle.std.proofs.Common.{◌∙◌, None, ap, arith}
 use Rattle.std.specs.Prelude.{option_copied}
 use Rattle.wac_types.specs.Readings.{as_world}
 use Rattle.wac_types.proofs.Read.{read_at, read_past, no_world}
@@ -12,7 +12,7 @@ returns-in_err-world c =
 pub returns-in-World : goal.returns-in-World
 returns-in-World c =
     let h = c.in_ok-world.ensures.lookup in
-    read_at as_world c.args.entries.now c.args.id.0 c.in_ok-world.field-0.now (Some c.in-World.world) (omega arith) h.1 (ap as_world c.in-World.is)
+    read_at as_world c.args.entries.now c.args.id.0 c.in_ok-world.field-0.now _ (omega arith) h.1 (ap as_world c.in-World.is)
 
 pub returns-in_default : goal.returns-in_default
 returns-in_default c =

@@ -1,4 +1,4 @@
-use Rattle.std.proofs.Common.{◌∙◌, None, Some, ap, arith}
+use Rattle.std.proofs.Common.{◌∙◌, None, ap, arith}
 use Rattle.std.specs.Prelude.{option_copied, option_and_then, slice_get}
 use Rattle.wac_types.specs.Readings.{as_defined}
 use Rattle.wac_types.proofs.Read.{read_at, read_past, no_defined}
@@ -13,7 +13,7 @@ returns-in_err-ty c =
 pub returns-in-Defined : goal.returns-in-Defined
 returns-in-Defined c =
     let h = c.in_ok-ty.ensures.lookup in
-    read_at as_defined c.deref.result.now c.args.id.0 c.in_ok-ty.field-0.now (Some c.in-Defined.ty) (omega arith) h.1 (ap as_defined c.in-Defined.is)
+    read_at as_defined c.deref.result.now c.args.id.0 c.in_ok-ty.field-0.now _ (omega arith) h.1 (ap as_defined c.in-Defined.is)
     ∙ ap (λ es. option_and_then as_defined (slice_get es c.args.id.0)) (c.deref.ensures.value ∙ c.self.view_is)
 
 pub returns-in_default : goal.returns-in_default

@@ -1,4 +1,4 @@
-use Rattle.std.proofs.Common.{◌∙◌, None, Some, ap, arith}
+use Rattle.std.proofs.Common.{◌∙◌, None, ap, arith}
 use Rattle.std.specs.Prelude.{option_copied, option_and_then, slice_get}
 use Rattle.wac_types.specs.Readings.{as_func}
 use Rattle.wac_types.proofs.Read.{read_at, read_past, no_func}
@@ -13,7 +13,7 @@ returns-in_err-func c =
 pub returns-in-Func : goal.returns-in-Func
 returns-in-Func c =
     let h = c.in_ok-func.ensures.lookup in
-    read_at as_func c.deref.result.now c.args.id.0 c.in_ok-func.field-0.now (Some c.in-Func.func) (omega arith) h.1 (ap as_func c.in-Func.is)
+    read_at as_func c.deref.result.now c.args.id.0 c.in_ok-func.field-0.now _ (omega arith) h.1 (ap as_func c.in-Func.is)
     ∙ ap (λ es. option_and_then as_func (slice_get es c.args.id.0)) (c.deref.ensures.value ∙ c.self.view_is)
 
 pub returns-in_default : goal.returns-in_default

@@ -1,4 +1,4 @@
-use Rattle.std.proofs.Common.{◌∙◌, None, Some, ap, arith}
+use Rattle.std.proofs.Common.{◌∙◌, None, ap, arith}
 use Rattle.std.specs.Prelude.{option_copied, option_and_then, slice_get}
 use Rattle.wac_types.specs.Readings.{as_resource}
 use Rattle.wac_types.proofs.Read.{read_at, read_past, no_resource}
@@ -13,7 +13,7 @@ returns-in_err-resource c =
 pub returns-in-Resource : goal.returns-in-Resource
 returns-in-Resource c =
     let h = c.in_ok-resource.ensures.lookup in
-    read_at as_resource c.deref.result.now c.args.id.0 c.in_ok-resource.field-0.now (Some c.in-Resource.resource) (omega arith) h.1 (ap as_resource c.in-Resource.is)
+    read_at as_resource c.deref.result.now c.args.id.0 c.in_ok-resource.field-0.now _ (omega arith) h.1 (ap as_resource c.in-Resource.is)
     ∙ ap (λ es. option_and_then as_resource (slice_get es c.args.id.0)) (c.deref.ensures.value ∙ c.self.view_is)
 
 pub returns-in_default : goal.returns-in_default
