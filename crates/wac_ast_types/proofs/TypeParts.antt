@@ -57,6 +57,12 @@ future_is (Some b) s = refl
 not_true : {b : Bool} → b ≡ true → b ≡ false → ⊥
 not_true h i = cc
 
+not_some : {A : Type 0} {a : A} → None ≡ Some a → ⊥
+not_some h = cc
+
+same_some : {A : Type 0} (a b : A) → Some a ≡ Some b → a ≡ b
+same_some a b h = cc
+
 pub token_at : (a : Token) (x : Item) (xs : List Item) → at a (x ∷ xs) ≡ true → x.token ≡ Ok a
 token_at a x xs h = go x.token h
   where
@@ -64,71 +70,89 @@ token_at a x xs h = go x.token h
     go (Ok b) e = ap Ok (same_true the_type (search rules) b a e)
     go (Err f) e = absurd cc
 
+-- An item with another token. What depends on the token is shown of a literal one, and computes there.
+abbrev with_token : Item → Result Token LexError → Item
+with_token x r = record { token = r; text = x.text; span = x.span; docs = x.docs }
+
+with_its_token : (P : Item → Type 0) (a : Token) (x : Item) (xs : List Item) → at a (x ∷ xs) ≡ true → P (with_token x (Ok a)) → P x
+with_its_token P a x xs h p = subst (λ (r : Result Token LexError). P (with_token x r)) (back (token_at a x xs h)) p
+
 -- no type begins with a closing angle
 pub type_not_closed : (xs : List Item) → at_one_of (begins g.ty) xs ≡ true → at k.CloseAngle xs ≡ false
 type_not_closed [] h = refl
 type_not_closed (x ∷ xs) h = go (at k.CloseAngle (x ∷ xs)) refl
   where
     go : (b : Bool) → at k.CloseAngle (x ∷ xs) ≡ b → b ≡ false
-    go true e = absurd (not_true h (rw (token_at k.CloseAngle x xs e) refl))
+    go true e = absurd (with_its_token (λ y. at_one_of (begins g.ty) (y ∷ xs) ≡ true → ⊥) k.CloseAngle x xs e (λ (t : false ≡ true). not_true t refl) h)
     go false e = refl
+
+-- Each of a type's symbols gives this. What stands for a type by its first token does not depend on what that symbol gives.
+abbrev given : Reads Ty → (s : g.Sym) → List Item → Reads (g.TreeOf s)
+given m g.tuple_type ys = m
+given m g.list_type ys = m
+given m g.option_type ys = m
+given m g.result_type ys = m
+given m g.borrow_type ys = m
+given m g.stream_type ys = m
+given m g.future_type ys = m
+given m _ ys = refuse ys []
 
 -- which type is next
 pub tuple_next : (xs : List Item) → at k.TupleKeyword xs ≡ true → read g.ty xs ≡ read g.tuple_type xs
 tuple_next [] h = absurd cc
-tuple_next (x ∷ xs) h = go (read g.tuple_type (x ∷ xs)) refl
+tuple_next (x ∷ xs) h = with_its_token (λ y. read g.ty (y ∷ xs) ≡ read g.tuple_type (y ∷ xs)) k.TupleKeyword x xs h (read_is g.ty (with_token x (Ok k.TupleKeyword) ∷ xs) ∙ go (read g.tuple_type (with_token x (Ok k.TupleKeyword) ∷ xs)))
   where
-    go : (m : Reads Ty) → read g.tuple_type (x ∷ xs) ≡ m → read g.ty (x ∷ xs) ≡ m
-    go (Ok y) e = read_is g.ty (x ∷ xs) ∙ rw (e, token_at k.TupleKeyword x xs h) refl
-    go (Err s) e = read_is g.ty (x ∷ xs) ∙ rw (e, token_at k.TupleKeyword x xs h) refl
+    go : (m : Reads Ty) → built g.ty (read_in (given m) (g.rule g.ty) [] (with_token x (Ok k.TupleKeyword) ∷ xs)) ≡ m
+    go (Ok y) = refl
+    go (Err s) = refl
 
 pub list_next : (xs : List Item) → at k.ListKeyword xs ≡ true → read g.ty xs ≡ read g.list_type xs
 list_next [] h = absurd cc
-list_next (x ∷ xs) h = go (read g.list_type (x ∷ xs)) refl
+list_next (x ∷ xs) h = with_its_token (λ y. read g.ty (y ∷ xs) ≡ read g.list_type (y ∷ xs)) k.ListKeyword x xs h (read_is g.ty (with_token x (Ok k.ListKeyword) ∷ xs) ∙ go (read g.list_type (with_token x (Ok k.ListKeyword) ∷ xs)))
   where
-    go : (m : Reads Ty) → read g.list_type (x ∷ xs) ≡ m → read g.ty (x ∷ xs) ≡ m
-    go (Ok y) e = read_is g.ty (x ∷ xs) ∙ rw (e, token_at k.ListKeyword x xs h) refl
-    go (Err s) e = read_is g.ty (x ∷ xs) ∙ rw (e, token_at k.ListKeyword x xs h) refl
+    go : (m : Reads Ty) → built g.ty (read_in (given m) (g.rule g.ty) [] (with_token x (Ok k.ListKeyword) ∷ xs)) ≡ m
+    go (Ok y) = refl
+    go (Err s) = refl
 
 pub option_next : (xs : List Item) → at k.OptionKeyword xs ≡ true → read g.ty xs ≡ read g.option_type xs
 option_next [] h = absurd cc
-option_next (x ∷ xs) h = go (read g.option_type (x ∷ xs)) refl
+option_next (x ∷ xs) h = with_its_token (λ y. read g.ty (y ∷ xs) ≡ read g.option_type (y ∷ xs)) k.OptionKeyword x xs h (read_is g.ty (with_token x (Ok k.OptionKeyword) ∷ xs) ∙ go (read g.option_type (with_token x (Ok k.OptionKeyword) ∷ xs)))
   where
-    go : (m : Reads Ty) → read g.option_type (x ∷ xs) ≡ m → read g.ty (x ∷ xs) ≡ m
-    go (Ok y) e = read_is g.ty (x ∷ xs) ∙ rw (e, token_at k.OptionKeyword x xs h) refl
-    go (Err s) e = read_is g.ty (x ∷ xs) ∙ rw (e, token_at k.OptionKeyword x xs h) refl
+    go : (m : Reads Ty) → built g.ty (read_in (given m) (g.rule g.ty) [] (with_token x (Ok k.OptionKeyword) ∷ xs)) ≡ m
+    go (Ok y) = refl
+    go (Err s) = refl
 
 pub result_next : (xs : List Item) → at k.ResultKeyword xs ≡ true → read g.ty xs ≡ read g.result_type xs
 result_next [] h = absurd cc
-result_next (x ∷ xs) h = go (read g.result_type (x ∷ xs)) refl
+result_next (x ∷ xs) h = with_its_token (λ y. read g.ty (y ∷ xs) ≡ read g.result_type (y ∷ xs)) k.ResultKeyword x xs h (read_is g.ty (with_token x (Ok k.ResultKeyword) ∷ xs) ∙ go (read g.result_type (with_token x (Ok k.ResultKeyword) ∷ xs)))
   where
-    go : (m : Reads Ty) → read g.result_type (x ∷ xs) ≡ m → read g.ty (x ∷ xs) ≡ m
-    go (Ok y) e = read_is g.ty (x ∷ xs) ∙ rw (e, token_at k.ResultKeyword x xs h) refl
-    go (Err s) e = read_is g.ty (x ∷ xs) ∙ rw (e, token_at k.ResultKeyword x xs h) refl
+    go : (m : Reads Ty) → built g.ty (read_in (given m) (g.rule g.ty) [] (with_token x (Ok k.ResultKeyword) ∷ xs)) ≡ m
+    go (Ok y) = refl
+    go (Err s) = refl
 
 pub borrow_next : (xs : List Item) → at k.BorrowKeyword xs ≡ true → read g.ty xs ≡ read g.borrow_type xs
 borrow_next [] h = absurd cc
-borrow_next (x ∷ xs) h = go (read g.borrow_type (x ∷ xs)) refl
+borrow_next (x ∷ xs) h = with_its_token (λ y. read g.ty (y ∷ xs) ≡ read g.borrow_type (y ∷ xs)) k.BorrowKeyword x xs h (read_is g.ty (with_token x (Ok k.BorrowKeyword) ∷ xs) ∙ go (read g.borrow_type (with_token x (Ok k.BorrowKeyword) ∷ xs)))
   where
-    go : (m : Reads Ty) → read g.borrow_type (x ∷ xs) ≡ m → read g.ty (x ∷ xs) ≡ m
-    go (Ok y) e = read_is g.ty (x ∷ xs) ∙ rw (e, token_at k.BorrowKeyword x xs h) refl
-    go (Err s) e = read_is g.ty (x ∷ xs) ∙ rw (e, token_at k.BorrowKeyword x xs h) refl
+    go : (m : Reads Ty) → built g.ty (read_in (given m) (g.rule g.ty) [] (with_token x (Ok k.BorrowKeyword) ∷ xs)) ≡ m
+    go (Ok y) = refl
+    go (Err s) = refl
 
 stream_next : (xs : List Item) → at k.StreamKeyword xs ≡ true → read g.ty xs ≡ read g.stream_type xs
 stream_next [] h = absurd cc
-stream_next (x ∷ xs) h = go (read g.stream_type (x ∷ xs)) refl
+stream_next (x ∷ xs) h = with_its_token (λ y. read g.ty (y ∷ xs) ≡ read g.stream_type (y ∷ xs)) k.StreamKeyword x xs h (read_is g.ty (with_token x (Ok k.StreamKeyword) ∷ xs) ∙ go (read g.stream_type (with_token x (Ok k.StreamKeyword) ∷ xs)))
   where
-    go : (m : Reads Ty) → read g.stream_type (x ∷ xs) ≡ m → read g.ty (x ∷ xs) ≡ m
-    go (Ok y) e = read_is g.ty (x ∷ xs) ∙ rw (e, token_at k.StreamKeyword x xs h) refl
-    go (Err s) e = read_is g.ty (x ∷ xs) ∙ rw (e, token_at k.StreamKeyword x xs h) refl
+    go : (m : Reads Ty) → built g.ty (read_in (given m) (g.rule g.ty) [] (with_token x (Ok k.StreamKeyword) ∷ xs)) ≡ m
+    go (Ok y) = refl
+    go (Err s) = refl
 
 future_next : (xs : List Item) → at k.FutureKeyword xs ≡ true → read g.ty xs ≡ read g.future_type xs
 future_next [] h = absurd cc
-future_next (x ∷ xs) h = go (read g.future_type (x ∷ xs)) refl
+future_next (x ∷ xs) h = with_its_token (λ y. read g.ty (y ∷ xs) ≡ read g.future_type (y ∷ xs)) k.FutureKeyword x xs h (read_is g.ty (with_token x (Ok k.FutureKeyword) ∷ xs) ∙ go (read g.future_type (with_token x (Ok k.FutureKeyword) ∷ xs)))
   where
-    go : (m : Reads Ty) → read g.future_type (x ∷ xs) ≡ m → read g.ty (x ∷ xs) ≡ m
-    go (Ok y) e = read_is g.ty (x ∷ xs) ∙ rw (e, token_at k.FutureKeyword x xs h) refl
-    go (Err s) e = read_is g.ty (x ∷ xs) ∙ rw (e, token_at k.FutureKeyword x xs h) refl
+    go : (m : Reads Ty) → built g.ty (read_in (given m) (g.rule g.ty) [] (with_token x (Ok k.FutureKeyword) ∷ xs)) ≡ m
+    go (Ok y) = refl
+    go (Err s) = refl
 
 -- ---- types in angle brackets
 
@@ -165,74 +189,70 @@ tuple_reads xs a ys b zs h i begun =
 -- ---- a type of one token
 
 pub word_taken : (xs : List Item) (t : Ty) → word_at (handed xs) ≡ Some t → read g.ty xs ≡ Ok (t, behind_first xs)
-word_taken [] t h = absurd cc
-word_taken (x ∷ xs) t h = go x.token refl h
+word_taken [] t h = absurd (not_some h)
+word_taken (x ∷ xs) t h = go x.token h
   where
-    some : (b : Ty) → Some b ≡ Some t → b ≡ t
-    some b e = cc
+    some : (a : Token) (b : Ty) → Some b ≡ Some t → built g.ty (read_in read (g.rule g.ty) [] (with_token x (Ok a) ∷ xs)) ≡ Ok (b, xs) → read g.ty (with_token x (Ok a) ∷ xs) ≡ Ok (t, xs)
+    some a b e is = read_is g.ty (with_token x (Ok a) ∷ xs) ∙ is ∙ ap (λ (c : Ty). Ok (c, xs)) (same_some b t e)
 
-    word : (a : Token) → x.token ≡ Ok a → word_type a x.span ≡ Some t → read g.ty (x ∷ xs) ≡ Ok (t, xs)
-    word k.U8Keyword e w = read_is g.ty (x ∷ xs) ∙ rw e (ap (λ (b : Ty). Ok (b, xs)) (some _ w))
-    word k.S8Keyword e w = read_is g.ty (x ∷ xs) ∙ rw e (ap (λ (b : Ty). Ok (b, xs)) (some _ w))
-    word k.U16Keyword e w = read_is g.ty (x ∷ xs) ∙ rw e (ap (λ (b : Ty). Ok (b, xs)) (some _ w))
-    word k.S16Keyword e w = read_is g.ty (x ∷ xs) ∙ rw e (ap (λ (b : Ty). Ok (b, xs)) (some _ w))
-    word k.U32Keyword e w = read_is g.ty (x ∷ xs) ∙ rw e (ap (λ (b : Ty). Ok (b, xs)) (some _ w))
-    word k.S32Keyword e w = read_is g.ty (x ∷ xs) ∙ rw e (ap (λ (b : Ty). Ok (b, xs)) (some _ w))
-    word k.U64Keyword e w = read_is g.ty (x ∷ xs) ∙ rw e (ap (λ (b : Ty). Ok (b, xs)) (some _ w))
-    word k.S64Keyword e w = read_is g.ty (x ∷ xs) ∙ rw e (ap (λ (b : Ty). Ok (b, xs)) (some _ w))
-    word k.F32Keyword e w = read_is g.ty (x ∷ xs) ∙ rw e (ap (λ (b : Ty). Ok (b, xs)) (some _ w))
-    word k.F64Keyword e w = read_is g.ty (x ∷ xs) ∙ rw e (ap (λ (b : Ty). Ok (b, xs)) (some _ w))
-    word k.CharKeyword e w = read_is g.ty (x ∷ xs) ∙ rw e (ap (λ (b : Ty). Ok (b, xs)) (some _ w))
-    word k.BoolKeyword e w = read_is g.ty (x ∷ xs) ∙ rw e (ap (λ (b : Ty). Ok (b, xs)) (some _ w))
-    word k.StringKeyword e w = read_is g.ty (x ∷ xs) ∙ rw e (ap (λ (b : Ty). Ok (b, xs)) (some _ w))
-    word k.ErrorContextKeyword e w = read_is g.ty (x ∷ xs) ∙ rw e (ap (λ (b : Ty). Ok (b, xs)) (some _ w))
-    word _ e w = absurd cc
-
-    go : (r : Result Token LexError) → x.token ≡ r → word_at (Some (r, x.span)) ≡ Some t → read g.ty (x ∷ xs) ≡ Ok (t, xs)
-    go (Ok a) e w = word a e w
-    go (Err f) e w = absurd cc
+    go : (r : Result Token LexError) → word_at (Some (r, x.span)) ≡ Some t → read g.ty (with_token x r ∷ xs) ≡ Ok (t, xs)
+    go (Ok k.U8Keyword) e = some k.U8Keyword _ e refl
+    go (Ok k.S8Keyword) e = some k.S8Keyword _ e refl
+    go (Ok k.U16Keyword) e = some k.U16Keyword _ e refl
+    go (Ok k.S16Keyword) e = some k.S16Keyword _ e refl
+    go (Ok k.U32Keyword) e = some k.U32Keyword _ e refl
+    go (Ok k.S32Keyword) e = some k.S32Keyword _ e refl
+    go (Ok k.U64Keyword) e = some k.U64Keyword _ e refl
+    go (Ok k.S64Keyword) e = some k.S64Keyword _ e refl
+    go (Ok k.F32Keyword) e = some k.F32Keyword _ e refl
+    go (Ok k.F64Keyword) e = some k.F64Keyword _ e refl
+    go (Ok k.CharKeyword) e = some k.CharKeyword _ e refl
+    go (Ok k.BoolKeyword) e = some k.BoolKeyword _ e refl
+    go (Ok k.StringKeyword) e = some k.StringKeyword _ e refl
+    go (Ok k.ErrorContextKeyword) e = some k.ErrorContextKeyword _ e refl
+    go _ e = absurd (not_some e)
 
 pub name_next : (xs : List Item) → at k.Ident xs ≡ true → read g.ty xs ≡ mapped Ty.ident (read g.identifier xs)
 name_next [] h = absurd cc
-name_next (x ∷ xs) h = go (read g.identifier (x ∷ xs)) refl
+name_next (x ∷ xs) h = with_its_token (λ y. read g.ty (y ∷ xs) ≡ mapped Ty.ident (read g.identifier (y ∷ xs))) k.Ident x xs h (read_is g.ty (with_token x (Ok k.Ident) ∷ xs) ∙ go (read g.identifier (with_token x (Ok k.Ident) ∷ xs)))
   where
-    go : (m : Reads Ident) → read g.identifier (x ∷ xs) ≡ m → read g.ty (x ∷ xs) ≡ mapped Ty.ident m
-    go (Ok y) e = read_is g.ty (x ∷ xs) ∙ rw (e, token_at k.Ident x xs h) refl
-    go (Err s) e = read_is g.ty (x ∷ xs) ∙ rw (e, token_at k.Ident x xs h) refl
+    named : Reads Ident → (s : g.Sym) → List Item → Reads (g.TreeOf s)
+    named m g.identifier ys = m
+    named m _ ys = refuse ys []
+
+    go : (m : Reads Ident) → built g.ty (read_in (named m) (g.rule g.ty) [] (with_token x (Ok k.Ident) ∷ xs)) ≡ mapped Ty.ident m
+    go (Ok y) = refl
+    go (Err s) = refl
 
 -- no type is next where none of its tokens is
 pub no_type_next : (xs : List Item) → at_one_of compound xs ≡ false → at k.Ident xs ≡ false → word_at (handed xs) ≡ None → at_one_of (begins g.ty) xs ≡ false
 no_type_next [] h i w = refl
-no_type_next (x ∷ xs) h i w = go x.token refl w
+no_type_next (x ∷ xs) h i w = go x.token h i w
   where
-    word : (a : Token) → x.token ≡ Ok a → word_type a x.span ≡ None → at_one_of (begins g.ty) (x ∷ xs) ≡ false
-    word k.U8Keyword e w = absurd cc
-    word k.S8Keyword e w = absurd cc
-    word k.U16Keyword e w = absurd cc
-    word k.S16Keyword e w = absurd cc
-    word k.U32Keyword e w = absurd cc
-    word k.S32Keyword e w = absurd cc
-    word k.U64Keyword e w = absurd cc
-    word k.S64Keyword e w = absurd cc
-    word k.F32Keyword e w = absurd cc
-    word k.F64Keyword e w = absurd cc
-    word k.CharKeyword e w = absurd cc
-    word k.BoolKeyword e w = absurd cc
-    word k.StringKeyword e w = absurd cc
-    word k.ErrorContextKeyword e w = absurd cc
-    word k.TupleKeyword e w = absurd (not_true (rw e refl) h)
-    word k.ListKeyword e w = absurd (not_true (rw e refl) h)
-    word k.OptionKeyword e w = absurd (not_true (rw e refl) h)
-    word k.ResultKeyword e w = absurd (not_true (rw e refl) h)
-    word k.BorrowKeyword e w = absurd (not_true (rw e refl) h)
-    word k.StreamKeyword e w = absurd (not_true (rw e refl) h)
-    word k.FutureKeyword e w = absurd (not_true (rw e refl) h)
-    word k.Ident e w = absurd (not_true (rw e refl) i)
-    word _ e w = rw e refl
-
-    go : (r : Result Token LexError) → x.token ≡ r → word_at (Some (r, x.span)) ≡ None → at_one_of (begins g.ty) (x ∷ xs) ≡ false
-    go (Ok a) e w = word a e w
-    go (Err f) e w = rw e refl
+    go : (r : Result Token LexError) → at_one_of compound (with_token x r ∷ xs) ≡ false → at k.Ident (with_token x r ∷ xs) ≡ false → word_at (Some (r, x.span)) ≡ None → at_one_of (begins g.ty) (with_token x r ∷ xs) ≡ false
+    go (Ok k.U8Keyword) h i w = absurd (not_some (back w))
+    go (Ok k.S8Keyword) h i w = absurd (not_some (back w))
+    go (Ok k.U16Keyword) h i w = absurd (not_some (back w))
+    go (Ok k.S16Keyword) h i w = absurd (not_some (back w))
+    go (Ok k.U32Keyword) h i w = absurd (not_some (back w))
+    go (Ok k.S32Keyword) h i w = absurd (not_some (back w))
+    go (Ok k.U64Keyword) h i w = absurd (not_some (back w))
+    go (Ok k.S64Keyword) h i w = absurd (not_some (back w))
+    go (Ok k.F32Keyword) h i w = absurd (not_some (back w))
+    go (Ok k.F64Keyword) h i w = absurd (not_some (back w))
+    go (Ok k.CharKeyword) h i w = absurd (not_some (back w))
+    go (Ok k.BoolKeyword) h i w = absurd (not_some (back w))
+    go (Ok k.StringKeyword) h i w = absurd (not_some (back w))
+    go (Ok k.ErrorContextKeyword) h i w = absurd (not_some (back w))
+    go (Ok k.TupleKeyword) h i w = absurd (not_true refl h)
+    go (Ok k.ListKeyword) h i w = absurd (not_true refl h)
+    go (Ok k.OptionKeyword) h i w = absurd (not_true refl h)
+    go (Ok k.ResultKeyword) h i w = absurd (not_true refl h)
+    go (Ok k.BorrowKeyword) h i w = absurd (not_true refl h)
+    go (Ok k.StreamKeyword) h i w = absurd (not_true refl h)
+    go (Ok k.FutureKeyword) h i w = absurd (not_true refl h)
+    go (Ok k.Ident) h i w = absurd (not_true refl i)
+    go _ h i w = refl
 
 -- ---- one of the types
 

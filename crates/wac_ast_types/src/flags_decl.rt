@@ -61,7 +61,6 @@ impl<'a> Parse<'a> for Flag<'a> {
 
     ghost tree = { flag_of };
 
-    #[tactic(auto, using(wac_grammar::proofs::Fixed::read_is))]
     fn parse(alloc: Global, lexer: &mut Lexer<'a>) -> ParseResult<Self> {
         let docs = parse_docs(alloc, lexer)?;
         let id = Parse::parse(alloc, lexer)?;

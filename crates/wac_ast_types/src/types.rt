@@ -129,7 +129,6 @@ impl<'a> Parse<'a> for Type<'a> {
     ghost tree = { ty_of };
 
     #[cycle(types)]
-    #[tactic(auto, using(crate::proofs::TypeParts::tuple_next, crate::proofs::TypeParts::result_next, crate::proofs::TypeParts::borrow_next))]
     fn parse(alloc: Global, lexer: &mut Lexer<'a>) -> ParseResult<Self> {
         if at(lexer, Token::TupleKeyword) {
             parse_tuple(alloc, lexer)
@@ -230,7 +229,6 @@ fn no_type(lexer: &Lexer) -> Error
 }
 
 /// A type that is one token, or none at all.
-#[tactic(auto, using(crate::proofs::TypeParts::name_next, crate::proofs::TypeParts::word_taken, crate::proofs::TypeParts::no_type_next))]
 fn parse_simple<'a>(alloc: Global, lexer: &mut Lexer<'a>) -> ParseResult<Type<'a>>
     requires { at_one_of compound (left lexer.now) ≡ false }
     ensures gives { Gives ty_of result lexer.old lexer.new (read symbols.ty (left lexer.old)) }

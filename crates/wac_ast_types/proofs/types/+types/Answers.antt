@@ -14,8 +14,21 @@ use Rattle.wac_ast_base.proofs.Lists.{comma_list, item_fails, item_less, item_mi
 use Rattle.wac_ast_base.proofs.Optional.{optional_there}
 use Rattle.wac_ast_base.proofs.Exits as x
 use Rattle.wac_ast_base.proofs.Yields as y
-use Rattle.wac_ast_types.proofs.TypeParts.{tuple_is, result_is, result_built, stream_is, future_is, list_next, option_next, stream_held, future_held, held_fails, held_gives, tuple_ends, tuple_list_fails, arm_fails, arm_gives}
+use Rattle.wac_ast_types.proofs.TypeParts.{tuple_is, result_is, result_built, stream_is, future_is, tuple_next, result_next, borrow_next, list_next, option_next, stream_held, future_held, held_fails, held_gives, tuple_ends, tuple_list_fails, arm_fails, arm_gives}
 use Rattle.wac_ast_types.proofs.types.+types.Goals as goal
+
+pub TypeParse::parse-returns-then-at-clause-gives : goal.TypeParse::parse-returns-then-at-clause-gives
+TypeParse::parse-returns-then-at-clause-gives t c = rw (tuple_next (left c.args.lexer.now) (x.tested c.at.ensures c.if-at.true)) c.parse_tuple.ensures.gives
+
+pub TypeParse::parse-returns-then-at-4-clause-gives : goal.TypeParse::parse-returns-then-at-4-clause-gives
+TypeParse::parse-returns-then-at-4-clause-gives t c = rw (result_next (left c.args.lexer.now) (x.tested c.at-else-at-3.ensures c.if-at-4.true)) c.parse_result.ensures.gives
+
+pub TypeParse::parse-returns-then-at-5-clause-gives : goal.TypeParse::parse-returns-then-at-5-clause-gives
+TypeParse::parse-returns-then-at-5-clause-gives t c = rw (borrow_next (left c.args.lexer.now) (x.tested c.at-else-at-4.ensures c.if-at-5.true)) c.parse_borrow.ensures.gives
+
+pub TypeParse::parse-parse_simple-requires : goal.TypeParse::parse-parse_simple-requires
+TypeParse::parse-parse_simple-requires t c =
+    rw (x.tested c.at.ensures c.if-at.false, x.tested c.at-else-at.ensures c.if-at-2.false, x.tested c.at-else-at-2.ensures c.if-at-3.false, x.tested c.at-else-at-3.ensures c.if-at-4.false, x.tested c.at-else-at-4.ensures c.if-at-5.false, x.tested c.at-else-at-5.ensures c.if-at-6.false, x.tested c.at-else-at-6.ensures c.if-at-7.false)
 
 pub TypeParse::parse-returns-in_ok-inner-clause-gives : goal.TypeParse::parse-returns-in_ok-inner-clause-gives
 TypeParse::parse-returns-in_ok-inner-clause-gives t c = rw (list_next (left c.args.lexer.now) (x.tested c.at-else-at.ensures c.if-at-2.true)) (y.gives g.list_type (y.last_piece c.in_ok-inner.ensures.gives) (ap (λ (q : Ty × Span). Ty.list q.0 q.1) c.in_ok-inner.ensures.gives.part.2))
