@@ -1,3 +1,5 @@
 pub mod TypeParts
 pub mod NamedResults
 pub mod Built
+pub mod OptionalParts
+pub mod Heads

@@ -18,7 +18,7 @@ use Rattle.wac_grammar.specs.Reading.{can, refuse, mapped, two, read, read_in, r
 use Rattle.wac_ast_base.specs.Answer.{End, end_of_input, Fails, first_item, has_more}
 use Rattle.wac_ast_base.specs.declared.error.Error.{Error}
 use Rattle.wac_ast_base.specs.Lists.{Reads, unclosed}
-use Rattle.wac_ast_types.specs.Types.{ty_of, types_of_row, optional_of, compound, word_type, word_at, held_from, with_payload, TakesPayload, second_rule, second_of}
+use Rattle.wac_ast_types.specs.Types.{ty_of, types_of_row, optional_of, compound, word_at, held_from, with_payload, TakesPayload, second_rule, second_of}
 use Rattle.wac_ast_types.specs.declared.types.Type as code
 use Rattle.wac_grammar.specs.Consumed.{Consumed}
 use Rattle.wac_grammar.proofs.Sound.{sound}

@@ -5,10 +5,11 @@ ghost use Rattle.wac_grammar.specs.Reading.{begins};
 ghost use Rattle.wac_ast_base.specs.Lookahead.{Peeks};
 ghost use Rattle.wac_ast_types.specs.Declarations.{flag_of, flags_decl_of};
 
+use crate::head::parse_head;
 use std::alloc::Global;
 use wac_ast_base::{
     BodyKind, DocComment, Error, Ident, Lookahead, Parse, ParseResult, Peek, parse_docs,
-    parse_filled, take_token,
+    parse_filled,
 };
 use wac_lexer::{Lexer, Token};
 
@@ -29,9 +30,7 @@ impl<'a> Parse<'a> for FlagsDecl<'a> {
     ghost tree = { flags_decl_of };
 
     fn parse(alloc: Global, lexer: &mut Lexer<'a>) -> ParseResult<Self> {
-        let docs = parse_docs(alloc, lexer)?;
-        take_token(lexer, Token::FlagsKeyword)?;
-        let id = Parse::parse(alloc, lexer)?;
+        let (docs, id) = parse_head(alloc, lexer, Token::FlagsKeyword)?;
         let flags = parse_filled::<Flag, Error>(alloc, lexer, BodyKind::Flags)?;
         Ok(FlagsDecl { docs, id, flags })
     }

@@ -12,6 +12,7 @@ ghost use Rattle.wac_ast_base.specs.Lookahead.{Peeks};
 ghost use Rattle.wac_ast_base.specs.Pieces.{GivesPart};
 ghost use Rattle.wac_ast_types.specs.Declarations.{named_type_of, result_list_of, func_type_of, func_type_ref_of, results_rule, named_rule, named_results};
 
+use crate::debug::write_variant;
 use crate::types::Type;
 use std::alloc::Global;
 use std::fmt;
@@ -82,7 +83,7 @@ fn parse_results<'a>(alloc: Global, lexer: &mut Lexer<'a>) -> ParseResult<Result
     ensures moves { lexer.old.place ≤ lexer.new.place }
 {
     if take_optional(lexer, Token::Arrow)? {
-        return Ok(Parse::parse(alloc, lexer)?);
+        return Parse::parse(alloc, lexer);
     }
     Ok(ResultList::Empty)
 }
@@ -102,8 +103,8 @@ impl fmt::Debug for ResultList<'_> {
     fn fmt<W: fmt::Write>(&self, f: &mut fmt::Formatter<W>) -> fmt::Result {
         match self {
             ResultList::Empty => f.write_str("Empty"),
-            ResultList::Scalar(part) => write!(f, "Scalar({part:?})"),
-            ResultList::Named(part) => write!(f, "Named({part:?})"),
+            ResultList::Scalar(part) => write_variant(f, "Scalar", part),
+            ResultList::Named(part) => write_variant(f, "Named", part),
         }
     }
 }
@@ -201,8 +202,8 @@ pub enum FuncTypeRef<'a> {
 impl fmt::Debug for FuncTypeRef<'_> {
     fn fmt<W: fmt::Write>(&self, f: &mut fmt::Formatter<W>) -> fmt::Result {
         match self {
-            FuncTypeRef::Func(part) => write!(f, "Func({part:?})"),
-            FuncTypeRef::Ident(part) => write!(f, "Ident({part:?})"),
+            FuncTypeRef::Func(part) => write_variant(f, "Func", part),
+            FuncTypeRef::Ident(part) => write_variant(f, "Ident", part),
         }
     }
 }

@@ -6,12 +6,13 @@ ghost use Rattle.wac_ast_base.specs.Lookahead.{Peeks};
 ghost use Rattle.wac_ast_types.specs.Declarations.{field_of, record_decl_of};
 
 use crate::func_type::NamedType;
+use crate::head::parse_head;
 use crate::types::Type;
 use std::alloc::Global;
 use std::fmt;
 use wac_ast_base::{
     BodyKind, DocComment, Error, Ident, Lookahead, Parse, ParseResult, Peek, parse_docs,
-    parse_filled, take_token,
+    parse_filled,
 };
 use wac_lexer::{Lexer, Token};
 
@@ -42,9 +43,7 @@ impl<'a> Parse<'a> for RecordDecl<'a> {
     ghost tree = { record_decl_of };
 
     fn parse(alloc: Global, lexer: &mut Lexer<'a>) -> ParseResult<Self> {
-        let docs = parse_docs(alloc, lexer)?;
-        take_token(lexer, Token::RecordKeyword)?;
-        let id = Parse::parse(alloc, lexer)?;
+        let (docs, id) = parse_head(alloc, lexer, Token::RecordKeyword)?;
         let fields = parse_filled::<Field, Error>(alloc, lexer, BodyKind::Record)?;
         Ok(RecordDecl { docs, id, fields })
     }

@@ -8,7 +8,9 @@ ghost use Rattle.wac_ast_base.specs.Pieces.{GivesPart};
 ghost use Rattle.wac_ast_types.specs.Declarations.{constructor_of, method_of, resource_method_of, resource_decl_of};
 ghost use Rattle.wac_ast_types.specs.Tails.{resource_tail, tail_methods};
 
+use crate::debug::write_variant;
 use crate::func_type::{FuncType, NamedType};
+use crate::head::parse_head;
 use std::alloc::Global;
 use std::fmt;
 use wac_ast_base::{
@@ -44,9 +46,7 @@ impl<'a> Parse<'a> for ResourceDecl<'a> {
     ghost tree = { resource_decl_of };
 
     fn parse(alloc: Global, lexer: &mut Lexer<'a>) -> ParseResult<Self> {
-        let docs = parse_docs(alloc, lexer)?;
-        take_token(lexer, Token::ResourceKeyword)?;
-        let id = Parse::parse(alloc, lexer)?;
+        let (docs, id) = parse_head(alloc, lexer, Token::ResourceKeyword)?;
         let methods = parse_methods(alloc, lexer)?;
         Ok(ResourceDecl { docs, id, methods })
     }
@@ -93,8 +93,8 @@ pub enum ResourceMethod<'a> {
 impl fmt::Debug for ResourceMethod<'_> {
     fn fmt<W: fmt::Write>(&self, f: &mut fmt::Formatter<W>) -> fmt::Result {
         match self {
-            ResourceMethod::Constructor(part) => write!(f, "Constructor({part:?})"),
-            ResourceMethod::Method(part) => write!(f, "Method({part:?})"),
+            ResourceMethod::Constructor(part) => write_variant(f, "Constructor", part),
+            ResourceMethod::Method(part) => write_variant(f, "Method", part),
         }
     }
 }

@@ -5,13 +5,14 @@ ghost use Rattle.wac_grammar.specs.Reading.{begins};
 ghost use Rattle.wac_ast_base.specs.Lookahead.{Peeks};
 ghost use Rattle.wac_ast_types.specs.Declarations.{type_alias_of, type_alias_kind_of};
 
+use crate::debug::write_variant;
 use crate::func_type::FuncType;
+use crate::head::parse_head;
 use crate::types::Type;
 use std::alloc::Global;
 use std::fmt;
 use wac_ast_base::{
-    DocComment, Error, Ident, Lookahead, Parse, ParseResult, Peek, parse_before, parse_docs,
-    take_token,
+    DocComment, Error, Ident, Lookahead, Parse, ParseResult, Peek, parse_before, take_token,
 };
 use wac_lexer::{Lexer, Token};
 
@@ -42,9 +43,7 @@ impl<'a> Parse<'a> for TypeAlias<'a> {
     ghost tree = { type_alias_of };
 
     fn parse(alloc: Global, lexer: &mut Lexer<'a>) -> ParseResult<Self> {
-        let docs = parse_docs(alloc, lexer)?;
-        take_token(lexer, Token::TypeKeyword)?;
-        let id = Parse::parse(alloc, lexer)?;
+        let (docs, id) = parse_head(alloc, lexer, Token::TypeKeyword)?;
         take_token(lexer, Token::Equals)?;
         let kind = parse_before::<TypeAliasKind, Error>(alloc, lexer, Token::Semicolon)?;
         Ok(TypeAlias { docs, id, kind })
@@ -73,8 +72,8 @@ pub enum TypeAliasKind<'a> {
 impl fmt::Debug for TypeAliasKind<'_> {
     fn fmt<W: fmt::Write>(&self, f: &mut fmt::Formatter<W>) -> fmt::Result {
         match self {
-            TypeAliasKind::Func(part) => write!(f, "Func({part:?})"),
-            TypeAliasKind::Ty(part) => write!(f, "Ty({part:?})"),
+            TypeAliasKind::Func(part) => write_variant(f, "Func", part),
+            TypeAliasKind::Ty(part) => write_variant(f, "Ty", part),
         }
     }
 }

@@ -7,6 +7,7 @@ ghost use Rattle.wac_ast_base.specs.Lookahead.{Peeks};
 ghost use Rattle.wac_ast_base.specs.Names.{ident_of};
 ghost use Rattle.wac_ast_types.specs.Declarations.{type_decl_of, type_decl_id, item_type_decl_of, item_type_decl_id};
 
+use crate::debug::write_variant;
 use crate::enum_decl::EnumDecl;
 use crate::flags_decl::FlagsDecl;
 use crate::record_decl::RecordDecl;
@@ -36,11 +37,11 @@ pub enum TypeDecl<'a> {
 impl fmt::Debug for TypeDecl<'_> {
     fn fmt<W: fmt::Write>(&self, f: &mut fmt::Formatter<W>) -> fmt::Result {
         match self {
-            TypeDecl::Variant(part) => write!(f, "Variant({part:?})"),
-            TypeDecl::Record(part) => write!(f, "Record({part:?})"),
-            TypeDecl::Flags(part) => write!(f, "Flags({part:?})"),
-            TypeDecl::Enum(part) => write!(f, "Enum({part:?})"),
-            TypeDecl::Alias(part) => write!(f, "Alias({part:?})"),
+            TypeDecl::Variant(part) => write_variant(f, "Variant", part),
+            TypeDecl::Record(part) => write_variant(f, "Record", part),
+            TypeDecl::Flags(part) => write_variant(f, "Flags", part),
+            TypeDecl::Enum(part) => write_variant(f, "Enum", part),
+            TypeDecl::Alias(part) => write_variant(f, "Alias", part),
         }
     }
 }
@@ -117,12 +118,12 @@ pub enum ItemTypeDecl<'a> {
 impl fmt::Debug for ItemTypeDecl<'_> {
     fn fmt<W: fmt::Write>(&self, f: &mut fmt::Formatter<W>) -> fmt::Result {
         match self {
-            ItemTypeDecl::Resource(part) => write!(f, "Resource({part:?})"),
-            ItemTypeDecl::Variant(part) => write!(f, "Variant({part:?})"),
-            ItemTypeDecl::Record(part) => write!(f, "Record({part:?})"),
-            ItemTypeDecl::Flags(part) => write!(f, "Flags({part:?})"),
-            ItemTypeDecl::Enum(part) => write!(f, "Enum({part:?})"),
-            ItemTypeDecl::Alias(part) => write!(f, "Alias({part:?})"),
+            ItemTypeDecl::Resource(part) => write_variant(f, "Resource", part),
+            ItemTypeDecl::Variant(part) => write_variant(f, "Variant", part),
+            ItemTypeDecl::Record(part) => write_variant(f, "Record", part),
+            ItemTypeDecl::Flags(part) => write_variant(f, "Flags", part),
+            ItemTypeDecl::Enum(part) => write_variant(f, "Enum", part),
+            ItemTypeDecl::Alias(part) => write_variant(f, "Alias", part),
         }
     }
 }

@@ -426,7 +426,7 @@ fn parse_second_part<'a>(alloc: Global, lexer: &mut Lexer<'a>) -> ParseResult<Op
     ensures moves { lexer.old.place ≤ lexer.new.place }
 {
     if take_optional(lexer, Token::Comma)? {
-        return Ok(parse_result_part(alloc, lexer)?);
+        return parse_result_part(alloc, lexer);
     }
     Ok(None)
 }

@@ -10,12 +10,13 @@ ghost use Rattle.wac_ast_types.specs.Types.{ty_of};
 ghost use Rattle.wac_ast_types.specs.Declarations.{variant_case_of, variant_decl_of};
 ghost use Rattle.wac_ast_types.specs.Tails.{case_tail, held_type};
 
+use crate::head::parse_head;
 use crate::types::Type;
 use std::alloc::Global;
 use std::fmt;
 use wac_ast_base::{
     BodyKind, DocComment, Error, Ident, Lookahead, Parse, ParseResult, Peek, parse_before,
-    parse_docs, parse_filled, take_optional, take_token,
+    parse_docs, parse_filled, take_optional,
 };
 use wac_lexer::{Lexer, Token};
 
@@ -46,9 +47,7 @@ impl<'a> Parse<'a> for VariantDecl<'a> {
     ghost tree = { variant_decl_of };
 
     fn parse(alloc: Global, lexer: &mut Lexer<'a>) -> ParseResult<Self> {
-        let docs = parse_docs(alloc, lexer)?;
-        take_token(lexer, Token::VariantKeyword)?;
-        let id = Parse::parse(alloc, lexer)?;
+        let (docs, id) = parse_head(alloc, lexer, Token::VariantKeyword)?;
         let cases = parse_filled::<VariantCase, Error>(alloc, lexer, BodyKind::Variant)?;
         Ok(VariantDecl { docs, id, cases })
     }

@@ -3,18 +3,18 @@ use Rattle.std.proofs.lemmas.List.{map_push}
 use Rattle.wac_lexer.specs.Reading.{left}
 use Rattle.wac_lexer.specs.declared.token.Token.TheVariants as k
 use Rattle.wac_lexer.specs.Span.{Span}
-use Rattle.wac_grammar.specs.Tree.{Ty, OptionalTy}
+use Rattle.wac_grammar.specs.Tree.{Ty}
 use Rattle.wac_grammar.specs.Grammar as g
-use Rattle.wac_grammar.specs.Reading.{read, mapped}
-use Rattle.wac_ast_base.specs.Error.{told_by}
+use Rattle.wac_grammar.specs.Reading.{read}
 use Rattle.wac_ast_base.specs.Answer.{first_item}
-use Rattle.wac_ast_types.specs.Types.{ty_of, optional_of, with_payload}
+use Rattle.wac_ast_types.specs.Types.{ty_of, optional_of, with_payload, second_of}
 use Rattle.wac_grammar.proofs.Fixed.{takes_some}
 use Rattle.wac_ast_base.proofs.Lists.{comma_list, item_fails, item_less, item_missing, item_there, list_closed, list_goes_on, moved_end, never_fails, same_fails, so_far_fails, step_fails, token_less}
 use Rattle.wac_ast_base.proofs.Optional.{optional_there}
 use Rattle.wac_ast_base.proofs.Exits as x
 use Rattle.wac_ast_base.proofs.Yields as y
 use Rattle.wac_ast_types.proofs.TypeParts.{tuple_is, result_is, result_built, stream_is, future_is, tuple_next, result_next, borrow_next, list_next, option_next, stream_held, future_held, held_fails, held_gives, tuple_ends, tuple_list_fails, arm_fails, arm_gives}
+use Rattle.wac_ast_types.proofs.OptionalParts.{passed_on}
 use Rattle.wac_ast_types.proofs.types.+types.Goals as goal
 
 pub TypeParse::parse-returns-then-at-clause-gives : goal.TypeParse::parse-returns-then-at-clause-gives
@@ -108,11 +108,8 @@ parse_result_part-returns-clause-gives t c = y.gives g.result_part (y.other (x.n
 pub parse_second_part-returns-in_err-take_optional-clause-gives : goal.parse_second_part-returns-in_err-take_optional-clause-gives
 parse_second_part-returns-in_err-take_optional-clause-gives t c = x.part_exits _ c.from_residual.ensures.1 (x.no_option c.in_err-take_optional.ensures.takes)
 
-pub parse_second_part-returns-in_err-parse_result_part-clause-gives : goal.parse_second_part-returns-in_err-parse_result_part-clause-gives
-parse_second_part-returns-in_err-parse_result_part-clause-gives t c = x.part_exits _ c.from_residual-in_err-parse_result_part.ensures.1 (x.option c.take_optional.new.lexer c.if-branch.true c.in_ok-take_optional.ensures.takes (x.last c.in_err-parse_result_part.ensures.gives))
-
 pub parse_second_part-returns-then-branch-clause-gives : goal.parse_second_part-returns-then-branch-clause-gives
-parse_second_part-returns-then-branch-clause-gives t c = y.part (y.option c.take_optional.new.lexer c.if-branch.true c.in_ok-take_optional.ensures.takes (y.last c.in_ok-parse_result_part.ensures.gives)) refl
+parse_second_part-returns-then-branch-clause-gives t c = passed_on k.Comma g.result_part second_of optional_of c.args.lexer.now c.take_optional.new.lexer c.parse_result_part.new.lexer c.parse_result_part.result (λ i p. refl) c.if-branch.true c.in_ok-take_optional.ensures.takes c.parse_result_part.ensures.gives
 
 pub parse_second_part-returns-clause-gives : goal.parse_second_part-returns-clause-gives
 parse_second_part-returns-clause-gives t c = y.part (y.no_option c.if-branch.false c.in_ok-take_optional.ensures.takes) refl

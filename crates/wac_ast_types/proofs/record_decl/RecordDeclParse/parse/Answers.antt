@@ -1,16 +1,14 @@
 use Rattle.wac_grammar.specs.Grammar.{record_decl}
 use Rattle.wac_ast_base.proofs.Exits as x
 use Rattle.wac_ast_base.proofs.Yields as y
+use Rattle.wac_ast_types.proofs.Heads.{head_fails, head_past, head_and, head_docs, head_id}
 use Rattle.wac_ast_types.proofs.record_decl.RecordDeclParse.parse.Goals as goal
 
-pub returns-in_err-take_token-clause-gives : goal.returns-in_err-take_token-clause-gives
-returns-in_err-take_token-clause-gives c = x.exits record_decl _ _ _ c.from_residual-in_err-take_token.ensures.1 (x.with_docs (x.here c.in_err-take_token.ensures.takes))
-
-pub returns-in_err-id-clause-gives : goal.returns-in_err-id-clause-gives
-returns-in_err-id-clause-gives c = x.exits record_decl _ _ _ c.from_residual-in_err-id.ensures.1 (x.with_docs (x.took c.in_ok-take_token.ensures.takes (x.here c.in_err-id.ensures.gives)))
+pub returns-in_err-docs-clause-gives : goal.returns-in_err-docs-clause-gives
+returns-in_err-docs-clause-gives c = x.exits record_decl _ _ _ c.from_residual.ensures.1 (head_fails c.in_err-docs.ensures.gives)
 
 pub returns-in_err-fields-clause-gives : goal.returns-in_err-fields-clause-gives
-returns-in_err-fields-clause-gives c = x.exits record_decl _ _ _ c.from_residual-in_err-fields.ensures.1 (x.with_docs (x.took c.in_ok-take_token.ensures.takes (x.past c.in_ok-id.ensures.gives (x.last_piece c.in_err-fields.ensures.gives))))
+returns-in_err-fields-clause-gives c = x.exits record_decl _ _ _ c.from_residual-in_err-fields.ensures.1 (head_past c.in_ok-docs.ensures.gives (x.last_piece c.in_err-fields.ensures.gives))
 
 pub returns-clause-gives : goal.returns-clause-gives
-returns-clause-gives c = y.gives record_decl (y.docs_took c.in_ok-docs.ensures.docs c.in_ok-take_token.ensures.takes (y.past c.in_ok-id.ensures.gives (y.last_piece c.in_ok-fields.ensures.gives))) (rw c.in_ok-fields.ensures.gives.part.2)
+returns-clause-gives c = y.gives record_decl (head_and c.in_ok-docs.ensures.gives (y.last_piece c.in_ok-fields.ensures.gives)) (rw (head_docs c.in_ok-docs.ensures.gives, head_id c.in_ok-docs.ensures.gives, c.in_ok-fields.ensures.gives.part.2))
