@@ -6,6 +6,8 @@ use crate::reading::has_each;
 use crate::rows::{Row, package, parts};
 use indexmap::IndexMap;
 use std::alloc::{AllocError, Global};
+use std::fmt::Display;
+use std::process::Abort;
 use std::test::Fail;
 use wac_graph::{
     DefinedType, DefinedTypeId, ExternKind, FuncKind, FuncResults, FuncType, FuncTypeId, Interface,
@@ -120,15 +122,30 @@ fn fault(
     }
 }
 
+/// Asserts that a value's text is these words.
+fn is_shown(
+    rt: &impl Abort,
+    alloc: Global,
+    value: &impl Display,
+    words: &str,
+) -> Result<(), AllocError> {
+    let text = value.to_string(alloc)?;
+    assert!(rt; text.as_str() == words, "{text} of {words}");
+    Ok(())
+}
+
 #[test]
 fn names_the_first_fault(rt: HostRuntime) -> Result<(), Fail> {
-    for (rows, places, definitions, wrong) in FAULTS {
-        let text = fault(rt.alloc(), rows, places, definitions)?;
-        assert_eq!(rt; text.as_str(), wrong);
+    for (rows, places, definitions, wrong) in &FAULTS {
+        let text = fault(rt.alloc(), rows, *places, definitions)?;
+        assert!(rt; text.as_str() == *wrong, "{text} of {wrong}");
     }
-    let text = format!(in rt.alloc(); "{}", PackageError::Memory(AllocError))?;
-    assert!(rt; text.as_str() == "out of memory", "memory");
-    Ok(())
+    Ok(is_shown(
+        &rt,
+        rt.alloc(),
+        &PackageError::Memory(AllocError),
+        "out of memory",
+    )?)
 }
 
 /// The world, the instance, and how many entries and definitions a package has.
@@ -383,23 +400,40 @@ const CALLED: [(ItemKind, &str, &str); 8] = [
 ];
 
 #[test]
-fn describes_kinds(rt: HostRuntime) -> Result<(), Fail> {
-    for (kind, words, promoted) in CALLED {
-        assert!(rt; kind.desc() == words, "of {words}");
-        assert!(rt; kind.promote().desc() == promoted, "of {words}");
+fn describes_kinds(rt: HostRuntime) {
+    for (kind, words, promoted) in &CALLED {
+        assert!(rt; kind.desc() == *words, "of {words}");
+        assert!(rt; kind.promote().desc() == *promoted, "of {words}");
     }
-    let text = format!(in rt.alloc();
-        "{} {} {} {} {} {}",
-        ExternKind::Import,
-        ExternKind::Export,
-        FuncKind::Free,
-        FuncKind::Method,
-        FuncKind::Static,
-        FuncKind::Constructor
-    )?;
-    assert!(rt;
-        text.as_str() == "import export function method static method constructor",
-        "kinds"
-    );
+}
+
+const EXTERN_KINDS: [(ExternKind, &str); 2] = [
+    (ExternKind::Import, "import"),
+    (ExternKind::Export, "export"),
+];
+
+const FUNC_KINDS: [(FuncKind, &str); 4] = [
+    (FuncKind::Free, "function"),
+    (FuncKind::Method, "method"),
+    (FuncKind::Static, "static method"),
+    (FuncKind::Constructor, "constructor"),
+];
+
+/// Asserts that the text of each value is what is written beside it.
+fn are_shown<D: Display>(
+    rt: &impl Abort,
+    alloc: Global,
+    rows: &[(D, &str)],
+) -> Result<(), AllocError> {
+    for (value, words) in rows {
+        is_shown(rt, alloc, value, words)?;
+    }
+    Ok(())
+}
+
+#[test]
+fn writes_kinds(rt: HostRuntime) -> Result<(), Fail> {
+    are_shown(&rt, rt.alloc(), &EXTERN_KINDS)?;
+    are_shown(&rt, rt.alloc(), &FUNC_KINDS)?;
     Ok(())
 }
