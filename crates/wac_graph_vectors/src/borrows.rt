@@ -1,6 +1,7 @@
 //! Which types contain a borrow.
 
 use crate::rows::{Row, package};
+use std::process::Abort;
 use std::test::Fail;
 use wac_graph::{
     DefinedTypeId, FuncTypeId, InterfaceId, ItemKind, Package, ResourceAlias, ResourceId, Type,
@@ -65,19 +66,26 @@ fn contains_borrow(package: &Package, i: usize) -> Option<bool> {
     }
 }
 
+/// For each definition whether its values contain a borrow. The last one is no type of values, and past it is none.
+const BORROWS: [(usize, Option<bool>); 7] = [
+    (0, Some(true)),
+    (1, Some(true)),
+    (2, Some(false)),
+    (3, Some(false)),
+    (4, Some(false)),
+    (5, None),
+    (6, None),
+];
+
+fn are_found(rt: &impl Abort, package: &Package, rows: &[(usize, Option<bool>)]) {
+    for (i, is) in rows {
+        assert!(rt; contains_borrow(package, *i) == *is, "of {i}");
+    }
+}
+
 #[test]
 fn looks_for_borrows(rt: HostRuntime) -> Result<(), Fail> {
     let package = package(rt.alloc(), &ENTRIES, (1, 0), &DEFINITIONS)?;
-    for (i, is) in [
-        (0, Some(true)),
-        (1, Some(true)),
-        (2, Some(false)),
-        (3, Some(false)),
-        (4, Some(false)),
-        (5, None),
-        (6, None),
-    ] {
-        assert!(rt; contains_borrow(&package, i) == is, "of {i}");
-    }
+    are_found(&rt, &package, &BORROWS);
     Ok(())
 }

@@ -180,7 +180,9 @@ fn finds_nodes(graph: &CompositionGraph, rows: Lookups) -> bool {
 
 const FUNCTION: Option<&str> = Some("function");
 
-const KINDS: [(Named<'static>, Option<&str>); 9] = [
+type Kinds = &'static [(Named<'static>, Option<&'static str>)];
+
+const KINDS: Kinds = &[
     (Named::Export(2, "run"), FUNCTION),
     (Named::Export(3, "log"), None),
     (Named::Export(0, "run"), None),
@@ -193,9 +195,9 @@ const KINDS: [(Named<'static>, Option<&str>); 9] = [
 ];
 
 /// Whether each name finds a kind that is called what is written beside it.
-fn finds_kinds(graph: &CompositionGraph) -> bool {
-    for (named, desc) in KINDS {
-        if kind(graph, named) != desc {
+fn finds_kinds(graph: &CompositionGraph, rows: Kinds) -> bool {
+    for (named, desc) in rows {
+        if kind(graph, *named) != *desc {
             return false;
         }
     }
@@ -203,27 +205,44 @@ fn finds_kinds(graph: &CompositionGraph) -> bool {
 }
 
 /// The package under these names and versions.
-const KEYS: [(&str, &str, Option<PackageId>); 4] = [
+const KEYS: &[(&str, &str, Option<PackageId>)] = &[
     ("c:d", "1.0.0", Some(PackageId(0))),
     ("c:d", "1.0.1", Some(PackageId(1))),
     ("c:d", "1.0", None),
     ("c:e", "1.0.0", None),
 ];
 
+/// Asserts which package each name and version find.
+fn packages_are_found(
+    rt: &impl Abort,
+    alloc: Global,
+    graph: &CompositionGraph,
+    rows: &[(&str, &str, Option<PackageId>)],
+) -> Result<(), AllocError> {
+    for (name, version, id) in rows {
+        let found = package_of(alloc, graph, name, version)?;
+        assert!(rt; found == *id, "of {version}");
+    }
+    Ok(())
+}
+
+/// Asserts what names find in a composition, made in an empty graph.
+fn names_find(
+    rt: &impl Abort,
+    alloc: Global,
+    graph: &mut CompositionGraph,
+) -> Result<(), PackageError> {
+    compose(alloc, graph)?;
+    assert!(rt; finds_nodes(graph, NODES));
+    assert!(rt; finds_nodes(graph, INSTANCES));
+    assert!(rt; finds_kinds(graph, KINDS));
+    Ok(packages_are_found(rt, alloc, graph, KEYS)?)
+}
+
 #[test]
 fn finds_by_name(rt: HostRuntime) -> Result<(), Fail> {
     let mut graph = CompositionGraph::new(rt.alloc());
-    compose(rt.alloc(), &mut graph)?;
-    assert!(rt; finds_nodes(&graph, NODES));
-    assert!(rt; finds_nodes(&graph, INSTANCES));
-    assert!(rt; finds_kinds(&graph));
-    for (name, version, id) in KEYS {
-        assert!(rt;
-            package_of(rt.alloc(), &graph, name, version)? == id,
-            "of {version}"
-        );
-    }
-    Ok(())
+    Ok(names_find(&rt, rt.alloc(), &mut graph)?)
 }
 
 fn has_parameters(alloc: Global, graph: &CompositionGraph) -> Result<bool, AllocError> {

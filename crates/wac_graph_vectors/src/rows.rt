@@ -32,19 +32,37 @@ pub enum Row<'a> {
     World(&'a [(&'a str, ItemKind)], &'a [(&'a str, ItemKind)]),
 }
 
+/// Puts a value under a name.
+fn put<V: Drop>(
+    alloc: Global,
+    all: &mut IndexMap<String, V>,
+    name: &str,
+    value: V,
+) -> Result<(), AllocError> {
+    let key = String::from_str(alloc, name)?;
+    all.insert(key, value)?;
+    Ok(())
+}
+
 /// Values by name, in order.
 fn named<V: Copy>(alloc: Global, rows: &[(&str, V)]) -> Result<IndexMap<String, V>, AllocError> {
     let mut all = IndexMap::new(alloc);
     for (name, value) in rows {
-        all.insert(String::from_str(alloc, name)?, *value)?;
+        put(alloc, &mut all, name, *value)?;
     }
     Ok(all)
+}
+
+fn put_name(alloc: Global, all: &mut IndexSet<String>, name: &str) -> Result<(), AllocError> {
+    let name = String::from_str(alloc, name)?;
+    all.insert(name)?;
+    Ok(())
 }
 
 fn names(alloc: Global, rows: &[&str]) -> Result<IndexSet<String>, AllocError> {
     let mut all = IndexSet::new(alloc);
     for name in rows {
-        all.insert(String::from_str(alloc, name)?)?;
+        put_name(alloc, &mut all, name)?;
     }
     Ok(all)
 }
@@ -113,13 +131,12 @@ fn uses(
     interface: InterfaceId,
     other: &str,
 ) -> Result<IndexMap<String, UsedType>, AllocError> {
-    let mut uses = IndexMap::new(alloc);
-    let name = String::from_str(alloc, name)?;
     let used = UsedType {
         interface,
         name: text(alloc, Some(other))?,
     };
-    uses.insert(name, used)?;
+    let mut uses = IndexMap::new(alloc);
+    put(alloc, &mut uses, name, used)?;
     Ok(uses)
 }
 

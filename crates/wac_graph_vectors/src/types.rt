@@ -39,7 +39,14 @@ const OWNED: ValueType = ValueType::Own(ResourceId(0));
 const OTHER_EXPORTS: &str = "instance exports differ from the exports of the world";
 
 /// Entries, the numbers of the world and of the instance, definitions, and what is wrong with them.
-const FAULTS: [(&[Row<'static>], (usize, usize), Definitions, &str); 11] = [
+type Fault = (
+    &'static [Row<'static>],
+    (usize, usize),
+    Definitions,
+    &'static str,
+);
+
+const FAULTS: [Fault; 11] = [
     (&[INSTANCE, WORLD], (1, 0), &[], "nothing"),
     (&[INSTANCE, WORLD], (5, 0), &[], "id out of range"),
     (&[INSTANCE, WORLD], (0, 0), &[], "id of another sort"),
@@ -134,18 +141,24 @@ fn is_shown(
     Ok(())
 }
 
-#[test]
-fn names_the_first_fault(rt: HostRuntime) -> Result<(), Fail> {
-    for (rows, places, definitions, wrong) in &FAULTS {
-        let text = fault(rt.alloc(), rows, *places, definitions)?;
+/// Asserts what is wrong with the parts of each row.
+fn faults_are_named(rt: &impl Abort, alloc: Global, rows: &[Fault]) -> Result<(), AllocError> {
+    for (rows, places, definitions, wrong) in rows {
+        let text = fault(alloc, rows, *places, definitions)?;
         assert!(rt; text.as_str() == *wrong, "{text} of {wrong}");
     }
-    Ok(is_shown(
-        &rt,
-        rt.alloc(),
-        &PackageError::Memory(AllocError),
-        "out of memory",
-    )?)
+    Ok(())
+}
+
+#[test]
+fn names_the_first_fault(rt: HostRuntime) -> Result<(), Fail> {
+    Ok(faults_are_named(&rt, rt.alloc(), &FAULTS)?)
+}
+
+#[test]
+fn names_memory(rt: HostRuntime) -> Result<(), Fail> {
+    let error = PackageError::Memory(AllocError);
+    Ok(is_shown(&rt, rt.alloc(), &error, "out of memory")?)
 }
 
 /// The world, the instance, and how many entries and definitions a package has.
@@ -187,8 +200,15 @@ const DEFINED: [(&str, ItemKind); 6] = [
     ("s", ItemKind::Ty(Type::Resource(ResourceId(7)))),
 ];
 
+type Parts = (Types, IndexMap<String, ItemKind>);
+
+fn defining_parts(alloc: Global) -> Result<Parts, AllocError> {
+    parts(alloc, &DEFINING, &DEFINED)
+}
+
 fn defining(alloc: Global) -> Result<Package, PackageError> {
-    package(alloc, &DEFINING, (1, 0), &DEFINED)
+    let (types, definitions) = defining_parts(alloc)?;
+    Package::new(types, WorldId(1), InterfaceId(0), definitions)
 }
 
 /// Whether the definitions of these places mean the same.
@@ -198,6 +218,13 @@ fn same(package: &Package, i: usize, j: usize) -> Option<bool> {
     let (_, first) = definitions.get_index(i)?;
     let (_, second) = definitions.get_index(j)?;
     Some(types.same(*first, *second))
+}
+
+/// Asserts whether the definitions of two places mean the same.
+fn are_compared(rt: &impl Abort, package: &Package, rows: &[(usize, usize, bool)]) {
+    for (i, j, is) in rows {
+        assert!(rt; same(package, *i, *j) == Some(*is), "of {j}");
+    }
 }
 
 /// Which definitions of [`DEFINED`] mean the same.
@@ -210,24 +237,27 @@ const SAME: [(usize, usize, bool); 6] = [
     (4, 5, false),
 ];
 
+/// Asserts what rules say of definitions and of names.
+fn rules_are_asked(rt: &impl Abort, package: &Package) {
+    assert!(rt;
+        asked(&OnlySame, package, 0, 1) == Some(Ok(())),
+        "the same kind"
+    );
+    assert!(rt;
+        asked(&OnlySame, package, 0, 2) == Some(Err(Reason(7))),
+        "another kind"
+    );
+    assert!(rt; OnlySame.extern_name("a") == Ok(()), "a");
+    assert!(rt; OnlySame.extern_name("") == Err(Reason(8)), "no name");
+}
+
 #[test]
 fn compares_meanings(rt: HostRuntime) -> Result<(), Fail> {
     let package = defining(rt.alloc())?;
     let numbers = numbers(&package);
     assert!(rt; numbers == (WorldId(1), InterfaceId(0), 8, 6), "numbers");
-    for (i, j, is) in SAME {
-        assert!(rt; same(&package, i, j) == Some(is), "of {j}");
-    }
-    assert!(rt;
-        asked(&OnlySame, &package, 0, 1) == Some(Ok(())),
-        "the same kind"
-    );
-    assert!(rt;
-        asked(&OnlySame, &package, 0, 2) == Some(Err(Reason(7))),
-        "another kind"
-    );
-    assert!(rt; OnlySame.extern_name("a") == Ok(()), "a");
-    assert!(rt; OnlySame.extern_name("") == Err(Reason(8)), "no name");
+    are_compared(&rt, &package, &SAME);
+    rules_are_asked(&rt, &package);
     Ok(())
 }
 
@@ -270,9 +300,7 @@ const SAME_RESULTS: [(usize, usize, bool); 7] = [
 #[test]
 fn names_of_results_count(rt: HostRuntime) -> Result<(), Fail> {
     let package = package(rt.alloc(), &GIVING, (1, 0), &GIVEN)?;
-    for (i, j, is) in SAME_RESULTS {
-        assert!(rt; same(&package, i, j) == Some(is), "of {j}");
-    }
+    are_compared(&rt, &package, &SAME_RESULTS);
     Ok(())
 }
 
@@ -280,9 +308,9 @@ fn names_of_results_count(rt: HostRuntime) -> Result<(), Fail> {
 /// at once.
 #[test]
 fn makes_a_package_without_memory(rt: HostRuntime) -> Result<(), Fail> {
-    let (types, definitions) = match parts(rt.alloc(), &DEFINING, &DEFINED) {
+    let (types, definitions) = match defining_parts(rt.alloc()) {
         Ok(all) => all,
-        Err(_) => parts(rt.alloc(), &DEFINING, &DEFINED)?,
+        Err(_) => defining_parts(rt.alloc())?,
     };
     let package = Package::new(types, WorldId(1), InterfaceId(0), definitions);
     assert!(rt; package.is_ok());
