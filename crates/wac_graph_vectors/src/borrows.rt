@@ -1,7 +1,6 @@
 //! Which types contain a borrow.
 
 use crate::rows::{Row, package};
-use std::process::Abort;
 use std::test::Fail;
 use wac_graph::{
     DefinedTypeId, FuncTypeId, InterfaceId, ItemKind, Package, ResourceAlias, ResourceId, Type,
@@ -17,7 +16,7 @@ const ANOTHER_NAME: ResourceAlias = ResourceAlias {
 
 /// A resource, another name of it, which an interface owns that has a method of it, and lists: of the borrowed resource,
 /// of such lists, of the owned one, and of its owned other name.
-const ENTRIES: [Row<'static>; 11] = [
+static ENTRIES: [Row<'static>; 11] = [
     Row::Interface(None, &[]),
     Row::World(&[], &[]),
     Row::Resource("r", None),
@@ -31,7 +30,7 @@ const ENTRIES: [Row<'static>; 11] = [
     Row::Stream,
 ];
 
-const DEFINITIONS: [(&str, ItemKind); 6] = [
+static DEFINITIONS: [(&str, ItemKind); 6] = [
     (
         "a",
         ItemKind::Ty(Type::Value(ValueType::Defined(DefinedTypeId(6)))),
@@ -67,7 +66,7 @@ fn contains_borrow(package: &Package, i: usize) -> Option<bool> {
 }
 
 /// For each definition whether its values contain a borrow. The last one is no type of values, and past it is none.
-const BORROWS: [(usize, Option<bool>); 7] = [
+static BORROWS: [(usize, Option<bool>); 7] = [
     (0, Some(true)),
     (1, Some(true)),
     (2, Some(false)),
@@ -77,15 +76,19 @@ const BORROWS: [(usize, Option<bool>); 7] = [
     (6, None),
 ];
 
-fn are_found(rt: &impl Abort, package: &Package, rows: &[(usize, Option<bool>)]) {
+/// Whether this is so of each definition.
+fn are_found(package: &Package, rows: &[(usize, Option<bool>)]) -> bool {
     for (i, is) in rows {
-        assert!(rt; contains_borrow(package, *i) == *is, "of {i}");
+        if contains_borrow(package, *i) != *is {
+            return false;
+        }
     }
+    true
 }
 
 #[test]
 fn looks_for_borrows(rt: HostRuntime) -> Result<(), Fail> {
     let package = package(rt.alloc(), &ENTRIES, (1, 0), &DEFINITIONS)?;
-    are_found(&rt, &package, &BORROWS);
+    assert!(rt; are_found(&package, &BORROWS));
     Ok(())
 }

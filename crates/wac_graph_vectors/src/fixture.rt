@@ -30,7 +30,7 @@ const ANOTHER_NAME: ResourceAlias = ResourceAlias {
 
 /// A resource, types of values that have it, functions, the resource's interface, another name of it, and an instance
 /// and a world that use them.
-const ENTRIES: [Row<'static>; 11] = [
+static ENTRIES: [Row<'static>; 11] = [
     Row::Resource("r", None),
     Row::Tuple(&[BYTE, BYTE]),
     Row::Record(&[("x", OWNED), ("y", PAIR)]),

@@ -14,11 +14,10 @@ use wac_graph::{
     PackageId, PrimitiveType, Resource, ValueType, World,
 };
 
-type Steps = &'static [(Step<'static>, Option<usize>)];
+/// A call, and the number of what it adds or changes; none where it may not be made.
+type Call = (Step<'static>, Option<usize>);
 
-// Calls, and the number of what each adds or changes; none where it may not be made.
-
-const ADDED: Steps = &[
+static COMPOSING: [Call; 32] = [
     (Step::Import("a"), Some(0)),
     (Step::Import("b"), Some(1)),
     (Step::Import("a"), None),
@@ -28,9 +27,6 @@ const ADDED: Steps = &[
     (Step::Instantiate(0), Some(2)),
     (Step::Instantiate(1), Some(3)),
     (Step::Instantiate(2), None),
-];
-
-const EXPORTED: Steps = &[
     (Step::Define("t"), Some(4)),
     (Step::Define("u"), Some(5)),
     (Step::Define("t"), None),
@@ -38,10 +34,7 @@ const EXPORTED: Steps = &[
     (Step::Export(0, "y"), Some(0)),
     (Step::Export(1, "y"), None),
     (Step::Export(9, "z"), None),
-];
-
-/// The second import first, and then the first one.
-const GIVEN: Steps = &[
+    // The second import first, and then the first one.
     (Step::Give(2, "x:y/z", 1), Some(2)),
     (Step::Give(2, "log", 0), Some(2)),
     (Step::Give(2, "log", 1), None),
@@ -49,9 +42,6 @@ const GIVEN: Steps = &[
     (Step::Give(3, "log", 3), None),
     (Step::Give(3, "log", 2), Some(3)),
     (Step::Give(0, "log", 0), None),
-];
-
-const NAMED: Steps = &[
     (Step::Alias(2, "run"), Some(6)),
     (Step::Alias(3, "run"), Some(7)),
     (Step::Alias(2, "run"), Some(6)),
@@ -77,51 +67,9 @@ const COMPOSED: &str = "a=0 b=1 \n\
     c:d Some(\"1.0.0\") 0+11 10 9 w=Ty(World(WorldId(10)))\n\
     c:d Some(\"1.0.1\") 11+11 21 20 w=Ty(World(WorldId(21)))\n";
 
-fn add(alloc: Global, graph: &mut CompositionGraph, package: &Package) -> Result<bool, AllocError> {
-    make_all(alloc, graph, package, ADDED)
-}
-
-fn export(
-    alloc: Global,
-    graph: &mut CompositionGraph,
-    package: &Package,
-) -> Result<bool, AllocError> {
-    make_all(alloc, graph, package, EXPORTED)
-}
-
-fn give(
-    alloc: Global,
-    graph: &mut CompositionGraph,
-    package: &Package,
-) -> Result<bool, AllocError> {
-    make_all(alloc, graph, package, GIVEN)
-}
-
-fn name(
-    alloc: Global,
-    graph: &mut CompositionGraph,
-    package: &Package,
-) -> Result<bool, AllocError> {
-    make_all(alloc, graph, package, NAMED)
-}
-
-/// Takes the steps of all lists, up to a step that gives another number than is written beside it.
-fn take_all(
-    alloc: Global,
-    graph: &mut CompositionGraph,
-    package: &Package,
-) -> Result<bool, AllocError> {
-    Ok(
-        add(alloc, graph, package)?
-            && export(alloc, graph, package)?
-            && give(alloc, graph, package)?
-            && name(alloc, graph, package)?,
-    )
-}
-
 fn compose(alloc: Global, graph: &mut CompositionGraph) -> Result<bool, PackageError> {
     let package = component(alloc)?;
-    Ok(take_all(alloc, graph, &package)?)
+    Ok(make_all(alloc, graph, &package, &COMPOSING)?)
 }
 
 /// Whether what is read of a composed graph is what was put in.
@@ -146,9 +94,9 @@ fn composes(rt: HostRuntime) -> Result<(), Fail> {
     Ok(())
 }
 
-type Lookups = &'static [(Asked<'static>, Option<usize>)];
+type Lookup = (Asked<'static>, Option<usize>);
 
-const NODES: Lookups = &[
+static NODES: [Lookup; 6] = [
     (Asked::Import("a"), Some(0)),
     (Asked::Import("b"), Some(1)),
     (Asked::Import("x"), None),
@@ -157,7 +105,7 @@ const NODES: Lookups = &[
     (Asked::Export("a"), None),
 ];
 
-const INSTANCES: Lookups = &[
+static INSTANCES: [Lookup; 8] = [
     (Asked::Argument(2, "log"), Some(0)),
     (Asked::Argument(3, "log"), Some(2)),
     (Asked::Argument(3, "x:y/z"), None),
@@ -169,7 +117,7 @@ const INSTANCES: Lookups = &[
 ];
 
 /// Whether each name finds the number that is written beside it.
-fn finds_nodes(graph: &CompositionGraph, rows: Lookups) -> bool {
+fn finds_nodes(graph: &CompositionGraph, rows: &[Lookup]) -> bool {
     for (asked, number) in rows {
         if found(graph, *asked) != *number {
             return false;
@@ -180,9 +128,9 @@ fn finds_nodes(graph: &CompositionGraph, rows: Lookups) -> bool {
 
 const FUNCTION: Option<&str> = Some("function");
 
-type Kinds = &'static [(Named<'static>, Option<&'static str>)];
+type Kind = (Named<'static>, Option<&'static str>);
 
-const KINDS: Kinds = &[
+static KINDS: [Kind; 9] = [
     (Named::Export(2, "run"), FUNCTION),
     (Named::Export(3, "log"), None),
     (Named::Export(0, "run"), None),
@@ -195,7 +143,7 @@ const KINDS: Kinds = &[
 ];
 
 /// Whether each name finds a kind that is called what is written beside it.
-fn finds_kinds(graph: &CompositionGraph, rows: Kinds) -> bool {
+fn finds_kinds(graph: &CompositionGraph, rows: &[Kind]) -> bool {
     for (named, desc) in rows {
         if kind(graph, *named) != *desc {
             return false;
@@ -205,49 +153,43 @@ fn finds_kinds(graph: &CompositionGraph, rows: Kinds) -> bool {
 }
 
 /// The package under these names and versions.
-const KEYS: &[(&str, &str, Option<PackageId>)] = &[
+static KEYS: [(&str, &str, Option<PackageId>); 4] = [
     ("c:d", "1.0.0", Some(PackageId(0))),
     ("c:d", "1.0.1", Some(PackageId(1))),
     ("c:d", "1.0", None),
     ("c:e", "1.0.0", None),
 ];
 
-/// Asserts which package each name and version find.
-fn packages_are_found(
-    rt: &impl Abort,
+/// Whether each name and version find the package that is written beside them.
+fn finds_packages(
     alloc: Global,
     graph: &CompositionGraph,
     rows: &[(&str, &str, Option<PackageId>)],
-) -> Result<(), AllocError> {
+) -> Result<bool, AllocError> {
     for (name, version, id) in rows {
-        let found = package_of(alloc, graph, name, version)?;
-        assert!(rt; found == *id, "of {version}");
+        if package_of(alloc, graph, name, version)? != *id {
+            return Ok(false);
+        }
     }
-    Ok(())
-}
-
-/// Asserts what names find in a composition, made in an empty graph.
-fn names_find(
-    rt: &impl Abort,
-    alloc: Global,
-    graph: &mut CompositionGraph,
-) -> Result<(), PackageError> {
-    compose(alloc, graph)?;
-    assert!(rt; finds_nodes(graph, NODES));
-    assert!(rt; finds_nodes(graph, INSTANCES));
-    assert!(rt; finds_kinds(graph, KINDS));
-    Ok(packages_are_found(rt, alloc, graph, KEYS)?)
+    Ok(true)
 }
 
 #[test]
 fn finds_by_name(rt: HostRuntime) -> Result<(), Fail> {
     let mut graph = CompositionGraph::new(rt.alloc());
-    Ok(names_find(&rt, rt.alloc(), &mut graph)?)
+    compose(rt.alloc(), &mut graph)?;
+    assert!(rt; finds_nodes(&graph, &NODES));
+    assert!(rt; finds_nodes(&graph, &INSTANCES));
+    assert!(rt; finds_kinds(&graph, &KINDS));
+    assert!(rt; finds_packages(rt.alloc(), &graph, &KEYS)?);
+    Ok(())
 }
 
-fn has_parameters(alloc: Global, graph: &CompositionGraph) -> Result<bool, AllocError> {
+/// Whether the second package has these first imports and one export.
+fn has_names(alloc: Global, graph: &CompositionGraph) -> Result<bool, AllocError> {
+    let one = export_name(graph, 1, 1)?.is_none();
     let text = parameters(alloc, graph, 1)?;
-    Ok(text.as_str() == "log x:y/z ")
+    Ok(one && text.as_str() == "log x:y/z ")
 }
 
 /// Adds the alias of an export whose name is read of a package; it is handed to a call that changes the graph.
@@ -268,14 +210,6 @@ fn alias_by_name(
 ) -> Result<Option<usize>, PackageError> {
     let package = component(alloc)?;
     Ok(add_alias_by_name(alloc, graph, &package)?)
-}
-
-fn has_one_export(graph: &CompositionGraph) -> Result<bool, AllocError> {
-    Ok(export_name(graph, 1, 1)?.is_none())
-}
-
-fn has_names(alloc: Global, graph: &CompositionGraph) -> Result<bool, AllocError> {
-    Ok(has_parameters(alloc, graph)? && has_one_export(graph)?)
 }
 
 /// Asserts the names of a composition, made in an empty graph.
@@ -351,7 +285,7 @@ fn make_again(
 }
 
 /// Calls that add to each list of a composed graph.
-const INSERTED: Steps = &[
+static INSERTED: [Call; 8] = [
     (Step::Import("c"), Some(8)),
     (Step::Define("v"), Some(9)),
     (Step::Export(1, "z"), Some(1)),
@@ -364,7 +298,7 @@ const INSERTED: Steps = &[
 
 /// Takes the steps, up to one that gives another number than is written beside it; whether there is none.
 fn insert_all(alloc: Global, all: &mut Filled) -> Result<bool, AllocError> {
-    for (step, number) in INSERTED {
+    for (step, number) in &INSERTED {
         if make_again(alloc, all, *step)? != *number {
             return Ok(false);
         }

@@ -2,7 +2,6 @@
 
 use crate::building::{node_at, package_at};
 use crate::fixture::key;
-use indexmap::IndexMap;
 use std::alloc::{AllocError, Global};
 use wac_graph::{
     CompositionGraph, DefinedTypeId, FuncTypeId, InterfaceId, ItemKind, Names, NodeId, NodeKind,
@@ -19,29 +18,36 @@ fn form(node: &NodeKind) -> &'static str {
     }
 }
 
-/// Adds names with their nodes' numbers, as `a=0 b=1 `.
-fn push_names(text: &mut String, names: Names<'_>) -> Result<(), AllocError> {
+/// Names with their nodes' numbers, as `a=0 b=1 `.
+fn listed<'a>(alloc: Global, names: Names<'a>) -> Result<String, AllocError> {
+    let mut text = String::new(alloc);
     for (name, node) in names {
         write!(text, "{name}={} ", node.0)?;
     }
-    Ok(())
+    Ok(text)
 }
 
 /// What is read of a node, in a line.
-fn push_node(text: &mut String, graph: &CompositionGraph, number: usize) -> Result<(), AllocError> {
+fn push_node(
+    alloc: Global,
+    text: &mut String,
+    graph: &CompositionGraph,
+    number: usize,
+) -> Result<(), AllocError> {
     let Some(id) = node_at(graph, number) else {
         return Ok(());
     };
-    write!(text, "{} {} ", form(graph.node(id)), graph.kind(id).desc())?;
-    write!(
+    let arguments = listed(alloc, graph.arguments(id))?;
+    writeln!(
         text,
-        "{:?} {:?} {:?} ",
+        "{} {} {:?} {:?} {:?} {arguments}",
+        form(graph.node(id)),
+        graph.kind(id).desc(),
         graph.import_name(id),
         graph.alias_source(id),
         graph.name(id)
     )?;
-    push_names(text, graph.arguments(id))?;
-    text.push_str("\n")
+    Ok(())
 }
 
 /// What the graph holds of a package, in a line.
@@ -60,23 +66,20 @@ fn push_package(
         "{}+{} {} {}",
         held.first, held.size, held.world.0, held.instance.0
     )?;
-    push_definitions(text, held.definitions)?;
-    text.push_str("\n")
-}
-
-fn push_definitions(
-    text: &mut String,
-    definitions: &IndexMap<String, ItemKind>,
-) -> Result<(), AllocError> {
-    for (name, kind) in definitions.iter() {
+    for (name, kind) in held.definitions.iter() {
         write!(text, " {name}={kind:?}")?;
     }
+    text.push_str("\n")?;
     Ok(())
 }
 
-fn push_nodes(text: &mut String, graph: &CompositionGraph) -> Result<(), AllocError> {
+fn push_nodes(
+    alloc: Global,
+    text: &mut String,
+    graph: &CompositionGraph,
+) -> Result<(), AllocError> {
     for id in graph.nodes() {
-        push_node(text, graph, id.0)?;
+        push_node(alloc, text, graph, id.0)?;
     }
     Ok(())
 }
@@ -88,24 +91,13 @@ fn push_packages(text: &mut String, graph: &CompositionGraph) -> Result<(), Allo
     Ok(())
 }
 
-/// Names that are imported and exported, each in a line.
-fn push_interface(text: &mut String, graph: &CompositionGraph) -> Result<(), AllocError> {
-    push_names(text, graph.imports())?;
-    text.push_str("\n")?;
-    push_names(text, graph.exports())?;
-    text.push_str("\n")
-}
-
-fn push_all(text: &mut String, graph: &CompositionGraph) -> Result<(), AllocError> {
-    push_interface(text, graph)?;
-    push_nodes(text, graph)?;
-    push_packages(text, graph)
-}
-
 /// All that a graph holds beside its types: nodes, imports, exports and then packages.
 pub fn shown(alloc: Global, graph: &CompositionGraph) -> Result<String, AllocError> {
-    let mut text = String::new(alloc);
-    push_all(&mut text, graph)?;
+    let imports = listed(alloc, graph.imports())?;
+    let exports = listed(alloc, graph.exports())?;
+    let mut text = format!(in alloc; "{imports}\n{exports}\n")?;
+    push_nodes(alloc, &mut text, graph)?;
+    push_packages(&mut text, graph)?;
     Ok(text)
 }
 

@@ -7,7 +7,6 @@ use crate::rows::{Row, package, parts};
 use indexmap::IndexMap;
 use std::alloc::{AllocError, Global};
 use std::fmt::Display;
-use std::process::Abort;
 use std::test::Fail;
 use wac_graph::{
     DefinedType, DefinedTypeId, ExternKind, FuncKind, FuncResults, FuncType, FuncTypeId, Interface,
@@ -46,7 +45,7 @@ type Fault = (
     &'static str,
 );
 
-const FAULTS: [Fault; 11] = [
+static FAULTS: [Fault; 11] = [
     (&[INSTANCE, WORLD], (1, 0), &[], "nothing"),
     (&[INSTANCE, WORLD], (5, 0), &[], "id out of range"),
     (&[INSTANCE, WORLD], (0, 0), &[], "id of another sort"),
@@ -116,49 +115,41 @@ const FAULTS: [Fault; 11] = [
     ),
 ];
 
-/// What is wrong with the parts of a package.
-fn fault(
-    alloc: Global,
-    rows: &[Row<'_>],
-    places: (usize, usize),
-    definitions: &[(&str, ItemKind)],
-) -> Result<String, AllocError> {
-    match package(alloc, rows, places, definitions) {
-        Ok(_) => String::from_str(alloc, "nothing"),
-        Err(error) => format!(in alloc; "{error}"),
-    }
-}
-
-/// Asserts that a value's text is these words.
-fn is_shown(
-    rt: &impl Abort,
-    alloc: Global,
-    value: &impl Display,
-    words: &str,
-) -> Result<(), AllocError> {
+/// Whether a value's text is these words.
+fn is_shown(alloc: Global, value: &impl Display, words: &str) -> Result<bool, AllocError> {
     let text = value.to_string(alloc)?;
-    assert!(rt; text.as_str() == words, "{text} of {words}");
-    Ok(())
+    Ok(text.as_str() == words)
 }
 
-/// Asserts what is wrong with the parts of each row.
-fn faults_are_named(rt: &impl Abort, alloc: Global, rows: &[Fault]) -> Result<(), AllocError> {
-    for (rows, places, definitions, wrong) in rows {
-        let text = fault(alloc, rows, *places, definitions)?;
-        assert!(rt; text.as_str() == *wrong, "{text} of {wrong}");
+/// Whether this is what is wrong with the parts of a package.
+fn is_fault(alloc: Global, (rows, places, definitions, wrong): Fault) -> Result<bool, AllocError> {
+    match package(alloc, rows, places, definitions) {
+        Ok(_) => Ok(wrong == "nothing"),
+        Err(error) => is_shown(alloc, &error, wrong),
     }
-    Ok(())
+}
+
+/// Whether each row says what is wrong.
+fn are_faults(alloc: Global, rows: &[Fault]) -> Result<bool, AllocError> {
+    for row in rows {
+        if !is_fault(alloc, *row)? {
+            return Ok(false);
+        }
+    }
+    Ok(true)
 }
 
 #[test]
 fn names_the_first_fault(rt: HostRuntime) -> Result<(), Fail> {
-    Ok(faults_are_named(&rt, rt.alloc(), &FAULTS)?)
+    assert!(rt; are_faults(rt.alloc(), &FAULTS)?);
+    Ok(())
 }
 
 #[test]
 fn names_memory(rt: HostRuntime) -> Result<(), Fail> {
     let error = PackageError::Memory(AllocError);
-    Ok(is_shown(&rt, rt.alloc(), &error, "out of memory")?)
+    assert!(rt; is_shown(rt.alloc(), &error, "out of memory")?);
+    Ok(())
 }
 
 /// The world, the instance, and how many entries and definitions a package has.
@@ -174,7 +165,7 @@ fn numbers(package: &Package) -> (WorldId, InterfaceId, usize, usize) {
 const RECORD: Row<'static> = Row::Record(&[("x", BYTE)]);
 
 /// Two records with a field `x`, one with a field `y`, an alias of the first, and two resources of one name.
-const DEFINING: [Row<'static>; 8] = [
+static DEFINING: [Row<'static>; 8] = [
     INSTANCE,
     WORLD,
     RECORD,
@@ -185,7 +176,7 @@ const DEFINING: [Row<'static>; 8] = [
     Row::Resource("r", None),
 ];
 
-const DEFINED: [(&str, ItemKind); 6] = [
+static DEFINED: [(&str, ItemKind); 6] = [
     ("a", ItemKind::Ty(Type::Value(SECOND))),
     ("b", THIRD),
     (
@@ -220,15 +211,18 @@ fn same(package: &Package, i: usize, j: usize) -> Option<bool> {
     Some(types.same(*first, *second))
 }
 
-/// Asserts whether the definitions of two places mean the same.
-fn are_compared(rt: &impl Abort, package: &Package, rows: &[(usize, usize, bool)]) {
+/// Whether each row says whether the definitions of two places mean the same.
+fn are_compared(package: &Package, rows: &[(usize, usize, bool)]) -> bool {
     for (i, j, is) in rows {
-        assert!(rt; same(package, *i, *j) == Some(*is), "of {j}");
+        if same(package, *i, *j) != Some(*is) {
+            return false;
+        }
     }
+    true
 }
 
 /// Which definitions of [`DEFINED`] mean the same.
-const SAME: [(usize, usize, bool); 6] = [
+static SAME: [(usize, usize, bool); 6] = [
     (0, 0, true),
     (0, 1, true),
     (0, 2, false),
@@ -237,18 +231,12 @@ const SAME: [(usize, usize, bool); 6] = [
     (4, 5, false),
 ];
 
-/// Asserts what rules say of definitions and of names.
-fn rules_are_asked(rt: &impl Abort, package: &Package) {
-    assert!(rt;
-        asked(&OnlySame, package, 0, 1) == Some(Ok(())),
-        "the same kind"
-    );
-    assert!(rt;
-        asked(&OnlySame, package, 0, 2) == Some(Err(Reason(7))),
-        "another kind"
-    );
-    assert!(rt; OnlySame.extern_name("a") == Ok(()), "a");
-    assert!(rt; OnlySame.extern_name("") == Err(Reason(8)), "no name");
+/// Whether rules say this of definitions and of names.
+fn are_asked(package: &Package) -> bool {
+    asked(&OnlySame, package, 0, 1) == Some(Ok(()))
+        && asked(&OnlySame, package, 0, 2) == Some(Err(Reason(7)))
+        && OnlySame.extern_name("a") == Ok(())
+        && OnlySame.extern_name("") == Err(Reason(8))
 }
 
 #[test]
@@ -256,13 +244,13 @@ fn compares_meanings(rt: HostRuntime) -> Result<(), Fail> {
     let package = defining(rt.alloc())?;
     let numbers = numbers(&package);
     assert!(rt; numbers == (WorldId(1), InterfaceId(0), 8, 6), "numbers");
-    are_compared(&rt, &package, &SAME);
-    rules_are_asked(&rt, &package);
+    assert!(rt; are_compared(&package, &SAME), "meanings");
+    assert!(rt; are_asked(&package), "rules");
     Ok(())
 }
 
 /// Functions that differ in their results alone.
-const GIVING: [Row<'static>; 10] = [
+static GIVING: [Row<'static>; 10] = [
     INSTANCE,
     WORLD,
     Row::Giving(&[("a", BYTE)]),
@@ -275,7 +263,7 @@ const GIVING: [Row<'static>; 10] = [
     Row::Func(&[], None),
 ];
 
-const GIVEN: [(&str, ItemKind); 8] = [
+static GIVEN: [(&str, ItemKind); 8] = [
     ("a", ItemKind::Ty(Type::Func(FuncTypeId(2)))),
     ("b", ItemKind::Ty(Type::Func(FuncTypeId(3)))),
     ("c", ItemKind::Ty(Type::Func(FuncTypeId(4)))),
@@ -287,7 +275,7 @@ const GIVEN: [(&str, ItemKind); 8] = [
 ];
 
 /// Which definitions of [`GIVEN`] mean the same.
-const SAME_RESULTS: [(usize, usize, bool); 7] = [
+static SAME_RESULTS: [(usize, usize, bool); 7] = [
     (0, 0, true),
     (0, 1, true),
     (0, 2, false),
@@ -300,7 +288,7 @@ const SAME_RESULTS: [(usize, usize, bool); 7] = [
 #[test]
 fn names_of_results_count(rt: HostRuntime) -> Result<(), Fail> {
     let package = package(rt.alloc(), &GIVING, (1, 0), &GIVEN)?;
-    are_compared(&rt, &package, &SAME_RESULTS);
+    assert!(rt; are_compared(&package, &SAME_RESULTS));
     Ok(())
 }
 
@@ -404,7 +392,7 @@ fn adds_entries(rt: HostRuntime) -> Result<(), Fail> {
 }
 
 /// Kinds, what they are called, and what their promoted kinds are called.
-const CALLED: [(ItemKind, &str, &str); 8] = [
+static CALLED: [(ItemKind, &str, &str); 8] = [
     (
         ItemKind::Ty(Type::Func(FuncTypeId(0))),
         "function type",
@@ -427,41 +415,46 @@ const CALLED: [(ItemKind, &str, &str); 8] = [
     (ItemKind::Value(BYTE), "value", "value"),
 ];
 
-#[test]
-fn describes_kinds(rt: HostRuntime) {
-    for (kind, words, promoted) in &CALLED {
-        assert!(rt; kind.desc() == *words, "of {words}");
-        assert!(rt; kind.promote().desc() == *promoted, "of {words}");
+/// Whether each kind and its promoted kind are called what is written beside them.
+fn are_called(rows: &[(ItemKind, &str, &str)]) -> bool {
+    for (kind, words, promoted) in rows {
+        if kind.desc() != *words || kind.promote().desc() != *promoted {
+            return false;
+        }
     }
+    true
 }
 
-const EXTERN_KINDS: [(ExternKind, &str); 2] = [
+#[test]
+fn describes_kinds(rt: HostRuntime) {
+    assert!(rt; are_called(&CALLED));
+}
+
+static EXTERN_KINDS: [(ExternKind, &str); 2] = [
     (ExternKind::Import, "import"),
     (ExternKind::Export, "export"),
 ];
 
-const FUNC_KINDS: [(FuncKind, &str); 4] = [
+static FUNC_KINDS: [(FuncKind, &str); 4] = [
     (FuncKind::Free, "function"),
     (FuncKind::Method, "method"),
     (FuncKind::Static, "static method"),
     (FuncKind::Constructor, "constructor"),
 ];
 
-/// Asserts that the text of each value is what is written beside it.
-fn are_shown<D: Display>(
-    rt: &impl Abort,
-    alloc: Global,
-    rows: &[(D, &str)],
-) -> Result<(), AllocError> {
+/// Whether the text of each value is what is written beside it.
+fn are_shown<D: Display>(alloc: Global, rows: &[(D, &str)]) -> Result<bool, AllocError> {
     for (value, words) in rows {
-        is_shown(rt, alloc, value, words)?;
+        if !is_shown(alloc, value, words)? {
+            return Ok(false);
+        }
     }
-    Ok(())
+    Ok(true)
 }
 
 #[test]
 fn writes_kinds(rt: HostRuntime) -> Result<(), Fail> {
-    are_shown(&rt, rt.alloc(), &EXTERN_KINDS)?;
-    are_shown(&rt, rt.alloc(), &FUNC_KINDS)?;
+    assert!(rt; are_shown(rt.alloc(), &EXTERN_KINDS)?);
+    assert!(rt; are_shown(rt.alloc(), &FUNC_KINDS)?);
     Ok(())
 }
