@@ -10,6 +10,8 @@ mod fixture;
 #[cfg(test)]
 mod graph;
 #[cfg(test)]
+mod hostile;
+#[cfg(test)]
 mod reading;
 #[cfg(test)]
 mod rows;

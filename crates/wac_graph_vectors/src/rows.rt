@@ -10,26 +10,26 @@ use wac_graph::{
 /// An entry of a table, as a test writes it.
 #[derive(Clone, Copy)]
 pub enum Row<'a> {
-    Resource(&'a str, Option<ResourceAlias>),
+    Resource(&'static str, Option<ResourceAlias>),
     Tuple(&'a [ValueType]),
     List(ValueType),
     Alias(ValueType),
     Stream,
-    Record(&'a [(&'a str, ValueType)]),
-    Variant(&'a [(&'a str, Option<ValueType>)]),
-    Enum(&'a [&'a str]),
+    Record(&'a [(&'static str, ValueType)]),
+    Variant(&'a [(&'static str, Option<ValueType>)]),
+    Enum(&'a [&'static str]),
     /// Parameters, and the result of an async function.
-    Func(&'a [(&'a str, ValueType)], Option<ValueType>),
+    Func(&'a [(&'static str, ValueType)], Option<ValueType>),
     /// The results of a function without parameters, by name.
-    Giving(&'a [(&'a str, ValueType)]),
+    Giving(&'a [(&'static str, ValueType)]),
     /// The result of a function without parameters. It has no name.
     GivingOne(ValueType),
     /// An interface with its id and exports.
-    Interface(Option<&'a str>, &'a [(&'a str, ItemKind)]),
+    Interface(Option<&'static str>, &'a [(&'static str, ItemKind)]),
     /// An interface that uses, as the first name, the second name of another one.
-    Using(&'a str, InterfaceId, &'a str, &'a [(&'a str, ItemKind)]),
+    Using(&'static str, InterfaceId, &'static str, &'a [(&'static str, ItemKind)]),
     /// A world with its imports and exports.
-    World(&'a [(&'a str, ItemKind)], &'a [(&'a str, ItemKind)]),
+    World(&'a [(&'static str, ItemKind)], &'a [(&'static str, ItemKind)]),
 }
 
 /// Puts a value under a name.
@@ -45,7 +45,10 @@ fn put<V: Drop>(
 }
 
 /// Values by name, in order.
-fn named<V: Copy>(alloc: Global, rows: &[(&str, V)]) -> Result<IndexMap<String, V>, AllocError> {
+pub fn named<V: Copy>(
+    alloc: Global,
+    rows: &[(&'static str, V)],
+) -> Result<IndexMap<String, V>, AllocError> {
     let mut all = IndexMap::new(alloc);
     for (name, value) in rows {
         put(alloc, &mut all, name, *value)?;
@@ -59,7 +62,7 @@ fn put_name(alloc: Global, all: &mut IndexSet<String>, name: &str) -> Result<(),
     Ok(())
 }
 
-fn names(alloc: Global, rows: &[&str]) -> Result<IndexSet<String>, AllocError> {
+fn names(alloc: Global, rows: &[&'static str]) -> Result<IndexSet<String>, AllocError> {
     let mut all = IndexSet::new(alloc);
     for name in rows {
         put_name(alloc, &mut all, name)?;
@@ -82,7 +85,7 @@ fn resource(alloc: Global, name: &str, alias: Option<ResourceAlias>) -> Result<E
 
 fn func(
     alloc: Global,
-    rows: &[(&str, ValueType)],
+    rows: &[(&'static str, ValueType)],
     output: Option<ValueType>,
 ) -> Result<Entry, AllocError> {
     let params = named(alloc, rows)?;
@@ -114,7 +117,7 @@ fn text(alloc: Global, text: Option<&str>) -> Result<Option<String>, AllocError>
 fn interface(
     alloc: Global,
     id: Option<&str>,
-    rows: &[(&str, ItemKind)],
+    rows: &[(&'static str, ItemKind)],
 ) -> Result<Entry, AllocError> {
     let id = text(alloc, id)?;
     let exports = named(alloc, rows)?;
@@ -143,7 +146,7 @@ fn uses(
 fn using(
     alloc: Global,
     uses: IndexMap<String, UsedType>,
-    rows: &[(&str, ItemKind)],
+    rows: &[(&'static str, ItemKind)],
 ) -> Result<Entry, AllocError> {
     let exports = named(alloc, rows)?;
     Ok(Entry::Interface(Interface {
@@ -153,10 +156,10 @@ fn using(
     }))
 }
 
-fn world(
+pub fn world(
     alloc: Global,
-    imports: &[(&str, ItemKind)],
-    exports: &[(&str, ItemKind)],
+    imports: &[(&'static str, ItemKind)],
+    exports: &[(&'static str, ItemKind)],
 ) -> Result<Entry, AllocError> {
     let imports = named(alloc, imports)?;
     let exports = named(alloc, exports)?;
@@ -204,10 +207,16 @@ fn entry(alloc: Global, row: Row<'_>) -> Result<Entry, AllocError> {
     }
 }
 
+/// Adds the entry of a row.
+pub fn add(alloc: Global, types: &mut Types, row: Row<'_>) -> Result<(), AllocError> {
+    types.add(entry(alloc, row)?)?;
+    Ok(())
+}
+
 fn table(alloc: Global, rows: &[Row<'_>]) -> Result<Types, AllocError> {
     let mut types = Types::new(alloc);
     for row in rows {
-        types.add(entry(alloc, *row)?)?;
+        add(alloc, &mut types, *row)?;
     }
     Ok(types)
 }
@@ -216,7 +225,7 @@ fn table(alloc: Global, rows: &[Row<'_>]) -> Result<Types, AllocError> {
 pub fn parts(
     alloc: Global,
     rows: &[Row<'_>],
-    definitions: &[(&str, ItemKind)],
+    definitions: &[(&'static str, ItemKind)],
 ) -> Result<(Types, IndexMap<String, ItemKind>), AllocError> {
     let definitions = named(alloc, definitions)?;
     let types = table(alloc, rows)?;
@@ -228,7 +237,7 @@ pub fn package(
     alloc: Global,
     rows: &[Row<'_>],
     (world, instance): (usize, usize),
-    definitions: &[(&str, ItemKind)],
+    definitions: &[(&'static str, ItemKind)],
 ) -> Result<Package, PackageError> {
     let (types, definitions) = parts(alloc, rows, definitions)?;
     Package::new(types, WorldId(world), InterfaceId(instance), definitions)

@@ -121,12 +121,20 @@ fn is_shown(alloc: Global, value: &impl Display, words: &str) -> Result<bool, Al
     Ok(text.as_str() == words)
 }
 
-/// Whether this is what is wrong with the parts of a package.
-fn is_fault(alloc: Global, (rows, places, definitions, wrong): Fault) -> Result<bool, AllocError> {
-    match package(alloc, rows, places, definitions) {
+/// Whether this is what is wrong with a package.
+pub fn is_wrong(
+    alloc: Global,
+    made: Result<Package, PackageError>,
+    wrong: &str,
+) -> Result<bool, AllocError> {
+    match made {
         Ok(_) => Ok(wrong == "nothing"),
         Err(error) => is_shown(alloc, &error, wrong),
     }
+}
+
+fn is_fault(alloc: Global, (rows, places, definitions, wrong): Fault) -> Result<bool, AllocError> {
+    is_wrong(alloc, package(alloc, rows, places, definitions), wrong)
 }
 
 /// Whether each row says what is wrong.
