@@ -2,6 +2,7 @@
 
 use crate::rows::{Row, add, named, world};
 use crate::types::is_wrong;
+use indexmap::IndexMap;
 use std::alloc::{AllocError, Global};
 use std::test::Fail;
 use wac_graph::{
@@ -64,12 +65,16 @@ fn table(alloc: Global, ids: &Ids) -> Result<Types, AllocError> {
     Ok(types)
 }
 
+fn definitions(alloc: Global, ids: &Ids) -> Result<IndexMap<String, ItemKind>, AllocError> {
+    let interface = ItemKind::Ty(Type::Interface(InterfaceId(ids[9])));
+    let world = ItemKind::Ty(Type::World(WorldId(ids[10])));
+    named(alloc, &[("z", interface), ("w", world)])
+}
+
 /// A package that imports the function `log` and the instance `x:y/z`, exports the function `run`, and defines that interface and
 /// its own world.
 fn tampered(alloc: Global, ids: &Ids) -> Result<Package, PackageError> {
-    let interface = ItemKind::Ty(Type::Interface(InterfaceId(ids[9])));
-    let world = ItemKind::Ty(Type::World(WorldId(ids[10])));
-    let definitions = named(alloc, &[("z", interface), ("w", world)])?;
+    let definitions = definitions(alloc, ids)?;
     let types = table(alloc, ids)?;
     Package::new(types, WorldId(ids[11]), InterfaceId(ids[12]), definitions)
 }
