@@ -4,7 +4,7 @@ use Rattle.wac_grammar.specs.Tree.{Document}
 use Rattle.wac_layout.specs.Bare.{doc_lines, bare_document}
 use Rattle.wac_layout.specs.StatementLayout.{document_layout}
 use Rattle.wac_layout.specs.Reread.{printed}
-use Rattle.wac_printer.specs.Printed.{Printer, after}
+use Rattle.wac_printer_pieces.specs.Printed.{Printer, after}
 
 -- the printer, where its sink holds these bytes
 abbrev pub fresh_printer : List ℕ → ℕ → ℕ → List ℕ → List ℕ → Printer

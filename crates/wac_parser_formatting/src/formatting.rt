@@ -8,7 +8,7 @@ ghost use Rattle.wac_ast.specs.Statements.{document_of};
 ghost use Rattle.wac_ast_base.specs.declared.error.Error.TheVariants.{Memory};
 ghost use Rattle.wac_layout.specs.Joins.{AreBlanks};
 ghost use Rattle.wac_layout.specs.Reread.{IsFixed, printed, ReadsBack, WasPrinted};
-ghost use Rattle.wac_printer.specs.Printed.{space_of};
+ghost use Rattle.wac_printer_pieces.specs.Printed.{space_of};
 ghost use Rattle.wac_printer.specs.Sliced.{DocumentSliced};
 
 use std::alloc::{AllocError, Global};

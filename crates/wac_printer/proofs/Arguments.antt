@@ -18,7 +18,8 @@ use Rattle.wac_layout.specs.Bare.{bare_argument, bare_argument_name, bare_argume
 use Rattle.wac_layout.specs.Printed.{Piece, token, line, deeper}
 use Rattle.wac_layout.specs.Parts.{space, newline}
 use Rattle.wac_layout.specs.ExpressionLayout.{argument_layout, argument_name_layout, arguments_layout, braced_layout, comma_layout, expr_layout, primary_expr_layout}
-use Rattle.wac_printer.specs.Arguments.{argument_line_layout, braces_layout, ending_layout, is_lone_fill}
+use Rattle.wac_printer_pieces.specs.Arguments.{ending_layout}
+use Rattle.wac_printer.specs.Arguments.{argument_line_layout, braces_layout, is_lone_fill}
 use Rattle.wac_printer.specs.Sliced.{ArgumentSliced, ArgumentsSliced}
 
 pub lone : (b : Bool) (xs rest : List InstantiationArgument) (s : Span) → xs ≡ Fill s ∷ rest → b ≡ (length rest == 0) → b ≡ is_lone_fill (arguments_from (map argument_of xs))

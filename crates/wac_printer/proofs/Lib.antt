@@ -1,9 +1,5 @@
-pub mod Fronts
-pub mod Printing
-pub mod Indentation
-pub mod Progress
-pub mod Sequence
 pub mod PartsOf
+pub mod Lists
 pub mod Steps
 pub mod Trees
 pub mod Arguments

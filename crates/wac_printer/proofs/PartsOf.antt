@@ -11,7 +11,7 @@ use Rattle.wac_ast_uses.specs.Uses.{world_include_item_of}
 use Rattle.wac_ast_uses.specs.declared.includes.WorldIncludeItem.{WorldIncludeItem}
 use Rattle.wac_layout.specs.WorldLayout.{with_layout, world_include_item_layout}
 use Rattle.wac_layout.specs.Bare.{doc_line, doc_lines, bare_world_include_item}
-use Rattle.wac_printer.proofs.Printing.{flat_map-of, flat_map-append}
+use Rattle.wac_printer_pieces.proofs.Printing.{flat_map-of, flat_map-append}
 
 between-of : {X Y : Type 0} (s : List Piece) (f : Y → List Piece) (g : X → Y) (xs : List X) → between s f (map g xs) ≡ between s (λ x. f (g x)) xs
 between-of s f g [] = refl

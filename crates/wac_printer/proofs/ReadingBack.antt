@@ -5,8 +5,8 @@ use Rattle.wac_layout.specs.Bare.{bare_document, doc_lines}
 use Rattle.wac_layout.specs.Printed.{Piece, text}
 use Rattle.wac_layout.specs.StatementLayout.{document_layout}
 use Rattle.wac_layout.proofs.TreesBack.{reads_back}
-use Rattle.wac_printer.specs.declared.error.PrintError.{PrintError}
-use Rattle.wac_printer.specs.Printed.{Printer, after, Prints}
+use Rattle.wac_printer_pieces.specs.declared.error.PrintError.{PrintError}
+use Rattle.wac_printer_pieces.specs.Printed.{Printer, after, Prints}
 use Rattle.wac_printer.specs.ReadBack.{IsReadBack}
 
 after_bytes : (ps : List Piece) (p : Printer) → (after ps p).bytes ≡ p.bytes ++ text p.space p.fresh ps

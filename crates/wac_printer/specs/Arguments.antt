@@ -3,8 +3,9 @@ use Rattle.std.specs.Prelude.{ℕ, Bool, true, false, List, [], ◌∷◌, ◌++
 use Rattle.wac_grammar.specs.Tree as tree
 use Rattle.wac_grammar.specs.Tree.{Arguments, PackageName, InstantiationArgument}
 use Rattle.wac_layout.specs.Printed.{Piece, token, line, deeper}
-use Rattle.wac_layout.specs.Parts.{space, newline}
+use Rattle.wac_layout.specs.Parts.{space}
 use Rattle.wac_layout.specs.ExpressionLayout.{argument_layout, arguments_layout, braced_layout}
+use Rattle.wac_printer_pieces.specs.Arguments.{ending_layout}
 
 -- `new S {`
 abbrev pub new_head_layout : PackageName → List Piece
@@ -18,11 +19,6 @@ braces_layout depth arguments = braced_layout depth arguments (arguments_layout 
 abbrev pub is_lone_fill : Arguments → Bool
 is_lone_fill (tree.Arguments.more (tree.InstantiationArgument.fill s) tree.Arguments.none) = true
 is_lone_fill _ = false
-
--- what ends the line of an argument: a comma, unless it is a fill and the last
-abbrev pub ending_layout : Bool → InstantiationArgument → List Piece
-ending_layout true (tree.InstantiationArgument.fill s) = newline ∷ []
-ending_layout _ _ = token (codes ",") ∷ newline ∷ []
 
 -- the line of an argument, which may be the last
 abbrev pub argument_line_layout : ℕ → Bool → InstantiationArgument → List Piece

@@ -1,4 +1,3 @@
-pub mod Printed
 pub mod Sliced
 pub mod Arguments
 pub mod ReadBack

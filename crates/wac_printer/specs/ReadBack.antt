@@ -5,8 +5,8 @@ use Rattle.wac_grammar.specs.Tree.{Document}
 use Rattle.wac_grammar.specs.TextTree.{IsTreeOf}
 use Rattle.wac_layout.specs.Joins.{AreBlanks}
 use Rattle.wac_layout.specs.Reread.{printed, ReadsBack}
-use Rattle.wac_printer.specs.Printed.{Printer}
-use Rattle.wac_printer.specs.declared.error.PrintError.{PrintError}
+use Rattle.wac_printer_pieces.specs.Printed.{Printer}
+use Rattle.wac_printer_pieces.specs.declared.error.PrintError.{PrintError}
 
 -- What a call wrote reads back: where it succeeded, in a new printer whose space consists of blanks, TAB, CR and LF, and the document is
 -- the tree of the source.

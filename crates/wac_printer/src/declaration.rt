@@ -8,7 +8,7 @@ ghost use Rattle.wac_ast_types.specs.Declarations.{enum_case_of, enum_decl_of, f
 ghost use Rattle.wac_ast_base.specs.Names.{ident_of};
 ghost use Rattle.wac_ast_types.specs.Types.{ty_of};
 ghost use Rattle.wac_layout.specs.Printed.{token};
-ghost use Rattle.wac_printer.specs.Printed.{Prints};
+ghost use Rattle.wac_printer_pieces.specs.Printed.{Prints};
 ghost use Rattle.wac_grammar.specs.Leaves.{IfThere};
 ghost use Rattle.wac_printer.specs.Sliced.{NamedTypeSliced, ConstructorSliced, EnumCaseSliced, EnumDeclSliced, FieldSliced, FlagSliced, FlagsDeclSliced, IdentSliced, ItemTypeDeclSliced, MethodSliced, RecordDeclSliced, ResourceDeclSliced, ResourceMethodSliced, TySliced, TypeAliasKindSliced, TypeAliasSliced, TypeDeclSliced, VariantCaseSliced, VariantDeclSliced};
 ghost use Rattle.wac_layout.specs.Bare.{bare_named_type, bare_alias_kind, bare_constructor, bare_enum_case, bare_enum_decl, bare_field, bare_flag, bare_flags_decl, bare_ident, bare_item_type_decl, bare_method, bare_record_decl, bare_resource_decl, bare_resource_method, bare_ty, bare_type_alias, bare_type_decl, bare_variant_case, bare_variant_decl, doc_lines};
@@ -16,7 +16,6 @@ ghost use Rattle.wac_layout.specs.DeclarationLayout.{alias_kind_layout, construc
 ghost use Rattle.wac_layout.specs.TypeLayout.{params_layout};
 ghost use Rattle.wac_layout.specs.Parts.{body};
 
-use crate::error::PrintResult;
 use crate::lists::Node;
 use crate::printer::DocumentPrinter;
 use wac_ast::{
@@ -25,6 +24,7 @@ use wac_ast::{
     VariantCase, VariantDecl,
 };
 use wac_lexer::Sink;
+use wac_printer_pieces::PrintResult;
 
 impl Node for Flag<'_> {
     ghost layout = { λ source depth x. flag_layout depth (bare_flag doc_lines source (flag_of x)) };

@@ -5,14 +5,14 @@ ghost use Rattle.wac_grammar.specs.Tree.{arguments_from};
 ghost use Rattle.wac_ast_expressions.specs.Expressions.{access_expr_of, argument_name_of, argument_of, expr_of, named_access_expr_of, new_expr_of, postfix_expr_of, primary_expr_of};
 ghost use Rattle.wac_ast_base.specs.Names.{package_name_of};
 ghost use Rattle.wac_layout.specs.Printed.{token, line, deeper};
-ghost use Rattle.wac_printer.specs.Printed.{Prints};
+ghost use Rattle.wac_printer_pieces.specs.Printed.{Prints};
 ghost use Rattle.wac_printer.specs.Sliced.{AccessExprSliced, ArgumentNameSliced, ArgumentSliced, ArgumentsSliced, ExprSliced, NamedAccessExprSliced, PackageNameSliced, PostfixExprSliced, PrimaryExprSliced};
 ghost use Rattle.wac_layout.specs.Bare.{bare_access_expr, bare_argument, bare_argument_name, bare_arguments, bare_expr, bare_named_access_expr, bare_package_name, bare_postfix_expr, bare_primary_expr};
 ghost use Rattle.wac_layout.specs.Parts.{space, newline};
 ghost use Rattle.wac_layout.specs.ExpressionLayout.{access_expr_layout, argument_layout, argument_name_layout, arguments_layout, expr_layout, named_access_expr_layout, postfix_expr_layout, primary_expr_layout};
-ghost use Rattle.wac_printer.specs.Arguments.{argument_line_layout, braces_layout, ending_layout, is_lone_fill, new_head_layout};
+ghost use Rattle.wac_printer_pieces.specs.Arguments.{ending_layout};
+ghost use Rattle.wac_printer.specs.Arguments.{argument_line_layout, braces_layout, is_lone_fill, new_head_layout};
 
-use crate::error::PrintResult;
 use crate::lists::Node;
 use crate::printer::DocumentPrinter;
 use wac_ast::{
@@ -20,6 +20,7 @@ use wac_ast::{
     PackageName, PostfixExpr, PrimaryExpr,
 };
 use wac_lexer::Sink;
+use wac_printer_pieces::PrintResult;
 
 impl Node for PostfixExpr<'_> {
     ghost layout = { λ source depth x. postfix_expr_layout (bare_postfix_expr source (postfix_expr_of x)) };
@@ -228,13 +229,7 @@ impl<'a, S: Sink> DocumentPrinter<'a, S> {
     fn ending(&mut self, argument: &InstantiationArgument<'_>, is_last: bool) -> PrintResult
         ensures { Prints self.old result self.new (ending_layout is_last (argument_of argument.now)) }
     {
-        match argument {
-            InstantiationArgument::Fill(_) if is_last => self.blank("\n"),
-            _ => {
-                self.token(",")?;
-                self.blank("\n")
-            }
-        }
+        self.pieces.ending(argument, is_last)
     }
 
     #[tactic(auto, using(crate::proofs::Steps::steps), unfolding(wac_layout::specs::ExpressionLayout::expr_layout, wac_layout::specs::ExpressionLayout::primary_expr_layout, wac_layout::specs::ExpressionLayout::argument_layout, wac_layout::specs::Bare::bare_expr, wac_layout::specs::Bare::bare_primary_expr, wac_layout::specs::Bare::bare_argument))]

@@ -6,7 +6,7 @@ ghost use Rattle.wac_ast_base.specs.Names.{ident_of};
 ghost use Rattle.wac_ast_uses.specs.Uses.{use_item_of, use_of, use_path_of};
 ghost use Rattle.wac_ast_worlds.specs.Worlds.{inline_interface_of, interface_decl_of, interface_export_of, interface_item_of};
 ghost use Rattle.wac_layout.specs.Printed.{token};
-ghost use Rattle.wac_printer.specs.Printed.{Prints};
+ghost use Rattle.wac_printer_pieces.specs.Printed.{Prints};
 ghost use Rattle.wac_grammar.specs.Leaves.{IfThere};
 ghost use Rattle.wac_printer.specs.Sliced.{IdentSliced, InlineInterfaceSliced, InterfaceDeclSliced, InterfaceExportSliced, InterfaceItemSliced, UseItemSliced, UsePathSliced, UseSliced};
 ghost use Rattle.wac_layout.specs.Bare.{bare_ident, bare_inline_interface, bare_interface_decl, bare_interface_export, bare_interface_item, bare_use, bare_use_item, bare_use_path, doc_lines};
@@ -14,13 +14,13 @@ ghost use Rattle.wac_layout.specs.InterfaceLayout.{as_layout, inline_interface_l
 ghost use Rattle.wac_layout.specs.Parts.{body};
 ghost use Rattle.wac_layout.specs.DeclarationLayout.{head_layout};
 
-use crate::error::PrintResult;
 use crate::lists::Node;
 use crate::printer::DocumentPrinter;
 use wac_ast::{
     Ident, InlineInterface, InterfaceDecl, InterfaceExport, InterfaceItem, Use, UseItem, UsePath,
 };
 use wac_lexer::Sink;
+use wac_printer_pieces::PrintResult;
 
 impl Node for UseItem<'_> {
     ghost layout = { λ source depth x. use_item_layout (bare_use_item source (use_item_of x)) };

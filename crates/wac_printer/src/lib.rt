@@ -3,7 +3,6 @@
 
 mod declaration;
 mod docs;
-mod error;
 mod expression;
 mod interface;
 mod laws;
@@ -13,9 +12,9 @@ mod statement;
 mod value_type;
 mod world;
 
-pub use error::{PrintError, PrintResult};
 pub use laws::{
     equal_bare_trees_print_equally, printed_documents_read_back, trees_of_texts_can_be_printed,
 };
 pub use printer::DocumentPrinter;
 pub use statement::Page;
+pub use wac_printer_pieces::{PrintError, PrintResult};

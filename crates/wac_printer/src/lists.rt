@@ -2,12 +2,12 @@
 ghost use Rattle.std.specs.Prelude.{◌≡◌, ℕ, List, [], ◌∷◌, ◌++◌, codes};
 ghost use Rattle.std.specs.List.{flat_map, All};
 ghost use Rattle.wac_layout.specs.Printed.{Piece, token, deeper};
-ghost use Rattle.wac_printer.specs.Printed.{Prints};
+ghost use Rattle.wac_printer_pieces.specs.Printed.{Prints};
 ghost use Rattle.wac_layout.specs.Parts.{space, newline, joined, spaced, body, rows, open_body, close_body};
 
-use crate::error::PrintResult;
 use crate::printer::DocumentPrinter;
 use wac_lexer::Sink;
+use wac_printer_pieces::PrintResult;
 
 /// What stands in a list of a tree.
 pub(crate) trait Node {

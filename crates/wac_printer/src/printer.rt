@@ -1,54 +1,30 @@
 //! The printer: how it is made, and what it writes with.
-ghost use Rattle.std.specs.Prelude.{◌≡◌, ◌≤◌, ◌+◌, ℕ, List, [], ◌∷◌, ◌++◌, true, false, Option, Some, None, unwrap_or, codes, length, take, drop};
+ghost use Rattle.std.specs.Prelude.{◌≡◌, ℕ, List, [], ◌∷◌, ◌++◌, false, true, Option, codes};
 ghost use Rattle.wac_lexer.specs.Reading.{slice, Slices};
 ghost use Rattle.wac_ast_base.specs.Names.{ident_of, string_of, package_name_of, package_path_of};
 ghost use Rattle.wac_layout.specs.Bare.{bare_package_path};
 ghost use Rattle.wac_layout.specs.TypeLayout.{package_path_layout};
 ghost use Rattle.wac_printer.specs.Sliced.{IdentSliced, StringSliced, PackageNameSliced, PackagePathSliced};
-ghost use Rattle.wac_layout.specs.Printed.{Piece, token, blank, line, doc, fresh_after, times, deeper};
-ghost use Rattle.wac_printer.specs.Printed.{Printer, Prints, after, spaces, space_of};
+ghost use Rattle.wac_layout.specs.Printed.{token, blank, line, deeper};
+ghost use Rattle.wac_printer_pieces.specs.Printed.{Printer, Prints, space_of};
 
-use crate::error::{PrintError, PrintResult};
 use std::marker::Model;
 use wac_ast::{Ident, PackageName, PackagePath, String};
-use wac_lexer::{Sink, SourceSpan, put_all};
+use wac_lexer::{Sink, SourceSpan};
+use wac_printer_pieces::{Pieces, PrintResult};
 
 /// Prints documents.
 #[derive(Drop)]
 pub struct DocumentPrinter<'a, S: Sink> {
-    sink: S,
-    source: &'a str,
-    space: &'a str,
-    depth: usize,
-    fresh: bool,
-    failed: bool,
+    pub(crate) pieces: Pieces<'a, S>,
 }
 
 impl<'a, S: Sink> Model for DocumentPrinter<'a, S> {
     ghost Value = { Printer };
 
-    ghost view = { λ p. record { bytes = S.bytes p.sink; failures = S.failures p.sink; borrow = S.borrow p.sink; source = p.source.now; space = p.space.now; depth = p.depth; fresh = p.fresh; failed = p.failed } };
+    ghost view = { λ p. p.pieces };
 
     ghost invariant = { λ p. Unit {0} };
-}
-
-fn is_fresh_behind(text: &str, fresh: bool) -> bool
-    ensures { result ≡ fresh_after fresh text.now }
-{
-    match text.as_bytes().last() {
-        None => fresh,
-        Some(byte) => *byte == b'\n',
-    }
-}
-
-fn one_deeper(depth: usize) -> usize
-    ensures { result ≡ deeper depth }
-{
-    if depth == usize::MAX {
-        depth
-    } else {
-        depth + 1
-    }
 }
 
 impl<'a, S: Sink> DocumentPrinter<'a, S> {
@@ -58,17 +34,8 @@ impl<'a, S: Sink> DocumentPrinter<'a, S> {
     pub fn new(writer: S, source: &'a str, space: Option<&'a str>) -> Self
         ensures { result ≡ record { bytes = S.bytes writer; failures = S.failures writer; borrow = S.borrow writer; source = source.entry.now; space = space_of space.entry; depth = 0; fresh = true; failed = false } }
     {
-        let space = match space {
-            Some(space) => space,
-            None => "    ",
-        };
         DocumentPrinter {
-            sink: writer,
-            source,
-            space,
-            depth: 0,
-            fresh: true,
-            failed: false,
+            pieces: Pieces::new(writer, source, space),
         }
     }
 
@@ -76,86 +43,52 @@ impl<'a, S: Sink> DocumentPrinter<'a, S> {
     pub fn into_writer(self) -> S
         ensures { (S.bytes result ≡ self.entry.bytes) × (S.failures result ≡ self.entry.failures) × (S.borrow result ≡ self.entry.borrow) }
     {
-        self.sink
+        self.pieces.into_writer()
     }
 
-    /// Writes a text.
+    // What writes pieces, handed on.
+
     pub(crate) fn blank(&mut self, text: &str) -> PrintResult
         ensures { Prints self.old result self.new (blank text.now ∷ []) }
     {
-        if self.failed {
-            return Err(PrintError::Failed);
-        }
-        if !put_all(&mut self.sink, text.as_bytes()) {
-            self.failed = true;
-            return Err(PrintError::Writer);
-        }
-        self.fresh = is_fresh_behind(text, self.fresh);
-        Ok(())
+        self.pieces.blank(text)
     }
 
-    #[tactic(auto, using(crate::proofs::Printing::as_token))]
-    /// Writes a token.
     pub(crate) fn token(&mut self, text: &str) -> PrintResult
         ensures { Prints self.old result self.new (token text.now ∷ []) }
     {
-        self.blank(text)
-    }
-}
-
-#[tactic(auto, using(crate::proofs::Steps::steps))]
-impl<'a, S: Sink> DocumentPrinter<'a, S> {
-    /// Writes the space so many times.
-    #[tactic(auto, using(crate::proofs::Indentation::seq_many))]
-    fn many(&mut self, count: usize) -> PrintResult
-        ensures { Prints self.old result self.new (spaces count self.old.space) }
-    {
-        self.ready()?;
-        'space: for i in 0..count {
-            self.blank(self.space)?;
-        }
-        Ok(())
+        self.pieces.token(text)
     }
 
-    /// Whether the printer can go on.
     pub(crate) fn ready(&self) -> PrintResult
         ensures { Prints self.now result self.now [] }
     {
-        if self.failed {
-            Err(PrintError::Failed)
-        } else {
-            Ok(())
-        }
+        self.pieces.ready()
     }
 
-    /// Writes the indentation, where nothing stands on the line yet.
-    #[tactic(auto, using(crate::proofs::Indentation::indents))]
     pub(crate) fn line(&mut self) -> PrintResult
         ensures { Prints self.old result self.new (line self.old.depth ∷ []) }
     {
-        if self.fresh {
-            self.many(self.depth)
-        } else {
-            self.ready()
-        }
+        self.pieces.line()
     }
 
-    /// The source at a span.
-    pub(crate) fn source(&self, span: SourceSpan) -> &'a str
-        requires { Slices self.now.source span }
-        ensures { result.now ≡ slice self.now.source span }
-    {
-        let start = span.offset();
-        &self.source[start..start + span.len()]
-    }
-
-    /// Writes the source at a span.
     pub(crate) fn spelled(&mut self, span: SourceSpan) -> PrintResult
         requires { Slices self.old.source span }
         ensures { Prints self.old result self.new (token (slice self.old.source span) ∷ []) }
     {
-        let text = self.source(span);
-        self.token(text)
+        self.pieces.spelled(span)
+    }
+
+    pub(crate) fn indent(&mut self) -> usize
+        ensures { (result ≡ self.old.depth) × (self.new ≡ record self.old { depth = deeper self.old.depth }) }
+    {
+        self.pieces.indent()
+    }
+
+    pub(crate) fn dedent(&mut self, depth: usize)
+        ensures { self.new ≡ record self.old { depth = depth } }
+    {
+        self.pieces.dedent(depth)
     }
 
     /// Prints an identifier.
@@ -188,21 +121,5 @@ impl<'a, S: Sink> DocumentPrinter<'a, S> {
         ensures { Prints self.old result self.new (package_path_layout (bare_package_path self.old.source (package_path_of path.now))) }
     {
         self.spelled(path.span)
-    }
-
-    /// Goes one deeper, and returns the depth before.
-    pub(crate) fn indent(&mut self) -> usize
-        ensures { (result ≡ self.old.depth) × (self.new ≡ record self.old { depth = deeper self.old.depth }) }
-    {
-        let depth = self.depth;
-        self.depth = one_deeper(depth);
-        depth
-    }
-
-    /// Goes back to a depth.
-    pub(crate) fn dedent(&mut self, depth: usize)
-        ensures { self.new ≡ record self.old { depth = depth } }
-    {
-        self.depth = depth;
     }
 }

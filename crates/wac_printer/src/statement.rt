@@ -7,7 +7,7 @@ ghost use Rattle.wac_ast_base.specs.Names.{extern_name_of, package_path_of};
 ghost use Rattle.wac_ast.specs.Statements.{document_of, statement_of};
 ghost use Rattle.wac_ast_worlds.specs.Worlds.{import_statement_of, import_type_of};
 ghost use Rattle.wac_ast.specs.Statements.{type_statement_of};
-ghost use Rattle.wac_printer.specs.Printed.{Prints};
+ghost use Rattle.wac_printer_pieces.specs.Printed.{Prints};
 ghost use Rattle.wac_printer.specs.ReadBack.{IsReadBack};
 ghost use Rattle.wac_grammar.specs.Leaves.{IfThere};
 ghost use Rattle.wac_printer.specs.Sliced.{DirectiveSliced, DocumentSliced, ExportOptionsSliced, ExportStatementSliced, ExternNameSliced, ImportStatementSliced, ImportTypeSliced, LetStatementSliced, PackagePathSliced, StatementSliced, TypeStatementSliced};
@@ -15,7 +15,6 @@ ghost use Rattle.wac_layout.specs.Bare.{bare_directive, bare_document, bare_expo
 ghost use Rattle.wac_layout.specs.StatementLayout.{directive_layout, document_layout, export_options_layout, export_statement_layout, import_name_layout, import_statement_layout, import_type_layout, let_statement_layout, renamed_layout, statement_layout, targets_layout, type_statement_layout};
 ghost use Rattle.wac_layout.specs.Parts.{spaced};
 
-use crate::error::PrintResult;
 use crate::laws::printed_documents_read_back;
 use crate::lists::Node;
 use crate::printer::DocumentPrinter;
@@ -25,6 +24,7 @@ use wac_ast::{
     LetStatement, PackageDirective, PackagePath, Statement, TypeStatement,
 };
 use wac_lexer::Sink;
+use wac_printer_pieces::PrintResult;
 
 impl Node for Statement<'_> {
     ghost layout = { λ source depth x. statement_layout depth (bare_statement doc_lines source (statement_of x)) };

@@ -3,7 +3,7 @@ use Rattle.std.proofs.lemmas.Result.{err_from_is_err_and}
 use Rattle.wac_grammar.specs.Tree.{Document}
 use Rattle.wac_ast.specs.Statements.{document_of}
 use Rattle.wac_layout.specs.Reread.{printed, ReadsBack, IsFixed}
-use Rattle.wac_printer.specs.Printed.{space_of}
+use Rattle.wac_printer_pieces.specs.Printed.{space_of}
 use Rattle.wac_parser_formatting.proofs.formatting.format.Goals as goal
 
 pub returns-in_err-document-clause-only : goal.returns-in_err-document-clause-only

@@ -1,7 +1,7 @@
 use Rattle.std.proofs.Common.{◌≡◌, ap, ◌∙◌}
 use Rattle.wac_lexer.specs.Device.{Kept}
 use Rattle.wac_ast.specs.Statements.{document_of}
-use Rattle.wac_printer.specs.Printed.{space_of}
+use Rattle.wac_printer_pieces.specs.Printed.{space_of}
 use Rattle.wac_parser_formatting.proofs.Printed.{printed_bytes}
 use Rattle.wac_parser_formatting.proofs.formatting.print.Goals as goal
 

@@ -5,7 +5,7 @@ use Rattle.wac_ast_expressions.specs.declared.expr.InstantiationArgument.{size-I
 use Rattle.wac_ast_expressions.specs.declared.expr.NewExpr.{size-NewExpr}
 use Rattle.wac_ast_expressions.specs.declared.expr.PrimaryExpr.{size-PrimaryExpr}
 use Rattle.wac_printer.proofs.Arguments.{its_line}
-use Rattle.wac_printer.proofs.Progress.{IsSoFar}
+use Rattle.wac_printer_pieces.proofs.Progress.{IsSoFar}
 use Rattle.wac_printer.proofs.printer.DocumentPrinter.+expr.Given as goal
 
 abbrev pub invariant-front_arguments-loop-argument : goal.invariant-front_arguments-loop-argument

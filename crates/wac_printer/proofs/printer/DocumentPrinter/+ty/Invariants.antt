@@ -6,7 +6,7 @@ use Rattle.wac_layout.specs.Printed.{token}
 use Rattle.wac_layout.specs.Bare.{bare_ty}
 use Rattle.wac_layout.specs.Parts.{space}
 use Rattle.wac_layout.specs.TypeLayout.{ty_layout}
-use Rattle.wac_printer.proofs.Progress.{IsSoFar}
+use Rattle.wac_printer_pieces.proofs.Progress.{IsSoFar}
 use Rattle.wac_printer.proofs.printer.DocumentPrinter.+ty.Given as goal
 
 abbrev pub invariant-further_types-loop-ty : goal.invariant-further_types-loop-ty

@@ -1,4 +1,4 @@
-use Rattle.wac_printer.proofs.Sequence.{after, first, last, printed_at}
+use Rattle.wac_printer_pieces.proofs.Sequence.{after, first, last, printed_at}
 use Rattle.std.proofs.Common.{[], sym, ◌∙◌, ◌∷◌}
 use Rattle.std.specs.Option.{option_map}
 use Rattle.wac_lexer.specs.Reading.{slice}

@@ -1,6 +1,6 @@
 use Rattle.std.proofs.Common.{sym, subst}
 use Rattle.wac_ast_worlds.specs.Worlds.{extern_type_of}
-use Rattle.wac_printer.specs.Printed.{Prints}
+use Rattle.wac_printer_pieces.specs.Printed.{Prints}
 use Rattle.wac_printer.specs.Sliced.{ExternTypeSliced}
 use Rattle.wac_layout.specs.Bare.{bare_extern_type, doc_lines}
 use Rattle.wac_layout.specs.WorldLayout.{extern_type_layout}

@@ -1,6 +1,6 @@
 use Rattle.std.proofs.Common.{sym, subst}
 use Rattle.wac_ast_types.specs.Declarations.{func_type_ref_of}
-use Rattle.wac_printer.specs.Printed.{Prints}
+use Rattle.wac_printer_pieces.specs.Printed.{Prints}
 use Rattle.wac_printer.specs.Sliced.{FuncTypeRefSliced}
 use Rattle.wac_layout.specs.Bare.{bare_func_type_ref}
 use Rattle.wac_layout.specs.TypeLayout.{func_type_ref_layout}

@@ -1,6 +1,6 @@
 use Rattle.std.proofs.Common.{sym, subst}
 use Rattle.wac_ast_worlds.specs.Worlds.{import_type_of}
-use Rattle.wac_printer.specs.Printed.{Prints}
+use Rattle.wac_printer_pieces.specs.Printed.{Prints}
 use Rattle.wac_printer.specs.Sliced.{ImportTypeSliced}
 use Rattle.wac_layout.specs.Bare.{bare_import_type, doc_lines}
 use Rattle.wac_layout.specs.StatementLayout.{import_type_layout}

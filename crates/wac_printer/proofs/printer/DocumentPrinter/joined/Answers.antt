@@ -5,7 +5,7 @@ use Rattle.wac_layout.specs.Printed.{token}
 use Rattle.wac_layout.specs.Parts.{space}
 use Rattle.wac_printer.proofs.PartsOf.{no_items}
 use Rattle.wac_printer.proofs.PartsOf.{joined-none, joined-some, All-rest}
-use Rattle.wac_printer.proofs.Progress.{first_stops, first_goes, none_is, others_sliced}
+use Rattle.wac_printer_pieces.proofs.Progress.{first_stops, first_goes, none_is, others_sliced}
 use Rattle.wac_printer.proofs.printer.DocumentPrinter.joined.Goals as goal
 
 pub returns-in_err-print-in-Some : goal.returns-in_err-print-in-Some

@@ -1,4 +1,4 @@
-use Rattle.wac_printer.proofs.Sequence.{after, first, last, printed_at}
+use Rattle.wac_printer_pieces.proofs.Sequence.{after, first, last, printed_at}
 use Rattle.wac_layout.specs.Bare.{bare_ty}
 use Rattle.std.proofs.Common.{◌∙◌}
 use Rattle.wac_ast_types.specs.Types.{ty_of}

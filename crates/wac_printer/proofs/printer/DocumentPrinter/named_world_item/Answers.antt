@@ -1,4 +1,4 @@
-use Rattle.wac_printer.proofs.Sequence.{after, first, last, there}
+use Rattle.wac_printer_pieces.proofs.Sequence.{after, first, last, there}
 use Rattle.wac_layout.specs.WorldLayout.{extern_type_layout}
 use Rattle.wac_ast_worlds.specs.Worlds.{extern_type_of}
 use Rattle.wac_layout.specs.Bare.{bare_extern_type, doc_lines}

@@ -1,4 +1,4 @@
-use Rattle.wac_printer.proofs.Sequence.{after, first, last, printed_at}
+use Rattle.wac_printer_pieces.proofs.Sequence.{after, first, last, printed_at}
 use Rattle.wac_ast_base.specs.Names.{package_path_of}
 use Rattle.std.proofs.Common.{[], ◌∙◌, ◌∷◌}
 use Rattle.std.specs.Option.{option_map}

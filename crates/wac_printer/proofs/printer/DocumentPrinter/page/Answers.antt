@@ -3,7 +3,8 @@ use Rattle.wac_layout.specs.Bare.{bare_directive, bare_document, bare_statement,
 use Rattle.wac_layout.specs.StatementLayout.{directive_layout, document_layout, statement_layout}
 use Rattle.wac_ast.specs.Statements.{document_of, statement_of}
 use Rattle.wac_ast_statements.specs.Statements.{directive_of}
-use Rattle.wac_printer.proofs.Sequence.{after, first, last, of_docs, printed_at, there}
+use Rattle.wac_printer_pieces.proofs.Sequence.{after, first, last, printed_at, there}
+use Rattle.wac_printer.proofs.Lists.{of_docs}
 use Rattle.wac_layout.specs.Parts.{spaced}
 use Rattle.wac_printer.proofs.printer.DocumentPrinter.page.Goals as goal
 

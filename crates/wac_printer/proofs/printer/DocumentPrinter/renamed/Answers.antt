@@ -1,5 +1,5 @@
 use Rattle.wac_ast_base.specs.Names.{extern_name_of}
-use Rattle.wac_printer.proofs.Sequence.{after, first, last, printed_at}
+use Rattle.wac_printer_pieces.proofs.Sequence.{after, first, last, printed_at}
 use Rattle.std.proofs.Common.{◌∙◌}
 use Rattle.wac_layout.specs.Bare.{bare_extern_name}
 use Rattle.wac_layout.specs.TypeLayout.{extern_name_layout}

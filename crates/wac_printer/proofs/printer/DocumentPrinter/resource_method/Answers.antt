@@ -1,6 +1,6 @@
 use Rattle.std.proofs.Common.{sym, subst}
 use Rattle.wac_ast_types.specs.Declarations.{resource_method_of}
-use Rattle.wac_printer.specs.Printed.{Prints}
+use Rattle.wac_printer_pieces.specs.Printed.{Prints}
 use Rattle.wac_printer.specs.Sliced.{ResourceMethodSliced}
 use Rattle.wac_layout.specs.Bare.{bare_resource_method, doc_lines}
 use Rattle.wac_layout.specs.DeclarationLayout.{resource_method_layout}

@@ -1,4 +1,4 @@
-use Rattle.wac_printer.proofs.Sequence.{after, first, last}
+use Rattle.wac_printer_pieces.proofs.Sequence.{after, first, last}
 use Rattle.wac_printer.proofs.printer.DocumentPrinter.row.Goals as goal
 
 pub returns : goal.returns

@@ -1,6 +1,6 @@
 use Rattle.std.proofs.Common.{sym, subst}
 use Rattle.wac_ast.specs.Statements.{statement_of}
-use Rattle.wac_printer.specs.Printed.{Prints}
+use Rattle.wac_printer_pieces.specs.Printed.{Prints}
 use Rattle.wac_printer.specs.Sliced.{StatementSliced}
 use Rattle.wac_layout.specs.Bare.{bare_statement, doc_lines}
 use Rattle.wac_layout.specs.StatementLayout.{statement_layout}

@@ -1,4 +1,4 @@
-use Rattle.wac_printer.proofs.Sequence.{first, last, printed_at}
+use Rattle.wac_printer_pieces.proofs.Sequence.{first, last, printed_at}
 use Rattle.std.specs.Option.{option_map}
 use Rattle.wac_layout.specs.Bare.{bare_ident}
 use Rattle.wac_ast_base.specs.Names.{ident_of}

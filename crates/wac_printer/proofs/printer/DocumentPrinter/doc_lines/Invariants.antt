@@ -1,9 +1,0 @@
-use Rattle.std.specs.Prelude.{length}
-use Rattle.std.specs.Str.Lines.{lines}
-use Rattle.wac_layout.specs.Bare.{doc_line}
-use Rattle.wac_layout.specs.Parts.{doc_layout}
-use Rattle.wac_printer.proofs.Progress.{IsSoFar}
-use Rattle.wac_printer.proofs.printer.DocumentPrinter.doc_lines.Given as goal
-
-abbrev pub invariant-loop-line : goal.invariant-loop-line
-invariant-loop-line g l = IsSoFar (λ source depth x. doc_layout depth (doc_line x)) (lines l.text) (length l.yielded) l.fn.self l.self

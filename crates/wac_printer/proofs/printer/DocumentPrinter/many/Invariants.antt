@@ -1,6 +1,0 @@
-use Rattle.std.proofs.Common.{◌≡◌, false}
-use Rattle.wac_printer.specs.Printed.{after, spaces}
-use Rattle.wac_printer.proofs.printer.DocumentPrinter.many.Given as goal
-
-abbrev pub invariant-space : goal.invariant-space
-invariant-space g l = (l.self ≡ after (spaces l.i l.fn.self.space) l.fn.self) × (l.self.space ≡ l.fn.self.space) × (l.fn.self.failed ≡ false)

@@ -1,0 +1,56 @@
+-- Indentation.
+use Rattle.std.proofs.Common.{◌≡◌, ℕ, zero, suc, ◌+◌, ◌<◌, ◌≤◌, Bool, true, false, cond, List, [], ◌∷◌, ◌++◌, append_assoc, append-nil, refl, sym, ap, ◌∙◌, subst, arith, add-one, ⊎_elim}
+use Rattle.std.specs.Prelude.{◌⊎◌}
+use Rattle.wac_layout.specs.Printed.{blank, line, text, fresh_after, times}
+use Rattle.wac_printer_pieces.specs.Printed.{Printer, after, is_front, Prints, spaces, has_failed}
+use Rattle.std.proofs.Common.{Result, Err}
+use Rattle.wac_printer_pieces.specs.declared.error.PrintError.{PrintError}
+use Rattle.wac_printer_pieces.proofs.Printing.{goes, wrote_all, after-append, text-append, fresh_after-append, front-after, seq, after-nil}
+
+pub spaces-more : (n : ℕ) (space : List ℕ) (s : Printer) → after (spaces (n + 1) space) s ≡ after (blank space ∷ []) (after (spaces n space) s)
+spaces-more n space s = rw add-one (after-append (spaces n space) (blank space ∷ []) s)
+
+spaces_up : (w : Bool) (d n : ℕ) (space b : List ℕ) (s : Printer) → n ≤ d → is_front w b (after (spaces n space) s).bytes ≡ true → is_front w b (after (spaces d space) s).bytes ≡ true
+spaces_up w zero n space b s h f = let e : n ≡ zero = omega arith in subst (λ k. is_front w b (after (spaces k space) s).bytes ≡ true) e f
+spaces_up w (suc d) n space b s h f = ⊎_elim (λ e. subst (λ k. is_front w b (after (spaces k space) s).bytes ≡ true) e f) (λ l. subst (λ (p : Printer). is_front w b p.bytes ≡ true) (sym (after-append (spaces d space) (blank space ∷ []) s)) (front-after w b (blank space ∷ []) (after (spaces d space) s) (spaces_up w d n space b s l f))) (split n d h)
+  where
+    split : (n d : ℕ) → n ≤ suc d → (n ≡ suc d) ⊎ (n ≤ d)
+    split n d h = search arith
+
+pub spaces-front : (w : Bool) (d n : ℕ) (space b : List ℕ) (s : Printer) → n < d → is_front w b (after (blank space ∷ []) (after (spaces n space) s)).bytes ≡ true → is_front w b (after (spaces d space) s).bytes ≡ true
+spaces-front w d n space b s h f = spaces_up w d (n + 1) space b s (omega arith) (subst (λ (p : Printer). is_front w b p.bytes ≡ true) (sym (spaces-more n space s)) f)
+
+times_snoc : (n : ℕ) (t : List ℕ) → times n t ++ t ≡ t ++ times n t
+times_snoc zero t = sym (append-nil t)
+times_snoc (suc n) t = append_assoc t (times n t) t ∙ ap (λ x. t ++ x) (times_snoc n t)
+
+spaces_text : (n : ℕ) (space other : List ℕ) (f : Bool) → text other f (spaces n space) ≡ times n space
+spaces_text zero space other f = refl
+spaces_text (suc n) space other f =
+    text-append other f (spaces n space) (blank space ∷ []) ∙ ap (λ x. text other f (spaces n space) ++ x) (append-nil space) ∙ ap (λ x. x ++ space) (spaces_text n space other f) ∙ times_snoc n space
+
+pub line-fresh : (d : ℕ) (s : Printer) → s.fresh ≡ true → after (line d ∷ []) s ≡ after (spaces d s.space) s
+unfolding after
+line-fresh d s h =
+    let e : text s.space s.fresh (line d ∷ []) ≡ text s.space s.fresh (spaces d s.space) =
+    ap (λ f. cond f (times d s.space) [] ++ []) h ∙ append-nil (times d s.space) ∙ sym (spaces_text d s.space s.space s.fresh) in
+    (λ i. record s { bytes = s.bytes ++ e i; fresh = fresh_after s.fresh (e i) })
+
+pub line-stale : (d : ℕ) (s : Printer) → s.fresh ≡ false → after (line d ∷ []) s ≡ after [] s
+unfolding after
+line-stale d s h =
+    let e : text s.space s.fresh (line d ∷ []) ≡ [] = ap (λ f. cond f (times d s.space) [] ++ []) h in
+    (λ i. record s { bytes = s.bytes ++ e i; fresh = fresh_after s.fresh (e i) })
+
+pub ruleset seq_many = (seq, spaces-more, spaces-front)
+
+pub ruleset indents = (line-fresh, line-stale)
+
+-- a text so many times, as a list of one element's pieces
+pub many_stops : {A B : Type 0} (d n : ℕ) (space : List ℕ) (old mid new : Printer) (a : A) (e : PrintError) (r : Result B PrintError) → old.failed ≡ false → mid ≡ after (spaces n space) old → n < d
+    → r ≡ Err e → Prints {A = A} mid (Err e) new (blank space ∷ []) → Prints old r new (spaces d space)
+many_stops {B = B} d n space old mid new a e r ok m h is p =
+    let all : Prints {A = B} old (Err e) new (spaces n space ++ blank space ∷ []) = goes old mid new a (Err e) (spaces n space) (blank space ∷ []) (wrote_all old mid a (spaces n space) ok m) (record { is = p.is; keeps = p.keeps }) in
+    let o = all.is in
+    subst (λ x. Prints old x new (spaces d space)) (sym is)
+    (record { is = (o.0, o.1, o.2, o.3, spaces_up (has_failed e) d (suc n) space new.bytes old (omega arith) o.4, o.5); keeps = all.keeps })

@@ -1,0 +1,5 @@
+pub mod Fronts
+pub mod Printing
+pub mod Indentation
+pub mod Progress
+pub mod Sequence

@@ -1,0 +1,13 @@
+//! A part of `wac_printer`: what puts the pieces of a layout into a sink.
+//!
+//! A layout is a list of pieces: tokens, blanks, indentation where a line begins, lines of docs. [`Pieces`] writes them, one after the
+//! other; the printer over it knows which piece stands where.
+#![tactic(auto)]
+
+mod arguments;
+mod docs;
+mod error;
+mod pieces;
+
+pub use error::{PrintError, PrintResult};
+pub use pieces::Pieces;
