@@ -1,5 +1,5 @@
 pub mod PartsOf
-pub mod Lists
+pub mod BareLists
 pub mod Steps
 pub mod Trees
 pub mod Arguments

@@ -4,23 +4,15 @@
 use std::alloc::{AllocError, Global};
 use std::process::Abort;
 use std::test::Fail;
-use wac_parser::{Document, Error, Page, ToValue};
+use wac_examples::to_json;
+use wac_parser::Error;
 
-/// The JSON of a document.
-fn text_of(alloc: Global, page: Page<'_, '_>) -> Result<String, AllocError> {
-    let Page { document } = page;
-    document.to_value(alloc)?.to_string(alloc)
-}
-
-/// The JSON of a text's tree. A text that has none is a failure.
+/// The JSON of a text's tree, as a user gets it. A text that has none is a failure.
+///
+/// The call owns the document, so that no test has to be proved to drop one.
 fn json_of(rt: &impl Abort, alloc: Global, source: &str) -> Result<String, AllocError> {
-    match Document::parse(alloc, source) {
-        Ok(document) => {
-            let page = Page {
-                document: &document,
-            };
-            text_of(alloc, page)
-        }
+    match to_json(alloc, source) {
+        Ok(text) => Ok(text),
         Err(Error::Memory(_)) => Err(AllocError),
         Err(_) => panic!(rt; "{source} is refused"),
     }

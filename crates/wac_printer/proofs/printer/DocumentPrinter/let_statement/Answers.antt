@@ -1,5 +1,5 @@
 use Rattle.wac_printer_pieces.proofs.Sequence.{after, first, last, there}
-use Rattle.wac_printer.proofs.Lists.{of_docs}
+use Rattle.wac_printer.proofs.BareLists.{of_docs}
 use Rattle.wac_layout.specs.DeclarationLayout.{head_layout}
 use Rattle.std.proofs.Common.{codes, ◌∙◌}
 use Rattle.wac_layout.specs.ExpressionLayout.{expr_layout}

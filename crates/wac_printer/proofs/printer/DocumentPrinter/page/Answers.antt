@@ -4,7 +4,7 @@ use Rattle.wac_layout.specs.StatementLayout.{directive_layout, document_layout, 
 use Rattle.wac_ast.specs.Statements.{document_of, statement_of}
 use Rattle.wac_ast_statements.specs.Statements.{directive_of}
 use Rattle.wac_printer_pieces.proofs.Sequence.{after, first, last, printed_at, there}
-use Rattle.wac_printer.proofs.Lists.{of_docs}
+use Rattle.wac_printer.proofs.BareLists.{of_docs}
 use Rattle.wac_layout.specs.Parts.{spaced}
 use Rattle.wac_printer.proofs.printer.DocumentPrinter.page.Goals as goal
 

@@ -3,7 +3,7 @@ use Rattle.wac_ast_uses.specs.Uses.{use_item_of}
 use Rattle.wac_printer.specs.Sliced.{UseItemSliced}
 use Rattle.wac_printer_pieces.proofs.Progress.{All-at}
 use Rattle.wac_printer_pieces.proofs.Sequence.{after, first, last, printed_as, printed_at}
-use Rattle.wac_printer.proofs.Lists.{joined_bare}
+use Rattle.wac_printer.proofs.BareLists.{joined_bare}
 use Rattle.wac_layout.specs.InterfaceLayout.{use_item_layout}
 use Rattle.wac_layout.specs.Bare.{bare_use_item}
 use Rattle.wac_layout.specs.Parts.{joined}

@@ -1,6 +1,6 @@
 use Rattle.std.proofs.Common.{[], map, ◌∙◌, ◌∷◌}
 use Rattle.wac_printer_pieces.proofs.Sequence.{after, first, last, printed_at}
-use Rattle.wac_printer.proofs.Lists.{of_docs}
+use Rattle.wac_printer.proofs.BareLists.{of_docs}
 use Rattle.wac_ast_uses.specs.Uses.{use_item_of, use_path_of}
 use Rattle.wac_layout.specs.Printed.{line}
 use Rattle.wac_layout.specs.Bare.{bare_use_item, bare_use_path}

@@ -1,5 +1,5 @@
 use Rattle.wac_printer_pieces.proofs.Sequence.{after, first, last, printed_at, there}
-use Rattle.wac_printer.proofs.Lists.{of_docs}
+use Rattle.wac_printer.proofs.BareLists.{of_docs}
 use Rattle.wac_layout.specs.WorldLayout.{world_item_path_layout}
 use Rattle.wac_layout.specs.Bare.{bare_world_item_path, doc_lines}
 use Rattle.std.proofs.Common.{[], ◌∙◌, ◌∷◌}
