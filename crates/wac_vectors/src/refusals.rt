@@ -3,7 +3,8 @@
 use std::alloc::Global;
 use std::process::Abort;
 use std::test::Fail;
-use wac_parser::{Document, Error};
+use wac_examples::first_error;
+use wac_parser::Error;
 
 /// A text, what is reported of it, and where, in bytes.
 pub(crate) type Row = (&'static str, &'static str, usize, usize);
@@ -264,14 +265,17 @@ pub fn place(error: &Error) -> Option<(usize, usize)> {
     Some((span.offset(), span.len()))
 }
 
-/// Asserts that each text is rejected as its row says.
+/// Asserts that each text is rejected as its row says, which an editor asks for.
 fn are_refused(rt: &impl Abort, alloc: Global, rows: &[Row]) -> Result<(), Fail> {
     for (source, text, offset, len) in rows {
-        match Document::parse(alloc, source) {
-            Ok(_) => panic!(rt; "{source} has a tree"),
-            Err(error) => {
-                assert!(rt; error.to_string(alloc)?.as_str() == *text, "of {source}");
-                assert!(rt; place(&error) == Some((*offset, *len)), "of {source}");
+        match first_error(alloc, source)? {
+            None => panic!(rt; "{source} has a tree"),
+            Some((span, words)) => {
+                assert!(rt; words.as_str() == *text, "of {source}");
+                assert!(rt;
+                    span.offset() == *offset && span.len() == *len,
+                    "of {source}"
+                );
             }
         }
     }
