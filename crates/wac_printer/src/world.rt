@@ -52,7 +52,7 @@ fn print_items<S: Sink>(decl: &WorldDecl<'_>, printer: &mut DocumentPrinter<'_, 
     requires { All (WorldItemSliced printer.old.source) (map world_item_of decl.now.items.items) }
     ensures { Prints printer.old result printer.new (body world_item_layout printer.old.depth (map (bare_world_item doc_lines printer.old.source) (map world_item_of decl.now.items.items))) }
 {
-    printer.world_items(items_of(decl))
+    printer.body(items_of(decl))
 }
 
 #[tactic(auto, using(crate::proofs::Steps::lists))]
@@ -65,13 +65,6 @@ impl<'a, S: Sink> DocumentPrinter<'a, S> {
         self.docs(&decl.docs)
             .and(self.head("world", &decl.id))
             .and(print_items(decl, self))
-    }
-
-    fn world_items(&mut self, items: &[WorldItem<'_>]) -> PrintResult
-        requires { All (WorldItemSliced self.old.source) (map world_item_of items.now) }
-        ensures { Prints self.old result self.new (body world_item_layout self.old.depth (map (bare_world_item doc_lines self.old.source) (map world_item_of items.now))) }
-    {
-        self.body(items)
     }
 
     /// Prints an item of a world.

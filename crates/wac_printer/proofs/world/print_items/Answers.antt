@@ -1,0 +1,22 @@
+use Rattle.std.proofs.Common.{map, sym, subst}
+use Rattle.std.specs.List.{All}
+use Rattle.wac_ast_worlds.specs.Worlds.{world_item_of}
+use Rattle.wac_layout.specs.Bare.{bare_world_item, doc_lines}
+use Rattle.wac_layout.specs.Parts.{body}
+use Rattle.wac_layout.specs.WorldLayout.{world_item_layout}
+use Rattle.wac_printer.specs.Sliced.{WorldItemSliced}
+use Rattle.wac_printer_pieces.proofs.Progress.{All-of-map}
+use Rattle.wac_printer_pieces.proofs.Sequence.{printed_as, printed_at}
+use Rattle.wac_printer.proofs.BareLists.{body_bare}
+use Rattle.wac_printer.proofs.world.print_items.Goals as goal
+
+pub body-requires : goal.body-requires
+body-requires g c =
+    let sliced = subst (λ xs. All (WorldItemSliced c.args.printer.now.source) (map world_item_of xs)) (sym c.items_of.ensures) c.requires in
+    All-of-map (WorldItemSliced c.args.printer.now.source) world_item_of c.items_of.result.now sliced
+
+pub returns : goal.returns
+returns g c =
+    let s = c.args.printer.now in
+    printed_at (λ xs. body world_item_layout s.depth (map (bare_world_item doc_lines s.source) (map world_item_of xs))) c.items_of.ensures
+    (printed_as (body_bare world_item_layout (bare_world_item doc_lines s.source) world_item_of s.depth c.items_of.result.now) c.body.ensures)
