@@ -66,7 +66,8 @@ fn make_room(entries: &mut Vec<Entry>, borrows: &mut Vec<bool>) -> Result<(), Al
 pub(crate) fn interface_at(entries: &[Entry], id: InterfaceId) -> Option<&Interface>
     ensures { option_copied result ≡ option_and_then as_interface (slice_get entries.now id.0) }
 {
-    match entries.get(id.0)? {
+    let entry = entries.get(id.0)?;
+    match entry {
         Entry::Interface(interface) => Some(interface),
         _ => None,
     }
@@ -76,7 +77,8 @@ pub(crate) fn interface_at(entries: &[Entry], id: InterfaceId) -> Option<&Interf
 pub(crate) fn world_at(entries: &[Entry], id: WorldId) -> Option<&World>
     ensures { option_copied result ≡ option_and_then as_world (slice_get entries.now id.0) }
 {
-    match entries.get(id.0)? {
+    let entry = entries.get(id.0)?;
+    match entry {
         Entry::World(world) => Some(world),
         _ => None,
     }
@@ -182,7 +184,8 @@ impl Types {
     pub fn defined_type(&self, id: DefinedTypeId) -> Option<&DefinedType>
         ensures { option_copied result ≡ option_and_then as_defined (slice_get self.now id.0) }
     {
-        match self.entries.get(id.0)? {
+        let entry = self.entries.get(id.0)?;
+        match entry {
             Entry::Defined(ty) => Some(ty),
             _ => None,
         }
@@ -192,7 +195,8 @@ impl Types {
     pub fn resource(&self, id: ResourceId) -> Option<&Resource>
         ensures { option_copied result ≡ option_and_then as_resource (slice_get self.now id.0) }
     {
-        match self.entries.get(id.0)? {
+        let entry = self.entries.get(id.0)?;
+        match entry {
             Entry::Resource(resource) => Some(resource),
             _ => None,
         }
@@ -202,7 +206,8 @@ impl Types {
     pub fn func_type(&self, id: FuncTypeId) -> Option<&FuncType>
         ensures { option_copied result ≡ option_and_then as_func (slice_get self.now id.0) }
     {
-        match self.entries.get(id.0)? {
+        let entry = self.entries.get(id.0)?;
+        match entry {
             Entry::Func(func) => Some(func),
             _ => None,
         }

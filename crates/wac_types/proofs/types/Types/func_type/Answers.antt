@@ -4,20 +4,20 @@ use Rattle.wac_types.specs.Readings.{as_func}
 use Rattle.wac_types.proofs.Read.{read_at, read_past, no_func}
 use Rattle.wac_types.proofs.types.Types.func_type.Goals as goal
 
-pub returns-in_err-func : goal.returns-in_err-func
-returns-in_err-func c =
-    let h = c.in_err-func.ensures.lookup in
+pub returns-in_err-entry : goal.returns-in_err-entry
+returns-in_err-entry c =
+    let h = c.in_err-entry.ensures.lookup in
     ap option_copied c.from_residual.ensures ∙ read_past as_func c.deref.result.now c.args.id.0 (omega arith)
     ∙ ap (λ es. option_and_then as_func (slice_get es c.args.id.0)) (c.deref.ensures.value ∙ c.self.view_is)
 
 pub returns-in-Func : goal.returns-in-Func
 returns-in-Func c =
-    let h = c.in_ok-func.ensures.lookup in
-    read_at as_func c.deref.result.now c.args.id.0 c.in_ok-func.field-0.now _ (omega arith) h.1 (ap as_func c.in-Func.is)
+    let h = c.in_ok-entry.ensures.lookup in
+    read_at as_func c.deref.result.now c.args.id.0 c.in_ok-entry.entry.now _ (omega arith) h.1 (ap as_func c.in-Func.is)
     ∙ ap (λ es. option_and_then as_func (slice_get es c.args.id.0)) (c.deref.ensures.value ∙ c.self.view_is)
 
 pub returns-in_default : goal.returns-in_default
 returns-in_default c =
-    let h = c.in_ok-func.ensures.lookup in
-    read_at as_func c.deref.result.now c.args.id.0 c.in_ok-func.field-0.now None (omega arith) h.1 (no_func c.in_ok-func.field-0.now c.in_default.not-Func)
+    let h = c.in_ok-entry.ensures.lookup in
+    read_at as_func c.deref.result.now c.args.id.0 c.in_ok-entry.entry.now None (omega arith) h.1 (no_func c.in_ok-entry.entry.now c.in_default.not-Func)
     ∙ ap (λ es. option_and_then as_func (slice_get es c.args.id.0)) (c.deref.ensures.value ∙ c.self.view_is)

@@ -4,20 +4,20 @@ use Rattle.wac_types.specs.Readings.{as_resource}
 use Rattle.wac_types.proofs.Read.{read_at, read_past, no_resource}
 use Rattle.wac_types.proofs.types.Types.resource.Goals as goal
 
-pub returns-in_err-resource : goal.returns-in_err-resource
-returns-in_err-resource c =
-    let h = c.in_err-resource.ensures.lookup in
+pub returns-in_err-entry : goal.returns-in_err-entry
+returns-in_err-entry c =
+    let h = c.in_err-entry.ensures.lookup in
     ap option_copied c.from_residual.ensures ∙ read_past as_resource c.deref.result.now c.args.id.0 (omega arith)
     ∙ ap (λ es. option_and_then as_resource (slice_get es c.args.id.0)) (c.deref.ensures.value ∙ c.self.view_is)
 
 pub returns-in-Resource : goal.returns-in-Resource
 returns-in-Resource c =
-    let h = c.in_ok-resource.ensures.lookup in
-    read_at as_resource c.deref.result.now c.args.id.0 c.in_ok-resource.field-0.now _ (omega arith) h.1 (ap as_resource c.in-Resource.is)
+    let h = c.in_ok-entry.ensures.lookup in
+    read_at as_resource c.deref.result.now c.args.id.0 c.in_ok-entry.entry.now _ (omega arith) h.1 (ap as_resource c.in-Resource.is)
     ∙ ap (λ es. option_and_then as_resource (slice_get es c.args.id.0)) (c.deref.ensures.value ∙ c.self.view_is)
 
 pub returns-in_default : goal.returns-in_default
 returns-in_default c =
-    let h = c.in_ok-resource.ensures.lookup in
-    read_at as_resource c.deref.result.now c.args.id.0 c.in_ok-resource.field-0.now None (omega arith) h.1 (no_resource c.in_ok-resource.field-0.now c.in_default.not-Resource)
+    let h = c.in_ok-entry.ensures.lookup in
+    read_at as_resource c.deref.result.now c.args.id.0 c.in_ok-entry.entry.now None (omega arith) h.1 (no_resource c.in_ok-entry.entry.now c.in_default.not-Resource)
     ∙ ap (λ es. option_and_then as_resource (slice_get es c.args.id.0)) (c.deref.ensures.value ∙ c.self.view_is)
