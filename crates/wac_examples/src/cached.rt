@@ -6,6 +6,7 @@ use crate::missing::missing_packages;
 use crate::packages::cache_alone;
 use std::alloc::{AllocError, Global};
 use wac_parser::lexer::SourceSpan;
+use wac_parser::resolution::AstResolver;
 use wac_parser::{Document, Error, Page, ParseResult};
 
 /// Why the cache can't be composed as a text says, and where it says so. `None` where it can.
@@ -14,12 +15,7 @@ pub fn error_with_cache(
     source: &str,
 ) -> Result<Option<(Option<SourceSpan>, String)>, AllocError> {
     match Document::parse(alloc, source) {
-        Ok(document) => error_of(
-            alloc,
-            Page {
-                document: &document,
-            },
-        ),
+        Ok(document) => error_of(alloc, AstResolver::new(&document)),
         Err(error) => rejection(alloc, &error),
     }
 }
@@ -35,12 +31,18 @@ fn rejection(
     }
 }
 
+// The cache is as a package has to be: what fails here is a request for memory.
 fn error_of(
     alloc: Global,
-    page: Page<'_, '_>,
+    resolver: AstResolver<'_, '_>,
 ) -> Result<Option<(Option<SourceSpan>, String)>, AllocError> {
-    let packages = cache_alone(alloc)?;
-    composition_error(alloc, page, packages)
+    match cache_alone(alloc) {
+        Ok(packages) => match composition_error(alloc, resolver, packages) {
+            Ok(found) => Ok(found),
+            Err(_) => Err(AllocError),
+        },
+        Err(_) => Err(AllocError),
+    }
 }
 
 /// A line for each package that a text mentions, but for the cache.
@@ -53,6 +55,8 @@ pub fn missing_beside_cache(alloc: Global, source: &str) -> ParseResult<String> 
 }
 
 fn missing_of(alloc: Global, page: Page<'_, '_>) -> Result<String, AllocError> {
-    let packages = cache_alone(alloc)?;
-    missing_packages(alloc, page, &packages)
+    match cache_alone(alloc) {
+        Ok(packages) => missing_packages(alloc, page, &packages),
+        Err(_) => Err(AllocError),
+    }
 }
