@@ -6,7 +6,6 @@ use crate::missing::missing_packages;
 use crate::packages::cache_alone;
 use std::alloc::{AllocError, Global};
 use wac_parser::lexer::SourceSpan;
-use wac_parser::resolution::AstResolver;
 use wac_parser::{Document, Error, Page, ParseResult};
 
 /// Why the cache can't be composed as a text says, and where it says so. `None` where it can.
@@ -15,7 +14,12 @@ pub fn error_with_cache(
     source: &str,
 ) -> Result<Option<(Option<SourceSpan>, String)>, AllocError> {
     match Document::parse(alloc, source) {
-        Ok(document) => error_of(alloc, AstResolver::new(&document)),
+        Ok(document) => error_of(
+            alloc,
+            Page {
+                document: &document,
+            },
+        ),
         Err(error) => rejection(alloc, &error),
     }
 }
@@ -31,18 +35,12 @@ fn rejection(
     }
 }
 
-// The cache is as a package has to be: what fails here is a request for memory.
 fn error_of(
     alloc: Global,
-    resolver: AstResolver<'_, '_>,
+    page: Page<'_, '_>,
 ) -> Result<Option<(Option<SourceSpan>, String)>, AllocError> {
-    match cache_alone(alloc) {
-        Ok(packages) => match composition_error(alloc, resolver, packages) {
-            Ok(found) => Ok(found),
-            Err(_) => Err(AllocError),
-        },
-        Err(_) => Err(AllocError),
-    }
+    let packages = cache_alone(alloc)?;
+    composition_error(alloc, page, packages)
 }
 
 /// A line for each package that a text mentions, but for the cache.
@@ -55,8 +53,6 @@ pub fn missing_beside_cache(alloc: Global, source: &str) -> ParseResult<String> 
 }
 
 fn missing_of(alloc: Global, page: Page<'_, '_>) -> Result<String, AllocError> {
-    match cache_alone(alloc) {
-        Ok(packages) => missing_packages(alloc, page, &packages),
-        Err(_) => Err(AllocError),
-    }
+    let packages = cache_alone(alloc)?;
+    missing_packages(alloc, page, &packages)
 }

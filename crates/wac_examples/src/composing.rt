@@ -2,10 +2,9 @@
 
 use indexmap::IndexMap;
 use std::alloc::{AllocError, Global};
+use wac_parser::Page;
 use wac_parser::lexer::SourceSpan;
-use wac_parser::resolution::{
-    AstResolver, Error, ItemKind, Package, PackageKey, Reason, ResolutionResult, Rules, Types,
-};
+use wac_parser::resolution::{Error, ItemKind, Package, PackageKey, Reason, Rules, Types, resolve};
 
 /// What an import of a package asks for is met by what means the same, and by nothing else. Each name may be used.
 pub struct SameTypes;
@@ -36,12 +35,23 @@ impl Rules for SameTypes {
 /// Why these packages can't be composed as a document says, and where it says so. `None` where they can.
 pub fn composition_error(
     alloc: Global,
-    resolver: AstResolver<'_, '_>,
+    page: Page<'_, '_>,
     packages: IndexMap<PackageKey, Package>,
-) -> ResolutionResult<Option<(Option<SourceSpan>, String)>> {
-    match resolver.resolve(alloc, packages, &SameTypes) {
+) -> Result<Option<(Option<SourceSpan>, String)>, AllocError> {
+    let Page { document } = page;
+    match resolve(alloc, document, packages, &SameTypes) {
         Ok(_) => Ok(None),
-        Err(Error::Memory(_)) => Err(Error::Memory(AllocError)),
-        Err(error) => Ok(Some((error.span(), error.to_string(alloc)?))),
+        Err(error) => reported(alloc, &error),
+    }
+}
+
+/// Where an error lies, and what it says, unless memory ran out.
+fn reported(
+    alloc: Global,
+    error: &Error,
+) -> Result<Option<(Option<SourceSpan>, String)>, AllocError> {
+    match error {
+        Error::Memory(_) => Err(AllocError),
+        _ => Ok(Some((error.span(), error.to_string(alloc)?))),
     }
 }

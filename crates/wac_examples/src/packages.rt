@@ -9,24 +9,34 @@ use wac_parser::resolution::{
 /// A package that imports the function `log` and exports the function `get`, both without parameters and results.
 pub fn cache(alloc: Global) -> Result<Package, PackageError> {
     let mut types = Types::new(alloc);
-    let func = FuncType {
+    let func = types.add_func_type(FuncType {
         params: IndexMap::new(alloc),
         results: FuncResults::None,
         is_async: false,
-    };
-    let func = ItemKind::Func(types.add_func_type(func)?);
-    let world = types.add_world(World {
+    })?;
+    let func = ItemKind::Func(func);
+    let world = types.add_world(world(alloc, func)?)?;
+    let instance = types.add_interface(interface(alloc, func)?)?;
+    Package::new(types, world, instance, IndexMap::new(alloc))
+}
+
+/// A world that imports a function as `log` and exports it as `get`.
+fn world(alloc: Global, func: ItemKind) -> Result<World, AllocError> {
+    Ok(World {
         id: None,
         uses: IndexMap::new(alloc),
         imports: one(alloc, "log", func)?,
         exports: one(alloc, "get", func)?,
-    })?;
-    let instance = types.add_interface(Interface {
+    })
+}
+
+/// The interface of what that world exports.
+fn interface(alloc: Global, func: ItemKind) -> Result<Interface, AllocError> {
+    Ok(Interface {
         id: None,
         uses: IndexMap::new(alloc),
         exports: one(alloc, "get", func)?,
-    })?;
-    Package::new(types, world, instance, IndexMap::new(alloc))
+    })
 }
 
 /// One item by its name.
@@ -40,10 +50,13 @@ fn one(
     Ok(items)
 }
 
-/// The cache alone, as it is handed to the resolver: under its name.
-pub fn cache_alone(alloc: Global) -> Result<IndexMap<PackageKey, Package>, PackageError> {
-    let package = cache(alloc)?;
-    Ok(under(alloc, "example:cache", package)?)
+/// The cache alone, as it is handed to the resolver: under its name. It is as a package has to be, so that the only error is that
+/// memory runs out.
+pub fn cache_alone(alloc: Global) -> Result<IndexMap<PackageKey, Package>, AllocError> {
+    match cache(alloc) {
+        Ok(package) => under(alloc, "example:cache", package),
+        Err(_) => Err(AllocError),
+    }
 }
 
 fn under(

@@ -5,7 +5,7 @@ use Rattle.wac_types.specs.declared.kind.ExternKind.TheVariants.{Import}
 use Rattle.wac_types.specs.declared.kind.FuncKind.TheVariants.{Static}
 use Rattle.wac_resolution_errors.specs.Error as rules
 use Rattle.wac_resolution_errors.specs.Messages.{text_of}
-use Rattle.wac_resolution_errors.specs.Shapes.{quoted, pair, kinded, kinded_within, part_of_function, missing_export, world_item, include_conflict, export_conflict, use_conflict, target_mismatch}
+use Rattle.wac_resolution_errors.specs.Shapes.{quoted, pair, kinded, kinded_within, part_of_function, missing_export, world_item, include_conflict, export_conflict, use_conflict}
 
 one_name : (at previous : Span) → text_of (rules.duplicate_name (codes "x") at previous) ≡ codes "`x` is already defined"
 unfolding quoted

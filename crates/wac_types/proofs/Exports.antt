@@ -1,5 +1,5 @@
 -- An interface or world of a table has exports that name earlier entries.
-use Rattle.std.proofs.Common.{◌≡◌, ◌<◌, ◌++◌, ℕ, zero, suc, List, [], ◌∷◌, length, arith, rules, Option, Some, None, Bool, sym, ap, ◌∙◌, refl}
+use Rattle.std.proofs.Common.{◌≡◌, ◌<◌, ◌++◌, ℕ, zero, suc, List, [], ◌∷◌, length, arith, rules, Option, Some, None, Bool, sym, ap, ◌∙◌}
 use Rattle.std.specs.Prelude.{slice_get, option_map, option_and_then, IsSome, IsTrue, ◌↔◌, String}
 use Rattle.std.specs.declared.alloc.Global.{Global}
 use Rattle.wac_types.specs.declared.kind.ItemKind.{ItemKind}

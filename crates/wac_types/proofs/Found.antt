@@ -6,7 +6,6 @@ use Rattle.std.specs.Str.{bytes_eq}
 use Rattle.wac_types.specs.declared.kind.ItemKind.{ItemKind}
 use Rattle.wac_types.specs.declared.kind.ItemKind.TheVariants as kinds
 use Rattle.wac_types.specs.declared.kind.«Type».TheVariants as types
-use Rattle.wac_types.specs.declared.kind.InterfaceId.{InterfaceId}
 use Rattle.wac_types.specs.declared.kind.WorldId.{WorldId}
 use Rattle.wac_types.specs.declared.kind.Sort.TheVariants as sorts
 use Rattle.wac_types.specs.declared.entry.Entry.{Entry}

@@ -1,5 +1,5 @@
 -- Pairs of entries that mean the same stay such as others take their places.
-use Rattle.std.proofs.Common.{◌≡◌, ℕ, List, Option, Some, refl, subst, set, replicate}
+use Rattle.std.proofs.Common.{◌≡◌, ℕ, List, Some, refl, subst, set, replicate}
 use Rattle.std.specs.Prelude.{slice_get}
 use Rattle.std.proofs.lemmas.Option.{slice_get_within, get_or_from_slice_get}
 use Rattle.std.proofs.lemmas.List.Elements.{All-replicate, All-set}

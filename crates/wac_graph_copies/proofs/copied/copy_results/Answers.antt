@@ -1,6 +1,3 @@
-use Rattle.wac_types.specs.Entry.{result_children}
-use Rattle.wac_types.specs.Meaning.{EachKind}
-use Rattle.wac_graph_copies.specs.Moved.{Fits}
 use Rattle.wac_graph_copies.proofs.Views.{results_fit, results_moved}
 use Rattle.wac_graph_copies.proofs.copied.copy_results.Goals as goal
 

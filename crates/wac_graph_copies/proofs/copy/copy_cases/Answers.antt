@@ -1,4 +1,4 @@
-use Rattle.std.proofs.Common.{◌≡◌, ◌∙◌, ℕ, List, [], false, subst, sym, ap}
+use Rattle.std.proofs.Common.{◌≡◌, ◌∙◌, ℕ, List, [], subst, sym, ap}
 use Rattle.std.specs.Prelude.{string_bytes}
 use Rattle.wac_types.specs.Names.{by_name}
 use Rattle.wac_types.specs.Scope.{IsFresh}
