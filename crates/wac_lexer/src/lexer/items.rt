@@ -15,7 +15,7 @@ use crate::symbols::symbol;
 use crate::token::Token;
 use crate::words::keyword;
 
-pub(crate) type Item = (Result<Token, Error>, SourceSpan);
+pub(super) type Item = (Result<Token, Error>, SourceSpan);
 
 /// The token that a text of this shape is.
 fn token_of(shape: Shape, text: &str) -> Token
@@ -63,8 +63,8 @@ fn start_of(source: &str, place: usize) -> usize
 ///
 /// A scan is one search for the item at a place. Only [`first_item`](Scanner::first_item) finds one, and it counts itself.
 #[derive(Clone, Drop)]
-pub(crate) struct Scanner<'a> {
-    pub(crate) source: &'a str,
+pub(super) struct Scanner<'a> {
+    pub(super) source: &'a str,
     scans: usize,
 }
 
@@ -76,7 +76,7 @@ impl<'a> Scanner<'a> {
     ghost use Rattle.wac_lexer.specs.Span.{end_of};
 
     /// A source that was not scanned yet.
-    pub(crate) fn new(source: &'a str) -> Scanner<'a>
+    pub(super) fn new(source: &'a str) -> Scanner<'a>
         ensures source { result.source ≡ source.entry }
         ensures scans { result.scans ≡ 0 }
     {
@@ -84,7 +84,7 @@ impl<'a> Scanner<'a> {
     }
 
     /// How many scans there were.
-    pub(crate) fn scans(&self) -> usize
+    pub(super) fn scans(&self) -> usize
         ensures { result ≡ self.now.scans }
     {
         self.scans
@@ -138,7 +138,7 @@ impl<'a> Scanner<'a> {
     }
 
     /// Finds the item after another. Where there is no other the end was found before, and this is no scan.
-    pub(crate) fn scan_behind(&mut self, item: Option<Item>) -> Option<Item>
+    pub(super) fn scan_behind(&mut self, item: Option<Item>) -> Option<Item>
         requires slices { IfSome item (λ x. Slices self.old.source.now x.1) }
         requires fits { IfSome item (λ x. end_of x.1 < 2 ^ 64) }
         requires counts { self.old.scans + 1 < 2 ^ 64 }
@@ -151,7 +151,7 @@ impl<'a> Scanner<'a> {
     }
 
     /// Finds the first two items of a source that was not scanned yet.
-    pub(crate) fn scan_two(&mut self) -> (Option<Item>, Option<Item>)
+    pub(super) fn scan_two(&mut self) -> (Option<Item>, Option<Item>)
         requires boundary { IsCharBoundary self.old.source.now 0 }
         requires unused { self.old.scans ≡ 0 }
         ensures ahead { IsAhead self.old.source.now 0 result.0 result.1 self.new.scans }

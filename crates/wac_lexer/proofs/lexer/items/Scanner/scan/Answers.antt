@@ -6,8 +6,8 @@ use Rattle.wac_lexer.specs.Item.{handed}
 use Rattle.wac_lexer.specs.Items.{first_item, items_from}
 use Rattle.wac_lexer.specs.Reading.{Slices}
 use Rattle.wac_lexer.proofs.Unfolded.{made, items_none, items_some}
-use Rattle.wac_lexer.proofs.items.Scanner.scan.Goals as goal
-use Rattle.wac_lexer.proofs.items.Scanner.scan.Goals.{After-from_residual, After-new}
+use Rattle.wac_lexer.proofs.lexer.items.Scanner.scan.Goals as goal
+use Rattle.wac_lexer.proofs.lexer.items.Scanner.scan.Goals.{After-from_residual, After-new}
 
 -- nothing is found
 none : (c : After-from_residual) → items_from c.args.self.now.source.now c.args.place ≡ []
