@@ -25,8 +25,8 @@ pub token_written : (whole done separator : List ℕ) (left : ℕ) (token : Toke
 token_written whole done separator left token places i d less here before =
     append_assoc done (separator ++ entry left token) (after (codes ", ") (entries (left - 1) (kept_in (drop (i + 1) places))))
     ∙ ap (λ (text : List ℕ). done ++ text)
-        (sym (after_one separator (entry left token) (entries (left - 1) (kept_in (drop (i + 1) places))))
-        ∙ ap (λ (l : List (Option Token)). after separator (entries left (kept_in l))) (sym (drop_more places i d less ∙ ap (λ (x : Option Token). x ∷ drop (i + 1) places) here)))
+    (sym (after_one separator (entry left token) (entries (left - 1) (kept_in (drop (i + 1) places))))
+    ∙ ap (λ (l : List (Option Token)). after separator (entries left (kept_in l))) (sym (drop_more places i d less ∙ ap (λ (x : Option Token). x ∷ drop (i + 1) places) here)))
     ∙ before
 
 -- An empty place writes nothing.

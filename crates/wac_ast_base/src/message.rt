@@ -1,7 +1,7 @@
 //! What is said of an error.
 
 ghost use Rattle.std.specs.Fmt.{WritesOnOk};
-ghost use Rattle.std.specs.Prelude.{◌++◌, Some};
+ghost use Rattle.std.specs.Prelude.{◌++◌};
 ghost use Rattle.wac_ast_base.specs.Lookahead.{kept_in};
 ghost use Rattle.wac_ast_base.specs.Messages.{entry, entries, joined, several_expected};
 
