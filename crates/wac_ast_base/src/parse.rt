@@ -208,7 +208,7 @@ pub fn take_optional(lexer: &mut Lexer, expected: Token) -> ParseResult<bool>
     ensures moves { lexer.old.place ≤ lexer.new.place }
 {
     if at(lexer, expected) {
-        parse_token(lexer, expected)?;
+        let _ = parse_token(lexer, expected)?;
         return Ok(true);
     }
     refuse_fault(lexer)?;
