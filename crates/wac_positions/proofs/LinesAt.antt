@@ -1,5 +1,5 @@
 -- In which line an offset lies.
-use Rattle.std.proofs.Common.{◌≡◌, ◌∙◌, ◌≤◌, ◌<◌, ◌+◌, ◌-◌, ℕ, List, ◌∷◌, true, false, inl, inr, sym, subst, arith, length, get_or, cond, ap}
+use Rattle.std.proofs.Common.{◌≡◌, ◌∙◌, ◌≤◌, ◌<◌, ◌+◌, ℕ, List, true, false, inl, inr, sym, subst, arith, length, get_or, cond, ap}
 use Rattle.std.proofs.lemmas.List.Sums.{sum_by-cons, count_by-le-length}
 use Rattle.std.proofs.lemmas.Bool.{le-leb, cases_lt}
 use Rattle.std.specs.List.{count_by}

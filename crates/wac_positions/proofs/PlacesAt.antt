@@ -5,7 +5,7 @@ use Rattle.std.specs.Str.{IsCharBoundary}
 use Rattle.std.specs.List.{slice_index}
 use Rattle.wac_positions.specs.declared.place.ColumnUnit.{ColumnUnit}
 use Rattle.wac_positions.specs.declared.place.Place.{Place}
-use Rattle.wac_positions.specs.Lines.{line_starts, Begins, IsLine}
+use Rattle.wac_positions.specs.Lines.{line_starts, IsLine}
 use Rattle.wac_positions.specs.Places.{is_continuation, units, line_at, column_at, place_at}
 use Rattle.wac_positions.proofs.Columns.{leading, is_leading}
 use Rattle.wac_positions.proofs.LinesAt.{InLine, line_of_offset, offset_of_line}

@@ -1,6 +1,6 @@
 -- Where lines begin.
-use Rattle.std.proofs.Common.{◌≡◌, ◌∙◌, ◌≤◌, ◌<◌, ◌+◌, ◌-◌, ◌*◌, ℕ, zero, suc, List, [], ◌∷◌, ◌++◌, Bool, true, false, inl, inr, refl, sym, subst, arith, length, get_or, drop, take, cond, ap, add-one, append_assoc}
-use Rattle.std.proofs.lemmas.Bool.{cond_both, cond-true, cond-false, cases_lt}
+use Rattle.std.proofs.Common.{◌≡◌, ◌∙◌, ◌≤◌, ◌<◌, ◌+◌, ◌-◌, ℕ, zero, suc, List, [], ◌∷◌, ◌++◌, true, false, inl, inr, refl, sym, subst, arith, length, get_or, drop, cond, ap, add-one, append_assoc}
+use Rattle.std.proofs.lemmas.Bool.{cond_both, cond-true, cond-false, cases_lt, false_from_ne_true}
 use Rattle.std.proofs.lemmas.Bool.Decides.{nat_tests}
 use Rattle.std.proofs.lemmas.Str.{IsCharBoundary-after_ascii, IsCharBoundary-start}
 use Rattle.std.specs.List.Sorted.{IsNonDecreasingBy}
@@ -131,3 +131,14 @@ starts_passed at text items lt ends inv =
     let here : ends_line (get_or text at 0) (drop (suc at) text) ≡ false = rw (← add-one at) ends in
     let e : starts_after at (drop at text) ≡ starts_after (suc at) (drop (suc at) text) = starts_step at text lt ∙ cond-false _ _ _ here in
     rw add-one (ap (λ (l : List ℕ). items ++ l) (sym e) ∙ inv)
+
+-- ---- texts without ends of lines
+
+ends_none : (b : ℕ) (rest : List ℕ) → is_line_end b ≡ false → ends_line b rest ≡ false
+ends_none b rest e = false_from_ne_true _ (λ ends. grind (arith, nat_tests))
+
+pub none_start : (at : ℕ) (text : List ℕ) → ((i : ℕ) → i < length text → is_line_end (get_or text i 0) ≡ false) → starts_after at text ≡ []
+none_start at [] none = refl
+none_start at (b ∷ rest) none =
+    cond-false (ends_line b rest) (suc at ∷ starts_after (suc at) rest) (starts_after (suc at) rest) (ends_none b rest (none 0 (omega arith)))
+    ∙ none_start (suc at) rest (λ i lt. none (suc i) (omega arith))

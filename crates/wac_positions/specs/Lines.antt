@@ -1,5 +1,5 @@
 -- The lines of a text: where they begin, and what stands in one.
-use Rattle.std.specs.Prelude.{◌≡◌, ◌≤◌, ◌<◌, ◌+◌, refl, ℕ, suc, List, [], ◌∷◌, Bool, true, false, ◌&&◌, ◌||◌, not, nat_eq, take, drop, slice_index, length, codes, if◌then◌else◌}
+use Rattle.std.specs.Prelude.{◌≡◌, ◌≤◌, ◌<◌, ◌+◌, refl, ℕ, suc, List, [], ◌∷◌, Bool, false, ◌&&◌, ◌||◌, not, nat_eq, take, drop, slice_index, length, codes, if◌then◌else◌}
 use Rattle.std.specs.List.{before_first}
 
 abbrev pub line_feed : ℕ

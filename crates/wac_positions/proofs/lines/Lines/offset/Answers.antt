@@ -1,6 +1,5 @@
-use Rattle.std.proofs.Common.{arith, ◌≡◌, ◌∙◌, ◌+◌, ◌<◌, ◌≤◌, ℕ, List, Some, inl, inr, ap, sym, subst, length}
+use Rattle.std.proofs.Common.{arith, ◌≡◌, ◌∙◌, ◌+◌, ℕ, List, Some, inl, inr, ap, sym, subst, length}
 use Rattle.std.proofs.lemmas.Bool.{cases_lt}
-use Rattle.wac_positions.specs.Lines.{IsLine}
 use Rattle.wac_positions.specs.Places.{place_at}
 use Rattle.wac_positions.proofs.Columns.{one_column}
 use Rattle.wac_positions.proofs.PlacesAt.{AtColumn, place, place_of_offset, column_boundary, denoted}
