@@ -20,7 +20,7 @@ place_is text unit o n start front line begins is =
     let column : column_at text unit o ≡ units unit front = ap (λ (s : ℕ). units unit (take (o - s) (drop s text))) from ∙ ap (units unit) (sym is) in
     ap (λ (m : ℕ). place m (column_at text unit o)) line ∙ ap (place n) column
 
--- what stands between two offsets, taken from either side
+-- the bytes between two offsets, cut from either side
 pub between : (text : List ℕ) (start o : ℕ) → start ≤ o → drop start (take o text) ≡ take (o - start) (drop start text)
 between text start o le = let whole : start + (o - start) ≡ o = omega arith in ap (λ (n : ℕ). drop start (take n text)) (sym whole) ∙ drop-take start (o - start) text
 

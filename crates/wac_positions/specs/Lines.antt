@@ -1,4 +1,4 @@
--- The lines of a text: where they begin, and what stands in one.
+-- The lines of a text: where they begin, and the bytes of each.
 use Rattle.std.specs.Prelude.{◌≡◌, ◌≤◌, ◌<◌, ◌+◌, refl, ℕ, suc, List, [], ◌∷◌, Bool, false, ◌&&◌, ◌||◌, not, nat_eq, take, drop, slice_index, length, codes, if◌then◌else◌}
 use Rattle.std.specs.List.{before_first}
 
