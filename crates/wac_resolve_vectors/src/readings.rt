@@ -1,9 +1,10 @@
 //! What a document comes to, as a text.
+ghost use Rattle.std.specs.Prelude.{◌<◌, IfSome, length};
 
 use crate::entries::entries;
 use indexmap::IndexMap;
 use std::alloc::{AllocError, Global};
-use wac_graph::{CompositionGraph, ItemKind, PackageKey, Type, World};
+use wac_graph::{CompositionGraph, ItemKind, PackageId, PackageKey, Type, World};
 use wac_lexer::Bytes;
 use wac_resolution::Error;
 use wac_tool_graphs::write_graph;
@@ -79,11 +80,34 @@ fn push_key(text: &mut String, key: &PackageKey) -> Result<(), AllocError> {
     }
 }
 
+/// The package of a number, if there is one.
+fn package_at(graph: &CompositionGraph, number: usize) -> Option<PackageId>
+    ensures { IfSome result (λ p. p.0 < length graph.now.packages) }
+{
+    for id in graph.packages() {
+        if id.0 == number {
+            return Some(id);
+        }
+    }
+    None
+}
+
+fn push_package(
+    text: &mut String,
+    graph: &CompositionGraph,
+    number: usize,
+) -> Result<(), AllocError> {
+    let Some(id) = package_at(graph, number) else {
+        return Ok(());
+    };
+    push_key(text, graph.package(id).key)
+}
+
 /// A line for the key of each package.
 fn keys(alloc: Global, graph: &CompositionGraph) -> Result<String, AllocError> {
     let mut text = String::new(alloc);
     for id in graph.packages() {
-        push_key(&mut text, graph.package(id).key)?;
+        push_package(&mut text, graph, id.0)?;
     }
     Ok(text)
 }

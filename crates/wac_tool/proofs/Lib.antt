@@ -5,4 +5,3 @@ pub mod NoTree
 pub mod NotFormatted
 pub mod GraphTexts
 pub mod InBlocks
-pub mod Faults
