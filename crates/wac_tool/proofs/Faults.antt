@@ -11,9 +11,9 @@ use Rattle.wac_tool.specs.declared.error.RunError.{RunError}
 use Rattle.wac_tool.specs.declared.error.RunError.TheVariants.{Refused, Input, Output, Memory, NotUtf8}
 
 -- Its items are not listed, and nothing was written.
-pub not_listed : (source : List ℕ) (fault : Fault) (span : Span) (answer : RunError) (old : List ℕ) → IsUtf8 source → refused source ≡ Some (fault, span) → IsRefusal (errors.Lexer fault span) answer → Answers Tokens (Err answer) source old old
-not_listed source fault span (Refused place message) old utf8 has is = (utf8, (fault, span, has, is.0, is.2), refl)
-not_listed source fault span (Memory a) old utf8 has is = inl refl
-not_listed source fault span Input old utf8 has is = absurd is
-not_listed source fault span Output old utf8 has is = absurd is
-not_listed source fault span NotUtf8 old utf8 has is = absurd is
+pub not_listed : (source : List ℕ) (fault : Fault × Span) (answer : RunError) (old : List ℕ) → IsUtf8 source → refused source ≡ Some fault → IsRefusal (errors.Lexer fault.0 fault.1) answer → Answers Tokens (Err answer) source old old
+not_listed source fault (Refused place message) old utf8 has is = (utf8, (fault.0, fault.1, has, is.0, is.2), refl)
+not_listed source fault (Memory a) old utf8 has is = inl refl
+not_listed source fault Input old utf8 has is = absurd is
+not_listed source fault Output old utf8 has is = absurd is
+not_listed source fault NotUtf8 old utf8 has is = absurd is
