@@ -11,13 +11,13 @@
 //! ```
 #![tactic(auto)]
 
-mod comments;
+mod listing;
 mod error;
 mod options;
 mod testing;
 mod tidying;
 
-pub use comments::{Comment, CommentKind, comments};
+pub use listing::{Comment, CommentKind, comments};
 pub use error::TidyError;
 pub use options::{Indent, LineEnd, Options};
 pub use tidying::tidy;

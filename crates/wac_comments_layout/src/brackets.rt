@@ -28,7 +28,11 @@ pub(crate) fn opened_by(token: &str, before: &str, earlier: &str) -> Brackets {
         Brackets::Flat
     } else if before == "with" || before.as_bytes().contains(&b':') {
         Brackets::Arguments
-    } else if earlier == "variant" || earlier == "record" || earlier == "flags" || earlier == "enum" {
+    } else if earlier == "variant"
+        || earlier == "record"
+        || earlier == "flags"
+        || earlier == "enum"
+    {
         Brackets::Rows
     } else {
         Brackets::Body

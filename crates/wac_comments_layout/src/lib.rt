@@ -9,14 +9,14 @@ mod nesting;
 mod parts;
 mod pieces;
 mod places;
-mod plain;
 mod printing;
 mod separators;
+mod without_comments;
 mod writer;
 
 pub use layout::lay_out;
 pub use nesting::too_deep;
 pub use pieces::{Piece, ReadError, read};
-pub use plain::plain;
 pub use printing::printed;
+pub use without_comments::plain;
 pub use writer::Style;

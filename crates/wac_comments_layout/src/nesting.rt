@@ -22,9 +22,8 @@ fn first_too_deep(lexer: Lexer<'_>) -> Option<SourceSpan> {
                 }
                 depth += 1;
             }
-            Ok(
-                Token::CloseBrace | Token::CloseParen | Token::CloseAngle | Token::CloseBracket,
-            ) => depth = depth.saturating_sub(1),
+            Ok(Token::CloseBrace | Token::CloseParen | Token::CloseAngle | Token::CloseBracket) =>
+                depth = depth.saturating_sub(1),
             _ => {}
         }
     }

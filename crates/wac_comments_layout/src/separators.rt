@@ -25,7 +25,13 @@ pub(crate) fn separators(
         } else {
             let blanks = piece.span.offset().saturating_sub(end);
             lines = None;
-            if separators.push(Separator { lines: found, blanks }).is_err() {
+            if separators
+                .push(Separator {
+                    lines: found,
+                    blanks,
+                })
+                .is_err()
+            {
                 return Err(AllocError);
             }
         }
