@@ -11,3 +11,4 @@ pub mod Optional
 pub mod Exits
 pub mod Yields
 pub mod Filled
+pub mod Messages

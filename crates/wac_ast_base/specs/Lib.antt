@@ -1,6 +1,7 @@
 pub mod Error
 pub mod Lookahead
 pub mod Answer
+pub mod Messages
 pub mod FirstFault
 pub mod Lists
 pub mod Optional

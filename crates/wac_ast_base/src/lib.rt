@@ -5,6 +5,7 @@ mod delimited;
 mod error;
 mod laws;
 mod lookahead;
+mod message;
 mod names;
 mod package;
 mod parse;

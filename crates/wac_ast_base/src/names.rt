@@ -26,8 +26,13 @@ pub struct Ident<'a> {
 }
 
 impl<'a> Parse<'a> for Ident<'a> {
-    ghost use Rattle.wac_grammar.specs.Grammar.{identifier};
+    ghost use Rattle.std.specs.Prelude.{◌≡◌, ◌≤◌, ◌<◌, ◌^◌, IfOk};
+    ghost use Rattle.wac_ast_base.specs.Answer.{Gives};
     ghost use Rattle.wac_ast_base.specs.Names.{ident_of};
+    ghost use Rattle.wac_grammar.specs.Grammar.{identifier};
+    ghost use Rattle.wac_grammar.specs.Reading.{read};
+    ghost use Rattle.wac_lexer.specs.Item.{handed};
+    ghost use Rattle.wac_lexer.specs.Reading.{left, Nexts};
 
     ghost symbol = { identifier };
 
@@ -36,7 +41,14 @@ impl<'a> Parse<'a> for Ident<'a> {
     ghost fits = { λ x. end_of x.span < 2 ^ 64 };
 
     #[tactic(auto, using(wac_grammar::proofs::Fixed::read_is))]
-    fn parse(alloc: Global, lexer: &mut Lexer<'a>) -> ParseResult<Self> {
+    fn parse(alloc: Global, lexer: &mut Lexer<'a>) -> ParseResult<Self>
+        ensures gives { Gives ident_of result lexer.old lexer.new (read identifier (left lexer.old)) }
+        ensures source { lexer.new.source ≡ lexer.old.source }
+        ensures moves { lexer.old.place ≤ lexer.new.place }
+        ensures fits { IfOk result (λ x. end_of x.span < 2 ^ 64) }
+        // The next item alone is consumed, also where it is rejected.
+        ensures nexts { Nexts lexer.old (handed (left lexer.old)) lexer.new }
+    {
         let span = parse_token(lexer, Token::Ident)?;
         let text = lexer.source(span);
         Ok(Ident {
@@ -66,7 +78,12 @@ pub struct String<'a> {
 }
 
 impl<'a> Parse<'a> for String<'a> {
+    ghost use Rattle.std.specs.Prelude.{◌≡◌, ◌≤◌, ◌<◌, ◌^◌, IfOk};
+    ghost use Rattle.wac_ast_base.specs.Answer.{Gives};
     ghost use Rattle.wac_ast_base.specs.Names.{string_of};
+    ghost use Rattle.wac_grammar.specs.Reading.{read};
+    ghost use Rattle.wac_lexer.specs.Item.{handed};
+    ghost use Rattle.wac_lexer.specs.Reading.{left, Nexts};
 
     ghost symbol = { symbols.string };
 
@@ -75,7 +92,14 @@ impl<'a> Parse<'a> for String<'a> {
     ghost fits = { λ x. end_of x.span < 2 ^ 64 };
 
     #[tactic(auto, using(wac_grammar::proofs::Fixed::read_is))]
-    fn parse(alloc: Global, lexer: &mut Lexer<'a>) -> ParseResult<Self> {
+    fn parse(alloc: Global, lexer: &mut Lexer<'a>) -> ParseResult<Self>
+        ensures gives { Gives string_of result lexer.old lexer.new (read symbols.string (left lexer.old)) }
+        ensures source { lexer.new.source ≡ lexer.old.source }
+        ensures moves { lexer.old.place ≤ lexer.new.place }
+        ensures fits { IfOk result (λ x. end_of x.span < 2 ^ 64) }
+        // The next item alone is consumed, also where it is rejected.
+        ensures nexts { Nexts lexer.old (handed (left lexer.old)) lexer.new }
+    {
         let span = parse_token(lexer, Token::String)?;
         Ok(String {
             value: between_quotes(lexer.source(span)),

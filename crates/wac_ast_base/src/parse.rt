@@ -202,11 +202,13 @@ pub fn boxed<T: Drop>(alloc: Global, value: T) -> ParseResult<Box<T>>
 pub fn take_optional(lexer: &mut Lexer, expected: Token) -> ParseResult<bool>
     requires { plain expected ≡ true }
     ensures takes { TakesOptional expected result lexer.old lexer.new }
+    // Only a fault is rejected, and nothing is taken there.
+    ensures refused { IfErr result (λ e. (fault_at (handed (left lexer.old)) ≡ Some (told_by e)) × (lexer.new ≡ lexer.old)) }
     ensures source { lexer.new.source ≡ lexer.old.source }
     ensures moves { lexer.old.place ≤ lexer.new.place }
 {
     if at(lexer, expected) {
-        take_token(lexer, expected)?;
+        let _ = parse_token(lexer, expected)?;
         return Ok(true);
     }
     refuse_fault(lexer)?;

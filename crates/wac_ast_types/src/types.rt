@@ -463,6 +463,8 @@ pub fn parse_optional_payload<
     requires callable { F.IsAlwaysCallable ctor }
     // What was taken is what the constructor was given.
     ensures made { IfOk result (λ x. MadeOf (λ inner s y. F.post ctor inner s y) x (left lexer.old) (left lexer.new)) }
+    // Nothing is read behind it: at the end of the input the lexer tells the span of the last item.
+    ensures end { IfOk result (λ _. end_of_input lexer.new ≡ end_of_input lexer.old) }
     // An error reports the place where no such type goes on.
     ensures refused { IfErr result (λ x. (e : Fault) × E.from_gives e x × Fails e (end_of_input lexer.old) (with_payload (left lexer.old))) }
     ensures source { lexer.new.source ≡ lexer.old.source }

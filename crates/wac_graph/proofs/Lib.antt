@@ -4,6 +4,7 @@ pub mod Exported
 pub mod Reading
 pub mod Calls
 pub mod Origins
+pub mod Numbered
 pub mod Apart
 pub mod Entries
 pub mod Contents

@@ -13,7 +13,7 @@ ghost use Rattle.wac_graph_copies.specs.Copied.{IsGrown};
 ghost use Rattle.wac_graph.specs.Graph.{Parts, with_entry, with_package, with_import, with_definition, with_export, with_alias, with_instantiation, with_name, with_argument, export_kind, import_kind, parameter_kind, package_of, arguments_of, alias_in};
 ghost use Rattle.wac_graph.specs.Kept.{Keeps};
 ghost use Rattle.wac_graph.specs.Means.{entry_means, EntriesMean, KeepsKinds};
-ghost use Rattle.wac_graph.specs.Origin.{Naming};
+ghost use Rattle.wac_graph.specs.Origin.{Naming, IsOneToOne, numbered};
 ghost use Rattle.wac_graph.specs.Package.{Key, HeldPackage, IsHeld, same_key};
 ghost use Rattle.wac_graph.specs.Packages.{contents_in};
 
@@ -24,6 +24,11 @@ pub fn tables_mean()
     ensures interfaces { (g : Parts) (naming : Naming) (id : AnInterface) → EntriesMean g → Names g.types (ItemKind.Instance id) → exports_of (entry_means naming g id.0) ≡ items_mean (entry_means naming g) (interface_exports g.types id.0) }
     ensures worlds { (g : Parts) (naming : Naming) (id : AWorld) → EntriesMean g → Names g.types (ItemKind.Component id) → exports_of (entry_means naming g id.0) ≡ items_mean (entry_means naming g) (world_exports g.types id.0) }
     ensures imports { (g : Parts) (naming : Naming) (id : AWorld) → EntriesMean g → Names g.types (ItemKind.Component id) → imports_of (entry_means naming g id.0) ≡ items_mean (entry_means naming g) (world_imports g.types id.0) }
+{}
+
+/// There is a naming of origins under which no two have one number, so what is said of each such naming is not said of none.
+pub fn origins_can_be_numbered()
+    ensures { IsOneToOne numbered }
 {}
 
 /// Keys are the same where their names and their versions' texts are.

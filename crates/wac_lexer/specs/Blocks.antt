@@ -1,5 +1,5 @@
 -- What a sink that passes bytes on in blocks holds.
-use Rattle.std.specs.Prelude.{ℕ, List, ◌∷◌, ◌++◌}
+use Rattle.std.specs.Prelude.{◌≡◌, refl, ℕ, ◌-◌, ◌==◌, min, List, [], ◌∷◌, ◌++◌, length, take, codes, Option, Some, None, if◌then◌else◌}
 
 -- a sink of blocks over a sink
 pub record Holding : Type 0 where
@@ -17,3 +17,30 @@ pub record Holding : Type 0 where
 -- What such a sink was given. First stands what no call changes, so that who lends it knows this when it comes back.
 abbrev pub given : Holding → List ℕ
 given h = h.before ∷ (h.borrow ∷ (h.sunk ++ h.held))
+
+-- the sink below is given all that is held
+abbrev pub passed_on : Holding → Holding
+passed_on h = record h { sunk = h.sunk ++ h.held; held = []; room = 8192 }
+
+-- the same where there is no room, which is so once 8192 bytes were held
+abbrev pub with_room : Holding → Holding
+with_room h = if h.room == 0 then passed_on h else h
+
+-- the first n bytes of a slice are held too
+abbrev pub holding : Holding → ℕ → List ℕ → Holding
+holding h n put = record h { held = h.held ++ take n put; room = h.room - n }
+
+-- A put holds what there is room for. While there is some it passes nothing on, and else all that is held; where that fails there is no room still.
+abbrev pub PutHolds : Holding → List ℕ → Option ℕ → Holding → Type 0
+PutHolds old put (Some n) new = (n ≡ min (length put) (with_room old).room) × (new ≡ holding (with_room old) n put)
+PutHolds old put None new = (old.room ≡ 0) × (new.room ≡ 0)
+
+-- examples: "ab" is held, of a block with room for a byte and of one with none
+abbrev ab : ℕ → Holding
+ab room = record { sunk = []; held = codes "ab"; room = room; failures = 0; before = 0; borrow = 0 }
+
+some_room : holding (with_room (ab 1)) 1 (codes "cd") ≡ record (ab 0) { held = codes "abc" }
+some_room = refl
+
+no_room : holding (with_room (ab 0)) 2 (codes "cd") ≡ record (ab 8190) { sunk = codes "ab"; held = codes "cd" }
+no_room = refl

@@ -288,6 +288,7 @@ impl<S: Sink> Blocks<S> {
         ensures same { given self.new ≡ given self.old }
         ensures passed { result ≡ true → (self.new.held ≡ []) × (self.new.room ≡ 8192) × (self.new.failures ≡ self.old.failures) }
         ensures failed { result ≡ false → self.new.failures ≡ self.old.failures + 1 }
+        ensures full { result ≡ false → self.new.room ≡ self.old.room }
     {
         let (front, _) = self.block.as_slice().split_at(self.end);
         let (_, rest) = front.split_at(self.start);
@@ -328,13 +329,16 @@ impl<S: Sink> Blocks<S> {
 }
 
 impl<S: Sink> Sink for Blocks<S> {
-    ghost use Rattle.wac_lexer.specs.Blocks.{given};
+    ghost use Rattle.wac_lexer.specs.Blocks.{given, PutHolds};
 
     ghost bytes = { λ b. given b };
 
     ghost failures = { λ b. b.failures };
 
-    fn put(&mut self, part: &[u8]) -> Option<usize> {
+    fn put(&mut self, part: &[u8]) -> Option<usize>
+        ensures puts { PutGives (given self.old) self.old.failures part.now result (given self.new) self.new.failures }
+        ensures holds { PutHolds self.old part.now result self.new }
+    {
         if self.end == BLOCK && !self.flush() {
             return None;
         }

@@ -5,6 +5,7 @@ ghost use Rattle.wac_lexer.specs.Docs.{doc_text, doc_of_part, docs_at};
 ghost use Rattle.wac_lexer.specs.Item.{doc_of};
 
 use crate::comments::part_len;
+use crate::lexer::Lexer;
 use crate::span::SourceSpan;
 use std::alloc::{AllocError, Global};
 
@@ -38,7 +39,7 @@ fn add_doc<'a>(
 }
 
 /// The documentation comments between a place and the next item, each with the span of the whole comment.
-pub(crate) fn docs_at<'a>(
+fn docs_at<'a>(
     alloc: Global,
     source: &'a str,
     place: usize,
@@ -59,4 +60,24 @@ pub(crate) fn docs_at<'a>(
         start += len;
     }
     Ok(docs)
+}
+
+impl<'a> Lexer<'a> {
+    ghost use Rattle.std.specs.Prelude.{◌≡◌, IfOk, map};
+    ghost use Rattle.wac_lexer.specs.Docs.{docs_at};
+    ghost use Rattle.wac_lexer.specs.Item.{OnFirst, doc_of};
+    ghost use Rattle.wac_lexer.specs.Reading.{left};
+
+    /// The documentation comments after the last item, up to the next item or a comment without an end.
+    ///
+    /// `///x` and `/**x*/` give x without the white space around it, and the span of the whole comment. Nothing is
+    /// consumed, so a second call gives the same. The docs after the last item can be read until `next` gives None,
+    /// and no more from then on: the lexer then stands at the end. The only error is out of memory.
+    #[tactic(auto, unfolding(crate::specs::Reading::left))]
+    pub fn comments(&self, alloc: Global) -> Result<Vec<(&'a str, SourceSpan)>, AllocError>
+        ensures docs { IfOk result (λ v. map doc_of v.items ≡ docs_at self.now.source self.now.place) }
+        ensures first { OnFirst (left self.now) (λ x. x.docs ≡ docs_at self.now.source self.now.place) }
+    {
+        docs_at(alloc, self.text(), self.place())
+    }
 }

@@ -2,10 +2,9 @@
 use std::fmt;
 
 /// A fault of a source's text. Its `Display` is the message, without the place.
-#[derive(Clone, Copy, Debug, PartialEq, Eq, Default)]
+#[derive(Clone, Copy, Debug, PartialEq, Eq)]
 pub enum Error {
     /// No token begins with this character.
-    #[default]
     UnexpectedToken,
     /// No other quote follows this one.
     UnterminatedString,
@@ -17,6 +16,18 @@ pub enum Error {
     DiscouragedUnicodeCodepoint(char),
     /// Another control code than TAB, LF and CR: up to U+001F, or U+007F to U+009F.
     DisallowedControlCode(char),
+}
+
+// By hand, since a derived `Default` has no clause.
+impl Default for Error {
+    ghost use Rattle.std.specs.Prelude.{◌≡◌};
+    ghost use Rattle.wac_lexer.specs.declared.error.Error.TheVariants.{UnexpectedToken};
+
+    ghost is_default = { λ e. e ≡ UnexpectedToken };
+
+    fn default() -> Error {
+        Error::UnexpectedToken
+    }
 }
 
 impl From<()> for Error {

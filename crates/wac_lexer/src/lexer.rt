@@ -1,11 +1,11 @@
-// Reads a source item by item.
+// Reads a source item by item. Its `comments` is in docs.rt, where no item can be searched for in its scanner.
+mod items;
+
+use self::items::{Item, Scanner};
 use crate::characters::refused;
-use crate::docs::docs_at;
 use crate::error::Error;
-use crate::items::{Item, Scanner};
 use crate::span::SourceSpan;
 use crate::token::Token;
-use std::alloc::{AllocError, Global};
 use std::marker::Model;
 
 /// What an item is: a token, or the fault that stands in its place.
@@ -51,10 +51,10 @@ impl<'a> Model for Lexer<'a> {
 }
 
 impl<'a> Lexer<'a> {
-    ghost use Rattle.std.specs.Prelude.{◌≡◌, ◌<◌, ◌≤◌, ◌+◌, ◌^◌, ◌↔◌, ◌++◌, length, List, None, map, IsTrue, MatchResult, IfOk, IfSome, Some};
+    ghost use Rattle.std.specs.Prelude.{◌≡◌, ◌<◌, ◌≤◌, ◌+◌, ◌^◌, ◌↔◌, ◌++◌, length, List, None, IsTrue, MatchResult, IfOk, IfSome, Some};
+    ghost use Rattle.std.specs.Str.{IsCharBoundary};
     ghost use Rattle.wac_lexer.specs.Characters.{refused};
-    ghost use Rattle.wac_lexer.specs.Docs.{docs_at};
-    ghost use Rattle.wac_lexer.specs.Item.{Item, handed, behind_first, OnFirst, doc_of};
+    ghost use Rattle.wac_lexer.specs.Item.{Item, handed, behind_first};
     ghost use Rattle.wac_lexer.specs.Items.{items};
     ghost use Rattle.wac_lexer.specs.Reading.{Slices, shown, slice, left, answered};
     ghost use Rattle.wac_lexer.specs.Span.{span, end_of};
@@ -122,17 +122,19 @@ impl<'a> Lexer<'a> {
         self.scanner.scans()
     }
 
-    /// The documentation comments after the last item, up to the next item or a comment without an end.
-    ///
-    /// `///x` and `/**x*/` give x without the white space around it, and the span of the whole comment. Nothing is
-    /// consumed, so a second call gives the same. The docs after the last item can be read until `next` gives None,
-    /// and no more from then on: the lexer then stands at the end. The only error is out of memory.
-    #[tactic(auto, unfolding(crate::specs::Reading::left))]
-    pub fn comments(&self, alloc: Global) -> Result<Vec<(&'a str, SourceSpan)>, AllocError>
-        ensures docs { IfOk result (λ v. map doc_of v.items ≡ docs_at self.now.source self.now.place) }
-        ensures first { OnFirst (left self.now) (λ x. x.docs ≡ docs_at self.now.source self.now.place) }
+    /// The whole source.
+    pub(crate) fn text(&self) -> &'a str
+        ensures { result.now ≡ self.now.source }
     {
-        docs_at(alloc, self.scanner.source, self.place)
+        self.scanner.source
+    }
+
+    /// Where the last item ends.
+    pub(crate) fn place(&self) -> usize
+        ensures place { result ≡ self.now.place }
+        ensures within { IsCharBoundary self.now.source result }
+    {
+        self.place
     }
 
     /// A lexer always stands between two items of its source. This does nothing: its contract is the law.

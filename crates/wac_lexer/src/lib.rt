@@ -8,7 +8,6 @@ mod device;
 mod docs;
 mod error;
 mod follow;
-mod items;
 mod laws;
 mod lexer;
 mod shape;

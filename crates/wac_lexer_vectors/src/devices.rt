@@ -1,6 +1,6 @@
 //! Devices of bytes: what goes through, in which calls, and where they fail.
 
-ghost use Rattle.std.specs.Prelude.{◌<◌, ◌≤◌, IfOk};
+ghost use Rattle.std.specs.Prelude.{◌≡◌, ◌<◌, ◌≤◌, IfOk, IfSome};
 
 use std::alloc::{AllocError, Global};
 use std::io;
@@ -94,6 +94,67 @@ impl Write for Full {
     }
 }
 
+/// A writer and a reader of a text that moves nothing at one of its calls: it fails, or says that the text ends there. A
+/// call after that one would go on with the text.
+#[derive(Drop)]
+struct Pausing<'a> {
+    narrow: Narrow<'a>,
+    pause: Option<ErrorKind>,
+    at: usize,
+    calls: usize,
+}
+
+impl<'a> Pausing<'a> {
+    /// Pauses at the call of this number, by an error of this kind, or as the end is told.
+    fn new(text: &'a [u8], pause: Option<ErrorKind>, at: usize) -> Self {
+        Pausing {
+            narrow: Narrow::new(text, usize::MAX, usize::MAX),
+            pause,
+            at,
+            calls: 0,
+        }
+    }
+
+    /// Counts a call, and returns what it gives where it is the one that moves nothing.
+    fn pauses(&mut self) -> Option<io::Result<usize>>
+        ensures { IfSome result (λ given. IfOk given (λ n. n ≡ 0)) }
+    {
+        self.calls = self.calls.wrapping_add(1);
+        if self.calls != self.at {
+            return None;
+        }
+        match self.pause {
+            Some(kind) => Some(Err(io::Error::from(kind))),
+            None => Some(Ok(0)),
+        }
+    }
+}
+
+impl Write for Pausing<'_> {
+    fn write(&mut self, buf: &[u8]) -> io::Result<usize> {
+        match self.pauses() {
+            Some(given) => given,
+            None => self.narrow.write(buf),
+        }
+    }
+
+    fn flush(&mut self) -> io::Result<()> {
+        Ok(())
+    }
+}
+
+impl Read for Pausing<'_> {
+    fn read(&mut self, buf: &mut [u8]) -> io::Result<usize> {
+        match self.pauses() {
+            Some(given) => given,
+            None => self.narrow.read(buf),
+        }
+    }
+}
+
+/// Errors of a device. After the first of them std's own loops try again.
+const ERRORS: [ErrorKind; 2] = [ErrorKind::Interrupted, ErrorKind::BrokenPipe];
+
 /// Asserts that what is kept in memory is what was put.
 fn keeps(rt: &impl Abort, alloc: Global) {
     let mut kept = Bytes::new(alloc);
@@ -129,6 +190,41 @@ fn fails_at(rt: &impl Abort, text: &[u8], room: usize) {
     writer.holds(rt, room, room.saturating_add(2));
 }
 
+/// Asserts that a put which fails asks the writer once, and leaves it to the next put to try again.
+fn puts_once(rt: &impl Abort, pause: Option<ErrorKind>) {
+    let mut writer = Pausing::new(b"let x", pause, 2);
+    let mut out = Out::new(&mut writer);
+    assert!(rt; out.put(b"let") == Some(3), "let");
+    assert!(rt; out.put(b" x") == None, "x");
+    assert!(rt; writer.calls == 2);
+    assert!(rt; Out::new(&mut writer).put(b" x") == Some(2), "x again");
+    assert!(rt; writer.calls == 3);
+    writer.narrow.holds(rt, 5, 2);
+}
+
+/// Asserts the same of a put of all, and of blocks.
+fn puts_all_once(rt: &impl Abort, pause: Option<ErrorKind>) {
+    let mut writer = Pausing::new(b"let x", pause, 1);
+    assert!(rt; !put_all(&mut Out::new(&mut writer), b"let x"), "all");
+    assert!(rt; writer.calls == 1);
+    let mut writer = Pausing::new(b"let x", pause, 1);
+    let mut blocks = Blocks::new(Out::new(&mut writer));
+    assert!(rt; put_all(&mut blocks, b"let x"), "held");
+    assert!(rt; !blocks.flush(), "passed on");
+    assert!(rt; writer.calls == 1);
+    writer.narrow.holds(rt, 0, 0);
+}
+
+#[test]
+fn sinks_do_not_try_again(rt: HostRuntime) {
+    for kind in ERRORS {
+        puts_once(&rt, Some(kind));
+        puts_all_once(&rt, Some(kind));
+    }
+    puts_once(&rt, None);
+    puts_all_once(&rt, None);
+}
+
 #[test]
 fn sinks(rt: HostRuntime) {
     keeps(&rt, rt.alloc());
@@ -160,6 +256,28 @@ fn gives_up_to(rt: &impl Abort, text: &[u8], room: usize) {
         assert!(rt; part[0] == *byte, "of {room}");
     }
     assert!(rt; feed.take(&mut part) == None, "of {room}");
+}
+
+/// Asserts that a take which fails, or is told the end, asks the reader once, and leaves it to the next take to try again.
+fn takes_once(rt: &impl Abort, pause: Option<ErrorKind>, taken: Option<usize>) {
+    let mut reader = Pausing::new(b"let x", pause, 2);
+    let mut part = [0; 3];
+    let mut feed = In::new(&mut reader);
+    assert!(rt; feed.take(&mut part) == Some(3), "let");
+    assert!(rt; feed.take(&mut part) == taken, "nothing");
+    assert!(rt; reader.calls == 2);
+    assert!(rt; part == *b"let", "of {}", reader.calls);
+    assert!(rt; In::new(&mut reader).take(&mut part) == Some(2), "x");
+    assert!(rt; reader.calls == 3);
+    assert!(rt; part == *b" xt", "x");
+}
+
+#[test]
+fn feeds_do_not_try_again(rt: HostRuntime) {
+    for kind in ERRORS {
+        takes_once(&rt, Some(kind), None);
+    }
+    takes_once(&rt, None, Some(0));
 }
 
 #[test]

@@ -26,8 +26,9 @@ pub use wac_ast::{
     PostfixExpr, PrimaryExpr, RecordDecl, ResourceDecl, ResourceMethod, ResultList, SegmentSpans,
     Statement, String, Type, TypeAlias, TypeAliasKind, TypeDecl, TypeStatement, Use, UseItem,
     UsePath, VariantCase, VariantDecl, WorldDecl, WorldExport, WorldImport, WorldInclude,
-    WorldIncludeItem, WorldItem, WorldItemPath, WorldRef, parse_optional, parse_optional_payload,
-    parse_token, tokens_have_texts, trees_stand_in_their_text, what_is_read_derives,
+    WorldIncludeItem, WorldItem, WorldItemPath, WorldRef, arguments_are_refused_at_first_faults,
+    parse_optional, parse_optional_payload, parse_token, refusals_lie_at_first_faults,
+    tokens_have_texts, trees_end_where_they_must, trees_stand_in_their_text, what_is_read_derives,
 };
 pub use wac_json::ToValue;
 pub use wac_parser_formatting::format;

@@ -21,5 +21,6 @@ pub use wac_graph::{
     WorldId, names,
 };
 pub use wac_resolution::{
-    AstResolver, Error, InstanceOperation, Resolution, ResolutionResult, resolve,
+    AstResolver, Error, InstanceOperation, Resolution, ResolutionResult,
+    formatting_changes_no_graph, resolve,
 };

@@ -2,3 +2,5 @@ pub mod Arguments
 pub mod FirstMentions
 pub mod Keys
 pub mod Noting
+pub mod Between
+pub mod Places

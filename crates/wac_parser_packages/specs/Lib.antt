@@ -1,3 +1,4 @@
 pub mod FirstMentions
 pub mod Noted
 pub mod Packages
+pub mod Ascending

@@ -1,13 +1,16 @@
 //! The packages that a document mentions.
-ghost use Rattle.std.specs.Prelude.{◌≡◌, IfOk, map};
+ghost use Rattle.std.specs.Prelude.{◌≡◌, ℕ, List, IfOk, map};
+ghost use Rattle.std.specs.Str.{IsUtf8};
 ghost use Rattle.wac_ast.specs.Statements.{document_of, statement_of};
 ghost use Rattle.wac_ast_statements.specs.Statements.{directive_of};
+ghost use Rattle.wac_grammar.specs.TextTree.{IsTreeOf};
 ghost use Rattle.wac_resolution_rules.specs.Mentions.{mentions};
+ghost use Rattle.wac_parser_packages.specs.Ascending.{Ascend};
 ghost use Rattle.wac_parser_packages.specs.FirstMentions.{first_mentions};
 ghost use Rattle.wac_parser_packages.specs.Noted.{mentioned_by, mentions_in};
 ghost use Rattle.wac_parser_packages.specs.Packages.{AreFirst, OnlyTheseMatter};
 
-use crate::laws::only_first_mentions_matter;
+use crate::laws::{mentions_stand_in_order, only_first_mentions_matter};
 use crate::mentions::Mentions;
 use crate::statements::{all_statements, target};
 use indexmap::IndexMap;
@@ -49,10 +52,13 @@ pub fn packages(
     ensures listed { IfOk result (λ m. mentions_in m.entries ≡ first_mentions (mentions (document_of document.now))) }
     // Each mentioned package is there once, with the place of its first mention, and no other one.
     ensures first { IfOk result (λ m. AreFirst (mentions (document_of document.now)) (mentions_in m.entries)) }
+    // Of the document of a text their places ascend: the list is in the order of its spans.
+    ensures order { IfOk result (λ m. (source : List ℕ) → IsUtf8 source → IsTreeOf source (document_of document.now) → Ascend (mentions_in m.entries)) }
     // Whatever packages are handed to resolving, no others matter.
     ensures matter { IfOk result (λ m. OnlyTheseMatter (document_of document.now) (mentions_in m.entries)) }
 {
     only_first_mentions_matter();
+    mentions_stand_in_order();
     let directive = &document.directive;
     let statements = Statements {
         all: &document.statements,

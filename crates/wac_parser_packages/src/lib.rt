@@ -10,4 +10,4 @@ mod statements;
 mod worlds;
 
 pub use document::packages;
-pub use laws::only_first_mentions_matter;
+pub use laws::{mentions_stand_in_order, only_first_mentions_matter};

@@ -7,7 +7,9 @@
 mod arguments;
 mod docs;
 mod error;
+mod laws;
 mod pieces;
 
 pub use error::{PrintError, PrintResult};
+pub use laws::equality_reads_errors;
 pub use pieces::Pieces;

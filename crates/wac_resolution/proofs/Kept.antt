@@ -21,7 +21,7 @@ use Rattle.wac_resolution_rules.specs.Mentions.{IsMentioned, Mention, given_over
 use Rattle.wac_resolution_rules.specs.ResolvedDocument.{Describes, FirstClause, FirstFailing, GraphClause, OnlyClause, given_to}
 use Rattle.wac_resolution_paths.specs.Expands.{HoldsHanded, IsHandedAs}
 use Rattle.wac_parser_packages.specs.Packages.{AreFirst, OnlyTheseMatter}
-use Rattle.wac_resolution.specs.Resolved.{HoldsMentioned, Promised, Resolved, by_key, returned}
+use Rattle.wac_resolution.specs.Resolved.{HoldsMentioned, HoldsSupplied, Promised, Resolved, by_key, returned}
 
 -- ---- what is kept
 
@@ -54,6 +54,18 @@ found_mentioned ms key (e ∷ es) p h = go (is_mentioned ms e.0) (same_key key e
     go true true m s found later = ap (is_mentioned ms) (keys_same key e.0 s) ∙ m
     go true false m s found later = later (sym (ap (λ (b : Bool). cond b (Some e.1) (package_of key (kept ms es))) s) ∙ found)
 
+-- a package that is found among those that are kept is found among all
+found_in_all : (ms : List Mention) (key : Key) (ps : Packages) (p : Contents) → package_of key (kept ms ps) ≡ Some p → package_of key ps ≡ Some p
+found_in_all ms key [] p h = h
+found_in_all ms key (e ∷ es) p h = go (is_mentioned ms e.0) (same_key key e.0) refl refl h (found_in_all ms key es p)
+  where
+    go : (b same : Bool) → is_mentioned ms e.0 ≡ b → same_key key e.0 ≡ same → package_of key (cond b (e ∷ kept ms es) (kept ms es)) ≡ Some p
+        → (package_of key (kept ms es) ≡ Some p → package_of key es ≡ Some p) → cond same (Some e.1) (package_of key es) ≡ Some p
+    go true true m s found later = sym (ap (λ (b : Bool). cond b (Some e.1) (package_of key (kept ms es))) s) ∙ found
+    go true false m s found later = later (sym (ap (λ (b : Bool). cond b (Some e.1) (package_of key (kept ms es))) s) ∙ found)
+    go false false m s found later = later found
+    go false true m s found later = (let there : IsMentioned ms key = found_mentioned ms key es p found in let same : is_mentioned ms key ≡ is_mentioned ms e.0 = ap (is_mentioned ms) (keys_same key e.0 s) in absurd cc)
+
 -- ---- a document
 
 -- of the packages those are kept that are among mentions beside which nothing matters to the document
@@ -81,6 +93,17 @@ holds_mentioned doc packages others g k h = each g.packages (subst (λ (l : List
         let contents : Contents = contents_in some_naming g p in
         let found = subst (λ (ps : Packages). package_of p.key ps ≡ Some contents) (handed_kept some_naming k.these (by_key packages)) (all.0.contents some_naming) in
         ((k.first.keys p.key).0 (found_mentioned k.these p.key (handed some_naming (by_key packages)) contents found), each held all.1)
+
+pub holds_supplied : (doc : Document) (packages others : List (PackageKey × PackageParts)) (g : Parts) → IsKept doc packages others → HoldsSupplied others g → HoldsSupplied packages g
+holds_supplied doc packages others g k h = each g.packages (subst (λ (l : List (Key × PackageParts)). HoldsHanded l g) k.are h)
+  where
+    found : (naming : Naming) (p : HeldPackage) → IsHandedAs (kept k.these (by_key packages)) g p → package_of p.key (handed naming (by_key packages)) ≡ Some (contents_in naming g p)
+    found naming p is =
+        found_in_all k.these p.key (handed naming (by_key packages)) (contents_in naming g p)
+        (subst (λ (ps : Packages). package_of p.key ps ≡ Some (contents_in naming g p)) (handed_kept naming k.these (by_key packages)) (is.contents naming))
+    each : (held : List HeldPackage) → AllByRecursion (IsHandedAs (kept k.these (by_key packages)) g) held → AllByRecursion (IsHandedAs (by_key packages) g) held
+    each [] all = tt
+    each (p ∷ held) all = (record { there = all.0.there; contents = λ naming. found naming p all.0 }, each held all.1)
 
 given_kept : (naming : Naming) (ms : List Mention) (ps : List (Key × PackageParts)) (rules : Rules) (doc : Document) → given_to naming (kept ms ps) rules doc ≡ given_over (given_to naming ps rules doc) (kept ms (handed naming ps))
 given_kept naming ms ps rules doc = λ i. record {

@@ -17,6 +17,7 @@ use Rattle.wac_resolution_rules.specs.Given.{Given, Rules}
 use Rattle.wac_resolution_rules.specs.Mentions.{IsMentioned, Mention}
 use Rattle.wac_resolution_rules.specs.ResolvedDocument.{given_to, EveryNaming}
 use Rattle.wac_resolution_nodes.specs.Nodes.{composition_of}
+use Rattle.wac_resolution_paths.specs.Expands.{HoldsHanded}
 
 -- a document, and a graph
 pub record Resolved : Type 0 where
@@ -39,3 +40,7 @@ Promised Clause packages rules document declared result = EveryNaming (λ naming
 -- each package that the graph holds is mentioned
 abbrev pub HoldsMentioned : List Mention → Parts → Type 0
 HoldsMentioned ms g = AllByRecursion (λ (p : HeldPackage). IsMentioned ms p.key) g.packages
+
+-- each package that the graph holds was supplied under its key, and its world, its instance and its definitions mean in the graph what they meant there
+abbrev pub HoldsSupplied : List (PackageKey × PackageParts) → Parts → Type 0
+HoldsSupplied packages g = HoldsHanded (by_key packages) g

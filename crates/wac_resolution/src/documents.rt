@@ -7,7 +7,7 @@ ghost use Rattle.wac_resolution_rules.specs.Given.{rules_by};
 ghost use Rattle.wac_resolution_rules.specs.Mentions.{mentions};
 ghost use Rattle.wac_resolution_rules.specs.ResolvedDocument.{GraphClause, OnlyClause, FirstClause};
 ghost use Rattle.wac_resolution.specs.Layout.{DescribedClause, SameBareTree};
-ghost use Rattle.wac_resolution.specs.Resolved.{HoldsMentioned, Promised};
+ghost use Rattle.wac_resolution.specs.Resolved.{HoldsMentioned, HoldsSupplied, Promised};
 
 use crate::resolution::{Resolution, ResolutionResult};
 use crate::resolver::AstResolver;
@@ -35,6 +35,8 @@ pub fn resolve<'d, 'a, R: Rules>(
     ensures document { IfOk result (λ r. r.document ≡ document.now) }
     // The graph holds no package that the document doesn't mention.
     ensures held { IfOk result (λ r. HoldsMentioned (mentions (document_of document.now)) r.graph) }
+    // Each package that the graph holds has there the world, the instance and the definitions that were supplied under its key.
+    ensures supplied { IfOk result (λ r. HoldsSupplied packages.entries r.graph) }
     // The graph that is returned is described, with the names that the document binds.
     ensures graph { (declared : Named ℕ) × Promised GraphClause packages.entries (rules_by (R.passes rules.now) (R.named rules.now)) (document_of document.now) declared result }
     // What is described is returned, unless memory runs out.

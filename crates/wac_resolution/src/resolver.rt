@@ -5,12 +5,11 @@ ghost use Rattle.wac_grammar.specs.Tree.{Document as Tree};
 ghost use Rattle.wac_types.specs.Scope.{Named};
 ghost use Rattle.wac_parser_packages.specs.Noted.{mentions_in};
 ghost use Rattle.wac_parser_packages.specs.Packages.{AreFirst, OnlyTheseMatter};
-ghost use Rattle.wac_resolution_paths.specs.Expands.{HoldsHanded};
 ghost use Rattle.wac_resolution_rules.specs.Given.{rules_by};
 ghost use Rattle.wac_resolution_rules.specs.Mentions.{mentions};
 ghost use Rattle.wac_resolution_rules.specs.ResolvedDocument.{GraphClause, OnlyClause, FirstClause};
 ghost use Rattle.wac_resolution.specs.Layout.{DescribedClause, SameBareTree};
-ghost use Rattle.wac_resolution.specs.Resolved.{HoldsMentioned, Promised, by_key};
+ghost use Rattle.wac_resolution.specs.Resolved.{HoldsMentioned, HoldsSupplied, Promised};
 
 use crate::keeping::keep_mentioned;
 use crate::resolution::{Resolution, ResolutionResult};
@@ -73,7 +72,7 @@ impl<'d, 'a> AstResolver<'d, 'a> {
         rules: &R,
     ) -> ResolutionResult<Resolution<'d, 'a>>
         ensures document { IfOk result (λ r. r.document ≡ self.entry) }
-        ensures handed { IfOk result (λ r. HoldsHanded (by_key packages.entries) r.graph) }
+        ensures supplied { IfOk result (λ r. HoldsSupplied packages.entries r.graph) }
         ensures graph { (declared : Named ℕ) × Promised GraphClause packages.entries (rules_by (R.passes rules.now) (R.named rules.now)) (document_of self.entry) declared result }
         ensures only { (declared : Named ℕ) → Promised OnlyClause packages.entries (rules_by (R.passes rules.now) (R.named rules.now)) (document_of self.entry) declared result }
         ensures first { (declared : Named ℕ) → Promised FirstClause packages.entries (rules_by (R.passes rules.now) (R.named rules.now)) (document_of self.entry) declared result }
@@ -102,6 +101,8 @@ impl<'d, 'a> AstResolver<'d, 'a> {
         ensures document { IfOk result (λ r. r.document ≡ self.entry) }
         // The graph holds no package that the document doesn't mention.
         ensures held { IfOk result (λ r. HoldsMentioned (mentions (document_of self.entry)) r.graph) }
+        // Each package that the graph holds has there the world, the instance and the definitions that were supplied under its key.
+        ensures supplied { IfOk result (λ r. HoldsSupplied packages.entries r.graph) }
         // The graph that is returned is described, with the names that the document binds.
         ensures graph { (declared : Named ℕ) × Promised GraphClause packages.entries (rules_by (R.passes rules.now) (R.named rules.now)) (document_of self.entry) declared result }
         // What is described is returned, unless memory runs out.

@@ -2,8 +2,10 @@
 #![tactic(auto)]
 
 mod error;
+mod laws;
 mod message;
 mod operation;
 
 pub use error::{Error, ResolutionResult};
+pub use laws::operations_are_compared;
 pub use operation::InstanceOperation;

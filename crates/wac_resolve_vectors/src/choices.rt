@@ -5,7 +5,8 @@ use crate::readings::Asked;
 use std::test::Fail;
 
 /// Whether `x` and `y` mean the same: an alias is a type of its own, but that of a function is a copy, and that of a resource
-/// is a resource of its own. Lists are equal in order, and a type that is used under its own name, written once more, was renamed.
+/// is a resource of its own. So is each resource that is declared, also under one name. Lists are equal in order, and a type
+/// that is used under its own name, written once more, was renamed.
 const SAME: &[Row] = &[
     (
         With::Nothing,
@@ -36,6 +37,11 @@ const SAME: &[Row] = &[
         With::Nothing,
         "package a:b; import i: interface { resource r; type s = r; f: func(a: r); g: func(a: s); h: func(a: r); }; export i.f as x; export i.h as y;",
         "same",
+    ),
+    (
+        With::Nothing,
+        "package a:b; interface i { resource r; f: func(a: r); } interface j { resource r; f: func(a: r); } import m: i; import n: j; export m.f as x; export n.f as y;",
+        "different",
     ),
     (
         With::Nothing,

@@ -92,6 +92,11 @@ const ENTRIES: &[Row] = &[
     ),
     (
         With::Nothing,
+        "package a:b; interface g { resource r; f: func(a: r); } interface h { resource r; f: func(a: r); }",
+        "resource r; func a: own 0 -> -; interface; resource r; func a: own 3 -> -; interface; ",
+    ),
+    (
+        With::Nothing,
         "package a:b; interface g { resource r; type a = r; type b = a; }",
         "resource r; resource a of 0; resource b of 1; interface; ",
     ),

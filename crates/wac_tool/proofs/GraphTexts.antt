@@ -51,9 +51,9 @@ is_memory : (e : Error) → told e ≡ memory → e ≡ errors.Memory alloc_erro
 is_memory (errors.Memory a) h = refl
 is_memory _ h = absurd (cc h)
 
--- The place of an error of resolving is one of the document.
+-- An error of resolving names a rule that the document breaks, and has that error's place and text.
 pub is_error : (document : Document) (e : Error) (answer : RunError) → EveryNaming (λ naming. (told e ≡ memory) ⊎ FirstFailing (alone naming document) document (told e)) → IsRejection e answer → IsErrorOf document answer
-is_error document e (Refused place message) first is = (told e, (λ naming one. ⊎_elim (λ m. absurd (is.1 (is_memory e m))) (λ x. x) (first naming one)), is.0)
+is_error document e (Refused place message) first is = (told e, (λ m. is.1 (is_memory e m)), (λ naming one. ⊎_elim (λ m. absurd (is.1 (is_memory e m))) (λ x. x) (first naming one)), is.0, is.2)
 is_error document e (Memory a) first is = tt
 is_error document e Input first is = absurd is
 is_error document e Output first is = absurd is

@@ -5,3 +5,4 @@ pub mod NoTree
 pub mod NotFormatted
 pub mod GraphTexts
 pub mod InBlocks
+pub mod Faults

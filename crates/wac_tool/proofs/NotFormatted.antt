@@ -15,7 +15,7 @@ formatted source document written utf8 tree same = (utf8, ([], (document, tree, 
 -- Where it isn't, that is reported without a place, and nothing is written.
 pub unformatted : (source : List ℕ) (document : Document) (answer : RunError) (written : List ℕ) → IsUtf8 source → IsTreeOf source document → source ≢ printed source document
     → IsUnformatted answer → Answers Check (Err answer) source written written
-unformatted source document (Refused place message) written utf8 tree other is = (utf8, inr (document, tree, other, is.0), refl)
+unformatted source document (Refused place message) written utf8 tree other is = (utf8, inr (document, tree, other, is.0, is.1), refl)
 unformatted source document (Memory a) written utf8 tree other is = inl refl
 unformatted source document Input written utf8 tree other is = absurd is
 unformatted source document Output written utf8 tree other is = absurd is

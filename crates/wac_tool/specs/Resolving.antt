@@ -1,12 +1,13 @@
 -- What resolving a document alone comes to: with no package given, and by the rules of the program.
-use Rattle.std.specs.Prelude.{◌≡◌, ◌≢◌, ℕ, List, [], Option, None, alloc_error}
+use Rattle.std.specs.Prelude.{◌≡◌, ◌≢◌, ℕ, List, [], Option, None, alloc_error, string_bytes}
 use Rattle.wac_lexer.specs.Span.{Span}
 use Rattle.wac_types.specs.Scope.{Named}
 use Rattle.wac_grammar.specs.Tree.{Document}
 use Rattle.wac_grammar.specs.TextTree.{IsTreeOf}
 use Rattle.wac_graph.specs.Graph.{Parts}
 use Rattle.wac_graph.specs.Origin.{Naming}
-use Rattle.wac_resolution_errors.specs.Error.{Error as Told}
+use Rattle.wac_resolution_errors.specs.Error.{Error as Told, NamesRule}
+use Rattle.wac_resolution_errors.specs.Messages.{text_of}
 use Rattle.wac_resolution_errors.specs.Places.{span_of}
 use Rattle.wac_resolution_errors.specs.Told.{told}
 use Rattle.wac_resolution_errors.specs.declared.error.Error.{Error}
@@ -34,9 +35,9 @@ alone naming document = given_to naming [] same_rules document
 abbrev pub IsGraphText : Document → List ℕ → Type 0
 IsGraphText document out = EveryNaming (λ naming. (c : Composition) × Describes (alone naming document) document c × (out ≡ graph_lines c))
 
--- The document breaks a rule, and its error lies at this place.
-abbrev pub IsRejected : Document → Option Span → Type 0
-IsRejected document place = (e : Told) × EveryNaming (λ naming. FirstFailing (alone naming document) document e) × (place ≡ span_of e)
+-- The document breaks a rule: its error names it, lies at this place, and has this text.
+abbrev pub IsRejected : Document → Option Span → List ℕ → Type 0
+IsRejected document place text = (e : Told) × NamesRule e × EveryNaming (λ naming. FirstFailing (alone naming document) document e) × (place ≡ span_of e) × (text ≡ text_of e)
 
 -- ---- graphs and errors
 
@@ -48,14 +49,14 @@ IsGraphOf document g = (declared : Named ℕ) × EveryNaming (λ naming. Describ
 abbrev pub HasGraph : List ℕ → Parts → Type 0
 HasGraph source g = (document : Document) × IsTreeOf source document × IsGraphOf document g
 
--- what is returned for an error: its place, unless memory ran out
+-- what is returned for an error: its place and its text, unless memory ran out
 abbrev pub IsRejection : Error → RunError → Type 0
-IsRejection e (Refused place message) = (place ≡ span_of (told e)) × (e ≢ errors.Memory alloc_error)
+IsRejection e (Refused place message) = (place ≡ span_of (told e)) × (e ≢ errors.Memory alloc_error) × (string_bytes message ≡ text_of (told e))
 IsRejection e (Memory _) = Unit {0}
 IsRejection e answer = ⊥
 
--- what is returned for a document that can't be resolved: where it breaks a rule, unless memory ran out
+-- what is returned for a document that can't be resolved: where it breaks which rule, unless memory ran out
 abbrev pub IsErrorOf : Document → RunError → Type 0
-IsErrorOf document (Refused place message) = IsRejected document place
+IsErrorOf document (Refused place message) = IsRejected document place (string_bytes message)
 IsErrorOf document (Memory _) = Unit {0}
 IsErrorOf document answer = ⊥

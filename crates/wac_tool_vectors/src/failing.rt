@@ -1,6 +1,6 @@
 //! Readers, writers and memory that fail, and writers that take few bytes a call.
 
-use crate::narrow::Narrow;
+use crate::narrow::{Narrow, Stop};
 use crate::runs::{FIRST, FIRST_PRINTED, SECOND, SECOND_AS_JSON, is_reported, ran};
 use std::alloc::{AllocError, Global};
 use std::process::Abort;
@@ -74,6 +74,21 @@ impl Row<'_> {
         }
     }
 
+    /// Asserts that a writer that stops once it has moved so many bytes is reported, and returns how often it was called.
+    fn calls_of(
+        &self,
+        rt: &impl Abort,
+        alloc: Global,
+        mut writer: Narrow<'_>,
+        room: usize,
+    ) -> usize {
+        match self.written(alloc, &mut writer) {
+            Err(RunError::Output) => writer.holds(rt, room),
+            _ => assert!(rt; false, "at {room}"),
+        }
+        writer.calls()
+    }
+
     /// Asserts that a writer takes all of the text, and in so many calls.
     fn is_taken(&self, rt: &impl Abort, alloc: Global, width: usize, calls: usize) {
         let mut writer = Narrow::new(self.text, width, usize::MAX);
@@ -108,6 +123,28 @@ fn narrow_writers(rt: HostRuntime) {
         ] {
             row.is_taken(&rt, rt.alloc(), width, calls);
             row.fails_at_each(&rt, rt.alloc(), width);
+        }
+    }
+}
+
+/// Asserts for each byte of a row's text that a writer that stops there once isn't called again, though it would go on.
+fn writers_stop_once(rt: &impl Abort, alloc: Global, row: &Row, stop: Stop) {
+    for room in 0..row.text.len() {
+        let narrow = Narrow::new(row.text, 1, room).stopping(stop);
+        let wide = Narrow::new(row.text, usize::MAX, room).stopping(stop);
+        let calls = row.calls_of(rt, alloc, narrow, room);
+        assert!(rt; calls == room + 1, "at {room}, a byte a call");
+        let calls = row.calls_of(rt, alloc, wide, room);
+        assert!(rt; calls == usize::from(room > 0) + 1, "at {room}");
+    }
+}
+
+/// A writer that fails, or takes nothing, at one call alone.
+#[test]
+fn writers_are_not_tried_again(rt: HostRuntime) {
+    for row in ROWS {
+        for stop in [Stop::FailsOnce, Stop::EndsOnce] {
+            writers_stop_once(&rt, rt.alloc(), &row, stop);
         }
     }
 }
@@ -164,6 +201,15 @@ fn long_texts_are_cut_at_each_byte(rt: HostRuntime) -> Result<(), Fail> {
     Ok(())
 }
 
+const COMMANDS: [Command; 6] = [
+    Command::Fmt,
+    Command::Tokens,
+    Command::Json,
+    Command::Resolve,
+    Command::Packages,
+    Command::Check,
+];
+
 /// Asserts that a reader that fails is reported, and that nothing was written.
 fn reading_fails_at(rt: &impl Abort, alloc: Global, command: Command, room: usize) {
     let mut writer = Narrow::new("", usize::MAX, usize::MAX);
@@ -175,17 +221,88 @@ fn reading_fails_at(rt: &impl Abort, alloc: Global, command: Command, room: usiz
 
 #[test]
 fn readers(rt: HostRuntime) {
-    for command in [
-        Command::Fmt,
-        Command::Tokens,
-        Command::Json,
-        Command::Resolve,
-        Command::Packages,
-        Command::Check,
-    ] {
+    for command in COMMANDS {
         for room in 0..FIRST.len() + 1 {
             reading_fails_at(&rt, rt.alloc(), command, room);
         }
+    }
+}
+
+/// Asserts that a reader that fails at one call alone is reported, and isn't called again.
+fn reading_is_not_tried_again(rt: &impl Abort, alloc: Global, command: Command, room: usize) {
+    let mut reader = Narrow::new(FIRST, 1, room).stopping(Stop::FailsOnce);
+    let mut writer = Narrow::new("", usize::MAX, usize::MAX);
+    match ran(alloc, command, &mut reader, &mut writer) {
+        Err(RunError::Input) => assert!(rt; writer.calls() == 0, "of {room}"),
+        _ => assert!(rt; false, "at {room}"),
+    }
+    assert!(rt; reader.moved() == room, "at {room}");
+    assert!(rt; reader.calls() == room + 1, "at {room}");
+}
+
+#[test]
+fn readers_are_not_tried_again(rt: HostRuntime) {
+    for command in COMMANDS {
+        for room in 0..FIRST.len() + 1 {
+            reading_is_not_tried_again(&rt, rt.alloc(), command, room);
+        }
+    }
+}
+
+/// A text whose first line is a document of its own, and another.
+const LINES: &str = "package a:b;\nlet x = y;\n";
+
+/// The bytes of the first.
+const LINE: usize = 13;
+
+/// What the commands write of the first line.
+const OF_A_LINE: [Row<'static>; 5] = [
+    Row {
+        command: Command::Fmt,
+        input: LINES,
+        text: "package a:b;\n\n",
+    },
+    Row {
+        command: Command::Tokens,
+        input: LINES,
+        text: "0+7 `package` keyword\n8+3 package name\n11+1 `;`\n",
+    },
+    Row {
+        command: Command::Json,
+        input: LINES,
+        text: SECOND_AS_JSON,
+    },
+    Row {
+        command: Command::Resolve,
+        input: LINES,
+        text: "",
+    },
+    Row {
+        command: Command::Packages,
+        input: LINES,
+        text: "",
+    },
+];
+
+impl Row<'_> {
+    /// Asserts what is written of a reader that ends behind the first line and would give another, and after how many calls of it.
+    fn ends_with_a_line(&self, rt: &impl Abort, alloc: Global, width: usize, calls: usize) {
+        let mut reader = Narrow::new(self.input, width, LINE).stopping(Stop::EndsOnce);
+        let mut writer = Narrow::new(self.text, usize::MAX, usize::MAX);
+        let result = ran(alloc, self.command, &mut reader, &mut writer);
+        assert!(rt; result.is_ok(), "{width} bytes a call");
+        writer.holds(rt, self.text.len());
+        assert!(rt; reader.moved() == LINE, "{width} bytes a call");
+        assert!(rt; reader.calls() == calls, "{width} bytes a call");
+    }
+}
+
+/// A reader is asked no more once it has told its end, as a terminal asks for it.
+#[test]
+fn readers_end_once(rt: HostRuntime) {
+    for row in OF_A_LINE {
+        row.ends_with_a_line(&rt, rt.alloc(), 1, LINE + 1);
+        row.ends_with_a_line(&rt, rt.alloc(), usize::MAX, 2);
     }
 }
 

@@ -8,6 +8,8 @@ mod deep;
 #[cfg(test)]
 mod failing;
 #[cfg(test)]
+mod formatting;
+#[cfg(test)]
 mod layouts;
 #[cfg(test)]
 mod narrow;

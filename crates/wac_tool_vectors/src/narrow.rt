@@ -6,13 +6,25 @@ use std::io;
 use std::io::{ErrorKind, Read, Write};
 use std::process::Abort;
 
-/// A writer or a reader of a text. It moves at most `width` bytes a call, fails once it has moved `room`, and knows whether
+/// What a device does at a call once it has moved the bytes that it has room for.
+#[derive(Clone, Copy)]
+pub enum Stop {
+    /// It fails, at each call.
+    Fails,
+    /// It fails, and would go on at the next call.
+    FailsOnce,
+    /// It moves nothing, and would go on at the next call.
+    EndsOnce,
+}
+
+/// A writer or a reader of a text. It moves at most `width` bytes a call, stops once it has moved `room`, and knows whether
 /// what was written is the text.
 #[derive(Drop)]
 pub struct Narrow<'a> {
     text: &'a [u8],
     width: usize,
     room: usize,
+    stop: Stop,
     moved: usize,
     calls: usize,
     is_text: bool,
@@ -24,20 +36,34 @@ impl<'a> Narrow<'a> {
             text: text.as_bytes(),
             width,
             room,
+            stop: Stop::Fails,
             moved: 0,
             calls: 0,
             is_text: true,
         }
     }
 
+    /// The same, which stops otherwise.
+    pub fn stopping(self, stop: Stop) -> Self {
+        Narrow { stop, ..self }
+    }
+
     /// How many of so many bytes a call moves, if it does not fail.
-    fn step(&self, wanted: usize) -> io::Result<usize>
+    fn step(&mut self, wanted: usize) -> io::Result<usize>
         ensures { IfOk result (λ n. n ≤ wanted) }
     {
-        if self.moved >= self.room {
-            return Err(io::Error::from(ErrorKind::BrokenPipe));
+        if self.moved < self.room {
+            return Ok(wanted.min(self.width).min(self.room - self.moved));
         }
-        Ok(wanted.min(self.width).min(self.room - self.moved))
+        match self.stop {
+            Stop::Fails => {}
+            Stop::FailsOnce => self.room = usize::MAX,
+            Stop::EndsOnce => {
+                self.room = usize::MAX;
+                return Ok(0);
+            }
+        }
+        Err(io::Error::from(ErrorKind::BrokenPipe))
     }
 
     /// What the text has after the bytes that were moved.

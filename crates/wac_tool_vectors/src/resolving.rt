@@ -3,50 +3,75 @@
 use crate::runs::{says, writes};
 use std::test::Fail;
 
+/// A document, its graph as lines, and what it is printed as.
+pub const GRAPHS: [(&str, &str, &str); 10] = [
+    ("package a:b;", "", "package a:b;\n\n"),
+    (
+        "package a:b; type t = u32;",
+        "0 definition: value type [t]\nexport t = 0\n",
+        "package a:b;\n\ntype t = u32;\n",
+    ),
+    (
+        "package a:b; import x: interface { f: func(); }; export x.f;",
+        "0 import x: instance [x]\n1 alias 0 f: function\nexport f = 1\n",
+        "package a:b;\n\nimport x: interface {\n    f: func();\n};\n\nexport x.f;\n",
+    ),
+    (
+        "package a:b;\n\nimport x: interface {\n    f: func();\n};\n\nexport x.f;\n",
+        "0 import x: instance [x]\n1 alias 0 f: function\nexport f = 1\n",
+        "package a:b;\n\nimport x: interface {\n    f: func();\n};\n\nexport x.f;\n",
+    ),
+    (
+        "package a:b; import x: interface { f: func(); }; export x.f as g; export x.f as h;",
+        "0 import x: instance [x]\n1 alias 0 f: function\nexport g = 1\nexport h = 1\n",
+        "package a:b;\n\nimport x: interface {\n    f: func();\n};\n\nexport x.f as g;\n\nexport x.f as h;\n",
+    ),
+    (
+        "package a:b; import g: func(); let x = g; let y = (x); export y as \"a name\";",
+        "0 import g: function [g]\nexport a name = 0\n",
+        "package a:b;\n\nimport g: func();\n\nlet x = g;\n\nlet y = (x);\n\nexport y as \"a name\";\n",
+    ),
+    (
+        "package a:b; interface i { } world w { } type f = func(); import j: i; import k: j; import g: f; import v as \"any\": w;",
+        "0 definition: interface [i]\n1 definition: world [w]\n2 definition: function type [f]\n3 import j: instance [j]\n4 import a:b/i: instance [k]\n5 import g: function [g]\n6 import any: component [v]\nexport i = 0\nexport w = 1\nexport f = 2\n",
+        "package a:b;\n\ninterface i {\n}\n\nworld w {\n}\n\ntype f = func();\n\nimport j: i;\n\nimport k: j;\n\nimport g: f;\n\nimport v as \"any\": w;\n",
+    ),
+    (
+        "package a:b; import x: interface { f: func(); g: func(); }; let h = x.f; export h as \"f\"; export x...;",
+        "0 import x: instance [x]\n1 alias 0 f: function [h]\n2 alias 0 g: function\nexport f = 1\nexport g = 2\n",
+        "package a:b;\n\nimport x: interface {\n    f: func();\n\n    g: func();\n};\n\nlet h = x.f;\n\nexport h as \"f\";\n\nexport x...;\n",
+    ),
+    (
+        "package a:b; import x: interface { f: func() -> (a: u32, b: string,); }; export x.f;",
+        "0 import x: instance [x]\n1 alias 0 f: function\nexport f = 1\n",
+        "package a:b;\n\nimport x: interface {\n    f: func() -> (a: u32, b: string);\n};\n\nexport x.f;\n",
+    ),
+    (
+        "package a:b targets a:b/w; interface i { f: func(x: u8); } world w { import i; export f: func(x: u8); } import x: a:b/i; export x.f;",
+        "0 definition: interface [i]\n1 definition: world [w]\n2 import a:b/i: instance [x]\n3 alias 2 f: function\nexport i = 0\nexport w = 1\nexport f = 3\n",
+        "package a:b targets a:b/w;\n\ninterface i {\n    f: func(x: u8);\n}\n\nworld w {\n    import i;\n\n    export f: func(x: u8);\n}\n\nimport x: a:b/i;\n\nexport x.f;\n",
+    ),
+];
+
 #[test]
 fn graphs_are_written(rt: HostRuntime) -> Result<(), Fail> {
-    for (input, text) in [
-        ("package a:b;", ""),
-        (
-            "package a:b; type t = u32;",
-            "0 definition: value type [t]\nexport t = 0\n",
-        ),
-        (
-            "package a:b; import x: interface { f: func(); }; export x.f;",
-            "0 import x: instance [x]\n1 alias 0 f: function\nexport f = 1\n",
-        ),
-        (
-            "package a:b;\n\nimport x: interface {\n    f: func();\n};\n\nexport x.f;\n",
-            "0 import x: instance [x]\n1 alias 0 f: function\nexport f = 1\n",
-        ),
-        (
-            "package a:b; import x: interface { f: func(); }; export x.f as g; export x.f as h;",
-            "0 import x: instance [x]\n1 alias 0 f: function\nexport g = 1\nexport h = 1\n",
-        ),
-        (
-            "package a:b; import g: func(); let x = g; let y = (x); export y as \"a name\";",
-            "0 import g: function [g]\nexport a name = 0\n",
-        ),
-        (
-            "package a:b; interface i { } world w { } type f = func(); import j: i; import k: j; import g: f; import v as \"any\": w;",
-            "0 definition: interface [i]\n1 definition: world [w]\n2 definition: function type [f]\n3 import j: instance [j]\n4 import a:b/i: instance [k]\n5 import g: function [g]\n6 import any: component [v]\nexport i = 0\nexport w = 1\nexport f = 2\n",
-        ),
-        (
-            "package a:b; import x: interface { f: func(); g: func(); }; let h = x.f; export h as \"f\"; export x...;",
-            "0 import x: instance [x]\n1 alias 0 f: function [h]\n2 alias 0 g: function\nexport f = 1\nexport g = 2\n",
-        ),
-        (
-            "package a:b; import x: interface { f: func() -> (a: u32, b: string,); }; export x.f;",
-            "0 import x: instance [x]\n1 alias 0 f: function\nexport f = 1\n",
-        ),
-        (
-            "package a:b targets a:b/w; interface i { f: func(x: u8); } world w { import i; export f: func(x: u8); } import x: a:b/i; export x.f;",
-            "0 definition: interface [i]\n1 definition: world [w]\n2 import a:b/i: instance [x]\n3 alias 2 f: function\nexport i = 0\nexport w = 1\nexport f = 3\n",
-        ),
-    ] {
-        writes(&rt, rt.alloc(), "resolve", input, text)?;
+    for (input, graph, printed) in GRAPHS {
+        writes(&rt, rt.alloc(), "resolve", input, graph)?;
+        writes(&rt, rt.alloc(), "fmt", input, printed)?;
     }
     Ok(())
+}
+
+/// A document whose package is not supplied, since the program supplies none.
+pub const UNKNOWN: &str = "package a:b; let x = new c:d {};";
+
+pub const UNKNOWN_PRINTED: &str = "package a:b;\n\nlet x = new c:d {};\n";
+
+#[test]
+fn no_package_is_known(rt: HostRuntime) -> Result<(), Fail> {
+    let line = "error at 25+3: unknown package `c:d`\n";
+    says(&rt, rt.alloc(), "resolve", UNKNOWN.as_bytes(), line, 1)?;
+    writes(&rt, rt.alloc(), "fmt", UNKNOWN, UNKNOWN_PRINTED)
 }
 
 #[test]

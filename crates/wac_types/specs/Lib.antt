@@ -7,6 +7,7 @@ pub mod Meaning
 pub mod Table
 pub mod Readings
 pub mod Package
+pub mod Messages
 pub mod Tests
 pub mod Growth
 pub mod Rules

@@ -2,7 +2,7 @@
 ghost use Rattle.std.specs.Prelude.{option_map, string_bytes, ◌≡◌, ◌≢◌, ℕ, ◌<◌, length, IsTrue, ◌↔◌, IfSome};
 ghost use Rattle.wac_types.specs.Label.{label, defined_label};
 ghost use Rattle.wac_types.specs.Meaning.{IsEarlier, IsOneToOne, IsResource, NamesBefore, meaning, meaning_at, of_child};
-ghost use Rattle.wac_types.specs.Pairs.{AreAlike};
+ghost use Rattle.wac_types.specs.Pairs.{AreAlike, Holds};
 
 use crate::entry::{DefinedType, Entry};
 use crate::kind::ItemKind;
@@ -51,7 +51,7 @@ fn same_label(first: &Entry, second: &Entry) -> bool
     }
 }
 
-/// Whether two kinds that stand in entries mean the same. What is found to is added to `found`.
+/// Whether two kinds in entries mean the same. Pairs that do are added to `found`.
 #[cycle(same)]
 fn same_kind(entries: &[Entry], found: &mut Pairs, a: Option<ItemKind>, b: Option<ItemKind>) -> bool
     requires earlier { IsEarlier entries.now }
@@ -77,6 +77,8 @@ fn same_kind(entries: &[Entry], found: &mut Pairs, a: Option<ItemKind>, b: Optio
     }
 }
 
+/// Whether two entries mean the same. A pair that is in `found` isn't compared again, and one that is compared with
+/// success is added, so that types that name others twice aren't gone through twice.
 #[cycle(same)]
 fn same_at(entries: &[Entry], found: &mut Pairs, i: usize, j: usize) -> bool
     requires earlier { IsEarlier entries.now }
@@ -85,6 +87,8 @@ fn same_at(entries: &[Entry], found: &mut Pairs, i: usize, j: usize) -> bool
     requires found { AreAlike entries.now found.old }
     ensures same { (origins : ℕ → ℕ) → IsOneToOne entries.now origins → (IsTrue result ↔ (meaning_at origins entries.now i ≡ meaning_at origins entries.now j)) }
     ensures found { AreAlike entries.now found.new }
+    ensures added { IsTrue result → (i ≡ j → ⊥) → Holds found.new i j }
+    ensures known { Holds found.old i j → found.new ≡ found.old }
 {
     // Types that name others twice, which do so themselves, would else be gone through twice as often at each level.
     if i == j {

@@ -17,6 +17,7 @@ mod child;
 mod entry;
 mod equal;
 mod kind;
+mod laws;
 pub mod names;
 mod package;
 mod pairs;

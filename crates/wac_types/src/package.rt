@@ -17,30 +17,47 @@ use crate::kind::{InterfaceId, ItemKind, Type, WorldId};
 use crate::types::{Types, interface_at, world_at};
 use indexmap::IndexMap;
 use std::alloc::AllocError;
+use std::fmt;
 use std::marker::Model;
 
 /// Why there is no such package. The faults stand in the order in which they are looked for.
-#[derive(Debug, Drop, thiserror::Error)]
+#[derive(Debug, Drop)]
 pub enum PackageError {
     /// An id is past the table's entries.
-    #[error("id out of range")]
     OutOfRange,
     /// An id names an entry of another sort.
-    #[error("id of another sort")]
     OtherSort,
     /// An id inside an entry isn't below that entry's number.
-    #[error("id is not earlier")]
     NotEarlier,
     /// A definition, import or export is an interface as a type, and that interface has no id.
-    #[error("interface type without an id")]
     NoInterfaceId,
     /// The instance and the world export other names or meanings, or in another order.
-    #[error("instance exports differ from the exports of the world")]
     InstanceExports,
     /// Memory ran out while the package's parts were made. [`Package::new`] takes none and never returns it.
-    #[error("out of memory")]
     Memory(AllocError),
 }
+
+impl fmt::Display for PackageError {
+    ghost use Rattle.std.specs.Prelude.{Some};
+    ghost use Rattle.wac_types.specs.Messages.{text_of};
+
+    ghost output = { λ e. Some (text_of e) };
+
+    fn fmt<W: fmt::Write>(&self, f: &mut fmt::Formatter<W>) -> fmt::Result {
+        match self {
+            PackageError::OutOfRange => f.write_str("id out of range"),
+            PackageError::OtherSort => f.write_str("id of another sort"),
+            PackageError::NotEarlier => f.write_str("id is not earlier"),
+            PackageError::NoInterfaceId => f.write_str("interface type without an id"),
+            PackageError::InstanceExports => {
+                f.write_str("instance exports differ from the exports of the world")
+            }
+            PackageError::Memory(_) => f.write_str("out of memory"),
+        }
+    }
+}
+
+impl std::error::Error for PackageError {}
 
 impl From<AllocError> for PackageError {
     ghost use Rattle.std.specs.Prelude.{◌≡◌};

@@ -1,8 +1,8 @@
 //! Pairs of entries that mean the same, so that few are compared again.
-ghost use Rattle.std.specs.Prelude.{◌<◌, IsTrue, List};
+ghost use Rattle.std.specs.Prelude.{◌≡◌, ◌+◌, ◌<◌, ◌↔◌, ℕ, IsTrue, List};
 ghost use Rattle.wac_types.specs.declared.entry.Entry.{Entry};
 ghost use Rattle.wac_types.specs.Meaning.{Alike};
-ghost use Rattle.wac_types.specs.Pairs.{AreAlike};
+ghost use Rattle.wac_types.specs.Pairs.{AreAlike, Holds, slot_of};
 
 use std::marker::Model;
 
@@ -23,9 +23,9 @@ impl Model for Pairs {
     ghost view = { λ p. p.slots };
 }
 
-/// The slot of a pair. Pairs of types that follow one another have different slots.
+/// The slot of a pair.
 fn slot(i: usize, j: usize) -> usize
-    ensures { result < 512 }
+    ensures { result ≡ slot_of i j }
 {
     i.wrapping_mul(2).wrapping_add(j) % ROOM
 }
@@ -33,7 +33,8 @@ fn slot(i: usize, j: usize) -> usize
 impl Pairs {
     /// No pair but that of the first entry and itself.
     pub fn new() -> Self
-        ensures { (es : List Entry) → AreAlike es result }
+        ensures alike { (es : List Entry) → AreAlike es result }
+        ensures empty { (i j : ℕ) → Holds result i j → (i ≡ 0) × (j ≡ 0) }
     {
         Pairs {
             slots: [(0, 0); ROOM],
@@ -42,7 +43,8 @@ impl Pairs {
 
     /// Whether a pair is there.
     pub fn has(&self, i: usize, j: usize) -> bool
-        ensures { (es : List Entry) → AreAlike es self.now → IsTrue result → Alike es i j }
+        ensures alike { (es : List Entry) → AreAlike es self.now → IsTrue result → Alike es i j }
+        ensures there { IsTrue result ↔ Holds self.now i j }
     {
         match self.slots.get(slot(i, j)) {
             Some((a, b)) => *a == i && *b == j,
@@ -50,10 +52,17 @@ impl Pairs {
         }
     }
 
-    /// Adds a pair.
+    /// Adds a pair. Of the others it takes away the one in its slot alone.
     pub fn add(&mut self, i: usize, j: usize)
-        ensures { (es : List Entry) → AreAlike es self.old → Alike es i j → AreAlike es self.new }
+        ensures alike { (es : List Entry) → AreAlike es self.old → Alike es i j → AreAlike es self.new }
+        ensures there { Holds self.new i j }
+        ensures others { (a b : ℕ) → (slot_of a b ≡ slot_of i j → ⊥) → (Holds self.new a b ↔ Holds self.old a b) }
     {
         self.slots[slot(i, j)] = (i, j);
     }
 }
+
+/// Pairs of types that follow one another have slots of their own, as far as there are slots.
+pub(crate) fn following_pairs_are_kept()
+    ensures { (i j k : ℕ) → k < 512 → slot_of (i + k) (j + k) ≡ slot_of i j → k ≡ 0 }
+{}

@@ -84,8 +84,8 @@ impl Front<'_> {
         }
     }
 
-    /// Whether the end of the text is reported with a span: that of the last item, or the empty one at the end.
-    fn ends(&self, span: SourceSpan) -> bool {
+    /// Whether the end of the text is reported with a span, as an alternative or a list reports it: the span of the last item.
+    fn ends_after_item(&self, span: SourceSpan) -> bool {
         let last = match self.around(span) {
             None => return false,
             Some(
@@ -96,8 +96,14 @@ impl Front<'_> {
             ) => last,
             Some(_) => SourceSpan::new(0, 0),
         };
+        span == self.reported(last)
+    }
+
+    /// Whether the end of the text is reported with a span where one token is expected: the span of the last item, or the
+    /// empty one at the end, as in a sequence.
+    fn ends(&self, span: SourceSpan) -> bool {
         let empty = SourceSpan::new(self.text.len(), 0);
-        span == self.reported(last) || span == self.reported(empty)
+        self.ends_after_item(span) || self.rejected().is_none() && span == self.reported(empty)
     }
 
     /// Whether an item that may be wrong has this span.
@@ -116,11 +122,19 @@ impl Front<'_> {
         }
     }
 
-    /// Whether this token is found there, or the end.
+    /// Whether this token is found there, or the end, where one token is expected.
     fn finds(&self, found: Option<Token>, span: SourceSpan) -> bool {
         match found {
             Some(token) => self.has(Ok(token), span),
             None => self.ends(span),
+        }
+    }
+
+    /// Whether this token is found there, or the end, where one of several tokens is expected.
+    fn finds_none_of(&self, found: Option<Token>, span: SourceSpan) -> bool {
+        match found {
+            Some(token) => self.has(Ok(token), span),
+            None => self.ends_after_item(span),
         }
     }
 
@@ -176,7 +190,7 @@ impl Front<'_> {
                     || *expected == Token::Ident && self.ends_in_string(*found, *span)
             }
             Error::ExpectedEither { found, span, .. }
-            | Error::ExpectedMultiple { found, span, .. } => self.finds(*found, *span),
+            | Error::ExpectedMultiple { found, span, .. } => self.finds_none_of(*found, *span),
             Error::EmptyType { ty, kind, span } => contains(ty, kind) && self.closes(*span),
             Error::InvalidVersion { version, span } => {
                 self.ends_package(*span) && self.reads(version, *span)

@@ -7,7 +7,7 @@ use std::test::Fail;
 use wac_parser::format;
 
 /// The printed text of a document.
-fn printed(rt: &impl Abort, alloc: Global, source: &str, space: Option<&str>) -> String {
+pub(crate) fn printed(rt: &impl Abort, alloc: Global, source: &str, space: Option<&str>) -> String {
     match format(alloc, source, space) {
         Ok(text) => text,
         Err(_) => panic!(rt; "{source} is refused"),
@@ -15,7 +15,7 @@ fn printed(rt: &impl Abort, alloc: Global, source: &str, space: Option<&str>) ->
 }
 
 /// Texts, and what each is formatted to.
-pub(crate) const FORMATTED: [(&str, &str); 12] = [
+pub(crate) const FORMATTED: [(&str, &str); 13] = [
     ("package a:b;", "package a:b;\n\n"),
     (
         "package a:b targets c:d/e;",
@@ -31,6 +31,10 @@ pub(crate) const FORMATTED: [(&str, &str); 12] = [
     ),
     (
         "/// a\n/// \n/// b\npackage a:b;\n\n",
+        "/// a\n/// b\npackage a:b;\n\n",
+    ),
+    (
+        "/// a\n/// b\npackage a:b;\n\n",
         "/// a\n/// b\npackage a:b;\n\n",
     ),
     (

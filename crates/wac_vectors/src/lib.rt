@@ -1,4 +1,4 @@
-//! Tests of `wac_parser`: texts that are documents, rejected or cut, their layout, writers and memory that fail, and mentions of packages.
+//! Tests of `wac_parser`: texts that are documents, rejected, cut or long, their layout, writers and memory that fail, and mentions of packages.
 #![tactic(auto)]
 
 #[cfg(test)]
@@ -13,5 +13,7 @@ mod packages;
 mod refusals;
 #[cfg(test)]
 mod rows;
+#[cfg(test)]
+mod sizes;
 #[cfg(test)]
 mod writers;

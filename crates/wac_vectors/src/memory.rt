@@ -31,7 +31,7 @@ fn statements(page: Page<'_, '_>) -> usize {
 }
 
 /// How many statements the document of a text has.
-fn counted(alloc: Global, source: &str) -> ParseResult<usize> {
+pub(crate) fn counted(alloc: Global, source: &str) -> ParseResult<usize> {
     let document = Document::parse(alloc, source)?;
     let page = Page {
         document: &document,

@@ -1,6 +1,6 @@
 //! Texts that are no documents: what each is rejected for, and where.
 
-use std::alloc::Global;
+use std::alloc::{AllocError, Global};
 use std::process::Abort;
 use std::test::Fail;
 use wac_examples::first_error;
@@ -10,7 +10,13 @@ use wac_parser::Error;
 pub(crate) type Row = (&'static str, &'static str, usize, usize);
 
 /// Texts that are rejected at a token.
-pub(crate) const AT_TOKENS: [Row; 17] = [
+pub(crate) const AT_TOKENS: [Row; 18] = [
+    (
+        "package a:b; let x y;",
+        "expected `=`, found identifier",
+        19,
+        1,
+    ),
     (
         "package a:b; record r { x:u32 }",
         "expected `}` or identifier, found package name",
@@ -116,7 +122,14 @@ pub(crate) const AT_TOKENS: [Row; 17] = [
 ];
 
 /// Texts that are rejected at their end.
-const AT_THE_END: [Row; 5] = [
+const AT_THE_END: [Row; 7] = [
+    ("", "expected `package` keyword, found end of input", 0, 1),
+    (
+        "package a:b; let x = y",
+        "expected `;`, found end of input",
+        21,
+        1,
+    ),
     (
         "package a:b; record r { x: u32",
         "expected `}` or identifier, found end of input",
@@ -289,4 +302,11 @@ fn refusals_are_told(rt: HostRuntime) -> Result<(), Fail> {
     are_refused(&rt, rt.alloc(), &EMPTY)?;
     are_refused(&rt, rt.alloc(), &VERSIONS)?;
     are_refused(&rt, rt.alloc(), &FAULTS)
+}
+
+#[test]
+fn want_of_memory_is_described(rt: HostRuntime) -> Result<(), Fail> {
+    let text = Error::Memory(AllocError).to_string(rt.alloc())?;
+    assert!(rt; text.as_str() == "out of memory", "{text}");
+    Ok(())
 }

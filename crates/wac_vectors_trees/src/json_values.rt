@@ -56,6 +56,21 @@ fn lists_and_options(rt: &impl Abort, alloc: Global) -> Result<(), Fail> {
     has_json(rt, alloc, &None::<&str>, "null")
 }
 
+/// How many items a long list has.
+const MANY: usize = 300;
+
+/// Asserts the JSON of a list of many items.
+fn long_lists(rt: &impl Abort, alloc: Global) -> Result<(), Fail> {
+    let mut truths = [true].to_vec(alloc)?;
+    let mut text = std::string::String::from_str(alloc, "[true")?;
+    for _ in 1..MANY {
+        truths.push(true)?;
+        text.push_str(",true")?;
+    }
+    text.push_str("]")?;
+    has_json(rt, alloc, &truths, text.as_str())
+}
+
 #[test]
 fn values_as_json(rt: HostRuntime) -> Result<(), Fail> {
     let alloc = rt.alloc();
@@ -73,5 +88,6 @@ fn values_as_json(rt: HostRuntime) -> Result<(), Fail> {
         &version,
         r#""0.0.18446744073709551615-rc.1+build.7""#,
     )?;
-    lists_and_options(&rt, alloc)
+    lists_and_options(&rt, alloc)?;
+    long_lists(&rt, alloc)
 }

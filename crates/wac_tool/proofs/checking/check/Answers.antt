@@ -9,7 +9,7 @@ use Rattle.wac_tool.proofs.checking.check.Goals as goal
 
 pub returns-in-Err-clause-answers : goal.returns-in-Err-clause-answers
 returns-in-Err-clause-answers c =
-    λ written. refuses Check c.args.source.now (λ place h. inl h) c.in-Err.error c.refusal.result written c.requires c.in-Err.ensures.only c.in-Err.ensures.error c.refusal.ensures
+    λ written. refuses Check c.args.source.now (λ place text h. inl h) c.in-Err.error c.refusal.result written c.requires c.in-Err.ensures.only c.in-Err.ensures.error c.refusal.ensures
 
 pub returns-then-eq-clause-answers : goal.returns-then-eq-clause-answers
 returns-then-eq-clause-answers c =

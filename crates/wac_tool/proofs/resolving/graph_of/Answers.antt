@@ -11,4 +11,4 @@ pub returns-in-Ok-clause-err : goal.returns-in-Ok-clause-err
 returns-in-Ok-clause-err c = rejects_document c.args.source.now c.in-Ok.document c.new.result c.resolved.result c.in-Ok.ensures.found c.new.ensures c.resolved.ensures.err
 
 pub returns-in-Err-clause-err : goal.returns-in-Err-clause-err
-returns-in-Err-clause-err c = rejects Resolve c.args.source.now (λ place h. inl h) c.in-Err.error c.refusal.result c.in-Err.ensures.only c.in-Err.ensures.error c.refusal.ensures
+returns-in-Err-clause-err c = rejects Resolve c.args.source.now (λ place text h. inl h) c.in-Err.error c.refusal.result c.in-Err.ensures.only c.in-Err.ensures.error c.refusal.ensures

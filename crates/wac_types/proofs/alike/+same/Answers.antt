@@ -48,4 +48,4 @@ pub same_at-returns-clause-same : goal.same_at-returns-clause-same
 same_at-returns-clause-same t c = λ o one. shown (same_node o _ _ _ _ _ c.requires.earlier c.requires.first c.index-entries-i.is c.requires.second c.index-entries-j.is ((c.if-not-same_label.ensures (o c.args.i) (o c.args.j) (λ r s e. c.if-i-j.false (one c.args.i c.args.j _ _ (stands c.args.entries.now c.args.i c.index-entries-i.result c.requires.first c.index-entries-i.is) (stands c.args.entries.now c.args.j c.index-entries-j.result c.requires.second c.index-entries-j.is) r s e))).0 refl) (rest_decides_end (meaning_at o c.args.entries.now) _ _ c.loop-at.at (omega arith) (omega arith) (c.loop-at.invariant.1 o one)))
 
 pub same_at-returns-clause-found : goal.same_at-returns-clause-found
-same_at-returns-clause-found t c = c.add.ensures c.args.entries.now c.loop-at.invariant.0 (λ o one. same_node o _ _ _ _ _ c.requires.earlier c.requires.first c.index-entries-i.is c.requires.second c.index-entries-j.is ((c.if-not-same_label.ensures (o c.args.i) (o c.args.j) (λ r s e. c.if-i-j.false (one c.args.i c.args.j _ _ (stands c.args.entries.now c.args.i c.index-entries-i.result c.requires.first c.index-entries-i.is) (stands c.args.entries.now c.args.j c.index-entries-j.result c.requires.second c.index-entries-j.is) r s e))).0 refl) (rest_decides_end (meaning_at o c.args.entries.now) _ _ c.loop-at.at (omega arith) (omega arith) (c.loop-at.invariant.1 o one)))
+same_at-returns-clause-found t c = c.add.ensures.alike c.args.entries.now c.loop-at.invariant.0 (λ o one. same_node o _ _ _ _ _ c.requires.earlier c.requires.first c.index-entries-i.is c.requires.second c.index-entries-j.is ((c.if-not-same_label.ensures (o c.args.i) (o c.args.j) (λ r s e. c.if-i-j.false (one c.args.i c.args.j _ _ (stands c.args.entries.now c.args.i c.index-entries-i.result c.requires.first c.index-entries-i.is) (stands c.args.entries.now c.args.j c.index-entries-j.result c.requires.second c.index-entries-j.is) r s e))).0 refl) (rest_decides_end (meaning_at o c.args.entries.now) _ _ c.loop-at.at (omega arith) (omega arith) (c.loop-at.invariant.1 o one)))

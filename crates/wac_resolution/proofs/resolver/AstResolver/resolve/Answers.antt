@@ -2,13 +2,12 @@ use Rattle.std.proofs.Common.{◌∙◌, inl}
 use Rattle.std.proofs.lemmas.Result.{IfOk-weaker, err_from_is_err_and}
 use Rattle.wac_ast.specs.Statements.{document_of}
 use Rattle.wac_parser_packages.specs.Noted.{mentions_in}
-use Rattle.wac_resolution_paths.specs.Expands.{HoldsHanded}
 use Rattle.wac_resolution_rules.specs.Given.{rules_by}
 use Rattle.wac_resolution_rules.specs.Mentions.{mentions}
 use Rattle.wac_resolution_state.proofs.Scopes.{memory_told}
-use Rattle.wac_resolution.specs.Resolved.{HoldsMentioned, by_key}
+use Rattle.wac_resolution.specs.Resolved.{HoldsMentioned, HoldsSupplied}
 use Rattle.wac_resolution.proofs.Alike.{error_is_right, result_is_right}
-use Rattle.wac_resolution.proofs.Kept.{holds_mentioned, kept_for, promised_first, promised_graph, promised_only}
+use Rattle.wac_resolution.proofs.Kept.{holds_mentioned, holds_supplied, kept_for, promised_first, promised_graph, promised_only}
 use Rattle.wac_resolution.proofs.resolver.AstResolver.resolve.Goals as goal
 
 pub returns-in_err-mentioned-clause-only : goal.returns-in_err-mentioned-clause-only
@@ -28,8 +27,13 @@ returns-in_err-mentioned-clause-layout g c =
 
 pub returns-clause-held : goal.returns-clause-held
 returns-clause-held g c =
-    IfOk-weaker c.resolve_with.result (λ r. HoldsHanded (by_key c.keep_mentioned-kept.result.entries) r.graph) (λ r. HoldsMentioned (mentions (document_of c.args.self)) r.graph)
-    (λ r handed. holds_mentioned (document_of c.args.self) c.args.packages.entries c.keep_mentioned-kept.result.entries r.graph (kept_for c.new.result c.args.self c.args.packages.entries c.keep_mentioned-kept.result.entries (mentions_in c.in_ok-mentioned.mentioned.entries) (c.new.ensures ∙ c.self.view_is) c.in_ok-mentioned.ensures.first c.in_ok-mentioned.ensures.matter c.keep_mentioned-kept.ensures) handed) c.resolve_with.ensures.handed
+    IfOk-weaker c.resolve_with.result (λ r. HoldsSupplied c.keep_mentioned-kept.result.entries r.graph) (λ r. HoldsMentioned (mentions (document_of c.args.self)) r.graph)
+    (λ r handed. holds_mentioned (document_of c.args.self) c.args.packages.entries c.keep_mentioned-kept.result.entries r.graph (kept_for c.new.result c.args.self c.args.packages.entries c.keep_mentioned-kept.result.entries (mentions_in c.in_ok-mentioned.mentioned.entries) (c.new.ensures ∙ c.self.view_is) c.in_ok-mentioned.ensures.first c.in_ok-mentioned.ensures.matter c.keep_mentioned-kept.ensures) handed) c.resolve_with.ensures.supplied
+
+pub returns-clause-supplied : goal.returns-clause-supplied
+returns-clause-supplied g c =
+    IfOk-weaker c.resolve_with.result (λ r. HoldsSupplied c.keep_mentioned-kept.result.entries r.graph) (λ r. HoldsSupplied c.args.packages.entries r.graph)
+    (λ r handed. holds_supplied (document_of c.args.self) c.args.packages.entries c.keep_mentioned-kept.result.entries r.graph (kept_for c.new.result c.args.self c.args.packages.entries c.keep_mentioned-kept.result.entries (mentions_in c.in_ok-mentioned.mentioned.entries) (c.new.ensures ∙ c.self.view_is) c.in_ok-mentioned.ensures.first c.in_ok-mentioned.ensures.matter c.keep_mentioned-kept.ensures) handed) c.resolve_with.ensures.supplied
 
 pub returns-clause-graph : goal.returns-clause-graph
 returns-clause-graph g c =

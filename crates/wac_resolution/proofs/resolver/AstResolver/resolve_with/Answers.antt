@@ -29,8 +29,8 @@ returns-clause-graph g c =
     (lent_described c.setting-setting.result (rules_by (g.R.Rules.passes c.args.rules.now) (g.R.Rules.named c.args.rules.now)) c.args.packages.entries c.self.inside.document.now c.args.self c.deref.result.now c.in_ok-graph.graph
     (record { same = c.self.view_is; own = c.setting-setting.ensures.own; version = c.setting-setting.ensures.version; packages_are = c.setting-setting.ensures.packages; statements_are = c.deref.ensures.value }) c.in_ok-graph.ensures.ok)
 
-pub returns-clause-handed : goal.returns-clause-handed
-returns-clause-handed g c =
+pub returns-clause-supplied : goal.returns-clause-supplied
+returns-clause-supplied g c =
     subst (λ (p : Parts). HoldsHanded (by_key c.args.packages.entries) p) (sym c.new.ensures.graph)
     (lent_handed c.setting-setting.result (rules_by (g.R.Rules.passes c.args.rules.now) (g.R.Rules.named c.args.rules.now)) c.args.packages.entries c.self.inside.document.now c.args.self c.deref.result.now c.in_ok-graph.graph
     (record { same = c.self.view_is; own = c.setting-setting.ensures.own; version = c.setting-setting.ensures.version; packages_are = c.setting-setting.ensures.packages; statements_are = c.deref.ensures.value }) c.in_ok-graph.ensures.ok)

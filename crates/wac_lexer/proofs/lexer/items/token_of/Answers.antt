@@ -2,7 +2,7 @@ use Rattle.std.proofs.Common.{sym, ◌∙◌, ap, Some, refl}
 use Rattle.wac_lexer.proofs.Texts.{word_found, word_not_found, symbol_found, symbol_is_found, other_not_found}
 use Rattle.wac_lexer.proofs.Fronts.{token_fixed, token_plain}
 use Rattle.wac_lexer.specs.declared.shape.Shape.TheVariants.{Word, Name, Path, Quoted}
-use Rattle.wac_lexer.proofs.items.token_of.Goals as goal
+use Rattle.wac_lexer.proofs.lexer.items.token_of.Goals as goal
 
 pub returns-in-Some : goal.returns-in-Some
 returns-in-Some c = token_fixed c.args.text.now c.in-Some.token (word_found c.args.text.now c.in-Some.token (sym c.keyword.ensures ∙ c.in-Some.is))

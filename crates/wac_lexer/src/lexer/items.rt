@@ -1,13 +1,9 @@
 // Finds the items of a source.
-ghost use Rattle.std.specs.Prelude.{◌≡◌, ◌+◌, ◌<◌, ◌≤◌, ◌^◌, length, drop, Some, IfSome, MatchOption, []};
+ghost use Rattle.std.specs.Prelude.{◌≡◌, ◌+◌, ◌<◌, length, drop, Some};
 ghost use Rattle.std.specs.Str.{IsCharBoundary};
 ghost use Rattle.wac_lexer.specs.Comments.{gap};
-ghost use Rattle.wac_lexer.specs.Docs.{docs_at};
-ghost use Rattle.wac_lexer.specs.Item.{handed, behind_first, OnFirst};
-ghost use Rattle.wac_lexer.specs.Items.{first_item, items_from, first_char_len};
-ghost use Rattle.wac_lexer.specs.Reading.{Slices, slice};
+ghost use Rattle.wac_lexer.specs.Items.{first_char_len};
 ghost use Rattle.wac_lexer.specs.Shapes.{shape_of};
-ghost use Rattle.wac_lexer.specs.Span.{end_of};
 ghost use Rattle.wac_lexer.specs.Tokens.{token_of};
 
 use crate::automaton::longest_front;
@@ -19,7 +15,7 @@ use crate::symbols::symbol;
 use crate::token::Token;
 use crate::words::keyword;
 
-pub(crate) type Item = (Result<Token, Error>, SourceSpan);
+pub(super) type Item = (Result<Token, Error>, SourceSpan);
 
 /// The token that a text of this shape is.
 fn token_of(shape: Shape, text: &str) -> Token
@@ -53,35 +49,6 @@ fn first_char_len(text: &str) -> usize
     }
 }
 
-/// What begins a text, and how many bytes it takes.
-fn first_item(text: &str) -> Option<(Result<Token, Error>, usize)>
-    ensures item { result ≡ first_item text.now }
-    ensures within { IfSome result (λ found. IsCharBoundary text.now found.1) }
-    ensures some { IfSome result (λ found. 0 < found.1) }
-{
-    if text.is_empty() {
-        return None;
-    }
-    let bytes = text.as_bytes();
-    if opens(bytes) {
-        return Some((Err(Error::UnterminatedComment), bytes.len()));
-    }
-    match longest_front(bytes) {
-        Some((len, shape)) => {
-            let (front, _) = text.split_at(len);
-            let token = token_of(shape, front);
-            Some((Ok(token), len))
-        }
-        None => {
-            if bytes[0] == b'"' {
-                Some((Err(Error::UnterminatedString), 1))
-            } else {
-                Some((Err(Error::UnexpectedToken), first_char_len(text)))
-            }
-        }
-    }
-}
-
 /// Where the first item after a place begins.
 fn start_of(source: &str, place: usize) -> usize
     requires { IsCharBoundary source.now place }
@@ -92,40 +59,24 @@ fn start_of(source: &str, place: usize) -> usize
     place + gap(rest.as_bytes())
 }
 
-/// The first item after a place: the token or fault, and its span.
-fn item_at(source: &str, place: usize) -> Option<Item>
-    requires { IsCharBoundary source.now place }
-    ensures item { result ≡ handed (items_from source.now place) }
-    ensures rest { MatchOption result (items_from source.now place ≡ []) (λ item. items_from source.now (end_of item.1) ≡ behind_first (items_from source.now place)) }
-    ensures slices { IfSome result (λ item. Slices source.now item.1) }
-    ensures moves { IfSome result (λ item. place < end_of item.1) }
-    ensures fits { IfSome result (λ item. end_of item.1 < 2 ^ 64) }
-    ensures text { OnFirst (items_from source.now place) (λ item. item.text ≡ slice source.now item.span) }
-    ensures docs { OnFirst (items_from source.now place) (λ item. item.docs ≡ docs_at source.now place) }
-{
-    let start = start_of(source, place);
-    let (found, len) = first_item(&source[start..])?;
-    Some((found, SourceSpan::new(start, len)))
-}
-
 /// A source, and how many scans of it there were.
 ///
-/// A scan is one search for the item at a place. Items are found here alone, so each scan is counted.
+/// A scan is one search for the item at a place. Only [`first_item`](Scanner::first_item) finds one, and it counts itself.
 #[derive(Clone, Drop)]
-pub(crate) struct Scanner<'a> {
-    pub(crate) source: &'a str,
+pub(super) struct Scanner<'a> {
+    pub(super) source: &'a str,
     scans: usize,
 }
 
 impl<'a> Scanner<'a> {
     ghost use Rattle.std.specs.Prelude.{◌≡◌, ◌+◌, ◌<◌, ◌^◌, IfSome, MatchOption};
     ghost use Rattle.std.specs.Str.{IsCharBoundary};
-    ghost use Rattle.wac_lexer.specs.Items.{items_from};
+    ghost use Rattle.wac_lexer.specs.Items.{first_item, items_from};
     ghost use Rattle.wac_lexer.specs.Reading.{Slices, IsFound, IsAhead, items_behind};
     ghost use Rattle.wac_lexer.specs.Span.{end_of};
 
     /// A source that was not scanned yet.
-    pub(crate) fn new(source: &'a str) -> Scanner<'a>
+    pub(super) fn new(source: &'a str) -> Scanner<'a>
         ensures source { result.source ≡ source.entry }
         ensures scans { result.scans ≡ 0 }
     {
@@ -133,13 +84,46 @@ impl<'a> Scanner<'a> {
     }
 
     /// How many scans there were.
-    pub(crate) fn scans(&self) -> usize
+    pub(super) fn scans(&self) -> usize
         ensures { result ≡ self.now.scans }
     {
         self.scans
     }
 
-    /// Finds the first item after a place, or that there is none. Either is a scan.
+    /// Finds what begins a text, and how many bytes it takes. This is a scan.
+    fn first_item(&mut self, text: &str) -> Option<(Result<Token, Error>, usize)>
+        requires { self.old.scans + 1 < 2 ^ 64 }
+        ensures item { result ≡ first_item text.now }
+        ensures within { IfSome result (λ found. IsCharBoundary text.now found.1) }
+        ensures some { IfSome result (λ found. 0 < found.1) }
+        ensures source { self.new.source ≡ self.old.source }
+        ensures scans { self.new.scans ≡ self.old.scans + 1 }
+    {
+        self.scans += 1;
+        if text.is_empty() {
+            return None;
+        }
+        let bytes = text.as_bytes();
+        if opens(bytes) {
+            return Some((Err(Error::UnterminatedComment), bytes.len()));
+        }
+        match longest_front(bytes) {
+            Some((len, shape)) => {
+                let (front, _) = text.split_at(len);
+                let token = token_of(shape, front);
+                Some((Ok(token), len))
+            }
+            None => {
+                if bytes[0] == b'"' {
+                    Some((Err(Error::UnterminatedString), 1))
+                } else {
+                    Some((Err(Error::UnexpectedToken), first_char_len(text)))
+                }
+            }
+        }
+    }
+
+    /// Finds the first item after a place, or that there is none. Either is one scan.
     fn scan(&mut self, place: usize) -> Option<Item>
         requires boundary { IsCharBoundary self.old.source.now place }
         requires counts { self.old.scans + 1 < 2 ^ 64 }
@@ -147,12 +131,14 @@ impl<'a> Scanner<'a> {
         ensures source { self.new.source ≡ self.old.source }
         ensures scans { self.new.scans ≡ self.old.scans + 1 }
     {
-        self.scans += 1;
-        item_at(self.source, place)
+        let source = self.source;
+        let start = start_of(source, place);
+        let (found, len) = self.first_item(&source[start..])?;
+        Some((found, SourceSpan::new(start, len)))
     }
 
     /// Finds the item after another. Where there is no other the end was found before, and this is no scan.
-    pub(crate) fn scan_behind(&mut self, item: Option<Item>) -> Option<Item>
+    pub(super) fn scan_behind(&mut self, item: Option<Item>) -> Option<Item>
         requires slices { IfSome item (λ x. Slices self.old.source.now x.1) }
         requires fits { IfSome item (λ x. end_of x.1 < 2 ^ 64) }
         requires counts { self.old.scans + 1 < 2 ^ 64 }
@@ -165,7 +151,7 @@ impl<'a> Scanner<'a> {
     }
 
     /// Finds the first two items of a source that was not scanned yet.
-    pub(crate) fn scan_two(&mut self) -> (Option<Item>, Option<Item>)
+    pub(super) fn scan_two(&mut self) -> (Option<Item>, Option<Item>)
         requires boundary { IsCharBoundary self.old.source.now 0 }
         requires unused { self.old.scans ≡ 0 }
         ensures ahead { IsAhead self.old.source.now 0 result.0 result.1 self.new.scans }

@@ -9,8 +9,8 @@ use Rattle.wac_lexer.specs.declared.shape.Shape.{Shape}
 use Rattle.wac_lexer.proofs.Fronts.{Fronts, fronts, front_boundary, first_item_is, fault_quote, fault_other, boundary_after_ascii}
 use Rattle.wac_lexer.specs.Items.{first_item, fault_of}
 use Rattle.wac_lexer.proofs.Boundaries.{ne_zero}
-use Rattle.wac_lexer.proofs.items.first_item.Goals as goal
-use Rattle.wac_lexer.proofs.items.first_item.Goals.{After-longest_front}
+use Rattle.wac_lexer.proofs.lexer.items.Scanner.first_item.Goals as goal
+use Rattle.wac_lexer.proofs.lexer.items.Scanner.first_item.Goals.{After-longest_front}
 
 -- what the walk found
 fronts_at : (c : After-longest_front) (found : Option (ℕ × Shape)) → c.longest_front.result ≡ found → Fronts c.args.text.now (length c.args.text.now) found (longest_token c.args.text.now (length c.args.text.now))

@@ -2,7 +2,7 @@ use Rattle.std.proofs.Common.{◌≡◌, ◌+◌, length, drop, sym, ap, ◌∙�
 use Rattle.std.specs.Str.{IsCharBoundary}
 use Rattle.wac_lexer.specs.Comments.{gap}
 use Rattle.wac_lexer.proofs.Boundaries.{gap_boundary}
-use Rattle.wac_lexer.proofs.items.start_of.Goals as goal
+use Rattle.wac_lexer.proofs.lexer.items.start_of.Goals as goal
 
 pub returns-clause-within : goal.returns-clause-within
 returns-clause-within c =

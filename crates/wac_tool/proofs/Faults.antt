@@ -1,0 +1,18 @@
+-- What is returned for a source with a character that no text may have.
+use Rattle.std.proofs.Common.{◌≡◌, ℕ, List, Some, Err, inl, refl}
+use Rattle.std.specs.Prelude.{IsUtf8}
+use Rattle.wac_lexer.specs.Span.{Span}
+use Rattle.wac_lexer.specs.Characters.{refused}
+use Rattle.wac_lexer.specs.declared.error.Error.{Error as Fault}
+use Rattle.wac_tool.specs.Running.{Answers, IsFaultRefusal}
+use Rattle.wac_tool.specs.declared.command.Command.TheVariants.{Tokens}
+use Rattle.wac_tool.specs.declared.error.RunError.{RunError}
+use Rattle.wac_tool.specs.declared.error.RunError.TheVariants.{Refused, Input, Output, Memory, NotUtf8}
+
+-- Its items are not listed, and nothing was written.
+pub not_listed : (source : List ℕ) (fault : Fault) (span : Span) (answer : RunError) (old : List ℕ) → IsUtf8 source → refused source ≡ Some (fault, span) → IsFaultRefusal fault span answer → Answers Tokens (Err answer) source old old
+not_listed source fault span (Refused place message) old utf8 has is = (utf8, (fault, span, has, is.0, is.1), refl)
+not_listed source fault span (Memory a) old utf8 has is = inl refl
+not_listed source fault span Input old utf8 has is = absurd is
+not_listed source fault span Output old utf8 has is = absurd is
+not_listed source fault span NotUtf8 old utf8 has is = absurd is
