@@ -1,7 +1,7 @@
 // One gap: how each of its comments, and the token behind them, follows what stands before it.
 use crate::brackets::Brackets;
 use crate::pieces::Piece;
-use crate::places::{Place, Plan};
+use crate::places::Place;
 use std::alloc::{AllocError, Global};
 
 /// How a comment or a token follows what stands before it.
@@ -20,26 +20,22 @@ pub(crate) enum Joint {
 /// A gap with comments, and what stands around it.
 #[derive(Clone, Copy)]
 pub(crate) struct Seam<'a> {
-    pub(crate) place: &'a Place<'a>,
+    pub(crate) place: Place<'a>,
     /// The comments, and the token behind them.
     pub(crate) pieces: &'a [Piece<'a>],
     pub(crate) brackets: Brackets,
 }
 
 impl<'a> Seam<'a> {
-    /// The gap at a place of a plan over pieces.
-    pub(crate) fn new(
-        plan: &'a Plan<'a>,
-        place: &'a Place<'a>,
-        pieces: &'a [Piece<'a>],
-    ) -> Seam<'a> {
+    /// The gap at a place of pieces.
+    pub(crate) fn new(brackets: Brackets, place: Place<'a>, pieces: &'a [Piece<'a>]) -> Seam<'a> {
         let end = place.last.saturating_add(1).min(pieces.len());
         let (front, _) = pieces.split_at(end);
-        let (_, within) = front.split_at(place.first.min(end));
+        let (_, pieces) = front.split_at(place.first.min(end));
         Seam {
             place,
-            pieces: within,
-            brackets: plan.brackets(place),
+            pieces,
+            brackets,
         }
     }
 
@@ -95,7 +91,7 @@ impl<'a> Seam<'a> {
             Some(piece) => piece.breaks > 0,
             None => false,
         };
-        breaks || self.has_docs() && (self.is_doc(index) || index > 0 && self.is_doc(index - 1))
+        breaks || self.has_doc(index) || index > 0 && self.has_doc(index - 1)
     }
 
     fn is_doc(&self, index: usize) -> bool {
@@ -120,29 +116,33 @@ impl<'a> Seam<'a> {
 
     /// Marks the comments that go on with a line comment at the end of a line: those directly below it in the same column.
     fn go_below(&self, joints: &mut [Joint]) {
-        let mut earlier: Option<Piece<'_>> = None;
-        for (piece, joint) in self.pieces.iter().zip(joints.iter_mut()) {
-            if let Some(before) = earlier {
-                if *joint == Joint::Line {
-                    if !self.goes_on(&before, piece) {
-                        return;
-                    }
-                    *joint = Joint::Below;
+        for (index, joint) in joints.iter_mut().enumerate() {
+            if *joint == Joint::Line {
+                if index == 0 || !self.goes_on(index - 1, index) {
+                    return;
                 }
-            } else if *joint == Joint::Line {
-                return;
+                *joint = Joint::Below;
             }
-            earlier = Some(*piece);
         }
     }
 
-    /// Whether a piece is a line comment that goes on with the one before it.
-    fn goes_on(&self, before: &Piece<'_>, piece: &Piece<'_>) -> bool {
-        piece.breaks <= 1
-            && before.column == piece.column
-            && before.is_line()
-            && piece.is_line()
-            && !(self.has_docs() && piece.is_doc())
+    /// Whether the piece at an index is a line comment that goes on with the one at an index before it.
+    fn goes_on(&self, before: usize, index: usize) -> bool {
+        match (self.pieces.get(before), self.pieces.get(index)) {
+            (Some(before), Some(piece)) => {
+                piece.breaks <= 1
+                    && before.column == piece.column
+                    && before.is_line()
+                    && piece.is_line()
+                    && !self.has_doc(index)
+            }
+            _ => false,
+        }
+    }
+
+    /// Whether the parser reads the comment at an index as a doc.
+    fn has_doc(&self, index: usize) -> bool {
+        self.has_docs() && self.is_doc(index)
     }
 
     /// Puts an empty line before the pieces that one comes before.

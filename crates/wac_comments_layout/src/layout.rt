@@ -9,9 +9,9 @@ use std::alloc::{AllocError, Global};
 
 /// Lays out the pieces of a text as they are printed: its lines end where those of the printed text end, whose pieces
 /// are given too, and where comments ask for it.
-pub fn lay_out(
+pub fn lay_out<'a>(
     alloc: Global,
-    pieces: &[Piece<'_>],
+    pieces: &'a [Piece<'a>],
     printed: &[Piece<'_>],
     style: Style<'_>,
 ) -> Result<String, AllocError> {
@@ -20,7 +20,8 @@ pub fn lay_out(
     let mut writer = Writer::new(alloc, style);
     for index in 0..plan.places.len() {
         if let Some(place) = plan.places.get(index).copied() {
-            write_place(alloc, &mut writer, &plan, &place, pieces)?;
+            write_gap(alloc, &mut writer, &plan, place, pieces)?;
+            writer.write(place.after)?;
             if opens(place.after) {
                 set_depth(&mut plan, index.saturating_add(1), writer.depth());
             }
@@ -42,22 +43,20 @@ fn set_depth(plan: &mut Plan<'_>, index: usize, depth: usize) {
     }
 }
 
-/// Writes a gap, and the token behind it.
-fn write_place(
+/// Writes a gap.
+fn write_gap<'a>(
     alloc: Global,
     writer: &mut Writer<'_>,
     plan: &Plan<'_>,
-    place: &Place<'_>,
-    pieces: &[Piece<'_>],
+    place: Place<'a>,
+    pieces: &'a [Piece<'a>],
 ) -> Result<(), AllocError> {
-    if place.has_comments() {
-        let seam = Seam::new(plan, place, pieces);
-        let joints = seam.joints(alloc)?;
-        write_comments(writer, plan, &seam, joints.as_slice())?;
-    } else {
-        write_separator(writer, plan, place)?;
+    if !place.has_comments() {
+        return write_separator(writer, plan, &place);
     }
-    writer.write(place.after)
+    let seam = Seam::new(plan.brackets(&place), place, pieces);
+    let joints = seam.joints(alloc)?;
+    write_comments(writer, plan, &seam, joints.as_slice())
 }
 
 /// Writes a gap without comments.
@@ -181,9 +180,9 @@ fn begin(
         return Ok(());
     }
     let depth = if last_line == Some(index) {
-        token_depth(plan, seam.place)
+        token_depth(plan, &seam.place)
     } else {
-        comment_depth(plan, seam.place)
+        comment_depth(plan, &seam.place)
     };
     writer.begin_line(depth, line_ends)
 }

@@ -1,5 +1,7 @@
 // Blanks and comments, one after another.
-ghost use Rattle.std.specs.Prelude.{true, ◌≡◌, ◌≤◌, ◌<◌, ◌-◌, ◌+◌, Some, None, length, drop, MatchOption};
+ghost use Rattle.std.specs.Prelude.{true, reverse, ◌≡◌, ◌≤◌, ◌<◌, ◌-◌, ◌+◌, Some, None, length, drop, MatchOption};
+ghost use Rattle.std.specs.List.{prefix_len};
+ghost use Rattle.wac_comments_layout.specs.Comments.{kept_len};
 ghost use Rattle.wac_lexer.specs.Ascii.{slash};
 ghost use Rattle.wac_lexer.specs.Comments.{behind, opens, closes, begins, line_len, block_len, part_len, is_blank};
 
@@ -92,18 +94,26 @@ pub(crate) fn part_len(bytes: &[u8]) -> usize
     }
 }
 
-/// How many bytes of a comment are kept: a line comment loses the spaces, tabs and CRs at its end.
-pub(crate) fn kept_len(bytes: &[u8]) -> usize
-    ensures { result ≤ length bytes.now }
+/// How many blanks stand at the end.
+fn blanks_at_end(bytes: &[u8]) -> usize
+    ensures count { result ≡ prefix_len is_blank (reverse bytes.now) }
+    ensures within { result ≤ length bytes.now }
 {
-    if !is_line_comment(bytes) {
-        return bytes.len();
+    bytes
+        .iter()
+        .rev()
+        .take_while(|byte| is_blank(**byte))
+        .count()
+}
+
+/// How many bytes of a comment are kept: a line comment loses the blanks at its end.
+pub(crate) fn kept_len(bytes: &[u8]) -> usize
+    ensures len { result ≡ kept_len bytes.now }
+    ensures within { result ≤ length bytes.now }
+{
+    if is_line_comment(bytes) {
+        bytes.len() - blanks_at_end(bytes)
+    } else {
+        bytes.len()
     }
-    let mut kept = 0;
-    for (index, byte) in bytes.iter().enumerate() {
-        if !is_blank(*byte) {
-            kept = index + 1;
-        }
-    }
-    kept
 }

@@ -29,7 +29,7 @@ pub struct Piece<'a> {
     pub column: usize,
 }
 
-impl<'a> Piece<'a> {
+impl Piece<'_> {
     /// Whether the piece is a comment. No token begins with `//` or `/*`.
     pub fn is_comment(&self) -> bool {
         let bytes = self.text.as_bytes();

@@ -82,6 +82,25 @@ fn added(tokens: &[&str], at: usize, around: Brackets) -> Option<&'static str> {
     }
 }
 
+/// Adds a piece with a text, after so many line ends, which lies where another one does.
+fn push<'a>(
+    pieces: &mut Vec<Piece<'a>>,
+    text: &'a str,
+    place: &Piece<'_>,
+    breaks: usize,
+) -> Result<(), AllocError> {
+    let piece = Piece {
+        text,
+        span: place.span,
+        breaks,
+        column: place.column,
+    };
+    if pieces.push(piece).is_err() {
+        return Err(AllocError);
+    }
+    Ok(())
+}
+
 /// Collects the pieces of a text as they are printed.
 #[derive(Drop)]
 struct Printing<'a> {
@@ -105,54 +124,42 @@ impl<'a> Printing<'a> {
         }
     }
 
+    /// The pieces up to the last token that was printed.
+    fn into_pieces(self) -> Vec<Piece<'a>> {
+        let Printing { pieces, .. } = self;
+        pieces
+    }
+
     /// A comment, which waits for the next token that is printed.
-    fn comment(&mut self, comment: Piece<'a>) -> Result<(), AllocError> {
+    fn comment(&mut self, comment: &Piece<'a>) -> Result<(), AllocError> {
         let breaks = comment.breaks.saturating_add(self.breaks);
         self.breaks = 0;
-        match self.waiting.push(Piece { breaks, ..comment }) {
-            Ok(()) => Ok(()),
-            Err(_) => Err(AllocError),
-        }
+        push(&mut self.waiting, comment.text, comment, breaks)
     }
 
     /// The token of a piece.
-    fn token(&mut self, tokens: &[&str], at: usize, piece: Piece<'a>) -> Result<(), AllocError> {
+    fn token(&mut self, tokens: &[&str], at: usize, piece: &Piece<'a>) -> Result<(), AllocError> {
         let around = self.around();
         if let Some(text) = added(tokens, at, around) {
-            self.add(Piece {
-                text,
-                breaks: 0,
-                ..piece
-            })?;
+            push(&mut self.pieces, text, piece, 0)?;
         }
         if goes(tokens, at, around) {
             self.breaks = self.breaks.saturating_add(piece.breaks);
+        } else if ends_resource(tokens, at) {
+            self.print("}", piece)?;
         } else {
-            self.print(piece, ends_resource(tokens, at))?;
+            self.print(piece.text, piece)?;
         }
         self.pass(tokens, at)
     }
 
-    /// Adds a token directly behind the last one.
-    fn add(&mut self, piece: Piece<'a>) -> Result<(), AllocError> {
-        match self.pieces.push(piece) {
-            Ok(()) => Ok(()),
-            Err(_) => Err(AllocError),
-        }
-    }
-
-    /// Prints a token, behind the comments that wait for it. The semicolon of a resource becomes a brace.
-    fn print(&mut self, piece: Piece<'a>, is_resource: bool) -> Result<(), AllocError> {
+    /// Prints the token of a piece, behind the comments that wait for it.
+    fn print(&mut self, text: &'a str, piece: &Piece<'_>) -> Result<(), AllocError> {
         self.pieces.extend_from_slice(self.waiting.as_slice())?;
         self.waiting.clear();
         let breaks = piece.breaks.saturating_add(self.breaks);
         self.breaks = 0;
-        let text = if is_resource { "}" } else { piece.text };
-        self.add(Piece {
-            text,
-            breaks,
-            ..piece
-        })
+        push(&mut self.pieces, text, piece, breaks)
     }
 
     /// What stands in the innermost brackets. A text is a body.
@@ -203,12 +210,11 @@ pub fn printed<'a>(alloc: Global, pieces: &[Piece<'a>]) -> Result<Vec<Piece<'a>>
     let mut at = 0usize;
     for piece in pieces {
         if piece.is_comment() {
-            printing.comment(*piece)?;
+            printing.comment(piece)?;
         } else {
-            printing.token(tokens.as_slice(), at, *piece)?;
+            printing.token(tokens.as_slice(), at, piece)?;
             at = at.saturating_add(1);
         }
     }
-    let Printing { pieces, .. } = printing;
-    Ok(pieces)
+    Ok(printing.into_pieces())
 }
