@@ -1,0 +1,188 @@
+// The layout of a text with its comments.
+use crate::brackets::{closes, opens};
+use crate::joints::{Joint, Seam};
+use crate::pieces::Piece;
+use crate::places::{Place, Plan};
+use crate::separators::separators;
+use crate::writer::{Style, Writer};
+use std::alloc::{AllocError, Global};
+
+/// Lays out the pieces of a text as they are printed: its lines end where those of the printed text end, whose pieces
+/// are given too, and where comments ask for it.
+pub fn lay_out<'a>(
+    alloc: Global,
+    pieces: &'a [Piece<'a>],
+    printed: &[Piece<'_>],
+    style: Style<'_>,
+) -> Result<String, AllocError> {
+    let separators = separators(alloc, printed)?;
+    let mut plan = Plan::new(alloc, pieces, separators.as_slice())?;
+    let mut writer = Writer::new(alloc, style);
+    for index in 0..plan.places.len() {
+        if let Some(place) = plan.places.get(index).copied() {
+            write_gap(alloc, &mut writer, &plan, place, pieces)?;
+            writer.write(place.after)?;
+            if opens(place.after) {
+                set_depth(&mut plan, index.saturating_add(1), writer.depth());
+            }
+        }
+    }
+    Ok(writer.into_text())
+}
+
+/// Keeps how deep the line is on which the brackets around a place open.
+fn set_depth(plan: &mut Plan<'_>, index: usize, depth: usize) {
+    let group = match plan.places.get(index) {
+        Some(place) => place.group,
+        None => None,
+    };
+    if let Some(group) = group {
+        if let Some(group) = plan.groups.get_mut(group) {
+            group.depth = depth;
+        }
+    }
+}
+
+/// Writes a gap.
+fn write_gap<'a>(
+    alloc: Global,
+    writer: &mut Writer<'_>,
+    plan: &Plan<'_>,
+    place: Place<'a>,
+    pieces: &'a [Piece<'a>],
+) -> Result<(), AllocError> {
+    if !place.has_comments() {
+        return write_separator(writer, plan, &place);
+    }
+    let seam = Seam::new(plan.brackets(&place), place, pieces);
+    let joints = seam.joints(alloc)?;
+    write_comments(writer, plan, &seam, joints.as_slice())
+}
+
+/// Writes a gap without comments.
+fn write_separator(
+    writer: &mut Writer<'_>,
+    plan: &Plan<'_>,
+    place: &Place<'_>,
+) -> Result<(), AllocError> {
+    if place.at_end() {
+        writer.end_lines(1)
+    } else if !place.is_break() {
+        writer.blanks(place.separator.blanks)
+    } else if place.at_start() {
+        Ok(())
+    } else {
+        writer.begin_line(token_depth(plan, place), place.separator.lines)
+    }
+}
+
+/// How deep what is in the brackets around a place is.
+fn inner_depth(plan: &Plan<'_>, place: &Place<'_>) -> usize {
+    match plan.group(place.group) {
+        Some(group) => group.depth.saturating_add(1),
+        None => 0,
+    }
+}
+
+/// How deep a line is that begins with a comment.
+fn comment_depth(plan: &Plan<'_>, place: &Place<'_>) -> usize {
+    let inner = inner_depth(plan, place);
+    if place.is_break() {
+        inner
+    } else {
+        inner.saturating_add(1)
+    }
+}
+
+/// How deep a line is that begins with the token behind the gap.
+fn token_depth(plan: &Plan<'_>, place: &Place<'_>) -> usize {
+    let inner = inner_depth(plan, place);
+    if place.is_break() {
+        if closes(place.after) {
+            inner.saturating_sub(1)
+        } else {
+            inner
+        }
+    } else if place.after == "{" || place.after == "," || place.after == ";" {
+        inner
+    } else {
+        inner.saturating_add(1)
+    }
+}
+
+/// Writes the comments of a gap.
+fn write_comments(
+    writer: &mut Writer<'_>,
+    plan: &Plan<'_>,
+    seam: &Seam<'_>,
+    joints: &[Joint],
+) -> Result<(), AllocError> {
+    let last_line = last_line(joints);
+    let mut column = 0;
+    for (index, (piece, joint)) in seam.pieces.iter().zip(joints.iter()).enumerate() {
+        match *joint {
+            Joint::Joined => {
+                if !hugs(seam, index, last_line.is_none()) {
+                    writer.write(" ")?;
+                }
+            }
+            Joint::Below => writer.begin_below(column)?,
+            Joint::Line => begin(writer, plan, seam, (index, 1, last_line))?,
+            Joint::Paragraph => begin(writer, plan, seam, (index, 2, last_line))?,
+        }
+        column = writer.column();
+        if piece.is_comment() {
+            writer.write(piece.text)?;
+        }
+    }
+    Ok(())
+}
+
+/// The last piece that begins a line.
+fn last_line(joints: &[Joint]) -> Option<usize> {
+    let mut last = None;
+    for (index, joint) in joints.iter().enumerate() {
+        if *joint != Joint::Joined {
+            last = Some(index);
+        }
+    }
+    last
+}
+
+/// Whether no blank comes before the piece at an index, which stands in a line.
+fn hugs(seam: &Seam<'_>, index: usize, is_inline: bool) -> bool {
+    let before = seam.place.before;
+    let after = seam.place.after;
+    let is_token = index.saturating_add(1) == seam.pieces.len();
+    if is_token && (closes_line(after) || after == "," || after == ";" || after == ":") {
+        return true;
+    }
+    index == 0 && is_inline && (before == "(" || before == "[" || before == "<")
+}
+
+/// Whether no comment has a blank before this bracket.
+fn closes_line(token: &str) -> bool {
+    token == ")" || token == "]" || token == ">"
+}
+
+/// Begins the line of the piece at an index, after so many line ends. The line is as deep as the token where that follows on it.
+fn begin(
+    writer: &mut Writer<'_>,
+    plan: &Plan<'_>,
+    seam: &Seam<'_>,
+    (index, line_ends, last_line): (usize, usize, Option<usize>),
+) -> Result<(), AllocError> {
+    let is_token = index.saturating_add(1) == seam.pieces.len();
+    if is_token && seam.place.at_end() {
+        return writer.end_lines(1);
+    }
+    if index == 0 && seam.place.at_start() {
+        return Ok(());
+    }
+    let depth = if last_line == Some(index) {
+        token_depth(plan, &seam.place)
+    } else {
+        comment_depth(plan, &seam.place)
+    };
+    writer.begin_line(depth, line_ends)
+}

@@ -1,0 +1,22 @@
+//! Part of `wac_comments`: the pieces of a text, what printing changes about its tokens, and the layout that keeps comments.
+#![tactic(auto)]
+
+mod brackets;
+mod columns;
+mod joints;
+mod layout;
+mod nesting;
+mod parts;
+mod pieces;
+mod places;
+mod printing;
+mod separators;
+mod without_comments;
+mod writer;
+
+pub use layout::lay_out;
+pub use nesting::too_deep;
+pub use pieces::{Piece, ReadError, read};
+pub use printing::printed;
+pub use without_comments::plain;
+pub use writer::Style;

@@ -1,0 +1,7 @@
+//! Tests of `wac_comments`: documents, and what they are tidied to.
+#![tactic(auto)]
+
+#[cfg(test)]
+mod rows;
+#[cfg(test)]
+mod tidied;
