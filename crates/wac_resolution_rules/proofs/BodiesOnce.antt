@@ -1,4 +1,4 @@
--- What paths name, what items of a body declare, and what is included, is one thing.
+-- What paths name, what items of a body declare, and what is included, is unique.
 use Rattle.std.proofs.Common.{◌≡◌, ℕ, List, [], ◌∷◌, ◌++◌, Bool, true, false, refl, sym, ◌∙◌, ap, subst}
 use Rattle.wac_types.specs.declared.kind.ExternKind.{ExternKind}
 use Rattle.wac_types.specs.Kind.{func}

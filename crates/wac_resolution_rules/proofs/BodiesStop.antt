@@ -1,4 +1,4 @@
--- A path or an item of a body that breaks a rule leads nowhere.
+-- A path or an item of a body that breaks a rule resolves to nothing.
 use Rattle.std.proofs.Common.{◌≡◌, ◌⊎◌, inl, inr, ℕ, List, [], ◌∷◌, Some, None, Bool, true, false, sym, ◌∙◌, ap, subst}
 use Rattle.std.specs.Prelude.{option_map}
 use Rattle.wac_lexer.specs.Span.{Span}

@@ -28,7 +28,7 @@ use Rattle.wac_resolution_rules.proofs.TypesMention.{along, same, agree_prefix, 
 
 -- ---- lists
 
--- what a list mentions its items before one mention, and this one
+-- a list mentions what its items before one mention, and what that one mentions
 pub agree_split : {X : Type 0} (ms : X → List Mention) (ps qs : Packages) (before : List X) (x : X) (after : List X) → Agree ps qs (flat_map ms (before ++ x ∷ after)) → Agree ps qs (flat_map ms before) × Agree ps qs (ms x)
 agree_split ms ps qs [] x after h = (tt, (agree_prefix ps qs (ms x) (flat_map ms after) h).0)
 agree_split ms ps qs (y ∷ before) x after h =

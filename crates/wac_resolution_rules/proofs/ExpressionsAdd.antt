@@ -1,4 +1,4 @@
--- An expression only appends nodes, and stands for a bound node, an alias or a new node.
+-- An expression only appends nodes, and denotes a bound node, an alias or a new node.
 use Rattle.std.proofs.Common.{◌≡◌, ℕ, List, [], ◌∷◌, ◌++◌, refl, sym, ◌∙◌, ap, subst, Option, Some, None, Bool, true, false, cond, is_some, append_assoc, append-nil}
 use Rattle.std.specs.List.{fold}
 use Rattle.wac_types.specs.Meaning.{Meaning}

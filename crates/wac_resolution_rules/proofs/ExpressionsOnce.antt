@@ -1,4 +1,4 @@
--- An expression stands for one node, and a statement leads to one composition.
+-- An expression denotes one node, and a statement yields one composition.
 use Rattle.std.proofs.Common.{◌≡◌, ℕ, sym, ◌∙◌, ap, subst, Some}
 use Rattle.wac_types.specs.Meaning.{Meaning}
 use Rattle.wac_types.specs.Scope.{Named, look_up, StandsFor}

@@ -1,4 +1,4 @@
--- An expression that breaks a rule stands for nothing.
+-- An expression that breaks a rule denotes nothing.
 use Rattle.std.proofs.Common.{◌≡◌, ◌≢◌, ℕ, List, ◌∙◌, ap, subst, Some, None, Bool, false, IsTrue, inl, inr}
 use Rattle.std.specs.List.{AllByRecursion}
 use Rattle.wac_lexer.specs.Span.{Span}

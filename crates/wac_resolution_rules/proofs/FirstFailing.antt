@@ -37,7 +37,7 @@ target_has_none s doc e c f p =
     let met = subst (λ (t : Option PackagePath). MeetsTarget s c t) f.has_target p.1 in
     f.stops (subst (λ (m : Composition). MeetsPath s m f.target) same met)
 
--- a document of which a statement or the target fails describes nothing
+-- a document in which a statement or the target fails describes nothing
 pub first_has_none : (s : Given) (doc : Document) (e : Error) (c : Composition) → FirstFailing s doc e → Describes s doc c → ⊥
 first_has_none s doc e c (rule, inl f) p = statement_has_none s doc e c f p
 first_has_none s doc e c (rule, inr f) p = target_has_none s doc e c f p

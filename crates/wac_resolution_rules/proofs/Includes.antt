@@ -12,7 +12,7 @@ use Rattle.wac_resolution_rules.specs.Bodies.{Body}
 use Rattle.wac_resolution_rules.specs.Includes.{Entries, has_colon, Taking, with_missing, name_taken, TakesNamed, Takes, Included, HasInclude}
 use Rattle.wac_resolution_rules.proofs.StepLaws.{steps_keep, steps_prefix}
 
--- what is found is found with one more
+-- what is found is still found with one more name
 pub found_stays : {X : Type 0} (name : List ℕ) (all : Named X) (x : List ℕ) (v w : X) → StandsFor all name w → StandsFor (with_named all x v) name w
 found_stays name [] x v w h = absurd (cc)
 found_stays name (y ∷ all) x v w h = go (found_stays name all x v w) (bytes_eq name y.0) h
@@ -21,7 +21,7 @@ found_stays name (y ∷ all) x v w h = go (found_stays name all x v w) (bytes_eq
     go later true f = f
     go later false f = later f
 
--- a fresh name stands for what is added under it
+-- a fresh name denotes what is added under it
 pub added_stands : {X : Type 0} (name : List ℕ) (all : Named X) (v : X) → IsFresh name all → StandsFor (with_named all name v) name v
 added_stands name [] v h = ap (λ (b : Bool). cond b (Some v) None) (bytes_eq_same name)
 added_stands name (y ∷ all) v h = go (added_stands name all v) (bytes_eq name y.0) h
@@ -44,7 +44,7 @@ missing_stands there name m = go (look_up name there) refl
     go None e = (m, added_stands name there m e)
     go (Some old) e = (old, e)
 
--- what stands there goes on to stand there
+-- what a name denotes it still denotes afterwards
 pub takes_keeps : (name : List ℕ) (w : Meaning) (old : Taking) (x : List ℕ × Meaning) (new : Taking) → StandsFor old.there name w → Takes old x new → StandsFor new.there name w
 takes_keeps name w old x new h p = go (has_colon x.0) p
   where
@@ -52,7 +52,7 @@ takes_keeps name w old x new h p = go (has_colon x.0) p
     go true q = subst (λ (t : Taking). StandsFor t.there name w) (sym q) (missing_stays old.there name x.0 x.1 w h)
     go false q = subst (λ (t : Taking). StandsFor t.there name w) (sym q.1) (found_stays name old.there (name_taken old.entries x.0) x.1 w h)
 
--- a name with a colon is there afterwards
+-- a name with a colon exists afterwards
 pub colon_stands : (old : Taking) (x : List ℕ × Meaning) (new : Taking) → has_colon x.0 ≡ true → Takes old x new → (w : Meaning) × StandsFor new.there x.0 w
 colon_stands old x new colon p = go (has_colon x.0) colon p
   where

@@ -69,7 +69,7 @@ leads_places s (x ∷ xs) old new named h p =
 pub statements_have_places : (s : Given) (xs : List Statement) (new : Placed) → Steps (Leads s) (placed_start start) xs new → HavePlaces new.composition new.places
 statements_have_places s xs new p = leads_places s xs (placed_start start) new tt (record { bound = refl; imported = refl; exported = refl }) p
 
--- so whatever stands for something stands at a place
+-- so each name that denotes something has a place
 pub has_place : {X : Type 0} (name : List ℕ) (places : Named Span) (all : Named X) (x : X) → names_of places ≡ names_of all → StandsFor all name x → (span : Span) × StandsFor places name span
 has_place name [] [] x e is = absurd (cc is)
 has_place name [] (y ∷ ys) x e is = absurd (cc e)

@@ -117,7 +117,7 @@ begins_binding old mid name i p may = record {
   declared = more_on old.declared mid.declared (with_named mid.declared name i) p.declared ((name, i) ∷ [], refl);
 }
 
--- ---- which nodes an expression stands for
+-- ---- which nodes an expression denotes
 
 -- each root declaration is of a node that has a name
 abbrev pub IsNamedAt : List Node → ℕ → Type 0
@@ -143,7 +143,7 @@ pub get_next : (xs ys : List Node) (n : Node) → slice_get (xs ++ n ∷ ys) (le
 get_next [] ys n = refl
 get_next (x ∷ xs) ys n = get_next xs ys n
 
--- the node is there: a new one, an alias, or one that has a name
+-- the node exists: a new one, an alias, or one that has a name
 abbrev pub Reaches : Composition → At → Type 0
 Reaches old a = (n : Node) × (slice_get a.composition.nodes a.node ≡ Some n) × ((length old.nodes ≤ a.node) ⊎ MayBeNamed n)
 
@@ -153,7 +153,7 @@ is_alias_form node name definition e = absurd (cc e)
 is_alias_form node name (aliased m other) e = tt
 is_alias_form node name (instantiated key) e = absurd (cc e)
 
--- an alias is there
+-- an alias exists
 abbrev pub AliasAt : At → Type 0
 AliasAt a = (n : Node) × (slice_get a.composition.nodes a.node ≡ Some n) × IsAlias n.form
 
@@ -178,7 +178,7 @@ pub adds_length : (old new : Composition) → Adds old new → length old.nodes 
 adds_length old new p = subst (λ (m : Composition). length old.nodes ≤ length m.nodes) (sym p.1) (omega (arith, length-append old.nodes p.0))
 
 mutual
-  -- an expression stands for such a node
+  -- an expression denotes such a node
   pub stands_reach : (s : Given) (old : Composition) (x : Expr) (a : At) → AreNamed old → Stands s old x a → Reaches old a
   stands_reach s old (Expr.expr span first others) a named p = accesses_reach old others p.0 a (first_reach s old first p.0 named p.1) p.2
 

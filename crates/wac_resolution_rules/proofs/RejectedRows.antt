@@ -300,7 +300,7 @@ world_with_f = world_entry (Some (codes "a:b/w")) [] ((codes "f", function) ∷ 
 import_of_another_kind : (naming : Naming) (r : Reason) → TargetBroken (none_pass naming r) (under_w world_with_f (codes "f") other []) (placed_at (codes "f") 64) (target_mismatch externs.Import (codes "f") (codes "a:b/w") r (Some (span 64 1))) (target_at (codes "a:b/w") (codes "w"))
 import_of_another_kind naming r = inr (kind_of a_world world_with_f, (_, refl, (_, refl, refl)), inr (world_with_f, refl, inr (inl (inr (((codes "f", other), Some (span 64 1)), function, r, ([], [], refl, tt), refl, refl, refl)))))
 
--- rules that ask for a parameter
+-- rules that require a parameter
 abbrev asks_for_params : Reason → Row → Option Reason
 asks_for_params r done = Some r
 asks_for_params r (more s m rest) = None

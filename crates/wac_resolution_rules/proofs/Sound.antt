@@ -1,4 +1,4 @@
--- Edges go from earlier nodes to later ones, and each argument names an import of its package once and passes.
+-- Edges go from earlier nodes to later ones, and each argument names an import of its package once and fits it.
 use Rattle.std.proofs.Common.{◌≡◌, ◌≤◌, ◌<◌, ◌+◌, ℕ, zero, suc, List, [], ◌∷◌, ◌++◌, length, refl, sym, ◌∙◌, ap, subst, Option, Some, None, Bool, true, false, cond, arith, length-append, le_refl, is_some}
 use Rattle.std.specs.Prelude.{fold}
 use Rattle.std.specs.List.{AllByRecursion}
@@ -129,7 +129,7 @@ fold_linked s node exports (x ∷ xs) g within h =
     fold_linked s node exports xs (spread_step node exports g x)
     (omega (arith, within, adds_length g.composition (spread_step node exports g x).composition (step_adds node exports g x))) (step_linked s node exports g x within h)
 
--- an identifier's node is there
+-- an identifier's node exists
 pub bound_within : (c : Composition) (name : List ℕ) (node : ℕ) → AreNamed c → StandsFor c.declared name node → node < length c.nodes
 bound_within c name node named stands = let n = named_found c.nodes name c.declared node named stands in slice_get_within c.nodes node n.0 n.1
 
@@ -239,7 +239,7 @@ adds_sound s old new h p linked =
       exports = subst (λ (l : Named ℕ). NamesNodes (length new.nodes) l) (sym (ap (λ (m : Composition). m.exports) p.1)) (within_more (length old.nodes) (length new.nodes) le old.exports h.exports);
     }
 
--- one more node without arguments, that is of nothing
+-- one more node without arguments, that is no instance
 node_sound : (s : Given) (old : Composition) (r : ℕ) (f : NodeForm) (k : Meaning) → IsAfterSource (length old.nodes) f → key_of_node f ≡ None → IsSound s old → IsSound s (with_node (with_resources old r) f k)
 node_sound s old r f k source none h =
     let n : Node = record { form = f; kind = k; name = None; arguments = [] } in
@@ -305,6 +305,6 @@ composes_sound_from s [] old new named h p = subst (IsSound s) (sym p) h
 composes_sound_from s (x ∷ xs) old new named h p =
     composes_sound_from s xs p.0 new (goes_continues s old x p.0 named p.1).named (goes_sound s old x p.0 named h p.1) p.2
 
--- each edge goes from an earlier node to a later one; each argument names an import of its package once and passes
+-- each edge goes from an earlier node to a later one; each argument names an import of its package once and fits it
 pub composes_sound : (s : Given) (xs : List Statement) (c : Composition) → Composes s start xs c → IsSound s c
 composes_sound s xs c p = composes_sound_from s xs start c tt (record { linked = tt; declared = tt; exports = tt }) p

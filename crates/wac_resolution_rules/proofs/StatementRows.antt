@@ -359,7 +359,7 @@ abbrev externs_of : List (List ℕ) → Named ℕ
 externs_of [] = []
 externs_of (name ∷ names) = (name, 0) ∷ externs_of names
 
--- a name among the externs is itself, also where another is long for it
+-- a name among the externs denotes itself, also where it is short for another
 find_itself : find_name (codes "log") (externs_of (codes "x:y/log" ∷ codes "log" ∷ [])) ≡ codes "log"
 find_itself = refl
 
@@ -367,7 +367,7 @@ find_itself = refl
 find_only : find_name (codes "log") (externs_of (codes "a:b/c" ∷ codes "x:y/z/log@1.0.0" ∷ [])) ≡ codes "x:y/z/log@1.0.0"
 find_only = refl
 
--- of two it means none
+-- where it is short for two it denotes neither
 find_two : find_name (codes "log") (externs_of (codes "x:y/log@1.0.0" ∷ codes "x:y/log@2.0.0" ∷ [])) ≡ codes "log"
 find_two = refl
 

@@ -75,7 +75,7 @@ exports_same g ps qs a (ExportOptions.spread span) = refl
 exports_same g ps qs a (ExportOptions.rename name) = refl
 exports_same g ps qs a ExportOptions.none = refl
 
--- a statement leads where it leads with other packages that agree on what it mentions
+-- a statement yields what it yields with other packages that agree on what it mentions
 pub goes_agree : (g : Given) (ps qs : Packages) (old : Composition) (x : Statement) → Agree ps qs (statement_mentions g.setting.own x) → Goes (given_over g ps) old x ≡ Goes (given_over g qs) old x
 goes_agree g ps qs old (Statement.import_statement x) h = λ i new. (k : Meaning) × (n : ℕ) × kind_agrees g ps qs old x.ty h i k n
     × IsFresh (name_imported x k) (imports old) × (g.rules.named (name_imported x k) ≡ None) × IsFresh x.id.string old.declared
@@ -265,7 +265,7 @@ each_mentioned all (m ∷ ms) sub = (
   each_mentioned all ms (λ k e. sub k (or_right (same_key m.0 k) (list_any (λ (n : Mention). same_key n.0 k) ms) e)),
 )
 
--- every package of which a composition has an instance is mentioned
+-- every package that a composition has an instance of is mentioned
 pub instances_mentioned : (g : Given) (doc : Document) (c : Composition) → g.setting.own ≡ doc.directive.package_name.name → Describes g doc c → KeysHold (IsMentioned (mentions doc)) c.nodes
 instances_mentioned g doc c own p =
     let m = each_mentioned (mentions doc) (mentions doc) (λ k e. e) in

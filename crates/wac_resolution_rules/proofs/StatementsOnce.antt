@@ -1,4 +1,4 @@
--- A statement leads to one composition.
+-- A statement yields one composition.
 use Rattle.std.proofs.Common.{◌≡◌, ℕ, List, [], sym, ◌∙◌, ap, subst, Some, None}
 use Rattle.wac_types.specs.Kind.{func, instance}
 use Rattle.wac_types.specs.Meaning.{Meaning}
@@ -62,13 +62,13 @@ exports_once s old x a b p q =
     let e : p.0 ≡ q.0 = expr_once s old x.expr p.0 q.0 p.1 q.1 in
     exports_by_once s q.0 x.options a b (subst (λ (m : At). ExportsBy s m x.options a) e p.2) q.2
 
--- a statement leads to one composition
+-- a statement yields one composition
 pub goes_once : (s : Given) → IsOnce (Goes s)
 goes_once s old (Statement.import_statement x) a b p q = imports_once s old x a b p q
 goes_once s old (Statement.let_statement x) a b p q = lets_once s old x a b p q
 goes_once s old (Statement.export_statement x) a b p q = exports_once s old x a b p q
 goes_once s old (Statement.type_statement x) a b p q = declares_once s.setting old x a b p q
 
--- from one composition statements lead to one
+-- from one composition statements yield one
 pub composes_once : (s : Given) (old : Composition) (xs : List Statement) (a b : Composition) → Composes s old xs a → Composes s old xs b → a ≡ b
 composes_once s old xs a b p q = steps_once (Goes s) (goes_once s) old xs a b p q

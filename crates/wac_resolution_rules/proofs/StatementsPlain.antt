@@ -68,7 +68,7 @@ spreads_plain : (imports : Named Meaning) (given : Giving) (args : Arguments) �
 spreads_plain imports given args = ap (λ (l : List Ident). Steps (Spreads imports) given l) (spreads_of_plain args) ∙ steps_map (Spreads imports) plain.ident (spread_plain imports) given (spreads_of args)
 
 mutual
-  -- an expression stands for what its plain tree stands for
+  -- an expression denotes what its plain tree denotes
   pub stands_plain : (s : Given) (old : Composition) (x : Expr) → Stands s old (walk_expr (changed plain) x) ≡ Stands s old x
   stands_plain s old (Expr.expr span first others) = λ i new. (mid : At) × first_plain s old first i mid × steps_map Accesses (walk_postfix_expr (changed plain)) access_plain mid others i new
 
@@ -131,7 +131,7 @@ options_plain s a ExportOptions.none = refl
 exports_plain : (s : Given) (old : Composition) (x : ExportStatement) → Exports s old (walk_export_statement (changed plain) no_docs x) ≡ Exports s old x
 exports_plain s old x = λ i new. (a : At) × stands_plain s old x.expr i a × options_plain s a x.options i new
 
--- a statement leads where its plain tree leads
+-- a statement yields what its plain tree yields
 pub goes_plain : (s : Given) (old : Composition) (x : Statement) → Goes s old (walk_statement (changed plain) no_docs x) ≡ Goes s old x
 goes_plain s old (Statement.import_statement x) = imports_plain s old x
 goes_plain s old (Statement.let_statement x) = lets_plain s old x

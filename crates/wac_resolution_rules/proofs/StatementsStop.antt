@@ -1,4 +1,4 @@
--- A statement that breaks a rule leads nowhere, and a target that breaks one isn't met.
+-- A statement that breaks a rule resolves to nothing, and a target that breaks one isn't met.
 use Rattle.std.proofs.Common.{◌≡◌, ◌≢◌, ℕ, List, [], ◌∷◌, ◌++◌, subst, Option, Some, None, map, inl, inr}
 use Rattle.std.specs.Prelude.{flat_map}
 use Rattle.std.specs.List.{AllByRecursion}
@@ -128,7 +128,7 @@ declares_what s old (TypeStatement.interface x) new g = (kind_of an_interface g.
 declares_what s old (TypeStatement.world x) new g = (kind_of a_world g.0, g.1, g.3)
 declares_what s old (TypeStatement.ty x) new g = (g.0, g.1, g.3)
 
--- a statement that breaks a rule leads nowhere
+-- a statement that breaks a rule resolves to nothing
 pub statement_stops : (s : Given) (old : Composition) (p : Places) (e : Error) → NamesRule e → (x : Statement) (new : Composition) → StatementBroken s old p e x → Goes s old x new → ⊥
 statement_stops s old p e rule (Statement.import_statement x) new f g = import_stops s old p e rule x new f g
 statement_stops s old p e rule (Statement.let_statement x) new f g = let_stops s old p e rule x new f g

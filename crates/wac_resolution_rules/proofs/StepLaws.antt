@@ -1,10 +1,10 @@
--- What holds of items that are taken one after another.
+-- What holds of items that are taken in order.
 use Rattle.std.proofs.Common.{◌≡◌, ◌<◌, ◌+◌, ℕ, suc, List, [], ◌∷◌, ◌++◌, map, take, drop, length, get_or, refl, sym, ◌∙◌, ap, subst}
 use Rattle.std.proofs.lemmas.List.{take-append-drop, take_more, length-map, get_or-map}
 use Rattle.std.proofs.Math.Seq.{drop-cons}
 use Rattle.wac_types.specs.Steps.{Steps, Fails}
 
--- a step leads to one state
+-- a step yields one state
 abbrev pub IsOnce : {S X : Type 0} → (S → X → S → Type 0) → Type 0
 IsOnce {S} {X} step = (old : S) (x : X) (a b : S) → step old x a → step old x b → a ≡ b
 
@@ -19,7 +19,7 @@ pub steps_more : {S X : Type 0} (step : S → X → S → Type 0) (old : S) (xs 
 steps_more {S} step old [] x mid new p g = (new, subst (λ (m : S). step m x new) p g, refl)
 steps_more step old (y ∷ xs) x mid new p g = (p.0, p.1, steps_more step p.0 xs x mid new p.2 g)
 
--- items lead on from what each prefix of them leads to
+-- items continue from the state that each prefix of them reaches
 pub steps_prefix : {S X : Type 0} (step : S → X → S → Type 0) (old : S) (before after : List X) (new : S) → Steps step old (before ++ after) new → (mid : S) × Steps step old before mid × Steps step mid after new
 steps_prefix step old [] after new p = (old, refl, p)
 steps_prefix step old (x ∷ before) after new p = let r = steps_prefix step p.0 before after new p.2 in (r.0, (p.0, p.1, r.1), r.2)
@@ -29,7 +29,7 @@ pub steps_map : {S X : Type 0} (step : S → X → S → Type 0) (f : X → X) �
 steps_map step f same old [] = refl
 steps_map {S} step f same old (x ∷ xs) = λ i new. (mid : S) × same old x i mid × steps_map step f same mid xs i new
 
--- where an item is broken no state is reached, if none is there
+-- where an item is broken no state is reached, if a broken item has no step
 pub fails_stop : {S X : Type 0} (step : S → X → S → Type 0) (broken : S → List X → X → Type 0) → IsOnce step
     → ((old : S) (before : List X) (x : X) (new : S) → broken old before x → step old x new → ⊥)
     → (old : S) (xs : List X) (new : S) → Fails step broken old xs → Steps step old xs new → ⊥
@@ -43,7 +43,7 @@ pub steps_keep : {S X : Type 0} (step : S → X → S → Type 0) (P : S → Typ
 steps_keep step P keep old [] new has p = subst P (sym p) has
 steps_keep step P keep old (x ∷ xs) new has p = steps_keep step P keep p.0 xs new (keep old x p.0 has p.1) p.2
 
--- in a loop: the item at i leads on
+-- in a loop: the item at i takes one more step
 pub steps_on : {S X : Type 0} (step : S → X → S → Type 0) (old : S) (xs : List X) (i : ℕ) (d : X) (mid new : S) → i < length xs → Steps step old (take i xs) mid → step mid (get_or xs i d) new → Steps step old (take (i + 1) xs) new
 steps_on step old xs i d mid new within front goes = rw (take_more xs i d within) (steps_more step old (take i xs) (get_or xs i d) mid new front goes)
 
@@ -59,7 +59,7 @@ fails_at {S} {X} step broken old xs i d mid within front breaks = record {
   breaks = breaks;
 }
 
--- the same in a loop over what the items are trees of
+-- the same in a loop over the values whose trees are the items
 pub steps_on_map : {S X Y : Type 0} (step : S → X → S → Type 0) (f : Y → X) (old : S) (ys : List Y) (i : ℕ) (d : Y) (mid new : S) → i < length ys → Steps step old (take i (map f ys)) mid → step mid (f (get_or ys i d)) new → Steps step old (take (i + 1) (map f ys)) new
 steps_on_map step f old ys i d mid new within front goes =
     steps_on step old (map f ys) i (f d) mid new (subst (λ (n : ℕ). i < n) (sym (length-map ys f)) within) front (subst (λ x. step mid x new) (sym (get_or-map f ys i d (f d) within)) goes)

@@ -9,7 +9,7 @@ use Rattle.wac_grammar.specs.Tree.{Ty, OptionalTy, Types, NamedType, ResultList,
 use Rattle.wac_resolution_rules.specs.Types.{HasType, HasOptional, HaveTypes, HasParam, HasResult, HasResults, IsFuncWith, IsConstructor}
 use Rattle.wac_resolution_rules.proofs.StepLaws.{IsOnce, steps_once}
 
--- a name stands for one thing
+-- a name denotes one thing
 pub stands_once : {X : Type 0} (all : Named X) (name : List ℕ) (a b : X) → StandsFor all name a → StandsFor all name b → a ≡ b
 stands_once all name a b p q = let e : Some a ≡ Some b = sym p ∙ q in cc
 

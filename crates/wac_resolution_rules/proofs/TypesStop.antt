@@ -22,7 +22,7 @@ use Rattle.wac_resolution_rules.proofs.Options.{neither}
 pub fresh_stops : {X : Type 0} (name : List ℕ) (all : Named X) (x : X) → IsFresh name all → StandsFor all name x → ⊥
 fresh_stops name all x new stands = cc
 
--- a name that stands for another form doesn't stand for one of these
+-- a name that denotes another form doesn't denote one of these
 pub none_stops : (test : Form → Bool) (scope : Scope) (name : List ℕ) (k l : Meaning) → StandsFor scope name k → IsNoneOf test k → StandsFor scope name l → IsA test l → ⊥
 none_stops test scope name k l p other q is =
     let f : IsA test k = subst (λ m. IsA test m) (stands_once scope name l k q p) is in

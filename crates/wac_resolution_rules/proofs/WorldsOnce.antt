@@ -1,4 +1,4 @@
--- A body, a world and a type statement lead to one thing.
+-- A body, a world and a type statement each have one result.
 use Rattle.std.proofs.Common.{◌≡◌, ℕ, List, [], ◌++◌, None, Option, sym, ◌∙◌, ap, subst}
 use Rattle.wac_types.specs.declared.kind.ExternKind.{ExternKind}
 use Rattle.wac_types.specs.declared.kind.ExternKind.TheVariants as sides
@@ -70,7 +70,7 @@ world_once setting root n id items a b i j p q =
 defines_once : (old : Composition) (name : List ℕ) (m k : Meaning) (i j : ℕ) (a b : Composition) → Same m i k j → Defines old name m i a → Defines old name k j b → a ≡ b
 defines_once old name m k i j a b e p q = p.2 ∙ ap (λ l. defining old name l i) e.0 ∙ ap (defining old name k) e.1 ∙ sym q.2
 
--- a type statement leads to one composition
+-- a type statement yields one composition
 pub declares_once : (setting : Setting) → IsOnce (Declares setting)
 declares_once setting old (TypeStatement.interface d) a b p q =
     let e = interface_once setting (root_scope old) old.resources (declared_id setting d.id.string) d.items p.0 q.0 p.1 q.1 p.2 q.2 in

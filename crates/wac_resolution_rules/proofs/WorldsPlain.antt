@@ -146,7 +146,7 @@ identifier_plain (TypeDecl.flags d) = refl
 identifier_plain (TypeDecl.enum d) = refl
 identifier_plain (TypeDecl.alias d) = refl
 
--- a type statement leads where its plain tree leads
+-- a type statement yields what its plain tree yields
 pub declares_plain : (setting : Setting) (old : Composition) (s : TypeStatement) → Declares setting old (walk_type_statement (changed plain) no_docs s) ≡ Declares setting old s
 declares_plain setting old (TypeStatement.interface d) = λ i new.
     (entry : Meaning) × (n : ℕ) × interface_plain setting (root_scope old) old.resources (declared_id setting d.id.string) d.items i entry n

@@ -1,4 +1,4 @@
--- A type statement that breaks a rule leads nowhere.
+-- A type statement that breaks a rule resolves to nothing.
 use Rattle.std.proofs.Common.{◌≡◌, ◌⊎◌, inl, inr, ℕ, List, [], ◌∷◌, ◌++◌, Some, None, Option, Bool, true, false, sym, ◌∙◌, subst}
 use Rattle.wac_lexer.specs.Span.{Span}
 use Rattle.wac_types.specs.declared.kind.ExternKind.{ExternKind}
@@ -144,7 +144,7 @@ defines_stops old places x e m n new rule (inl (inr b)) q = fresh_stops x.string
 defines_stops old places x e m n new rule (inr (new_export, inl b)) q = rule b
 defines_stops old places x e m n new rule (inr (new_export, inr b)) q = fresh_stops x.string old.declared b.0 q.1 b.2
 
--- a type statement that breaks a rule leads to no composition
+-- a type statement that breaks a rule yields no composition
 pub broken_stops : (setting : Setting) (old : Composition) (places : Places) (s : TypeStatement) (e : Error) (new : Composition) → NamesRule e → DeclarationBroken setting old places s e → Declares setting old s new → ⊥
 broken_stops setting old places (TypeStatement.interface d) e new rule (inl b) q = interface_body_stops setting (root_scope old) (Some d.id.string) (declared_id setting d.id.string) old.resources d.items e q.0 q.1 rule b q.2
 broken_stops setting old places (TypeStatement.interface d) e new rule (inr b) q = defines_stops old places d.id e _ q.1 new rule b.1 q.3

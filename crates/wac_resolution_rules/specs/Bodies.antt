@@ -14,8 +14,8 @@ use Rattle.wac_resolution_rules.specs.Types.{IsFuncWith, IsConstructor, first_pa
 use Rattle.wac_resolution_rules.specs.Declarations.{IsVariant, IsRecord, IsFlags, IsEnum, IsAlias, in_body}
 use Rattle.wac_resolution_rules.specs.Paths.{Setting, UseNames}
 
--- a body so far: what its identifiers stand for, the types that it uses, its imports and exports, and how many resources the document has
--- declared
+-- a body so far: what its identifiers denote, the types that it uses, its imports and exports, and how many resources
+-- the document has declared
 pub record Body : Type 0 where
   pub scope : Scope
   pub uses : Uses
@@ -42,7 +42,7 @@ with_count b n = record b { resources = n }
 abbrev pub with_type : ExternKind → Body → List ℕ → Meaning → Body
 with_type side b name m = with_extern side (record b { scope = with_named b.scope name m }) name m
 
--- the name stands for nothing yet, in the scope and among the externs
+-- the name denotes nothing yet, in the scope and among the externs
 abbrev pub IsNew : ExternKind → Body → List ℕ → Type 0
 IsNew side b name = IsFresh name b.scope × IsFresh name (externs side b)
 

@@ -1,4 +1,4 @@
--- Which rule of paths and bodies an error says is broken, as BrokenTypes.
+-- Which rule of paths and bodies an error says is broken, as in BrokenTypes.
 use Rattle.std.specs.Prelude.{◌≡◌, ◌⊎◌, ℕ, suc, List, [], ◌∷◌, length, Option, Some, None, slice_get, Bool, true, false, codes}
 use Rattle.std.specs.List.{join_with_byte}
 use Rattle.wac_lexer.specs.Ascii.{slash}
@@ -30,7 +30,7 @@ use Rattle.wac_resolution_rules.specs.Spans.{use_path_name, use_path_span}
 abbrev pub IsUnknownPathPackage : Setting → PackagePath → Error → Type 0
 IsUnknownPathPackage setting p e = (e ≡ memory) ⊎ ((package_of (key_of_path p) setting.packages ≡ None) × (e ≡ unknown_package p.name (package_name_span p)))
 
--- the segment of number n stands there
+-- segment number n, and its span
 abbrev pub StandsAt : PackagePath → ℕ → List ℕ → Span → Type 0
 StandsAt p n segment at = slice_get (segment_spans p) n ≡ Some (segment, at)
 
@@ -47,7 +47,7 @@ abbrev pub last_of : List ℕ → List (List ℕ) → List ℕ
 last_of first [] = first
 last_of first (x ∷ xs) = last_of x xs
 
--- what the segments before it lead to does not export the segment: in a path of the document's own package
+-- what the segments before it resolve to does not export the segment: in a path of the document's own package
 abbrev pub IsNoExport : PackagePath → List ℕ → Error → Meaning → List (List ℕ) → List ℕ → Type 0
 IsNoExport p first e k before segment = (e ≡ memory) ⊎ ((at : Span) × (export_of k segment ≡ None) × StandsAt p (suc (length before)) segment at × (e ≡ package_path_missing_export (last_of first before) (described k) segment at))
 

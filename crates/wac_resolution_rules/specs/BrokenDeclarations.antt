@@ -1,4 +1,4 @@
--- Which rule of declarations an error says is broken, as BrokenTypes.
+-- Which rule of declarations an error says is broken, as in BrokenTypes.
 use Rattle.std.specs.Prelude.{◌≡◌, ◌⊎◌, ℕ, List, [], Option, Some, None}
 use Rattle.wac_types.specs.declared.kind.FuncKind.TheVariants as funcs
 use Rattle.wac_types.specs.Meaning.{Meaning}
@@ -46,7 +46,7 @@ FlagsBroken d e = (e ≡ memory) ⊎ Fails HasFlag (λ old before x. IsRepeatedF
 abbrev pub EnumBroken : EnumDecl → Error → Type 0
 EnumBroken d e = (e ≡ memory) ⊎ Fails HasEnumCase (λ old before x. IsRepeatedEnumCase d.id old x.id e) [] d.cases
 
--- what the identifier stands for can't be aliased there
+-- what the identifier denotes can't be aliased there
 abbrev pub IsNoAlias : Aliasing → Scope → ℕ → List ℕ → Ident → Error → Type 0
 IsNoAlias aliasing scope n name x e = (e ≡ memory) ⊎ ((k : Meaning) × StandsFor scope x.string k × (aliasing n name k ≡ None) × (e ≡ invalid_alias_type x.string (described k) x.span))
 

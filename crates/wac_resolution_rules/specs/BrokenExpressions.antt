@@ -1,4 +1,4 @@
--- Which rule of expressions an error says is broken, as BrokenTypes: first each rule, then where they are tested.
+-- Which rule of expressions an error says is broken, as in BrokenTypes: first each rule, then where they are tested.
 use Rattle.std.specs.Prelude.{◌≡◌, ℕ, List, [], ◌∷◌, ◌++◌, Some, None, option_and_then, flat_map, map, false, ◌⊎◌}
 use Rattle.std.specs.List.{AllByRecursion}
 use Rattle.wac_lexer.specs.Span.{Span}
@@ -49,7 +49,7 @@ IsGivenAlready g name span e = (e ≡ memory) ⊎ ((node : ℕ) × StandsFor g.a
 abbrev pub IsNoMatch : Named Meaning → Giving → ℕ → Span → Error → Type 0
 IsNoMatch imports g node span e = (i : Meaning) × (instance_at g.composition node ≡ Some i) × ((spread_from imports node (exports_of i) g).arguments ≡ g.arguments) × (e ≡ spread_instantiation_no_match span)
 
--- where the argument of a name stands: the argument itself, else the first spread whose instance exports the name
+-- where the argument for a name is: the argument itself, else the first spread whose instance exports the name
 abbrev pub argument_place : Composition → Named Meaning → InstantiationArgument → Named Span
 argument_place c imports (InstantiationArgument.fill span) = []
 argument_place c imports (InstantiationArgument.spread id) = []
@@ -71,7 +71,7 @@ abbrev pub IsNoImport : Given → Contents → PackageName → Arguments → Giv
 IsNoImport s p x args g e = (e ≡ memory) ⊎ ((a : List ℕ × ℕ) × (span : Span) × ReachedAt (Fits s.rules (imports_in p) g.composition.nodes) g.arguments a × StandsFor (argument_places g.composition (imports_in p) args) a.0 span
     × IsFresh a.0 (imports_in p) × (e ≡ missing_component_import x.name a.0 span))
 
--- the argument may not stand for the import
+-- the argument does not fit the import
 abbrev pub IsMismatched : Given → Contents → Arguments → Giving → Error → Type 0
 IsMismatched s p args g e = (e ≡ memory) ⊎ ((a : List ℕ × ℕ) × (span : Span) × (wants : Meaning) × (r : Reason) × ReachedAt (Fits s.rules (imports_in p) g.composition.nodes) g.arguments a
     × StandsFor (argument_places g.composition (imports_in p) args) a.0 span × StandsFor (imports_in p) a.0 wants × (s.rules.passes (kind_at g.composition.nodes a.1) wants ≡ Some r) × (e ≡ mismatched_instantiation_arg a.0 r span))

@@ -1,4 +1,5 @@
--- Which rule of statements and the target an error says is broken, as BrokenTypes: first each rule, then where they are tested.
+-- Which rule of statements and the target an error says is broken, as in BrokenTypes: first each rule, then where
+-- they are tested.
 use Rattle.std.specs.Prelude.{◌≡◌, ℕ, List, [], ◌++◌, Option, Some, None, flat_map, map, ◌⊎◌}
 use Rattle.std.specs.List.{AllByRecursion}
 use Rattle.wac_lexer.specs.Span.{Span}
@@ -61,7 +62,7 @@ IsNoEffect a span e = (e ≡ memory) ⊎ ((i : Meaning) × (instance_at a.compos
 abbrev pub IsNotWorld : PackagePath → Meaning → Error → Type 0
 IsNotWorld p k e = (e ≡ memory) ⊎ ((world_of k ≡ None) × (e ≡ not_world p.string (described k) p.span))
 
--- what a composition imports, with places: an import node's is its name's, what an instance of a package leaves open has none
+-- what a composition imports, with places: an import node has that of its name, what an instance leaves open has none
 abbrev pub placed_imports : Given → Composition → Places → List ((List ℕ × Meaning) × Option Span)
 placed_imports s c p = map (λ x. (x, look_up x.0 p.imported)) (imports c) ++ map (λ x. (x, None)) (flat_map (open_imports s) c.nodes)
 
@@ -70,7 +71,7 @@ abbrev pub IsNotInTarget : Given → Composition → Places → PackagePath → 
 IsNotInTarget s c p path w e = (e ≡ memory) ⊎ ((x : (List ℕ × Meaning) × Option Span) × ReachedAt (λ y. ImportAllowed s w y.0) (placed_imports s c p) x
     × (allowed w x.0.0 ≡ None) × (e ≡ import_not_in_target x.0.0 path.string x.1))
 
--- what the target allows may not stand for the import
+-- what the target allows does not fit the import
 abbrev pub IsImportMismatch : Given → Composition → Places → PackagePath → Meaning → Error → Type 0
 IsImportMismatch s c p path w e = (e ≡ memory) ⊎ ((x : (List ℕ × Meaning) × Option Span) × (k : Meaning) × (r : Reason) × ReachedAt (λ y. ImportAllowed s w y.0) (placed_imports s c p) x
     × (allowed w x.0.0 ≡ Some k) × (s.rules.passes (promoted k) x.0.1 ≡ Some r) × (e ≡ target_mismatch externs.Import x.0.0 path.string r x.1))
@@ -80,7 +81,7 @@ abbrev pub IsMissingExport : Given → Composition → PackagePath → Meaning �
 IsMissingExport s c path w e = (e ≡ memory) ⊎ ((x : List ℕ × Meaning) × AllByRecursion (ImportAllowed s w) (all_imports s c) × ReachedAt (ExportMet s c) (exports_of w) x
     × IsFresh x.0 c.exports × (e ≡ missing_target_export x.0 path.string (described x.1) path.span))
 
--- what is exported may not stand for the export of the target
+-- what is exported does not fit the export of the target
 abbrev pub IsExportMismatch : Given → Composition → Places → PackagePath → Meaning → Error → Type 0
 IsExportMismatch s c p path w e = (e ≡ memory) ⊎ ((x : List ℕ × Meaning) × (node : ℕ) × (r : Reason) × (span : Span) × AllByRecursion (ImportAllowed s w) (all_imports s c)
     × ReachedAt (ExportMet s c) (exports_of w) x × StandsFor c.exports x.0 node × (s.rules.passes (kind_at c.nodes node) (promoted x.1) ≡ Some r)
@@ -142,7 +143,7 @@ StatementBroken s old p e (Statement.type_statement x) = DeclarationBroken s.set
 abbrev pub TargetWorldBroken : Given → Composition → Places → Error → PackagePath → Meaning → Type 0
 TargetWorldBroken s c p e path w = IsNotInTarget s c p path w e ⊎ IsImportMismatch s c p path w e ⊎ IsMissingExport s c path w e ⊎ IsExportMismatch s c p path w e
 
--- the target asks for what the composition has not
+-- the target breaks the rule that the error names
 abbrev pub TargetBroken : Given → Composition → Places → Error → PackagePath → Type 0
 TargetBroken s c p e path = PathBroken s.setting (root_scope c) path e
     ⊎ ((k : Meaning) × LeadsTo s.setting (root_scope c) path k × (IsNotWorld path k e ⊎ ((w : Meaning) × (world_of k ≡ Some w) × TargetWorldBroken s c p e path w)))

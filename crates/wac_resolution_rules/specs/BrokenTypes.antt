@@ -10,15 +10,15 @@ use Rattle.wac_grammar.specs.Spans.{ty_span}
 use Rattle.wac_resolution_errors.specs.Error.{Error, undefined_name, not_resource_type, not_value_type, duplicate_parameter, duplicate_result, borrow_in_result, memory}
 use Rattle.wac_resolution_rules.specs.Types.{HasType, HasOptional, HasParam, HasResultType, HasResult}
 
--- the identifier stands for nothing
+-- the identifier denotes nothing
 abbrev pub IsUndefined : {X : Type 0} → Named X → Ident → Error → Type 0
 IsUndefined all x e = (e ≡ memory) ⊎ (IsFresh x.string all × (e ≡ undefined_name x.string x.span))
 
--- what the identifier stands for is not a resource type
+-- what the identifier denotes is not a resource type
 abbrev pub IsNoResource : Scope → Ident → Error → Type 0
 IsNoResource scope x e = (e ≡ memory) ⊎ ((k : Meaning) × StandsFor scope x.string k × IsNoneOf is_resource_form k × (e ≡ not_resource_type x.string (described k) x.span))
 
--- what the identifier stands for is neither a resource type nor a type of values
+-- what the identifier denotes is neither a resource type nor a type of values
 abbrev pub IsNoValue : Scope → Ident → Error → Type 0
 IsNoValue scope x e = (e ≡ memory) ⊎ ((k : Meaning) × StandsFor scope x.string k × IsNoneOf is_resource_or_value_form k × (e ≡ not_value_type x.string (described k) x.span))
 

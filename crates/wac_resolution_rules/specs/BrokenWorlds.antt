@@ -1,4 +1,4 @@
--- Which rule of interfaces, worlds and type statements an error says is broken, as BrokenTypes.
+-- Which rule of interfaces, worlds and type statements an error says is broken, as in BrokenTypes.
 use Rattle.std.specs.Prelude.{◌≡◌, ◌⊎◌, ℕ, List, [], ◌∷◌, ◌++◌, Option, Some, None, codes, find, false}
 use Rattle.std.specs.Str.{bytes_eq}
 use Rattle.wac_lexer.specs.Span.{Span}
@@ -27,7 +27,7 @@ use Rattle.wac_resolution_rules.specs.Places.{Places, bound_in_interface, bound_
 
 -- ---- interfaces
 
--- what the identifier stands for is neither a function nor a function type
+-- what the identifier denotes is neither a function nor a function type
 abbrev pub IsNoFunc : Scope → Ident → Error → Type 0
 IsNoFunc scope x e = (e ≡ memory) ⊎ ((k : Meaning) × StandsFor scope x.string k × IsNoneOf is_func_form k × (e ≡ not_func_type x.string (described k) x.span))
 
@@ -46,7 +46,7 @@ InterfaceBroken setting root name n items e = (e ≡ memory) ⊎ Fails (HasInter
 
 -- ---- items of worlds
 
--- what the identifier stands for is neither a function type nor an interface
+-- what the identifier denotes is neither a function type nor an interface
 abbrev pub IsNoFuncOrInterface : Scope → Ident → Error → Type 0
 IsNoFuncOrInterface scope x e = (e ≡ memory) ⊎ ((k : Meaning) × StandsFor scope x.string k × IsNoneOf is_func_or_interface_form k × (e ≡ not_func_or_interface x.string (described k) x.span))
 
@@ -73,7 +73,7 @@ WorldItemBroken setting root of e old before (WorldItem.ty d) = ItemBroken setti
 
 -- ---- include
 
--- an earlier entry is of the same name
+-- an earlier entry renames the same name
 abbrev pub IsSecondEntry : Error → Entries → List WorldIncludeItem → WorldIncludeItem → Type 0
 IsSecondEntry e old before x = (e ≡ memory) ⊎ ((to : List ℕ) × StandsFor old x.from.string to × (e ≡ duplicate_world_include_name x.from.string x.from.span))
 
@@ -85,7 +85,7 @@ WorldRefBroken setting root (WorldRef.ident x) e = IsUndefined root x e
 abbrev pub IsNoWorld : Meaning → WorldRef → Error → Type 0
 IsNoWorld k r e = (e ≡ memory) ⊎ (IsNoneOf is_world_form k × (e ≡ not_world (world_ref_name r) (described k) (world_ref_span r)))
 
--- the entry of a `with` clause that is of a name
+-- the entry of a `with` clause that renames a name
 abbrev pub entry_named : List ℕ → List WorldIncludeItem → Option WorldIncludeItem
 entry_named name items = find (λ i. bytes_eq name i.from.string) items
 
@@ -104,7 +104,7 @@ abbrev pub help_of_include : List WorldIncludeItem → Option (List ℕ)
 help_of_include [] = Some with_clause
 help_of_include (i ∷ is) = None
 
--- a name without a colon, after renaming, is there already
+-- a name without a colon, after renaming, exists already
 abbrev pub IsIncludeConflict : WorldInclude → List ℕ → ExternKind → Error → Taking → List (List ℕ × Meaning) → List ℕ × Meaning → Type 0
 IsIncludeConflict x world side e old before n =
     (e ≡ memory) ⊎ ((m : Meaning) × (has_colon n.0 ≡ false) × StandsFor old.there (name_taken old.entries n.0) m

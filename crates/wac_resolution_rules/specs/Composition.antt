@@ -33,7 +33,7 @@ start = record { nodes = []; exports = []; declared = []; resources = 0 }
 abbrev pub kind_at : List Node → ℕ → Meaning
 kind_at ns n = elim (slice_get ns n) [ None ↦ node (plain dangling) done | Some x ↦ x.kind ]
 
--- the root scope: what each declared identifier's node is
+-- the root scope: each declared identifier with the kind of its node
 abbrev pub root_scope : Composition → Scope
 root_scope c = map (λ d. (d.0, kind_at c.nodes d.1)) c.declared
 
@@ -47,7 +47,7 @@ with_export c name n = record c { exports = with_named c.exports name n }
 abbrev pub with_resources : Composition → ℕ → Composition
 with_resources c n = record c { resources = n }
 
--- a node's name, unless it has one
+-- the name that a node keeps: its own, else the new one
 abbrev pub first_name : Option (List ℕ) → List ℕ → Option (List ℕ)
 first_name None name = Some name
 first_name (Some old) name = Some old
@@ -55,6 +55,6 @@ first_name (Some old) name = Some old
 abbrev pub named_at : List Node → ℕ → List ℕ → List Node
 named_at ns n name = elim (slice_get ns n) [ None ↦ ns | Some x ↦ slice_set ns n (record x { name = first_name x.name name }) ]
 
--- an identifier stands for a node, and names it where it has no name
+-- an identifier is bound to a node, and names it where it has no name
 abbrev pub binding : Composition → List ℕ → ℕ → Composition
 binding c name n = record c { nodes = named_at c.nodes n name; declared = with_named c.declared name n }

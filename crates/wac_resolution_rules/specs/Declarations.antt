@@ -81,7 +81,7 @@ abbrev pub alone : Ty → Option Ident
 alone (Ty.ident x) = Some x
 alone _ = None
 
--- an alias of what an identifier stands for, or of a type expression
+-- an alias of what an identifier denotes, or of a type expression
 abbrev pub IsTypeAlias : Aliasing → Scope → ℕ → List ℕ → Option Ident → Ty → Meaning → ℕ → Type 0
 IsTypeAlias aliasing scope n name None t m after = (v : Meaning) × HasType scope t v × (m ≡ alias_type v) × (after ≡ n)
 IsTypeAlias aliasing scope n name (Some x) t m after = (k : Meaning) × StandsFor scope x.string k × (aliasing n name k ≡ Some (m, after))

@@ -1,4 +1,4 @@
--- Which node an expression stands for, and which nodes it adds.
+-- Which node an expression denotes, and which nodes it adds.
 use Rattle.std.specs.Prelude.{◌≡◌, ◌≢◌, ℕ, List, [], ◌∷◌, ◌++◌, Option, Some, None, is_some, is_none, unwrap_or, option_and_then, filter, fold, Bool, true, false, ◌||◌, IsTrue, ◌⊎◌, if◌then◌else◌}
 use Rattle.std.specs.List.{AllByRecursion}
 use Rattle.std.specs.Option.{option_or}
@@ -29,12 +29,12 @@ at c node = record { composition = c; node = node }
 abbrev pub alias_at : At → List ℕ → Meaning → At
 alias_at a name k = at (with_alias a.composition a.node name k) (alias_number a.composition a.node name)
 
--- the export that an access names: an identifier by find, a string as it stands
+-- the export that an access names: an identifier by find, a string as it is
 abbrev pub accessed : PostfixExpr → Named Meaning → List ℕ
 accessed (PostfixExpr.access x) exports = find_name x.id.string exports
 accessed (PostfixExpr.named_access x) exports = x.string.value
 
--- the node is an instance with the export that is named, and the access leads to its alias
+-- the node is an instance with the export that is named, and the access denotes its alias
 abbrev pub Accesses : At → PostfixExpr → At → Type 0
 Accesses old p new = (i : Meaning) × (k : Meaning) × (instance_at old.composition old.node ≡ Some i) × StandsFor (exports_of i) (accessed p (exports_of i)) k × (new ≡ alias_at old (accessed p (exports_of i)) k)
 
@@ -52,7 +52,7 @@ nothing_given c = record { composition = c; arguments = [] }
 abbrev pub given_too : Giving → List ℕ → At → Giving
 given_too g name a = record { composition = a.composition; arguments = with_named g.arguments name a.node }
 
--- the import that an argument's name names: an identifier by find, a string as it stands
+-- the import that an argument's name denotes: an identifier by find, a string as it is
 abbrev pub name_meant : InstantiationArgumentName → Named Meaning → List ℕ
 name_meant (InstantiationArgumentName.ident x) imports = find_name x.string imports
 name_meant (InstantiationArgumentName.string x) imports = x.value
@@ -61,7 +61,7 @@ name_meant (InstantiationArgumentName.string x) imports = x.value
 abbrev pub instance_id : Node → Option (List ℕ)
 instance_id n = option_and_then id_of (instance_of n.kind)
 
--- the name under which a node is imported, or else the name of the export of which it is an alias
+-- the name under which a node is imported, or else the name of the export whose alias it is
 abbrev pub own_name : Node → Option (List ℕ)
 own_name n = option_or (import_name n.form) (alias_name n.form)
 
@@ -113,7 +113,7 @@ abbrev pub IsEmpty : Arguments → Type 0
 IsEmpty Arguments.none = Unit {0}
 IsEmpty (Arguments.more a rest) = ⊥
 
--- the argument is for an import, and its node may stand there
+-- the argument is for an import, and its node fits it
 abbrev pub Fits : Rules → Named Meaning → List Node → List ℕ × ℕ → Type 0
 Fits rules imports ns a = (wants : Meaning) × StandsFor imports a.0 wants × (rules.passes (kind_at ns a.1) wants ≡ None)
 
@@ -134,12 +134,12 @@ pub record Instantiates (rules : Rules) (p : Contents) (key : Key) (filled : Boo
 -- ---- expressions
 
 abbrev mutual
-  -- in the old composition the expression stands for a node of a new one
+  -- in the old composition the expression denotes a node of a new one
   pub Stands : Given → Composition → Expr → At → Type 0
   Stands s old (Expr.expr span first others) new = (mid : At) × PrimaryStands s old first mid × Steps Accesses mid others new
 
   pub PrimaryStands : Given → Composition → PrimaryExpr → At → Type 0
-  -- the package is there; its arguments are given in order, then those of the spreads in order; then the instance is made
+  -- the package is known; its arguments are given in order, then those of the spreads; then the instance is made
   PrimaryStands s old (PrimaryExpr.new span name args) new = (p : Contents) × (given : Giving) × (all : Giving) × (instantiable s name ≡ Some p)
       × Gives s (imports_in p) (nothing_given old) args given × Steps (Spreads (imports_in p)) given (spreads_of args) all × Instantiates s.rules p (key_named name) (has_fill args) all new
   PrimaryStands s old (PrimaryExpr.nested span e) new = Stands s old e new

@@ -9,7 +9,7 @@ use Rattle.wac_grammar.specs.Version.{is_at_sign, is_slash}
 abbrev pub after_last_slash : List ℕ → List ℕ
 after_last_slash text = reverse (before_first is_slash (reverse text))
 
--- the text has a '/', and what stands after the last one, cut at '@', is the name
+-- the text has a '/', and what comes after the last one, cut at '@', is the name
 abbrev pub is_short_for : List ℕ → List ℕ → Bool
 is_short_for name text = list_any is_slash text && bytes_eq name (before_first is_at_sign (after_last_slash text))
 
@@ -26,6 +26,6 @@ long_names name names = filter (is_short_for name) names
 abbrev pub names_of : {X : Type 0} → Named X → List (List ℕ)
 names_of all = map (λ e. e.0) all
 
--- a name among the externs is itself; else the only extern that it is short for; else itself
+-- a name among the externs denotes itself; else the only extern that it is short for; else itself
 abbrev pub find_name : {X : Type 0} → List ℕ → Named X → List ℕ
 find_name name externs = if is_some (look_up name externs) then name else unwrap_or (only_one (long_names name (names_of externs))) name

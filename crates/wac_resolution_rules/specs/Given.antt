@@ -1,4 +1,4 @@
--- What resolving is given beside a document: the setting, and rules.
+-- What resolving is given besides a document: the setting, and rules.
 use Rattle.std.specs.Prelude.{ℕ, List, Option, None, if◌then◌else◌}
 use Rattle.std.specs.Str.{bytes_eq}
 use Rattle.wac_types.specs.declared.rules.Reason.{Reason}
@@ -13,7 +13,7 @@ use Rattle.wac_resolution_rules.specs.Paths.{Setting}
 
 -- two tests: each returns no reason, or the reason against
 pub record Rules : Type 0 where
-  -- may the first stand where the second is expected
+  -- does the first fit where the second is expected
   pub passes : Meaning → Meaning → Option Reason
   -- may this be the name of an import or export
   pub named : List ℕ → Option Reason
@@ -26,11 +26,11 @@ pub record Given : Type 0 where
   pub setting : Setting
   pub rules : Rules
 
--- the key that a package's name names: the name and the text of the version
+-- the key that a package's name denotes: the name and the text of the version
 abbrev pub key_named : PackageName → Key
 key_named x = (x.name, version_text x.string)
 
--- the package of which an instance is made under a name: never the document's own
+-- the package that a name denotes after `new`: never the document's own
 abbrev pub instantiable : Given → PackageName → Option Contents
 instantiable s x = if bytes_eq x.name s.setting.own then None else package_of (key_named x) s.setting.packages
 

@@ -14,7 +14,7 @@ use Rattle.wac_resolution_rules.specs.Bodies.{Body}
 abbrev pub Entries : Type 0
 Entries = Named (List ℕ)
 
--- no earlier entry is of the same name
+-- no earlier entry renames the same name
 abbrev pub HasEntry : Entries → WorldIncludeItem → Entries → Type 0
 HasEntry old x new = IsFresh x.from.string old × (new ≡ with_named old x.from.string x.to.string)
 
@@ -26,11 +26,11 @@ pub record Taking : Type 0 where
   pub entries : Entries
   pub there : Named Meaning
 
--- one more name, unless it is there
+-- one more name, unless it exists already
 abbrev pub with_missing : Named Meaning → List ℕ → Meaning → Named Meaning
 with_missing there name m = elim (look_up name there) [ None ↦ with_named there name m | Some old ↦ there ]
 
--- the name that a name gets: of the first entry of that name, if there is one
+-- the new name of a name: that of the first entry that renames it, else itself
 abbrev pub name_taken : Entries → List ℕ → List ℕ
 name_taken entries name = unwrap_or (look_up name entries) name
 
@@ -41,8 +41,8 @@ TakesNamed false old x new =
     IsFresh (name_taken old.entries x.0) old.there
     × (new ≡ record { entries = without_first x.0 old.entries; there = with_named old.there (name_taken old.entries x.0) x.1 })
 
--- A name with a colon is kept, and left where it is there. Another name is renamed by the first entry of that name, which is then used
--- up; it may not be there.
+-- A name with a colon is taken as it is, unless it exists already. Another name is renamed by the first entry for it,
+-- which is then used up; the new name may not exist yet.
 abbrev pub Takes : Taking → List ℕ × Meaning → Taking → Type 0
 Takes old x new = TakesNamed (has_colon x.0) old x new
 

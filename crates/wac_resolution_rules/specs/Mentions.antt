@@ -113,7 +113,7 @@ is_mentioned ms key = list_any (λ (m : Mention). same_key m.0 key) ms
 abbrev pub IsMentioned : List Mention → Key → Type 0
 IsMentioned ms key = is_mentioned ms key ≡ true
 
--- what is asked of the package of which a node is an instance, if it is one
+-- what holds of the package that a node is an instance of, if it is one
 abbrev pub KeyHolds : (Key → Type 0) → Option Key → Type 0
 KeyHolds P None = Unit {0}
 KeyHolds P (Some key) = P key
@@ -134,6 +134,6 @@ over s ps = record { naming = s.naming; own = s.own; version = s.version; packag
 abbrev pub given_over : Given → Packages → Given
 given_over g ps = record { setting = over g.setting ps; rules = g.rules }
 
--- of the entries under keys those whose keys are mentioned
+-- the entries whose keys are mentioned
 abbrev pub kept : {X : Type 0} → List Mention → List (Key × X) → List (Key × X)
 kept ms ps = filter (λ p. is_mentioned ms p.0) ps

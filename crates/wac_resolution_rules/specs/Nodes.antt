@@ -27,7 +27,7 @@ import_name definition = None
 import_name (aliased node name) = None
 import_name (instantiated key) = None
 
--- the name of the export of which a node is an alias
+-- the name of the export whose alias a node is
 abbrev pub alias_name : NodeForm → Option (List ℕ)
 alias_name (imported name) = None
 alias_name definition = None
@@ -40,7 +40,7 @@ is_definition definition = true
 is_definition (aliased node name) = false
 is_definition (instantiated key) = false
 
--- the package of which a node is an instance
+-- the package that a node is an instance of
 abbrev pub key_of_node : NodeForm → Option Key
 key_of_node (imported name) = None
 key_of_node definition = None
@@ -60,17 +60,17 @@ import_of n = option_map (λ name. (name, n.kind)) (import_name n.form)
 abbrev pub imports : Composition → Named Meaning
 imports c = filter_map import_of c.nodes
 
--- the node that is the alias of an export of a node, where it is there
+-- the node that is the alias of an export of a node, where there is one
 abbrev pub alias_in : Composition → ℕ → List ℕ → Option ℕ
 alias_in c node name = position (λ n. is_alias_of node name n.form) c.nodes
 
--- its number: of the one that is there, else the next
+-- its number: that of the existing one, else the next
 abbrev pub alias_number : Composition → ℕ → List ℕ → ℕ
 alias_number c node name = unwrap_or (alias_in c node name) (next_of c)
 
 -- ---- what is added
 
--- the alias of an export of a node, unless it is there
+-- the alias of an export of a node, unless it exists already
 abbrev pub with_alias : Composition → ℕ → List ℕ → Meaning → Composition
 with_alias c node name k = elim (alias_in c node name) [ None ↦ with_node c (aliased node name) k | Some n ↦ c ]
 

@@ -34,21 +34,21 @@ beginning_of false root packages key = option_map (λ (c : Contents). c.definiti
 abbrev pub is_own : Setting → PackagePath → Bool
 is_own setting p = bytes_eq p.name setting.own
 
--- where the first segment is looked for: a path of the document's own package begins in its root scope, whatever the version; another
--- among what that package defines, if it is given
+-- where the first segment is looked up: a path of the document's own package begins in its root scope, whatever the
+-- version; another among what that package defines, if it is given
 abbrev pub beginning : Setting → Scope → PackagePath → Option Scope
 beginning setting root p = beginning_of (is_own setting p) root setting.packages (key_of_path p)
 
--- a later segment is an export of what the one before it stands for
+-- a later segment is an export of what the one before it denotes
 abbrev pub IsMember : Meaning → List ℕ → Meaning → Type 0
 IsMember k segment m = export_of k segment ≡ Some m
 
--- from a scope, segments lead to a kind
+-- in a scope, segments resolve to a kind
 abbrev pub LeadsFrom : Scope → List (List ℕ) → Meaning → Type 0
 LeadsFrom scope [] m = ⊥
 LeadsFrom scope (first ∷ rest) m = (k : Meaning) × StandsFor scope first k × Steps IsMember k rest m
 
--- a path leads to a kind
+-- a path resolves to a kind
 abbrev pub LeadsTo : Setting → Scope → PackagePath → Meaning → Type 0
 LeadsTo setting root p m = (from : Scope) × (beginning setting root p ≡ Some from) × LeadsFrom from (segments_of p) m
 

@@ -1,4 +1,4 @@
--- Where names are bound, imported and exported. Judgements read no span: places stand beside them.
+-- Where names are bound, imported and exported. Judgements read no span: places are kept apart.
 use Rattle.std.specs.Prelude.{◌≡◌, ℕ, List, [], ◌∷◌, ◌++◌, drop, length, map}
 use Rattle.std.specs.List.{flat_map}
 use Rattle.wac_lexer.specs.Span.{Span}
@@ -54,7 +54,7 @@ nowhere_yet = record { bound = []; imported = []; exported = [] }
 abbrev pub names_at : {X : Type 0} → Span → Named X → Named Span
 names_at span names = map (λ x. (x.0, span)) names
 
--- where what a statement binds stands; of one that binds nothing any span
+-- the span of what a statement binds; any span where it binds nothing
 abbrev pub bound_at : Statement → Span
 bound_at (Statement.import_statement x) = x.id.span
 bound_at (Statement.let_statement x) = x.id.span
@@ -73,11 +73,11 @@ exported_at (Statement.let_statement x) = x.id.span
 exported_at (Statement.export_statement x) = export_span x
 exported_at (Statement.type_statement x) = (identifier_of x).span
 
--- the names that the new list has more, at a span
+-- the names that the new list adds, at a span
 abbrev pub more_at : {X : Type 0} → Span → Named X → Named X → Named Span
 more_at span old new = names_at span (drop (length old) new)
 
--- the places after a statement, which led from one composition to another
+-- the places after a statement that turned one composition into another
 abbrev pub places_after : Composition → Places → Statement → Composition → Places
 places_after old p x new = record {
   bound = p.bound ++ more_at (bound_at x) old.declared new.declared;
@@ -93,7 +93,7 @@ pub record Placed : Type 0 where
 abbrev pub placed_start : Composition → Placed
 placed_start c = record { composition = c; places = nowhere_yet }
 
--- a statement leads from one composition to the next, and changes the places
+-- a statement turns one composition into the next, and changes the places
 abbrev pub Leads : Given → Placed → Statement → Placed → Type 0
 Leads s old x new = Goes s old.composition x new.composition × (new.places ≡ places_after old.composition old.places x new.composition)
 

@@ -26,7 +26,7 @@ given_to naming packages rules doc = record {
 abbrev pub Describes : Given → Document → Composition → Type 0
 Describes s doc c = Composes s start doc.statements c × MeetsTarget s c doc.directive.targets
 
--- what one document describes the other describes, and the other way round, whatever the packages and the rules are
+-- the two documents describe the same, whatever the packages and the rules are
 abbrev pub DescribeAlike : Document → Document → Type 0
 DescribeAlike a b = (naming : Naming) (packages : List (Key × PackageParts)) (rules : Rules) (c : Composition) → Describes (given_to naming packages rules a) a c ↔ Describes (given_to naming packages rules b) b c
 

@@ -28,23 +28,23 @@ IsAfterSource i definition = Unit {0}
 IsAfterSource i (aliased node name) = node < i
 IsAfterSource i (instantiated key) = Unit {0}
 
--- the arguments of an instance are for imports of its package, and may stand there
+-- the arguments of an instance are for imports of its package, and fit them
 abbrev pub ArgumentsFit : Given → List Node → Option Key → Named ℕ → Type 0
 ArgumentsFit s ns None arguments = Unit {0}
 ArgumentsFit s ns (Some key) arguments = (p : Contents) × (package_of key s.setting.packages ≡ Some p) × AllByRecursion (Fits s.rules (imports_in p) ns) arguments
 
--- edges of the node of a number come from earlier nodes; each argument names an import of the package once and passes
+-- edges of the node of a number come from earlier nodes; each argument names an import of the package once and fits it
 pub record IsLinked (s : Given) (ns : List Node) (i : ℕ) (n : Node) : Type 0 where
   pub source : IsAfterSource i n.form
   pub earlier : AllByRecursion (λ a. a.1 < i) n.arguments
   pub once : OnceEach n.arguments
   pub fit : ArgumentsFit s ns (key_of_node n.form) n.arguments
 
--- each name is of a node that is there
+-- each name is of a node that exists
 abbrev pub NamesNodes : ℕ → Named ℕ → Type 0
 NamesNodes count all = AllByRecursion (λ e. e.1 < count) all
 
--- all nodes are linked, and names are of nodes that are there
+-- all nodes are linked, and names are of nodes that exist
 pub record IsSound (s : Given) (c : Composition) : Type 0 where
   pub linked : EachFrom (IsLinked s c.nodes) 0 c.nodes
   pub declared : NamesNodes (length c.nodes) c.declared

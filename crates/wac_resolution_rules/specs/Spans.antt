@@ -1,4 +1,4 @@
--- Where the parts of a tree stand, and the identifiers and texts that name them.
+-- Where the parts of a tree are, and the identifiers and texts that name them.
 use Rattle.std.specs.Prelude.{ℕ, List, Some, None}
 use Rattle.wac_lexer.specs.Span.{Span}
 use Rattle.wac_grammar.specs.Tree.{Ident, UsePath, ItemTypeDecl, TypeStatement, ImportType, ImportStatement, Expr, ExportOptions, ExportStatement}
@@ -41,11 +41,11 @@ unnamed_import_span id (ImportType.interface x) = id.span
 unnamed_import_span id (ImportType.path x) = x.span
 unnamed_import_span id (ImportType.ident x) = id.span
 
--- where an import's name stands: after `as`, else the path, else the identifier
+-- where an import's name is: after `as`, else the path, else the identifier
 abbrev pub import_span : ImportStatement → Span
 import_span x = elim x.name [ None ↦ unnamed_import_span x.id x.ty | Some name ↦ extern_name_span name ]
 
--- where an export's name stands: after `as`, else the `...` or the expression
+-- where an export's name is: after `as`, else the `...` or the expression
 abbrev pub options_span : Expr → ExportOptions → Span
 options_span e (ExportOptions.spread span) = span
 options_span e (ExportOptions.rename name) = extern_name_span name

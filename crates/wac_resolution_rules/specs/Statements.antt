@@ -31,7 +31,8 @@ ImportsKind s old (ImportType.ident x) k after = StandsFor (root_scope old) x.st
 abbrev pub item_id : Meaning → Option (List ℕ)
 item_id k = option_and_then id_of (option_or (instance_of k) (component_of k))
 
--- a path by its text; an identifier that means an instance or component with an id by that id; else the import's own identifier
+-- a path by its text; an identifier that denotes an instance or component with an id by that id; else the import's own
+-- identifier
 abbrev pub unnamed_import : Ident → ImportType → Meaning → List ℕ
 unnamed_import id (ImportType.func x) k = id.string
 unnamed_import id (ImportType.interface x) k = id.string
@@ -42,7 +43,7 @@ unnamed_import id (ImportType.ident x) k = unwrap_or (item_id k) id.string
 abbrev pub name_imported : ImportStatement → Meaning → List ℕ
 name_imported x k = elim x.name [ None ↦ unnamed_import x.id x.ty k | Some name ↦ extern_name_text name ]
 
--- an import has a kind, and a name that is new and may be one; its identifier is new
+-- an import has a kind, and a name that is new and that the rules allow; its identifier is new
 abbrev pub Imports : Given → Composition → ImportStatement → Composition → Type 0
 Imports s old x new = (k : Meaning) × (n : ℕ) × ImportsKind s old x.ty k n
     × IsFresh (name_imported x k) (imports old) × (s.rules.named (name_imported x k) ≡ None) × IsFresh x.id.string old.declared
@@ -63,7 +64,7 @@ if_definition n = if is_definition n.form then Some n.kind else None
 abbrev pub definition_bound : Composition → List ℕ → Option Meaning
 definition_bound c name = option_and_then if_definition (option_and_then (node_at c) (look_up name c.declared))
 
--- the node is exported under a name: not one bound to a definition, a new one, and one that may be
+-- the node is exported under a name that is not bound to a definition, is new, and that the rules allow
 abbrev pub ExportsAs : Given → Composition → List ℕ → ℕ → Composition → Type 0
 ExportsAs s old name node new = (definition_bound old name ≡ None) × IsFresh name old.exports × (s.rules.named name ≡ None) × (new ≡ with_export old name node)
 
@@ -91,13 +92,13 @@ Exports s old x new = (a : At) × Stands s old x.expr a × ExportsBy s a x.optio
 
 -- ---- statements
 
--- from the old composition a statement leads to the new one
+-- a statement turns the old composition into the new one
 abbrev pub Goes : Given → Composition → Statement → Composition → Type 0
 Goes s old (Statement.import_statement x) new = Imports s old x new
 Goes s old (Statement.let_statement x) new = Lets s old x new
 Goes s old (Statement.export_statement x) new = Exports s old x new
 Goes s old (Statement.type_statement x) new = Declares s.setting old x new
 
--- statements lead from one composition to another, one after another
+-- statements, in order, turn one composition into another
 abbrev pub Composes : Given → Composition → List Statement → Composition → Type 0
 Composes s old statements new = Steps (Goes s) old statements new

@@ -1,4 +1,4 @@
--- What a target world allows and asks.
+-- What a target world allows and requires.
 use Rattle.std.specs.Prelude.{◌≡◌, ℕ, List, [], ◌++◌, Option, Some, None, option_map, option_and_then, filter_map, flat_map, map, reverse}
 use Rattle.std.specs.Option.{option_or}
 use Rattle.std.specs.List.{AllByRecursion}
@@ -52,11 +52,11 @@ all_imports s c = imports c ++ flat_map (open_imports s) c.nodes
 
 -- ---- the check
 
--- an import is allowed under its name, and what is allowed may stand for it
+-- an import is allowed under its name, and what is allowed fits it
 abbrev pub ImportAllowed : Given → Meaning → List ℕ × Meaning → Type 0
 ImportAllowed s w x = (k : Meaning) × (allowed w x.0 ≡ Some k) × (s.rules.passes (promoted k) x.1 ≡ None)
 
--- an export of the world is exported, and what is exported may stand for it
+-- an export of the world is exported, and what is exported fits it
 abbrev pub ExportMet : Given → Composition → List ℕ × Meaning → Type 0
 ExportMet s c x = (node : ℕ) × StandsFor c.exports x.0 node × (s.rules.passes (kind_at c.nodes node) (promoted x.1) ≡ None)
 
@@ -64,7 +64,7 @@ ExportMet s c x = (node : ℕ) × StandsFor c.exports x.0 node × (s.rules.passe
 abbrev pub IsAllowed : Given → Composition → Meaning → Type 0
 IsAllowed s c w = AllByRecursion (ImportAllowed s w) (all_imports s c) × AllByRecursion (ExportMet s c) (exports_of w)
 
--- the path means a world type, which allows the composition
+-- the path resolves to a world type, which allows the composition
 abbrev pub MeetsPath : Given → Composition → PackagePath → Type 0
 MeetsPath s c p = (k : Meaning) × (w : Meaning) × LeadsTo s.setting (root_scope c) p k × (world_of k ≡ Some w) × IsAllowed s c w
 

@@ -34,7 +34,7 @@ defining c name m n = binding (with_export (with_node (with_resources c n) defin
 abbrev pub Defines : Composition → List ℕ → Meaning → ℕ → Composition → Type 0
 Defines old name m n new = IsFresh name old.exports × IsFresh name old.declared × (new ≡ defining old name m n)
 
--- from the old composition a type statement leads to the new one
+-- a type statement turns the old composition into the new one
 abbrev pub Declares : Setting → Composition → TypeStatement → Composition → Type 0
 Declares setting old (TypeStatement.interface d) new =
     (entry : Meaning) × (n : ℕ) × IsInterface setting (root_scope old) old.resources (declared_id setting d.id.string) d.items entry n

@@ -34,7 +34,7 @@ abbrev mutual
   HasType scope (Ty.stream t s) m = (v : Meaning) × HasOptional scope t v × (m ≡ defined_value Plain.stream (one_child v))
   HasType scope (Ty.future t s) m = (v : Meaning) × HasOptional scope t v × (m ≡ defined_value Plain.future (one_child v))
   HasType scope (Ty.error_context s) m = m ≡ primitive_value primitives.ErrorContext
-  -- an identifier of a resource type stands for an owned one, of a value type for that type
+  -- an identifier of a resource type denotes an owned resource, one of a value type that type
   HasType scope (Ty.ident x) m = (k : Meaning) × StandsFor scope x.string k × IsA is_resource_or_value_form k × (m ≡ as_value k)
 
   pub HasOptional : Scope → OptionalTy → Meaning → Type 0
@@ -72,11 +72,11 @@ IsFuncWith scope first f entry = (ps : Named Meaning) × (rs : List (Slot × Mea
 abbrev pub IsFunc : Scope → FuncType → Meaning → Type 0
 IsFunc scope f entry = IsFuncWith scope [] f entry
 
--- the entry of a constructor: it is not async, and its result is an owned one
+-- the entry of a constructor: it is not async, and its result is an owned resource
 abbrev pub IsConstructor : Scope → Meaning → List NamedType → Meaning → Type 0
 IsConstructor scope resource params entry = (ps : Named Meaning) × Steps (HasParam scope) [] params ps × (entry ≡ func_entry false (one_result (own_of resource)) ps)
 
--- what comes before the parameters of a method: itself, borrowed; a static one has nothing there
+-- what comes before the parameters of a method: its resource, borrowed; nothing where it is static
 abbrev pub first_params : Bool → Meaning → Named Meaning
 first_params true resource = []
 first_params false resource = (codes "self", borrow_of resource) ∷ []

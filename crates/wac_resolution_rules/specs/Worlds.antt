@@ -16,12 +16,12 @@ use Rattle.wac_resolution_rules.specs.Includes.{HasInclude}
 
 -- ---- interfaces
 
--- the entry of a function type, or of what an identifier of a function or function type stands for
+-- the entry of a function type, or of what an identifier of a function or function type denotes
 abbrev pub IsFuncRef : Scope → FuncTypeRef → Meaning → Type 0
 IsFuncRef scope (FuncTypeRef.func f) entry = IsFunc scope f entry
 IsFuncRef scope (FuncTypeRef.ident x) entry = (k : Meaning) × StandsFor scope x.string k × IsA is_func_form k × (entry ≡ entry_of k)
 
--- from the old body an item of an interface leads to the new one
+-- an item of an interface turns the old body into the new one
 abbrev pub HasInterfaceItem : Setting → Scope → Body → InterfaceItem → Body → Type 0
 HasInterfaceItem setting root old (InterfaceItem.use_statement u) new = HasUse setting root sides.Export old u new
 HasInterfaceItem setting root old (InterfaceItem.ty d) new = HasItem setting.naming sides.Export old d new
@@ -62,7 +62,7 @@ HasExtern setting root side old (WorldItemPath.named x) new =
 HasExtern setting root side old (WorldItemPath.path p) new = (k : Meaning) × LeadsTo setting root p k × HasInstance side old k new
 HasExtern setting root side old (WorldItemPath.ident x) new = (k : Meaning) × StandsFor root x.string k × HasInstance side old k new
 
--- from the old body an item of a world leads to the new one; includes come afterwards
+-- an item of a world turns the old body into the new one; includes come afterwards
 abbrev pub HasWorldItem : Setting → Scope → Body → WorldItem → Body → Type 0
 HasWorldItem setting root old (WorldItem.use_statement u) new = HasUse setting root sides.Import old u new
 HasWorldItem setting root old (WorldItem.world_import x) new = HasExtern setting root sides.Import old x.path new

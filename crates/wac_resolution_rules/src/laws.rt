@@ -34,7 +34,7 @@ ghost use Rattle.wac_resolution_rules.specs.Types.{HasType, IsFuncWith};
 ghost use Rattle.wac_resolution_rules.specs.Worlds.{HasInterfaceItem, HasWorldItem, IsInterface, IsWorld};
 
 /// Each judgement has one result: what a type, a declaration, a path, an interface, a world or an expression means,
-/// where a statement leads, and what a document describes.
+/// what a statement yields, and what a document describes.
 pub fn judgements_have_one_result()
     ensures types { (scope : Scope) (t : Ty) (a b : Meaning) → HasType scope t a → HasType scope t b → a ≡ b }
     ensures functions { (scope : Scope) (first : Named Meaning) (f : FuncType) (a b : Meaning) → IsFuncWith scope first f a → IsFuncWith scope first f b → a ≡ b }
@@ -57,7 +57,7 @@ pub fn layout_carries_no_meaning()
     ensures printed { (source text : List ℕ) (a b : Document) → IsUtf8 source → IsTreeOf source a → IsUtf8 text → IsTreeOf text b → IsReread text b source a → DescribeAlike b a }
 {}
 
-/// A statement that breaks a rule leads nowhere, and a target that breaks one isn't met.
+/// A statement that breaks a rule resolves to nothing, and a target that breaks one isn't met.
 pub fn broken_rules_stop()
     ensures statement { (s : Given) (old : Composition) (places : Places) (e : Error) (x : Statement) (new : Composition) → NamesRule e → StatementBroken s old places e x → Goes s old x new → ⊥ }
     ensures target { (s : Given) (c : Composition) (places : Places) (e : Error) (path : PackagePath) → NamesRule e → TargetBroken s c places e path → MeetsPath s c path → ⊥ }
@@ -78,7 +78,8 @@ pub fn compositions_begin_with_their_prefixes()
     ensures { (s : Given) (before after : List Statement) (new : Composition) → Composes s start (before ++ after) new → (mid : Composition) × Composes s start before mid × Begins mid new }
 {}
 
-/// Each edge goes from an earlier node to a later one. Each argument of an instance is for an import of its package, once, and may stand there.
+/// Each edge goes from an earlier node to a later one. Each argument of an instance is for an import of its package,
+/// once, and fits it.
 pub fn edges_go_forward()
     ensures { (s : Given) (statements : List Statement) (c : Composition) → Composes s start statements c → IsSound s c }
 {}
@@ -93,7 +94,8 @@ pub fn names_stand_once()
     ensures { (s : Given) (statements : List Statement) (c : Composition) → Composes s start statements c → NamesOnce c }
 {}
 
-/// Of the packages only those that a document mentions matter, to what it describes and to what fails in it first, and each package of which it makes an instance is mentioned.
+/// Of the packages only those that a document mentions matter, to what it describes and to what fails in it first, and
+/// each package that it instantiates is mentioned.
 pub fn only_mentioned_packages_matter()
     ensures kept { (s : Given) (packages : Packages) (document : Document) (c : Composition) → s.setting.own ≡ document.directive.package_name.name
         → Describes (given_over s (kept (mentions document) packages)) document c ↔ Describes (given_over s packages) document c }
@@ -104,7 +106,7 @@ pub fn only_mentioned_packages_matter()
     ensures instances { (s : Given) (document : Document) (c : Composition) → s.setting.own ≡ document.directive.package_name.name → Describes s document c → KeysHold (IsMentioned (mentions document)) c.nodes }
 {}
 
-/// Each name that statements bind, import or export has a place, and statements compose whether or not places stand beside them.
+/// Each name that statements bind, import or export has a place, and statements compose with or without places.
 pub fn names_have_places()
     ensures places { (s : Given) (statements : List Statement) (new : Placed) → Steps (Leads s) (placed_start start) statements new → HavePlaces new.composition new.places }
     ensures bound { (c : Composition) (p : Places) (name : List ℕ) (n : ℕ) → HavePlaces c p → StandsFor c.declared name n → (span : Span) × StandsFor p.bound name span }
@@ -119,8 +121,8 @@ pub fn scopes_are_covered()
     ensures world { (setting : Setting) (root : Scope) (n : ℕ) (items : List WorldItem) (body : Body) → Steps (HasWorldItem setting root) (empty_body n) items body → IsCovered sides.Import body }
 {}
 
-/// What a world imports and exports before an `include` it imports and exports after it, and so it does what the included world imports and exports
-/// under a name with a colon.
+/// After an `include` a world still imports and exports what it did before, and it imports or exports each name with a
+/// colon that the included world does.
 pub fn includes_lose_nothing()
     ensures imports { (setting : Setting) (root : Scope) (old : Body) (x : WorldInclude) (new : Body) (name : List ℕ) (m : Meaning) → HasInclude setting root old x new → StandsFor old.imports name m → StandsFor new.imports name m }
     ensures exports { (setting : Setting) (root : Scope) (old : Body) (x : WorldInclude) (new : Body) (name : List ℕ) (m : Meaning) → HasInclude setting root old x new → StandsFor old.exports name m → StandsFor new.exports name m }
