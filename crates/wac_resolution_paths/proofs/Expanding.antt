@@ -53,7 +53,7 @@ pub items_expanded : (old new : Parts) (ks : Named ItemKind) → Expands old new
 items_expanded old new [] e h = tt
 items_expanded old new (k ∷ ks) e h = (e.named k.1 h.0, items_expanded old new ks e h.1)
 
--- named kinds go on to mean the same
+-- named kinds still mean the same
 pub scope_expanded : (old new : Parts) (ks : Named ItemKind) (naming : Naming) → Expands old new → ItemsNamed old.types ks → scope_of naming new ks ≡ scope_of naming old ks
 scope_expanded old new [] naming e h = refl
 scope_expanded old new (k ∷ ks) naming e h =
@@ -105,7 +105,7 @@ contents a b w i d =
     ∙ ap (λ (m : Meaning). record { world = b.world; instance = m; definitions = a.definitions }) i
     ∙ ap (λ (l : Named Meaning). record { world = b.world; instance = b.instance; definitions = l }) d
 
--- a package goes on to have the same contents
+-- a package still has the same contents
 pub contents_expanded : (old new : Parts) (p : HeldPackage) (naming : Naming) → Expands old new → IsHeld old.types p → contents_in naming new p ≡ contents_in naming old p
 contents_expanded old new p naming e h = contents _ _
     (e.kinds naming (kinds.Component p.world) h.of_world)
@@ -126,7 +126,7 @@ handed_expanded packages old new e p h = record {
   contents = λ naming. h.contents naming ∙ ap Some (sym (contents_expanded old new p naming e h.there));
 }
 
--- where no package is added, each that is held goes on to be held as it was handed
+-- where no package is added, each that is held is still held as it was supplied
 pub handed_kept : (packages : List (Key × PackageParts)) (old new : Parts) → Expands old new → new.packages ≡ old.packages → HoldsHanded packages old → HoldsHanded packages new
 handed_kept packages old new e same h =
     subst (AllByRecursion (IsHandedAs packages new)) (sym same) (all_implies (IsHandedAs packages old) (IsHandedAs packages new) (handed_expanded packages old new e) old.packages h)

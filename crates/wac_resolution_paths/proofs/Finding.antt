@@ -1,4 +1,4 @@
--- What a path, or an identifier, leads to.
+-- What a path, or an identifier, resolves to.
 use Rattle.std.proofs.Common.{◌≡◌, ◌∙◌, inl, inr, ℕ, List, [], Some, None, Bool, true, false, refl, sym, ap, subst}
 use Rattle.std.specs.Prelude.{slice_get, option_map, Result, IfOk, IfErr}
 use Rattle.std.specs.Str.{bytes_eq}

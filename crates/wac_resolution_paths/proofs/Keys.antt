@@ -28,7 +28,7 @@ pub keyed_found : {X : Type 0} (key : PackageKey) (es : List (PackageKey × X)) 
 keyed_found key [] = refl
 keyed_found {X} key (e ∷ es) = (λ i. cond (key_eq key e.0 i) (Some e.1) (keyed_found key es i))
 
--- the contents of the package that was handed under a key
+-- the contents of the package that was supplied under a key
 pub contents_found : (naming : Naming) (key : Key) (packages : List (Key × PackageParts)) (p : PackageParts) → lookup (λ k. same_key key k) packages ≡ Some p → package_of key (handed naming packages) ≡ Some (contents_of naming key p)
 contents_found naming key [] p h = absurd (cc)
 contents_found naming key (e ∷ es) p h = go (same_key key e.0) refl h (contents_found naming key es p)
@@ -42,7 +42,7 @@ contents_found naming key (e ∷ es) p h = go (same_key key e.0) refl h (content
         ap (λ (k : Key). Some (contents_of naming k e.1)) (sym keys) ∙ ap (λ (q : PackageParts). Some (contents_of naming key q)) parts
     go false same h later = later h
 
--- nothing was handed under it
+-- nothing was supplied under it
 pub none_found : (naming : Naming) (key : Key) (packages : List (Key × PackageParts)) → lookup (λ k. same_key key k) packages ≡ None → package_of key (handed naming packages) ≡ None
 none_found naming key [] h = refl
 none_found naming key (e ∷ es) h = go (same_key key e.0) h (none_found naming key es)

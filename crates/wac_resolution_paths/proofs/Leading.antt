@@ -1,4 +1,4 @@
--- What segments lead to, and where they break.
+-- What segments resolve to, and where they break.
 use Rattle.std.proofs.Common.{◌≡◌, ◌∙◌, ◌⊎◌, inl, inr, ◌<◌, ℕ, suc, List, [], ◌∷◌, Some, None, take, length, get_or, refl, sym, ap, subst, arith}
 use Rattle.std.specs.Prelude.{slice_get, string_bytes, String, Result, IfOk}
 use Rattle.std.specs.declared.alloc.Global.{Global}
@@ -44,7 +44,7 @@ module _ (p : PackagePath) (first : List ℕ) (at : Span) (rest : Spans) (split 
   later_stands : (n : ℕ) (names : List (List ℕ)) (x : List ℕ × Span) → length names ≡ n → slice_get rest n ≡ Some x → slice_get (segment_spans p) (suc (length names)) ≡ Some x
   later_stands n names x count is = ap (λ (l : Spans). slice_get l (suc (length names))) split ∙ ap (slice_get rest) count ∙ is
 
-  -- ---- what they lead to
+  -- ---- what they resolve to
 
   pub segments_lead : (g : Parts) (ks : Named ItemKind) (k to : ItemKind) → KindIs ks (record { string = first; span = at }) k → MembersLead g k (texts rest) to → SegmentsLead g ks p to
   segments_lead g ks k to found lead = record {

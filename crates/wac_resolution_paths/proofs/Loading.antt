@@ -50,7 +50,7 @@ module _ (packages : List (Key × PackageParts)) (old new : Parts) (key : Key) (
     kinds = λ naming k h. kinds naming k h.0;
   }
 
-  -- a handed package was added
+  -- a supplied package was added
   pub loads_added : (held : HeldPackage) → lookup (λ k. same_key key k) packages ≡ Some p → HoldsHanded packages old → slice_get new.packages id ≡ Some held → IsHeld new.types held → Loads packages old new key id
   loads_added held found h is there =
       let both : Some held ≡ Some (moved_package (length old.types) key p) = sym is ∙ last in
@@ -68,7 +68,7 @@ module _ (packages : List (Key × PackageParts)) (old new : Parts) (key : Key) (
         keyed = ap (option_map (λ (x : HeldPackage). x.key)) last;
       }
 
--- no package was handed
+-- no package was supplied
 pub not_handed : (packages : List (Key × PackageParts)) (key : Key) → lookup (λ k. same_key key k) packages ≡ None → IsNotHanded packages key
 not_handed packages key h = record { is = λ naming. none_found naming key packages h }
 
@@ -77,7 +77,7 @@ handed_at packages g [] i p h is = absurd (cc)
 handed_at packages g (q ∷ ps) zero p h is = let same : q ≡ p = cc in subst (IsHandedAs packages g) same h.0
 handed_at packages g (q ∷ ps) (suc i) p h is = handed_at packages g ps i p h.1 is
 
--- the package that a graph holds under a number has the contents that were handed under its key
+-- the package that a graph holds under a number has the contents that were supplied under its key
 pub loaded_contents : (packages : List (Key × PackageParts)) (old new : Parts) (key : Key) (id : ℕ) (p : HeldPackage) → Loads packages old new key id → slice_get new.packages id ≡ Some p
     → (naming : Naming) → package_of key (handed naming packages) ≡ Some (contents_in naming new p)
 loaded_contents packages old new key id p l is naming =

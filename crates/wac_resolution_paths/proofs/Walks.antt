@@ -1,4 +1,4 @@
--- Later segments, one after another.
+-- Later segments, in order.
 use Rattle.std.proofs.Common.{◌≡◌, ◌∙◌, ◌⊎◌, inl, inr, ◌<◌, ◌≤◌, ◌+◌, ℕ, List, [], ◌∷◌, ◌++◌, Some, None, take, drop, length, get_or, refl, sym, ap, subst, arith}
 use Rattle.std.specs.Prelude.{slice_get}
 use Rattle.std.proofs.lemmas.List.{drop_more, drop_all, take_more, take_all, length-drop, length-map, get_or-map}
@@ -31,7 +31,7 @@ last_after : (first : List ℕ) (xs : List (List ℕ)) (x : List ℕ) → last_o
 last_after first [] x = refl
 last_after first (y ∷ xs) x = last_after y xs x
 
--- so many of the segments after the first one lead to a kind; the others are left
+-- so many of the segments after the first one resolve to a kind; the others are left
 pub record Walks (g : Parts) (first : List ℕ) (from : ItemKind) (all left : Spans) (before : ℕ) (last : List ℕ) (kind : ItemKind) : Type 0 where
   pub leads : MembersLead g from (take before (texts all)) kind
   pub latest : last ≡ last_of first (take before (texts all))

@@ -19,16 +19,16 @@ pub record Expands (old new : Parts) : Type 0 where
   pub named : KeepsNames old.types new.types
   pub kinds : (naming : Naming) (k : ItemKind) → Names old.types k → means naming new k ≡ means naming old k
 
--- the graph holds the package with the contents with which it was handed
+-- the graph holds the package with the contents with which it was supplied
 pub record IsHandedAs (packages : List (Key × PackageParts)) (g : Parts) (p : HeldPackage) : Type 0 where
   pub there : IsHeld g.types p
   pub contents : (naming : Naming) → package_of p.key (handed naming packages) ≡ Some (contents_in naming g p)
 
--- each package that the graph holds was handed, with the contents that it has there
+-- each package that the graph holds was supplied, with the contents that it has there
 abbrev pub HoldsHanded : List (Key × PackageParts) → Parts → Type 0
 HoldsHanded packages g = AllByRecursion (IsHandedAs packages g) g.packages
 
--- a kind was found, of which this holds; no resource was declared
+-- a kind was found for which this holds; no resource was declared
 pub record Found (packages : List (Key × PackageParts)) (old new : Parts) (holds : Naming → Meaning → Type 0) (k : ItemKind) : Type 0 where
   pub grows : Expands old new
   pub handed : HoldsHanded packages new
@@ -44,6 +44,6 @@ pub record Loads (packages : List (Key × PackageParts)) (old new : Parts) (key 
   pub there : id < length new.packages
   pub keyed : option_map (λ p. p.key) (slice_get new.packages id) ≡ Some key
 
--- no package of the key was handed
+-- no package of the key was supplied
 pub record IsNotHanded (packages : List (Key × PackageParts)) (key : Key) : Type 0 where
   pub is : (naming : Naming) → package_of key (handed naming packages) ≡ None

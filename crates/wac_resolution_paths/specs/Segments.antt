@@ -1,4 +1,4 @@
--- Where the segments of a path lead to in a graph.
+-- What the segments of a path resolve to in a graph.
 use Rattle.std.specs.Prelude.{◌≡◌, ℕ, List, map, take, Some, None, Bool, slice_get}
 use Rattle.wac_lexer.specs.Span.{Span}
 use Rattle.wac_types.specs.declared.kind.ItemKind.{ItemKind}
@@ -16,7 +16,7 @@ use Rattle.wac_resolution_rules.specs.Paths.{Setting, key_of_path, segments_of, 
 use Rattle.wac_resolution_state.specs.Named.{scope_of}
 use Rattle.wac_resolution_paths.specs.declared.members.Missing.{Missing}
 
--- segments, each with where it stands
+-- segments, each with its span
 abbrev pub Spans : Type 0
 Spans = List (List ℕ × Span)
 
@@ -24,21 +24,21 @@ Spans = List (List ℕ × Span)
 abbrev pub texts : Spans → List (List ℕ)
 texts all = map (λ s. s.0) all
 
--- a path that begins in the document's own package, or in a handed one, leads to a kind
+-- a path that begins in the document's own package, or in a supplied one, resolves to a kind
 abbrev pub LeadsAs : Bool → Setting → Scope → PackagePath → Meaning → Type 0
 LeadsAs own setting root p m = (from : Scope) × (beginning_of own root setting.packages (key_of_path p) ≡ Some from) × LeadsFrom from (segments_of p) m
 
--- from these named kinds the segments of a path lead to a kind
+-- among these named kinds the segments of a path resolve to a kind
 pub record SegmentsLead (g : Parts) (ks : Named ItemKind) (p : PackagePath) (k : ItemKind) : Type 0 where
   pub named : Names g.types k
   pub is : (naming : Naming) → LeadsFrom (scope_of naming g ks) (segments_of p) (means naming g k)
 
--- from a kind names lead to a kind, each an export of what the one before it stands for
+-- from a kind names resolve to a kind, each an export of what the one before it denotes
 pub record MembersLead (g : Parts) (from : ItemKind) (names : List (List ℕ)) (k : ItemKind) : Type 0 where
   pub named : Names g.types k
   pub go : (naming : Naming) → Steps IsMember (means naming g from) names (means naming g k)
 
--- so many segments lead to a kind, which does not export the next one
+-- so many segments resolve to a kind, which does not export the next one
 pub record Misses (g : Parts) (first : List ℕ) (from : ItemKind) (rest : Spans) (m : Missing) : Type 0 where
   pub leads : MembersLead g from (take m.before (texts rest)) m.kind
   pub last : m.last.now ≡ last_of first (take m.before (texts rest))

@@ -7,10 +7,10 @@ use Rattle.wac_graph.specs.Packages.{handed}
 use Rattle.wac_resolution_rules.specs.Paths as rules
 use Rattle.wac_resolution_paths.specs.declared.setting.Setting.{Setting}
 
--- the handed packages by key
+-- the supplied packages by key
 abbrev pub packages_in : Setting → List (Key × PackageParts)
 packages_in s = map (λ e. (key_of e.0, e.1)) s.packages.now.entries
 
--- the setting of which the rules speak
+-- the setting that the rules speak of
 abbrev pub setting_of : Naming → Setting → rules.Setting
 setting_of naming s = record { naming = naming; own = s.own.now; version = option_map (λ v. v.now) s.version; packages = handed naming (packages_in s) }

@@ -62,7 +62,7 @@ fn joined(
     Ok(text)
 }
 
-/// The segments before one, joined; so many of them stand between it and the first one.
+/// The segments before one, joined: the first one and so many after it.
 fn segments_before(
     alloc: Global,
     path: &PackagePath<'_>,
@@ -77,7 +77,7 @@ fn segments_before(
     joined(alloc, first, rest, count)
 }
 
-/// What is reported of a package that was not handed.
+/// What is reported of a package that was not supplied.
 fn unknown(alloc: Global, path: &PackagePath<'_>) -> Result<Error, AllocError>
     ensures { IfOk result (λ e. told e ≡ unknown_package path.now.name.now (package_name_span (package_path_of path.now))) }
 {
@@ -123,7 +123,7 @@ fn not_exported(
     })
 }
 
-/// What the first segment stands for among what a package defines.
+/// What the first segment denotes among what a package defines.
 fn defined(
     alloc: Global,
     definitions: &IndexMap<String, ItemKind>,
@@ -140,7 +140,7 @@ fn defined(
     }
 }
 
-/// What a path leads to among what its package defines.
+/// What a path resolves to among what its package defines.
 fn defined_path(
     state: &State,
     definitions: &IndexMap<String, ItemKind>,
@@ -177,7 +177,7 @@ fn load(
     package(state, setting, &key)
 }
 
-/// What a path leads to in a package that is handed.
+/// What a path resolves to in a supplied package.
 pub fn foreign_path(
     state: &mut State,
     setting: &Setting<'_>,

@@ -24,7 +24,7 @@ fn copied_version(alloc: Global, text: &str) -> Result<Option<String>, AllocErro
     }
 }
 
-/// The key of the package of a name, with the version that stands in the whole text.
+/// The key of the package of a name, with the version that is in the whole text.
 pub fn package_key(alloc: Global, name: &str, text: &str) -> Result<PackageKey, AllocError>
     ensures { IfOk result (λ k. key_of k ≡ (name.now, version_text text.now)) }
 {

@@ -1,4 +1,4 @@
-//! Part of `wac_resolution`: paths, what they lead to, and the packages that they bring into the graph.
+//! Part of `wac_resolution`: paths, what they resolve to, and the packages that they bring into the graph.
 #![tactic(auto)]
 
 mod foreign;

@@ -7,22 +7,22 @@ use wac_ast_base::SegmentSpans;
 use wac_graph::{CompositionGraph, ItemKind};
 use wac_lexer::SourceSpan;
 
-/// A segment that is not exported by what the one before it stands for.
+/// A segment that is not exported by what the one before it denotes.
 #[derive(Clone, Copy)]
 pub struct Missing<'a> {
-    /// How many segments stand between it and the first one.
+    /// How many segments there are between it and the first one.
     pub before: usize,
     /// The segment before it.
     pub last: &'a str,
-    /// What that one stands for.
+    /// What that one denotes.
     pub kind: ItemKind,
     /// The segment.
     pub segment: &'a str,
-    /// Where it stands.
+    /// Its span.
     pub span: SourceSpan,
 }
 
-/// What segments lead to, after a first one that stands for a kind.
+/// What segments resolve to, after a first one that denotes a kind.
 pub fn members<'a>(
     graph: &CompositionGraph,
     first: &'a str,

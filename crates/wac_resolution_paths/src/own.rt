@@ -33,7 +33,7 @@ fn not_exported(alloc: Global, missing: Missing<'_>) -> Result<Error, AllocError
     })
 }
 
-/// What a path leads to among the names at root.
+/// What a path resolves to among the names at root.
 pub fn own_path(
     state: &State,
     root: &Names<'_, ItemKind>,

@@ -10,14 +10,14 @@ use std::alloc::AllocError;
 use wac_graph::{Package, PackageId, PackageKey};
 use wac_resolution_state::State;
 
-/// The handed package of a key.
+/// The supplied package of a key.
 fn handed<'s>(setting: &Setting<'s>, key: &PackageKey) -> Option<&'s Package>
     ensures { option_map (λ p. p.now) result ≡ lookup (λ k. same_key (key_of key.now) k) (packages_in setting.now) }
 {
     setting.packages.get(key)
 }
 
-/// The package of a key: the graph's own if it holds one, else a copy of the handed one, if one was handed.
+/// The package of a key: the graph's own if it holds one, else a copy of the supplied one, if there is one.
 pub fn package(
     state: &mut State,
     setting: &Setting<'_>,

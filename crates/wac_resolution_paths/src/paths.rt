@@ -1,4 +1,4 @@
-//! What paths and references lead to.
+//! What paths and references resolve to.
 ghost use Rattle.std.specs.Prelude.{◌≡◌, IfOk, IfErr};
 ghost use Rattle.std.specs.Str.{bytes_eq};
 ghost use Rattle.wac_types.specs.Table.{ItemsNamed};
@@ -30,7 +30,7 @@ fn is_own(setting: &Setting<'_>, path: &PackagePath<'_>) -> bool
     path.name == setting.own
 }
 
-/// What a path leads to.
+/// What a path resolves to.
 pub fn path(
     state: &mut State,
     setting: &Setting<'_>,
@@ -66,7 +66,7 @@ pub fn use_path(
     }
 }
 
-/// What a reference to a world leads to.
+/// What a reference to a world resolves to.
 pub fn world_ref(
     state: &mut State,
     setting: &Setting<'_>,

@@ -3,13 +3,13 @@
 use indexmap::IndexMap;
 use wac_graph::{Package, PackageKey};
 
-/// What a document is resolved in: its own package, and the packages that were handed.
+/// What a document is resolved in: its own package, and the packages that were supplied.
 #[derive(Clone, Copy)]
 pub struct Setting<'s> {
     /// The name of the document's own package.
     pub own: &'s str,
     /// Its version.
     pub version: Option<&'s str>,
-    /// The handed packages.
+    /// The supplied packages.
     pub packages: &'s IndexMap<PackageKey, Package>,
 }
