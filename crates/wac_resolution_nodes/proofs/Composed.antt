@@ -42,7 +42,7 @@ each_stands : {X : Type 0} (P : ℕ → X → Type 0) (Q : X → Type 0) → ((i
 each_stands P Q to [] h = tt
 each_stands {X} P Q to (x ∷ xs) h = (to 0 x (h 0 x refl), each_stands (λ i. P (suc i)) Q (λ i. to (suc i)) xs (λ i y is. h (suc i) y is))
 
--- in a sound graph each node stands
+-- in a sound graph the kind and the package of each node exist
 pub sound_stands : (g : Parts) → IsSound g → NodesStand g
 sound_stands g h = each_stands (IsSoundNode g) (Stands g) (stands_well g) g.nodes h.nodes
 
@@ -61,7 +61,7 @@ form_kept old new held defined h = refl
 form_kept old new held (alias node export) h = refl
 form_kept old new held (instantiation p arguments) h = ap instance_form (instance_kept old new held p h)
 
--- a node goes on to mean the same
+-- a node still means the same
 node_kept : (old new : Parts) (naming : Naming) → ((i : ℕ) (p : HeldPackage) → slice_get old.packages i ≡ Some p → slice_get new.packages i ≡ Some p)
     → ((k : ItemKind) → Names old.types k → means naming new k ≡ means naming old k) → (n : GraphNode) → Stands old n → node_of naming new n ≡ node_of naming old n
 node_kept old new naming held kinds n h =
@@ -93,7 +93,7 @@ composition_grows old new declared naming g h =
     let same : new ≡ record old { types = new.types; packages = new.packages } = g.same ∙ ap (λ (ps : List HeldPackage). record old { types = new.types; packages = ps }) (sym packages) in
     composition_expands old new declared naming same (λ i p is. ap (λ (ps : List HeldPackage). slice_get ps i) packages ∙ is) (g.kinds naming) h
 
--- nodes stand in the graph with more types and packages
+-- in a graph with more types and packages the kinds and the packages of nodes still exist
 each_still_stands : (old new : Parts) → ((i : ℕ) (p : HeldPackage) → slice_get old.packages i ≡ Some p → slice_get new.packages i ≡ Some p) → KeepsNames old.types new.types → (ns : List GraphNode)
     → AllByRecursion (Stands old) ns → AllByRecursion (Stands new) ns
 each_still_stands old new held named [] h = tt
@@ -166,7 +166,7 @@ set_same [] i x h = absurd (cc)
 set_same {X} (z ∷ xs) zero x h = (let same : z ≡ x = cc in ap (λ (y : X). y ∷ xs) (sym same))
 set_same {X} (z ∷ xs) (suc i) x h = ap (λ (l : List X). z ∷ l) (set_same xs i x h)
 
--- the nodes of the composition, of which one has a name where it had none
+-- the nodes of the composition, where one gets a name if it had none
 named_in : (naming : Naming) (g : Parts) (node : ℕ) (n : GraphNode) (name : List ℕ) → slice_get g.nodes node ≡ Some n
     → named_at (map (node_of naming g) g.nodes) node name ≡ slice_set (map (node_of naming g) g.nodes) node (record (node_of naming g n) { name = first_name n.name name })
 named_in naming g node n name at =
@@ -204,7 +204,7 @@ same_alias ps node name (instantiation p arguments) = go (slice_get ps p)
     go None = refl
     go (Some h) = refl
 
--- an alias is there in the composition where it is in the graph
+-- an alias is in the composition where it is in the graph
 pub alias_there : (naming : Naming) (g : Parts) (declared : Named ℕ) (node : ℕ) (name : List ℕ) → alias_in (composition_of naming g declared) node name ≡ alias_in_nodes g.nodes node name
 alias_there naming g declared node name =
     position_map (λ (n : Node). is_alias_of node name n.form) (node_of naming g) g.nodes
@@ -222,7 +222,7 @@ aliased_there old new node name k declared naming None is exported h =
     ap (λ (g : Parts). composition_of naming g declared) alias_added ∙ added old declared naming (plain_node (alias node name) k)
 aliased_there old new node name k declared naming (Some n) is exported h = ap (λ (g : Parts). composition_of naming g declared) h
 
--- the alias is there, or is the next node
+-- the alias exists, or is the next node
 pub composition_aliases : (old new : Parts) (node : ℕ) (name : List ℕ) (k : ItemKind) → export_kind old node name ≡ Some k → IsAliased old new node name
     → (naming : Naming) (declared : Named ℕ) → composition_of naming new declared ≡ with_alias (composition_of naming old declared) node name (means naming old k)
 composition_aliases old new node name k exported h naming declared =
@@ -311,7 +311,7 @@ newly_named old new node name r read has is sound = go (slice_get old.nodes node
     go (Some n) at None read has = named_where_none old new node name n at (cc) is (sound_stands new sound)
     go (Some n) at (Some x) read has = absurd (cc)
 
--- a node that has no name has none
+-- a node has no name where none is read
 pub unnamed : (g : Parts) (node : ℕ) (r : Option (Bor (List ℕ))) → option_map (λ (n : GraphNode). n.name) (slice_get g.nodes node) ≡ Some (option_map (λ (s : Bor (List ℕ)). s.now) r) → is_some r ≡ false → option_and_then (λ (n : GraphNode). n.name) (slice_get g.nodes node) ≡ None
 unnamed g node r read has = go (slice_get g.nodes node) r read has
   where
@@ -344,7 +344,7 @@ alias_goes old new node name k n exported h number stand =
           ∙ ap (λ (m : ℕ). at (with_alias (composition_of naming old declared) node name (means naming old k)) m) (alias_numbered naming old declared node name n number);
     }
 
--- the same, of the export that is there
+-- the same for an export that exists
 pub alias_made : (old new : Parts) (node : ℕ) (name : List ℕ) (n : ℕ) → IsAliased old new node name → unwrap_or (alias_in_nodes old.nodes node name) (length old.nodes) ≡ n → IsSound new → IfSome (export_kind old node name) (λ k. AliasGoes old new node name k n)
 alias_made old new node name n h number sound = go (export_kind old node name) refl
   where

@@ -117,7 +117,7 @@ access_goes old new node i p name n h is there goes = go (export_kind old node n
           );
     }
 
--- ---- one after another
+-- ---- accesses in order
 
 abbrev pub SoFar : Parts → Parts → ℕ → Span → List PostfixExpr → ℕ → Span → Type 0
 SoFar old new node span ps n last = AccessesGo old new node ps n × (last ≡ last_span span ps)

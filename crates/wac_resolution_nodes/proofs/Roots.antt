@@ -1,4 +1,4 @@
--- What the names at root stand for.
+-- What the names at root denote.
 use Rattle.std.proofs.Common.{◌≡◌, ◌∙◌, ◌<◌, ℕ, zero, suc, List, [], ◌∷◌, ◌++◌, Option, Some, None, Bool, true, false, cond, inr, refl, sym, ap, subst, map, length}
 use Rattle.std.specs.Prelude.{slice_get, option_map}
 use Rattle.std.specs.List.{AllByRecursion}
@@ -85,7 +85,7 @@ each_named g [] (k ∷ ks) stand h = absurd h
 each_named g (n ∷ ns) [] stand h = absurd h
 each_named g (n ∷ ns) (k ∷ ks) stand h = (kind_named g n.1.1.0 k.1.1 stand h.0.kind, each_named g ns ks stand h.1)
 
--- each kind that a name at root stands for is there
+-- each kind that a name at root denotes exists
 pub items_named : (g : Parts) (root : Root) → Agrees g root → ItemsNamed g.types (values_of root.kinds)
 items_named g root h = each_named g root.nodes root.kinds h.nodes h.names
 
@@ -103,7 +103,7 @@ each_places g (n ∷ ns) (k ∷ ks) h =
 pub places_agree : (g : Parts) (root : Root) → Agrees g root → places_of root.kinds ≡ places root
 places_agree g root h = each_places g root.nodes root.kinds h.names
 
--- what a name stands for in both
+-- what a name denotes in both
 pub record Bound (g : Parts) (ks : Bindings ItemKind) (name : List ℕ) (n : ℕ) : Type 0 where
   pub kind : ItemKind
   pub of : kind_in g.nodes n ≡ Some kind
@@ -123,11 +123,11 @@ each_bound g (x ∷ ns) (k ∷ ks) name n h is = go (bytes_eq name x.0) (ap (byt
     }
     go false same later at = (let r = later at in record { kind = r.kind; of = r.of; found = ap (λ (b : Bool). cond b (Some k.1.1) (look_up name (values_of ks))) same ∙ r.found })
 
--- a name that stands for a node stands for its kind
+-- a name that denotes a node also denotes the node's kind
 pub bound_kind : (g : Parts) (root : Root) (name : List ℕ) (n : ℕ) → Agrees g root → look_up name (numbers_of root.nodes) ≡ Some n → Bound g root.kinds name n
 bound_kind g root name n h is = each_bound g root.nodes root.kinds name n h.names is
 
--- the node is there
+-- the node exists
 pub bound_there : (g : Parts) (root : Root) (name : List ℕ) (n : ℕ) → Agrees g root → look_up name (numbers_of root.nodes) ≡ Some n → n < length g.nodes
 bound_there g root name n h is = (let b = bound_kind g root name n h is in kind_there g.nodes n b.kind b.of)
 

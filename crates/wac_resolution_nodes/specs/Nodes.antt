@@ -1,4 +1,4 @@
--- The composition that a graph stands for.
+-- The composition that a graph represents.
 use Rattle.std.specs.Prelude.{ℕ, List, map, Option, Some, None, option_map, slice_get, IfSome, IsSome}
 use Rattle.std.specs.List.{AllByRecursion}
 use Rattle.wac_types.specs.declared.kind.ItemKind.{ItemKind}
@@ -31,11 +31,11 @@ node_of naming g n = record { form = form_in g.packages n.form; kind = means nam
 abbrev pub composition_of : Naming → Parts → Named ℕ → Composition
 composition_of naming g declared = record { nodes = map (node_of naming g) g.nodes; exports = g.exports; declared = declared; resources = declared_count g }
 
--- the kind of the node of a number, if it is there
+-- the kind of the node of a number, if there is one
 abbrev pub kind_in : List GraphNode → ℕ → Option ItemKind
 kind_in ns n = option_map (λ x. x.kind) (slice_get ns n)
 
--- a node's kind is there, and the package of which it is an instance
+-- a node's kind exists, and so does the package that it is an instance of
 pub record Stands (g : Parts) (n : GraphNode) : Type 0 where
   pub kind : Names g.types n.kind
   pub held : IfSome (package_in n.form) (λ p. IsSome (slice_get g.packages p))

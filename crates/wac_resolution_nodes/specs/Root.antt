@@ -1,4 +1,4 @@
--- The scope at root: each name stands for a node and, as types are resolved, for the node's kind.
+-- The scope at root: each name denotes a node and, where types are resolved, the node's kind.
 use Rattle.std.specs.Prelude.{◌≡◌, ◌<◌, ℕ, List, [], ◌∷◌, map, length, Some}
 use Rattle.wac_lexer.specs.Span.{Span}
 use Rattle.wac_grammar.specs.Tree.{Ident}
@@ -13,7 +13,7 @@ use Rattle.wac_resolution_nodes.specs.declared.root.Root.{Root}
 use Rattle.wac_resolution_nodes.specs.Nodes.{composition_of, kind_in, NodesStand}
 use Rattle.wac_resolution_nodes.specs.Growth.{GrowsNodes}
 
--- the number of the node that each name stands for
+-- the number of the node that each name denotes
 abbrev pub numbers_of : Bindings NodeId → Named ℕ
 numbers_of all = map (λ b. (b.0, b.1.1.0)) all
 
@@ -25,20 +25,20 @@ composed naming g root = composition_of naming g (numbers_of root.nodes)
 abbrev pub places : Root → Named Span
 places root = places_of root.nodes
 
--- one name: at one place it stands for a node and for its kind
+-- one name: at one place it denotes a node and the node's kind
 pub record Agree (g : Parts) (n : List ℕ × (Span × NodeId)) (k : List ℕ × (Span × ItemKind)) : Type 0 where
   pub name : k.0 ≡ n.0
   pub place : k.1.0 ≡ n.1.0
   pub kind : kind_in g.nodes n.1.1.0 ≡ Some k.1.1
 
--- each name, one after another
+-- each name, in order
 abbrev pub EachAgrees : Parts → Bindings NodeId → Bindings ItemKind → Type 0
 EachAgrees g [] [] = Unit {0}
 EachAgrees g [] (k ∷ ks) = ⊥
 EachAgrees g (n ∷ ns) [] = ⊥
 EachAgrees g (n ∷ ns) (k ∷ ks) = Agree g n k × EachAgrees g ns ks
 
--- the names at root stand for nodes of the graph and for their kinds
+-- the names at root denote nodes of the graph and their kinds
 pub record Agrees (g : Parts) (root : Root) : Type 0 where
   pub nodes : NodesStand g
   pub names : EachAgrees g root.nodes root.kinds
@@ -50,7 +50,7 @@ pub record Binds (old new : Parts) (before after : Root) (x : Ident) (node : ℕ
   pub is : (naming : Naming) → composed naming new after ≡ binding (composed naming old before) x.string node
   pub places : places after ≡ with_named (places before) x.string x.span
 
--- the identifier stands for the node, which is there in each graph with which the names agree
+-- the identifier denotes the node, which exists in each graph that the names agree with
 pub record NodeIs (root : Root) (x : Ident) (node : NodeId) : Type 0 where
   pub is : StandsFor (numbers_of root.nodes) x.string node.0
   pub there : (g : Parts) → Agrees g root → node.0 < length g.nodes

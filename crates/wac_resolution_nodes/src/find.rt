@@ -18,7 +18,7 @@ fn unversioned_text(text: &str) -> &str
     }
 }
 
-/// Whether the name is what stands in the text after the last `/` and before `@`.
+/// Whether the name is the part of the text after the last `/` and before `@`.
 fn is_short_for(name: &str, text: &str) -> bool
     ensures { result ≡ short_for name.now text.now }
 {

@@ -1,4 +1,5 @@
-//! Part of `wac_resolution`: the composition that a graph stands for, the names at root, and accesses to the exports of instances.
+//! Part of `wac_resolution`: the composition that a graph represents, the names at root, and accesses to the exports of
+//! instances.
 #![tactic(auto)]
 
 mod find;

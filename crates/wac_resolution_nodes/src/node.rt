@@ -77,7 +77,7 @@ pub fn instance_id(state: &State, node: NodeId) -> Option<&str>
     }
 }
 
-/// The name under which a node is imported, or else the name of the export of which it is an alias.
+/// The name under which a node is imported, or else the name of the export whose alias it is.
 pub fn own_name(state: &State, node: NodeId) -> Option<&str>
     requires { node.0 < length state.now.graph.nodes }
     ensures { (naming : Naming) (declared : Named ℕ) → option_and_then name_of_node (node_at (composition_of naming state.now.graph declared) node.0) ≡ option_map (λ s. s.now) result }

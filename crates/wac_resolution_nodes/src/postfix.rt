@@ -26,7 +26,7 @@ use wac_lexer::SourceSpan;
 use wac_resolution_errors::{Error, InstanceOperation};
 use wac_resolution_state::State;
 
-/// The node that is the alias of an export of an instance: the one that is there, else a new one.
+/// The node that is the alias of an export of an instance: the existing one, else a new one.
 pub fn alias(state: &mut State, node: NodeId, export: &str) -> Result<NodeId, AllocError>
     requires { IsSome (export_kind state.old.graph node.0 export.now) }
     ensures { IfOk result (λ n. IfSome (export_kind state.old.graph node.0 export.now) (λ k. AliasGoes state.old.graph state.new.graph node.0 export.now k n.0)) }
@@ -36,7 +36,7 @@ pub fn alias(state: &mut State, node: NodeId, export: &str) -> Result<NodeId, Al
     Ok(alias)
 }
 
-/// The name of the export that an access means: an identifier by find, a string as it stands.
+/// The name of the export that an access means: an identifier by find, a string as it is.
 #[tactic(auto, using(crate::proofs::Found::found_meant))]
 fn accessed<'x>(
     access: &'x PostfixExpr<'_>,
@@ -65,7 +65,7 @@ fn accessed_export(
     String::from_str(state.alloc, accessed(access, exports))
 }
 
-/// The alias to which an access leads. Its span is that of what stands before it.
+/// The alias that an access denotes. The span is that of what comes before it.
 pub fn access(
     state: &mut State,
     node: NodeId,
@@ -87,7 +87,7 @@ pub fn access(
     Ok(alias(state, node, name.as_str())?)
 }
 
-/// The node to which accesses lead, one after another. The span is that of what stands before them.
+/// The node that accesses denote, in order. The span is that of what comes before them.
 pub fn accesses(
     state: &mut State,
     node: NodeId,

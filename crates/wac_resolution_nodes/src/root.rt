@@ -17,7 +17,7 @@ use wac_graph::{ItemKind, NodeId};
 use wac_resolution_errors::Error;
 use wac_resolution_state::{Names, State};
 
-/// The names that are bound at root: each stands for a node and, where types are resolved, for the node's kind.
+/// The names that are bound at root: each denotes a node and, where types are resolved, the node's kind.
 #[derive(Drop)]
 pub struct Root<'a> {
     /// The node of each name.
@@ -38,7 +38,7 @@ impl<'a> Root<'a> {
         }
     }
 
-    /// The node that an identifier stands for.
+    /// The node that an identifier denotes.
     #[tactic(auto, using(crate::proofs::Roots::nodes_found))]
     pub fn node(&self, alloc: Global, id: &Ident<'_>) -> Result<NodeId, Error>
         ensures ok { IfOk result (λ n. NodeIs self.now (ident_of id.now) n) }
