@@ -3,7 +3,7 @@ use Rattle.std.specs.Prelude.{Option, Some, None}
 use Rattle.wac_lexer.specs.Span.{Span}
 use Rattle.wac_resolution_errors.specs.Error.{Error, undefined_name, duplicate_name, duplicate_interface_export, duplicate_world_item, not_func_or_interface, not_interface, duplicate_world_include_name, not_world, missing_world_include, world_include_conflict, undefined_interface_type, not_interface_value_type, duplicate_resource_constructor, duplicate_resource_method, duplicate_variant_case, duplicate_record_field, duplicate_enum_case, duplicate_flag, invalid_alias_type, not_func_type, not_resource_type, not_value_type, duplicate_parameter, duplicate_result, borrow_in_result, unknown_package, package_missing_export, package_path_missing_export, declaration_conflict, use_conflict, missing_component_import, mismatched_instantiation_arg, duplicate_instantiation_arg, missing_instantiation_arg, not_an_instance, missing_instance_export, export_requires_as, export_conflict, duplicate_extern_name, invalid_extern_name, fill_argument_not_last, spread_instantiation_no_match, spread_export_no_effect, import_not_in_target, missing_target_export, target_mismatch, memory}
 
--- its span; what is imported for an instance alone stands nowhere in a text
+-- its span; what is imported for an instance alone has no place in a text
 abbrev pub span_of : Error → Option Span
 span_of (undefined_name name at) = Some at
 span_of (duplicate_name name at previous) = Some at

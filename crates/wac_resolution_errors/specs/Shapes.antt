@@ -1,4 +1,4 @@
--- Forms of messages. Names stand in backquotes.
+-- Forms of messages. Names are in backquotes.
 use Rattle.std.specs.Prelude.{ℕ, List, ◌++◌, codes}
 use Rattle.wac_types.specs.Words.{extern_word, func_word}
 use Rattle.wac_types.specs.declared.kind.ExternKind.{ExternKind}
@@ -12,7 +12,7 @@ quoted before name after = before ++ (codes "`" ++ (name ++ (codes "`" ++ after)
 unfoldable pub pair : (before first between second : List ℕ) → List ℕ
 pair before first between second = before ++ (codes "`" ++ (first ++ (codes "`" ++ (between ++ (codes "`" ++ (second ++ codes "`"))))))
 
--- a name, what it stands for, and how that doesn't fit
+-- a name, what it denotes, and how that doesn't fit
 unfoldable pub kinded : (name kind fault : List ℕ) → List ℕ
 kinded name kind fault = codes "`" ++ (name ++ (codes "` (" ++ (kind ++ (codes ") " ++ fault))))
 

@@ -1,4 +1,4 @@
--- What a message of src shows.
+-- The text that a `Message` denotes.
 use Rattle.std.specs.Prelude.{ℕ, List, ◌++◌, codes, string_bytes}
 use Rattle.wac_resolution_errors.specs.declared.message.Message.{Message}
 use Rattle.wac_resolution_errors.specs.declared.message.Message.TheVariants as messages

@@ -1,4 +1,4 @@
--- What an error reports, without where its texts lie in memory.
+-- What an error reports, apart from where its texts lie in memory.
 use Rattle.std.specs.Prelude.{option_map, string_bytes}
 use Rattle.wac_resolution_errors.specs.Error.{Error as Told, Operation, access, spread}
 use Rattle.wac_resolution_errors.specs.Error as rules

@@ -19,7 +19,7 @@ use wac_types::{ExternKind, FuncKind, Reason};
 /// Spans are in bytes of the source. The `Display` is the message, without places.
 #[derive(Debug, Drop)]
 pub enum Error {
-    /// A name stands for nothing where it is used.
+    /// A name denotes nothing where it is used.
     UndefinedName {
         /// The name.
         name: String,
@@ -55,11 +55,11 @@ pub enum Error {
         /// The identifier or path.
         span: SourceSpan,
     },
-    /// A world item is typed by something else than a function type or an interface.
+    /// A world item is typed by something other than a function type or an interface.
     NotFuncOrInterface {
         /// The identifier.
         name: String,
-        /// What it stands for.
+        /// What it denotes.
         kind: &'static str,
         /// The identifier.
         span: SourceSpan,
@@ -68,7 +68,7 @@ pub enum Error {
     NotInterface {
         /// The identifier, or the whole path.
         name: String,
-        /// What it stands for.
+        /// What it denotes.
         kind: &'static str,
         /// The identifier or path.
         span: SourceSpan,
@@ -84,12 +84,12 @@ pub enum Error {
     NotWorld {
         /// The identifier, or the whole path.
         name: String,
-        /// What it stands for.
+        /// What it denotes.
         kind: &'static str,
         /// The identifier or path.
         span: SourceSpan,
     },
-    /// The `with` clause of an include renames a name that is not there.
+    /// The `with` clause of an include renames a name that the included world does not have.
     MissingWorldInclude {
         /// The included world.
         world: String,
@@ -98,7 +98,7 @@ pub enum Error {
         /// The name to be renamed.
         span: SourceSpan,
     },
-    /// A name that an include takes over is there already.
+    /// A name that an include takes over exists already.
     WorldIncludeConflict {
         /// Whether it is an import or an export.
         kind: ExternKind,
@@ -126,7 +126,7 @@ pub enum Error {
     NotInterfaceValueType {
         /// The name.
         name: String,
-        /// What it stands for.
+        /// What it denotes.
         kind: &'static str,
         /// The interface.
         interface_name: String,
@@ -189,7 +189,7 @@ pub enum Error {
     InvalidAliasType {
         /// The identifier.
         name: String,
-        /// What it stands for.
+        /// What it denotes.
         kind: &'static str,
         /// The identifier.
         span: SourceSpan,
@@ -198,7 +198,7 @@ pub enum Error {
     NotFuncType {
         /// The identifier.
         name: String,
-        /// What it stands for.
+        /// What it denotes.
         kind: &'static str,
         /// The identifier.
         span: SourceSpan,
@@ -207,16 +207,16 @@ pub enum Error {
     NotResourceType {
         /// The identifier.
         name: String,
-        /// What it stands for.
+        /// What it denotes.
         kind: &'static str,
         /// The identifier.
         span: SourceSpan,
     },
-    /// What stands for a type of values is none.
+    /// What is used as a type of values is not one.
     NotValueType {
         /// The identifier.
         name: String,
-        /// What it stands for.
+        /// What it denotes.
         kind: &'static str,
         /// The identifier.
         span: SourceSpan,
@@ -244,38 +244,38 @@ pub enum Error {
         /// The type of the result.
         span: SourceSpan,
     },
-    /// A package was not handed to the resolver.
+    /// A package was not supplied to the resolver.
     UnknownPackage {
         /// The name of the package, without its version.
         name: String,
         /// The package: in `new` with its version, in a path without.
         span: SourceSpan,
     },
-    /// A package has nothing at the end of a path.
+    /// A package does not have what a path names.
     PackageMissingExport {
         /// The package, without its version.
         package: String,
         /// The segment that is missing.
         export: String,
-        /// What the segment before it stands for, where there is one.
+        /// What the segment before it denotes, where there is one.
         kind: Option<&'static str>,
         /// The segments before it, joined by `/`.
         path: String,
         /// The segment.
         span: SourceSpan,
     },
-    /// An item of this package has nothing at the end of a path.
+    /// An item of this package does not have what a path names.
     PackagePathMissingExport {
         /// The segment before.
         name: String,
-        /// What that one stands for.
+        /// What that one denotes.
         kind: &'static str,
         /// The segment that is missing.
         export: String,
         /// The segment.
         span: SourceSpan,
     },
-    /// A component imports nothing of an argument's name.
+    /// A component has no import of an argument's name.
     MissingComponentImport {
         /// The package, without its version.
         package: String,
@@ -284,7 +284,7 @@ pub enum Error {
         /// The argument.
         span: SourceSpan,
     },
-    /// An argument may not stand for the import of its name.
+    /// An argument does not fit the import of its name.
     MismatchedInstantiationArg {
         /// The name of the argument.
         name: String,
@@ -309,13 +309,13 @@ pub enum Error {
         /// The name of the package.
         span: SourceSpan,
     },
-    /// Something of a node that is no instance is asked for.
+    /// What is accessed or spread is not an instance.
     NotAnInstance {
         /// What the node is.
         kind: &'static str,
-        /// What is asked for.
+        /// Whether it is an access or a spread.
         operation: InstanceOperation,
-        /// The expression, or what stands before the access.
+        /// The expression, or what comes before the access.
         span: SourceSpan,
     },
     /// An instance has no export of the name.
@@ -376,7 +376,7 @@ pub enum Error {
         /// The name.
         span: SourceSpan,
     },
-    /// The name of a used type is there already.
+    /// The name of a used type exists already.
     UseConflict {
         /// Whether it is an import or an export.
         kind: ExternKind,
@@ -387,7 +387,7 @@ pub enum Error {
         /// What can be done, where the type has no new name.
         help: Option<&'static str>,
     },
-    /// Another argument stands after `...`.
+    /// Another argument comes after `...`.
     FillArgumentNotLast {
         /// The `...`.
         span: SourceSpan,
@@ -422,7 +422,7 @@ pub enum Error {
         /// The path of the target.
         span: SourceSpan,
     },
-    /// An import or export may not stand for that of the target world.
+    /// An import or export does not fit that of the target world.
     TargetMismatch {
         /// Whether it is an import or an export.
         kind: ExternKind,
@@ -435,7 +435,7 @@ pub enum Error {
         /// The name, or `None` where an instantiation imports it.
         span: Option<SourceSpan>,
     },
-    /// A request for memory was refused.
+    /// A request for memory failed.
     Memory(AllocError),
 }
 
@@ -508,7 +508,7 @@ impl Error {
         }
     }
 
-    /// What is said, as names and the words around them.
+    /// The message, as names and the words around them.
     fn message(&self) -> Message<'_>
         ensures { shown result ≡ text_of (told self.now) }
     {

@@ -11,17 +11,17 @@ use wac_types::{ExternKind, FuncKind};
 pub(crate) enum Message<'a> {
     /// A sentence without names.
     Plain(&'static str),
-    /// What stands before a name, the name, and what stands after it.
+    /// What comes before a name, the name, and what comes after it.
     Quoted(&'static str, &'a String, &'static str),
     /// The same with a second name at the end.
     Pair(&'static str, &'a String, &'static str, &'a String),
-    /// A name, what it stands for, and how that doesn't fit.
+    /// A name, what it denotes, and how that doesn't fit.
     Kinded(&'a String, &'static str, &'static str),
     /// The same with a second name at the end.
     KindedWithin(&'a String, &'static str, &'static str, &'a String),
     /// A function has two parts of one name: what it is, what they are, and the name.
     PartOfFunction(FuncKind, &'static str, &'a String),
-    /// An item of a package has nothing at the end of a path.
+    /// An item of a package does not have what a path names.
     MissingExport {
         kind: &'static str,
         path: &'a String,
@@ -67,7 +67,7 @@ pub(crate) enum Message<'a> {
         name: &'a String,
         world: &'a String,
     },
-    /// What an operation is done on is no instance.
+    /// What is accessed or spread is not an instance.
     InstanceRequired(InstanceOperation),
 }
 
@@ -146,7 +146,7 @@ fn write_pair<W: fmt::Write>(
     write!(f, "{before}`{first}`{between}`{second}`")
 }
 
-// Writes that a name stands for something that doesn't fit.
+// Writes that a name denotes something that doesn't fit.
 #[tactic(auto, unfolding(crate::specs::Shapes::kinded))]
 fn write_kinded<W: fmt::Write>(
     f: &mut fmt::Formatter<W>,
@@ -159,7 +159,7 @@ fn write_kinded<W: fmt::Write>(
     write!(f, "`{name}` ({kind}) {fault}")
 }
 
-// Writes that a name stands for something that doesn't fit, with a second name.
+// Writes that a name denotes something that doesn't fit, with a second name.
 #[tactic(auto, unfolding(crate::specs::Shapes::kinded_within))]
 fn write_kinded_within<W: fmt::Write>(
     f: &mut fmt::Formatter<W>,
@@ -186,7 +186,7 @@ fn write_part_of_function<W: fmt::Write>(
     write!(f, "duplicate {kind} {part} `{name}`")
 }
 
-// Writes that an item of a package has nothing at the end of a path.
+// Writes that an item of a package does not have what a path names.
 #[tactic(auto, unfolding(crate::specs::Shapes::missing_export))]
 fn write_missing_export<W: fmt::Write>(
     f: &mut fmt::Formatter<W>,
