@@ -29,7 +29,7 @@ pub still_named : (old new : Parts) (ks : Named ItemKind) → Grows old new → 
 still_named old new [] g h = tt
 still_named old new (k ∷ ks) g h = (g.named k.1 h.0, still_named old new ks g h.1)
 
--- named kinds go on to mean the same
+-- named kinds still mean the same
 pub scope_kept : (old new : Parts) (ks : Named ItemKind) (naming : Naming) → Grows old new → ItemsNamed old.types ks → scope_of naming new ks ≡ scope_of naming old ks
 scope_kept old new [] naming g h = refl
 scope_kept old new (k ∷ ks) naming g h =

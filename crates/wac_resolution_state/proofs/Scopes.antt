@@ -1,4 +1,4 @@
--- What an identifier stands for among kinds is what it stands for among their meanings.
+-- What an identifier denotes among kinds is what it denotes among their meanings.
 use Rattle.std.proofs.Common.{◌≡◌, ◌∙◌, ℕ, List, Some, None, refl, ap}
 use Rattle.std.specs.Prelude.{option_map, alloc_error}
 use Rattle.wac_lexer.specs.Span.{Span}
@@ -36,11 +36,11 @@ kind_is ks x k is = record {
 
 pub ruleset kinds_found = (kind_is, kind_fresh, memory_told)
 
--- a resource type stands for its own
+-- an identifier of a resource type denotes an owned resource
 pub own_is : (ks : Named ItemKind) (x : Ident) (r : ResourceId) → KindIs ks x (kinds.Ty (types.Resource r)) → ValueIs ks (Ty.ident x) (values.Own r)
 own_is ks x r h = record { is = λ naming g. (means naming g (kinds.Ty (types.Resource r)), h.is naming g, refl, refl); named = h.named }
 
--- a type of values stands for itself
+-- an identifier of a type of values denotes that type
 pub value_is : (ks : Named ItemKind) (x : Ident) (v : ValueType) → KindIs ks x (kinds.Ty (types.Value v)) → ValueIs ks (Ty.ident x) v
 value_is ks x v h = record { is = λ naming g. (means naming g (kinds.Ty (types.Value v)), h.is naming g, refl, refl); named = h.named }
 

@@ -1,4 +1,4 @@
--- Sizes of what a function that calls itself goes over.
+-- Sizes of what a recursive function visits.
 use Rattle.std.proofs.Common.{◌≤◌, ◌<◌, ℕ, zero, suc, List, [], ◌∷◌, length, get_or, arith}
 use denote.Param.Weighed.{most}
 

@@ -1,4 +1,4 @@
--- Names of a scope, each with where it was bound and what it stands for.
+-- Names of a scope, each with where it was bound and what it denotes.
 use Rattle.std.specs.Prelude.{ℕ, List, map}
 use Rattle.std.specs.Borrow.{Bor}
 use Rattle.wac_lexer.specs.Span.{Span}
@@ -15,6 +15,6 @@ by_text es = map (λ e. (e.0.now, e.1)) es
 abbrev pub places_of : {X : Type 0} → Bindings X → Named Span
 places_of all = map (λ b. (b.0, b.1.0)) all
 
--- what each name stands for
+-- what each name denotes
 abbrev pub values_of : {X : Type 0} → Bindings X → Named X
 values_of all = map (λ b. (b.0, b.1.1)) all

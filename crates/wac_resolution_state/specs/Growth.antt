@@ -24,7 +24,7 @@ pub record Grows (old new : Parts) : Type 0 where
   pub named : KeepsNames old.types new.types
   pub kinds : (naming : Naming) (k : ItemKind) → Names old.types k → means naming new k ≡ means naming old k
 
--- it has no more declared resources
+-- and it declares no resource
 pub record GrowsPlainly (old new : Parts) : Type 0 where
   pub grows : Grows old new
   pub count : declared_count new ≡ declared_count old

@@ -1,4 +1,4 @@
--- What identifiers stand for, where each name stands for a kind of a graph.
+-- What identifiers denote, where each name denotes a kind of a graph.
 use Rattle.std.specs.Prelude.{List}
 use Rattle.wac_grammar.specs.Tree.{Ident, Ty}
 use Rattle.wac_types.specs.declared.kind.ItemKind.{ItemKind}
@@ -17,7 +17,7 @@ use Rattle.wac_resolution_rules.specs.Types.{HasType}
 abbrev pub scope_of : Naming → Parts → Named ItemKind → Scope
 scope_of naming g ks = items_mean (entry_means naming g) ks
 
--- the identifier stands for this kind, whatever the graph is
+-- the identifier denotes this kind, whatever the graph is
 pub record KindIs (ks : Named ItemKind) (x : Ident) (k : ItemKind) : Type 0 where
   pub is : (naming : Naming) (g : Parts) → StandsFor (scope_of naming g ks) x.string (means naming g k)
   pub named : (es : List Entry) → ItemsNamed es ks → Names es k

@@ -1,4 +1,5 @@
-//! Part of `wac_resolution`: the graph so far and what is added to its types, names of a scope, and what identifiers stand for.
+//! Part of `wac_resolution`: the graph so far and what is added to its types, names of a scope, and what identifiers
+//! denote.
 #![tactic(auto)]
 
 mod named;

@@ -1,4 +1,4 @@
-//! What identifiers stand for.
+//! What identifiers denote.
 ghost use Rattle.std.specs.Prelude.{IfOk, IfErr};
 ghost use Rattle.wac_lexer.specs.Span.{Span};
 ghost use Rattle.wac_grammar.specs.Tree.{Ty};
@@ -16,7 +16,7 @@ use wac_ast_base::Ident;
 use wac_graph::{ItemKind, ResourceId, Type, ValueType};
 use wac_resolution_errors::Error;
 
-/// The kind that an identifier stands for.
+/// The kind that an identifier denotes.
 #[tactic(auto, using(crate::proofs::Scopes::kinds_found))]
 pub fn kind_of(
     alloc: Global,
@@ -35,7 +35,7 @@ pub fn kind_of(
     }
 }
 
-/// The type of values that an identifier stands for.
+/// The type of values that an identifier denotes.
 #[tactic(auto, using(crate::proofs::Scopes::values_found))]
 pub fn named_type(
     alloc: Global,
@@ -56,7 +56,7 @@ pub fn named_type(
     }
 }
 
-/// The resource type that an identifier stands for.
+/// The resource type that an identifier denotes.
 #[tactic(auto, using(crate::proofs::Scopes::values_found))]
 pub fn named_resource(
     alloc: Global,

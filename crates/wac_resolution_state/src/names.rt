@@ -9,7 +9,7 @@ use std::marker::Model;
 use wac_ast_base::Ident;
 use wac_lexer::SourceSpan;
 
-/// The names of a scope, each bound once, with where it was bound and what it stands for. A contract sees them in the
+/// The names of a scope, each bound once, with where it was bound and what it denotes. A contract sees them in the
 /// order in which they were bound.
 #[derive(Drop)]
 pub struct Names<'a, X> {
@@ -36,14 +36,14 @@ impl<'a, X: Copy> Names<'a, X> {
         }
     }
 
-    /// Where a name was bound, and what it stands for.
+    /// Where a name was bound, and what it denotes.
     fn binding(&self, name: &str) -> Option<(SourceSpan, X)>
         ensures { result ≡ look_up name.now self.now }
     {
         self.bound.get(name).copied()
     }
 
-    /// What a name stands for.
+    /// What a name denotes.
     pub fn find(&self, name: &str) -> Option<X>
         ensures { result ≡ look_up name.now (values_of self.now) }
     {
