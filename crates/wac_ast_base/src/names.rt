@@ -21,7 +21,7 @@ use wac_lexer::{Lexer, SourceSpan, Token};
 pub struct Ident<'a> {
     /// The name, without a leading `%`.
     pub string: &'a str,
-    /// Where it stands, with the `%`.
+    /// Its span, with the `%`.
     pub span: SourceSpan,
 }
 
@@ -73,7 +73,7 @@ impl<'a> Peek for Ident<'a> {
 pub struct String<'a> {
     /// The text, without the quotes.
     pub value: &'a str,
-    /// Where it stands, with the quotes.
+    /// Its span, with the quotes.
     pub span: SourceSpan,
 }
 
@@ -129,9 +129,9 @@ fn between_quotes(text: &str) -> &str
 /// A documentation comment.
 #[derive(Clone, Copy, Debug)]
 pub struct DocComment<'a> {
-    /// What it says, trimmed.
+    /// Its text, trimmed.
     pub comment: &'a str,
-    /// Where the whole comment stands.
+    /// The span of the whole comment.
     pub span: SourceSpan,
 }
 
@@ -162,7 +162,7 @@ impl<'a> ExternName<'a> {
         }
     }
 
-    /// Where the name stands, with its quotes or `%`.
+    /// The span of the name, with its quotes or `%`.
     pub fn span(&self) -> SourceSpan
         ensures { result ≡ extern_name_span (extern_name_of self.now) }
     {

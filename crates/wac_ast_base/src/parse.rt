@@ -90,7 +90,7 @@ pub fn parse_token(lexer: &mut Lexer, expected: Token) -> ParseResult<SourceSpan
     }
 }
 
-/// Takes the next item, which must be this token, of which every text is right.
+/// Takes the next item, which must be this token, whose text is always right.
 pub fn take_token(lexer: &mut Lexer, expected: Token) -> ParseResult<SourceSpan>
     requires { plain expected ≡ true }
     ensures takes { Takes expected result lexer.old lexer.new }

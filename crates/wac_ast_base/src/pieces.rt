@@ -97,7 +97,7 @@ pub fn parse_filled<'a, T: Parse<'a> + Peek + Drop, E: From<Error>>(
     Ok(items)
 }
 
-/// Rejects a closing brace in the next item's place, for what it is called.
+/// Rejects a closing brace in the next item's place, naming the body and its parts.
 fn refuse_no_part(lexer: &Lexer, kind: BodyKind) -> ParseResult<()>
     ensures filled { IfOk result (λ _. at tokens.CloseBrace (left lexer.now) ≡ false) }
     ensures refused { IfErr result (λ e. (at tokens.CloseBrace (left lexer.now) ≡ true) × (told_by e ≡ empty_type (body_name (body_of kind)) (part_name (body_of kind)) (first_span (left lexer.now)))) }
