@@ -1,4 +1,4 @@
--- Where a production stops: after the parts that were read, one step a part.
+-- Where a production stops: after the parts that were read, one step per part.
 use Rattle.std.proofs.Common.{◌≡◌, Bool, true, false, cond, ◌⊎◌, inl, inr, Some, List, [], ◌∷◌, ◌++◌, map, Result, Ok, Err, sym as back, refl, subst, ap, ◌∙◌}
 use Rattle.std.specs.Prelude.{IsErrAnd}
 use Rattle.wac_lexer.specs.declared.token.Token.{Token}

@@ -1,4 +1,4 @@
--- What a production gives: its parts in order, one step a part.
+-- What a production gives: its parts in order, one step per part.
 use Rattle.std.proofs.Common.{◌≡◌, ◌<◌, Bool, true, false, cond, List, [], ◌∷◌, ◌++◌, length, map, Ok, inl, inr, refl, ap, Err, ◌∙◌, arith}
 use Rattle.wac_lexer.specs.declared.token.Token.{Token}
 use Rattle.wac_lexer.specs.Item.{Item, Doc, OnFirst}

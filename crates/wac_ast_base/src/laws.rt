@@ -17,8 +17,8 @@ use crate::parse::Parse;
 ///
 /// Where it is a tree, the items that were taken derive it, and the next one does not continue it. Where it is an error
 /// other than out of memory, this lies at the first fault of the production: the items before can begin it, and with
-/// the next one they cannot. A fault of the text, an empty body and a version that is none are reported as such, each
-/// where it is; other errors say what was found there, and each token that they name can occur there.
+/// the next one they cannot. A fault of the text, an empty body and an invalid version are reported as such, each where
+/// it is; other errors say what was found there, and each token that they name can occur there.
 ///
 /// The exception of strings that an argument begins with is stated in the definition, and so is an argument that the
 /// end of the input cuts short after its dots.

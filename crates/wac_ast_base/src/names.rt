@@ -46,7 +46,7 @@ impl<'a> Parse<'a> for Ident<'a> {
         ensures source { lexer.new.source ≡ lexer.old.source }
         ensures moves { lexer.old.place ≤ lexer.new.place }
         ensures fits { IfOk result (λ x. end_of x.span < 2 ^ 64) }
-        // The next item alone is consumed, also where it is rejected.
+        // The next item alone is consumed, even where it is rejected.
         ensures nexts { Nexts lexer.old (handed (left lexer.old)) lexer.new }
     {
         let span = parse_token(lexer, Token::Ident)?;
@@ -97,7 +97,7 @@ impl<'a> Parse<'a> for String<'a> {
         ensures source { lexer.new.source ≡ lexer.old.source }
         ensures moves { lexer.old.place ≤ lexer.new.place }
         ensures fits { IfOk result (λ x. end_of x.span < 2 ^ 64) }
-        // The next item alone is consumed, also where it is rejected.
+        // The next item alone is consumed, even where it is rejected.
         ensures nexts { Nexts lexer.old (handed (left lexer.old)) lexer.new }
     {
         let span = parse_token(lexer, Token::String)?;

@@ -73,7 +73,7 @@ impl<'a> PackagePath<'a> {
 
     /// The segments in order, each with its span.
     ///
-    /// They live as long as the source, also after the path was dropped.
+    /// They live as long as the source, even after the path was dropped.
     #[tactic(auto, using(crate::proofs::PathParts::counted))]
     pub fn segment_spans(&self) -> SegmentSpans<'a>
         ensures segments { result ≡ segment_spans (package_path_of self.now) }

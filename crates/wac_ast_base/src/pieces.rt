@@ -52,7 +52,7 @@ pub fn parse_after<'a, T: Parse<'a> + Drop, E: From<Error>>(
 
 /// Takes the next item where it is this token, and returns whether it was.
 ///
-/// Whatever else is next, also a fault of the text, stays.
+/// Whatever else is next, even a fault of the text, stays.
 pub fn take_word(lexer: &mut Lexer, word: Token) -> ParseResult<bool>
     requires { plain word ≡ true }
     ensures gives { GivesPart (perhaps (token word)) is_there (λ e x. x ≡ e) (λ b. b) result lexer.old lexer.new }

@@ -190,7 +190,7 @@ const FIRSTS: [Token; 22] = [
     Token::Ident,
 ];
 
-/// Whether the next item is one of these tokens. Those before it have been tried, or all if it is none.
+/// Whether the next item is one of these tokens. Those before it have been tried, or all if it isn't.
 fn peek_all(lookahead: &mut Lookahead, tokens: &[Token]) -> bool
     ensures { Peeks tokens.now result lookahead.old lookahead.new }
 {

@@ -190,7 +190,7 @@ pub(crate) const EMPTY: [Row; 4] = [
     ),
 ];
 
-/// Versions that are none.
+/// Invalid versions.
 pub(crate) const VERSIONS: [Row; 7] = [
     (
         "package a:b@01.0.0;",

@@ -157,7 +157,7 @@ fn trees_as_json(rt: HostRuntime) -> Result<(), Fail> {
     Ok(())
 }
 
-/// Passes also where a request for memory fails, each in turn.
+/// Also passes where a request for memory fails, each in turn.
 #[test]
 fn want_of_memory_is_told(rt: HostRuntime) {
     let json = json_of(&rt, rt.alloc(), "package a:b;");
