@@ -27,7 +27,7 @@ pub struct Document<'a> {
     pub docs: Vec<DocComment<'a>>,
     /// Which package the document makes.
     pub directive: PackageDirective<'a>,
-    /// What it says, in order.
+    /// Its statements, in order.
     pub statements: Vec<Statement<'a>>,
 }
 
@@ -47,8 +47,8 @@ impl fmt::Debug for Document<'_> {
 impl<'a> Document<'a> {
     /// Parses a text as a document.
     ///
-    /// Spans are in bytes of the text. A text with a character that no text may have is rejected for the
-    /// first one, whatever stands before it.
+    /// Spans are in bytes of the text. A text with a character that no text may have is
+    /// rejected for the first one, whatever precedes it.
     pub fn parse(alloc: Global, source: &'a str) -> ParseResult<Self>
         // What is returned is the text's tree.
         ensures found { IfOk result (λ d. IsTreeOf source.now (document_of d)) }
@@ -58,7 +58,7 @@ impl<'a> Document<'a> {
         ensures one { (t u : Tree) → IsTreeOf source.now t → IsTreeOf source.now u → t ≡ u }
         // The spans of the tree slice the text.
         ensures slices { IfOk result (λ d. DocumentSlices source.now (document_of d)) }
-        // An error reports the first place where no document goes on, and it is the same each time.
+        // An error reports the first place where no document continues, and it is the same each time.
         ensures error { IfErr result (λ e. (e ≡ Memory alloc_error) ⊎ ErrorOf (told_by e) source.now) }
     {
         items_stand_in_order();

@@ -1,4 +1,4 @@
--- Where a production stops: after the parts that were read, one step a part.
+-- Where a production stops: after the parts that were read, one step per part.
 use Rattle.std.proofs.Common.{◌≡◌, Bool, true, false, cond, ◌⊎◌, inl, inr, Some, List, [], ◌∷◌, ◌++◌, map, Result, Ok, Err, sym as back, refl, subst, ap, ◌∙◌}
 use Rattle.std.specs.Prelude.{IsErrAnd}
 use Rattle.wac_lexer.specs.declared.token.Token.{Token}
@@ -95,7 +95,7 @@ other {e = e} {l = l} is f = record { fails = rw is (fails_bind e (end_of_input 
 pub meets : {e : Error} {l : Reading} {loud : Bool} {g h : Grammar} {ts : List Tried} {ks : List Token} {look new : Looked} {found : Bool} → Looks l ks look → Peeks (first g) found look new → found ≡ true → Fails e (end_of_input l) (read_in read g [] (left l)) → Stops e (either loud g h) ts l
 meets looks peeks is f = chosen (tests _ _ _ _ _ _ _ looks peeks is) (last f)
 
--- a lookahead does not find the part, and goes on
+-- a lookahead does not find the part, and continues
 pub misses : {e : Error} {l : Reading} {loud : Bool} {g h : Grammar} {ts : List Tried} {ks : List Token} {look new : Looked} {found : Bool} → Looks l ks look → Peeks (first g) found look new → found ≡ false → (Looks l (ks ++ first g) new → Stops e h (ts ++ cond loud (map can (first g)) []) l) → Stops e (either loud g h) ts l
 misses looks peeks is f = other (tests _ _ _ _ _ _ _ looks peeks is) (f (looks_on _ _ _ _ _ _ looks peeks is))
 
@@ -131,7 +131,7 @@ found_fails k ok there f = record { fails = never_fails _ _ k _ _ ok (at_one k _
 
 -- ---- optional parts
 
--- a fault stands in the token's place
+-- a fault is in the token's place
 pub no_option : {e : Error} {k : Token} {h : Grammar} {l : Reading} → (told_by e ≡ no_memory) ⊎ ((at k (left l) ≡ false) × (not_fault (left l) ≡ false) × ((ts : List Tried) → told (end_of_input l) (record { left = left l; expected = ts; why = why_other }) ≡ told_by e)) → Stops e (optional (then (token k) h)) [] l
 no_option (inl memory) = record { fails = inl memory }
 no_option {k = k} {l = l} (inr (missing, fault, tells)) = record { fails = rw (one_test k (left l) false missing, fault) (inr (ap Some (tells _))) }

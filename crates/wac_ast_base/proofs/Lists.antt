@@ -98,7 +98,7 @@ module _ {A : Type 0} {k : Token} {ks : List Token} {ri : List Item → Reads A}
   pub list_open : IsList k ks ri rl rm → (xs : List Item) → at k xs ≡ false → rl xs ≡ mapped {A = A × Listed A} {B = Listed A} (λ p. (p.0 ∷ p.1.0, p.1.1)) (two (read_sym ri ks (can k ∷ []) xs) (λ a. rm))
   list_open list xs h = list.items xs ∙ cond_false (at k xs) _ _ h
 
-  -- an item fails, or none is there
+  -- an item fails, or there is none
   pub item_fails : (e : Error) (end : End) (xs : List Item) → IsList k ks ri rl rm → at k xs ≡ false → Fails e end (read_sym ri ks (can k ∷ []) xs) → Fails e end (rl xs)
   item_fails e end xs list h f = same_fails e end (rl xs) _ (list_open list xs h) (fails_bind e end _ _ (fails_bind e end (read_sym ri ks (can k ∷ []) xs) _ f))
 
@@ -122,7 +122,7 @@ module _ {A : Type 0} {k : Token} {ks : List Token} {ri : List Item → Reads A}
   rest_over list [] h = list.rest []
   rest_over list (y ∷ ys) h = absurd cc
 
-  -- one more item, after which the list goes on
+  -- one more item, after which the list continues
   pub list_goes_on : {front : List A} {old mid new : Reading} {a : A} (behind : Reading) → IsList k ks ri rl rm → ListSoFar rl front old mid → at k (left mid) ≡ false
       → (read_sym ri ks (can k ∷ []) (left mid) ≡ Ok (a, left behind)) × (end_of_input behind ≡ end_of_input mid) → behind.source ≡ mid.source → mid.place ≤ behind.place
       → (rm (left behind) ≡ rl (left new)) × (end_of_input new ≡ end_of_input behind) → new.source ≡ behind.source → behind.place ≤ new.place → ListSoFar rl (front ++ a ∷ []) old new
@@ -302,7 +302,7 @@ none_left [] xs over = refl
 none_left (k ∷ ks) [] over = none_left ks [] over
 none_left (k ∷ ks) (x ∷ xs) over = absurd cc
 
--- the list does not go on
+-- the list does not continue
 pub stops_there : {X A : Type 0} (e : Error) (list more : List Item → Reads (Listed A)) (r : Result X Error) (old new : Reading) → IsErrAnd r (λ x. x ≡ e) → Fails e (end_of_input old) (more (left old)) → GoesOn list more r old new
 stops_there e list more (Ok x) old new h f = absurd h
 stops_there e list more (Err x) old new h f = subst (λ (y : Error). Fails y (end_of_input old) (more (left old))) (back h) f
@@ -354,7 +354,7 @@ filled_ends {A = A} {k = k} {ks = ks} {ri = ri} {rl = rl} {rm = rm} {xs = xs} {y
         apart (Err s) h = absurd cc
     by false h = absurd cc
 
--- ---- a list whose closing token is taken apart
+-- ---- a list whose closing token is taken separately
 
 -- the list, where what was read of it is followed by its closing token
 pub closed_by : {A : Type 0} (k : Token) → plain k ≡ true → (m : Reads (Listed A)) (v : List A) (xs : List Item) (x : Item) (ys : List Item) → unclosed m ≡ Ok (v, xs) → at k xs ≡ true → read_token [] k xs ≡ Ok (x, ys) → m ≡ Ok ((v, x), ys)

@@ -232,7 +232,7 @@ no_item_fails e l r s k is tells_it = none_fails e l r s k (map can (begins s)) 
 pub over_fails : {A : Type 0} (e : Error) (l : Reading) (r : Result A Stop) (s : Sym) (k : Token) → r ≡ refuse (left l) (can k ∷ map follows (begins s)) → told_by e ≡ told_of (tried (k ∷ begins s) (looked l)) → Fails e (end_of_input l) r
 over_fails e l r s k is tells_it = none_fails e l r s k (map follows (begins s)) is (tokens_that_follow (begins s)) tells_it
 
--- ---- tokens that are tried one after the other
+-- ---- tokens that are tried in order
 
 -- the first i of these tokens were tried
 pub record TriedSoFar (ks : List Token) (i : ℕ) (old new : Looked) : Type 0 where

@@ -1,4 +1,4 @@
--- Loops: what was read so far, before what reading gives of the rest, is what reading gives of all.
+-- Loops: what was read so far, with what reading gives of the rest, is what reading gives of all.
 use Rattle.std.proofs.Common.{◌≡◌, ◌≤◌, ◌⊎◌, inl, inr, arith, List, [], ◌∷◌, ◌++◌, Some, Result, Ok, Err, Bool, true, false, refl, sym, ap, subst, ◌∙◌, append_assoc}
 use Rattle.std.proofs.lemmas.List.{append-nil}
 use Rattle.wac_lexer.specs.Item.{Item}

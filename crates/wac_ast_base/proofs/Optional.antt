@@ -17,7 +17,7 @@ pub optional_there : (a : Token) (b : Bool) (old new : Reading) → TakesOptiona
 optional_there a true old new h e = h
 optional_there a false old new h e = absurd cc
 
--- it was not, and no fault stands in its place
+-- it was not, and no fault is in its place
 pub optional_missing : (a : Token) (b : Bool) (old new : Reading) → TakesOptional a (Ok b) old new → b ≡ false → (at a (left old) ≡ false) × (not_fault (left old) ≡ true) × (new ≡ old)
 optional_missing a true old new h e = absurd cc
 optional_missing a false old new h e = h

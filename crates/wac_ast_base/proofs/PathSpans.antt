@@ -1,4 +1,4 @@
--- The package's name of a path and its segments stand at their spans.
+-- The package's name of a path and its segments lie at their spans.
 use Rattle.std.proofs.Common.{◌≡◌, ◌<◌, ◌≤◌, ℕ, suc, ◌+◌, ◌-◌, Bool, true, false, not, List, [], ◌∷◌, take, drop, length, get_or, refl, sym, ap, subst, ◌∙◌, arith, ⊎_elim}
 use Rattle.std.specs.Prelude.{◌^◌}
 use Rattle.std.specs.List.{AllByRecursion, slice_split, onto_first, before_first, after_first, position_or_len}
@@ -17,7 +17,7 @@ module _ (source : List ℕ) where
   abbrev Located : ℕ → List (List ℕ) → Type 0
   Located offset parts = AllByRecursion (λ (s : List ℕ × Span). s.0 ≡ slice source s.1) (located offset parts)
 
-  -- the text stands in the source at an offset
+  -- the text lies in the source at an offset
   abbrev StandsAt : List ℕ → ℕ → Type 0
   StandsAt text offset = take (length text) (drop offset source) ≡ text
 
@@ -50,7 +50,7 @@ module _ (source : List ℕ) where
       (λ e. (refl, subst (λ place. Located place (slice_split is_slash text)) next later))
       (λ e. add_first b offset (slice_split is_slash text) first.0 later)
 
--- of a text that stands at an offset: the name, and the segments after it
+-- of a text that lies at an offset: the name, and the segments after it
 module _ (source : List ℕ) (s : Span) (within : end_of s ≤ length source) (small : length source < 2 ^ 64) where
   abbrev rest : List ℕ
   rest = drop s.offset source

@@ -1,4 +1,4 @@
--- The tokens that a lookahead keeps stand before its places.
+-- The tokens that a lookahead keeps fill the first of its places.
 use Rattle.std.proofs.Common.{◌≡◌, ℕ, zero, suc, ◌+◌, ◌<◌, ◌≤◌, List, [], ◌∷◌, ◌++◌, take, length, min, Option, Some, slice_set, arith, refl, sym, ap, subst, ◌∙◌, length-append, ◌⊎◌, inl, inr, ◌^◌, ◌-◌}
 use Rattle.std.proofs.lemmas.List.{take-append-le, take_all}
 use Rattle.wac_lexer.specs.declared.token.Token.{Token}

@@ -1,4 +1,4 @@
--- What a production gives: its parts in order, one step a part.
+-- What a production gives: its parts in order, one step per part.
 use Rattle.std.proofs.Common.{◌≡◌, ◌<◌, Bool, true, false, cond, List, [], ◌∷◌, ◌++◌, length, map, Ok, inl, inr, refl, ap, Err, ◌∙◌, arith}
 use Rattle.wac_lexer.specs.declared.token.Token.{Token}
 use Rattle.wac_lexer.specs.Item.{Item, Doc, OnFirst}
@@ -14,7 +14,7 @@ use Rattle.wac_grammar.proofs.Fixed.{read_is}
 use Rattle.wac_ast_base.proofs.Lookaheads.{Looks, tests, looks_on, one_test}
 use Rattle.wac_ast_base.proofs.Optional.{optional_there, optional_missing, token_there}
 
--- Reading by this grammar at this place, after these tokens were tried, gives these parts and leads to that place.
+-- Reading by this grammar at this place, after these tokens were tried, gives these parts and ends at that place.
 pub record Yields (g : Grammar) (ts : List Tried) (l : Reading) (p : Parts g) (m : Reading) : Type 0 where
   pub reads : read_in read g ts (left l) ≡ Ok (p, left m)
   pub ends : end_of_input m ≡ end_of_input l
@@ -90,7 +90,7 @@ nothing = record { reads = refl; ends = refl }
 pub meets : {l m : Reading} {loud : Bool} {g h : Grammar} {ts : List Tried} {ks : List Token} {look new : Looked} {found : Bool} {p : Parts g} → Looks l ks look → Peeks (first g) found look new → found ≡ true → (read_in read g [] (left l) ≡ Ok (p, left m)) × (end_of_input m ≡ end_of_input l) → Yields (either loud g h) ts l (inl p) m
 meets looks peeks is r = record { reads = rw (tests _ _ _ _ _ _ _ looks peeks is, r.0) refl; ends = r.1 }
 
--- a lookahead does not find the part, and goes on
+-- a lookahead does not find the part, and continues
 pub misses : {l m : Reading} {loud : Bool} {g h : Grammar} {ts : List Tried} {ks : List Token} {look new : Looked} {found : Bool} {p : Parts h} → Looks l ks look → Peeks (first g) found look new → found ≡ false → (Looks l (ks ++ first g) new → Yields h (ts ++ cond loud (map can (first g)) []) l p m) → Yields (either loud g h) ts l (inr p) m
 misses looks peeks is f = let r = f (looks_on _ _ _ _ _ _ looks peeks is) in record { reads = rw (tests _ _ _ _ _ _ _ looks peeks is, r.reads) refl; ends = r.ends }
 

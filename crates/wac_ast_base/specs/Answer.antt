@@ -119,7 +119,7 @@ abbrev pub has_more : List Item → Bool
 has_more [] = false
 has_more (x ∷ xs) = true
 
--- An optional token was taken, or is not there and no fault stands in its place.
+-- An optional token was taken, or is not there and no fault is in its place.
 abbrev pub TakesOptional : Token → Result Bool Error → Reading → Reading → Type 0
 TakesOptional token (Ok true) old new = (at token (left old) ≡ true) × (read_token [] token (left old) ≡ Ok (first_item (left old), left new)) × (end_of_input new ≡ end_of_input old)
 TakesOptional token (Ok false) old new = (at token (left old) ≡ false) × (not_fault (left old) ≡ true) × (new ≡ old)

@@ -7,9 +7,9 @@ use Rattle.wac_ast_base.specs.declared.error.Error.{Error}
 use Rattle.wac_ast_base.specs.declared.error.Error.TheVariants as errors
 
 pub data Told : Type 0 where
-  -- an item is no token, or a character is refused
+  -- an item is no token, or a character is rejected
   faulty : Fault → Span → Told
-  -- another token, or the end, stands where one, one of two or one of several was expected
+  -- another token, or the end, was found where one, one of two or one of several was expected
   expected_one : Token → Option Token → Span → Told
   expected_either : Token → Token → Option Token → Span → Told
   expected_many : List (Option Token) → ℕ → Option Token → Span → Told

@@ -25,8 +25,8 @@ pub record FirstFault (s : Sym) (items lead left : List Item) : Type 0 where
   pub viable : Viable s lead
   pub fault : IsFault s lead left
 
--- The token can stand there. Two exceptions: it would close a body that is still empty; or the input ends after an item of a comma
--- list, and the token can stand after a comma.
+-- The token can occur there. Two exceptions: it would close a body that is still empty; or the input ends after an item
+-- of a comma list, and the token can occur after a comma.
 abbrev pub Expects : Sym → List Item → List Item → Token → Type 0
 Expects s lead left k = CanStand s lead k ⊎ ((is_token t.CloseBrace (Ok k) ≡ true) × (b : Body) × Opens b lead) ⊎ (EndsInList s lead left × CanFollowComma s lead k)
 
@@ -39,7 +39,7 @@ abbrev pub Finds : List Item → Span → Option Token → Span → Type 0
 Finds [] end found s = (found ≡ None) × (s ≡ end)
 Finds (x ∷ left) end found s = (k : Token) × (x.token ≡ Ok k) × (found ≡ Some k) × (s ≡ x.span)
 
--- the end of the input, as a token in a sequence reports it, and as an alternative or a list does: where the last item stands
+-- the end of the input, as a token in a sequence reports it, and as an alternative or a list does: at the last item
 abbrev pub end_in_sequence : End → Span
 end_in_sequence end = shown end.source (empty_end end.source)
 
@@ -60,8 +60,8 @@ Holds s end lead left (empty_type ty kind at) = (b : Body) × (x : Item) × (oth
 Holds s end lead left (invalid_version version at) = (k : Token) × (x : Item) × (others : List Item) × (left ≡ x ∷ others) × (is_token k x.token ≡ true) × (valid k x.text ≡ false) × CanStand s lead k × (invalid_version version at ≡ version_told x.text x.span)
 Holds s end lead left no_memory = ⊥
 
--- What is reported holds. A fault, a body that is empty, and a text that is no version where another could stand, are reported as such; and the
--- last viable item is no string that an argument begins with.
+-- What is reported holds. A fault, a body that is empty, and a text that is no version where another could occur, are
+-- reported as such; and the last viable item is no string that an argument begins with.
 pub record Tells (s : Sym) (end : End) (lead left : List Item) (told : Told) : Type 0 where
   pub holds : Holds s end lead left told
   pub of_fault : (x : Item) (others : List Item) (fault : Fault) → left ≡ x ∷ others → x.token ≡ Err fault → told ≡ faulty fault x.span
@@ -76,7 +76,8 @@ TellsFirstFault s end items told =
     ((lead : List Item) × (left : List Item) × FirstFault s items lead left × Tells s end lead left told)
     ⊎ ((lead : List Item) × (string : Item) × (left : List Item) × FirstFault s items (lead ++ (string ∷ [])) left × EndsArgued s (lead ++ (string ∷ [])) × CanStand s lead t.Ident × (told ≡ expected_one t.Ident (Some t.String) string.span))
 
--- The input ends after the dots of an argument. They are one where a comma or a closing brace follows; an identifier is asked for.
+-- The input ends after the dots of an argument. They are one where a comma or a closing brace follows;
+-- an identifier is expected.
 abbrev pub TellsCutShort : End → List Item → Told → Type 0
 TellsCutShort end items told = IsAlone t.Ellipsis items × (told ≡ expected_one t.Ident None (end_in_sequence end))
 

@@ -48,7 +48,7 @@ abbrev pub GivesBy : {X Y E : Type 0} → (Error → E → Type 0) → (X → Y)
 GivesBy made view (Ok x) old new r = (r ≡ Ok (view x, left new)) × (end_of_input new ≡ end_of_input old)
 GivesBy made view (Err x) old new r = (error : Error) × made error x × Fails error (end_of_input old) r
 
--- After an item the list goes on at the new place, or the error says why it does not.
+-- After an item the list continues at the new place, or the error says why it does not.
 abbrev pub GoesOn : {X A : Type 0} → (List Item → Reads (Listed A)) → (List Item → Reads (Listed A)) → Result X Error → Reading → Reading → Type 0
 GoesOn list more (Ok x) old new = (more (left old) ≡ list (left new)) × (end_of_input new ≡ end_of_input old)
 GoesOn list more (Err error) old new = Fails error (end_of_input old) (more (left old))

@@ -31,7 +31,7 @@ abbrev pub tried : List Token → Looked → Looked
 tried [] l = l
 tried (token ∷ tokens) l = tried tokens (record l { kept = take 10 (l.kept ++ token ∷ []); count = min (l.count + 1) (2 ^ 64 - 1) })
 
--- the tokens that stand in places
+-- the tokens in places
 abbrev pub kept_in : List (Option Token) → List Token
 kept_in [] = []
 kept_in (None ∷ others) = kept_in others
@@ -52,7 +52,7 @@ abbrev pub peeked : List Token → Looked → Looked
 peeked [] l = l
 peeked (token ∷ tokens) l = if is_next token l.next then l else peeked tokens (tried (token ∷ []) l)
 
--- Whether the next item is one of these tokens, of which those before it were tried, or all if it is none.
+-- Whether the next item is one of these tokens. Those before it were tried, or all if it isn't.
 pub record Peeks (firsts : List Token) (result : Bool) (old new : Looked) : Type 0 where
   pub found : result ≡ is_one_of firsts old.next
   pub kept : new ≡ peeked firsts old

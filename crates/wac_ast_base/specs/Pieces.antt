@@ -16,7 +16,8 @@ abbrev pub PartOf : {X Y E : Type 0} (g : Grammar) → (Parts g → Y) → (Erro
 PartOf g of made view (Ok x) old new = (p : Parts g) × (read_in read g [] (left old) ≡ Ok (p, left new)) × (of p ≡ view x) × (end_of_input new ≡ end_of_input old)
 PartOf g of made view (Err x) old new = (e : Error) × made e x × Fails e (end_of_input old) (read_in read g [] (left old))
 
--- The parts that are read by this grammar, of which the result is what some function makes, or the error reports the place where reading stops.
+-- The parts that are read by this grammar, from which some function makes the result; or the error reports the place
+-- where reading stops.
 pub record GivesPart {X Y E : Type 0} (g : Grammar) (of : Parts g → Y) (made : Error → E → Type 0) (view : X → Y) (r : Result X E) (old new : Reading) : Type 0 where
   pub part : PartOf g of made view r old new
 

@@ -55,9 +55,9 @@ fn parse_item<'a, T: Parse<'a> + Peek + Drop, E: From<Error>>(
     Ok(T::parse(alloc, lexer)?)
 }
 
-/// What stands after an item of a comma list: the closing token, which stays, or a comma.
+/// What follows an item of a comma list: the closing token, which stays, or a comma.
 pub fn take_comma<T: Peek>(lexer: &mut Lexer, close: Token) -> ParseResult<()>
-    // Each list of such items that ends with this token goes on so.
+    // Each list of such items that ends with this token continues this way.
     ensures gives { (s : Sym) → closes s ≡ Some close → T.firsts ≡ begins s → GoesOn (list_of s) (more_of s) result lexer.old lexer.new }
     ensures source { lexer.new.source ≡ lexer.old.source }
     ensures moves { lexer.old.place ≤ lexer.new.place }

@@ -14,7 +14,7 @@ pub const KEPT: usize = 10;
 /// Spans are in bytes of the source.
 #[derive(Debug, Drop)]
 pub enum Error {
-    /// A character is refused, or no token begins at a place.
+    /// A character is rejected, or no token begins at a place.
     Lexer {
         /// What is wrong with the text.
         error: wac_lexer::Error,
@@ -68,7 +68,7 @@ pub enum Error {
         /// Where the version text lies.
         span: SourceSpan,
     },
-    /// A request for memory was refused.
+    /// A request for memory failed.
     Memory(AllocError),
 }
 

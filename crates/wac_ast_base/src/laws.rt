@@ -15,13 +15,13 @@ use crate::parse::Parse;
 
 /// What the result of a parser says of the items that it was given.
 ///
-/// Where it is a tree, the items that were taken derive it, and the next one does not continue it. Where it is an
-/// error other than out of memory, this lies at the first fault of the production: the items before can begin it, and
-/// with the next one none goes on. A fault of the text, an empty body and a version that is none are reported as such, each
-/// where it stands; other errors say what was found there, and each token that they name can stand there.
+/// Where it is a tree, the items that were taken derive it, and the next one does not continue it. Where it is an error
+/// other than out of memory, this lies at the first fault of the production: the items before can begin it, and with
+/// the next one they cannot. A fault of the text, an empty body and an invalid version are reported as such, each where
+/// it is; other errors say what was found there, and each token that they name can occur there.
 ///
-/// The exception of strings that an argument begins with is written down in the definition, and so is an argument that
-/// the end of the input cuts short after its dots.
+/// The exception of strings that an argument begins with is stated in the definition, and so is an argument that the
+/// end of the input cuts short after its dots.
 pub fn parsers_stop_at_first_faults<'a, P: Parse<'a>>()
     ensures { (result : Result P Error) (old new : Reading) → Gives P.tree result old new (read P.symbol (left old)) → Answers P.symbol P.tree result old new }
 {}

@@ -1,4 +1,4 @@
-//! Part of `wac_ast`: what every parser of WAC stands on: errors, lookahead, taking tokens, lists, names.
+//! Part of `wac_ast`: what every parser of WAC uses: errors, lookahead, taking tokens, lists, names.
 #![tactic(auto)]
 
 mod delimited;

@@ -64,7 +64,7 @@ impl fmt::Display for Found {
     }
 }
 
-/// Writes that one of several tokens was expected, of which the first were kept.
+/// Writes that one of several tokens was expected, the first of which were kept.
 #[tactic(auto, unfolding(crate::specs::Messages::several_expected))]
 fn write_several<W: fmt::Write>(
     f: &mut fmt::Formatter<W>,

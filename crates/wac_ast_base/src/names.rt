@@ -21,7 +21,7 @@ use wac_lexer::{Lexer, SourceSpan, Token};
 pub struct Ident<'a> {
     /// The name, without a leading `%`.
     pub string: &'a str,
-    /// Where it stands, with the `%`.
+    /// Its span, with the `%`.
     pub span: SourceSpan,
 }
 
@@ -46,7 +46,7 @@ impl<'a> Parse<'a> for Ident<'a> {
         ensures source { lexer.new.source ≡ lexer.old.source }
         ensures moves { lexer.old.place ≤ lexer.new.place }
         ensures fits { IfOk result (λ x. end_of x.span < 2 ^ 64) }
-        // The next item alone is consumed, also where it is rejected.
+        // The next item alone is consumed, even where it is rejected.
         ensures nexts { Nexts lexer.old (handed (left lexer.old)) lexer.new }
     {
         let span = parse_token(lexer, Token::Ident)?;
@@ -73,7 +73,7 @@ impl<'a> Peek for Ident<'a> {
 pub struct String<'a> {
     /// The text, without the quotes.
     pub value: &'a str,
-    /// Where it stands, with the quotes.
+    /// Its span, with the quotes.
     pub span: SourceSpan,
 }
 
@@ -97,7 +97,7 @@ impl<'a> Parse<'a> for String<'a> {
         ensures source { lexer.new.source ≡ lexer.old.source }
         ensures moves { lexer.old.place ≤ lexer.new.place }
         ensures fits { IfOk result (λ x. end_of x.span < 2 ^ 64) }
-        // The next item alone is consumed, also where it is rejected.
+        // The next item alone is consumed, even where it is rejected.
         ensures nexts { Nexts lexer.old (handed (left lexer.old)) lexer.new }
     {
         let span = parse_token(lexer, Token::String)?;
@@ -129,9 +129,9 @@ fn between_quotes(text: &str) -> &str
 /// A documentation comment.
 #[derive(Clone, Copy, Debug)]
 pub struct DocComment<'a> {
-    /// What it says, trimmed.
+    /// Its text, trimmed.
     pub comment: &'a str,
-    /// Where the whole comment stands.
+    /// The span of the whole comment.
     pub span: SourceSpan,
 }
 
@@ -162,7 +162,7 @@ impl<'a> ExternName<'a> {
         }
     }
 
-    /// Where the name stands, with its quotes or `%`.
+    /// The span of the name, with its quotes or `%`.
     pub fn span(&self) -> SourceSpan
         ensures { result ≡ extern_name_span (extern_name_of self.now) }
     {

@@ -27,7 +27,7 @@ pub struct PackageName<'a> {
     pub name: &'a str,
     /// The version after `@`.
     pub version: Option<Version>,
-    /// Where the whole text stands.
+    /// The span of the whole text.
     pub span: SourceSpan,
 }
 
@@ -51,7 +51,7 @@ impl<'a> Parse<'a> for PackageName<'a> {
 /// A path to an item of a package.
 #[derive(Debug, Drop)]
 pub struct PackagePath<'a> {
-    /// Where the whole text stands.
+    /// The span of the whole text.
     pub span: SourceSpan,
     /// The whole text, with the version.
     pub string: &'a str,
@@ -64,16 +64,16 @@ pub struct PackagePath<'a> {
 }
 
 impl<'a> PackagePath<'a> {
-    /// Where the name of the package stands.
+    /// The span of the package's name.
     pub fn package_name_span(&self) -> SourceSpan
         ensures { result ≡ package_name_span (package_path_of self.now) }
     {
         SourceSpan::new(self.span.offset(), self.name.len())
     }
 
-    /// The segments in order, each with where it stands.
+    /// The segments in order, each with its span.
     ///
-    /// They live as long as the source, also after the path was dropped.
+    /// They live as long as the source, even after the path was dropped.
     #[tactic(auto, using(crate::proofs::PathParts::counted))]
     pub fn segment_spans(&self) -> SegmentSpans<'a>
         ensures segments { result ≡ segment_spans (package_path_of self.now) }

@@ -53,15 +53,14 @@ pub trait Peek {
     /// The part's first tokens, in the order in which they are tried.
     ghost firsts: { List the_token.Token };
 
-    /// Whether the next item is one of those tokens. Those before it have been tried, or all if it is none.
+    /// Whether the next item is one of those tokens. Those before it have been tried, or all if it isn't.
     fn peek(lookahead: &mut Lookahead) -> bool
         ensures { Peeks firsts result lookahead.old lookahead.new };
 }
 
 /// Takes the next item, which must be this token, and returns its span.
 ///
-/// The item is taken also where it is rejected. At the end of the input the error has the lexer's
-/// `span` there.
+/// The item is taken even where it is rejected. At the end of the input the error has the lexer's `span` there.
 #[tactic(auto, unfolding(crate::specs::Answer::told, crate::specs::Answer::end_of_input))]
 pub fn parse_token(lexer: &mut Lexer, expected: Token) -> ParseResult<SourceSpan>
     ensures ok { IfOk result (λ s. handed (left lexer.old) ≡ Some (Ok expected, s)) }
@@ -90,7 +89,7 @@ pub fn parse_token(lexer: &mut Lexer, expected: Token) -> ParseResult<SourceSpan
     }
 }
 
-/// Takes the next item, which must be this token, of which every text is right.
+/// Takes the next item, which must be this token, whose text is always right.
 pub fn take_token(lexer: &mut Lexer, expected: Token) -> ParseResult<SourceSpan>
     requires { plain expected ≡ true }
     ensures takes { Takes expected result lexer.old lexer.new }

@@ -52,7 +52,7 @@ pub fn parse_after<'a, T: Parse<'a> + Drop, E: From<Error>>(
 
 /// Takes the next item where it is this token, and returns whether it was.
 ///
-/// Whatever else is next, also a fault of the text, stays.
+/// Whatever else is next, even a fault of the text, stays.
 pub fn take_word(lexer: &mut Lexer, word: Token) -> ParseResult<bool>
     requires { plain word ≡ true }
     ensures gives { GivesPart (perhaps (token word)) is_there (λ e x. x ≡ e) (λ b. b) result lexer.old lexer.new }
@@ -97,7 +97,7 @@ pub fn parse_filled<'a, T: Parse<'a> + Peek + Drop, E: From<Error>>(
     Ok(items)
 }
 
-/// Rejects a closing brace in the next item's place, for what it is called.
+/// Rejects a closing brace in the next item's place, naming the body and its parts.
 fn refuse_no_part(lexer: &Lexer, kind: BodyKind) -> ParseResult<()>
     ensures filled { IfOk result (λ _. at tokens.CloseBrace (left lexer.now) ≡ false) }
     ensures refused { IfErr result (λ e. (at tokens.CloseBrace (left lexer.now) ≡ true) × (told_by e ≡ empty_type (body_name (body_of kind)) (part_name (body_of kind)) (first_span (left lexer.now)))) }

@@ -6,7 +6,7 @@ ghost use Rattle.wac_grammar.specs.Segments.{segments_from};
 use std::marker::Model;
 use wac_lexer::SourceSpan;
 
-/// Goes over the segments of a path in order, each with where it stands.
+/// Goes over the segments of a path in order, each with its span.
 ///
 /// A contract sees the list of those that are left.
 #[derive(Drop)]

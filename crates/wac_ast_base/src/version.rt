@@ -25,7 +25,7 @@ pub struct Versioned<'a> {
     pub name: &'a str,
     /// The version after `@`.
     pub version: Option<Version>,
-    /// Where the whole text stands.
+    /// The span of the whole text.
     pub span: SourceSpan,
 }
 

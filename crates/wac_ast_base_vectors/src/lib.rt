@@ -1,4 +1,5 @@
-//! Tests of the calls that parsers share: optional parts and payloads, where a lexer then stands, what a lookahead counts, and paths of packages.
+//! Tests of the calls that parsers share: optional parts and payloads, the lexer's place after
+//! them, what a lookahead counts, and paths of packages.
 #![tactic(auto)]
 
 #[cfg(test)]

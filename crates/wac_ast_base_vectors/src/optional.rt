@@ -91,12 +91,12 @@ fn held(ty: &Type) -> Option<(Option<Place>, Place)> {
     }
 }
 
-/// A stream of what stands in the brackets.
+/// A stream of what is in the brackets.
 fn stream<'a>(inner: Option<Box<Type<'a>>>, span: SourceSpan) -> Type<'a> {
     Type::Stream(inner, span)
 }
 
-/// Where what is held lies, and all of it; whether a name stands after it; and the lexer's span.
+/// Where what is held lies, and all of it; whether a name follows it; and the lexer's span.
 type Taken = (Option<Place>, Place, bool, Place);
 
 /// What a type of a text takes.
@@ -123,8 +123,8 @@ fn taken(rt: &impl Abort, alloc: Global, source: &str) -> Taken {
     }
 }
 
-/// Texts, and what a type of each takes. Where the text ends with it, nothing is read behind it: the lexer's span is that of
-/// the last item, which ends where the text ends and so is the byte before its begin.
+/// Texts, and what a type of each takes. Where the text ends with it, nothing is read after it: the lexer's span is
+/// that of the last item, which ends where the text ends and so is the byte before its start.
 const PAYLOADS: [(&str, Taken); 4] = [
     ("stream<u8> x", (Some((7, 2)), (0, 10), true, (9, 1))),
     ("stream x", (None, (0, 6), true, (0, 6))),

@@ -1,11 +1,11 @@
-//! Paths of packages: their names and segments, and where these stand.
+//! Paths of packages: their names and segments, and the spans of these.
 
 use std::alloc::Global;
 use std::test::Fail;
 use wac_ast_base::{PackagePath, Parse, ParseResult, SegmentSpans};
 use wac_lexer::{Error as Fault, Lexer, SourceSpan};
 
-/// A lexer at the path that an import of a text has. It stands after six tokens.
+/// A lexer at the path that an import of a text has, after six tokens.
 fn at_path(source: &str) -> Result<Lexer<'_>, (Fault, SourceSpan)> {
     let mut lexer = Lexer::new(source)?;
     for _ in 0..6 {
@@ -20,7 +20,8 @@ fn imported(alloc: Global, source: &str) -> ParseResult<PackagePath<'_>> {
     Parse::parse(alloc, &mut lexer)
 }
 
-/// The segments of the path that an import of a text has. The path is gone where they are read: they live as long as the source.
+/// The segments of the path that an import of a text has. The path is dropped before
+/// they are read: they live as long as the source.
 fn segments(alloc: Global, source: &str) -> ParseResult<SegmentSpans<'_>> {
     let path = imported(alloc, source)?;
     Ok(path.segment_spans())

@@ -1,4 +1,5 @@
-//! Where a lexer stands: docs and spans after the last item, after the end and after a rejected token; and what a lookahead counts.
+//! Where a lexer is: docs and spans after the last item, after the end and after
+//! a rejected token; and what a lookahead counts.
 
 use crate::optional::lexer;
 use std::alloc::Global;
@@ -7,7 +8,7 @@ use std::test::Fail;
 use wac_ast_base::{Error, Lookahead, parse_token};
 use wac_lexer::{Lexer, SourceSpan, Token};
 
-/// Asserts that one doc stands after the lexer's place.
+/// Asserts that one doc follows the lexer's place.
 fn has_doc(
     rt: &impl Abort,
     alloc: Global,

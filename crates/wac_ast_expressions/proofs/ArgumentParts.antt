@@ -1,4 +1,4 @@
--- How an argument is read, by what stands next.
+-- How an argument is read, by what comes next.
 use Rattle.std.proofs.Common.{◌≡◌, List, [], ◌∷◌, Bool, true, false, cond, map, Some, Result, Ok, Err, refl, sym as back, ap, subst, ◌∙◌, ◌⊎◌, inl, inr}
 use Rattle.std.specs.Prelude.{◌||◌}
 use Rattle.wac_lexer.specs.declared.token.Token.{Token}

@@ -64,6 +64,6 @@ new_expr_of x = PrimaryExpr.new x.span (package_name_of x.«package») (argument
 abbrev pub named_argument_of : CodeNamedArgument → tree.NamedInstantiationArgument
 named_argument_of x = record { name = argument_name_of x.name; expr = expr_of x.expr }
 
--- an expression, after what stands first in it
+-- an expression, after what comes first in it
 abbrev pub after_primary : PrimaryExpr → List Item → Reads Expr
 after_primary first xs = mapped (λ others. build expr (first, others)) (read postfix_list xs)

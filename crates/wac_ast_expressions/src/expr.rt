@@ -30,7 +30,7 @@ use wac_lexer::{Lexer, SourceSpan, Token};
 pub struct Expr<'a> {
     /// From the primary expression's start to the last access's end.
     pub span: SourceSpan,
-    /// What stands first.
+    /// What it begins with.
     pub primary: PrimaryExpr<'a>,
     /// The accesses, in order.
     pub postfix: Vec<PostfixExpr<'a>>,
@@ -143,7 +143,7 @@ impl fmt::Debug for NamedInstantiationArgument<'_> {
 pub struct NestedExpr<'a> {
     /// From the first parenthesis to the last.
     pub span: SourceSpan,
-    /// What stands between them.
+    /// What is between them.
     pub inner: Box<Expr<'a>>,
 }
 
@@ -226,7 +226,7 @@ impl fmt::Debug for NamedAccessExpr<'_> {
 }
 
 impl<'a> PrimaryExpr<'a> {
-    /// Where the expression stands.
+    /// The span of the expression.
     pub fn span(&self) -> SourceSpan
         ensures { result ≡ primary_span (primary_expr_of self.now) }
     {
@@ -239,7 +239,7 @@ impl<'a> PrimaryExpr<'a> {
 }
 
 impl<'a> PostfixExpr<'a> {
-    /// Where the expression stands.
+    /// The span of the expression.
     pub fn span(&self) -> SourceSpan
         ensures { result ≡ postfix_span (postfix_expr_of self.now) }
     {
@@ -251,7 +251,7 @@ impl<'a> PostfixExpr<'a> {
 }
 
 impl<'a> InstantiationArgumentName<'a> {
-    /// Where the name stands.
+    /// The span of the name.
     pub fn span(&self) -> SourceSpan
         ensures { result ≡ argument_name_span (argument_name_of self.now) }
     {
@@ -284,7 +284,7 @@ impl<'a> Parse<'a> for Expr<'a> {
     }
 }
 
-/// The expression that begins with this one, and goes on with the accesses after it.
+/// The expression that begins with this one, and continues with the accesses after it.
 fn parse_accesses_after<'a>(
     alloc: Global,
     lexer: &mut Lexer<'a>,

@@ -34,7 +34,7 @@ name_begins : (xs : List Item) → at k.Ident xs ≡ true → (at k.CloseParen x
 name_begins [] h = absurd cc
 name_begins (i ∷ xs) h = rw (token_at k.Ident i xs h) (refl, refl)
 
--- no name is there
+-- no name is next
 pub no_name : {e : Error} {l : Reading} → Fails e (end_of_input l) (read_token [] k.Ident (left l)) → Stops e (then (sym g.named_type) (sym g.more_params)) [] l
 no_name {l = l} f = x.here (x.leaves g.named_type l (x.here (x.leaves g.identifier l (x.last f))))
 

@@ -86,7 +86,7 @@ type_not_closed (x ∷ xs) h = go (at k.CloseAngle (x ∷ xs)) refl
     go true e = absurd (with_its_token (λ y. at_one_of (begins g.ty) (y ∷ xs) ≡ true → ⊥) k.CloseAngle x xs e (λ (t : false ≡ true). not_true t refl) h)
     go false e = refl
 
--- Each of a type's symbols gives this. What stands for a type by its first token does not depend on what that symbol gives.
+-- Each of a type's symbols gives this. Which symbol a type's first token selects does not depend on what it gives.
 abbrev given : Reads Ty → (s : g.Sym) → List Item → Reads (g.TreeOf s)
 given m g.tuple_type ys = m
 given m g.list_type ys = m

@@ -79,7 +79,7 @@ field_of x = record { docs = map doc_comment_of x.docs.items; id = ident_of x.id
 abbrev pub record_decl_of : RecordDecl → tree.RecordDecl
 record_decl_of x = record { docs = map doc_comment_of x.docs.items; id = ident_of x.id; fields = map field_of x.fields.items }
 
--- what a function gives, after an arrow
+-- what a function returns, after an arrow
 abbrev pub results_rule : Grammar
 results_rule = optional (token tokens.Arrow ▸ sym result_list)
 

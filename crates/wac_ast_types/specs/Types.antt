@@ -88,7 +88,7 @@ angled keyword = token keyword ▸ token tokens.OpenAngle ▸ sym ty ▸ token t
 abbrev pub angled_parts : Item × (Item × (Ty × Item)) → Ty × Span
 angled_parts p = (p.1.1.0, join p.0.span p.1.1.1.span)
 
--- what an item holds, by what stands after it
+-- what an item holds, by what follows it
 abbrev pub held_from : Item → Option (Ty × Item) → OptionalTy × Span
 held_from x None = (OptionalTy.absent, x.span)
 held_from x (Some (inner, last)) = (OptionalTy.present inner, join x.span last.span)

@@ -25,11 +25,11 @@ use wac_lexer::{Lexer, Token};
 /// A function type.
 #[derive(Drop)]
 pub struct FuncType<'a> {
-    /// Whether `async` stands before it.
+    /// Whether `async` precedes it.
     pub is_async: bool,
     /// The parameters, in order.
     pub params: Vec<NamedType<'a>>,
-    /// What the function gives.
+    /// What the function returns.
     pub results: ResultList<'a>,
 }
 
@@ -76,7 +76,7 @@ impl<'a> Peek for FuncType<'a> {
     }
 }
 
-/// What a function gives, after an arrow.
+/// What a function returns, after an arrow.
 fn parse_results<'a>(alloc: Global, lexer: &mut Lexer<'a>) -> ParseResult<ResultList<'a>>
     ensures gives { GivesPart results_rule results_of (λ e x. x ≡ e) result_list_of result lexer.old lexer.new }
     ensures source { lexer.new.source ≡ lexer.old.source }
@@ -88,7 +88,7 @@ fn parse_results<'a>(alloc: Global, lexer: &mut Lexer<'a>) -> ParseResult<Result
     Ok(ResultList::Empty)
 }
 
-/// What a function gives.
+/// What a function returns.
 #[derive(Drop)]
 pub enum ResultList<'a> {
     /// Nothing.

@@ -131,7 +131,7 @@ impl<'a> Peek for ResourceMethod<'a> {
 pub struct Constructor<'a> {
     /// The documentation before it.
     pub docs: Vec<DocComment<'a>>,
-    /// Where the keyword stands.
+    /// The span of the keyword.
     pub span: SourceSpan,
     /// The parameters.
     pub params: Vec<NamedType<'a>>,

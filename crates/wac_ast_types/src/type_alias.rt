@@ -23,7 +23,7 @@ pub struct TypeAlias<'a> {
     pub docs: Vec<DocComment<'a>>,
     /// The name.
     pub id: Ident<'a>,
-    /// What it stands for.
+    /// What it denotes.
     pub kind: TypeAliasKind<'a>,
 }
 
@@ -60,7 +60,7 @@ impl<'a> Peek for TypeAlias<'a> {
     }
 }
 
-/// What a name of a type stands for.
+/// What a name of a type denotes.
 #[derive(Drop)]
 pub enum TypeAliasKind<'a> {
     /// A function type.

@@ -64,9 +64,9 @@ pub enum Type<'a> {
     Option(Box<Type<'a>>, SourceSpan),
     /// `result<.., ..>`
     Result {
-        /// What is given where all went well.
+        /// What is given on success.
         ok: Option<Box<Type<'a>>>,
-        /// What is given where it did not.
+        /// What is given on failure.
         err: Option<Box<Type<'a>>>,
         /// From the keyword to the closing angle.
         span: SourceSpan,
@@ -92,7 +92,7 @@ impl fmt::Debug for Type<'_> {
 }
 
 impl<'a> Type<'a> {
-    /// Where the type stands.
+    /// The span of the type.
     pub fn span(&self) -> SourceSpan
         ensures { result ≡ ty_span (ty_of self.now) }
     {
@@ -190,7 +190,7 @@ const FIRSTS: [Token; 22] = [
     Token::Ident,
 ];
 
-/// Whether the next item is one of these tokens. Those before it have been tried, or all if it is none.
+/// Whether the next item is one of these tokens. Those before it have been tried, or all if it isn't.
 fn peek_all(lookahead: &mut Lookahead, tokens: &[Token]) -> bool
     ensures { Peeks tokens.now result lookahead.old lookahead.new }
 {
@@ -463,9 +463,9 @@ pub fn parse_optional_payload<
     requires callable { F.IsAlwaysCallable ctor }
     // What was taken is what the constructor was given.
     ensures made { IfOk result (λ x. MadeOf (λ inner s y. F.post ctor inner s y) x (left lexer.old) (left lexer.new)) }
-    // Nothing is read behind it: at the end of the input the lexer tells the span of the last item.
+    // Nothing is read after it: at the end of the input the lexer reports the span of the last item.
     ensures end { IfOk result (λ _. end_of_input lexer.new ≡ end_of_input lexer.old) }
-    // An error reports the place where no such type goes on.
+    // An error reports the place where no such type continues.
     ensures refused { IfErr result (λ x. (e : Fault) × E.from_gives e x × Fails e (end_of_input lexer.old) (with_payload (left lexer.old))) }
     ensures source { lexer.new.source ≡ lexer.old.source }
     ensures moves { lexer.old.place ≤ lexer.new.place }

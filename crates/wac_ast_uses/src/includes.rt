@@ -37,7 +37,7 @@ impl<'a> WorldRef<'a> {
         }
     }
 
-    /// Where the reference stands.
+    /// The span of the reference.
     pub fn span(&self) -> SourceSpan
         ensures { result ≡ world_ref_span (world_ref_of self.now) }
     {

@@ -50,8 +50,8 @@ fn one(
     Ok(items)
 }
 
-/// The cache alone, as it is handed to the resolver: under its name. It is as a package has to be, so that the only error is that
-/// memory runs out.
+/// The cache alone, as it is passed to the resolver: under its name. It is as a package has
+/// to be, so that the only error is that memory runs out.
 pub fn cache_alone(alloc: Global) -> Result<IndexMap<PackageKey, Package>, AllocError> {
     match cache(alloc) {
         Ok(package) => under(alloc, "example:cache", package),

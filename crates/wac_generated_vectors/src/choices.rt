@@ -3,7 +3,7 @@
 use rand_core::Rng;
 use rand_pcg::Pcg32;
 
-/// Choices, one after another, the same ones for the same seed.
+/// Choices, in order, the same ones for the same seed.
 #[derive(Drop)]
 pub struct Choices {
     words: Pcg32,

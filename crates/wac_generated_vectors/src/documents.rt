@@ -23,7 +23,7 @@ fn written(
     Ok(text)
 }
 
-/// The tree of a document, without docs, and without where its nodes stand.
+/// The tree of a document, without its docs and the places of its nodes.
 fn tree(rt: &impl Abort, alloc: Global, source: &str) -> Result<String, AllocError> {
     let json = written(rt, alloc, Command::Json, source)?;
     bare(alloc, &json)
@@ -52,7 +52,7 @@ fn is_resolved_to(
     Ok(())
 }
 
-/// Whether a document is resolved to a graph. Asserts that it comes to the same however it is laid out.
+/// Whether a document is resolved to a graph. Asserts that the result is the same however it is laid out.
 fn is_resolved(rt: &impl Abort, alloc: Global, source: &str) -> Result<bool, AllocError> {
     let text = printed(rt, alloc, source)?;
     let found = answer(rt, alloc, Command::Resolve, source)?;

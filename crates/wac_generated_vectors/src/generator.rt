@@ -3,11 +3,11 @@
 use crate::choices::Choices;
 use std::alloc::{AllocError, Global};
 
-/// A character that stands for any of some texts. A text that stands there more than once is chosen more often.
+/// A character that represents any of some texts. A text that is listed more than once is chosen more often.
 type Rule = (char, &'static [&'static str]);
 
-/// What characters stand for, from the whole document down. A text holds characters of later rules alone, so after the last rule
-/// none is left but `#`, which stands for a number of its own.
+/// What characters represent, from the whole document down. A text holds characters of later rules alone, so after the
+/// last rule none is left but `#`, which represents a number of its own.
 const RULES: [Rule; 27] = [
     // a document
     (
@@ -280,7 +280,7 @@ const RULES: [Rule; 27] = [
     ),
     ('F', &["f", "f", "f", "g", "g", "run"]),
     ('V', &["", "", "@1.0.0"]),
-    // what stands between tokens, and docs
+    // what is between tokens, and docs
     (
         ' ',
         &[
@@ -305,7 +305,7 @@ const RULES: [Rule; 27] = [
     ),
 ];
 
-/// A text with each character of a rule replaced by one of the texts that it stands for.
+/// A text with each character of a rule replaced by one of the texts that it represents.
 fn replaced(
     alloc: Global,
     text: &str,

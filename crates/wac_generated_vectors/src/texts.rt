@@ -39,7 +39,7 @@ fn without_numbers(alloc: Global, json: &str) -> Result<String, AllocError> {
     Ok(other)
 }
 
-/// The JSON of a tree without its docs, of which none has a bracket.
+/// The JSON of a tree without its docs, none of which has a bracket.
 fn without_docs(alloc: Global, json: &str) -> Result<String, AllocError> {
     let mut other = String::new(alloc);
     for part in json.split("\"docs\":[") {
@@ -51,7 +51,7 @@ fn without_docs(alloc: Global, json: &str) -> Result<String, AllocError> {
     Ok(other)
 }
 
-/// The JSON of a tree without what tells where its nodes stand, and without its docs.
+/// The JSON of a tree without the places of its nodes, and without its docs.
 pub fn bare(alloc: Global, json: &str) -> Result<String, AllocError> {
     let json = without_docs(alloc, json)?;
     without_numbers(alloc, &json)

@@ -575,7 +575,7 @@ empty_exactly s xs front stop h e b =
     let marks : Marks (run outside front) stop = subst (λ (us : List Item). Marks (run outside us) stop) same d.2 in
     ((λ w. let m = marks.0 b w in (opens b front m.0, m.1)), (λ o a. marks.1 b (opened b front o) a))
 
--- A closing brace that cannot stand there would close a body that was just opened.
+-- A closing brace that cannot occur there would close a body that was just opened.
 pub closes_body : (s : Sym) (xs front : List Item) (stop : Stop) → read s xs ≡ Err stop → xs ≡ front ++ stop.left → (k : Token) → named closing k stop.expected ≡ true → (same_token t.CloseBrace k ≡ true) × (b : Body) × Opens b front
 closes_body s xs front stop h e k n =
     let d = subst (λ (m : Result (TreeOf s × List Item) Stop). Traced outside (after_sym outside s) [] xs m) h (traced s xs) in

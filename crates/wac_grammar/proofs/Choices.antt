@@ -6,7 +6,7 @@ use Rattle.wac_grammar.specs.Tokens.{at}
 use Rattle.wac_grammar.specs.Grammar.{Grammar, token, sym, then, either, nothing, to_end, docs, not_empty, more, or_told}
 use Rattle.wac_grammar.specs.Reading.{Tried, can, refuse, two, read, read_in, read_token, empty, begins, is_empty, first, at_one_of}
 
--- alternatives of which none is left out
+-- alternatives, none of which is left out
 abbrev pub is_choice : Grammar → Bool
 is_choice (token k) = true
 is_choice (sym s) = not (empty s)

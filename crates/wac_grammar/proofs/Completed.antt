@@ -1,4 +1,4 @@
--- Where reading stops: what stands before can be completed, and each token that was looked for can stand there.
+-- Where reading stops: what comes before can be completed, and each token that was looked for can occur there.
 use Rattle.std.proofs.Common.{◌≡◌, ℕ, zero, suc, ◌+◌, ◌<◌, arith, List, [], ◌∷◌, ◌++◌, map, Bool, true, false, cond, refl, sym as back, ap, subst, ◌∙◌, ◌⊎◌, inl, inr, eq-eqb}
 use Rattle.std.proofs.lemmas.Bool.{eqb-true, ltb-true}
 use Rattle.wac_lexer.specs.declared.token.Token.{Token}

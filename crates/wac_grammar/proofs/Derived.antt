@@ -1,4 +1,4 @@
--- What a tree that derives from items has for leaves: what is asked of them holds, where it does of what items make.
+-- The leaves of a tree that derives from items: what is asked of them holds, where it does of what items make.
 use Rattle.std.proofs.Common.{◌≡◌, ℕ, zero, suc, true, Some, None, List, [], ◌∷◌, ◌++◌, inl, inr, subst, sym as back}
 use Rattle.std.specs.List.{AllByRecursion}
 use Rattle.wac_lexer.specs.declared.token.Token.TheVariants as t

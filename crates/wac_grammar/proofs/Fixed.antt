@@ -103,7 +103,7 @@ pub both_right : (a b : Bool) → both a b ≡ true → b ≡ true
 both_right true b h = h
 both_right false b h = absurd cc
 
--- what stands first has a lower rank
+-- what comes first has a lower rank
 abbrev pub ranked : ℕ → Grammar → Bool
 ranked r (token k) = true
 ranked r (sym s) = ltb (rank s) r

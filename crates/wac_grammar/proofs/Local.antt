@@ -79,7 +79,7 @@ Alike whole (suc n) (x ∷ xs) [] = ⊥
 Alike whole (suc zero) (x ∷ xs) (y ∷ ys) = Nearly whole x y
 Alike whole (suc (suc n)) (x ∷ xs) (y ∷ ys) = (x ≡ y) × Alike whole (suc n) xs ys
 
--- The rejection does not ask for the text of the last of the items that are nearly the same.
+-- The rejection does not depend on the text of the last of the items that are nearly the same.
 abbrev pub Seen : Bool → Why → ℕ → Type 0
 Seen true w j = Unit {0}
 Seen false version zero = ⊥

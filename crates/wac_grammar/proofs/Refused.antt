@@ -53,7 +53,7 @@ alike_front : (whole : Bool) (front : List Item) (x y : Item) (rest tail : List 
 alike_front whole [] x y rest tail h = h
 alike_front whole (z ∷ front) x y rest tail h = (refl, alike_front whole front x y rest tail h)
 
--- What may stand after a part that this item does not continue: nothing, and after an argument another token.
+-- What may follow a part that this item does not continue: nothing, and after an argument another token.
 behind : (s : Sym) (x : Item) → (tail : List Item) × (may_follow (needs_more s) (clashes s) tail ≡ true) × ((z : Item) (zs : List Item) → tail ≡ z ∷ zs → x ≡ z → ⊥)
 behind argument x = go (is_token t.Comma x.token) refl
   where
@@ -62,7 +62,7 @@ behind argument x = go (is_token t.Comma x.token) refl
     go false h = (item t.Comma ∷ [], refl, λ z zs e i. let k : is_token t.Comma x.token ≡ true = ap (λ (y : Item). is_token t.Comma y.token) (i ∙ back (first_is (item t.Comma) z [] zs e)) in absurd cc)
 behind _ x = ([], refl, λ z zs e i. absurd cc)
 
--- What is viable with an item goes on to a whole part, which begins like the items that were read.
+-- What is viable with an item continues to a whole part, which begins like the items that were read.
 continued : (s : Sym) (front : List Item) (y : Item) → Viable s (front ++ (y ∷ []))
     → (ys : List Item) × (t : TreeOf s) × Derives s ys t × ((whole : Bool) (x : Item) (rest xs tail : List Item) → Nearly whole x y → xs ≡ front ++ (x ∷ rest) → Alike whole (suc (length front)) xs (ys ++ tail))
 continued s front y v =
@@ -75,7 +75,7 @@ continued s front y v =
           (subst (λ (zs : List Item). Alike whole (suc (length front)) (front ++ (x ∷ rest)) zs) (back (append_assoc (front ++ (y ∷ [])) r.0 tail)) (alike_front whole front x y rest (r.0 ++ tail) m)),
     )
 
--- With the item at which reading stopped, or one nearly the same, nothing that begins as `front` does goes on.
+-- With the item at which reading stopped, or one nearly the same, nothing that begins like `front` continues.
 no_way : (whole : Bool) (s : Sym) (xs front : List Item) (stop : Stop) → read s xs ≡ Err stop → (x : Item) (rest : List Item) → stop.left ≡ x ∷ rest → xs ≡ front ++ (x ∷ rest) → Seen whole stop.why 0 → (y : Item) → Nearly whole x y → Viable s (front ++ (y ∷ [])) → ⊥
 no_way whole s xs front stop h x rest l e seen y m v =
     let u = continued s front y v in
@@ -97,7 +97,7 @@ faulty s xs front stop h [] n l e = λ ys t m d.
     n refl u.0 u.1
 faulty s xs front stop h (x ∷ rest) n l e = λ v. no_way true s xs front stop h x rest l e tt x refl v
 
--- Where the rejection does not ask for the item's text, no item of its token can stand there.
+-- Where the rejection does not depend on the item's text, no item of its token can occur there.
 pub no_such : (s : Sym) (xs front : List Item) (stop : Stop) → read s xs ≡ Err stop → (x : Item) (rest : List Item) → stop.left ≡ x ∷ rest → xs ≡ front ++ (x ∷ rest) → Seen false stop.why 0 → (y : Item) → x.token ≡ y.token → Viable s (front ++ (y ∷ [])) → ⊥
 no_such s xs front stop h x rest l e seen y t v =
     let z : Item = record { token = y.token; text = y.text; span = y.span; docs = x.docs } in

@@ -1,4 +1,4 @@
--- Deriving asks for tokens and texts alone: it survives other spans and docs, and the trees differ only there.
+-- Deriving depends on tokens and texts alone: it survives other spans and docs, and the trees differ only there.
 use Rattle.std.proofs.Common.{◌≡◌, ℕ, zero, suc, List, [], ◌∷◌, ◌++◌, true, refl, sym as back, ap, subst, ◌∙◌, inl, inr}
 use Rattle.wac_lexer.specs.declared.token.Token.{Token}
 use Rattle.wac_lexer.specs.Item.{Item}

@@ -1,4 +1,4 @@
--- Where reading stops: what stands before can be completed, and each token that was looked for can stand there.
+-- Where reading stops: what comes before can be completed, and each token that was looked for can occur there.
 use Rattle.std.proofs.Common.{◌≡◌, List, [], ◌∷◌, ◌++◌, map, Result, Ok, Err, Bool, true, false, cond, refl, sym as back, ap, subst, ◌∙◌, ◌⊎◌, inl, inr, append_assoc}
 use Rattle.wac_lexer.specs.declared.token.Token.{Token}
 use Rattle.wac_lexer.specs.declared.token.Token.TheVariants as t
@@ -13,7 +13,7 @@ use Rattle.wac_grammar.proofs.Tables.{always, among, same_token, within, back_to
 use Rattle.wac_grammar.proofs.Sound.{Fronted, OfToken, sound_in}
 use Rattle.wac_grammar.proofs.Completed.{Sample, FirstOf, named_split, cans_once, follows_later, one_only, of_token, self_token, same_is, by_nil, within_is, by_first, sample_in, first_in}
 
--- each item of the token can stand after `lead`
+-- each item of the token can occur after `lead`
 abbrev pub AtOnce : {A : Type 0} → (List Item → A → Type 0) → List Item → Token → Type 0
 AtOnce {A = A} D lead k = (x : Item) → IsOf k x → (zs : List Item) × (p : A) × D (lead ++ (x ∷ zs)) p
 
@@ -21,7 +21,7 @@ AtOnce {A = A} D lead k = (x : Item) → IsOf k x → (zs : List Item) × (p : A
 abbrev pub BehindComma : {A : Type 0} → (List Item → A → Type 0) → List Item → Token → Type 0
 BehindComma {A = A} D lead k = (c x : Item) → IsOf t.Comma c → IsOf k x → (zs : List Item) × (p : A) × D (lead ++ (c ∷ x ∷ zs)) p
 
--- How the token can stand after `lead`, where `left` is left.
+-- How the token can occur after `lead`, where `left` is left.
 abbrev pub Goes : {A : Type 0} → (List Item → A → Type 0) → List Item → List Item → Standing → Token → Type 0
 Goes D lead left at_once k = AtOnce D lead k
 Goes D lead left closing k = Unit {0}
@@ -33,8 +33,9 @@ Early D m k = (left : List Item) → Goes D [] left m k
 pub early_first : {A : Type 0} (D : List Item → A → Type 0) (k : Token) → FirstOf D k → Early D at_once k
 early_first D k f = λ left x i. f x i
 
--- After `lead`, perhaps after the item that it is reported at, reading stopped: these items can be completed, and each token that was
--- looked for can stand after `lead`, but for those that were looked for before and stand at the very place where this reading began.
+-- After `lead`, perhaps after the item that it is reported at, reading stopped: these items can be
+-- completed, and each token that was looked for can occur after `lead`, but for those that were looked
+-- for before, at the very place where this reading began.
 abbrev pub Stops : {A : Type 0} → (List Item → A → Type 0) → List Tried → List Item → Result (A × List Item) Stop → Type 0
 Stops D tried xs (Ok x) = Unit {0}
 Stops {A = A} D tried xs (Err s) = (lead : List Item) × (xs ≡ lead ++ (before s.why ++ s.left)) × ((ys : List Item) × (p : A) × D (lead ++ (before s.why ++ ys)) p) × ((m : Standing) (k : Token) → named m k s.expected ≡ true → ((named m k tried ≡ true) × (lead ≡ [])) ⊎ Goes D lead s.left m k)
@@ -43,7 +44,7 @@ stops_cond : {A : Type 0} (D : List Item → A → Type 0) (tried : List Tried) 
 stops_cond D tried true xs m n h k = h
 stops_cond D tried false xs m n h k = k
 
--- what goes on with one family goes on with another, after what stands before it
+-- what continues with one family continues with another, after what comes before it
 abbrev Carries : {A B : Type 0} → (List Item → A → Type 0) → (List Item → B → Type 0) → List Item → List Item → Type 0
 Carries {A = A} {B = B} D E lead front = (zs : List Item) (a : A) → D (lead ++ zs) a → (ys : List Item) × (b : B) × ((us : List Item) × ((front ++ lead) ++ (zs ++ ys) ≡ us) × E us b)
 
@@ -61,7 +62,7 @@ goes_on D E lead front left h behind_comma k g = (g.0, g.1, once_on D E lead fro
 goes_map : {A B : Type 0} (D : List Item → A → Type 0) (E : List Item → B → Type 0) → ((ys : List Item) (a : A) → D ys a → (b : B) × E ys b) → (lead left : List Item) (m : Standing) (k : Token) → Goes D lead left m k → Goes E lead left m k
 goes_map D E h lead left m k g = goes_on D E lead [] left (λ zs a d. let b = h (lead ++ zs) a d in ([], b.0, (lead ++ zs, ap (λ (us : List Item). lead ++ us) (append-nil zs), b.1))) m k g
 
--- the tokens tried before are others, or can stand there
+-- the tokens tried before are others, or can occur there
 pub stops_pass : {A B : Type 0} (D : List Item → A → Type 0) (E : List Item → B → Type 0) (f : A → B) (tried ts : List Tried) → ((ys : List Item) (a : A) → D ys a → (b : B) × E ys b) → ((m : Standing) (k : Token) → named m k ts ≡ true → (named m k tried ≡ true) ⊎ Early E m k)
     → (xs : List Item) (m : Result (A × List Item) Stop) → Stops D ts xs m → Stops E tried xs (mapped f m)
 stops_pass D E f tried ts h j xs (Ok x) d = tt
@@ -123,7 +124,7 @@ stops_two D E F tried h some xs (Ok x) f r d e = stops_after E F (λ b. (x.0, b)
 pub no_named : {P : Type 0} (m : Standing) (k : Token) → named m k [] ≡ true → P
 no_named m k h = absurd cc
 
--- what can stand at once
+-- what can occur at once
 early : {A : Type 0} (D : List Item → A → Type 0) (m : Standing) (k : Token) → m ≡ at_once → FirstOf D k → Early D m k
 early D m k e f = subst (λ (o : Standing). Early D o k) (back e) (early_first D k f)
 
@@ -148,7 +149,7 @@ token_some l = λ x i. ([], x, of_token l l x (self_token l) i)
 abbrev and_then : {A B : Type 0} → Result (A × List Item) Stop → (A → List Item → Result (B × List Item) Stop) → Result (B × List Item) Stop
 and_then m f = m >>= λ a. f a.0 a.1
 
--- a token, of which the other family is made
+-- a token, from which the other family is made
 token_stops : {B : Type 0} (E : List Item → B → Type 0) (tried ts : List Tried) (k : Token) → Sample E → FirstOf E k → ((m : Standing) (l : Token) → named m l ts ≡ true → (named m l tried ≡ true) ⊎ Early E m l) → (f : Item → List Item → Result (B × List Item) Stop)
     → ((x : Item) (xs : List Item) → is_token k x.token ≡ true → valid k x.text ≡ true → Stops E tried (x ∷ xs) (f x xs)) → (xs : List Item) → Stops E tried xs (and_then (read_token ts k xs) f)
 token_stops E tried ts k some one j f h [] = stops_here E tried (ts ++ (can k ∷ [])) other refl some [] (λ m l n. go m l (named_last E ts k one m l n))
@@ -193,7 +194,7 @@ module _ (sample : (s : Sym) → Sample (Derives s)) (item : (k : Token) → (x 
     loud_firsts D tried true ks f m k h = named_firsts D tried ks f m k h
     loud_firsts D tried false ks f m k h = named_firsts D tried [] (λ l a. absurd (cc a)) m k h
 
-    -- after a comma the tokens go on
+    -- each of the tokens may come after a comma
     comma_goes : (ks : List Token) (g : Grammar) → continues ks g ≡ true → (k : Token) → among k ks ≡ true → (c x : Item) → IsOf t.Comma c → IsOf k x → (zs : List Item) × (p : Parts g) × DerivesIn Derives g (c ∷ x ∷ zs) p
     comma_goes ks (either loud g (then (token c) (sym s))) ok k a comma x n i =
         let ok_c = both_left (same_token t.Comma c) (within ks (begins s)) ok in

@@ -195,7 +195,7 @@ abbrev pub within : List Token → List Token → Bool
 within [] ls = true
 within (k ∷ ks) ls = both (among k ls) (within ks ls)
 
--- after a comma each of these tokens goes on
+-- each of these tokens may come after a comma
 abbrev pub continues : List Token → Grammar → Bool
 continues ks (either loud g (then (token c) (sym s))) = both (same_token t.Comma c) (within ks (begins s))
 continues ks _ = false

@@ -247,7 +247,7 @@ any_spans P S any =
       four = λ r s t w p. (r p.0, s p.1, t p.2, w p.3);
     }
 
--- ---- of documents: what is made of docs stands beside what is made of the other leaves
+-- ---- of documents: what is made of docs comes beside what is made of the other leaves
 
 abbrev Docs : Type 0
 Docs = List Doc → List Doc

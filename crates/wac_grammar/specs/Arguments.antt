@@ -7,7 +7,7 @@ use Rattle.wac_grammar.specs.Tokens.{is_token}
 use Rattle.wac_grammar.specs.Grammar.{Sym, argument, arguments}
 use Rattle.wac_grammar.specs.Reading.{Stop, can, other}
 
--- The items end with a string after an opening brace or a comma. (A name stands after `as`, and a named access after a bracket.)
+-- The items end with a string after an opening brace or a comma. (A name follows `as`, and a named access a bracket.)
 pub record EndsWithArgument (items : List Item) : Type 0 where
   pub before : List Item
   pub opening : Item
@@ -26,6 +26,7 @@ EndsArgued argument items = EndsWithArgument items ⊎ IsAlone t.String items
 EndsArgued arguments items = EndsWithArgument items ⊎ IsAlone t.String items
 EndsArgued _ items = EndsWithArgument items
 
--- The input ends after the dots of an argument: they are one where a comma or a closing brace follows, and an identifier is asked for.
+-- The input ends after the dots of an argument: they are one where a comma or a closing
+-- brace follows, and an identifier is expected.
 abbrev pub CutShort : List Item → Stop → Type 0
 CutShort items stop = IsAlone t.Ellipsis items × (stop ≡ record { left = []; expected = can t.Ident ∷ []; why = other })

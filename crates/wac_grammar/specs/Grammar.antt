@@ -112,7 +112,7 @@ pub data Body : Type 0 where
   flags_body : Body
   enum_body : Body
 
--- What must stand after a part that is left out.
+-- What must follow a part that is left out.
 pub data Behind : Type 0 where
   anything : Behind
   -- no fault

@@ -1,4 +1,4 @@
--- What a walk over a tree is taken for: to change its leaves, to ask something of each, and to list them.
+-- What a walk over a tree is used for: to change its leaves, to ask something of each, and to list them.
 use Rattle.std.specs.Prelude.{◌≡◌, List, [], ◌∷◌, ◌++◌, map, Option, Some, None, Bool, true}
 use Rattle.std.specs.List.{AllByRecursion, flat_map}
 use Rattle.std.specs.Option.{option_map}

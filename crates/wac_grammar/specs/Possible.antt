@@ -11,7 +11,7 @@ same_standing closing closing = true
 same_standing behind_comma behind_comma = true
 same_standing _ _ = false
 
--- The token was looked for, and can stand in this way.
+-- The token was looked for, and can occur in this way.
 abbrev pub named : Standing → Token → List Tried → Bool
 named m k [] = false
 named m k (t ∷ ts) = cond (cond (same_standing m t.standing) (is_token t.token (Ok k)) false) true (named m k ts)

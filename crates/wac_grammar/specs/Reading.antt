@@ -6,7 +6,7 @@ use Rattle.wac_lexer.specs.Item.{Item}
 use Rattle.wac_grammar.specs.Tokens.{is_token, is_fault, valid, at}
 use Rattle.wac_grammar.specs.Grammar.{Sym, Body, Behind, anything, no_fault, one_among, Grammar, token, sym, then, either, nothing, to_end, docs, not_empty, more, or_told, rule, TreeOf, Parts, build, docs_of}
 
--- How a token that was looked for can stand at the place of a rejection.
+-- How a token that was looked for can occur at the place of a rejection.
 pub data Standing : Type 0 where
   at_once : Standing
   -- it would close a body that is still empty

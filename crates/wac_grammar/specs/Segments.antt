@@ -1,4 +1,4 @@
--- The segments of a path, and where each stands.
+-- The segments of a path, and the span of each.
 use Rattle.std.specs.Prelude.{◌≡◌, ℕ, ◌+◌, ◌-◌, ◌^◌, min, List, [], ◌∷◌, length, Option, Some, None, codes, refl}
 use Rattle.std.specs.List.{slice_split}
 use Rattle.wac_lexer.specs.Span.{Span, span}
@@ -9,7 +9,7 @@ use Rattle.wac_grammar.specs.Tree.{PackagePath}
 abbrev pub behind : ℕ → ℕ → ℕ
 behind offset bytes = min (offset + bytes) (2 ^ 64 - 1)
 
--- parts that stand in order from an offset on, with one byte between two
+-- parts that lie in order from an offset on, with one byte between two
 abbrev pub located : ℕ → List (List ℕ) → List (List ℕ × Span)
 located offset [] = []
 located offset (part ∷ others) = (part, span offset (length part)) ∷ located (behind (behind offset (length part)) 1) others
@@ -27,7 +27,7 @@ segments_left offset (Some text) = segments_from offset text
 abbrev pub package_name_span : PackagePath → Span
 package_name_span path = span path.span.offset (length path.name)
 
--- the segments of a path, which stand after its name and a slash
+-- the segments of a path, which come after its name and a slash
 abbrev pub segment_spans : PackagePath → List (List ℕ × Span)
 segment_spans path = segments_from (behind (behind path.span.offset (length path.name)) 1) path.segments
 

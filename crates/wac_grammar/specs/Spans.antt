@@ -1,4 +1,4 @@
--- Where parts of a tree stand, and the texts that name them.
+-- The spans of parts of a tree, and the texts that name them.
 use Rattle.std.specs.Prelude.{ℕ, List}
 use Rattle.wac_lexer.specs.Span.{Span}
 use Rattle.wac_grammar.specs.Tree.{Ty, ExternName, WorldRef, InstantiationArgumentName}

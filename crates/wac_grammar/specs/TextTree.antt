@@ -5,7 +5,7 @@ use Rattle.wac_lexer.specs.Characters.{refused}
 use Rattle.wac_grammar.specs.Tree.{Document}
 use Rattle.wac_grammar.specs.Grammar.{document, Derives}
 
--- No character is refused, and the items derive the tree.
+-- No character is rejected, and the items derive the tree.
 pub record IsTreeOf (text : List ℕ) (tree : Document) : Type 0 where
   pub clean : refused text ≡ None
   pub derives : Derives document (items text) tree

@@ -61,7 +61,7 @@ pub data ExternName : Type 0 where
 
 -- ---- types
 
--- A list of types stands in a type of its own here, and an optional type too, since types are recursive.
+-- A list of types has a type of its own here, and so has an optional type, since types are recursive.
 mutual
   pub data Ty : Type 0 where
     u8 : Span → Ty
@@ -80,7 +80,7 @@ mutual
     tuple : Types → Span → Ty
     list : Ty → Span → Ty
     option : Ty → Span → Ty
-    -- what is given where all went well, and what where it did not
+    -- what is given on success, and what on failure
     result : OptionalTy → OptionalTy → Span → Ty
     borrow : Ident → Span → Ty
     stream : OptionalTy → Span → Ty
@@ -304,7 +304,7 @@ pub data InstantiationArgumentName : Type 0 where
   ident : Ident → InstantiationArgumentName
   string : String → InstantiationArgumentName
 
--- Arguments stand in a list type of their own here, since expressions are recursive.
+-- Arguments have a list type of their own here, since expressions are recursive.
 mutual
   pub data Expr : Type 0 where
     expr : Span → PrimaryExpr → List PostfixExpr → Expr

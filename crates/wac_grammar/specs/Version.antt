@@ -18,7 +18,7 @@ version_text text = if nat_lt (position_or_len is_at_sign text) (length text) th
 abbrev pub unversioned : List ℕ → List ℕ
 unversioned text = before_first is_at_sign text
 
--- the name of a path: what stands before the first '/'
+-- the name of a path: the text before the first '/'
 abbrev pub path_name : List ℕ → List ℕ
 path_name text = before_first is_slash text
 
@@ -26,7 +26,7 @@ path_name text = before_first is_slash text
 abbrev pub after_slash : List ℕ → List ℕ
 after_slash text = after_first is_slash text
 
--- the segments of a path: what stands between the first '/' and '@'
+-- the segments of a path: the text between the first '/' and '@'
 abbrev pub path_segments : List ℕ → List ℕ
 path_segments text = after_slash (unversioned text)
 

@@ -1,4 +1,5 @@
--- One walk over trees: what is made of the leaves of a tree, and of a node from what was made of its parts. What is made of docs stands apart, since most trees have none.
+-- One walk over trees: what is made of the leaves of a tree, and of a node from what was made of its parts. What is
+-- made of docs is separate, since most trees have none.
 use Rattle.std.specs.Prelude.{List, [], ◌∷◌, Option, Bool, true, false}
 use Rattle.wac_lexer.specs.Span.{Span}
 use Rattle.wac_lexer.specs.Item.{Doc}

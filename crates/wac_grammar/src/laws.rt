@@ -25,7 +25,7 @@ pub fn what_is_read_derives()
     ensures { (s : Sym) (items rest : List Item) (tree : TreeOf s) → read s items ≡ Ok (tree, rest) → Consumed s items rest tree }
 {}
 
-/// Each token that a text can be has a text of its shape, which is right wherever the token may stand.
+/// Each token that a text can be has a text of its shape, which is right wherever the token may occur.
 pub fn tokens_have_texts()
     ensures { (k : the_token.Token) → HasText k }
 {}
@@ -42,12 +42,12 @@ pub fn trees_are_as_their_leaves()
     ensures { (test : Leaf → Bool) (tree : Document) → DocumentPasses test tree ↔ AllByRecursion (λ leaf. test leaf ≡ true) (walk_document leaves docs_leaf tree) }
 {}
 
-/// A rejection lies at the first fault of the part that was to be read, and each token that it names can stand there.
+/// A rejection lies at the first fault of the part that was to be read, and each token that it names can occur there.
 pub fn refusals_lie_at_first_faults()
     ensures { (s : Sym) (items : List Item) (stop : Stop) → s ≢ argument → read s items ≡ Err stop → Stopped s items stop }
 {}
 
-/// So it does where an argument was to be read, but where the input ends after its dots, which may be all of it.
+/// So it does where an argument was to be read, except where the input ends after its dots, which may be all of it.
 pub fn arguments_are_refused_at_first_faults()
     ensures { (items : List Item) (stop : Stop) → read argument items ≡ Err stop → Stopped argument items stop ⊎ CutShort items stop }
 {}

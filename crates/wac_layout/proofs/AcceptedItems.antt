@@ -1,4 +1,4 @@
--- The texts and the docs of a source's items have no refused character where the source has none.
+-- The texts and the docs of a source's items have no rejected character where the source has none.
 use Rattle.std.proofs.Common.{◌≡◌, ℕ, suc, ◌+◌, ◌-◌, ◌<◌, true, List, [], ◌∷◌, ◌++◌, take, drop, length, get_or, sym, refl, ap, ◌∙◌, subst, arith, inl, inr, Option, Some, None, Result, length-append, codes}
 use Rattle.std.specs.Prelude.{◌&&◌}
 use Rattle.std.specs.List.{AllByRecursion}

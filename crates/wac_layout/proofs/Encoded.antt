@@ -1,4 +1,4 @@
--- What is printed is UTF-8, whatever text stands for a depth.
+-- What is printed is UTF-8, whatever text is written for a depth.
 use Rattle.std.proofs.Common.{ℕ, zero, suc, Bool, true, false, List, [], ◌∷◌, ◌++◌}
 use Rattle.std.specs.Str.{IsUtf8}
 use Rattle.std.proofs.lemmas.Str.{IsUtf8-nil, IsUtf8-append}

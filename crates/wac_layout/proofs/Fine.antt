@@ -1,4 +1,4 @@
--- Characters that aren't refused.
+-- Characters that aren't rejected.
 use Rattle.std.proofs.Common.{◌≡◌, ℕ, ◌+◌, List, [], ◌∷◌, refl, ap, ◌∙◌, subst, Some, None}
 use Rattle.std.specs.Prelude.{MatchOption}
 use Rattle.std.specs.List.{AllByRecursion}
@@ -10,7 +10,7 @@ use Rattle.wac_lexer.proofs.Refusals.{first_refused}
 use Rattle.wac_layout.specs.Accepted.{IsAccepted}
 use Rattle.wac_layout.proofs.Characters.{Holds}
 
--- a character that isn't refused
+-- a character that isn't rejected
 abbrev pub Fine : ℕ → Type 0
 Fine c = fault_of c ≡ None
 

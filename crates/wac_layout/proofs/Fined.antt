@@ -1,4 +1,4 @@
--- What a tree that is derived is made of is spelled as its sort.
+-- What a derived tree is made of is spelled as its sort.
 use Rattle.std.proofs.Common.{◌≡◌, ℕ, true, List, [], sym as back, refl, ap, ◌∙◌, subst, Some, Result, Ok, Err}
 use Rattle.std.specs.List.{AllByRecursion}
 use Rattle.std.proofs.lemmas.Bool.{false≢true}

@@ -9,7 +9,7 @@ use Rattle.wac_layout.specs.Texts.{Spelled, DocumentHas}
 use Rattle.wac_layout.specs.Reread.{printed, IsReread}
 use Rattle.wac_layout.proofs.Settling.{settled_document, twice_document}
 
--- the docs of a tree that was read of a printed text, cut into lines
+-- the docs of a tree that was read from a printed text, cut into lines
 pub once_settled : (source once : List ℕ) (tree again : Document) → IsReread once again source tree → bare_document doc_lines once again ≡ settle_document (bare_document doc_lines source tree)
 once_settled source once tree again e = sym (settled_document once again) ∙ ap settle_document e
 

@@ -44,7 +44,7 @@ module _ (S P : List ℕ) where
       (λ c zs rest q e t l. (q, by_rule more_params zs (inr (c, q)) (c ∷ [], rest, e, (refl, t, refl), l), refl))
       xs [] ys is h
 
-  -- names of which there is at least one
+  -- at least one name
   names_back : (x : NamedType) (xs : List NamedType) (ys : List Item) → AllByRecursion (NamedTypeHas Spelled) (map (bare_named_type S) (x ∷ xs)) → Means P [] ys (joined named_type_layout (map (bare_named_type S) (x ∷ xs)) ++ token (codes ")") ∷ [])
       → (front : List Item) × (rest : List Item) × (u : NamedType) × (q : List NamedType × Item) × (ys ≡ front ++ rest) × Derives named_type front u × Derives more_params rest q × (bare_named_type P u ≡ bare_named_type S x) × (map (bare_named_type P) q.0 ≡ map (bare_named_type S) xs)
   names_back x xs ys is h =

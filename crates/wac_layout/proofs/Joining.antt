@@ -1,4 +1,4 @@
--- Pieces one after the other join where each of the two lists does.
+-- The concatenation of two lists of pieces joins where each of the two does.
 use Rattle.std.proofs.Common.{◌≡◌, ℕ, Bool, true, false, List, [], ◌∷◌, ◌++◌, sym, refl, ap, ◌∙◌, subst, append_assoc, Option, Some, None}
 use Rattle.std.specs.Prelude.{nat_eq}
 use Rattle.std.proofs.lemmas.Bool.{false≢true}
@@ -46,7 +46,7 @@ parted rest space fresh (p ∷ ps) qs joins =
     let others = parted rest space later ps qs joins.1 in
     ((subst (λ u. Fits u p) (rest-append rest space later ps qs) joins.0, others.0), others.1)
 
--- the text is a token, and the walk lets the rest stand after it
+-- the text is a token, and the walk lets the rest follow it
 abbrev pub stands_before : List ℕ → List ℕ → Bool
 stands_before rest t = elim (token_of t) [ Some kind ↦ follows kind rest | None ↦ false ]
 

@@ -1,4 +1,4 @@
--- The joints of printed text: what each sort of piece may stand before.
+-- The joints of printed text: what each sort of piece may precede.
 use Rattle.std.proofs.Common.{◌≡◌, ℕ, Bool, true, List, [], ◌∷◌, ◌++◌, refl, ap, ◌∙◌, append_assoc, Some, codes}
 use Rattle.std.specs.List.{AllByRecursion, flat_map}
 use Rattle.wac_lexer.proofs.Following.{follows}
@@ -18,7 +18,7 @@ use Rattle.wac_layout.proofs.Joining.{join, stands, stands_before, stands_so}
 pub known : (t : List ℕ) → is_plain t ≡ true → (rest : List ℕ) → stands_before rest t ≡ true → Stands t rest
 known t e rest is = stands_so t rest (plain t e) is
 
--- a symbol but a dot may stand before anything
+-- a symbol but a dot may precede anything
 symbol : (rest : List ℕ) → follows kinds.OpenParen rest ≡ true
 symbol [] = refl
 symbol (b ∷ rest) = refl
@@ -68,7 +68,7 @@ ellipsis rest = known (codes "...") refl rest (symbol rest)
 pub comma : (rest : List ℕ) → Stands (codes ",") rest
 comma rest = known (codes ",") refl rest (symbol rest)
 
--- a string may stand before anything
+-- a string may precede anything
 pub quoted : (rest : List ℕ) → follows kinds.String rest ≡ true
 quoted [] = refl
 quoted (b ∷ rest) = refl
@@ -94,7 +94,7 @@ module _ (gap : List ℕ) where
   abbrev pub J : List ℕ → Bool → List Piece → Type 0
   J rest fresh ps = JoinsBefore rest gap fresh ps
 
-  -- one after the other
+  -- two lists of pieces, concatenated
   pub also : (rest : List ℕ) (fresh : Bool) (ps qs : List Piece) → J (text gap (fresh_behind gap fresh ps) qs ++ rest) fresh ps → J rest (fresh_behind gap fresh ps) qs → J rest fresh (ps ++ qs)
   also rest fresh ps qs first second = join rest gap fresh ps qs first second
 
@@ -104,7 +104,7 @@ module _ (gap : List ℕ) where
   docs_join depth [] rest fresh h = tt
   docs_join depth (d ∷ docs) rest fresh h = (tt, ((h.0, refl), ((refl, tt), docs_join depth docs rest _ h.1)))
 
-  -- lists of parts, each of which may stand before what a word may stand before
+  -- lists of parts, each of which may precede what a word may precede
   module _ {X : Type 0} (f : X → List Piece) (P : X → Type 0) (each : (x : X) (rest : List ℕ) (fresh : Bool) → P x → follows kinds.Ident rest ≡ true → J rest fresh (f x)) where
     abbrev further : List X → List Piece
     further xs = flat_map (λ y. (token (codes ",") ∷ space ∷ []) ++ f y) xs
@@ -126,7 +126,7 @@ module _ (gap : List ℕ) where
   pub documented : (depth : ℕ) (docs : List Doc) (qs : List Piece) (rest : List ℕ) (fresh : Bool) → DocsHave Spelled docs → ((later : Bool) → J rest later qs) → J rest fresh (docs_layout depth docs ++ qs)
   documented depth docs qs rest fresh is others = also rest fresh (docs_layout depth docs) qs (docs_join depth docs _ _ is) (others _)
 
-  -- a word may stand before a body and rows
+  -- a word may precede a body and rows
   pub rows_follow : {X : Type 0} (f : ℕ → X → List Piece) (depth : ℕ) (xs : List X) (rest : List ℕ) (fresh : Bool) → follows kinds.Ident (text gap fresh (rows f depth xs) ++ rest) ≡ true
   unfolding rows
   rows_follow f depth xs rest fresh = refl
@@ -150,7 +150,7 @@ module _ (gap : List ℕ) where
     rows_join depth xs rest fresh is =
         ((refl, tt), (open_brace _, ((refl, tt), also _ _ (flat_map (row (deeper depth)) xs) (close_body depth) (rows_of (deeper depth) xs _ _ is) (tt, (close_brace _, tt)))))
 
-  -- items on lines of their own, each of which may stand before anything
+  -- items on lines of their own, each of which may precede anything
   module _ {X : Type 0} (f : X → List Piece) (P : X → Type 0) (each : (x : X) (rest : List ℕ) (fresh : Bool) → P x → J rest fresh (f x)) where
     abbrev lined : X → List Piece
     lined x = f x ++ newline ∷ []

@@ -11,8 +11,8 @@ use Rattle.wac_layout.proofs.Means.{Means, split, pending}
 pub regroup : (P : List ℕ) (ds : List (List ℕ)) (ys : List Item) (a b c : List Piece) → Means P ds ys ((a ++ b) ++ c) → Means P ds ys (a ++ (b ++ c))
 regroup P ds ys a b c h = subst (Means P ds ys) (append_assoc a b c) h
 
--- P: the printed text; bS and bP: what is bare of a source's and of a printed item; f: how it is printed; D: how it derives;
--- L: how lists derive, with their items; end: what stands after the items
+-- P: the printed text; bS and bP: what is bare of a source's and of a printed item; f: how it is printed;
+-- D: how it derives; L: how lists derive, with their items; end: what follows the items
 module _ (P : List ℕ) {X Q : Type 0} (bS bP : X → X) (Good : X → Type 0) (f : X → List Piece) (D : List Item → X → Type 0) (L : List Item → Q → Type 0) (values : Q → List X) (end : List Piece)
     (back : (x : X) (ys : List Item) → Good (bS x) → Means P [] ys (f (bS x)) → (u : X) × D ys u × (bP u ≡ bS x))
     (nil : (ds : List (List ℕ)) (ys : List Item) → Means P ds ys end → (q : Q) × L ys q × (map bP (values q) ≡ [])) where

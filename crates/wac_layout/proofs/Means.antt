@@ -10,7 +10,7 @@ use Rattle.wac_layout.specs.Placed.{kind_of, with_docs, placed}
 abbrev pub texts_of : List Doc → List (List ℕ)
 texts_of docs = map (λ d. d.comment) docs
 
--- the docs that stand after the last token of pieces
+-- the docs after the last token of pieces
 abbrev pub pending : List (List ℕ) → List Piece → List (List ℕ)
 pending ds [] = ds
 pending ds (token t ∷ ps) = pending [] ps

@@ -1,4 +1,4 @@
--- The items of a source without refused characters are what a derivation needs to be printed.
+-- The items of a source without rejected characters are what a derivation needs to be printed.
 use Rattle.std.proofs.Common.{◌≡◌, ℕ, ◌+◌, List, [], ◌∷◌, ◌++◌, map, take, drop, sym, refl, ap, ◌∙◌, subst, Option, Some, None, Result, Ok}
 use Rattle.std.specs.List.{AllByRecursion}
 use Rattle.std.specs.Str.{trim}

@@ -1,4 +1,4 @@
--- A token that is no string consists of visible ASCII characters, so that no character of it is refused.
+-- A token that is no string consists of visible ASCII characters, so that no character of it is rejected.
 use Rattle.std.proofs.Common.{◌≡◌, ℕ, zero, suc, ◌+◌, ◌-◌, ◌<◌, ◌≤◌, Bool, true, false, List, [], ◌∷◌, sym, refl, subst, arith, inl, inr, ⊎_elim, Option, Some, None}
 use Rattle.std.specs.Prelude.{◌&&◌, ◌⊎◌, nat_le, nat_lt, not, is_none}
 use Rattle.std.specs.List.{AllByRecursion, concat}

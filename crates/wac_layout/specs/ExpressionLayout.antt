@@ -21,7 +21,7 @@ abbrev pub argument_name_layout : InstantiationArgumentName → List Piece
 argument_name_layout (tree.InstantiationArgumentName.ident x) = token x.string ∷ []
 argument_name_layout (tree.InstantiationArgumentName.string x) = token x.value ∷ []
 
--- a comma stands after each argument but a fill that is the last
+-- a comma follows each argument but a fill that is the last
 abbrev pub comma_layout : InstantiationArgument → Arguments → List Piece
 comma_layout (tree.InstantiationArgument.fill s) tree.Arguments.none = []
 comma_layout _ _ = token (codes ",") ∷ []

@@ -1,4 +1,5 @@
--- Pieces that join: each is what it is meant to be, has no refused character, and what stands after a token doesn't go on with it.
+-- Pieces that join: each is what it is meant to be, has no rejected character,
+-- and what follows a token doesn't continue it.
 use Rattle.std.specs.Prelude.{◌≡◌, ◌≢◌, ℕ, Bool, true, false, List, [], ◌∷◌, ◌++◌, Some, None, codes, refl}
 use Rattle.std.specs.List.{AllByRecursion}
 use Rattle.std.specs.Str.{trim}
@@ -10,7 +11,7 @@ use Rattle.wac_lexer.specs.declared.token.Token.{Token}
 use Rattle.wac_layout.specs.Accepted.{IsAccepted}
 use Rattle.wac_layout.specs.Printed.{Piece, token, blank, line, doc, text_of, text, fresh_after}
 
--- the text is a token that the rest may follow, and has no refused characters
+-- the text is a token that the rest may follow, and has no rejected characters
 pub record Stands (t rest : List ℕ) : Type 0 where
   pub kind : Token
   pub follows : Follows kind t rest
@@ -20,7 +21,7 @@ pub record Stands (t rest : List ℕ) : Type 0 where
 abbrev pub AreBlanks : List ℕ → Type 0
 AreBlanks t = AllByRecursion (λ b. is_blank b ≡ true) t
 
--- a line of docs: trimmed, and without LF and refused characters
+-- a line of docs: trimmed, and without LF and rejected characters
 abbrev pub IsDocLine : List ℕ → Type 0
 IsDocLine t = IsAccepted t × (trim t ≡ t) × AllByRecursion (λ b. b ≢ line_feed) t
 
@@ -31,7 +32,7 @@ Fits rest (blank t) = AreBlanks t
 Fits rest (line depth) = Unit {0}
 Fits rest (doc t) = IsDocLine t × EndsLine rest
 
--- pieces that stand before the rest join
+-- pieces before the rest join
 abbrev pub JoinsBefore : List ℕ → List ℕ → Bool → List Piece → Type 0
 JoinsBefore rest space fresh [] = Unit {0}
 JoinsBefore rest space fresh (p ∷ ps) =

@@ -10,7 +10,7 @@ space = blank (codes " ")
 abbrev pub newline : Piece
 newline = blank (codes "\n")
 
--- pieces one after the other, with these between them
+-- the pieces of each, in order, with these between two
 abbrev pub between : {X : Type 0} → List Piece → (X → List Piece) → List X → List Piece
 between separator f [] = []
 between separator f (x ∷ xs) = f x ++ flat_map (λ y. separator ++ f y) xs

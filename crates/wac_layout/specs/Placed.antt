@@ -13,7 +13,7 @@ use Rattle.wac_layout.specs.Printed.{Piece, token, blank, line, doc, text_of, fr
 abbrev pub kind_of : List ℕ → Result Token Error
 kind_of t = elim (token_of t) [ Some k ↦ Ok k | None ↦ Err UnexpectedToken ]
 
--- a doc that stands before items is the first one's
+-- a doc before items is the first one's
 abbrev pub with_docs : List Doc → List Item → List Item
 with_docs docs [] = []
 with_docs docs (item ∷ items) = record item { docs = docs ++ item.docs } ∷ items

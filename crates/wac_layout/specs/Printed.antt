@@ -8,7 +8,7 @@ pub data Piece : Type 0 where
   token : List ℕ → Piece
   -- blanks
   blank : List ℕ → Piece
-  -- the indentation of this depth, where nothing stands on the line yet
+  -- the indentation of this depth, where nothing is on the line yet
   line : ℕ → Piece
   -- a line of docs, without its `/// `
   doc : List ℕ → Piece
@@ -18,7 +18,7 @@ abbrev pub times : ℕ → List ℕ → List ℕ
 times zero text = []
 times (suc n) text = text ++ times n text
 
--- whether nothing stands on the line after a text: where it is empty, as before it
+-- whether nothing is on the line after a text: where the text is empty, as before it
 abbrev pub fresh_after : Bool → List ℕ → Bool
 fresh_after fresh [] = fresh
 fresh_after fresh (b ∷ text) = fresh_after (nat_eq b line_feed) text
@@ -30,12 +30,12 @@ text_of space fresh (blank text) = text
 text_of space fresh (line depth) = if fresh then times depth space else []
 text_of space fresh (doc text) = codes "/// " ++ text
 
--- what pieces write, one after the other
+-- what pieces write, in order
 abbrev pub text : List ℕ → Bool → List Piece → List ℕ
 text space fresh [] = []
 text space fresh (p ∷ ps) = text_of space fresh p ++ text space (fresh_after fresh (text_of space fresh p)) ps
 
--- whether nothing stands on the line after pieces
+-- whether nothing is on the line after pieces
 abbrev pub fresh_behind : List ℕ → Bool → List Piece → Bool
 fresh_behind space fresh [] = fresh
 fresh_behind space fresh (p ∷ ps) = fresh_behind space (fresh_after fresh (text_of space fresh p)) ps

@@ -27,7 +27,7 @@ IsReread text again source tree = bare_document read_docs text again ≡ bare_do
 abbrev pub RereadAs : List ℕ → List ℕ → Document → Type 0
 RereadAs text source tree = (again : Document) × IsTreeOf text again × IsReread text again source tree
 
--- a text that was printed of the tree of a text, where blanks stood for a depth
+-- a text that was printed of the tree of a text, with blanks for each depth
 pub record WasPrinted (text : List ℕ) : Type 0 where
   pub space : List ℕ
   pub source : List ℕ

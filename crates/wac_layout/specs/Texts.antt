@@ -23,7 +23,8 @@ pub data Sort : Type 0 where
 abbrev pub Sorted : Type 1
 Sorted = Sort → List ℕ → Type 0
 
--- a text is spelled as its sort: it is such a token, with a right version, or a line of docs; and it has no refused character
+-- a text is spelled as its sort: it is such a token, with a right version, or a
+-- line of docs; and it has no rejected character
 abbrev pub Spelled : Sorted
 Spelled word t = token_of t ≡ Some tokens.Ident
 Spelled string t = (token_of t ≡ Some tokens.String) × IsAccepted t

@@ -44,7 +44,7 @@ is_not_empty line = not (length line == 0)
 abbrev pub settled : List (List (List ℕ)) → List (List (List ℕ))
 settled holders = map (λ ls. filter is_not_empty ls) holders
 
--- a doc of three lines, of which the second is empty, and an empty doc
+-- a doc of three lines, the second of which is empty, and an empty doc
 lines_1 : lines_of (record { comment = codes "a \n\n b"; span = span 0 9 } ∷ record { comment = []; span = span 9 3 } ∷ []) ≡ trim (codes "a ") ∷ trim [] ∷ trim (codes " b") ∷ []
 lines_1 = refl
 

@@ -22,14 +22,16 @@ ghost use Rattle.wac_layout.specs.StatementLayout.{document_layout, statement_la
 ghost use Rattle.wac_layout.specs.TreeLines.{bare_tree, settled, tree_docs, tree_lines};
 ghost use Rattle.wac_layout.specs.Texts.{DocumentHas, StatementHas, Spelled};
 
-/// What pieces that join write is read back: a lexer takes the text, and its items are the token pieces at their places, with the doc pieces before them as docs.
+/// What pieces that join write is read back: a lexer accepts the text, and its items are the token pieces
+/// at their places, with the doc pieces before them as docs.
 pub fn pieces_are_read_back()
     ensures accepted { (rest space : List ℕ) (fresh : Bool) (ps : List Piece) → AreBlanks space → JoinsBefore rest space fresh ps → IsAccepted (text space fresh ps) }
     ensures items { (space : List ℕ) (fresh : Bool) (ps : List Piece) → AreBlanks space → Joins space fresh ps → items (text space fresh ps) ≡ placed 0 space fresh ps }
     ensures said { (place : ℕ) (space : List ℕ) (fresh : Bool) (ps : List Piece) → map said_of (placed place space fresh ps) ≡ said ps }
 {}
 
-/// Two lists of pieces join, one after the other, where the second joins, and the first joins before what the second writes.
+/// The concatenation of two lists of pieces joins where the second joins, and
+/// the first joins before what the second writes.
 pub fn pieces_are_put_together()
     ensures text { (space : List ℕ) (fresh : Bool) (ps qs : List Piece) → text space fresh (ps ++ qs) ≡ text space fresh ps ++ text space (fresh_behind space fresh ps) qs }
     ensures fresh { (space : List ℕ) (fresh : Bool) (ps : List Piece) → fresh_behind space fresh ps ≡ fresh_after fresh (text space fresh ps) }
@@ -43,7 +45,7 @@ pub fn documents_join()
     ensures statement { (rest space : List ℕ) (fresh : Bool) (depth : ℕ) (statement : Statement) → StatementHas Spelled statement → JoinsBefore rest space fresh (statement_layout depth statement) }
 {}
 
-/// The texts and docs of the items of a text have no refused character, where the text has none.
+/// The texts and docs of the items of a text have no rejected character, where the text has none.
 pub fn items_are_accepted()
     ensures items { (source : List ℕ) → IsAccepted source → AllByRecursion ItemIsAccepted (items source) }
     ensures slices { (source : List ℕ) (s : Span) → IsAccepted source → Slices source s → IsAccepted (slice source s) }
@@ -76,12 +78,12 @@ pub fn printed_texts_read_back()
     ensures { (space source : List ℕ) (tree : Document) → AreBlanks space → IsUtf8 source → IsTreeOf source tree → ReadsBack space source tree (printed space source tree) }
 {}
 
-/// What is printed of a text that was itself printed has a tree that is printed as it stands.
+/// What is printed of a text that was itself printed has a tree that is printed as the same text.
 pub fn printed_texts_stay()
     ensures { (space source : List ℕ) (tree : Document) → AreBlanks space → IsTreeOf source tree → WasPrinted source → IsFixed space (printed space source tree) }
 {}
 
-/// What is printed of the tree of a text is UTF-8, whatever text stands for a depth.
+/// What is printed of the tree of a text is UTF-8, whatever text is written for a depth.
 pub fn printed_texts_are_utf8()
     ensures { (space source : List ℕ) (tree : Document) → IsUtf8 space → IsUtf8 source → IsTreeOf source tree → IsUtf8 (printed space source tree) }
 {}
@@ -92,7 +94,9 @@ pub fn bare_trees_give_plain_trees()
     ensures reread { (source text : List ℕ) (x again : Document) → IsUtf8 source → IsTreeOf source x → IsUtf8 text → IsTreeOf text again → IsReread text again source x → plain_document again ≡ plain_document x }
 {}
 
-/// A printed text knows the bare tree and the lines of docs alone, whatever the layout, comments and spans of the source were. What is printed has a tree with the same bare tree, whose docs are the lines, one doc a line, and what is printed of that one has the lines that are not empty.
+/// A printed text depends on the bare tree and the lines of docs alone, whatever the layout, comments and spans of the
+/// source were. What is printed has a tree with the same bare tree, whose docs are the lines, one doc a line, and what
+/// is printed of that one has the lines that are not empty.
 pub fn bare_trees_and_lines_give_texts()
     ensures texts { (space source other : List ℕ) (x y : Document) → bare_tree source x ≡ bare_tree other y → tree_lines x ≡ tree_lines y → printed space source x ≡ printed space other y }
     ensures reread { (text source : List ℕ) (again tree : Document) → IsReread text again source tree ↔ ((bare_tree text again ≡ bare_tree source tree) × (tree_docs again ≡ tree_lines tree)) }

@@ -1,7 +1,7 @@
 //! The front end of the WebAssembly Composition language (WAC).
 //!
-//! [`Document::parse`] reads a text into its tree, or reports the first place where no document goes on. [`DocumentPrinter`] prints a tree
-//! into any sink of bytes, and [`format()`] does both:
+//! [`Document::parse`] reads a text into its tree, or reports the first place where no document continues.
+//! [`DocumentPrinter`] prints a tree into any sink of bytes, and [`format()`] does both:
 //!
 //! ```text
 //! match format(alloc, source, None) {
@@ -10,7 +10,8 @@
 //! }
 //! ```
 //!
-//! Spans are in bytes. Each call that takes memory takes the allocator first; `Error::Memory` comes only where a request was refused.
+//! Spans are in bytes. Each call that takes memory takes the allocator first;
+//! `Error::Memory` occurs only where a request failed.
 #![tactic(auto)]
 
 pub mod lexer;

@@ -1,7 +1,7 @@
 //! Resolving: the composition graph that a document describes, or the rule that its first failing statement breaks.
 //!
-//! [`resolve`] resolves a document with the packages that it may mention and with [`Rules`], which say what may stand where and
-//! which names imports and exports may have:
+//! [`resolve`] resolves a document with the packages that it may mention and with [`Rules`], which say what may be used
+//! where and which names imports and exports may have:
 //!
 //! ```text
 //! match resolve(alloc, &document, packages, &rules) {
@@ -10,8 +10,8 @@
 //! }
 //! ```
 //!
-//! A [`Package`] is made of [`Types`] by `Package::new`, and handed over under its [`PackageKey`]. The graph is read by the calls of
-//! [`CompositionGraph`].
+//! A [`Package`] is made of [`Types`] by `Package::new`, and passed under its [`PackageKey`].
+//! The graph is read by the calls of [`CompositionGraph`].
 
 pub use wac_graph::{
     CompositionGraph, DefinedType, DefinedTypeId, Entry, ExternKind, FuncKind, FuncResults,

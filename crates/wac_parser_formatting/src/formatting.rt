@@ -19,19 +19,20 @@ use wac_printer::{DocumentPrinter, Page, trees_of_texts_can_be_printed};
 
 /// Prints the document of a text in the one layout.
 ///
-/// `space` stands once for each depth where a line begins, four spaces where it is `None`. All that the layout of the source said is
-/// replaced; identifiers, strings and package names keep their spelling, and docs keep their lines. Memory is taken for the tree and
-/// for the text.
+/// `space` is written once for each depth where a line begins, four spaces where it is `None`. All that the
+/// layout of the source said is replaced; identifiers, strings and package names keep their spelling, and docs
+/// keep their lines. Memory is taken for the tree and for the text.
 pub fn format(alloc: Global, source: &str, space: Option<&str>) -> ParseResult<String>
     // What is returned is printed of the text's tree.
     ensures found { IfOk result (λ text. (tree : Tree) × IsTreeOf source.now tree × (string_bytes text ≡ printed (space_of space.entry) source.now tree)) }
     // Where the text has a tree, it is printed, unless memory runs out.
     ensures only { (tree : Tree) → IsTreeOf source.now tree → MatchResult result (λ text. string_bytes text ≡ printed (space_of space.entry) source.now tree) (λ e. e ≡ Memory alloc_error) }
-    // Where blanks stand for a depth, the printed text reads back as the same document, and is fixed from the second time on.
+    // Where blanks are written for a depth, the printed text reads back as the same
+    // document, and is fixed from the second time on.
     ensures again { AreBlanks (space_of space.entry) → IfOk result (λ text. (tree : Tree) × IsTreeOf source.now tree × ReadsBack (space_of space.entry) source.now tree (string_bytes text)) }
     // Where the source was itself printed, what is returned has a tree that is printed as the result.
     ensures fixed { AreBlanks (space_of space.entry) → WasPrinted source.now → IfOk result (λ text. IsFixed (space_of space.entry) (string_bytes text)) }
-    // An error reports the first place where no document goes on.
+    // An error reports the first place where no document continues.
     ensures error { IfErr result (λ e. (e ≡ Memory alloc_error) ⊎ ErrorOf (told_by e) source.now) }
 {
     let document = Document::parse(alloc, source)?;

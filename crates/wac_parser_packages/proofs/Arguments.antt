@@ -10,7 +10,7 @@ use Rattle.wac_ast_expressions.specs.declared.expr.NewExpr.{NewExpr, Row_of-Inst
 use Rattle.wac_ast_expressions.specs.declared.expr.PrimaryExpr.{PrimaryExpr, New, New'}
 use Rattle.wac_resolution_rules.specs.Mentions.{argument_mentions, arguments_mentions}
 
--- what arguments mention they mention one after another
+-- what arguments mention they mention in order
 pub in_a_row : (own : List ℕ) (xs : List InstantiationArgument) → arguments_mentions own (arguments_from (map argument_of xs)) ≡ flat_map (argument_mentions own) (map argument_of xs)
 in_a_row own [] = refl
 in_a_row own (x ∷ xs) = ap (λ l. argument_mentions own (argument_of x) ++ l) (in_a_row own xs)

@@ -15,7 +15,7 @@ pub lower : (low place : ℕ) (ms : List Mention) (high : ℕ) → low ≤ place
 lower low place [] high l h = omega (arith, l, h)
 lower low place (m ∷ ms) high l h = (omega (arith, l, h.0), h.1)
 
--- some behind others
+-- some after others
 pub behind : (ms ns : List Mention) (low place high : ℕ) → Between low ms place → Between place ns high → Between low (ms ++ ns) high
 behind [] ns low place high h k = lower low place ns high h k
 behind (m ∷ ms) ns low place high h k = (h.0, behind ms ns (m.1.offset + 1) place high h.1 k)

@@ -31,7 +31,7 @@ then f g old mid new p q = record {
   first = λ ms h. q.first (ms ++ f old.own) (p.first ms h) ∙ ap first_mentions (append_assoc ms (f old.own) (g mid.own) ∙ ap (λ name. ms ++ (f old.own ++ g name)) p.own);
 }
 
--- one mention, of a key that is there already or not
+-- one mention, of a key that is present already or not
 pub one : (old new : Noted) (key : Key) (s : Span) → new.own ≡ old.own → new.first ≡ cond (list_any (of_key key) old.first) old.first (old.first ++ (key, s) ∷ []) → Notes old new ((key, s) ∷ [])
 one old new key s own first = record {
   own = own;
@@ -72,7 +72,7 @@ inserted key s (e ∷ es) h = go (same_key (key_of e.0) (key_of key)) (key_eq ke
     go true e' h rest = absurd cc
     go false e' h rest = ap (λ b. mentions_in (cond b ((e.0, s) ∷ es) (e ∷ insert_entry (keys.eq-value).it es key s))) e' ∙ ap (λ l. (key_of e.0, e.1) ∷ l) (rest h)
 
--- a key that is not there is noted by inserting it
+-- a key that is not present is noted by inserting it
 pub added : (old : Noted) (own : List ℕ) (es news : List (PackageKey × Span)) (key : PackageKey) (s : Span) → old ≡ record { own = own; first = mentions_in es }
     → is_some (lookup (λ k. (keys.eq-value).it key k) es) ≡ false → news ≡ insert_entry (keys.eq-value).it es key s
     → Notes old (record { own = own; first = mentions_in news }) ((key_of key, s) ∷ [])
@@ -83,14 +83,14 @@ added old own es news key s is lacks inserts =
     let grown : mentions_in news ≡ old.first ++ (key_of key, s) ∷ [] = ap mentions_in inserts ∙ inserted key s es absent ∙ ap (λ (n : Noted). n.first ++ (key_of key, s) ∷ []) (sym is) in
     one old new (key_of key) s (sym (ap (λ (n : Noted). n.own) is)) (grown ∙ ap (λ b. cond b old.first (old.first ++ (key_of key, s) ∷ [])) (sym there))
 
--- one that is there needs nothing
+-- one that is present needs nothing
 pub stays : (old : Noted) (own : List ℕ) (es : List (PackageKey × Span)) (key : PackageKey) (s : Span) → old ≡ record { own = own; first = mentions_in es }
     → is_some (lookup (λ k. (keys.eq-value).it key k) es) ≡ true → Notes old old ((key_of key, s) ∷ [])
 stays old own es key s is has =
     let there : list_any (of_key (key_of key)) old.first ≡ true = ap (λ (n : Noted). list_any (of_key (key_of key)) n.first) is ∙ sym (has_key key es) ∙ has in
     one old old (key_of key) s refl (ap (λ b. cond b old.first (old.first ++ (key_of key, s) ∷ [])) (sym there))
 
--- ---- elements of a list, one after another
+-- ---- elements of a list, in order
 
 flat_more : {X Y : Type 0} (g : X → Y) (f : Y → List Mention) (xs : List X) (i : ℕ) (x : X) → i < length xs → x ≡ get_or xs i x
     → flat_map f (map g (take (i + 1) xs)) ≡ flat_map f (map g (take i xs)) ++ f (g x)

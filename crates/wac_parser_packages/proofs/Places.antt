@@ -1,4 +1,4 @@
--- The mentions of a tree stand as the items do that the tree derives from.
+-- The mentions of a tree are in the order of the items that the tree derives from.
 use Rattle.std.proofs.Common.{◌≡◌, ◌≤◌, ◌+◌, ℕ, zero, suc, List, [], ◌∷◌, ◌++◌, flat_map, inl, inr, refl, sym as back, ap, subst, arith, append-nil}
 use Rattle.std.specs.Str.{bytes_eq}
 use Rattle.std.proofs.lemmas.Slice.Eq.{bytes_eq-Decides}
@@ -81,7 +81,7 @@ parts_said own (or_told g k h) (inr p) = parts_said own h p.1
 
 -- ---- what a tree mentions its parts do
 
--- nothing more behind it
+-- nothing more after it
 alone : (ms : List Mention) (low high : ℕ) → Between low (ms ++ []) high → Between low ms high
 alone ms low high h = subst (λ l. Between low l high) (append-nil ms) h
 
@@ -161,7 +161,7 @@ build_between own _ p low high l h = l
 
 -- ---- items in order
 
--- where items end that stand from a place on
+-- the end of items from a place on
 abbrev ends : ℕ → List Item → ℕ
 ends place [] = place
 ends place (x ∷ xs) = ends (end_of x.span) xs

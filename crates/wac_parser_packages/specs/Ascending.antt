@@ -2,7 +2,7 @@
 use Rattle.std.specs.Prelude.{◌≤◌, ◌+◌, ℕ, List, [], ◌∷◌}
 use Rattle.wac_resolution_rules.specs.Mentions.{Mention}
 
--- from this place on, each mention begins behind the place at which the one before it begins
+-- from this place on, each mention begins after the place at which the one before it begins
 abbrev pub AscendFrom : ℕ → List Mention → Type 0
 AscendFrom place [] = Unit {0}
 AscendFrom place (m ∷ ms) = (place ≤ m.1.offset) × AscendFrom (m.1.offset + 1) ms

@@ -4,7 +4,7 @@ use Rattle.wac_lexer.specs.Span.{span}
 use Rattle.wac_graph.specs.Package.{Key, same_key}
 use Rattle.wac_resolution_rules.specs.Mentions.{Mention}
 
--- of each key its first mention, in order: the first of all, and behind it the first ones of the other keys
+-- of each key its first mention, in order: the first of all, and after it the first ones of the other keys
 abbrev pub first_mentions : List Mention → List Mention
 first_mentions [] = []
 first_mentions (m ∷ ms) = m ∷ filter (λ (n : Mention). not (same_key m.0 n.0)) (first_mentions ms)

@@ -13,16 +13,16 @@ use Rattle.wac_resolution_rules.specs.ResolvedDocument.{Describes, FirstFailing}
 
 -- These are the first of all mentions.
 pub record AreFirst (all these : List Mention) : Type 0 where
-  -- no key is there twice
+  -- no key is listed twice
   pub once : IsDistinct same_key (keys_of these)
-  -- a key is there exactly where it is mentioned
+  -- a key is listed exactly where it is mentioned
   pub keys : (key : Key) → IsMentioned these key ↔ IsMentioned all key
   -- with the place of its first mention
   pub places : (key : Key) → lookup (same_key key) these ≡ lookup (same_key key) all
 
 -- To a document no packages matter but those of these mentions.
 pub record OnlyTheseMatter (document : Document) (these : List Mention) : Type 0 where
-  -- whatever packages are handed, the document describes with these alone what it describes with all of them
+  -- whatever packages are passed, the document describes with these alone what it describes with all of them
   pub describes : (s : Given) (packages : Packages) (c : Composition) → s.setting.own ≡ document.directive.package_name.name
       → Describes (given_over s (kept these packages)) document c ↔ Describes (given_over s packages) document c
   -- and with these alone the same fails in it first

@@ -50,11 +50,11 @@ pub fn packages(
 ) -> Result<IndexMap<PackageKey, SourceSpan>, AllocError>
     // They are the first mentions of the document, in order.
     ensures listed { IfOk result (λ m. mentions_in m.entries ≡ first_mentions (mentions (document_of document.now))) }
-    // Each mentioned package is there once, with the place of its first mention, and no other one.
+    // Each mentioned package is listed once, with the place of its first mention, and no other one.
     ensures first { IfOk result (λ m. AreFirst (mentions (document_of document.now)) (mentions_in m.entries)) }
     // Of the document of a text their places ascend: the list is in the order of its spans.
     ensures order { IfOk result (λ m. (source : List ℕ) → IsUtf8 source → IsTreeOf source (document_of document.now) → Ascend (mentions_in m.entries)) }
-    // Whatever packages are handed to resolving, no others matter.
+    // Whatever packages are passed to resolving, no others matter.
     ensures matter { IfOk result (λ m. OnlyTheseMatter (document_of document.now) (mentions_in m.entries)) }
 {
     only_first_mentions_matter();

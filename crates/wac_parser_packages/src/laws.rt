@@ -11,7 +11,8 @@ ghost use Rattle.wac_parser_packages.specs.Packages.{AreFirst, OnlyTheseMatter};
 use wac_lexer::items_stand_in_order;
 use wac_resolution_rules::only_mentioned_packages_matter;
 
-/// The first mentions say of each key what all mentions say of it, and of the packages that are handed to resolving no others matter.
+/// The first mentions say of each key what all mentions say of it, and of the packages
+/// that are passed to resolving no others matter.
 pub fn only_first_mentions_matter()
     ensures first { (ms : List Mention) → AreFirst ms (first_mentions ms) }
     ensures matter { (document : Document) → OnlyTheseMatter document (first_mentions (mentions document)) }

@@ -105,7 +105,7 @@ pub arguments_lines : (source : List ℕ) (depth : ℕ) (xs front : List Instant
     → arguments_layout depth (bared source xs) ≡ flat_map (its_line false source depth) front ++ its_line true source depth last
 arguments_lines source depth xs front last e = ap (λ ys. arguments_layout depth (bared source ys)) e ∙ lines_of source depth front last
 
--- what stands between the braces
+-- what is between the braces
 pub braces_none : (source : List ℕ) (depth : ℕ) (xs : List InstantiationArgument) → length xs ≡ 0 → braces_layout depth (bared source xs) ≡ []
 braces_none source depth [] h = refl
 braces_none source depth (x ∷ xs) h = absurd (omega arith)

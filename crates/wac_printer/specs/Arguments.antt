@@ -11,7 +11,7 @@ use Rattle.wac_printer_pieces.specs.Arguments.{ending_layout}
 abbrev pub new_head_layout : PackageName → List Piece
 new_head_layout name = token (codes "new") ∷ space ∷ token name.string ∷ space ∷ token (codes "{") ∷ []
 
--- what stands between the braces
+-- what is between the braces
 abbrev pub braces_layout : ℕ → Arguments → List Piece
 braces_layout depth arguments = braced_layout depth arguments (arguments_layout (deeper depth) arguments)
 

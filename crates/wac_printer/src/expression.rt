@@ -152,7 +152,7 @@ impl<'a, S: Sink> DocumentPrinter<'a, S> {
         self.blank(" ").and(self.token("...")).and(self.blank(" "))
     }
 
-    /// Prints what stands between the braces of an instantiation.
+    /// Prints what is between the braces of an instantiation.
     #[cycle(expr)]
     fn braced(&mut self, arguments: &[InstantiationArgument<'_>]) -> PrintResult
         requires { ArgumentsSliced self.old.source (arguments_from (map argument_of arguments.now)) }

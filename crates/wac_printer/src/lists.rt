@@ -9,7 +9,7 @@ use crate::printer::DocumentPrinter;
 use wac_lexer::Sink;
 use wac_printer_pieces::PrintResult;
 
-/// What stands in a list of a tree.
+/// What a list of a tree holds.
 pub(crate) trait Node {
     ghost layout: { List ℕ → ℕ → Self → List Piece };
 
@@ -23,7 +23,7 @@ pub(crate) trait Node {
 
 #[tactic(auto, using(crate::proofs::Steps::steps))]
 impl<'a, S: Sink> DocumentPrinter<'a, S> {
-    /// Prints nodes, one after the other.
+    /// Prints nodes in order.
     pub(crate) fn each<T: Node>(&mut self, items: &[T]) -> PrintResult
         requires { All (T.sliced self.old.source) items.now }
         ensures { Prints self.old result self.new (flat_map (T.layout self.old.source self.old.depth) items.now) }

@@ -30,7 +30,7 @@ impl<'a, S: Sink> Model for DocumentPrinter<'a, S> {
 impl<'a, S: Sink> DocumentPrinter<'a, S> {
     /// A printer into `writer` of trees of the text `source`, at depth 0 and at the beginning of a line.
     ///
-    /// `space` stands once for each depth where a line begins: four spaces where it is `None`.
+    /// `space` is written once for each depth where a line begins: four spaces where it is `None`.
     pub fn new(writer: S, source: &'a str, space: Option<&'a str>) -> Self
         ensures { result ≡ record { bytes = S.bytes writer; failures = S.failures writer; borrow = S.borrow writer; source = source.entry.now; space = space_of space.entry; depth = 0; fresh = true; failed = false } }
     {
@@ -46,7 +46,7 @@ impl<'a, S: Sink> DocumentPrinter<'a, S> {
         self.pieces.into_writer()
     }
 
-    // What writes pieces, handed on.
+    // Delegated to what writes pieces.
 
     pub(crate) fn blank(&mut self, text: &str) -> PrintResult
         ensures { Prints self.old result self.new (blank text.now ∷ []) }

@@ -38,8 +38,8 @@ impl Node for Statement<'_> {
 
 /// A document that is lent to a printer.
 ///
-/// `printer.page(Page { document: &document })` does what `printer.document(&document)` does. It is for callers that are proved
-/// themselves: the prover follows a lent document through a call at far less cost when it stands in a `Page`.
+/// `printer.page(Page { document: &document })` does what `printer.document(&document)` does. It is for callers that
+/// are proved themselves: the prover follows a lent document through a call at far less cost when it is in a `Page`.
 #[derive(Drop)]
 pub struct Page<'t, 'a> {
     /// The document.

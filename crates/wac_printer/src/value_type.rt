@@ -177,7 +177,7 @@ impl<'a, S: Sink> DocumentPrinter<'a, S> {
         self.token(">")
     }
 
-    /// Prints a result that has only the type of what fails.
+    /// Prints a result that has only an error type.
     #[cycle(ty)]
     fn failing(&mut self, err: &Type<'_>) -> PrintResult
         requires { TySliced self.old.source (ty_of err.now) }

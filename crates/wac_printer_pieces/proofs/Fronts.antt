@@ -17,7 +17,7 @@ is_front-less [] [] h = absurd (omega arith)
 is_front-less [] (y ∷ ys) h = refl
 is_front-less (x ∷ xs) ys h = and_from (nat_eq x x) (is_front false xs (xs ++ ys)) (eq-eqb x x refl) (is_front-less xs ys h)
 
--- the first n bytes of a text stand after old, and not the whole
+-- the first n bytes of a text follow old, and not the whole
 pub is_front-begun : (old new text : List ℕ) (n : ℕ) → n < length text → new ≡ old ++ take n text → is_front false new (old ++ text) ≡ true
 is_front-begun old new text n h e =
     let whole : (old ++ take n text) ++ drop n text ≡ old ++ text = append_assoc old (take n text) (drop n text) ∙ ap (λ x. old ++ x) (take-append-drop n text) in

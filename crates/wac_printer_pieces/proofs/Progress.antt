@@ -83,7 +83,7 @@ none_is old r whole e p = subst (Prints old r old) (sym e) p
 pub others_sliced : {X A : Type 0} (P : List ℕ → X → Type 0) (old mid : Printer) (a : A) (first : List Piece) (xs : List X) → Prints old (Ok a) mid first → All (P old.source) xs → All (P mid.source) xs
 others_sliced P old mid a first xs p h = subst (λ s. All (P s) xs) (sym p.keeps.0) h
 
--- what is printed at the depth that was gone to, from which it goes back
+-- what is printed one deeper, before the depth is put back
 pub deeper_part : {A : Type 0} (old mid later new : Printer) (depth : ℕ) (r : Result A PrintError) (others : List ℕ → ℕ → List Piece) → depth ≡ old.depth → mid ≡ record old { depth = deeper old.depth }
     → Prints mid r later (others mid.source mid.depth) → new ≡ record later { depth = depth } → Prints old r new (others old.source (deeper old.depth))
 deeper_part old mid later new depth r others d m p n =

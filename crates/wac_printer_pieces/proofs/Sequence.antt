@@ -1,4 +1,4 @@
--- Parts printed one after another.
+-- Parts printed in order.
 use Rattle.std.proofs.Common.{◌≡◌, ℕ, List, [], ◌∷◌, ◌++◌, Result, Ok, Err, ap, sym, ◌∙◌, subst, arith, true, false, refl}
 use Rattle.std.specs.Result.{IsErrAnd, result_and}
 use Rattle.std.proofs.lemmas.Result.{err_from_is_err_and}
@@ -42,7 +42,7 @@ both : {A B : Type 0} {old mid new : Printer} (r : Result A PrintError) (t : Res
 both (Ok a) t ps qs h k = one.goes _ _ _ a _ _ _ h k
 both (Err e) t ps qs h k = stopped t h k
 
--- steps joined by `and`, so far: what is printed next stands where `f` has it, and the first error is the result
+-- steps joined by `and`, so far: what is printed next comes where `f` has it, and the first error is the result
 pub record Steps {A : Type 0} (old : Printer) (r : Result A PrintError) (mid : Printer) (f : List Piece → List Piece) : Type 1 where
   pub next : {B : Type 0} (t : Result B PrintError) (new : Printer) (qs : List Piece) → Prints mid t new qs → Prints old (result_and r t) new (f qs)
 
@@ -62,7 +62,7 @@ after {old = old} {new = new} {r = r} {t = t} {f = f} {ps = ps} e s h = record {
 pub last : {A B : Type 0} {old mid new : Printer} {r : Result A PrintError} {t x : Result B PrintError} {f : List Piece → List Piece} {qs : List Piece} → x ≡ result_and r t → Steps old r mid f → Prints mid t new qs → Prints old x new (f qs)
 last {old = old} {new = new} {t = t} {f = f} {qs = qs} e s h = subst (λ y. Prints old y new (f qs)) (sym e) (s.next t new qs h)
 
--- a piece, or parts, and what stands after it
+-- a piece, or parts, and what follows it
 pub piece : {A B : Type 0} {old mid new : Printer} {a : A} {r : Result B PrintError} {p : Piece} {qs : List Piece} → Prints old (Ok a) mid (p ∷ []) → Prints mid r new qs → Prints old r new (p ∷ qs)
 piece h k = one.go _ _ _ _ _ _ _ h k
 

@@ -20,12 +20,12 @@ pub record Printer : Type 0 where
   pub source : List ℕ
   pub space : List ℕ
   pub depth : ℕ
-  -- nothing stands on the line yet
+  -- nothing is on the line yet
   pub fresh : Bool
   -- a call has reported that the writer failed
   pub failed : Bool
 
--- what stands once for each depth: four spaces unless another text is given
+-- what is written once for each depth: four spaces unless another text is given
 abbrev pub space_of : Option (Bor (List ℕ)) → List ℕ
 space_of None = codes "    "
 space_of (Some space) = space.now

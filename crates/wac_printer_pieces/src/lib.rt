@@ -1,7 +1,7 @@
 //! A part of `wac_printer`: what puts the pieces of a layout into a sink.
 //!
-//! A layout is a list of pieces: tokens, blanks, indentation where a line begins, lines of docs. [`Pieces`] writes them, one after the
-//! other; the printer over it knows which piece stands where.
+//! A layout is a list of pieces: tokens, blanks, indentation where a line begins, lines of docs. [`Pieces`] writes
+//! them, in order; the printer over it knows which piece goes where.
 #![tactic(auto)]
 
 mod arguments;

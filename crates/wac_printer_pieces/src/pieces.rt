@@ -51,7 +51,7 @@ fn one_deeper(depth: usize) -> usize
 impl<'a, S: Sink> Pieces<'a, S> {
     /// Pieces that are put into `writer`, tokens as the text `source` spells them, at depth 0 and at the beginning of a line.
     ///
-    /// `space` stands once for each depth where a line begins: four spaces where it is `None`.
+    /// `space` is written once for each depth where a line begins: four spaces where it is `None`.
     pub fn new(writer: S, source: &'a str, space: Option<&'a str>) -> Self
         ensures { result ≡ record { bytes = S.bytes writer; failures = S.failures writer; borrow = S.borrow writer; source = source.entry.now; space = space_of space.entry; depth = 0; fresh = true; failed = false } }
     {
@@ -116,7 +116,7 @@ impl<'a, S: Sink> Pieces<'a, S> {
         Ok(())
     }
 
-    /// Whether it can go on: [`PrintError::Failed`] where the sink has failed.
+    /// Whether it can continue: [`PrintError::Failed`] where the sink has failed.
     pub fn ready(&self) -> PrintResult
         ensures { Prints self.now result self.now [] }
     {
@@ -127,7 +127,7 @@ impl<'a, S: Sink> Pieces<'a, S> {
         }
     }
 
-    /// Writes the indentation, where nothing stands on the line yet.
+    /// Writes the indentation, where nothing is on the line yet.
     #[tactic(auto, using(crate::proofs::Indentation::indents))]
     pub fn line(&mut self) -> PrintResult
         ensures { Prints self.old result self.new (line self.old.depth ∷ []) }

@@ -1,4 +1,4 @@
-//! Texts, cut at each character: what is reported of what stands before the cut.
+//! Texts, cut at each character: what is reported of the text before the cut.
 
 use crate::rows::{DOCUMENTS, OTHERS};
 use std::alloc::Global;
@@ -51,7 +51,7 @@ fn whole_items(lexer: Lexer, cut: usize) -> usize {
     all
 }
 
-/// A text, and the end of the items of which none is wrong.
+/// A text, and the end of the items none of which is wrong.
 #[derive(Clone, Copy)]
 struct Front<'a> {
     text: &'a str,
@@ -75,7 +75,7 @@ impl Front<'_> {
         }
     }
 
-    /// How a span is reported: one that reaches the end of the text is the byte before its begin.
+    /// How a span is reported: one that reaches the end of the text is the byte before its start.
     fn reported(&self, span: SourceSpan) -> SourceSpan {
         if end(span) == self.text.len() {
             SourceSpan::new(span.offset().saturating_sub(1), 1)
@@ -218,7 +218,8 @@ fn contains(ty: &str, kind: &str) -> bool {
     }
 }
 
-/// Where items of a text may be wrong that is cut there: of a document, where none of its items ends before the cut.
+/// From where on items of a cut text may be wrong: in a document, from the end
+/// of the last item that the cut leaves whole.
 fn kept(text: &str, cut: usize, is_document: bool) -> usize {
     match Lexer::new(text) {
         Ok(lexer) if is_document => whole_items(lexer, cut),
@@ -226,7 +227,7 @@ fn kept(text: &str, cut: usize, is_document: bool) -> usize {
     }
 }
 
-/// Asserts that each front of a text has a tree, or an error that may be reported of it.
+/// Asserts that each prefix of a text has a tree, or an error that may be reported of it.
 fn fronts(rt: &impl Abort, alloc: Global, text: &str, is_document: bool) {
     for (cut, _) in text.char_indices() {
         let (front, _) = text.split_at(cut);

@@ -138,7 +138,7 @@ fn prints_alike(rt: &impl Abort, alloc: Global, source: &str) -> Result<(), Fail
     Ok(())
 }
 
-// Two trees of one spelling and one layout of docs print alike, wherever their names stand.
+// Two trees of one spelling and one layout of docs print alike, wherever their names are.
 #[test]
 fn printing_settles_and_ignores_line_ends(rt: HostRuntime) -> Result<(), Fail> {
     for source in &DOCUMENTS {

@@ -1,4 +1,4 @@
-//! Parsing and formatting where memory is refused: each test passes whichever request for memory is the one that is refused.
+//! Parsing and formatting where a request for memory fails: each test passes whichever request is the one that fails.
 //!
 //! Where a call says that memory ran out, the next one returns what it returns in ample memory.
 

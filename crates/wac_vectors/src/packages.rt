@@ -16,7 +16,7 @@ const ROWS: [Row; 13] = [
     ),
     ("package a:b; let x = new a:b {};", ""),
     ("package a:b;", ""),
-    // The own package under other versions is the own one, and `%` is a part of a name.
+    // The document's own package is its own in any version, and `%` is a part of a name.
     (
         "package a:b@1.0.0; import x: a:b/i@2.0.0; let y = new a:b@3.0.0 {}; export y;",
         "",

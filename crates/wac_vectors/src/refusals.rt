@@ -190,7 +190,7 @@ pub(crate) const EMPTY: [Row; 4] = [
     ),
 ];
 
-/// Versions that are none.
+/// Invalid versions.
 pub(crate) const VERSIONS: [Row; 7] = [
     (
         "package a:b@01.0.0;",
@@ -236,7 +236,7 @@ pub(crate) const VERSIONS: [Row; 7] = [
     ),
 ];
 
-/// Texts with a character or a quote that stands in no document.
+/// Texts with a character or a quote that occurs in no document.
 const FAULTS: [Row; 4] = [
     (
         "package a:b; // \u{c}",
@@ -264,7 +264,7 @@ const FAULTS: [Row; 4] = [
     ),
 ];
 
-/// Where an error stands, in bytes, unless memory ran out.
+/// Where an error lies, in bytes, unless memory ran out.
 pub fn place(error: &Error) -> Option<(usize, usize)> {
     let span = match error {
         Error::Lexer { span, .. }
@@ -278,7 +278,7 @@ pub fn place(error: &Error) -> Option<(usize, usize)> {
     Some((span.offset(), span.len()))
 }
 
-/// Asserts that each text is rejected as its row says, which an editor asks for.
+/// Asserts that `first_error` reports each text as its row says.
 fn are_refused(rt: &impl Abort, alloc: Global, rows: &[Row]) -> Result<(), Fail> {
     for (source, text, offset, len) in rows {
         match first_error(alloc, source)? {

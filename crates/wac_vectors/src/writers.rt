@@ -1,4 +1,4 @@
-//! Writers that fail: what then stands in them, and what a printer returns.
+//! Writers that fail: what they then hold, and what a printer returns.
 
 use crate::rows::{DOCUMENTED, DOCUMENTED_PRINTED};
 use std::alloc::Global;
@@ -54,7 +54,7 @@ fn printed_twice(
 ghost use Rattle.wac_ast.specs.Statements.{document_of};
 ghost use Rattle.wac_printer.specs.Sliced.{DocumentSliced};
 
-/// Asserts what stands in a writer with so much room, and what the printer returns.
+/// Asserts what a writer with so much room holds, and what the printer returns.
 fn is_cut_at(rt: &impl Abort, alloc: Global, source: &str, text: &str, room: usize) {
     let Ok(document) = Document::parse(alloc, source) else {
         panic!(rt; "refused");

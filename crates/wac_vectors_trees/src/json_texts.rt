@@ -107,7 +107,7 @@ const TEXTS: [(&str, &str); 24] = [
         "package a:b; type t = result;",
         r#"{"directive":{"package":{"name":"a:b","span":{"length":3,"offset":8},"string":"a:b","version":null}},"docs":[],"statements":[{"Type":{"type":{"alias":{"docs":[],"id":{"span":{"length":1,"offset":18},"string":"t"},"kind":{"type":{"result":{"err":null,"ok":null,"span":{"length":6,"offset":22}}}}}}}}]}"#,
     ),
-    // function that gives nothing, with an arrow
+    // function that returns nothing, with an arrow
     (
         "package a:b; interface i { f: func() -> ; }",
         r#"{"directive":{"package":{"name":"a:b","span":{"length":3,"offset":8},"string":"a:b","version":null}},"docs":[],"statements":[{"Type":{"interface":{"docs":[],"id":{"span":{"length":1,"offset":23},"string":"i"},"items":[{"export":{"docs":[],"id":{"span":{"length":1,"offset":27},"string":"f"},"ty":{"func":{"isAsync":false,"params":[],"results":"empty"}}}}]}}}]}"#,
@@ -157,7 +157,7 @@ fn trees_as_json(rt: HostRuntime) -> Result<(), Fail> {
     Ok(())
 }
 
-/// Passes also where memory is refused, at each allocation in turn.
+/// Also passes where a request for memory fails, each in turn.
 #[test]
 fn want_of_memory_is_told(rt: HostRuntime) {
     let json = json_of(&rt, rt.alloc(), "package a:b;");

@@ -1,4 +1,4 @@
-//! A part of the tests of `wac_vectors`: what stands in trees, as their JSON shows it.
+//! A part of the tests of `wac_vectors`: what is in trees, as their JSON shows it.
 #![tactic(auto)]
 
 #[cfg(test)]
