@@ -1,4 +1,4 @@
-//! The program `wac_fmt`: the command `fmt` of `wac` alone, over the formatter's crates and none of the resolver's.
+//! The program `wac_fmt`: the command `fmt` of `wac` alone, built on the formatter's crates and none of the resolver's.
 #![tactic(auto)]
 
 use std::io::{self, ErrorKind, Write};
@@ -18,7 +18,7 @@ enum Failure {
     NotUtf8,
     /// Standard output failed.
     Output,
-    /// A request for memory was refused.
+    /// A request for memory failed.
     Memory,
 }
 

@@ -52,7 +52,7 @@ pub error_is_right : (packages : List (PackageKey × PackageParts)) (rules : Rul
 error_is_right packages rules document e h =
     ([], λ other same naming one. described_alike naming (by_key packages) rules document other (Err (told e)) (same_alike document other same) (tt, h naming one))
 
--- what is returned is right for those where it is described, and where what is described is returned
+-- a result is right for these documents where it is described, and where what is described is returned
 pub result_is_right : (packages : List (PackageKey × PackageParts)) (rules : Rules) (document : Document) (result : Result Resolved CodeError) (declared : Named ℕ) → Promised GraphClause packages rules document declared result
     → ((names : Named ℕ) → Promised OnlyClause packages rules document names result) → RightForSame packages rules document result
 result_is_right packages rules document (Ok r) declared graph only = graph_is_right packages rules document r (declared, graph)
@@ -69,7 +69,7 @@ results_alike naming packages rules a b (Err e) (Err f) alike h k = tt
 
 -- ---- what is printed
 
--- names, strings and paths of a text's tree are spelled there
+-- names, strings and paths of a text's tree are spelled in the text
 abbrev pub Stand : Type 0
 Stand = (text : List ℕ) (tree : Document) → IsUtf8 text → IsTreeOf text tree → DocumentSlices text tree × DocumentSpelled text tree
 

@@ -1,4 +1,4 @@
--- What resolving comes to.
+-- What resolving yields.
 use Rattle.std.proofs.Common.{◌≡◌, ◌∙◌, ◌⊎◌, ℕ, List, map, Option, Some, None, inl, inr, refl, sym, ap, subst}
 use Rattle.std.specs.Prelude.{option_map}
 use Rattle.wac_types.specs.declared.rules.Reason.{Reason}
@@ -63,7 +63,7 @@ target_missed setting passes named g root x path e u = record { target = path; h
 
 -- ---- the statements, then the target
 
--- all statements lead from nothing to what is there
+-- all statements take the empty composition to the whole one
 all_lead : (setting : Setting) (rules : Rules) (g mid : Parts) (first root : Root) (x y : Externs) (statements : List Statement) → IsStart g first x → AllWent setting rules g mid first root x y statements
     → (naming : Naming) → IsOneToOne naming → Steps (Leads (given_in naming setting rules)) (placed_start start) statements (placed_in naming mid root y)
 all_lead setting rules g mid first root x y statements h w naming one =
@@ -132,13 +132,13 @@ only_memory setting rules packages doc e h broken naming one c described = go (f
     go (inl m) = m
     go (inr f) = absurd (first_has_none (given_to naming packages rules doc) doc e c f described)
 
--- ---- a document that is lent
+-- ---- a borrowed document
 
 -- the graph is what the document describes, with some names at root
 abbrev pub Described : List (PackageKey × PackageParts) → Rules → Document → Parts → Type 0
 Described packages rules doc g = (declared : Named ℕ) × ((naming : Naming) → IsOneToOne naming → Describes (given_to naming (by_key packages) rules doc) doc (composition_of naming g declared))
 
--- the parts of a document that is lent, and its setting
+-- the parts of a borrowed document, and its setting
 pub record IsLent (setting : Setting) (packages : List (PackageKey × PackageParts)) (lent doc : CodeDocument) (statements : List CodeStatement) : Type 0 where
   pub same : lent ≡ doc
   pub own : setting.own.now ≡ (directive_of lent.directive).package_name.name
@@ -153,7 +153,7 @@ lent_setting setting packages lent doc statements h = record {
   packages_are = h.packages_are;
 }
 
--- what is said of lent statements and of the target
+-- what is said of borrowed statements and of the target
 abbrev pub OfParts : Type 1
 OfParts = List Statement → Option PackagePath → Type 0
 
@@ -169,7 +169,7 @@ lent_described setting rules packages lent doc statements g h c =
     let whole : Composed setting rules (document_of doc).statements (document_of doc).directive.targets g = of_document (λ all targets. Composed setting rules all targets g) setting packages lent doc statements h c in
     (whole.declared, describes setting rules (by_key packages) (document_of doc) g (lent_setting setting packages lent doc statements h) whole)
 
--- the packages that the graph holds were handed
+-- the packages that the graph holds were supplied
 pub lent_handed : (setting : Setting) (rules : Rules) (packages : List (PackageKey × PackageParts)) (lent doc : CodeDocument) (statements : List CodeStatement) (g : Parts) → IsLent setting packages lent doc statements
     → Composed setting rules (map statement_of statements) (option_map package_path_of lent.directive.targets) g → HoldsHanded (by_key packages) g
 lent_handed setting rules packages lent doc statements g h c = subst (λ (l : List (Key × PackageParts)). HoldsHanded l g) h.packages_are c.handed

@@ -1,4 +1,4 @@
--- What is right with the packages that are mentioned is right with all that were handed.
+-- What is right with the packages that are mentioned is right with all that were supplied.
 use Rattle.std.proofs.Common.{◌≡◌, ◌∙◌, ◌↔◌, ℕ, List, [], ◌∷◌, filter, Some, Result, Ok, Err, Bool, true, false, cond, inl, inr, refl, sym, ap, subst}
 use Rattle.std.specs.List.{AllByRecursion}
 use Rattle.wac_types.specs.Package.{PackageParts}
@@ -68,19 +68,19 @@ found_in_all ms key (e ∷ es) p h = go (is_mentioned ms e.0) (same_key key e.0)
 
 -- ---- a document
 
--- of the packages those are kept that are among mentions beside which nothing matters to the document
+-- the packages that are kept are those of the first mentions, and no others matter to the document
 pub record IsKept (doc : Document) (packages others : List (PackageKey × PackageParts)) : Type 0 where
   pub these : List Mention
   pub first : AreFirst (mentions doc) these
   pub matter : OnlyTheseMatter doc these
   pub are : by_key others ≡ kept these (by_key packages)
 
--- what was kept for a document that is lent
+-- what was kept for a borrowed document
 pub kept_for : (lent doc : CodeDocument) (packages others : List (PackageKey × PackageParts)) (these : List Mention) → lent ≡ doc → AreFirst (mentions (document_of lent)) these → OnlyTheseMatter (document_of lent) these
     → by_key others ≡ kept these (by_key packages) → IsKept (document_of doc) packages others
 kept_for lent doc packages others these same first matter are = subst (λ (d : CodeDocument). IsKept (document_of d) packages others) same (record { these = these; first = first; matter = matter; are = are })
 
--- any naming serves, since keys are no part of it
+-- any naming serves, since keys do not depend on it
 some_naming : Naming
 some_naming origin = 0
 
@@ -127,7 +127,7 @@ fails_with_all doc these only naming ps rules e =
 abbrev Clauses : Type 1
 Clauses = Given → Document → Result Composition Error → Type 0
 
--- a clause that holds with these of the packages holds with all of them
+-- a clause that holds with these packages holds with all of them
 abbrev WithAll : Clauses → Document → Type 0
 WithAll Clause doc = (these : List Mention) → OnlyTheseMatter doc these → (naming : Naming) (ps : List (Key × PackageParts)) (rules : Rules) (r : Result Composition Error)
     → Clause (given_to naming (kept these ps) rules doc) doc r → Clause (given_to naming ps rules doc) doc r

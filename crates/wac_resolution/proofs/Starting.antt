@@ -1,4 +1,4 @@
--- What resolving begins with: an empty graph, and nothing beside it.
+-- What resolving begins with: an empty graph, no names and no places.
 use Rattle.std.proofs.Common.{◌≡◌, ◌∙◌, ℕ, [], refl, sym, ap, subst}
 use Rattle.wac_lexer.specs.Span.{Span}
 use Rattle.wac_types.specs.Scope.{Named}
@@ -20,7 +20,7 @@ use Rattle.wac_resolution_externs.specs.declared.externs.Externs.{Externs}
 use Rattle.wac_resolution_externs.specs.Externs.{imported_in, exported_in}
 use Rattle.wac_resolution_bindings.specs.Statements.{Stand, placed_in}
 
--- nothing is there
+-- the graph, the names at root and the places are empty
 pub record IsStart (g : Parts) (root : Root) (x : Externs) : Type 0 where
   pub graph : g ≡ empty
   pub nodes : root.nodes ≡ []

@@ -24,11 +24,11 @@ pub record Resolved : Type 0 where
   pub document : CodeDocument
   pub graph : Parts
 
--- the packages that are handed, by key
+-- the supplied packages, by key
 abbrev pub by_key : List (PackageKey × PackageParts) → List (Key × PackageParts)
 by_key packages = map (λ e. (key_of e.0, e.1)) packages
 
--- what is returned: the composition that the graph stands for, where these names are bound at root; or the error
+-- what is returned: the composition that the graph denotes, where these names are bound at root; or the error
 abbrev pub returned : Naming → Named ℕ → Result Resolved Error → Result Composition told_errors.Error
 returned naming declared (Ok r) = Ok (composition_of naming r.graph declared)
 returned naming declared (Err e) = Err (told e)

@@ -1,4 +1,4 @@
--- What resolving comes to, step by step.
+-- What resolving yields, step by step.
 use Rattle.std.specs.Prelude.{◌≡◌, ℕ, List, Option, Some, ◌⊎◌}
 use Rattle.wac_types.specs.Scope.{Named}
 use Rattle.wac_types.specs.Steps.{Steps, Fails}
@@ -23,7 +23,7 @@ use Rattle.wac_resolution_externs.specs.declared.externs.Externs.{Externs}
 use Rattle.wac_resolution_bindings.specs.Statements.{placed_in}
 use Rattle.wac_resolution_statements.specs.Sequences.{BreaksAfter}
 
--- the target is met, if there is one, the composition is as before, and the graph holds packages that were handed
+-- the target is met, if there is one, the composition is as before, and the graph's packages were supplied
 pub record MeetsIn (setting : Setting) (rules : Rules) (old new : Parts) (root : Root) (targets : Option PackagePath) : Type 0 where
   pub handed : HoldsHanded (packages_in setting) new
   pub kept : (naming : Naming) → composed naming new root ≡ composed naming old root
@@ -35,7 +35,8 @@ pub record MissesIn (setting : Setting) (rules : Rules) (g : Parts) (root : Root
   pub has : targets ≡ Some target
   pub broken : (naming : Naming) → IsOneToOne naming → TargetBroken (given_in naming setting rules) (composed naming g root) (placed_in naming g root x).places e target
 
--- the statements compose what the graph stands for, with these names at root, the target is met, and the graph holds packages that were handed
+-- the statements compose what the graph denotes with these names at root, the target is met, and the graph holds
+-- packages that were supplied
 pub record Composed (setting : Setting) (rules : Rules) (statements : List Statement) (targets : Option PackagePath) (g : Parts) : Type 0 where
   pub declared : Named ℕ
   pub handed : HoldsHanded (packages_in setting) g

@@ -18,8 +18,8 @@ use wac_graph::{Package, PackageKey, Rules};
 
 /// Resolves a document with the packages that it may mention and with rules.
 ///
-/// The packages are dropped in the end; those that the document mentions are copied into the graph, and no others. The document and the
-/// rules stay as they are. An error names a rule and its place in bytes, or says that memory ran out.
+/// The packages are dropped at the end; those that the document mentions are copied into the graph, and no others. The
+/// document and the rules stay as they are. An error names a rule and its place in bytes, or says that memory ran out.
 ///
 /// ```text
 /// package a:b; import x: func(); export x as "y";     one node, exported as `y`
@@ -43,7 +43,7 @@ pub fn resolve<'d, 'a, R: Rules>(
     ensures only { (declared : Named ℕ) → Promised OnlyClause packages.entries (rules_by (R.passes rules.now) (R.named rules.now)) (document_of document.now) declared result }
     // An error names a rule that the first failing statement breaks, unless memory runs out.
     ensures first { (declared : Named ℕ) → Promised FirstClause packages.entries (rules_by (R.passes rules.now) (R.named rules.now)) (document_of document.now) declared result }
-    // It is as right for each document with the same bare tree: layout carries no meaning.
+    // It is equally right for each document with the same bare tree: layout carries no meaning.
     ensures layout { (declared : Named ℕ) × ((other : Tree) → SameBareTree (document_of document.now) other → Promised DescribedClause packages.entries (rules_by (R.passes rules.now) (R.named rules.now)) other declared result) }
 {
     AstResolver::new(document).resolve(alloc, packages, rules)

@@ -9,7 +9,7 @@ use indexmap::IndexMap;
 use wac_graph::{Package, PackageKey};
 use wac_lexer::SourceSpan;
 
-/// Keeps of packages those that are mentioned, in their order. The others are dropped.
+/// Keeps the packages that are mentioned, in their order. The others are dropped.
 pub(crate) fn keep_mentioned(
     mut packages: IndexMap<PackageKey, Package>,
     mentioned: &IndexMap<PackageKey, SourceSpan>,

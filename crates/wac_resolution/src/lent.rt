@@ -1,4 +1,4 @@
-//! Statements that are lent.
+//! Borrowed statements.
 ghost use Rattle.std.specs.Prelude.{OnOk, IfErr, map};
 ghost use Rattle.wac_ast.specs.Statements.{statement_of};
 ghost use Rattle.wac_resolution_errors.specs.Told.{told};
@@ -15,7 +15,7 @@ use wac_resolution_paths::Setting;
 use wac_resolution_state::State;
 use wac_resolution_statements::compose;
 
-/// Carries lent statements out, one after another.
+/// Executes borrowed statements in order.
 pub(crate) fn carry_out<'a, R: Rules>(
     state: &mut State,
     setting: &Setting<'_>,

@@ -1,14 +1,15 @@
 //! Resolving: the composition graph that a document describes, or the rule that its first failing statement breaks.
 //!
-//! A document is resolved with the packages that it may mention and with rules, which say what may stand where and which names imports
-//! and exports may have:
+//! A document is resolved with the packages that it may mention and with rules, which say what fits where and which
+//! names imports and exports may have:
 //!
 //! ```text
 //! let resolution = resolve(alloc, &document, packages, &rules)?;
 //! let graph = resolution.into_graph();
 //! ```
 //!
-//! `docs/RESOLVING.md` says what documents mean. Only `Error::Memory` names no rule: it comes where a request for memory was refused.
+//! `docs/RESOLVING.md` says what documents mean. Only `Error::Memory` names no rule: it says that a request for
+//! memory failed.
 #![tactic(auto)]
 
 mod documents;

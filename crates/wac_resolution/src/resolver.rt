@@ -89,8 +89,8 @@ impl<'d, 'a> AstResolver<'d, 'a> {
 
     /// Resolves the document with packages and rules.
     ///
-    /// The packages are dropped in the end; those that the document mentions are copied into the graph, and no others. The document and the rules stay
-    /// as they are.
+    /// The packages are dropped at the end; those that the document mentions are copied into the graph, and no others.
+    /// The document and the rules stay as they are.
     pub fn resolve<R: Rules>(
         self,
         alloc: Global,
@@ -109,7 +109,7 @@ impl<'d, 'a> AstResolver<'d, 'a> {
         ensures only { (declared : Named ℕ) → Promised OnlyClause packages.entries (rules_by (R.passes rules.now) (R.named rules.now)) (document_of self.entry) declared result }
         // An error names a rule that the first failing statement breaks, unless memory runs out.
         ensures first { (declared : Named ℕ) → Promised FirstClause packages.entries (rules_by (R.passes rules.now) (R.named rules.now)) (document_of self.entry) declared result }
-        // It is as right for each document with the same bare tree: layout carries no meaning.
+        // It is equally right for each document with the same bare tree: layout carries no meaning.
         ensures layout { (declared : Named ℕ) × ((other : Tree) → SameBareTree (document_of self.entry) other → Promised DescribedClause packages.entries (rules_by (R.passes rules.now) (R.named rules.now)) other declared result) }
     {
         let mentioned = AstResolver::new(self.document).first_mentions(alloc)?;

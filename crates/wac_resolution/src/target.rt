@@ -15,7 +15,7 @@ use wac_resolution_paths::Setting;
 use wac_resolution_state::State;
 use wac_resolution_target::check_target;
 
-/// Rejects a composition that is not what its target asks for, if it has one.
+/// Rejects a composition that is not what its target requires, if it has one.
 pub(crate) fn check_targets<R: Rules>(
     state: &mut State,
     setting: &Setting<'_>,

@@ -78,7 +78,7 @@ unfit_there rules g w name node wanted reason law named is said = record {
 pub for_none : (g : Parts) (w : WorldId) (name : List ℕ) → EntriesMean g → Names g.types (kinds.Component w) → None ≡ look_up name (world_imports g.types w.0) → IsForNone g w name
 for_none g w name law named is = record { is = λ naming. import_meant g w name None law named is naming }
 
--- ---- one after another
+-- ---- in order
 
 -- those before the rest fit
 pub record FitSoFar (rules : Rules) (g : Parts) (w : WorldId) (all rest : Named NodeId) : Type 0 where

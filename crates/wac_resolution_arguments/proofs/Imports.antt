@@ -44,7 +44,7 @@ imported_is f ks name k is = sym (ap (λ (b : Bool). cond b (Some name) None) (a
 pub not_imported : (f : ℕ → Meaning) (ks : Named ItemKind) (name : List ℕ) → look_up name ks ≡ None → None ≡ if_imported (items_mean f ks) (Some name)
 not_imported f ks name is = sym (ap (λ (b : Bool). cond b (Some name) None) (ap is_some (items_found f ks name) ∙ some_meant f (look_up name ks) ∙ ap is_some is))
 
--- the name of a node that is there, by its id and its own name
+-- the name for a node that exists, by its id and its own name
 pub inferred_of : (imports : Named Meaning) (name text : List ℕ) (o : Option Node) (n : Node) (id own : Option (List ℕ)) → o ≡ Some n → option_and_then instance_id o ≡ id → option_and_then own_name o ≡ own
     → text ≡ unwrap_or (option_or (if_imported imports id) (if_imported imports own)) (find_name name imports) → option_map (name_inferred imports name) o ≡ Some text
 inferred_of imports name text o n id own at is_id is_own is =

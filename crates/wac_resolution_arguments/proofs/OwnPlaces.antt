@@ -1,4 +1,4 @@
--- Where the arguments that aren't spreads stand.
+-- Where the arguments that aren't spreads are.
 use Rattle.std.proofs.Common.{◌≡◌, ◌∙◌, ◌+◌, ◌<◌, ℕ, suc, List, [], ◌∷◌, ◌++◌, Option, Some, None, Bool, true, false, cond, refl, sym, ap, subst, map, take, drop, length, get_or}
 use Rattle.std.specs.Str.{bytes_eq}
 use Rattle.std.proofs.lemmas.List.{length-map, get_or-map, take_more, take-append-drop}
@@ -12,7 +12,7 @@ use Rattle.wac_ast_expressions.specs.declared.expr.InstantiationArgument.{Instan
 use Rattle.wac_resolution_rules.specs.BrokenExpressions.{argument_place, own_places}
 use Rattle.wac_resolution_rules.specs.Composition.{Composition}
 
--- where a name isn't found in the first it is what the rest says
+-- where a name isn't found in the first list, the rest decides
 after_none : {X : Type 0} (name : List ℕ) (xs ys : Named X) → look_up name xs ≡ None → look_up name (xs ++ ys) ≡ look_up name ys
 after_none name [] ys h = refl
 after_none {X} name (x ∷ xs) ys h = go (bytes_eq name x.0) (after_none name xs ys) h

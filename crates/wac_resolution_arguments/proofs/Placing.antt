@@ -1,4 +1,4 @@
--- Where arguments stand.
+-- Where arguments are.
 use Rattle.std.proofs.Common.{◌≡◌, ◌∙◌, ℕ, List, [], ◌∷◌, Option, Some, None, ap}
 use Rattle.std.specs.Prelude.{option_map, option_and_then}
 use Rattle.wac_lexer.specs.Span.{Span}

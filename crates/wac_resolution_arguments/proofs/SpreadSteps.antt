@@ -1,4 +1,4 @@
--- Spreads, one after another.
+-- Spreads, in order.
 use Rattle.std.proofs.Common.{◌≡◌, ◌∙◌, ◌+◌, ◌<◌, ℕ, suc, List, [], ◌∷◌, ◌++◌, Option, Some, None, Bool, true, false, cond, inr, refl, sym, ap, subst, map, take, drop, length, get_or, fold, is_some, append_assoc, append-nil, arith}
 use Rattle.std.specs.Prelude.{string_bytes, String, flat_map}
 use Rattle.std.specs.declared.alloc.Global.{Global}
@@ -128,7 +128,7 @@ not_spread (Spread x) h = absurd (h x refl)
 not_spread (Named' name span primary postfix) h = refl
 not_spread (Fill s) h = refl
 
--- ---- one after another
+-- ---- in order
 
 spreads_flat : (xs : List InstantiationArgument) → spreads_of (arguments_from xs) ≡ flat_map spread_of xs
 spreads_flat [] = refl

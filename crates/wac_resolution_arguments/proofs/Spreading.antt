@@ -124,7 +124,7 @@ name_exported old new before after node name n there is some goes pushed = go (e
     go None at s a = absurd (cc)
     go (Some k) at s a = name_aliased old new before after node name n k there is at a pushed
 
--- ---- one after another
+-- ---- in order
 
 pub no_names : (g : Parts) (all : Named NodeId) (node : ℕ) → NodesStand g → GivenThere g all → NamesSpread g g all all node []
 no_names g all node stand there = record { grows = grows_none g stand; there = there; is = λ i h naming declared. refl }

@@ -1,4 +1,4 @@
--- Rules that are handed in, and arguments that fit by them.
+-- Rules that are passed in, and arguments that fit by them.
 use Rattle.std.specs.Prelude.{◌≡◌, ℕ, List, ◌∷◌, ◌++◌, Option, Some, MatchOption, IsSome}
 use Rattle.std.specs.List.{AllByRecursion}
 use Rattle.wac_types.specs.declared.kind.WorldId.{WorldId}
@@ -20,7 +20,7 @@ use Rattle.wac_resolution_arguments.specs.Spreads.{imports_at}
 abbrev pub IsImport : Parts → WorldId → List ℕ × ℕ → Type 0
 IsImport g w a = IsSome (look_up a.0 (world_imports g.types w.0))
 
--- the argument is for an import of the world, and its node may stand there
+-- the argument is for an import of the world, and its node fits it
 pub record IsFit (rules : Rules) (g : Parts) (w : WorldId) (name : List ℕ) (node : ℕ) : Type 0 where
   pub import : IsImport g w (name, node)
   pub is : (naming : Naming) (declared : Named ℕ) → IsOneToOne naming → Fits rules (imports_at naming g w) (composition_of naming g declared).nodes (name, node)
@@ -29,7 +29,7 @@ pub record IsFit (rules : Rules) (g : Parts) (w : WorldId) (name : List ℕ) (no
 pub record IsForNone (g : Parts) (w : WorldId) (name : List ℕ) : Type 0 where
   pub is : (naming : Naming) → IsFresh name (imports_at naming g w)
 
--- the argument is for an import, but its node may not stand there, for this reason
+-- the argument is for an import, but its node does not fit it, for this reason
 pub record IsUnfit (rules : Rules) (g : Parts) (w : WorldId) (name : List ℕ) (node : ℕ) (r : Reason) : Type 0 where
   pub is : (naming : Naming) (declared : Named ℕ) → IsOneToOne naming
       → (wants : Meaning) × StandsFor (imports_at naming g w) name wants × (rules.passes (kind_at (composition_of naming g declared).nodes node) wants ≡ Some r)

@@ -8,7 +8,7 @@ use Rattle.wac_resolution_rules.specs.Expressions.{Giving}
 use Rattle.wac_resolution_nodes.specs.Growth.{GrowsNodes}
 use Rattle.wac_resolution_arguments.specs.Spreads.{giving_of, GivenThere}
 
--- nodes were added and given, and of what was given before and after this holds
+-- nodes were added and given, and this holds of what was given before and after
 pub record Gave (old new : Parts) (before after : Named NodeId) (declared : Named ℕ) (holds : Naming → Giving → Giving → Type 0) : Type 0 where
   pub grows : GrowsNodes old new
   pub there : GivenThere new after

@@ -20,7 +20,7 @@ use Rattle.wac_resolution_arguments.specs.Arguments.{given_nodes}
 abbrev pub giving_of : Naming → Parts → Named ℕ → Named NodeId → Giving
 giving_of naming g declared all = record { composition = composition_of naming g declared; arguments = given_nodes all }
 
--- the nodes that are given are there
+-- the nodes that are given exist
 abbrev pub GivenThere : Parts → Named NodeId → Type 0
 GivenThere g all = AllByRecursion (λ e. e.1.0 < length g.nodes) all
 

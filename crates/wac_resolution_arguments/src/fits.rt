@@ -29,7 +29,7 @@ fn import_kind(state: &State, world: WorldId, name: &str) -> Option<ItemKind>
     }
 }
 
-/// Whether a node may stand where a kind is expected.
+/// Whether a node fits where a kind is expected.
 fn may_stand<R: Rules>(
     state: &State,
     rules: &R,
@@ -45,7 +45,7 @@ fn may_stand<R: Rules>(
     rules.subtype(types, kind, wanted)
 }
 
-/// Whether an argument is for an import of the world and its node may stand there. An error without a reason says that
+/// Whether an argument is for an import of the world and its node fits it. An error without a reason says that
 /// there is no such import.
 fn fits<R: Rules>(
     state: &State,

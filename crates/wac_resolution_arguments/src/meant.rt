@@ -22,7 +22,7 @@ use wac_graph::{ItemKind, NodeId, WorldId};
 use wac_resolution_nodes::{find_name, instance_id, own_name};
 use wac_resolution_state::State;
 
-/// The import that an argument's name means: an identifier by find, a string as it stands.
+/// The import that an argument's name means: an identifier by find, a string as it is.
 #[tactic(auto, using(wac_resolution_nodes::proofs::Found::found_meant))]
 fn meant<'x>(
     name: &'x InstantiationArgumentName<'_>,

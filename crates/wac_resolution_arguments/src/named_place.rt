@@ -1,4 +1,4 @@
-//! Where the arguments that aren't spreads stand.
+//! Where the arguments that aren't spreads are.
 ghost use Rattle.std.specs.Prelude.{◌≡◌, [], ◌∷◌, map};
 ghost use Rattle.wac_grammar.specs.Tree.{arguments_from};
 ghost use Rattle.wac_types.specs.Scope.{look_up};
@@ -16,14 +16,14 @@ use wac_lexer::SourceSpan;
 use wac_resolution_nodes::Root;
 use wac_resolution_state::State;
 
-/// Where a name stands, if it is this one.
+/// The place of a name, if it is this one.
 fn if_named(text: &str, span: SourceSpan, name: &str) -> Option<SourceSpan>
     ensures { look_up name.now ((text.now, span) ∷ []) ≡ result }
 {
     if name == text { Some(span) } else { None }
 }
 
-/// Where an argument stands, if it is for this name.
+/// The place of an argument, if it is for this name.
 fn place_named<'x>(
     state: &'x State,
     root: &Root<'_>,
@@ -41,7 +41,7 @@ fn place_named<'x>(
     }
 }
 
-/// Where the argument of a name stands, if it isn't a spread.
+/// The place of a name's argument, if it isn't a spread.
 pub fn own_places<'x>(
     state: &'x State,
     root: &Root<'_>,

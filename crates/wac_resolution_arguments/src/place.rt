@@ -1,4 +1,4 @@
-//! Where arguments stand.
+//! Where arguments are.
 ghost use Rattle.std.specs.Prelude.{◌≡◌, option_map};
 ghost use Rattle.wac_grammar.specs.Tree.{InstantiationArgument as ArgumentTree};
 ghost use Rattle.wac_types.specs.Table.{Names};
@@ -18,7 +18,7 @@ use wac_lexer::SourceSpan;
 use wac_resolution_nodes::Root;
 use wac_resolution_state::State;
 
-/// The name for which the node of an identifier is given, and where it stands.
+/// The name for which the node of an identifier is given, and its place.
 fn inferred_place<'x>(
     state: &'x State,
     root: &Root<'_>,
@@ -38,7 +38,7 @@ fn inferred_place<'x>(
     }
 }
 
-/// The name for which an argument is given, and where it stands; none of a spread and of `...`.
+/// The name for which an argument is given, and its place; none for a spread or `...`.
 pub fn own_place<'x>(
     state: &'x State,
     root: &Root<'_>,

@@ -59,7 +59,7 @@ fn spread_name(
     Ok(())
 }
 
-/// Does that for names, one after another.
+/// Does that for names, in order.
 fn spread_names(
     state: &mut State,
     node: NodeId,

@@ -26,7 +26,7 @@ use wac_resolution_errors::{Error, InstanceOperation};
 use wac_resolution_nodes::{Root, instance};
 use wac_resolution_state::State;
 
-/// Rejects a spread that gave nothing: so many arguments were given before it.
+/// Rejects a spread that gave nothing: this many arguments were given before it.
 fn check_more(
     before: usize,
     given: &IndexMap<String, NodeId>,

@@ -66,7 +66,7 @@ length_more : {X : Type 0} (xs : List X) (x : X) → length xs < length (xs ++ x
 length_more [] x = omega arith
 length_more (y ∷ ys) x = let rest : length ys < length (ys ++ x ∷ []) = length_more ys x in omega arith
 
--- the new node is there
+-- the new node exists
 pub definition_there : (old mid : Parts) (name : List ℕ) (k : ItemKind) (n : ℕ) → mid ≡ with_definition old name k → n ≡ length old.nodes → n < length mid.nodes
 definition_there old mid name k n is number =
     subst (λ (m : ℕ). m < length mid.nodes) (sym number) (subst (λ (g : Parts). length old.nodes < length g.nodes) (sym is) (length_more old.nodes (plain_node defined_form k)))

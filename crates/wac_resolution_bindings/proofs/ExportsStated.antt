@@ -1,4 +1,4 @@
--- Export statements that are carried out.
+-- Export statements that are executed.
 use Rattle.std.proofs.Common.{◌≡◌, ◌∙◌, ℕ, ◌++◌, inl, inr, refl, sym, ap, append-nil}
 use Rattle.wac_lexer.specs.Span.{Span}
 use Rattle.wac_types.specs.Scope.{Named}

@@ -1,4 +1,4 @@
--- What stands beside a graph goes on to stand there as the graph gets nodes.
+-- What is kept beside a graph still agrees with it as the graph gets nodes.
 use Rattle.std.proofs.Common.{◌≡◌, ◌∙◌, ℕ, List, [], ◌∷◌, Some, sym, ap, subst}
 use Rattle.std.specs.List.{AllByRecursion}
 use Rattle.wac_types.specs.declared.kind.ItemKind.{ItemKind}
@@ -24,14 +24,14 @@ each_still old new [] (k ∷ ks) keep h = absurd h
 each_still old new (n ∷ ns) [] keep h = absurd h
 each_still old new (n ∷ ns) (k ∷ ks) keep h = (record { name = h.0.name; place = h.0.place; kind = keep n.1.1.0 k.1.1 h.0.kind }, each_still old new ns ks keep h.1)
 
--- the names at root go on to stand for nodes and their kinds, where each node keeps its kind
+-- the names at root still denote nodes and their kinds, where each node keeps its kind
 pub agrees_still : (old new : Parts) (root : Root) → NodesStand new → ((n : ℕ) (k : ItemKind) → kind_in old.nodes n ≡ Some k → kind_in new.nodes n ≡ Some k) → Agrees old root → Agrees new root
 agrees_still old new root stand keep h = record { nodes = stand; names = each_still old new root.nodes root.kinds keep h.names }
 
 pub agrees_extends : (packages : List (Key × PackageParts)) (old new : Parts) (root : Root) → Extends packages old new → Agrees old root → Agrees new root
 agrees_extends packages old new root e h = agrees_still old new root e.stand e.nodes h
 
--- the places go on to be those of the imports and exports, where these are the same
+-- the places are still those of the imports and exports, where these are the same
 pub placed_still : (old new : Parts) (x : Externs) → new.imports ≡ old.imports → new.exports ≡ old.exports → ArePlaced old x → ArePlaced new x
 placed_still old new x imports exports h = record {
   imported = h.imported ∙ ap (λ (l : Named ℕ). names_of l) (sym imports);
@@ -43,6 +43,6 @@ each_handed : (packages : List (Key × PackageParts)) (old : Parts) (nodes : Lis
 each_handed packages old nodes exports [] h = tt
 each_handed packages old nodes exports (p ∷ ps) h = (record { there = h.0.there; contents = h.0.contents }, each_handed packages old nodes exports ps h.1)
 
--- each package goes on to be held as it was handed
+-- each package is still held as it was supplied
 pub handed_still : (packages : List (Key × PackageParts)) (old new : Parts) → new ≡ record old { nodes = new.nodes; exports = new.exports } → HoldsHanded packages old → HoldsHanded packages new
 handed_still packages old new same h = subst (λ (g : Parts). HoldsHanded packages g) (sym same) (each_handed packages old new.nodes new.exports old.packages h)

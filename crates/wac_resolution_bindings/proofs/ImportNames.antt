@@ -1,4 +1,4 @@
--- The names of imports: which there are, and which one a statement means.
+-- The names of imports: which exist, and which one a statement means.
 use Rattle.std.proofs.Common.{◌≡◌, ◌∙◌, ℕ, List, Option, Some, None, true, false, inr, is_some, refl, sym, ap}
 use Rattle.std.specs.Prelude.{option_map, option_and_then, slice_get, string_bytes, unwrap_or}
 use Rattle.wac_lexer.specs.Span.{Span}

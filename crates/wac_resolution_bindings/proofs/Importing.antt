@@ -25,7 +25,7 @@ use Rattle.wac_resolution_externs.specs.declared.externs.Externs.{Externs}
 use Rattle.wac_resolution_externs.specs.Externs.{imported_in, exported_in, ArePlaced}
 use Rattle.wac_resolution_bindings.specs.Imports.{AddsImport}
 
--- names agree with more nodes
+-- names still agree with more nodes
 each_still : (old new : Parts) (ns : Bindings NodeId) (ks : Bindings ItemKind) → ((n : ℕ) (k : ItemKind) → kind_in old.nodes n ≡ Some k → kind_in new.nodes n ≡ Some k) → EachAgrees old ns ks → EachAgrees new ns ks
 each_still old new [] [] keep h = tt
 each_still old new [] (k ∷ ks) keep h = absurd h
@@ -41,7 +41,7 @@ agrees_imported old new root name k is sound h =
       names = each_still old new root.nodes root.kinds (grows_more (record old { imports = imports }) new (plain_node (import name) k ∷ []) is (sound_stands new sound)).kinds h.names;
     }
 
--- the node is there
+-- the node exists
 pub import_there : (old new : Parts) (name : List ℕ) (k : ItemKind) (n : ℕ) → new ≡ with_import old name k → n ≡ length old.nodes → n < length new.nodes
 import_there old new name k n is number =
     let longer : length new.nodes ≡ length (old.nodes ++ plain_node (import name) k ∷ []) = ap (λ (g : Parts). length g.nodes) is in
@@ -62,7 +62,7 @@ adds_import old mid new before after x y id name span k n is number binds import
   exported_at = exported_at;
 }
 
--- ---- what stands beside the graph
+-- ---- what is kept beside the graph
 
 pub placed_imported : (old new : Parts) (before after : Root) (x y : Externs) (id : Ident) (name : List ℕ) (span : Span) (k : ItemKind) → ArePlaced old x → AddsImport old new before after x y id name span k → ArePlaced new y
 placed_imported old new before after x y id name span k h a = record {
@@ -75,7 +75,7 @@ placed_imported old new before after x y id name span k h a = record {
   exported = ap (λ (l : Named Span). names_of l) a.exported_at ∙ h.exported ∙ sym (ap (λ (g : Parts). names_of g.exports) a.same);
 }
 
--- packages go on to be held as they were handed
+-- packages are still held as they were supplied
 pub handed_imported : (packages : List (Key × PackageParts)) (old new : Parts) (nodes : List GraphNode) (imports : Named ℕ) → new ≡ record old { nodes = nodes; imports = imports } → HoldsHanded packages old → HoldsHanded packages new
 handed_imported packages old new nodes imports is h =
     subst (HoldsHanded packages) (sym is)

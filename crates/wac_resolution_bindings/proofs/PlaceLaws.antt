@@ -1,4 +1,4 @@
--- Where names stand that a statement adds.
+-- Places of the names that a statement adds.
 use Rattle.std.proofs.Common.{◌≡◌, ◌∙◌, ℕ, List, [], ◌∷◌, ap, length, drop}
 use Rattle.std.proofs.Math.Seq.{drop-append_seam, drop-length}
 use Rattle.wac_lexer.specs.Span.{Span}
@@ -9,7 +9,7 @@ use Rattle.wac_resolution_rules.specs.Places.{Places, names_at, more_at}
 pub one_more_at : {X : Type 0} (span : Span) (l : Named X) (m : Named X) (name : List ℕ) (x : X) → m ≡ with_named l name x → more_at span l m ≡ (name, span) ∷ []
 one_more_at {X} span l m name x is = ap (λ (n : Named X). names_at span (drop (length l) n)) is ∙ ap (λ (n : Named X). names_at span n) (drop-append_seam l ((name, x) ∷ []))
 
--- no more names
+-- no name was added
 pub no_more_at : {X : Type 0} (span : Span) (l m : Named X) → m ≡ l → more_at span l m ≡ []
 no_more_at {X} span l m is = ap (λ (n : Named X). names_at span (drop (length l) n)) is ∙ ap (λ (n : Named X). names_at span n) (drop-length l)
 

@@ -1,4 +1,4 @@
--- What stands beside a graph goes on to stand there as the graph gets types and packages.
+-- What is kept beside a graph still agrees with it as the graph gets types and packages.
 use Rattle.std.proofs.Common.{◌≡◌, ◌∙◌, sym, ap}
 use Rattle.wac_graph.specs.Graph.{Parts}
 use Rattle.wac_graph.specs.Means.{declared_count}
@@ -16,11 +16,11 @@ use Rattle.wac_resolution_externs.specs.declared.externs.Externs.{Externs}
 use Rattle.wac_resolution_externs.specs.Externs.{ArePlaced}
 use Rattle.wac_resolution_bindings.specs.Statements.{Stand}
 
--- the names at root go on to stand for nodes and their kinds
+-- the names at root still denote nodes and their kinds
 pub agrees_kept : (old new : Parts) (root : Root) → Expands old new → Agrees old root → Agrees new root
 agrees_kept old new root e h = agrees_expands old new root e.same e.held e.named h
 
--- the places go on to be those of the imports and exports
+-- the places are still those of the imports and exports
 pub placed_kept : (old new : Parts) (x : Externs) → Expands old new → ArePlaced old x → ArePlaced new x
 placed_kept old new x e h = record {
   imported = h.imported ∙ sym (ap (λ (g : Parts). names_of g.imports) e.same);
@@ -34,6 +34,6 @@ stand_kept setting old new root x h e handed = record { agrees = agrees_kept old
 pub composed_kept : (old new : Parts) (root : Root) (naming : Naming) → Expands old new → Agrees old root → composed naming new root ≡ with_resources (composed naming old root) (declared_count new)
 composed_kept old new root naming e h = composition_expands old new (numbers_of root.nodes) naming e.same e.held (e.kinds naming) h.nodes
 
--- the names at root go on to mean the same
+-- the names at root still mean the same
 pub scope_kept : (old new : Parts) (root : Root) (naming : Naming) → Expands old new → Agrees old root → root_scope (composed naming new root) ≡ root_scope (composed naming old root)
 scope_kept old new root naming e h = ap root_scope (composed_kept old new root naming e h)

@@ -1,4 +1,4 @@
--- Statements that are carried out in a graph, with the names at root and the places of imports and exports beside it.
+-- Statements that are executed in a graph, with the names at root and the places of imports and exports beside it.
 use Rattle.wac_grammar.specs.Tree.{Statement}
 use Rattle.wac_graph.specs.Graph.{Parts}
 use Rattle.wac_graph.specs.Origin.{Naming, IsOneToOne}
@@ -25,7 +25,7 @@ pub record Stand (setting : Setting) (g : Parts) (root : Root) (x : Externs) : T
 abbrev pub placed_in : Naming → Parts → Root → Externs → Placed
 placed_in naming g root x = record { composition = composed naming g root; places = places_in root x }
 
--- the statement was carried out: it leads from what was there to what is there, under every naming that is one to one
+-- the statement was executed: it takes the old composition and places to the new ones, under every one-to-one naming
 pub record Went (setting : Setting) (rules : Rules) (old new : Parts) (before after : Root) (x y : Externs) (s : Statement) : Type 0 where
   pub stand : Stand setting new after y
   pub leads : (naming : Naming) → IsOneToOne naming → Leads (given_in naming setting rules) (placed_in naming old before x) s (placed_in naming new after y)

@@ -15,7 +15,7 @@ use wac_resolution_nodes::Root;
 use wac_resolution_paths::Setting;
 use wac_resolution_state::State;
 
-/// Exports of the node of an expression what an export statement says.
+/// Exports what an export statement says of the node of an expression.
 pub fn export_statement<R: Rules>(
     state: &mut State,
     setting: &Setting<'_>,

@@ -58,7 +58,7 @@ fn item_id(state: &State, kind: ItemKind) -> Option<&str>
     }
 }
 
-/// The name of an import by an identifier: the id of what that stands for, else the import's own identifier.
+/// The name of an import by an identifier: the id of what that denotes, else the import's own identifier.
 fn named_by_id<'x>(state: &'x State, kind: ItemKind, own: &'x str) -> &'x str
     requires { Names state.now.graph.types kind }
     ensures { (naming : Naming) → result.now ≡ unwrap_or (rules.item_id (means naming state.now.graph kind)) own.now }
@@ -112,7 +112,7 @@ pub fn import_name(
     String::from_str(state.alloc, name_imported(state, statement, kind))
 }
 
-/// Where the name of an import stands for which none is written.
+/// The place of the name of an import for which none is written.
 fn unnamed_import_span(statement: &ImportStatement<'_>) -> SourceSpan
     ensures { result ≡ spans.unnamed_import_span (ident_of statement.now.id) (import_type_of statement.now.ty) }
 {

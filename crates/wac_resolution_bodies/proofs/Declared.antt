@@ -38,7 +38,7 @@ bound_places : (side : ExternKind) (b : Lists) (id : Ident) (k : ItemKind) → p
 bound_places sides.Import b id k = places_append b.names id.string id.span k
 bound_places sides.Export b id k = places_append b.names id.string id.span k
 
--- a kind was added, and a new name stands for it
+-- a kind was added, and a new name denotes it
 pub kind_declared : (side : ExternKind) (old new : Parts) (b c : Lists) (id : Ident) (k : ItemKind) (rule : Naming → Body → Body → Type 0)
     → IsBody old.types side b → Grows old new → Names new.types k → c ≡ with_bound side b id.string id.span k
     → ((naming : Naming) (after : Body) → after ≡ with_type side (with_count (body_in naming old b) (declared_count new)) id.string (means naming new k) → rule naming (body_in naming old b) after)

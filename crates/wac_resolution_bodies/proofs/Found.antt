@@ -26,11 +26,11 @@ value_fresh name all h = mapped_none (λ b. b.1) (look_up name all) (sym (read_f
 pub fresh_value : {X : Type 0} (name : List ℕ) (all : Bindings X) → IsFresh name all → IsFresh name (values_of all)
 fresh_value {X} name all h = read_found (λ b. b.1) name all ∙ ap (option_map (λ (b : Span × X). b.1)) h
 
--- what has no place stands for nothing
+-- what has no place denotes nothing
 pub unplaced : {X : Type 0} (name : List ℕ) (all : Bindings X) → look_up name (places_of all) ≡ None → IsFresh name (values_of all)
 unplaced name all h = fresh_value name all (mapped_none (λ b. b.0) (look_up name all) (sym (read_found (λ b. b.0) name all) ∙ h))
 
--- what has a place stands for something
+-- what has a place denotes something
 pub placed : {X : Type 0} (name : List ℕ) (all : Bindings X) (at : Span) → look_up name (places_of all) ≡ Some at → (x : X) × (look_up name (values_of all) ≡ Some x)
 placed {X} name all at h =
     let found = mapped_some (λ b. b.0) (look_up name all) at (sym (read_found (λ b. b.0) name all) ∙ h) in

@@ -1,4 +1,4 @@
--- Bodies that are led on, one after another.
+-- Bodies as they take items in order.
 use Rattle.std.proofs.Common.{◌≡◌, ◌∙◌, ◌+◌, ◌<◌, ℕ, List, [], ◌∷◌, ◌++◌, refl, sym, ap, subst, map, take, length, get_or, append_assoc, append-nil}
 use Rattle.wac_lexer.specs.Span.{Span}
 use Rattle.wac_types.specs.declared.kind.ExternKind.{ExternKind}
@@ -13,7 +13,7 @@ use Rattle.wac_resolution_state.proofs.Grown.{grows_self, grows_on}
 use Rattle.wac_resolution_bodies.specs.Lists.{Lists}
 use Rattle.wac_resolution_bodies.specs.Bodies.{body_in, IsBody, BodyGoes}
 
--- how an item leads from one body to the next, under a naming
+-- how an item takes one body to the next, under a naming
 abbrev pub ItemStep : Type 0 → Type 1
 ItemStep X = Naming → Body → X → Body → Type 0
 

@@ -1,4 +1,4 @@
--- Bodies of a graph: what they mean as they and the graph get more.
+-- Bodies of a graph: what they mean as they and the graph grow.
 use Rattle.std.proofs.Common.{◌≡◌, ◌∙◌, ℕ, List, [], ◌∷◌, ◌++◌, Option, Some, None, refl, sym, ap, subst, map}
 use Rattle.std.specs.Prelude.{option_map, string_bytes}
 use Rattle.std.proofs.lemmas.List.{map_push}
@@ -64,7 +64,7 @@ uses_kept naming old new (u ∷ all) keeps h =
     let rest : uses_mean (entry_means naming new) all ≡ uses_mean (entry_means naming old) all = uses_kept naming old new all keeps h.1 in
     cc
 
--- a body goes on to mean the same, but for how many resources are declared
+-- a body still means the same, but for how many resources are declared
 pub body_kept : (naming : Naming) (old new : Parts) (side : ExternKind) (b : Lists) → KeepsMeant naming old new → IsBody old.types side b → body_in naming new b ≡ with_count (body_in naming old b) (declared_count new)
 body_kept naming old new side b keeps h =
     let scope : scope_of naming new (values_of b.names) ≡ scope_of naming old (values_of b.names) = items_kept naming old new (values_of b.names) keeps h.names in
@@ -158,7 +158,7 @@ means_with_bound naming g side b name at k =
     means_with_kind naming g side (record b { names = with_named b.names name (at, k) }) name k
     ∙ ap (λ (l : Scope). with_extern side (record (body_in naming g b) { scope = l }) name (means naming g k)) scope
 
--- ---- what a name stands for
+-- ---- what a name denotes
 
 pub extern_fresh : (naming : Naming) (g : Parts) (side : ExternKind) (b : Lists) (name : List ℕ) → IsFresh name (kinds_of side b) → IsFresh name (externs side (body_in naming g b))
 extern_fresh naming g sides.Import b name h = items_found (entry_means naming g) b.imports name ∙ ap (option_map (means naming g)) h

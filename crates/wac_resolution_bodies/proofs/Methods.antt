@@ -93,7 +93,7 @@ pub func_breaks : (side : ExternKind) (g : Parts) (b : Lists) (name : List ℕ) 
     → (naming : Naming) (before : List ResourceMethod) → MethodBroken side name (entry_means naming g r.0) e (body_in naming g b) before (ResourceMethod.method x)
 func_breaks side g b name r x e fresh free h naming before = inr (extern_fresh naming g side b (method_name name x.id.string) fresh, extern_fresh naming g side b (static_name name x.id.string) free, h naming)
 
--- the method's name, or that of a static one, is there
+-- the method's name, or that of a static one, is taken
 pub method_taken : (side : ExternKind) (b : Body) (name full : List ℕ) (x : Ident) (e : Error) → full ≡ method_name name x.string → IsTaken side b full (duplicate_resource_method x.string name x.span) e → IsSecondMethod side name b x e
 method_taken side b name full x e is (inl h) = inl h
 method_taken side b name full x e is (inr h) = inr (h.0, inl (subst (λ (n : List ℕ). StandsFor (externs side b) n h.0) is h.1), h.2)
@@ -102,9 +102,9 @@ pub static_taken : (side : ExternKind) (b : Body) (name full : List ℕ) (x : Id
 static_taken side b name full x e is (inl h) = inl h
 static_taken side b name full x e is (inr h) = inr (h.0, inr (subst (λ (n : List ℕ). StandsFor (externs side b) n h.0) is h.1), h.2)
 
--- ---- one after another
+-- ---- in order
 
--- the resource goes on to mean the same
+-- the resource still means the same
 pub resource_kept : (naming : Naming) (old new : Parts) (r : ResourceId) → Grows old new → Names old.types (kinds.Ty (types.Resource r)) → entry_means naming new r.0 ≡ entry_means naming old r.0
 resource_kept naming old new r g there = ap entry_of (g.kinds naming (kinds.Ty (types.Resource r)) there)
 

@@ -46,7 +46,7 @@ body_of naming g b = body_in naming g (lists_of b)
 
 -- ---- bodies of a graph
 
--- the interfaces of the used types are there
+-- the interfaces of the used types are entries of the table
 abbrev pub UsesNamed : List Entry → Named UsedType → Type 0
 UsesNamed es all = AllByRecursion (λ u. Names es (kinds.Instance u.1.interface)) all
 
@@ -63,7 +63,7 @@ pub record IsBody (es : List Entry) (side : ExternKind) (b : Lists) : Type 0 whe
   pub bound : Covers side b b.names
   pub used : Covers side b b.uses
 
--- the graph got more types, and the body is another one: these names were bound, and of what both bodies mean this holds
+-- the graph got more types, and the body is another one: these names were bound, and this holds of what both mean
 pub record BodyGoes (side : ExternKind) (old new : Parts) (b c : Lists) (bound : Named Span) (holds : Naming → Body → Body → Type 0) : Type 0 where
   pub grows : Grows old new
   pub body : IsBody new.types side c
@@ -72,7 +72,7 @@ pub record BodyGoes (side : ExternKind) (old new : Parts) (b c : Lists) (bound :
 
 -- ---- resources
 
--- the name is among the externs already, and this is the error of it
+-- the name is among the externs already, and this is its error
 abbrev pub IsTaken : ExternKind → Body → List ℕ → Error → Error → Type 0
 IsTaken side b name repeated e = (e ≡ memory) ⊎ ((m : Meaning) × StandsFor (externs side b) name m × (e ≡ repeated))
 
@@ -80,7 +80,7 @@ IsTaken side b name repeated e = (e ≡ memory) ⊎ ((m : Meaning) × StandsFor 
 abbrev pub MethodGoes : ExternKind → Parts → Parts → List ℕ → ResourceId → Lists → Lists → ResourceMethod → Type 0
 MethodGoes side old new name r b c x = BodyGoes side old new b c [] (λ naming before after. HasMethod side name (entry_means naming old r.0) before x after)
 
--- methods, one after another
+-- methods in order
 abbrev pub MethodsGo : ExternKind → Parts → Parts → List ℕ → ResourceId → Lists → Lists → List ResourceMethod → Type 0
 MethodsGo side old new name r b c xs = BodyGoes side old new b c [] (λ naming before after. Steps (HasMethod side name (entry_means naming old r.0)) before xs after)
 
@@ -94,7 +94,7 @@ pub record ResourceGoes (side : ExternKind) (old new : Parts) (b c : Lists) (id 
 
 -- ---- declarations of types
 
--- a new name stands for this kind
+-- a new name denotes this kind
 pub record IsDeclared (side : ExternKind) (b c : Lists) (id : Ident) (k : ItemKind) : Type 0 where
   pub bound : IsFresh id.string (values_of b.names)
   pub fresh : IsFresh id.string (kinds_of side b)

@@ -10,7 +10,7 @@ use Rattle.wac_types.specs.Scope.{Named, with_named}
 use Rattle.wac_resolution_state.specs.Bindings.{Bindings}
 use Rattle.wac_resolution_bodies.specs.declared.body.Body.{Body}
 
--- what the identifiers of a body stand for, and where each was bound; the types that it uses; its imports and exports
+-- what the identifiers of a body denote, and where each was bound; the types that it uses; its imports and exports
 pub record Lists : Type 0 where
   pub names : Bindings ItemKind
   pub uses : Named UsedType

@@ -14,7 +14,7 @@ use wac_resolution_state::Names;
 /// The body of an interface or a world so far.
 #[derive(Drop)]
 pub struct Body<'a> {
-    /// What its identifiers stand for, and where each was bound.
+    /// What its identifiers denote, and where each was bound.
     pub names: Names<'a, ItemKind>,
     /// The types that it uses.
     pub uses: IndexMap<String, UsedType>,

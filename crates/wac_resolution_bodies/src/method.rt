@@ -50,7 +50,7 @@ fn new_constructor_name(
     }
 }
 
-/// Rejects a method whose name in full is there already.
+/// Rejects a method whose full name is taken already.
 fn check_method(
     alloc: Global,
     body: &Body<'_>,
@@ -72,7 +72,7 @@ fn check_method(
     }
 }
 
-/// The name in full of a method, if the resource has no method of its name yet, static or not.
+/// The full name of a method, if the resource has no method of its name yet, static or not.
 fn new_method_name(
     alloc: Global,
     body: &Body<'_>,
@@ -166,7 +166,7 @@ fn add_either(
     }
 }
 
-/// Takes the constructors and methods of a resource, one after another.
+/// Takes the constructors and methods of a resource in order.
 pub fn add_methods(
     state: &mut State,
     body: &mut Body<'_>,

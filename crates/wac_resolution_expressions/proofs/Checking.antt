@@ -47,7 +47,7 @@ within : {X : Type 0} (P : X → Type 0) (before after : List X) (x : X) → All
 within P [] after x h = h.0
 within P (y ∷ before) after x h = within P before after x h.1
 
--- the first one that doesn't fit stands at the span
+-- the first one that doesn't fit is at the span
 module _ (rules : Rules) (g : Parts) (declared : Named ℕ) (w : WorldId) (x : PackageName) (args : Arguments) (given : Named NodeId) (name : List ℕ) (place : Option Span) (span : Span) (e : Error)
     (stand : StandSomewhere g declared w args given) (found : (naming : Naming) → look_up name (argument_places (composition_of naming g declared) (imports_at naming g w) args) ≡ place) (spanned : span ≡ unwrap_or place x.span) where
   placed : (r : Option Reason) → IsFirstMisfit rules g w given name r → (naming : Naming) → IsOneToOne naming → StandsFor (argument_places (composition_of naming g declared) (imports_at naming g w) args) name span
@@ -141,7 +141,7 @@ spreads_fail rules old declared w x args before e h naming setting p one same =
 pub loaded_there : (g : Parts) (p : Loaded) → IsThere g p → p.id.0 < length g.packages
 loaded_there g p h = slice_get_within g.packages p.id.0 h.0 h.1.found
 
--- with more nodes it is there
+-- a graph with more nodes still holds it
 pub loaded_nodes : (old new : Parts) (p : Loaded) (held : HeldPackage) → GrowsNodes old new → IsLoaded old p held → slice_get new.packages p.id.0 ≡ Some held
 loaded_nodes old new p held g h = ap (λ (q : Parts). slice_get q.packages p.id.0) g.same ∙ h.found
 

@@ -62,7 +62,7 @@ pub composition_same : (old new : Parts) → Expands old new → NodesStand old 
 composition_same old new e stand count naming declared =
     composition_expands old new declared naming e.same e.held (e.kinds naming) stand ∙ ap (λ (n : ℕ). record (composition_of naming old declared) { resources = n }) count
 
--- a package is held as it was handed in a graph with other nodes
+-- a package is held as it was supplied, in a graph with other nodes
 handed_nodes : (packages : List (Key × PackageParts)) (old new : Parts) → new ≡ record old { nodes = new.nodes } → (p : HeldPackage) → IsHandedAs packages old p → IsHandedAs packages new p
 handed_nodes packages old new same p h = record {
   there = subst (λ (es : List Entry). IsHeld es p) (sym (ap (λ (g : Parts). g.types) same)) h.there;
@@ -89,7 +89,7 @@ each_at P [] i x h is = absurd (cc)
 each_at {X} P (y ∷ xs) zero x h is = (let same : y ≡ x = cc in subst P same h.0)
 each_at {X} P (y ∷ xs) (suc i) x h is = each_at P xs i x h.1 is
 
--- what a package that a graph holds was handed with
+-- what a package that a graph holds was supplied with
 pub held_contents : (packages : List (Key × PackageParts)) (g : Parts) (i : ℕ) (p : HeldPackage) → HoldsHanded packages g → slice_get g.packages i ≡ Some p → (naming : Naming) → package_of p.key (handed naming packages) ≡ Some (contents_in naming g p)
 held_contents packages g i p h is naming = (each_at (IsHandedAs packages g) g.packages i p h is).contents naming
 

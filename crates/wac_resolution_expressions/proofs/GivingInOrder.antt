@@ -1,4 +1,4 @@
--- Arguments that are given one after another.
+-- Arguments that are given in order.
 use Rattle.std.proofs.Common.{◌≡◌, ◌∙◌, ◌+◌, ◌<◌, ◌≤◌, ℕ, suc, List, [], ◌∷◌, ◌++◌, inl, inr, refl, sym, ap, subst, take, drop, length, get_or}
 use Rattle.std.proofs.lemmas.List.{take_more, take_all, take-append-drop, drop_all}
 use Rattle.std.proofs.Math.Seq.{drop-cons}
@@ -11,7 +11,7 @@ use Rattle.wac_resolution_rules.specs.Expressions.{Giving, Gives, GivesOne}
 use Rattle.wac_resolution_rules.specs.Given.{Given}
 
 module _ (s : Given) (imports : Named Meaning) where
-  -- the first arguments lead to this, with the rest behind them
+  -- the first arguments give this, with the rest after them
   abbrev pub GivesFirst : Giving → List InstantiationArgument → List InstantiationArgument → Giving → Type 0
   GivesFirst old [] rest new = new ≡ old
   GivesFirst old (x ∷ xs) rest new = (mid : Giving) × GivesOne s imports (arguments_from (xs ++ rest)) old x mid × GivesFirst mid xs rest new

@@ -1,4 +1,4 @@
--- The package of which instances are made under a name.
+-- The package that is instantiated under a name.
 use Rattle.std.proofs.Common.{◌≡◌, ◌∙◌, Some, None, Bool, false, cond, refl, sym, ap, subst}
 use Rattle.std.specs.Prelude.{slice_get, option_map}
 use Rattle.std.specs.Str.{bytes_eq}

@@ -49,7 +49,7 @@ arguments_are g p k arguments =
 
 -- ---- so far
 
--- the instance is there, with the arguments before the rest
+-- the instance exists, with the arguments before the rest
 pub record Making (old now : Parts) (p node : ℕ) (all rest : Named NodeId) : Type 0 where
   pub held : HeldPackage
   pub found : slice_get old.packages p ≡ Some held

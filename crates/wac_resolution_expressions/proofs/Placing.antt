@@ -1,4 +1,4 @@
--- Each argument that is given stands somewhere: where it is written, or where a spread is.
+-- Each argument that is given has a place: where it is written, or where a spread is.
 use Rattle.std.proofs.Common.{◌≡◌, ◌∙◌, ℕ, List, [], ◌∷◌, ◌++◌, Option, Some, None, Bool, true, false, cond, ◌⊎◌, inl, inr, refl, sym, ap, subst, fold, is_some, map}
 use Rattle.std.specs.Prelude.{slice_get, option_and_then, flat_map, IsSome}
 use Rattle.std.specs.List.{AllByRecursion}
@@ -66,7 +66,7 @@ found_at {X} {Y} (x ∷ xs) y name h = go (bytes_eq name x.0) (found_at xs y nam
 
 -- ---- as nodes are added
 
--- what holds of a name goes on to hold
+-- what holds of a name still holds with more nodes
 abbrev pub IsKept : (Composition → List ℕ → Type 0) → Type 0
 IsKept Q = (c d : Composition) (name : List ℕ) → Adds c d → Q c name → Q d name
 
@@ -226,7 +226,7 @@ each_own s imports args c new p =
     all_implies (λ (y : List ℕ × ℕ). ⊥ ⊎ IsFound (own_places new.composition imports args) y.0) (λ (y : List ℕ × ℕ). IsFound (own_places new.composition imports args) y.0) (λ y h. elim h [ inl none ↦ absurd none | inr r ↦ r ]) new.arguments
     (gives_placed s imports args (λ d name. ⊥) (λ a b name adds none. none) (record { composition = c; arguments = [] }) new p tt)
 
--- after spreads each is there, or where a spread is
+-- after spreads each is where it is written, or where a spread is
 pub each_somewhere : (imports : Named Meaning) (args : Arguments) (old new : Giving) → Steps (Spreads imports) old (spreads_of args) new → HoldsOfEach (λ d name. IsFound (own_places d imports args) name) old
     → HoldsOfEach (λ d name. IsFound (argument_places d imports args) name) new
 each_somewhere imports args old new p each =

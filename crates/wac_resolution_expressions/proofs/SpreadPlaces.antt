@@ -1,4 +1,4 @@
--- Where spreads stand that give a name.
+-- Places of spreads that give a name.
 use Rattle.std.proofs.Common.{◌≡◌, ◌∙◌, ◌+◌, ◌<◌, ℕ, suc, List, [], ◌∷◌, ◌++◌, Option, Some, None, Bool, true, false, cond, refl, sym, ap, subst, map, take, drop, length, get_or}
 use Rattle.std.specs.Prelude.{option_map, option_and_then, flat_map}
 use Rattle.std.specs.Str.{bytes_eq}
@@ -68,9 +68,9 @@ spread_at c id name node r is read =
 pub spread_nowhere : (c : Composition) (id : Ident) (name : List ℕ) → look_up id.string c.declared ≡ None → look_up name (spread_places c id) ≡ None
 spread_nowhere c id name is = ap (λ (o : Option ℕ). look_up name (elim (option_and_then (instance_at c) o) as (λ _. Named Span) [ None ↦ [] | Some i ↦ map (λ (x : List ℕ × Meaning). (x.0, id.span)) (exports_of i) ])) is
 
--- ---- one after another
+-- ---- in order
 
--- where a name isn't found in the first it is what the rest says
+-- where a name isn't found in the first list, the rest decides
 pub after_none : {X : Type 0} (name : List ℕ) (xs ys : Named X) → look_up name xs ≡ None → look_up name (xs ++ ys) ≡ look_up name ys
 after_none name [] ys h = refl
 after_none {X} name (x ∷ xs) ys h = go (bytes_eq name x.0) (after_none name xs ys) h
@@ -88,7 +88,7 @@ first_found {X} name (x ∷ xs) ys v h = go (bytes_eq name x.0) (first_found nam
     go false later is = later is
 
 module _ (c : Composition) (name : List ℕ) where
-  -- where the spreads among arguments stand
+  -- where the spreads among arguments are
   abbrev pub places : List InstantiationArgument → Named Span
   places xs = flat_map (spread_places c) (spreads_of (arguments_from xs))
 

@@ -1,4 +1,4 @@
--- What expressions stand for, and the rules that they break.
+-- What expressions denote, and the rules that they break.
 use Rattle.std.proofs.Common.{◌≡◌, ◌∙◌, ◌+◌, ◌-◌, ◌<◌, ◌≤◌, ℕ, suc, List, [], ◌∷◌, Bool, false, inl, inr, Result, refl, sym, ap, subst, map, take, drop, length, get_or, arith, rules}
 use Rattle.std.specs.Prelude.{IfErr, IsSome, nat_eq}
 use Rattle.std.specs.List.{AllByRecursion}
@@ -80,7 +80,7 @@ module _ (s : Setting) (rules : Rules) where
   pub expr_breaks_first : (old : Parts) (declared : Named ℕ) (span : Span) (first : PrimaryExpr) (others : List PostfixExpr) (e : Error) → PrimaryBreaks s rules old declared first e → ExprBreaks s rules old declared (Expr.expr span first others) e
   expr_breaks_first old declared span first others e h naming one = inl (h naming one)
 
-  -- accesses, of which one is broken
+  -- accesses, one of which is broken
   abbrev pub AccessesBreak : Parts → Span → ℕ → List PostfixExpr → Error → Type 0
   AccessesBreak g span n others e = (naming : Naming) (declared : Named ℕ) → Fails Accesses (AccessBroken span e) (at (composition_of naming g declared) n) others
 
@@ -90,7 +90,7 @@ module _ (s : Setting) (rules : Rules) where
       IfErr-weaker r (λ e. AccessesBreak mid (primary_span first) n others (told e)) (λ e. ExprBreaks s rules old declared (Expr.expr span first others) (told e))
       (λ e f naming one. inr (at (composition_of naming mid declared) n, p.stands naming one, f naming declared)) h
 
-  -- ---- what stands first
+  -- ---- what comes first
 
   pub ident_goes : (g : Parts) (root : Root) (x : Ident) (node : NodeId) → Agrees g root → HoldsHanded (packages_in s) g → NodeIs root x node → PrimaryGoes s rules g g (numbers_of root.nodes) (PrimaryExpr.ident x) node.0
   ident_goes g root x node agrees handed is = record {
@@ -104,7 +104,7 @@ module _ (s : Setting) (rules : Rules) where
 
   -- ---- an instance
 
-  -- a package that is loaded goes on to be there
+  -- a package that is loaded stays in the graph
   pub loaded_still : (old new : Parts) (p : Loaded) (held : HeldPackage) → Extends (packages_in s) old new → IsLoaded old p held → IsLoaded new p held
   loaded_still old new p held e l = record { found = e.held p.id.0 held l.found; world = l.world; named = e.named (kinds.Component p.world) l.named }
 
@@ -170,12 +170,12 @@ module _ (s : Setting) (rules : Rules) where
   -- ---- arguments in order
 
   module _ (old : Parts) (before : Named NodeId) (declared : Named ℕ) (w : WorldId) where
-    -- so many arguments were given
+    -- this many arguments were given
     abbrev pub SoFar : Parts → Named NodeId → List CodeArgument → ℕ → Type 0
     SoFar now given xs i = GivesOn (packages_in s) old now before given declared
         (λ naming a b. GivesFirst (given_in naming s rules) (imports_at naming old w) a (take i (map argument_of xs)) (drop i (map argument_of xs)) b)
 
-    -- the same in a loop, with so many left
+    -- the same in a loop, with this many left
     pub record InLoop (now : Parts) (given : Named NodeId) (xs : List CodeArgument) (i count : ℕ) : Type 0 where
       pub so_far : SoFar now given xs i
       pub left : count + i ≡ length xs

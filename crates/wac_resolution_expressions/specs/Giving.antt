@@ -40,7 +40,7 @@ pub record GivesFor (before after : Named NodeId) (meant : Naming → List ℕ) 
 abbrev pub IsGivenFor : Named NodeId → (Naming → List ℕ) → Span → Error → Type 0
 IsGivenFor before meant span e = (naming : Naming) → IsGiven before (meant naming) span e
 
--- nodes were given while the graph was extended, and of what was given before and after this holds
+-- nodes were given while the graph was extended, and this holds of what was given before and after
 pub record GivesOn (packages : List (Key × PackageParts)) (old new : Parts) (before after : Named NodeId) (declared : Named ℕ) (holds : Naming → Giving → Giving → Type 0) : Type 0 where
   pub extends : Extends packages old new
   pub there : GivenThere new after

@@ -19,7 +19,7 @@ use Rattle.wac_resolution_paths.specs.declared.setting.Setting.{Setting}
 use Rattle.wac_resolution_paths.specs.Expands.{HoldsHanded}
 use Rattle.wac_resolution_paths.specs.Setting.{packages_in, setting_of}
 
--- no resource was declared, each package and each node goes on to be there, and each kind means what it meant
+-- no resource was declared, each package and each node stays, and each kind means what it meant
 pub record Extends (packages : List (Key × PackageParts)) (old new : Parts) : Type 0 where
   pub same : new ≡ record old { types = new.types; packages = new.packages; nodes = new.nodes }
   pub held : (i : ℕ) (p : HeldPackage) → slice_get old.packages i ≡ Some p → slice_get new.packages i ≡ Some p
@@ -34,7 +34,7 @@ pub record Extends (packages : List (Key × PackageParts)) (old new : Parts) : T
 abbrev pub given_in : Naming → Setting → Rules → Given
 given_in naming setting rules = record { setting = setting_of naming setting; rules = rules }
 
--- the expression stands for this node of the new graph
+-- the expression denotes this node of the new graph
 pub record ExprGoes (setting : Setting) (rules : Rules) (old new : Parts) (declared : Named ℕ) (x : Expr) (n : ℕ) : Type 0 where
   pub extends : Extends (packages_in setting) old new
   pub there : n < length new.nodes

@@ -1,4 +1,4 @@
--- Packages of which instances are made.
+-- Packages that are instantiated.
 use Rattle.std.specs.Prelude.{◌≡◌, ℕ, Some, slice_get}
 use Rattle.wac_types.specs.declared.kind.ItemKind.TheVariants as kinds
 use Rattle.wac_types.specs.Scope.{Named}
@@ -25,7 +25,7 @@ pub record IsLoaded (g : Parts) (p : Loaded) (held : HeldPackage) : Type 0 where
 abbrev pub IsThere : Parts → Loaded → Type 0
 IsThere g p = (held : HeldPackage) × IsLoaded g p held
 
--- of the package of the name instances may be made, and the new graph holds it
+-- the package of the name may be instantiated, and the new graph holds it
 pub record IsInstantiable (setting : Setting) (old new : Parts) (x : PackageName) (p : Loaded) : Type 0 where
   pub extends : Extends (packages_in setting) old new
   pub composition : (naming : Naming) (declared : Named ℕ) → composition_of naming new declared ≡ composition_of naming old declared

@@ -1,4 +1,4 @@
--- Where arguments stand.
+-- Where arguments are.
 use Rattle.std.specs.Prelude.{ℕ, [], Option, Some, None, map, IsSome}
 use Rattle.std.specs.List.{AllByRecursion}
 use Rattle.wac_lexer.specs.Span.{Span}

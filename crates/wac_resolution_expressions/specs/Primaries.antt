@@ -13,7 +13,7 @@ use Rattle.wac_resolution_paths.specs.declared.setting.Setting.{Setting}
 use Rattle.wac_resolution_paths.specs.Setting.{packages_in}
 use Rattle.wac_resolution_expressions.specs.Growth.{Extends, given_in}
 
--- it stands for this node of the new graph
+-- it denotes this node of the new graph
 pub record PrimaryGoes (setting : Setting) (rules : Rules) (old new : Parts) (declared : Named ℕ) (x : PrimaryExpr) (n : ℕ) : Type 0 where
   pub extends : Extends (packages_in setting) old new
   pub there : n < length new.nodes

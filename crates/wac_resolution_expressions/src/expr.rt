@@ -25,7 +25,7 @@ use wac_resolution_nodes::{Root, accesses};
 use wac_resolution_paths::Setting;
 use wac_resolution_state::State;
 
-/// The node that an expression stands for.
+/// The node that an expression denotes.
 #[cycle(expression)]
 pub fn expression<R: Rules>(
     state: &mut State,
@@ -43,7 +43,7 @@ pub fn expression<R: Rules>(
     accesses(state, node, expr.primary.span(), &expr.postfix)
 }
 
-/// The node that the beginning of an expression stands for.
+/// The node that the beginning of an expression denotes.
 #[cycle(expression)]
 fn primary<R: Rules>(
     state: &mut State,

@@ -27,8 +27,8 @@ pub fn graphs_extend()
     ensures twice { (packages : List (Key × PackageParts)) (a b c : Parts) → Extends packages a b → Extends packages b c → Extends packages a c }
 {}
 
-/// Names at root go on to agree with the graph, given nodes to be there, and worlds and packages to mean what they meant. The composition stays the
-/// same where no node is added.
+/// Names at root still agree with the graph, given nodes still exist, and worlds and packages mean what they meant. The
+/// composition stays the same where no node is added.
 pub fn extending_keeps()
     ensures agrees { (packages : List (Key × PackageParts)) (old new : Parts) → Extends packages old new → (root : Root) → Agrees old root → Agrees new root }
     ensures given { (packages : List (Key × PackageParts)) (old new : Parts) → Extends packages old new → (all : Named NodeId) → GivenThere old all → GivenThere new all }

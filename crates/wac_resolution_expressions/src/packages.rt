@@ -1,4 +1,4 @@
-//! Packages of which instances are made.
+//! Packages that are instantiated.
 ghost use Rattle.std.specs.Prelude.{◌≡◌, IfOk, IfErr, MatchOption};
 ghost use Rattle.std.specs.Str.{bytes_eq};
 ghost use Rattle.wac_ast_base.specs.Names.{package_name_of};
@@ -36,7 +36,7 @@ fn is_own(setting: &Setting<'_>, package: &PackageName<'_>) -> bool
     package.name == setting.own
 }
 
-/// What is reported of a package that was not handed, or is the document's own.
+/// What is reported of a package that was not supplied, or is the document's own.
 fn unknown(alloc: Global, package: &PackageName<'_>) -> Result<Error, AllocError>
     ensures { IfOk result (λ e. told e ≡ unknown_package «package».now.name.now «package».now.span) }
 {
@@ -59,7 +59,7 @@ fn load(
     load_package(state, setting, &key)
 }
 
-/// The package of which instances are made under a name. It must be handed, and not be the document's own.
+/// The package that is instantiated under a name. It must be supplied, and not be the document's own.
 pub fn instantiable(
     state: &mut State,
     setting: &Setting<'_>,

@@ -1,4 +1,4 @@
-//! Where arguments stand.
+//! Where arguments are.
 ghost use Rattle.std.specs.Prelude.{◌≡◌, ◌<◌, ℕ, length, flat_map, map, option_map, is_some};
 ghost use Rattle.wac_grammar.specs.Tree.{arguments_from};
 ghost use Rattle.wac_types.specs.Scope.{Named, look_up};
@@ -38,7 +38,7 @@ fn if_exported(state: &State, node: NodeId, name: &str, span: SourceSpan) -> Opt
     }
 }
 
-/// Where a spread stands, if it is of an instance that exports the name.
+/// The place of a spread, if it is of an instance that exports the name.
 fn spread_place(state: &State, root: &Root<'_>, id: &Ident<'_>, name: &str) -> Option<SourceSpan>
     requires { Agrees state.now.graph root.now }
     ensures { (naming : Naming) → look_up name.now (places_of_spread (composed naming state.now.graph root.now) (ident_of id.now)) ≡ result }
@@ -49,7 +49,7 @@ fn spread_place(state: &State, root: &Root<'_>, id: &Ident<'_>, name: &str) -> O
     }
 }
 
-/// Where an argument stands, if it is a spread of an instance that exports the name.
+/// The place of an argument, if it is a spread of an instance that exports the name.
 fn if_spread(
     state: &State,
     root: &Root<'_>,
@@ -65,7 +65,7 @@ fn if_spread(
     }
 }
 
-/// Where the first spread of an instance stands that exports the name.
+/// The place of the first spread of an instance that exports the name.
 fn spread_places(
     state: &State,
     root: &Root<'_>,
@@ -84,7 +84,7 @@ fn spread_places(
     None
 }
 
-/// Where the argument of a name stands: the argument itself, else the first spread of an instance that exports the name.
+/// The place of a name's argument: the argument itself, else the first spread of an instance that exports the name.
 pub fn place(
     state: &State,
     root: &Root<'_>,

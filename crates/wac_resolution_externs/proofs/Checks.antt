@@ -35,7 +35,7 @@ use Rattle.wac_resolution_externs.specs.Externs.{exported_in, ArePlaced}
 
 -- ---- lists of the same names
 
--- what stands for something in one stands for something in the other
+-- what denotes something in one denotes something in the other
 pub stands_too : {X Y : Type 0} (name : List ℕ) (xs : Named X) (ys : Named Y) (x : X) → names_of xs ≡ names_of ys → StandsFor xs name x → (y : Y) × StandsFor ys name y
 stands_too name [] [] x e is = absurd (cc is)
 stands_too name [] (y ∷ ys) x e is = absurd (cc is)
@@ -70,7 +70,7 @@ number_found all name n is = read_found (λ (b : Span × NodeId). b.1.0) name al
     go None h = absurd (cc)
     go (Some b) h = (let same : b.1 ≡ n = cc in ap (λ (m : NodeId). Some m.0) same)
 
--- the node to which a name is bound is there
+-- the node to which a name is bound exists
 pub node_there : (g : Parts) (root : Root) (name : List ℕ) (n : NodeId) → Agrees g root → look_up name (values_of root.nodes) ≡ Some n → n.0 < length g.nodes
 node_there g root name n h is = bound_there g root name n.0 h (number_found root.nodes name n is)
 

@@ -1,4 +1,4 @@
--- Exports that are exported one after another.
+-- Exports that are exported in order.
 use Rattle.std.proofs.Common.{◌≡◌, ◌∙◌, ◌<◌, ◌+◌, ℕ, zero, suc, List, [], ◌∷◌, ◌++◌, Option, Some, None, inl, inr, refl, sym, ap, subst, map, length, take, get_or, append_assoc, arith}
 use Rattle.std.specs.Prelude.{slice_get, option_map, option_and_then, unwrap_or, IfSome, IsSome, string_bytes, String}
 use Rattle.std.specs.declared.alloc.Global.{Global}
@@ -47,7 +47,7 @@ exports_on old mid new p q = record {
   stand = q.stand;
 }
 
--- what a node exports it goes on to export
+-- what a node exports it still exports
 export_kept : (old new : Parts) (node : ℕ) (name : List ℕ) (k : ItemKind) → GrowsExports old new → export_kind old node name ≡ Some k → export_kind new node name ≡ Some k
 export_kept old new node name k g is = go (slice_get old.nodes node) refl is
   where
@@ -125,7 +125,7 @@ each_next span named old mid new root before x1 x2 node ys i y text within is is
           (subst (λ (x : List ℕ × Meaning). ExportsOne s node (composed naming mid root) x (composed naming new root)) (sym (item_is naming old mid node ys i y text k.0 p.grows is is_text k.1)) (e.goes naming s same));
     }
 
--- the next name is of an export still
+-- the next name is still that of an export
 pub each_there : (span : Span) (named : List ℕ → Option Reason) (old mid : Parts) (root : Root) (before x1 : Externs) (node : ℕ) (ys : List (String Global)) (i : ℕ) (y : String Global) (text : List ℕ) → i < length ys → y ≡ get_or ys i y → text ≡ string_bytes y
     → EachExported old node (map string_bytes ys) → SoFar span named old mid root before x1 node ys i → IsSome (export_kind mid node text)
 each_there span named old mid root before x1 node ys i y text within is is_text all p =
@@ -211,7 +211,7 @@ spread_breaks named g root before node i ys span dots e h u breaks naming x at_s
       subst (λ (l : Named Meaning). Fails (ExportsOne s node) (ExportOneBroken s (places_in root before) dots e node) (composed naming g root) l) (open_items naming g node i ys h u) (breaks naming s same),
     ))
 
--- the names at root go on to agree
+-- the names at root still agree
 pub agrees_exports : (old new : Parts) (root : Root) → GrowsExports old new → Agrees old root → Agrees new root
 agrees_exports old new root g h = record { nodes = g.stand; names = each root.nodes root.kinds h.names }
   where

@@ -83,7 +83,7 @@ alias_rejected named old mid root before node n name span help e None a breaks =
 alias_rejected named old mid root before node n name span help e (Some k) a breaks =
     λ naming s same. subst (λ (x : At). ExportAsBroken s x.composition (places_in root before) name span help e) (a.is naming (numbers_of root.nodes)) (breaks naming s same)
 
--- the node of an alias that was made is there
+-- the node of an alias that was made exists
 pub alias_there : (old mid : Parts) (node n : ℕ) (name : List ℕ) (o : Option ItemKind) → IsSome o → IfSome o (λ k. AliasGoes old mid node name k n) → GrowsNodes old mid × (n < length mid.nodes)
 alias_there old mid node n name None there a = absurd (cc there)
 alias_there old mid node n name (Some k) there a = (a.grows, a.there)
@@ -106,7 +106,7 @@ at_names : {X : Type 0} (span : Span) (all : Named X) → all_at span (names_of 
 at_names span [] = refl
 at_names span (x ∷ all) = ap (λ (l : Named Span). (x.0, span) ∷ l) (at_names span all)
 
--- the names that a list has more, at a span
+-- the names that a list gained, at a span
 more_names : {X : Type 0} (span : Span) (old new : Named X) (names : List (List ℕ)) → names_of new ≡ names_of old ++ names → all_at span names ≡ more_at span old new
 more_names span [] new names is = ap (all_at span) (sym is) ∙ at_names span new
 more_names span (x ∷ old) [] names is = absurd (cc is)

@@ -1,4 +1,4 @@
--- Exports of an instance, one after another.
+-- Exports of an instance, in order.
 use Rattle.std.proofs.Common.{◌≡◌, ◌==◌, length, suc, arith, ◌∙◌, ℕ, List, [], ◌∷◌, ◌++◌, Option, Some, None, Bool, true, false, cond, refl, sym, ap, subst, map, is_none, append-nil, append_assoc}
 use Rattle.std.specs.Prelude.{slice_get, option_map, option_and_then, unwrap_or, IsSome, string_bytes, String}
 use Rattle.std.specs.declared.alloc.Global.{Global}
@@ -151,7 +151,7 @@ map_texts : {Y : Type 0} (f : List ℕ → Y) (ys : List (String Global)) → ma
 map_texts f [] = refl
 map_texts {Y} f (y ∷ ys) = ap (λ (l : List Y). f (string_bytes y) ∷ l) (map_texts f ys)
 
--- with what they stand for they are the exports that aren't exported yet
+-- with what they denote they are the exports that aren't exported yet
 pub open_items : (naming : Naming) (g : Parts) (node : ℕ) (i : InterfaceId) (ys : List (String Global)) → IsInstance g node i → AreUnexported g.exports (interface_exports g.types i.0) (map string_bytes ys)
     → map (exported_item naming g node) ys ≡ unexported g.exports (exports_of (entry_means naming g i.0))
 open_items naming g node i ys h u =

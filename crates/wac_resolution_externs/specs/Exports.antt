@@ -28,7 +28,7 @@ pub record MayExport (named : List ℕ → Option Reason) (g : Parts) (root : Ro
   pub new : IsFresh name g.exports
   pub passes : named name ≡ None
 
--- what one composition leads to, under a naming of origins
+-- how one composition is taken to the next, under a naming of origins
 abbrev pub Leading : Type 1
 Leading = Naming → Composition → Composition → Type 0
 

@@ -1,4 +1,4 @@
--- Exports of an instance that are exported, one after another.
+-- Exports of an instance that are exported in order.
 use Rattle.std.specs.Prelude.{◌≡◌, ℕ, List, Some, IsSome, option_map, unwrap_or, string_bytes, String}
 use Rattle.std.specs.List.{AllByRecursion}
 use Rattle.std.specs.declared.alloc.Global.{Global}
@@ -12,7 +12,7 @@ use Rattle.wac_graph.specs.Origin.{Naming}
 use Rattle.wac_resolution_rules.specs.Find.{names_of}
 use Rattle.wac_resolution_rules.specs.Statements.{unexported}
 
--- these are the names among all that aren't exported yet; each of all is what its name stands for
+-- these are the names among all that aren't exported yet; each of all is what its name denotes
 pub record AreUnexported (exports : Named ℕ) (all : Named ItemKind) (names : List (List ℕ)) : Type 0 where
   pub are : (f : ℕ → Meaning) → names ≡ names_of (unexported exports (items_mean f all))
   pub found : AllByRecursion (λ x. look_up x.0 all ≡ Some x.1) all
@@ -25,6 +25,6 @@ EachExported g node names = AllByRecursion (λ name. IsSome (export_kind g node 
 abbrev pub meaning_exported : Naming → Parts → ℕ → List ℕ → Meaning
 meaning_exported naming g node name = unwrap_or (option_map (means naming g) (export_kind g node name)) nothing
 
--- that name with what it stands for
+-- that name with what it denotes
 abbrev pub exported_item : Naming → Parts → ℕ → String Global → List ℕ × Meaning
 exported_item naming g node name = (string_bytes name, meaning_exported naming g node (string_bytes name))

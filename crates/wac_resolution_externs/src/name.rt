@@ -7,7 +7,7 @@ use wac_lexer::SourceSpan;
 pub struct NewName<'x> {
     /// The name.
     pub text: &'x str,
-    /// Where it stands, or what it is inferred from.
+    /// Where it is, or what it is inferred from.
     pub span: SourceSpan,
     /// What can be done where it may not be used, if it is inferred.
     pub help: Option<&'static str>,

@@ -50,7 +50,7 @@ fn unnamed_name(state: &State, node: NodeId, span: SourceSpan) -> Result<String,
     }
 }
 
-/// Exports a node without `as`. The span is that of the expression that stands for it.
+/// Exports a node without `as`. The span is that of the expression that denotes it.
 pub fn export_unnamed<R: Rules>(
     state: &mut State,
     rules: &R,

@@ -82,8 +82,8 @@ fn export_each<R: Rules>(
     Ok(())
 }
 
-/// Exports each export of an instance that isn't exported yet. The first span is that of the expression that stands
-/// for the instance, the second that of the `...`.
+/// Exports each export of an instance that isn't exported yet. The first span is that of the expression that denotes
+/// the instance, the second that of the `...`.
 pub fn export_spread<R: Rules>(
     state: &mut State,
     rules: &R,

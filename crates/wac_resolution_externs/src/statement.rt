@@ -22,7 +22,7 @@ use wac_resolution_errors::Error;
 use wac_resolution_nodes::Root;
 use wac_resolution_state::State;
 
-/// Exports of a node what a statement says. The span is that of the expression that stands for the node.
+/// Exports what a statement says of a node. The span is that of the expression that denotes the node.
 pub fn export_node<R: Rules>(
     state: &mut State,
     rules: &R,

@@ -39,7 +39,7 @@ name_kept name all is = sym (ap (λ (o : Option (List ℕ)). unwrap_or o name) (
 
 pub ruleset name_found = (name_renamed, name_kept)
 
--- ---- what a name finds is of the clause
+-- ---- what a name finds is in the clause
 
 pub found_of : (items : List WorldIncludeItem) (name : List ℕ) (all : Renamings) (x : Bor CodeWorldIncludeItem) → AreOf items all → look_up name all ≡ Some x → entry_named name items ≡ Some (world_include_item_of x.now)
 found_of items name [] x of is = absurd (cc)

@@ -1,4 +1,4 @@
--- Names of an included world, taken one after another.
+-- Names of an included world, taken in order.
 use Rattle.std.proofs.Common.{◌≡◌, ◌∙◌, ℕ, List, [], ◌∷◌, ◌++◌, Option, Some, None, Bool, true, false, refl, sym, ap, subst, append-nil}
 use Rattle.std.specs.Prelude.{option_map}
 use Rattle.std.proofs.lemmas.List.{map_push}
@@ -87,17 +87,17 @@ renamed_taken items es fs ks ls name k colon of fresh left added = record {
     both : {xs ys : Entries} {l m : Named Meaning} → xs ≡ ys → l ≡ m → taking xs l ≡ taking ys m
     both p q = cc
 
--- the name that a name gets is there
+-- the name that a name gets is taken
 pub conflicts : (naming : Naming) (g : Parts) (es : Renamings) (ks : Named ItemKind) (name : List ℕ) (k : ItemKind) → StandsFor ks (name_taken (entries_of es) name) k
     → StandsFor (taking_of naming g es ks).there (name_taken (taking_of naming g es ks).entries name) (means naming g k)
 conflicts naming g es ks name k is = kind_stands (entry_means naming g) ks (name_taken (entries_of es) name) k is
 
--- the error of it, by its parts
+-- its error, by its parts
 pub conflict_told : (side : ExternKind) (name from to text world named : List ℕ) (at span : Span) (help advice : Option (List ℕ)) → name ≡ text → from ≡ world → to ≡ named → at ≡ span → help ≡ advice
     → world_include_conflict side name from to at help ≡ world_include_conflict side text world named span advice
 conflict_told side name from to text world named at span help advice p q r s t = cc
 
--- ---- names one after another
+-- ---- names in order
 
 -- the names so far were taken, and these are left
 pub record TakenTo (items : List WorldIncludeItem) (es fs : Renamings) (ks ls all rest : Named ItemKind) : Type 0 where

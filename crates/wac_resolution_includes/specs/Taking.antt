@@ -26,7 +26,7 @@ tree_of i = world_include_of i.include.now
 abbrev pub clause_of : Inclusion → List WorldIncludeItem
 clause_of i = (tree_of i).items
 
--- one more name, unless it is there
+-- one more name, unless it is present
 abbrev pub unless_there : {X : Type 0} → Named X → List ℕ → X → Named X
 unless_there there name x = elim (look_up name there) [ None ↦ with_named there name x | Some old ↦ there ]
 
@@ -34,13 +34,13 @@ unless_there there name x = elim (look_up name there) [ None ↦ with_named ther
 abbrev pub taking_of : Naming → Parts → Renamings → Named ItemKind → Taking
 taking_of naming g es ks = record { entries = entries_of es; there = items_mean (entry_means naming g) ks }
 
--- from the old entries and names one name of an included world leads to the new ones, whatever the graph is
+-- a name of an included world takes the old entries and names to the new ones, whatever the graph is
 pub record NameTaken (items : List WorldIncludeItem) (es fs : Renamings) (ks ls : Named ItemKind) (x : List ℕ × ItemKind) : Type 0 where
   pub of_clause : AreOf items fs
   pub takes : (naming : Naming) (g : Parts) → Takes (taking_of naming g es ks) (x.0, means naming g x.1) (taking_of naming g fs ls)
   pub named : (ts : List Entry) → ItemsNamed ts ks → Names ts x.1 → ItemsNamed ts ls
 
--- so do names one after another
+-- so do names in order
 pub record NamesTaken (items : List WorldIncludeItem) (es fs : Renamings) (ks ls xs : Named ItemKind) : Type 0 where
   pub of_clause : AreOf items fs
   pub take : (naming : Naming) (g : Parts) → Steps Takes (taking_of naming g es ks) (items_mean (entry_means naming g) xs) (taking_of naming g fs ls)

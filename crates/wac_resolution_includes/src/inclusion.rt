@@ -21,14 +21,14 @@ use wac_graph::{ExternKind, ItemKind, Type, WorldId};
 use wac_lexer::SourceSpan;
 use wac_resolution_errors::Error;
 
-/// An include, and the world that it stands in.
+/// An include, and the world that it is in.
 #[derive(Drop)]
 pub struct Inclusion<'x, 'a> {
-    /// Where memory comes from.
+    /// The allocator.
     pub alloc: Global,
     /// The include.
     pub include: &'x WorldInclude<'a>,
-    /// The name of the world that it stands in.
+    /// The name of the world that it is in.
     pub world: &'x str,
 }
 
@@ -49,7 +49,7 @@ impl<'x, 'a> Inclusion<'x, 'a> {
         }
     }
 
-    /// What can be done about a name that is there, where none was renamed.
+    /// What can be done about a name that is taken, where none was renamed.
     fn help(&self) -> Option<&'static str>
         ensures { option_map (λ text. text.now) result ≡ help_of_include (clause_of self.now) }
     {
@@ -60,7 +60,7 @@ impl<'x, 'a> Inclusion<'x, 'a> {
         }
     }
 
-    /// Rejects a name without a colon that is there, after it is renamed.
+    /// Rejects a name without a colon that is taken, after it is renamed.
     #[tactic(auto, using(wac_resolution_state::proofs::Scopes::memory_told))]
     pub(crate) fn check_taken(
         &self,
@@ -88,7 +88,7 @@ impl<'x, 'a> Inclusion<'x, 'a> {
         }
     }
 
-    /// Rejects an entry that is left over: the first.
+    /// Rejects the first entry that is left over.
     #[tactic(auto, using(wac_resolution_state::proofs::Scopes::memory_told))]
     pub(crate) fn check_left(
         &self,

@@ -33,7 +33,7 @@ pub(crate) fn name_taken<'x, 'a>(
     }
 }
 
-/// Adds a name that is not renamed, unless it is there.
+/// Adds a name that is not renamed, unless it is present.
 pub(crate) fn add_missing(
     alloc: Global,
     there: &mut IndexMap<String, ItemKind>,

@@ -48,7 +48,7 @@ impl<'x, 'a> Inclusion<'x, 'a> {
         Ok(())
     }
 
-    /// Takes names, one after another.
+    /// Takes names in order.
     fn take_names(
         &self,
         side: ExternKind,

@@ -1,4 +1,4 @@
--- Import statements that are carried out, or broken.
+-- Import statements that are executed, or broken.
 use Rattle.std.proofs.Common.{◌≡◌, ◌∙◌, ℕ, List, [], ◌∷◌, ◌++◌, Option, Some, None, inl, inr, refl, sym, ap, subst, length, append-nil}
 use Rattle.std.specs.Prelude.{slice_set, filter_map}
 use Rattle.std.proofs.lemmas.List.Elements.{filter_map-append}

@@ -1,4 +1,4 @@
--- Type statements lead from one composition to the next.
+-- Type statements take one composition to the next.
 use Rattle.std.proofs.Common.{◌≡◌, ◌∙◌, ℕ, zero, suc, List, [], ◌∷◌, ◌++◌, Option, None, inl, inr, refl, sym, ap, subst, append-nil}
 use Rattle.std.specs.Prelude.{filter_map}
 use Rattle.std.specs.List.{cons_option}
@@ -88,9 +88,9 @@ places_defined old new p q s m n is bound imported exported =
     ∙ ap (λ (l : Named Span). p.imported ++ l) (sym (ap (λ (c : Composition). more_at id.span (imports old) (imports c)) is ∙ ap (more_at id.span (imports old)) (imports_defined old id.string m n) ∙ more_none id.span (imports old))))
     (exported ∙ ap (λ (l : Named Span). p.exported ++ l) (sym (ap (λ (c : Composition). more_at id.span old.exports c.exports) is ∙ more_one id.span old.exports id.string (next_of old))))
 
--- ---- what stands
+-- ---- what is kept beside the graph
 
--- the packages go on to be held as they were handed
+-- the packages are still held as they were supplied
 handed_exports : (packages : List (Key × PackageParts)) (old new : Parts) → GrowsExports old new → HoldsHanded packages old → HoldsHanded packages new
 handed_exports packages old new g h =
     let more = record old { nodes = new.nodes; exports = new.exports } in

@@ -1,4 +1,4 @@
--- Statements that are carried out one after another.
+-- Statements that are executed in order.
 use Rattle.std.proofs.Common.{◌≡◌, ◌+◌, ◌<◌, ℕ, List, [], refl, subst, map, take, length, get_or}
 use Rattle.wac_ast.specs.declared.statement.Statement.{Statement as CodeStatement}
 use Rattle.wac_ast.specs.Statements.{statement_of}

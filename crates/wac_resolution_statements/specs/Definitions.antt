@@ -1,4 +1,4 @@
--- Type statements as they are carried out in a graph.
+-- Type statements as they are executed in a graph.
 use Rattle.std.specs.Prelude.{◌≡◌, ℕ}
 use Rattle.wac_grammar.specs.Tree.{TypeStatement}
 use Rattle.wac_types.specs.declared.kind.ItemKind.{ItemKind}

@@ -1,4 +1,4 @@
--- Statements that are carried out one after another.
+-- Statements that are executed in order.
 use Rattle.std.specs.Prelude.{List}
 use Rattle.wac_types.specs.Steps.{Steps, Fails}
 use Rattle.wac_grammar.specs.Tree.{Statement}
@@ -14,7 +14,7 @@ use Rattle.wac_resolution_expressions.specs.Growth.{given_in}
 use Rattle.wac_resolution_externs.specs.declared.externs.Externs.{Externs}
 use Rattle.wac_resolution_bindings.specs.Statements.{Stand, placed_in}
 
--- all were carried out: they lead from what was there to what is there, under every naming that is one to one
+-- all were executed: they take the old composition and places to the new ones, under every one-to-one naming
 pub record AllWent (setting : Setting) (rules : Rules) (old new : Parts) (before after : Root) (x y : Externs) (all : List Statement) : Type 0 where
   pub stand : Stand setting new after y
   pub leads : (naming : Naming) → IsOneToOne naming → Steps (Leads (given_in naming setting rules)) (placed_in naming old before x) all (placed_in naming new after y)
@@ -23,6 +23,6 @@ pub record AllWent (setting : Setting) (rules : Rules) (old new : Parts) (before
 abbrev pub BreaksAfter : Given → Error → Placed → List Statement → Statement → Type 0
 BreaksAfter s e p before x = StatementBroken s p.composition p.places e x
 
--- those before one were carried out, and the error names a rule that this one breaks
+-- those before one were executed, and the error names a rule that this one breaks
 abbrev pub OneBreaks : Setting → Rules → Parts → Root → Externs → List Statement → Error → Type 0
 OneBreaks setting rules g root x all e = (naming : Naming) → IsOneToOne naming → Fails (Leads (given_in naming setting rules)) (BreaksAfter (given_in naming setting rules) e) (placed_in naming g root x) all

@@ -55,7 +55,7 @@ fn declared_kind(
     }
 }
 
-/// Carries out a type statement: a definition of the kind that it declares.
+/// Executes a type statement: a definition of the kind that it declares.
 pub(crate) fn type_statement<'a>(
     state: &mut State,
     setting: &Setting<'_>,

@@ -16,7 +16,7 @@ use wac_resolution_nodes::Root;
 use wac_resolution_paths::Setting;
 use wac_resolution_state::State;
 
-/// Carries out an import statement.
+/// Executes an import statement.
 pub(crate) fn import_statement<'a, R: Rules>(
     state: &mut State,
     setting: &Setting<'_>,

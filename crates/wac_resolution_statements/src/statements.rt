@@ -1,4 +1,4 @@
-//! Statements, one after another.
+//! Statements, in order.
 ghost use Rattle.std.specs.Prelude.{OnOk, IfErr, map};
 ghost use Rattle.wac_ast.specs.Statements.{statement_of};
 ghost use Rattle.wac_resolution_errors.specs.Told.{told};
@@ -17,7 +17,7 @@ use wac_resolution_nodes::Root;
 use wac_resolution_paths::Setting;
 use wac_resolution_state::State;
 
-/// Carries a statement out.
+/// Executes a statement.
 fn statement<'a, R: Rules>(
     state: &mut State,
     setting: &Setting<'_>,
@@ -42,7 +42,7 @@ fn statement<'a, R: Rules>(
     }
 }
 
-/// Carries statements out, one after another, up to the first that breaks a rule.
+/// Executes statements in order, up to the first that breaks a rule.
 pub fn compose<'a, R: Rules>(
     state: &mut State,
     setting: &Setting<'_>,

@@ -43,7 +43,7 @@ all_at P [] i x h is = absurd (cc)
 all_at {X} P (y ∷ xs) zero x h is = (let same : y ≡ x = cc in subst P same h.0)
 all_at {X} P (y ∷ xs) (suc i) x h is = all_at P xs i x h.1 is
 
--- what is held was handed
+-- what is held was supplied
 pub holds_handed : (setting : Setting) (g : Parts) (naming : Naming) → HoldsHanded (packages_in setting) g → Holds g naming (setting_of naming setting)
 holds_handed setting g naming h i p is = (all_at (IsHandedAs (packages_in setting) g) g.packages i p h is).contents naming
 

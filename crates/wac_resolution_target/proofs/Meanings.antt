@@ -34,7 +34,7 @@ use Rattle.wac_resolution_nodes.proofs.NodeNames.{interface_id_is}
 use Rattle.wac_resolution_target.specs.Used.{world_uses, interface_uses, interfaces_in, import_uses, used_in, with_id, has_id, last_of, allowed_kind}
 use Rattle.wac_resolution_target.proofs.Last.{last_in, last_cons, last_one}
 
--- ---- what is used is there
+-- ---- what is used exists
 
 abbrev AreInterfaces : List Entry → List InterfaceId → Type 0
 AreInterfaces es all = AllByRecursion (λ i. Names es (kinds.Instance i)) all
@@ -104,7 +104,7 @@ last_named es name (i ∷ all) h =
     (either_named es (last_of es name all) (last_of es name (i ∷ [])) (last_named es name all h.1)
     (subst (λ (o : Option InterfaceId). IfSome o (λ x. Names es (kinds.Instance x))) (sym (last_one es name i)) (one_named es i h.0 (has_id es name i))))
 
--- what is allowed is there
+-- what is allowed exists
 pub allowed_named : (es : List Entry) (w : ℕ) (name : List ℕ) → EachEntryNamed es → IfSome (allowed_kind es w name) (Names es)
 allowed_named es w name named = go (last_of es name (used_in es w)) (last_named es name (used_in es w) (used_named es named w))
   where

@@ -1,4 +1,4 @@
--- What an instance leaves open, one import after another.
+-- What an instance leaves open, import by import.
 use Rattle.std.proofs.Common.{◌≡◌, ◌∙◌, ℕ, List, [], ◌∷◌, ◌++◌, Option, Some, None, Bool, true, false, cond, Result, Ok, Err, OnOk, IfErr, inl, inr, refl, sym, ap, subst, is_none}
 use Rattle.std.specs.Prelude.{◌⊎◌, slice_get}
 use Rattle.wac_types.specs.declared.kind.ItemKind.{ItemKind}
@@ -28,7 +28,7 @@ open_more arguments x left = go (is_none (look_up x.0 arguments))
 pub open_rest : (arguments : Named ℕ) (rest left : Named ItemKind) (x : List ℕ × ItemKind) → rest ≡ x ∷ left → left_open arguments rest ≡ left_open arguments (x ∷ []) ++ left_open arguments left
 open_rest arguments rest left x is = ap (left_open arguments) is ∙ open_more arguments x left
 
--- an import for which there is an argument needs no test; of another the test is that of it alone
+-- an import for which there is an argument needs no test; any other is tested by itself
 pub given_allowed : (t : Testing) (arguments : Named ℕ) (x : List ℕ × ItemKind) (n : ℕ) → look_up x.0 arguments ≡ Some n → AllAllowed t (of_kind t.graph) (left_open arguments (x ∷ []))
 given_allowed t arguments x n is = subst (AllAllowed t (of_kind t.graph)) (sym (given_one arguments x n is)) tt
 

@@ -114,7 +114,7 @@ module _ (g : Parts) (naming : Naming) where
       go true later = ap (λ (l : Named Meaning). (k.0, means naming g k.1) ∷ l) later
       go false later = later
 
-  -- the handed packages have the contents that the graph holds
+  -- the supplied packages have the contents that the graph holds
   abbrev pub Holds : Setting → Type 0
   Holds setting = (i : ℕ) (h : HeldPackage) → slice_get g.packages i ≡ Some h → handed_as h.key setting.packages ≡ Some (contents_in naming g h)
 

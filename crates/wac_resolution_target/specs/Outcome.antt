@@ -1,4 +1,4 @@
--- What comes of a test of a whole composition.
+-- The result of testing a whole composition.
 use Rattle.std.specs.Prelude.{◌≡◌, ◌⊎◌, ℕ, List, Option, length, flat_map}
 use Rattle.wac_lexer.specs.Span.{Span}
 use Rattle.wac_types.specs.declared.kind.ItemKind.{ItemKind}
@@ -33,13 +33,13 @@ pub record WorldMet (t : Testing) : Type 0 where
   pub opens : AllAllowed t (of_kind t.graph) (opens_of t.graph)
   pub exports : AllMet t (of_kind t.graph) (world_exports t.graph.types t.world)
 
--- the error says what is not, where imports and exports stand at these places
+-- the error says what is not allowed or not met, where imports and exports are at these places
 abbrev pub WorldUnmet : Testing → Named Span → Named Span → Error → Type 0
 WorldUnmet t imported exported e = SomeDenied t (of_node t.graph) (λ x. look_up x.0 imported) t.graph.imports e
     ⊎ ((AllAllowed t (of_node t.graph) t.graph.imports × SomeDenied t (of_kind t.graph) nowhere (opens_of t.graph) e)
     ⊎ (AllAllowed t (of_node t.graph) t.graph.imports × AllAllowed t (of_kind t.graph) (opens_of t.graph) × SomeUnmet t exported (of_kind t.graph) (world_exports t.graph.types t.world) e))
 
--- the path leads to a world that allows the composition, under every naming that is one to one
+-- the path resolves to a world that allows the composition, under every naming that is one to one
 pub record Meets (setting : Setting) (passes : Meaning → Meaning → Option Reason) (named : List ℕ → Option Reason) (old new : Parts) (root : Root) (path : PackagePath) : Type 0 where
   pub grows : Expands old new
   pub handed : HoldsHanded (packages_in setting) new

@@ -42,7 +42,7 @@ given_in t setting = given_by t.passes t.named setting
 abbrev pub world_in : Testing → Naming → Meaning
 world_in t naming = entry_means naming t.graph t.world
 
--- of a list each passes, or the error says that memory ran out or how the first fails that does not
+-- the error says that memory ran out, or how the first of a list that does not pass fails
 abbrev pub FirstFails : {X : Type 0} → (X → Type 0) → (X → Error → Type 0) → List X → Error → Type 0
 FirstFails {X = X} Passes Failing all e = (e ≡ memory) ⊎ ((x : X) × ReachedAt Passes all x × Failing x e)
 

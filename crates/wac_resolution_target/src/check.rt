@@ -1,4 +1,4 @@
-//! Whether a composition is what its target asks for.
+//! Whether a composition is what its target requires.
 ghost use Rattle.std.specs.Prelude.{◌≡◌, OnOk, IfErr};
 ghost use Rattle.wac_types.specs.Table.{Names};
 ghost use Rattle.wac_ast_base.specs.Names.{package_path_of};
@@ -41,7 +41,7 @@ fn check_world<R: Rules>(
     check_exports(state, rules, target, &externs.exported)
 }
 
-/// Rejects a composition that is not what its target asks for.
+/// Rejects a composition that is not what its target requires.
 pub fn check_target<R: Rules>(
     state: &mut State,
     setting: &Setting<'_>,

@@ -1,4 +1,4 @@
-//! Exports that a target asks for.
+//! Exports that a target requires.
 ghost use Rattle.std.specs.Prelude.{◌≡◌, ◌⊎◌, OnOk, IfOk, IfErr};
 ghost use Rattle.wac_types.specs.Names.{by_name};
 ghost use Rattle.wac_types.specs.Readings.{world_exports};
@@ -69,7 +69,7 @@ fn check_export<R: Rules>(
     }
 }
 
-/// Rejects one of these exports that the composition does not meet: the first.
+/// Rejects the first of these exports that the composition does not meet.
 fn check_each<R: Rules>(
     state: &State,
     rules: &R,
@@ -88,7 +88,7 @@ fn check_each<R: Rules>(
     Ok(())
 }
 
-/// Rejects an export of the target's world that the composition does not meet: the first.
+/// Rejects the first export of the target's world that the composition does not meet.
 pub(crate) fn check_exports<R: Rules>(
     state: &State,
     rules: &R,

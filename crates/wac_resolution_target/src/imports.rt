@@ -78,7 +78,7 @@ pub(crate) fn check_import<R: Rules>(
     }
 }
 
-/// Rejects an import node that the target does not allow: the first. Its place is that of its name.
+/// Rejects the first import node that the target does not allow. Its place is that of its name.
 pub(crate) fn check_imports<R: Rules>(
     state: &State,
     rules: &R,

@@ -1,4 +1,4 @@
-//! Part of `wac_resolution`: whether a composition is what its target asks for.
+//! Part of `wac_resolution`: whether a composition is what its target requires.
 #![tactic(auto)]
 
 mod allowed;

@@ -36,7 +36,7 @@ fn check_open_import<R: Rules>(
     }
 }
 
-/// Rejects an import that an instance leaves open and the target does not allow: the first.
+/// Rejects the first import that an instance leaves open and the target does not allow.
 fn check_left_open<R: Rules>(
     state: &State,
     rules: &R,
@@ -96,7 +96,7 @@ fn check_node<R: Rules>(
     }
 }
 
-/// Rejects an import that an instance of a package leaves open and the target does not allow: the first.
+/// Rejects the first import that an instance of a package leaves open and the target does not allow.
 pub(crate) fn check_open_imports<R: Rules>(
     state: &State,
     rules: &R,

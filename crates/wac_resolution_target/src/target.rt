@@ -8,7 +8,7 @@ use wac_ast_base::PackagePath;
 use wac_graph::{ItemKind, Reason, Rules, WorldId};
 use wac_resolution_state::State;
 
-/// What a composition is compared with: a path, and the world to which it leads.
+/// What a composition is compared with: a path, and the world that it resolves to.
 #[derive(Clone, Copy)]
 pub(crate) struct Target<'x, 'a> {
     /// The path.
@@ -17,7 +17,7 @@ pub(crate) struct Target<'x, 'a> {
     pub world: WorldId,
 }
 
-/// Whether the first may stand where the second is expected.
+/// Whether the first fits where the second is expected.
 pub(crate) fn passes<R: Rules>(
     state: &State,
     rules: &R,

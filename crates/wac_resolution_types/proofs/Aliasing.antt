@@ -1,4 +1,4 @@
--- Aliases, by what they are of.
+-- Aliases, by what they alias.
 use Rattle.std.proofs.Common.{◌≡◌, ℕ, List, [], Option, Some, None, refl, sym, subst}
 use Rattle.wac_grammar.specs.Tree.{Ident, Ty}
 use Rattle.wac_types.specs.declared.kind.ItemKind.{ItemKind}
@@ -56,7 +56,7 @@ not_alone (code.Future' held s) h = refl
 not_alone (code.ErrorContext s) h = refl
 not_alone (code.Ident x) h = absurd (h x refl)
 
--- what an identifier makes
+-- an alias of an identifier
 pub name_aliased : (old new : Parts) (ks : Named ItemKind) (place : Place) (name : List ℕ) (x : Ident) (k made : ItemKind) → KindIs ks x k → IsAliased old new (made_at place old name) k made
     → KindAdded old new (λ naming m after. IsTypeAlias (aliasing_at place naming) (scope_of naming old ks) (declared_count old) name (Some x) (Ty.ident x) m after) made
 name_aliased old new ks place name x k made h a = record {
@@ -65,7 +65,7 @@ name_aliased old new ks place name x k made h a = record {
   is = λ naming. (means naming old k, h.is naming old, a.is naming);
 }
 
--- by what the type is alone
+-- the same, by the identifier that the type is
 pub as_alone : (old new : Parts) (ks : Named ItemKind) (place : Place) (name : List ℕ) (o : Option Ident) (x : Ident) (t : Ty) (k : ItemKind) → Some x ≡ o → KindAdded old new (λ naming m after. IsTypeAlias (aliasing_at place naming) (scope_of naming old ks) (declared_count old) name (Some x) (Ty.ident x) m after) k
     → KindAdded old new (λ naming m after. IsTypeAlias (aliasing_at place naming) (scope_of naming old ks) (declared_count old) name o t m after) k
 as_alone old new ks place name o x t k is h = subst (λ (p : Option Ident). KindAdded old new (λ naming m after. IsTypeAlias (aliasing_at place naming) (scope_of naming old ks) (declared_count old) name p t m after) k) is h

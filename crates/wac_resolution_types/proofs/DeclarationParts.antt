@@ -98,7 +98,7 @@ enum_is old new ty names d v label parts p a =
     value_added old old new ty (λ naming m. IsEnum d m) v (grows_self old) a
     (λ naming. (names_alone names, p, made_of ty Plain.cases (entry_means naming old) (naming_each (names_alone names)) label (parts (entry_means naming old) ∙ sym (names_each names))))
 
--- names alone stand for nothing in a table
+-- names alone denote nothing in a table
 pub alone_kinds : (es : List Entry) (names : List (String Global)) → EachKind (Names es) (slots.name_children names)
 alone_kinds es [] = tt
 alone_kinds es (n ∷ names) = (tt, alone_kinds es names)

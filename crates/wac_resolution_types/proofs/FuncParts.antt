@@ -70,7 +70,7 @@ scalar_is old new ks x t v is h = subst (λ (y : CodeResultList). ResultsAre old
 pub scalar_breaks : (kind : FuncKind) (g : Parts) (ks : Named ItemKind) (x : CodeResultList) (t : «Type») (e : Error) → x ≡ results.Scalar t → ((naming : Naming) → ResultTypeBroken (scope_of naming g ks) (ty_of t) e) → (naming : Naming) → ResultsBroken kind (scope_of naming g ks) (result_list_of x) e
 scalar_breaks kind g ks x t e is h naming = subst (λ (y : CodeResultList). ResultsBroken kind (scope_of naming g ks) (result_list_of y) e) (sym is) (h naming)
 
--- results with names, of which the code has these trees and this map
+-- named results, whose trees and map in the code are these
 pub named_are : (old new : Parts) (ks : Named ItemKind) (x : CodeResultList) (l : Vec CodeNamedType Global) (xs : List NamedType) (rs : FuncResults) (all : List (String Global × ValueType)) → x ≡ results.Named l → xs ≡ map named_type_of l.items
     → result_children rs ≡ named_result_children all → ((f : ℕ → Meaning) → results_mean f rs ≡ named_results (values_mean f (by_name all))) → ResultsGo old new ks [] (by_name all) xs → ResultsAre old new ks (result_list_of x) rs
 named_are old new ks x l xs rs all is trees children means h =

@@ -1,4 +1,4 @@
--- Named parts that are taken one after another.
+-- Named parts that are taken in order.
 use Rattle.std.proofs.Common.{◌≡◌, ◌∙◌, ◌+◌, ◌<◌, ℕ, List, [], ◌∷◌, Option, Some, Bool, true, false, cond, refl, sym, ap, subst, map, take, length, get_or}
 use Rattle.std.specs.Prelude.{option_map, IfSome, String}
 use Rattle.std.specs.declared.alloc.Global.{Global}
@@ -66,7 +66,7 @@ part_stands read naming g all name v is = read_found (λ w. optional_means (entr
 pub repeated : {V : Type 0} (read : V → Option ValueType) (all : Named V) (name : List ℕ) (v : V) → look_up name all ≡ Some v → (naming : Naming) (g : Parts) → (m : Meaning) × StandsFor (parts_mean read naming g all) name m
 repeated read all name v is naming g = (optional_means (entry_means naming g) (read v), part_stands read naming g all name v is)
 
--- ---- parts one after another
+-- ---- parts in order
 
 pub no_parts : {V X : Type 0} (read : V → Option ValueType) (step : PartStep X) (g : Parts) (ks : Named ItemKind) (ps : Named V) → PartsNamed read g.types ps → PartsGo read step g g ks ps ps []
 no_parts read step g ks ps h = record { grows = grows_self g; named = h; go = λ naming. refl }
@@ -99,7 +99,7 @@ parts_break {V} {X} {Y} read step broken f old mid ks ps qs ys i y within at nam
     (subst (λ (z : Y). broken (scope_of naming old ks) (parts_mean read naming mid qs) before (f z)) at
     (subst (λ (s : Scope). broken s (parts_mean read naming mid qs) before (f y)) scope (breaks naming before)))
 
--- ---- what stands in an entry
+-- ---- what is in an entry
 
 pub values_named : (es : List Entry) (all : List (String Global × ValueType)) → PartsNamed (λ v. Some v) es (by_name all) → EachKind (Names es) (value_children all)
 values_named es [] h = tt

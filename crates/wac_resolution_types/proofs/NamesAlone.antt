@@ -1,4 +1,4 @@
--- Names alone, one after another: flags and the cases of an enum.
+-- Names alone, in order: flags and the cases of an enum.
 use Rattle.std.proofs.Common.{◌≡◌, ◌∙◌, ◌+◌, ◌<◌, ℕ, List, [], ◌∷◌, ◌++◌, Some, None, Bool, true, false, cond, ◌||◌, refl, sym, ap, subst, map, take, length, get_or}
 use Rattle.std.specs.Prelude.{String, string_bytes}
 use Rattle.std.specs.declared.alloc.Global.{Global}
@@ -19,7 +19,7 @@ pub any_text : (name : List ℕ) (names : List (String Global)) → list_any (λ
 any_text name [] = refl
 any_text name (n ∷ names) = ap (λ (b : Bool). bytes_eq name (string_bytes n) || b) (any_text name names)
 
--- what stands for a name among names, if it is one of them
+-- what a name denotes among names, if it is one of them
 alone_found : (name : List ℕ) (names : List (String Global)) → look_up name (names_alone names) ≡ cond (list_any (bytes_eq name) (map string_bytes names)) (Some nothing) None
 alone_found name [] = refl
 alone_found name (n ∷ names) = go (alone_found name names) (bytes_eq name (string_bytes n))
@@ -37,7 +37,7 @@ name_fresh name names is = alone_found name names ∙ ap (λ (b : Bool). cond b 
 
 pub ruleset names_found = (name_stands, name_fresh, memory_told)
 
--- names, each standing for nothing
+-- names, each of which denotes nothing
 abbrev alone : List (List ℕ) → Named Meaning
 alone texts = map (λ t. (t, nothing)) texts
 
@@ -50,12 +50,12 @@ pub name_added : (name : List ℕ) (old new : List (String Global)) → map stri
 name_added name old new is =
     alone_texts new ∙ ap alone is ∙ map_push (λ (t : List ℕ). (t, nothing)) (map string_bytes old) name ∙ ap (λ (l : Named Meaning). with_named l name nothing) (sym (alone_texts old))
 
--- names as they stand in an entry
+-- names as they are in an entry
 pub names_each : (names : List (String Global)) → naming_each (names_alone names) ≡ name_children (map string_bytes names)
 names_each [] = refl
 names_each (n ∷ names) = ap (λ (l : List (Slot × Meaning)). (Slot.named (string_bytes n), nothing) ∷ l) (names_each names)
 
--- ---- one after another
+-- ---- in order
 
 pub names_step : {X Y : Type 0} (step : Named Meaning → X → Named Meaning → Type 0) (f : Y → X) (old mid new : Named Meaning) (ys : List Y) (i : ℕ) (y : Y)
     → i < length ys → y ≡ get_or ys i y → Steps step old (take i (map f ys)) mid → step mid (f y) new → Steps step old (take (i + 1) (map f ys)) new

@@ -52,13 +52,13 @@ pub record CaseTypeIs (old new : Parts) (ks : Named ItemKind) (t : Option Ty) (v
 abbrev pub names_alone : List (String Global) → Named Meaning
 names_alone names = map (λ n. (string_bytes n, nothing)) names
 
--- a type of values was added, of which this holds as an item of its own
+-- a type of values was added, and this holds of it as an item of its own
 pub record ValueAdded (old new : Parts) (holds : Naming → Meaning → Type 0) (v : ValueType) : Type 0 where
   pub grows : GrowsPlainly old new
   pub named : Names new.types (kinds.Value v)
   pub is : (naming : Naming) → holds naming (means naming new (kinds.Ty (types.Value v)))
 
--- a kind was added, of which this holds, with how many resources are declared now
+-- a kind was added, and this holds of it and of how many resources are declared now
 pub record KindAdded (old new : Parts) (holds : Naming → Meaning → ℕ → Type 0) (k : ItemKind) : Type 0 where
   pub grows : Grows old new
   pub named : Names new.types k

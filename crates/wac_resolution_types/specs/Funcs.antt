@@ -45,20 +45,20 @@ pub record ResultTypeIs (old new : Parts) (ks : Named ItemKind) (t : Ty) (v : Va
   pub named : Names new.types (kinds.Value v)
   pub is : (naming : Naming) → HasResultType (scope_of naming old ks) t (means naming new (kinds.Value v))
 
--- a result with a name, and such results one after another
+-- a named result, and named results in order
 abbrev pub ResultGoes : Parts → Parts → Named ItemKind → Named ValueType → Named ValueType → NamedType → Type 0
 ResultGoes old new ks ps qs x = PartGoes given HasResult old new ks ps qs x
 
 abbrev pub ResultsGo : Parts → Parts → Named ItemKind → Named ValueType → Named ValueType → List NamedType → Type 0
 ResultsGo old new ks ps qs xs = PartsGo given HasResult old new ks ps qs xs
 
--- what a function gives has these values
+-- the results of a function have these values
 pub record ResultsAre (old new : Parts) (ks : Named ItemKind) (r : ResultList) (rs : FuncResults) : Type 0 where
   pub grows : GrowsPlainly old new
   pub named : EachKind (Names new.types) (result_children rs)
   pub are : (naming : Naming) → HasResults (scope_of naming old ks) r (results_mean (entry_means naming new) rs)
 
--- a function type was added, of an entry of which this holds in the scope
+-- a function type was added, and this holds of its entry in the scope
 pub record FuncAdded (old new : Parts) (ks : Named ItemKind) (holds : Naming → Scope → Meaning → Type 0) (f : FuncTypeId) : Type 0 where
   pub grows : GrowsPlainly old new
   pub named : Names new.types (kinds.Func f)

@@ -1,4 +1,4 @@
--- Named parts that are taken one after another: parameters, fields, cases. Each part is read as perhaps a type of values.
+-- Named parts that are taken in order: parameters, fields, cases. Each part is read as a type of values or as none.
 use Rattle.std.specs.Prelude.{◌≡◌, List, map, Option, IfSome}
 use Rattle.std.specs.List.{AllByRecursion}
 use Rattle.wac_grammar.specs.Tree.{Ident}
@@ -25,7 +25,7 @@ parts_mean read naming g all = map (λ e. (e.0, optional_means (entry_means nami
 abbrev pub PartsNamed : {V : Type 0} → (V → Option ValueType) → List Entry → Named V → Type 0
 PartsNamed read es all = AllByRecursion (λ e. IfSome (optional (read e.1)) (Names es)) all
 
--- how a part leads on, in a scope
+-- a step by one part, in a scope
 abbrev pub PartStep : Type 0 → Type 1
 PartStep X = Scope → Named Meaning → X → Named Meaning → Type 0
 
@@ -33,13 +33,13 @@ PartStep X = Scope → Named Meaning → X → Named Meaning → Type 0
 abbrev pub HasPart : {X : Type 0} → (Scope → X → Meaning → Type 0) → (X → Ident) → PartStep X
 HasPart has id scope old x new = (v : Meaning) × has scope x v × IsFresh (id x).string old × (new ≡ with_named old (id x).string v)
 
--- from the old graph and parts a part leads to the new ones
+-- a part takes the old graph and parts to the new ones
 pub record PartGoes {V X : Type 0} (read : V → Option ValueType) (step : PartStep X) (old new : Parts) (ks : Named ItemKind) (ps qs : Named V) (x : X) : Type 0 where
   pub grows : GrowsPlainly old new
   pub named : PartsNamed read new.types qs
   pub goes : (naming : Naming) → step (scope_of naming old ks) (parts_mean read naming old ps) x (parts_mean read naming new qs)
 
--- so do parts one after another
+-- so do parts in order
 pub record PartsGo {V X : Type 0} (read : V → Option ValueType) (step : PartStep X) (old new : Parts) (ks : Named ItemKind) (ps qs : Named V) (xs : List X) : Type 0 where
   pub grows : GrowsPlainly old new
   pub named : PartsNamed read new.types qs

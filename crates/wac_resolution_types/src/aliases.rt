@@ -93,7 +93,7 @@ fn aliased(
     }
 }
 
-/// An alias of what an identifier stands for.
+/// An alias of what an identifier denotes.
 fn alias_of_name(
     state: &mut State,
     names: &Names<'_, ItemKind>,

@@ -64,7 +64,7 @@ fn kind_of_method(is_static: bool) -> FuncKind
     }
 }
 
-/// What comes before the parameters of a method: itself, borrowed; a static one has nothing there.
+/// What comes before the parameters of a method: its resource, borrowed; of a static one, nothing.
 fn method_params(
     alloc: Global,
     is_static: bool,
@@ -98,7 +98,7 @@ fn take_param(
     Ok(())
 }
 
-/// Takes parameters, one after another.
+/// Takes parameters in order.
 fn take_params(
     state: &mut State,
     names: &Names<'_, ItemKind>,

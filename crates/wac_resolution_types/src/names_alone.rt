@@ -100,7 +100,7 @@ fn enum_case(
     Ok(())
 }
 
-/// Takes flags, one after another.
+/// Takes flags in order.
 fn each_flag(
     alloc: Global,
     declared: &Ident<'_>,
@@ -116,7 +116,7 @@ fn each_flag(
     Ok(())
 }
 
-/// Takes cases, one after another.
+/// Takes cases in order.
 fn enum_cases(
     alloc: Global,
     declared: &Ident<'_>,

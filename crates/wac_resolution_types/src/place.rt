@@ -1,6 +1,6 @@
-//! Where declarations stand.
+//! Where declarations are.
 
-/// Where a declaration stands.
+/// Where a declaration is.
 #[derive(Clone, Copy, Debug, PartialEq, Eq)]
 pub enum Place {
     /// At root.

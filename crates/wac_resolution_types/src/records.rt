@@ -67,7 +67,7 @@ fn take_field(
     Ok(())
 }
 
-/// Takes fields, one after another.
+/// Takes fields in order.
 fn take_fields(
     state: &mut State,
     names: &Names<'_, ItemKind>,

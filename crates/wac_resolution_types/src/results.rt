@@ -1,4 +1,4 @@
-//! What functions give.
+//! The results of functions.
 ghost use Rattle.std.specs.Prelude.{◌≡◌, [], List, IfOk, IfErr, OnOk, map, true, false};
 ghost use Rattle.wac_grammar.specs.Spans.{ty_span};
 ghost use Rattle.wac_grammar.specs.Tree.{NamedType as ResultTree};
@@ -81,7 +81,7 @@ fn result_type(
     Ok(value)
 }
 
-/// Takes a result with a name.
+/// Takes a named result.
 fn named_result(
     state: &mut State,
     names: &Names<'_, ItemKind>,
@@ -100,7 +100,7 @@ fn named_result(
     Ok(())
 }
 
-/// Takes results with names, one after another.
+/// Takes named results in order.
 fn named_results(
     state: &mut State,
     names: &Names<'_, ItemKind>,
@@ -118,7 +118,7 @@ fn named_results(
     Ok(all)
 }
 
-/// What a function gives.
+/// The results of a function.
 pub(crate) fn results(
     state: &mut State,
     names: &Names<'_, ItemKind>,

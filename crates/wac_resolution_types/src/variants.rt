@@ -84,7 +84,7 @@ fn take_case(
     Ok(())
 }
 
-/// Takes cases, one after another.
+/// Takes cases in order.
 fn take_cases(
     state: &mut State,
     names: &Names<'_, ItemKind>,

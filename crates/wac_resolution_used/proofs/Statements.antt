@@ -24,7 +24,7 @@ use Rattle.wac_resolution_bodies.proofs.Lists.{body_still, body_kept}
 use Rattle.wac_resolution_used.specs.Used.{UsesGo}
 use Rattle.wac_resolution_used.specs.Statements.{IsInterface, IsNoneNamed, StatementGoes}
 
--- the body means in the graph with the interface what it meant
+-- the body means the same in the graph with the interface
 body_same : (setting : Setting) (side : ExternKind) (old new : Parts) (root : Named ItemKind) (b : Lists) (used : UsePath) (i : InterfaceId) → IsBody old.types side b → IsInterface setting old new root used i
     → (naming : Naming) → body_in naming new b ≡ body_in naming old b
 body_same setting side old new root b used i body h naming = body_kept naming old new side b (h.grows.kinds naming) body ∙ ap (with_count (body_in naming old b)) h.count
@@ -47,7 +47,7 @@ statement_goes setting side old new root b c u i body h go = record {
   );
 }
 
--- nothing is named that is an interface
+-- no interface is named
 pub none_named : (setting : Setting) (side : ExternKind) (g : Parts) (root : Named ItemKind) (b : Lists) (u : Use) (e : Error) → ((naming : Naming) → IsNoneNamed (setting_of naming setting) (scope_of naming g root) u.path e)
     → (naming : Naming) → UseBroken (setting_of naming setting) (scope_of naming g root) side (body_in naming g b) u e
 none_named setting side g root b u e h naming = go (h naming)

@@ -135,7 +135,7 @@ use_goes side g i b c d x id k u named from renamed body there used fresh is the
       );
     }
 
--- ---- one after another
+-- ---- in order
 
 pub uses_step : {Y : Type 0} (f : Y → UseItem) (side : ExternKind) (g : Parts) (i : InterfaceId) (b c d : Lists) (ys : List Y) (n : ℕ) (y : Y)
     → n < length ys → y ≡ get_or ys n y → UsesGo side g i b c (take n (map f ys)) → UseGoes side g i c d (f y) → UsesGo side g i b d (take (n + 1) (map f ys))
@@ -150,7 +150,7 @@ uses_step {Y} f side g i b c d ys n y within at p q =
 pub uses_all : (side : ExternKind) (g : Parts) (i : InterfaceId) (b c : Lists) (xs ys : List UseItem) → xs ≡ ys → UsesGo side g i b c xs → UsesGo side g i b c ys
 uses_all side g i b c xs ys is h = subst (UsesGo side g i b c) is h
 
--- ---- what taking a type over asks
+-- ---- what taking a type requires
 
 pub use_unused : (es : List Entry) (side : ExternKind) (b : Lists) (x : UseItem) (id : Ident) → id ≡ used_as x → IsBody es side b → IsFresh (used_as x).string (kinds_of side b) → IsFresh id.string b.uses
 use_unused es side b x id named body fresh = body.used id.string (subst (λ (z : Ident). IsFresh z.string (kinds_of side b)) (sym named) fresh)
@@ -163,13 +163,13 @@ pub use_fresh : (side : ExternKind) (b c : Lists) (x : UseItem) (id : Ident) (u 
 use_fresh side b c x id u named fresh is =
     subst (λ (l : Lists). IsFresh id.string (kinds_of side l)) (sym is) (fresh_with_used side b id.string u id.string (subst (λ (z : Ident). IsFresh z.string (kinds_of side b)) (sym named) fresh))
 
--- what the interface exports under the name is not there, or is not a type that can be used
+-- the interface exports nothing under the name, or no type that can be used
 pub kind_breaks : (side : ExternKind) (g : Parts) (i : InterfaceId) (path : List ℕ) (e : Error) (b : Body) (before : List UseItem) (x : UseItem) (naming : Naming)
     → IsNoTypeThere (means naming g (kinds.Instance i)) path x e ⊎ IsNoUsableType (means naming g (kinds.Instance i)) path x e → UseItemBroken side (means naming g (kinds.Instance i)) path e b before x
 kind_breaks side g i path e b before x naming (inl h) = inl h
 kind_breaks side g i path e b before x naming (inr h) = inr (inl h)
 
--- the name is taken, by what the identifier stands for
+-- the name is taken, by what the identifier denotes
 pub use_stands : (naming : Naming) (g : Parts) (side : ExternKind) (b : Lists) (x : UseItem) (id : Ident) (k : ItemKind) → id ≡ used_as x → look_up id.string (kinds_of side b) ≡ Some k → StandsFor (externs side (body_in naming g b)) (used_as x).string (means naming g k)
 use_stands naming g side b x id k named is = subst (λ (z : Ident). StandsFor (externs side (body_in naming g b)) z.string (means naming g k)) named (extern_stands naming g side b id.string k is)
 

@@ -35,8 +35,8 @@ IsInterface setting old new root used i = Found (packages_in setting) old new (�
 abbrev pub IsNoneNamed : rules.Setting → Scope → UsePath → Error → Type 0
 IsNoneNamed setting root used e = UsePathBroken setting root used e ⊎ ((k : Meaning) × rules.UseNames setting root used k × IsNoInterface k (use_path_name used) (use_path_span used) e)
 
--- the graph got more types and perhaps more packages, and the body is another one: these names were bound, and of what both bodies mean
--- this holds
+-- the graph got more types and perhaps more packages, and the body is another one: these names were bound, and this
+-- holds of what both bodies mean
 pub record BodyExpands (packages : List (Key × PackageParts)) (side : ExternKind) (old new : Parts) (b c : Lists) (bound : Named Span) (holds : Naming → Body → Body → Type 0) : Type 0 where
   pub grows : Expands old new
   pub handed : HoldsHanded packages new
@@ -44,7 +44,7 @@ pub record BodyExpands (packages : List (Key × PackageParts)) (side : ExternKin
   pub places : places_of c.names ≡ places_of b.names ++ bound
   pub goes : (naming : Naming) → holds naming (body_in naming old b) (body_in naming new c)
 
--- what a use comes to
+-- what a use resolves to
 abbrev pub StatementGoes : Setting → ExternKind → Parts → Parts → Named ItemKind → Lists → Lists → Use → Type 0
 StatementGoes setting side old new root b c u =
     BodyExpands (packages_in setting) side old new b c (used_at u.items) (λ naming before after. HasUse (setting_of naming setting) (scope_of naming old root) side before u after)

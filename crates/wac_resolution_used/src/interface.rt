@@ -24,7 +24,7 @@ pub(crate) fn path_name<'x, 'a>(path: &'x UsePath<'a>) -> &'a str
     }
 }
 
-/// Where that text stands.
+/// Where that text is.
 pub(crate) fn path_span(path: &UsePath<'_>) -> SourceSpan
     ensures { result ≡ use_path_span (use_path_of path.now) }
 {

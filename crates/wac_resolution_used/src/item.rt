@@ -23,7 +23,7 @@ use wac_resolution_bodies::Body;
 use wac_resolution_errors::Error;
 use wac_resolution_state::State;
 
-/// The identifier by which a used type goes here.
+/// The identifier that a used type has here.
 pub fn used_as<'x, 'a>(item: &'x UseItem<'a>) -> &'x Ident<'a>
     ensures { ident_of result.now ≡ used_by (use_item_of item.now) }
 {

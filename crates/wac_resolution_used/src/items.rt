@@ -21,7 +21,7 @@ use wac_resolution_bodies::Body;
 use wac_resolution_errors::Error;
 use wac_resolution_state::State;
 
-/// Takes a type of an interface over.
+/// Takes a type from an interface.
 fn use_item<'a>(
     state: &State,
     body: &mut Body<'a>,
@@ -44,7 +44,7 @@ fn use_item<'a>(
     Ok(())
 }
 
-/// Takes types of an interface over, one after another.
+/// Takes types from an interface, in order.
 pub fn use_items<'a>(
     state: &State,
     body: &mut Body<'a>,

@@ -40,7 +40,7 @@ fn used_interface(
     Ok(interface)
 }
 
-/// Takes the types of an interface over.
+/// Takes the used types from an interface.
 pub fn use_statement<'a>(
     state: &mut State,
     setting: &Setting<'_>,

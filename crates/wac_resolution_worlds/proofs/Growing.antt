@@ -1,4 +1,4 @@
--- Bodies that are led on, one after another, in a graph that may get packages too.
+-- Bodies as they take items in order, in a graph that may get packages too.
 use Rattle.std.proofs.Common.{◌≡◌, ◌∙◌, ◌+◌, ◌<◌, ℕ, List, [], ◌∷◌, ◌++◌, refl, sym, ap, subst, map, take, length, get_or, append_assoc, append-nil}
 use Rattle.std.proofs.lemmas.List.{flat_map_more, take_more, length-map, get_or-map}
 use Rattle.std.specs.List.{flat_map}
@@ -22,7 +22,7 @@ use Rattle.wac_resolution_bodies.specs.Lists.{Lists}
 use Rattle.wac_resolution_bodies.specs.Bodies.{body_in, IsBody, BodyGoes}
 use Rattle.wac_resolution_used.specs.Statements.{BodyExpands}
 
--- how an item leads from one body to the next, under a naming and with these names at root
+-- how an item takes one body to the next, under a naming and with these names at root
 abbrev pub RootStep : Type 0 → Type 1
 RootStep X = Naming → Scope → Body → X → Body → Type 0
 

@@ -1,4 +1,4 @@
--- Includes of worlds, one after another.
+-- Includes of worlds, in order.
 use Rattle.std.proofs.Common.{◌≡◌, ◌∙◌, ◌+◌, ◌<◌, ◌⊎◌, inl, inr, ℕ, suc, List, [], ◌∷◌, ◌++◌, Option, Some, None, refl, sym, ap, subst, map, take, drop, length, get_or}
 use Rattle.std.specs.List.{cons_option}
 use Rattle.std.proofs.lemmas.List.{take-append-drop, take_more, length-map, get_or-map}
@@ -55,7 +55,7 @@ are_still old new b e h = record {
   exports = items_expanded old new b.exports e h.exports;
 }
 
--- where no resource was declared a body goes on to mean the same
+-- where no resource was declared a body still means the same
 pub lists_kept : (naming : Naming) (old new : Parts) (b : Lists) → Expands old new → declared_count new ≡ declared_count old → AreNamed old.types b → body_in naming new b ≡ body_in naming old b
 lists_kept naming old new b e count h =
     let scope : scope_of naming new (values_of b.names) ≡ scope_of naming old (values_of b.names) = scope_expanded old new (values_of b.names) naming e h.names in
@@ -97,7 +97,7 @@ pub world_breaks : (setting : Setting) (g : Parts) (root : Named ItemKind) (b : 
     → (naming : Naming) (before : List WorldInclude) → IncludeBroken (setting_of naming setting) (scope_of naming g root) world e (body_in naming g b) before x
 world_breaks setting g root b world x es e all h naming before = inr (entries_of es, all.once, inl (h naming))
 
--- the world can't be taken over
+-- the world can't be included
 pub taking_breaks : (setting : Setting) (old new : Parts) (root : Named ItemKind) (b : Lists) (world : List ℕ) (x : WorldInclude) (es : Renamings) (k : ItemKind) (e : Error)
     → AreNamed old.types b → AreAll x.items es → IsNamedWorld setting old new root x k
     → ((naming : Naming) (l : Body) → IsNoWorld (means naming new k) x.world e ⊎ (IsA is_world_form (means naming new k) × TakingBroken x world (entries_of es) (entry_of (means naming new k)) (with_both naming new l b.imports b.exports) e))
@@ -112,7 +112,7 @@ taking_breaks setting old new root b world x es k e body all found h naming befo
   ),
 )
 
--- ---- one after another
+-- ---- in order
 
 steps_after : {S X : Type 0} (step : S → X → S → Type 0) (old : S) (xs : List X) (mid : S) (ys : List X) (new : S) → Steps step old xs mid → Steps step mid ys new → Steps step old (xs ++ ys) new
 steps_after {S} step old [] mid ys new p q = subst (λ (m : S). Steps step m ys new) p q

@@ -1,4 +1,4 @@
--- What identifiers stand for in bodies and at root.
+-- What identifiers denote in bodies and at root.
 use Rattle.std.proofs.Common.{◌≡◌, ◌∙◌, ◌++◌, ℕ, List, [], ◌∷◌, Option, Some, None, Bool, true, false, cond, refl, sym, ap, subst, ◌⊎◌, inl, inr}
 use Rattle.std.specs.Prelude.{option_map}
 use Rattle.std.specs.Str.{bytes_eq}
@@ -36,11 +36,11 @@ use Rattle.wac_resolution_worlds.specs.Instances.{IsInterfaceKind}
 
 -- ---- functions
 
--- a function type stands for itself
+-- a function type denotes itself
 pub func_type_named : (ks : Named ItemKind) (x : Ident) (f : FuncTypeId) → KindIs ks x (kinds.Ty (types.Func f)) → FuncNamed ks x f
 func_type_named ks x f h = record { is = λ naming g. (means naming g (kinds.Ty (types.Func f)), h.is naming g, refl, refl); named = h.named }
 
--- a function stands for its type
+-- a function denotes its type
 pub func_named : (ks : Named ItemKind) (x : Ident) (f : FuncTypeId) → KindIs ks x (kinds.Func f) → FuncNamed ks x f
 func_named ks x f h = record { is = λ naming g. (means naming g (kinds.Func f), h.is naming g, refl, refl); named = h.named }
 

@@ -80,7 +80,7 @@ instance_conflicts of g side b k i id name at e h ids conflict naming =
 
 -- ---- kinds that are given names
 
--- the type of what a name stands for
+-- the type of what a name denotes
 pub named_made : (setting : Setting) (g : Parts) (root names : Named ItemKind) (x : CodeExternType) (id : Ident) (k : ItemKind) → extern_type_of x ≡ ExternType.ident id → HoldsHanded (packages_in setting) g
     → ItemsNamed g.types names → ItemsNamed g.types root → ExternNamed names root id k → ExternMade setting g g root names (extern_type_of x) k
 named_made setting g root names x id k is held here there h = subst (λ (y : ExternType). ExternMade setting g g root names y k) (sym is) (record {
@@ -138,7 +138,7 @@ named_goes setting side old new root b c x k body fresh made is =
 
 -- ---- kinds that are found
 
--- the body means in the graph with what was found what it meant
+-- the body means the same in the graph with what was found
 body_found : (packages : List (Key × PackageParts)) (old new : Parts) (holds : Naming → Meaning → Type 0) (b : Lists) (k : ItemKind) → IsBody old.types sides.Import b → Found packages old new holds k → (naming : Naming) → body_in naming new b ≡ body_in naming old b
 body_found packages old new holds b k body h naming = body_kept naming old new sides.Import b (h.grows.kinds naming) body ∙ ap (with_count (body_in naming old b)) h.count
 

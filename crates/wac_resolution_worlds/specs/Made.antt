@@ -31,23 +31,23 @@ use Rattle.wac_resolution_used.specs.Statements.{BodyExpands}
 abbrev pub no_lists : Lists
 no_lists = record { names = []; uses = []; imports = []; exports = [] }
 
--- a kind was made, of which this holds, with how many resources are declared then
+-- a kind was made, and this holds of it and of how many resources are declared then
 pub record KindMade (packages : List (Key × PackageParts)) (old new : Parts) (holds : Naming → Meaning → ℕ → Type 0) (k : ItemKind) : Type 0 where
   pub grows : Expands old new
   pub handed : HoldsHanded packages new
   pub named : Names new.types k
   pub is : (naming : Naming) → holds naming (means naming new k) (declared_count new)
 
--- what the export of a function comes to, whatever the setting
+-- what the export of a function resolves to, whatever the setting
 abbrev pub ExportGoes : Parts → Parts → Lists → Lists → InterfaceExport → Type 0
 ExportGoes old new b c x = BodyGoes sides.Export old new b c [] (λ naming before after. (setting : rules.Setting) (root : Scope) → HasInterfaceItem setting root before (InterfaceItem.interface_export x) after)
 
--- what an item of an interface comes to
+-- what an item of an interface resolves to
 abbrev pub InterfaceItemGoes : Setting → Parts → Parts → Named ItemKind → Lists → Lists → InterfaceItem → Type 0
 InterfaceItemGoes setting old new root b c x =
     BodyExpands (packages_in setting) sides.Export old new b c (bound_in_interface_item x) (λ naming before after. HasInterfaceItem (setting_of naming setting) (scope_of naming old root) before x after)
 
--- items, one after another
+-- items in order
 abbrev pub InterfaceItemsGo : Setting → Parts → Parts → Named ItemKind → Lists → Lists → List InterfaceItem → Type 0
 InterfaceItemsGo setting old new root b c xs =
     BodyExpands (packages_in setting) sides.Export old new b c (bound_in_interface xs) (λ naming before after. Steps (HasInterfaceItem (setting_of naming setting) (scope_of naming old root)) before xs after)

@@ -1,4 +1,4 @@
--- What references to functions and interfaces stand for.
+-- What references to functions and interfaces denote.
 use Rattle.std.specs.Prelude.{◌≡◌, ◌⊎◌, ℕ, List}
 use Rattle.wac_grammar.specs.Tree.{Ident, FuncType, FuncTypeRef, ExternType}
 use Rattle.wac_types.specs.declared.kind.ItemKind.{ItemKind}
@@ -18,7 +18,7 @@ use Rattle.wac_resolution_rules.specs.Worlds.{IsFuncRef, HasExternType}
 use Rattle.wac_resolution_types.specs.Funcs.{FuncAdded}
 use Rattle.wac_resolution_state.specs.Named.{scope_of}
 
--- the identifier stands for a function or function type, of this entry, whatever the graph is
+-- the identifier denotes a function or function type, of this entry, whatever the graph is
 pub record FuncNamed (ks : Named ItemKind) (x : Ident) (f : FuncTypeId) : Type 0 where
   pub is : (naming : Naming) (g : Parts) → IsFuncRef (scope_of naming g ks) (FuncTypeRef.ident x) (entry_means naming g f.0)
   pub named : (es : List Entry) → ItemsNamed es ks → Names es (kinds.Func f)
@@ -27,7 +27,7 @@ pub record FuncNamed (ks : Named ItemKind) (x : Ident) (f : FuncTypeId) : Type 0
 abbrev pub NewFunc : Parts → Parts → Named ItemKind → FuncType → FuncTypeId → Type 0
 NewFunc old new ks f id = FuncAdded old new ks (λ naming scope entry. IsFunc scope f entry) id
 
--- the function type, or what an identifier stands for, has this entry
+-- the function type, or what an identifier denotes, has this entry
 abbrev pub FuncRefIs : Parts → Parts → Named ItemKind → FuncTypeRef → FuncTypeId → Type 0
 FuncRefIs old new ks r id = FuncAdded old new ks (λ naming scope entry. IsFuncRef scope r entry) id
 
@@ -37,11 +37,12 @@ pub record IsExternKind (k item : ItemKind) : Type 0 where
   pub promotes : (naming : Naming) (g : Parts) → means naming g item ≡ promoted (means naming g k)
   pub named : (es : List Entry) → Names es k → Names es item
 
--- the kind of an identifier is neither, and this is the error of it
+-- the kind of an identifier is neither, and this is its error
 abbrev pub IsNoExternKind : ItemKind → Ident → Error → Type 0
 IsNoExternKind k x e = (naming : Naming) (g : Parts) → (e ≡ memory) ⊎ (IsNoneOf is_func_or_interface_form (means naming g k) × (e ≡ not_func_or_interface x.string (described (means naming g k)) x.span))
 
--- the identifier stands in a body, else at root, for a function type or an interface, whose items are of this kind, whatever the graph is
+-- in a body, else at root, the identifier denotes a function type or an interface, whose items are of this kind,
+-- whatever the graph is
 pub record ExternNamed (ks root : Named ItemKind) (x : Ident) (k : ItemKind) : Type 0 where
   pub is : (naming : Naming) (g : Parts) (setting : Setting) (n : ℕ) → HasExternType setting (scope_of naming g root) (scope_of naming g ks) n (ExternType.ident x) (means naming g k) n
   pub named : (es : List Entry) → ItemsNamed es ks → ItemsNamed es root → Names es k

@@ -43,23 +43,23 @@ abbrev pub ExternMade : Setting → Parts → Parts → Named ItemKind → Named
 ExternMade setting old new root names x k =
     KindMade (packages_in setting) old new (λ naming m after. HasExternType (setting_of naming setting) (scope_of naming old root) (scope_of naming old names) (declared_count old) x m after) k
 
--- what an import or export of what an identifier stands for comes to, whatever the setting
+-- what an import or export of what an identifier denotes resolves to, whatever the setting
 abbrev pub IdentGoes : ExternKind → Parts → Named ItemKind → Lists → Lists → Ident → Type 0
 IdentGoes side g root b c x = BodyGoes sides.Import g g b c [] (λ naming before after. (setting : rules.Setting) → HasExtern setting (scope_of naming g root) side before (WorldItemPath.ident x) after)
 
--- what an import or export comes to
+-- what an import or export resolves to
 abbrev pub ExternGoes : Setting → ExternKind → Parts → Parts → Named ItemKind → Lists → Lists → WorldItemPath → Type 0
 ExternGoes setting side old new root b c x =
     BodyExpands (packages_in setting) sides.Import old new b c [] (λ naming before after. HasExtern (setting_of naming setting) (scope_of naming old root) side before x after)
 
 -- ---- items
 
--- what an item of a world comes to
+-- what an item of a world resolves to
 abbrev pub WorldItemGoes : Setting → Parts → Parts → Named ItemKind → Lists → Lists → WorldItem → Type 0
 WorldItemGoes setting old new root b c x =
     BodyExpands (packages_in setting) sides.Import old new b c (bound_in_world_item x) (λ naming before after. HasWorldItem (setting_of naming setting) (scope_of naming old root) before x after)
 
--- items, one after another
+-- items in order
 abbrev pub WorldItemsGo : Setting → Parts → Parts → Named ItemKind → Lists → Lists → List WorldItem → Type 0
 WorldItemsGo setting old new root b c xs =
     BodyExpands (packages_in setting) sides.Import old new b c (bound_in_world xs) (λ naming before after. Steps (HasWorldItem (setting_of naming setting) (scope_of naming old root)) before xs after)
@@ -73,18 +73,18 @@ pub record AreNamed (es : List Entry) (b : Lists) : Type 0 where
   pub imports : ItemsNamed es b.imports
   pub exports : ItemsNamed es b.exports
 
--- the graph perhaps got packages, and the body is another one: of what both bodies mean this holds
+-- the graph may have got packages, and the body is another one: this holds of what both bodies mean
 pub record BodyIncludes (packages : List (Key × PackageParts)) (old new : Parts) (b c : Lists) (holds : Naming → Body → Body → Type 0) : Type 0 where
   pub grows : Expands old new
   pub handed : HoldsHanded packages new
   pub named : AreNamed new.types c
   pub goes : (naming : Naming) → holds naming (body_in naming old b) (body_in naming new c)
 
--- what includes come to, one after another
+-- what includes resolve to, in order
 abbrev pub IncludesGo : Setting → Parts → Parts → Named ItemKind → Lists → Lists → List WorldInclude → Type 0
 IncludesGo setting old new root b c xs = BodyIncludes (packages_in setting) old new b c (λ naming before after. Steps (HasInclude (setting_of naming setting) (scope_of naming old root)) before xs after)
 
--- what an include comes to
+-- what an include resolves to
 abbrev pub IncludeGoes : Setting → Parts → Parts → Named ItemKind → Lists → Lists → WorldInclude → Type 0
 IncludeGoes setting old new root b c x = BodyIncludes (packages_in setting) old new b c (λ naming before after. HasInclude (setting_of naming setting) (scope_of naming old root) before x after)
 

@@ -82,7 +82,7 @@ fn named_item(
     Ok(())
 }
 
-/// Takes an import or export of what a path leads to.
+/// Takes an import or export of what a path resolves to.
 fn path_item(
     state: &mut State,
     setting: &Setting<'_>,
@@ -103,7 +103,7 @@ fn path_item(
     Ok(())
 }
 
-/// Takes an import or export of what an identifier stands for at root.
+/// Takes an import or export of what an identifier denotes at root.
 fn ident_item(
     state: &State,
     root: &Names<'_, ItemKind>,

@@ -18,7 +18,7 @@ use wac_graph::{ItemKind, Type};
 use wac_resolution_errors::Error;
 use wac_resolution_state::Names;
 
-/// What a name stands for in a body, else at root.
+/// What a name denotes in a body, else at root.
 #[tactic(auto, using(crate::proofs::Refer::either_found))]
 fn find_in_either(
     names: &Names<'_, ItemKind>,
@@ -50,7 +50,7 @@ fn item_of(alloc: Global, kind: ItemKind, id: &Ident<'_>) -> Result<ItemKind, Er
     }
 }
 
-/// The kind of the items of what an identifier stands for in a body, else at root: a function type or an interface.
+/// The kind of the items of what an identifier denotes in a body, else at root: a function type or an interface.
 #[tactic(auto, using(crate::proofs::Refer::either_told))]
 pub fn named_extern(
     alloc: Global,

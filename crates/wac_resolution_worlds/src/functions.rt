@@ -22,7 +22,7 @@ use wac_graph::{FuncKind, FuncTypeId, ItemKind, Type};
 use wac_resolution_errors::Error;
 use wac_resolution_state::{Names, State, kind_of};
 
-/// The function type that an identifier of a function or function type stands for.
+/// The function type that an identifier of a function or function type denotes.
 #[tactic(auto, using(crate::proofs::Refer::funcs_found))]
 fn named_func(
     alloc: Global,

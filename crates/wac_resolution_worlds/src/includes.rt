@@ -27,7 +27,7 @@ use wac_resolution_includes::{Inclusion, entries};
 use wac_resolution_paths::{Setting, world_ref};
 use wac_resolution_state::{Names, State};
 
-/// Carries out an include into the world of a name.
+/// Takes an include into the world of a name.
 fn include(
     state: &mut State,
     setting: &Setting<'_>,
@@ -69,7 +69,7 @@ fn include_in<'x, 'a>(item: &'x WorldItem<'a>) -> Option<&'x WorldInclude<'a>>
     }
 }
 
-/// Carries out an item of a world, if it is an include.
+/// Takes an item of a world, if it is an include.
 fn include_item(
     state: &mut State,
     setting: &Setting<'_>,
@@ -93,7 +93,7 @@ fn include_item(
     }
 }
 
-/// Carries out the includes among the items of a world, one after another.
+/// Takes the includes among the items of a world, in order.
 pub fn includes(
     state: &mut State,
     setting: &Setting<'_>,

@@ -30,7 +30,7 @@ fn text_or_empty(text: &Option<String>) -> &str
     }
 }
 
-/// The id of an interface, under which it is imported or exported as an instance. Of one without an id it is empty.
+/// The id of an interface, under which it is imported or exported as an instance. It is empty for one without an id.
 pub fn instance_id(graph: &CompositionGraph, interface: InterfaceId) -> &str
     requires { Names graph.now.types (kinds.Instance interface) }
     ensures { (naming : Naming) → result.now ≡ unwrap_or (id_of (entry_means naming graph.now interface.0)) [] }

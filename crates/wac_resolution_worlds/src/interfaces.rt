@@ -88,7 +88,7 @@ fn interface_item<'a>(
     }
 }
 
-/// Takes items of an interface, one after another, into an empty body.
+/// Takes items of an interface, in order, into an empty body.
 fn interface_items<'a>(
     state: &mut State,
     setting: &Setting<'_>,

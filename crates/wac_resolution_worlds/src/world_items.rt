@@ -75,7 +75,7 @@ fn world_item<'a>(
     }
 }
 
-/// Takes items of a world, one after another, into an empty body.
+/// Takes items of a world, in order, into an empty body.
 pub fn world_items<'a>(
     state: &mut State,
     setting: &Setting<'_>,

@@ -1,4 +1,4 @@
-//! Resolving in one call, where memory is there. The other documents of the tests are resolved by `AstResolver`.
+//! Resolving in one call, where memory suffices. The other documents of the tests are resolved by `AstResolver`.
 
 use crate::documents::{With, handed};
 use crate::readings::lines;
@@ -32,7 +32,7 @@ fn resolved<'d, 'a: 'd>(
     resolve(alloc, page.document, packages, &ALL_PASS)
 }
 
-/// The graph that a resolution hands on, as lines.
+/// The graph of a resolution, as lines.
 fn taken_lines<'d, 'a: 'd>(
     alloc: Global,
     resolution: Resolution<'d, 'a>,
@@ -57,7 +57,7 @@ fn resolved_lines(
     }
 }
 
-/// The lines of the graph of a document that is lent.
+/// The lines of the graph of a borrowed document.
 fn document_lines(
     rt: &impl Abort,
     alloc: Global,

@@ -1,4 +1,4 @@
-//! Documents that tell how the rules are read.
+//! Documents that show how the rules are read.
 
 use crate::documents::{Row, With, hold};
 use crate::readings::Asked;
@@ -197,7 +197,7 @@ const INSIDE: &[Row] = &[
     ),
 ];
 
-/// What the world `w` takes over: no uses. The import alone is renamed where an export has its name too.
+/// What the world `w` includes: no uses. The import alone is renamed where an export has its name too.
 const INCLUDED: &[Row] = &[
     (
         With::Nothing,

@@ -18,7 +18,7 @@ pub enum With {
     Nothing,
     /// The packages of the tests. All passes.
     Packages,
-    /// The same packages. No kind may stand for any, for reason 7.
+    /// The same packages. No kind fits any, for reason 7.
     NothingFits,
     /// The same packages. No name may be used, for reason 8.
     NoNames,
@@ -37,7 +37,7 @@ pub struct Question {
     pub with: With,
 }
 
-/// The packages of the tests, or none. They are all as packages have to be, so that the only error is that memory runs out.
+/// The packages of the tests, or none. They are all valid, so that the only error is that memory runs out.
 pub fn handed(alloc: Global, with: With) -> Result<IndexMap<PackageKey, Package>, AllocError> {
     if let With::Nothing = with {
         return Ok(IndexMap::new(alloc));

@@ -1,4 +1,4 @@
-//! Resolving where memory is refused: the test passes whichever request for memory is the one that is refused.
+//! Resolving where a request for memory fails: the test passes whichever request fails.
 
 use crate::documents::{Question, Row, With, answer_of};
 use crate::readings::Asked;
@@ -39,7 +39,7 @@ const DOCUMENTS: &[Row] = &[
     ),
 ];
 
-/// What a document comes to. Where memory runs out it is asked once more.
+/// What a document resolves to. Where memory runs out it is asked once more.
 fn answer_again(alloc: Global, with: With, text: &str) -> Result<String, AllocError> {
     let question = Question {
         alloc,

@@ -1,4 +1,4 @@
-//! Packages that are handed to the resolver.
+//! Packages that are supplied to the resolver.
 
 use indexmap::IndexMap;
 use std::alloc::{AllocError, Global};
@@ -84,7 +84,7 @@ fn key(alloc: Global, version: Option<&str>) -> Result<PackageKey, AllocError> {
     Ok(PackageKey { name, version })
 }
 
-/// Hands the package in under its key.
+/// Supplies the package under its key.
 fn hand(
     alloc: Global,
     all: &mut IndexMap<PackageKey, Package>,

@@ -1,4 +1,4 @@
-//! What a document comes to, as a text.
+//! What a document resolves to, as a text.
 ghost use Rattle.std.specs.Prelude.{◌<◌, IfSome, length};
 
 use crate::entries::entries;
@@ -142,7 +142,7 @@ fn message(alloc: Global, error: &Error) -> Result<String, AllocError> {
     }
 }
 
-/// What is asked of a document, of which this is the graph or the error.
+/// What is asked of a document with this graph or error.
 pub fn told(
     alloc: Global,
     asked: Asked,

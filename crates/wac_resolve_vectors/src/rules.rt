@@ -5,7 +5,7 @@ use wac_graph::{ItemKind, Reason, Rules, Types};
 /// The same result for all kinds, and for all names.
 #[derive(Clone, Copy)]
 pub struct Fixed {
-    /// Why no kind may stand for any.
+    /// Why no kind fits any.
     pub kinds: Option<Reason>,
     /// Why no name may be used.
     pub names: Option<Reason>,

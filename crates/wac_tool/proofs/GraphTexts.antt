@@ -1,4 +1,4 @@
--- What is written of a graph, and what is returned of an error.
+-- What is written of a graph, and what is returned for an error.
 use Rattle.std.proofs.Common.{◌≡◌, ℕ, suc, List, [], ◌∷◌, ◌++◌, map, ⊎_elim, refl, sym, subst, ap, inr, Ok, Err}
 use Rattle.std.specs.Prelude.{◌⊎◌, Result, IfOk, IfErr, alloc_error}
 use Rattle.wac_ast.specs.Statements.{document_of}
@@ -59,7 +59,7 @@ is_error document e Input first is = absurd is
 is_error document e Output first is = absurd is
 is_error document e NotUtf8 first is = absurd is
 
--- ---- what resolving returns where no package is handed
+-- ---- what resolving returns where no package is supplied
 
 -- The graph is the document's.
 pub is_graph : (packages : List (PackageKey × PackageParts)) (document : Document) (r : Resolved) (g : Parts) → packages ≡ [] → g ≡ r.graph

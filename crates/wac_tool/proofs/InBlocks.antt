@@ -1,4 +1,4 @@
--- What stands below blocks that held nothing.
+-- What is below blocks that held nothing.
 use Rattle.std.proofs.Common.{◌≡◌, ℕ, true, List, [], ◌++◌, length, sym, ap, ◌∙◌, subst, arith, length-append, Err, inl, inr}
 use Rattle.std.specs.Prelude.{◌&&◌, nat_eq}
 use Rattle.std.proofs.lemmas.List.{append-nil, nil_from_length}
@@ -21,7 +21,7 @@ unchanged old new fresh grown e =
     let none : new.held ≡ [] = nil_from_length new.held (omega (arith, before, fresh.1, grown, ap length bytes, length-append new.sunk new.held)) in
     sym (append-nil new.sunk) ∙ ap (λ x. new.sunk ++ x) (sym none) ∙ bytes
 
--- the parts of a beginning that was put
+-- the parts of a prefix that was put
 parts : (old new : Holding) (text : List ℕ) → Began (given old) (given new) text → (new.before ≡ old.before) × (new.borrow ≡ old.borrow) × (is_front (new.sunk ++ new.held) ((old.sunk ++ old.held) ++ text) ≡ true)
 unfolding is_front
 parts old new text b =
@@ -49,7 +49,7 @@ stopped command (Memory m) source old new fresh (inr i) grown = inr (i.0, i.1, b
 same_borrow : (old new : Holding) → given new ≡ given old → new.borrow ≡ old.borrow
 same_borrow old new e = cc
 
--- and leaves that the borrow it is.
+-- and leaves its borrow the same.
 pub stopped_same : (command : Command) (error : RunError) (source : List ℕ) (old new : Holding) → Answers command (Err error) source (given old) (given new) → new.borrow ≡ old.borrow
 stopped_same command (Refused place message) source old new a = same_borrow old new a.2
 stopped_same command NotUtf8 source old new a = same_borrow old new a.1

@@ -13,7 +13,7 @@ use Rattle.wac_tool.specs.declared.command.Command.{Command}
 use Rattle.wac_tool.specs.declared.error.RunError.{RunError}
 use Rattle.wac_tool.specs.declared.error.RunError.TheVariants.{Refused, Input, Output, Memory, NotUtf8}
 
--- an error lies somewhere, unless memory ran out
+-- an error has a place, unless memory ran out
 lies : (e : Error) → e ≢ errors.Memory alloc_error → (at : Span) × (place_of (told_by e) ≡ Some at)
 lies (errors.Lexer fault span) h = (span, refl)
 lies (errors.Expected token found span) h = (span, refl)
@@ -23,7 +23,7 @@ lies (errors.EmptyType ty kind span) h = (span, refl)
 lies (errors.InvalidVersion version span) h = (span, refl)
 lies (errors.Memory a) h = absurd (h refl)
 
--- This is so of each command that rejects a source where it has no tree.
+-- This holds of each command that rejects a source where it has no tree.
 pub rejects : (command : Command) (source : List ℕ) → ((place : Option Span) (text : List ℕ) → HasNoTree source place text → Refuses command source place text)
     → (e : Error) (answer : RunError) → ((tree : Document) → IsTreeOf source tree → e ≡ errors.Memory alloc_error)
     → (e ≡ errors.Memory alloc_error) ⊎ ErrorOf (told_by e) source → IsRefusal e answer → Rejects command source answer
@@ -43,7 +43,7 @@ rejected command source Input old utf8 is = absurd is
 rejected command source Output old utf8 is = absurd is
 rejected command source NotUtf8 old utf8 is = absurd is
 
--- Both, one after the other.
+-- Both together.
 pub refuses : (command : Command) (source : List ℕ) → ((place : Option Span) (text : List ℕ) → HasNoTree source place text → Refuses command source place text)
     → (e : Error) (answer : RunError) (old : List ℕ) → IsUtf8 source → ((tree : Document) → IsTreeOf source tree → e ≡ errors.Memory alloc_error)
     → (e ≡ errors.Memory alloc_error) ⊎ ErrorOf (told_by e) source → IsRefusal e answer → Answers command (Err answer) source old old

@@ -1,4 +1,4 @@
--- What is returned for a document, by whether it is printed as it stands.
+-- What is returned for a document, by whether it is formatted.
 use Rattle.std.proofs.Common.{◌≡◌, ℕ, List, [], Ok, Err, inl, inr, refl, sym, append-nil}
 use Rattle.std.specs.Prelude.{◌≢◌, IsUtf8}
 use Rattle.wac_grammar.specs.Tree.{Document}

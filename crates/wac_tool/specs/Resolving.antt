@@ -1,4 +1,4 @@
--- What resolving a document alone comes to: with no package given, and by the rules of the program.
+-- What a document alone resolves to: with no package supplied, and by the rules of the program.
 use Rattle.std.specs.Prelude.{◌≡◌, ◌≢◌, ℕ, List, [], Option, None, alloc_error, string_bytes}
 use Rattle.wac_lexer.specs.Span.{Span}
 use Rattle.wac_types.specs.Scope.{Named}
@@ -21,7 +21,7 @@ use Rattle.wac_tool_graphs.specs.Rules.{same_passes}
 use Rattle.wac_tool.specs.declared.error.RunError.{RunError}
 use Rattle.wac_tool.specs.declared.error.RunError.TheVariants.{Refused, Memory}
 
--- a kind may stand for one of equal meaning, and any text may be a name
+-- a kind fits one of equal meaning, and any text may be a name
 abbrev pub same_rules : Rules
 same_rules = rules_by same_passes (λ name. None)
 
@@ -35,13 +35,13 @@ alone naming document = given_to naming [] same_rules document
 abbrev pub IsGraphText : Document → List ℕ → Type 0
 IsGraphText document out = EveryNaming (λ naming. (c : Composition) × Describes (alone naming document) document c × (out ≡ graph_lines c))
 
--- The document breaks a rule: its error names it, lies at this place, and has this text.
+-- The document breaks a rule: its error names it, and has this place and this text.
 abbrev pub IsRejected : Document → Option Span → List ℕ → Type 0
 IsRejected document place text = (e : Told) × NamesRule e × EveryNaming (λ naming. FirstFailing (alone naming document) document e) × (place ≡ span_of e) × (text ≡ text_of e)
 
 -- ---- graphs and errors
 
--- The graph stands for what the document describes, where some names are bound at root.
+-- The graph denotes what the document describes, where some names are bound at root.
 abbrev pub IsGraphOf : Document → Parts → Type 0
 IsGraphOf document g = (declared : Named ℕ) × EveryNaming (λ naming. Describes (alone naming document) document (composition_of naming g declared))
 

@@ -1,4 +1,4 @@
-//! What the program `wac` does, over any feed and any sink.
+//! What the program `wac` does, with any feed and any sink.
 #![tactic(auto)]
 
 mod checking;

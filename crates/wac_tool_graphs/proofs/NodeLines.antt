@@ -27,7 +27,7 @@ there_is [] i h is = absurd (omega (arith, h))
 there_is (x ∷ xs) zero h is = absurd (cc)
 there_is (x ∷ xs) (suc i) h is = there_is xs i (omega (arith, h)) is
 
--- what is so of the lines of each node that has this number, is so of these lines
+-- what holds of the lines of each node that has this number holds of these lines
 pub at_lines : (naming : Naming) (g : Parts) (i : ℕ) (P : List ℕ → Type 0) → i < length g.nodes → ((n : GraphNode) → slice_get g.nodes i ≡ Some n → P (node_line i (node_of naming g n) ++ argument_lines (arguments_in n.form))) → P (lines_at naming g i)
 at_lines naming g i P h all = go (slice_get g.nodes i) refl
   where

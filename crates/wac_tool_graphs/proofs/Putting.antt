@@ -6,7 +6,7 @@ use Rattle.std.proofs.lemmas.Grind.{flat_map-append}
 use Rattle.wac_tool_graphs.specs.Puts.{Began, Puts}
 use Rattle.wac_tool_graphs.specs.declared.lines.OutputFailed.{OutputFailed}
 
--- a beginning of a text is one of a longer text
+-- a prefix of a text is one of a longer text
 pub began_longer : (old new text more : List ℕ) → Began old new text → Began old new (text ++ more)
 began_longer old new text more b =
     let fewer = b.fewer in record {
@@ -29,7 +29,7 @@ pub puts_after : (r : Result (Unit {0}) OutputFailed) (old mid new text more : L
 puts_after (Ok x) old mid new text more f g h is none p = (p.0 ∙ ap (λ x. x ++ more) is ∙ append_assoc old text more, p.1 ∙ none)
 puts_after (Err e) old mid new text more f g h is none p = (began_after old mid new text more is p.0, p.1 ∙ ap (λ n. n + 1) none)
 
--- ---- parts of a list of which each gives a text
+-- ---- parts of a list, each of which gives a text
 
 -- where the text of one part was begun, the whole was
 pub began_in : {X : Type 0} (f : X → List ℕ) (old mid new : List ℕ) (done rest all : List X) (x : X) → done ++ x ∷ rest ≡ all → mid ≡ old ++ flat_map f done → Began mid new (f x) → Began old new (flat_map f all)

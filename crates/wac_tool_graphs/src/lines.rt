@@ -7,11 +7,11 @@ use itoa::Buffer;
 use wac_graph::Names;
 use wac_lexer::{Sink, put_all};
 
-/// The sink failed, after a beginning of the text.
+/// The sink failed, after a prefix of the text.
 #[derive(Clone, Copy, Debug, PartialEq, Eq)]
 pub struct OutputFailed;
 
-/// Puts parts of a text, one after the other, until the sink fails.
+/// Puts parts of a text in order, until the sink fails.
 pub(crate) fn put_each<S: Sink>(parts: &[&str], out: &mut S) -> Result<(), OutputFailed>
     ensures { Puts result (S.bytes out.old) (S.failures out.old) (S.bytes out.new) (S.failures out.new) (flat_map (λ part. part.now) parts.now) }
 {
@@ -23,7 +23,7 @@ pub(crate) fn put_each<S: Sink>(parts: &[&str], out: &mut S) -> Result<(), Outpu
     Ok(())
 }
 
-/// Writes a line for each name: what stands before it, the name, and its node's number.
+/// Writes a line for each name: what comes before it, the name, and its node's number.
 pub(crate) fn write_names<S: Sink>(
     before: &str,
     names: Names<'_>,

@@ -2,7 +2,7 @@
 
 use wac_types::{ItemKind, Reason, Rules, Types};
 
-/// Rules under which a kind may stand for one that means the same, and for no other; each name may be used.
+/// Rules under which a kind fits one that means the same, and no other; each name may be used.
 #[derive(Clone, Copy, Debug)]
 pub struct SameRules;
 

@@ -1,4 +1,4 @@
-//! A graph, built by calls that look first whether they may be made.
+//! A graph, built by calls that first test whether they may be made.
 ghost use Rattle.std.specs.Prelude.{◌<◌, IsTrue, IsSome, IfSome, length};
 ghost use Rattle.wac_graph.specs.Graph.{parameter_kind};
 

@@ -8,7 +8,7 @@ use wac_graph::CompositionGraph;
 use wac_lexer::Out;
 use wac_tool_graphs::{OutputFailed, write_graph};
 
-/// Asserts what is written where there is room for so many bytes, and what is returned.
+/// Asserts what is written where there is room for this many bytes, and what is returned.
 fn is_written(
     rt: &impl Abort,
     alloc: Global,

@@ -1,4 +1,4 @@
-//! Documents that are tested for being printed as they stand.
+//! Documents that are tested for being formatted.
 
 use crate::runs::{FIRST, FIRST_PRINTED, says, writes};
 use std::test::Fail;

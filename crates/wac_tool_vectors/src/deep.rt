@@ -16,10 +16,10 @@ fn repeated(alloc: Global, part: &str) -> Result<String, AllocError> {
     Ok(text)
 }
 
-/// A part that nests in itself: what stands before it, the innermost one, and what stands after it.
+/// A part that nests in itself: what comes before it, the innermost one, and what comes after it.
 type Nested = (&'static str, &'static str, &'static str);
 
-/// What nests, how a document with it is printed, and its graph. In both texts `@` is where it stands.
+/// What nests, how a document with it is printed, and its graph. In both texts `@` is its place.
 type Row = (Nested, &'static str, &'static str);
 
 const ROWS: [Row; 6] = [
@@ -77,7 +77,7 @@ fn deep_texts_are_printed_and_resolved(rt: HostRuntime) -> Result<(), Fail> {
 /// How many types name the one before them twice.
 const DOUBLINGS: usize = 40;
 
-/// What stands in an interface: types that each name the one before them twice, and a function over the last.
+/// The body of an interface: types that each name the one before them twice, and a function of the last.
 fn doubled_types(alloc: Global) -> Result<String, AllocError> {
     let mut text = String::from_str(alloc, "type t0 = u8;")?;
     for before in 0..DOUBLINGS {
@@ -88,7 +88,7 @@ fn doubled_types(alloc: Global) -> Result<String, AllocError> {
     Ok(text)
 }
 
-/// A document that its own target allows. At each `@` stands the same.
+/// A document that its own target allows. Each `@` is replaced by the same text.
 const DOUBLED: &str =
     "package a:b targets a:b/w; world w { import x: interface { @ }; } import x: interface { @ };";
 

@@ -74,7 +74,7 @@ impl Row<'_> {
         }
     }
 
-    /// Asserts that a writer that stops once it has moved so many bytes is reported, and returns how often it was called.
+    /// Asserts that a writer that stops after this many bytes is reported, and returns how often it was called.
     fn calls_of(
         &self,
         rt: &impl Abort,
@@ -89,7 +89,7 @@ impl Row<'_> {
         writer.calls()
     }
 
-    /// Asserts that a writer takes all of the text, and in so many calls.
+    /// Asserts that a writer takes all of the text, and in this many calls.
     fn is_taken(&self, rt: &impl Abort, alloc: Global, width: usize, calls: usize) {
         let mut writer = Narrow::new(self.text, width, usize::MAX);
         let result = self.written(alloc, &mut writer);
@@ -98,7 +98,7 @@ impl Row<'_> {
         assert!(rt; writer.calls() == calls, "of {width}");
     }
 
-    /// Asserts what is written where memory may be refused.
+    /// Asserts what is written where requests for memory may fail.
     fn is_written_or_memory_runs_out(&self, rt: &impl Abort, alloc: Global) {
         let mut writer = Narrow::new(self.text, 1, usize::MAX);
         let result = self.written(alloc, &mut writer);
@@ -127,7 +127,7 @@ fn narrow_writers(rt: HostRuntime) {
     }
 }
 
-/// Asserts for each byte of a row's text that a writer that stops there once isn't called again, though it would go on.
+/// Asserts for each byte of a row's text that a writer that stops there isn't called again, though it would continue.
 fn writers_stop_once(rt: &impl Abort, alloc: Global, row: &Row, stop: Stop) {
     for room in 0..row.text.len() {
         let narrow = Narrow::new(row.text, 1, room).stopping(stop);
@@ -152,7 +152,7 @@ fn writers_are_not_tried_again(rt: HostRuntime) {
 /// How many items have lines that fill a block of 8 KB twice, and more.
 const ITEMS: usize = 430;
 
-/// So many items.
+/// That many items.
 fn items(alloc: Global) -> Result<String, AllocError> {
     let mut text = String::new(alloc);
     for _ in 0..ITEMS {
@@ -285,7 +285,7 @@ const OF_A_LINE: [Row<'static>; 5] = [
 ];
 
 impl Row<'_> {
-    /// Asserts what is written of a reader that ends behind the first line and would give another, and after how many calls of it.
+    /// Asserts what is written from a reader that ends after a line and would give another, and after how many calls.
     fn ends_with_a_line(&self, rt: &impl Abort, alloc: Global, width: usize, calls: usize) {
         let mut reader = Narrow::new(self.input, width, LINE).stopping(Stop::EndsOnce);
         let mut writer = Narrow::new(self.text, usize::MAX, usize::MAX);
@@ -297,7 +297,7 @@ impl Row<'_> {
     }
 }
 
-/// A reader is asked no more once it has told its end, as a terminal asks for it.
+/// A reader isn't called again once it has reported its end, as a terminal requires.
 #[test]
 fn readers_end_once(rt: HostRuntime) {
     for row in OF_A_LINE {
@@ -349,7 +349,7 @@ const REJECTED: [Row<'static>; 8] = [
     },
 ];
 
-/// Passes also where memory is refused, at each allocation in turn.
+/// Passes also where a request for memory fails, each in turn.
 #[test]
 fn memory_that_is_refused(rt: HostRuntime) {
     for row in ROWS {

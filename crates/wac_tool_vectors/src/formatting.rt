@@ -1,4 +1,4 @@
-//! Formatting the documents that are resolved, also where memory is refused: the test passes whichever request for memory is refused.
+//! Formatting the documents that are resolved, also where a request for memory fails: the test passes whichever fails.
 
 use crate::resolving::{GRAPHS, UNKNOWN, UNKNOWN_PRINTED};
 use std::alloc::Global;

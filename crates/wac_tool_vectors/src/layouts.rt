@@ -1,4 +1,4 @@
-//! Documents in several layouts: each is printed in the one layout, and comes to the same.
+//! Documents in several layouts: each is printed in the one layout, and resolves to the same.
 
 use crate::runs::{says, writes};
 use std::alloc::Global;

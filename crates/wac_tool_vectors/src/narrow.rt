@@ -11,9 +11,9 @@ use std::process::Abort;
 pub enum Stop {
     /// It fails, at each call.
     Fails,
-    /// It fails, and would go on at the next call.
+    /// It fails, and would continue at the next call.
     FailsOnce,
-    /// It moves nothing, and would go on at the next call.
+    /// It moves nothing, and would continue at the next call.
     EndsOnce,
 }
 
@@ -48,7 +48,7 @@ impl<'a> Narrow<'a> {
         Narrow { stop, ..self }
     }
 
-    /// How many of so many bytes a call moves, if it does not fail.
+    /// How many of the wanted bytes a call moves, if it does not fail.
     fn step(&mut self, wanted: usize) -> io::Result<usize>
         ensures { IfOk result (λ n. n ≤ wanted) }
     {
@@ -82,7 +82,7 @@ impl<'a> Narrow<'a> {
         self.calls
     }
 
-    /// Asserts that the first so many bytes of the text were written.
+    /// Asserts that the first `moved` bytes of the text were written.
     pub fn holds(&self, rt: &impl Abort, moved: usize) {
         assert!(rt;
             self.is_text && self.moved == moved,

@@ -8,7 +8,7 @@ use std::test::Fail;
 use wac_lexer::{In, Out};
 use wac_tool::{Command, RunError, report, run};
 
-/// Runs over a reader and a writer. It has no contract, so that the proofs of the tests read nothing of that of `run`.
+/// Runs with a reader and a writer. It has no contract, so that the proofs of the tests read nothing of that of `run`.
 pub fn ran<R: Read + Drop, W: Write + Drop>(
     alloc: Global,
     command: Command,

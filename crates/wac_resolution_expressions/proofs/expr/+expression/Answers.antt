@@ -61,7 +61,7 @@ expression-returns-clause-err g t c =
     stand.expr_breaks_later s rules c.args.state.now.graph c.primary.new.state.graph (numbers_of c.args.root.now.nodes) c.args.expr.now.span (primary_expr_of c.args.expr.now.primary) (map postfix_expr_of c.args.expr.now.postfix.items) c.in_ok-node.node.0 c.accesses.result
     c.in_ok-node.ensures.ok spanned
 
--- ---- what stands first
+-- ---- what comes first
 
 pub primary-returns-in-New-clause-ok : goal.primary-returns-in-New-clause-ok
 primary-returns-in-New-clause-ok g t c =
