@@ -5,8 +5,8 @@ use Rattle.wac_lexer.specs.Span.{Span, span, end_of}
 use Rattle.wac_lexer.specs.Item.{Item, Handed, handed, behind_first, OnFirst}
 use Rattle.wac_lexer.specs.Items.{items_from, items}
 
--- A source, the place up to which it was read, the span of the last item that `next` gave, and how many scans there were.
--- A scan is one search for the item at a place, also the one that finds the end.
+-- A source, the place up to which it was read, the span of the last item that `next` gave, and how many scans there
+-- were. A scan is one search for the item at a place, also the one that finds the end.
 pub record Reading : Type 0 where
   pub source : List ℕ
   pub place : ℕ

@@ -102,8 +102,8 @@ impl Tally {
     }
 }
 
-/// A sink over a writer. An error of the writer is a failure, and so is a writer that takes none of some bytes. Each call
-/// asks the writer once: none tries again after an error, not after `Interrupted` either.
+/// A sink over a writer. An error of the writer is a failure, and so is a writer that takes none of some bytes. Each
+/// call asks the writer once: none tries again after an error, not after `Interrupted` either.
 #[derive(Drop)]
 pub struct Out<W: Write> {
     inner: W,

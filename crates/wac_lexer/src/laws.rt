@@ -55,7 +55,7 @@ pub fn items_stand_in_order()
     ensures { (source : List ℕ) → IsUtf8 source → InOrder source 0 (items source) }
 {}
 
-/// What a text of bytes begins with: an open comment, an open quote, the longest token, or else a character.
+/// What a text of bytes begins with: an unterminated comment or string, the longest token, or else a character.
 pub fn first_items_are_found()
     ensures found { (text : List ℕ) (item : Result Kind Fault) (n : ℕ) → AllByRecursion (λ b. b < 256) text → first_item text ≡ Some (item, n) ↔ IsFirst text item n }
     ensures empty { first_item [] ≡ None }
