@@ -161,7 +161,7 @@ impl<'a> Lexer<'a> {
         }
     }
 
-    /// Whether the span is in range and cuts no character, as `source` asks.
+    /// Whether the span is in range and cuts no character, as `source` requires.
     pub fn holds(&self, span: SourceSpan) -> bool
         ensures { IsTrue result ↔ Slices self.now.source span }
     {
