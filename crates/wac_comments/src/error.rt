@@ -16,10 +16,11 @@ pub enum TidyError {
         /// The first bracket that is.
         span: SourceSpan,
     },
-    /// The result failed the test that it has the comments of the source, each in its place. No text is known for which it does.
+    /// The result failed the test that it has the comments of the source, each in its place. No text is known for which
+    /// it does.
     #[error("the comments could not be kept")]
     NotKept,
-    /// A request for memory was refused.
+    /// A request for memory failed.
     #[error("out of memory")]
     Memory(AllocError),
 }

@@ -1,7 +1,7 @@
 //! The comments of WAC texts, and a printer that keeps them.
 //!
-//! [`comments`] lists the comments of a text with their spans and kinds. [`tidy`] prints a document in the one layout, with every
-//! comment in its place:
+//! [`comments`] lists the comments of a text with their spans and kinds. [`tidy`] prints a document in the one layout,
+//! with every comment in its place:
 //!
 //! ```text
 //! match tidy(alloc, source, Options::default()) {

@@ -10,7 +10,7 @@ pub enum CommentKind {
     Line,
     /// `/* x */`. Block comments nest.
     Block,
-    /// `/// x` or `/** x */`, which the parser takes as a doc where docs may stand.
+    /// `/// x` or `/** x */`, which the parser takes as a doc where docs may be.
     Doc,
 }
 
@@ -23,7 +23,7 @@ pub struct Comment {
     pub kind: CommentKind,
 }
 
-/// The comments of a text, in order: all that stand between its tokens.
+/// The comments of a text, in order: all that lie between its tokens.
 pub fn comments(alloc: Global, source: &str) -> Result<Vec<Comment>, ReadError> {
     let pieces = read(alloc, source, 1)?;
     let mut comments = Vec::new(alloc);

@@ -1,7 +1,7 @@
 // How a document is printed.
 use std::alloc::{AllocError, Global};
 
-/// What stands for each depth where a line begins.
+/// What indents a line by one level.
 #[derive(Clone, Copy, Debug, PartialEq, Eq)]
 pub enum Indent {
     /// A tab.
@@ -22,7 +22,7 @@ pub enum LineEnd {
 /// How a document is printed.
 #[derive(Clone, Copy, Debug, PartialEq, Eq)]
 pub struct Options {
-    /// What stands for each depth where a line begins.
+    /// What indents a line by one level.
     pub indent: Indent,
     /// What ends a line.
     pub line_end: LineEnd,

@@ -75,7 +75,7 @@ fn lay_out_text(
     }
 }
 
-/// Whether a text has the comments of the source, each before the same printed token, and is formatted as the source is.
+/// Whether a text has the comments of the source, each before the same printed token, and is formatted like the source.
 fn is_kept(
     alloc: Global,
     source: &str,

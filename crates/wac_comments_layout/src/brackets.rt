@@ -1,6 +1,6 @@
-// Brackets, and what stands in them.
+// Brackets, and what is in them.
 
-/// What stands in brackets.
+/// What is in brackets.
 #[derive(Clone, Copy, Debug, PartialEq, Eq)]
 pub(crate) enum Brackets {
     /// Statements or items, each with an empty line before the next.
@@ -21,8 +21,8 @@ pub(crate) fn closes(token: &str) -> bool {
     token == ")" || token == "]" || token == ">" || token == "}"
 }
 
-/// What stands in the brackets that a token opens, by the two tokens before it: before the brace of `new` stands a
-/// package name, the only token with a colon in it.
+/// What is in the brackets that a token opens, by the two tokens before it: before the brace of `new` comes a package
+/// name, the only token with a colon in it.
 pub(crate) fn opened_by(token: &str, before: &str, earlier: &str) -> Brackets {
     if token != "{" || before == "." {
         Brackets::Flat

@@ -1,4 +1,5 @@
-//! Part of `wac_comments`: the pieces of a text, what printing changes about its tokens, and the layout that keeps comments.
+//! Part of `wac_comments`: the pieces of a text, what printing changes about its tokens, and the layout that keeps
+//! comments.
 #![tactic(auto)]
 
 mod brackets;

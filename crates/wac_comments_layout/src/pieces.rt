@@ -8,10 +8,10 @@ use wac_lexer::{Lexer, SourceSpan};
 /// Why the pieces of a text were not read.
 #[derive(Debug, Drop, Error)]
 pub enum ReadError {
-    /// The text has a refused character.
+    /// The text has a rejected character.
     #[error("{0}")]
     Refused(wac_lexer::Error, SourceSpan),
-    /// A request for memory was refused.
+    /// A request for memory failed.
     #[error("out of memory")]
     Memory(AllocError),
 }
@@ -19,11 +19,11 @@ pub enum ReadError {
 /// A token or a comment of a text, or its end.
 #[derive(Clone, Copy, Debug)]
 pub struct Piece<'a> {
-    /// The text of the token or of the comment. A line comment has no blanks at its end, and the end of the text is empty.
+    /// The text of the token or comment. A line comment has no blanks at its end, and the end of the text is empty.
     pub text: &'a str,
     /// Where the piece lies in its source.
     pub span: SourceSpan,
-    /// How many line ends stand between the piece before it and this one.
+    /// How many line ends are between the piece before it and this one.
     pub breaks: usize,
     /// The column at which it begins.
     pub column: usize,
@@ -41,7 +41,7 @@ impl Piece<'_> {
         is_line_comment(self.text.as_bytes())
     }
 
-    /// Whether the parser takes the comment as a doc where docs may stand: `///x` and `/**x*/` are docs, and `/**/` is none.
+    /// Whether the parser takes the comment as a doc where docs may be: `///x` and `/**x*/` are docs, `/**/` is not.
     pub fn is_doc(&self) -> bool {
         let bytes = self.text.as_bytes();
         bytes.starts_with(b"///") || (bytes.starts_with(b"/**") && bytes.len() > 4)
@@ -85,7 +85,7 @@ impl<'a> Reader<'a> {
         Ok(())
     }
 
-    /// Adds the blank or the comment that stands at an offset.
+    /// Adds the blank or the comment at an offset.
     fn add_part(&mut self, part: &'a str, offset: usize) -> Result<(), AllocError> {
         if part == "\n" {
             self.breaks = self.breaks.saturating_add(1);
@@ -124,7 +124,7 @@ impl<'a> Reader<'a> {
     }
 }
 
-/// The pieces of a text, and its end behind them. `tab` is how many columns a tab takes.
+/// The pieces of a text, and its end after them. `tab` is how many columns a tab takes.
 pub fn read(alloc: Global, source: &str, tab: usize) -> Result<Vec<Piece<'_>>, ReadError> {
     let lexer = match Lexer::new(source) {
         Ok(lexer) => lexer,

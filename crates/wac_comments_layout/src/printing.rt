@@ -29,7 +29,7 @@ fn stand_at(tokens: &[&str], at: usize, these: &[&str]) -> bool {
     true
 }
 
-/// Whether the token at an index is one of the first `count` of a place where these stand.
+/// Whether the token at an index is one of the first `count` of a place where these are.
 fn is_among(tokens: &[&str], at: usize, these: &[&str], count: usize) -> bool {
     for back in 0..count {
         if back <= at && stand_at(tokens, at - back, these) {
@@ -39,7 +39,8 @@ fn is_among(tokens: &[&str], at: usize, these: &[&str], count: usize) -> bool {
     false
 }
 
-/// Whether printing drops the token at an index: an empty `with`, results that are nothing, and a comma behind the last of a list.
+/// Whether printing drops the token at an index: an empty `with`, results that are nothing, and a comma after the last
+/// of a list.
 fn goes(tokens: &[&str], at: usize, around: Brackets) -> bool {
     is_among(tokens, at, &["with", "{", "}"], 3)
         || is_among(tokens, at, &["<", "_", ">"], 3)
@@ -49,7 +50,7 @@ fn goes(tokens: &[&str], at: usize, around: Brackets) -> bool {
         || is_last_comma(tokens, at, around)
 }
 
-/// Whether the token is a comma before the end of a list on one line, or behind a fill that ends the arguments.
+/// Whether the token is a comma before the end of a list on one line, or after a fill that ends the arguments.
 fn is_last_comma(tokens: &[&str], at: usize, around: Brackets) -> bool {
     token_at(tokens, at) == ","
         && closes(token_at(tokens, at.saturating_add(1)))
@@ -110,7 +111,7 @@ struct Printing<'a> {
     waiting: Vec<Piece<'a>>,
     // The line ends before tokens that were dropped since the last piece.
     breaks: usize,
-    // What stands in the brackets around the next token, the innermost last.
+    // What is in the brackets around the next token, the innermost last.
     opened: Vec<Brackets>,
 }
 
@@ -153,7 +154,7 @@ impl<'a> Printing<'a> {
         self.pass(tokens, at)
     }
 
-    /// Prints the token of a piece, behind the comments that wait for it.
+    /// Prints the token of a piece, after the comments that wait for it.
     fn print(&mut self, text: &'a str, piece: &Piece<'_>) -> Result<(), AllocError> {
         self.pieces.extend_from_slice(self.waiting.as_slice())?;
         self.waiting.clear();
@@ -162,7 +163,7 @@ impl<'a> Printing<'a> {
         push(&mut self.pieces, text, piece, breaks)
     }
 
-    /// What stands in the innermost brackets. A text is a body.
+    /// What is in the innermost brackets. A text is a body.
     fn around(&self) -> Brackets {
         match self.opened.last() {
             Some(brackets) => *brackets,
@@ -170,7 +171,7 @@ impl<'a> Printing<'a> {
         }
     }
 
-    /// Goes on behind the token at an index.
+    /// Continues after the token at an index.
     fn pass(&mut self, tokens: &[&str], at: usize) -> Result<(), AllocError> {
         let token = token_at(tokens, at);
         if opens(token) {
@@ -202,8 +203,9 @@ fn tokens_of<'a>(alloc: Global, pieces: &[Piece<'a>]) -> Result<Vec<&'a str>, Al
     Ok(tokens)
 }
 
-/// The pieces of a text as they are printed: without the tokens that printing drops, and with those that it adds. The comments before a
-/// token that is dropped stand before the next one. A token that is added stands directly behind the one before it.
+/// The pieces of a text as they are printed: without the tokens that printing drops, and with those that it adds. The
+/// comments before a token that is dropped come before the next one. A token that is added directly follows the one
+/// before it.
 pub fn printed<'a>(alloc: Global, pieces: &[Piece<'a>]) -> Result<Vec<Piece<'a>>, AllocError> {
     let tokens = tokens_of(alloc, pieces)?;
     let mut printing = Printing::new(alloc);

@@ -6,7 +6,7 @@ use Rattle.wac_types.specs.Scope.{Named, IsFresh}
 use Rattle.wac_graph.specs.Node.{Node, package_in, arguments_in}
 use Rattle.wac_graph.specs.HeldNodes.{arguments_at, changed_in}
 
--- an instance is there
+-- an instance is among the nodes
 pub instance_there : (ns : List Node) (i : ℕ) → IsSome (option_and_then (λ (n : Node). package_in n.form) (slice_get ns i)) → i < length ns
 instance_there ns i is = go (slice_get ns i) refl is
   where

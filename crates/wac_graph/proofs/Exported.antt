@@ -1,4 +1,4 @@
--- What nodes export and packages import names entries of the table, and is there.
+-- What nodes export and packages import names entries of the table, and exists.
 use Rattle.std.proofs.Common.{◌≡◌, ◌<◌, ℕ, Option, Some, None, List, [], length, refl, sym, ap}
 use Rattle.std.specs.Prelude.{slice_get, option_and_then, IfSome}
 use Rattle.std.proofs.lemmas.Option.{slice_get_within}
@@ -47,7 +47,7 @@ no_exports es (kinds.Component id) h = refl
 no_exports es (kinds.Module id) h = refl
 no_exports es (kinds.Value v) h = refl
 
--- a node that exports something is there
+-- a node that exports something exists
 pub exporting_there : (g : Parts) (node : ℕ) (name : List ℕ) (k : ItemKind) → export_kind g node name ≡ Some k → node < length g.nodes
 exporting_there g node name k is = go (slice_get g.nodes node) refl is
   where

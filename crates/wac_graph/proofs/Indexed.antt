@@ -69,7 +69,7 @@ changed_aliases all node own more is = ap (λ (o : Option (Named ℕ)). unwrap_o
 other_aliases : (all : List (Named ℕ)) (node other : ℕ) (more : Named ℕ) → (other ≡ node → ⊥) → aliases_at (slice_set all node more) other ≡ aliases_at all other
 other_aliases all node other more differ = ap (λ (o : Option (Named ℕ)). unwrap_or o []) (set_other all node other more differ)
 
--- ---- texts and numbers, told apart
+-- ---- texts and numbers, distinguished
 
 texts : (a b : List ℕ) → (a ≡ b) ⊎ (bytes_eq a b ≡ false)
 texts a b = go (bytes_eq a b) (bytes_eq-Decides a b).0

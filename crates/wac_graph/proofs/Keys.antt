@@ -1,4 +1,4 @@
--- Keys are told apart by their texts, and aliases by number and text.
+-- Keys are distinguished by their texts, and aliases by number and text.
 use Rattle.std.proofs.Common.{◌≡◌, ◌∙◌, ℕ, List, Option, Some, None, Bool, true, false, ◌&&◌, refl, sym, ap, arith}
 use Rattle.std.specs.Prelude.{nat_eq, IsTrue, ◌↔◌}
 use Rattle.std.specs.Str.{bytes_eq}

@@ -19,7 +19,7 @@ pub get_last : {X : Type 0} (xs : List X) (y : X) → slice_get (xs ++ y ∷ [])
 get_last [] y = refl
 get_last (x ∷ xs) y = get_last xs y
 
--- what stands in a list with one more element stood there before, or is that element
+-- what is in a list with one more element was there before, or is that element
 pub get_more : {X : Type 0} (xs : List X) (y x : X) (i : ℕ) → slice_get (xs ++ y ∷ []) i ≡ Some x → (slice_get xs i ≡ Some x) ⊎ ((i ≡ length xs) × (y ≡ x))
 get_more [] y x zero h = inr (refl, (cc))
 get_more [] y x (suc i) h = absurd (cc)
@@ -38,7 +38,7 @@ set_other (z ∷ xs) zero (suc i) y n = refl
 set_other (z ∷ xs) (suc k) zero y n = refl
 set_other (z ∷ xs) (suc k) (suc i) y n = set_other xs k i y (λ e. n (ap suc e))
 
--- what stands in a list with another element in a place stood there before, or is that element
+-- what is in a list with another element in a place was there before, or is that element
 pub get_set : {X : Type 0} (xs : List X) (k : ℕ) (y x : X) (i : ℕ) → slice_get (slice_set xs k y) i ≡ Some x → (slice_get xs i ≡ Some x) ⊎ ((i ≡ k) × (y ≡ x))
 get_set [] k y x i h = absurd (cc)
 get_set (z ∷ xs) zero y x zero h = inr (refl, (cc))
@@ -131,7 +131,7 @@ found_other name other [] x n = go (bytes_eq name other) (bytes_eq-Decides name 
     go false same = refl
 found_other {X} name other (d ∷ all) x n = ap (cond (bytes_eq name d.0) (Some d.1)) (found_other name other all x n)
 
--- what a name finds is among what stands there
+-- what a name finds is among the elements
 pub found_in : {X : Type 0} (P : X → Type 0) (name : List ℕ) (all : Named X) (x : X) → AllByRecursion (λ e. P e.1) all → look_up name all ≡ Some x → P x
 found_in P name [] x h is = absurd (cc)
 found_in {X} P name (d ∷ all) x h is = go (found_in P name all x h.1) (bytes_eq name d.0) is

@@ -15,7 +15,7 @@ number_found name (n ∷ names) = go (bytes_eq name n.0) (number_found name name
     go true later = refl
     go false later = later
 
--- a name that no number stands under
+-- a name that has no number
 pub no_number : (name : List ℕ) (names : Named NodeId) → IsFresh name (numbers_of names) → IsFresh name names
 no_number name names fresh = go (look_up name names) (number_found name names ∙ fresh)
   where

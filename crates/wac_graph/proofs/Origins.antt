@@ -213,7 +213,7 @@ count_package old new key p sound grown is =
     let back : own_from (old.packages ++ q ∷ []) (0 + length old.types) grown.0 ≡ 0 = own_copied old.packages q (0 + length old.types) grown.0 within (omega arith) (omega (arith, copies_length (length old.types) p.types grown.0 grown.2)) in
     ap (λ (g : Parts). declared_count g) is ∙ ap (own_from (old.packages ++ q ∷ []) 0) grown.1 ∙ omega (arith, more, front, back)
 
--- the table grows, and holds no package more
+-- the table grows, and no package is added
 pub keeps_types : (old new : Parts) → IsGrown old.types new.types → new ≡ record old { types = new.types } → KeepsKinds old new
 keeps_types old new grown is naming k h =
     ap (λ (g : Parts). means naming g k) (is ∙ ap (λ (l : List Entry). record old { types = l }) grown.1) ∙ keeps_more old.packages old.types grown.0 naming k h

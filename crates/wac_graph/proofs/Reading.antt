@@ -1,4 +1,4 @@
--- What is read of a graph is there.
+-- What is read of a graph exists.
 use Rattle.std.proofs.Common.{◌≡◌, ◌<◌, ℕ, Option, Some, None, List, [], length, sym, ap, arith, rules, Bor}
 use Rattle.std.specs.Prelude.{slice_get, option_map, option_and_then, IfSome, IsSome}
 use Rattle.std.proofs.lemmas.Option.{slice_get_within}
@@ -10,7 +10,7 @@ use Rattle.wac_graph.specs.declared.node.NodeId.{NodeId}
 use Rattle.wac_graph.specs.declared.node.PackageId.{PackageId}
 use Rattle.wac_graph.proofs.Lists.{found_in}
 
--- ---- of a node that stands well
+-- ---- of a node that is well placed
 
 pub has_package : (g : Parts) (i : ℕ) (n : Node) → IsSoundNode g i n → HasPackage (length g.packages) (sort_in n.form)
 has_package g i n h = go n.form h.placed
@@ -56,7 +56,7 @@ arguments_are g i n is = ap (λ (o : Option Node). elim o [ None ↦ [] | Some m
 pub package_is : (g : Parts) (i : ℕ) (n : Node) → slice_get g.nodes i ≡ Some n → package_of g i ≡ package_in n.form
 package_is g i n is = ap (λ (o : Option Node). option_and_then (λ (m : Node). package_in m.form) o) is
 
--- a node that a name finds is there
+-- a node that a name finds exists
 pub named_there : (name : List ℕ) (nodes : ℕ) (names : Named ℕ) (r : Option NodeId) → option_map (λ n. n.0) r ≡ look_up name names → NamesNodes nodes names → IfSome r (λ n. n.0 < nodes)
 named_there name nodes names None is h = tt
 named_there name nodes names (Some n) is h = found_in (λ (m : ℕ). m < nodes) name names n.0 h (sym is)

@@ -1,4 +1,4 @@
--- What always holds of a graph goes on to hold as it is built.
+-- What always holds of a graph still holds as it is built.
 use Rattle.std.proofs.Common.{◌≡◌, ◌∙◌, ◌<◌, ◌≤◌, ◌+◌, ℕ, zero, suc, Option, Some, None, List, [], ◌∷◌, ◌++◌, length, length-append, append-nil, refl, sym, ap, subst, arith, true, false, inl, inr}
 use Rattle.std.specs.Prelude.{slice_get, slice_set, IsSome, option_and_then}
 use Rattle.std.specs.List.{AllByRecursion}
@@ -63,7 +63,7 @@ imports_within m (x ∷ ns) = go (import_in x.form) (all_implies (λ (e : List �
     go None h = h
     go (Some name) h = (omega arith, h)
 
--- each imported node is there
+-- each imported node exists
 pub imports_there : (g : Parts) → IsSound g → NamesNodes (length g.nodes) g.imports
 imports_there g h =
     subst (λ (l : Named ℕ). NamesNodes (length g.nodes) l) (sym h.imports)
@@ -168,7 +168,7 @@ sound_export g name node there new h =
       export_names = names_more g.exports name node h.export_names new;
     }
 
--- where no node is the alias, none is
+-- where no alias is found, no node is one
 not_alias : (node : ℕ) (export : List ℕ) (ns : List Node) (k : ℕ) (z : Node) → alias_in ns node export ≡ None → slice_get ns k ≡ Some z → z.form ≡ alias node export → ⊥
 not_alias node export ns k z none at is =
     let other : is_alias_of node export z.form ≡ false = none_at (λ (n : Node). is_alias_of node export n.form) ns k z none at in

@@ -1,4 +1,4 @@
--- What a table gets.
+-- What a table gains.
 use Rattle.std.specs.Prelude.{◌≡◌, ◌+◌, ℕ, Some, length, slice_get}
 use Rattle.wac_types.specs.declared.entry.Entry.{Entry}
 use Rattle.wac_types.specs.Growth.{KeepsNames}
@@ -9,7 +9,7 @@ use Rattle.wac_graph.specs.Means.{declared_count, resources_in, KeepsKinds, Mean
 use Rattle.wac_graph.specs.Package.{Key}
 use Rattle.wac_graph.specs.Packages.{HoldsContents}
 
--- one more entry, of this number: it means its label over what stands in it, and a resource in it is the next that is declared
+-- one more entry, of this number: it means its label over the kinds in it, and a resource is the next that is declared
 pub record Adds (old new : Parts) (e : Entry) (id : ℕ) : Type 0 where
   pub number : id ≡ length old.types
   pub is : new ≡ with_entry old e

@@ -22,7 +22,7 @@ empty = record { types = []; packages = []; nodes = []; imports = []; exports = 
 
 -- ---- what is read of it
 
--- the node that is the alias of an export of a node, if it is there
+-- the node that is the alias of an export of a node, if it exists
 abbrev pub alias_in : List Node → ℕ → List ℕ → Option ℕ
 alias_in ns node export = position (λ (n : Node). is_alias_of node export n.form) ns
 
@@ -34,7 +34,7 @@ export_kind g node name = option_and_then (λ (n : Node). look_up name (instance
 abbrev pub import_kind : Parts → ℕ → List ℕ → Option ItemKind
 import_kind g p name = option_and_then (λ (h : HeldPackage). look_up name (world_imports g.types h.world.0)) (slice_get g.packages p)
 
--- the package of which a node is an instance
+-- the package that a node is an instance of
 abbrev pub package_of : Parts → ℕ → Option ℕ
 package_of g node = option_and_then (λ (n : Node). package_in n.form) (slice_get g.nodes node)
 

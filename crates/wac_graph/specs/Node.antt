@@ -8,8 +8,8 @@ use Rattle.wac_graph.specs.declared.node.NodeId.{NodeId}
 use Rattle.wac_graph.specs.declared.node.NodeKind.{NodeKind}
 use Rattle.wac_graph.specs.declared.node.NodeKind.TheVariants as nodes
 
--- what a node is, with its edges: an import has its name, an alias the node and the export that it is of, and an instantiation the
--- package, and names of its imports with the nodes that were given for them
+-- what a node is, with its edges: an import has its name, an alias the node and the export that it is of, and an
+-- instantiation the package, and names of its imports with the nodes that were given for them
 pub data Form : Type 0 where
   import : List ℕ → Form
   definition : Form
@@ -29,14 +29,14 @@ import_in definition = None
 import_in (alias node export) = None
 import_in (instantiation p arguments) = None
 
--- the node and the export of which a node is an alias
+-- the node and the export that a node is an alias of
 abbrev pub source_in : Form → Option (ℕ × List ℕ)
 source_in (import name) = None
 source_in definition = None
 source_in (alias node export) = Some (node, export)
 source_in (instantiation p arguments) = None
 
--- the package of which a node is an instance
+-- the package that a node is an instance of
 abbrev pub package_in : Form → Option ℕ
 package_in (import name) = None
 package_in definition = None

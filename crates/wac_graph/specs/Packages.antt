@@ -1,4 +1,4 @@
--- Packages that are handed to resolving.
+-- Packages that a caller of resolving supplies.
 use Rattle.std.specs.Prelude.{◌≡◌, List, map, length, Option}
 use Rattle.std.specs.Map.{lookup}
 use Rattle.wac_types.specs.declared.kind.ItemKind.TheVariants as kinds
@@ -28,11 +28,11 @@ contents_of naming key p = record {
   definitions = map (λ d. (d.0, meaning (λ i. naming (copied key i)) p.types d.1)) p.definitions;
 }
 
--- the packages that are handed, by key
+-- the packages that are supplied, by key
 abbrev pub handed : Naming → List (Key × PackageParts) → Packages
 handed naming all = map (λ e. (e.0, contents_of naming e.0 e.1)) all
 
--- the package of a key, if it is handed
+-- the package of a key, if it is supplied
 abbrev pub package_of : Key → Packages → Option Contents
 package_of key all = lookup (λ k. same_key key k) all
 
@@ -44,6 +44,6 @@ contents_in naming g p = record {
   definitions = items_mean (entry_means naming g) p.definitions;
 }
 
--- the package that was copied in has in the new graph the contents that it was handed with
+-- the package that was copied in has in the new graph the contents that it was supplied with
 abbrev pub HoldsContents : Parts → Parts → Key → PackageParts → Type 0
 HoldsContents old new key p = (naming : Naming) → contents_in naming new (moved_package (length old.types) key p) ≡ contents_of naming key p

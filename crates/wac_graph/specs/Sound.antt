@@ -44,7 +44,7 @@ pub record IsInstance (g : Parts) (i : ℕ) (k : ItemKind) (p : ℕ) (arguments 
   pub earlier : NamesNodes i arguments
   pub once : Differ name_in arguments
 
--- a node of number i stands well in the graph
+-- a node of number i is well placed in the graph
 abbrev pub IsPlaced : Parts → ℕ → ItemKind → Form → Type 0
 IsPlaced g i k (import name) = Unit {0}
 IsPlaced g i k definition = IsExported g.exports i

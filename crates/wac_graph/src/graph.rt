@@ -39,9 +39,9 @@ use wac_types::{
 /// A composition: nodes, each an import, a definition, an alias of an instance's export or an instance of a package;
 /// what is imported and exported under which name; the packages; and one table with the types of all these.
 ///
-/// Nodes, packages and types are only added, so ids stay good. The methods take ids of this very graph. What each
-/// asks beyond that stands in its contract, and the readings show it. The one error is out of memory; it leaves
-/// all as it was, but that [`add_package`](Self::add_package) may have added types.
+/// Nodes, packages and types are only added, so ids stay valid. The methods take ids of this very graph. What each
+/// requires beyond that is in its contract, and the readings show it. The one error is out of memory; it leaves
+/// all as it was, except that [`add_package`](Self::add_package) may have added types.
 ///
 /// A contract sees the parts: lists of types, packages, nodes, imports and exports.
 pub struct CompositionGraph {
@@ -274,7 +274,7 @@ impl CompositionGraph {
         self.nodes.alias_of(node, export)
     }
 
-    /// The node that is the alias of an export of an instance: the one that is there, else a new one.
+    /// The node that is the alias of an export of an instance: the one that exists, else a new one.
     pub fn add_alias(&mut self, node: NodeId, export: &str) -> Result<NodeId, AllocError>
         requires { IsSome (kind_exported self.old node.0 export.now) }
         ensures number { IfOk result (λ id. unwrap_or (alias_in self.old.nodes node.0 export.now) (length self.old.nodes) ≡ id.0) }
@@ -365,7 +365,7 @@ impl CompositionGraph {
         self.nodes.at(id.0).node()
     }
 
-    /// The package of which a node is an instance.
+    /// The package that a node is an instance of.
     pub fn instance_of(&self, id: NodeId) -> Option<PackageId>
         requires { id.0 < length self.now.nodes }
         ensures of { option_map (λ p. p.0) result ≡ package_of self.now id.0 }
@@ -374,7 +374,7 @@ impl CompositionGraph {
         self.nodes.at(id.0).package()
     }
 
-    /// The kind of the item that a node stands for.
+    /// The kind of the item that a node represents.
     pub fn kind(&self, id: NodeId) -> ItemKind
         requires { id.0 < length self.now.nodes }
         ensures kind { option_map (λ n. n.kind) (slice_get self.now.nodes id.0) ≡ Some result }
@@ -494,7 +494,7 @@ impl CompositionGraph {
         self.types.import(self.packages.get(id.0).world, name)
     }
 
-    /// The name of a package's import at a place. It is copied, so it can be handed to calls that change the graph.
+    /// The name of a package's import at a place. It is copied, so it can be passed to calls that change the graph.
     pub fn parameter_name(&self, id: PackageId, at: usize) -> Result<Option<String>, AllocError>
         requires { id.0 < length self.now.packages }
         ensures { IfOk result (λ n. option_map string_bytes n ≡ option_map name_in (option_and_then (λ p. slice_get (world_imports self.now.types p.world.0) at) (slice_get self.now.packages id.0))) }
@@ -513,7 +513,7 @@ impl CompositionGraph {
         self.types.export(kind, name)
     }
 
-    /// The name of the export at a place. It is copied, so it can be handed to calls that change the graph.
+    /// The name of the export at a place. It is copied, so it can be passed to calls that change the graph.
     pub fn export_name(&self, kind: ItemKind, at: usize) -> Result<Option<String>, AllocError>
         ensures { IfOk result (λ n. option_map string_bytes n ≡ option_map name_in (slice_get (kind_exports self.now.types kind) at)) }
     {

@@ -88,7 +88,7 @@ impl HeldNodes {
         self.aliases.push_reserved(NodeNames::new(alloc));
     }
 
-    /// Adds the alias of an export of a node, which is not there yet.
+    /// Adds the alias of an export of a node, which doesn't exist yet.
     pub fn push_alias(
         &mut self,
         alloc: Global,

@@ -26,7 +26,7 @@ pub fn tables_mean()
     ensures imports { (g : Parts) (naming : Naming) (id : AWorld) → EntriesMean g → Names g.types (ItemKind.Component id) → imports_of (entry_means naming g id.0) ≡ items_mean (entry_means naming g) (world_imports g.types id.0) }
 {}
 
-/// There is a naming of origins under which no two have one number, so what is said of each such naming is not said of none.
+/// Some naming of origins gives no two the same number, so what is said of each such naming is not said of none.
 pub fn origins_can_be_numbered()
     ensures { IsOneToOne numbered }
 {}

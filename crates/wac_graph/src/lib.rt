@@ -1,17 +1,17 @@
-//! The graph of a composition of components: what a document of the composition language comes to.
+//! The graph of a composition of components: what a document of the composition language denotes.
 //!
 //! A [`CompositionGraph`] holds *nodes*: imports, definitions, aliases of the exports of instances, and instances of
 //! packages. Edges go from earlier nodes to later ones: from an instance to its alias, and from an argument to the
-//! instantiation that it is given to. Beside them it holds which node is imported or exported under which name, the
+//! instantiation that it is given to. Besides, it holds which node is imported or exported under which name, the
 //! packages that were added, and one table with the types of all of these.
 //!
-//! The types, what they mean, packages and rules are those of `wac_types`, whose names stand here too: a table's
+//! The types, what they mean, packages and rules are those of `wac_types`, whose names are re-exported: a table's
 //! entries name earlier entries by number, and two kinds are the same when they mean the same, whatever their numbers
 //! are. A resource is its origin: two resources of one name are two.
 //!
-//! Building calls take what their contract asks, which the readings show, and fail only where memory runs out; then
-//! the graph is as before, but that [`add_package`](CompositionGraph::add_package) may have added types. Contracts
-//! see the graph as its lists, in the order in which things were added.
+//! Building calls take what their contract requires, which the readings show, and fail only where memory runs out;
+//! then the graph is as before, except that [`add_package`](CompositionGraph::add_package) may have added types.
+//! Contracts see the graph as its lists, in the order in which things were added.
 #![tactic(auto)]
 
 mod equal;

@@ -45,7 +45,8 @@ map_append : {X Y : Type 0} (f : X → Y) (xs ys : List X) → map f (xs ++ ys) 
 map_append f [] ys = refl
 map_append {X} {Y} f (x ∷ xs) ys = ap (λ (l : List Y). f x ∷ l) (map_append f xs ys)
 
--- `done` has copies of the first of `from`, and `rest` is what is left of it: g shows an entry, f moves it, and what is left may be moved
+-- `done` has copies of the first of `from`, and `rest` is what is left of it: g shows an entry, f moves it, and what is
+-- left may be moved
 pub record Copying {V Y : Type 0} (g : List ℕ × V → Y) (f : Y → Y) (P : Y → Type 0) (from done rest : List (List ℕ × V)) : Type 0 where
   pub so_far : map g done ++ map f (map g rest) ≡ map f (map g from)
   pub fits : AllByRecursion P (map g rest)

@@ -1,4 +1,4 @@
--- A table grows by one copy after another.
+-- A table grows copy by copy.
 use Rattle.std.proofs.Common.{◌≡◌, ◌∙◌, ◌+◌, ◌<◌, ℕ, zero, suc, Option, Some, None, List, [], ◌∷◌, ◌++◌, refl, sym, ap, subst, take, length, length-append, append_assoc, append-nil, arith}
 use Rattle.std.specs.Prelude.{slice_get, option_map, IfSome}
 use Rattle.wac_types.specs.declared.kind.ItemKind.{ItemKind}

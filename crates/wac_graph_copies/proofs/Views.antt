@@ -1,4 +1,4 @@
--- What stands in an entry, seen by name.
+-- What is in an entry, seen by name.
 use Rattle.std.proofs.Common.{◌≡◌, ◌∙◌, ◌+◌, ℕ, zero, suc, Bool, Option, Some, None, List, [], ◌∷◌, ◌++◌, refl, sym, ap, subst, map, take, length, get_or, ◌<◌, add-one, arith}
 use Rattle.std.specs.Prelude.{string_bytes, option_map, slice_get, IfSome, String}
 use Rattle.std.specs.declared.alloc.Global.{Global}

@@ -35,7 +35,7 @@ moved n (kinds.Value v) = kinds.Value (moved_value n v)
 abbrev pub moved_child : ℕ → Slot × Option ItemKind → Slot × Option ItemKind
 moved_child n c = (c.0, option_map (moved n) c.1)
 
--- what stands in an entry, moved
+-- the kinds in an entry, moved
 abbrev pub moved_children : ℕ → List (Slot × Option ItemKind) → List (Slot × Option ItemKind)
 moved_children n cs = map (moved_child n) cs
 

@@ -1,4 +1,4 @@
-//! Copies of what stands in an entry, with new numbers.
+//! Copies of what is in an entry, with new numbers.
 ghost use Rattle.std.specs.Prelude.{◌≡◌, ◌+◌, ◌<◌, ◌^◌, IfSome, IfOk, option_map, string_bytes};
 ghost use Rattle.wac_types.specs.Names.{by_name};
 ghost use Rattle.wac_types.specs.Entry.{value_children, case_children, use_children, name_children, tuple_children};

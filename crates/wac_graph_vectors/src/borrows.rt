@@ -14,8 +14,8 @@ const ANOTHER_NAME: ResourceAlias = ResourceAlias {
     source: ResourceId(2),
 };
 
-/// A resource, another name of it, which an interface owns that has a method of it, and lists: of the borrowed resource,
-/// of such lists, of the owned one, and of its owned other name.
+/// A resource, another name of it, which an interface owns that has a method of it, and lists: of the borrowed
+/// resource, of such lists, of the owned one, and of its owned other name.
 static ENTRIES: [Row<'static>; 11] = [
     Row::Interface(None, &[]),
     Row::World(&[], &[]),

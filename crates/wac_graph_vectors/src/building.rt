@@ -179,7 +179,7 @@ pub fn make(
     }
 }
 
-/// Takes the steps, up to one that gives another number than is written beside it; whether there is none.
+/// Takes the steps, up to one that gives another number than is written beside it; true where there is none.
 pub fn make_all(
     alloc: Global,
     graph: &mut CompositionGraph,

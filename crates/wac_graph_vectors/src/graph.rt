@@ -191,7 +191,7 @@ fn has_names(alloc: Global, graph: &CompositionGraph) -> Result<bool, AllocError
     Ok(one && text.as_str() == "log x:y/z ")
 }
 
-/// Adds the alias of an export whose name is read of a package; it is handed to a call that changes the graph.
+/// Adds the alias of an export whose name is read of a package; it is passed to a call that changes the graph.
 fn add_alias_by_name(
     alloc: Global,
     graph: &mut CompositionGraph,
@@ -252,7 +252,7 @@ fn make_filled(alloc: Global) -> Result<Filled, PackageError> {
     }
 }
 
-/// What a graph holds as text, read a second time where memory was refused.
+/// What a graph holds as text, read a second time where memory ran out.
 fn shown_again(alloc: Global, graph: &CompositionGraph) -> Result<String, AllocError> {
     match shown(alloc, graph) {
         Ok(text) => Ok(text),
@@ -260,7 +260,7 @@ fn shown_again(alloc: Global, graph: &CompositionGraph) -> Result<String, AllocE
     }
 }
 
-/// Takes a step, a second time where memory was refused and the graph holds what it held; else it gives no number.
+/// Takes a step, a second time where memory ran out and the graph holds what it held; else it gives no number.
 fn make_again(
     alloc: Global,
     all: &mut Filled,
@@ -290,7 +290,7 @@ static INSERTED: [Call; 8] = [
     (Step::Add("2.0.0"), Some(2)),
 ];
 
-/// Takes the steps, up to one that gives another number than is written beside it; whether there is none.
+/// Takes the steps, up to one that gives another number than is written beside it; true where there is none.
 fn insert_all(alloc: Global, all: &mut Filled) -> Result<bool, AllocError> {
     for (step, number) in &INSERTED {
         if make_again(alloc, all, *step)? != *number {
@@ -301,8 +301,8 @@ fn insert_all(alloc: Global, all: &mut Filled) -> Result<bool, AllocError> {
     Ok(true)
 }
 
-/// In a run in which one request for memory is refused, whatever made it is done again. Where it was a call that adds
-/// to a graph, the graph holds what it held.
+/// In a run in which one request for memory fails, whatever made it is done again. Where it was a call that adds to a
+/// graph, the graph holds what it held.
 #[test]
 fn adds_after_a_refusal(rt: HostRuntime) -> Result<(), Fail> {
     let mut all = match make_filled(rt.alloc()) {

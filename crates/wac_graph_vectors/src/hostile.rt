@@ -27,7 +27,8 @@ fn add_values(alloc: Global, types: &mut Types, ids: &Ids) -> Result<(), AllocEr
     add(alloc, types, Row::Record(&fields))
 }
 
-/// A function that borrows the resource and returns the record, and one that takes nothing and returns the record under a name.
+/// A function that borrows the resource and returns the record, and one that takes nothing and returns the record under
+/// a name.
 fn add_funcs(alloc: Global, types: &mut Types, ids: &Ids) -> Result<(), AllocError> {
     let params = [("a", ValueType::Borrow(ResourceId(ids[1])))];
     let output = ValueType::Defined(DefinedTypeId(ids[2]));
@@ -71,8 +72,8 @@ fn definitions(alloc: Global, ids: &Ids) -> Result<IndexMap<String, ItemKind>, A
     named(alloc, &[("z", interface), ("w", world)])
 }
 
-/// A package that imports the function `log` and the instance `x:y/z`, exports the function `run`, and defines that interface and
-/// its own world.
+/// A package that imports the function `log` and the instance `x:y/z`, exports the function `run`, and defines that
+/// interface and its own world.
 fn tampered(alloc: Global, ids: &Ids) -> Result<Package, PackageError> {
     let definitions = definitions(alloc, ids)?;
     let types = table(alloc, ids)?;
@@ -103,7 +104,7 @@ static SORTS: [Sort; ENTRIES] = [
 /// The ids of the package that was not tampered with.
 const IDS: Ids = [0, 0, 1, 1, 0, 3, 2, 4, 3, 4, 6, 6, 5];
 
-/// For each id the entry that it stands in, or the count of entries where it stands in none, and what it has to name.
+/// For each id the entry that it is in, or the count of entries where it is in none, and what it has to name.
 static PLACES: [(usize, Sort); 13] = [
     (1, Sort::Resource),
     (2, Sort::Resource),
@@ -130,9 +131,9 @@ fn wrong(id: usize, (entry, sort): (usize, Sort)) -> Option<&'static str> {
     }
 }
 
-/// What is wrong with the package where an id that may stand there was replaced: the definition `z` may be the interface of the
-/// instances, which has no id; their interface may be the other one, whose exports have other names; and the functions mean
-/// different things.
+/// What is wrong with the package where an id was replaced by another valid one: the definition `z` may be the
+/// interface of the instances, which has no id; their interface may be the other one, whose exports have other names;
+/// and the functions mean different things.
 fn wrong_meaning(ids: &Ids) -> &'static str {
     if ids[9] == 5 {
         "interface type without an id"
@@ -143,7 +144,7 @@ fn wrong_meaning(ids: &Ids) -> &'static str {
     }
 }
 
-/// Whether this is wrong where a number stands for one of the ids.
+/// Whether the fault is found where a number replaces one of the ids.
 fn is_tested(alloc: Global, at: usize, number: usize) -> Result<bool, AllocError> {
     let mut ids = IDS;
     let mut wanted = None;

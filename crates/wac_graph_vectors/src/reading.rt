@@ -91,7 +91,7 @@ fn push_packages(text: &mut String, graph: &CompositionGraph) -> Result<(), Allo
     Ok(())
 }
 
-/// All that a graph holds beside its types: nodes, imports, exports and then packages.
+/// All that a graph holds apart from its types: nodes, imports, exports and then packages.
 pub fn shown(alloc: Global, graph: &CompositionGraph) -> Result<String, AllocError> {
     let imports = listed(alloc, graph.imports())?;
     let exports = listed(alloc, graph.exports())?;
@@ -108,7 +108,7 @@ pub enum Asked<'a> {
     Export(&'a str),
     /// The node that was given to a node for an import.
     Argument(usize, &'a str),
-    /// The package of which a node is an instance.
+    /// The package that a node is an instance of.
     Instance(usize),
 }
 

@@ -300,8 +300,8 @@ fn names_of_results_count(rt: HostRuntime) -> Result<(), Fail> {
     Ok(())
 }
 
-/// In a run in which one request for memory is refused, its parts may have to be made again; the package then is made
-/// at once.
+/// In a run in which one request for memory fails, its parts may have to be made again; the package is then made at
+/// once.
 #[test]
 fn makes_a_package_without_memory(rt: HostRuntime) -> Result<(), Fail> {
     let (types, definitions) = match defining_parts(rt.alloc()) {
@@ -313,7 +313,7 @@ fn makes_a_package_without_memory(rt: HostRuntime) -> Result<(), Fail> {
     Ok(())
 }
 
-/// Kinds stand for those of equal meaning, and no name is empty.
+/// Kinds may be used for those of equal meaning, and no name is empty.
 struct OnlySame;
 
 impl Rules for OnlySame {

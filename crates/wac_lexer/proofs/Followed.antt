@@ -230,7 +230,7 @@ no_comment b (c ∷ t) y e = ap (λ v. v && nat_eq c y) e
 abbrev pub BeginsWith : List ℕ → Token → List ℕ → Type 0
 BeginsWith t k u = (part_len (t ++ u) ≡ 0) × (first_item (t ++ u) ≡ Some (Ok k, length t))
 
--- no word goes on with a dot
+-- no word continues with a dot
 dot_dead : (c : Class) (t : List ℕ) (shape : Shape) → is_symbol shape ≡ false → shape_at (run (step_of Start c) t) ≡ Some shape → is_dead (step_of OneDot c) ≡ true
 dot_dead Dot t shape n e = absurd (dot_shape t shape n e)
   where
@@ -270,6 +270,6 @@ word_shape t k (string m) same = absurd cc
 word_shape t k (name m) same = absurd cc
 word_shape t k (path m) same = absurd cc
 
--- a word may stand after a dot
+-- a word may follow a dot
 pub dot_before_word : (t u : List ℕ) → token_of t ≡ Some tokens.Ident → follows tokens.Dot (t ++ u) ≡ true
 dot_before_word t u e = ap (λ b. b && true) (dot_quiet t u shapes.Word refl (word_shape t tokens.Ident (token_meant t tokens.Ident e) refl))

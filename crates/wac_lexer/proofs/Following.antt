@@ -1,4 +1,4 @@
--- What may stand after a token, as the walk over a text finds it.
+-- What may follow a token, as the walk over a text finds it.
 use Rattle.std.specs.Prelude.{◌≡◌, ℕ, Bool, true, false, ◌&&◌, not, List, [], ◌∷◌, is_some, if◌then◌else◌, codes, refl}
 use Rattle.wac_lexer.specs.declared.token.Token.{Token}
 use Rattle.wac_lexer.specs.declared.token.Token.TheVariants as tokens
@@ -54,7 +54,7 @@ abbrev pub all_quiet : List State → List ℕ → Bool
 all_quiet [] rest = true
 all_quiet (state ∷ states) rest = quiet state rest && all_quiet states rest
 
--- The rest may stand after each token of this kind: no prefix of it goes on with the token, and no comment begins.
+-- The rest may follow each token of this kind: no prefix of it continues the token, and no comment begins.
 abbrev pub follows : Token → List ℕ → Bool
 follows tokens.Slash rest = not (begins 47 47 (47 ∷ rest)) && not (opens (47 ∷ rest))
 follows kind rest = all_quiet (ends kind) rest
@@ -117,11 +117,11 @@ path_semicolon u = refl
 path_dot_brace : (u : List ℕ) → follows tokens.PackagePath (46 ∷ 123 ∷ u) ≡ true
 path_dot_brace u = refl
 
--- `.x` goes on with the version of a path
+-- `.x` continues the version of a path
 path_dot_word : follows tokens.PackagePath (codes ".x") ≡ false
 path_dot_word = refl
 
--- two more dots go on with a dot
+-- two more dots continue a dot
 dot_dots : follows tokens.Dot (codes "..") ≡ false
 dot_dots = refl
 

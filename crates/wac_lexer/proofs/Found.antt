@@ -1,4 +1,4 @@
--- What is known of the item that is found at a place, and how many items stand before it.
+-- What is known of the item that is found at a place, and how many items come before it.
 use Rattle.std.proofs.Common.{◌≡◌, ℕ, zero, suc, ◌+◌, ◌-◌, ◌<◌, ◌≤◌, List, [], ◌∷◌, ◌++◌, drop, length, sym, refl, ap, ◌∙◌, subst, arith, Option, Some, None, Result, length-append}
 use Rattle.wac_lexer.specs.Span.{Span, end_of}
 use Rattle.wac_lexer.specs.Item.{Item, Handed, handed, behind_first, OnFirst}
@@ -10,7 +10,7 @@ use Rattle.wac_lexer.proofs.Unfolded.{start_of, HasByte, first_has_byte, items_n
 
 -- ---- the first item
 
--- the first item ends after the place, its text is the slice at its span, and the others stand after it
+-- the first item ends after the place, its text is the slice at its span, and the others follow it
 abbrev Stand : List ℕ → ℕ → List Item → Type 0
 Stand source place [] = Unit {0}
 Stand source place (item ∷ others) = (place < end_of item.span) × (item.text ≡ slice source item.span) × (items_from source (end_of item.span) ≡ others)
@@ -30,12 +30,12 @@ abbrev end_handed : Handed → ℕ
 end_handed None = 0
 end_handed (Some x) = end_of x.1
 
--- where none is handed out, none is left
+-- where none is returned, none is left
 pub none_handed : (xs : List Item) → None ≡ handed xs → xs ≡ []
 none_handed [] e = refl
 none_handed (item ∷ others) e = absurd (subst IsSome (sym e) tt)
 
--- after an item that is handed out stand the others
+-- after an item that is returned come the others
 pub found_rest : (source : List ℕ) (place : ℕ) (x : Result Token Error × Span) → Some x ≡ handed (items_from source place) → items_from source (end_of x.1) ≡ behind_first (items_from source place)
 found_rest source place x = go (items_from source place) (stand source place)
   where
@@ -43,7 +43,7 @@ found_rest source place x = go (items_from source place) (stand source place)
     go [] s e = absurd (subst IsSome e tt)
     go (item ∷ others) s e = ap (items_from source) (ap end_handed e) ∙ s.2
 
--- an item that is handed out ends after the place
+-- an item that is returned ends after the place
 pub found_ends : (source : List ℕ) (place : ℕ) (x : Result Token Error × Span) → Some x ≡ handed (items_from source place) → place < end_of x.1
 found_ends source place x = go (items_from source place) (stand source place)
   where
@@ -59,7 +59,7 @@ first_text source place = go (items_from source place) (stand source place)
     go [] s = tt
     go (item ∷ others) s = s.1
 
--- ---- how many items stand before a place
+-- ---- how many items come before a place
 
 -- each item has a byte
 count_upto : (n : ℕ) (source : List ℕ) (place : ℕ) → length (items_upto n source place) ≤ n
@@ -78,7 +78,7 @@ count source = count_upto (length source) source 0
 pub before_within : (source : List ℕ) (place : ℕ) → items_before source place ≤ length source
 before_within source place = omega (arith, count source)
 
--- one less where an item is to come
+-- one less where an item is left
 pub before_last : (source : List ℕ) (place : ℕ) (x : Result Token Error × Span) → Some x ≡ handed (items_from source place) → BetweenItems source place → items_before source place + 1 ≤ length source
 before_last source place x e between = go (items_from source place) between.1 e
   where
@@ -86,7 +86,7 @@ before_last source place x e between = go (items_from source place) between.1 e
     go [] b e = absurd (subst IsSome e tt)
     go (item ∷ after) b e = omega (arith, count source, ap length b, length-append between.0 (item ∷ after))
 
--- after an item stands one more
+-- after an item there is one more
 pub before_next : (source : List ℕ) (place next : ℕ) (x : Result Token Error × Span) → Some x ≡ handed (items_from source place) → BetweenItems source place → items_from source next ≡ behind_first (items_from source place) → items_before source next ≡ items_before source place + 1
 before_next source place next x e between rest = go (items_from source place) between.1 e rest
   where

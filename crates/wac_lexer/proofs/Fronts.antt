@@ -1,4 +1,4 @@
--- A prefix in a shape is a token, and ASCII.
+-- A prefix with a shape is a token, and ASCII.
 use Rattle.std.proofs.Common.{◌≡◌, ℕ, zero, suc, ◌+◌, ◌-◌, ◌<◌, ◌≤◌, Bool, true, false, cond, List, [], ◌∷◌, ◌++◌, take, length, get_or, sym, refl, ap, ◌∙◌, subst, inl, inr, ⊎_elim, arith, Option, Some, None, append_assoc}
 use Rattle.std.proofs.lemmas.List.{length_push}
 use Rattle.std.specs.Prelude.{◌&&◌, ◌||◌, nat_eq, nat_lt, nat_le, ◌==◌}
@@ -71,7 +71,7 @@ token_plain text shape none e =
 abbrev pub one_token : ℕ → Option Token → Option (ℕ × Token) → Option (ℕ × Token)
 one_token n token found = elim token [ Some k ↦ Some (n, k) | None ↦ found ]
 
--- the longest prefix in a shape is the longest one that is a token
+-- the longest prefix with a shape is the longest one that is a token
 abbrev pub Fronts : List ℕ → ℕ → Option (ℕ × Shape) → Option (ℕ × Token) → Type 0
 Fronts text n None found = found ≡ None
 Fronts text n (Some front) found =

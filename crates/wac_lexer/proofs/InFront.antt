@@ -1,4 +1,4 @@
--- A token's text before a text that doesn't go on with it is the longest match.
+-- A token's text before a text that doesn't continue it is the longest match.
 use Rattle.std.proofs.Common.{◌≡◌, ℕ, zero, suc, ◌+◌, ◌<◌, ◌≤◌, Bool, true, false, cond, List, [], ◌∷◌, ◌++◌, take, length, sym, refl, ap, ◌∙◌, subst, ⊎_elim, arith, Option, Some, None, add-zero, zero-add, append_assoc, append-nil}
 use Rattle.std.specs.Prelude.{◌&&◌, not, is_some}
 use Rattle.std.proofs.lemmas.Bool.{and_parts, false≢true, cases_Bool}
@@ -34,7 +34,7 @@ none_is : {A : Type 0} (o : Option A) → is_some o ≡ false → o ≡ None
 none_is None e = refl
 none_is (Some x) e = absurd (false≢true (sym e))
 
--- after a quiet rest nothing is in a shape
+-- after a quiet rest nothing has a shape
 pub quiet_none : (front u : List ℕ) (state : State) (m : ℕ) → AreBytes u → Reads state front → quiet state u ≡ true → 0 < m → m ≤ length u → shape_of (front ++ take m u) ≡ None
 quiet_none front [] state m h r q pos fits = absurd (omega arith)
 quiet_none front (b ∷ u) state zero h r q pos fits = absurd (omega arith)

@@ -1,4 +1,4 @@
--- The items of a source stand in order, and cut no character.
+-- The items of a source are in order, and cut no character.
 use Rattle.std.proofs.Common.{◌≡◌, ℕ, zero, suc, ◌+◌, ◌<◌, ◌≤◌, List, [], ◌∷◌, ◌++◌, take, drop, length, get_or, sym, refl, ap, ◌∙◌, subst, arith, Option, Some, None, Result, Err}
 use Rattle.std.specs.Prelude.{nat_eq, slice_index, slice_get, ◌==◌}
 use Rattle.std.specs.Char.{encode_utf8, len_utf8}

@@ -161,7 +161,7 @@ longest_gap text =
     let parts = gap_parts (length text) text in
     record { parts = parts.0; is = parts.1; longest = λ others rest h. gap_longest (length text) text others rest (omega arith) h }
 
--- after the longest gap no part stands
+-- no part follows the longest gap
 gap_ends : (n : ℕ) (text : List ℕ) → length text ≤ n → part_len (drop (parts_len n text) text) ≡ 0
 gap_ends zero text enough = ap part_len (drop_all 0 text enough)
 gap_ends (suc m) text enough =

@@ -22,7 +22,7 @@ written_behind front put rest at end n e k h =
     ap (λ x. drop at (take (end + n) x)) (sym (append_assoc front put rest)) ∙ ap (drop at) (take_at (front ++ put) rest (end + n) both)
     ∙ drop-append-le at front put (omega arith)
 
--- how many bytes stood below before stays, when some are passed on
+-- how many bytes were below before stays, when some are passed on
 pub same_before : (b m passed b' m' : List ℕ) → length m ≤ length b → b' ≡ b ++ passed → m' ≡ m ++ passed → length b' - length m' ≡ length b - length m
 same_before b m passed b' m' h e k =
     omega (arith, ap length e, ap length k, length-append b passed, length-append m passed)

@@ -1,4 +1,4 @@
--- Counting how deep a text stands within comments finds what the pieces of comments say.
+-- Counting how deeply comments nest finds the end that the pieces of comments define.
 use Rattle.std.proofs.Common.{◌≡◌, ℕ, zero, suc, ◌+◌, ◌-◌, ◌<◌, ◌≤◌, Bool, true, false, List, [], ◌∷◌, ◌++◌, length, drop, sym, refl, ap, ◌∙◌, subst, arith, ⊎_elim, Option, Some, None, append_assoc}
 use Rattle.std.specs.Prelude.{◌&&◌, nat_eq}
 use Rattle.std.proofs.lemmas.List.{drop_all, drop-drop}
@@ -14,7 +14,7 @@ behind_byte n a b text o c =
       | false ↦ elim (c i) [ true ↦ behind n text | false ↦ behind (suc n) (b ∷ text) ]
     ])
 
--- what stands inside is after its end
+-- counting finds the end of `Inside`
 byte_step : (n b : ℕ) (text rest : List ℕ) → opens (b ∷ text) ≡ false → closes (b ∷ text) ≡ false → Inside text rest → behind (suc n) (b ∷ text) ≡ behind (suc n) text
 byte_step n b [] rest o c p = elim p [ ]
 byte_step n b (a ∷ text) rest o c p = behind_byte n b a text o c

@@ -29,7 +29,7 @@ pub refused_end : (place : ℕ) (bs : List ℕ) → length bs ≡ 0 → refused_
 refused_end place [] e = ap (refused_from place) chars-nil
 refused_end place (b ∷ bs) e = absurd cc
 
--- what is refused is the first character that is
+-- what is rejected is the first character that is
 abbrev Refuses : ℕ → List ℕ → Option (Error × Span) → Type 0
 Refuses place cs None = AllByRecursion (λ c. fault_of c ≡ None) cs
 Refuses place cs (Some found) =

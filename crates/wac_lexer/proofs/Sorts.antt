@@ -1,4 +1,4 @@
--- A text lies in at most one of the shapes, and is at most one token.
+-- A text has at most one of the shapes, and is at most one token.
 use Rattle.std.proofs.Common.{◌≡◌, ℕ, ◌<◌, Bool, true, false, cond, List, [], ◌∷◌, ◌++◌, sym, refl, ap, ◌∙◌, subst, inl, inr, ⊎_elim, arith, Option, Some, None, append_assoc}
 use Rattle.std.specs.Prelude.{◌&&◌, ◌||◌, not, nat_lt, nat_le, is_none}
 use Rattle.std.specs.List.{concat, AllByRecursion}

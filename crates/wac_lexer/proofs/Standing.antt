@@ -1,4 +1,4 @@
--- What the walk lets stand after a token may stand there; and a token before what may stand after it is the first item.
+-- What the walk lets follow a token may follow it; and a token before what may follow it is the first item.
 use Rattle.std.proofs.Common.{◌≡◌, ℕ, zero, suc, ◌+◌, ◌-◌, ◌<◌, ◌≤◌, Bool, true, false, cond, List, [], ◌∷◌, ◌++◌, take, length, sym, refl, ap, ◌∙◌, subst, inl, inr, ⊎_elim, arith, Option, Some, None, length-append}
 use Rattle.std.specs.Prelude.{◌&&◌, ◌||◌, not, nat_eq, nat_lt, is_some}
 use Rattle.std.specs.Str.{bytes_eq}
@@ -85,7 +85,7 @@ longer_is_none t u n other bytes q longer within is =
     let both : None ≡ Some other = sym no_token ∙ token_found (t ++ v) other (subst (IsToken other) same is) in
     cc
 
--- ---- what the walk lets stand after a token
+-- ---- what the walk lets follow a token
 
 abbrev NoComment : ℕ → List ℕ → Type 0
 NoComment b t = (begins 47 47 (b ∷ t) ≡ false) × (opens (b ∷ t) ≡ false)
@@ -122,7 +122,7 @@ walk_follows (b ∷ t) u k e q =
       no_block = apart.1;
     }
 
--- ---- a token before what may stand after it
+-- ---- a token before what may follow it
 
 none_of : (x : List ℕ) → ((other : Token) → IsToken other x → ⊥) → token_of x ≡ None
 none_of x h = go (token_of x) refl
@@ -152,7 +152,7 @@ stands_alone (b ∷ t) u k f =
     let longest : longest_token text (length text) ≡ Some (length x, k) = ap (longest_token text) (length-append x u) ∙ longer ∙ found in
     ((λ i. part_by text (some_bytes b (t ++ u) i) (white i) (f.no_line i) (f.no_block i)), first_item_is text (Some (length x, k)) (some_bytes b (t ++ u)) f.no_block longest)
 
--- a word may stand after a dot
+-- a word may follow a dot
 pub dot_follows : (t u : List ℕ) → token_of t ≡ Some tokens.Ident → Follows tokens.Dot (46 ∷ []) (t ++ u)
 dot_follows t u e = walk_follows (46 ∷ []) (t ++ u) tokens.Dot refl (dot_before_word t u e)
 

@@ -21,7 +21,7 @@ use Rattle.wac_lexer.specs.declared.automaton.State.TheVariants.{Start, Joined, 
 abbrev more_words : Pattern
 more_words = Many (Then (byte 45) word)
 
--- the rest of an identifier, where a word comes, and within a word
+-- the rest of an identifier, where a word must follow, and within a word
 abbrev joined : Pattern
 joined = Then word more_words
 
@@ -270,7 +270,7 @@ longest_more text n shape e =
     let f : shape_of (take (suc n) text) ≡ shape = subst (λ k. shape_of (take k text) ≡ shape) (add-one n) e in
     subst (λ k. longest text k ≡ one_longer k shape (longest text n)) (sym (add-one n)) (ap (λ s. one_longer (suc n) s (longest text n)) f)
 
--- where nothing continues the first n + 1 bytes, no longer prefix is in a shape
+-- where nothing continues the first n + 1 bytes, no longer prefix has a shape
 pub longest_dead : (text : List ℕ) (n m : ℕ) → Reads Dead (take (n + 1) text) → longest text (n + m) ≡ longest text n
 longest_dead text n zero r = ap (longest text) (add-zero n)
 longest_dead text n (suc m) r =

@@ -108,7 +108,7 @@ one_more source place = enough source (length source) (suc (length source)) plac
 pub items_none : (source : List ℕ) (place : ℕ) → first_item (drop (start_of source place) source) ≡ None → items_from source place ≡ []
 items_none source place e = one_more source place ∙ ap (before_others (length source) source) (item_is source place None e)
 
--- something is found: it is the first item, and the others stand after it
+-- something is found: it is the first item, and the others follow it
 pub items_some : (source : List ℕ) (place : ℕ) (found : Result Token Error × ℕ) → first_item (drop (start_of source place) source) ≡ Some found → items_from source place ≡ made source place found ∷ items_from source (start_of source place + found.1)
 unfolding items_from
 items_some source place found e = one_more source place ∙ ap (before_others (length source) source) (item_is source place (Some found) e)
@@ -120,7 +120,7 @@ items_end source place h = items_none source place (none_at_end source place h)
 pub none_left : (source : List ℕ) (place : ℕ) → items_from source place ≡ [] → items_from source (length source) ≡ behind_first (items_from source place)
 none_left source place none = items_end source (length source) (omega arith) ∙ sym (ap behind_first none)
 
--- after an item the place stands between two items again
+-- after an item the place is between two items again
 pub between_next : (source : List ℕ) (place next : ℕ) → BetweenItems source place → items_from source next ≡ behind_first (items_from source place) → BetweenItems source next
 between_next source place next between e = go (items_from source place) between.1 e
   where

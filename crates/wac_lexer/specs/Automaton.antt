@@ -1,4 +1,4 @@
--- The states of the walk over a text, as the code has them. What a token is stands in Shapes and Tokens, which know nothing of them.
+-- The states of the walk over a text, as the code has them. Shapes and Tokens define what a token is, without them.
 use Rattle.std.specs.Prelude.{ℕ, ◌&&◌, ◌||◌, nat_le, nat_eq, if◌then◌else◌, Option, Some, None}
 use Rattle.wac_lexer.specs.Ascii.{at_sign, capital_a, capital_z, close_brace, close_bracket, close_parenthesis, colon, comma, digit_nine, digit_zero, equals_sign, full_stop, greater_than_sign, hyphen, less_than_sign, open_brace, open_bracket, open_parenthesis, percent_sign, plus_sign, quotation_mark, semicolon, slash, small_a, small_z, underscore}
 use Rattle.wac_lexer.specs.declared.shape.Shape.{Shape}

@@ -14,7 +14,7 @@ pub record Holding : Type 0 where
   pub before : ℕ
   pub borrow : ℕ
 
--- What such a sink was given. First stands what no call changes, so that who lends it knows this when it comes back.
+-- What such a sink was given. First comes what no call changes, so that a lender knows this when it is returned.
 abbrev pub given : Holding → List ℕ
 given h = h.before ∷ (h.borrow ∷ (h.sunk ++ h.held))
 
@@ -30,7 +30,8 @@ with_room h = if h.room == 0 then passed_on h else h
 abbrev pub holding : Holding → ℕ → List ℕ → Holding
 holding h n put = record h { held = h.held ++ take n put; room = h.room - n }
 
--- A put holds what there is room for. While there is some it passes nothing on, and else all that is held; where that fails there is no room still.
+-- A put holds what there is room for. While there is some it passes nothing on, and else all that is held; where that
+-- fails there is still no room.
 abbrev pub PutHolds : Holding → List ℕ → Option ℕ → Holding → Type 0
 PutHolds old put (Some n) new = (n ≡ min (length put) (with_room old).room) × (new ≡ holding (with_room old) n put)
 PutHolds old put None new = (old.room ≡ 0) × (new.room ≡ 0)

@@ -32,17 +32,17 @@ fault_of c =
     else (if is_discouraged c then Some (DiscouragedUnicodeCodepoint c)
     else (if is_refused_control c then Some (DisallowedControlCode c) else None))
 
--- the first refused one of these characters, which stand from a place on
+-- the first rejected one of these characters, which begin at a place
 abbrev pub refused_from : ℕ → List ℕ → Option (Error × Span)
 refused_from place [] = None
 refused_from place (c ∷ cs) =
     elim (fault_of c) [ Some fault ↦ Some (fault, span place (len_utf8 c)) | None ↦ refused_from (place + len_utf8 c) cs ]
 
--- the first refused character of a text
+-- the first rejected character of a text
 abbrev pub refused : List ℕ → Option (Error × Span)
 refused text = refused_from 0 (chars text)
 
--- the first refused character, with its fault, its offset and its length
+-- the first rejected character, with its fault, its offset and its length
 pub record IsFirstRefused (text : List ℕ) (fault : Error) (at : Span) : Type 0 where
   pub before : List ℕ
   pub character : ℕ
@@ -52,7 +52,7 @@ pub record IsFirstRefused (text : List ℕ) (fault : Error) (at : Span) : Type 0
   pub is : fault_of character ≡ Some fault
   pub place : at ≡ span (sum_by len_utf8 before) (len_utf8 character)
 
--- an example: TAB passes, and after it U+202A is refused
+-- an example: TAB passes, and after it U+202A is rejected
 override : refused (tab ∷ 0xe2 ∷ 0x80 ∷ 0xaa ∷ []) ≡ Some (DisallowedBidirectionalOverride 0x202a, span 1 3)
 unfolding chars
 override = refl

@@ -22,7 +22,7 @@ pub data Inside : List ℕ → List ℕ → Type 0 where
   comment : {text mid rest : List ℕ} → Inside text mid → Inside mid rest → Inside (slash ∷ asterisk ∷ text) rest
   byte : {b : ℕ} {text rest : List ℕ} → opens (b ∷ text) ≡ false → closes (b ∷ text) ≡ false → Inside text rest → Inside (b ∷ text) rest
 
--- The same, computed: what follows the ends of n comments that a text stands within.
+-- The same, computed: what follows the ends of the n comments in which a text begins.
 abbrev pub behind : ℕ → List ℕ → Option (List ℕ)
 behind zero text = Some text
 behind (suc n) [] = None
@@ -61,7 +61,7 @@ abbrev pub parts_len : ℕ → List ℕ → ℕ
 parts_len zero text = 0
 parts_len (suc n) text = part_len text + (if part_len text == 0 then 0 else parts_len n (drop (part_len text) text))
 
--- how many bytes stand before the first item
+-- how many bytes come before the first item
 abbrev pub gap : List ℕ → ℕ
 gap text = parts_len (length text) text
 

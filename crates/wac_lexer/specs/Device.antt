@@ -25,12 +25,13 @@ abbrev pub PutGrows : Option (List ℕ) → List ℕ → Option ℕ → Option (
 PutGrows old put (Some n) new = Appends old new (take n put)
 PutGrows old put None new = Keeps old new
 
--- the next n bytes stand at a slice's start; or no byte was taken, and one failure more
+-- the next n bytes are at a slice's start; or no byte was taken, and one failure more
 abbrev pub TakeGives : List ℕ → ℕ → List ℕ → Option ℕ → List ℕ → ℕ → Type 0
 TakeGives old failed got (Some n) new failed' = (n ≤ length got) × (new ≡ old ++ take n got) × (failed' ≡ failed)
 TakeGives old failed got None new failed' = (new ≡ old) × (failed' ≡ failed + 1)
 
--- the bytes left, where they are known, begin with what was taken, and none is taken only at their end or into an empty slice
+-- the bytes left, where they are known, begin with what was taken, and none is taken only at their end or into an empty
+-- slice
 abbrev pub TakeLeaves : Option (List ℕ) → List ℕ → Option ℕ → Option (List ℕ) → Type 0
 TakeLeaves old got (Some n) new = Consumes old new (take n got) × (n ≡ 0 → 0 < length got → IsAtEnd new)
 TakeLeaves old got None new = Keeps old new

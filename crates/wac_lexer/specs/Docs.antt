@@ -31,7 +31,7 @@ block_doc = refl
 no_doc : doc_text (codes "/**/") ≡ None
 no_doc = refl
 
--- the doc that a blank or a comment is, which stands at a place
+-- the doc that a blank or a comment at a place is
 abbrev pub doc_of_part : ℕ → List ℕ → List Doc
 doc_of_part place part = elim (doc_text part) [ Some text ↦ record { comment = text; span = span place (length part) } ∷ [] | None ↦ [] ]
 

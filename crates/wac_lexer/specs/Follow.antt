@@ -1,4 +1,4 @@
--- What may stand after a token, so that the token is read as it stands.
+-- What may follow a token, so that the token is read back.
 use Rattle.std.specs.Prelude.{◌≡◌, ℕ, false, List, ◌++◌, length, Some, codes, refl}
 use Rattle.wac_lexer.specs.Ascii.{slash}
 use Rattle.wac_lexer.specs.Comments.{begins, opens}
@@ -6,8 +6,8 @@ use Rattle.wac_lexer.specs.Tokens.{IsLongest, longest_token}
 use Rattle.wac_lexer.specs.declared.token.Token.{Token}
 use Rattle.wac_lexer.specs.declared.token.Token.TheVariants.{Ident, PackageName, PackagePath, Dot, Ellipsis}
 
--- The rest may stand after the text, which is this token: of the two together the text is the longest prefix that is a token, and no comment
--- begins with it.
+-- The rest may follow the text, which is this token: of the two together the text is the longest prefix that is a
+-- token, and no comment begins with it.
 pub record Follows (token : Token) (text rest : List ℕ) : Type 0 where
   pub longest : IsLongest (text ++ rest) (length text) token
   pub no_line : begins slash slash (text ++ rest) ≡ false
@@ -20,14 +20,14 @@ word_colon_blank = refl
 word_colon_word : longest_token (codes "x:string") 8 ≡ Some (8, PackageName)
 word_colon_word = refl
 
--- a path stays one before `.{`, and `.x` goes on with its version
+-- a path stays one before `.{`, and `.x` continues its version
 path_dot_brace : longest_token (codes "a:b/c@1.{") 9 ≡ Some (7, PackagePath)
 path_dot_brace = refl
 
 path_dot_word : longest_token (codes "a:b/c@1.x") 9 ≡ Some (9, PackagePath)
 path_dot_word = refl
 
--- two more dots go on with a dot
+-- two more dots continue a dot
 dot_word : longest_token (codes ".x") 2 ≡ Some (1, Dot)
 dot_word = refl
 

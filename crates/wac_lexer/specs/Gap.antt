@@ -1,4 +1,4 @@
--- The gap before an item: blanks and comments, one after another.
+-- The gap before an item: a sequence of blanks and comments.
 use Rattle.std.specs.Prelude.{◌≡◌, ◌≢◌, ◌≤◌, ◌⊎◌, ℕ, ◌+◌, true, List, [], ◌∷◌, ◌++◌, drop, length, codes}
 use Rattle.std.specs.List.{concat, AllByRecursion}
 use Rattle.wac_lexer.specs.Ascii.{line_feed}
@@ -10,7 +10,7 @@ use Rattle.wac_lexer.specs.Item.{Doc}
 abbrev pub IsBlank : List ℕ → Type 0
 IsBlank part = (b : ℕ) × (part ≡ b ∷ []) × (is_blank b ≡ true)
 
--- the text ends here, or LF comes
+-- the text ends here, or LF follows
 abbrev pub EndsLine : List ℕ → Type 0
 EndsLine [] = Unit {0}
 EndsLine (b ∷ rest) = b ≡ line_feed
@@ -26,7 +26,7 @@ IsBlockComment part rest = (inner : List ℕ) × (part ≡ codes "/*" ++ inner) 
 abbrev pub IsPart : List ℕ → List ℕ → Type 0
 IsPart part rest = IsBlank part ⊎ (IsLineComment part rest ⊎ IsBlockComment part rest)
 
--- the text begins with these blanks and comments, and goes on with the rest
+-- the text begins with these blanks and comments, and continues with the rest
 abbrev pub Gap : List ℕ → List (List ℕ) → List ℕ → Type 0
 Gap text [] rest = text ≡ rest
 Gap text (part ∷ parts) rest = (next : List ℕ) × (text ≡ part ++ next) × IsPart part next × Gap next parts rest

@@ -1,4 +1,4 @@
--- An item of a source, and what a call hands out of a list of items.
+-- An item of a source, and what a call returns of a list of items.
 use Rattle.std.specs.Prelude.{ℕ, List, [], ◌∷◌, Option, Some, None, Result}
 use denote.Bor.{Bor}
 use Rattle.wac_lexer.specs.Span.{Span}
@@ -17,7 +17,7 @@ pub record Item : Type 0 where
   pub span : Span
   pub docs : List Doc
 
--- what a call hands out of an item
+-- what a call returns of an item
 abbrev pub Handed : Type 0
 Handed = Option (Result Token Error × Span)
 

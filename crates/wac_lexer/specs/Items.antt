@@ -25,7 +25,8 @@ fault_of text = if nat_eq (slice_index text 0) quotation_mark then (Err Untermin
 abbrev pub with_fault : Option (ℕ × Token) → Result Token Error × ℕ → Option (Result Token Error × ℕ)
 with_fault found fault = elim found [ Some front ↦ Some (Ok front.1, front.0) | None ↦ Some fault ]
 
--- what begins a text, and how many bytes it takes: a comment without an end, the longest prefix that is a token, or else a fault
+-- what begins a text, and how many bytes it takes: a comment without an end, the longest prefix that is a token, or
+-- else a fault
 abbrev pub first_item : List ℕ → Option (Result Token Error × ℕ)
 first_item text =
     if length text == 0 then None

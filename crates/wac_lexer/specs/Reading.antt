@@ -5,8 +5,8 @@ use Rattle.wac_lexer.specs.Span.{Span, span, end_of}
 use Rattle.wac_lexer.specs.Item.{Item, Handed, handed, behind_first, OnFirst}
 use Rattle.wac_lexer.specs.Items.{items_from, items}
 
--- A source, the place up to which it was read, the span of the last item that `next` gave, and how many scans there were.
--- A scan is one search for the item at a place, also the one that finds the end.
+-- A source, the place up to which it was read, the span of the last item that `next` gave, and how many scans there
+-- were. A scan is one search for the item at a place, also the one that finds the end.
 pub record Reading : Type 0 where
   pub source : List ℕ
   pub place : ℕ
@@ -17,7 +17,7 @@ pub record Reading : Type 0 where
 unfoldable pub left : Reading → List Item
 left reading = items_from reading.source reading.place
 
--- how many items of a source stand before a place
+-- how many items of a source come before a place
 abbrev pub items_before : List ℕ → ℕ → ℕ
 items_before source place = length (items source) - length (items_from source place)
 
@@ -25,7 +25,7 @@ items_before source place = length (items source) - length (items_from source pl
 abbrev pub answered : Reading → ℕ
 answered reading = items_before reading.source reading.place
 
--- example: the second of three items stands at 2
+-- example: the second of three items is at 2
 one_before : items_before (codes "a b c") 2 ≡ 1
 unfolding items_from
 one_before = refl
@@ -34,7 +34,7 @@ one_before = refl
 abbrev pub slice : List ℕ → Span → List ℕ
 slice source s = take s.len (drop s.offset source)
 
--- the span stands in the source, and cuts no character
+-- the span lies in the source, and cuts no character
 abbrev pub Slices : List ℕ → Span → Type 0
 Slices source s = IsCharBoundary source s.offset × IsCharBoundary source (end_of s)
 
@@ -64,11 +64,11 @@ pub record Nexts (old : Reading) (item : Handed) (new : Reading) : Type 0 where
   pub once : new.scans ≤ old.scans + 1
   pub ended : behind_first (left old) ≡ [] → new.scans ≡ old.scans
 
--- the place stands between two items of the source: some of them are before it, and the others after
+-- the place is between two items of the source: some of them are before it, and the others after
 abbrev pub BetweenItems : List ℕ → ℕ → Type 0
 BetweenItems source place = (before : List Item) × (items source ≡ before ++ items_from source place)
 
--- what every lexer keeps: its place stands between two items and cuts no character, and its last span lies in the source
+-- what every lexer keeps: its place is between two items and cuts no character, and its last span lies in the source
 pub record IsWithin (source : List ℕ) (place : ℕ) (last : Span) : Type 0 where
   pub boundary : IsCharBoundary source place
   pub between : BetweenItems source place

@@ -23,7 +23,7 @@ abbrev pub longest_token : List ℕ → ℕ → Option (ℕ × Token)
 longest_token text zero = None
 longest_token text (suc n) = elim (token_of (take (suc n) text)) [ Some token ↦ Some (suc n, token) | None ↦ longest_token text n ]
 
--- the entry stands in the table
+-- the entry is in the table
 abbrev pub InTable : List ℕ → Token → List (List ℕ × Token) → Type 0
 InTable text token [] = ⊥
 InTable text token (entry ∷ table) = ((text ≡ entry.0) × (token ≡ entry.1)) ⊎ InTable text token table

@@ -1,4 +1,4 @@
-// Finds the longest prefix of a text that is in any shape, in one walk over its bytes.
+// Finds the longest prefix of a text that has a shape, in one walk over its bytes.
 ghost use Rattle.std.specs.Prelude.{◌≡◌, length};
 ghost use Rattle.wac_lexer.specs.Automaton.{class_of, behind_word_of, step_of, shape_of_package, shape_at};
 ghost use Rattle.wac_lexer.specs.Front.{longest};
@@ -42,15 +42,15 @@ enum Part {
 #[derive(Clone, Copy, PartialEq, Eq)]
 enum State {
     Start,
-    /// A word comes: `%` or `-` was read.
+    /// A word must follow: `%` or `-` was read.
     Joined(Part),
     /// In a word of small letters.
     Small(Part),
     /// In a word of capital letters.
     Capital(Part),
-    /// An identifier comes, after `:` in a name or `/` in a path.
+    /// An identifier must follow `:` in a name or `/` in a path.
     Behind(Package),
-    /// The first digit of a version comes.
+    /// The first digit of a version must follow.
     Version(Package),
     /// In the first number of a version.
     Digits(Package),
@@ -94,7 +94,7 @@ fn class_of(byte: u8) -> Class
     }
 }
 
-/// The state after an identifier's word and a byte that is none of its own.
+/// The state after an identifier's word and a byte that isn't part of it.
 fn behind_word(part: Part, class: Class) -> State
     ensures { result ≡ behind_word_of part class }
 {
@@ -146,7 +146,7 @@ fn at_word(part: Part, class: Class) -> State
     }
 }
 
-/// The state after the first byte of an identifier that `:` or `/` comes before.
+/// The state after the first byte of an identifier that follows `:` or `/`.
 fn at_identifier(kind: Package, class: Class) -> State
     ensures { result ≡ step_of (State.Behind kind) class }
 {
@@ -274,7 +274,7 @@ fn shape_at(state: State) -> Option<Shape>
     }
 }
 
-/// The longest prefix that is in any shape.
+/// The longest prefix that has a shape.
 pub(crate) fn longest_front(bytes: &[u8]) -> Option<(usize, Shape)>
     ensures { result ≡ longest bytes.now (length bytes.now) }
 {

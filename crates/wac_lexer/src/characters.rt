@@ -24,7 +24,7 @@ fn fault_of(c: char) -> Option<Error>
     }
 }
 
-/// The first refused character.
+/// The first rejected character.
 pub(crate) fn refused(source: &str) -> Option<(Error, SourceSpan)>
     ensures { result ≡ refused source.now }
 {

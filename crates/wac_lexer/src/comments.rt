@@ -1,4 +1,4 @@
-// What stands between items: blanks and comments.
+// What lies between items: blanks and comments.
 ghost use Rattle.std.specs.Prelude.{true, ◌≡◌, ◌↔◌, ◌≤◌, ◌<◌, ◌-◌, ◌+◌, ℕ, List, Some, None, length, drop, MatchOption};
 ghost use Rattle.std.specs.List.{prefix_len};
 ghost use Rattle.wac_lexer.specs.Ascii.{slash};
@@ -16,7 +16,7 @@ fn closes(bytes: &[u8]) -> bool
     bytes.len() >= 2 && bytes[0] == b'*' && bytes[1] == b'/'
 }
 
-/// Where the comment ends that the bytes stand within: how many bytes up to there.
+/// The end of the comment in which the bytes begin: how many bytes up to there.
 pub(crate) fn comment_end(bytes: &[u8]) -> Option<usize>
     ensures ends { MatchOption result (behind 1 bytes.now ≡ None) (λ n. behind 1 bytes.now ≡ Some (drop n bytes.now)) }
     ensures within { MatchOption result (Unit {0}) (λ n. n ≤ length bytes.now) }
@@ -92,7 +92,7 @@ pub(crate) fn part_len(bytes: &[u8]) -> usize
     }
 }
 
-/// How many bytes stand before the first item.
+/// How many bytes come before the first item.
 pub(crate) fn gap(bytes: &[u8]) -> usize
     ensures len { result ≡ gap bytes.now }
     ensures within { result ≤ length bytes.now }

@@ -17,7 +17,7 @@ pub trait Sink {
     /// The calls that failed so far.
     ghost failures: { Self → ℕ };
 
-    /// Which borrow the sink is, where it is one. All calls leave it, so a sink that was lent and comes back is known.
+    /// Which borrow the sink is, where it is one. No call changes it, so a sink that was lent and returned is known.
     ghost borrow: { Self → ℕ } = { λ _. 0 };
 
     /// Appends bytes from the start of `part`, and returns how many: none only where `part` is empty.
@@ -102,8 +102,8 @@ impl Tally {
     }
 }
 
-/// A sink over a writer. An error of the writer is a failure, and so is a writer that takes none of some bytes. Each call
-/// asks the writer once: none tries again after an error, not after `Interrupted` either.
+/// A sink over a writer. An error of the writer is a failure, and so is a writer that takes none of some bytes. Each
+/// call asks the writer once: none tries again after an error, not after `Interrupted` either.
 #[derive(Drop)]
 pub struct Out<W: Write> {
     inner: W,
@@ -152,7 +152,7 @@ impl<W: Write> Sink for Out<W> {
     }
 }
 
-/// A sink that keeps the bytes that it is given. A refused request for memory is a failure.
+/// A sink that keeps the bytes that it is given. A request for memory that fails is a failure.
 ///
 /// ```text
 /// let mut kept = Bytes::new(alloc);
@@ -242,7 +242,7 @@ const BLOCK: usize = 8192;
 
 /// A sink over a sink: it holds bytes until they fill a block of 8 KB, and then passes them on. It takes no memory.
 ///
-/// A call fails where the sink below does; what that did not take is held on, so a failure loses no byte and moves none
+/// A call fails where the sink below does; what that did not take stays held, so a failure loses no byte and moves none
 /// twice. Bytes that are still held when it is dropped are lost: call [`flush`](Blocks::flush) first.
 ///
 /// ```text

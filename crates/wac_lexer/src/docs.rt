@@ -21,7 +21,7 @@ fn doc_text(comment: &str) -> Option<&str>
     Some(text.trim())
 }
 
-/// Adds the blank or comment that stands at a place, where it is a documentation comment.
+/// Adds the blank or comment at a place, where it is a documentation comment.
 fn add_doc<'a>(
     docs: &mut Vec<(&'a str, SourceSpan)>,
     start: usize,
@@ -72,7 +72,7 @@ impl<'a> Lexer<'a> {
     ///
     /// `///x` and `/**x*/` give x without the white space around it, and the span of the whole comment. Nothing is
     /// consumed, so a second call gives the same. The docs after the last item can be read until `next` gives None,
-    /// and no more from then on: the lexer then stands at the end. The only error is out of memory.
+    /// and not after that: the lexer is then at the end. The only error is out of memory.
     #[tactic(auto, unfolding(crate::specs::Reading::left))]
     pub fn comments(&self, alloc: Global) -> Result<Vec<(&'a str, SourceSpan)>, AllocError>
         ensures docs { IfOk result (λ v. map doc_of v.items ≡ docs_at self.now.source self.now.place) }

@@ -1,4 +1,4 @@
-// What may stand after a token: laws of the definitions. Each function does nothing: its contract is the law.
+// What may follow a token: laws of the definitions. Each function does nothing: its contract is the law.
 ghost use Rattle.std.specs.Prelude.{◌≡◌, ◌++◌, ◌∷◌, ℕ, List, length, codes, true, Some, Ok};
 ghost use Rattle.wac_lexer.specs.Comments.{gap, is_blank};
 ghost use Rattle.wac_lexer.specs.Follow.{Follows};
@@ -7,7 +7,7 @@ ghost use Rattle.wac_lexer.specs.Tokens.{token_of};
 ghost use Rattle.wac_lexer.specs.declared.token.Token.{Token as Kind};
 ghost use Rattle.wac_lexer.specs.declared.token.Token.TheVariants.{Ident, Dot};
 
-/// A token before what may follow it is read as it stands: no gap comes first, and no longer prefix is a token.
+/// A token before what may follow it is read back: no gap comes first, and no longer prefix is a token.
 pub fn tokens_are_read_back()
     ensures { (text rest : List ℕ) (token : Kind) → Follows token text rest → (gap (text ++ rest) ≡ 0) × (first_item (text ++ rest) ≡ Some (Ok token, length text)) }
 {}

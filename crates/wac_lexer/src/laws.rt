@@ -24,7 +24,7 @@ pub fn patterns_are_decided()
     ensures { (p : Pattern) (text : List ℕ) → matches p text ≡ true ↔ Matches p text }
 {}
 
-/// Counting how deep a text stands in comments finds what the pieces of comments say.
+/// Counting how deeply comments nest finds the end that the pieces of comments define.
 pub fn comments_are_pieces()
     ensures { (text rest : List ℕ) → (behind 1 text ≡ Some rest) ↔ Inside text rest }
 {}
@@ -50,18 +50,18 @@ pub fn fronts_are_longest()
     ensures { (text : List ℕ) → MatchOption (longest_token text (length text)) (HasNone text) (λ f. IsLongest text f.0 f.1) }
 {}
 
-/// The items of a source stand in order, none over another, and each one's text is the slice at its span.
+/// The items of a source are in order, none overlaps another, and each one's text is the slice at its span.
 pub fn items_stand_in_order()
     ensures { (source : List ℕ) → IsUtf8 source → InOrder source 0 (items source) }
 {}
 
-/// What a text of bytes begins with: a comment without an end, a quote without another, the longest token, or else a character.
+/// What a text of bytes begins with: an unterminated comment or string, the longest token, or else a character.
 pub fn first_items_are_found()
     ensures found { (text : List ℕ) (item : Result Kind Fault) (n : ℕ) → AllByRecursion (λ b. b < 256) text → first_item text ≡ Some (item, n) ↔ IsFirst text item n }
     ensures empty { first_item [] ≡ None }
 {}
 
-/// The refused character is the first of the whole text.
+/// The rejected character is the first of the whole text.
 pub fn refused_characters_are_first()
     ensures { (text : List ℕ) → MatchOption (refused text) (AllByRecursion (λ c. fault_of c ≡ None) (chars text)) (λ found. IsFirstRefused text found.0 found.1) }
 {}

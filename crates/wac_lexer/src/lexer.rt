@@ -8,14 +8,14 @@ use crate::span::SourceSpan;
 use crate::token::Token;
 use std::marker::Model;
 
-/// What an item is: a token, or the fault that stands in its place.
+/// What an item is: a token, or the fault in a token's place.
 pub type LexerResult<T> = Result<T, Error>;
 
 /// Reads a source item by item, from its start on.
 ///
-/// An item is a token or a fault, with its span in bytes. Blanks and comments stand between items. A token is the
-/// longest text there that has a token's shape. After a fault the lexer goes on. The next two items are kept, so each is
-/// searched for once, however often it is peeked at. No call but `comments` takes memory.
+/// An item is a token or a fault, with its span in bytes. Blanks and comments lie between items. A token is the
+/// longest text there that has a token's shape. After a fault the lexer continues. The next two items are kept, so each
+/// is searched for once, however often it is peeked at. No call but `comments` takes memory.
 ///
 /// ```
 /// // Writes the documentation comments and the items of a source, each with its place.
@@ -61,7 +61,7 @@ impl<'a> Lexer<'a> {
 
     /// A lexer at the start of a source.
     ///
-    /// A source that holds a refused character, in a comment or a string too, is rejected as a whole: the error is
+    /// A source with a rejected character, in a comment or a string too, is rejected as a whole: the error is
     /// that of the first one, with its offset and its length in UTF-8.
     #[tactic(auto, unfolding(crate::specs::Reading::left))]
     pub fn new(source: &'a str) -> Result<Lexer<'a>, (Error, SourceSpan)>
@@ -137,7 +137,7 @@ impl<'a> Lexer<'a> {
         self.place
     }
 
-    /// A lexer always stands between two items of its source. This does nothing: its contract is the law.
+    /// A lexer is always between two items of its source. This does nothing: its contract is the law.
     #[tactic(auto, unfolding(crate::specs::Reading::left))]
     pub fn stands_between_items(&self)
         ensures { (before : List Item) × (items self.now.source ≡ before ++ left self.now) }
@@ -161,7 +161,7 @@ impl<'a> Lexer<'a> {
         }
     }
 
-    /// Whether the span is in range and cuts no character, as `source` asks.
+    /// Whether the span is in range and cuts no character, as `source` requires.
     pub fn holds(&self, span: SourceSpan) -> bool
         ensures { IsTrue result ↔ Slices self.now.source span }
     {

@@ -1,6 +1,6 @@
 // The shapes of the texts of tokens.
 
-/// The shape of a text, before a keyword is told from an identifier and a symbol from another.
+/// The shape of a text, before keywords and identifiers, or two symbols, are distinguished.
 #[derive(Clone, Copy, Debug, PartialEq, Eq)]
 pub enum Shape {
     Word,

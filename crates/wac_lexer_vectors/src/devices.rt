@@ -94,8 +94,8 @@ impl Write for Full {
     }
 }
 
-/// A writer and a reader of a text that moves nothing at one of its calls: it fails, or says that the text ends there. A
-/// call after that one would go on with the text.
+/// A writer and a reader of a text that moves nothing at one of its calls: it fails, or says that the text ends there.
+/// A call after that one would continue with the text.
 #[derive(Drop)]
 struct Pausing<'a> {
     narrow: Narrow<'a>,
@@ -105,7 +105,7 @@ struct Pausing<'a> {
 }
 
 impl<'a> Pausing<'a> {
-    /// Pauses at the call of this number, by an error of this kind, or as the end is told.
+    /// Pauses at the call of this number, by an error of this kind, or by reporting the end.
     fn new(text: &'a [u8], pause: Option<ErrorKind>, at: usize) -> Self {
         Pausing {
             narrow: Narrow::new(text, usize::MAX, usize::MAX),
@@ -174,7 +174,7 @@ fn writes(rt: &impl Abort, alloc: Global) {
     assert!(rt; written.as_slice() == b"let x".as_slice(), "let x");
 }
 
-/// Asserts that a writer that takes nothing fails, but of nothing.
+/// Asserts that a writer that takes nothing fails, but for no bytes.
 fn is_full(rt: &impl Abort) {
     let mut full = Out::new(Full);
     assert!(rt; full.put(b"y") == None, "y");
@@ -258,7 +258,7 @@ fn gives_up_to(rt: &impl Abort, text: &[u8], room: usize) {
     assert!(rt; feed.take(&mut part) == None, "of {room}");
 }
 
-/// Asserts that a take which fails, or is told the end, asks the reader once, and leaves it to the next take to try again.
+/// Asserts that a take which fails, or finds the end, asks the reader once, and leaves it to the next take to retry.
 fn takes_once(rt: &impl Abort, pause: Option<ErrorKind>, taken: Option<usize>) {
     let mut reader = Pausing::new(b"let x", pause, 2);
     let mut part = [0; 3];

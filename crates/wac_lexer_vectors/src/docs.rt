@@ -26,7 +26,7 @@ const TEXTS: [(&str, &[Row]); 11] = [
     ("///\u{a0}a\u{2003}b\u{3000}\n;", &[("a\u{2003}b", 0, 13)]),
 ];
 
-/// Asserts the text of a doc, and where it stands.
+/// Asserts the text of a doc, and where it is.
 fn is_doc(rt: &impl Abort, doc: &(&str, SourceSpan), row: &Row) {
     let (text, span) = *doc;
     let (expected, offset, len) = *row;
@@ -62,7 +62,7 @@ fn docs_of_texts(rt: HostRuntime) -> Result<(), Fail> {
     Ok(())
 }
 
-/// Reads one doc, for which memory is asked for once: bench/memory counts how often.
+/// Reads one doc, for which memory is requested once: bench/memory counts how often.
 #[test]
 fn a_doc_takes_memory_once(rt: HostRuntime) {
     docs_are(&rt, rt.alloc(), "/// x\npackage", &[("x", 0, 5)]);

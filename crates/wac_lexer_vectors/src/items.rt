@@ -1,4 +1,4 @@
-//! Items of texts, and refused characters.
+//! Items of texts, and rejected characters.
 
 use std::alloc::{AllocError, Global};
 use std::process::Abort;
@@ -113,7 +113,7 @@ const TEXTS: [(&str, &[Row]); 18] = [
     ("", &[]),
 ];
 
-/// Texts, and the first character of each that is refused.
+/// Texts, and the first rejected character of each.
 const REFUSED: [(&str, Error, usize, usize); 5] = [
     (
         "package a:b; x // \u{202a}",
@@ -137,7 +137,7 @@ const REFUSED: [(&str, Error, usize, usize); 5] = [
     ),
 ];
 
-/// A lexer of a source of three items, the second of which is a fault.
+/// A lexer of a source of three items, whose second one is a fault.
 fn three_items(rt: &impl Abort) -> Lexer<'static> {
     match Lexer::new("let é\"x\"") {
         Ok(lexer) => lexer,
@@ -170,7 +170,7 @@ fn looks_ahead(rt: &impl Abort) {
     assert!(rt; lexer.span() == SourceSpan::new(0, 3), "next");
 }
 
-/// Asserts that a clone goes on by itself.
+/// Asserts that a clone continues by itself.
 fn clones(rt: &impl Abort) -> Result<(), Fail> {
     let mut lexer = three_items(rt);
     lexer.next();
@@ -180,7 +180,7 @@ fn clones(rt: &impl Abort) -> Result<(), Fail> {
     Ok(())
 }
 
-/// Asserts which spans a source has, and what stands there.
+/// Asserts which spans a source has, and what is there.
 fn slices(rt: &impl Abort) {
     let lexer = three_items(rt);
     let span = second();

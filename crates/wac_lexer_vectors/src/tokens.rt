@@ -163,7 +163,7 @@ const TEXTS: [(&str, &[(Token, usize, usize)]); 5] = [
     ),
 ];
 
-/// Package paths, each with where it stands in the text of them all.
+/// Package paths, each with where it is in the text of them all.
 const PATHS: [(&str, usize); 33] = [
     ("foo:bar/baz/qux/jam", 1),
     ("foo:bar:baz:qux/jam", 21),
@@ -206,7 +206,7 @@ const PATHS: [(&str, usize); 33] = [
     ("foo:bar/baz@1.0.0-0A.is.legal", 993),
 ];
 
-/// Asserts that the paths are tokens where they stand.
+/// Asserts that the paths are tokens where they are.
 fn paths_are_tokens(rt: &impl Abort) {
     let Ok(mut lexer) = Lexer::new(
         "\n\

@@ -1,4 +1,4 @@
--- How many numbers of a list that does not fall are at most another.
+-- How many numbers of a non-decreasing list are at most another.
 use Rattle.std.proofs.Common.{◌≡◌, ◌∙◌, ◌≤◌, ◌<◌, ◌+◌, ◌-◌, ℕ, zero, suc, List, [], ◌∷◌, Bool, true, false, inl, inr, refl, sym, arith, length, get_or, take, cond, ap, add-one}
 use Rattle.std.proofs.lemmas.Bool.{le-leb, leb-true, false_from_ne_true, cases_lt}
 use Rattle.std.proofs.lemmas.List.Sums.{count_by_more_yes, count_by_more_no, sum_by-cons}

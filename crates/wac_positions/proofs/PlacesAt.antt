@@ -13,7 +13,7 @@ use Rattle.wac_positions.proofs.LinesAt.{InLine, line_of_offset, offset_of_line}
 abbrev pub place : ℕ → ℕ → Place
 place line column = record { line = line; column = column }
 
--- the place of an offset, of which the line and where that begins are known
+-- the place of an offset whose line is known, and where the line begins
 pub place_is : (text : List ℕ) (unit : ColumnUnit) (o n start : ℕ) (front : List ℕ) → line_at text o ≡ n → start ≡ slice_index (line_starts text) n → front ≡ take (o - start) (drop start text) → place_at text unit o ≡ record { line = n; column = units unit front }
 place_is text unit o n start front line begins is =
     let from : slice_index (line_starts text) (line_at text o) ≡ start = ap (slice_index (line_starts text)) line ∙ sym begins in

@@ -48,7 +48,7 @@ starts_are at (b ∷ rest) k d lt =
     (λ e. more)
     k d lt
 
--- ---- lines begin one after another
+-- ---- lines begin in order
 
 cons_rises : (x : ℕ) (ys : List ℕ) → ((k d : ℕ) → k < length ys → x ≤ get_or ys k d) → IsNonDecreasingBy (λ y. y) ys → IsNonDecreasingBy (λ y. y) (x ∷ ys)
 cons_rises x ys low up zero zero d le lt = omega arith

@@ -11,7 +11,8 @@ use Rattle.wac_positions.specs.declared.place.Place.{Place}
 abbrev pub is_continuation : ℕ → Bool
 is_continuation b = nat_le 128 b && nat_lt b 192
 
--- how many units a byte counts for: the first byte of a character counts for all of it, and a character of four bytes has two units of UTF-16
+-- how many units a byte counts for: the first byte of a character counts for all of it, and a character of four bytes
+-- has two units of UTF-16
 abbrev pub width : ColumnUnit → ℕ → ℕ
 width Bytes b = 1
 width Utf16 b = if is_continuation b then 0 else (if nat_le 240 b then 2 else 1)

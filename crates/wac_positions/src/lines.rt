@@ -12,8 +12,8 @@ use std::marker::Model;
 /// The lines of a text, with which places are found.
 ///
 /// A line ends at LF, at CR LF, or at a CR that no LF follows. So a text has at least one line, and the last one has no
-/// end. The lines are found once, when the value is made, and take a `usize` each; what is asked then takes logarithmic
-/// time in their number, and linear time in the length of one line.
+/// end. The lines are found once, when the value is made, and take a `usize` each; a query then takes logarithmic time
+/// in their number, and linear time in the length of one line.
 ///
 /// ```text
 /// let lines = Lines::new(alloc, "package a:b;\nlet x = y;\n")?;
@@ -80,7 +80,7 @@ fn line_len(text: &[u8]) -> usize
     text.len()
 }
 
-/// Where within a line the character begins before which there are so many units.
+/// Where within a line the character begins that comes after so many units.
 fn find_column(line: &[u8], unit: ColumnUnit, column: usize) -> Option<usize>
     ensures found { IfSome result (λ at. (at < length line.now) × IsColumn line.now unit column at) }
     ensures none { result ≡ None → (at : ℕ) → at < length line.now → ¬ (IsColumn line.now unit column at) }

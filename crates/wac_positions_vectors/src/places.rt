@@ -15,7 +15,7 @@ static ROWS: [Row; 13] = [
     (0, 0, 0, 0, 0),
     (1, 0, 1, 1, 1),
     (2, 0, 2, 2, 2),
-    // é has two bytes, € three, and the face four, of which UTF-16 makes two units.
+    // é has two bytes, € three, and the face four, which are two units of UTF-16.
     (3, 1, 0, 0, 0),
     (5, 1, 2, 1, 1),
     (8, 1, 5, 2, 2),

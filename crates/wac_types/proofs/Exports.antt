@@ -84,7 +84,7 @@ world_there (Some (entries.Func f)) h = absurd (cc)
 world_there (Some (entries.Interface i)) h = absurd (cc)
 world_there (Some (entries.World w)) h = search rules
 
--- a map that is read of what is there, or nothing
+-- a map that is read of what is found, or nothing
 pub read_map : {E M : Type 0} (f : E → M) (g : M → List (String Global × ItemKind)) (o : Option E) (m : M) → Some m ≡ option_map f o → by_name (g m) ≡ elim o [ None ↦ [] | Some x ↦ by_name (g (f x)) ]
 read_map f g None m h = absurd (cc)
 read_map f g (Some x) m h = (let same : m ≡ f x = cc in ap (λ y. by_name (g y)) same)

@@ -75,7 +75,7 @@ module _ (o : ℕ → ℕ) (es : List Entry) (f : ℕ → Meaning) (over : IsOve
   pub import_found : (id : WorldId) (name : List ℕ) → Names es (kinds.Component id) → option_map (of_kind f) (look_up name (world_imports es id.0)) ≡ look_up name (imports_of (f id.0))
   import_found id name h = sym (ap (look_up name) (world_imports_mean id.0 h.1) ∙ items_found f (world_imports es id.0) name)
 
--- ---- what is there names entries of the table
+-- ---- what is found names entries of the table
 
 exports_named : (es : List Entry) (xs : List (String Global × ItemKind)) → EachKind (Names es) (export_children xs) → ItemsNamed es (by_name xs)
 exports_named es [] h = tt

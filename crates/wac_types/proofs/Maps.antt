@@ -16,7 +16,7 @@ pub by_name_found : {X : Type 0} (name : List ℕ) (es : List (String Global × 
 by_name_found name [] = refl
 by_name_found {X} name (e ∷ es) = ap (cond (bytes_eq name (string_bytes e.0)) (Some e.1)) (by_name_found name es)
 
--- nothing stands under a name that is none of the names
+-- a name that is none of the names finds nothing
 pub fresh_name : {X : Type 0} (name : List ℕ) (es : Named X) → list_any (bytes_eq name) (map (λ e. e.0) es) ≡ false → look_up name es ≡ None
 fresh_name name [] h = refl
 fresh_name {X} name (e ∷ es) h = go (fresh_name name es) (bytes_eq name e.0) h

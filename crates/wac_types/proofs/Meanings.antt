@@ -10,7 +10,7 @@ use Rattle.wac_types.specs.Entry.{Slot, children}
 use Rattle.wac_types.specs.Label.{plain, kind, dangling, label}
 use Rattle.wac_types.specs.Meaning.{Meaning, node, done, look, named, of_child, row, over, meanings_from, meaning_at, meaning, NamesBefore, ChildrenBefore, EarlierFrom, IsEarlier}
 
--- what is there stays
+-- older meanings stay
 pub look_kept : (o : ℕ → ℕ) (es : List Entry) (ms : List Meaning) (i : ℕ) → i < length ms → look (meanings_from o ms es) i ≡ look ms i
 look_kept o [] ms i h = refl
 look_kept o (e ∷ es) ms i h =

@@ -22,7 +22,7 @@ use Rattle.wac_types.specs.Names.{by_name}
 use Rattle.wac_types.specs.Shape.{nothing, row_from, exporting, importing, using, naming_each, tuple_children, name_children, interface_entry, world_entry, func_entry, named_results, exports_of, imports_of, uses_of, id_of, items_mean, values_mean, cases_mean, types_mean, uses_mean, optional_means, results_mean, entry_over, defined_parts, items_in, slot_export}
 use Rattle.wac_types.proofs.Shapes.{exports_back, interface_exports_back, interface_uses_back, world_exports_back, world_imports_back, world_uses_back}
 
--- what stands in an entry, each with its meaning
+-- the kinds in an entry, each with its meaning
 abbrev pub meant : (ℕ → Meaning) → List (Slot × Option ItemKind) → List (Slot × Meaning)
 meant f cs = map (λ c. (c.0, of_child f c.1)) cs
 

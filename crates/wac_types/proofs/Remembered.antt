@@ -1,4 +1,4 @@
--- Pairs of entries that mean the same stay such as others take their places.
+-- All pairs in slots mean the same, also after others are added.
 use Rattle.std.proofs.Common.{◌≡◌, ℕ, zero, suc, List, Some, ap, refl, subst, set, replicate}
 use Rattle.std.specs.Prelude.{slice_get}
 use Rattle.std.proofs.lemmas.Option.{slice_get_within, get_or_from_slice_get}

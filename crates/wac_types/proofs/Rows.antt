@@ -79,14 +79,14 @@ earlier_from m n (x ∷ es) zero e at h is =
     subst (λ (y : Entry). ChildrenBefore n (children y)) first (subst (λ (k : ℕ). ChildrenBefore k (children x)) number h.0)
 earlier_from m n (x ∷ es) (suc i) e at h is = earlier_from (suc m) n es i e (omega arith) h.1 is
 
--- what stands in an entry names earlier entries
+-- the kinds in an entry name earlier entries
 pub earlier_child : (es : List Entry) (i k : ℕ) (e : Entry) (c : Slot × Option ItemKind) → IsEarlier es → slice_get es i ≡ Some e → slice_get (children e) k ≡ Some c → IfSome c.1 (NamesBefore i)
 earlier_child es i k e c h is at = child_before i (children e) k c (earlier_from 0 i es i e (omega arith) h is) at
 
 pub stands : {X : Type 0} (es : List X) (i : ℕ) (d : X) → i < length es → d ≡ get_or es i d → slice_get es i ≡ Some d
 stands es i d within read = slice_get_read es (length es) i d refl within read
 
--- two entries mean the same if and only if they are alike beside what stands in them, and so are the rows of it
+-- two entries mean the same if and only if their labels are equal, and so are the rows of the kinds in them
 pub node_same : (o : ℕ → ℕ) (es : List Entry) (i j : ℕ) (d e : Entry) → IsEarlier es → i < length es → d ≡ get_or es i d → j < length es → e ≡ get_or es j e
     → meaning_at o es i ≡ meaning_at o es j → (label (o i) d ≡ label (o j) e) × (row (meaning_at o es) (children d) ≡ row (meaning_at o es) (children e))
 node_same o es i j d e h wi rd wj re same =

@@ -99,11 +99,11 @@ no_import_in_uses : (us : Uses) → items_in slot_import (row_from (using us)) �
 no_import_in_uses [] = refl
 no_import_in_uses (u ∷ us) = no_import_in_uses us
 
--- the rows of a list after another, of which the first has nothing of the sort
+-- the rows of a list after another, where the first has nothing of the sort
 behind_none : {X : Type 0} (pick : Slot → Option X) (cs ds : List (Slot × Meaning)) (all : List (X × Meaning)) → items_in pick (row_from cs) ≡ [] → items_in pick (row_from ds) ≡ all → items_in pick (row_from (cs ++ ds)) ≡ all
 behind_none pick cs ds all p q = items_append pick cs ds ∙ ap (λ l. l ++ items_in pick (row_from ds)) p ∙ q
 
--- the same, of which the second has nothing of the sort
+-- the same, where the second has nothing of the sort
 before_none : {X : Type 0} (pick : Slot → Option X) (cs ds : List (Slot × Meaning)) (all : List (X × Meaning)) → items_in pick (row_from cs) ≡ all → items_in pick (row_from ds) ≡ [] → items_in pick (row_from (cs ++ ds)) ≡ all
 before_none {X} pick cs ds all p q =
     let nil : items_in pick (row_from cs) ++ [] ≡ items_in pick (row_from cs) = simp append-nil in

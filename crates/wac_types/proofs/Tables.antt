@@ -65,11 +65,11 @@ each_both P Q (c ∷ cs) p q = (one c.1 p.0 q.0, each_both P Q cs p.1 q.1)
     one None p q = tt
     one (Some k) p q = (p, q)
 
--- what stands in an entry names entries before it, of their sort
+-- the kinds in an entry name entries before it, of their sort
 pub entry_names : (es : List Entry) (i : ℕ) (e : Entry) → IsTable es → slice_get es i ≡ Some e → EachKind (λ k. NamesBefore i k × IsOfSort es k) (children e)
 entry_names es i e table is = each_both (NamesBefore i) (IsOfSort es) (children e) (earlier_from 0 i es i e (omega arith) table.0 is) (each_from_at (λ x. EachKind (IsOfSort es) (children x)) 0 es i e table.1 is)
 
--- what stands in an entry names entries of the table
+-- the kinds in an entry name entries of the table
 pub each_entry_named : (es : List Entry) → IsTable es → EachEntryNamed es
 each_entry_named es table i e is = each_implies (λ k. NamesBefore i k × IsOfSort es k) (Names es) more (children e) (entry_names es i e table is)
   where

@@ -1,4 +1,4 @@
--- Maps by name, seen as the kinds that stand in an entry.
+-- Maps by name, seen as the kinds in an entry.
 use Rattle.std.proofs.Common.{◌≡◌, ◌∙◌, ℕ, List, [], ◌∷◌, Option, length, map, refl, sym, ap, suc}
 use Rattle.std.specs.Prelude.{String, slice_get, option_map}
 use Rattle.std.specs.declared.alloc.Global.{Global}

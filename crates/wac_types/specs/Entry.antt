@@ -1,4 +1,4 @@
--- The kinds that stand in an entry, each in its slot.
+-- The kinds in an entry, each in its slot.
 use Rattle.std.specs.Prelude.{ℕ, Option, Some, None, List, [], ◌∷◌, ◌++◌, map, option_map, string_bytes, String}
 use Rattle.std.specs.declared.alloc.Global.{Global}
 use Rattle.wac_types.specs.declared.kind.ValueType.{ValueType}

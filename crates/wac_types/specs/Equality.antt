@@ -133,7 +133,7 @@ mutual
       let d : r ≡ q = row_back f r q (λ i j p w. one i j (inr p) (inr w)) re in
       cc
 
--- equality stays under other origins
+-- equality is the same under other origins
 pub equal_or-renamed : (reason : Reason) (f : ℕ → ℕ) (a b : Meaning) → KeepsApart f a b
     → equal_or reason (meaning_discrete (renamed f a) (renamed f b)) ≡ equal_or reason (meaning_discrete a b)
 equal_or-renamed reason f a b apart = go (meaning_discrete a b)

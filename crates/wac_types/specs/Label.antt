@@ -1,4 +1,4 @@
--- What an entry is beside the kinds in it.
+-- What an entry is apart from the kinds in it.
 use Rattle.std.specs.Prelude.{ℕ, Option, List, Bool, option_map, string_bytes}
 use Rattle.wac_types.specs.Kind.{Form}
 use Rattle.wac_types.specs.declared.entry.Entry.{Entry}

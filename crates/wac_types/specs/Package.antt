@@ -40,7 +40,7 @@ pub record PackageParts : Type 0 where
   pub instance : InterfaceId
   pub definitions : List (List ℕ × ItemKind)
 
--- each kind that stands in an entry
+-- each kind in an entry
 abbrev pub EachInEntries : (ItemKind → Type 0) → List Entry → Type 0
 EachInEntries P es = AllByRecursion (λ e. EachKind P (children e)) es
 
@@ -48,14 +48,14 @@ EachInEntries P es = AllByRecursion (λ e. EachKind P (children e)) es
 abbrev pub EachItem : (ItemKind → Type 0) → List (List ℕ × ItemKind) → Type 0
 EachItem P ds = AllByRecursion (λ d. P d.1) ds
 
--- each kind that a package names: its world as a component, its instance, its definitions, and what stands in its entries
+-- each kind that a package names: its world as a component, its instance, its definitions, and the kinds in its entries
 pub record EachNamed (P : ItemKind → Type 0) (p : PackageParts) : Type 0 where
   pub of_world : P (kinds.Component p.world)
   pub of_instance : P (kinds.Instance p.instance)
   pub of_definitions : EachItem P p.definitions
   pub of_entries : EachInEntries P p.types
 
--- ---- what a package is tested for, one after another
+-- ---- what a package is tested for, in order
 
 -- 1: each id is an entry's number
 pub record IdsInRange (p : PackageParts) : Type 0 where
@@ -69,7 +69,7 @@ pub record IdsOfSort (p : PackageParts) : Type 0 where
 pub record IdsEarlier (es : List Entry) : Type 0 where
   pub each : IsEarlier es
 
--- 4: each interface that stands as a type among the definitions, or in an entry, has an id
+-- 4: each interface that appears as a type among the definitions, or in an entry, has an id
 pub record HaveIds (es : List Entry) (ds : List (List ℕ × ItemKind)) : Type 0 where
   pub in_definitions : EachItem (HasId es) ds
   pub in_entries : EachInEntries (HasId es) es
@@ -94,7 +94,7 @@ pub record IsPackage (p : PackageParts) : Type 0 where
   pub ids : HaveIds p.types p.definitions
   pub exports : SameExports p.types p.world p.instance
 
--- the error's fault is there, and none of those before it
+-- the error's fault is present, and none of those before it
 abbrev pub FirstFault : PackageError → PackageParts → Type 0
 FirstFault errors.OutOfRange p = IdsInRange p → ⊥
 FirstFault errors.OtherSort p = IdsInRange p × (IdsOfSort p → ⊥)

@@ -15,7 +15,7 @@ slot_of i j = (2 * i + j) % 512
 abbrev pub Holds : List (ℕ × ℕ) → ℕ → ℕ → Type 0
 Holds pairs i j = slice_get pairs (slot_of i j) ≡ Some (i, j)
 
--- pairs of types that follow one another are three slots apart, and after the last slot comes the first
+-- pairs of consecutive types are three slots apart, and after the last slot comes the first
 first_slot : slot_of 170 170 ≡ 510
 first_slot = refl
 

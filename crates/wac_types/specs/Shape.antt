@@ -210,7 +210,7 @@ abbrev pub cons_named : {X Y : Type 0} → Option X → Y → List (X × Y) → 
 cons_named None y rest = rest
 cons_named (Some x) y rest = (x, y) ∷ rest
 
--- the meanings that stand in slots of a sort, in order
+-- the meanings in slots of a sort, in order
 abbrev pub items_in : {X : Type 0} → (Slot → Option X) → Row → List (X × Meaning)
 items_in pick done = []
 items_in pick (more s m r) = cons_named (pick s) m (items_in pick r)
@@ -337,7 +337,7 @@ abbrev pub is_borrow_form : Form → Bool
 is_borrow_form (value borrow) = true
 is_borrow_form _ = false
 
--- of a label over meanings of which some contains a borrow, or none: a resource is none, whatever its alias is
+-- whether a label contains a borrow, given whether a part does: a resource doesn't, whatever its alias is
 abbrev pub borrows : Label → Bool → Bool
 borrows (plain p) rest = formed is_borrow_form (plain_form p) || rest
 borrows (resource o n) rest = false
@@ -351,7 +351,7 @@ abbrev mutual
   row_contains_borrow done = false
   row_contains_borrow (more s m r) = contains_borrow m || row_contains_borrow r
 
--- ---- what stands in a table, each with its meaning
+-- ---- what is in a table, each part with its meaning
 
 abbrev pub items_mean : (ℕ → Meaning) → Named ItemKind → Named Meaning
 items_mean f all = map (λ e. (e.0, of_kind f e.1)) all
@@ -377,7 +377,7 @@ results_mean f results.None = []
 results_mean f (results.Scalar t) = one_result (of_kind f (kinds.Value t))
 results_mean f (results.Named rs) = named_results (values_mean f (by_name rs.entries))
 
--- what stands in a defined type
+-- the parts of a defined type
 abbrev pub defined_parts : (ℕ → Meaning) → DefinedType → List (Slot × Meaning)
 defined_parts f (types.Tuple ts) = tuple_children (types_mean f ts.items)
 defined_parts f (types.List t) = one_child (of_kind f (kinds.Value t))

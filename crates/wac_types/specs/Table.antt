@@ -7,7 +7,7 @@ use Rattle.wac_types.specs.Kind.{named_by, sort_named}
 use Rattle.wac_types.specs.Entry.{children, sort_of}
 use Rattle.wac_types.specs.Meaning.{IsEarlier, NamesBefore, EachFrom, EachKind}
 
--- what a number stands for, if it is in the table, is of the sort that the kind wants
+-- the entry that the kind names, if any, is in the table and of the sort it requires
 abbrev pub IsOfSort : List Entry → ItemKind → Type 0
 IsOfSort es k = IfSome (named_by k) (λ i. option_map sort_of (slice_get es i) ≡ Some (sort_named k))
 
@@ -26,6 +26,6 @@ IsTable es = IsEarlier es × AreOfSort es es
 abbrev pub ItemsNamed : List Entry → List (List ℕ × ItemKind) → Type 0
 ItemsNamed es ds = AllByRecursion (λ d. Names es d.1) ds
 
--- what stands in each entry names entries of the table
+-- the kinds in each entry name entries of the table
 abbrev pub EachEntryNamed : List Entry → Type 0
 EachEntryNamed es = (i : ℕ) (e : Entry) → slice_get es i ≡ Some e → EachKind (Names es) (children e)

@@ -11,7 +11,7 @@ use Rattle.wac_types.specs.Meaning.{NamesBefore, EachFrom, EachKind}
 use Rattle.wac_types.specs.Package.{HasId, PackageParts}
 use Rattle.wac_types.specs.Table.{IsOfSort}
 
--- a kind that stands in the entry of number n passes a test
+-- a kind in the entry of number n passes a test
 abbrev pub Passes : Test → List Entry → ℕ → ItemKind → Type 0
 Passes tests.InRange es n k = NamesBefore (length es) k
 Passes tests.OfSort es n k = IsOfSort es k

@@ -37,7 +37,7 @@ fn same_shape(first: &DefinedType, second: &DefinedType) -> bool
     }
 }
 
-/// Whether two entries are alike beside the kinds in them. No two resources are.
+/// Whether two entries are alike apart from the kinds in them. No two resources are.
 fn same_label(first: &Entry, second: &Entry) -> bool
     ensures { (p q : ℕ) → (IsResource first.now → IsResource second.now → p ≢ q) → (IsTrue result ↔ (label p first.now ≡ label q second.now)) }
 {
@@ -77,8 +77,8 @@ fn same_kind(entries: &[Entry], found: &mut Pairs, a: Option<ItemKind>, b: Optio
     }
 }
 
-/// Whether two entries mean the same. A pair that is in `found` isn't compared again, and one that is compared with
-/// success is added, so that types that name others twice aren't gone through twice.
+/// Whether two entries mean the same. A pair in `found` isn't compared again, and a pair that means the same is added,
+/// so that types that name others twice aren't traversed twice.
 #[cycle(same)]
 fn same_at(entries: &[Entry], found: &mut Pairs, i: usize, j: usize) -> bool
     requires earlier { IsEarlier entries.now }
@@ -90,7 +90,7 @@ fn same_at(entries: &[Entry], found: &mut Pairs, i: usize, j: usize) -> bool
     ensures added { IsTrue result → (i ≡ j → ⊥) → Holds found.new i j }
     ensures known { Holds found.old i j → found.new ≡ found.old }
 {
-    // Types that name others twice, which do so themselves, would else be gone through twice as often at each level.
+    // Types that name others twice, which do so themselves, would otherwise be traversed twice as often at each level.
     if i == j {
         return true;
     }
@@ -123,7 +123,7 @@ fn same_at(entries: &[Entry], found: &mut Pairs, i: usize, j: usize) -> bool
     true
 }
 
-/// Whether two kinds that stand in entries mean the same.
+/// Whether two kinds in entries mean the same.
 pub(crate) fn same_child(entries: &[Entry], a: Option<ItemKind>, b: Option<ItemKind>) -> bool
     requires earlier { IsEarlier entries.now }
     requires first { IfSome a (NamesBefore (length entries.now)) }

@@ -1,4 +1,4 @@
-//! Whether an entry contains a borrow, as it is known of the entries before it.
+//! Whether an entry contains a borrow, from what is known of those before it.
 ghost use Rattle.std.specs.Prelude.{◌≡◌, ℕ, List, map};
 ghost use Rattle.wac_types.specs.Kind.{form};
 ghost use Rattle.wac_types.specs.Meaning.{Meaning, look, of_child, over};
@@ -36,7 +36,7 @@ fn is_known(known: &[bool], number: usize) -> bool
     }
 }
 
-/// Whether what stands in an entry contains a borrow.
+/// Whether a kind in an entry contains a borrow.
 pub(crate) fn child_has_borrow(known: &[bool], child: Option<ItemKind>) -> bool
     ensures { (ms : List Meaning) → known.now ≡ map has_borrow ms → result ≡ has_borrow (of_child (look ms) child) }
 {

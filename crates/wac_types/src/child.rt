@@ -1,4 +1,4 @@
-//! The kinds that stand in an entry, one by one.
+//! The kinds in an entry, one by one.
 ghost use Rattle.std.specs.Prelude.{◌≡◌, [], ◌∷◌, ◌++◌, ◌<◌, ◌^◌, IsTrue, ◌↔◌, length, slice_get, option_map, string_bytes};
 ghost use Rattle.wac_types.specs.Entry.{children, child_view, slot_of, value_children, case_children, name_children, tuple_children, use_children, import_children, export_children, named_result_children, result_children, sort_of};
 
@@ -8,7 +8,7 @@ use crate::entry::{
 use crate::kind::{ItemKind, Sort, Type, ValueType};
 use indexmap::{IndexMap, IndexSet};
 
-/// Where in an entry a kind stands.
+/// Where in an entry a kind is.
 #[derive(Clone, Copy)]
 pub enum Place<'a> {
     Only,
@@ -23,7 +23,7 @@ pub enum Place<'a> {
     Export(&'a str),
 }
 
-/// A kind that stands in an entry, if it is given.
+/// A kind in an entry, if it is given.
 #[derive(Clone, Copy)]
 pub struct Child<'a> {
     pub place: Place<'a>,

@@ -3,7 +3,7 @@
 use crate::kind::{InterfaceId, ItemKind, ResourceId, ValueType};
 use indexmap::{IndexMap, IndexSet};
 
-/// A type of values that isn't primitive. Cases, fields and names stand in their order, which counts.
+/// A type of values that isn't primitive. The order of cases, fields and names counts.
 #[derive(Drop)]
 pub enum DefinedType {
     Tuple(Vec<ValueType>),
@@ -26,7 +26,7 @@ pub enum DefinedType {
     Future(Option<ValueType>),
 }
 
-/// What a function gives.
+/// What a function returns.
 #[derive(Drop)]
 pub enum FuncResults {
     /// Nothing.
@@ -45,8 +45,8 @@ pub struct FuncType {
     pub is_async: bool,
 }
 
-/// A type that stands here under a name of its own (the key), and is exported by another interface: under `name`
-/// where that differs.
+/// A type that has a name of its own here (the key), and is exported by another interface: under `name` where that
+/// differs.
 #[derive(Drop)]
 pub struct UsedType {
     pub interface: InterfaceId,
@@ -54,7 +54,7 @@ pub struct UsedType {
 }
 
 /// An interface: what an instance exports. The id is its name outside, as `wasi:http/types@0.2.0`; inline interfaces
-/// have none. A used type stands among the exports too.
+/// have none. A used type is among the exports too.
 #[derive(Drop)]
 pub struct Interface {
     pub id: Option<String>,
@@ -62,7 +62,7 @@ pub struct Interface {
     pub exports: IndexMap<String, ItemKind>,
 }
 
-/// A world: what a component imports and exports. A used type stands among the imports too.
+/// A world: what a component imports and exports. A used type is among the imports too.
 #[derive(Drop)]
 pub struct World {
     pub id: Option<String>,

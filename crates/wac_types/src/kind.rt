@@ -83,7 +83,7 @@ pub enum ItemKind {
     Value(ValueType),
 }
 
-/// The sort of an entry, as a kind wants it.
+/// The sort of an entry that a kind requires.
 #[derive(Clone, Copy, Debug, PartialEq, Eq)]
 pub enum Sort {
     Defined,
@@ -94,7 +94,7 @@ pub enum Sort {
 }
 
 impl ValueType {
-    /// Whether both have one form, beside the entries that they name.
+    /// Whether both have one form, apart from the entries that they name.
     pub(crate) fn same_form(self, other: ValueType) -> bool
         ensures { IsTrue result ↔ (value_form self ≡ value_form other) }
     {
@@ -119,7 +119,7 @@ impl ValueType {
         }
     }
 
-    /// The sort that the entry that it names is of.
+    /// The sort of the entry that it names.
     pub(crate) fn sort(self) -> Sort
         ensures { result ≡ value_sort_named self }
     {
@@ -147,7 +147,7 @@ fn same_type_form(a: Type, b: Type) -> bool
 }
 
 impl ItemKind {
-    /// Whether both have one form, beside the entries that they name.
+    /// Whether both have one form, apart from the entries that they name.
     pub(crate) fn same_form(self, other: ItemKind) -> bool
         ensures { IsTrue result ↔ (form self ≡ form other) }
     {
@@ -181,7 +181,7 @@ impl ItemKind {
         }
     }
 
-    /// The sort that the entry that it names is of.
+    /// The sort of the entry that it names.
     pub(crate) fn sort(self) -> Sort
         ensures { result ≡ sort_named self }
     {

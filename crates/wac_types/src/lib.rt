@@ -4,11 +4,11 @@
 //! entry's number, and entries name earlier ones by their ids. An [`ItemKind`] says what an item is and names an
 //! entry. Entries are only appended, and each older kind keeps what it means.
 //!
-//! What a kind *means* is a tree with no table: the same wherever its parts stand. A resource is its origin, a number
-//! that tells it from others, so two resources of one name are two. [`Types::same`] compares meanings.
+//! What a kind *means* is a tree with no table: the same wherever its parts are. A resource is its origin, a number
+//! that distinguishes it, so two resources of one name are two. [`Types::same`] compares meanings.
 //!
-//! A [`Package`] is a component's types without the five faults of [`PackageError`]. [`Rules`] say which kind may
-//! stand where another is expected; they are handed in.
+//! A [`Package`] is a component's types without the five faults of [`PackageError`]. [`Rules`] say which kind may be
+//! used where another is expected; the caller supplies them.
 #![tactic(auto)]
 
 mod alike;

@@ -1,4 +1,4 @@
-//! Names in order: the maps and sets of texts that stand in entries.
+//! Names in order: the maps and sets of texts in entries.
 ghost use Rattle.std.specs.Prelude.{◌≡◌, [], ◌∷◌, ◌++◌, OnOk, OnErr, IfOk, false, option_map, slice_get, None, map, string_bytes, option_copied};
 ghost use Rattle.std.specs.List.{list_any};
 ghost use Rattle.std.specs.Str.{bytes_eq};
@@ -24,7 +24,7 @@ pub fn push<V: Drop>(
     Ok(())
 }
 
-/// What stands under a name.
+/// The value under a name.
 pub fn find<V: Copy>(all: &IndexMap<String, V>, name: &str) -> Option<V>
     ensures { result ≡ look_up name.now (by_name all.now.entries) }
 {

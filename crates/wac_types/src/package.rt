@@ -20,7 +20,7 @@ use std::alloc::AllocError;
 use std::fmt;
 use std::marker::Model;
 
-/// Why there is no such package. The faults stand in the order in which they are looked for.
+/// Why there is no such package. The faults are in the order in which they are looked for.
 #[derive(Debug, Drop)]
 pub enum PackageError {
     /// An id is past the table's entries.
@@ -256,7 +256,7 @@ fn ids_earlier(entries: &[Entry]) -> bool
     entries_pass(Test::Earlier, entries)
 }
 
-/// Whether each interface that stands as a type has an id.
+/// Whether each interface that appears as a type has an id.
 fn have_ids(entries: &[Entry], definitions: &IndexMap<String, ItemKind>) -> bool
     ensures { IsTrue result ↔ HaveIds entries.now (by_name definitions.now.entries) }
 {
@@ -314,7 +314,7 @@ fn exports_of_world(entries: &[Entry], id: WorldId) -> Option<&IndexMap<String, 
     Some(&world.exports)
 }
 
-/// Whether the instance and the world, which are there, export the same.
+/// Whether the instance and the world, which exist, export the same.
 #[tactic(auto, using(crate::proofs::Exports::interface_there, crate::proofs::Exports::world_there))]
 fn same_exports(entries: &[Entry], world: WorldId, instance: InterfaceId) -> bool
     requires earlier { IsEarlier entries.now }
@@ -332,8 +332,7 @@ fn same_exports(entries: &[Entry], world: WorldId, instance: InterfaceId) -> boo
     same_externs(entries, first, second)
 }
 
-/// Looks for each fault in the whole package before the next. It borrows the parts, which each exit would else have to
-/// drop.
+/// Looks for each fault in the whole package before the next. It borrows the parts, so that no exit has to drop them.
 fn test_parts(
     entries: &[Entry],
     world: WorldId,

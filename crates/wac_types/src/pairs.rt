@@ -9,7 +9,7 @@ use std::marker::Model;
 /// How many pairs there is room for.
 const ROOM: usize = 512;
 
-/// Some of the pairs that were added: each stands in a slot of its own, until another one takes that. It takes no memory.
+/// Some of the pairs that were added: each is in a slot of its own, until another one takes that. It takes no memory.
 #[derive(Drop)]
 pub(crate) struct Pairs {
     slots: [(usize, usize); ROOM],
@@ -41,7 +41,7 @@ impl Pairs {
         }
     }
 
-    /// Whether a pair is there.
+    /// Whether a pair is held.
     pub fn has(&self, i: usize, j: usize) -> bool
         ensures alike { (es : List Entry) → AreAlike es self.now → IsTrue result → Alike es i j }
         ensures there { IsTrue result ↔ Holds self.now i j }
@@ -52,7 +52,7 @@ impl Pairs {
         }
     }
 
-    /// Adds a pair. Of the others it takes away the one in its slot alone.
+    /// Adds a pair. Of the others only the one in its slot is lost.
     pub fn add(&mut self, i: usize, j: usize)
         ensures alike { (es : List Entry) → AreAlike es self.old → Alike es i j → AreAlike es self.new }
         ensures there { Holds self.new i j }
@@ -62,7 +62,7 @@ impl Pairs {
     }
 }
 
-/// Pairs of types that follow one another have slots of their own, as far as there are slots.
+/// Pairs of consecutive types have slots of their own, as far as there are slots.
 pub(crate) fn following_pairs_are_kept()
     ensures { (i j k : ℕ) → k < 512 → slot_of (i + k) (j + k) ≡ slot_of i j → k ≡ 0 }
 {}

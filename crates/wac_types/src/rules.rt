@@ -1,4 +1,4 @@
-//! Rules that are handed in.
+//! Rules that a caller supplies.
 ghost use Rattle.std.specs.Prelude.{◌≡◌, ℕ, List, Option, None, Some, length};
 ghost use Rattle.wac_types.specs.declared.rules.Reason.{Reason};
 ghost use Rattle.wac_types.specs.Meaning.{Meaning, IsOneToOne, meaning};
@@ -12,19 +12,19 @@ use crate::types::Types;
 #[derive(Clone, Copy, Debug, PartialEq, Eq)]
 pub struct Reason(pub u32);
 
-/// Which kinds may stand for which, and which names imports and exports may have.
+/// Which kinds may be used for which, and which names imports and exports may have.
 ///
-/// Component subtyping and the syntax of names aren't decided here: whoever resolves a document
-/// hands them in. An implementation goes by what the two kinds mean, so neither by their numbers in the
-/// table nor by what else stands in it, and it can't tell which origins resources have, only which are the same.
+/// Component subtyping and the syntax of names aren't decided here: whoever resolves a document supplies
+/// them. An implementation goes by what the two kinds mean, so neither by their numbers in the table nor
+/// by what else is in it, and it can't tell which origins resources have, only which are the same.
 pub trait Rules {
-    /// The reason for which the first may not stand where the second is expected, if there is one.
+    /// The reason for which the first may not be used where the second is expected, if there is one.
     ghost passes: { Self → Meaning → Meaning → Option Reason };
 
     /// The reason for which an import or export may not have the name, if there is one.
     ghost named: { Self → List ℕ → Option Reason };
 
-    /// Whether `a` may stand where `b` is expected.
+    /// Whether `a` may be used where `b` is expected.
     fn subtype(&self, types: &Types, a: ItemKind, b: ItemKind) -> Result<(), Reason>
         requires table { IsTable types.now }
         requires first { Names types.now a }

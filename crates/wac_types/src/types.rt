@@ -21,7 +21,7 @@ use std::marker::Model;
 /// A table of types. A contract sees the list of its entries. Growth keeps the meaning of each older kind.
 pub struct Types {
     entries: Vec<Entry>,
-    /// For each entry whether it contains a borrow, so that it's asked at once however often a type is named.
+    /// For each entry whether it contains a borrow, so that this is found once however often a type is named.
     borrows: Vec<bool>,
 }
 
@@ -51,7 +51,7 @@ impl Drop for Types {
     }
 }
 
-/// Makes room for one more entry, and for what is known of it. The entry isn't handed in, so the `?` has none to drop.
+/// Makes room for one more entry, and for what is known of it. The entry isn't passed, so the `?` has none to drop.
 fn make_room(entries: &mut Vec<Entry>, borrows: &mut Vec<bool>) -> Result<(), AllocError>
     ensures entries { entries.new.items ≡ entries.old.items }
     ensures borrows { borrows.new.items ≡ borrows.old.items }
@@ -118,7 +118,7 @@ impl Types {
         let borrow = borrows::entry_has_borrow(&self.borrows, &entry);
         match make_room(&mut self.entries, &mut self.borrows) {
             Err(refused) => {
-                // Spelled out, since a proof in which each way out drops the entry by itself is dear.
+                // Spelled out, since a proof in which each exit drops the entry by itself is slow.
                 drop(entry);
                 Err(refused)
             }
@@ -130,7 +130,7 @@ impl Types {
         }
     }
 
-    /// Appends a defined type. Nothing is asked of the ids in it: [`Package::new`](crate::Package::new) is the test.
+    /// Appends a defined type. The ids in it aren't tested here, but by [`Package::new`](crate::Package::new).
     pub fn add_defined_type(&mut self, ty: DefinedType) -> Result<DefinedTypeId, AllocError>
         ensures number { IfOk result (λ id. id.0 ≡ length self.old) }
         ensures ok { OnOk result (self.new ≡ self.old ++ Entry.Defined ty ∷ []) }
@@ -140,7 +140,7 @@ impl Types {
         Ok(DefinedTypeId(self.add(Entry::Defined(ty))?))
     }
 
-    /// Appends a resource. Nothing is asked of the ids in it: [`Package::new`](crate::Package::new) is the test.
+    /// Appends a resource. The ids in it aren't tested here, but by [`Package::new`](crate::Package::new).
     pub fn add_resource(&mut self, resource: Resource) -> Result<ResourceId, AllocError>
         ensures number { IfOk result (λ id. id.0 ≡ length self.old) }
         ensures ok { OnOk result (self.new ≡ self.old ++ Entry.Resource resource ∷ []) }
@@ -150,7 +150,7 @@ impl Types {
         Ok(ResourceId(self.add(Entry::Resource(resource))?))
     }
 
-    /// Appends a function type. Nothing is asked of the ids in it: [`Package::new`](crate::Package::new) is the test.
+    /// Appends a function type. The ids in it aren't tested here, but by [`Package::new`](crate::Package::new).
     pub fn add_func_type(&mut self, func: FuncType) -> Result<FuncTypeId, AllocError>
         ensures number { IfOk result (λ id. id.0 ≡ length self.old) }
         ensures ok { OnOk result (self.new ≡ self.old ++ Entry.Func func ∷ []) }
@@ -160,7 +160,7 @@ impl Types {
         Ok(FuncTypeId(self.add(Entry::Func(func))?))
     }
 
-    /// Appends an interface. Nothing is asked of the ids in it: [`Package::new`](crate::Package::new) is the test.
+    /// Appends an interface. The ids in it aren't tested here, but by [`Package::new`](crate::Package::new).
     pub fn add_interface(&mut self, interface: Interface) -> Result<InterfaceId, AllocError>
         ensures number { IfOk result (λ id. id.0 ≡ length self.old) }
         ensures ok { OnOk result (self.new ≡ self.old ++ Entry.Interface interface ∷ []) }
@@ -170,7 +170,7 @@ impl Types {
         Ok(InterfaceId(self.add(Entry::Interface(interface))?))
     }
 
-    /// Appends a world. Nothing is asked of the ids in it: [`Package::new`](crate::Package::new) is the test.
+    /// Appends a world. The ids in it aren't tested here, but by [`Package::new`](crate::Package::new).
     pub fn add_world(&mut self, world: World) -> Result<WorldId, AllocError>
         ensures number { IfOk result (λ id. id.0 ≡ length self.old) }
         ensures ok { OnOk result (self.new ≡ self.old ++ Entry.World world ∷ []) }
@@ -316,7 +316,7 @@ impl Types {
     }
 
     /// Whether two kinds mean the same, whatever the origins of resources are. It takes no memory, and recurses as
-    /// deep as the types nest. Pairs that it has found to mean the same it remembers, up to 512 of them.
+    /// deep as the types nest. It remembers up to 512 of the pairs that it has found to mean the same.
     pub fn same(&self, a: ItemKind, b: ItemKind) -> bool
         requires table { IsTable self.now }
         requires first { Names self.now a }
@@ -327,7 +327,7 @@ impl Types {
     }
 
     /// Whether a value of the type contains a borrow anywhere. What a resource is an alias of doesn't count, and what
-    /// names no entry contains none. It is known of each entry, so nothing is gone through.
+    /// names no entry contains none. It is known of each entry, so nothing is traversed.
     pub fn contains_borrow(&self, value: ValueType) -> bool
         ensures { (origins : ℕ → ℕ) → result ≡ has_borrow (meaning origins self.now (ItemKind.Value value)) }
     {

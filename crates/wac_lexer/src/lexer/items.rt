@@ -61,7 +61,8 @@ fn start_of(source: &str, place: usize) -> usize
 
 /// A source, and how many scans of it there were.
 ///
-/// A scan is one search for the item at a place. Only [`first_item`](Scanner::first_item) finds one, and it counts itself.
+/// A scan is one search for the item at a place. Only [`first_item`](Scanner::first_item) finds one, and it counts
+/// itself.
 #[derive(Clone, Drop)]
 pub(super) struct Scanner<'a> {
     pub(super) source: &'a str,
