@@ -7,7 +7,7 @@ pub(crate) struct Row {
     pub(crate) tidied: &'static str,
 }
 
-pub(crate) const ROWS: [Row; 48] = [
+pub(crate) static ROWS_1: [Row; 4] = [
     Row {
         name: "all on one line",
         source: "/* Files. */ package example:files; /* Opened once. */ interface store { /* first */ open: func(path: string /* from the root */); /* then */ close: func(); /* end */ } /* of the file */\n",
@@ -28,6 +28,9 @@ pub(crate) const ROWS: [Row; 48] = [
         source: "package example:gateway;\n\nlet store = new example:memory-store { ... /* clock and log */ };\n\nlet cache = new example:cache { ... // clock and log\n};\n\nlet service = new example:service {\n    cache, // before the store\n    store,\n    ..., // all the rest\n};\n\nlet router = new example:router {\n    // What isn't named comes from the host.\n    ...\n};\n",
         tidied: "package example:gateway;\n\nlet store = new example:memory-store { ... /* clock and log */ };\n\nlet cache = new example:cache {\n    ... // clock and log\n};\n\nlet service = new example:service {\n    cache, // before the store\n    store,\n    ... // all the rest\n};\n\nlet router = new example:router {\n    // What isn't named comes from the host.\n    ...\n};\n",
     },
+];
+
+pub(crate) static ROWS_2: [Row; 4] = [
     Row {
         name: "arguments within arguments",
         source: "package example:gateway;\n\nlet service = new example:service {\n  handler: (new example:router { // one for each host\n    log, // shared\n    // The fallback.\n    default: new example:files { root /* read only */ }.handler,\n  }).handler, // behind the router\n};\n",
@@ -48,6 +51,9 @@ pub(crate) const ROWS: [Row; 48] = [
         source: "package example:files;\n\ninterface store {\n    /*\n     * ---- reading ----\n     */\n\n    read: func(count: u32) -> list<u8>; /* Fewer bytes come\n                                           at the end. */\n    /* write: func(\n           bytes: list<u8>,\n       ); */\n    /** Closes the store.\n\n            let it = close();\n     */\n    close: func(/* nothing,\n                   so far */);\n}\n",
         tidied: "package example:files;\n\ninterface store {\n    /*\n     * ---- reading ----\n     */\n\n    read: func(count: u32) -> list<u8>; /* Fewer bytes come\n                                           at the end. */\n\n    /* write: func(\n           bytes: list<u8>,\n       ); */\n    /** Closes the store.\n\n            let it = close();\n     */\n    close: func(/* nothing,\n                   so far */);\n}\n",
     },
+];
+
+pub(crate) static ROWS_3: [Row; 4] = [
     Row {
         name: "braces on lines of their own",
         source: "package example:files;\n\n// Files.\ninterface store // one for each user\n{\n    // Opened once.\n    open: func(path: string);\n}\n\ninterface cache\n/* one for all */ {\n}\n\nworld server\n{ // what a server has\n    import log: interface // lines only\n    {\n        write: func(line: string);\n    };\n}\n\nenum order // of names\n{\n    ascending,\n    descending\n} // by bytes\n",
@@ -68,6 +74,9 @@ pub(crate) const ROWS: [Row; 48] = [
         source: "package example:gateway;\n\n/* The old form:\n   let store = new example:memory-store { /* all */ ... };\n*/\nlet store = new example:memory-store { /* /* all */ that is needed */ ... }; // not nested: /*\n\n/**/\nexport store.handle; /***/ // */\n",
         tidied: "package example:gateway;\n\n/* The old form:\n   let store = new example:memory-store { /* all */ ... };\n*/\nlet store = new example:memory-store { /* /* all */ that is needed */ ... }; // not nested: /*\n\n/**/\nexport store.handle; /***/ // */\n",
     },
+];
+
+pub(crate) static ROWS_4: [Row; 4] = [
     Row {
         name: "dense statements",
         source: "package example:gateway;\n// Where lines of the log go.\nimport log: example:logging/sink;\n// What the cache keeps stands in memory.\n// It is lost at the end.\nlet store = new example:memory-store { log };\n/* The one entry. */\nexport store.handle;\n",
@@ -88,6 +97,9 @@ pub(crate) const ROWS: [Row; 48] = [
         source: "package example:files;\n\ninterface store {\n    read: func(\n        /// How many bytes.\n        count: u32,\n        /// Where to begin.\n        from: u64,\n    ) -> list<u8>;\n    /// Writing comes later.\n}\n\nenum order { ascending, descending /// by name\n}\n\nlet store = new example:store {\n    /// The log of the host.\n    log,\n    clock, /// may go backwards\n    ...\n};\n/// Nothing else is given out.\n",
         tidied: "package example:files;\n\ninterface store {\n    read: func(\n        /// How many bytes.\n        count: u32,\n        /// Where to begin.\n        from: u64\n    ) -> list<u8>;\n\n    /// Writing comes later.\n}\n\nenum order {\n    ascending,\n    descending, /// by name\n}\n\nlet store = new example:store {\n    /// The log of the host.\n    log,\n    clock, /// may go backwards\n    ...\n};\n\n/// Nothing else is given out.\n",
     },
+];
+
+pub(crate) static ROWS_5: [Row; 4] = [
     Row {
         name: "docs with code",
         source: "/// Puts a cache in front of a service.\n///\n///     let cache = new example:cache {\n///         log,\n///     };\n///\n/// - lists stay as they are,\n///   with their indentation\npackage example:gateway@1.2.0;\n/**\n The one entry.\n\n     and what the cache tells of itself\n*/\nexport service.handle;\n",
@@ -108,6 +120,9 @@ pub(crate) const ROWS: [Row; 48] = [
         source: "package example:gateway;\n\nexport (new example:router { log }  // shared\n    ).handlers // all of them\n    .http;\n\nexport service /* behind the cache */ .handle /* the one entry */ as /* short */ h;\n\nlet metrics = (((cache /* not the store */)[\"example:cache/metrics@0.2.0\"]));\n\nlet blobs = store[ // by its full name\n    \"example:blobs/store@0.1.0\"];\n\nexport store /* all but metrics */ ...;\n",
         tidied: "package example:gateway;\n\nexport (\n    new example:router {\n        log,\n    } // shared\n).handlers // all of them\n    .http;\n\nexport service /* behind the cache */ .handle /* the one entry */ as /* short */ h;\n\nlet metrics = (((cache /* not the store */)[\"example:cache/metrics@0.2.0\"]));\n\nlet blobs = store[ // by its full name\n    \"example:blobs/store@0.1.0\"\n];\n\nexport store /* all but metrics */ ...;\n",
     },
+];
+
+pub(crate) static ROWS_6: [Row; 4] = [
     Row {
         name: "in front of a token",
         source: "package example:files;\n\n/* exported for tests */ interface store {\n    /* once */ open: func(path: string);\n    /* twice\n       at most */ close: func();\n}\n\nenum order { /* the default */ ascending, /* slow */ descending /* and stable */ }\n\n/* a */ /* b */ type place = u64; /* c */ type count = u32;\n",
@@ -128,6 +143,9 @@ pub(crate) const ROWS: [Row; 48] = [
         source: "package example:files;\n\nworld server {\n    // What each server has.\n    include example:base/imports with { log as base-log, // ours comes first\n        /* the wall clock */ clock as base-clock };\n    include example:base/exports with { /* all keep their names */ };\n    include plain /* no names change */;\n}\n",
         tidied: "package example:files;\n\nworld server {\n    // What each server has.\n    include example:base/imports with {\n        log as base-log, // ours comes first\n        /* the wall clock */ clock as base-clock,\n    };\n\n    include example:base/exports /* all keep their names */;\n\n    include plain /* no names change */;\n}\n",
     },
+];
+
+pub(crate) static ROWS_7: [Row; 4] = [
     Row {
         name: "last rows without commas",
         source: "package example:files;\n\nrecord entry {\n    name: string,\n    size: u64 // in bytes\n}\n\nflags access { read, write /* and create */ }\n\nvariant refusal {\n    not-found,\n    other(string)\n    // busy,\n}\n\nworld server {\n    include example:base/imports with {\n        log as base-log,\n        clock as base-clock // renamed as well\n    };\n}\n",
@@ -148,6 +166,9 @@ pub(crate) const ROWS: [Row; 48] = [
         source: "// Copyright 2026 The Gateway Authors.\r\n\r\n/// Puts a cache in front\r\n/// of a service.\r\npackage example:gateway; // a working title\r\n// Lines only.\r\n\r\nimport log: func(line: string, // utf-8\r\n    level: u8);\r\n",
         tidied: "// Copyright 2026 The Gateway Authors.\n\n/// Puts a cache in front\n/// of a service.\npackage example:gateway; // a working title\n\n// Lines only.\n\nimport log: func(\n    line: string, // utf-8\n    level: u8\n);\n",
     },
+];
+
+pub(crate) static ROWS_8: [Row; 4] = [
     Row {
         name: "lone directive",
         source: "package example:gateway;\n",
@@ -168,6 +189,9 @@ pub(crate) const ROWS: [Row; 48] = [
         source: "package example:files;\n\ninterface store {\n    stat: func(path: string) -> (size: u64, // in bytes\n        changed: u64, /* in seconds */);\n    find: func(name: string) -> (/* where */ at: u64, count /* bytes */: u32,);\n}\n",
         tidied: "package example:files;\n\ninterface store {\n    stat: func(path: string) -> (\n        size: u64, // in bytes\n        changed: u64 /* in seconds */\n    );\n\n    find: func(name: string) -> (/* where */ at: u64, count /* bytes */: u32);\n}\n",
     },
+];
+
+pub(crate) static ROWS_9: [Row; 4] = [
     Row {
         name: "no comments",
         source: "package example:gateway@1.2.0 targets example:edge/proxy;\nimport log: func(line: string,);\nlet cache = new example:cache { log, ... };\nexport cache[\"example:cache/metrics@0.2.0\"] as \"metrics\";\n",
@@ -188,6 +212,9 @@ pub(crate) const ROWS: [Row; 48] = [
         source: "package example:files;\n\ninterface store {\n    read: func(from: u64, // a place in the file\n               count: u32 // in bytes\n              ) -> list<u8>;\n\n    write: func(\n        at: u64,\n\n        // Nothing is written where this is empty.\n        bytes: list<u8>,\n    );\n\n    resource file {\n        constructor(path: string, // from the root\n            mode: u32);\n    }\n\n    close: func( // closes all\n    );\n\n    flush: func(\n        // nothing yet\n    );\n}\n",
         tidied: "package example:files;\n\ninterface store {\n    read: func(\n        from: u64, // a place in the file\n        count: u32 // in bytes\n    ) -> list<u8>;\n\n    write: func(\n        at: u64,\n\n        // Nothing is written where this is empty.\n        bytes: list<u8>\n    );\n\n    resource file {\n        constructor(\n            path: string, // from the root\n            mode: u32\n        );\n    }\n\n    close: func( // closes all\n    );\n\n    flush: func(\n        // nothing yet\n    );\n}\n",
     },
+];
+
+pub(crate) static ROWS_10: [Row; 4] = [
     Row {
         name: "parameters in line",
         source: "package example:files;\n\ninterface store {\n    read: func(/* a place */ from: u64, count /* bytes */: u32 /* at most */, /* not used */ mode: u32) -> /* bytes */ list<u8>;\n    close: func(/* nothing */);\n    open: func(path: /* utf-8 */ string /* from the root */,) /* a handle */;\n    names: /* slow */ async func() -> list<string /* names */>;\n}\n",
@@ -208,6 +235,9 @@ pub(crate) const ROWS: [Row; 48] = [
         source: "package example:files;\n\ninterface store {\n    flush: func() -> result<_ /* nothing */, _ /* no reason */>;\n    wait: func() -> result</* nothing */ _>;\n    close: func() -> result<_, /* why */ string>;\n    size: func() -> result<u64, /* no reason */ _>; // in bytes\n    sync: func() -> /* nothing */;\n    stop: func() -> // nothing\n    ;\n}\n",
         tidied: "package example:files;\n\ninterface store {\n    flush: func() -> result /* nothing */ /* no reason */;\n\n    wait: func() -> result /* nothing */;\n\n    close: func() -> result<_, /* why */ string>;\n\n    size: func() -> result<u64 /* no reason */>; // in bytes\n\n    sync: func() /* nothing */;\n\n    stop: func() // nothing\n    ;\n}\n",
     },
+];
+
+pub(crate) static ROWS_11: [Row; 4] = [
     Row {
         name: "rows in groups",
         source: "package example:files;\n\nenum errno {\n\n    // ---- general\n    ok, access,\n\n\n    // ---- files\n    exist, is-directory,\n\n    name-too-long,\n\n    // ---- network\n\n    connection-refused,\n\n    // not used\n    // timed-out,\n\n}\n",
@@ -228,6 +258,9 @@ pub(crate) const ROWS: [Row; 48] = [
         source: "package example:gateway;\n\nimport a as \"https://example.org/a\": func(); // \"quoted\"\nlet b = c[\"/* no comment */\"]; /* \"a comment\" */\nlet d = new example:e { \"// neither\": f, // \"but this\n   \"\": g };\n",
         tidied: "package example:gateway;\n\nimport a as \"https://example.org/a\": func(); // \"quoted\"\n\nlet b = c[\"/* no comment */\"]; /* \"a comment\" */\n\nlet d = new example:e {\n    \"// neither\": f, // \"but this\n    \"\": g,\n};\n",
     },
+];
+
+pub(crate) static ROWS_12: [Row; 4] = [
     Row {
         name: "trailing notes",
         source: "package example:gateway@1.2.0;   // released in spring\nimport log: example:logging/sink;// lines only\nlet store = new example:memory-store { ... }; /* holds 100 entries */\n\nenum order { ascending, // the default\n  descending,   /* slow */ }  // as files are listed\ninterface sizes { // in bytes\n  small: func() -> u32; // below 64 KiB\n  large: func() -> u64; /* the rest */ // rarely called\n}\n",
