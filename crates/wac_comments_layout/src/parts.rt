@@ -1,9 +1,8 @@
 // Blanks and comments, one after another.
 ghost use Rattle.std.specs.Prelude.{true, reverse, ◌≡◌, ◌≤◌, ◌<◌, ◌-◌, ◌+◌, Some, None, length, drop, MatchOption};
 ghost use Rattle.std.specs.List.{prefix_len};
-ghost use Rattle.wac_comments_layout.specs.Comments.{kept_len};
-ghost use Rattle.wac_lexer.specs.Ascii.{slash};
-ghost use Rattle.wac_lexer.specs.Comments.{behind, opens, closes, begins, line_len, block_len, part_len, is_blank};
+ghost use Rattle.wac_comments_layout.specs.Kept.{kept_len, is_line};
+ghost use Rattle.wac_lexer.specs.Comments.{behind, opens, closes, line_len, block_len, part_len, is_blank};
 
 pub(crate) fn opens(bytes: &[u8]) -> bool
     ensures { result ≡ opens bytes.now }
@@ -50,7 +49,7 @@ fn is_blank(byte: u8) -> bool
 
 /// Whether a line comment begins the bytes.
 pub(crate) fn is_line_comment(bytes: &[u8]) -> bool
-    ensures { result ≡ begins slash slash bytes.now }
+    ensures { result ≡ is_line bytes.now }
 {
     bytes.len() >= 2 && bytes[0] == b'/' && bytes[1] == b'/'
 }
