@@ -1,4 +1,7 @@
-// How a document is printed.
+//! How a document is printed.
+ghost use Rattle.std.specs.Prelude.{◌≡◌, IfOk, string_bytes};
+ghost use Rattle.wac_comments.specs.Options.{indent_text, line_end_text};
+
 use std::alloc::{AllocError, Global};
 
 /// What stands for each depth where a line begins.
@@ -10,7 +13,7 @@ pub enum Indent {
     Blanks(u8),
 }
 
-/// What ends a line, outside strings and comments.
+/// What ends a line, outside strings and block comments.
 #[derive(Clone, Copy, Debug, PartialEq, Eq)]
 pub enum LineEnd {
     /// LF.
@@ -40,7 +43,9 @@ impl Default for Options {
 
 impl Indent {
     /// The text of the indent.
-    pub(crate) fn text(self, alloc: Global) -> Result<String, AllocError> {
+    pub(crate) fn text(self, alloc: Global) -> Result<String, AllocError>
+        ensures { IfOk result (λ text. string_bytes text ≡ indent_text self) }
+    {
         let bytes = match self {
             Indent::Tab => vec![in alloc; b'\t'; 1]?,
             Indent::Blanks(count) => vec![in alloc; b' '; count as usize]?,
@@ -54,7 +59,9 @@ impl Indent {
 
 impl LineEnd {
     /// The text of the line end.
-    pub(crate) fn text(self) -> &'static str {
+    pub(crate) fn text(self) -> &'static str
+        ensures { result.now ≡ line_end_text self }
+    {
         match self {
             LineEnd::Lf => "\n",
             LineEnd::CrLf => "\r\n",

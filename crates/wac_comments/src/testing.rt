@@ -1,17 +1,84 @@
 // The test of a result before it is returned.
+ghost use Rattle.std.specs.Prelude.{◌≡◌, true, IfOk, IfErr, slice_get, Some, alloc_error};
+ghost use Rattle.wac_comments_layout.specs.Texts.{texts_of};
+ghost use Rattle.wac_comments.specs.Tidied.{FormattedAlike, IsFormatted, Kept};
+ghost use Rattle.wac_comments.specs.declared.error.TidyError.TheVariants.{Memory};
+
+use crate::error::TidyError;
 use std::alloc::{AllocError, Global};
-use wac_comments_layout::Piece;
+use wac_ast_base::Error;
+use wac_comments_layout::{Piece, ReadError, printed, read};
 use wac_parser_formatting::format;
 
-/// Whether a text has these pieces.
-pub(crate) fn has_pieces(found: &[Piece<'_>], wanted: &[Piece<'_>]) -> bool {
-    if found.len() != wanted.len() {
-        return false;
+/// Whether the piece at an index has this text.
+fn has_text(pieces: &[Piece<'_>], index: usize, text: &str) -> bool
+    ensures { result ≡ true → slice_get (texts_of pieces.now) index ≡ Some text.now }
+{
+    match pieces.get(index) {
+        Some(piece) => piece.text == text,
+        None => false,
     }
-    for (found, wanted) in found.iter().zip(wanted.iter()) {
-        if found.text != wanted.text {
+}
+
+/// Whether two lists of pieces have the same texts.
+fn have_same_texts(found: &[Piece<'_>], wanted: &[Piece<'_>]) -> bool
+    ensures { result ≡ true → texts_of found.now ≡ texts_of wanted.now }
+{
+    for (index, piece) in found.iter().enumerate() {
+        if !has_text(wanted, index, piece.text) {
             return false;
         }
     }
-    true
+    found.len() == wanted.len()
+}
+
+/// Whether a text has the comments of the source, each before the same printed token.
+fn keeps(alloc: Global, source: &str, text: &str) -> Result<bool, ReadError>
+    ensures { IfOk result (λ yes. yes ≡ true → Kept source.now text.now) }
+{
+    let found = read(alloc, text, 1)?;
+    let pieces = read(alloc, source, 1)?;
+    match printed(alloc, pieces.as_slice()) {
+        Ok(wanted) => Ok(have_same_texts(found.as_slice(), wanted.as_slice())),
+        Err(AllocError) => Err(ReadError::Memory(AllocError)),
+    }
+}
+
+/// Whether a text is formatted to another one.
+fn is_formatted_to(
+    alloc: Global,
+    text: &str,
+    formatted: &str,
+    indent: &str,
+) -> Result<bool, TidyError>
+    ensures yes { IfOk result (λ yes. yes ≡ true → IsFormatted indent.now text.now formatted.now) }
+    ensures error { IfErr result (λ e. e ≡ Memory alloc_error) }
+{
+    match format(alloc, text, Some(indent)) {
+        Ok(found) => Ok(found.as_str() == formatted),
+        Err(Error::Memory(_)) => Err(TidyError::Memory(AllocError)),
+        Err(_) => Ok(false),
+    }
+}
+
+/// Whether a text has the comments of the source, each in its place, and is formatted as the source is.
+pub(crate) fn is_kept(
+    alloc: Global,
+    source: &str,
+    formatted: &str,
+    text: &str,
+    indent: &str,
+) -> Result<bool, TidyError>
+    ensures kept { IfOk result (λ yes. yes ≡ true → Kept source.now text.now) }
+    ensures formatted { IfOk result (λ yes. yes ≡ true → IsFormatted indent.now text.now formatted.now) }
+    ensures error { IfErr result (λ e. e ≡ Memory alloc_error) }
+{
+    if !is_formatted_to(alloc, text, formatted, indent)? {
+        return Ok(false);
+    }
+    match keeps(alloc, source, text) {
+        Ok(kept) => Ok(kept),
+        Err(ReadError::Refused(..)) => Ok(false),
+        Err(ReadError::Memory(_)) => Err(TidyError::Memory(AllocError)),
+    }
 }

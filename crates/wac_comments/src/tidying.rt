@@ -1,39 +1,84 @@
-// Printing documents with their comments.
+//! Printing documents with their comments.
+ghost use Rattle.std.specs.Prelude.{◌≡◌, false, IfOk, IfErr, IfSome, Err, string_bytes};
+ghost use Rattle.std.specs.List.{list_any};
+ghost use Rattle.wac_comments_layout.specs.Kept.{is_comment};
+ghost use Rattle.wac_comments_layout.specs.Nesting.{too_deep};
+ghost use Rattle.wac_comments_layout.specs.Plain.{ended};
+ghost use Rattle.wac_comments_layout.specs.Texts.{texts_of};
+ghost use Rattle.wac_comments.specs.Comments.{has_comments};
+ghost use Rattle.wac_comments.specs.Errors.{IsErrorOf};
+ghost use Rattle.wac_comments.specs.Options.{indent_text, line_end_text};
+ghost use Rattle.wac_comments.specs.Tidied.{FormattedAlike, IsFormatted, IsPlain, Kept};
+ghost use Rattle.wac_comments.specs.declared.error.TidyError.TheVariants.{NestedTooDeep};
+
 use crate::error::TidyError;
 use crate::options::Options;
-use crate::testing::has_pieces;
+use crate::testing::is_kept;
 use std::alloc::{AllocError, Global};
 use wac_ast_base::Error;
-use wac_comments_layout::{ReadError, Style, lay_out, plain, printed, read, too_deep};
+use wac_comments_layout::{Piece, ReadError, Style, lay_out, plain, printed, read, too_deep};
 use wac_parser_formatting::format;
 
 /// Prints the document of a text in the one layout, with every comment of the text in its place.
-pub fn tidy(alloc: Global, source: &str, options: Options) -> Result<String, TidyError> {
+///
+/// A comment at the end of a line stays there, and one on lines of its own stays on such; a line ends where a comment asks for it. Docs stay
+/// as they are, to the letter. The result is tested before it is returned: `NotKept` says that it failed, and no text is known for
+/// which it does. Memory is taken for the tokens and comments of the text, for its tree, and for the text that is returned.
+///
+/// ```text
+/// tidy(alloc, "package a:b; // first", Options::default())     // Ok("package a:b; // first\n")
+/// ```
+pub fn tidy(alloc: Global, source: &str, options: Options) -> Result<String, TidyError>
+    // All comments are kept, in order, each before the same printed token.
+    ensures kept { IfOk result (λ text. Kept source.now (string_bytes text)) }
+    // The text and the source are formatted to the same text.
+    ensures formatted { IfOk result (λ text. FormattedAlike (indent_text options.indent) source.now (string_bytes text)) }
+    // Without comments it is what the source is formatted to, but for its line ends.
+    ensures plain { has_comments source.now ≡ false → IfOk result (λ text. IsPlain (indent_text options.indent) (line_end_text options.line_end) source.now (string_bytes text)) }
+    // Brackets that are nested too deep are reported before all but refused characters.
+    ensures deep { IfSome (too_deep source.now) (λ span. result ≡ Err (NestedTooDeep span)) }
+    // An error is that of the source, unless the test failed or memory ran out.
+    ensures only { IfErr result (λ e. IsErrorOf source.now e) }
+{
     if let Some(span) = too_deep(source) {
         return Err(TidyError::NestedTooDeep { span });
     }
-    let indent = match options.indent.text(alloc) {
-        Ok(indent) => indent,
-        Err(AllocError) => return Err(TidyError::Memory(AllocError)),
-    };
-    let formatted = format_text(alloc, source, indent.as_str())?;
-    let style = Style {
-        indent: indent.as_str(),
-        line_end: options.line_end.text(),
-    };
+    match options.indent.text(alloc) {
+        Ok(indent) => tidied(alloc, source, indent.as_str(), options.line_end.text()),
+        Err(AllocError) => Err(TidyError::Memory(AllocError)),
+    }
+}
+
+/// The same with the texts of the options.
+fn tidied(
+    alloc: Global,
+    source: &str,
+    indent: &str,
+    line_end: &str,
+) -> Result<String, TidyError>
+    ensures kept { IfOk result (λ text. Kept source.now (string_bytes text)) }
+    ensures formatted { IfOk result (λ text. FormattedAlike indent.now source.now (string_bytes text)) }
+    ensures plain { has_comments source.now ≡ false → IfOk result (λ text. IsPlain indent.now line_end.now source.now (string_bytes text)) }
+    ensures only { IfErr result (λ e. IsErrorOf source.now e) }
+{
+    let formatted = format_text(alloc, source, indent)?;
+    let style = Style { indent, line_end };
     let candidate = candidate(alloc, source, formatted.as_str(), style)?;
-    if is_kept(alloc, source, formatted.as_str(), candidate.as_str(), style)? {
+    if is_kept(alloc, source, formatted.as_str(), candidate.as_str(), indent)? {
         Ok(candidate)
     } else {
         Err(TidyError::NotKept)
     }
 }
 
-/// What `format` makes of a source.
-fn format_text(alloc: Global, source: &str, indent: &str) -> Result<String, TidyError> {
+/// What a source is formatted to.
+fn format_text(alloc: Global, source: &str, indent: &str) -> Result<String, TidyError>
+    ensures found { IfOk result (λ text. IsFormatted indent.now source.now (string_bytes text)) }
+    ensures only { IfErr result (λ e. IsErrorOf source.now e) }
+{
     match format(alloc, source, Some(indent)) {
         Ok(text) => Ok(text),
-        Err(Error::Memory(AllocError)) => Err(TidyError::Memory(AllocError)),
+        Err(Error::Memory(_)) => Err(TidyError::Memory(AllocError)),
         Err(error) => Err(TidyError::Parse(error)),
     }
 }
@@ -44,11 +89,14 @@ fn candidate(
     source: &str,
     formatted: &str,
     style: Style<'_>,
-) -> Result<String, TidyError> {
+) -> Result<String, TidyError>
+    ensures plain { has_comments source.now ≡ false → IfOk result (λ text. string_bytes text ≡ ended style.entry.line_end.now formatted.now) }
+    ensures only { IfErr result (λ e. IsErrorOf source.now e) }
+{
     match lay_out_text(alloc, source, formatted, style) {
         Ok(text) => Ok(text),
         Err(ReadError::Refused(..)) => Err(TidyError::NotKept),
-        Err(ReadError::Memory(AllocError)) => Err(TidyError::Memory(AllocError)),
+        Err(ReadError::Memory(_)) => Err(TidyError::Memory(AllocError)),
     }
 }
 
@@ -57,57 +105,46 @@ fn lay_out_text(
     source: &str,
     formatted: &str,
     style: Style<'_>,
-) -> Result<String, ReadError> {
+) -> Result<String, ReadError>
+    ensures { has_comments source.now ≡ false → IfOk result (λ text. string_bytes text ≡ ended style.entry.line_end.now formatted.now) }
+{
     let pieces = read(alloc, source, style.tab())?;
-    let made = if pieces.as_slice().iter().any(|piece| piece.is_comment()) {
+    if has_comments(pieces.as_slice()) {
         let lines = read(alloc, formatted, style.tab())?;
-        let pieces = match printed(alloc, pieces.as_slice()) {
-            Ok(pieces) => pieces,
-            Err(AllocError) => return Err(ReadError::Memory(AllocError)),
-        };
-        lay_out(alloc, pieces.as_slice(), lines.as_slice(), style)
-    } else {
-        plain(alloc, formatted, style.line_end)
-    };
+        return or_memory(lay_out_pieces(alloc, pieces.as_slice(), lines.as_slice(), style));
+    }
+    or_memory(plain(alloc, formatted, style.line_end))
+}
+
+/// Lays out the pieces of a source as they are printed.
+fn lay_out_pieces(
+    alloc: Global,
+    pieces: &[Piece<'_>],
+    lines: &[Piece<'_>],
+    style: Style<'_>,
+) -> Result<String, AllocError> {
+    let printed = printed(alloc, pieces)?;
+    lay_out(alloc, printed.as_slice(), lines, style)
+}
+
+/// Whether one of these pieces is a comment.
+fn has_comments(pieces: &[Piece<'_>]) -> bool
+    ensures { result ≡ list_any is_comment (texts_of pieces.now) }
+{
+    for piece in pieces {
+        if piece.is_comment() {
+            return true;
+        }
+    }
+    false
+}
+
+/// The text, or that memory ran out.
+fn or_memory(made: Result<String, AllocError>) -> Result<String, ReadError>
+    ensures { IfOk result (λ text. made ≡ Ok text) }
+{
     match made {
         Ok(text) => Ok(text),
-        Err(AllocError) => Err(ReadError::Memory(AllocError)),
-    }
-}
-
-/// Whether a text has the comments of the source, each before the same printed token, and is formatted as the source is.
-fn is_kept(
-    alloc: Global,
-    source: &str,
-    formatted: &str,
-    text: &str,
-    style: Style<'_>,
-) -> Result<bool, TidyError> {
-    let again = match format(alloc, text, Some(style.indent)) {
-        Ok(again) => again,
-        Err(Error::Memory(AllocError)) => return Err(TidyError::Memory(AllocError)),
-        Err(_) => return Ok(false),
-    };
-    if again.as_str() != formatted {
-        return Ok(false);
-    }
-    match has_same_pieces(alloc, source, text, style) {
-        Ok(same) => Ok(same),
-        Err(ReadError::Refused(..)) => Ok(false),
-        Err(ReadError::Memory(AllocError)) => Err(TidyError::Memory(AllocError)),
-    }
-}
-
-fn has_same_pieces(
-    alloc: Global,
-    source: &str,
-    text: &str,
-    style: Style<'_>,
-) -> Result<bool, ReadError> {
-    let found = read(alloc, text, style.tab())?;
-    let pieces = read(alloc, source, style.tab())?;
-    match printed(alloc, pieces.as_slice()) {
-        Ok(wanted) => Ok(has_pieces(found.as_slice(), wanted.as_slice())),
         Err(AllocError) => Err(ReadError::Memory(AllocError)),
     }
 }

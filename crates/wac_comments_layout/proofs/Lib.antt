@@ -1,0 +1,4 @@
+pub mod Among
+pub mod Progressing
+pub mod Commented
+pub mod Trimming

@@ -1,6 +1,6 @@
 -- Comments as they are kept.
-use Rattle.std.specs.Prelude.{◌≡◌, refl, codes, ℕ, Bool, ◌||◌, ◌-◌, List, [], ◌∷◌, take, length, reverse, if◌then◌else◌}
-use Rattle.std.specs.List.{prefix_len}
+use Rattle.std.specs.Prelude.{◌≡◌, refl, codes, ℕ, Bool, ◌&&◌, ◌||◌, nat_eq, nat_lt, ◌-◌, List, [], ◌∷◌, take, length, if◌then◌else◌}
+use Rattle.std.specs.List.{starts_with, suffix_len}
 use Rattle.wac_lexer.specs.Ascii.{slash}
 use Rattle.wac_lexer.specs.Comments.{begins, opens, is_blank}
 
@@ -12,9 +12,13 @@ is_line = begins slash slash
 abbrev pub is_comment : List ℕ → Bool
 is_comment text = is_line text || opens text
 
+-- whether the parser takes a comment as a doc where docs may stand: `///x` and `/**x*/`, but not `/**/`
+abbrev pub is_doc : List ℕ → Bool
+is_doc comment = starts_with nat_eq comment (codes "///") || (starts_with nat_eq comment (codes "/**") && nat_lt 4 (length comment))
+
 -- how many bytes of a comment are kept: a line comment loses the blanks at its end
 abbrev pub kept_len : List ℕ → ℕ
-kept_len comment = if is_line comment then length comment - prefix_len is_blank (reverse comment) else length comment
+kept_len comment = if is_line comment then length comment - suffix_len is_blank comment else length comment
 
 -- a comment as it is kept
 abbrev pub kept : List ℕ → List ℕ

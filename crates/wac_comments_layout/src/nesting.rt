@@ -1,6 +1,5 @@
 // How deep brackets are nested.
-ghost use Rattle.std.specs.Prelude.{◌≡◌, MatchOption, None};
-ghost use Rattle.wac_lexer.specs.Characters.{refused};
+ghost use Rattle.std.specs.Prelude.{◌≡◌};
 ghost use Rattle.wac_lexer.specs.Reading.{left};
 ghost use Rattle.wac_comments_layout.specs.Nesting.{first_beyond, most, too_deep};
 
@@ -13,7 +12,7 @@ const MOST: usize = 1000;
 /// The first bracket that is nested deeper than a thousand, those in strings and comments not counted. A text with a refused character
 /// has none.
 pub fn too_deep(source: &str) -> Option<SourceSpan>
-    ensures { MatchOption (refused source.now) (result ≡ too_deep source.now) (λ _. result ≡ None) }
+    ensures { result ≡ too_deep source.now }
 {
     match Lexer::new(source) {
         Ok(lexer) => first_too_deep(lexer),

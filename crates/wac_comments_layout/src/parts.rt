@@ -1,6 +1,6 @@
 // Blanks and comments, one after another.
-ghost use Rattle.std.specs.Prelude.{true, reverse, ◌≡◌, ◌≤◌, ◌<◌, ◌-◌, ◌+◌, Some, None, length, drop, MatchOption};
-ghost use Rattle.std.specs.List.{prefix_len};
+ghost use Rattle.std.specs.Prelude.{true, ◌≡◌, ◌≤◌, ◌<◌, ◌-◌, ◌+◌, Some, None, length, drop, MatchOption};
+ghost use Rattle.std.specs.List.{suffix_len};
 ghost use Rattle.wac_comments_layout.specs.Kept.{kept_len, is_line};
 ghost use Rattle.wac_lexer.specs.Comments.{behind, opens, closes, line_len, block_len, part_len, is_blank};
 
@@ -95,7 +95,7 @@ pub(crate) fn part_len(bytes: &[u8]) -> usize
 
 /// How many blanks stand at the end.
 fn blanks_at_end(bytes: &[u8]) -> usize
-    ensures count { result ≡ prefix_len is_blank (reverse bytes.now) }
+    ensures count { result ≡ suffix_len is_blank bytes.now }
     ensures within { result ≤ length bytes.now }
 {
     bytes

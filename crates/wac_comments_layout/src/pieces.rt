@@ -4,9 +4,9 @@ ghost use Rattle.std.specs.Str.{IsCharBoundary};
 ghost use Rattle.wac_lexer.specs.Characters.{refused};
 ghost use Rattle.wac_lexer.specs.Items.{items};
 ghost use Rattle.wac_lexer.specs.Reading.{left};
-ghost use Rattle.wac_comments_layout.specs.Kept.{is_line, is_comment};
-ghost use Rattle.wac_comments_layout.specs.Pieces.{pieces, comment_of_part, comments_at};
-ghost use Rattle.wac_comments_layout.specs.Texts.{pieces_of};
+ghost use Rattle.wac_comments_layout.specs.Kept.{is_line, is_comment, is_doc};
+ghost use Rattle.wac_comments_layout.specs.Pieces.{pieces, texts, comment_of_part, comments_at};
+ghost use Rattle.wac_comments_layout.specs.Texts.{pieces_of, texts_of};
 ghost use Rattle.wac_comments_layout.specs.declared.pieces.ReadError.TheVariants.{Refused, Memory};
 
 use crate::columns::column_after;
@@ -65,7 +65,9 @@ impl Piece<'_> {
     }
 
     /// Whether the parser takes the comment as a doc where docs may stand: `///x` and `/**x*/` are docs, and `/**/` is none.
-    pub fn is_doc(&self) -> bool {
+    pub fn is_doc(&self) -> bool
+        ensures { result ≡ is_doc self.now.text.now }
+    {
         let bytes = self.text.as_bytes();
         bytes.starts_with(b"///") || (bytes.starts_with(b"/**") && bytes.len() > 4)
     }
@@ -150,6 +152,7 @@ impl<'a> Reader<'a> {
 /// The pieces of a text, and its end behind them. `tab` is how many columns a tab takes.
 pub fn read(alloc: Global, source: &str, tab: usize) -> Result<Vec<Piece<'_>>, ReadError>
     ensures found { IfOk result (λ found. pieces_of found.items ≡ pieces source.now) }
+    ensures texts { IfOk result (λ found. texts_of found.items ≡ texts source.now) }
     ensures accepted { OnOk result (refused source.now ≡ None) }
     ensures error { IfErr result (λ e. MatchOption (refused source.now) (e ≡ Memory alloc_error) (λ fault. e ≡ Refused fault.0 fault.1)) }
 {

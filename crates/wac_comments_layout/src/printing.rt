@@ -166,7 +166,7 @@ impl<'a> Printing<'a> {
 
     /// The pieces that were printed, and the comments behind them.
     fn into_pieces(self) -> Result<Vec<Piece<'a>>, AllocError>
-        ensures { IfOk result (λ pieces. texts_of pieces.items ≡ self.done ++ self.waiting) }
+        ensures { IfOk result (λ pieces. texts_of pieces.items ≡ self.entry.done ++ self.entry.waiting) }
     {
         let Printing {
             mut pieces,

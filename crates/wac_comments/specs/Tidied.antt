@@ -1,0 +1,31 @@
+-- What a tidied text keeps of its source.
+use Rattle.std.specs.Prelude.{◌≡◌, refl, codes, ℕ, List}
+use Rattle.wac_lexer.specs.Items.{items_from}
+use Rattle.wac_grammar.specs.Tree.{Document}
+use Rattle.wac_grammar.specs.TextTree.{IsTreeOf}
+use Rattle.wac_layout.specs.Reread as reread
+use Rattle.wac_comments_layout.specs.Pieces.{comments_at, texts}
+use Rattle.wac_comments_layout.specs.Printing.{printed}
+use Rattle.wac_comments_layout.specs.Plain.{ended}
+
+-- The text has the comments of the source, in order, each before the same printed token: its tokens and comments are those of the source
+-- as they are printed.
+abbrev pub Kept : List ℕ → List ℕ → Type 0
+Kept source text = texts text ≡ printed (texts source)
+
+-- this is what a source is formatted to, where these blanks stand for a depth
+abbrev pub IsFormatted : List ℕ → List ℕ → List ℕ → Type 0
+IsFormatted space source text = (tree : Document) × IsTreeOf source tree × (text ≡ reread.printed space source tree)
+
+-- both texts are formatted to the same
+abbrev pub FormattedAlike : List ℕ → List ℕ → List ℕ → Type 0
+FormattedAlike space source text = (formatted : List ℕ) × IsFormatted space source formatted × IsFormatted space text formatted
+
+-- the text is what the source is formatted to, with these line ends, of which one stands at the end
+abbrev pub IsPlain : List ℕ → List ℕ → List ℕ → List ℕ → Type 0
+IsPlain space line_end source text = (formatted : List ℕ) × IsFormatted space source formatted × (text ≡ ended line_end formatted)
+
+-- example: a comment stays before its token, behind a comma that is added
+comma_is_added : Kept (codes "record r {a/*b*/}") (codes "record r {\n    a, /*b*/\n}")
+unfolding comments_at items_from
+comma_is_added = refl
