@@ -11,13 +11,13 @@
 //! ```
 #![tactic(auto)]
 
-mod listing;
 mod error;
+mod listing;
 mod options;
 mod testing;
 mod tidying;
 
-pub use listing::{Comment, CommentKind, comments};
 pub use error::TidyError;
+pub use listing::{Comment, CommentKind, comments};
 pub use options::{Indent, LineEnd, Options};
 pub use tidying::tidy;

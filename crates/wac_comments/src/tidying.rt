@@ -50,12 +50,7 @@ pub fn tidy(alloc: Global, source: &str, options: Options) -> Result<String, Tid
 }
 
 /// The same with the texts of the options.
-fn tidied(
-    alloc: Global,
-    source: &str,
-    indent: &str,
-    line_end: &str,
-) -> Result<String, TidyError>
+fn tidied(alloc: Global, source: &str, indent: &str, line_end: &str) -> Result<String, TidyError>
     ensures kept { IfOk result (λ text. Kept source.now (string_bytes text)) }
     ensures formatted { IfOk result (λ text. FormattedAlike indent.now source.now (string_bytes text)) }
     ensures plain { has_comments source.now ≡ false → IfOk result (λ text. IsPlain indent.now line_end.now source.now (string_bytes text)) }
@@ -64,7 +59,9 @@ fn tidied(
     let formatted = format_text(alloc, source, indent)?;
     let style = Style { indent, line_end };
     let candidate = candidate(alloc, source, formatted.as_str(), style)?;
-    if is_kept(alloc, source, formatted.as_str(), candidate.as_str(), indent)? {
+    let text = candidate.as_str();
+    let kept = is_kept(alloc, source, formatted.as_str(), text, indent)?;
+    if kept {
         Ok(candidate)
     } else {
         Err(TidyError::NotKept)

@@ -18,9 +18,9 @@ begin_with tokens these at =
     ap (λ rest. pointwise (λ x y. bytes_eq x.now y.now) these (take (length these) rest)) (drop_min at tokens)
     ∙ sym (pointwise-map now bytes_eq these (take (length these) (drop at tokens)))
     ∙ ap (λ rest. pointwise bytes_eq (map now these) rest)
-        (sym (take-map now (length these) (drop at tokens))
-        ∙ ap (take (length these)) (sym (drop-map now at tokens))
-        ∙ ap (λ n. take n (drop at (map now tokens))) (sym (length-map these now)))
+    (sym (take-map now (length these) (drop at tokens))
+    ∙ ap (take (length these)) (sym (drop-map now at tokens))
+    ∙ ap (λ n. take n (drop at (map now tokens))) (sym (length-map these now)))
 
 or_right : (b : Bool) → (b || true) ≡ true
 or_right true = refl

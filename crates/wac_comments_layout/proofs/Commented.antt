@@ -1,11 +1,11 @@
 -- One step of the walk over the pieces of a text, and over the comments of a gap.
-use Rattle.std.proofs.Common.{◌≡◌, ℕ, zero, suc, ◌+◌, ◌<◌, ◌≤◌, Bool, false, cond, List, [], ◌∷◌, ◌++◌, take, drop, length, sym, refl, subst, ap, ◌∙◌, arith, Option, Some, None}
+use Rattle.std.proofs.Common.{◌≡◌, ℕ, zero, suc, ◌+◌, ◌<◌, ◌≤◌, Bool, false, cond, List, [], ◌∷◌, ◌++◌, take, drop, length, sym, refl, subst, ap, ◌∙◌, arith, Option, Some, None, append_assoc}
 use Rattle.std.specs.Prelude.{◌==◌, Result}
 use Rattle.std.proofs.lemmas.List.{drop_all}
 use Rattle.std.proofs.lemmas.Bool.{ne_eqb}
 use Rattle.wac_lexer.specs.Comments.{part_len}
 use Rattle.wac_lexer.specs.Item.{Item, Handed, handed, behind_first, OnFirst}
-use Rattle.wac_lexer.specs.Reading.{slice}
+use Rattle.wac_lexer.specs.Reading.{Nexts, Reading, left, slice}
 use Rattle.wac_lexer.specs.Span.{Span, end_of}
 use Rattle.wac_lexer.specs.declared.error.Error.{Error}
 use Rattle.wac_lexer.specs.declared.token.Token.{Token}
@@ -44,3 +44,26 @@ pieces_more source place (x ∷ xs) new token span gives rest text =
 pub pieces_none : (source : List ℕ) (place : ℕ) (old : List Item) → None ≡ handed old → pieces_after source place old ≡ comments_at source place ++ end_piece source ∷ []
 pieces_none source place [] gives = refl
 pieces_none source place (x ∷ xs) gives = absurd (some_none (x.token, x.span) (sym gives))
+
+-- what was read, where `next` gives an item: the comments before it, and the item
+pub read_more : (source : List ℕ) (place : ℕ) (old new : Reading) (token : Result Token Error) (span : Span) (before later all : List Piece)
+    → old.source ≡ source → Nexts old (Some (token, span)) new → before ++ pieces_after source place (left old) ≡ all
+    → later ≡ (before ++ comments_at source place) ++ record { text = slice source span; span = span } ∷ []
+    → later ++ pieces_after source (end_of span) (left new) ≡ all
+read_more source place old new token span before later all of next found is =
+    let P : List ℕ → Type 0 = λ s. OnFirst (left old) (λ x. x.text ≡ slice s x.span) in
+    let more = pieces_more source place (left old) (left new) token span next.gives next.rest (subst P of next.text) in
+    let here : Piece = record { text = slice source span; span = span } in
+    let rest = pieces_after source (end_of span) (left new) in
+    let same : ((before ++ comments_at source place) ++ here ∷ []) ++ rest ≡ before ++ (comments_at source place ++ (here ∷ rest)) = simp append_assoc in
+    ap (λ l. l ++ rest) is ∙ same ∙ sym (ap (λ l. before ++ l) more) ∙ found
+
+-- where it gives none: the comments of the last gap, and the end
+pub read_end : (source : List ℕ) (place : ℕ) (old new : Reading) (before later all : List Piece)
+    → Nexts old None new → before ++ pieces_after source place (left old) ≡ all
+    → later ≡ (before ++ comments_at source place) ++ end_piece source ∷ [] → later ≡ all
+read_end source place old new before later all next found is =
+    is
+    ∙ append_assoc before (comments_at source place) (end_piece source ∷ [])
+    ∙ sym (ap (λ l. before ++ l) (pieces_none source place (left old) next.gives))
+    ∙ found

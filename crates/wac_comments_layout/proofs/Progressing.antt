@@ -3,7 +3,7 @@ use Rattle.std.proofs.Common.{◌≡◌, ℕ, ◌+◌, ◌<◌, ◌≤◌, Bool,
 use Rattle.std.specs.Prelude.{not}
 use Rattle.std.proofs.lemmas.List.{drop-drop, drop_more, length-drop, length-map}
 use Rattle.wac_comments_layout.specs.Kept.{is_comment}
-use Rattle.wac_comments_layout.specs.Printing.{Texts, Progress, added, goes, spelled, innermost, opened_behind, printed_from, tokens_of, with_comment, with_added, with_printed, passed, with_token}
+use Rattle.wac_comments_layout.specs.Printing.{Texts, Progress, added, goes, spelled, innermost, opened_behind, printed_from, tokens_of, with_comment, with_added, with_printed, passed, with_token, with_piece}
 use Rattle.wac_comments_layout.specs.Texts.{texts_of}
 use Rattle.wac_comments_layout.specs.declared.pieces.Piece.{Piece}
 
@@ -13,56 +13,64 @@ texts_more pieces i piece lt is =
     ap texts_of (drop_more pieces i piece lt)
     ∙ ap (λ (p : Piece). p.text.now ∷ texts_of (drop (i + 1) pieces)) (sym is)
 
--- the tokens from a piece on
-pub tokens_comment : (text : List ℕ) (rest : Texts) → is_comment text ≡ true → tokens_of (text ∷ rest) ≡ tokens_of rest
-tokens_comment text rest e = ap (λ b. cond (not b) (text ∷ tokens_of rest) (tokens_of rest)) e
-
-pub tokens_token : (text : List ℕ) (rest : Texts) → is_comment text ≡ false → tokens_of (text ∷ rest) ≡ text ∷ tokens_of rest
-tokens_token text rest e = ap (λ b. cond (not b) (text ∷ tokens_of rest) (tokens_of rest)) e
-
-pub tokens_behind : (tokens rest : Texts) (text : List ℕ) (at : ℕ) → drop at tokens ≡ text ∷ rest → drop (at + 1) tokens ≡ rest
-tokens_behind tokens rest text at e = sym (drop-drop 1 at tokens) ∙ ap (drop 1) e
-
-pub token_within : (tokens rest : Texts) (text : List ℕ) (at : ℕ) → drop at tokens ≡ text ∷ rest → at < length tokens
-token_within tokens rest text at e = omega (arith, ap length e, length-drop at tokens)
-
 -- what is printed from here on
-abbrev pub whole : Texts → ℕ → Progress → Texts → Texts
-whole tokens at p texts = p.done ++ printed_from tokens at p.opened p.waiting texts
+abbrev pub whole : Texts → Progress → Texts → Texts
+whole tokens p texts = p.done ++ printed_from tokens p.at p.opened p.waiting texts
 
-pub comment_step : (tokens : Texts) (at : ℕ) (p : Progress) (text : List ℕ) (rest : Texts) → is_comment text ≡ true
-    → whole tokens at (with_comment text p) rest ≡ whole tokens at p (text ∷ rest)
-comment_step tokens at p text rest e =
-    let around = innermost p.opened in
-    let opened = opened_behind tokens at p.opened in
-    let other = added tokens at around ++ cond (goes tokens at around) (printed_from tokens (at + 1) opened p.waiting rest) (p.waiting ++ spelled tokens at text ∷ printed_from tokens (at + 1) opened [] rest) in
-    sym (ap (λ b. p.done ++ cond b (printed_from tokens at p.opened (p.waiting ++ text ∷ []) rest) other) e)
-
--- what is printed of the token at an index and of what stands behind it, by whether the token goes
-abbrev by_test : Texts → ℕ → Progress → List ℕ → Texts → Bool → Texts
-by_test tokens at p text rest b =
-    added tokens at (innermost p.opened)
-    ++ cond b (printed_from tokens (at + 1) (opened_behind tokens at p.opened) p.waiting rest)
-        (p.waiting ++ spelled tokens at text ∷ printed_from tokens (at + 1) (opened_behind tokens at p.opened) [] rest)
+-- what is printed of the next token and of what stands behind it, by whether the token goes
+abbrev by_test : Texts → Progress → List ℕ → Texts → Bool → Texts
+by_test tokens p text rest b =
+    added tokens p.at (innermost p.opened)
+    ++ cond b (printed_from tokens (p.at + 1) (opened_behind tokens p.at p.opened) p.waiting rest)
+    (p.waiting ++ spelled tokens p.at text ∷ printed_from tokens (p.at + 1) (opened_behind tokens p.at p.opened) [] rest)
 
 -- the same after the token
-abbrev after_test : Texts → ℕ → Progress → List ℕ → Bool → Progress
-after_test tokens at p text b =
-    passed tokens at (cond b (with_added tokens at p) (with_printed (spelled tokens at text) (with_added tokens at p)))
+abbrev after_test : Texts → Progress → List ℕ → Bool → Progress
+after_test tokens p text b = passed tokens (cond b (with_added tokens p) (with_printed (spelled tokens p.at text) (with_added tokens p)))
 
-tested : (tokens : Texts) (at : ℕ) (p : Progress) (text : List ℕ) (rest : Texts) (b : Bool)
-    → whole tokens (at + 1) (after_test tokens at p text b) rest ≡ p.done ++ by_test tokens at p text rest b
-tested tokens at p text rest true =
-    append_assoc p.done (added tokens at (innermost p.opened)) (printed_from tokens (at + 1) (opened_behind tokens at p.opened) p.waiting rest)
-tested tokens at p text rest false =
-    let front = added tokens at (innermost p.opened) in
-    let later = printed_from tokens (at + 1) (opened_behind tokens at p.opened) [] rest in
-    let same : (((p.done ++ front) ++ p.waiting) ++ spelled tokens at text ∷ []) ++ later ≡ p.done ++ (front ++ (p.waiting ++ (spelled tokens at text ∷ later))) = simp append_assoc in
+tested : (tokens : Texts) (p : Progress) (text : List ℕ) (rest : Texts) (b : Bool)
+    → whole tokens (after_test tokens p text b) rest ≡ p.done ++ by_test tokens p text rest b
+tested tokens p text rest true =
+    append_assoc p.done (added tokens p.at (innermost p.opened)) (printed_from tokens (p.at + 1) (opened_behind tokens p.at p.opened) p.waiting rest)
+tested tokens p text rest false =
+    let front = added tokens p.at (innermost p.opened) in
+    let later = printed_from tokens (p.at + 1) (opened_behind tokens p.at p.opened) [] rest in
+    let same : (((p.done ++ front) ++ p.waiting) ++ spelled tokens p.at text ∷ []) ++ later ≡ p.done ++ (front ++ (p.waiting ++ (spelled tokens p.at text ∷ later))) = simp append_assoc in
     same
 
-pub token_step : (tokens : Texts) (at : ℕ) (p : Progress) (text : List ℕ) (rest : Texts) → is_comment text ≡ false
-    → whole tokens (at + 1) (with_token tokens at text p) rest ≡ whole tokens at p (text ∷ rest)
-token_step tokens at p text rest e =
-    let test = goes tokens at (innermost p.opened) in
-    tested tokens at p text rest test
-    ∙ sym (ap (λ b. p.done ++ cond b (printed_from tokens at p.opened (p.waiting ++ text ∷ []) rest) (by_test tokens at p text rest test)) e)
+-- what is printed of a comment or a token and of what stands behind it, by whether it is a comment
+abbrev by_sort : Texts → Progress → List ℕ → Texts → Bool → Texts
+by_sort tokens p text rest b =
+    p.done ++ cond b (printed_from tokens p.at p.opened (p.waiting ++ text ∷ []) rest) (by_test tokens p text rest (goes tokens p.at (innermost p.opened)))
+
+-- the same after it
+abbrev after_sort : Texts → Progress → List ℕ → Bool → Progress
+after_sort tokens p text b = cond b (with_comment text p) (with_token tokens text p)
+
+sorted : (tokens : Texts) (p : Progress) (text : List ℕ) (rest : Texts) (b : Bool) → whole tokens (after_sort tokens p text b) rest ≡ by_sort tokens p text rest b
+sorted tokens p text rest true = refl
+sorted tokens p text rest false = tested tokens p text rest (goes tokens p.at (innermost p.opened))
+
+pub piece_step : (tokens : Texts) (p : Progress) (text : List ℕ) (rest : Texts) → whole tokens (with_piece tokens text p) rest ≡ whole tokens p (text ∷ rest)
+piece_step tokens p text rest = sorted tokens p text rest (is_comment text)
+
+-- the index of the next token is that of the first one left
+abbrev tokens_by : List ℕ → Texts → Bool → Texts
+tokens_by text rest b = cond (not b) (text ∷ tokens_of rest) (tokens_of rest)
+
+left_by : (tokens : Texts) (p : Progress) (text : List ℕ) (rest : Texts) (b : Bool) → drop p.at tokens ≡ tokens_by text rest b → drop (after_sort tokens p text b).at tokens ≡ tokens_of rest
+left_by tokens p text rest true e = e
+left_by tokens p text rest false e = after_token (goes tokens p.at (innermost p.opened))
+  where
+    after_token : (g : Bool) → drop (after_test tokens p text g).at tokens ≡ tokens_of rest
+    after_token true = sym (drop-drop 1 p.at tokens) ∙ ap (drop 1) e
+    after_token false = sym (drop-drop 1 p.at tokens) ∙ ap (drop 1) e
+
+pub tokens_left : (tokens : Texts) (p : Progress) (text : List ℕ) (rest : Texts) → drop p.at tokens ≡ tokens_of (text ∷ rest) → drop (with_piece tokens text p).at tokens ≡ tokens_of rest
+tokens_left tokens p text rest e = left_by tokens p text rest (is_comment text) e
+
+-- a token is one of the tokens
+pub token_within : (tokens : Texts) (p : Progress) (text : List ℕ) (rest : Texts) → drop p.at tokens ≡ tokens_of (text ∷ rest) → is_comment text ≡ false → p.at < length tokens
+token_within tokens p text rest e token =
+    let here : drop p.at tokens ≡ text ∷ tokens_of rest = e ∙ ap (tokens_by text rest) token in
+    omega (arith, ap length here, length-drop p.at tokens)

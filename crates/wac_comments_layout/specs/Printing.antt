@@ -97,35 +97,40 @@ tokens_of texts = filter (λ text. not (is_comment text)) texts
 abbrev pub printed : Texts → Texts
 printed texts = printed_from (tokens_of texts) 0 [] [] texts
 
--- what was printed of tokens and comments up to a token: the pieces up to the last token, the comments since then, and the brackets
--- that are open
+-- What was printed of tokens and comments up to a place: the pieces up to the last token, the comments since then, the index of the next
+-- token, and the brackets that are open before it.
 pub record Progress : Type 0 where
   pub done : Texts
   pub waiting : Texts
+  pub at : ℕ
   pub opened : List Brackets
 
 -- after a comment
 abbrev pub with_comment : List ℕ → Progress → Progress
 with_comment text p = record p { waiting = p.waiting ++ text ∷ [] }
 
--- after the tokens that are added before the one at an index
-abbrev pub with_added : Texts → ℕ → Progress → Progress
-with_added tokens at p = record p { done = p.done ++ added tokens at (innermost p.opened) }
+-- after the tokens that are added before the next one
+abbrev pub with_added : Texts → Progress → Progress
+with_added tokens p = record p { done = p.done ++ added tokens p.at (innermost p.opened) }
 
 -- after a token that is printed
 abbrev pub with_printed : List ℕ → Progress → Progress
 with_printed text p = record p { done = p.done ++ p.waiting ++ text ∷ []; waiting = [] }
 
--- behind the token at an index
-abbrev pub passed : Texts → ℕ → Progress → Progress
-passed tokens at p = record p { opened = opened_behind tokens at p.opened }
+-- behind the next token
+abbrev pub passed : Texts → Progress → Progress
+passed tokens p = record p { at = p.at + 1; opened = opened_behind tokens p.at p.opened }
 
--- after the token at an index, whose text this is
-abbrev pub with_token : Texts → ℕ → List ℕ → Progress → Progress
-with_token tokens at text p =
-    passed tokens at
-    (if goes tokens at (innermost p.opened) then with_added tokens at p
-    else with_printed (spelled tokens at text) (with_added tokens at p))
+-- after the next token, whose text this is
+abbrev pub with_token : Texts → List ℕ → Progress → Progress
+with_token tokens text p =
+    passed tokens
+    (if goes tokens p.at (innermost p.opened) then with_added tokens p
+    else with_printed (spelled tokens p.at text) (with_added tokens p))
+
+-- after a comment or the next token
+abbrev pub with_piece : Texts → List ℕ → Progress → Progress
+with_piece tokens text p = if is_comment text then with_comment text p else with_token tokens text p
 
 -- examples
 comma_comes_before_comments : printed (codes "record" ∷ codes "r" ∷ codes "{" ∷ codes "a" ∷ codes "// last" ∷ codes "}" ∷ []) ≡ codes "record" ∷ codes "r" ∷ codes "{" ∷ codes "a" ∷ codes "," ∷ codes "// last" ∷ codes "}" ∷ []

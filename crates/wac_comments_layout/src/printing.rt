@@ -1,7 +1,7 @@
 // What printing changes about the tokens of a text.
-ghost use Rattle.std.specs.Prelude.{◌≡◌, ◌+◌, ◌<◌, ◌^◌, ◌≤◌, ◌++◌, IfOk, MatchOption, Some, None, [], ◌∷◌, length, map};
-ghost use Rattle.wac_comments_layout.specs.Brackets.{opened_by};
-ghost use Rattle.wac_comments_layout.specs.Printing.{now_of, token_at, token_before, stand_at, is_among, is_last_comma, goes, ends_resource, needs_none, needs_comma, added, innermost, tokens_of, printed, with_comment, with_added, with_token, with_printed, passed};
+ghost use Rattle.std.specs.Prelude.{◌≡◌, ◌+◌, ◌<◌, ◌^◌, ◌≤◌, ◌++◌, IfOk, MatchOption, Some, None, false, [], ◌∷◌, length, map};
+ghost use Rattle.wac_comments_layout.specs.Kept.{is_comment};
+ghost use Rattle.wac_comments_layout.specs.Printing.{now_of, token_at, token_before, stand_at, is_among, is_last_comma, goes, ends_resource, needs_none, needs_comma, added, innermost, tokens_of, printed, spelled, with_comment, with_added, with_token, with_piece, with_printed, passed};
 ghost use Rattle.wac_comments_layout.specs.Texts.{texts_of};
 
 use crate::brackets::{Brackets, closes, opened_by, opens};
@@ -107,6 +107,13 @@ fn added(tokens: &[&str], at: usize, around: Brackets) -> Option<&'static str>
     }
 }
 
+/// How the token at an index is printed, whose text this is.
+fn spelled<'a>(tokens: &[&str], at: usize, text: &'a str) -> &'a str
+    ensures { result.now ≡ spelled (now_of tokens.now) at text.now }
+{
+    if ends_resource(tokens, at) { "}" } else { text }
+}
+
 /// Adds a piece with a text, after so many line ends, which lies where another one does.
 fn push<'a>(
     pieces: &mut Vec<Piece<'a>>,
@@ -137,6 +144,8 @@ struct Printing<'a> {
     waiting: Vec<Piece<'a>>,
     // The line ends before tokens that were dropped since the last piece.
     breaks: usize,
+    // The index of the next token.
+    at: usize,
     // What stands in the brackets around the next token, the innermost last.
     opened: Vec<Brackets>,
 }
@@ -147,19 +156,18 @@ impl<'a> Model for Printing<'a> {
 
     ghost Value = { Progress };
 
-    ghost view = { λ p. record { done = texts_of p.pieces.items; waiting = texts_of p.waiting.items; opened = p.opened.items } };
+    ghost view = { λ p. record { done = texts_of p.pieces.items; waiting = texts_of p.waiting.items; at = p.at; opened = p.opened.items } };
 }
 
 impl<'a> Printing<'a> {
-    ghost use Rattle.wac_comments_layout.specs.Printing.{Progress};
-
     fn new(alloc: Global) -> Self
-        ensures { result ≡ record { done = []; waiting = []; opened = [] } }
+        ensures { result ≡ record { done = []; waiting = []; at = 0; opened = [] } }
     {
         Printing {
             pieces: Vec::new(alloc),
             waiting: Vec::new(alloc),
             breaks: 0,
+            at: 0,
             opened: Vec::new(alloc),
         }
     }
@@ -177,8 +185,20 @@ impl<'a> Printing<'a> {
         Ok(pieces)
     }
 
+    /// A comment, or the next of the tokens.
+    fn add(&mut self, tokens: &[&str], piece: &Piece<'a>) -> Result<(), AllocError>
+        requires { is_comment piece.now.text.now ≡ false → self.old.at < length tokens.now }
+        ensures { IfOk result (λ _. self.new ≡ with_piece (now_of tokens.now) piece.now.text.now self.old) }
+    {
+        if piece.is_comment() {
+            self.add_comment(piece)
+        } else {
+            self.add_token(tokens, piece)
+        }
+    }
+
     /// A comment, which waits for the next token that is printed.
-    fn comment(&mut self, comment: &Piece<'a>) -> Result<(), AllocError>
+    fn add_comment(&mut self, comment: &Piece<'a>) -> Result<(), AllocError>
         ensures { IfOk result (λ _. self.new ≡ with_comment comment.now.text.now self.old) }
     {
         let breaks = comment.breaks.saturating_add(self.breaks);
@@ -186,23 +206,35 @@ impl<'a> Printing<'a> {
         push(&mut self.waiting, comment.text, comment, breaks)
     }
 
-    /// The token of a piece.
-    fn token(&mut self, tokens: &[&str], at: usize, piece: &Piece<'a>) -> Result<(), AllocError>
-        requires { at < length tokens.now }
-        ensures { IfOk result (λ _. self.new ≡ with_token (now_of tokens.now) at piece.now.text.now self.old) }
+    /// The next of the tokens.
+    fn add_token(&mut self, tokens: &[&str], piece: &Piece<'a>) -> Result<(), AllocError>
+        requires { self.old.at < length tokens.now }
+        ensures { IfOk result (λ _. self.new ≡ with_token (now_of tokens.now) piece.now.text.now self.old) }
     {
         let around = self.around();
-        if let Some(text) = added(tokens, at, around) {
+        self.add_before(tokens, piece, around)?;
+        if goes(tokens, self.at, around) {
+            self.breaks = self.breaks.saturating_add(piece.breaks);
+        } else {
+            self.print(spelled(tokens, self.at, piece.text), piece)?;
+        }
+        self.pass(tokens)
+    }
+
+    /// The token that printing adds before the next one, whose piece and brackets these are.
+    fn add_before(
+        &mut self,
+        tokens: &[&str],
+        piece: &Piece<'a>,
+        around: Brackets,
+    ) -> Result<(), AllocError>
+        requires { around ≡ innermost self.old.opened }
+        ensures { IfOk result (λ _. self.new ≡ with_added (now_of tokens.now) self.old) }
+    {
+        if let Some(text) = added(tokens, self.at, around) {
             push(&mut self.pieces, text, piece, 0)?;
         }
-        if goes(tokens, at, around) {
-            self.breaks = self.breaks.saturating_add(piece.breaks);
-        } else if ends_resource(tokens, at) {
-            self.print("}", piece)?;
-        } else {
-            self.print(piece.text, piece)?;
-        }
-        self.pass(tokens, at)
+        Ok(())
     }
 
     /// Prints a token, behind the comments that wait for it.
@@ -226,20 +258,22 @@ impl<'a> Printing<'a> {
         }
     }
 
-    /// Goes on behind the token at an index.
-    fn pass(&mut self, tokens: &[&str], at: usize) -> Result<(), AllocError>
-        ensures { IfOk result (λ _. self.new ≡ passed (now_of tokens.now) at self.old) }
+    /// Goes on behind the next token.
+    fn pass(&mut self, tokens: &[&str]) -> Result<(), AllocError>
+        requires { self.old.at < length tokens.now }
+        ensures { IfOk result (λ _. self.new ≡ passed (now_of tokens.now) self.old) }
     {
-        let token = token_at(tokens, at);
+        let token = token_at(tokens, self.at);
         if opens(token) {
-            let before = token_before(tokens, at, 1);
-            let brackets = opened_by(token, before, token_before(tokens, at, 2));
+            let before = token_before(tokens, self.at, 1);
+            let brackets = opened_by(token, before, token_before(tokens, self.at, 2));
             if self.opened.push(brackets).is_err() {
                 return Err(AllocError);
             }
         } else if closes(token) {
             let _ = self.opened.pop();
         }
+        self.at += 1;
         Ok(())
     }
 }
@@ -266,14 +300,8 @@ pub fn printed<'a>(alloc: Global, pieces: &[Piece<'a>]) -> Result<Vec<Piece<'a>>
 {
     let tokens = tokens_of(alloc, pieces)?;
     let mut printing = Printing::new(alloc);
-    let mut at = 0;
     for piece in pieces {
-        if piece.is_comment() {
-            printing.comment(piece)?;
-        } else {
-            printing.token(tokens.as_slice(), at, piece)?;
-            at += 1;
-        }
+        printing.add(tokens.as_slice(), piece)?;
     }
     printing.into_pieces()
 }

@@ -10,7 +10,11 @@ fn line_ends_at_end(bytes: &[u8]) -> usize
     ensures count { result ≡ suffix_len is_line_end bytes.now }
     ensures within { result ≤ length bytes.now }
 {
-    bytes.iter().rev().take_while(|byte| **byte == b'\n').count()
+    bytes
+        .iter()
+        .rev()
+        .take_while(|byte| **byte == b'\n')
+        .count()
 }
 
 /// Bytes with other line ends, but within strings.
