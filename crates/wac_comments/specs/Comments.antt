@@ -1,6 +1,7 @@
 -- The comments of a text.
 use Rattle.std.specs.Prelude.{◌≡◌, refl, codes, ℕ, Bool, List, [], ◌∷◌, map, filter, if◌then◌else◌}
-use Rattle.std.specs.List.{list_any}
+use Rattle.std.specs.List.{filter_map, list_any}
+use Rattle.wac_lexer.specs.Docs.{doc_text}
 use Rattle.wac_lexer.specs.Span.{span}
 use Rattle.wac_lexer.specs.Items.{items_from}
 use Rattle.wac_comments_layout.specs.Kept.{is_comment, is_doc, is_line}
@@ -23,6 +24,14 @@ comments_among found = map comment_of (filter (λ p. is_comment p.text) found)
 -- the comments of a text, in order
 abbrev pub comments : List ℕ → List Comment
 comments source = comments_among (pieces source)
+
+-- the texts of a text's comments
+abbrev pub comment_texts : List ℕ → List (List ℕ)
+comment_texts source = filter is_comment (texts source)
+
+-- the texts of a text's docs: of all comments that the parser takes as docs where docs may stand
+abbrev pub doc_texts : List ℕ → List (List ℕ)
+doc_texts source = filter_map doc_text (comment_texts source)
 
 -- whether a text has a comment
 abbrev pub has_comments : List ℕ → Bool

@@ -3,7 +3,9 @@ use Rattle.std.specs.Prelude.{◌≡◌, refl, codes, ℕ, List}
 use Rattle.wac_lexer.specs.Items.{items_from}
 use Rattle.wac_grammar.specs.Tree.{Document}
 use Rattle.wac_grammar.specs.TextTree.{IsTreeOf}
+use Rattle.wac_layout.specs.Bare.{bare_document, doc_lines}
 use Rattle.wac_layout.specs.Reread as reread
+use Rattle.wac_layout.specs.Reread.{RereadAs}
 use Rattle.wac_comments_layout.specs.Pieces.{comments_at, texts}
 use Rattle.wac_comments_layout.specs.Printing.{printed}
 use Rattle.wac_comments_layout.specs.Plain.{ended}
@@ -13,13 +15,17 @@ use Rattle.wac_comments_layout.specs.Plain.{ended}
 abbrev pub Kept : List ℕ → List ℕ → Type 0
 Kept source text = texts text ≡ printed (texts source)
 
+-- The text has the same bare tree as the source, and the same lines of docs. What is formatted of a text depends on these alone.
+abbrev pub SameTree : List ℕ → List ℕ → Type 0
+SameTree source text = (tree : Document) × (again : Document) × IsTreeOf source tree × IsTreeOf text again × (bare_document doc_lines text again ≡ bare_document doc_lines source tree)
+
 -- this is what a source is formatted to, where these blanks stand for a depth
 abbrev pub IsFormatted : List ℕ → List ℕ → List ℕ → Type 0
-IsFormatted space source text = (tree : Document) × IsTreeOf source tree × (text ≡ reread.printed space source tree)
+IsFormatted space source formatted = (tree : Document) × IsTreeOf source tree × (formatted ≡ reread.printed space source tree)
 
--- both texts are formatted to the same
-abbrev pub FormattedAlike : List ℕ → List ℕ → List ℕ → Type 0
-FormattedAlike space source text = (formatted : List ℕ) × IsFormatted space source formatted × IsFormatted space text formatted
+-- this reads back as the tree of the source
+abbrev pub ReadsBackAs : List ℕ → List ℕ → Type 0
+ReadsBackAs source formatted = (tree : Document) × IsTreeOf source tree × RereadAs formatted source tree
 
 -- the text is what the source is formatted to, with these line ends, of which one stands at the end
 abbrev pub IsPlain : List ℕ → List ℕ → List ℕ → List ℕ → Type 0

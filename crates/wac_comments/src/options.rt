@@ -1,5 +1,6 @@
 //! How a document is printed.
 ghost use Rattle.std.specs.Prelude.{◌≡◌, IfOk, string_bytes};
+ghost use Rattle.wac_layout.specs.Joins.{AreBlanks};
 ghost use Rattle.wac_comments.specs.Options.{indent_text, line_end_text};
 
 use std::alloc::{AllocError, Global};
@@ -44,7 +45,8 @@ impl Default for Options {
 impl Indent {
     /// The text of the indent.
     pub(crate) fn text(self, alloc: Global) -> Result<String, AllocError>
-        ensures { IfOk result (λ text. string_bytes text ≡ indent_text self) }
+        ensures text { IfOk result (λ text. string_bytes text ≡ indent_text self) }
+        ensures blanks { IfOk result (λ text. AreBlanks (string_bytes text)) }
     {
         let bytes = match self {
             Indent::Tab => vec![in alloc; b'\t'; 1]?,

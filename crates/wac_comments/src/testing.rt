@@ -1,7 +1,8 @@
 // The test of a result before it is returned.
 ghost use Rattle.std.specs.Prelude.{◌≡◌, true, IfOk, IfErr, slice_get, Some, alloc_error};
+ghost use Rattle.wac_layout.specs.Joins.{AreBlanks};
 ghost use Rattle.wac_comments_layout.specs.Texts.{texts_of};
-ghost use Rattle.wac_comments.specs.Tidied.{FormattedAlike, IsFormatted, Kept};
+ghost use Rattle.wac_comments.specs.Tidied.{Kept, ReadsBackAs};
 ghost use Rattle.wac_comments.specs.declared.error.TidyError.TheVariants.{Memory};
 
 use crate::error::TidyError;
@@ -51,7 +52,8 @@ fn is_formatted_to(
     formatted: &str,
     indent: &str,
 ) -> Result<bool, TidyError>
-    ensures yes { IfOk result (λ yes. yes ≡ true → IsFormatted indent.now text.now formatted.now) }
+    requires { AreBlanks indent.now }
+    ensures yes { IfOk result (λ yes. yes ≡ true → ReadsBackAs text.now formatted.now) }
     ensures error { IfErr result (λ e. e ≡ Memory alloc_error) }
 {
     match format(alloc, text, Some(indent)) {
@@ -69,8 +71,9 @@ pub(crate) fn is_kept(
     text: &str,
     indent: &str,
 ) -> Result<bool, TidyError>
+    requires { AreBlanks indent.now }
     ensures kept { IfOk result (λ yes. yes ≡ true → Kept source.now text.now) }
-    ensures formatted { IfOk result (λ yes. yes ≡ true → IsFormatted indent.now text.now formatted.now) }
+    ensures formatted { IfOk result (λ yes. yes ≡ true → ReadsBackAs text.now formatted.now) }
     ensures error { IfErr result (λ e. e ≡ Memory alloc_error) }
 {
     if !is_formatted_to(alloc, text, formatted, indent)? {

@@ -1,14 +1,15 @@
 //! Printing documents with their comments.
 ghost use Rattle.std.specs.Prelude.{◌≡◌, false, IfOk, IfErr, IfSome, Err, string_bytes};
 ghost use Rattle.std.specs.List.{list_any};
+ghost use Rattle.wac_layout.specs.Joins.{AreBlanks};
 ghost use Rattle.wac_comments_layout.specs.Kept.{is_comment};
 ghost use Rattle.wac_comments_layout.specs.Nesting.{too_deep};
 ghost use Rattle.wac_comments_layout.specs.Plain.{ended};
 ghost use Rattle.wac_comments_layout.specs.Texts.{texts_of};
-ghost use Rattle.wac_comments.specs.Comments.{has_comments};
+ghost use Rattle.wac_comments.specs.Comments.{doc_texts, has_comments};
 ghost use Rattle.wac_comments.specs.Errors.{IsErrorOf};
 ghost use Rattle.wac_comments.specs.Options.{indent_text, line_end_text};
-ghost use Rattle.wac_comments.specs.Tidied.{FormattedAlike, IsFormatted, IsPlain, Kept};
+ghost use Rattle.wac_comments.specs.Tidied.{IsFormatted, IsPlain, Kept, ReadsBackAs, SameTree};
 ghost use Rattle.wac_comments.specs.declared.error.TidyError.TheVariants.{NestedTooDeep};
 
 use crate::error::TidyError;
@@ -16,7 +17,9 @@ use crate::options::Options;
 use crate::testing::is_kept;
 use std::alloc::{AllocError, Global};
 use wac_ast_base::Error;
-use wac_comments_layout::{Piece, ReadError, Style, lay_out, plain, printed, read, too_deep};
+use wac_comments_layout::{
+    Piece, ReadError, Style, lay_out, plain, printed, printing_keeps_comments, read, too_deep,
+};
 use wac_parser_formatting::format;
 
 /// Prints the document of a text in the one layout, with every comment of the text in its place.
@@ -31,8 +34,10 @@ use wac_parser_formatting::format;
 pub fn tidy(alloc: Global, source: &str, options: Options) -> Result<String, TidyError>
     // All comments are kept, in order, each before the same printed token.
     ensures kept { IfOk result (λ text. Kept source.now (string_bytes text)) }
-    // The text and the source are formatted to the same text.
-    ensures formatted { IfOk result (λ text. FormattedAlike (indent_text options.indent) source.now (string_bytes text)) }
+    // The text and the source have the same bare tree and the same lines of docs, so they are formatted alike.
+    ensures formatted { IfOk result (λ text. SameTree source.now (string_bytes text)) }
+    // Its docs are those of the source, to the letter.
+    ensures docs { IfOk result (λ text. doc_texts (string_bytes text) ≡ doc_texts source.now) }
     // Without comments it is what the source is formatted to, but for its line ends.
     ensures plain { has_comments source.now ≡ false → IfOk result (λ text. IsPlain (indent_text options.indent) (line_end_text options.line_end) source.now (string_bytes text)) }
     // Brackets that are nested too deep are reported before all but refused characters.
@@ -43,6 +48,7 @@ pub fn tidy(alloc: Global, source: &str, options: Options) -> Result<String, Tid
     if let Some(span) = too_deep(source) {
         return Err(TidyError::NestedTooDeep { span });
     }
+    printing_keeps_comments();
     match options.indent.text(alloc) {
         Ok(indent) => tidied(alloc, source, indent.as_str(), options.line_end.text()),
         Err(AllocError) => Err(TidyError::Memory(AllocError)),
@@ -52,7 +58,7 @@ pub fn tidy(alloc: Global, source: &str, options: Options) -> Result<String, Tid
 /// The same with the texts of the options.
 fn tidied(alloc: Global, source: &str, indent: &str, line_end: &str) -> Result<String, TidyError>
     ensures kept { IfOk result (λ text. Kept source.now (string_bytes text)) }
-    ensures formatted { IfOk result (λ text. FormattedAlike indent.now source.now (string_bytes text)) }
+    ensures formatted { IfOk result (λ text. SameTree source.now (string_bytes text)) }
     ensures plain { has_comments source.now ≡ false → IfOk result (λ text. IsPlain indent.now line_end.now source.now (string_bytes text)) }
     ensures only { IfErr result (λ e. IsErrorOf source.now e) }
 {
@@ -70,7 +76,9 @@ fn tidied(alloc: Global, source: &str, indent: &str, line_end: &str) -> Result<S
 
 /// What a source is formatted to.
 fn format_text(alloc: Global, source: &str, indent: &str) -> Result<String, TidyError>
+    requires { AreBlanks indent.now }
     ensures found { IfOk result (λ text. IsFormatted indent.now source.now (string_bytes text)) }
+    ensures back { IfOk result (λ text. ReadsBackAs source.now (string_bytes text)) }
     ensures only { IfErr result (λ e. IsErrorOf source.now e) }
 {
     match format(alloc, source, Some(indent)) {

@@ -12,10 +12,10 @@ use Rattle.wac_comments_layout.specs.Printing.{now_of, stand_at, is_among}
 
 -- the test on references is that on texts
 pub begin_with : (tokens these : List (Bor (List ℕ))) (at : ℕ)
-    → pointwise (λ x y. bytes_eq x.now y.now) these (take (length these) (drop (min at (length tokens)) tokens)) ≡ stand_at (now_of tokens) at (now_of these)
+    → pointwise (λ (x y : Bor (List ℕ)). bytes_eq x.now y.now) these (take (length these) (drop (min at (length tokens)) tokens)) ≡ stand_at (now_of tokens) at (now_of these)
 begin_with tokens these at =
     let now = λ (t : Bor (List ℕ)). t.now in
-    ap (λ rest. pointwise (λ x y. bytes_eq x.now y.now) these (take (length these) rest)) (drop_min at tokens)
+    ap (λ rest. pointwise (λ (x y : Bor (List ℕ)). bytes_eq x.now y.now) these (take (length these) rest)) (drop_min at tokens)
     ∙ sym (pointwise-map now bytes_eq these (take (length these) (drop at tokens)))
     ∙ ap (λ rest. pointwise bytes_eq (map now these) rest)
     (sym (take-map now (length these) (drop at tokens))

@@ -2,3 +2,4 @@ pub mod Among
 pub mod Progressing
 pub mod Commented
 pub mod Trimming
+pub mod Keeping

@@ -4,6 +4,7 @@
 mod brackets;
 mod columns;
 mod joints;
+mod laws;
 mod layout;
 mod nesting;
 mod parts;
@@ -14,6 +15,7 @@ mod separators;
 mod without_comments;
 mod writer;
 
+pub use laws::printing_keeps_comments;
 pub use layout::lay_out;
 pub use nesting::too_deep;
 pub use pieces::{Piece, ReadError, read};

@@ -1,0 +1,45 @@
+-- Texts that are formatted alike have the same bare tree.
+use Rattle.std.proofs.Common.{◌≡◌, ℕ, zero, suc, List, sym, refl, ap, ◌∙◌}
+use Rattle.std.specs.Prelude.{filter, replicate, string_bytes}
+use Rattle.std.specs.List.{filter_map}
+use Rattle.wac_lexer.specs.Docs.{doc_text}
+use Rattle.wac_ast.proofs.Documents.{is_one}
+use Rattle.wac_grammar.specs.Tree.{Document}
+use Rattle.wac_layout.specs.Bare.{bare_document}
+use Rattle.wac_layout.specs.Joins.{AreBlanks}
+use Rattle.wac_layout.specs.Reread.{read_docs}
+use Rattle.wac_comments_layout.specs.Kept.{is_comment}
+use Rattle.wac_comments_layout.specs.Pieces.{texts}
+use Rattle.wac_comments_layout.specs.Printing.{Texts, printed}
+use Rattle.wac_comments.specs.Comments.{comment_texts, doc_texts}
+use Rattle.wac_comments.specs.Options.{indent_text}
+use Rattle.wac_comments.specs.Tidied.{Kept, ReadsBackAs, SameTree}
+use Rattle.wac_comments.specs.declared.options.Indent.{Indent}
+use Rattle.wac_comments.specs.declared.options.Indent.TheVariants.{Tab, Blanks}
+
+-- what both are formatted to has one tree
+pub same_tree : (source text formatted : List ℕ) → ReadsBackAs source formatted → ReadsBackAs text formatted → SameTree source text
+same_tree source text formatted s t =
+    let one = is_one formatted s.2.0 t.2.0 s.2.1 t.2.1 in (
+      s.0,
+      t.0,
+      s.1,
+      t.1,
+      sym t.2.2 ∙ ap (λ (d : Document). bare_document read_docs formatted d) (sym one) ∙ s.2.2,
+    )
+
+-- where comments are kept, so are their texts, and those of docs
+pub same_comments : (source text : List ℕ) → ((ts : Texts) → filter is_comment (printed ts) ≡ filter is_comment ts) → Kept source text → comment_texts text ≡ comment_texts source
+same_comments source text law kept = ap (filter is_comment) kept ∙ law (texts source)
+
+pub same_docs : (source text : List ℕ) → comment_texts text ≡ comment_texts source → doc_texts text ≡ doc_texts source
+same_docs source text same = ap (filter_map doc_text) same
+
+-- an indent consists of blanks
+many_blanks : (n : ℕ) → AreBlanks (replicate n 32)
+many_blanks zero = tt
+many_blanks (suc n) = (refl, many_blanks n)
+
+pub indent_blanks : (indent : Indent) → AreBlanks (indent_text indent)
+indent_blanks Tab = (refl, tt)
+indent_blanks (Blanks count) = many_blanks count
