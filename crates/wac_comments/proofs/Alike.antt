@@ -1,7 +1,7 @@
 -- Texts that are formatted alike have the same bare tree.
-use Rattle.std.proofs.Common.{◌≡◌, ℕ, zero, suc, List, sym, refl, ap, ◌∙◌}
-use Rattle.std.specs.Prelude.{filter, replicate, string_bytes}
-use Rattle.std.specs.List.{filter_map}
+use Rattle.std.proofs.Common.{◌≡◌, ℕ, zero, suc, Bool, true, false, cond, List, [], ◌∷◌, sym, refl, ap, ◌∙◌}
+use Rattle.std.specs.Prelude.{◌||◌, filter, replicate}
+use Rattle.std.specs.List.{filter_map, list_any}
 use Rattle.wac_lexer.specs.Docs.{doc_text}
 use Rattle.wac_ast.proofs.Documents.{is_one}
 use Rattle.wac_grammar.specs.Tree.{Document}
@@ -11,7 +11,7 @@ use Rattle.wac_layout.specs.Reread.{read_docs}
 use Rattle.wac_comments_layout.specs.Kept.{is_comment}
 use Rattle.wac_comments_layout.specs.Pieces.{texts}
 use Rattle.wac_comments_layout.specs.Printing.{Texts, printed}
-use Rattle.wac_comments.specs.Comments.{comment_texts, doc_texts}
+use Rattle.wac_comments.specs.Comments.{comment_texts, doc_texts, has_comments}
 use Rattle.wac_comments.specs.Options.{indent_text}
 use Rattle.wac_comments.specs.Tidied.{Kept, ReadsBackAs, SameTree}
 use Rattle.wac_comments.specs.declared.options.Indent.{Indent}
@@ -43,3 +43,19 @@ many_blanks (suc n) = (refl, many_blanks n)
 pub indent_blanks : (indent : Indent) → AreBlanks (indent_text indent)
 indent_blanks Tab = (refl, tt)
 indent_blanks (Blanks count) = many_blanks count
+
+-- a list has an element that passes where those that pass have one
+any_passes : (p : List ℕ → Bool) (xs : Texts) → list_any p xs ≡ list_any p (filter p xs)
+any_passes p [] = refl
+any_passes p (x ∷ xs) = step (p x) refl
+  where
+    step : (b : Bool) → p x ≡ b → (b || list_any p xs) ≡ list_any p (cond b (x ∷ filter p xs) (filter p xs))
+    step true e = sym (ap (λ t. t || list_any p (filter p xs)) e)
+    step false e = any_passes p xs
+
+-- what is printed has a comment where the source has one
+pub has_same : (source : List ℕ) → ((ts : Texts) → filter is_comment (printed ts) ≡ filter is_comment ts) → list_any is_comment (printed (texts source)) ≡ has_comments source
+has_same source law =
+    any_passes is_comment (printed (texts source))
+    ∙ ap (list_any is_comment) (law (texts source))
+    ∙ sym (any_passes is_comment (texts source))

@@ -1,14 +1,15 @@
 // The test of a result before it is returned.
 ghost use Rattle.std.specs.Prelude.{◌≡◌, true, IfOk, IfErr, slice_get, Some, alloc_error};
 ghost use Rattle.wac_layout.specs.Joins.{AreBlanks};
+ghost use Rattle.wac_comments_layout.specs.Pieces.{texts};
 ghost use Rattle.wac_comments_layout.specs.Texts.{texts_of};
-ghost use Rattle.wac_comments.specs.Tidied.{Kept, ReadsBackAs};
+ghost use Rattle.wac_comments.specs.Tidied.{ReadsBackAs};
 ghost use Rattle.wac_comments.specs.declared.error.TidyError.TheVariants.{Memory};
 
 use crate::error::TidyError;
 use std::alloc::{AllocError, Global};
 use wac_ast_base::Error;
-use wac_comments_layout::{Piece, ReadError, printed, read};
+use wac_comments_layout::{Piece, ReadError, read};
 use wac_parser_formatting::format;
 
 /// Whether the piece at an index has this text.
@@ -33,15 +34,15 @@ fn have_same_texts(found: &[Piece<'_>], wanted: &[Piece<'_>]) -> bool
     found.len() == wanted.len()
 }
 
-/// Whether a text has the comments of the source, each before the same printed token.
-fn keeps(alloc: Global, source: &str, text: &str) -> Result<bool, ReadError>
-    ensures { IfOk result (λ yes. yes ≡ true → Kept source.now text.now) }
+/// Whether a text has these tokens and comments, in order.
+fn has_pieces(alloc: Global, text: &str, wanted: &[Piece<'_>]) -> Result<bool, TidyError>
+    ensures yes { IfOk result (λ yes. yes ≡ true → texts text.now ≡ texts_of wanted.now) }
+    ensures error { IfErr result (λ e. e ≡ Memory alloc_error) }
 {
-    let found = read(alloc, text, 1)?;
-    let pieces = read(alloc, source, 1)?;
-    match printed(alloc, pieces.as_slice()) {
-        Ok(wanted) => Ok(have_same_texts(found.as_slice(), wanted.as_slice())),
-        Err(AllocError) => Err(ReadError::Memory(AllocError)),
+    match read(alloc, text, 1) {
+        Ok(found) => Ok(have_same_texts(found.as_slice(), wanted)),
+        Err(ReadError::Refused(..)) => Ok(false),
+        Err(ReadError::Memory(_)) => Err(TidyError::Memory(AllocError)),
     }
 }
 
@@ -63,25 +64,22 @@ fn is_formatted_to(
     }
 }
 
-/// Whether a text has the comments of the source, each in its place, and is formatted as the source is.
+/// Whether a text has these tokens and comments, in order, and is formatted to another one.
 pub(crate) fn is_kept(
     alloc: Global,
-    source: &str,
-    formatted: &str,
     text: &str,
+    wanted: &[Piece<'_>],
+    formatted: &str,
     indent: &str,
 ) -> Result<bool, TidyError>
     requires { AreBlanks indent.now }
-    ensures kept { IfOk result (λ yes. yes ≡ true → Kept source.now text.now) }
+    ensures kept { IfOk result (λ yes. yes ≡ true → texts text.now ≡ texts_of wanted.now) }
     ensures formatted { IfOk result (λ yes. yes ≡ true → ReadsBackAs text.now formatted.now) }
     ensures error { IfErr result (λ e. e ≡ Memory alloc_error) }
 {
-    if !is_formatted_to(alloc, text, formatted, indent)? {
-        return Ok(false);
-    }
-    match keeps(alloc, source, text) {
-        Ok(kept) => Ok(kept),
-        Err(ReadError::Refused(..)) => Ok(false),
-        Err(ReadError::Memory(_)) => Err(TidyError::Memory(AllocError)),
+    if is_formatted_to(alloc, text, formatted, indent)? {
+        has_pieces(alloc, text, wanted)
+    } else {
+        Ok(false)
     }
 }

@@ -1,16 +1,18 @@
 //! Printing documents with their comments.
-ghost use Rattle.std.specs.Prelude.{◌≡◌, false, IfOk, IfErr, IfSome, Err, string_bytes};
+ghost use Rattle.std.specs.Prelude.{◌≡◌, ◌⊎◌, false, IfOk, IfErr, IfSome, Err, alloc_error, string_bytes};
 ghost use Rattle.std.specs.List.{list_any};
 ghost use Rattle.wac_layout.specs.Joins.{AreBlanks};
 ghost use Rattle.wac_comments_layout.specs.Kept.{is_comment};
 ghost use Rattle.wac_comments_layout.specs.Nesting.{too_deep};
+ghost use Rattle.wac_comments_layout.specs.Pieces.{texts};
 ghost use Rattle.wac_comments_layout.specs.Plain.{ended};
+ghost use Rattle.wac_comments_layout.specs.Printing.{printed};
 ghost use Rattle.wac_comments_layout.specs.Texts.{texts_of};
 ghost use Rattle.wac_comments.specs.Comments.{doc_texts, has_comments};
 ghost use Rattle.wac_comments.specs.Errors.{IsErrorOf};
 ghost use Rattle.wac_comments.specs.Options.{indent_text, line_end_text};
 ghost use Rattle.wac_comments.specs.Tidied.{IsFormatted, IsPlain, Kept, ReadsBackAs, SameTree};
-ghost use Rattle.wac_comments.specs.declared.error.TidyError.TheVariants.{NestedTooDeep};
+ghost use Rattle.wac_comments.specs.declared.error.TidyError.TheVariants.{NestedTooDeep, NotKept, Memory};
 
 use crate::error::TidyError;
 use crate::options::Options;
@@ -57,20 +59,19 @@ pub fn tidy(alloc: Global, source: &str, options: Options) -> Result<String, Tid
 
 /// The same with the texts of the options.
 fn tidied(alloc: Global, source: &str, indent: &str, line_end: &str) -> Result<String, TidyError>
+    requires { AreBlanks indent.now }
     ensures kept { IfOk result (λ text. Kept source.now (string_bytes text)) }
     ensures formatted { IfOk result (λ text. SameTree source.now (string_bytes text)) }
     ensures plain { has_comments source.now ≡ false → IfOk result (λ text. IsPlain indent.now line_end.now source.now (string_bytes text)) }
     ensures only { IfErr result (λ e. IsErrorOf source.now e) }
 {
+    printing_keeps_comments();
     let formatted = format_text(alloc, source, indent)?;
     let style = Style { indent, line_end };
-    let candidate = candidate(alloc, source, formatted.as_str(), style)?;
-    let text = candidate.as_str();
-    let kept = is_kept(alloc, source, formatted.as_str(), text, indent)?;
-    if kept {
-        Ok(candidate)
-    } else {
-        Err(TidyError::NotKept)
+    match read_printed(alloc, source, style.tab()) {
+        Ok(pieces) => tested(alloc, pieces.as_slice(), formatted.as_str(), style),
+        Err(ReadError::Refused(..)) => Err(TidyError::NotKept),
+        Err(ReadError::Memory(_)) => Err(TidyError::Memory(AllocError)),
     }
 }
 
@@ -88,48 +89,75 @@ fn format_text(alloc: Global, source: &str, indent: &str) -> Result<String, Tidy
     }
 }
 
-/// The text that is tested before it is returned.
-fn candidate(
+/// The pieces of a source as they are printed.
+fn read_printed(alloc: Global, source: &str, tab: usize) -> Result<Vec<Piece<'_>>, ReadError>
+    ensures { IfOk result (λ pieces. texts_of pieces.items ≡ printed (texts source.now)) }
+{
+    let pieces = read(alloc, source, tab)?;
+    match printed(alloc, pieces.as_slice()) {
+        Ok(pieces) => Ok(pieces),
+        Err(AllocError) => Err(ReadError::Memory(AllocError)),
+    }
+}
+
+/// The text with these tokens and comments, which is tested before it is returned.
+fn tested(
     alloc: Global,
-    source: &str,
+    pieces: &[Piece<'_>],
     formatted: &str,
     style: Style<'_>,
 ) -> Result<String, TidyError>
-    ensures plain { has_comments source.now ≡ false → IfOk result (λ text. string_bytes text ≡ ended style.entry.line_end.now formatted.now) }
-    ensures only { IfErr result (λ e. IsErrorOf source.now e) }
+    requires { AreBlanks style.entry.indent.now }
+    ensures kept { IfOk result (λ text. texts (string_bytes text) ≡ texts_of pieces.now) }
+    ensures back { IfOk result (λ text. ReadsBackAs (string_bytes text) formatted.now) }
+    ensures plain { list_any is_comment (texts_of pieces.now) ≡ false → IfOk result (λ text. string_bytes text ≡ ended style.entry.line_end.now formatted.now) }
+    ensures only { IfErr result (λ e. (e ≡ NotKept) ⊎ (e ≡ Memory alloc_error)) }
 {
-    match lay_out_text(alloc, source, formatted, style) {
+    let candidate = candidate(alloc, pieces, formatted, style)?;
+    let text = candidate.as_str();
+    let kept = is_kept(alloc, text, pieces, formatted, style.indent)?;
+    if kept {
+        Ok(candidate)
+    } else {
+        Err(TidyError::NotKept)
+    }
+}
+
+/// The text that is tested.
+fn candidate(
+    alloc: Global,
+    pieces: &[Piece<'_>],
+    formatted: &str,
+    style: Style<'_>,
+) -> Result<String, TidyError>
+    ensures plain { list_any is_comment (texts_of pieces.now) ≡ false → IfOk result (λ text. string_bytes text ≡ ended style.entry.line_end.now formatted.now) }
+    ensures only { IfErr result (λ e. (e ≡ NotKept) ⊎ (e ≡ Memory alloc_error)) }
+{
+    if !has_comments(pieces) {
+        return match plain(alloc, formatted, style.line_end) {
+            Ok(text) => Ok(text),
+            Err(AllocError) => Err(TidyError::Memory(AllocError)),
+        };
+    }
+    match lay_out_text(alloc, pieces, formatted, style) {
         Ok(text) => Ok(text),
         Err(ReadError::Refused(..)) => Err(TidyError::NotKept),
         Err(ReadError::Memory(_)) => Err(TidyError::Memory(AllocError)),
     }
 }
 
+/// Lays out the pieces of a text, whose lines end where those of the formatted text do.
 fn lay_out_text(
     alloc: Global,
-    source: &str,
+    pieces: &[Piece<'_>],
     formatted: &str,
     style: Style<'_>,
-) -> Result<String, ReadError>
-    ensures { has_comments source.now ≡ false → IfOk result (λ text. string_bytes text ≡ ended style.entry.line_end.now formatted.now) }
-{
-    let pieces = read(alloc, source, style.tab())?;
-    if has_comments(pieces.as_slice()) {
-        let lines = read(alloc, formatted, style.tab())?;
-        return or_memory(lay_out_pieces(alloc, pieces.as_slice(), lines.as_slice(), style));
+) -> Result<String, ReadError> {
+    let lines = read(alloc, formatted, style.tab())?;
+    match lay_out(alloc, pieces, lines.as_slice(), style) {
+        Ok(text) => Ok(text),
+        Err(AllocError) => Err(ReadError::Memory(AllocError)),
     }
-    or_memory(plain(alloc, formatted, style.line_end))
-}
-
-/// Lays out the pieces of a source as they are printed.
-fn lay_out_pieces(
-    alloc: Global,
-    pieces: &[Piece<'_>],
-    lines: &[Piece<'_>],
-    style: Style<'_>,
-) -> Result<String, AllocError> {
-    let printed = printed(alloc, pieces)?;
-    lay_out(alloc, printed.as_slice(), lines, style)
 }
 
 /// Whether one of these pieces is a comment.
@@ -142,14 +170,4 @@ fn has_comments(pieces: &[Piece<'_>]) -> bool
         }
     }
     false
-}
-
-/// The text, or that memory ran out.
-fn or_memory(made: Result<String, AllocError>) -> Result<String, ReadError>
-    ensures { IfOk result (λ text. made ≡ Ok text) }
-{
-    match made {
-        Ok(text) => Ok(text),
-        Err(AllocError) => Err(ReadError::Memory(AllocError)),
-    }
 }
