@@ -82,11 +82,11 @@ fn leaves(rt: &impl Abort, mut lexer: Lexer, items: &[(LexerResult<Token>, usize
     assert!(rt; lexer.next() == None, "the end");
 }
 
-/// The span of what a stream holds, and of the stream.
-fn held(ty: &Type) -> Option<(Option<SourceSpan>, SourceSpan)> {
+/// Where what a stream holds lies, and the stream.
+fn held(ty: &Type) -> Option<(Option<Place>, Place)> {
     match ty {
-        Type::Stream(Some(inner), span) => Some((Some(inner.span()), *span)),
-        Type::Stream(None, span) => Some((None, *span)),
+        Type::Stream(Some(inner), span) => Some((Some(place(inner.span())), place(*span))),
+        Type::Stream(None, span) => Some((None, place(*span))),
         _ => None,
     }
 }
@@ -96,8 +96,11 @@ fn stream<'a>(inner: Option<Box<Type<'a>>>, span: SourceSpan) -> Type<'a> {
     Type::Stream(inner, span)
 }
 
-/// What is held, and the item after it.
-fn taken(rt: &impl Abort, alloc: Global, source: &str) -> (Option<SourceSpan>, SourceSpan, bool) {
+/// Where what is held lies, and all of it; whether a name stands after it; and the lexer's span.
+type Taken = (Option<Place>, Place, bool, Place);
+
+/// What a type of a text takes.
+fn taken(rt: &impl Abort, alloc: Global, source: &str) -> Taken {
     let mut lexer = lexer(rt, source);
     if !has_more(&lexer) {
         panic!(rt; "nothing stands in {source}");
@@ -113,12 +116,21 @@ fn taken(rt: &impl Abort, alloc: Global, source: &str) -> (Option<SourceSpan>, S
     );
     match made {
         Ok(ty) => match held(&ty) {
-            Some((inner, span)) => (inner, span, at(&lexer, Token::Ident)),
+            Some((inner, all)) => (inner, all, at(&lexer, Token::Ident), place(lexer.span())),
             None => panic!(rt; "no stream"),
         },
         Err(_) => panic!(rt; "no type"),
     }
 }
+
+/// Texts, and what a type of each takes. Where the text ends with it, nothing is read behind it: the lexer's span is that of
+/// the last item, which ends where the text ends and so is the byte before its begin.
+const PAYLOADS: [(&str, Taken); 4] = [
+    ("stream<u8> x", (Some((7, 2)), (0, 10), true, (9, 1))),
+    ("stream x", (None, (0, 6), true, (0, 6))),
+    ("stream<u8>", (Some((7, 2)), (0, 10), false, (8, 1))),
+    ("stream", (None, (0, 6), false, (0, 1))),
+];
 
 #[test]
 fn optional_parts_and_payloads(rt: HostRuntime) {
@@ -127,10 +139,7 @@ fn optional_parts_and_payloads(rt: HostRuntime) {
         assert!(rt; given(&mut lexer) == expected, "of {source}");
         leaves(&rt, lexer, items);
     }
-    let held = (Some(SourceSpan::new(7, 2)), SourceSpan::new(0, 10), true);
-    let source = "stream<u8> x";
-    assert!(rt; taken(&rt, rt.alloc(), source) == held, "of {source}");
-    let nothing = (None, SourceSpan::new(0, 6), true);
-    let source = "stream x";
-    assert!(rt; taken(&rt, rt.alloc(), source) == nothing, "of {source}");
+    for (source, expected) in PAYLOADS {
+        assert!(rt; taken(&rt, rt.alloc(), source) == expected, "of {source}");
+    }
 }

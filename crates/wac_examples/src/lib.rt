@@ -1,4 +1,4 @@
-//! A user's crate over `wac_parser`: what a formatter, an editor service and a checker of packages do with it. The README quotes it.
+//! A user's crate over `wac_parser`: what a formatter, an editor service and a checker of packages do with it. README.md and docs/ quote it.
 #![tactic(auto)]
 
 mod cached;

@@ -1,4 +1,4 @@
-//! Tests of `wac_examples`: what its functions return for the texts that the README shows.
+//! Tests of `wac_examples`: what its functions return for the texts that the documents show.
 #![tactic(auto)]
 
 #[cfg(test)]

@@ -1,4 +1,4 @@
-//! The texts that the README shows, and rows of the language.
+//! The texts that the documents show, and rows of the language.
 
 use std::test::Fail;
 use wac_examples::{

@@ -102,7 +102,8 @@ impl Tally {
     }
 }
 
-/// A sink over a writer. An error of the writer is a failure, and so is a writer that takes none of some bytes.
+/// A sink over a writer. An error of the writer is a failure, and so is a writer that takes none of some bytes. Each call
+/// asks the writer once: none tries again after an error, not after `Interrupted` either.
 #[derive(Drop)]
 pub struct Out<W: Write> {
     inner: W,
@@ -346,7 +347,8 @@ impl<S: Sink> Sink for Blocks<S> {
     }
 }
 
-/// A feed over a reader. An error of the reader is a failure.
+/// A feed over a reader. An error of the reader is a failure. Each call asks the reader once: none tries again after an
+/// error, not after `Interrupted` either, nor after the end.
 #[derive(Drop)]
 pub struct In<R: Read> {
     inner: R,

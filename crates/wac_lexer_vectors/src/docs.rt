@@ -61,3 +61,9 @@ fn docs_of_texts(rt: HostRuntime) -> Result<(), Fail> {
     assert!(rt; docs == 2, "docs");
     Ok(())
 }
+
+/// Reads one doc, for which memory is asked for once: bench/memory counts how often.
+#[test]
+fn a_doc_takes_memory_once(rt: HostRuntime) {
+    docs_are(&rt, rt.alloc(), "/// x\npackage", &[("x", 0, 5)]);
+}

@@ -1,5 +1,5 @@
 -- The mentions of a tree stand as the items do that the tree derives from.
-use Rattle.std.proofs.Common.{◌≡◌, ◌≤◌, ◌+◌, ℕ, zero, suc, List, [], ◌∷◌, ◌++◌, Option, Some, None, flat_map, inl, inr, refl, sym as back, ap, subst, arith, append-nil}
+use Rattle.std.proofs.Common.{◌≡◌, ◌≤◌, ◌+◌, ℕ, zero, suc, List, [], ◌∷◌, ◌++◌, flat_map, inl, inr, refl, sym as back, ap, subst, arith, append-nil}
 use Rattle.std.specs.Str.{bytes_eq}
 use Rattle.std.proofs.lemmas.Slice.Eq.{bytes_eq-Decides}
 use Rattle.wac_lexer.specs.declared.token.Token.{Token}
@@ -13,7 +13,6 @@ use Rattle.wac_grammar.specs.Segments.{package_name_span}
 use Rattle.wac_grammar.specs.TextTree.{IsTreeOf}
 use Rattle.wac_grammar.specs.Tree.{Document, InstantiationArgument, arguments_from}
 use Rattle.wac_grammar.proofs.Complete.{Family}
-use Rattle.wac_graph.specs.Package.{Key}
 use Rattle.wac_resolution_rules.specs.Given.{key_named}
 use Rattle.wac_resolution_rules.specs.Paths.{key_of_path}
 use Rattle.wac_resolution_rules.specs.Mentions.{Mention, path_mentions, name_mentions, use_path_mentions, interface_item_mentions, interface_mentions, extern_type_mentions, extern_mentions, world_ref_mentions, world_item_mentions, type_mentions, expr_mentions, primary_mentions, arguments_mentions, argument_mentions, import_type_mentions, statement_mentions, target_mentions, mentions}

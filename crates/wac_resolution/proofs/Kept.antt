@@ -101,6 +101,7 @@ holds_supplied doc packages others g k h = each g.packages (subst (λ (l : List 
     found naming p is =
         found_in_all k.these p.key (handed naming (by_key packages)) (contents_in naming g p)
         (subst (λ (ps : Packages). package_of p.key ps ≡ Some (contents_in naming g p)) (handed_kept naming k.these (by_key packages)) (is.contents naming))
+
     each : (held : List HeldPackage) → AllByRecursion (IsHandedAs (kept k.these (by_key packages)) g) held → AllByRecursion (IsHandedAs (by_key packages) g) held
     each [] all = tt
     each (p ∷ held) all = (record { there = all.0.there; contents = λ naming. found naming p all.0 }, each held all.1)

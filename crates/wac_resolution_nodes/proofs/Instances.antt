@@ -64,7 +64,7 @@ pub not_instance : (g : Parts) (node : ℕ) (k : ItemKind) (word : List ℕ) (op
     → (naming : Naming) (declared : Named ℕ) → IsNotInstance (composition_of naming g declared) node operation span (not_an_instance word operation span)
 not_instance g node k word operation span kind none is naming declared =
     let meant : kind_at (composition_of naming g declared).nodes node ≡ means naming g k = kind_means naming g node k kind in
-    inr (ap instance_of meant ∙ no_instance (entry_means naming g) k none, ap (λ (w : List ℕ). not_an_instance w operation span) (is ∙ sym (word_is (entry_means naming g) k) ∙ sym (ap described meant)))
+    (ap instance_of meant ∙ no_instance (entry_means naming g) k none, ap (λ (w : List ℕ). not_an_instance w operation span) (is ∙ sym (word_is (entry_means naming g) k) ∙ sym (ap described meant)))
 
 -- ---- exports of an instance
 

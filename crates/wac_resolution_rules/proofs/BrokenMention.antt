@@ -171,8 +171,8 @@ target_fails_too g ps qs doc e h k f =
 
 fails_first_too : (g : Given) (ps qs : Packages) (doc : Document) (e : Error) → Agree ps qs (target_mentions g.setting.own doc.directive.targets) → Agree ps qs (flat_map (statement_mentions g.setting.own) doc.statements)
     → FirstFailing (given_over g ps) doc e → FirstFailing (given_over g qs) doc e
-fails_first_too g ps qs doc e h k (inl f) = inl (statement_fails_too g ps qs doc e k f)
-fails_first_too g ps qs doc e h k (inr f) = inr (target_fails_too g ps qs doc e h k f)
+fails_first_too g ps qs doc e h k (rule, inl f) = (rule, inl (statement_fails_too g ps qs doc e k f))
+fails_first_too g ps qs doc e h k (rule, inr f) = (rule, inr (target_fails_too g ps qs doc e h k f))
 
 -- what fails first fails first with other packages that agree on what the document mentions
 failing_agrees : (g : Given) (ps qs : Packages) (doc : Document) (e : Error) → g.setting.own ≡ doc.directive.package_name.name → Agree ps qs (mentions doc) → FirstFailing (given_over g ps) doc e → FirstFailing (given_over g qs) doc e

@@ -13,16 +13,15 @@ use Rattle.wac_resolution_rules.specs.Composition.{Composition, Node, kind_at}
 use Rattle.wac_resolution_rules.specs.Nodes.{node_at, instance_at}
 use Rattle.wac_resolution_rules.specs.Expressions.{At, accessed, Accesses, Giving, nothing_given, name_meant, name_inferred, spread_from, Spreads, spreads_of, has_fill, IsEmpty, Fits, Instantiates, Stands, PrimaryStands, Gives, GivesOne}
 use Rattle.wac_resolution_errors.specs.Error.{Error, Operation, NamesRule}
-use Rattle.wac_resolution_rules.specs.BrokenExpressions.{IsNotInstance, IsNotExported, IsUnknownPackage, IsFillNotLast, IsGivenAlready, IsNoMatch, IsNoImport, IsMismatched, IsLeftOut, AccessBroken, SpreadBroken, InstantiationBroken, ExprBroken, PrimaryBroken, ArgumentsBroken, ArgumentBroken}
+use Rattle.wac_resolution_rules.specs.BrokenExpressions.{IsNotInstance, IsNotExported, IsUnknownPackage, IsGivenAlready, IsNoMatch, IsNoImport, IsMismatched, IsLeftOut, AccessBroken, SpreadBroken, InstantiationBroken, ExprBroken, PrimaryBroken, ArgumentsBroken, ArgumentBroken}
 use Rattle.wac_resolution_rules.proofs.StepLaws.{steps_once, fails_stop}
 use Rattle.wac_resolution_rules.proofs.Reached.{reached_holds}
 use Rattle.wac_resolution_rules.proofs.TypesStop.{undefined_stops}
 use Rattle.wac_resolution_rules.proofs.ExpressionsOnce.{accesses_once, spreads_once, primary_once, arguments_once, argument_once}
 use Rattle.wac_resolution_rules.proofs.Options.{some_once, neither}
 
-pub not_instance_stops : (c : Composition) (node : ℕ) (o : Operation) (span : Span) (e : Error) (i : Meaning) → NamesRule e → IsNotInstance c node o span e → instance_at c node ≡ Some i → ⊥
-not_instance_stops c node o span e i rule (inl m) p = rule m
-not_instance_stops c node o span e i rule (inr u) p = neither (instance_at c node) i u.0 p
+pub not_instance_stops : (c : Composition) (node : ℕ) (o : Operation) (span : Span) (e : Error) (i : Meaning) → IsNotInstance c node o span e → instance_at c node ≡ Some i → ⊥
+not_instance_stops c node o span e i u p = neither (instance_at c node) i u.0 p
 
 not_exported_stops : (a : At) (p : PostfixExpr) (e : Error) (next : At) → NamesRule e → IsNotExported a p e → Accesses a p next → ⊥
 not_exported_stops a p e next rule (inl m) g = rule m
@@ -31,13 +30,12 @@ not_exported_stops a p e next rule (inr u) g =
     neither (look_up (accessed p (exports_of u.0)) (exports_of u.0)) g.1 u.2 (subst (λ (m : Meaning). StandsFor (exports_of m) (accessed p (exports_of m)) g.1) i g.3)
 
 access_stops : (span : Span) (e : Error) → NamesRule e → (a : At) (before : List PostfixExpr) (p : PostfixExpr) (next : At) → AccessBroken span e a before p → Accesses a p next → ⊥
-access_stops span e rule a before p next (inl b) g = not_instance_stops a.composition a.node Operation.access _ e g.0 rule b g.2
+access_stops span e rule a before p next (inl b) g = not_instance_stops a.composition a.node Operation.access _ e g.0 b g.2
 access_stops span e rule a before p next (inr b) g = not_exported_stops a p e next rule b g
 
-no_match_stops : (imports : Named Meaning) (g : Giving) (node : ℕ) (span : Span) (e : Error) (i : Meaning) (new : Giving) → NamesRule e → IsNoMatch imports g node span e → instance_at g.composition node ≡ Some i
+no_match_stops : (imports : Named Meaning) (g : Giving) (node : ℕ) (span : Span) (e : Error) (i : Meaning) (new : Giving) → IsNoMatch imports g node span e → instance_at g.composition node ≡ Some i
     → new ≡ spread_from imports node (exports_of i) g → new.arguments ≢ g.arguments → ⊥
-no_match_stops imports g node span e i new rule (inl m) p is some = rule m
-no_match_stops imports g node span e i new rule (inr u) p is some =
+no_match_stops imports g node span e i new u p is some =
     let same : u.0 ≡ i = some_once (instance_at g.composition node) u.0 i u.1 p in
     let none : (spread_from imports node (exports_of i) g).arguments ≡ g.arguments = subst (λ (m : Meaning). (spread_from imports node (exports_of m) g).arguments ≡ g.arguments) same u.2 in
     some (ap (λ (m : Giving). m.arguments) is ∙ none)
@@ -47,7 +45,7 @@ spread_stops imports e rule g before id next (inl b) p = undefined_stops g.compo
 spread_stops imports e rule g before id next (inr (node, stands, b)) p =
     let n : p.0 ≡ node = some_once (look_up id.string g.composition.declared) p.0 node p.2 stands in
     let i : instance_at g.composition node ≡ Some p.1 = subst (λ (m : ℕ). instance_at g.composition m ≡ Some p.1) n p.3 in
-    elim b [ inl x ↦ not_instance_stops g.composition node Operation.spread id.span e p.1 rule x i | inr x ↦ no_match_stops imports g node id.span e p.1 next rule x i (subst (λ (m : ℕ). next ≡ spread_from imports m (exports_of p.1) g) n p.4) p.5 ]
+    elim b [ inl x ↦ not_instance_stops g.composition node Operation.spread id.span e p.1 x i | inr x ↦ no_match_stops imports g node id.span e p.1 next x i (subst (λ (m : ℕ). next ≡ spread_from imports m (exports_of p.1) g) n p.4) p.5 ]
 
 unknown_stops : (s : Given) (x : PackageName) (e : Error) (p : Contents) → NamesRule e → IsUnknownPackage s x e → instantiable s x ≡ Some p → ⊥
 unknown_stops s x e p rule (inl m) h = rule m
@@ -82,10 +80,6 @@ instance_stops s p x args g e new rule (inr (inr b)) h = left_out_stops s p x ar
 given_stops : (g : Giving) (name : List ℕ) (span : Span) (e : Error) → NamesRule e → IsGivenAlready g name span e → IsFresh name g.arguments → ⊥
 given_stops g name span e rule (inl m) fresh = rule m
 given_stops g name span e rule (inr u) fresh = neither (look_up name g.arguments) u.0 fresh u.1
-
-fill_stops : (rest : Arguments) (span : Span) (e : Error) → NamesRule e → IsFillNotLast rest span e → IsEmpty rest → ⊥
-fill_stops rest span e rule (inl m) last = rule m
-fill_stops rest span e rule (inr u) last = u.0 last
 
 mutual
   pub expr_stops : (s : Given) (old : Composition) (e : Error) → NamesRule e → (x : Expr) (new : At) → ExprBroken s old e x → Stands s old x new → ⊥
@@ -127,7 +121,7 @@ mutual
       gives_stop s imports mid e rule rest new b (subst (λ (m : Giving). Gives s imports m rest new) same p.2)
 
   pub give_stops : (s : Given) (imports : Named Meaning) (rest : Arguments) (old : Giving) (e : Error) → NamesRule e → (x : InstantiationArgument) (new : Giving) → ArgumentBroken s imports rest old e x → GivesOne s imports rest old x new → ⊥
-  give_stops s imports rest old e rule (InstantiationArgument.fill span) new b p = fill_stops rest span e rule b p.0
+  give_stops s imports rest old e rule (InstantiationArgument.fill span) new b p = b.0 p.0
   give_stops s imports rest old e rule (InstantiationArgument.spread id) new b p = rule b
   give_stops s imports rest old e rule (InstantiationArgument.named name x) new (inl b) p = expr_stops s old.composition e rule x p.0 b p.1
   give_stops s imports rest old e rule (InstantiationArgument.named name x) new (inr b) p = given_stops old (name_meant name imports) _ e rule b.2 p.2

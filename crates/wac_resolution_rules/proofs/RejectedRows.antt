@@ -181,7 +181,7 @@ spread_of_a_function naming p =
       nothing_yet with_f,
       refl,
       (nothing_yet with_f, refl, (nothing_yet with_f, (tt, refl), refl)),
-      record { before = []; failing = ident (codes "f") 52 1; after = []; split = refl; reached = nothing_yet with_f; leads = refl; breaks = inr (0, refl, inl (inr (refl, refl))) },
+      record { before = []; failing = ident (codes "f") 52 1; after = []; split = refl; reached = nothing_yet with_f; leads = refl; breaks = inr (0, refl, inl (refl, refl)) },
     )))))
 
 -- package a:b; import x: interface { q: func(); }; let i = new c:d { ...x, ... };
@@ -194,7 +194,7 @@ spread_gives_nothing naming p =
       g,
       refl,
       (g, refl, (g, (tt, refl), refl)),
-      record { before = []; failing = ident (codes "x") 70 1; after = []; split = refl; reached = g; leads = refl; breaks = inr (0, refl, inr (inr (interface_entry None [] ((codes "q", function) ∷ []), refl, refl, refl))) },
+      record { before = []; failing = ident (codes "x") 70 1; after = []; split = refl; reached = g; leads = refl; breaks = inr (0, refl, inr (interface_entry None [] ((codes "q", function) ∷ []), refl, refl, refl)) },
     )))))
 
 abbrev given_g : Giving
@@ -219,7 +219,7 @@ no_such_import naming p =
 -- package a:b; import f: func(); let x = f.g;
 access_of_a_function : (naming : Naming) (p : Places) → StatementBroken (given_in naming []) with_f p (not_an_instance (codes "function") Operation.access (span 39 1))
     (let_at (codes "x") 35 (Expr.expr (span 39 3) (PrimaryExpr.ident (ident (codes "f") 39 1)) (PostfixExpr.access (record { span = span 40 2; id = ident (codes "g") 41 1 }) ∷ [])))
-access_of_a_function naming p = inl (inr (at with_f 0, (0, refl, refl), record { before = []; failing = _; after = []; split = refl; reached = at with_f 0; leads = refl; breaks = inl (inr (refl, refl)) }))
+access_of_a_function naming p = inl (inr (at with_f 0, (0, refl, refl), record { before = []; failing = _; after = []; split = refl; reached = at with_f 0; leads = refl; breaks = inl (refl, refl) }))
 
 -- package a:b; import x: interface { f: func(); }; let y = x.g;
 access_of_no_export : (naming : Naming) (p : Places) → StatementBroken (given_in naming []) (with_x ((codes "f", function) ∷ [])) p (missing_instance_export (codes "g") (span 58 2))
@@ -255,7 +255,7 @@ export_of_a_definition naming = inr (at with_t_f 1, (at with_t_f 1, (1, refl, re
 
 -- package a:b; import f: func(); export f...;
 exports_of_a_function : (naming : Naming) (p : Places) → StatementBroken (given_in naming []) with_f p (not_an_instance (codes "function") Operation.spread (span 38 1)) (export_at (plain_ident (codes "f") 38) (ExportOptions.spread (span 39 3)))
-exports_of_a_function naming p = inr (at with_f 0, (at with_f 0, (0, refl, refl), refl), inl (inr (refl, refl)))
+exports_of_a_function naming p = inr (at with_f 0, (at with_f 0, (0, refl, refl), refl), inl (refl, refl))
 
 -- package a:b; import x: interface { }; export x...;
 no_exports : (naming : Naming) (p : Places) → StatementBroken (given_in naming []) (with_x []) p (spread_export_no_effect (span 45 1)) (export_at (plain_ident (codes "x") 45) (ExportOptions.spread (span 46 3)))

@@ -214,7 +214,7 @@ fill_first = Arguments.more (InstantiationArgument.fill (span 31 3)) (Arguments.
 
 -- 31+3: the fill must be the last argument
 pub fill_is_not_last : (naming : Naming) (p : Places) → StatementBroken (with_cd naming) start p (fill_argument_not_last (span 31 3)) (let_i fill_first)
-fill_is_not_last naming p = inl (inl (inr (inl (package_cd, refl, inr (inl (inr (λ h. h, refl)))))))
+fill_is_not_last naming p = inl (inl (inr (inl (package_cd, refl, inr (inl (λ h. h, refl))))))
 
 -- ---- package a:b; import x: interface { log: func(); }; let i = new c:d { ...x, ... };
 

@@ -102,7 +102,7 @@ one_stops : (s : Given) (p : Places) (span : Span) (e : Error) (node : ℕ) → 
 one_stops s p span e node rule c before x next f g = export_as_stops s _ (record p { exported = p.exported ++ names_at span before }) x.0 span None e _ next rule f g
 
 options_stop : (s : Given) (a : At) (p : Places) (e : Error) → NamesRule e → (x : Expr) (o : ExportOptions) (new : Composition) → ExportOptionsBroken s a p e x o → ExportsBy s a o new → ⊥
-options_stop s a p e rule x (ExportOptions.spread span) new (inl f) g = not_instance_stops a.composition a.node Operation.spread _ e g.0 rule f g.1
+options_stop s a p e rule x (ExportOptions.spread span) new (inl f) g = not_instance_stops a.composition a.node Operation.spread _ e g.0 f g.1
 options_stop s a p e rule x (ExportOptions.spread span) new (inr (inl f)) g = no_effect_stops a _ e g.0 rule f g.1 g.2
 options_stop s a p e rule x (ExportOptions.spread span) new (inr (inr (i, is, f))) g =
     let same : g.0 ≡ i = some_once (instance_at a.composition a.node) g.0 i g.1 is in

@@ -26,7 +26,7 @@ ReachedAt {X} P xs x = (before : List X) × (after : List X) × (xs ≡ before +
 
 -- the node isn't an instance
 abbrev pub IsNotInstance : Composition → ℕ → Operation → Span → Error → Type 0
-IsNotInstance c node operation span e = (e ≡ memory) ⊎ ((instance_at c node ≡ None) × (e ≡ not_an_instance (described (kind_at c.nodes node)) operation span))
+IsNotInstance c node operation span e = (instance_at c node ≡ None) × (e ≡ not_an_instance (described (kind_at c.nodes node)) operation span)
 
 -- the instance has no such export
 abbrev pub IsNotExported : At → PostfixExpr → Error → Type 0
@@ -39,7 +39,7 @@ IsUnknownPackage s x e = (e ≡ memory) ⊎ ((instantiable s x ≡ None) × (e �
 
 -- an argument comes after the fill
 abbrev pub IsFillNotLast : Arguments → Span → Error → Type 0
-IsFillNotLast rest span e = (e ≡ memory) ⊎ ((IsEmpty rest → ⊥) × (e ≡ fill_argument_not_last span))
+IsFillNotLast rest span e = (IsEmpty rest → ⊥) × (e ≡ fill_argument_not_last span)
 
 -- an earlier argument has the name
 abbrev pub IsGivenAlready : Giving → List ℕ → Span → Error → Type 0
@@ -47,7 +47,7 @@ IsGivenAlready g name span e = (e ≡ memory) ⊎ ((node : ℕ) × StandsFor g.a
 
 -- the instance exports no import for which nothing is given yet
 abbrev pub IsNoMatch : Named Meaning → Giving → ℕ → Span → Error → Type 0
-IsNoMatch imports g node span e = (e ≡ memory) ⊎ ((i : Meaning) × (instance_at g.composition node ≡ Some i) × ((spread_from imports node (exports_of i) g).arguments ≡ g.arguments) × (e ≡ spread_instantiation_no_match span))
+IsNoMatch imports g node span e = (i : Meaning) × (instance_at g.composition node ≡ Some i) × ((spread_from imports node (exports_of i) g).arguments ≡ g.arguments) × (e ≡ spread_instantiation_no_match span)
 
 -- where the argument of a name stands: the argument itself, else the first spread whose instance exports the name
 abbrev pub argument_place : Composition → Named Meaning → InstantiationArgument → Named Span

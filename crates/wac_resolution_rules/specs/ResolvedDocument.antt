@@ -11,7 +11,7 @@ use Rattle.wac_resolution_rules.specs.Given.{Given, Rules}
 use Rattle.wac_resolution_rules.specs.Composition.{Composition, start}
 use Rattle.wac_resolution_rules.specs.Statements.{Goes, Composes}
 use Rattle.wac_resolution_rules.specs.Target.{MeetsPath, MeetsTarget}
-use Rattle.wac_resolution_errors.specs.Error.{Error, memory}
+use Rattle.wac_resolution_errors.specs.Error.{Error, NamesRule, memory}
 use Rattle.wac_resolution_rules.specs.BrokenStatements.{StatementBroken, TargetBroken}
 use Rattle.wac_resolution_rules.specs.Places.{Leads, Placed, placed_start}
 
@@ -50,9 +50,9 @@ pub record TargetFails (s : Given) (doc : Document) (e : Error) : Type 0 where
   pub broken : TargetBroken s whole.composition whole.places e target
   pub stops : MeetsPath s whole.composition target → ⊥
 
--- a statement fails first, or the target
+-- a statement fails first, or the target, and the error names the rule
 abbrev pub FirstFailing : Given → Document → Error → Type 0
-FirstFailing s doc e = StatementFails s doc e ⊎ TargetFails s doc e
+FirstFailing s doc e = NamesRule e × (StatementFails s doc e ⊎ TargetFails s doc e)
 
 -- ---- what resolving promises, for each naming that is one to one
 

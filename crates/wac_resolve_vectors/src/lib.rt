@@ -18,6 +18,8 @@ mod memory;
 #[cfg(test)]
 mod names;
 #[cfg(test)]
+mod order;
+#[cfg(test)]
 mod packages;
 #[cfg(test)]
 mod readings;

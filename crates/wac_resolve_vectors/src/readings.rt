@@ -1,9 +1,10 @@
 //! What a document comes to, as a text.
+ghost use Rattle.std.specs.Prelude.{◌<◌, IfSome, length};
 
 use crate::entries::entries;
 use indexmap::IndexMap;
 use std::alloc::{AllocError, Global};
-use wac_graph::{CompositionGraph, ItemKind, Type, World};
+use wac_graph::{CompositionGraph, ItemKind, PackageId, PackageKey, Type, World};
 use wac_lexer::Bytes;
 use wac_resolution::Error;
 use wac_tool_graphs::write_graph;
@@ -17,6 +18,8 @@ pub enum Asked {
     Entries,
     /// What the world `w` uses, imports and exports.
     World,
+    /// The keys of the packages of the graph.
+    Packages,
     /// Whether what is exported as `x` and as `y` means the same.
     Same,
 }
@@ -70,6 +73,45 @@ fn world_lines(alloc: Global, graph: &CompositionGraph) -> Result<String, AllocE
     Ok(text)
 }
 
+fn push_key(text: &mut String, key: &PackageKey) -> Result<(), AllocError> {
+    match &key.version {
+        None => writeln!(text, "{}", key.name),
+        Some(version) => writeln!(text, "{}@{version}", key.name),
+    }
+}
+
+/// The package of a number, if there is one.
+fn package_at(graph: &CompositionGraph, number: usize) -> Option<PackageId>
+    ensures { IfSome result (λ p. p.0 < length graph.now.packages) }
+{
+    for id in graph.packages() {
+        if id.0 == number {
+            return Some(id);
+        }
+    }
+    None
+}
+
+fn push_package(
+    text: &mut String,
+    graph: &CompositionGraph,
+    number: usize,
+) -> Result<(), AllocError> {
+    let Some(id) = package_at(graph, number) else {
+        return Ok(());
+    };
+    push_key(text, graph.package(id).key)
+}
+
+/// A line for the key of each package.
+fn keys(alloc: Global, graph: &CompositionGraph) -> Result<String, AllocError> {
+    let mut text = String::new(alloc);
+    for id in graph.packages() {
+        push_package(&mut text, graph, id.0)?;
+    }
+    Ok(text)
+}
+
 /// Whether `x` and `y` mean the same.
 fn same(graph: &CompositionGraph) -> Option<bool> {
     let a = graph.kind(graph.get_export("x")?);
@@ -83,6 +125,7 @@ fn reading(alloc: Global, asked: Asked, graph: &CompositionGraph) -> Result<Stri
         Asked::Answer => lines(alloc, graph),
         Asked::Entries => entries(alloc, graph.types()),
         Asked::World => world_lines(alloc, graph),
+        Asked::Packages => keys(alloc, graph),
         Asked::Same => match same(graph) {
             Some(true) => String::from_str(alloc, "same"),
             Some(false) => String::from_str(alloc, "different"),

@@ -24,12 +24,12 @@ lies (errors.InvalidVersion version span) h = (span, refl)
 lies (errors.Memory a) h = absurd (h refl)
 
 -- This is so of each command that rejects a source where it has no tree.
-pub rejects : (command : Command) (source : List ℕ) → ((place : Option Span) (text : List ℕ) → HasNoTree source place → Refuses command source place text)
+pub rejects : (command : Command) (source : List ℕ) → ((place : Option Span) (text : List ℕ) → HasNoTree source place text → Refuses command source place text)
     → (e : Error) (answer : RunError) → ((tree : Document) → IsTreeOf source tree → e ≡ errors.Memory alloc_error)
     → (e ≡ errors.Memory alloc_error) ⊎ ErrorOf (told_by e) source → IsRefusal e answer → Rejects command source answer
 rejects command source shown e (Refused place message) only told is =
     let at = lies e is.1 in
-    shown place (string_bytes message) (λ tree t. is.1 (only tree t), (told_by e, at.0, ⊎_elim (λ m. absurd (is.1 m)) (λ x. x) told, at.1, is.0 ∙ at.1))
+    shown place (string_bytes message) (λ tree t. is.1 (only tree t), (told_by e, at.0, ⊎_elim (λ m. absurd (is.1 m)) (λ x. x) told, at.1, is.0 ∙ at.1, is.2))
 rejects command source shown e (Memory a) only told is = tt
 rejects command source shown e Input only told is = absurd is
 rejects command source shown e Output only told is = absurd is
@@ -44,7 +44,7 @@ rejected command source Output old utf8 is = absurd is
 rejected command source NotUtf8 old utf8 is = absurd is
 
 -- Both, one after the other.
-pub refuses : (command : Command) (source : List ℕ) → ((place : Option Span) (text : List ℕ) → HasNoTree source place → Refuses command source place text)
+pub refuses : (command : Command) (source : List ℕ) → ((place : Option Span) (text : List ℕ) → HasNoTree source place text → Refuses command source place text)
     → (e : Error) (answer : RunError) (old : List ℕ) → IsUtf8 source → ((tree : Document) → IsTreeOf source tree → e ≡ errors.Memory alloc_error)
     → (e ≡ errors.Memory alloc_error) ⊎ ErrorOf (told_by e) source → IsRefusal e answer → Answers command (Err answer) source old old
 refuses command source shown e answer old utf8 only told is = rejected command source answer old utf8 (rejects command source shown e answer only told is)

@@ -1,7 +1,7 @@
-//! What is returned for a source that a command rejects.
+//! What is returned for a source that has no tree.
 ghost use Rattle.std.specs.Prelude.{◌≡◌};
 ghost use Rattle.wac_ast_base.specs.Error.{told_by};
-ghost use Rattle.wac_tool.specs.Running.{place_of, IsFaultRefusal, IsRefusal};
+ghost use Rattle.wac_tool.specs.Running.{place_of, IsRefusal};
 
 use crate::error::RunError;
 use std::alloc::{AllocError, Global};
@@ -35,18 +35,5 @@ pub(crate) fn refusal(alloc: Global, error: wac_parser::Error) -> RunError
                 Err(_) => RunError::Memory(AllocError),
             }
         }
-    }
-}
-
-/// What is returned for a source with a character that no text may have.
-pub(crate) fn fault_refusal(alloc: Global, fault: wac_lexer::Error, span: SourceSpan) -> RunError
-    ensures { IsFaultRefusal fault span result }
-{
-    match format!(in alloc; "{fault}") {
-        Ok(text) => RunError::Refused {
-            span: Some(span),
-            text,
-        },
-        Err(_) => RunError::Memory(AllocError),
     }
 }

@@ -133,9 +133,9 @@ fn writers_stop_once(rt: &impl Abort, alloc: Global, row: &Row, stop: Stop) {
         let narrow = Narrow::new(row.text, 1, room).stopping(stop);
         let wide = Narrow::new(row.text, usize::MAX, room).stopping(stop);
         let calls = row.calls_of(rt, alloc, narrow, room);
-        assert!(rt; calls == room + 1, "at {room}, a byte a call");
+        assert!(rt; calls == room.wrapping_add(1), "at {room}, a byte a call");
         let calls = row.calls_of(rt, alloc, wide, room);
-        assert!(rt; calls == usize::from(room > 0) + 1, "at {room}");
+        assert!(rt; calls == usize::from(room > 0).wrapping_add(1), "at {room}");
     }
 }
 
@@ -237,7 +237,7 @@ fn reading_is_not_tried_again(rt: &impl Abort, alloc: Global, command: Command, 
         _ => assert!(rt; false, "at {room}"),
     }
     assert!(rt; reader.moved() == room, "at {room}");
-    assert!(rt; reader.calls() == room + 1, "at {room}");
+    assert!(rt; reader.calls() == room.wrapping_add(1), "at {room}");
 }
 
 #[test]

@@ -7,7 +7,12 @@ use std::test::Fail;
 use wac_parser::{Document, ParseResult};
 
 /// A text that is a beginning, and so often what follows it.
-fn repeated(alloc: Global, beginning: &str, part: &str, count: usize) -> Result<String, AllocError> {
+fn repeated(
+    alloc: Global,
+    beginning: &str,
+    part: &str,
+    count: usize,
+) -> Result<String, AllocError> {
     let mut text = String::from_str(alloc, beginning)?;
     for _ in 0..count {
         text.push_str(part)?;
@@ -40,10 +45,7 @@ fn long_texts_are_formatted(rt: HostRuntime) -> Result<(), Fail> {
 
 /// Documents, and how what each is shown as ends: with the number of its statements.
 const SHOWN: [(&str, &str); 2] = [
-    (
-        "/// a\n/// b\npackage a:b; let x = y;",
-        ", statements: 1 }",
-    ),
+    ("/// a\n/// b\npackage a:b; let x = y;", ", statements: 1 }"),
     ("package a:b; let x = y; export x;", ", statements: 2 }"),
 ];
 

@@ -1,0 +1,5 @@
+pub mod Columns
+pub mod Counting
+pub mod LinesAt
+pub mod PlacesAt
+pub mod Starts
