@@ -33,6 +33,12 @@ pub struct Options {
 }
 
 impl Default for Options {
+    ghost use Rattle.std.specs.Prelude.{◌≡◌};
+    ghost use Rattle.wac_comments.specs.declared.options.Indent.TheVariants.{Blanks};
+    ghost use Rattle.wac_comments.specs.declared.options.LineEnd.TheVariants.{Lf};
+
+    ghost is_default = { λ options. options ≡ record { indent = Blanks 4; line_end = Lf } };
+
     /// Four blanks, and LF.
     fn default() -> Self {
         Options {
