@@ -2,6 +2,7 @@
 use Rattle.std.specs.Prelude.{◌≡◌, ℕ, List, [], map, Option, Some, None, IfSome, string_bytes, String}
 use Rattle.std.specs.declared.alloc.Global.{Global}
 use Rattle.wac_grammar.specs.Tree.{Ty, VariantCase, Field}
+use Rattle.wac_types.specs.declared.kind.FuncTypeId.{FuncTypeId}
 use Rattle.wac_types.specs.declared.kind.ItemKind.{ItemKind}
 use Rattle.wac_types.specs.declared.kind.ItemKind.TheVariants as kinds
 use Rattle.wac_types.specs.declared.kind.«Type».TheVariants as types
@@ -90,6 +91,10 @@ pub record IsAliased (old new : Parts) (making : Making) (k made : ItemKind) : T
   pub grows : Grows old new
   pub named : Names new.types made
   pub is : (naming : Naming) → making naming (means naming old k) ≡ Some (means naming new made, declared_count new)
+
+-- where another name of a function was made, nothing was added for it
+abbrev pub FuncAddsNothing : Parts → Parts → ItemKind → Type 0
+FuncAddsNothing old new made = (id : FuncTypeId) → made ≡ kinds.Ty (types.Func id) → new ≡ old
 
 -- the kind can't be aliased
 pub record IsNotAliased (old : Parts) (making : Making) (k : ItemKind) : Type 0 where

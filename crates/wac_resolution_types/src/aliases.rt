@@ -1,5 +1,5 @@
 //! Aliases of types.
-ghost use Rattle.std.specs.Prelude.{◌≡◌, ◌⊎◌, IfOk, IfErr, MatchOption, option_map};
+ghost use Rattle.std.specs.Prelude.{◌≡◌, ◌⊎◌, IfOk, IfErr, IfSome, MatchOption, option_map};
 ghost use Rattle.wac_types.specs.declared.kind.ItemKind.TheVariants as kinds;
 ghost use Rattle.wac_types.specs.declared.kind.«Type».TheVariants as types;
 ghost use Rattle.wac_grammar.specs.Tree.{Ty};
@@ -7,6 +7,8 @@ ghost use Rattle.wac_types.specs.Meaning.{Meaning};
 ghost use Rattle.wac_types.specs.Shape.{alias_type};
 ghost use Rattle.wac_types.specs.Table.{ItemsNamed, Names as NamesEntry};
 ghost use Rattle.wac_ast_base.specs.Names.{ident_of};
+ghost use Rattle.wac_ast_types.specs.declared.type_alias.TypeAliasKind.TheVariants as aliases;
+ghost use Rattle.wac_ast_types.specs.declared.types.«Type».{«Type» as TyTree};
 ghost use Rattle.wac_ast_types.specs.Types.{ty_of};
 ghost use Rattle.wac_ast_types.specs.Declarations.{type_alias_kind_of};
 ghost use Rattle.wac_graph.specs.Means.{declared_count};
@@ -18,7 +20,7 @@ ghost use Rattle.wac_resolution_rules.specs.Declarations.{alone, at_root, in_bod
 ghost use Rattle.wac_resolution_rules.specs.BrokenTypes.{TypeBroken, IsUndefined};
 ghost use Rattle.wac_resolution_rules.specs.BrokenDeclarations.{TypeAliasBroken, AliasBroken};
 ghost use Rattle.wac_resolution_state.specs.Bindings.{values_of};
-ghost use Rattle.wac_resolution_types.specs.Declarations.{aliasing_at, made_at_root, made_in_body, made_at, IsAliased, IsNotAliased, ValueAdded, KindAdded};
+ghost use Rattle.wac_resolution_types.specs.Declarations.{aliasing_at, made_at_root, made_in_body, made_at, IsAliased, IsNotAliased, FuncAddsNothing, ValueAdded, KindAdded};
 ghost use Rattle.wac_resolution_state.specs.Named.{scope_of};
 
 use crate::func::function;
@@ -46,7 +48,8 @@ fn identifier<'x, 'a>(ty: &'x TypeTree<'a>) -> Option<&'x Ident<'a>>
 /// Makes another name of a kind, if it can be aliased at root.
 fn aliased_at_root(state: &mut State, kind: ItemKind) -> Result<Option<ItemKind>, AllocError>
     requires { NamesEntry state.old.graph.types kind }
-    ensures { IfOk result (λ o. MatchOption o (IsNotAliased state.old.graph (made_at_root state.old.graph) kind) (λ made. IsAliased state.old.graph state.new.graph (made_at_root state.old.graph) kind made)) }
+    ensures made { IfOk result (λ o. MatchOption o (IsNotAliased state.old.graph (made_at_root state.old.graph) kind) (λ made. IsAliased state.old.graph state.new.graph (made_at_root state.old.graph) kind made)) }
+    ensures function { IfOk result (λ o. IfSome o (FuncAddsNothing state.old.graph state.new.graph)) }
 {
     match kind {
         ItemKind::Ty(Type::Value(value)) => {
@@ -66,7 +69,8 @@ fn aliased_in_body(
     kind: ItemKind,
 ) -> Result<Option<ItemKind>, AllocError>
     requires { NamesEntry state.old.graph.types kind }
-    ensures { IfOk result (λ o. MatchOption o (IsNotAliased state.old.graph (made_in_body state.old.graph name.now) kind) (λ made. IsAliased state.old.graph state.new.graph (made_in_body state.old.graph name.now) kind made)) }
+    ensures made { IfOk result (λ o. MatchOption o (IsNotAliased state.old.graph (made_in_body state.old.graph name.now) kind) (λ made. IsAliased state.old.graph state.new.graph (made_in_body state.old.graph name.now) kind made)) }
+    ensures function { IfOk result (λ o. IfSome o (FuncAddsNothing state.old.graph state.new.graph)) }
 {
     match kind {
         ItemKind::Ty(Type::Resource(resource)) => {
@@ -85,7 +89,8 @@ fn aliased(
     kind: ItemKind,
 ) -> Result<Option<ItemKind>, AllocError>
     requires { NamesEntry state.old.graph.types kind }
-    ensures { IfOk result (λ o. MatchOption o (IsNotAliased state.old.graph (made_at place state.old.graph name.now) kind) (λ made. IsAliased state.old.graph state.new.graph (made_at place state.old.graph name.now) kind made)) }
+    ensures made { IfOk result (λ o. MatchOption o (IsNotAliased state.old.graph (made_at place state.old.graph name.now) kind) (λ made. IsAliased state.old.graph state.new.graph (made_at place state.old.graph name.now) kind made)) }
+    ensures function { IfOk result (λ o. IfSome o (FuncAddsNothing state.old.graph state.new.graph)) }
 {
     match place {
         Place::Root => aliased_at_root(state, kind),
@@ -103,6 +108,7 @@ fn alias_of_name(
 ) -> Result<ItemKind, Error>
     requires { ItemsNamed state.old.graph.types (values_of names.now) }
     ensures ok { IfOk result (λ k. KindAdded state.old.graph state.new.graph (λ naming m after. IsTypeAlias (aliasing_at place naming) (scope_of naming state.old.graph (values_of names.now)) (declared_count state.old.graph) name.now (Some (ident_of id.now)) (Ty.ident (ident_of id.now)) m after) k) }
+    ensures function { IfOk result (FuncAddsNothing state.old.graph state.new.graph) }
     ensures err { IfErr result (λ e. (naming : Naming) → TypeAliasBroken (aliasing_at place naming) (scope_of naming state.old.graph (values_of names.now)) (declared_count state.old.graph) name.now (Some (ident_of id.now)) (Ty.ident (ident_of id.now)) (told e)) }
 {
     let kind = kind_of(state.alloc, names, id)?;
@@ -140,6 +146,7 @@ fn alias_of_type(
 ) -> Result<ItemKind, Error>
     requires { ItemsNamed state.old.graph.types (values_of names.now) }
     ensures ok { IfOk result (λ k. KindAdded state.old.graph state.new.graph (λ naming m after. IsTypeAlias (aliasing_at place naming) (scope_of naming state.old.graph (values_of names.now)) (declared_count state.old.graph) name.now (alone (ty_of ty.now)) (ty_of ty.now) m after) k) }
+    ensures function { IfOk result (FuncAddsNothing state.old.graph state.new.graph) }
     ensures err { IfErr result (λ e. (naming : Naming) → TypeAliasBroken (aliasing_at place naming) (scope_of naming state.old.graph (values_of names.now)) (declared_count state.old.graph) name.now (alone (ty_of ty.now)) (ty_of ty.now) (told e)) }
 {
     match identifier(ty) {
@@ -161,6 +168,7 @@ pub fn alias(
 ) -> Result<ItemKind, Error>
     requires { ItemsNamed state.old.graph.types (values_of names.now) }
     ensures ok { IfOk result (λ k. KindAdded state.old.graph state.new.graph (λ naming m after. IsAlias (aliasing_at place naming) (scope_of naming state.old.graph (values_of names.now)) (declared_count state.old.graph) name.now (type_alias_kind_of kind.now) m after) k) }
+    ensures function { IfOk result (λ k. (ty : TyTree) → kind.now ≡ aliases.Ty ty → FuncAddsNothing state.old.graph state.new.graph k) }
     ensures err { IfErr result (λ e. (naming : Naming) → AliasBroken (aliasing_at place naming) (scope_of naming state.old.graph (values_of names.now)) (declared_count state.old.graph) name.now (type_alias_kind_of kind.now) (told e)) }
 {
     match kind {
