@@ -16,6 +16,10 @@ const LEVELS: usize = 40;
 /// How many entries there are before the first type.
 const BEFORE: usize = 2;
 
+const INSTANCE: Row<'static> = Row::Interface(None, &[]);
+
+const WORLD: Row<'static> = Row::World(&[], &[]);
+
 const FIRST: Row<'static> = Row::List(ValueType::Primitive(PrimitiveType::U8));
 
 fn defined(number: usize) -> ValueType {
@@ -28,8 +32,8 @@ fn item(number: usize) -> ItemKind {
 
 /// An instance and a world without exports.
 fn add_outside(alloc: Global, types: &mut Types) -> Result<(), AllocError> {
-    add(alloc, types, Row::Interface(None, &[]))?;
-    add(alloc, types, Row::World(&[], &[]))
+    add(alloc, types, INSTANCE)?;
+    add(alloc, types, WORLD)
 }
 
 /// Adds a tuple of a type and itself.
