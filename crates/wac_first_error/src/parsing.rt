@@ -1,0 +1,55 @@
+//! Diagnostics of the errors of parsing.
+use crate::parsing_codes::parse_code;
+use std::alloc::{AllocError, Global};
+use wac_diagnostics::Diagnostic;
+use wac_lexer::SourceSpan;
+use wac_parser::Error;
+
+/// What is said of a text that is no document. The error is that memory ran out, also where the text's error says so.
+pub fn parse_diagnostic(alloc: Global, error: &Error) -> Result<Diagnostic, AllocError> {
+    let Some(span) = place_of(error) else {
+        return Err(AllocError);
+    };
+    let message = format!(in alloc; "{error}")?;
+    let mut diagnostic = Diagnostic::at(parse_code(error), message, span);
+    if let Some(help) = help_for(error) {
+        diagnostic.help = Some(String::from_str(alloc, help)?);
+    }
+    Ok(diagnostic)
+}
+
+/// Where an error lies: nowhere where memory ran out.
+fn place_of(error: &Error) -> Option<SourceSpan> {
+    match error {
+        Error::Lexer { span, .. }
+        | Error::Expected { span, .. }
+        | Error::ExpectedEither { span, .. }
+        | Error::ExpectedMultiple { span, .. }
+        | Error::EmptyType { span, .. }
+        | Error::InvalidVersion { span, .. } => Some(*span),
+        Error::Memory(_) => None,
+    }
+}
+
+/// What can be done about an error, where that is clear.
+fn help_for(error: &Error) -> Option<&'static str> {
+    match error {
+        Error::Lexer { error, .. } => lexer_help(error),
+        Error::InvalidVersion { .. } => Some("a version has three numbers, as in `1.2.3`"),
+        _ => None,
+    }
+}
+
+fn lexer_help(error: &wac_lexer::Error) -> Option<&'static str> {
+    match error {
+        wac_lexer::Error::UnterminatedString => Some("end the string with `\"`"),
+        wac_lexer::Error::UnterminatedComment => Some(
+            "end the comment with `*/`; a comment within it needs one of its own",
+        ),
+        wac_lexer::Error::DisallowedBidirectionalOverride(_) => Some(
+            "remove it: it makes a text look other than it is",
+        ),
+        wac_lexer::Error::DisallowedControlCode(_) => Some("remove it"),
+        _ => None,
+    }
+}
