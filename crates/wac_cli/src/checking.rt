@@ -2,9 +2,9 @@
 use crate::console::Console;
 use crate::formatting::{finish, finish_input};
 use crate::input::{STDIN, read_all};
+use crate::last_line::Task;
 use crate::options::Report;
 use crate::outcome::{Outcome, Status};
-use crate::last_line::Task;
 use std::alloc::{AllocError, Global};
 use std::io::{Read, Write};
 use wac_files::{FileError, FileSystem, Found, find_files};
@@ -81,13 +81,14 @@ fn check_bytes<O: Write + Drop, E: Write + Drop>(
     path: &str,
     bytes: &[u8],
 ) -> Result<Outcome, AllocError> {
-    match first_error(alloc, bytes, true)? {
-        Verdict::Document(_) => Ok(Outcome::Good),
-        Verdict::Unresolved(_) => Ok(Outcome::Unresolved),
-        Verdict::Rejected(diagnostic) => {
+    match first_error(alloc, bytes, true) {
+        Ok(Verdict::Document(_)) => Ok(Outcome::Good),
+        Ok(Verdict::Unresolved(_)) => Ok(Outcome::Unresolved),
+        Ok(Verdict::Rejected(diagnostic)) => {
             console.report(alloc, report, path, bytes, &diagnostic)?;
             Ok(Outcome::Rejected)
         }
+        Err(error) => Err(error),
     }
 }
 

@@ -1,10 +1,10 @@
 // `wacx fmt`.
 use crate::console::Console;
 use crate::input::{STDIN, read_all};
+use crate::last_line::{Task, summary};
 use crate::options::{Action, FormatOptions, Report};
 use crate::outcome::{Outcome, Status, worst};
 use crate::planning::Plan;
-use crate::last_line::{Task, summary};
 use std::alloc::{AllocError, Global};
 use std::io::{Read, Write};
 use wac_diff::unified;

@@ -47,7 +47,11 @@ pub(crate) fn summary(
     }
     let rejected = count(outcomes, Outcome::Rejected);
     write!(line, ", {rejected} with errors")?;
-    push_count(&mut line, count(outcomes, Outcome::Unresolved), "not resolved")?;
+    push_count(
+        &mut line,
+        count(outcomes, Outcome::Unresolved),
+        "not resolved",
+    )?;
     let failed = count(outcomes, Outcome::Failed);
     let without_memory = count(outcomes, Outcome::OutOfMemory);
     push_count(&mut line, failed.saturating_add(without_memory), "failed")?;

@@ -9,11 +9,11 @@ mod checking;
 mod console;
 mod formatting;
 mod input;
+mod last_line;
 mod line_ends;
 mod options;
 mod outcome;
 mod planning;
-mod last_line;
 
 pub use checking::{check_input, check_paths};
 pub use console::Console;

@@ -1,13 +1,9 @@
-// A library with one function.
+//! Tests of `wac_cli`: what the commands write, which status they return, and which files they leave.
 #![tactic(auto)]
 
-ghost use Rattle.std.specs.Prelude.{◌≡◌};
-ghost use Rattle.wac_cli_vectors.specs.Echo.{echo_of};
-
-// The `ensures` clause is the contract: what `echo` returns is `echo_of` of its argument, a definition
-// in `specs/Echo.antt`, which a caller's clause can cite too.
-pub fn echo(x: usize) -> usize
-    ensures { result ≡ echo_of x }
-{
-    x
-}
+#[cfg(test)]
+mod checks;
+#[cfg(test)]
+mod formats;
+#[cfg(test)]
+mod runs;
