@@ -3,7 +3,7 @@ use std::alloc::Global;
 use std::process::Abort;
 use std::test::Fail;
 use wac_cli::{
-    Action, Console, FormatOptions, LineEnds, Report, Status, check_paths, format_paths,
+    Action, Console, FormatOptions, LineEnds, Report, check_paths, format_input, format_paths,
 };
 use wac_comments::Indent;
 use wac_files::MemoryFiles;
