@@ -11,6 +11,6 @@ pub fn parse_code(error: &Error) -> &'static str {
         Error::ExpectedMultiple { .. } => "wac::expected-multiple",
         Error::EmptyType { .. } => "wac::empty-type",
         Error::InvalidVersion { .. } => "wac::invalid-version",
-        Error::Memory(_) => "wac::memory",
+        Error::Memory(_) => "wac::out-of-memory",
     }
 }

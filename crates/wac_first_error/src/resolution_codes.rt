@@ -78,6 +78,6 @@ fn fifth_codes(error: &Error) -> &'static str {
     match error {
         Error::MissingTargetExport { .. } => "wac::missing-target-export",
         Error::TargetMismatch { .. } => "wac::target-mismatch",
-        _ => "wac::memory",
+        _ => "wac::out-of-memory",
     }
 }
