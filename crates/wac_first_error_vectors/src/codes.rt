@@ -29,7 +29,10 @@ static TEXTS: [Row; 9] = [
         "package a:b;\n/* one /* two */\n",
     ),
     ("wac::expected", "package a:b;\nlet x y;\n"),
-    ("wac::expected-either", "package a:b targets c:d\n"),
+    (
+        "wac::expected-either",
+        "package a:b;\nrecord r { a: u8,, }\n",
+    ),
 ];
 
 static MORE_TEXTS: [Row; 5] = [
