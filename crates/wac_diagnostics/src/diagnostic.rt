@@ -54,8 +54,14 @@ pub struct Diagnostic {
 }
 
 impl Diagnostic {
+    ghost use Rattle.std.specs.Prelude.{Some, None, string_bytes};
+    ghost use Rattle.wac_diagnostics.specs.Reports.{Says, IsBare};
+
     /// An error at a place.
-    pub fn at(code: &'static str, message: String, span: SourceSpan) -> Diagnostic {
+    pub fn at(code: &'static str, message: String, span: SourceSpan) -> Diagnostic
+        ensures says { Says code.entry.now (string_bytes message) (Some span) result }
+        ensures bare { IsBare result }
+    {
         let notes = Vec::new(*message.allocator());
         Diagnostic {
             severity: Severity::Error,
@@ -68,7 +74,10 @@ impl Diagnostic {
     }
 
     /// An error without a place, as that a file can't be read.
-    pub fn without_place(code: &'static str, message: String) -> Diagnostic {
+    pub fn without_place(code: &'static str, message: String) -> Diagnostic
+        ensures says { Says code.entry.now (string_bytes message) None result }
+        ensures bare { IsBare result }
+    {
         let notes = Vec::new(*message.allocator());
         Diagnostic {
             severity: Severity::Error,

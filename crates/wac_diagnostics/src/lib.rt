@@ -2,16 +2,16 @@
 //! workflow.
 #![tactic(auto)]
 
+mod commands;
 mod diagnostic;
-mod github;
-mod human;
-mod json;
 mod lexer_codes;
+mod objects;
+mod pages;
 mod places;
 mod readable;
 
+pub use commands::github;
 pub use diagnostic::{Diagnostic, Note, Severity};
-pub use github::github;
-pub use human::human;
-pub use json::json;
 pub use lexer_codes::lexer_code;
+pub use objects::json;
+pub use pages::human;

@@ -69,7 +69,7 @@ impl Gutter {
 
     /// How many columns it takes, with the blank behind the bar.
     pub(crate) fn columns(&self) -> usize {
-        self.digits + 3
+        self.digits.saturating_add(3)
     }
 
     /// Appends what stands before a line.

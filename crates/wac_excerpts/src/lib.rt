@@ -2,11 +2,11 @@
 #![tactic(auto)]
 
 mod characters;
-mod excerpt;
 mod gutter;
 mod marked;
+mod region;
 mod window;
 
 pub use characters::push_shown;
-pub use excerpt::excerpt;
 pub use gutter::Paint;
+pub use region::excerpt;

@@ -48,7 +48,7 @@ impl MarkedLine<'_> {
         let count = window.shifted(to).saturating_sub(from);
         if count > 0 || self.is_first {
             gutter.push_bar(out)?;
-            push_times(out, ' ', from + 1)?;
+            push_times(out, ' ', from.saturating_add(1))?;
             gutter.paint.push_marks(out, count.max(1))?;
             out.push('\n')?;
         }

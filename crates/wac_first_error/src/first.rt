@@ -1,11 +1,10 @@
 //! The first error of a text.
-use crate::parsing::parse_diagnostic;
-use crate::resolving::resolution_diagnostic;
 use crate::text::{Reading, nested_too_deep, read_text};
 use indexmap::IndexMap;
 use std::alloc::{AllocError, Global};
 use wac_comments_layout::too_deep;
 use wac_diagnostics::Diagnostic;
+use wac_error_diagnostics::{parse_diagnostic, resolution_diagnostic};
 use wac_parser::resolution::resolve;
 use wac_parser::{Document, Page, packages};
 use wac_tool_graphs::SameRules;

@@ -1,8 +1,14 @@
 //! Codes of the errors of resolving.
-use wac_parser::resolution::Error;
+ghost use Rattle.std.specs.Prelude.{◌≡◌};
+ghost use Rattle.wac_resolution_errors.specs.Told.{told};
+ghost use Rattle.wac_error_diagnostics.specs.Codes.{resolution_code};
+
+use wac_resolution_errors::Error;
 
 /// The code of an error of resolving: the kebab form of its variant's name.
-pub fn resolution_code(error: &Error) -> &'static str {
+pub fn resolution_code(error: &Error) -> &'static str
+    ensures { result.now ≡ resolution_code (told error.now) }
+{
     match error {
         Error::UndefinedName { .. } => "wac::undefined-name",
         Error::DuplicateName { .. } => "wac::duplicate-name",
@@ -15,13 +21,6 @@ pub fn resolution_code(error: &Error) -> &'static str {
         Error::MissingWorldInclude { .. } => "wac::missing-world-include",
         Error::WorldIncludeConflict { .. } => "wac::world-include-conflict",
         Error::UndefinedInterfaceType { .. } => "wac::undefined-interface-type",
-        _ => second_codes(error),
-    }
-}
-
-/// The same for the variants from `NotInterfaceValueType` on.
-fn second_codes(error: &Error) -> &'static str {
-    match error {
         Error::NotInterfaceValueType { .. } => "wac::not-interface-value-type",
         Error::DuplicateResourceConstructor { .. } => "wac::duplicate-resource-constructor",
         Error::DuplicateResourceMethod { .. } => "wac::duplicate-resource-method",
@@ -33,13 +32,6 @@ fn second_codes(error: &Error) -> &'static str {
         Error::NotFuncType { .. } => "wac::not-func-type",
         Error::NotResourceType { .. } => "wac::not-resource-type",
         Error::NotValueType { .. } => "wac::not-value-type",
-        _ => third_codes(error),
-    }
-}
-
-/// The same for the variants from `DuplicateParameter` on.
-fn third_codes(error: &Error) -> &'static str {
-    match error {
         Error::DuplicateParameter { .. } => "wac::duplicate-parameter",
         Error::DuplicateResult { .. } => "wac::duplicate-result",
         Error::BorrowInResult { .. } => "wac::borrow-in-result",
@@ -51,13 +43,6 @@ fn third_codes(error: &Error) -> &'static str {
         Error::DuplicateInstantiationArg { .. } => "wac::duplicate-instantiation-arg",
         Error::MissingInstantiationArg { .. } => "wac::missing-instantiation-arg",
         Error::NotAnInstance { .. } => "wac::not-an-instance",
-        _ => fourth_codes(error),
-    }
-}
-
-/// The same for the variants from `MissingInstanceExport` on.
-fn fourth_codes(error: &Error) -> &'static str {
-    match error {
         Error::MissingInstanceExport { .. } => "wac::missing-instance-export",
         Error::ExportRequiresAs { .. } => "wac::export-requires-as",
         Error::DeclarationConflict { .. } => "wac::declaration-conflict",
@@ -69,15 +54,8 @@ fn fourth_codes(error: &Error) -> &'static str {
         Error::SpreadInstantiationNoMatch { .. } => "wac::spread-instantiation-no-match",
         Error::SpreadExportNoEffect { .. } => "wac::spread-export-no-effect",
         Error::ImportNotInTarget { .. } => "wac::import-not-in-target",
-        _ => fifth_codes(error),
-    }
-}
-
-/// The same for the variants from `MissingTargetExport` on.
-fn fifth_codes(error: &Error) -> &'static str {
-    match error {
         Error::MissingTargetExport { .. } => "wac::missing-target-export",
         Error::TargetMismatch { .. } => "wac::target-mismatch",
-        _ => "wac::memory",
+        Error::Memory(_) => "wac::out-of-memory",
     }
 }

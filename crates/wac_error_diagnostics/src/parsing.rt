@@ -1,12 +1,19 @@
 //! Diagnostics of the errors of parsing.
+ghost use Rattle.std.specs.Prelude.{◌≡◌, ◌≢◌, IfOk};
+ghost use Rattle.wac_ast_base.specs.Error.{told_by, no_memory};
+ghost use Rattle.wac_error_diagnostics.specs.Diagnostics.{place_of, IsOfParsing};
+
 use crate::parsing_codes::parse_code;
 use std::alloc::{AllocError, Global};
+use wac_ast_base::Error;
 use wac_diagnostics::Diagnostic;
 use wac_lexer::SourceSpan;
-use wac_parser::Error;
 
 /// What is said of a text that is no document. The error is that memory ran out, also where the text's error says so.
-pub fn parse_diagnostic(alloc: Global, error: &Error) -> Result<Diagnostic, AllocError> {
+pub fn parse_diagnostic(alloc: Global, error: &Error) -> Result<Diagnostic, AllocError>
+    ensures says { IfOk result (λ diagnostic. IsOfParsing (told_by error.now) diagnostic) }
+    ensures memory { IfOk result (λ diagnostic. told_by error.now ≢ no_memory) }
+{
     let Some(span) = place_of(error) else {
         return Err(AllocError);
     };
@@ -19,7 +26,9 @@ pub fn parse_diagnostic(alloc: Global, error: &Error) -> Result<Diagnostic, Allo
 }
 
 /// Where an error lies: nowhere where memory ran out.
-fn place_of(error: &Error) -> Option<SourceSpan> {
+fn place_of(error: &Error) -> Option<SourceSpan>
+    ensures { result ≡ place_of (told_by error.now) }
+{
     match error {
         Error::Lexer { span, .. }
         | Error::Expected { span, .. }

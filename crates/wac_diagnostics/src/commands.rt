@@ -1,4 +1,7 @@
 //! Diagnostics as commands of a GitHub workflow.
+ghost use Rattle.std.specs.Prelude.{◌≡◌, ◌++◌, OnOk, string_bytes, encode_utf8, option_map, unwrap_or};
+ghost use Rattle.wac_diagnostics.specs.Escapes.{data_escape, data_text, property_escape, property_text};
+
 use crate::diagnostic::{Diagnostic, Note};
 use crate::places::Extent;
 use crate::readable::readable;
@@ -66,8 +69,10 @@ fn push_note(out: &mut String, lines: &Lines<'_>, note: &Note) -> Result<(), All
     push_data(out, &note.message)
 }
 
-/// What a character is written as within the text of a command.
-fn data_escape(c: char) -> Option<&'static str> {
+/// What a character is written as within the text of a command, where not as itself.
+fn data_escape(c: char) -> Option<&'static str>
+    ensures { option_map (λ text. text.now) result ≡ data_escape c }
+{
     match c {
         '%' => Some("%25"),
         '\r' => Some("%0D"),
@@ -76,8 +81,10 @@ fn data_escape(c: char) -> Option<&'static str> {
     }
 }
 
-/// What a character is written as within a property.
-fn property_escape(c: char) -> Option<&'static str> {
+/// What a character is written as within a property, where not as itself.
+fn property_escape(c: char) -> Option<&'static str>
+    ensures { option_map (λ text. text.now) result ≡ property_escape c }
+{
     match c {
         ':' => Some("%3A"),
         ',' => Some("%2C"),
@@ -85,24 +92,32 @@ fn property_escape(c: char) -> Option<&'static str> {
     }
 }
 
+/// Appends what a character is written as.
+fn push_escaped(out: &mut String, escape: Option<&'static str>, c: char) -> Result<(), AllocError>
+    ensures { OnOk result (string_bytes out.new ≡ string_bytes out.old ++ unwrap_or (option_map (λ text. text.now) escape.entry) (encode_utf8 c)) }
+{
+    match escape {
+        Some(escape) => out.push_str(escape),
+        None => out.push(c),
+    }
+}
+
 /// Appends a text as the text of a command.
-fn push_data(out: &mut String, text: &str) -> Result<(), AllocError> {
+fn push_data(out: &mut String, text: &str) -> Result<(), AllocError>
+    ensures { OnOk result (string_bytes out.new ≡ string_bytes out.old ++ data_text text.now) }
+{
     for c in text.chars() {
-        match data_escape(c) {
-            Some(escape) => out.push_str(escape)?,
-            None => out.push(c)?,
-        }
+        push_escaped(out, data_escape(c), c)?;
     }
     Ok(())
 }
 
 /// Appends a text as the value of a property.
-fn push_property(out: &mut String, text: &str) -> Result<(), AllocError> {
+fn push_property(out: &mut String, text: &str) -> Result<(), AllocError>
+    ensures { OnOk result (string_bytes out.new ≡ string_bytes out.old ++ property_text text.now) }
+{
     for c in text.chars() {
-        match property_escape(c) {
-            Some(escape) => out.push_str(escape)?,
-            None => out.push(c)?,
-        }
+        push_escaped(out, property_escape(c), c)?;
     }
     Ok(())
 }

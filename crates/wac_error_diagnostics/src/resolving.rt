@@ -1,13 +1,21 @@
 //! Diagnostics of the errors of resolving.
+ghost use Rattle.std.specs.Prelude.{◌≢◌, IfOk};
+ghost use Rattle.wac_resolution_errors.specs.Error.{memory};
+ghost use Rattle.wac_resolution_errors.specs.Told.{told};
+ghost use Rattle.wac_error_diagnostics.specs.Diagnostics.{IsOfResolving};
+
 use crate::resolution_codes::resolution_code;
 use std::alloc::{AllocError, Global};
 use wac_diagnostics::{Diagnostic, Note};
 use wac_lexer::SourceSpan;
-use wac_parser::resolution::Error;
+use wac_resolution_errors::Error;
 
 /// What is said of a document that breaks a rule, with its help and the earlier place that it tells of. The error is
 /// that memory ran out, also where the document's error says so.
-pub fn resolution_diagnostic(alloc: Global, error: &Error) -> Result<Diagnostic, AllocError> {
+pub fn resolution_diagnostic(alloc: Global, error: &Error) -> Result<Diagnostic, AllocError>
+    ensures says { IfOk result (λ diagnostic. IsOfResolving (told error.now) diagnostic) }
+    ensures memory { IfOk result (λ diagnostic. told error.now ≢ memory) }
+{
     if let Error::Memory(_) = error {
         return Err(AllocError);
     }
