@@ -1,9 +1,8 @@
-// Sequences of blanks and comments.
-ghost use Rattle.std.specs.Prelude.{true, reverse, ◌≡◌, ◌≤◌, ◌<◌, ◌-◌, ◌+◌, Some, None, length, drop, MatchOption};
-ghost use Rattle.std.specs.List.{prefix_len};
-ghost use Rattle.wac_comments_layout.specs.Comments.{kept_len};
-ghost use Rattle.wac_lexer.specs.Ascii.{slash};
-ghost use Rattle.wac_lexer.specs.Comments.{behind, opens, closes, begins, line_len, block_len, part_len, is_blank};
+// Blanks and comments, one after another.
+ghost use Rattle.std.specs.Prelude.{true, ◌≡◌, ◌≤◌, ◌<◌, ◌-◌, ◌+◌, Some, None, length, drop, MatchOption};
+ghost use Rattle.std.specs.List.{suffix_len};
+ghost use Rattle.wac_comments_layout.specs.Kept.{kept_len, is_line};
+ghost use Rattle.wac_lexer.specs.Comments.{behind, opens, closes, line_len, block_len, part_len, is_blank};
 
 pub(crate) fn opens(bytes: &[u8]) -> bool
     ensures { result ≡ opens bytes.now }
@@ -17,7 +16,7 @@ fn closes(bytes: &[u8]) -> bool
     bytes.len() >= 2 && bytes[0] == b'*' && bytes[1] == b'/'
 }
 
-/// The end of the comment in which the bytes begin: how many bytes up to there.
+/// Where the comment ends that the bytes stand within: how many bytes up to there.
 fn comment_end(bytes: &[u8]) -> Option<usize>
     ensures ends { MatchOption result (behind 1 bytes.now ≡ None) (λ n. behind 1 bytes.now ≡ Some (drop n bytes.now)) }
     ensures within { MatchOption result (Unit {0}) (λ n. n ≤ length bytes.now) }
@@ -50,7 +49,7 @@ fn is_blank(byte: u8) -> bool
 
 /// Whether a line comment begins the bytes.
 pub(crate) fn is_line_comment(bytes: &[u8]) -> bool
-    ensures { result ≡ begins slash slash bytes.now }
+    ensures { result ≡ is_line bytes.now }
 {
     bytes.len() >= 2 && bytes[0] == b'/' && bytes[1] == b'/'
 }
@@ -94,9 +93,9 @@ pub(crate) fn part_len(bytes: &[u8]) -> usize
     }
 }
 
-/// How many blanks are at the end.
+/// How many blanks stand at the end.
 fn blanks_at_end(bytes: &[u8]) -> usize
-    ensures count { result ≡ prefix_len is_blank (reverse bytes.now) }
+    ensures count { result ≡ suffix_len is_blank bytes.now }
     ensures within { result ≤ length bytes.now }
 {
     bytes
