@@ -1,8 +1,8 @@
-// Brackets, and what stands in them.
+// Brackets, and what is in them.
 ghost use Rattle.std.specs.Prelude.{◌≡◌};
 ghost use Rattle.wac_comments_layout.specs.Brackets.{is_opening, is_closing, begins_rows, in_braces, opened_by, is_flat, has_commas};
 
-/// What stands in brackets.
+/// What is in brackets.
 #[derive(Clone, Copy, Debug, PartialEq, Eq)]
 pub(crate) enum Brackets {
     /// Statements or items, each with an empty line before the next.
@@ -25,7 +25,7 @@ impl Brackets {
         }
     }
 
-    /// Whether each element has a comma behind it.
+    /// Whether each element has a comma after it.
     pub(crate) fn has_commas(self) -> bool
         ensures { result ≡ has_commas self }
     {
@@ -48,14 +48,15 @@ pub(crate) fn closes(token: &str) -> bool
     token == ")" || token == "]" || token == ">" || token == "}"
 }
 
-/// Whether rows of a type stand in the braces after this word and a name.
+/// Whether rows of a type are in the braces after this word and a name.
 fn begins_rows(word: &str) -> bool
     ensures { result ≡ begins_rows word.now }
 {
     word == "variant" || word == "record" || word == "flags" || word == "enum"
 }
 
-/// What stands in braces, by the two tokens before them.
+/// What is in braces, by the two tokens before them: before the brace of `new` comes a package name, the only token with a
+/// colon in it.
 fn in_braces(before: &str, earlier: &str) -> Brackets
     ensures { result ≡ in_braces before.now earlier.now }
 {
@@ -70,7 +71,7 @@ fn in_braces(before: &str, earlier: &str) -> Brackets
     }
 }
 
-/// What stands in the brackets that a token opens, by the two tokens before it.
+/// What is in the brackets that a token opens, by the two tokens before it.
 pub(crate) fn opened_by(token: &str, before: &str, earlier: &str) -> Brackets
     ensures { result ≡ opened_by token.now before.now earlier.now }
 {

@@ -1,6 +1,6 @@
 // The columns of a line.
 
-/// The column behind a text that begins at a column: a tab takes `tab` columns, and each other character one.
+/// The column after a text that begins at a column: a tab takes `tab` columns, and each other character one.
 pub(crate) fn column_after(column: usize, text: &str, tab: usize) -> usize {
     let mut after = column;
     for character in text.chars() {

@@ -1,10 +1,10 @@
-// One gap: how each of its comments, and the token behind them, follows what stands before it.
+// One gap: how each of its comments, and the token after them, follows what comes before it.
 use crate::brackets::Brackets;
 use crate::pieces::Piece;
 use crate::places::Place;
 use std::alloc::{AllocError, Global};
 
-/// How a comment or a token follows what stands before it.
+/// How a comment or a token follows what comes before it.
 #[derive(Clone, Copy, Debug, PartialEq, Eq)]
 pub(crate) enum Joint {
     /// On the same line.
@@ -17,11 +17,11 @@ pub(crate) enum Joint {
     Paragraph,
 }
 
-/// A gap with comments, and what stands around it.
+/// A gap with comments, and what is around it.
 #[derive(Clone, Copy)]
 pub(crate) struct Seam<'a> {
     pub(crate) place: Place<'a>,
-    /// The comments, and the token behind them.
+    /// The comments, and the token after them.
     pub(crate) pieces: &'a [Piece<'a>],
     pub(crate) brackets: Brackets,
 }
@@ -59,7 +59,7 @@ impl<'a> Seam<'a> {
         self.place.is_break() || self.pieces.iter().any(|piece| piece.breaks > 0)
     }
 
-    /// How each comment, and the token behind them, follows what stands before it.
+    /// How each comment, and the token after them, follows what comes before it.
     pub(crate) fn joints(&self, alloc: Global) -> Result<Vec<Joint>, AllocError> {
         let mut joints = Vec::new(alloc);
         let may_break = self.may_break();
@@ -78,14 +78,14 @@ impl<'a> Seam<'a> {
         Ok(joints)
     }
 
-    /// Whether the comment at an index begins a line, or the token behind them.
+    /// Whether the comment at an index begins a line, or the token after them.
     fn begins_line(&self, index: usize) -> bool {
         self.is_asked_to(index)
             || index == 0 && (self.place.at_start() || self.goes_with_token())
             || self.is_token(index) && self.place.is_last()
     }
 
-    /// Whether a line end stands before the piece at an index, or a doc, or a piece that is one.
+    /// Whether the piece at an index comes after a line end or a doc, or is a doc.
     fn is_asked_to(&self, index: usize) -> bool {
         let breaks = match self.pieces.get(index) {
             Some(piece) => piece.breaks > 0,
@@ -101,7 +101,7 @@ impl<'a> Seam<'a> {
         }
     }
 
-    /// Whether comments that stand on the line of both tokens go with the one behind them.
+    /// Whether comments on the line of both tokens go with the one after them.
     fn goes_with_token(&self) -> bool {
         if self.place.is_last() && !self.place.is_first() {
             return false;
@@ -114,7 +114,7 @@ impl<'a> Seam<'a> {
         true
     }
 
-    /// Marks the comments that go on with a line comment at the end of a line: those directly below it in the same column.
+    /// Marks the comments that continue a line comment at the end of a line: those directly below in the same column.
     fn go_below(&self, joints: &mut [Joint]) {
         for (index, joint) in joints.iter_mut().enumerate() {
             if *joint == Joint::Line {
@@ -126,7 +126,7 @@ impl<'a> Seam<'a> {
         }
     }
 
-    /// Whether the piece at an index is a line comment that goes on with the one at an index before it.
+    /// Whether the piece at an index is a line comment that continues the one at an index before it.
     fn goes_on(&self, before: usize, index: usize) -> bool {
         match (self.pieces.get(before), self.pieces.get(index)) {
             (Some(before), Some(piece)) => {
@@ -145,7 +145,7 @@ impl<'a> Seam<'a> {
         self.has_docs() && self.is_doc(index)
     }
 
-    /// Puts an empty line before the pieces that one comes before.
+    /// Puts an empty line before the pieces that need one.
     fn part(&self, joints: &mut [Joint]) {
         let mut only_trailing = true;
         let mut has_line = false;
@@ -159,8 +159,8 @@ impl<'a> Seam<'a> {
         }
     }
 
-    /// Whether an empty line comes before a piece that begins a line: `only_trailing` says that those before it stand at the end
-    /// of a line, and `has_line` that one of them begins a line.
+    /// Whether an empty line comes before a piece that begins a line: `only_trailing` says that those before it are at
+    /// the end of a line, and `has_line` that one of them begins a line.
     fn has_empty_line(&self, index: usize, only_trailing: bool, has_line: bool) -> bool {
         let is_token = self.is_token(index);
         if !self.place.is_break()

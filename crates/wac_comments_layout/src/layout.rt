@@ -94,7 +94,7 @@ fn comment_depth(plan: &Plan<'_>, place: &Place<'_>) -> usize {
     }
 }
 
-/// How deep a line is that begins with the token behind the gap.
+/// How deep a line is that begins with the token after the gap.
 fn token_depth(plan: &Plan<'_>, place: &Place<'_>) -> usize {
     let inner = inner_depth(plan, place);
     if place.is_break() {
@@ -149,7 +149,7 @@ fn last_line(joints: &[Joint]) -> Option<usize> {
     last
 }
 
-/// Whether no blank comes before the piece at an index, which stands in a line.
+/// Whether no blank comes before the piece at an index, which doesn't begin a line.
 fn hugs(seam: &Seam<'_>, index: usize, is_inline: bool) -> bool {
     let before = seam.place.before;
     let after = seam.place.after;
@@ -165,7 +165,7 @@ fn closes_line(token: &str) -> bool {
     token == ")" || token == "]" || token == ">"
 }
 
-/// Begins the line of the piece at an index, after so many line ends. The line is as deep as the token where that follows on it.
+/// Begins the line of the piece at an index, after so many line ends. A line with the token on it is as deep as that.
 fn begin(
     writer: &mut Writer<'_>,
     plan: &Plan<'_>,

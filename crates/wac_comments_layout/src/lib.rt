@@ -1,10 +1,10 @@
-//! Part of `wac_comments`: the pieces of a text, what printing changes about its tokens, and the layout that keeps comments.
+//! Part of `wac_comments`: the pieces of a text, what printing changes about its tokens, and the layout that keeps
+//! comments.
 #![tactic(auto)]
 
 mod brackets;
 mod columns;
 mod joints;
-mod laws;
 mod layout;
 mod nesting;
 mod parts;
@@ -15,7 +15,6 @@ mod separators;
 mod without_comments;
 mod writer;
 
-pub use laws::printing_keeps_comments;
 pub use layout::lay_out;
 pub use nesting::too_deep;
 pub use pieces::{Piece, ReadError, read};

@@ -9,8 +9,8 @@ use wac_lexer::{Lexer, SourceSpan};
 /// How deep brackets of all four kinds together may be nested.
 const MOST: usize = 1000;
 
-/// The first bracket that is nested deeper than a thousand, those in strings and comments not counted. A text with a refused character
-/// has none.
+/// The first bracket that is nested deeper than a thousand, those in strings and comments not counted. A text with a
+/// rejected character has none.
 pub fn too_deep(source: &str) -> Option<SourceSpan>
     ensures { result ≡ too_deep source.now }
 {

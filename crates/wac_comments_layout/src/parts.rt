@@ -1,4 +1,4 @@
-// Blanks and comments, one after another.
+// Sequences of blanks and comments.
 ghost use Rattle.std.specs.Prelude.{true, ◌≡◌, ◌≤◌, ◌<◌, ◌-◌, ◌+◌, Some, None, length, drop, MatchOption};
 ghost use Rattle.std.specs.List.{suffix_len};
 ghost use Rattle.wac_comments_layout.specs.Kept.{kept_len, is_line};
@@ -16,7 +16,7 @@ fn closes(bytes: &[u8]) -> bool
     bytes.len() >= 2 && bytes[0] == b'*' && bytes[1] == b'/'
 }
 
-/// Where the comment ends that the bytes stand within: how many bytes up to there.
+/// The end of the comment in which the bytes begin: how many bytes up to there.
 fn comment_end(bytes: &[u8]) -> Option<usize>
     ensures ends { MatchOption result (behind 1 bytes.now ≡ None) (λ n. behind 1 bytes.now ≡ Some (drop n bytes.now)) }
     ensures within { MatchOption result (Unit {0}) (λ n. n ≤ length bytes.now) }
@@ -93,7 +93,7 @@ pub(crate) fn part_len(bytes: &[u8]) -> usize
     }
 }
 
-/// How many blanks stand at the end.
+/// How many blanks are at the end.
 fn blanks_at_end(bytes: &[u8]) -> usize
     ensures count { result ≡ suffix_len is_blank bytes.now }
     ensures within { result ≤ length bytes.now }

@@ -12,37 +12,28 @@ ghost use Rattle.wac_comments_layout.specs.Errors.{IsReadErrorOf};
 use crate::columns::column_after;
 use crate::parts::{is_line_comment, kept_len, opens, part_len};
 use std::alloc::{AllocError, Global};
-use std::fmt;
+use thiserror::Error;
 use wac_lexer::{Lexer, SourceSpan};
 
 /// Why the pieces of a text were not read.
-#[derive(Debug, Drop)]
+#[derive(Debug, Drop, Error)]
 pub enum ReadError {
-    /// The text has a refused character.
+    /// The text has a rejected character.
+    #[error("{0}")]
     Refused(wac_lexer::Error, SourceSpan),
-    /// A request for memory was refused.
+    /// A request for memory failed.
+    #[error("out of memory")]
     Memory(AllocError),
 }
-
-impl fmt::Display for ReadError {
-    fn fmt<W: fmt::Write>(&self, f: &mut fmt::Formatter<W>) -> fmt::Result {
-        match self {
-            ReadError::Refused(error, _) => error.fmt(f),
-            ReadError::Memory(_) => f.write_str("out of memory"),
-        }
-    }
-}
-
-impl std::error::Error for ReadError {}
 
 /// A token or a comment of a text, or its end.
 #[derive(Clone, Copy, Debug)]
 pub struct Piece<'a> {
-    /// The text of the token or of the comment. A line comment has no blanks at its end, and the end of the text is empty.
+    /// The text of the token or comment. A line comment has no blanks at its end, and the end of the text is empty.
     pub text: &'a str,
     /// Where the piece lies in its source.
     pub span: SourceSpan,
-    /// How many line ends stand between the piece before it and this one.
+    /// How many line ends are between the piece before it and this one.
     pub breaks: usize,
     /// The column at which it begins.
     pub column: usize,
@@ -64,7 +55,7 @@ impl Piece<'_> {
         is_line_comment(self.text.as_bytes())
     }
 
-    /// Whether the parser takes the comment as a doc where docs may stand: `///x` and `/**x*/` are docs, and `/**/` is none.
+    /// Whether the parser takes the comment as a doc where docs may be: `///x` and `/**x*/` are docs, `/**/` is not.
     pub fn is_doc(&self) -> bool
         ensures { result ≡ is_doc self.now.text.now }
     {
@@ -114,7 +105,7 @@ impl<'a> Reader<'a> {
         Ok(())
     }
 
-    /// Adds the blank or the comment that stands at an offset.
+    /// Adds the blank or the comment at an offset.
     fn add_part(&mut self, part: &'a str, offset: usize) -> Result<(), AllocError>
         ensures { IfOk result (λ _. Adds self.old.pieces.items (comment_of_part offset part.now) self.new.pieces.items) }
     {
@@ -149,7 +140,7 @@ impl<'a> Reader<'a> {
     }
 }
 
-/// The pieces of a text, and its end behind them. `tab` is how many columns a tab takes.
+/// The pieces of a text, and its end after them. `tab` is how many columns a tab takes.
 pub fn read(alloc: Global, source: &str, tab: usize) -> Result<Vec<Piece<'_>>, ReadError>
     ensures found { IfOk result (λ found. pieces_of found.items ≡ pieces source.now) }
     ensures texts { IfOk result (λ found. texts_of found.items ≡ texts source.now) }

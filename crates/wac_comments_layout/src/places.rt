@@ -4,30 +4,30 @@ use crate::pieces::Piece;
 use crate::separators::Separator;
 use std::alloc::{AllocError, Global};
 
-/// Brackets and what stands in them.
+/// Brackets and what is in them.
 #[derive(Clone, Copy, Debug)]
 pub(crate) struct Group {
     pub(crate) brackets: Brackets,
     /// The group around it.
     pub(crate) around: Option<usize>,
-    /// Each element stands on lines of its own.
+    /// Each element is on lines of its own.
     pub(crate) is_broken: bool,
-    /// How deep the line is that the opening bracket stands on.
+    /// How deep the line is that the opening bracket is on.
     pub(crate) depth: usize,
 }
 
 /// A gap of the printed text: the comments between two tokens.
 #[derive(Clone, Copy, Debug)]
 pub(crate) struct Place<'a> {
-    /// The index of the first comment, or of the token behind the gap.
+    /// The index of the first comment, or of the token after the gap.
     pub(crate) first: usize,
-    /// The index of the token behind the gap.
+    /// The index of the token after the gap.
     pub(crate) last: usize,
     /// The token before it, which is empty at the start of the text.
     pub(crate) before: &'a str,
-    /// The token behind it, which is empty at the end of the text.
+    /// The token after it, which is empty at the end of the text.
     pub(crate) after: &'a str,
-    /// What stands in it where there are no comments.
+    /// What is in it where there are no comments.
     pub(crate) separator: Separator,
     /// The brackets around it.
     pub(crate) group: Option<usize>,
@@ -109,7 +109,7 @@ impl<'a> Plan<'a> {
         Ok(plan)
     }
 
-    /// What stands in the brackets around a place.
+    /// What is in the brackets around a place.
     pub(crate) fn brackets(&self, place: &Place<'_>) -> Brackets {
         match self.group(place.group) {
             Some(group) => group.brackets,

@@ -30,7 +30,7 @@ fn token_before<'a>(tokens: &[&'a str], at: usize, back: usize) -> &'a str
     }
 }
 
-/// Whether the tokens from an index on begin with these.
+/// Whether the tokens that begin at an index are these.
 fn stand_at(tokens: &[&str], at: usize, these: &[&str]) -> bool
     ensures { result ≡ stand_at (now_of tokens.now) at (now_of these.now) }
 {
@@ -38,7 +38,7 @@ fn stand_at(tokens: &[&str], at: usize, these: &[&str]) -> bool
     rest.starts_with(these)
 }
 
-/// Whether the token at an index is one of the first `count` of a place where these stand.
+/// Whether the token at an index is one of the first `count` of a place where these are.
 fn is_among(tokens: &[&str], at: usize, these: &[&str], count: usize) -> bool
     ensures { result ≡ is_among (now_of tokens.now) at (now_of these.now) count }
 {
@@ -50,7 +50,8 @@ fn is_among(tokens: &[&str], at: usize, these: &[&str], count: usize) -> bool
     false
 }
 
-/// Whether printing drops the token at an index: an empty `with`, results that are nothing, and the comma behind the last of a list.
+/// Whether printing drops the token at an index: an empty `with`, results that are nothing, and a comma after the last
+/// of a list.
 fn goes(tokens: &[&str], at: usize, around: Brackets) -> bool
     requires { at < length tokens.now }
     ensures { result ≡ goes (now_of tokens.now) at around }
@@ -63,7 +64,7 @@ fn goes(tokens: &[&str], at: usize, around: Brackets) -> bool
         || is_last_comma(tokens, at, around)
 }
 
-/// Whether the token is a comma before the end of a list on one line, or behind a fill that ends arguments.
+/// Whether the token is a comma before the end of a list on one line, or after a fill that ends the arguments.
 fn is_last_comma(tokens: &[&str], at: usize, around: Brackets) -> bool
     requires { at < length tokens.now }
     ensures { result ≡ is_last_comma (now_of tokens.now) at around }
@@ -80,14 +81,14 @@ fn ends_resource(tokens: &[&str], at: usize) -> bool
     token_at(tokens, at) == ";" && token_before(tokens, at, 2) == "resource"
 }
 
-/// Whether no comma is printed behind a token, before the end of rows or arguments.
+/// Whether no comma is printed after a token, before the end of rows or arguments.
 fn needs_none(before: &str) -> bool
     ensures { result ≡ needs_none before.now }
 {
     before == "{" || before == "," || before == "..."
 }
 
-/// Whether printing adds a comma before the token, which ends rows or arguments.
+/// Whether printing adds a comma before the token, which then ends rows or arguments.
 fn needs_comma(tokens: &[&str], at: usize, around: Brackets) -> bool
     ensures { result ≡ needs_comma (now_of tokens.now) at around }
 {
@@ -107,7 +108,7 @@ fn added(tokens: &[&str], at: usize, around: Brackets) -> Option<&'static str>
     }
 }
 
-/// How the token at an index is printed, whose text this is.
+/// How the token at an index is printed, which has this text.
 fn spelled<'a>(tokens: &[&str], at: usize, text: &'a str) -> &'a str
     ensures { result.now ≡ spelled (now_of tokens.now) at text.now }
 {
@@ -146,7 +147,7 @@ struct Printing<'a> {
     breaks: usize,
     // The index of the next token.
     at: usize,
-    // What stands in the brackets around the next token, the innermost last.
+    // What is in the brackets around the next token, the innermost last.
     opened: Vec<Brackets>,
 }
 
@@ -172,7 +173,7 @@ impl<'a> Printing<'a> {
         }
     }
 
-    /// The pieces that were printed, and the comments behind them.
+    /// The pieces that were printed, and the comments after them.
     fn into_pieces(self) -> Result<Vec<Piece<'a>>, AllocError>
         ensures { IfOk result (λ pieces. texts_of pieces.items ≡ self.entry.done ++ self.entry.waiting) }
     {
@@ -237,7 +238,7 @@ impl<'a> Printing<'a> {
         Ok(())
     }
 
-    /// Prints a token, behind the comments that wait for it.
+    /// Prints the token of a piece, after the comments that wait for it.
     fn print(&mut self, text: &'a str, piece: &Piece<'_>) -> Result<(), AllocError>
         ensures { IfOk result (λ _. self.new ≡ with_printed text.now self.old) }
     {
@@ -248,7 +249,7 @@ impl<'a> Printing<'a> {
         push(&mut self.pieces, text, piece, breaks)
     }
 
-    /// What stands in the innermost brackets. A text is a body.
+    /// What is in the innermost brackets. A text is a body.
     fn around(&self) -> Brackets
         ensures { result ≡ innermost self.now.opened }
     {
@@ -258,7 +259,7 @@ impl<'a> Printing<'a> {
         }
     }
 
-    /// Goes on behind the next token.
+    /// Continues after the next token.
     fn pass(&mut self, tokens: &[&str]) -> Result<(), AllocError>
         requires { self.old.at < length tokens.now }
         ensures { IfOk result (λ _. self.new ≡ passed (now_of tokens.now) self.old) }
@@ -293,8 +294,9 @@ fn tokens_of<'a>(alloc: Global, pieces: &[Piece<'a>]) -> Result<Vec<&'a str>, Al
     Ok(tokens)
 }
 
-/// The pieces of a text as they are printed: without the tokens that printing drops, and with those that it adds. The comments before a
-/// token that is dropped stand before the next one. A token that is added stands directly behind the one before it.
+/// The pieces of a text as they are printed: without the tokens that printing drops, and with those that it adds. The
+/// comments before a token that is dropped come before the next one. A token that is added directly follows the one
+/// before it.
 pub fn printed<'a>(alloc: Global, pieces: &[Piece<'a>]) -> Result<Vec<Piece<'a>>, AllocError>
     ensures { IfOk result (λ found. texts_of found.items ≡ printed (texts_of pieces.now)) }
 {

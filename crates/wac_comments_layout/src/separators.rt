@@ -1,15 +1,15 @@
-// What stands before each token of a printed text.
+// What comes before each token of a printed text.
 use crate::pieces::Piece;
 use std::alloc::{AllocError, Global};
 
-/// What stands before a token of a printed text, apart from docs: line ends, or blanks on the same line.
+/// What comes before a token of a printed text, apart from docs: line ends, or blanks on the same line.
 #[derive(Clone, Copy, Debug)]
 pub(crate) struct Separator {
     pub(crate) lines: usize,
     pub(crate) blanks: usize,
 }
 
-/// What stands before each token of a printed text, and at its end. A line begins at its start too.
+/// What comes before each token of a printed text, and at its end. A line begins at its start too.
 pub(crate) fn separators(
     alloc: Global,
     pieces: &[Piece<'_>],

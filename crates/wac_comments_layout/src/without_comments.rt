@@ -5,7 +5,7 @@ ghost use Rattle.wac_comments_layout.specs.Plain.{is_line_end, with_line_ends, e
 
 use std::alloc::{AllocError, Global};
 
-/// How many line ends stand at the end.
+/// How many line ends are at the end.
 fn line_ends_at_end(bytes: &[u8]) -> usize
     ensures count { result ≡ suffix_len is_line_end bytes.now }
     ensures within { result ≤ length bytes.now }

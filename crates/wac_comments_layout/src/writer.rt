@@ -5,7 +5,7 @@ use std::alloc::{AllocError, Global};
 /// How lines are written.
 #[derive(Clone, Copy, Debug)]
 pub struct Style<'a> {
-    /// What stands for each depth where a line begins: a tab, or blanks.
+    /// What indents a line by one level: a tab, or blanks.
     pub indent: &'a str,
     /// What ends a line: LF, or CR and LF.
     pub line_end: &'a str,
@@ -42,7 +42,7 @@ impl<'a> Writer<'a> {
         text
     }
 
-    /// The column at which the next text will stand.
+    /// The column at which the next text will begin.
     pub(crate) fn column(&self) -> usize {
         self.column
     }
@@ -82,7 +82,7 @@ impl<'a> Writer<'a> {
         Ok(())
     }
 
-    /// Ends the line, and begins one whose text stands at a column.
+    /// Ends the line, and begins one whose text begins at a column.
     pub(crate) fn begin_below(&mut self, column: usize) -> Result<(), AllocError> {
         self.end_lines(1)?;
         let mut left = column;
