@@ -1,0 +1,15 @@
+//! What a component binary is decoded to: types, instances and components in one table, and the index spaces of a scope.
+//!
+//! All is flat: a [`Table`] has a vector for each sort, and what names another thing does so by its number there. A
+//! number's owner is made before what names it.
+#![tactic(auto)]
+
+mod item;
+mod scopes;
+mod table;
+mod ty;
+
+pub use item::{ComponentId, CoreSort, InstanceId, Item, NameId, Sort, TypeId};
+pub use scopes::{Lengths, Scopes};
+pub use table::{Component, Instance, Table};
+pub use ty::{BodyKind, Func, Named, Owner, Part, Parts, TypeDef, TypeEntry, TypeSort, primitive};
