@@ -1,5 +1,4 @@
-use Rattle.std.proofs.Common.{◌≡◌, ℕ, List, sym, ap, subst, ◌∙◌, string_bytes}
-use Rattle.std.specs.Str.{bytes_eq}
+use Rattle.std.proofs.Common.{ℕ, List, sym, subst, ◌∙◌}
 use Rattle.wac_lexer.proofs.Texts.{bytes_eq_is}
 use Rattle.wac_layout.specs.Reread.{RereadAs}
 use Rattle.wac_comments.proofs.testing.is_formatted_to.Goals as goal

@@ -1,4 +1,4 @@
-use Rattle.std.proofs.Common.{◌≡◌, ℕ, List, false, sym, ap, subst, ◌∙◌, string_bytes}
+use Rattle.std.proofs.Common.{◌≡◌, List, sym, ap, subst, ◌∙◌, string_bytes}
 use Rattle.std.specs.List.{list_any}
 use Rattle.wac_comments_layout.specs.Kept.{is_comment}
 use Rattle.wac_comments_layout.specs.Texts.{texts_of}
