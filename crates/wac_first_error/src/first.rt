@@ -86,7 +86,7 @@ fn find(alloc: Global, text: &str, resolve: bool) -> Result<Finding, AllocError>
 
 /// What is wrong with a text whose brackets are nested too deeply.
 fn find_depth(alloc: Global, span: SourceSpan) -> Result<Finding, AllocError>
-    ensures { IfOk result (λ finding. IsDepth finding) }
+    ensures { IfOk result (λ finding. IsDepth span finding) }
 {
     match nested_too_deep(alloc, span) {
         Ok(diagnostic) => Ok(Finding::Rejected(diagnostic)),
