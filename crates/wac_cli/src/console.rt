@@ -1,0 +1,165 @@
+// Where a command writes.
+use crate::options::Report;
+use crate::outcome::{Outcome, Status};
+use std::alloc::{AllocError, Global};
+use std::io::{ErrorKind, Write};
+use std::string::ToString;
+use wac_diagnostics::{Diagnostic, github, human, json};
+use wac_excerpts::push_shown;
+use wac_files::FileError;
+
+/// A writer that is written to until it fails.
+#[derive(Drop)]
+struct Channel<W: Write + Drop> {
+    writer: W,
+    // Why it is no longer written to.
+    failure: Option<ErrorKind>,
+}
+
+impl<W: Write + Drop> Channel<W> {
+    fn new(writer: W) -> Self {
+        Channel {
+            writer,
+            failure: None,
+        }
+    }
+
+    fn write(&mut self, text: &[u8]) {
+        if self.failure.is_some() {
+            return;
+        }
+        if let Err(error) = self.writer.write_all(text) {
+            self.failure = Some(error.kind());
+        }
+    }
+}
+
+/// Where a command writes: an output that programs read, and errors that people read.
+#[derive(Drop)]
+pub struct Console<O: Write + Drop, E: Write + Drop> {
+    output: Channel<O>,
+    errors: Channel<E>,
+    // Whether errors are coloured.
+    color: bool,
+    // Whether the last line, which counts files, is left out.
+    quiet: bool,
+}
+
+impl<O: Write + Drop, E: Write + Drop> Console<O, E> {
+    /// Writes to an output and to errors, these in colour if asked, and without the last line if `quiet`.
+    pub fn new(output: O, errors: E, color: bool, quiet: bool) -> Self {
+        Console {
+            output: Channel::new(output),
+            errors: Channel::new(errors),
+            color,
+            quiet,
+        }
+    }
+
+    /// Writes a text for programs.
+    pub(crate) fn write(&mut self, text: &[u8]) {
+        self.output.write(text);
+    }
+
+    /// Writes the path of a file, on a line for programs.
+    pub(crate) fn name(&mut self, alloc: Global, path: &str) -> Result<(), AllocError> {
+        let mut line = String::new(alloc);
+        push_shown(&mut line, path)?;
+        line.push('\n')?;
+        self.output.write(line.as_bytes());
+        Ok(())
+    }
+
+    /// Writes what is wrong with a file.
+    pub(crate) fn report(
+        &mut self,
+        alloc: Global,
+        report: Report,
+        path: &str,
+        text: &[u8],
+        diagnostic: &Diagnostic,
+    ) -> Result<(), AllocError> {
+        match report {
+            Report::Human => {
+                let shown = human(alloc, path, text, diagnostic, self.color)?;
+                self.errors.write(shown.as_bytes());
+            }
+            Report::Json => {
+                let mut line = json(alloc, path, text, diagnostic)?;
+                line.push('\n')?;
+                self.output.write(line.as_bytes());
+            }
+            Report::Github => {
+                let mut line = github(alloc, path, text, diagnostic)?;
+                line.push('\n')?;
+                self.output.write(line.as_bytes());
+            }
+        }
+        Ok(())
+    }
+
+    /// Writes why a file could not be read or written. Returns what became of it.
+    pub(crate) fn failed(
+        &mut self,
+        alloc: Global,
+        report: Report,
+        path: &str,
+        error: FileError,
+    ) -> Outcome {
+        match self.report_failure(alloc, report, path, error) {
+            Ok(()) if error != FileError::OutOfMemory => Outcome::Failed,
+            _ => Outcome::OutOfMemory,
+        }
+    }
+
+    fn report_failure(
+        &mut self,
+        alloc: Global,
+        report: Report,
+        path: &str,
+        error: FileError,
+    ) -> Result<(), AllocError> {
+        let message = error.to_string(alloc)?;
+        let diagnostic = Diagnostic::without_place(error.code(), message);
+        self.report(alloc, report, path, b"", &diagnostic)
+    }
+
+    /// Writes the last line, unless it is to be left out. Without memory for it a shorter one is written.
+    pub(crate) fn last_line(&mut self, line: Result<String, AllocError>) -> Status {
+        match line {
+            Ok(line) => {
+                if !self.quiet {
+                    self.errors.write(line.as_bytes());
+                }
+                Status::Well
+            }
+            Err(AllocError) => self.out_of_memory(),
+        }
+    }
+
+    /// Says that a request for memory failed.
+    pub(crate) fn out_of_memory(&mut self) -> Status {
+        self.errors
+            .write(b"error[wac::out-of-memory]: out of memory\n");
+        Status::MemoryFailed
+    }
+
+    /// The status that the output leads to. It is no failure that nobody reads it any more.
+    pub(crate) fn output_status(&self) -> Status {
+        match self.output.failure {
+            None | Some(ErrorKind::BrokenPipe) => Status::Well,
+            Some(_) => Status::FileFailed,
+        }
+    }
+
+    /// Says that the output failed, if it did.
+    pub(crate) fn report_output(&mut self, alloc: Global) -> Result<(), AllocError> {
+        match self.output.failure {
+            None | Some(ErrorKind::BrokenPipe) => Ok(()),
+            Some(kind) => {
+                let error = FileError::System(kind);
+                self.report_failure(alloc, Report::Human, "<stdout>", error)
+            }
+        }
+    }
+}

@@ -1,0 +1,188 @@
+// `wacx fmt`.
+use crate::console::Console;
+use crate::input::{STDIN, read_all};
+use crate::last_line::{Task, summary};
+use crate::options::{Action, FormatOptions, Report};
+use crate::outcome::{Outcome, Status, worst};
+use crate::planning::Plan;
+use std::alloc::{AllocError, Global};
+use std::io::{Read, Write};
+use wac_diff::unified;
+use wac_files::{FileError, FileSystem, Found, find_files};
+
+/// Formats the files that paths lead to, or names those that are not tidy.
+///
+/// Written are: for each file that is not tidy its path or how it differs, to the output; its errors, and a last line
+/// that counts the files, to the errors.
+pub fn format_paths<F: FileSystem, O: Write + Drop, E: Write + Drop>(
+    alloc: Global,
+    files: &mut F,
+    console: &mut Console<O, E>,
+    options: FormatOptions,
+    paths: &[&str],
+) -> Status {
+    let task = Task::Format(options.action);
+    match format_all(alloc, files, console, options, paths) {
+        Ok(outcomes) => finish(alloc, console, task, outcomes.as_slice()),
+        Err(AllocError) => console.out_of_memory(),
+    }
+}
+
+/// Writes the last line. Returns the status that files and output lead to.
+pub(crate) fn finish<O: Write + Drop, E: Write + Drop>(
+    alloc: Global,
+    console: &mut Console<O, E>,
+    task: Task,
+    outcomes: &[Outcome],
+) -> Status {
+    let reported = match console.report_output(alloc) {
+        Ok(()) => Status::Well,
+        Err(AllocError) => console.out_of_memory(),
+    };
+    let written = console.last_line(summary(alloc, task, outcomes));
+    worst(outcomes, task.action())
+        .or(console.output_status())
+        .or(reported)
+        .or(written)
+}
+
+fn format_all<F: FileSystem, O: Write + Drop, E: Write + Drop>(
+    alloc: Global,
+    files: &mut F,
+    console: &mut Console<O, E>,
+    options: FormatOptions,
+    paths: &[&str],
+) -> Result<Vec<Outcome>, AllocError> {
+    let found = find_files(alloc, files, paths)?;
+    let mut outcomes = Vec::with_capacity(alloc, found.len())?;
+    for found in found.as_slice() {
+        let outcome = format_found(alloc, files, console, options, found);
+        outcomes.push(outcome)?;
+    }
+    Ok(outcomes)
+}
+
+fn format_found<F: FileSystem, O: Write + Drop, E: Write + Drop>(
+    alloc: Global,
+    files: &mut F,
+    console: &mut Console<O, E>,
+    options: FormatOptions,
+    found: &Found,
+) -> Outcome {
+    let path = found.path.as_str();
+    let done = match found.failure {
+        Some(error) => Err(error),
+        None => format_file(alloc, files, console, options, path),
+    };
+    match done {
+        Ok(outcome) => outcome,
+        Err(error) => console.failed(alloc, Report::Human, path, error),
+    }
+}
+
+/// Formats a file.
+fn format_file<F: FileSystem, O: Write + Drop, E: Write + Drop>(
+    alloc: Global,
+    files: &mut F,
+    console: &mut Console<O, E>,
+    options: FormatOptions,
+    path: &str,
+) -> Result<Outcome, FileError> {
+    let bytes = files.read(alloc, path)?;
+    match Plan::of(alloc, bytes.as_slice(), options)? {
+        Plan::Tidy => Ok(Outcome::Good),
+        Plan::Untidy(text) => {
+            match options.action {
+                Action::Write => {
+                    files.replace(alloc, path, bytes.as_slice(), text.as_bytes())?;
+                    console.name(alloc, path)?;
+                }
+                Action::Check => console.name(alloc, path)?,
+                Action::Diff => show_diff(alloc, console, path, bytes.as_slice(), &text)?,
+            }
+            Ok(Outcome::Untidy)
+        }
+        Plan::Rejected(diagnostic) => {
+            console.report(alloc, Report::Human, path, bytes.as_slice(), &diagnostic)?;
+            Ok(Outcome::Rejected)
+        }
+    }
+}
+
+/// Writes how a text differs from its tidy one.
+fn show_diff<O: Write + Drop, E: Write + Drop>(
+    alloc: Global,
+    console: &mut Console<O, E>,
+    path: &str,
+    bytes: &[u8],
+    tidy_text: &str,
+) -> Result<(), AllocError> {
+    let text = str::from_utf8(bytes).unwrap_or("");
+    let mut name = String::new(alloc);
+    wac_excerpts::push_shown(&mut name, path)?;
+    let diff = unified(alloc, name.as_str(), text, tidy_text)?;
+    console.write(diff.as_bytes());
+    Ok(())
+}
+
+/// Formats a reader's text, and writes it to the output; or names it, or shows how it differs, where it isn't tidy. Its
+/// name in messages is `name`, or else `<stdin>`. Nothing else is written where all is well.
+pub fn format_input<I: Read, O: Write + Drop, E: Write + Drop>(
+    alloc: Global,
+    input: &mut I,
+    console: &mut Console<O, E>,
+    options: FormatOptions,
+    name: Option<&str>,
+) -> Status {
+    let name = name.unwrap_or(STDIN);
+    let outcome = match format_read(alloc, input, console, options, name) {
+        Ok(outcome) => outcome,
+        Err(error) => console.failed(alloc, Report::Human, name, error),
+    };
+    finish_input(alloc, console, Task::Format(options.action), outcome)
+}
+
+/// As `finish`, but says nothing where all is well.
+pub(crate) fn finish_input<O: Write + Drop, E: Write + Drop>(
+    alloc: Global,
+    console: &mut Console<O, E>,
+    task: Task,
+    outcome: Outcome,
+) -> Status {
+    let status = outcome.status(task.action()).or(console.output_status());
+    if status == Status::Well {
+        return status;
+    }
+    let outcomes = [outcome];
+    finish(alloc, console, task, outcomes.as_slice())
+}
+
+fn format_read<I: Read, O: Write + Drop, E: Write + Drop>(
+    alloc: Global,
+    input: &mut I,
+    console: &mut Console<O, E>,
+    options: FormatOptions,
+    name: &str,
+) -> Result<Outcome, FileError> {
+    let bytes = read_all(alloc, input)?;
+    match Plan::of(alloc, bytes.as_slice(), options)? {
+        Plan::Tidy => {
+            if options.action == Action::Write {
+                console.write(bytes.as_slice());
+            }
+            Ok(Outcome::Good)
+        }
+        Plan::Untidy(text) => {
+            match options.action {
+                Action::Write => console.write(text.as_bytes()),
+                Action::Check => console.name(alloc, name)?,
+                Action::Diff => show_diff(alloc, console, name, bytes.as_slice(), &text)?,
+            }
+            Ok(Outcome::Untidy)
+        }
+        Plan::Rejected(diagnostic) => {
+            console.report(alloc, Report::Human, name, bytes.as_slice(), &diagnostic)?;
+            Ok(Outcome::Rejected)
+        }
+    }
+}

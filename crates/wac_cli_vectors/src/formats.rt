@@ -1,0 +1,236 @@
+// `fmt` over files in memory.
+use crate::runs::{expect, format, format_text, options};
+use std::alloc::Global;
+use std::test::Fail;
+use wac_cli::{Action, FormatOptions, LineEnds};
+use wac_comments::Indent;
+use wac_files::MemoryFiles;
+
+const UNTIDY: &str = "package  a:b; // one\n\nlet x=y;\n";
+
+const TIDY: &str = "package a:b; // one\n\nlet x = y;\n";
+
+const BAD: &str = "package a:b;\nlet = y;\n";
+
+const BAD_ERROR: &str =
+    "bad.wac:2:5: error[wac::expected]: expected identifier, found `=`\n2 | let = y;\n  |     ^\n";
+
+/// A file with an error, a tidy one, one that is not tidy, and a pipe.
+fn tree(alloc: Global) -> Result<MemoryFiles, Fail> {
+    let mut files = MemoryFiles::new(alloc);
+    files.folder(alloc, ".")?;
+    files.file(alloc, "bad.wac", BAD.as_bytes())?;
+    files.file(alloc, "tidy.wac", TIDY.as_bytes())?;
+    files.file(alloc, "untidy.wac", UNTIDY.as_bytes())?;
+    files.pipe(alloc, "pipe.wac")?;
+    Ok(files)
+}
+
+/// The error of the file that has one, and a last line.
+fn errors(alloc: Global, last_line: &str) -> Result<String, Fail> {
+    let mut errors = String::from_str(alloc, BAD_ERROR)?;
+    errors.push_str(last_line)?;
+    Ok(errors)
+}
+
+#[test]
+fn files_are_written(rt: HostRuntime) -> Result<(), Fail> {
+    let mut files = tree(rt.alloc())?;
+    let run = format(rt.alloc(), &mut files, options(Action::Write), &["."]);
+    let said = errors(rt.alloc(), "3 files, 1 changed, 1 with errors\n")?;
+    expect(&rt, &run, 1, "untidy.wac\n", said.as_str())?;
+    assert_eq!(rt; files.bytes("bad.wac"), Some(BAD.as_bytes()));
+    assert_eq!(rt; files.bytes("tidy.wac"), Some(TIDY.as_bytes()));
+    assert_eq!(rt; files.bytes("untidy.wac"), Some(TIDY.as_bytes()));
+    let run = format(
+        rt.alloc(),
+        &mut files,
+        options(Action::Write),
+        &["untidy.wac"],
+    );
+    expect(&rt, &run, 0, "", "1 file, 0 changed, 0 with errors\n")
+}
+
+#[test]
+fn files_are_tested(rt: HostRuntime) -> Result<(), Fail> {
+    let mut files = tree(rt.alloc())?;
+    let run = format(rt.alloc(), &mut files, options(Action::Check), &["."]);
+    let said = errors(rt.alloc(), "3 files, 1 not tidy, 1 with errors\n")?;
+    expect(&rt, &run, 1, "untidy.wac\n", said.as_str())?;
+    assert_eq!(rt; files.bytes("untidy.wac"), Some(UNTIDY.as_bytes()));
+    let run = format(
+        rt.alloc(),
+        &mut files,
+        options(Action::Check),
+        &["untidy.wac"],
+    );
+    expect(
+        &rt,
+        &run,
+        1,
+        "untidy.wac\n",
+        "1 file, 1 not tidy, 0 with errors\n",
+    )?;
+    let run = format(
+        rt.alloc(),
+        &mut files,
+        options(Action::Check),
+        &["tidy.wac"],
+    );
+    expect(&rt, &run, 0, "", "1 file, 0 not tidy, 0 with errors\n")
+}
+
+#[test]
+fn differences_are_shown(rt: HostRuntime) -> Result<(), Fail> {
+    let mut files = tree(rt.alloc())?;
+    let run = format(
+        rt.alloc(),
+        &mut files,
+        options(Action::Diff),
+        &["untidy.wac"],
+    );
+    let diff =
+        "--- untidy.wac\n+++ untidy.wac\n@@ -1,3 +1,3 @@\n-package  a:b; // one\n+package a:b; // one\n \n-let x=y;\n+let x = y;\n";
+    expect(&rt, &run, 1, diff, "1 file, 1 not tidy, 0 with errors\n")?;
+    assert_eq!(rt; files.bytes("untidy.wac"), Some(UNTIDY.as_bytes()));
+    Ok(())
+}
+
+#[test]
+fn one_bad_file_never_stops_the_others(rt: HostRuntime) -> Result<(), Fail> {
+    let mut files = tree(rt.alloc())?;
+    files.read_only(rt.alloc(), "fixed.wac", UNTIDY.as_bytes())?;
+    let paths = ["none.wac", "pipe.wac", "fixed.wac", "untidy.wac"];
+    let run = format(
+        rt.alloc(),
+        &mut files,
+        options(Action::Write),
+        paths.as_slice(),
+    );
+    let said =
+        "none.wac: error[wac::not-found]: no such file or folder\npipe.wac: error[wac::not-a-file]: neither a file nor a folder\nfixed.wac: error[wac::read-only]: the file is read-only, and was not written\n4 files, 1 changed, 0 with errors, 3 failed\n";
+    expect(&rt, &run, 3, "untidy.wac\n", said)?;
+    assert_eq!(rt; files.bytes("fixed.wac"), Some(UNTIDY.as_bytes()));
+    Ok(())
+}
+
+/// What a run over all files came to, while a call failed.
+#[derive(Clone, Copy)]
+struct After {
+    /// Whether the call that fails was made.
+    is_made: bool,
+    status: u8,
+    /// Whether the files hold what the output says.
+    is_right: bool,
+}
+
+/// Formats all files, where a call fails.
+fn format_failing(alloc: Global, failing: usize) -> Result<After, Fail> {
+    let mut files = tree(alloc)?;
+    files.fail_at(failing);
+    let run = format(alloc, &mut files, options(Action::Write), &["."]);
+    let is_named = run.output.as_slice() == b"untidy.wac\n".as_slice();
+    let wanted = if is_named { TIDY } else { UNTIDY };
+    Ok(After {
+        is_made: failing < files.calls(),
+        status: run.status,
+        is_right: files.bytes("bad.wac") == Some(BAD.as_bytes())
+            && files.bytes("tidy.wac") == Some(TIDY.as_bytes())
+            && files.bytes("untidy.wac") == Some(wanted.as_bytes()),
+    })
+}
+
+#[test]
+fn no_file_is_lost_where_a_call_fails(rt: HostRuntime) -> Result<(), Fail> {
+    let mut made = 0usize;
+    for failing in 0..40 {
+        let after = format_failing(rt.alloc(), failing)?;
+        assert!(rt; after.is_right, "at call {failing}");
+        assert_eq!(rt;
+            after.status,
+            if after.is_made { 3 } else { 1 },
+            "at call {failing}"
+        );
+        if after.is_made {
+            made = made.saturating_add(1);
+        }
+    }
+    assert!(rt; 10 <= made && made < 40, "{made} calls");
+    Ok(())
+}
+
+#[test]
+fn layouts_are_chosen(rt: HostRuntime) -> Result<(), Fail> {
+    let source = "package a:b;\r\nlet x = {\r\ny, ...};\r\n";
+    let tab = FormatOptions {
+        action: Action::Write,
+        indent: Indent::Tab,
+        line_ends: LineEnds::Lf,
+    };
+    let run = format_text(
+        rt.alloc(),
+        "package a:b;\ninterface i {\nf: func();\n}\n",
+        tab,
+        None,
+    );
+    expect(
+        &rt,
+        &run,
+        0,
+        "package a:b;\n\ninterface i {\n\tf: func();\n}\n",
+        "",
+    )?;
+    let run = format_text(
+        rt.alloc(),
+        "package a:b;\r\nlet x=y;\r\n",
+        options(Action::Write),
+        None,
+    );
+    expect(&rt, &run, 0, "package a:b;\r\n\r\nlet x = y;\r\n", "")?;
+    let run = format_text(
+        rt.alloc(),
+        "/* a\r\nb */ package a:b;\n",
+        options(Action::Write),
+        None,
+    );
+    expect(&rt, &run, 0, "/* a\r\nb */ package a:b;\n", "")?;
+    let run = format_text(rt.alloc(), source, options(Action::Check), Some("x.wac"));
+    let said = "x.wac:3:4: error[wac::expected]: expected identifier or string, found `...`\n";
+    assert_eq!(rt; run.status, 1);
+    assert!(rt;
+        str::from_utf8(run.errors.as_slice())
+            .unwrap_or("?")
+            .starts_with("x.wac:"),
+        "{said}"
+    );
+    Ok(())
+}
+
+#[test]
+fn input_is_a_filter(rt: HostRuntime) -> Result<(), Fail> {
+    let run = format_text(rt.alloc(), UNTIDY, options(Action::Write), None);
+    expect(&rt, &run, 0, TIDY, "")?;
+    let run = format_text(rt.alloc(), TIDY, options(Action::Write), None);
+    expect(&rt, &run, 0, TIDY, "")?;
+    let run = format_text(rt.alloc(), TIDY, options(Action::Check), None);
+    expect(&rt, &run, 0, "", "")?;
+    let run = format_text(rt.alloc(), UNTIDY, options(Action::Check), None);
+    expect(
+        &rt,
+        &run,
+        1,
+        "<stdin>\n",
+        "1 file, 1 not tidy, 0 with errors\n",
+    )?;
+    let run = format_text(rt.alloc(), UNTIDY, options(Action::Check), Some("a.wac"));
+    expect(
+        &rt,
+        &run,
+        1,
+        "a.wac\n",
+        "1 file, 1 not tidy, 0 with errors\n",
+    )?;
+    let run = format_text(rt.alloc(), BAD, options(Action::Write), Some("bad.wac"));
+    let said = errors(rt.alloc(), "1 file, 0 changed, 1 with errors\n")?;
+    expect(&rt, &run, 1, "", said.as_str())
+}

@@ -1,0 +1,65 @@
+-- The codes of errors: the kebab form of their names.
+use Rattle.std.specs.Prelude.{ℕ, List, codes}
+use Rattle.wac_ast_base.specs.Error.{Told as Parsing, faulty, expected_one, expected_either, expected_many, empty_type, invalid_version, no_memory}
+use Rattle.wac_diagnostics.specs.Codes.{lexer_code}
+use Rattle.wac_resolution_errors.specs.Error.{Error, undefined_name, duplicate_name, duplicate_interface_export, duplicate_world_item, not_func_or_interface, not_interface, duplicate_world_include_name, not_world, missing_world_include, world_include_conflict, undefined_interface_type, not_interface_value_type, duplicate_resource_constructor, duplicate_resource_method, duplicate_variant_case, duplicate_record_field, duplicate_enum_case, duplicate_flag, invalid_alias_type, not_func_type, not_resource_type, not_value_type, duplicate_parameter, duplicate_result, borrow_in_result, unknown_package, package_missing_export, package_path_missing_export, declaration_conflict, use_conflict, missing_component_import, mismatched_instantiation_arg, duplicate_instantiation_arg, missing_instantiation_arg, not_an_instance, missing_instance_export, export_requires_as, export_conflict, duplicate_extern_name, invalid_extern_name, fill_argument_not_last, spread_instantiation_no_match, spread_export_no_effect, import_not_in_target, missing_target_export, target_mismatch, memory}
+
+-- of an error of parsing: that of the lexer, or its own
+abbrev pub parse_code : Parsing → List ℕ
+parse_code (faulty fault span) = lexer_code fault
+parse_code (expected_one token found span) = codes "wac::expected"
+parse_code (expected_either first second found span) = codes "wac::expected-either"
+parse_code (expected_many tokens count found span) = codes "wac::expected-multiple"
+parse_code (empty_type ty kind span) = codes "wac::empty-type"
+parse_code (invalid_version version span) = codes "wac::invalid-version"
+parse_code no_memory = codes "wac::out-of-memory"
+
+-- of an error of resolving
+abbrev pub resolution_code : Error → List ℕ
+resolution_code (undefined_name name at) = codes "wac::undefined-name"
+resolution_code (duplicate_name name at previous) = codes "wac::duplicate-name"
+resolution_code (duplicate_interface_export name interface at) = codes "wac::duplicate-interface-export"
+resolution_code (duplicate_world_item kind name world at) = codes "wac::duplicate-world-item"
+resolution_code (not_func_or_interface name kind at) = codes "wac::not-func-or-interface"
+resolution_code (not_interface name kind at) = codes "wac::not-interface"
+resolution_code (duplicate_world_include_name name at) = codes "wac::duplicate-world-include-name"
+resolution_code (not_world name kind at) = codes "wac::not-world"
+resolution_code (missing_world_include world name at) = codes "wac::missing-world-include"
+resolution_code (world_include_conflict kind name from to at help) = codes "wac::world-include-conflict"
+resolution_code (undefined_interface_type name interface at) = codes "wac::undefined-interface-type"
+resolution_code (not_interface_value_type name kind interface at) = codes "wac::not-interface-value-type"
+resolution_code (duplicate_resource_constructor resource at) = codes "wac::duplicate-resource-constructor"
+resolution_code (duplicate_resource_method name resource at) = codes "wac::duplicate-resource-method"
+resolution_code (duplicate_variant_case case name at) = codes "wac::duplicate-variant-case"
+resolution_code (duplicate_record_field field name at) = codes "wac::duplicate-record-field"
+resolution_code (duplicate_enum_case case name at) = codes "wac::duplicate-enum-case"
+resolution_code (duplicate_flag flag name at) = codes "wac::duplicate-flag"
+resolution_code (invalid_alias_type name kind at) = codes "wac::invalid-alias-type"
+resolution_code (not_func_type name kind at) = codes "wac::not-func-type"
+resolution_code (not_resource_type name kind at) = codes "wac::not-resource-type"
+resolution_code (not_value_type name kind at) = codes "wac::not-value-type"
+resolution_code (duplicate_parameter kind name at) = codes "wac::duplicate-parameter"
+resolution_code (duplicate_result kind name at) = codes "wac::duplicate-result"
+resolution_code (borrow_in_result at) = codes "wac::borrow-in-result"
+resolution_code (unknown_package name at) = codes "wac::unknown-package"
+resolution_code (package_missing_export kind path name export at) = codes "wac::package-missing-export"
+resolution_code (package_path_missing_export name kind export at) = codes "wac::package-path-missing-export"
+resolution_code (declaration_conflict name at export) = codes "wac::declaration-conflict"
+resolution_code (use_conflict kind name at help) = codes "wac::use-conflict"
+resolution_code (missing_component_import component import at) = codes "wac::missing-component-import"
+resolution_code (mismatched_instantiation_arg name reason at) = codes "wac::mismatched-instantiation-arg"
+resolution_code (duplicate_instantiation_arg name at) = codes "wac::duplicate-instantiation-arg"
+resolution_code (missing_instantiation_arg name component at) = codes "wac::missing-instantiation-arg"
+resolution_code (not_an_instance kind operation at) = codes "wac::not-an-instance"
+resolution_code (missing_instance_export name at) = codes "wac::missing-instance-export"
+resolution_code (export_requires_as at) = codes "wac::export-requires-as"
+resolution_code (export_conflict name kind at definition help) = codes "wac::export-conflict"
+resolution_code (duplicate_extern_name kind name at previous help) = codes "wac::duplicate-extern-name"
+resolution_code (invalid_extern_name name kind reason at) = codes "wac::invalid-extern-name"
+resolution_code (fill_argument_not_last at) = codes "wac::fill-argument-not-last"
+resolution_code (spread_instantiation_no_match at) = codes "wac::spread-instantiation-no-match"
+resolution_code (spread_export_no_effect at) = codes "wac::spread-export-no-effect"
+resolution_code (import_not_in_target name world at) = codes "wac::import-not-in-target"
+resolution_code (missing_target_export name world kind at) = codes "wac::missing-target-export"
+resolution_code (target_mismatch kind name world reason at) = codes "wac::target-mismatch"
+resolution_code memory = codes "wac::out-of-memory"

@@ -1,0 +1,58 @@
+//! Diagnostics of the errors of resolving.
+ghost use Rattle.std.specs.Prelude.{◌≢◌, IfOk};
+ghost use Rattle.wac_resolution_errors.specs.Error.{memory};
+ghost use Rattle.wac_resolution_errors.specs.Told.{told};
+ghost use Rattle.wac_error_diagnostics.specs.Diagnostics.{IsOfResolving};
+
+use crate::resolution_codes::resolution_code;
+use std::alloc::{AllocError, Global};
+use wac_diagnostics::{Diagnostic, Note};
+use wac_lexer::SourceSpan;
+use wac_resolution_errors::Error;
+
+/// What is said of a document that breaks a rule, with its help and the earlier place that it tells of. The error is
+/// that memory ran out, also where the document's error says so.
+pub fn resolution_diagnostic(alloc: Global, error: &Error) -> Result<Diagnostic, AllocError>
+    ensures says { IfOk result (λ diagnostic. IsOfResolving (told error.now) diagnostic) }
+    ensures memory { IfOk result (λ diagnostic. told error.now ≢ memory) }
+{
+    if let Error::Memory(_) = error {
+        return Err(AllocError);
+    }
+    let message = format!(in alloc; "{error}")?;
+    let code = resolution_code(error);
+    let mut diagnostic = match error.span() {
+        Some(span) => Diagnostic::at(code, message, span),
+        None => Diagnostic::without_place(code, message),
+    };
+    if let Some(help) = help_for(error) {
+        diagnostic.help = Some(String::from_str(alloc, help)?);
+    }
+    if let Some((message, span)) = earlier_place(error) {
+        let message = String::from_str(alloc, message)?;
+        diagnostic.notes.push(Note { message, span })?;
+    }
+    Ok(diagnostic)
+}
+
+/// What can be done about an error, where it says so.
+fn help_for(error: &Error) -> Option<&'static str> {
+    match error {
+        Error::WorldIncludeConflict { help, .. }
+        | Error::ExportConflict { help, .. }
+        | Error::DuplicateExternName { help, .. }
+        | Error::UseConflict { help, .. } => *help,
+        _ => None,
+    }
+}
+
+/// The earlier place that an error tells of, and what is there.
+fn earlier_place(error: &Error) -> Option<(&'static str, SourceSpan)> {
+    match error {
+        Error::DuplicateName { previous, .. } => Some(("it is defined here", *previous)),
+        Error::DeclarationConflict { export, .. } => Some(("it is exported here", *export)),
+        Error::ExportConflict { definition, .. } => Some(("it is defined here", *definition)),
+        Error::DuplicateExternName { previous, .. } => Some(("it is first here", *previous)),
+        _ => None,
+    }
+}

@@ -1,0 +1,12 @@
+//! Places of a text, shown as compilers show them: the line, and marks below the place.
+#![tactic(auto)]
+
+mod characters;
+mod gutter;
+mod marked;
+mod region;
+mod window;
+
+pub use characters::push_shown;
+pub use gutter::Paint;
+pub use region::excerpt;

@@ -1,0 +1,36 @@
+// Names of files, and the paths that they are in.
+use std::alloc::{AllocError, Global};
+
+/// Whether a name is one of those that a list of files leaves out.
+pub(crate) fn is_hidden(name: &[u8]) -> bool {
+    name.starts_with(b".")
+}
+
+/// Whether a name is that of a WAC file.
+pub(crate) fn is_wac(name: &[u8]) -> bool {
+    name.ends_with(b".wac")
+}
+
+/// The path of a name in a folder. Below `.` it is the name alone.
+pub(crate) fn join(alloc: Global, folder: &str, name: &str) -> Result<String, AllocError> {
+    if folder == "." || folder == "./" {
+        return String::from_str(alloc, name);
+    }
+    let mut path = String::from_str(alloc, folder)?;
+    if !folder.ends_with('/') {
+        path.push('/')?;
+    }
+    path.push_str(name)?;
+    Ok(path)
+}
+
+/// The folder that a path is in, with its slash.
+pub(crate) fn folder_of(path: &str) -> &str {
+    match path.rfind('/') {
+        Some(at) => match path.split_at_checked(at + 1) {
+            Some((folder, _)) => folder,
+            None => "",
+        },
+        None => "",
+    }
+}

@@ -1,0 +1,197 @@
+// The files that paths lead to.
+use crate::error::FileError;
+use crate::names::{is_hidden, is_wac, join};
+use crate::system::{FileSystem, Kind};
+use std::alloc::{AllocError, Global};
+use std::collections::BTreeSet;
+
+/// A path that a command has to do, or why it can't.
+#[derive(Debug, Drop)]
+pub struct Found {
+    /// The path, as it was given or joined from the folder's.
+    pub path: String,
+    /// Why no file can be read there.
+    pub failure: Option<FileError>,
+}
+
+/// A path that is not looked at yet.
+#[derive(Drop)]
+struct Pending {
+    path: String,
+    // Whether the path was given, and not found in a folder.
+    is_given: bool,
+    failure: Option<FileError>,
+}
+
+/// The files that paths lead to.
+///
+/// Given paths are taken in order, whatever their names. A folder stands for the files below it whose names end in
+/// `.wac`, in the order of their names' bytes, those with a name that begins with a dot left out, as are links to
+/// folders, pipes and devices. A file that is reached twice is listed once, for the first path.
+pub fn find_files<F: FileSystem>(
+    alloc: Global,
+    files: &mut F,
+    paths: &[&str],
+) -> Result<Vec<Found>, AllocError> {
+    let mut walk = Walk::new(alloc);
+    for path in paths.iter().rev() {
+        let path = String::from_str(alloc, path)?;
+        walk.add(path, true, None)?;
+    }
+    for _ in 0..u64::MAX {
+        if !walk.step(alloc, files)? {
+            break;
+        }
+    }
+    let Walk { found, .. } = walk;
+    Ok(found)
+}
+
+/// A walk over paths and folders.
+#[derive(Drop)]
+struct Walk {
+    // What is to be looked at, the next one last.
+    pending: Vec<Pending>,
+    found: Vec<Found>,
+    // The resolved paths of what was found.
+    seen: BTreeSet<String>,
+}
+
+impl Walk {
+    fn new(alloc: Global) -> Self {
+        Walk {
+            pending: Vec::new(alloc),
+            found: Vec::new(alloc),
+            seen: BTreeSet::new(alloc),
+        }
+    }
+
+    fn add(
+        &mut self,
+        path: String,
+        is_given: bool,
+        failure: Option<FileError>,
+    ) -> Result<(), AllocError> {
+        self.pending.push(Pending {
+            path,
+            is_given,
+            failure,
+        })?;
+        Ok(())
+    }
+
+    /// Looks at the next path. Returns whether there was one.
+    fn step<F: FileSystem>(&mut self, alloc: Global, files: &mut F) -> Result<bool, AllocError> {
+        let Some(pending) = self.pending.pop() else {
+            return Ok(false);
+        };
+        let Pending {
+            path,
+            is_given,
+            failure,
+        } = pending;
+        if let Some(failure) = failure {
+            self.fail(path, failure)?;
+            return Ok(true);
+        }
+        match kind_of(files, path.as_str(), is_given) {
+            Ok(Some(Kind::File)) => self.file(alloc, files, path)?,
+            Ok(Some(Kind::Folder)) => self.folder(alloc, files, path)?,
+            Ok(Some(_)) => self.fail(path, FileError::NotAFile)?,
+            Ok(None) => {}
+            Err(error) => self.fail(path, error)?,
+        }
+        Ok(true)
+    }
+
+    /// Lists a path at which no file can be read.
+    fn fail(&mut self, path: String, failure: FileError) -> Result<(), AllocError> {
+        if self.seen.contains(path.as_str()) {
+            return Ok(());
+        }
+        self.seen.insert(path.clone()?)?;
+        self.found.push(Found {
+            path,
+            failure: Some(failure),
+        })?;
+        Ok(())
+    }
+
+    /// Lists a file, unless it is listed.
+    fn file<F: FileSystem>(
+        &mut self,
+        alloc: Global,
+        files: &mut F,
+        path: String,
+    ) -> Result<(), AllocError> {
+        let resolved = match files.resolve(alloc, path.as_str()) {
+            Ok(resolved) => resolved,
+            Err(FileError::OutOfMemory) => return Err(AllocError),
+            Err(error) => return self.fail(path, error),
+        };
+        if !self.seen.insert(resolved)? {
+            return Ok(());
+        }
+        self.found.push(Found {
+            path,
+            failure: None,
+        })?;
+        Ok(())
+    }
+
+    /// Adds what is in a folder to what is to be looked at.
+    fn folder<F: FileSystem>(
+        &mut self,
+        alloc: Global,
+        files: &mut F,
+        path: String,
+    ) -> Result<(), AllocError> {
+        let mut names = match files.list(alloc, path.as_str()) {
+            Ok(names) => names,
+            Err(FileError::OutOfMemory) => return Err(AllocError),
+            Err(error) => return self.fail(path, error),
+        };
+        names.sort()?;
+        for name in names.as_slice().iter().rev() {
+            if !is_hidden(name.as_slice()) {
+                self.entry(alloc, path.as_str(), name.as_slice())?;
+            }
+        }
+        Ok(())
+    }
+
+    /// Adds a name in a folder to what is to be looked at.
+    fn entry(&mut self, alloc: Global, folder: &str, name: &[u8]) -> Result<(), AllocError> {
+        match str::from_utf8(name) {
+            Ok(text) => {
+                let path = join(alloc, folder, text)?;
+                self.add(path, false, None)
+            }
+            Err(_) => {
+                let shown = String::from_utf8_lossy(alloc, name)?;
+                let path = join(alloc, folder, shown.as_str())?;
+                self.add(path, false, Some(FileError::NameNotUtf8))
+            }
+        }
+    }
+}
+
+/// What a path is taken as. It is `None` for what a folder holds besides folders and WAC files.
+fn kind_of<F: FileSystem>(
+    files: &mut F,
+    path: &str,
+    is_given: bool,
+) -> Result<Option<Kind>, FileError> {
+    if is_given {
+        return Ok(Some(files.target(path)?));
+    }
+    match files.kind(path)? {
+        Kind::Folder => Ok(Some(Kind::Folder)),
+        Kind::File if is_wac(path.as_bytes()) => Ok(Some(Kind::File)),
+        Kind::Link if is_wac(path.as_bytes()) => match files.target(path)? {
+            Kind::File => Ok(Some(Kind::File)),
+            _ => Ok(None),
+        },
+        _ => Ok(None),
+    }
+}

@@ -1,0 +1,95 @@
+//! The first error of a text.
+use crate::text::{Reading, nested_too_deep, read_text};
+use indexmap::IndexMap;
+use std::alloc::{AllocError, Global};
+use wac_comments_layout::too_deep;
+use wac_diagnostics::Diagnostic;
+use wac_error_diagnostics::{parse_diagnostic, resolution_diagnostic};
+use wac_parser::resolution::resolve;
+use wac_parser::{Document, Page, packages};
+use wac_tool_graphs::SameRules;
+
+/// What bytes are.
+#[derive(Debug, Drop)]
+pub enum Verdict<'s> {
+    /// A document, which was resolved where that was asked for.
+    Document(&'s str),
+    /// A document that mentions foreign packages, and so wasn't resolved.
+    Unresolved(&'s str),
+    /// Something else, or a document that breaks a rule: what is wrong first.
+    Rejected(Diagnostic),
+}
+
+/// What a text is.
+#[derive(Drop)]
+enum Finding {
+    Document,
+    Unresolved,
+    Rejected(Diagnostic),
+}
+
+/// The first error of what a file holds.
+///
+/// What is tested, in this order: that the bytes are UTF-8, that they don't begin with a byte order mark, that the text
+/// has no rejected character, that its brackets aren't nested deeper than a thousand, that it is a document, and where
+/// `resolve` asks for it and the document mentions no foreign package, that it breaks no rule of resolving. The error
+/// is that memory ran out.
+pub fn first_error(alloc: Global, bytes: &[u8], resolve: bool) -> Result<Verdict<'_>, AllocError> {
+    match read_text(alloc, bytes) {
+        Ok(Reading::Text(text)) => verdict(alloc, text, resolve),
+        Ok(Reading::Rejected(diagnostic)) => Ok(Verdict::Rejected(diagnostic)),
+        Err(_) => Err(AllocError),
+    }
+}
+
+/// The first error of a text.
+fn verdict(alloc: Global, text: &str, resolve: bool) -> Result<Verdict<'_>, AllocError> {
+    match find(alloc, text, resolve) {
+        Ok(Finding::Document) => Ok(Verdict::Document(text)),
+        Ok(Finding::Unresolved) => Ok(Verdict::Unresolved(text)),
+        Ok(Finding::Rejected(diagnostic)) => Ok(Verdict::Rejected(diagnostic)),
+        Err(_) => Err(AllocError),
+    }
+}
+
+/// What a text is, or what is wrong with it first.
+fn find(alloc: Global, text: &str, resolve: bool) -> Result<Finding, AllocError> {
+    if let Some(span) = too_deep(text) {
+        return Ok(Finding::Rejected(nested_too_deep(alloc, span)?));
+    }
+    match Document::parse(alloc, text) {
+        Ok(document) if resolve => find_resolved(
+            alloc,
+            Page {
+                document: &document,
+            },
+        ),
+        Ok(_) => Ok(Finding::Document),
+        Err(error) => Ok(Finding::Rejected(parse_diagnostic(alloc, &error)?)),
+    }
+}
+
+/// What a document is, or which rule it breaks first.
+fn find_resolved(alloc: Global, page: Page<'_, '_>) -> Result<Finding, AllocError> {
+    let Page { document } = page;
+    if mentions_packages(alloc, Page { document })? {
+        Ok(Finding::Unresolved)
+    } else {
+        find_broken(alloc, Page { document })
+    }
+}
+
+/// Whether a document mentions foreign packages.
+fn mentions_packages(alloc: Global, page: Page<'_, '_>) -> Result<bool, AllocError> {
+    let Page { document } = page;
+    Ok(!packages(alloc, document)?.is_empty())
+}
+
+/// Which rule a document breaks that mentions no foreign package.
+fn find_broken(alloc: Global, page: Page<'_, '_>) -> Result<Finding, AllocError> {
+    let Page { document } = page;
+    match resolve(alloc, document, IndexMap::new(alloc), &SameRules) {
+        Ok(_) => Ok(Finding::Document),
+        Err(error) => Ok(Finding::Rejected(resolution_diagnostic(alloc, &error)?)),
+    }
+}
