@@ -141,14 +141,14 @@ impl<O: Write + Drop, E: Write + Drop> Console<O, E> {
     pub(crate) fn out_of_memory(&mut self) -> Status {
         self.errors
             .write(b"error[wac::out-of-memory]: out of memory\n");
-        Status::OutOfMemory
+        Status::MemoryFailed
     }
 
     /// The status that the output leads to. It is no failure that nobody reads it any more.
     pub(crate) fn output_status(&self) -> Status {
         match self.output.failure {
             None | Some(ErrorKind::BrokenPipe) => Status::Well,
-            Some(_) => Status::Failed,
+            Some(_) => Status::FileFailed,
         }
     }
 

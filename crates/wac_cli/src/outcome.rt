@@ -1,4 +1,7 @@
 // What became of files, and the status that follows.
+ghost use Rattle.std.specs.Prelude.{◌≡◌, ◌≤◌};
+ghost use Rattle.wac_cli.specs.Outcomes.{code_of, status_of};
+
 use crate::options::Action;
 
 /// What became of a file.
@@ -26,24 +29,29 @@ pub enum Status {
     /// A text has an error, or is not tidy.
     Wrong,
     /// A file, or standard input or output, could not be read or written.
-    Failed,
+    FileFailed,
     /// A request for memory failed.
-    OutOfMemory,
+    MemoryFailed,
 }
 
 impl Status {
     /// The number that the program ends with.
-    pub fn code(self) -> u8 {
+    pub fn code(self) -> u8
+        ensures { result ≡ code_of self }
+    {
         match self {
             Status::Well => 0,
             Status::Wrong => 1,
-            Status::Failed => 3,
-            Status::OutOfMemory => 4,
+            Status::FileFailed => 3,
+            Status::MemoryFailed => 4,
         }
     }
 
     /// The worse of two.
-    pub fn or(self, other: Status) -> Status {
+    pub fn or(self, other: Status) -> Status
+        ensures first { code_of self ≤ code_of result }
+        ensures second { code_of other ≤ code_of result }
+    {
         if self.code() < other.code() {
             other
         } else {
@@ -54,7 +62,9 @@ impl Status {
 
 impl Outcome {
     /// The status that one file leads to.
-    pub fn status(self, action: Action) -> Status {
+    pub fn status(self, action: Action) -> Status
+        ensures { result ≡ status_of self action }
+    {
         match self {
             Outcome::Good | Outcome::Unresolved => Status::Well,
             Outcome::Untidy => match action {
@@ -62,8 +72,8 @@ impl Outcome {
                 Action::Check | Action::Diff => Status::Wrong,
             },
             Outcome::Rejected => Status::Wrong,
-            Outcome::Failed => Status::Failed,
-            Outcome::OutOfMemory => Status::OutOfMemory,
+            Outcome::Failed => Status::FileFailed,
+            Outcome::OutOfMemory => Status::MemoryFailed,
         }
     }
 }

@@ -1,0 +1,30 @@
+-- What the outcome of a file comes to, and the number that the program ends with.
+use Rattle.std.specs.Prelude.{ℕ}
+use Rattle.wac_cli.specs.declared.options.Action.{Action}
+use Rattle.wac_cli.specs.declared.options.Action.TheVariants.{Write, Check, Diff}
+use Rattle.wac_cli.specs.declared.outcome.Outcome.{Outcome}
+use Rattle.wac_cli.specs.declared.outcome.Outcome.TheVariants.{Good, Untidy, Unresolved, Rejected, Failed, OutOfMemory}
+use Rattle.wac_cli.specs.declared.outcome.Status.{Status}
+use Rattle.wac_cli.specs.declared.outcome.Status.TheVariants.{Well, Wrong, FileFailed, MemoryFailed}
+
+-- The number that the program ends with.
+abbrev pub code_of : Status → ℕ
+code_of Well = 0
+code_of Wrong = 1
+code_of FileFailed = 3
+code_of MemoryFailed = 4
+
+-- What a file that was not tidy comes to: it is an error where nothing was to be written.
+abbrev pub untidy_status : Action → Status
+untidy_status Write = Well
+untidy_status Check = Wrong
+untidy_status Diff = Wrong
+
+-- What the outcome of a file comes to.
+abbrev pub status_of : Outcome → Action → Status
+status_of Good _ = Well
+status_of Untidy action = untidy_status action
+status_of Unresolved _ = Well
+status_of Rejected _ = Wrong
+status_of Failed _ = FileFailed
+status_of OutOfMemory _ = MemoryFailed
