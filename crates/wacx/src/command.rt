@@ -56,14 +56,14 @@ pub(crate) enum Request<'a> {
 pub(crate) fn read_words<'a>(alloc: Global, words: &'a [String]) -> Result<Request<'a>, Error> {
     let matches = definition(alloc)?.try_get_matches_from(words)?;
     match matches.subcommand() {
-        Some(("fmt", found)) => Ok(request(alloc, Work::Format(format_options(found)), found)?),
-        Some((_, found)) => Ok(request(alloc, Work::Check(report_of(found)), found)?),
+        Some(("fmt", found)) => Ok(request_of(alloc, Work::Format(format_options(found)), found)?),
+        Some((_, found)) => Ok(request_of(alloc, Work::Check(report_of(found)), found)?),
         None => Ok(Request::Misused("a command is missing")),
     }
 }
 
 /// The task of a command, whose words were found.
-fn request<'a>(
+fn request_of<'a>(
     alloc: Global,
     work: Work,
     found: &ArgMatches<'a>,
