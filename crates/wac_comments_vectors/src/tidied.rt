@@ -8,6 +8,7 @@ use std::alloc::Global;
 use std::process::Abort;
 use std::test::Fail;
 use wac_comments::{Indent, LineEnd, Options, TidyError, tidy};
+use wac_comments_layout::too_deep;
 
 /// Further options that each row is tidied with.
 const OPTIONS: [Options; 3] = [
@@ -171,15 +172,31 @@ fn brackets_are_nested(rt: HostRuntime) -> Result<(), Fail> {
     assert!(rt; is_tidied, "a thousand");
     let more = nested(rt.alloc(), 1001)?;
     match tidy(rt.alloc(), more.as_str(), Options::default()) {
-        Err(TidyError::NestedTooDeep { span }) => {
+        Ok(text) => panic!(rt; "{text}"),
+        Err(error) => {
+            let told = error.to_string(rt.alloc())?;
             assert!(rt;
-                span.offset() == 1021 && span.len() == 1,
-                "at {}",
-                span.offset()
+                told.as_str() == "brackets are nested deeper than 1,000",
+                "{told}"
             );
         }
-        _ => panic!(rt; "a thousand and one"),
     }
+    Ok(())
+}
+
+/// Where the first bracket is that is nested too deep.
+fn first_too_deep(text: &str) -> Option<usize> {
+    match too_deep(text) {
+        Some(span) => Some(span.offset()),
+        None => None,
+    }
+}
+
+#[test]
+fn the_first_bracket_is_reported(rt: HostRuntime) -> Result<(), Fail> {
+    let more = nested(rt.alloc(), 1001)?;
+    let found = first_too_deep(more.as_str());
+    assert!(rt; found == Some(1021), "{found:?}");
     Ok(())
 }
 
