@@ -26,6 +26,14 @@ fn tree(alloc: Global) -> Result<MemoryFiles, Fail> {
     Ok(files)
 }
 
+/// Whether the file at a path holds a text.
+fn holds(files: &MemoryFiles, path: &str, text: &str) -> bool {
+    match files.bytes(path) {
+        Some(bytes) => bytes == text.as_bytes(),
+        None => false,
+    }
+}
+
 /// The error of the file that has one, and a last line.
 fn errors(alloc: Global, last_line: &str) -> Result<String, Fail> {
     let mut errors = String::from_str(alloc, BAD_ERROR)?;
@@ -39,9 +47,9 @@ fn files_are_written(rt: HostRuntime) -> Result<(), Fail> {
     let run = format(rt.alloc(), &mut files, options(Action::Write), &["."]);
     let said = errors(rt.alloc(), "3 files, 1 changed, 1 with errors\n")?;
     expect(&rt, &run, 1, "untidy.wac\n", said.as_str())?;
-    assert_eq!(rt; files.bytes("bad.wac"), Some(BAD.as_bytes()));
-    assert_eq!(rt; files.bytes("tidy.wac"), Some(TIDY.as_bytes()));
-    assert_eq!(rt; files.bytes("untidy.wac"), Some(TIDY.as_bytes()));
+    assert!(rt; holds(&files, "bad.wac", BAD));
+    assert!(rt; holds(&files, "tidy.wac", TIDY));
+    assert!(rt; holds(&files, "untidy.wac", TIDY));
     let run = format(
         rt.alloc(),
         &mut files,
@@ -57,7 +65,7 @@ fn files_are_tested(rt: HostRuntime) -> Result<(), Fail> {
     let run = format(rt.alloc(), &mut files, options(Action::Check), &["."]);
     let said = errors(rt.alloc(), "3 files, 1 not tidy, 1 with errors\n")?;
     expect(&rt, &run, 1, "untidy.wac\n", said.as_str())?;
-    assert_eq!(rt; files.bytes("untidy.wac"), Some(UNTIDY.as_bytes()));
+    assert!(rt; holds(&files, "untidy.wac", UNTIDY));
     let run = format(
         rt.alloc(),
         &mut files,
@@ -92,7 +100,7 @@ fn differences_are_shown(rt: HostRuntime) -> Result<(), Fail> {
     let diff =
         "--- untidy.wac\n+++ untidy.wac\n@@ -1,3 +1,3 @@\n-package  a:b; // one\n+package a:b; // one\n \n-let x=y;\n+let x = y;\n";
     expect(&rt, &run, 1, diff, "1 file, 1 not tidy, 0 with errors\n")?;
-    assert_eq!(rt; files.bytes("untidy.wac"), Some(UNTIDY.as_bytes()));
+    assert!(rt; holds(&files, "untidy.wac", UNTIDY));
     Ok(())
 }
 
@@ -110,7 +118,7 @@ fn one_bad_file_never_stops_the_others(rt: HostRuntime) -> Result<(), Fail> {
     let said =
         "none.wac: error[wac::not-found]: no such file or folder\npipe.wac: error[wac::not-a-file]: neither a file nor a folder\nfixed.wac: error[wac::read-only]: the file is read-only, and was not written\n4 files, 1 changed, 0 with errors, 3 failed\n";
     expect(&rt, &run, 3, "untidy.wac\n", said)?;
-    assert_eq!(rt; files.bytes("fixed.wac"), Some(UNTIDY.as_bytes()));
+    assert!(rt; holds(&files, "fixed.wac", UNTIDY));
     Ok(())
 }
 
@@ -134,9 +142,9 @@ fn format_failing(alloc: Global, failing: usize) -> Result<After, Fail> {
     Ok(After {
         is_made: failing < files.calls(),
         status: run.status,
-        is_right: files.bytes("bad.wac") == Some(BAD.as_bytes())
-            && files.bytes("tidy.wac") == Some(TIDY.as_bytes())
-            && files.bytes("untidy.wac") == Some(wanted.as_bytes()),
+        is_right: holds(&files, "bad.wac", BAD)
+            && holds(&files, "tidy.wac", TIDY)
+            && holds(&files, "untidy.wac", wanted),
     })
 }
 

@@ -7,15 +7,28 @@ use wac_comments::Indent;
 /// The version of the program.
 const VERSION: &str = "0.11.0";
 
-static COLORS: [&str; 3] = ["auto", "always", "never"];
+/// The values that options take. They live as long as the words, since a command has one lifetime for both.
+#[derive(Clone, Copy)]
+pub(crate) struct Values<'a> {
+    colors: [&'a str; 3],
+    line_ends: [&'a str; 3],
+    reports: [&'a str; 3],
+    indents: [&'a str; 17],
+}
 
-static LINE_ENDS: [&str; 3] = ["auto", "lf", "crlf"];
-
-static REPORTS: [&str; 3] = ["human", "json", "github"];
-
-static INDENTS: [&str; 17] = [
-    "1", "2", "3", "4", "5", "6", "7", "8", "9", "10", "11", "12", "13", "14", "15", "16", "tab",
-];
+impl<'a> Values<'a> {
+    pub(crate) fn new() -> Self {
+        Values {
+            colors: ["auto", "always", "never"],
+            line_ends: ["auto", "lf", "crlf"],
+            reports: ["human", "json", "github"],
+            indents: [
+                "1", "2", "3", "4", "5", "6", "7", "8", "9", "10", "11", "12", "13", "14", "15",
+                "16", "tab",
+            ],
+        }
+    }
+}
 
 /// When errors are coloured.
 #[derive(Clone, Copy, PartialEq, Eq)]
@@ -53,8 +66,12 @@ pub(crate) enum Request<'a> {
 }
 
 /// What the words ask for. The error is the help, the version, or what is wrong with them.
-pub(crate) fn read_words<'a>(alloc: Global, words: &'a [String]) -> Result<Request<'a>, Error> {
-    let matches = definition(alloc)?.try_get_matches_from(words)?;
+pub(crate) fn read_words<'a>(
+    alloc: Global,
+    values: &'a Values<'a>,
+    words: &'a [String],
+) -> Result<Request<'a>, Error> {
+    let matches = definition(alloc, values)?.try_get_matches_from(words)?;
     match matches.subcommand() {
         Some(("fmt", found)) => Ok(request_of(alloc, Work::Format(format_options(found)), found)?),
         Some((_, found)) => Ok(request_of(alloc, Work::Check(report_of(found)), found)?),
@@ -136,16 +153,16 @@ fn line_ends_of(found: &ArgMatches<'_>) -> LineEnds {
 }
 
 /// The command line of the program.
-fn definition(alloc: Global) -> Result<Command<'static>, AllocError> {
+fn definition<'a>(alloc: Global, values: &'a Values<'a>) -> Result<Command<'a>, AllocError> {
     Command::new(alloc, "wacx")
         .version(VERSION)
         .about("Formats and checks WAC files")
         .subcommand_required(true)
-        .subcommand(fmt_definition(alloc)?)?
-        .subcommand(check_definition(alloc)?)
+        .subcommand(fmt_definition(alloc, values)?)?
+        .subcommand(check_definition(alloc, values)?)
 }
 
-fn fmt_definition(alloc: Global) -> Result<Command<'static>, AllocError> {
+fn fmt_definition<'a>(alloc: Global, values: &'a Values<'a>) -> Result<Command<'a>, AllocError> {
     let command = Command::new(alloc, "fmt")
         .about("Writes files in the one layout, with every comment in its place")
         .after_help(
@@ -168,20 +185,20 @@ fn fmt_definition(alloc: Global) -> Result<Command<'static>, AllocError> {
             "Changes nothing; shows how files that aren't tidy differ",
         ))?
         .arg(
-            choice(alloc, "indent", INDENTS.as_slice(), "4")
+            choice(alloc, "indent", values.indents.as_slice(), "4")
                 .value_name("1..16|tab")
                 .hide_possible_values(true)
                 .help("Indents a line by so many blanks a level, or by a tab"),
         )?
         .arg(
-            choice(alloc, "line-end", LINE_ENDS.as_slice(), "auto")
+            choice(alloc, "line-end", values.line_ends.as_slice(), "auto")
                 .value_name("LINE-END")
                 .help("What ends lines; auto: what ends the first line"),
         )?;
-    common(alloc, command)
+    common(alloc, values, command)
 }
 
-fn check_definition(alloc: Global) -> Result<Command<'static>, AllocError> {
+fn check_definition<'a>(alloc: Global, values: &'a Values<'a>) -> Result<Command<'a>, AllocError> {
     let command = Command::new(alloc, "check")
         .about("Reports the first error of each file")
         .after_help(
@@ -194,15 +211,19 @@ fn check_definition(alloc: Global) -> Result<Command<'static>, AllocError> {
             "Files, folders for all *.wac below, or - for standard input",
         ))?
         .arg(
-            choice(alloc, "output", REPORTS.as_slice(), "human")
+            choice(alloc, "output", values.reports.as_slice(), "human")
                 .value_name("FORM")
                 .help("The form of errors"),
         )?;
-    common(alloc, command)
+    common(alloc, values, command)
 }
 
 /// Adds what both commands take.
-fn common(alloc: Global, command: Command<'static>) -> Result<Command<'static>, AllocError> {
+fn common<'a>(
+    alloc: Global,
+    values: &'a Values<'a>,
+    command: Command<'a>,
+) -> Result<Command<'a>, AllocError> {
     command
         .arg(
             Arg::new(alloc, "stdin-filepath")
@@ -212,7 +233,7 @@ fn common(alloc: Global, command: Command<'static>) -> Result<Command<'static>, 
                 .help("The name of standard input in messages"),
         )?
         .arg(
-            choice(alloc, "color", COLORS.as_slice(), "auto")
+            choice(alloc, "color", values.colors.as_slice(), "auto")
                 .value_name("WHEN")
                 .help("Colours errors"),
         )?
@@ -223,7 +244,7 @@ fn common(alloc: Global, command: Command<'static>) -> Result<Command<'static>, 
         ))
 }
 
-fn paths(alloc: Global, help: &'static str) -> Arg<'static> {
+fn paths<'a>(alloc: Global, help: &'a str) -> Arg<'a> {
     Arg::new(alloc, "PATH")
         .required(true)
         .action(ArgAction::Append)
@@ -232,19 +253,14 @@ fn paths(alloc: Global, help: &'static str) -> Arg<'static> {
         .help(help)
 }
 
-fn flag(alloc: Global, name: &'static str, help: &'static str) -> Arg<'static> {
+fn flag<'a>(alloc: Global, name: &'a str, help: &'a str) -> Arg<'a> {
     Arg::new(alloc, name)
         .long(name)
         .action(ArgAction::SetTrue)
         .help(help)
 }
 
-fn choice(
-    alloc: Global,
-    name: &'static str,
-    values: &'static [&'static str],
-    default: &'static str,
-) -> Arg<'static> {
+fn choice<'a>(alloc: Global, name: &'a str, values: &'a [&'a str], default: &'a str) -> Arg<'a> {
     Arg::new(alloc, name)
         .long(name)
         .action(ArgAction::Set)
