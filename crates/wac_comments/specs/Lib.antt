@@ -1,0 +1,4 @@
+pub mod Options
+pub mod Comments
+pub mod Tidied
+pub mod Errors

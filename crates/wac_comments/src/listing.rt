@@ -1,6 +1,12 @@
 // The comments of a text.
+ghost use Rattle.std.specs.Prelude.{◌≡◌, IfOk, IfErr, OnOk, None};
+ghost use Rattle.wac_lexer.specs.Characters.{refused};
+ghost use Rattle.wac_comments_layout.specs.Texts.{pieces_of};
+ghost use Rattle.wac_comments_layout.specs.Errors.{IsReadErrorOf};
+ghost use Rattle.wac_comments.specs.Comments.{kind_of, comments_among, comments};
+
 use std::alloc::{AllocError, Global};
-use wac_comments_layout::{ReadError, read};
+use wac_comments_layout::{Piece, ReadError, read};
 use wac_lexer::SourceSpan;
 
 /// What a comment is.
@@ -23,27 +29,48 @@ pub struct Comment {
     pub kind: CommentKind,
 }
 
-/// The comments of a text, in order: all that lie between its tokens.
-pub fn comments(alloc: Global, source: &str) -> Result<Vec<Comment>, ReadError> {
+/// The comments of a text, in order: all that lie between its tokens. The error is that of the first rejected character,
+/// or out of memory.
+pub fn comments(alloc: Global, source: &str) -> Result<Vec<Comment>, ReadError>
+    ensures found { IfOk result (λ found. found.items ≡ comments source.now) }
+    ensures accepted { OnOk result (refused source.now ≡ None) }
+    ensures error { IfErr result (λ e. IsReadErrorOf source.now e) }
+{
     let pieces = read(alloc, source, 1)?;
+    match comments_among(alloc, pieces.as_slice()) {
+        Ok(comments) => Ok(comments),
+        Err(AllocError) => Err(ReadError::Memory(AllocError)),
+    }
+}
+
+/// The comments among pieces.
+fn comments_among(alloc: Global, pieces: &[Piece<'_>]) -> Result<Vec<Comment>, AllocError>
+    ensures { IfOk result (λ found. found.items ≡ comments_among (pieces_of pieces.now)) }
+{
     let mut comments = Vec::new(alloc);
-    for piece in pieces.as_slice() {
+    for piece in pieces {
         if piece.is_comment() {
-            let kind = if piece.is_doc() {
-                CommentKind::Doc
-            } else if piece.is_line() {
-                CommentKind::Line
-            } else {
-                CommentKind::Block
-            };
             let comment = Comment {
                 span: piece.span,
-                kind,
+                kind: kind_of(piece),
             };
             if comments.push(comment).is_err() {
-                return Err(ReadError::Memory(AllocError));
+                return Err(AllocError);
             }
         }
     }
     Ok(comments)
+}
+
+/// What a comment is.
+fn kind_of(comment: &Piece<'_>) -> CommentKind
+    ensures { result ≡ kind_of comment.now.text.now }
+{
+    if comment.is_doc() {
+        CommentKind::Doc
+    } else if comment.is_line() {
+        CommentKind::Line
+    } else {
+        CommentKind::Block
+    }
 }

@@ -1,4 +1,8 @@
 // How a document is printed.
+ghost use Rattle.std.specs.Prelude.{◌≡◌, IfOk, string_bytes};
+ghost use Rattle.wac_layout.specs.Joins.{AreBlanks};
+ghost use Rattle.wac_comments.specs.Options.{indent_text, line_end_text};
+
 use std::alloc::{AllocError, Global};
 
 /// What indents a line by one level.
@@ -10,7 +14,7 @@ pub enum Indent {
     Blanks(u8),
 }
 
-/// What ends a line, outside strings and comments.
+/// What ends a line, outside strings and block comments.
 #[derive(Clone, Copy, Debug, PartialEq, Eq)]
 pub enum LineEnd {
     /// LF.
@@ -29,6 +33,12 @@ pub struct Options {
 }
 
 impl Default for Options {
+    ghost use Rattle.std.specs.Prelude.{◌≡◌};
+    ghost use Rattle.wac_comments.specs.declared.options.Indent.TheVariants.{Blanks};
+    ghost use Rattle.wac_comments.specs.declared.options.LineEnd.TheVariants.{Lf};
+
+    ghost is_default = { λ options. options ≡ record { indent = Blanks 4; line_end = Lf } };
+
     /// Four blanks, and LF.
     fn default() -> Self {
         Options {
@@ -40,7 +50,10 @@ impl Default for Options {
 
 impl Indent {
     /// The text of the indent.
-    pub(crate) fn text(self, alloc: Global) -> Result<String, AllocError> {
+    pub(crate) fn text(self, alloc: Global) -> Result<String, AllocError>
+        ensures text { IfOk result (λ text. string_bytes text ≡ indent_text self) }
+        ensures blanks { IfOk result (λ text. AreBlanks (string_bytes text)) }
+    {
         let bytes = match self {
             Indent::Tab => vec![in alloc; b'\t'; 1]?,
             Indent::Blanks(count) => vec![in alloc; b' '; count as usize]?,
@@ -54,7 +67,9 @@ impl Indent {
 
 impl LineEnd {
     /// The text of the line end.
-    pub(crate) fn text(self) -> &'static str {
+    pub(crate) fn text(self) -> &'static str
+        ensures { result.now ≡ line_end_text self }
+    {
         match self {
             LineEnd::Lf => "\n",
             LineEnd::CrLf => "\r\n",

@@ -1,17 +1,85 @@
 // The test of a result before it is returned.
+ghost use Rattle.std.specs.Prelude.{◌≡◌, true, IfOk, IfErr, slice_get, Some, alloc_error};
+ghost use Rattle.wac_layout.specs.Joins.{AreBlanks};
+ghost use Rattle.wac_comments_layout.specs.Pieces.{texts};
+ghost use Rattle.wac_comments_layout.specs.Texts.{texts_of};
+ghost use Rattle.wac_comments.specs.Tidied.{ReadsBackAs};
+ghost use Rattle.wac_comments.specs.declared.error.TidyError.TheVariants.{Memory};
+
+use crate::error::TidyError;
 use std::alloc::{AllocError, Global};
-use wac_comments_layout::Piece;
+use wac_ast_base::Error;
+use wac_comments_layout::{Piece, ReadError, read};
 use wac_parser_formatting::format;
 
-/// Whether a text has these pieces.
-pub(crate) fn has_pieces(found: &[Piece<'_>], wanted: &[Piece<'_>]) -> bool {
-    if found.len() != wanted.len() {
-        return false;
+/// Whether the piece at an index has this text.
+fn has_text(pieces: &[Piece<'_>], index: usize, text: &str) -> bool
+    ensures { result ≡ true → slice_get (texts_of pieces.now) index ≡ Some text.now }
+{
+    match pieces.get(index) {
+        Some(piece) => piece.text == text,
+        None => false,
     }
-    for (found, wanted) in found.iter().zip(wanted.iter()) {
-        if found.text != wanted.text {
+}
+
+/// Whether two lists of pieces have the same texts.
+fn have_same_texts(found: &[Piece<'_>], wanted: &[Piece<'_>]) -> bool
+    ensures { result ≡ true → texts_of found.now ≡ texts_of wanted.now }
+{
+    for (index, piece) in found.iter().enumerate() {
+        if !has_text(wanted, index, piece.text) {
             return false;
         }
     }
-    true
+    found.len() == wanted.len()
+}
+
+/// Whether a text has these tokens and comments, in order.
+fn has_pieces(alloc: Global, text: &str, wanted: &[Piece<'_>]) -> Result<bool, TidyError>
+    ensures yes { IfOk result (λ yes. yes ≡ true → texts text.now ≡ texts_of wanted.now) }
+    ensures error { IfErr result (λ e. e ≡ Memory alloc_error) }
+{
+    match read(alloc, text, 1) {
+        Ok(found) => Ok(have_same_texts(found.as_slice(), wanted)),
+        Err(ReadError::Refused(..)) => Ok(false),
+        Err(ReadError::Memory(_)) => Err(TidyError::Memory(AllocError)),
+    }
+}
+
+/// Whether a text is formatted to another one.
+fn is_formatted_to(
+    alloc: Global,
+    text: &str,
+    formatted: &str,
+    indent: &str,
+) -> Result<bool, TidyError>
+    requires { AreBlanks indent.now }
+    ensures yes { IfOk result (λ yes. yes ≡ true → ReadsBackAs text.now formatted.now) }
+    ensures error { IfErr result (λ e. e ≡ Memory alloc_error) }
+{
+    match format(alloc, text, Some(indent)) {
+        Ok(found) => Ok(found.as_str() == formatted),
+        Err(Error::Memory(_)) => Err(TidyError::Memory(AllocError)),
+        Err(_) => Ok(false),
+    }
+}
+
+/// Whether a text has these tokens and comments, in order, and is formatted to another one.
+pub(crate) fn is_kept(
+    alloc: Global,
+    text: &str,
+    wanted: &[Piece<'_>],
+    formatted: &str,
+    indent: &str,
+) -> Result<bool, TidyError>
+    requires { AreBlanks indent.now }
+    ensures kept { IfOk result (λ yes. yes ≡ true → texts text.now ≡ texts_of wanted.now) }
+    ensures formatted { IfOk result (λ yes. yes ≡ true → ReadsBackAs text.now formatted.now) }
+    ensures error { IfErr result (λ e. e ≡ Memory alloc_error) }
+{
+    if is_formatted_to(alloc, text, formatted, indent)? {
+        has_pieces(alloc, text, wanted)
+    } else {
+        Ok(false)
+    }
 }

@@ -1,113 +1,190 @@
 // Printing documents with their comments.
+ghost use Rattle.std.specs.Prelude.{◌≡◌, ◌⊎◌, IfOk, IfErr, IfSome, Err, alloc_error, string_bytes};
+ghost use Rattle.std.specs.List.{list_any};
+ghost use Rattle.wac_layout.specs.Joins.{AreBlanks};
+ghost use Rattle.wac_comments_layout.specs.Kept.{is_comment};
+ghost use Rattle.wac_comments_layout.specs.Nesting.{too_deep};
+ghost use Rattle.wac_comments_layout.specs.Pieces.{texts};
+ghost use Rattle.wac_comments_layout.specs.Printing.{printed};
+ghost use Rattle.wac_comments_layout.specs.Texts.{texts_of};
+ghost use Rattle.wac_comments.specs.Comments.{comment_texts, doc_texts};
+ghost use Rattle.wac_comments.specs.Errors.{IsErrorOf, is_memory};
+ghost use Rattle.wac_comments.specs.Tidied.{IsEnded, IsFormatted, IsPlain, IsPlainWith, Kept, ReadsBackAs, SameTree};
+ghost use Rattle.wac_comments.specs.declared.error.TidyError.TheVariants.{NestedTooDeep, NotKept, Memory};
+
 use crate::error::TidyError;
 use crate::options::Options;
-use crate::testing::has_pieces;
+use crate::testing::is_kept;
 use std::alloc::{AllocError, Global};
 use wac_ast_base::Error;
-use wac_comments_layout::{ReadError, Style, lay_out, plain, printed, read, too_deep};
+use wac_comments_layout::{Piece, ReadError, Style, lay_out, plain, printed, read, too_deep};
 use wac_parser_formatting::format;
 
 /// Prints the document of a text in the one layout, with every comment of the text in its place.
-pub fn tidy(alloc: Global, source: &str, options: Options) -> Result<String, TidyError> {
+///
+/// A comment at the end of a line stays there, and one on lines of its own stays on such; a line ends where a comment asks
+/// for it. Docs stay as they are, to the letter. The result is tested before it is returned: `NotKept` says that it failed
+/// the test, and no text is known for which it does. Memory is taken for the tokens and comments of the text, for its tree,
+/// and for the text that is returned.
+///
+/// ```text
+/// tidy(alloc, "package a:b; // first", Options::default())     // Ok("package a:b; // first\n")
+/// ```
+pub fn tidy(alloc: Global, source: &str, options: Options) -> Result<String, TidyError>
+    // All comments of the source are there, in order, and none but these.
+    ensures comments { IfOk result (λ text. comment_texts (string_bytes text) ≡ comment_texts source.now) }
+    // Each stands before the same printed token as in the source.
+    ensures kept { IfOk result (λ text. Kept source.now (string_bytes text)) }
+    // The text and the source have the same bare tree and the same lines of docs, so they are formatted alike.
+    ensures formatted { IfOk result (λ text. SameTree source.now (string_bytes text)) }
+    // Its docs are those of the source, to the letter.
+    ensures docs { IfOk result (λ text. doc_texts (string_bytes text) ≡ doc_texts source.now) }
+    // Without comments it is what the source is formatted to, but for its line ends.
+    ensures plain { IfOk result (λ text. IsPlain options source.now (string_bytes text)) }
+    // Brackets that are nested too deep are reported before all but refused characters.
+    ensures deep { IfSome (too_deep source.now) (λ span. result ≡ Err (NestedTooDeep span)) }
+    // An error is that of the source, unless the test failed or memory ran out.
+    ensures only { IfErr result (λ e. IsErrorOf source.now e) }
+{
     if let Some(span) = too_deep(source) {
         return Err(TidyError::NestedTooDeep { span });
     }
-    let indent = match options.indent.text(alloc) {
-        Ok(indent) => indent,
-        Err(AllocError) => return Err(TidyError::Memory(AllocError)),
-    };
-    let formatted = format_text(alloc, source, indent.as_str())?;
-    let style = Style {
-        indent: indent.as_str(),
-        line_end: options.line_end.text(),
-    };
-    let candidate = candidate(alloc, source, formatted.as_str(), style)?;
-    if is_kept(alloc, source, formatted.as_str(), candidate.as_str(), style)? {
+    match options.indent.text(alloc) {
+        Ok(indent) => tidied(alloc, source, indent.as_str(), options.line_end.text()),
+        Err(AllocError) => Err(TidyError::Memory(AllocError)),
+    }
+}
+
+/// The same with the texts of the options.
+fn tidied(alloc: Global, source: &str, indent: &str, line_end: &str) -> Result<String, TidyError>
+    requires { AreBlanks indent.now }
+    ensures kept { IfOk result (λ text. Kept source.now (string_bytes text)) }
+    ensures formatted { IfOk result (λ text. SameTree source.now (string_bytes text)) }
+    ensures plain { IfOk result (λ text. IsPlainWith indent.now line_end.now source.now (string_bytes text)) }
+    ensures only { IfErr result (λ e. IsErrorOf source.now e) }
+{
+    let formatted = format_text(alloc, source, indent)?;
+    let style = Style { indent, line_end };
+    match read_printed(alloc, source, style.tab()) {
+        Ok(pieces) => tested(alloc, pieces.as_slice(), formatted.as_str(), style),
+        Err(ReadError::Refused(..)) => Err(TidyError::NotKept),
+        Err(ReadError::Memory(_)) => Err(TidyError::Memory(AllocError)),
+    }
+}
+
+/// What a source is formatted to.
+fn format_text(alloc: Global, source: &str, indent: &str) -> Result<String, TidyError>
+    requires { AreBlanks indent.now }
+    ensures found { IfOk result (λ text. IsFormatted indent.now source.now (string_bytes text)) }
+    ensures back { IfOk result (λ text. ReadsBackAs source.now (string_bytes text)) }
+    ensures only { IfErr result (λ e. IsErrorOf source.now e) }
+{
+    match format(alloc, source, Some(indent)) {
+        Ok(text) => Ok(text),
+        Err(error) => {
+            if is_memory(&error) {
+                Err(TidyError::Memory(AllocError))
+            } else {
+                Err(TidyError::Parse(error))
+            }
+        }
+    }
+}
+
+/// Whether memory ran out.
+fn is_memory(error: &Error) -> bool
+    ensures { result ≡ is_memory error.now }
+{
+    match error {
+        Error::Lexer { .. }
+        | Error::Expected { .. }
+        | Error::ExpectedEither { .. }
+        | Error::ExpectedMultiple { .. }
+        | Error::EmptyType { .. }
+        | Error::InvalidVersion { .. } => false,
+        Error::Memory(_) => true,
+    }
+}
+
+/// The pieces of a source as they are printed.
+fn read_printed(alloc: Global, source: &str, tab: usize) -> Result<Vec<Piece<'_>>, ReadError>
+    ensures { IfOk result (λ pieces. texts_of pieces.items ≡ printed (texts source.now)) }
+{
+    let pieces = read(alloc, source, tab)?;
+    match printed(alloc, pieces.as_slice()) {
+        Ok(pieces) => Ok(pieces),
+        Err(AllocError) => Err(ReadError::Memory(AllocError)),
+    }
+}
+
+/// The text with these tokens and comments, which is tested before it is returned.
+fn tested<'a>(
+    alloc: Global,
+    pieces: &'a [Piece<'a>],
+    formatted: &str,
+    style: Style<'_>,
+) -> Result<String, TidyError>
+    requires { AreBlanks style.indent.now }
+    ensures kept { IfOk result (λ text. texts (string_bytes text) ≡ texts_of pieces.now) }
+    ensures back { IfOk result (λ text. ReadsBackAs (string_bytes text) formatted.now) }
+    ensures plain { IfOk result (λ text. IsEnded pieces.now style.entry.line_end.now formatted.now (string_bytes text)) }
+    ensures only { IfErr result (λ e. (e ≡ NotKept) ⊎ (e ≡ Memory alloc_error)) }
+{
+    let candidate = candidate(alloc, pieces, formatted, style)?;
+    let text = candidate.as_str();
+    let kept = is_kept(alloc, text, pieces, formatted, style.indent)?;
+    if kept {
         Ok(candidate)
     } else {
         Err(TidyError::NotKept)
     }
 }
 
-/// What `format` makes of a source.
-fn format_text(alloc: Global, source: &str, indent: &str) -> Result<String, TidyError> {
-    match format(alloc, source, Some(indent)) {
-        Ok(text) => Ok(text),
-        Err(Error::Memory(AllocError)) => Err(TidyError::Memory(AllocError)),
-        Err(error) => Err(TidyError::Parse(error)),
-    }
-}
-
-/// The text that is tested before it is returned.
-fn candidate(
+/// The text that is tested.
+fn candidate<'a>(
     alloc: Global,
-    source: &str,
+    pieces: &'a [Piece<'a>],
     formatted: &str,
     style: Style<'_>,
-) -> Result<String, TidyError> {
-    match lay_out_text(alloc, source, formatted, style) {
+) -> Result<String, TidyError>
+    ensures plain { IfOk result (λ text. IsEnded pieces.now style.entry.line_end.now formatted.now (string_bytes text)) }
+    ensures only { IfErr result (λ e. (e ≡ NotKept) ⊎ (e ≡ Memory alloc_error)) }
+{
+    if !has_comments(pieces) {
+        return match plain(alloc, formatted, style.line_end) {
+            Ok(text) => Ok(text),
+            Err(AllocError) => Err(TidyError::Memory(AllocError)),
+        };
+    }
+    match lay_out_text(alloc, pieces, formatted, style) {
         Ok(text) => Ok(text),
         Err(ReadError::Refused(..)) => Err(TidyError::NotKept),
-        Err(ReadError::Memory(AllocError)) => Err(TidyError::Memory(AllocError)),
+        Err(ReadError::Memory(_)) => Err(TidyError::Memory(AllocError)),
     }
 }
 
-fn lay_out_text(
+/// Lays out the pieces of a text, whose lines end where those of the formatted text do.
+fn lay_out_text<'a>(
     alloc: Global,
-    source: &str,
+    pieces: &'a [Piece<'a>],
     formatted: &str,
     style: Style<'_>,
 ) -> Result<String, ReadError> {
-    let pieces = read(alloc, source, style.tab())?;
-    let made = if pieces.as_slice().iter().any(|piece| piece.is_comment()) {
-        let lines = read(alloc, formatted, style.tab())?;
-        let pieces = match printed(alloc, pieces.as_slice()) {
-            Ok(pieces) => pieces,
-            Err(AllocError) => return Err(ReadError::Memory(AllocError)),
-        };
-        lay_out(alloc, pieces.as_slice(), lines.as_slice(), style)
-    } else {
-        plain(alloc, formatted, style.line_end)
-    };
-    match made {
+    let lines = read(alloc, formatted, style.tab())?;
+    match lay_out(alloc, pieces, lines.as_slice(), style) {
         Ok(text) => Ok(text),
         Err(AllocError) => Err(ReadError::Memory(AllocError)),
     }
 }
 
-/// Whether a text has the comments of the source, each before the same printed token, and is formatted like the source.
-fn is_kept(
-    alloc: Global,
-    source: &str,
-    formatted: &str,
-    text: &str,
-    style: Style<'_>,
-) -> Result<bool, TidyError> {
-    let again = match format(alloc, text, Some(style.indent)) {
-        Ok(again) => again,
-        Err(Error::Memory(AllocError)) => return Err(TidyError::Memory(AllocError)),
-        Err(_) => return Ok(false),
-    };
-    if again.as_str() != formatted {
-        return Ok(false);
+/// Whether one of these pieces is a comment.
+fn has_comments(pieces: &[Piece<'_>]) -> bool
+    ensures { result ≡ list_any is_comment (texts_of pieces.now) }
+{
+    for piece in pieces {
+        if piece.is_comment() {
+            return true;
+        }
     }
-    match has_same_pieces(alloc, source, text, style) {
-        Ok(same) => Ok(same),
-        Err(ReadError::Refused(..)) => Ok(false),
-        Err(ReadError::Memory(AllocError)) => Err(TidyError::Memory(AllocError)),
-    }
-}
-
-fn has_same_pieces(
-    alloc: Global,
-    source: &str,
-    text: &str,
-    style: Style<'_>,
-) -> Result<bool, ReadError> {
-    let found = read(alloc, text, style.tab())?;
-    let pieces = read(alloc, source, style.tab())?;
-    match printed(alloc, pieces.as_slice()) {
-        Ok(wanted) => Ok(has_pieces(found.as_slice(), wanted.as_slice())),
-        Err(AllocError) => Err(ReadError::Memory(AllocError)),
-    }
+    false
 }

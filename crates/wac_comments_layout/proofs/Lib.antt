@@ -1,0 +1,5 @@
+pub mod Among
+pub mod Progressing
+pub mod Commented
+pub mod Trimming
+pub mod Keeping

@@ -1,4 +1,6 @@
 // Brackets, and what is in them.
+ghost use Rattle.std.specs.Prelude.{◌≡◌};
+ghost use Rattle.wac_comments_layout.specs.Brackets.{is_opening, is_closing, begins_rows, in_braces, opened_by, is_flat, has_commas};
 
 /// What is in brackets.
 #[derive(Clone, Copy, Debug, PartialEq, Eq)]
@@ -13,28 +15,69 @@ pub(crate) enum Brackets {
     Flat,
 }
 
-pub(crate) fn opens(token: &str) -> bool {
+impl Brackets {
+    pub(crate) fn is_flat(self) -> bool
+        ensures { result ≡ is_flat self }
+    {
+        match self {
+            Brackets::Body | Brackets::Rows | Brackets::Arguments => false,
+            Brackets::Flat => true,
+        }
+    }
+
+    /// Whether each element has a comma after it.
+    pub(crate) fn has_commas(self) -> bool
+        ensures { result ≡ has_commas self }
+    {
+        match self {
+            Brackets::Body | Brackets::Flat => false,
+            Brackets::Rows | Brackets::Arguments => true,
+        }
+    }
+}
+
+pub(crate) fn opens(token: &str) -> bool
+    ensures { result ≡ is_opening token.now }
+{
     token == "(" || token == "[" || token == "<" || token == "{"
 }
 
-pub(crate) fn closes(token: &str) -> bool {
+pub(crate) fn closes(token: &str) -> bool
+    ensures { result ≡ is_closing token.now }
+{
     token == ")" || token == "]" || token == ">" || token == "}"
 }
 
-/// What is in the brackets that a token opens, by the two tokens before it: before the brace of `new` comes a package
-/// name, the only token with a colon in it.
-pub(crate) fn opened_by(token: &str, before: &str, earlier: &str) -> Brackets {
-    if token != "{" || before == "." {
+/// Whether rows of a type are in the braces after this word and a name.
+fn begins_rows(word: &str) -> bool
+    ensures { result ≡ begins_rows word.now }
+{
+    word == "variant" || word == "record" || word == "flags" || word == "enum"
+}
+
+/// What is in braces, by the two tokens before them: before the brace of `new` comes a package name, the only token with a
+/// colon in it.
+fn in_braces(before: &str, earlier: &str) -> Brackets
+    ensures { result ≡ in_braces before.now earlier.now }
+{
+    if before == "." {
         Brackets::Flat
     } else if before == "with" || before.as_bytes().contains(&b':') {
         Brackets::Arguments
-    } else if earlier == "variant"
-        || earlier == "record"
-        || earlier == "flags"
-        || earlier == "enum"
-    {
+    } else if begins_rows(earlier) {
         Brackets::Rows
     } else {
         Brackets::Body
+    }
+}
+
+/// What is in the brackets that a token opens, by the two tokens before it.
+pub(crate) fn opened_by(token: &str, before: &str, earlier: &str) -> Brackets
+    ensures { result ≡ opened_by token.now before.now earlier.now }
+{
+    if token == "{" {
+        in_braces(before, earlier)
+    } else {
+        Brackets::Flat
     }
 }

@@ -1,9 +1,8 @@
 // Sequences of blanks and comments.
-ghost use Rattle.std.specs.Prelude.{true, reverse, ◌≡◌, ◌≤◌, ◌<◌, ◌-◌, ◌+◌, Some, None, length, drop, MatchOption};
-ghost use Rattle.std.specs.List.{prefix_len};
-ghost use Rattle.wac_comments_layout.specs.Comments.{kept_len};
-ghost use Rattle.wac_lexer.specs.Ascii.{slash};
-ghost use Rattle.wac_lexer.specs.Comments.{behind, opens, closes, begins, line_len, block_len, part_len, is_blank};
+ghost use Rattle.std.specs.Prelude.{true, ◌≡◌, ◌≤◌, ◌<◌, ◌-◌, ◌+◌, Some, None, length, drop, MatchOption};
+ghost use Rattle.std.specs.List.{suffix_len};
+ghost use Rattle.wac_comments_layout.specs.Kept.{kept_len, is_line};
+ghost use Rattle.wac_lexer.specs.Comments.{behind, opens, closes, line_len, block_len, part_len, is_blank};
 
 pub(crate) fn opens(bytes: &[u8]) -> bool
     ensures { result ≡ opens bytes.now }
@@ -50,7 +49,7 @@ fn is_blank(byte: u8) -> bool
 
 /// Whether a line comment begins the bytes.
 pub(crate) fn is_line_comment(bytes: &[u8]) -> bool
-    ensures { result ≡ begins slash slash bytes.now }
+    ensures { result ≡ is_line bytes.now }
 {
     bytes.len() >= 2 && bytes[0] == b'/' && bytes[1] == b'/'
 }
@@ -96,7 +95,7 @@ pub(crate) fn part_len(bytes: &[u8]) -> usize
 
 /// How many blanks are at the end.
 fn blanks_at_end(bytes: &[u8]) -> usize
-    ensures count { result ≡ prefix_len is_blank (reverse bytes.now) }
+    ensures count { result ≡ suffix_len is_blank bytes.now }
     ensures within { result ≤ length bytes.now }
 {
     bytes

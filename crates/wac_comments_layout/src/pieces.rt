@@ -1,6 +1,16 @@
 // The pieces of a text: its tokens and comments, in order.
+ghost use Rattle.std.specs.Prelude.{◌≡◌, ◌+◌, ◌++◌, IfOk, IfErr, OnOk, MatchOption, Some, None, [], ◌∷◌, alloc_error, map};
+ghost use Rattle.std.specs.Str.{IsCharBoundary};
+ghost use Rattle.wac_lexer.specs.Characters.{refused};
+ghost use Rattle.wac_lexer.specs.Items.{items};
+ghost use Rattle.wac_lexer.specs.Reading.{left};
+ghost use Rattle.wac_comments_layout.specs.Kept.{is_line, is_comment, is_doc};
+ghost use Rattle.wac_comments_layout.specs.Pieces.{piece, pieces, texts, comment_of_part, comments_at};
+ghost use Rattle.wac_comments_layout.specs.Texts.{Adds, pieces_of, texts_of};
+ghost use Rattle.wac_comments_layout.specs.Errors.{IsReadErrorOf};
+
 use crate::columns::column_after;
-use crate::parts::{is_line_comment, kept_len, part_len};
+use crate::parts::{is_line_comment, kept_len, opens, part_len};
 use std::alloc::{AllocError, Global};
 use thiserror::Error;
 use wac_lexer::{Lexer, SourceSpan};
@@ -31,18 +41,24 @@ pub struct Piece<'a> {
 
 impl Piece<'_> {
     /// Whether the piece is a comment. No token begins with `//` or `/*`.
-    pub fn is_comment(&self) -> bool {
+    pub fn is_comment(&self) -> bool
+        ensures { result ≡ is_comment self.now.text.now }
+    {
         let bytes = self.text.as_bytes();
-        is_line_comment(bytes) || bytes.starts_with(b"/*")
+        is_line_comment(bytes) || opens(bytes)
     }
 
     /// Whether the piece is a line comment.
-    pub fn is_line(&self) -> bool {
+    pub fn is_line(&self) -> bool
+        ensures { result ≡ is_line self.now.text.now }
+    {
         is_line_comment(self.text.as_bytes())
     }
 
     /// Whether the parser takes the comment as a doc where docs may be: `///x` and `/**x*/` are docs, `/**/` is not.
-    pub fn is_doc(&self) -> bool {
+    pub fn is_doc(&self) -> bool
+        ensures { result ≡ is_doc self.now.text.now }
+    {
         let bytes = self.text.as_bytes();
         bytes.starts_with(b"///") || (bytes.starts_with(b"/**") && bytes.len() > 4)
     }
@@ -60,7 +76,9 @@ struct Reader<'a> {
 }
 
 impl<'a> Reader<'a> {
-    fn new(alloc: Global, tab: usize) -> Self {
+    fn new(alloc: Global, tab: usize) -> Self
+        ensures { result.pieces.items ≡ [] }
+    {
         Reader {
             pieces: Vec::new(alloc),
             tab,
@@ -70,7 +88,9 @@ impl<'a> Reader<'a> {
     }
 
     /// Adds the piece at a span, whose text may end before the span does.
-    fn add(&mut self, text: &'a str, span: SourceSpan) -> Result<(), AllocError> {
+    fn add(&mut self, text: &'a str, span: SourceSpan) -> Result<(), AllocError>
+        ensures { IfOk result (λ _. Adds self.old.pieces.items (piece text.now span ∷ []) self.new.pieces.items) }
+    {
         let piece = Piece {
             text,
             span,
@@ -86,7 +106,9 @@ impl<'a> Reader<'a> {
     }
 
     /// Adds the blank or the comment at an offset.
-    fn add_part(&mut self, part: &'a str, offset: usize) -> Result<(), AllocError> {
+    fn add_part(&mut self, part: &'a str, offset: usize) -> Result<(), AllocError>
+        ensures { IfOk result (λ _. Adds self.old.pieces.items (comment_of_part offset part.now) self.new.pieces.items) }
+    {
         if part == "\n" {
             self.breaks = self.breaks.saturating_add(1);
         }
@@ -94,29 +116,23 @@ impl<'a> Reader<'a> {
             self.column = column_after(self.column, part, self.tab);
             return Ok(());
         }
-        let (kept, _) = match part.split_at_checked(kept_len(part.as_bytes())) {
-            Some(parts) => parts,
-            None => (part, ""),
-        };
+        let (kept, _) = part.split_at(kept_len(part.as_bytes()));
         self.add(kept, SourceSpan::new(offset, part.len()))
     }
 
     /// Adds the comments between a place of a source and the next item.
-    fn gap(&mut self, source: &'a str, place: usize) -> Result<(), AllocError> {
+    fn gap(&mut self, source: &'a str, place: usize) -> Result<(), AllocError>
+        requires { IsCharBoundary source.now place }
+        ensures { IfOk result (λ _. Adds self.old.pieces.items (comments_at source.now place) self.new.pieces.items) }
+    {
         let mut start = place;
         while start < source.len() {
-            let (_, rest) = match source.split_at_checked(start) {
-                Some(parts) => parts,
-                None => return Ok(()),
-            };
+            let (_, rest) = source.split_at(start);
             let len = part_len(rest.as_bytes());
             if len == 0 {
                 return Ok(());
             }
-            let (part, _) = match rest.split_at_checked(len) {
-                Some(parts) => parts,
-                None => return Ok(()),
-            };
+            let (part, _) = rest.split_at(len);
             self.add_part(part, start)?;
             start += len;
         }
@@ -125,7 +141,12 @@ impl<'a> Reader<'a> {
 }
 
 /// The pieces of a text, and its end after them. `tab` is how many columns a tab takes.
-pub fn read(alloc: Global, source: &str, tab: usize) -> Result<Vec<Piece<'_>>, ReadError> {
+pub fn read(alloc: Global, source: &str, tab: usize) -> Result<Vec<Piece<'_>>, ReadError>
+    ensures found { IfOk result (λ found. pieces_of found.items ≡ pieces source.now) }
+    ensures texts { IfOk result (λ found. texts_of found.items ≡ texts source.now) }
+    ensures accepted { OnOk result (refused source.now ≡ None) }
+    ensures error { IfErr result (λ e. IsReadErrorOf source.now e) }
+{
     let lexer = match Lexer::new(source) {
         Ok(lexer) => lexer,
         Err((error, span)) => return Err(ReadError::Refused(error, span)),
@@ -142,7 +163,11 @@ fn read_items<'a>(
     source: &'a str,
     mut lexer: Lexer<'a>,
     tab: usize,
-) -> Result<Vec<Piece<'a>>, AllocError> {
+) -> Result<Vec<Piece<'a>>, AllocError>
+    requires source { lexer.source ≡ source.now }
+    requires left { left lexer ≡ items source.now }
+    ensures { IfOk result (λ found. pieces_of found.items ≡ pieces source.now) }
+{
     let mut reader = Reader::new(alloc, tab);
     let mut place = 0;
     while let Some((_, span)) = lexer.next() {

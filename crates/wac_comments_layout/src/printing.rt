@@ -1,10 +1,18 @@
 // What printing changes about the tokens of a text.
+ghost use Rattle.std.specs.Prelude.{◌≡◌, ◌+◌, ◌<◌, ◌^◌, ◌≤◌, ◌++◌, IfOk, MatchOption, Some, None, false, [], ◌∷◌, length, map};
+ghost use Rattle.wac_comments_layout.specs.Kept.{is_comment};
+ghost use Rattle.wac_comments_layout.specs.Printing.{now_of, token_at, token_before, stand_at, is_among, is_last_comma, goes, ends_resource, needs_none, needs_comma, added, innermost, tokens_of, printed, spelled, with_comment, with_added, with_token, with_piece, with_printed, passed, progress};
+ghost use Rattle.wac_comments_layout.specs.Texts.{texts_of};
+
 use crate::brackets::{Brackets, closes, opened_by, opens};
 use crate::pieces::Piece;
 use std::alloc::{AllocError, Global};
+use std::marker::Model;
 
 /// The token at an index, and an empty text where there is none.
-fn token_at<'a>(tokens: &[&'a str], at: usize) -> &'a str {
+fn token_at<'a>(tokens: &[&'a str], at: usize) -> &'a str
+    ensures { result.now ≡ token_at (now_of tokens.now) at }
+{
     match tokens.get(at) {
         Some(token) => *token,
         None => "",
@@ -12,25 +20,28 @@ fn token_at<'a>(tokens: &[&'a str], at: usize) -> &'a str {
 }
 
 /// The token so many tokens before an index.
-fn token_before<'a>(tokens: &[&'a str], at: usize, back: usize) -> &'a str {
-    match at.checked_sub(back) {
-        Some(index) => token_at(tokens, index),
-        None => "",
+fn token_before<'a>(tokens: &[&'a str], at: usize, back: usize) -> &'a str
+    ensures { result.now ≡ token_before (now_of tokens.now) at back }
+{
+    if back <= at {
+        token_at(tokens, at - back)
+    } else {
+        ""
     }
 }
 
 /// Whether the tokens that begin at an index are these.
-fn stand_at(tokens: &[&str], at: usize, these: &[&str]) -> bool {
-    for (index, wanted) in these.iter().enumerate() {
-        if token_at(tokens, at.saturating_add(index)) != *wanted {
-            return false;
-        }
-    }
-    true
+fn stand_at(tokens: &[&str], at: usize, these: &[&str]) -> bool
+    ensures { result ≡ stand_at (now_of tokens.now) at (now_of these.now) }
+{
+    let (_, rest) = tokens.split_at(at.min(tokens.len()));
+    rest.starts_with(these)
 }
 
 /// Whether the token at an index is one of the first `count` of a place where these are.
-fn is_among(tokens: &[&str], at: usize, these: &[&str], count: usize) -> bool {
+fn is_among(tokens: &[&str], at: usize, these: &[&str], count: usize) -> bool
+    ensures { result ≡ is_among (now_of tokens.now) at (now_of these.now) count }
+{
     for back in 0..count {
         if back <= at && stand_at(tokens, at - back, these) {
             return true;
@@ -41,7 +52,10 @@ fn is_among(tokens: &[&str], at: usize, these: &[&str], count: usize) -> bool {
 
 /// Whether printing drops the token at an index: an empty `with`, results that are nothing, and a comma after the last
 /// of a list.
-fn goes(tokens: &[&str], at: usize, around: Brackets) -> bool {
+fn goes(tokens: &[&str], at: usize, around: Brackets) -> bool
+    requires { at < length tokens.now }
+    ensures { result ≡ goes (now_of tokens.now) at around }
+{
     is_among(tokens, at, &["with", "{", "}"], 3)
         || is_among(tokens, at, &["<", "_", ">"], 3)
         || is_among(tokens, at, &["<", "_", ",", "_", ">"], 5)
@@ -51,29 +65,40 @@ fn goes(tokens: &[&str], at: usize, around: Brackets) -> bool {
 }
 
 /// Whether the token is a comma before the end of a list on one line, or after a fill that ends the arguments.
-fn is_last_comma(tokens: &[&str], at: usize, around: Brackets) -> bool {
+fn is_last_comma(tokens: &[&str], at: usize, around: Brackets) -> bool
+    requires { at < length tokens.now }
+    ensures { result ≡ is_last_comma (now_of tokens.now) at around }
+{
     token_at(tokens, at) == ","
-        && closes(token_at(tokens, at.saturating_add(1)))
-        && (around == Brackets::Flat || token_before(tokens, at, 1) == "...")
+        && closes(token_at(tokens, at + 1))
+        && (around.is_flat() || token_before(tokens, at, 1) == "...")
 }
 
-/// Whether the token is the semicolon of a resource without a body.
-fn ends_resource(tokens: &[&str], at: usize) -> bool {
+/// Whether the token is the semicolon of a resource without a body, in whose place `{` and `}` are printed.
+fn ends_resource(tokens: &[&str], at: usize) -> bool
+    ensures { result ≡ ends_resource (now_of tokens.now) at }
+{
     token_at(tokens, at) == ";" && token_before(tokens, at, 2) == "resource"
 }
 
+/// Whether no comma is printed after a token, before the end of rows or arguments.
+fn needs_none(before: &str) -> bool
+    ensures { result ≡ needs_none before.now }
+{
+    before == "{" || before == "," || before == "..."
+}
+
 /// Whether printing adds a comma before the token, which then ends rows or arguments.
-fn needs_comma(tokens: &[&str], at: usize, around: Brackets) -> bool {
-    let before = token_before(tokens, at, 1);
-    token_at(tokens, at) == "}"
-        && (around == Brackets::Rows || around == Brackets::Arguments)
-        && before != "{"
-        && before != ","
-        && before != "..."
+fn needs_comma(tokens: &[&str], at: usize, around: Brackets) -> bool
+    ensures { result ≡ needs_comma (now_of tokens.now) at around }
+{
+    token_at(tokens, at) == "}" && around.has_commas() && !needs_none(token_before(tokens, at, 1))
 }
 
 /// The token that printing adds before the one at an index.
-fn added(tokens: &[&str], at: usize, around: Brackets) -> Option<&'static str> {
+fn added(tokens: &[&str], at: usize, around: Brackets) -> Option<&'static str>
+    ensures { let found = added (now_of tokens.now) at around in MatchOption result (found ≡ []) (λ token. found ≡ token.now ∷ []) }
+{
     if ends_resource(tokens, at) {
         Some("{")
     } else if needs_comma(tokens, at, around) {
@@ -83,13 +108,22 @@ fn added(tokens: &[&str], at: usize, around: Brackets) -> Option<&'static str> {
     }
 }
 
+/// How the token at an index is printed, which has this text.
+fn spelled<'a>(tokens: &[&str], at: usize, text: &'a str) -> &'a str
+    ensures { result.now ≡ spelled (now_of tokens.now) at text.now }
+{
+    if ends_resource(tokens, at) { "}" } else { text }
+}
+
 /// Adds a piece with a text, after so many line ends, which lies where another one does.
 fn push<'a>(
     pieces: &mut Vec<Piece<'a>>,
     text: &'a str,
     place: &Piece<'_>,
     breaks: usize,
-) -> Result<(), AllocError> {
+) -> Result<(), AllocError>
+    ensures { IfOk result (λ _. texts_of pieces.new.items ≡ texts_of pieces.old.items ++ text.now ∷ []) }
+{
     let piece = Piece {
         text,
         span: place.span,
@@ -111,51 +145,103 @@ struct Printing<'a> {
     waiting: Vec<Piece<'a>>,
     // The line ends before tokens that were dropped since the last piece.
     breaks: usize,
+    // The index of the next token.
+    at: usize,
     // What is in the brackets around the next token, the innermost last.
     opened: Vec<Brackets>,
 }
 
+impl<'a> Model for Printing<'a> {
+    ghost use Rattle.wac_comments_layout.specs.Printing.{Progress, progress};
+    ghost use Rattle.wac_comments_layout.specs.Texts.{texts_of};
+
+    ghost Value = { Progress };
+
+    ghost view = { λ p. progress (texts_of p.pieces.items) (texts_of p.waiting.items) p.at p.opened.items };
+}
+
 impl<'a> Printing<'a> {
-    fn new(alloc: Global) -> Self {
+    fn new(alloc: Global) -> Self
+        ensures { result ≡ progress [] [] 0 [] }
+    {
         Printing {
             pieces: Vec::new(alloc),
             waiting: Vec::new(alloc),
             breaks: 0,
+            at: 0,
             opened: Vec::new(alloc),
         }
     }
 
-    /// The pieces up to the last token that was printed.
-    fn into_pieces(self) -> Vec<Piece<'a>> {
-        let Printing { pieces, .. } = self;
-        pieces
+    /// The pieces that were printed, and the comments after them.
+    fn into_pieces(self) -> Result<Vec<Piece<'a>>, AllocError>
+        ensures { IfOk result (λ pieces. texts_of pieces.items ≡ self.entry.done ++ self.entry.waiting) }
+    {
+        let Printing {
+            mut pieces,
+            waiting,
+            ..
+        } = self;
+        pieces.extend_from_slice(waiting.as_slice())?;
+        Ok(pieces)
+    }
+
+    /// A comment, or the next of the tokens.
+    fn add(&mut self, tokens: &[&str], piece: &Piece<'a>) -> Result<(), AllocError>
+        requires { is_comment piece.now.text.now ≡ false → self.old.at < length tokens.now }
+        ensures { IfOk result (λ _. self.new ≡ with_piece (now_of tokens.now) piece.now.text.now self.old) }
+    {
+        if piece.is_comment() {
+            self.add_comment(piece)
+        } else {
+            self.add_token(tokens, piece)
+        }
     }
 
     /// A comment, which waits for the next token that is printed.
-    fn comment(&mut self, comment: &Piece<'a>) -> Result<(), AllocError> {
+    fn add_comment(&mut self, comment: &Piece<'a>) -> Result<(), AllocError>
+        ensures { IfOk result (λ _. self.new ≡ with_comment comment.now.text.now self.old) }
+    {
         let breaks = comment.breaks.saturating_add(self.breaks);
         self.breaks = 0;
         push(&mut self.waiting, comment.text, comment, breaks)
     }
 
-    /// The token of a piece.
-    fn token(&mut self, tokens: &[&str], at: usize, piece: &Piece<'a>) -> Result<(), AllocError> {
+    /// The next of the tokens.
+    fn add_token(&mut self, tokens: &[&str], piece: &Piece<'a>) -> Result<(), AllocError>
+        requires { self.old.at < length tokens.now }
+        ensures { IfOk result (λ _. self.new ≡ with_token (now_of tokens.now) piece.now.text.now self.old) }
+    {
         let around = self.around();
-        if let Some(text) = added(tokens, at, around) {
+        self.add_before(tokens, piece, around)?;
+        if goes(tokens, self.at, around) {
+            self.breaks = self.breaks.saturating_add(piece.breaks);
+        } else {
+            self.print(spelled(tokens, self.at, piece.text), piece)?;
+        }
+        self.pass(tokens)
+    }
+
+    /// The token that printing adds before the next one, whose piece and brackets these are.
+    fn add_before(
+        &mut self,
+        tokens: &[&str],
+        piece: &Piece<'a>,
+        around: Brackets,
+    ) -> Result<(), AllocError>
+        requires { around ≡ innermost self.old.opened }
+        ensures { IfOk result (λ _. self.new ≡ with_added (now_of tokens.now) self.old) }
+    {
+        if let Some(text) = added(tokens, self.at, around) {
             push(&mut self.pieces, text, piece, 0)?;
         }
-        if goes(tokens, at, around) {
-            self.breaks = self.breaks.saturating_add(piece.breaks);
-        } else if ends_resource(tokens, at) {
-            self.print("}", piece)?;
-        } else {
-            self.print(piece.text, piece)?;
-        }
-        self.pass(tokens, at)
+        Ok(())
     }
 
     /// Prints the token of a piece, after the comments that wait for it.
-    fn print(&mut self, text: &'a str, piece: &Piece<'_>) -> Result<(), AllocError> {
+    fn print(&mut self, text: &'a str, piece: &Piece<'_>) -> Result<(), AllocError>
+        ensures { IfOk result (λ _. self.new ≡ with_printed text.now self.old) }
+    {
         self.pieces.extend_from_slice(self.waiting.as_slice())?;
         self.waiting.clear();
         let breaks = piece.breaks.saturating_add(self.breaks);
@@ -164,34 +250,39 @@ impl<'a> Printing<'a> {
     }
 
     /// What is in the innermost brackets. A text is a body.
-    fn around(&self) -> Brackets {
+    fn around(&self) -> Brackets
+        ensures { result ≡ innermost self.now.opened }
+    {
         match self.opened.last() {
             Some(brackets) => *brackets,
             None => Brackets::Body,
         }
     }
 
-    /// Continues after the token at an index.
-    fn pass(&mut self, tokens: &[&str], at: usize) -> Result<(), AllocError> {
-        let token = token_at(tokens, at);
+    /// Continues after the next token.
+    fn pass(&mut self, tokens: &[&str]) -> Result<(), AllocError>
+        requires { self.old.at < length tokens.now }
+        ensures { IfOk result (λ _. self.new ≡ passed (now_of tokens.now) self.old) }
+    {
+        let token = token_at(tokens, self.at);
         if opens(token) {
-            let brackets = opened_by(
-                token,
-                token_before(tokens, at, 1),
-                token_before(tokens, at, 2),
-            );
+            let before = token_before(tokens, self.at, 1);
+            let brackets = opened_by(token, before, token_before(tokens, self.at, 2));
             if self.opened.push(brackets).is_err() {
                 return Err(AllocError);
             }
         } else if closes(token) {
             let _ = self.opened.pop();
         }
+        self.at += 1;
         Ok(())
     }
 }
 
 /// The texts of the tokens among pieces, in order.
-fn tokens_of<'a>(alloc: Global, pieces: &[Piece<'a>]) -> Result<Vec<&'a str>, AllocError> {
+fn tokens_of<'a>(alloc: Global, pieces: &[Piece<'a>]) -> Result<Vec<&'a str>, AllocError>
+    ensures { IfOk result (λ tokens. now_of tokens.items ≡ tokens_of (texts_of pieces.now)) }
+{
     let mut tokens = Vec::new(alloc);
     for piece in pieces {
         if !piece.is_comment() {
@@ -206,17 +297,13 @@ fn tokens_of<'a>(alloc: Global, pieces: &[Piece<'a>]) -> Result<Vec<&'a str>, Al
 /// The pieces of a text as they are printed: without the tokens that printing drops, and with those that it adds. The
 /// comments before a token that is dropped come before the next one. A token that is added directly follows the one
 /// before it.
-pub fn printed<'a>(alloc: Global, pieces: &[Piece<'a>]) -> Result<Vec<Piece<'a>>, AllocError> {
+pub fn printed<'a>(alloc: Global, pieces: &[Piece<'a>]) -> Result<Vec<Piece<'a>>, AllocError>
+    ensures { IfOk result (λ found. texts_of found.items ≡ printed (texts_of pieces.now)) }
+{
     let tokens = tokens_of(alloc, pieces)?;
     let mut printing = Printing::new(alloc);
-    let mut at = 0usize;
     for piece in pieces {
-        if piece.is_comment() {
-            printing.comment(piece)?;
-        } else {
-            printing.token(tokens.as_slice(), at, piece)?;
-            at = at.saturating_add(1);
-        }
+        printing.add(tokens.as_slice(), piece)?;
     }
-    Ok(printing.into_pieces())
+    printing.into_pieces()
 }

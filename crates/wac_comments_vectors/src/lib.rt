@@ -2,6 +2,10 @@
 #![tactic(auto)]
 
 #[cfg(test)]
+mod listed;
+#[cfg(test)]
+mod memory;
+#[cfg(test)]
 mod rows;
 #[cfg(test)]
 mod tidied;

@@ -7,20 +7,47 @@ use crate::rows::{
 use std::alloc::Global;
 use std::process::Abort;
 use std::test::Fail;
-use wac_comments::{Options, tidy};
+use wac_comments::{Indent, LineEnd, Options, TidyError, tidy};
+
+/// Further options that each row is tidied with.
+const OPTIONS: [Options; 3] = [
+    Options {
+        indent: Indent::Tab,
+        line_end: LineEnd::Lf,
+    },
+    Options {
+        indent: Indent::Blanks(1),
+        line_end: LineEnd::CrLf,
+    },
+    Options {
+        indent: Indent::Blanks(16),
+        line_end: LineEnd::CrLf,
+    },
+];
 
 /// Whether a document is tidied to this text.
-fn tidies(alloc: Global, source: &str, wanted: &str) -> bool {
-    match tidy(alloc, source, Options::default()) {
+fn tidies(alloc: Global, source: &str, wanted: &str, options: Options) -> bool {
+    match tidy(alloc, source, options) {
         Ok(text) => text.as_str() == wanted,
+        Err(_) => false,
+    }
+}
+
+/// Whether a document is tidied to a text that stays as it is.
+fn stays(alloc: Global, source: &str, options: Options) -> bool {
+    match tidy(alloc, source, options) {
+        Ok(text) => tidies(alloc, text.as_str(), text.as_str(), options),
         Err(_) => false,
     }
 }
 
 /// The name of the first document that isn't tidied as its row has it, or whose tidy text doesn't stay.
 fn first_wrong(alloc: Global, rows: &[Row]) -> Option<&'static str> {
+    let options = Options::default();
     for row in rows {
-        if !tidies(alloc, row.source, row.tidied) || !tidies(alloc, row.tidied, row.tidied) {
+        let as_wanted = tidies(alloc, row.source, row.tidied, options)
+            && tidies(alloc, row.tidied, row.tidied, options);
+        if !as_wanted || !OPTIONS.iter().all(|it| stays(alloc, row.source, *it)) {
             return Some(row.name);
         }
     }
@@ -92,4 +119,93 @@ fn rows_11(rt: HostRuntime) -> Result<(), Fail> {
 #[test]
 fn rows_12(rt: HostRuntime) -> Result<(), Fail> {
     all_tidy(&rt, rt.alloc(), &ROWS_12)
+}
+
+/// Documents, and what they are tidied to with tabs and CR LF. Line ends in strings and block comments stay.
+const WITH_TABS: [(&str, &str); 3] = [
+    (
+        "package a:b;\n// x\nexport y;",
+        "package a:b;\r\n\r\n// x\r\nexport y;\r\n",
+    ),
+    (
+        "package a:b;\nexport y as \"p\nq\";",
+        "package a:b;\r\n\r\nexport y as \"p\nq\";\r\n",
+    ),
+    (
+        "package a:b; interface i { /* p\nq */ r: func(); // s\n}",
+        "package a:b;\r\n\r\ninterface i {\r\n\t/* p\nq */ r: func(); // s\r\n}\r\n",
+    ),
+];
+
+#[test]
+fn line_ends(rt: HostRuntime) {
+    let options = Options {
+        indent: Indent::Tab,
+        line_end: LineEnd::CrLf,
+    };
+    for (source, wanted) in WITH_TABS {
+        let is_tidied = tidies(rt.alloc(), source, wanted, options);
+        assert!(rt; is_tidied, "{source}");
+    }
+}
+
+/// An export of a name in so many parentheses, which begin at 21.
+fn nested(alloc: Global, depth: usize) -> Result<String, Fail> {
+    let mut text = String::from_str(alloc, "package a:b;\n\nexport ")?;
+    for _ in 0..depth {
+        text.push_str("(")?;
+    }
+    text.push_str("x")?;
+    for _ in 0..depth {
+        text.push_str(")")?;
+    }
+    text.push_str(";\n")?;
+    Ok(text)
+}
+
+#[test]
+fn brackets_are_nested(rt: HostRuntime) -> Result<(), Fail> {
+    let most = nested(rt.alloc(), 1000)?;
+    let most = most.as_str();
+    let is_tidied = tidies(rt.alloc(), most, most, Options::default());
+    assert!(rt; is_tidied, "a thousand");
+    let more = nested(rt.alloc(), 1001)?;
+    match tidy(rt.alloc(), more.as_str(), Options::default()) {
+        Err(TidyError::NestedTooDeep { span }) => {
+            assert!(rt;
+                span.offset() == 1021 && span.len() == 1,
+                "at {}",
+                span.offset()
+            );
+        }
+        _ => panic!(rt; "a thousand and one"),
+    }
+    Ok(())
+}
+
+/// Texts that are no documents, and what their errors say.
+const REFUSED: [(&str, &str); 3] = [
+    ("package a:b // x", "expected `;`, found end of input"),
+    (
+        "package a:b; let x /* z */ y;",
+        "expected `=`, found identifier",
+    ),
+    (
+        "package a:b; world w { import f func(); }",
+        "expected `;`, found `func` keyword",
+    ),
+];
+
+#[test]
+fn texts_that_are_no_documents(rt: HostRuntime) -> Result<(), Fail> {
+    for (source, wanted) in REFUSED {
+        match tidy(rt.alloc(), source, Options::default()) {
+            Err(TidyError::Parse(error)) => {
+                let told = error.to_string(rt.alloc())?;
+                assert!(rt; told.as_str() == wanted, "{told} of {source}");
+            }
+            _ => panic!(rt; "{source} is tidied"),
+        }
+    }
+    Ok(())
 }

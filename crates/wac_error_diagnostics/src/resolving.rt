@@ -1,12 +1,12 @@
 //! Diagnostics of the errors of resolving.
-ghost use Rattle.std.specs.Prelude.{◌≢◌, IfOk};
-ghost use Rattle.wac_resolution_errors.specs.Error.{memory};
+ghost use Rattle.std.specs.Prelude.{◌≢◌, IfOk, alloc_error};
 ghost use Rattle.wac_resolution_errors.specs.Told.{told};
+ghost use Rattle.wac_resolution_errors.specs.declared.error.Error.TheVariants.{Memory};
 ghost use Rattle.wac_error_diagnostics.specs.Diagnostics.{IsOfResolving};
 
 use crate::resolution_codes::resolution_code;
 use std::alloc::{AllocError, Global};
-use wac_diagnostics::{Diagnostic, Note};
+use wac_diagnostics::{Diagnostic, Note, Severity};
 use wac_lexer::SourceSpan;
 use wac_resolution_errors::Error;
 
@@ -14,25 +14,40 @@ use wac_resolution_errors::Error;
 /// that memory ran out, also where the document's error says so.
 pub fn resolution_diagnostic(alloc: Global, error: &Error) -> Result<Diagnostic, AllocError>
     ensures says { IfOk result (λ diagnostic. IsOfResolving (told error.now) diagnostic) }
-    ensures memory { IfOk result (λ diagnostic. told error.now ≢ memory) }
+    ensures memory { IfOk result (λ diagnostic. error.now ≢ Memory alloc_error) }
 {
     if let Error::Memory(_) = error {
         return Err(AllocError);
     }
     let message = format!(in alloc; "{error}")?;
-    let code = resolution_code(error);
-    let mut diagnostic = match error.span() {
-        Some(span) => Diagnostic::at(code, message, span),
-        None => Diagnostic::without_place(code, message),
-    };
-    if let Some(help) = help_for(error) {
-        diagnostic.help = Some(String::from_str(alloc, help)?);
+    let help = owned_help(alloc, error)?;
+    let notes = notes_of(alloc, error)?;
+    Ok(Diagnostic {
+        severity: Severity::Error,
+        code: resolution_code(error),
+        message,
+        span: error.span(),
+        help,
+        notes,
+    })
+}
+
+/// What can be done about an error, as a text of its own.
+fn owned_help(alloc: Global, error: &Error) -> Result<Option<String>, AllocError> {
+    match help_for(error) {
+        Some(help) => Ok(Some(String::from_str(alloc, help)?)),
+        None => Ok(None),
     }
+}
+
+/// The earlier place that an error tells of, as a note.
+fn notes_of(alloc: Global, error: &Error) -> Result<Vec<Note>, AllocError> {
+    let mut notes = Vec::new(alloc);
     if let Some((message, span)) = earlier_place(error) {
         let message = String::from_str(alloc, message)?;
-        diagnostic.notes.push(Note { message, span })?;
+        notes.push(Note { message, span })?;
     }
-    Ok(diagnostic)
+    Ok(notes)
 }
 
 /// What can be done about an error, where it says so.

@@ -1,12 +1,19 @@
 //! The first error of a text.
-use crate::text::{Reading, nested_too_deep, read_text};
+ghost use Rattle.std.specs.Prelude.{◌≡◌, IfOk, IsUtf8, false};
+ghost use Rattle.wac_ast_base.specs.Error.{told_by};
+ghost use Rattle.wac_error_diagnostics.specs.Reading.{begins_with_mark};
+ghost use Rattle.wac_first_error.specs.Verdicts.{IsDepth, IsFault, IsFinding, IsResolved, IsVerdict};
+
 use indexmap::IndexMap;
 use std::alloc::{AllocError, Global};
 use wac_comments_layout::too_deep;
 use wac_diagnostics::Diagnostic;
-use wac_error_diagnostics::{parse_diagnostic, resolution_diagnostic};
+use wac_error_diagnostics::{
+    Reading, nested_too_deep, parse_diagnostic, read_text, resolution_diagnostic,
+};
+use wac_lexer::SourceSpan;
 use wac_parser::resolution::resolve;
-use wac_parser::{Document, Page, packages};
+use wac_parser::{Document, Error, Page, packages};
 use wac_tool_graphs::SameRules;
 
 /// What bytes are.
@@ -34,16 +41,22 @@ enum Finding {
 /// has no rejected character, that its brackets aren't nested deeper than a thousand, that it is a document, and where
 /// `resolve` asks for it and the document mentions no foreign package, that it breaks no rule of resolving. The error
 /// is that memory ran out.
-pub fn first_error(alloc: Global, bytes: &[u8], resolve: bool) -> Result<Verdict<'_>, AllocError> {
+pub fn first_error(alloc: Global, bytes: &[u8], resolve: bool) -> Result<Verdict<'_>, AllocError>
+    ensures { IfOk result (λ verdict. IsVerdict bytes.now verdict) }
+{
     match read_text(alloc, bytes) {
-        Ok(Reading::Text(text)) => verdict(alloc, text, resolve),
+        Ok(Reading::Text(text)) => judge(alloc, text, resolve),
         Ok(Reading::Rejected(diagnostic)) => Ok(Verdict::Rejected(diagnostic)),
         Err(_) => Err(AllocError),
     }
 }
 
 /// The first error of a text.
-fn verdict(alloc: Global, text: &str, resolve: bool) -> Result<Verdict<'_>, AllocError> {
+fn judge(alloc: Global, text: &str, resolve: bool) -> Result<Verdict<'_>, AllocError>
+    requires utf8 { IsUtf8 text.now }
+    requires bare { begins_with_mark text.now ≡ false }
+    ensures { IfOk result (λ verdict. IsVerdict text.now verdict) }
+{
     match find(alloc, text, resolve) {
         Ok(Finding::Document) => Ok(Verdict::Document(text)),
         Ok(Finding::Unresolved) => Ok(Verdict::Unresolved(text)),
@@ -53,24 +66,59 @@ fn verdict(alloc: Global, text: &str, resolve: bool) -> Result<Verdict<'_>, Allo
 }
 
 /// What a text is, or what is wrong with it first.
-fn find(alloc: Global, text: &str, resolve: bool) -> Result<Finding, AllocError> {
+fn find(alloc: Global, text: &str, resolve: bool) -> Result<Finding, AllocError>
+    ensures { IfOk result (λ finding. IsFinding text.now finding) }
+{
     if let Some(span) = too_deep(text) {
-        return Ok(Finding::Rejected(nested_too_deep(alloc, span)?));
+        return find_depth(alloc, span);
     }
     match Document::parse(alloc, text) {
-        Ok(document) if resolve => find_resolved(
+        Ok(document) => find_in(
             alloc,
             Page {
                 document: &document,
             },
+            resolve,
         ),
-        Ok(_) => Ok(Finding::Document),
-        Err(error) => Ok(Finding::Rejected(parse_diagnostic(alloc, &error)?)),
+        Err(error) => find_fault(alloc, &error),
+    }
+}
+
+/// What is wrong with a text whose brackets are nested too deeply.
+fn find_depth(alloc: Global, span: SourceSpan) -> Result<Finding, AllocError>
+    ensures { IfOk result (λ finding. IsDepth span finding) }
+{
+    match nested_too_deep(alloc, span) {
+        Ok(diagnostic) => Ok(Finding::Rejected(diagnostic)),
+        Err(_) => Err(AllocError),
+    }
+}
+
+/// What is wrong with a text that is no document.
+fn find_fault(alloc: Global, error: &Error) -> Result<Finding, AllocError>
+    ensures { IfOk result (λ finding. IsFault (told_by error.now) finding) }
+{
+    match parse_diagnostic(alloc, error) {
+        Ok(diagnostic) => Ok(Finding::Rejected(diagnostic)),
+        Err(_) => Err(AllocError),
+    }
+}
+
+/// What a document is, and which rule it breaks first where it is to be resolved.
+fn find_in(alloc: Global, page: Page<'_, '_>, resolve: bool) -> Result<Finding, AllocError>
+    ensures { IfOk result (λ finding. IsResolved finding) }
+{
+    if resolve {
+        find_resolved(alloc, page)
+    } else {
+        Ok(Finding::Document)
     }
 }
 
 /// What a document is, or which rule it breaks first.
-fn find_resolved(alloc: Global, page: Page<'_, '_>) -> Result<Finding, AllocError> {
+fn find_resolved(alloc: Global, page: Page<'_, '_>) -> Result<Finding, AllocError>
+    ensures { IfOk result (λ finding. IsResolved finding) }
+{
     let Page { document } = page;
     if mentions_packages(alloc, Page { document })? {
         Ok(Finding::Unresolved)
@@ -86,7 +134,9 @@ fn mentions_packages(alloc: Global, page: Page<'_, '_>) -> Result<bool, AllocErr
 }
 
 /// Which rule a document breaks that mentions no foreign package.
-fn find_broken(alloc: Global, page: Page<'_, '_>) -> Result<Finding, AllocError> {
+fn find_broken(alloc: Global, page: Page<'_, '_>) -> Result<Finding, AllocError>
+    ensures { IfOk result (λ finding. IsResolved finding) }
+{
     let Page { document } = page;
     match resolve(alloc, document, IndexMap::new(alloc), &SameRules) {
         Ok(_) => Ok(Finding::Document),

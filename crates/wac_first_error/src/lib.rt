@@ -13,12 +13,11 @@
 #![tactic(auto)]
 
 mod first;
-mod text;
 mod tidying;
 
 pub use first::{Verdict, first_error};
-pub use text::{Reading, nested_too_deep, read_text};
 pub use tidying::tidy_diagnostic;
 pub use wac_error_diagnostics::{
-    parse_code, parse_diagnostic, resolution_code, resolution_diagnostic,
+    Reading, nested_too_deep, parse_code, parse_diagnostic, read_text, resolution_code,
+    resolution_diagnostic,
 };

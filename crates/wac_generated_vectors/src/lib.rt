@@ -6,6 +6,8 @@ mod answers;
 #[cfg(test)]
 mod choices;
 #[cfg(test)]
+mod comments;
+#[cfg(test)]
 mod documents;
 #[cfg(test)]
 mod generator;

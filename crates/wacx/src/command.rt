@@ -56,14 +56,14 @@ pub(crate) enum Request<'a> {
 pub(crate) fn read_words<'a>(alloc: Global, words: &'a [String]) -> Result<Request<'a>, Error> {
     let matches = definition(alloc)?.try_get_matches_from(words)?;
     match matches.subcommand() {
-        Some(("fmt", found)) => Ok(request(alloc, Work::Format(format_options(found)), found)?),
-        Some((_, found)) => Ok(request(alloc, Work::Check(report(found)), found)?),
+        Some(("fmt", found)) => Ok(request_of(alloc, Work::Format(format_options(found)), found)?),
+        Some((_, found)) => Ok(request_of(alloc, Work::Check(report_of(found)), found)?),
         None => Ok(Request::Misused("a command is missing")),
     }
 }
 
 /// The task of a command, whose words were found.
-fn request<'a>(
+fn request_of<'a>(
     alloc: Global,
     work: Work,
     found: &ArgMatches<'a>,
@@ -82,14 +82,14 @@ fn request<'a>(
     }
     Ok(Request::Run(Task {
         work,
-        color: color(found),
+        color: color_of(found),
         quiet: found.get_flag("quiet"),
         paths,
         input_name,
     }))
 }
 
-fn color(found: &ArgMatches<'_>) -> Color {
+fn color_of(found: &ArgMatches<'_>) -> Color {
     match found.get_str("color") {
         Some("always") => Color::Always,
         Some("never") => Color::Never,
@@ -97,7 +97,7 @@ fn color(found: &ArgMatches<'_>) -> Color {
     }
 }
 
-fn report(found: &ArgMatches<'_>) -> Report {
+fn report_of(found: &ArgMatches<'_>) -> Report {
     match found.get_str("output") {
         Some("json") => Report::Json,
         Some("github") => Report::Github,
@@ -115,19 +115,19 @@ fn format_options(found: &ArgMatches<'_>) -> FormatOptions {
     };
     FormatOptions {
         action,
-        indent: indent(found),
-        line_ends: line_ends(found),
+        indent: indent_of(found),
+        line_ends: line_ends_of(found),
     }
 }
 
-fn indent(found: &ArgMatches<'_>) -> Indent {
+fn indent_of(found: &ArgMatches<'_>) -> Indent {
     match found.get_str("indent") {
         Some("tab") => Indent::Tab,
         _ => Indent::Blanks(found.get_one::<u8>("indent").unwrap_or(4)),
     }
 }
 
-fn line_ends(found: &ArgMatches<'_>) -> LineEnds {
+fn line_ends_of(found: &ArgMatches<'_>) -> LineEnds {
     match found.get_str("line-end") {
         Some("lf") => LineEnds::Lf,
         Some("crlf") => LineEnds::CrLf,

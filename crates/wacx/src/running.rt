@@ -1,6 +1,6 @@
 // Doing what the words ask for.
+use crate::arguments::Words;
 use crate::command::{Color, Task, Work};
-use crate::words::Words;
 use std::env::VarError;
 use std::io::IsTerminal;
 use std::process::ExitCode;

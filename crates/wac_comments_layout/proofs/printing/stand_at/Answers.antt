@@ -1,0 +1,12 @@
+use Rattle.std.proofs.Common.{ℕ, ap, ◌∙◌, List, length, drop, take}
+use denote.Bor.{Bor}
+use lib.Pointwise.{pointwise}
+use Rattle.std.specs.Str.{bytes_eq}
+use Rattle.wac_comments_layout.proofs.Among.{begin_with}
+use Rattle.wac_comments_layout.proofs.printing.stand_at.Goals as goal
+
+pub returns : goal.returns
+returns c =
+    c.starts_with.ensures.value
+    ∙ ap (λ rest. pointwise (λ (x y : Bor (List ℕ)). bytes_eq x.now y.now) c.args.these.now (take (length c.args.these.now) rest)) (c.split_at.ensures.back ∙ ap (λ n. drop n c.args.tokens.now) c.min.ensures)
+    ∙ begin_with c.args.tokens.now c.args.these.now c.args.at

@@ -1,0 +1,16 @@
+-- The pieces that the code has, as texts.
+use Rattle.std.specs.Prelude.{◌≡◌, ℕ, List, ◌++◌, map}
+use Rattle.wac_comments_layout.specs.Pieces as spec
+use Rattle.wac_comments_layout.specs.declared.pieces.Piece.{Piece}
+
+-- the texts of pieces
+abbrev pub texts_of : List Piece → List (List ℕ)
+texts_of pieces = map (λ p. p.text.now) pieces
+
+-- their texts and spans
+abbrev pub pieces_of : List Piece → List spec.Piece
+pieces_of pieces = map (λ p. record { text = p.text.now; span = p.span }) pieces
+
+-- pieces, and more of them behind
+abbrev pub Adds : List Piece → List spec.Piece → List Piece → Type 0
+Adds old more new = pieces_of new ≡ pieces_of old ++ more
