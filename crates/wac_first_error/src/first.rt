@@ -1,8 +1,4 @@
 //! The first error of a text.
-ghost use Rattle.std.specs.Prelude.{◌≡◌, IfOk, IsUtf8, false};
-ghost use Rattle.wac_ast_base.specs.Error.{told_by};
-ghost use Rattle.wac_error_diagnostics.specs.Reading.{begins_with_mark};
-ghost use Rattle.wac_first_error.specs.Verdicts.{IsDepth, IsFault, IsFinding, IsResolved, IsVerdict};
 
 use indexmap::IndexMap;
 use std::alloc::{AllocError, Global};
@@ -41,9 +37,7 @@ enum Finding {
 /// has no rejected character, that its brackets aren't nested deeper than a thousand, that it is a document, and where
 /// `resolve` asks for it and the document mentions no foreign package, that it breaks no rule of resolving. The error
 /// is that memory ran out.
-pub fn first_error(alloc: Global, bytes: &[u8], resolve: bool) -> Result<Verdict<'_>, AllocError>
-    ensures { IfOk result (λ verdict. IsVerdict bytes.now verdict) }
-{
+pub fn first_error(alloc: Global, bytes: &[u8], resolve: bool) -> Result<Verdict<'_>, AllocError> {
     match read_text(alloc, bytes) {
         Ok(Reading::Text(text)) => judge(alloc, text, resolve),
         Ok(Reading::Rejected(diagnostic)) => Ok(Verdict::Rejected(diagnostic)),
@@ -52,11 +46,7 @@ pub fn first_error(alloc: Global, bytes: &[u8], resolve: bool) -> Result<Verdict
 }
 
 /// The first error of a text.
-fn judge(alloc: Global, text: &str, resolve: bool) -> Result<Verdict<'_>, AllocError>
-    requires utf8 { IsUtf8 text.now }
-    requires bare { begins_with_mark text.now ≡ false }
-    ensures { IfOk result (λ verdict. IsVerdict text.now verdict) }
-{
+fn judge(alloc: Global, text: &str, resolve: bool) -> Result<Verdict<'_>, AllocError> {
     match find(alloc, text, resolve) {
         Ok(Finding::Document) => Ok(Verdict::Document(text)),
         Ok(Finding::Unresolved) => Ok(Verdict::Unresolved(text)),
@@ -66,9 +56,7 @@ fn judge(alloc: Global, text: &str, resolve: bool) -> Result<Verdict<'_>, AllocE
 }
 
 /// What a text is, or what is wrong with it first.
-fn find(alloc: Global, text: &str, resolve: bool) -> Result<Finding, AllocError>
-    ensures { IfOk result (λ finding. IsFinding text.now finding) }
-{
+fn find(alloc: Global, text: &str, resolve: bool) -> Result<Finding, AllocError> {
     if let Some(span) = too_deep(text) {
         return find_depth(alloc, span);
     }
@@ -85,9 +73,7 @@ fn find(alloc: Global, text: &str, resolve: bool) -> Result<Finding, AllocError>
 }
 
 /// What is wrong with a text whose brackets are nested too deeply.
-fn find_depth(alloc: Global, span: SourceSpan) -> Result<Finding, AllocError>
-    ensures { IfOk result (λ finding. IsDepth span finding) }
-{
+fn find_depth(alloc: Global, span: SourceSpan) -> Result<Finding, AllocError> {
     match nested_too_deep(alloc, span) {
         Ok(diagnostic) => Ok(Finding::Rejected(diagnostic)),
         Err(_) => Err(AllocError),
@@ -95,9 +81,7 @@ fn find_depth(alloc: Global, span: SourceSpan) -> Result<Finding, AllocError>
 }
 
 /// What is wrong with a text that is no document.
-fn find_fault(alloc: Global, error: &Error) -> Result<Finding, AllocError>
-    ensures { IfOk result (λ finding. IsFault (told_by error.now) finding) }
-{
+fn find_fault(alloc: Global, error: &Error) -> Result<Finding, AllocError> {
     match parse_diagnostic(alloc, error) {
         Ok(diagnostic) => Ok(Finding::Rejected(diagnostic)),
         Err(_) => Err(AllocError),
@@ -105,9 +89,7 @@ fn find_fault(alloc: Global, error: &Error) -> Result<Finding, AllocError>
 }
 
 /// What a document is, and which rule it breaks first where it is to be resolved.
-fn find_in(alloc: Global, page: Page<'_, '_>, resolve: bool) -> Result<Finding, AllocError>
-    ensures { IfOk result (λ finding. IsResolved finding) }
-{
+fn find_in(alloc: Global, page: Page<'_, '_>, resolve: bool) -> Result<Finding, AllocError> {
     if resolve {
         find_resolved(alloc, page)
     } else {
@@ -116,9 +98,7 @@ fn find_in(alloc: Global, page: Page<'_, '_>, resolve: bool) -> Result<Finding, 
 }
 
 /// What a document is, or which rule it breaks first.
-fn find_resolved(alloc: Global, page: Page<'_, '_>) -> Result<Finding, AllocError>
-    ensures { IfOk result (λ finding. IsResolved finding) }
-{
+fn find_resolved(alloc: Global, page: Page<'_, '_>) -> Result<Finding, AllocError> {
     let Page { document } = page;
     if mentions_packages(alloc, Page { document })? {
         Ok(Finding::Unresolved)
@@ -134,9 +114,7 @@ fn mentions_packages(alloc: Global, page: Page<'_, '_>) -> Result<bool, AllocErr
 }
 
 /// Which rule a document breaks that mentions no foreign package.
-fn find_broken(alloc: Global, page: Page<'_, '_>) -> Result<Finding, AllocError>
-    ensures { IfOk result (λ finding. IsResolved finding) }
-{
+fn find_broken(alloc: Global, page: Page<'_, '_>) -> Result<Finding, AllocError> {
     let Page { document } = page;
     match resolve(alloc, document, IndexMap::new(alloc), &SameRules) {
         Ok(_) => Ok(Finding::Document),
