@@ -48,8 +48,8 @@ fn order(rt: HostRuntime) -> Result<(), Fail> {
         alloc,
         b"package a:b;\nlet x = y;\nlet",
         "wac::expected",
-        27,
-        0,
+        26,
+        1,
     )?;
     assert!(rt; holds, "parsing before resolving");
     Ok(())
