@@ -12,6 +12,7 @@
 //! ```
 #![tactic(auto)]
 
+mod finding;
 mod first;
 mod tidying;
 
