@@ -1,9 +1,7 @@
 -- What `fmt` makes of the bytes of a file.
-use Rattle.std.specs.Prelude.{◌≡◌, ◌≢◌, false, ℕ, Unit, List, IsUtf8, string_bytes}
+use Rattle.std.specs.Prelude.{◌≡◌, false, ℕ, List, IsUtf8}
 use Rattle.wac_comments.specs.Comments.{comment_texts, doc_texts}
-use Rattle.wac_comments.specs.Errors.{IsErrorOf}
 use Rattle.wac_comments.specs.Tidied.{IsPlain, Kept, SameTree}
-use Rattle.wac_comments.specs.declared.error.TidyError.{TidyError}
 use Rattle.wac_comments.specs.declared.options.LineEnd.{LineEnd}
 use Rattle.wac_comments.specs.declared.options.LineEnd.TheVariants as line_end
 use Rattle.wac_comments.specs.declared.options.Options.{Options}
