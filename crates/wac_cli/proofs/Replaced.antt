@@ -1,15 +1,9 @@
 -- Files that are formatted one after another.
-use Rattle.std.proofs.Common.{◌≡◌, ◌≢◌, refl, sym as back, ap, subst, ◌∙◌, List, ◌++◌, [], ◌∷◌, append_assoc, append-nil}
+use Rattle.std.proofs.Common.{◌≡◌, ◌≢◌, refl, ap, ◌∙◌, List, ◌++◌, [], ◌∷◌, append_assoc, append-nil}
 use Rattle.wac_files.specs.Replacements.{Replacement}
-use Rattle.wac_cli.specs.Replacing.{AreFormattings, IsFormatting, OnlyFormats}
+use Rattle.wac_cli.specs.Replacing.{AreFormattings, OnlyFormats}
 use Rattle.wac_cli.specs.declared.options.Action.TheVariants.{Write}
 use Rattle.wac_cli.specs.declared.options.FormatOptions.{FormatOptions}
-
-pub none : (options : FormatOptions) (before after : List Replacement) → after ≡ before → OnlyFormats options before after
-none options before after same = ([], same ∙ back (append-nil before), tt)
-
-pub one : (options : FormatOptions) (before after : List Replacement) (r : Replacement) → after ≡ before ++ r ∷ [] → IsFormatting options r → OnlyFormats options before after
-one options before after r is formatting = (r ∷ [], is, (formatting, tt))
 
 pub joined : (options : FormatOptions) (rs ss : List Replacement) → AreFormattings options rs → AreFormattings options ss → AreFormattings options (rs ++ ss)
 joined options [] ss first second = second
@@ -18,13 +12,9 @@ joined options (r ∷ rs) ss first second = (first.0, joined options rs ss first
 pub both : (options : FormatOptions) (before between after : List Replacement) → OnlyFormats options before between → OnlyFormats options between after → OnlyFormats options before after
 both options before between after first second = (
   first.0 ++ second.0,
-  second.1.0 ∙ ap (λ (rs : List Replacement). rs ++ second.0) first.1.0 ∙ append_assoc before first.0 second.0,
-  joined options first.0 second.0 first.1.1 second.1.1,
+  second.1 ∙ ap (λ (rs : List Replacement). rs ++ second.0) first.1 ∙ append_assoc before first.0 second.0,
+  joined options first.0 second.0 first.2 second.2,
 )
-
--- what follows on files that stay
-pub behind : (options : FormatOptions) (before between after : List Replacement) → between ≡ before → OnlyFormats options between after → OnlyFormats options before after
-behind options before between after same formats = subst (λ (rs : List Replacement). OnlyFormats options rs after) same formats
 
 -- where nothing is to be written, nothing was replaced
 pub empty : (options : FormatOptions) (rs : List Replacement) → options.action ≢ Write → AreFormattings options rs → rs ≡ []
@@ -33,4 +23,4 @@ empty options (r ∷ rs) quiet each = absurd (quiet each.0.0)
 
 pub looked : (options : FormatOptions) (before after : List Replacement) → OnlyFormats options before after → options.action ≢ Write → after ≡ before
 looked options before after formats quiet =
-    formats.1.0 ∙ ap (λ (rs : List Replacement). before ++ rs) (empty options formats.0 quiet formats.1.1) ∙ append-nil before
+    formats.1 ∙ ap (λ (rs : List Replacement). before ++ rs) (empty options formats.0 quiet formats.2) ∙ append-nil before
