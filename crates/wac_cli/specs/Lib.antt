@@ -1,1 +1,4 @@
 pub mod Outcomes
+pub mod Tidying
+pub mod Plans
+pub mod Replacing

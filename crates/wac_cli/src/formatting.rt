@@ -1,4 +1,8 @@
 // `wacx fmt`.
+ghost use Rattle.std.specs.Prelude.{◌≡◌, ◌≢◌, IfOk, length, string_bytes, vec_len};
+ghost use Rattle.wac_cli.specs.Replacing.{OnlyFormats};
+ghost use Rattle.wac_cli.specs.declared.options.Action.TheVariants.{Write};
+
 use crate::console::Console;
 use crate::input::{STDIN, read_all};
 use crate::last_line::{Task, summary};
@@ -20,7 +24,12 @@ pub fn format_paths<F: FileSystem, O: Write + Drop, E: Write + Drop>(
     console: &mut Console<O, E>,
     options: FormatOptions,
     paths: &[&str],
-) -> Status {
+) -> Status
+    // A file holds what it held or its tidy text, which only a text without an error has.
+    ensures formats { OnlyFormats options (F.replaced files.old) (F.replaced files.new) }
+    // Without `Write` nothing is replaced.
+    ensures looks { options.action ≢ Write → F.replaced files.new ≡ F.replaced files.old }
+{
     let task = Task::Format(options.action);
     match format_all(alloc, files, console, options, paths) {
         Ok(outcomes) => finish(alloc, console, task, outcomes.as_slice()),
@@ -52,10 +61,26 @@ fn format_all<F: FileSystem, O: Write + Drop, E: Write + Drop>(
     console: &mut Console<O, E>,
     options: FormatOptions,
     paths: &[&str],
-) -> Result<Vec<Outcome>, AllocError> {
+) -> Result<Vec<Outcome>, AllocError>
+    ensures { OnlyFormats options (F.replaced files.old) (F.replaced files.new) }
+{
     let found = find_files(alloc, files, paths)?;
+    format_each(alloc, files, console, options, found.as_slice())
+}
+
+/// Formats each of the files that were found. Returns what became of them, in order.
+fn format_each<F: FileSystem, O: Write + Drop, E: Write + Drop>(
+    alloc: Global,
+    files: &mut F,
+    console: &mut Console<O, E>,
+    options: FormatOptions,
+    found: &[Found],
+) -> Result<Vec<Outcome>, AllocError>
+    ensures formats { OnlyFormats options (F.replaced files.old) (F.replaced files.new) }
+    ensures each { IfOk result (λ outcomes. vec_len outcomes ≡ length found.now) }
+{
     let mut outcomes = Vec::with_capacity(alloc, found.len())?;
-    for found in found.as_slice() {
+    for found in found {
         let outcome = format_found(alloc, files, console, options, found);
         outcomes.push(outcome)?;
     }
@@ -68,7 +93,9 @@ fn format_found<F: FileSystem, O: Write + Drop, E: Write + Drop>(
     console: &mut Console<O, E>,
     options: FormatOptions,
     found: &Found,
-) -> Outcome {
+) -> Outcome
+    ensures { OnlyFormats options (F.replaced files.old) (F.replaced files.new) }
+{
     let path = found.path.as_str();
     let done = match found.failure {
         Some(error) => Err(error),
@@ -87,7 +114,9 @@ fn format_file<F: FileSystem, O: Write + Drop, E: Write + Drop>(
     console: &mut Console<O, E>,
     options: FormatOptions,
     path: &str,
-) -> Result<Outcome, FileError> {
+) -> Result<Outcome, FileError>
+    ensures { OnlyFormats options (F.replaced files.old) (F.replaced files.new) }
+{
     let bytes = files.read(alloc, path)?;
     match Plan::of(alloc, bytes.as_slice(), options)? {
         Plan::Tidy => Ok(Outcome::Good),

@@ -1,4 +1,6 @@
 // What ends the lines of a text.
+ghost use Rattle.wac_cli.specs.Tidying.{EndsLinesAs};
+
 use crate::options::LineEnds;
 use wac_comments::LineEnd;
 
@@ -69,7 +71,9 @@ pub fn line_end_of(text: &str) -> LineEnd {
 }
 
 /// What ends the lines of a text when it is printed.
-pub(crate) fn chosen(line_ends: LineEnds, text: &str) -> LineEnd {
+pub(crate) fn chosen(line_ends: LineEnds, text: &str) -> LineEnd
+    ensures { EndsLinesAs line_ends result }
+{
     match line_ends {
         LineEnds::Auto => line_end_of(text),
         LineEnds::Lf => LineEnd::Lf,

@@ -1,5 +1,8 @@
 // The files of the system.
+ghost use Rattle.std.specs.Prelude.{◌≡◌};
+
 use crate::error::FileError;
+use crate::log::{Log, Step};
 use crate::names::folder_of;
 use crate::system::{FileSystem, Kind};
 use std::alloc::{AllocError, Global};
@@ -23,6 +26,7 @@ pub struct Disk<R: Files + Drop> {
     run: u32,
     // How many temporary files were named.
     named: u32,
+    log: Log,
 }
 
 impl<R: Files + Drop> Disk<R> {
@@ -32,11 +36,14 @@ impl<R: Files + Drop> Disk<R> {
             files,
             run,
             named: 0,
+            log: Log::after(&Step::Begins),
         }
     }
 
     /// Creates a new file in a folder, and returns it with its path.
-    fn create_in(&mut self, alloc: Global, folder: &str) -> Result<(String, R::File), FileError> {
+    fn create_in(&mut self, alloc: Global, folder: &str) -> Result<(String, R::File), FileError>
+        ensures { self.new.log.replaced ≡ self.old.log.replaced }
+    {
         let mut options = OpenOptions::new();
         options.write(true).create_new(true).mode(0o600);
         for _ in 0..MOST_NAMES {
@@ -93,6 +100,8 @@ impl<R: Files + Drop> Disk<R> {
 }
 
 impl<R: Files + Drop> FileSystem for Disk<R> {
+    ghost replaced = { λ disk. disk.log.replaced };
+
     fn kind(&mut self, path: &str) -> Result<Kind, FileError> {
         Ok(kind_of(&self.files.symlink_metadata(path)?))
     }
@@ -136,10 +145,12 @@ impl<R: Files + Drop> FileSystem for Disk<R> {
             Ok(()) => self.put(alloc, new.as_str(), place.as_str(), held),
             Err(error) => Err(error),
         };
-        if done.is_err() {
+        if let Err(error) = done {
             let _ = self.files.remove_file(new.as_str());
+            return Err(error);
         }
-        done
+        self.log = Log::after(&Step::Replaces(&self.log, path, held, text));
+        Ok(())
     }
 }
 

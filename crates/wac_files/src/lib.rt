@@ -7,6 +7,7 @@
 
 mod disk;
 mod error;
+mod log;
 mod memory;
 mod names;
 mod system;

@@ -1,5 +1,8 @@
 // Files in memory.
+ghost use Rattle.std.specs.Prelude.{◌≡◌};
+
 use crate::error::FileError;
+use crate::log::{Log, Step};
 use crate::system::{FileSystem, Kind};
 use std::alloc::{AllocError, Global};
 use std::io::ErrorKind;
@@ -28,6 +31,7 @@ pub struct MemoryFiles {
     entries: Vec<Entry>,
     calls: usize,
     failing: Option<usize>,
+    log: Log,
 }
 
 impl MemoryFiles {
@@ -37,6 +41,7 @@ impl MemoryFiles {
             entries: Vec::new(alloc),
             calls: 0,
             failing: None,
+            log: Log::after(&Step::Begins),
         }
     }
 
@@ -94,7 +99,9 @@ impl MemoryFiles {
     }
 
     /// Counts a call, which fails if it is the one that is to.
-    fn call(&mut self) -> Result<(), FileError> {
+    fn call(&mut self) -> Result<(), FileError>
+        ensures { self.new.log.replaced ≡ self.old.log.replaced }
+    {
         let call = self.calls;
         self.calls = self.calls.saturating_add(1);
         if self.failing == Some(call) {
@@ -140,6 +147,8 @@ fn kind_of(node: &Node) -> Kind {
 }
 
 impl FileSystem for MemoryFiles {
+    ghost replaced = { λ files. files.log.replaced };
+
     fn kind(&mut self, path: &str) -> Result<Kind, FileError> {
         self.call()?;
         match self.node(path) {
@@ -199,14 +208,16 @@ impl FileSystem for MemoryFiles {
         text: &[u8],
     ) -> Result<(), FileError> {
         self.call()?;
-        let text = Vec::from_slice(alloc, text)?;
+        let bytes = Vec::from_slice(alloc, text)?;
         let Some(place) = self.place(path) else {
             return Err(FileError::NotFound);
         };
         match self.entries.as_mut_slice().get_mut(place) {
-            Some(entry) => replace_node(&mut entry.node, held, text),
-            None => Err(FileError::NotFound),
+            Some(entry) => replace_node(&mut entry.node, held, bytes)?,
+            None => return Err(FileError::NotFound),
         }
+        self.log = Log::after(&Step::Replaces(&self.log, path, held, text));
+        Ok(())
     }
 }
 

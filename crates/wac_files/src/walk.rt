@@ -1,4 +1,6 @@
 // The files that paths lead to.
+ghost use Rattle.std.specs.Prelude.{◌≡◌};
+
 use crate::error::FileError;
 use crate::names::{is_hidden, is_wac, join};
 use crate::system::{FileSystem, Kind};
@@ -32,7 +34,9 @@ pub fn find_files<F: FileSystem>(
     alloc: Global,
     files: &mut F,
     paths: &[&str],
-) -> Result<Vec<Found>, AllocError> {
+) -> Result<Vec<Found>, AllocError>
+    ensures { F.replaced files.new ≡ F.replaced files.old }
+{
     let mut walk = Walk::new(alloc);
     for path in paths.iter().rev() {
         let path = String::from_str(alloc, path)?;
@@ -81,7 +85,9 @@ impl Walk {
     }
 
     /// Looks at the next path. Returns whether there was one.
-    fn step<F: FileSystem>(&mut self, alloc: Global, files: &mut F) -> Result<bool, AllocError> {
+    fn step<F: FileSystem>(&mut self, alloc: Global, files: &mut F) -> Result<bool, AllocError>
+        ensures { F.replaced files.new ≡ F.replaced files.old }
+    {
         let Some(pending) = self.pending.pop() else {
             return Ok(false);
         };
@@ -123,7 +129,9 @@ impl Walk {
         alloc: Global,
         files: &mut F,
         path: String,
-    ) -> Result<(), AllocError> {
+    ) -> Result<(), AllocError>
+        ensures { F.replaced files.new ≡ F.replaced files.old }
+    {
         let resolved = match files.resolve(alloc, path.as_str()) {
             Ok(resolved) => resolved,
             Err(FileError::OutOfMemory) => return Err(AllocError),
@@ -145,7 +153,9 @@ impl Walk {
         alloc: Global,
         files: &mut F,
         path: String,
-    ) -> Result<(), AllocError> {
+    ) -> Result<(), AllocError>
+        ensures { F.replaced files.new ≡ F.replaced files.old }
+    {
         let mut names = match files.list(alloc, path.as_str()) {
             Ok(names) => names,
             Err(FileError::OutOfMemory) => return Err(AllocError),
@@ -181,7 +191,9 @@ fn kind_of<F: FileSystem>(
     files: &mut F,
     path: &str,
     is_given: bool,
-) -> Result<Option<Kind>, FileError> {
+) -> Result<Option<Kind>, FileError>
+    ensures { F.replaced files.new ≡ F.replaced files.old }
+{
     if is_given {
         return Ok(Some(files.target(path)?));
     }
