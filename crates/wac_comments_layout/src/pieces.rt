@@ -1,9 +1,9 @@
 // The pieces of a text: its tokens and comments, in order.
 use crate::columns::column_after;
-use crate::parts::{is_line_comment, kept_len, part_len};
+use crate::parts::{is_line_comment, kept_len};
 use std::alloc::{AllocError, Global};
 use thiserror::Error;
-use wac_lexer::{Lexer, SourceSpan};
+use wac_lexer::{Lexer, SourceSpan, part_len};
 
 /// Why the pieces of a text were not read.
 #[derive(Debug, Drop, Error)]

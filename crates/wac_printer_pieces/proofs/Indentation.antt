@@ -1,9 +1,13 @@
 -- Indentation.
-use Rattle.std.proofs.Common.{◌≡◌, ℕ, zero, suc, ◌+◌, ◌<◌, ◌≤◌, Bool, true, false, cond, List, [], ◌∷◌, ◌++◌, append_assoc, append-nil, refl, sym, ap, ◌∙◌, subst, arith, add-one, ⊎_elim}
+use Rattle.std.proofs.Common.{◌≡◌, ℕ, zero, suc, ◌+◌, ◌*◌, ◌<◌, ◌≤◌, Bool, true, false, cond, List, [], ◌∷◌, ◌++◌, take, replicate, append_assoc, append-nil, refl, sym, ap, ◌∙◌, subst, arith, add-one, ⊎_elim}
 use Rattle.std.specs.Prelude.{◌⊎◌}
+use Rattle.std.specs.Str.{IsAscii}
+use Rattle.std.proofs.lemmas.List.{replicate-append-replicate, take-replicate}
+use Rattle.std.proofs.lemmas.List.Elements.{All-replicate}
+use Rattle.std.proofs.lemmas.Str.Ascii.{IsAscii-from_all}
 use Rattle.wac_layout.specs.Printed.{blank, line, text, fresh_after, times}
 use Rattle.wac_printer_pieces.specs.Printed.{Printer, after, is_front, Prints, spaces, has_failed}
-use Rattle.std.proofs.Common.{Result, Err}
+use Rattle.std.proofs.Common.{Result, Ok, Err}
 use Rattle.wac_printer_pieces.specs.declared.error.PrintError.{PrintError}
 use Rattle.wac_printer_pieces.proofs.Printing.{goes, wrote_all, after-append, text-append, fresh_after-append, front-after, seq, after-nil}
 
@@ -41,6 +45,38 @@ unfolding after
 line-stale d s h =
     let e : text s.space s.fresh (line d ∷ []) ≡ [] = ap (λ f. cond f (times d s.space) [] ++ []) h in
     (λ i. record s { bytes = s.bytes ++ e i; fresh = fresh_after s.fresh (e i) })
+
+-- a text that is the space so many times, written at once
+pub at_once : (count : ℕ) (whole : List ℕ) (s : Printer) → whole ≡ times count s.space → after (blank whole ∷ []) s ≡ after (spaces count s.space) s
+unfolding after
+at_once count whole s e =
+    let same : text s.space s.fresh (blank whole ∷ []) ≡ text s.space s.fresh (spaces count s.space) = append-nil whole ∙ e ∙ sym (spaces_text count s.space s.space s.fresh) in
+    (λ i. record s { bytes = s.bytes ++ same i; fresh = fresh_after s.fresh (same i) })
+
+-- pieces that write the same
+pub prints_same : {A : Type 0} (old new : Printer) (r : Result A PrintError) (ps qs : List Piece) → after ps old ≡ after qs old → Prints old r new ps → Prints old r new qs
+prints_same old new (Ok a) ps qs e h = wrote_all old new a qs h.is.0 (h.is.1 ∙ e)
+prints_same old new (Err x) ps qs e h =
+    let o = h.is in
+    record { is = (o.0, o.1, o.2, o.3, subst (λ (p : Printer). is_front (has_failed x) new.bytes p.bytes ≡ true) e o.4, o.5); keeps = h.keeps }
+
+-- the blanks that an indentation is a part of
+pub blanks_are_ascii : IsAscii (replicate 64 32)
+blanks_are_ascii = IsAscii-from_all (replicate 64 32) (All-replicate (λ b. b < 128) 64 32 (omega arith))
+
+times_blanks : (count n : ℕ) → times count (replicate n 32) ≡ replicate (n * count) 32
+times_blanks zero n = ap (λ k. replicate k 32) (omega arith)
+times_blanks (suc count) n =
+    ap (λ t. replicate n 32 ++ t) (times_blanks count n)
+    ∙ replicate-append-replicate n (n * count) 32
+    ∙ ap (λ k. replicate k 32) (search arith)
+
+-- a part of some blanks, so many times
+pub times_of_blanks : (count n m : ℕ) (text : List ℕ) → text ≡ take n (replicate m 32) → n ≤ m → n * count ≤ m → take (n * count) (replicate m 32) ≡ times count text
+times_of_blanks count n m text e fits all =
+    take-replicate (n * count) m 32 all
+    ∙ sym (times_blanks count n)
+    ∙ ap (times count) (sym (e ∙ take-replicate n m 32 fits))
 
 pub ruleset seq_many = (seq, spaces-more, spaces-front)
 

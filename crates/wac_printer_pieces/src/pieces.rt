@@ -1,5 +1,5 @@
 //! What writes pieces: how it is made, and what it writes with.
-ghost use Rattle.std.specs.Prelude.{◌≡◌, ◌≤◌, ◌+◌, ℕ, List, [], ◌∷◌, ◌++◌, true, false, Option, Some, None, unwrap_or, codes, length, take, drop};
+ghost use Rattle.std.specs.Prelude.{◌≡◌, ◌≤◌, ◌+◌, ℕ, List, [], ◌∷◌, ◌++◌, true, false, Option, Some, None, IfSome, unwrap_or, codes, length, take, drop};
 ghost use Rattle.wac_lexer.specs.Reading.{slice, Slices};
 ghost use Rattle.wac_layout.specs.Printed.{Piece, token, blank, line, fresh_after, times, deeper};
 ghost use Rattle.wac_printer_pieces.specs.Printed.{Printer, Prints, after, spaces, space_of};
@@ -46,6 +46,29 @@ fn one_deeper(depth: usize) -> usize
     } else {
         depth + 1
     }
+}
+
+/// Blanks, of which an indentation is a part.
+const BLANKS: &str = "                                                                ";
+
+/// The text so many times, where that is a few blanks.
+fn blanks(text: &str, count: usize) -> Option<&'static str>
+    ensures { IfSome result (λ whole. whole.now ≡ times count text.now) }
+{
+    let len = text.len();
+    if len > BLANKS.len() {
+        return None;
+    }
+    let (front, _) = BLANKS.split_at(len);
+    if front != text {
+        return None;
+    }
+    let whole = len.checked_mul(count)?;
+    if whole > BLANKS.len() {
+        return None;
+    }
+    let (blanks, _) = BLANKS.split_at(whole);
+    Some(blanks)
 }
 
 impl<'a, S: Sink> Pieces<'a, S> {
@@ -116,6 +139,17 @@ impl<'a, S: Sink> Pieces<'a, S> {
         Ok(())
     }
 
+    /// Writes the space once for each depth: at once, where these are a few blanks.
+    #[tactic(auto, using(crate::proofs::Indentation::seq_many))]
+    fn indentation(&mut self) -> PrintResult
+        ensures { Prints self.old result self.new (spaces self.old.depth self.old.space) }
+    {
+        match blanks(self.space, self.depth) {
+            Some(whole) => self.blank(whole),
+            None => self.many(self.depth),
+        }
+    }
+
     /// Whether it can continue: [`PrintError::Failed`] where the sink has failed.
     pub fn ready(&self) -> PrintResult
         ensures { Prints self.now result self.now [] }
@@ -133,7 +167,7 @@ impl<'a, S: Sink> Pieces<'a, S> {
         ensures { Prints self.old result self.new (line self.old.depth ∷ []) }
     {
         if self.fresh {
-            self.many(self.depth)
+            self.indentation()
         } else {
             self.ready()
         }

@@ -1,9 +1,0 @@
-use Rattle.std.proofs.Common.{length, ◌-◌, ◌≡◌, ◌≤◌, ◌<◌, ◌+◌, drop}
-use Rattle.wac_lexer.specs.Comments.{behind}
-use Rattle.wac_comments_layout.proofs.parts.comment_end.Given as goal
-
-abbrev pub invariant-loop-i : goal.invariant-loop-i
-invariant-loop-i l = record { within : l.i ≤ length l.bytes; deep : 0 < l.depth; few : l.depth ≤ l.i + 1; left : behind l.depth (drop l.i l.bytes) ≡ behind 1 l.bytes }
-
-abbrev pub decreases-loop-i : goal.decreases-loop-i
-decreases-loop-i l = length l.bytes - l.i

@@ -1,0 +1,232 @@
+//! Types.
+ghost use Rattle.std.specs.Prelude.{◌≡◌, ℕ, List, [], ◌∷◌, ◌++◌, codes};
+ghost use Rattle.std.specs.List.{flat_map};
+ghost use Rattle.wac_ast_base.specs.Names.{ident_of};
+ghost use Rattle.wac_ast_types.specs.Types.{optional_of, ty_of};
+ghost use Rattle.wac_layout.specs.Printed.{blank};
+ghost use Rattle.wac_printer_pieces.specs.Printed.{Prints};
+ghost use Rattle.wac_json_text.specs.Forms.{ident_json, optional_ty_json, span_json, ty_json};
+ghost use Rattle.wac_json_text.specs.Pieces.{behind_comma, joined_pieces, list_pieces, pieces, result_pieces};
+
+use crate::json::Json;
+use wac_ast::{Ident, Type};
+use wac_lexer::{Sink, SourceSpan};
+use wac_printer_pieces::{Pieces, PrintResult};
+
+impl Json for Type<'_> {
+    ghost form = { λ x. ty_json (ty_of x) };
+
+    fn write<S: Sink>(&self, out: &mut Pieces<'_, S>) -> PrintResult {
+        ty(self, out)
+    }
+}
+
+/// Writes a type that is a keyword: its place.
+#[tactic(auto, using(crate::proofs::Steps::steps))]
+fn keyword<S: Sink>(open: &str, span: &SourceSpan, out: &mut Pieces<'_, S>) -> PrintResult
+    ensures { Prints out.old result out.new (blank open.now ∷ (pieces (span_json span.now) ++ blank (codes "}") ∷ [])) }
+{
+    out.blank(open).and(span.write(out)).and(out.blank("}"))
+}
+
+/// Writes a type that is a name.
+#[tactic(auto, using(crate::proofs::Steps::steps))]
+fn named<S: Sink>(id: &Ident<'_>, out: &mut Pieces<'_, S>) -> PrintResult
+    ensures { Prints out.old result out.new (blank (codes "{\"ident\":") ∷ (pieces (ident_json (ident_of id.now)) ++ blank (codes "}") ∷ [])) }
+{
+    out.blank("{\"ident\":").and(id.write(out)).and(out.blank("}"))
+}
+
+/// Writes the second of two contents, a span, and what closes both.
+#[tactic(auto, using(crate::proofs::Steps::steps))]
+fn and_span<S: Sink>(span: &SourceSpan, out: &mut Pieces<'_, S>) -> PrintResult
+    ensures { Prints out.old result out.new (blank (codes ",") ∷ (pieces (span_json span.now) ++ blank (codes "]") ∷ blank (codes "}") ∷ [])) }
+{
+    out.blank(",")
+        .and(span.write(out))
+        .and(out.blank("]"))
+        .and(out.blank("}"))
+}
+
+/// Writes a borrowed resource.
+#[tactic(auto, using(crate::proofs::Steps::steps))]
+fn borrowed<S: Sink>(id: &Ident<'_>, span: &SourceSpan, out: &mut Pieces<'_, S>) -> PrintResult
+    ensures { Prints out.old result out.new (blank (codes "{\"borrow\":") ∷ blank (codes "[") ∷ (pieces (ident_json (ident_of id.now)) ++ blank (codes ",") ∷ (pieces (span_json span.now) ++ blank (codes "]") ∷ blank (codes "}") ∷ []))) }
+{
+    out.blank("{\"borrow\":")
+        .and(out.blank("["))
+        .and(id.write(out))
+        .and(and_span(span, out))
+}
+
+/// Writes a type.
+#[tactic(auto, using(crate::proofs::Steps::steps), unfolding(crate::specs::Forms::ty_json, json::specs::Print::escape_byte))]
+#[cycle(types)]
+pub(crate) fn ty<S: Sink>(tree: &Type<'_>, out: &mut Pieces<'_, S>) -> PrintResult
+    ensures { Prints out.old result out.new (pieces (ty_json (ty_of tree.now))) }
+{
+    match tree {
+        Type::U8(span) => keyword("{\"u8\":", span, out),
+        Type::S8(span) => keyword("{\"s8\":", span, out),
+        Type::U16(span) => keyword("{\"u16\":", span, out),
+        Type::S16(span) => keyword("{\"s16\":", span, out),
+        Type::U32(span) => keyword("{\"u32\":", span, out),
+        Type::S32(span) => keyword("{\"s32\":", span, out),
+        Type::U64(span) => keyword("{\"u64\":", span, out),
+        Type::S64(span) => keyword("{\"s64\":", span, out),
+        Type::F32(span) => keyword("{\"f32\":", span, out),
+        Type::F64(span) => keyword("{\"f64\":", span, out),
+        Type::Char(span) => keyword("{\"char\":", span, out),
+        Type::Bool(span) => keyword("{\"bool\":", span, out),
+        Type::String(span) => keyword("{\"string\":", span, out),
+        Type::Tuple(types, span) => tuple(types, span, out),
+        Type::List(held, span) => holding("{\"list\":", held, span, out),
+        Type::Option(held, span) => holding("{\"option\":", held, span, out),
+        Type::Result { ok, err, span } => result_type(ok, err, span, out),
+        Type::Borrow(id, span) => borrowed(id, span, out),
+        Type::Stream(held, span) => perhaps_holding("{\"stream\":", held, span, out),
+        Type::Future(held, span) => perhaps_holding("{\"future\":", held, span, out),
+        Type::ErrorContext(span) => keyword("{\"errorContext\":", span, out),
+        Type::Ident(id) => named(id, out),
+    }
+}
+
+/// Writes a type that holds one.
+#[tactic(auto, using(crate::proofs::Steps::steps))]
+#[cycle(types)]
+fn holding<S: Sink>(
+    open: &str,
+    held: &Type<'_>,
+    span: &SourceSpan,
+    out: &mut Pieces<'_, S>,
+) -> PrintResult
+    ensures { Prints out.old result out.new (blank open.now ∷ blank (codes "[") ∷ (pieces (ty_json (ty_of held.now)) ++ blank (codes ",") ∷ (pieces (span_json span.now) ++ blank (codes "]") ∷ blank (codes "}") ∷ []))) }
+{
+    out.blank(open)?;
+    out.blank("[")?;
+    ty(held, out)?;
+    and_span(span, out)
+}
+
+/// Writes a type that may hold one.
+#[tactic(auto, using(crate::proofs::Steps::steps))]
+#[cycle(types)]
+fn perhaps_holding<S: Sink>(
+    open: &str,
+    held: &Option<Box<Type<'_>>>,
+    span: &SourceSpan,
+    out: &mut Pieces<'_, S>,
+) -> PrintResult
+    ensures { Prints out.old result out.new (blank open.now ∷ blank (codes "[") ∷ (pieces (optional_ty_json (optional_of held.now)) ++ blank (codes ",") ∷ (pieces (span_json span.now) ++ blank (codes "]") ∷ blank (codes "}") ∷ []))) }
+{
+    out.blank(open)?;
+    out.blank("[")?;
+    payload(held, out)?;
+    and_span(span, out)
+}
+
+/// Writes a type that may be left out.
+#[tactic(auto, using(crate::proofs::Steps::steps), unfolding(crate::specs::Forms::optional_ty_json))]
+#[cycle(types)]
+fn payload<S: Sink>(held: &Option<Box<Type<'_>>>, out: &mut Pieces<'_, S>) -> PrintResult
+    ensures { Prints out.old result out.new (pieces (optional_ty_json (optional_of held.now))) }
+{
+    match held {
+        Some(held) => ty(held, out),
+        None => out.blank("null"),
+    }
+}
+
+/// Writes a result, whose contents have names.
+#[tactic(auto, using(crate::proofs::Steps::steps))]
+#[cycle(types)]
+fn result_type<S: Sink>(
+    ok: &Option<Box<Type<'_>>>,
+    err: &Option<Box<Type<'_>>>,
+    span: &SourceSpan,
+    out: &mut Pieces<'_, S>,
+) -> PrintResult
+    ensures { Prints out.old result out.new (result_pieces (optional_ty_json (optional_of ok.now)) (optional_ty_json (optional_of err.now)) (span_json span.now)) }
+{
+    out.blank("{\"result\":")?;
+    out.blank("{\"err\":")?;
+    payload(err, out)?;
+    out.blank(",\"ok\":")?;
+    payload(ok, out)?;
+    result_span(span, out)
+}
+
+/// Writes the last member of a result, and what closes it.
+#[tactic(auto, using(crate::proofs::Steps::steps))]
+fn result_span<S: Sink>(span: &SourceSpan, out: &mut Pieces<'_, S>) -> PrintResult
+    ensures { Prints out.old result out.new (blank (codes ",\"span\":") ∷ (pieces (span_json span.now) ++ blank (codes "}") ∷ blank (codes "}") ∷ [])) }
+{
+    out.blank(",\"span\":")
+        .and(span.write(out))
+        .and(out.blank("}"))
+        .and(out.blank("}"))
+}
+
+/// Writes a tuple.
+#[tactic(auto, using(crate::proofs::Steps::steps))]
+#[cycle(types)]
+fn tuple<S: Sink>(
+    types: &[Type<'_>],
+    span: &SourceSpan,
+    out: &mut Pieces<'_, S>,
+) -> PrintResult
+    ensures { Prints out.old result out.new (blank (codes "{\"tuple\":") ∷ blank (codes "[") ∷ (list_pieces (λ x. pieces (ty_json (ty_of x))) types.now ++ blank (codes ",") ∷ (pieces (span_json span.now) ++ blank (codes "]") ∷ blank (codes "}") ∷ []))) }
+{
+    out.blank("{\"tuple\":")?;
+    out.blank("[")?;
+    type_list(types, out)?;
+    and_span(span, out)
+}
+
+/// Writes types in brackets.
+#[tactic(auto, using(crate::proofs::Steps::steps))]
+#[cycle(types)]
+fn type_list<S: Sink>(types: &[Type<'_>], out: &mut Pieces<'_, S>) -> PrintResult
+    ensures { Prints out.old result out.new (list_pieces (λ x. pieces (ty_json (ty_of x))) types.now) }
+{
+    out.blank("[")?;
+    joined_types(types, out)?;
+    out.blank("]")
+}
+
+/// Writes types with a comma between two.
+#[tactic(auto, using(crate::proofs::Steps::steps))]
+#[cycle(types)]
+fn joined_types<S: Sink>(types: &[Type<'_>], out: &mut Pieces<'_, S>) -> PrintResult
+    ensures { Prints out.old result out.new (joined_pieces (λ x. pieces (ty_json (ty_of x))) types.now) }
+{
+    match types.split_first() {
+        None => out.ready(),
+        Some((first, rest)) => {
+            ty(first, out)?;
+            further_types(rest, out)
+        }
+    }
+}
+
+/// Writes types, each after a comma.
+#[tactic(auto, using(crate::proofs::Steps::steps))]
+#[cycle(types)]
+fn further_types<S: Sink>(types: &[Type<'_>], out: &mut Pieces<'_, S>) -> PrintResult
+    ensures { Prints out.old result out.new (flat_map (λ x. behind_comma (pieces (ty_json (ty_of x)))) types.now) }
+{
+    out.ready()?;
+    for held in types {
+        further_type(held, out)?;
+    }
+    Ok(())
+}
+
+#[tactic(auto, using(crate::proofs::Steps::steps))]
+#[cycle(types)]
+fn further_type<S: Sink>(held: &Type<'_>, out: &mut Pieces<'_, S>) -> PrintResult
+    ensures { Prints out.old result out.new (behind_comma (pieces (ty_json (ty_of held.now)))) }
+{
+    out.blank(",")?;
+    ty(held, out)
+}

@@ -1,0 +1,9 @@
+use Rattle.std.proofs.Common.{arith}
+use Rattle.wac_lexer.proofs.Tables.{class_is, class_within}
+use Rattle.wac_lexer.proofs.automaton.class_of.Goals as goal
+
+pub returns-clause-class : goal.returns-clause-class
+returns-clause-class c = class_is c.args.byte (omega arith)
+
+pub returns-clause-within : goal.returns-clause-within
+returns-clause-within c = class_within c.args.byte (omega arith)
