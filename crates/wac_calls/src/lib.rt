@@ -1,0 +1,11 @@
+//! The words of `wac` over texts in memory, for callers who bring the room for what is written.
+#![tactic(auto)]
+
+mod answer;
+mod calls;
+mod nesting;
+mod room;
+
+pub use answer::{Answer, Status};
+pub use calls::{DEFAULT_LIMIT, call};
+pub use wac_tool::Command;
