@@ -2,7 +2,7 @@
 use crate::failing::{Calls, Failing};
 use std::os::unix::fs::{PermissionsExt, symlink};
 use std::test::Fail;
-use std::{fs, process};
+use std::{env, fs, process};
 use wac_files::{Disk, FileError, FileSystem};
 
 const OLD: &[u8] = b"package  a:b;\n";
@@ -12,7 +12,9 @@ const NEW: &[u8] = b"package a:b;\n";
 /// An empty folder of this process.
 fn folder(rt: &HostRuntime, name: &str) -> Result<String, Fail> {
     let run = process::id(rt.process());
-    let path = format!(in rt.alloc(); "/tmp/wac_files_vectors-{run}-{name}")?;
+    let place = env::temp_dir(rt)?;
+    let place = place.as_str();
+    let path = format!(in rt.alloc(); "{place}/wac_files_vectors-{run}-{name}")?;
     fs::create_dir(rt, path.as_str())?;
     Ok(path)
 }
