@@ -1,6 +1,6 @@
 //! Taking tokens, and what every parser returns.
 
-ghost use Rattle.std.specs.Prelude.{◌≡◌, ◌≤◌, ◌<◌, ◌^◌, true, false, IfOk, IfErr, Some, Ok, map, [], List, OnOk, ◌++◌, ◌∷◌, alloc_error, IfSome, IsErrAnd, None, MatchResult};
+ghost use Rattle.std.specs.Prelude.{◌≡◌, ◌≤◌, ◌<◌, ◌^◌, true, false, IfOk, IfErr, Some, Ok, map, [], List, OnOk, ◌++◌, ◌∷◌, alloc_error, IfSome, None, MatchResult};
 ghost use Rattle.wac_lexer.specs.Span.{span, end_of};
 ghost use Rattle.wac_lexer.specs.Item.{handed, behind_first, OnFirst};
 ghost use Rattle.wac_lexer.specs.Reading.{left, shown, slice, Slices, Reading, Nexts};
@@ -15,9 +15,8 @@ ghost use Rattle.wac_ast_base.specs.Names.{doc_comment_of};
 ghost use Rattle.wac_lexer.specs.declared.token.Token as the_token;
 ghost use Rattle.wac_ast_base.specs.declared.error.Error.TheVariants.{Memory};
 ghost use Rattle.std.specs.Fn.{FnOnceReturnsAtMut};
-ghost use Rattle.wac_ast_base.specs.Optional.{AnswersBy};
+ghost use Rattle.wac_ast_base.specs.Optional.{AnswersBy, FailsBy, ReportsFault};
 ghost use Rattle.wac_grammar.specs.Consumed.{Consumed};
-ghost use Rattle.wac_ast_base.specs.declared.error.Error.{Error};
 ghost use Rattle.wac_lexer.specs.declared.token.Token.TheVariants as tokens;
 
 use crate::error::{Error, ParseResult};
@@ -202,7 +201,7 @@ pub fn take_optional(lexer: &mut Lexer, expected: Token) -> ParseResult<bool>
     requires { plain expected ≡ true }
     ensures takes { TakesOptional expected result lexer.old lexer.new }
     // Only a fault is rejected, and nothing is taken there.
-    ensures refused { IfErr result (λ e. (fault_at (handed (left lexer.old)) ≡ Some (told_by e)) × (lexer.new ≡ lexer.old)) }
+    ensures refused { IfErr result (ReportsFault lexer.old lexer.new) }
     ensures source { lexer.new.source ≡ lexer.old.source }
     ensures moves { lexer.old.place ≤ lexer.new.place }
 {
@@ -243,7 +242,7 @@ pub fn parse_optional<'a, R, E: From<Error>, F: FnOnce(&mut Lexer<'a>) -> Result
     // Another token and the end give nothing.
     ensures none { at expected (left lexer.old) ≡ false → fault_at (handed (left lexer.old)) ≡ None → (result ≡ Ok None) × (lexer.new ≡ lexer.old) }
     // A fault is rejected, and not taken.
-    ensures refused { IfSome (fault_at (handed (left lexer.old))) (λ t. IsErrAnd result (λ x. (e : Error) × E.from_gives e x × (told_by e ≡ t)) × (lexer.new ≡ lexer.old)) }
+    ensures refused { IfSome (fault_at (handed (left lexer.old))) (FailsBy E.from_gives result lexer.old lexer.new) }
 {
     if at(lexer, expected) {
         lexer.next();

@@ -6,6 +6,8 @@ mod borrows;
 #[cfg(test)]
 mod building;
 #[cfg(test)]
+mod chains;
+#[cfg(test)]
 mod fixture;
 #[cfg(test)]
 mod graph;

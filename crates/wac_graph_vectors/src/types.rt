@@ -211,7 +211,7 @@ fn defining(alloc: Global) -> Result<Package, PackageError> {
 }
 
 /// Whether the definitions of these places mean the same.
-fn same(package: &Package, i: usize, j: usize) -> Option<bool> {
+pub fn same(package: &Package, i: usize, j: usize) -> Option<bool> {
     let types = package.types();
     let definitions = package.definitions();
     let (_, first) = definitions.get_index(i)?;

@@ -1,11 +1,9 @@
 //! The packages that a document mentions.
-ghost use Rattle.std.specs.Prelude.{◌≡◌, ℕ, List, IfOk, map};
-ghost use Rattle.std.specs.Str.{IsUtf8};
+ghost use Rattle.std.specs.Prelude.{◌≡◌, IfOk, map};
 ghost use Rattle.wac_ast.specs.Statements.{document_of, statement_of};
 ghost use Rattle.wac_ast_statements.specs.Statements.{directive_of};
-ghost use Rattle.wac_grammar.specs.TextTree.{IsTreeOf};
 ghost use Rattle.wac_resolution_rules.specs.Mentions.{mentions};
-ghost use Rattle.wac_parser_packages.specs.Ascending.{Ascend};
+ghost use Rattle.wac_parser_packages.specs.Ascending.{AscendInTexts};
 ghost use Rattle.wac_parser_packages.specs.FirstMentions.{first_mentions};
 ghost use Rattle.wac_parser_packages.specs.Noted.{mentioned_by, mentions_in};
 ghost use Rattle.wac_parser_packages.specs.Packages.{AreFirst, OnlyTheseMatter};
@@ -53,7 +51,7 @@ pub fn packages(
     // Each mentioned package is listed once, with the place of its first mention, and no other one.
     ensures first { IfOk result (λ m. AreFirst (mentions (document_of document.now)) (mentions_in m.entries)) }
     // Of the document of a text their places ascend: the list is in the order of its spans.
-    ensures order { IfOk result (λ m. (source : List ℕ) → IsUtf8 source → IsTreeOf source (document_of document.now) → Ascend (mentions_in m.entries)) }
+    ensures order { IfOk result (λ m. AscendInTexts (document_of document.now) (mentions_in m.entries)) }
     // Whatever packages are passed to resolving, no others matter.
     ensures matter { IfOk result (λ m. OnlyTheseMatter (document_of document.now) (mentions_in m.entries)) }
 {

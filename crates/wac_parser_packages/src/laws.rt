@@ -1,10 +1,8 @@
 // Laws of the definitions that the contracts cite. Each function does nothing: its contract is the law.
 ghost use Rattle.wac_grammar.specs.Tree.{Document};
 ghost use Rattle.wac_resolution_rules.specs.Mentions.{Mention, mentions};
-ghost use Rattle.std.specs.Prelude.{List, ℕ};
-ghost use Rattle.std.specs.Str.{IsUtf8};
-ghost use Rattle.wac_grammar.specs.TextTree.{IsTreeOf};
-ghost use Rattle.wac_parser_packages.specs.Ascending.{Ascend};
+ghost use Rattle.std.specs.Prelude.{List};
+ghost use Rattle.wac_parser_packages.specs.Ascending.{AscendInTexts};
 ghost use Rattle.wac_parser_packages.specs.FirstMentions.{first_mentions};
 ghost use Rattle.wac_parser_packages.specs.Packages.{AreFirst, OnlyTheseMatter};
 
@@ -22,8 +20,8 @@ pub fn only_first_mentions_matter()
 
 /// The mentions of a document of a text are in the order of their places, and so are the first ones.
 pub fn mentions_stand_in_order()
-    ensures all { (source : List ℕ) (document : Document) → IsUtf8 source → IsTreeOf source document → Ascend (mentions document) }
-    ensures first { (source : List ℕ) (document : Document) → IsUtf8 source → IsTreeOf source document → Ascend (first_mentions (mentions document)) }
+    ensures all { (document : Document) → AscendInTexts document (mentions document) }
+    ensures first { (document : Document) → AscendInTexts document (first_mentions (mentions document)) }
 {
     items_stand_in_order();
 }

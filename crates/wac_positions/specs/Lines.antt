@@ -33,6 +33,14 @@ lines_begin_after_their_ends = refl
 abbrev pub is_line_end : ℕ → Bool
 is_line_end b = nat_eq b line_feed || nat_eq b carriage_return
 
+-- no byte of the text does
+abbrev pub HasNoLineEnd : List ℕ → Type 0
+HasNoLineEnd text = (i : ℕ) → i < length text → is_line_end (slice_index text i) ≡ false
+
+-- where the n-th line begins
+abbrev pub start_of : List ℕ → ℕ → ℕ
+start_of text n = slice_index (line_starts text) n
+
 -- the n-th line, without its end
 abbrev pub line : List ℕ → ℕ → List ℕ
 line text n = before_first is_line_end (drop (slice_index (line_starts text) n) text)

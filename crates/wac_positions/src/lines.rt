@@ -2,7 +2,7 @@
 ghost use Rattle.std.specs.Prelude.{◌≡◌, ℕ, ◌≤◌, ◌<◌, IfOk, IfSome, None, length};
 ghost use Rattle.std.specs.List.{position_or_len};
 ghost use Rattle.std.specs.Str.{IsCharBoundary};
-ghost use Rattle.wac_positions.specs.Lines.{ends_line, is_line_end, line_starts};
+ghost use Rattle.wac_positions.specs.Lines.{ends_line, is_line_end, line_starts, start_of};
 ghost use Rattle.wac_positions.specs.Places.{units, IsColumn};
 
 use crate::place::{ColumnUnit, Place, width};
@@ -160,7 +160,7 @@ impl<'a> Lines<'a> {
     /// Where the next line begins, or the text ends.
     fn stop(&self, number: usize) -> usize
         requires { number < length (line_starts self.now) }
-        ensures next { number + 1 < length (line_starts self.now) → result ≡ slice_index (line_starts self.now) (number + 1) }
+        ensures next { number + 1 < length (line_starts self.now) → result ≡ start_of self.now (number + 1) }
         ensures last { length (line_starts self.now) ≡ number + 1 → result ≡ length self.now }
     {
         let count = self.starts.len();

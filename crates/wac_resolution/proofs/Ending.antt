@@ -18,13 +18,14 @@ use Rattle.wac_graph.specs.Graph.{Parts}
 use Rattle.wac_graph.specs.Origin.{Naming, IsOneToOne}
 use Rattle.wac_graph.specs.Package.{Key}
 use Rattle.wac_graph.specs.Packages.{handed}
-use Rattle.wac_resolution_errors.specs.Error.{Error, memory, NamesRule}
+use Rattle.wac_resolution_errors.specs.Error.{Error, Reports, memory}
 use Rattle.wac_resolution_rules.specs.Composition.{Composition, start, with_resources}
 use Rattle.wac_resolution_rules.specs.Given.{Given, Rules, rules_by}
 use Rattle.wac_resolution_rules.specs.Places.{Placed, Leads, placed_start}
 use Rattle.wac_resolution_rules.specs.ResolvedDocument.{given_to, Describes, FirstFailing}
 use Rattle.wac_resolution_rules.specs.Statements.{Composes}
 use Rattle.wac_resolution_rules.specs.Target.{MeetsTarget}
+use Rattle.wac_resolution_errors.proofs.Reports.{reports}
 use Rattle.wac_resolution_rules.proofs.FirstFailing.{leads_composes, first_has_none, fails_at, fails_at_target}
 use Rattle.wac_resolution_nodes.specs.declared.root.Root.{Root}
 use Rattle.wac_resolution_nodes.specs.Nodes.{composition_of}
@@ -42,7 +43,6 @@ use Rattle.wac_resolution_target.specs.Outcome.{Meets, Unmeets}
 use Rattle.wac_resolution.specs.Resolved.{by_key}
 use Rattle.wac_resolution.specs.Steps.{MeetsIn, MissesIn, Composed, TargetLast, Breaks}
 use Rattle.wac_resolution.proofs.Starting.{IsStart, start_placed}
-use Rattle.wac_resolution.proofs.Told.{memory_or_rule}
 
 -- ---- the target
 
@@ -110,27 +110,22 @@ pub describes : (setting : Setting) (rules : Rules) (packages : List (Key × Pac
 describes setting rules packages doc g h c naming one =
     subst (λ (s : Given). Describes s doc (composition_of naming g c.declared)) (given_same naming setting rules packages doc h) (c.composes naming one, c.met naming one)
 
-failing : (s : Given) (doc : Document) (e : Error) → NamesRule e → Fails (Leads s) (BreaksAfter s e) (placed_start start) doc.statements ⊎ TargetLast s doc.statements doc.directive.targets e → FirstFailing s doc e
-failing s doc e rule (inl f) = fails_at s doc e rule f.before f.failing f.after f.split f.reached f.leads f.breaks
-failing s doc e rule (inr t) = fails_at_target s doc e rule t.target t.has t.whole t.leads t.broken
+failing : (s : Given) (doc : Document) (e : Error) → Fails (Leads s) (BreaksAfter s e) (placed_start start) doc.statements ⊎ TargetLast s doc.statements doc.directive.targets e → FirstFailing s doc e
+failing s doc e (inl f) = fails_at s doc e f.before f.failing f.after f.split f.reached f.leads f.breaks
+failing s doc e (inr t) = fails_at_target s doc e t.target t.has t.whole t.leads t.broken
 
--- what fails first, unless memory ran out
+-- what fails first
 pub fails_first : (setting : Setting) (rules : Rules) (packages : List (Key × PackageParts)) (doc : Document) (e : Error) → IsSettingOf setting packages doc → Breaks setting rules doc.statements doc.directive.targets e
-    → (naming : Naming) → IsOneToOne naming → (e ≡ memory) ⊎ FirstFailing (given_to naming packages rules doc) doc e
-fails_first setting rules packages doc e h broken naming one = go (memory_or_rule e)
-  where
-    go : (e ≡ memory) ⊎ NamesRule e → (e ≡ memory) ⊎ FirstFailing (given_to naming packages rules doc) doc e
-    go (inl m) = inl m
-    go (inr rule) = inr (subst (λ (s : Given). FirstFailing s doc e) (given_same naming setting rules packages doc h) (failing (given_in naming setting rules) doc e rule (broken naming one)))
+    → (naming : Naming) → IsOneToOne naming → FirstFailing (given_to naming packages rules doc) doc e
+fails_first setting rules packages doc e h broken naming one =
+    subst (λ (s : Given). FirstFailing s doc e) (given_same naming setting rules packages doc h) (failing (given_in naming setting rules) doc e (broken naming one))
 
 -- what is described is rejected only where memory ran out
-pub only_memory : (setting : Setting) (rules : Rules) (packages : List (Key × PackageParts)) (doc : Document) (e : Error) → IsSettingOf setting packages doc → Breaks setting rules doc.statements doc.directive.targets e
+pub only_memory : (setting : Setting) (rules : Rules) (packages : List (Key × PackageParts)) (doc : Document) (e : Error) → IsSettingOf setting packages doc → Reports e (Breaks setting rules doc.statements doc.directive.targets e)
     → (naming : Naming) → IsOneToOne naming → (c : Composition) → Describes (given_to naming packages rules doc) doc c → e ≡ memory
-only_memory setting rules packages doc e h broken naming one c described = go (fails_first setting rules packages doc e h broken naming one)
-  where
-    go : (e ≡ memory) ⊎ FirstFailing (given_to naming packages rules doc) doc e → e ≡ memory
-    go (inl m) = m
-    go (inr f) = absurd (first_has_none (given_to naming packages rules doc) doc e c f described)
+only_memory setting rules packages doc e h (inl ran_out) naming one c described = ran_out
+only_memory setting rules packages doc e h (inr broken) naming one c described =
+    absurd (first_has_none (given_to naming packages rules doc) doc e c (fails_first setting rules packages doc e h broken naming one) described)
 
 -- ---- a borrowed document
 
@@ -175,11 +170,11 @@ pub lent_handed : (setting : Setting) (rules : Rules) (packages : List (PackageK
 lent_handed setting rules packages lent doc statements g h c = subst (λ (l : List (Key × PackageParts)). HoldsHanded l g) h.packages_are c.handed
 
 pub lent_fails : (setting : Setting) (rules : Rules) (packages : List (PackageKey × PackageParts)) (lent doc : CodeDocument) (statements : List CodeStatement) (e : Error) → IsLent setting packages lent doc statements
-    → Breaks setting rules (map statement_of statements) (option_map package_path_of lent.directive.targets) e → (naming : Naming) → IsOneToOne naming → (e ≡ memory) ⊎ FirstFailing (given_to naming (by_key packages) rules (document_of doc)) (document_of doc) e
-lent_fails setting rules packages lent doc statements e h broken =
-    fails_first setting rules (by_key packages) (document_of doc) e (lent_setting setting packages lent doc statements h) (of_document (λ all targets. Breaks setting rules all targets e) setting packages lent doc statements h broken)
+    → Reports e (Breaks setting rules (map statement_of statements) (option_map package_path_of lent.directive.targets) e) → (naming : Naming) → IsOneToOne naming → Reports e (FirstFailing (given_to naming (by_key packages) rules (document_of doc)) (document_of doc) e)
+lent_fails setting rules packages lent doc statements e h said naming one =
+    reports said (λ broken. fails_first setting rules (by_key packages) (document_of doc) e (lent_setting setting packages lent doc statements h) (of_document (λ all targets. Breaks setting rules all targets e) setting packages lent doc statements h broken) naming one)
 
 pub lent_only : (setting : Setting) (rules : Rules) (packages : List (PackageKey × PackageParts)) (lent doc : CodeDocument) (statements : List CodeStatement) (e : Error) → IsLent setting packages lent doc statements
-    → Breaks setting rules (map statement_of statements) (option_map package_path_of lent.directive.targets) e → (naming : Naming) → IsOneToOne naming → (c : Composition) → Describes (given_to naming (by_key packages) rules (document_of doc)) (document_of doc) c → e ≡ memory
-lent_only setting rules packages lent doc statements e h broken =
-    only_memory setting rules (by_key packages) (document_of doc) e (lent_setting setting packages lent doc statements h) (of_document (λ all targets. Breaks setting rules all targets e) setting packages lent doc statements h broken)
+    → Reports e (Breaks setting rules (map statement_of statements) (option_map package_path_of lent.directive.targets) e) → (naming : Naming) → IsOneToOne naming → (c : Composition) → Describes (given_to naming (by_key packages) rules (document_of doc)) (document_of doc) c → e ≡ memory
+lent_only setting rules packages lent doc statements e h said =
+    only_memory setting rules (by_key packages) (document_of doc) e (lent_setting setting packages lent doc statements h) (reports said (of_document (λ all targets. Breaks setting rules all targets e) setting packages lent doc statements h))

@@ -1,5 +1,4 @@
 pub mod Alike
 pub mod Starting
 pub mod Ending
-pub mod Told
 pub mod Kept

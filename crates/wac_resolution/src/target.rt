@@ -1,6 +1,7 @@
 //! The target of a document.
 ghost use Rattle.std.specs.Prelude.{OnOk, IfErr, option_map};
 ghost use Rattle.wac_ast_base.specs.Names.{package_path_of};
+ghost use Rattle.wac_resolution_errors.specs.Error.{Reports};
 ghost use Rattle.wac_resolution_errors.specs.Told.{told};
 ghost use Rattle.wac_resolution_rules.specs.Given.{rules_by};
 ghost use Rattle.wac_resolution_bindings.specs.Statements.{Stand};
@@ -26,7 +27,7 @@ pub(crate) fn check_targets<R: Rules>(
 ) -> Result<(), Error>
     requires { Stand setting.now state.old.graph root.now externs.now }
     ensures ok { OnOk result (MeetsIn setting.now (rules_by (R.passes rules.now) (R.named rules.now)) state.old.graph state.new.graph root.now (option_map package_path_of targets.now)) }
-    ensures err { IfErr result (λ e. MissesIn setting.now (rules_by (R.passes rules.now) (R.named rules.now)) state.old.graph root.now externs.now (option_map package_path_of targets.now) (told e)) }
+    ensures err { IfErr result (λ e. Reports (told e) (MissesIn setting.now (rules_by (R.passes rules.now) (R.named rules.now)) state.old.graph root.now externs.now (option_map package_path_of targets.now) (told e))) }
 {
     match targets {
         Some(target) => check_target(state, setting, rules, root, externs, target),

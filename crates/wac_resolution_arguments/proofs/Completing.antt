@@ -82,7 +82,7 @@ complete_given g w given b none naming = inr (none_first (left_out (imports_at n
 
 pub incomplete : (g : Parts) (w : WorldId) (x : PackageName) (args : Arguments) (given : Named ℕ) (name : List ℕ) (e : Error) → has_fill args ≡ false → ((naming : Naming) → Some name ≡ first_name (left_out (imports_at naming g w) given))
     → e ≡ missing_instantiation_arg name x.string x.span → IsIncomplete g w x args given e
-incomplete g w x args given name e none left told = inr (
+incomplete g w x args given name e none left told = (
   none,
   λ naming.
       let f = some_first (left_out (imports_at naming g w) given) name (left naming) in

@@ -6,6 +6,7 @@ ghost use Rattle.wac_types.specs.Table.{Names};
 ghost use Rattle.wac_ast_base.specs.Names.{package_name_of};
 ghost use Rattle.wac_ast_expressions.specs.Expressions.{argument_of};
 ghost use Rattle.wac_graph.specs.Origin.{Naming};
+ghost use Rattle.wac_resolution_errors.specs.Error.{Reports};
 ghost use Rattle.wac_resolution_errors.specs.Told.{told};
 ghost use Rattle.wac_resolution_rules.specs.Expressions.{is_fill as fills, has_fill as fill_among, left_out as left_among, IsComplete};
 ghost use Rattle.wac_resolution_arguments.specs.Arguments.{given_nodes, first_name};
@@ -68,7 +69,7 @@ pub fn check_complete(
 ) -> Result<(), Error>
     requires world { Names state.now.graph.types (ItemKind.Component world) }
     ensures ok { OnOk result ((naming : Naming) → IsComplete (imports_at naming state.now.graph world) (fill_among (arguments_from (map argument_of arguments.now))) (given_nodes (by_name given.now.entries))) }
-    ensures err { IfErr result (λ e. IsIncomplete state.now.graph world (package_name_of «package».now) (arguments_from (map argument_of arguments.now)) (given_nodes (by_name given.now.entries)) (told e)) }
+    ensures err { IfErr result (λ e. Reports (told e) (IsIncomplete state.now.graph world (package_name_of «package».now) (arguments_from (map argument_of arguments.now)) (given_nodes (by_name given.now.entries)) (told e))) }
 {
     if has_fill(arguments) {
         return Ok(());

@@ -1,5 +1,5 @@
 -- A definition is added, exported and bound.
-use Rattle.std.proofs.Common.{◌≡◌, ◌∙◌, ◌<◌, ℕ, List, [], ◌∷◌, ◌++◌, Option, Some, None, inr, refl, sym, ap, subst, length, arith}
+use Rattle.std.proofs.Common.{◌≡◌, ◌∙◌, ◌<◌, ℕ, List, [], ◌∷◌, ◌++◌, Option, Some, None, refl, sym, ap, subst, length, arith}
 use Rattle.std.specs.Prelude.{slice_get, option_map}
 use Rattle.std.specs.List.{AllByRecursion}
 use Rattle.std.proofs.lemmas.List.{map_push}
@@ -35,7 +35,7 @@ pub exported_before : (g : Parts) (x : Externs) (id : Ident) (export : Span) (e 
     → (naming : Naming) (declared : Named ℕ) (all : Places) → all.exported ≡ exported_in x → IsExported (composition_of naming g declared) all id e
 exported_before g x id export e placed is told naming declared all same =
     let there = stands_too id.string (exported_in x) g.exports export placed.exported is in
-    inr (there.0, export, there.1, ap (look_up id.string) same ∙ is, told)
+    (there.0, export, there.1, ap (look_up id.string) same ∙ is, told)
 
 -- ---- the node
 

@@ -1,5 +1,5 @@
 -- The names of imports: which exist, and which one a statement means.
-use Rattle.std.proofs.Common.{◌≡◌, ◌∙◌, ℕ, List, Option, Some, None, true, false, inr, is_some, refl, sym, ap}
+use Rattle.std.proofs.Common.{◌≡◌, ◌∙◌, ℕ, List, Option, Some, None, true, false, is_some, refl, sym, ap}
 use Rattle.std.specs.Prelude.{option_map, option_and_then, slice_get, string_bytes, unwrap_or}
 use Rattle.wac_lexer.specs.Span.{Span}
 use Rattle.wac_types.specs.declared.entry.Entry.{Entry}
@@ -59,7 +59,7 @@ pub imported_already : (g : Parts) (x : Externs) (name : List ℕ) (span : Span)
 imported_already g x name span help previous e placed sound is told naming declared all same =
     let there = stands_too name (imported_in x) g.imports previous placed.imported is in
     let node = some_there (look_up name (imports (composition_of naming g declared))) (imported_where naming g declared name sound ∙ ap (λ (o : Option ℕ). is_some o) there.1) in
-    inr (node.0, previous, node.1, ap (look_up name) same ∙ is, told)
+    (node.0, previous, node.1, ap (look_up name) same ∙ is, told)
 
 -- ---- ids of worlds
 

@@ -2,6 +2,7 @@
 ghost use Rattle.std.specs.Prelude.{OnOk, IfErr};
 ghost use Rattle.wac_ast_statements.specs.Statements.{export_statement_of};
 ghost use Rattle.wac_grammar.specs.Tree.{Statement};
+ghost use Rattle.wac_resolution_errors.specs.Error.{Reports};
 ghost use Rattle.wac_resolution_errors.specs.Told.{told};
 ghost use Rattle.wac_resolution_rules.specs.Given.{rules_by};
 ghost use Rattle.wac_resolution_bindings.specs.Statements.{Stand, Went, Breaks};
@@ -26,7 +27,7 @@ pub fn export_statement<R: Rules>(
 ) -> Result<(), Error>
     requires { Stand setting.now state.old.graph root.now externs.old }
     ensures ok { OnOk result (Went setting.now (rules_by (R.passes rules.now) (R.named rules.now)) state.old.graph state.new.graph root.now root.now externs.old externs.new (Statement.export_statement (export_statement_of statement.now))) }
-    ensures err { IfErr result (λ e. Breaks setting.now (rules_by (R.passes rules.now) (R.named rules.now)) state.old.graph root.now externs.old (Statement.export_statement (export_statement_of statement.now)) (told e)) }
+    ensures err { IfErr result (λ e. Reports (told e) (Breaks setting.now (rules_by (R.passes rules.now) (R.named rules.now)) state.old.graph root.now externs.old (Statement.export_statement (export_statement_of statement.now)) (told e))) }
 {
     let _before = state.graph.nodes();
     let node = expression(state, setting, rules, root, &statement.expr)?;

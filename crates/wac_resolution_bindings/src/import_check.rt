@@ -2,6 +2,7 @@
 ghost use Rattle.std.specs.Prelude.{◌≡◌, ℕ, OnOk, IfErr};
 ghost use Rattle.wac_types.specs.Scope.{Named, IsFresh};
 ghost use Rattle.wac_graph.specs.Origin.{Naming};
+ghost use Rattle.wac_resolution_errors.specs.Error.{Reports};
 ghost use Rattle.wac_resolution_errors.specs.Told.{told};
 ghost use Rattle.wac_resolution_rules.specs.BrokenStatements.{IsImportedAlready};
 ghost use Rattle.wac_resolution_rules.specs.Places.{Places};
@@ -24,7 +25,7 @@ pub(crate) fn check_unimported(
 ) -> Result<(), Error>
     requires { ArePlaced state.now.graph externs.now }
     ensures ok { OnOk result (IsUnimported state.now.graph name.now.text.now) }
-    ensures err { IfErr result (λ e. (naming : Naming) (declared : Named ℕ) (all : Places) → all.imported ≡ imported_in externs.now → IsImportedAlready (composition_of naming state.now.graph declared) all name.now.text.now name.now.span (help_of name.now) (told e)) }
+    ensures err { IfErr result (λ e. Reports (told e) ((naming : Naming) (declared : Named ℕ) (all : Places) → all.imported ≡ imported_in externs.now → IsImportedAlready (composition_of naming state.now.graph declared) all name.now.text.now name.now.span (help_of name.now) (told e))) }
 {
     let _nodes = state.graph.nodes();
     match find(&externs.imported, name.text) {

@@ -2,6 +2,7 @@
 ghost use Rattle.std.specs.Prelude.{OnOk, IfErr};
 ghost use Rattle.wac_ast_statements.specs.Statements.{let_statement_of};
 ghost use Rattle.wac_grammar.specs.Tree.{Statement};
+ghost use Rattle.wac_resolution_errors.specs.Error.{Reports};
 ghost use Rattle.wac_resolution_errors.specs.Told.{told};
 ghost use Rattle.wac_resolution_rules.specs.Given.{rules_by};
 ghost use Rattle.wac_resolution_nodes.specs.Root.{Agrees};
@@ -32,7 +33,7 @@ pub fn let_statement<'a, R: Rules>(
     requires agrees { Agrees state.old.graph root.old }
     requires handed { HoldsHanded (packages_in setting.now) state.old.graph }
     ensures ok { OnOk result ((x : Externs) → ArePlaced state.old.graph x → Went setting.now (rules_by (R.passes rules.now) (R.named rules.now)) state.old.graph state.new.graph root.old root.new x x (Statement.let_statement (let_statement_of statement.now))) }
-    ensures err { IfErr result (λ e. (x : Externs) → Breaks setting.now (rules_by (R.passes rules.now) (R.named rules.now)) state.old.graph root.old x (Statement.let_statement (let_statement_of statement.now)) (told e)) }
+    ensures err { IfErr result (λ e. Reports (told e) ((x : Externs) → Breaks setting.now (rules_by (R.passes rules.now) (R.named rules.now)) state.old.graph root.old x (Statement.let_statement (let_statement_of statement.now)) (told e))) }
 {
     let _before = state.graph.nodes();
     let node = expression(state, setting, rules, root, &statement.expr)?;

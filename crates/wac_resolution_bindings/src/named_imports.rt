@@ -5,6 +5,7 @@ ghost use Rattle.wac_types.specs.Table.{Names};
 ghost use Rattle.wac_ast_base.specs.Names.{ident_of};
 ghost use Rattle.wac_ast_worlds.specs.Worlds.{import_statement_of};
 ghost use Rattle.wac_graph.specs.Origin.{Naming};
+ghost use Rattle.wac_resolution_errors.specs.Error.{Reports};
 ghost use Rattle.wac_resolution_errors.specs.Told.{told};
 ghost use Rattle.wac_resolution_rules.specs.BrokenStatements.{ImportNameBroken};
 ghost use Rattle.wac_resolution_rules.specs.BrokenWorlds.{IsBound};
@@ -38,7 +39,7 @@ fn add_import<'a>(
     requires new { IsFresh name.now.text.now state.old.graph.imports }
     requires kind { Names state.old.graph.types kind }
     ensures ok { OnOk result (AddsImport state.old.graph state.new.graph root.old root.new externs.old externs.new (ident_of id.now) name.now.text.now name.now.span kind) }
-    ensures err { IfErr result (λ e. (naming : Naming) (all : Places) → all.bound ≡ places root.old → IsBound (composed naming state.old.graph root.old) all (ident_of id.now) (told e)) }
+    ensures err { IfErr result (λ e. Reports (told e) ((naming : Naming) (all : Places) → all.bound ≡ places root.old → IsBound (composed naming state.old.graph root.old) all (ident_of id.now) (told e))) }
 {
     let node = state.graph.add_import(name.text, kind)?;
     let _nodes = state.graph.nodes();
@@ -61,7 +62,7 @@ pub fn import_as<'a, R: Rules>(
     requires placed { ArePlaced state.old.graph externs.old }
     requires kind { Names state.old.graph.types kind }
     ensures ok { OnOk result (ImportsAs (R.named rules.now) state.old.graph state.new.graph root.old root.new externs.old externs.new (import_statement_of statement.now) text.now kind) }
-    ensures err { IfErr result (λ e. (naming : Naming) → Under (R.named rules.now) (λ s. ImportNameBroken s (composed naming state.old.graph root.old) (places_in root.old externs.old) (told e) (import_statement_of statement.now) text.now)) }
+    ensures err { IfErr result (λ e. Reports (told e) ((naming : Naming) → Under (R.named rules.now) (λ s. ImportNameBroken s (composed naming state.old.graph root.old) (places_in root.old externs.old) (told e) (import_statement_of statement.now) text.now))) }
 {
     let name = new_name(statement, text);
     check_unimported(state, externs, &name)?;

@@ -1,5 +1,5 @@
 -- Constructors and methods.
-use Rattle.std.proofs.Common.{◌≡◌, ◌∙◌, ◌⊎◌, ◌+◌, ◌<◌, inl, inr, ℕ, List, [], ◌∷◌, ◌++◌, Bool, true, false, refl, sym, ap, subst, map, take, length, get_or, append-nil}
+use Rattle.std.proofs.Common.{◌≡◌, ◌∙◌, ◌+◌, ◌<◌, inl, inr, ℕ, List, [], ◌∷◌, ◌++◌, Bool, true, false, refl, sym, ap, subst, map, take, length, get_or, append-nil}
 use Rattle.wac_lexer.specs.Span.{Span}
 use Rattle.wac_grammar.specs.Tree.{Ident, NamedType, Constructor, Method, ResourceMethod}
 use Rattle.wac_types.specs.declared.kind.ExternKind.{ExternKind}
@@ -19,7 +19,7 @@ use Rattle.wac_types.specs.Table.{Names}
 use Rattle.wac_graph.specs.Graph.{Parts}
 use Rattle.wac_graph.specs.Means.{means, entry_means, declared_count}
 use Rattle.wac_graph.specs.Origin.{Naming}
-use Rattle.wac_resolution_errors.specs.Error.{Error, memory, duplicate_resource_method}
+use Rattle.wac_resolution_errors.specs.Error.{Error, duplicate_resource_method}
 use Rattle.wac_resolution_rules.specs.Types.{IsFuncWith, IsConstructor, first_params}
 use Rattle.wac_resolution_rules.specs.Bodies.{Body, externs, with_extern, with_count, constructor_name, method_name, static_name, name_of_method, HasMethod}
 use Rattle.wac_resolution_rules.specs.BrokenTypes.{ParamsBroken, FuncBroken}
@@ -80,13 +80,9 @@ method_goes side old new b c name full r x f body fresh free named added is =
 -- ---- broken ones
 
 pub params_break : (side : ExternKind) (g : Parts) (b : Lists) (name : List ℕ) (r : ResourceId) (x : Constructor) (e : Error) → IsFresh (constructor_name name) (kinds_of side b)
-    → ((naming : Naming) → (e ≡ memory) ⊎ ParamsBroken funcs.Constructor (body_in naming g b).scope [] x.params e)
+    → ((naming : Naming) → ParamsBroken funcs.Constructor (body_in naming g b).scope [] x.params e)
     → (naming : Naming) (before : List ResourceMethod) → MethodBroken side name (entry_means naming g r.0) e (body_in naming g b) before (ResourceMethod.constructor x)
-params_break side g b name r x e fresh h naming before = go (h naming)
-  where
-    go : (e ≡ memory) ⊎ ParamsBroken funcs.Constructor (body_in naming g b).scope [] x.params e → MethodBroken side name (entry_means naming g r.0) e (body_in naming g b) before (ResourceMethod.constructor x)
-    go (inl is) = inl (inl is)
-    go (inr p) = inr (extern_fresh naming g side b (constructor_name name) fresh, p)
+params_break side g b name r x e fresh h naming before = inr (extern_fresh naming g side b (constructor_name name) fresh, h naming)
 
 pub func_breaks : (side : ExternKind) (g : Parts) (b : Lists) (name : List ℕ) (r : ResourceId) (x : Method) (e : Error) → IsFresh (method_name name x.id.string) (kinds_of side b) → IsFresh (static_name name x.id.string) (kinds_of side b)
     → ((naming : Naming) → FuncBroken (method_kind x.is_static) (body_in naming g b).scope (first_params x.is_static (entry_means naming g r.0)) x.ty e)
@@ -95,12 +91,10 @@ func_breaks side g b name r x e fresh free h naming before = inr (extern_fresh n
 
 -- the method's name, or that of a static one, is taken
 pub method_taken : (side : ExternKind) (b : Body) (name full : List ℕ) (x : Ident) (e : Error) → full ≡ method_name name x.string → IsTaken side b full (duplicate_resource_method x.string name x.span) e → IsSecondMethod side name b x e
-method_taken side b name full x e is (inl h) = inl h
-method_taken side b name full x e is (inr h) = inr (h.0, inl (subst (λ (n : List ℕ). StandsFor (externs side b) n h.0) is h.1), h.2)
+method_taken side b name full x e is h = (h.0, inl (subst (λ (n : List ℕ). StandsFor (externs side b) n h.0) is h.1), h.2)
 
 pub static_taken : (side : ExternKind) (b : Body) (name full : List ℕ) (x : Ident) (e : Error) → full ≡ static_name name x.string → IsTaken side b full (duplicate_resource_method x.string name x.span) e → IsSecondMethod side name b x e
-static_taken side b name full x e is (inl h) = inl h
-static_taken side b name full x e is (inr h) = inr (h.0, inr (subst (λ (n : List ℕ). StandsFor (externs side b) n h.0) is h.1), h.2)
+static_taken side b name full x e is h = (h.0, inr (subst (λ (n : List ℕ). StandsFor (externs side b) n h.0) is h.1), h.2)
 
 -- ---- in order
 

@@ -1,5 +1,5 @@
 -- Bodies as they are resolved into a graph.
-use Rattle.std.specs.Prelude.{◌≡◌, ◌⊎◌, ℕ, List, [], ◌∷◌, ◌++◌}
+use Rattle.std.specs.Prelude.{◌≡◌, ℕ, List, [], ◌∷◌, ◌++◌}
 use Rattle.std.specs.List.{AllByRecursion}
 use Rattle.wac_lexer.specs.Span.{Span}
 use Rattle.wac_grammar.specs.Tree.{Ident, ResourceMethod, ItemTypeDecl}
@@ -19,7 +19,7 @@ use Rattle.wac_graph.specs.Graph.{Parts}
 use Rattle.wac_graph.specs.Means.{entry_means, declared_count}
 use Rattle.wac_graph.specs.Origin.{Naming}
 use Rattle.wac_graph.specs.Resources.{resource_entry}
-use Rattle.wac_resolution_errors.specs.Error.{Error, memory}
+use Rattle.wac_resolution_errors.specs.Error.{Error}
 use Rattle.wac_resolution_rules.specs.Bodies.{Body, externs, HasMethod, with_resource, HasItem}
 use Rattle.wac_resolution_rules.specs.Places.{at_ident}
 use Rattle.wac_resolution_rules.specs.Spans.{item_identifier}
@@ -74,7 +74,7 @@ pub record BodyGoes (side : ExternKind) (old new : Parts) (b c : Lists) (bound :
 
 -- the name is among the externs already, and this is its error
 abbrev pub IsTaken : ExternKind → Body → List ℕ → Error → Error → Type 0
-IsTaken side b name repeated e = (e ≡ memory) ⊎ ((m : Meaning) × StandsFor (externs side b) name m × (e ≡ repeated))
+IsTaken side b name repeated e = (m : Meaning) × StandsFor (externs side b) name m × (e ≡ repeated)
 
 -- a method of a resource
 abbrev pub MethodGoes : ExternKind → Parts → Parts → List ℕ → ResourceId → Lists → Lists → ResourceMethod → Type 0

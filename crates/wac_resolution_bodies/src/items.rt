@@ -3,6 +3,7 @@ ghost use Rattle.std.specs.Prelude.{IfErr, OnOk};
 ghost use Rattle.wac_grammar.specs.Tree.{ItemTypeDecl as ItemTree};
 ghost use Rattle.wac_ast_types.specs.Declarations.{variant_decl_of, record_decl_of, flags_decl_of, enum_decl_of, type_alias_of, item_type_decl_of};
 ghost use Rattle.wac_graph.specs.Origin.{Naming};
+ghost use Rattle.wac_resolution_errors.specs.Error.{Reports};
 ghost use Rattle.wac_resolution_errors.specs.Told.{told};
 ghost use Rattle.wac_resolution_rules.specs.BrokenBodies.{ItemBroken};
 ghost use Rattle.wac_resolution_state.specs.Bindings.{places_of};
@@ -30,7 +31,7 @@ fn variant<'a>(
 ) -> Result<(), Error>
     requires { IsBody state.old.graph.types side (lists_of body.old) }
     ensures ok { OnOk result (ItemGoes side state.old.graph state.new.graph (lists_of body.old) (lists_of body.new) (ItemTree.variant (variant_decl_of decl.now))) }
-    ensures err { IfErr result (λ e. (naming : Naming) → ItemBroken naming (owner_of owner.now) side (places_of body.old.names) (body_of naming state.old.graph body.old) (ItemTree.variant (variant_decl_of decl.now)) (told e)) }
+    ensures err { IfErr result (λ e. Reports (told e) ((naming : Naming) → ItemBroken naming (owner_of owner.now) side (places_of body.old.names) (body_of naming state.old.graph body.old) (ItemTree.variant (variant_decl_of decl.now)) (told e))) }
 {
     let value = wac_resolution_types::variant(state, &body.names, decl)?;
     let kind = ItemKind::Ty(Type::Value(value));
@@ -48,7 +49,7 @@ fn record<'a>(
 ) -> Result<(), Error>
     requires { IsBody state.old.graph.types side (lists_of body.old) }
     ensures ok { OnOk result (ItemGoes side state.old.graph state.new.graph (lists_of body.old) (lists_of body.new) (ItemTree.record_decl (record_decl_of decl.now))) }
-    ensures err { IfErr result (λ e. (naming : Naming) → ItemBroken naming (owner_of owner.now) side (places_of body.old.names) (body_of naming state.old.graph body.old) (ItemTree.record_decl (record_decl_of decl.now)) (told e)) }
+    ensures err { IfErr result (λ e. Reports (told e) ((naming : Naming) → ItemBroken naming (owner_of owner.now) side (places_of body.old.names) (body_of naming state.old.graph body.old) (ItemTree.record_decl (record_decl_of decl.now)) (told e))) }
 {
     let value = wac_resolution_types::record(state, &body.names, decl)?;
     let kind = ItemKind::Ty(Type::Value(value));
@@ -66,7 +67,7 @@ fn flags<'a>(
 ) -> Result<(), Error>
     requires { IsBody state.old.graph.types side (lists_of body.old) }
     ensures ok { OnOk result (ItemGoes side state.old.graph state.new.graph (lists_of body.old) (lists_of body.new) (ItemTree.flags (flags_decl_of decl.now))) }
-    ensures err { IfErr result (λ e. (naming : Naming) → ItemBroken naming (owner_of owner.now) side (places_of body.old.names) (body_of naming state.old.graph body.old) (ItemTree.flags (flags_decl_of decl.now)) (told e)) }
+    ensures err { IfErr result (λ e. Reports (told e) ((naming : Naming) → ItemBroken naming (owner_of owner.now) side (places_of body.old.names) (body_of naming state.old.graph body.old) (ItemTree.flags (flags_decl_of decl.now)) (told e))) }
 {
     let value = wac_resolution_types::flags(state, decl)?;
     let kind = ItemKind::Ty(Type::Value(value));
@@ -84,7 +85,7 @@ fn enumeration<'a>(
 ) -> Result<(), Error>
     requires { IsBody state.old.graph.types side (lists_of body.old) }
     ensures ok { OnOk result (ItemGoes side state.old.graph state.new.graph (lists_of body.old) (lists_of body.new) (ItemTree.enum (enum_decl_of decl.now))) }
-    ensures err { IfErr result (λ e. (naming : Naming) → ItemBroken naming (owner_of owner.now) side (places_of body.old.names) (body_of naming state.old.graph body.old) (ItemTree.enum (enum_decl_of decl.now)) (told e)) }
+    ensures err { IfErr result (λ e. Reports (told e) ((naming : Naming) → ItemBroken naming (owner_of owner.now) side (places_of body.old.names) (body_of naming state.old.graph body.old) (ItemTree.enum (enum_decl_of decl.now)) (told e))) }
 {
     let value = wac_resolution_types::enumeration(state, decl)?;
     let kind = ItemKind::Ty(Type::Value(value));
@@ -102,7 +103,7 @@ fn alias<'a>(
 ) -> Result<(), Error>
     requires { IsBody state.old.graph.types side (lists_of body.old) }
     ensures ok { OnOk result (ItemGoes side state.old.graph state.new.graph (lists_of body.old) (lists_of body.new) (ItemTree.alias (type_alias_of decl.now))) }
-    ensures err { IfErr result (λ e. (naming : Naming) → ItemBroken naming (owner_of owner.now) side (places_of body.old.names) (body_of naming state.old.graph body.old) (ItemTree.alias (type_alias_of decl.now)) (told e)) }
+    ensures err { IfErr result (λ e. Reports (told e) ((naming : Naming) → ItemBroken naming (owner_of owner.now) side (places_of body.old.names) (body_of naming state.old.graph body.old) (ItemTree.alias (type_alias_of decl.now)) (told e))) }
 {
     let kind = wac_resolution_types::alias(
         state,
@@ -125,7 +126,7 @@ pub fn item<'a>(
 ) -> Result<(), Error>
     requires { IsBody state.old.graph.types side (lists_of body.old) }
     ensures ok { OnOk result (ItemGoes side state.old.graph state.new.graph (lists_of body.old) (lists_of body.new) (item_type_decl_of decl.now)) }
-    ensures err { IfErr result (λ e. (naming : Naming) → ItemBroken naming (owner_of owner.now) side (places_of body.old.names) (body_of naming state.old.graph body.old) (item_type_decl_of decl.now) (told e)) }
+    ensures err { IfErr result (λ e. Reports (told e) ((naming : Naming) → ItemBroken naming (owner_of owner.now) side (places_of body.old.names) (body_of naming state.old.graph body.old) (item_type_decl_of decl.now) (told e))) }
 {
     match decl {
         ItemTypeDecl::Resource(decl) => resource(state, body, side, owner, decl),

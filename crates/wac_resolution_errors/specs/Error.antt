@@ -1,5 +1,5 @@
 -- Why documents are rejected.
-use Rattle.std.specs.Prelude.{◌≡◌, ℕ, List, Option}
+use Rattle.std.specs.Prelude.{◌≡◌, ◌⊎◌, ℕ, List, Option}
 use Rattle.wac_lexer.specs.Span.{Span}
 use Rattle.wac_types.specs.declared.kind.ExternKind.{ExternKind}
 use Rattle.wac_types.specs.declared.kind.FuncKind.{FuncKind}
@@ -58,6 +58,10 @@ pub data Error : Type 0 where
   missing_target_export : (name world kind : List ℕ) (at : Span) → Error
   target_mismatch : ExternKind → (name world : List ℕ) → Reason → (at : Option Span) → Error
   memory : Error
+
+-- what an error reports holds, unless memory ran out
+abbrev pub Reports : Error → Type 0 → Type 0
+Reports e P = (e ≡ memory) ⊎ P
 
 -- the error names a rule: it is not that memory ran out
 abbrev pub NamesRule : Error → Type 0

@@ -7,5 +7,6 @@ use crate::operation::InstanceOperation;
 /// Operations are equal where they are one variant, and `hash` makes the same writes for equal ones alone.
 pub fn operations_are_compared()
     ensures equal { (a b : Required) → IsTrue (⟦<InstanceOperation as PartialEq>⟧.eq a b) ↔ a ≡ b }
-    ensures hashes { (a b : Required) → ⟦<InstanceOperation as std::hash::Hash>⟧.hash_input a ≡ ⟦<InstanceOperation as std::hash::Hash>⟧.hash_input b ↔ a ≡ b }
+    ensures hashes { (a b : Required) → let input = ⟦<InstanceOperation as std::hash::Hash>⟧.hash_input in
+        input a ≡ input b ↔ a ≡ b }
 {}

@@ -20,7 +20,7 @@ use Rattle.wac_graph.specs.Means.{means, entry_means}
 use Rattle.wac_graph.specs.Origin.{Naming, IsOneToOne}
 use Rattle.wac_graph.specs.Package.{HeldPackage}
 use Rattle.wac_graph.specs.Packages.{contents_in}
-use Rattle.wac_resolution_errors.specs.Error.{Error, memory}
+use Rattle.wac_resolution_errors.specs.Error.{Error}
 use Rattle.wac_resolution_rules.specs.BrokenExpressions.{ReachedAt, argument_places, SpreadBroken}
 use Rattle.wac_resolution_rules.specs.Composition.{Composition}
 use Rattle.wac_resolution_rules.specs.Expressions.{at, Fits, left_out, has_fill, spreads_of, IsComplete, Spreads}
@@ -66,18 +66,18 @@ module _ (rules : Rules) (g : Parts) (declared : Named ℕ) (w : WorldId) (x : P
   pub misfit_wrong : (r : Option Reason) → IsFirstMisfit rules g w given name r → e ≡ misfit_of x.name name r span → AreWrong rules g declared w x args given e
   misfit_wrong None m told naming setting p one same =
       let c : Composition = composition_of naming g declared in
-      inl (inr (
+      inl (
         (name, m.node),
         span,
         subst (λ (l : Named Meaning). ReachedAt (Fits rules l c.nodes) (given_nodes given) (name, m.node)) (sym same) (reached None m naming one),
         subst (λ (l : Named Meaning). StandsFor (argument_places c l args) name span) (sym same) (placed None m naming one),
         subst (λ (l : Named Meaning). IsFresh name l) (sym same) (m.against.is naming),
         told,
-      ))
+      )
   misfit_wrong (Some r) m told naming setting p one same =
       let c : Composition = composition_of naming g declared in
       let u = m.against.is naming declared one in
-      inr (inl (inr (
+      inr (inl (
         (name, m.node),
         span,
         u.0,
@@ -87,22 +87,21 @@ module _ (rules : Rules) (g : Parts) (declared : Named ℕ) (w : WorldId) (x : P
         subst (λ (l : Named Meaning). StandsFor l name u.0) (sym same) u.1,
         u.2,
         told,
-      )))
+      ))
 
 -- an import is left out
 pub left_wrong : (rules : Rules) (g : Parts) (declared : Named ℕ) (w : WorldId) (x : PackageName) (args : Arguments) (given : Named NodeId) (e : Error) → AllFit rules g w given → IsIncomplete g w x args (given_nodes given) e → AreWrong rules g declared w x args given e
-left_wrong rules g declared w x args given e fit (inl is) naming setting p one same = inr (inr (inl is))
-left_wrong rules g declared w x args given e fit (inr h) naming setting p one same =
+left_wrong rules g declared w x args given e fit h naming setting p one same =
     let c : Composition = composition_of naming g declared in
     let l = h.1 naming in
-    inr (inr (inr (
+    inr (inr (
       l.0,
       l.1,
       subst (λ (i : Named Meaning). AllByRecursion (Fits rules i c.nodes) (given_nodes given)) (sym same) (fit.is naming declared one),
       h.0,
       ap (λ (i : Named Meaning). left_out i (given_nodes given)) same ∙ l.2,
       l.3,
-    )))
+    ))
 
 -- ---- spreads
 
@@ -127,9 +126,6 @@ module _ (old mid : Parts) (before between : Named NodeId) (declared : Named ℕ
     subst (λ (l : Named Meaning). Steps (Spreads l) (giving_of naming old declared before) (spreads_of args) (giving_of naming mid declared between)) (sym same) (s.is naming),
     h naming setting p one (same ∙ sym (imports_kept old mid w s.grows naming)),
   )
-
-  pub memory_after : (rules : Rules) (x : PackageName) (e : Error) → e ≡ memory → FailsToComplete rules old declared w x args before e
-  memory_after rules x e is = wrong_after rules x e (λ naming setting p one same. inl (inl is))
 
 pub spreads_fail : (rules : Rules) (old : Parts) (declared : Named ℕ) (w : WorldId) (x : PackageName) (args : Arguments) (before : Named NodeId) (e : Error)
     → ((naming : Naming) → Fails (Spreads (imports_at naming old w)) (SpreadBroken (imports_at naming old w) e) (giving_of naming old declared before) (spreads_of args)) → FailsToComplete rules old declared w x args before e

@@ -5,7 +5,7 @@ use Rattle.std.proofs.Math.Seq.{drop-cons}
 use Rattle.wac_grammar.specs.Tree.{Arguments, InstantiationArgument, arguments_from}
 use Rattle.wac_types.specs.Meaning.{Meaning}
 use Rattle.wac_types.specs.Scope.{Named}
-use Rattle.wac_resolution_errors.specs.Error.{Error, memory}
+use Rattle.wac_resolution_errors.specs.Error.{Error}
 use Rattle.wac_resolution_rules.specs.BrokenExpressions.{ArgumentBroken, ArgumentsBroken}
 use Rattle.wac_resolution_rules.specs.Expressions.{Giving, Gives, GivesOne}
 use Rattle.wac_resolution_rules.specs.Given.{Given}
@@ -33,12 +33,8 @@ module _ (s : Given) (imports : Named Meaning) where
       nothing_behind (z ∷ xs) = ap (λ (l : List InstantiationArgument). z ∷ l) (nothing_behind xs)
 
   first_breaks : (e : Error) (xs rest : List InstantiationArgument) (x : InstantiationArgument) (old mid : Giving) → GivesFirst old xs (x ∷ rest) mid → ArgumentBroken s imports (arguments_from rest) mid e x → ArgumentsBroken s imports old e (arguments_from (xs ++ x ∷ rest))
-  first_breaks e [] rest x old mid p b = inr (inl (subst (λ (g : Giving). ArgumentBroken s imports (arguments_from rest) g e x) p b))
-  first_breaks e (y ∷ xs) rest x old mid p b = inr (inr (p.0, p.1, first_breaks e xs rest x p.0 mid p.2 b))
-
-  pub arguments_memory : (old : Giving) (args : Arguments) (e : Error) → e ≡ memory → ArgumentsBroken s imports old e args
-  arguments_memory old Arguments.none e is = is
-  arguments_memory old (Arguments.more x rest) e is = inl is
+  first_breaks e [] rest x old mid p b = inl (subst (λ (g : Giving). ArgumentBroken s imports (arguments_from rest) g e x) p b)
+  first_breaks e (y ∷ xs) rest x old mid p b = inr (p.0, p.1, first_breaks e xs rest x p.0 mid p.2 b)
 
   -- the same in a loop
   module _ (ys : List InstantiationArgument) (i : ℕ) (x : InstantiationArgument) (within : i < length ys) (is : get_or ys i x ≡ x) where

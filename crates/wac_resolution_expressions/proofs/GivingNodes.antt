@@ -32,7 +32,7 @@ use Rattle.wac_resolution_expressions.specs.Giving.{GivesNode, IsGiven, IsGivenF
 
 pub given_already : (before : Named NodeId) (name : List ℕ) (span : Span) (e : Error) (r : Option NodeId) → r ≡ look_up name before → is_some r ≡ true → e ≡ duplicate_instantiation_arg name span → IsGiven before name span e
 given_already before name span e None is some told = absurd (cc)
-given_already before name span e (Some n) is some told = inr (n.0, read_found (λ (m : NodeId). m.0) name before ∙ ap (option_map (λ (m : NodeId). m.0)) (sym is), told)
+given_already before name span e (Some n) is some told = (n.0, read_found (λ (m : NodeId). m.0) name before ∙ ap (option_map (λ (m : NodeId). m.0)) (sym is), told)
 
 -- the name is the one that is meant
 pub given_for : (r : Result (Unit {0}) CodeError) (before : Named NodeId) (text : List ℕ) (meant : Naming → List ℕ) (s t : Span) → ((naming : Naming) → text ≡ meant naming) → s ≡ t → IfErr r (λ e. IsGiven before text s (told e)) → IfErr r (λ e. IsGivenFor before meant t (told e))

@@ -1,5 +1,5 @@
 -- Arguments that are given.
-use Rattle.std.specs.Prelude.{◌≡◌, ◌⊎◌, ℕ, List, Bool, true, false}
+use Rattle.std.specs.Prelude.{◌≡◌, ℕ, List, Bool, true, false}
 use Rattle.wac_lexer.specs.Span.{Span}
 use Rattle.wac_grammar.specs.Tree.{Arguments, InstantiationArgument}
 use Rattle.wac_types.specs.declared.kind.WorldId.{WorldId}
@@ -9,7 +9,7 @@ use Rattle.wac_graph.specs.declared.node.NodeId.{NodeId}
 use Rattle.wac_graph.specs.Graph.{Parts}
 use Rattle.wac_graph.specs.Origin.{Naming, IsOneToOne}
 use Rattle.wac_graph.specs.Package.{Key}
-use Rattle.wac_resolution_errors.specs.Error.{Error, memory, duplicate_instantiation_arg}
+use Rattle.wac_resolution_errors.specs.Error.{Error, duplicate_instantiation_arg}
 use Rattle.wac_resolution_rules.specs.BrokenExpressions.{ArgumentBroken, ArgumentsBroken}
 use Rattle.wac_resolution_rules.specs.Expressions.{Giving, Gives, GivesOne}
 use Rattle.wac_resolution_rules.specs.Given.{Rules}
@@ -31,7 +31,7 @@ pub record GivesNode (before after : Named NodeId) (name : List ℕ) (node : Nod
 
 -- one is given for it already
 abbrev pub IsGiven : Named NodeId → List ℕ → Span → Error → Type 0
-IsGiven before name span e = (e ≡ memory) ⊎ ((n : ℕ) × StandsFor (given_nodes before) name n × (e ≡ duplicate_instantiation_arg name span))
+IsGiven before name span e = (n : ℕ) × StandsFor (given_nodes before) name n × (e ≡ duplicate_instantiation_arg name span)
 
 -- the same of a name that is meant
 pub record GivesFor (before after : Named NodeId) (meant : Naming → List ℕ) (node : NodeId) : Type 0 where

@@ -4,6 +4,7 @@ ghost use Rattle.wac_grammar.specs.Tree.{arguments_from};
 ghost use Rattle.wac_types.specs.Names.{by_name};
 ghost use Rattle.wac_types.specs.Table.{Names};
 ghost use Rattle.wac_ast_expressions.specs.Expressions.{argument_of, expr_of, new_expr_of, primary_expr_of};
+ghost use Rattle.wac_resolution_errors.specs.Error.{Reports};
 ghost use Rattle.wac_resolution_errors.specs.Told.{told};
 ghost use Rattle.wac_resolution_rules.specs.Given.{rules_by};
 ghost use Rattle.wac_resolution_nodes.specs.Root.{numbers_of, Agrees};
@@ -37,7 +38,7 @@ pub fn expression<R: Rules>(
     requires agrees { Agrees state.old.graph root.now }
     requires handed { HoldsHanded (packages_in setting.now) state.old.graph }
     ensures ok { IfOk result (λ n. ExprGoes setting.now (rules_by (R.passes rules.now) (R.named rules.now)) state.old.graph state.new.graph (numbers_of root.now.nodes) (expr_of expr.now) n.0) }
-    ensures err { IfErr result (λ e. ExprBreaks setting.now (rules_by (R.passes rules.now) (R.named rules.now)) state.old.graph (numbers_of root.now.nodes) (expr_of expr.now) (told e)) }
+    ensures err { IfErr result (λ e. Reports (told e) (ExprBreaks setting.now (rules_by (R.passes rules.now) (R.named rules.now)) state.old.graph (numbers_of root.now.nodes) (expr_of expr.now) (told e))) }
 {
     let node = primary(state, setting, rules, root, &expr.primary)?;
     accesses(state, node, expr.primary.span(), &expr.postfix)
@@ -55,7 +56,7 @@ fn primary<R: Rules>(
     requires agrees { Agrees state.old.graph root.now }
     requires handed { HoldsHanded (packages_in setting.now) state.old.graph }
     ensures ok { IfOk result (λ n. PrimaryGoes setting.now (rules_by (R.passes rules.now) (R.named rules.now)) state.old.graph state.new.graph (numbers_of root.now.nodes) (primary_expr_of expr.now) n.0) }
-    ensures err { IfErr result (λ e. PrimaryBreaks setting.now (rules_by (R.passes rules.now) (R.named rules.now)) state.old.graph (numbers_of root.now.nodes) (primary_expr_of expr.now) (told e)) }
+    ensures err { IfErr result (λ e. Reports (told e) (PrimaryBreaks setting.now (rules_by (R.passes rules.now) (R.named rules.now)) state.old.graph (numbers_of root.now.nodes) (primary_expr_of expr.now) (told e))) }
 {
     match expr {
         PrimaryExpr::New(part) => instantiation(state, setting, rules, root, part),
@@ -76,7 +77,7 @@ fn instantiation<R: Rules>(
     requires agrees { Agrees state.old.graph root.now }
     requires handed { HoldsHanded (packages_in setting.now) state.old.graph }
     ensures ok { IfOk result (λ n. PrimaryGoes setting.now (rules_by (R.passes rules.now) (R.named rules.now)) state.old.graph state.new.graph (numbers_of root.now.nodes) (new_expr_of new.now) n.0) }
-    ensures err { IfErr result (λ e. PrimaryBreaks setting.now (rules_by (R.passes rules.now) (R.named rules.now)) state.old.graph (numbers_of root.now.nodes) (new_expr_of new.now) (told e)) }
+    ensures err { IfErr result (λ e. Reports (told e) (PrimaryBreaks setting.now (rules_by (R.passes rules.now) (R.named rules.now)) state.old.graph (numbers_of root.now.nodes) (new_expr_of new.now) (told e))) }
 {
     let of = instantiable(state, setting, &new.package)?;
     let mut given = IndexMap::new(state.alloc);
@@ -108,7 +109,7 @@ fn arguments<R: Rules>(
     requires world { Names state.old.graph.types (ItemKind.Component world) }
     requires there { GivenThere state.old.graph (by_name given.old.entries) }
     ensures ok { OnOk result (ArgumentsGo setting.now (rules_by (R.passes rules.now) (R.named rules.now)) state.old.graph state.new.graph (by_name given.old.entries) (by_name given.new.entries) (numbers_of root.now.nodes) world (arguments_from (map argument_of arguments.now))) }
-    ensures err { IfErr result (λ e. ArgumentsBreak setting.now (rules_by (R.passes rules.now) (R.named rules.now)) state.old.graph (by_name given.old.entries) (numbers_of root.now.nodes) world (arguments_from (map argument_of arguments.now)) (told e)) }
+    ensures err { IfErr result (λ e. Reports (told e) (ArgumentsBreak setting.now (rules_by (R.passes rules.now) (R.named rules.now)) state.old.graph (by_name given.old.entries) (numbers_of root.now.nodes) world (arguments_from (map argument_of arguments.now)) (told e))) }
 {
     let mut left = arguments.len();
     for one in arguments {
@@ -135,7 +136,7 @@ fn argument<R: Rules>(
     requires world { Names state.old.graph.types (ItemKind.Component world) }
     requires there { GivenThere state.old.graph (by_name given.old.entries) }
     ensures ok { OnOk result (ArgumentGoes setting.now (rules_by (R.passes rules.now) (R.named rules.now)) state.old.graph state.new.graph (by_name given.old.entries) (by_name given.new.entries) (numbers_of root.now.nodes) world is_last (argument_of argument.now)) }
-    ensures err { IfErr result (λ e. ArgumentBreaks setting.now (rules_by (R.passes rules.now) (R.named rules.now)) state.old.graph (by_name given.old.entries) (numbers_of root.now.nodes) world is_last (argument_of argument.now) (told e)) }
+    ensures err { IfErr result (λ e. Reports (told e) (ArgumentBreaks setting.now (rules_by (R.passes rules.now) (R.named rules.now)) state.old.graph (by_name given.old.entries) (numbers_of root.now.nodes) world is_last (argument_of argument.now) (told e))) }
 {
     match argument {
         InstantiationArgument::Inferred(id) => give_inferred(state, root, world, id, given),

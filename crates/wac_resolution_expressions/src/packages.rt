@@ -3,7 +3,7 @@ ghost use Rattle.std.specs.Prelude.{◌≡◌, IfOk, IfErr, MatchOption};
 ghost use Rattle.std.specs.Str.{bytes_eq};
 ghost use Rattle.wac_ast_base.specs.Names.{package_name_of};
 ghost use Rattle.wac_graph.specs.Origin.{Naming};
-ghost use Rattle.wac_resolution_errors.specs.Error.{unknown_package};
+ghost use Rattle.wac_resolution_errors.specs.Error.{Reports, unknown_package};
 ghost use Rattle.wac_resolution_errors.specs.Told.{told};
 ghost use Rattle.wac_resolution_rules.specs.BrokenExpressions.{IsUnknownPackage};
 ghost use Rattle.wac_resolution_rules.specs.Given.{Rules, key_named};
@@ -68,7 +68,7 @@ pub fn instantiable(
     requires stand { NodesStand state.old.graph }
     requires handed { HoldsHanded (packages_in setting.now) state.old.graph }
     ensures ok { IfOk result (λ p. IsInstantiable setting.now state.old.graph state.new.graph (package_name_of «package».now) p) }
-    ensures err { IfErr result (λ e. (naming : Naming) (rules : Rules) → IsUnknownPackage (given_in naming setting.now rules) (package_name_of «package».now) (told e)) }
+    ensures err { IfErr result (λ e. Reports (told e) ((naming : Naming) (rules : Rules) → IsUnknownPackage (given_in naming setting.now rules) (package_name_of «package».now) (told e))) }
 {
     if is_own(setting, package) {
         return Err(unknown(state.alloc, package)?);

@@ -1,5 +1,5 @@
 -- Names that are tested.
-use Rattle.std.proofs.Common.{◌≡◌, ◌∙◌, ℕ, zero, suc, List, [], ◌∷◌, Option, Some, None, Bool, true, false, cond, inr, refl, sym, ap, subst, length, ◌<◌}
+use Rattle.std.proofs.Common.{◌≡◌, ◌∙◌, ℕ, zero, suc, List, [], ◌∷◌, Option, Some, None, Bool, true, false, cond, refl, sym, ap, subst, length, ◌<◌}
 use Rattle.std.specs.Prelude.{slice_get, option_map, option_and_then, IfSome, IsSome}
 use Rattle.std.specs.List.{AllByRecursion}
 use Rattle.std.specs.Str.{bytes_eq}
@@ -141,7 +141,7 @@ unplaced g root name is naming = none_bound naming g root name (fresh_read (λ (
 pub conflict_is : (g : Parts) (root : Root) (name : List ℕ) (span : Span) (help : Option (List ℕ)) (k : ItemKind) (previous : Span) (word : List ℕ) (e : Error) → ((naming : Naming) → Some (means naming g k) ≡ definition_bound (composed naming g root) name)
     → StandsFor (places root) name previous → word ≡ words.described k → e ≡ export_conflict name word span previous help
     → (naming : Naming) (all : Places) → all.bound ≡ places root → IsExportConflict (composed naming g root) all name span help e
-conflict_is g root name span help k previous word e bound place is told naming all same = inr (
+conflict_is g root name span help k previous word e bound place is told naming all same = (
   means naming g k,
   previous,
   sym (bound naming),
@@ -153,7 +153,7 @@ pub exported_already : (g : Parts) (x : Externs) (name : List ℕ) (span : Span)
     → (naming : Naming) (declared : Named ℕ) (all : Places) → all.exported ≡ exported_in x → IsExportedAlready (composition_of naming g declared) all name span help e
 exported_already g x name span help previous e placed is told naming declared all same =
     let there = stands_too name (exported_in x) g.exports previous placed.exported is in
-    inr (there.0, previous, there.1, ap (look_up name) same ∙ is, told)
+    (there.0, previous, there.1, ap (look_up name) same ∙ is, told)
 
 pub unexported_yet : (g : Parts) (x : Externs) (name : List ℕ) → ArePlaced g x → look_up name (exported_in x) ≡ None → IsFresh name g.exports
 unexported_yet g x name placed is = fresh_too name (exported_in x) g.exports placed.exported is

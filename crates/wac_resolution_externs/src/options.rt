@@ -5,6 +5,7 @@ ghost use Rattle.wac_types.specs.Scope.{Named};
 ghost use Rattle.wac_ast_base.specs.Names.{extern_name_of};
 ghost use Rattle.wac_grammar.specs.Spans.{extern_name_span};
 ghost use Rattle.wac_graph.specs.Origin.{Naming};
+ghost use Rattle.wac_resolution_errors.specs.Error.{Reports};
 ghost use Rattle.wac_resolution_errors.specs.Told.{told};
 ghost use Rattle.wac_resolution_rules.specs.BrokenStatements.{IsUnnamed, ExportOptionsBroken};
 ghost use Rattle.wac_resolution_rules.specs.Expressions.{at};
@@ -42,7 +43,7 @@ fn unnamed(state: &State, node: NodeId) -> Option<&str>
 fn unnamed_name(state: &State, node: NodeId, span: SourceSpan) -> Result<String, Error>
     requires { node.0 < length state.now.graph.nodes }
     ensures ok { IfOk result (λ s. (naming : Naming) (declared : Named ℕ) → option_and_then unnamed_export (node_at (composition_of naming state.now.graph declared) node.0) ≡ Some (string_bytes s)) }
-    ensures err { IfErr result (λ e. (naming : Naming) (declared : Named ℕ) → IsUnnamed (at (composition_of naming state.now.graph declared) node.0) span (told e)) }
+    ensures err { IfErr result (λ e. Reports (told e) ((naming : Naming) (declared : Named ℕ) → IsUnnamed (at (composition_of naming state.now.graph declared) node.0) span (told e))) }
 {
     match unnamed(state, node) {
         Some(name) => Ok(String::from_str(state.alloc, name)?),
@@ -63,7 +64,7 @@ pub fn export_unnamed<R: Rules>(
     requires placed { ArePlaced state.old.graph externs.old }
     requires there { node.0 < length state.old.graph.nodes }
     ensures ok { OnOk result (Exported span state.old.graph state.new.graph root.now externs.old externs.new (λ naming c d. Under (R.named rules.now) (λ s. ExportsBy s (at c node.0) Options.none d))) }
-    ensures err { IfErr result (λ e. (naming : Naming) (x : Expr) → expr_span x ≡ span → Under (R.named rules.now) (λ s. ExportOptionsBroken s (at (composed naming state.old.graph root.now) node.0) (places_in root.now externs.old) (told e) x Options.none)) }
+    ensures err { IfErr result (λ e. Reports (told e) ((naming : Naming) (x : Expr) → expr_span x ≡ span → Under (R.named rules.now) (λ s. ExportOptionsBroken s (at (composed naming state.old.graph root.now) node.0) (places_in root.now externs.old) (told e) x Options.none))) }
 {
     let text = unnamed_name(state, node, span)?;
     let name = NewName {
@@ -88,7 +89,7 @@ pub fn export_renamed<R: Rules>(
     requires placed { ArePlaced state.old.graph externs.old }
     requires there { node.0 < length state.old.graph.nodes }
     ensures ok { OnOk result (Exported (extern_name_span (extern_name_of name.now)) state.old.graph state.new.graph root.now externs.old externs.new (λ naming c d. Under (R.named rules.now) (λ s. ExportsBy s (at c node.0) (Options.rename (extern_name_of name.now)) d))) }
-    ensures err { IfErr result (λ e. (naming : Naming) (x : Expr) → Under (R.named rules.now) (λ s. ExportOptionsBroken s (at (composed naming state.old.graph root.now) node.0) (places_in root.now externs.old) (told e) x (Options.rename (extern_name_of name.now)))) }
+    ensures err { IfErr result (λ e. Reports (told e) ((naming : Naming) (x : Expr) → Under (R.named rules.now) (λ s. ExportOptionsBroken s (at (composed naming state.old.graph root.now) node.0) (places_in root.now externs.old) (told e) x (Options.rename (extern_name_of name.now))))) }
 {
     let new_name = NewName {
         text: name.as_str(),

@@ -5,6 +5,7 @@ ghost use Rattle.wac_types.specs.Names.{by_name};
 ghost use Rattle.wac_types.specs.Readings.{interface_exports};
 ghost use Rattle.wac_types.specs.Steps.{Steps, Fails};
 ghost use Rattle.wac_graph.specs.Origin.{Naming};
+ghost use Rattle.wac_resolution_errors.specs.Error.{Reports};
 ghost use Rattle.wac_resolution_errors.specs.Told.{told};
 ghost use Rattle.wac_resolution_rules.specs.BrokenStatements.{ExportOneBroken, ExportOptionsBroken};
 ghost use Rattle.wac_resolution_rules.specs.Expressions.{at};
@@ -69,7 +70,7 @@ fn export_each<R: Rules>(
     requires placed { ArePlaced state.old.graph externs.old }
     requires exported { EachExported state.old.graph node.0 (map string_bytes names.now) }
     ensures ok { OnOk result (ExportsGo span state.old.graph state.new.graph root.now externs.old externs.new (map string_bytes names.now) (λ naming c d. Under (R.named rules.now) (λ s. Steps (ExportsOne s node.0) c (map (exported_item naming state.old.graph node.0) names.now) d))) }
-    ensures err { IfErr result (λ e. (naming : Naming) → Under (R.named rules.now) (λ s. Fails (ExportsOne s node.0) (ExportOneBroken s (places_in root.now externs.old) span (told e) node.0) (composed naming state.old.graph root.now) (map (exported_item naming state.old.graph node.0) names.now))) }
+    ensures err { IfErr result (λ e. Reports (told e) ((naming : Naming) → Under (R.named rules.now) (λ s. Fails (ExportsOne s node.0) (ExportOneBroken s (places_in root.now externs.old) span (told e) node.0) (composed naming state.old.graph root.now) (map (exported_item naming state.old.graph node.0) names.now)))) }
 {
     for text in names {
         let name = NewName {
@@ -97,7 +98,7 @@ pub fn export_spread<R: Rules>(
     requires placed { ArePlaced state.old.graph externs.old }
     requires there { node.0 < length state.old.graph.nodes }
     ensures ok { OnOk result (Exported dots state.old.graph state.new.graph root.now externs.old externs.new (λ naming c d. Under (R.named rules.now) (λ s. ExportsBy s (at c node.0) (Options.spread dots) d))) }
-    ensures err { IfErr result (λ e. (naming : Naming) (x : Expr) → expr_span x ≡ span → Under (R.named rules.now) (λ s. ExportOptionsBroken s (at (composed naming state.old.graph root.now) node.0) (places_in root.now externs.old) (told e) x (Options.spread dots))) }
+    ensures err { IfErr result (λ e. Reports (told e) ((naming : Naming) (x : Expr) → expr_span x ≡ span → Under (R.named rules.now) (λ s. ExportOptionsBroken s (at (composed naming state.old.graph root.now) node.0) (places_in root.now externs.old) (told e) x (Options.spread dots)))) }
 {
     let interface = instance(state, node, InstanceOperation::Spread, span)?;
     let names = unexported(state, interface)?;

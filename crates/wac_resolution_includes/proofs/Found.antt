@@ -1,5 +1,5 @@
 -- What a name finds among the entries of a `with` clause.
-use Rattle.std.proofs.Common.{◌≡◌, ◌∙◌, ℕ, List, [], ◌∷◌, Option, Some, None, Bool, true, false, cond, refl, sym, ap, map, inr, Bor}
+use Rattle.std.proofs.Common.{◌≡◌, ◌∙◌, ℕ, List, [], ◌∷◌, Option, Some, None, Bool, true, false, cond, refl, sym, ap, map, Bor}
 use Rattle.std.specs.Prelude.{option_map, unwrap_or, alloc_error, string_bytes, String, slice_get}
 use Rattle.std.specs.declared.alloc.Global.{Global}
 use Rattle.std.specs.Map.{remove_entry}
@@ -11,7 +11,7 @@ use Rattle.wac_types.specs.Names.{by_name}
 use Rattle.wac_types.specs.Scope.{Named, look_up, without_first}
 use Rattle.wac_ast_uses.specs.Uses.{world_include_item_of}
 use Rattle.wac_ast_uses.specs.declared.includes.WorldIncludeItem.{WorldIncludeItem as CodeWorldIncludeItem}
-use Rattle.wac_resolution_errors.specs.Error.{memory, missing_world_include}
+use Rattle.wac_resolution_errors.specs.Error.{missing_world_include}
 use Rattle.wac_resolution_errors.specs.Told.{told}
 use Rattle.wac_resolution_errors.specs.declared.error.Error.{Error as CodeError}
 use Rattle.wac_resolution_errors.specs.declared.error.Error.TheVariants as errors
@@ -104,4 +104,4 @@ left_over x (e ∷ es) name item world text is of named told =
     let first : e ≡ (name, item) = cc in
     let at : item.now.from.span ≡ e.1.now.from.span = sym (ap (λ (d : String Global × Bor CodeWorldIncludeItem). d.1.now.from.span) first) in
     let here : text ≡ string_bytes e.0 = told ∙ sym (ap (λ (d : String Global × Bor CodeWorldIncludeItem). string_bytes d.0) first) in
-    inr (world_include_item_of e.1.now, of.0, cc)
+    (world_include_item_of e.1.now, of.0, cc)

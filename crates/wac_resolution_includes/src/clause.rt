@@ -5,6 +5,7 @@ ghost use Rattle.wac_types.specs.Names.{by_name};
 ghost use Rattle.wac_types.specs.Scope.{with_named, IsFresh};
 ghost use Rattle.wac_types.specs.Steps.{Fails};
 ghost use Rattle.wac_ast_uses.specs.Uses.{world_include_item_of};
+ghost use Rattle.wac_resolution_errors.specs.Error.{Reports};
 ghost use Rattle.wac_resolution_errors.specs.Told.{told};
 ghost use Rattle.wac_resolution_rules.specs.Includes.{HasEntry};
 ghost use Rattle.wac_resolution_rules.specs.BrokenWorlds.{IsSecondEntry};
@@ -24,7 +25,7 @@ fn check_entry(
     item: &WorldIncludeItem<'_>,
 ) -> Result<(), Error>
     ensures ok { OnOk result (IsFresh item.now.from.string.now (by_name all.now.entries)) }
-    ensures err { IfErr result (λ e. (before : List Item) → IsSecondEntry (told e) (entries_of (by_name all.now.entries)) before (world_include_item_of item.now)) }
+    ensures err { IfErr result (λ e. Reports (told e) ((before : List Item) → IsSecondEntry (told e) (entries_of (by_name all.now.entries)) before (world_include_item_of item.now))) }
 {
     match find(all, item.from.string) {
         Some(_) => Err(Error::DuplicateWorldIncludeName {
@@ -44,7 +45,7 @@ fn entry<'x, 'a>(
 ) -> Result<(), Error>
     ensures ok { OnOk result (IsFresh item.now.from.string.now (by_name all.old.entries)) }
     ensures added { OnOk result (by_name all.new.entries ≡ with_named (by_name all.old.entries) item.now.from.string.now item.entry) }
-    ensures err { IfErr result (λ e. (before : List Item) → IsSecondEntry (told e) (entries_of (by_name all.old.entries)) before (world_include_item_of item.now)) }
+    ensures err { IfErr result (λ e. Reports (told e) ((before : List Item) → IsSecondEntry (told e) (entries_of (by_name all.old.entries)) before (world_include_item_of item.now))) }
 {
     check_entry(alloc, all, item)?;
     push(alloc, all, item.from.string, item)?;
@@ -57,7 +58,7 @@ pub fn entries<'x, 'a>(
     items: &'x [WorldIncludeItem<'a>],
 ) -> Result<IndexMap<String, &'x WorldIncludeItem<'a>>, Error>
     ensures ok { IfOk result (λ all. AreAll (map world_include_item_of items.now) (by_name all.entries)) }
-    ensures err { IfErr result (λ e. Fails HasEntry (IsSecondEntry (told e)) [] (map world_include_item_of items.now)) }
+    ensures err { IfErr result (λ e. Reports (told e) (Fails HasEntry (IsSecondEntry (told e)) [] (map world_include_item_of items.now))) }
 {
     let mut all = IndexMap::new(alloc);
     for item in items {

@@ -1,5 +1,5 @@
 -- Nodes that are instances, and accesses to their exports.
-use Rattle.std.proofs.Common.{◌≡◌, ◌∙◌, ◌+◌, ◌<◌, ℕ, List, [], ◌∷◌, ◌++◌, Option, Some, None, inr, refl, sym, ap, subst, map, take, length, get_or}
+use Rattle.std.proofs.Common.{◌≡◌, ◌∙◌, ◌+◌, ◌<◌, ℕ, List, [], ◌∷◌, ◌++◌, Option, Some, None, refl, sym, ap, subst, map, take, length, get_or}
 use Rattle.std.specs.Prelude.{slice_get, option_map, option_and_then, IfSome, IsSome, ◌⊎◌}
 use Rattle.std.proofs.lemmas.List.{take_more, length-map, get_or-map}
 use Rattle.wac_lexer.specs.Span.{Span}
@@ -90,8 +90,7 @@ name_meant g node i p name h is naming = is (entry_means naming g) ∙ ap (acces
 pub not_exported : (g : Parts) (node : ℕ) (i : InterfaceId) (p : PostfixExpr) (name : List ℕ) → IsInstance g node i → Means g i p name → export_kind g node name ≡ None
     → (naming : Naming) (declared : Named ℕ) → IsNotExported (at (composition_of naming g declared) node) p (missing_instance_export name (postfix_span p))
 not_exported g node i p name h is none naming declared =
-    let same : name ≡ accessed p (exports_of (entry_means naming g i.0)) = name_meant g node i p name h is naming in
-    inr (
+    let same : name ≡ accessed p (exports_of (entry_means naming g i.0)) = name_meant g node i p name h is naming in (
       entry_means naming g i.0,
       h.is naming declared,
       subst (λ (l : List ℕ). IsFresh l (exports_of (entry_means naming g i.0))) same (export_meant g node i name h naming ∙ ap (option_map (means naming g)) none),

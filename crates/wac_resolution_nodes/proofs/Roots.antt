@@ -1,5 +1,5 @@
 -- What the names at root denote.
-use Rattle.std.proofs.Common.{◌≡◌, ◌∙◌, ◌<◌, ℕ, zero, suc, List, [], ◌∷◌, ◌++◌, Option, Some, None, Bool, true, false, cond, inr, refl, sym, ap, subst, map, length}
+use Rattle.std.proofs.Common.{◌≡◌, ◌∙◌, ◌<◌, ℕ, zero, suc, List, [], ◌∷◌, ◌++◌, Option, Some, None, Bool, true, false, cond, refl, sym, ap, subst, map, length}
 use Rattle.std.specs.Prelude.{slice_get, option_map}
 use Rattle.std.specs.List.{AllByRecursion}
 use Rattle.std.specs.Str.{bytes_eq}
@@ -211,7 +211,7 @@ binds old new before after x node k h named kind nodes kinds = record {
 -- the name was bound before
 pub bound_already : (root : Root) (x : Ident) (previous : Span) (e : Error) → look_up x.string (places root) ≡ Some previous → e ≡ duplicate_name x.string x.span previous
     → (naming : Naming) (g : Parts) (all : Places) → all.bound ≡ places root → IsBound (composed naming g root) all x e
-bound_already root x previous e is told naming g all same = inr (go (look_up x.string root.nodes) refl)
+bound_already root x previous e is told naming g all same = go (look_up x.string root.nodes) refl
   where
     go : (o : Option (Span × NodeId)) → look_up x.string root.nodes ≡ o → (n : ℕ) × (at : Span) × StandsFor (numbers_of root.nodes) x.string n × StandsFor all.bound x.string at × (e ≡ duplicate_name x.string x.span at)
     go None none = absurd (let p : look_up x.string (places root) ≡ None = fresh_read (λ (b : Span × NodeId). b.0) root.nodes x.string none in cc)

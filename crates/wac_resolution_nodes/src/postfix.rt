@@ -9,7 +9,7 @@ ghost use Rattle.wac_types.specs.Steps.{Fails};
 ghost use Rattle.wac_ast_expressions.specs.Expressions.{postfix_expr_of};
 ghost use Rattle.wac_graph.specs.Graph.{export_kind};
 ghost use Rattle.wac_graph.specs.Origin.{Naming};
-ghost use Rattle.wac_resolution_errors.specs.Error.{Operation};
+ghost use Rattle.wac_resolution_errors.specs.Error.{Operation, Reports};
 ghost use Rattle.wac_resolution_errors.specs.Told.{told};
 ghost use Rattle.wac_resolution_rules.specs.Expressions.{at, accessed as accessed_name, Accesses};
 ghost use Rattle.wac_resolution_rules.specs.BrokenExpressions.{IsNotInstance, IsNotExported, AccessBroken};
@@ -74,7 +74,7 @@ pub fn access(
 ) -> Result<NodeId, Error>
     requires { node.0 < length state.old.graph.nodes }
     ensures ok { IfOk result (λ n. AccessGoes state.old.graph state.new.graph node.0 (postfix_expr_of access.now) n.0) }
-    ensures err { IfErr result (λ e. (naming : Naming) (declared : Named ℕ) → IsNotInstance (composition_of naming state.old.graph declared) node.0 Operation.access span (told e) ⊎ IsNotExported (at (composition_of naming state.old.graph declared) node.0) (postfix_expr_of access.now) (told e)) }
+    ensures err { IfErr result (λ e. Reports (told e) ((naming : Naming) (declared : Named ℕ) → IsNotInstance (composition_of naming state.old.graph declared) node.0 Operation.access span (told e) ⊎ IsNotExported (at (composition_of naming state.old.graph declared) node.0) (postfix_expr_of access.now) (told e))) }
 {
     let interface = instance(state, node, InstanceOperation::Access, span)?;
     let name = accessed_export(state, interface, access)?;
@@ -97,7 +97,7 @@ pub fn accesses(
     requires agrees { NodesStand state.old.graph }
     requires there { node.0 < length state.old.graph.nodes }
     ensures ok { IfOk result (λ n. AccessesGo state.old.graph state.new.graph node.0 (map postfix_expr_of accesses.now) n.0) }
-    ensures err { IfErr result (λ e. (naming : Naming) (declared : Named ℕ) → Fails Accesses (AccessBroken span (told e)) (at (composition_of naming state.old.graph declared) node.0) (map postfix_expr_of accesses.now)) }
+    ensures err { IfErr result (λ e. Reports (told e) ((naming : Naming) (declared : Named ℕ) → Fails Accesses (AccessBroken span (told e)) (at (composition_of naming state.old.graph declared) node.0) (map postfix_expr_of accesses.now))) }
 {
     let mut node = node;
     let mut span = span;

@@ -89,7 +89,7 @@ module _ (s : Setting) (old new : Parts) (p : PackagePath) (held : HeldPackage) 
       (λ e b naming. inr (contents_in naming new held, held_contents naming, b naming)) err
 
 pub foreign_unknown : (s : Setting) (p : PackagePath) (key : Key) (e : Error) → key ≡ key_of_path p → IsNotHanded (packages_in s) key → e ≡ unknown_package p.name (package_name_span p) → (naming : Naming) → path_broken false (setting_of naming s) [] p e
-foreign_unknown s p key e keys h is naming = inl (inr (subst (λ (k : Key). package_of k (handed naming (packages_in s)) ≡ None) keys (h.is naming), is))
+foreign_unknown s p key e keys h is naming = inl (subst (λ (k : Key). package_of k (handed naming (packages_in s)) ≡ None) keys (h.is naming), is)
 
 -- ---- an identifier
 

@@ -1,5 +1,5 @@
 -- What segments resolve to, and where they break.
-use Rattle.std.proofs.Common.{◌≡◌, ◌∙◌, ◌⊎◌, inl, inr, ◌<◌, ℕ, suc, List, [], ◌∷◌, Some, None, take, length, get_or, refl, sym, ap, subst, arith}
+use Rattle.std.proofs.Common.{◌≡◌, ◌∙◌, inl, inr, ◌<◌, ℕ, suc, List, [], ◌∷◌, Some, None, take, length, get_or, refl, sym, ap, subst, arith}
 use Rattle.std.specs.Prelude.{slice_get, string_bytes, String, Result, IfOk}
 use Rattle.std.specs.declared.alloc.Global.{Global}
 use Rattle.std.specs.List.{join_with_byte, slice_split}
@@ -17,7 +17,7 @@ use Rattle.wac_grammar.specs.Version.{is_slash}
 use Rattle.wac_graph.specs.Graph.{Parts}
 use Rattle.wac_graph.specs.Means.{means}
 use Rattle.wac_graph.specs.Origin.{Naming}
-use Rattle.wac_resolution_errors.specs.Error.{Error, undefined_name, package_missing_export, package_path_missing_export, memory}
+use Rattle.wac_resolution_errors.specs.Error.{Error, undefined_name, package_missing_export, package_path_missing_export}
 use Rattle.wac_resolution_rules.specs.BrokenBodies.{last_of, StandsAt, IsNoExport, IsNoPackageExport, OwnPathBroken, ForeignPathBroken}
 use Rattle.wac_resolution_rules.specs.BrokenTypes.{IsUndefined}
 use Rattle.wac_resolution_rules.specs.Paths.{segments_of, IsMember, LeadsFrom}
@@ -89,7 +89,7 @@ module _ (p : PackagePath) (first : List ℕ) (at : Span) (rest : Spans) (split 
         (inr (
           means naming g from,
           found.is naming g,
-          misses_fail (IsNoExport p first e) naming (inr (m.span, h.none naming, missing_stands, told)),
+          misses_fail (IsNoExport p first e) naming (m.span, h.none naming, missing_stands, told),
         ))
 
     pub foreign_misses : (ks : Named ItemKind) (e : Error) (before : List ℕ) → KindIs ks (record { string = first; span = at }) from → before ≡ join_with_byte 47 (take (suc m.before) (segments_of p))
@@ -103,29 +103,12 @@ module _ (p : PackagePath) (first : List ℕ) (at : Span) (rest : Spans) (split 
         (inr (
           means naming g from,
           found.is naming g,
-          misses_fail (IsNoPackageExport p first e) naming (inr (m.span, h.none naming, missing_stands, told)),
+          misses_fail (IsNoPackageExport p first e) naming (m.span, h.none naming, missing_stands, told),
         ))
 
   pub own_undefined : (scope : Scope) (e : Error) → IsUndefined scope (record { string = first; span = at }) e → OwnPathBroken scope p (segments_of p) e
-  own_undefined scope e h = subst (λ (l : List (List ℕ)). OwnPathBroken scope p l e) (sym segments_split) (inl (go h))
-    where
-      go : IsUndefined scope (record { string = first; span = at }) e → (e ≡ memory) ⊎ ((s : Span) × IsFresh first scope × StandsAt p 0 first s × (e ≡ undefined_name first s))
-      go (inl m) = inl m
-      go (inr b) = inr (at, b.0, first_stands, b.1)
+  own_undefined scope e h = subst (λ (l : List (List ℕ)). OwnPathBroken scope p l e) (sym segments_split) (inl (at, h.0, first_stands, h.1))
 
-  pub foreign_undefined : (g : Parts) (ks : Named ItemKind) (e : Error) → (e ≡ memory) ⊎ ((look_up first ks ≡ None) × (e ≡ package_missing_export None [] p.name first at))
+  pub foreign_undefined : (g : Parts) (ks : Named ItemKind) (e : Error) → (look_up first ks ≡ None) × (e ≡ package_missing_export None [] p.name first at)
       → (naming : Naming) → ForeignPathBroken (scope_of naming g ks) p (segments_of p) e
-  foreign_undefined g ks e h naming = subst (λ (l : List (List ℕ)). ForeignPathBroken (scope_of naming g ks) p l e) (sym segments_split) (inl (go h))
-    where
-      go : (e ≡ memory) ⊎ ((look_up first ks ≡ None) × (e ≡ package_missing_export None [] p.name first at))
-          → (e ≡ memory) ⊎ ((s : Span) × IsFresh first (scope_of naming g ks) × StandsAt p 0 first s × (e ≡ package_missing_export None [] p.name first s))
-      go (inl m) = inl m
-      go (inr b) = inr (at, kind_fresh naming g ks first b.0, first_stands, b.1)
-
-pub own_memory : (scope : Scope) (p : PackagePath) (names : List (List ℕ)) (e : Error) → e ≡ memory → OwnPathBroken scope p names e
-own_memory scope p [] e h = h
-own_memory scope p (first ∷ rest) e h = inl (inl h)
-
-pub foreign_memory : (definitions : Named Meaning) (p : PackagePath) (names : List (List ℕ)) (e : Error) → e ≡ memory → ForeignPathBroken definitions p names e
-foreign_memory definitions p [] e h = h
-foreign_memory definitions p (first ∷ rest) e h = inl (inl h)
+  foreign_undefined g ks e h naming = subst (λ (l : List (List ℕ)). ForeignPathBroken (scope_of naming g ks) p l e) (sym segments_split) (inl (at, kind_fresh naming g ks first h.0, first_stands, h.1))

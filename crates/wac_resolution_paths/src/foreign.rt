@@ -1,5 +1,5 @@
 //! Paths of other packages.
-ghost use Rattle.std.specs.Prelude.{◌≡◌, ◌⊎◌, ◌∷◌, ◌++◌, [], suc, OnOk, Some, None, false, IfOk, IfErr, MatchOption, take, string_bytes};
+ghost use Rattle.std.specs.Prelude.{◌≡◌, ◌∷◌, ◌++◌, [], suc, OnOk, Some, None, false, IfOk, IfErr, MatchOption, take, string_bytes};
 ghost use Rattle.std.specs.List.{join_with_byte};
 ghost use Rattle.wac_lexer.specs.Ascii.{slash};
 ghost use Rattle.wac_types.specs.Names.{by_name};
@@ -11,7 +11,7 @@ ghost use Rattle.wac_grammar.specs.Segments.{package_name_span};
 ghost use Rattle.wac_graph.specs.Graph.{Parts};
 ghost use Rattle.wac_graph.specs.Means.{means};
 ghost use Rattle.wac_graph.specs.Origin.{Naming};
-ghost use Rattle.wac_resolution_errors.specs.Error.{memory, package_missing_export, unknown_package};
+ghost use Rattle.wac_resolution_errors.specs.Error.{Reports, package_missing_export, unknown_package};
 ghost use Rattle.wac_resolution_errors.specs.Told.{told};
 ghost use Rattle.wac_resolution_rules.specs.BrokenBodies.{ForeignPathBroken, path_broken};
 ghost use Rattle.wac_resolution_rules.specs.Paths.{key_of_path, segments_of};
@@ -132,7 +132,7 @@ fn defined(
     span: SourceSpan,
 ) -> Result<ItemKind, Error>
     ensures ok { IfOk result (λ k. look_up first.now (by_name definitions.now.entries) ≡ Some k) }
-    ensures err { IfErr result (λ e. (told e ≡ memory) ⊎ ((look_up first.now (by_name definitions.now.entries) ≡ None) × (told e ≡ package_missing_export None [] path.now.name.now first.now span))) }
+    ensures err { IfErr result (λ e. Reports (told e) ((look_up first.now (by_name definitions.now.entries) ≡ None) × (told e ≡ package_missing_export None [] path.now.name.now first.now span))) }
 {
     match find(definitions, first) {
         Some(kind) => Ok(kind),
@@ -148,7 +148,7 @@ fn defined_path(
 ) -> Result<ItemKind, Error>
     requires { ItemsNamed state.now.graph.types (by_name definitions.now.entries) }
     ensures ok { IfOk result (λ k. SegmentsLead state.now.graph (by_name definitions.now.entries) (package_path_of path.now) k) }
-    ensures err { IfErr result (λ e. (naming : Naming) → ForeignPathBroken (scope_of naming state.now.graph (by_name definitions.now.entries)) (package_path_of path.now) (segments_of (package_path_of path.now)) (told e)) }
+    ensures err { IfErr result (λ e. Reports (told e) ((naming : Naming) → ForeignPathBroken (scope_of naming state.now.graph (by_name definitions.now.entries)) (package_path_of path.now) (segments_of (package_path_of path.now)) (told e))) }
 {
     let mut rest = path.segment_spans();
     let Some((first, span)) = rest.next() else {
@@ -185,7 +185,7 @@ pub fn foreign_path(
 ) -> Result<ItemKind, Error>
     requires { HoldsHanded (packages_in setting.now) state.old.graph }
     ensures ok { IfOk result (λ k. Found (packages_in setting.now) state.old.graph state.new.graph (λ naming m. LeadsAs false (setting_of naming setting.now) [] (package_path_of path.now) m) k) }
-    ensures err { IfErr result (λ e. (naming : Naming) → path_broken false (setting_of naming setting.now) [] (package_path_of path.now) (told e)) }
+    ensures err { IfErr result (λ e. Reports (told e) ((naming : Naming) → path_broken false (setting_of naming setting.now) [] (package_path_of path.now) (told e))) }
 {
     let loaded = load(state, setting, path)?;
     match loaded {

@@ -6,7 +6,7 @@ ghost use Rattle.wac_ast_base.specs.Names.{package_path_of};
 ghost use Rattle.wac_graph.specs.Graph.{Parts};
 ghost use Rattle.wac_graph.specs.Means.{means};
 ghost use Rattle.wac_graph.specs.Origin.{Naming};
-ghost use Rattle.wac_resolution_errors.specs.Error.{package_path_missing_export};
+ghost use Rattle.wac_resolution_errors.specs.Error.{Reports, package_path_missing_export};
 ghost use Rattle.wac_resolution_errors.specs.Told.{told};
 ghost use Rattle.wac_resolution_rules.specs.BrokenBodies.{OwnPathBroken};
 ghost use Rattle.wac_resolution_rules.specs.Paths.{segments_of};
@@ -41,7 +41,7 @@ pub fn own_path(
 ) -> Result<ItemKind, Error>
     requires { ItemsNamed state.now.graph.types (values_of root.now) }
     ensures ok { IfOk result (λ k. SegmentsLead state.now.graph (values_of root.now) (package_path_of path.now) k) }
-    ensures err { IfErr result (λ e. (naming : Naming) → OwnPathBroken (scope_of naming state.now.graph (values_of root.now)) (package_path_of path.now) (segments_of (package_path_of path.now)) (told e)) }
+    ensures err { IfErr result (λ e. Reports (told e) ((naming : Naming) → OwnPathBroken (scope_of naming state.now.graph (values_of root.now)) (package_path_of path.now) (segments_of (package_path_of path.now)) (told e))) }
 {
     let mut rest = path.segment_spans();
     let Some((string, span)) = rest.next() else {

@@ -10,7 +10,7 @@ use Rattle.wac_graph.specs.Packages.{Packages, Contents, package_of}
 use Rattle.wac_grammar.specs.Grammar.{primary_span}
 use Rattle.wac_grammar.specs.Spans.{argument_name_span}
 use Rattle.wac_grammar.specs.Tree.{PackagePath, Expr, PrimaryExpr, Arguments, InstantiationArgument, ImportType, ImportStatement, LetStatement, ExportOptions, ExportStatement, Statement, Document}
-use Rattle.wac_resolution_errors.specs.Error.{Error, memory, unknown_package}
+use Rattle.wac_resolution_errors.specs.Error.{Error, unknown_package}
 use Rattle.wac_resolution_rules.specs.Given.{Given, imports_in}
 use Rattle.wac_resolution_rules.specs.Composition.{Composition, root_scope, start}
 use Rattle.wac_resolution_rules.specs.Nodes.{imports}
@@ -36,7 +36,7 @@ mutual
   first_breaks_agree : (g : Given) (ps qs : Packages) (old : Composition) (e : Error) (x : PrimaryExpr) → Agree ps qs (primary_mentions g.setting.own x) → PrimaryBroken (given_over g ps) old e x ≡ PrimaryBroken (given_over g qs) old e x
   first_breaks_agree g ps qs old e (PrimaryExpr.new span x args) h =
       let r = agree_prefix ps qs (name_mentions g.setting.own x) (arguments_mentions g.setting.own args) h in
-      λ i. ((e ≡ memory) ⊎ ((instantiable_agrees g ps qs x r.0 i ≡ None) × (e ≡ unknown_package x.name x.span)))
+      λ i. ((instantiable_agrees g ps qs x r.0 i ≡ None) × (e ≡ unknown_package x.name x.span))
       ⊎ ((p : Contents) × (instantiable_agrees g ps qs x r.0 i ≡ Some p) × arguments_break_agree g ps qs (imports_in p) (nothing_given old) e args r.1 i)
       ⊎ ((p : Contents) × (given : Giving) × (instantiable_agrees g ps qs x r.0 i ≡ Some p) × gives_agree g ps qs (imports_in p) (nothing_given old) args r.1 i given
       × Fails (Spreads (imports_in p)) (SpreadBroken (imports_in p) e) given (spreads_of args))
@@ -50,7 +50,7 @@ mutual
   arguments_break_agree g ps qs imports old e Arguments.none h = refl
   arguments_break_agree g ps qs imports old e (Arguments.more a rest) h =
       let r = agree_prefix ps qs (argument_mentions g.setting.own a) (arguments_mentions g.setting.own rest) h in
-      λ i. (e ≡ memory) ⊎ (argument_breaks_agree g ps qs imports rest old e a r.0 i ⊎ ((mid : Giving) × give_agrees g ps qs imports rest old a r.0 i mid × arguments_break_agree g ps qs imports mid e rest r.1 i))
+      λ i. argument_breaks_agree g ps qs imports rest old e a r.0 i ⊎ ((mid : Giving) × give_agrees g ps qs imports rest old a r.0 i mid × arguments_break_agree g ps qs imports mid e rest r.1 i)
 
   argument_breaks_agree : (g : Given) (ps qs : Packages) (imports : Named Meaning) (rest : Arguments) (old : Giving) (e : Error) (x : InstantiationArgument) → Agree ps qs (argument_mentions g.setting.own x)
       → ArgumentBroken (given_over g ps) imports rest old e x ≡ ArgumentBroken (given_over g qs) imports rest old e x
@@ -121,15 +121,11 @@ allowed_agree g ps qs c w h = λ i. AllByRecursion (ImportAllowed g w) (imports 
 
 target_world_breaks : (g : Given) (ps qs : Packages) (c : Composition) (p : Places) (e : Error) (path : PackagePath) (w : Meaning) → SameAtNodes ps qs c
     → TargetWorldBroken (given_over g ps) c p e path w → TargetWorldBroken (given_over g qs) c p e path w
-target_world_breaks g ps qs c p e path w h (inl (inl b)) = inl (inl b)
-target_world_breaks g ps qs c p e path w h (inl (inr (x, reached, denied, error))) = inl (inr (x, along (reached_agree g ps qs c p w x h) reached, denied, error))
-target_world_breaks g ps qs c p e path w h (inr (inl (inl b))) = inr (inl (inl b))
-target_world_breaks g ps qs c p e path w h (inr (inl (inr (x, k, r, reached, found, against, error)))) = inr (inl (inr (x, k, r, along (reached_agree g ps qs c p w x h) reached, found, against, error)))
-target_world_breaks g ps qs c p e path w h (inr (inr (inl (inl b)))) = inr (inr (inl (inl b)))
-target_world_breaks g ps qs c p e path w h (inr (inr (inl (inr (x, all, reached, fresh, error))))) = inr (inr (inl (inr (x, along (allowed_agree g ps qs c w h) all, reached, fresh, error))))
-target_world_breaks g ps qs c p e path w h (inr (inr (inr (inl b)))) = inr (inr (inr (inl b)))
-target_world_breaks g ps qs c p e path w h (inr (inr (inr (inr (x, node, r, span, all, reached, exported, against, place, error))))) =
-    inr (inr (inr (inr (x, node, r, span, along (allowed_agree g ps qs c w h) all, reached, exported, against, place, error))))
+target_world_breaks g ps qs c p e path w h (inl (x, reached, denied, error)) = inl (x, along (reached_agree g ps qs c p w x h) reached, denied, error)
+target_world_breaks g ps qs c p e path w h (inr (inl (x, k, r, reached, found, against, error))) = inr (inl (x, k, r, along (reached_agree g ps qs c p w x h) reached, found, against, error))
+target_world_breaks g ps qs c p e path w h (inr (inr (inl (x, all, reached, fresh, error)))) = inr (inr (inl (x, along (allowed_agree g ps qs c w h) all, reached, fresh, error)))
+target_world_breaks g ps qs c p e path w h (inr (inr (inr (x, node, r, span, all, reached, exported, against, place, error)))) =
+    inr (inr (inr (x, node, r, span, along (allowed_agree g ps qs c w h) all, reached, exported, against, place, error)))
 
 -- a target breaks the rules that it breaks with other packages that agree on what it and the nodes mention
 target_breaks : (g : Given) (ps qs : Packages) (c : Composition) (places : Places) (e : Error) (path : PackagePath) → Agree ps qs (path_mentions g.setting.own path) → SameAtNodes ps qs c
@@ -171,8 +167,8 @@ target_fails_too g ps qs doc e h k f =
 
 fails_first_too : (g : Given) (ps qs : Packages) (doc : Document) (e : Error) → Agree ps qs (target_mentions g.setting.own doc.directive.targets) → Agree ps qs (flat_map (statement_mentions g.setting.own) doc.statements)
     → FirstFailing (given_over g ps) doc e → FirstFailing (given_over g qs) doc e
-fails_first_too g ps qs doc e h k (rule, inl f) = (rule, inl (statement_fails_too g ps qs doc e k f))
-fails_first_too g ps qs doc e h k (rule, inr f) = (rule, inr (target_fails_too g ps qs doc e h k f))
+fails_first_too g ps qs doc e h k (inl f) = inl (statement_fails_too g ps qs doc e k f)
+fails_first_too g ps qs doc e h k (inr f) = inr (target_fails_too g ps qs doc e h k f)
 
 -- what fails first fails first with other packages that agree on what the document mentions
 failing_agrees : (g : Given) (ps qs : Packages) (doc : Document) (e : Error) → g.setting.own ≡ doc.directive.package_name.name → Agree ps qs (mentions doc) → FirstFailing (given_over g ps) doc e → FirstFailing (given_over g qs) doc e

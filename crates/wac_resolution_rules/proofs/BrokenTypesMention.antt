@@ -11,7 +11,7 @@ use Rattle.wac_types.specs.Shape.{IsA, is_interface_form, is_world_form, entry_o
 use Rattle.wac_graph.specs.Packages.{Packages, Contents}
 use Rattle.wac_grammar.specs.Segments.{package_name_span}
 use Rattle.wac_grammar.specs.Tree.{PackagePath, UsePath, Use, InterfaceItem, ExternType, WorldItemPath, WorldRef, WorldInclude, WorldItem, TypeStatement}
-use Rattle.wac_resolution_errors.specs.Error.{Error, memory, unknown_package}
+use Rattle.wac_resolution_errors.specs.Error.{Error, unknown_package}
 use Rattle.wac_resolution_rules.specs.Composition.{Composition, root_scope}
 use Rattle.wac_resolution_rules.specs.Paths.{Setting, key_of_path, segments_of}
 use Rattle.wac_resolution_rules.specs.Bodies.{Body, empty_body, UsesItem}
@@ -58,7 +58,7 @@ path_breaks_agree s ps qs root p h = go (bytes_eq p.name s.own) h
   where
     go : (b : Bool) → Agree ps qs (if b then [] else (key_of_path p, package_name_span p) ∷ []) → path_broken b (over s ps) root p ≡ path_broken b (over s qs) root p
     go true a = refl
-    go false a = λ i e. ((e ≡ memory) ⊎ ((a.0 i ≡ None) × (e ≡ unknown_package p.name (package_name_span p)))) ⊎ ((c : Contents) × (a.0 i ≡ Some c) × ForeignPathBroken c.definitions p (segments_of p) e)
+    go false a = λ i e. ((a.0 i ≡ None) × (e ≡ unknown_package p.name (package_name_span p))) ⊎ ((c : Contents) × (a.0 i ≡ Some c) × ForeignPathBroken c.definitions p (segments_of p) e)
 
 use_path_breaks_agree : (s : Setting) (ps qs : Packages) (root : Scope) (p : UsePath) → Agree ps qs (use_path_mentions s.own p) → UsePathBroken (over s ps) root p ≡ UsePathBroken (over s qs) root p
 use_path_breaks_agree s ps qs root (UsePath.path p) h = path_breaks_agree s ps qs root p h
@@ -84,10 +84,9 @@ interface_item_breaks s ps qs root of e old before (InterfaceItem.ty d) h b = b
 
 pub interface_breaks : (s : Setting) (ps qs : Packages) (root : Scope) (name : Option (List ℕ)) (n : ℕ) (items : List InterfaceItem) (e : Error) → Agree ps qs (interface_mentions s.own items)
     → InterfaceBroken (over s ps) root name n items e → InterfaceBroken (over s qs) root name n items e
-interface_breaks s ps qs root name n items e h (inl b) = inl b
-interface_breaks s ps qs root name n items e h (inr b) =
-    inr (fails_agree (HasInterfaceItem (over s ps) root) (HasInterfaceItem (over s qs) root) (InterfaceItemBroken (over s ps) root (of_interface name) e) (InterfaceItemBroken (over s qs) root (of_interface name) e)
-    (interface_item_mentions s.own) ps qs (interface_item_agrees s ps qs root) (interface_item_breaks s ps qs root (of_interface name) e) (empty_body n) items h b)
+interface_breaks s ps qs root name n items e h b =
+    fails_agree (HasInterfaceItem (over s ps) root) (HasInterfaceItem (over s qs) root) (InterfaceItemBroken (over s ps) root (of_interface name) e) (InterfaceItemBroken (over s qs) root (of_interface name) e)
+    (interface_item_mentions s.own) ps qs (interface_item_agrees s ps qs root) (interface_item_breaks s ps qs root (of_interface name) e) (empty_body n) items h b
 
 -- ---- worlds
 
@@ -124,16 +123,15 @@ include_breaks s ps qs root world e old before x h b =
 
 world_breaks : (s : Setting) (ps qs : Packages) (root : Scope) (name : List ℕ) (n : ℕ) (items : List WorldItem) (e : Error) → Agree ps qs (flat_map (world_item_mentions s.own) items)
     → WorldBroken (over s ps) root name n items e → WorldBroken (over s qs) root name n items e
-world_breaks s ps qs root name n items e h (inl b) = inl b
-world_breaks s ps qs root name n items e h (inr (inl b)) =
-    inr (inl (fails_agree (HasWorldItem (over s ps) root) (HasWorldItem (over s qs) root) (WorldItemBroken (over s ps) root (of_world name) e) (WorldItemBroken (over s qs) root (of_world name) e)
-    (world_item_mentions s.own) ps qs (world_item_agrees s ps qs root) (world_item_breaks s ps qs root (of_world name) e) (empty_body n) items h b))
-world_breaks s ps qs root name n items e h (inr (inr (mid, leads, b))) = inr (inr (
+world_breaks s ps qs root name n items e h (inl b) =
+    inl (fails_agree (HasWorldItem (over s ps) root) (HasWorldItem (over s qs) root) (WorldItemBroken (over s ps) root (of_world name) e) (WorldItemBroken (over s qs) root (of_world name) e)
+    (world_item_mentions s.own) ps qs (world_item_agrees s ps qs root) (world_item_breaks s ps qs root (of_world name) e) (empty_body n) items h b)
+world_breaks s ps qs root name n items e h (inr (mid, leads, b)) = inr (
   mid,
   along (λ i. steps_agree (HasWorldItem (over s ps) root) (HasWorldItem (over s qs) root) (world_item_mentions s.own) ps qs (world_item_agrees s ps qs root) (empty_body n) items h i mid) leads,
   fails_agree (HasInclude (over s ps) root) (HasInclude (over s qs) root) (IncludeBroken (over s ps) root name e) (IncludeBroken (over s qs) root name e) (include_mentions s.own) ps qs (include_agrees s ps qs root)
       (include_breaks s ps qs root name e) mid (includes_of items) (includes_agree s.own ps qs items h) b,
-))
+)
 
 -- ---- type statements
 

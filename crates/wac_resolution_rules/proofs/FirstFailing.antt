@@ -6,7 +6,7 @@ use Rattle.wac_resolution_rules.specs.Given.{Given}
 use Rattle.wac_resolution_rules.specs.Composition.{Composition, start}
 use Rattle.wac_resolution_rules.specs.Statements.{Goes, Composes}
 use Rattle.wac_resolution_rules.specs.Target.{MeetsPath, MeetsTarget}
-use Rattle.wac_resolution_errors.specs.Error.{Error, NamesRule}
+use Rattle.wac_resolution_errors.specs.Error.{Error}
 use Rattle.wac_resolution_rules.specs.BrokenStatements.{StatementBroken, TargetBroken}
 use Rattle.wac_resolution_rules.specs.ResolvedDocument.{Describes, StatementFails, TargetFails, FirstFailing}
 use Rattle.wac_resolution_rules.specs.Places.{Leads, Placed, placed_start}
@@ -39,36 +39,32 @@ target_has_none s doc e c f p =
 
 -- a document in which a statement or the target fails describes nothing
 pub first_has_none : (s : Given) (doc : Document) (e : Error) (c : Composition) → FirstFailing s doc e → Describes s doc c → ⊥
-first_has_none s doc e c (rule, inl f) p = statement_has_none s doc e c f p
-first_has_none s doc e c (rule, inr f) p = target_has_none s doc e c f p
+first_has_none s doc e c (inl f) p = statement_has_none s doc e c f p
+first_has_none s doc e c (inr f) p = target_has_none s doc e c f p
 
 -- a statement after a prefix that composes, and that breaks a rule, is the first failing one
-pub fails_at : (s : Given) (doc : Document) (e : Error) → NamesRule e → (before : List Statement) (x : Statement) (after : List Statement) → doc.statements ≡ before ++ x ∷ after
+pub fails_at : (s : Given) (doc : Document) (e : Error) (before : List Statement) (x : Statement) (after : List Statement) → doc.statements ≡ before ++ x ∷ after
     → (so_far : Placed) → Steps (Leads s) (placed_start start) before so_far → StatementBroken s so_far.composition so_far.places e x → FirstFailing s doc e
-fails_at s doc e rule before x after split so_far leads broken = (
-  rule,
-  inl (record {
-    before = before;
-    failing = x;
-    after = after;
-    split = split;
-    so_far = so_far;
-    leads = leads;
-    broken = broken;
-    stops = λ next g. statement_stops s so_far.composition so_far.places e rule x next broken g;
-  }),
-)
+fails_at s doc e before x after split so_far leads broken =
+    inl (record {
+      before = before;
+      failing = x;
+      after = after;
+      split = split;
+      so_far = so_far;
+      leads = leads;
+      broken = broken;
+      stops = λ next g. statement_stops s so_far.composition so_far.places e x next broken g;
+    })
 
-pub fails_at_target : (s : Given) (doc : Document) (e : Error) → NamesRule e → (target : PackagePath) → doc.directive.targets ≡ Some target
+pub fails_at_target : (s : Given) (doc : Document) (e : Error) (target : PackagePath) → doc.directive.targets ≡ Some target
     → (whole : Placed) → Steps (Leads s) (placed_start start) doc.statements whole → TargetBroken s whole.composition whole.places e target → FirstFailing s doc e
-fails_at_target s doc e rule target has whole leads broken = (
-  rule,
-  inr (record {
-    target = target;
-    has_target = has;
-    whole = whole;
-    leads = leads;
-    broken = broken;
-    stops = λ met. target_stops s whole.composition whole.places e rule target broken met;
-  }),
-)
+fails_at_target s doc e target has whole leads broken =
+    inr (record {
+      target = target;
+      has_target = has;
+      whole = whole;
+      leads = leads;
+      broken = broken;
+      stops = λ met. target_stops s whole.composition whole.places e target broken met;
+    })

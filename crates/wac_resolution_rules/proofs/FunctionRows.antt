@@ -1,5 +1,5 @@
 -- Function types with named results: what one means, and which rules others break.
-use Rattle.std.proofs.Common.{◌≡◌, ◌+◌, ℕ, List, [], ◌∷◌, refl, false, codes, inl, inr}
+use Rattle.std.proofs.Common.{◌+◌, ℕ, List, [], ◌∷◌, refl, false, codes, inl, inr}
 use Rattle.wac_lexer.specs.Span.{span}
 use Rattle.wac_types.specs.declared.kind.FuncKind.TheVariants as funcs
 use Rattle.wac_types.specs.declared.kind.PrimitiveType.TheVariants as primitives
@@ -30,12 +30,12 @@ two_results scope = ([], named_results ((codes "a", u8) ∷ (codes "b", u8) ∷ 
 -- func() -> (a: u8, a: u8)
 repeated_result : (scope : Scope) → FuncBroken funcs.Free scope [] (giving (u8_named (codes "a") 11 ∷ u8_named (codes "a") 18 ∷ [])) (duplicate_result funcs.Free (codes "a") (span 18 1))
 repeated_result scope =
-    inr (inr ([], refl, record { before = u8_named (codes "a") 11 ∷ []; failing = u8_named (codes "a") 18; after = []; split = refl; reached = (codes "a", u8) ∷ []; leads = ((codes "a", u8) ∷ [], (u8, (refl, refl), refl, refl), refl); breaks = inr (u8, (refl, refl), inr (u8, refl, refl)) }))
+    inr ([], refl, record { before = u8_named (codes "a") 11 ∷ []; failing = u8_named (codes "a") 18; after = []; split = refl; reached = (codes "a", u8) ∷ []; leads = ((codes "a", u8) ∷ [], (u8, (refl, refl), refl, refl), refl); breaks = inr (u8, (refl, refl), (u8, refl, refl)) })
 
 -- func() -> (a: u8, a: borrow<r>), where r is a resource: the borrow is reported, at its type
 borrow_first : (entry : Meaning) → FuncBroken funcs.Free ((codes "r", kind_of a_resource entry) ∷ []) [] (giving (u8_named (codes "a") 11 ∷ record { id = ident (codes "a") 18 1; ty = Ty.borrow (ident (codes "r") 28 1) (span 21 9) } ∷ [])) (borrow_in_result (span 21 9))
 borrow_first entry =
-    inr (inr (
+    inr (
       [],
       refl,
       record {
@@ -45,6 +45,6 @@ borrow_first entry =
         split = refl;
         reached = (codes "a", u8) ∷ [];
         leads = ((codes "a", u8) ∷ [], (u8, (refl, refl), refl, refl), refl);
-        breaks = inl (inr (inr (borrow_of entry, (kind_of a_resource entry, refl, refl, refl), refl, refl)));
+        breaks = inl (inr (borrow_of entry, (kind_of a_resource entry, refl, refl, refl), refl, refl));
       },
-    ))
+    )

@@ -1,5 +1,5 @@
 -- Documents that break a rule of statements, expressions or targets: at the last statement, or at the target.
-use Rattle.std.proofs.Common.{◌≡◌, ◌-◌, ℕ, List, [], ◌∷◌, refl, Option, Some, None, false, codes, inl, inr}
+use Rattle.std.proofs.Common.{◌-◌, ℕ, List, [], ◌∷◌, refl, Option, Some, None, false, codes, inl, inr}
 use Rattle.wac_lexer.specs.Span.{span}
 use Rattle.wac_types.specs.declared.kind.ExternKind.TheVariants as externs
 use Rattle.wac_types.specs.declared.kind.PrimitiveType.TheVariants as primitives
@@ -14,11 +14,11 @@ use Rattle.wac_graph.specs.Packages.{Contents}
 use Rattle.wac_grammar.specs.Tree.{PackageName, PackagePath, Ty, TypeAliasKind, TypeDecl, TypeStatement, PostfixExpr, InstantiationArgumentName, InstantiationArgument, Arguments, PrimaryExpr, Expr, ExternName, ImportType, ExportOptions, Statement}
 use Rattle.wac_resolution_rules.specs.Given.{Given}
 use Rattle.wac_resolution_rules.specs.Composition.{Composition, Node, imported, definition, aliased, start}
-use Rattle.wac_resolution_rules.specs.Expressions.{At, at, Giving}
+use Rattle.wac_resolution_rules.specs.Expressions.{at, Giving}
 use Rattle.wac_resolution_rules.specs.Places.{Places}
 use Rattle.wac_resolution_errors.specs.Error.{Operation, undefined_name, duplicate_name, invalid_alias_type, unknown_package, package_missing_export, package_path_missing_export, missing_component_import, duplicate_instantiation_arg, not_an_instance, missing_instance_export, export_requires_as, export_conflict, duplicate_extern_name, invalid_extern_name, spread_instantiation_no_match, spread_export_no_effect, not_world, import_not_in_target, target_mismatch}
 use Rattle.wac_resolution_rules.specs.BrokenStatements.{StatementBroken, TargetBroken}
-use Rattle.wac_resolution_rules.proofs.StatementRows.{ident, no_params, function, given_in, instance_z, package_cd, key_cd, name_cd, none_pass, node_i, with_cd}
+use Rattle.wac_resolution_rules.proofs.StatementRows.{ident, no_params, function, given_in, package_cd, key_cd, name_cd, none_pass, node_i, with_cd}
 
 -- ---- compositions and statements
 
@@ -73,7 +73,7 @@ with_j naming = given_in naming ((key_cd, package_with_j) ∷ [])
 
 -- package a:b; let x = y;
 undefined : (naming : Naming) (p : Places) → StatementBroken (given_in naming []) start p (undefined_name (codes "y") (span 21 1)) (let_at (codes "x") 17 (plain_ident (codes "y") 21))
-undefined naming p = inl (inl (inr (refl, refl)))
+undefined naming p = inl (inl (refl, refl))
 
 abbrev with_f_g : Composition
 with_f_g = record { nodes = import_of (codes "f") function ∷ import_of (codes "g") function ∷ []; exports = []; declared = (codes "f", 0) ∷ (codes "g", 1) ∷ []; resources = 0 }
@@ -83,7 +83,7 @@ places_f_g = record { bound = (codes "f", span 20 1) ∷ (codes "g", span 38 1) 
 
 -- package a:b; import f: func(); import g: func(); let f = g;
 bound_twice : (naming : Naming) → StatementBroken (given_in naming []) with_f_g places_f_g (duplicate_name (codes "f") (span 53 1) (span 20 1)) (let_at (codes "f") 53 (plain_ident (codes "g") 57))
-bound_twice naming = inr (at with_f_g 1, (at with_f_g 1, (1, refl, refl), refl), inr (0, span 20 1, refl, refl, refl))
+bound_twice naming = inr (at with_f_g 1, (at with_f_g 1, (1, refl, refl), refl), (0, span 20 1, refl, refl, refl))
 
 -- package a:b; import x: interface { resource r; }; let r = x.r; type t = r;
 abbrev resource_r : Naming → Meaning
@@ -99,34 +99,34 @@ with_r naming = record {
 
 no_alias_of_a_resource : (naming : Naming) (p : Places) → StatementBroken (given_in naming []) (with_r naming) p (invalid_alias_type (codes "r") (codes "resource") (span 72 1))
     (Statement.type_statement (TypeStatement.ty (TypeDecl.alias (record { docs = []; id = ident (codes "t") 68 1; kind = TypeAliasKind.ty (Ty.ident (ident (codes "r") 72 1)) }))))
-no_alias_of_a_resource naming p = inl (inr (inr (resource_r naming, refl, refl, refl)))
+no_alias_of_a_resource naming p = inl (inr (resource_r naming, refl, refl, refl))
 
 -- ---- paths
 
 -- package a:b; import x: c:e/i;
 unknown_in_a_path : (naming : Naming) (p : Places) → StatementBroken (with_j naming) start p (unknown_package (codes "c:e") (span 23 3)) (import_path (codes "c:e/i") (codes "c:e") (codes "i") 23 5)
-unknown_in_a_path naming p = inl (inl (inr (refl, refl)))
+unknown_in_a_path naming p = inl (inl (refl, refl))
 
 abbrev interface_i : Meaning
 interface_i = kind_of an_interface (interface_entry (Some (codes "a:b/i")) [] [])
 
 -- package a:b; interface i { } import x: a:b/j;
 undefined_segment : (naming : Naming) (p : Places) → StatementBroken (given_in naming []) (defined (codes "i") interface_i) p (undefined_name (codes "j") (span 43 1)) (import_path (codes "a:b/j") (codes "a:b") (codes "j") 39 5)
-undefined_segment naming p = inl (inl (inr (span 43 1, refl, refl, refl)))
+undefined_segment naming p = inl (inl (span 43 1, refl, refl, refl))
 
 -- package a:b; interface i { } import x: a:b/i/q;
 no_export_of_a_segment : (naming : Naming) (p : Places) → StatementBroken (given_in naming []) (defined (codes "i") interface_i) p (package_path_missing_export (codes "i") (codes "interface") (codes "q") (span 45 1)) (import_path (codes "a:b/i/q") (codes "a:b") (codes "i/q") 39 7)
 no_export_of_a_segment naming p =
-    inl (inr (interface_i, refl, record { before = []; failing = codes "q"; after = []; split = refl; reached = interface_i; leads = refl; breaks = inr (span 45 1, refl, refl, refl) }))
+    inl (inr (interface_i, refl, record { before = []; failing = codes "q"; after = []; split = refl; reached = interface_i; leads = refl; breaks = (span 45 1, refl, refl, refl) }))
 
 -- package a:b; import x: c:d/q;
 no_definition : (naming : Naming) (p : Places) → StatementBroken (with_j naming) start p (package_missing_export None [] (codes "c:d") (codes "q") (span 27 1)) (import_path (codes "c:d/q") (codes "c:d") (codes "q") 23 5)
-no_definition naming p = inl (inr (package_with_j, refl, inl (inr (span 27 1, refl, refl, refl))))
+no_definition naming p = inl (inr (package_with_j, refl, inl (span 27 1, refl, refl, refl)))
 
 -- package a:b; import x: c:d/j/q;
 no_export_in_a_package : (naming : Naming) (p : Places) → StatementBroken (with_j naming) start p (package_missing_export (Some (codes "interface")) (codes "j") (codes "c:d") (codes "q") (span 29 1)) (import_path (codes "c:d/j/q") (codes "c:d") (codes "j/q") 23 7)
 no_export_in_a_package naming p =
-    inl (inr (package_with_j, refl, inr (kind_of an_interface (interface_entry (Some (codes "c:d/j")) [] []), refl, record { before = []; failing = codes "q"; after = []; split = refl; reached = _; leads = refl; breaks = inr (span 29 1, refl, refl, refl) })))
+    inl (inr (package_with_j, refl, inr (kind_of an_interface (interface_entry (Some (codes "c:d/j")) [] []), refl, record { before = []; failing = codes "q"; after = []; split = refl; reached = _; leads = refl; breaks = (span 29 1, refl, refl, refl) })))
 
 -- ---- imports
 
@@ -139,7 +139,7 @@ places_g = record { bound = (codes "g", span 20 1) ∷ []; imported = (codes "g"
 -- package a:b; import g: func(); import k as g: func();
 imported_twice : (naming : Naming) → StatementBroken (given_in naming []) with_g places_g (duplicate_extern_name externs.Import (codes "g") (span 43 1) (span 20 1) None)
     (Statement.import_statement (record { docs = []; id = ident (codes "k") 38 1; name = Some (ExternName.ident (ident (codes "g") 43 1)); ty = ImportType.func no_params }))
-imported_twice naming = inr (function, 0, (func_entry false [] [], ([], [], refl, refl, refl), refl, refl), inl (inr (function, span 20 1, refl, refl, refl)))
+imported_twice naming = inr (function, 0, (func_entry false [] [], ([], [], refl, refl, refl), refl, refl), inl (function, span 20 1, refl, refl, refl))
 
 -- rules that reject every name
 abbrev no_names : Naming → Reason → Given
@@ -148,14 +148,14 @@ no_names naming r = record { setting = (given_in naming []).setting; rules = rec
 -- package a:b; import f: func();
 invalid_name : (naming : Naming) (p : Places) (r : Reason) → StatementBroken (no_names naming r) start p (invalid_extern_name (codes "f") externs.Import r (span 20 1))
     (Statement.import_statement (record { docs = []; id = ident (codes "f") 20 1; name = None; ty = ImportType.func no_params }))
-invalid_name naming p r = inr (function, 0, (func_entry false [] [], ([], [], refl, refl, refl), refl, refl), inr (refl, inl (inr (r, refl, refl))))
+invalid_name naming p r = inr (function, 0, (func_entry false [] [], ([], [], refl, refl, refl), refl, refl), inr (refl, inl (r, refl, refl)))
 
 -- ---- instances
 
 -- package a:b; let x = new a:b {};
 own_package : (naming : Naming) (p : Places)
     → StatementBroken (with_j naming) start p (unknown_package (codes "a:b") (span 25 3)) (let_at (codes "x") 17 (new_at 21 10 (record { string = codes "a:b"; name = codes "a:b"; version = None; span = span 25 3 }) Arguments.none))
-own_package naming p = inl (inl (inl (inr (refl, refl))))
+own_package naming p = inl (inl (inl (refl, refl)))
 
 abbrev with_log : Composition
 with_log = record { nodes = import_of (codes "log") function ∷ []; exports = []; declared = (codes "log", 0) ∷ []; resources = 0 }
@@ -167,7 +167,7 @@ given_log = record { composition = with_log; arguments = (codes "log", 0) ∷ []
 given_twice : (naming : Naming) (p : Places) → StatementBroken (with_cd naming) with_log p (duplicate_instantiation_arg (codes "log") (span 56 3))
     (let_at (codes "i") 37 (new_at 41 31 name_cd (Arguments.more (InstantiationArgument.inferred (ident (codes "log") 51 3)) (Arguments.more (InstantiationArgument.named (InstantiationArgumentName.ident (ident (codes "log") 56 3)) (Expr.expr (span 61 3) (PrimaryExpr.ident (ident (codes "log") 61 3)) [])) (and_fill 66)))))
 given_twice naming p =
-    inl (inl (inr (inl (package_cd, refl, inr (inr (given_log, (0, import_of (codes "log") function, refl, refl, refl, refl), inr (inl (inr (at with_log 0, (at with_log 0, (0, refl, refl), refl), inr (0, refl, refl))))))))))
+    inl (inl (inr (inl (package_cd, refl, inr (given_log, (0, import_of (codes "log") function, refl, refl, refl, refl), inl (inr (at with_log 0, (at with_log 0, (0, refl, refl), refl), (0, refl, refl))))))))
 
 abbrev nothing_yet : Composition → Giving
 nothing_yet c = record { composition = c; arguments = [] }
@@ -211,7 +211,7 @@ no_such_import naming p =
       refl,
       (given_g, (at with_f 0, (at with_f 0, (0, refl, refl), refl), refl, refl), (given_g, (tt, refl), refl)),
       refl,
-      inl (inr ((codes "g", 0), span 49 1, ([], [], refl, tt), refl, refl, refl)),
+      inl ((codes "g", 0), span 49 1, ([], [], refl, tt), refl, refl, refl),
     )))))
 
 -- ---- accesses
@@ -226,7 +226,7 @@ access_of_no_export : (naming : Naming) (p : Places) → StatementBroken (given_
     (let_at (codes "y") 53 (Expr.expr (span 57 3) (PrimaryExpr.ident (ident (codes "x") 57 1)) (PostfixExpr.access (record { span = span 58 2; id = ident (codes "g") 59 1 }) ∷ [])))
 access_of_no_export naming p =
     let a = at (with_x ((codes "f", function) ∷ [])) 0 in
-    inl (inr (a, (0, refl, refl), record { before = []; failing = _; after = []; split = refl; reached = a; leads = refl; breaks = inr (inr (interface_entry None [] ((codes "f", function) ∷ []), refl, refl, refl)) }))
+    inl (inr (a, (0, refl, refl), record { before = []; failing = _; after = []; split = refl; reached = a; leads = refl; breaks = inr (interface_entry None [] ((codes "f", function) ∷ []), refl, refl, refl) }))
 
 -- ---- exports
 
@@ -235,7 +235,7 @@ with_only_i = record { nodes = record (node_i (Some (codes "i"))) { arguments = 
 
 -- package a:b; let i = new c:d { ... }; export i;
 export_without_a_name : (naming : Naming) (p : Places) → StatementBroken (with_cd naming) with_only_i p (export_requires_as (span 45 1)) (export_at (plain_ident (codes "i") 45) ExportOptions.none)
-export_without_a_name naming p = inr (at with_only_i 0, (at with_only_i 0, (0, refl, refl), refl), inl (inr (_, refl, refl, refl)))
+export_without_a_name naming p = inr (at with_only_i 0, (at with_only_i 0, (0, refl, refl), refl), inl (_, refl, refl, refl))
 
 abbrev with_t_f : Composition
 with_t_f = record {
@@ -251,7 +251,7 @@ places_t_f = record { bound = (codes "t", span 18 1) ∷ (codes "f", span 33 1) 
 -- package a:b; type t = u8; import f: func(); export f as t;
 export_of_a_definition : (naming : Naming) → StatementBroken (given_in naming []) with_t_f places_t_f (export_conflict (codes "t") (codes "value type") (span 56 1) (span 18 1) None)
     (export_at (plain_ident (codes "f") 51) (ExportOptions.rename (ExternName.ident (ident (codes "t") 56 1))))
-export_of_a_definition naming = inr (at with_t_f 1, (at with_t_f 1, (1, refl, refl), refl), inl (inr (alias_type (primitive_value primitives.U8), span 18 1, refl, refl, refl)))
+export_of_a_definition naming = inr (at with_t_f 1, (at with_t_f 1, (1, refl, refl), refl), inl (alias_type (primitive_value primitives.U8), span 18 1, refl, refl, refl))
 
 -- package a:b; import f: func(); export f...;
 exports_of_a_function : (naming : Naming) (p : Places) → StatementBroken (given_in naming []) with_f p (not_an_instance (codes "function") Operation.spread (span 38 1)) (export_at (plain_ident (codes "f") 38) (ExportOptions.spread (span 39 3)))
@@ -259,7 +259,7 @@ exports_of_a_function naming p = inr (at with_f 0, (at with_f 0, (0, refl, refl)
 
 -- package a:b; import x: interface { }; export x...;
 no_exports : (naming : Naming) (p : Places) → StatementBroken (given_in naming []) (with_x []) p (spread_export_no_effect (span 45 1)) (export_at (plain_ident (codes "x") 45) (ExportOptions.spread (span 46 3)))
-no_exports naming p = inr (at (with_x []) 0, (at (with_x []) 0, (0, refl, refl), refl), inr (inl (inr (interface_entry None [] [], refl, refl, refl))))
+no_exports naming p = inr (at (with_x []) 0, (at (with_x []) 0, (0, refl, refl), refl), inr (inl (interface_entry None [] [], refl, refl, refl)))
 
 -- ---- targets
 
@@ -268,7 +268,7 @@ target_at text segments = record { span = span 20 5; string = text; name = codes
 
 -- package a:b targets a:b/i; interface i { }
 target_is_no_world : (naming : Naming) (p : Places) → TargetBroken (given_in naming []) (defined (codes "i") interface_i) p (not_world (codes "a:b/i") (codes "interface") (span 20 5)) (target_at (codes "a:b/i") (codes "i"))
-target_is_no_world naming p = inr (interface_i, (_, refl, (interface_i, refl, refl)), inl (inr (refl, refl)))
+target_is_no_world naming p = inr (interface_i, (_, refl, (interface_i, refl, refl)), inl (refl, refl))
 
 -- func(x: u8), as a kind
 abbrev other : Meaning
@@ -291,14 +291,14 @@ empty_world = world_entry (Some (codes "a:b/w")) [] [] []
 
 -- package a:b targets a:b/w; world w { } import f: func();
 not_in_target : (naming : Naming) → TargetBroken (given_in naming []) (under_w empty_world (codes "f") function []) (placed_at (codes "f") 46) (import_not_in_target (codes "f") (codes "a:b/w") (Some (span 46 1))) (target_at (codes "a:b/w") (codes "w"))
-not_in_target naming = inr (kind_of a_world empty_world, (_, refl, (_, refl, refl)), inr (empty_world, refl, inl (inr (((codes "f", function), Some (span 46 1)), ([], [], refl, tt), refl, refl))))
+not_in_target naming = inr (kind_of a_world empty_world, (_, refl, (_, refl, refl)), inr (empty_world, refl, inl (((codes "f", function), Some (span 46 1)), ([], [], refl, tt), refl, refl)))
 
 abbrev world_with_f : Meaning
 world_with_f = world_entry (Some (codes "a:b/w")) [] ((codes "f", function) ∷ []) []
 
 -- package a:b targets a:b/w; world w { import f: func(); } import f: func(x: u8);
 import_of_another_kind : (naming : Naming) (r : Reason) → TargetBroken (none_pass naming r) (under_w world_with_f (codes "f") other []) (placed_at (codes "f") 64) (target_mismatch externs.Import (codes "f") (codes "a:b/w") r (Some (span 64 1))) (target_at (codes "a:b/w") (codes "w"))
-import_of_another_kind naming r = inr (kind_of a_world world_with_f, (_, refl, (_, refl, refl)), inr (world_with_f, refl, inr (inl (inr (((codes "f", other), Some (span 64 1)), function, r, ([], [], refl, tt), refl, refl, refl)))))
+import_of_another_kind naming r = inr (kind_of a_world world_with_f, (_, refl, (_, refl, refl)), inr (world_with_f, refl, inr (inl (((codes "f", other), Some (span 64 1)), function, r, ([], [], refl, tt), refl, refl, refl))))
 
 -- rules that require a parameter
 abbrev asks_for_params : Reason → Row → Option Reason
@@ -315,4 +315,4 @@ world_with_g_f = world_entry (Some (codes "a:b/w")) [] ((codes "g", other) ∷ [
 export_of_another_kind : (naming : Naming) (r : Reason)
     → TargetBroken (with_params naming r) (under_w world_with_g_f (codes "g") other ((codes "f", 1) ∷ [])) (placed_at (codes "g") 87) (target_mismatch externs.Export (codes "f") (codes "a:b/w") r (Some (span 115 1))) (target_at (codes "a:b/w") (codes "w"))
 export_of_another_kind naming r =
-    inr (kind_of a_world world_with_g_f, (_, refl, (_, refl, refl)), inr (world_with_g_f, refl, inr (inr (inr (inr ((codes "f", function), 1, r, span 115 1, ((other, refl, refl), tt), ([], [], refl, tt), refl, refl, refl, refl))))))
+    inr (kind_of a_world world_with_g_f, (_, refl, (_, refl, refl)), inr (world_with_g_f, refl, inr (inr (inr ((codes "f", function), 1, r, span 115 1, ((other, refl, refl), tt), ([], [], refl, tt), refl, refl, refl, refl)))))

@@ -200,12 +200,12 @@ argument_is_missing naming p = inl (inl (inr (inr (inr (
   refl,
   (given_log, (0, node_log, refl, refl, refl, refl), refl),
   refl,
-  inr (inr (inr ((codes "x:y/z", instance_z), [], ((function, refl, refl), tt), refl, refl, refl))),
+  inr (inr ((codes "x:y/z", instance_z), [], ((function, refl, refl), tt), refl, refl, refl)),
 )))))
 
 -- with { log, ..., } and a package that isn't given, 45+3: unknown package c:d
 pub package_is_unknown : (naming : Naming) (p : Places) (args : Arguments) → StatementBroken (given_in naming []) with_log p (unknown_package (codes "c:d") (span 45 3)) (let_i args)
-package_is_unknown naming p args = inl (inl (inl (inr (refl, refl))))
+package_is_unknown naming p args = inl (inl (inl (refl, refl)))
 
 -- ---- package a:b; let x = new c:d { ..., y };
 
@@ -214,7 +214,7 @@ fill_first = Arguments.more (InstantiationArgument.fill (span 31 3)) (Arguments.
 
 -- 31+3: the fill must be the last argument
 pub fill_is_not_last : (naming : Naming) (p : Places) → StatementBroken (with_cd naming) start p (fill_argument_not_last (span 31 3)) (let_i fill_first)
-fill_is_not_last naming p = inl (inl (inr (inl (package_cd, refl, inr (inl (λ h. h, refl))))))
+fill_is_not_last naming p = inl (inl (inr (inl (package_cd, refl, inl (λ h. h, refl)))))
 
 -- ---- package a:b; import x: interface { log: func(); }; let i = new c:d { ...x, ... };
 
@@ -286,7 +286,7 @@ argument_mismatches naming p r = inl (inl (inr (inr (inr (
   refl,
   (record { composition = with_x_log; arguments = [] }, refl, (record { composition = with_x_log; arguments = [] }, (tt, refl), refl)),
   (spread_log, (0, interface_entry None [] ((codes "log", function) ∷ []), refl, refl, refl, λ h. cc h), refl),
-  inr (inl (inr ((codes "log", 1), span 72 1, function, r, ([], [], refl, tt), refl, refl, refl, refl))),
+  inr (inl ((codes "log", 1), span 72 1, function, r, ([], [], refl, tt), refl, refl, refl, refl)),
 )))))
 
 -- ---- package a:b; import g: func(); import k: func(); export g as f; export g as h; export k as f;
@@ -307,7 +307,7 @@ export_k_as_f = Statement.export_statement (record { docs = []; expr = Expr.expr
 
 -- 91+1, previous 61+1: duplicate export f
 pub export_is_repeated : (naming : Naming) → StatementBroken (given_in naming []) with_f_h places_f_h (duplicate_extern_name externs.Export (codes "f") (span 91 1) (span 61 1) None) export_k_as_f
-export_is_repeated naming = inr (record { composition = with_f_h; node = 1 }, (record { composition = with_f_h; node = 1 }, (1, refl, refl), refl), inr (refl, inl (inr (0, span 61 1, refl, refl, refl))))
+export_is_repeated naming = inr (record { composition = with_f_h; node = 1 }, (record { composition = with_f_h; node = 1 }, (1, refl, refl), refl), inr (refl, inl (0, span 61 1, refl, refl, refl)))
 
 -- ---- package a:b targets a:b/w; world w { export run: func(); }
 
@@ -339,14 +339,14 @@ world_composes naming = (
 
 -- 20+5: target world a:b/w requires an export named run
 pub export_is_missing : (naming : Naming) (p : Places) → TargetBroken (given_in naming []) with_w p (missing_target_export (codes "run") (codes "a:b/w") (codes "function") (span 20 5)) target_w
-export_is_missing naming p = inr (kind_of a_world entry_w, (root_scope with_w, refl, (kind_of a_world entry_w, refl, refl)), inr (entry_w, refl, inr (inr (inl (inr ((codes "run", function), tt, ([], [], refl, tt), refl, refl))))))
+export_is_missing naming p = inr (kind_of a_world entry_w, (root_scope with_w, refl, (kind_of a_world entry_w, refl, refl)), inr (entry_w, refl, inr (inr (inl ((codes "run", function), tt, ([], [], refl, tt), refl, refl)))))
 
 -- ---- the composition of log, i and i.run under targets
 
 -- what i leaves open isn't allowed by a world that imports log alone; it has no place
 pub open_not_in_target : (naming : Naming) (p : Places)
     → TargetWorldBroken (with_cd naming) whole_i p (import_not_in_target (codes "x:y/z") (codes "a:b/w") None) target_w (world_entry (Some (codes "a:b/w")) [] ((codes "log", function) ∷ []) [])
-open_not_in_target naming p = inl (inr (((codes "x:y/z", instance_z), None), (((codes "log", function), look_up (codes "log") p.imported) ∷ [], [], refl, ((function, refl, refl), tt)), refl, refl))
+open_not_in_target naming p = inl (((codes "x:y/z", instance_z), None), (((codes "log", function), look_up (codes "log") p.imported) ∷ [], [], refl, ((function, refl, refl), tt)), refl, refl)
 
 -- a world that uses a type of x:y/z allows it
 pub used_is_allowed : (naming : Naming)

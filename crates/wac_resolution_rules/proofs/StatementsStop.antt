@@ -20,7 +20,7 @@ use Rattle.wac_resolution_rules.specs.Nodes.{node_at, instance_at, imports}
 use Rattle.wac_resolution_rules.specs.Expressions.{At}
 use Rattle.wac_resolution_rules.specs.Statements.{ImportsKind, name_imported, Imports, Lets, definition_bound, ExportsAs, unnamed_export, unexported, ExportsOne, ExportsBy, Exports, Goes}
 use Rattle.wac_resolution_rules.specs.Target.{allowed, open_imports, all_imports, ImportAllowed, ExportMet, IsAllowed, MeetsPath}
-use Rattle.wac_resolution_errors.specs.Error.{Error, Operation, NamesRule}
+use Rattle.wac_resolution_errors.specs.Error.{Error, Operation}
 use Rattle.wac_resolution_rules.specs.BrokenStatements.{IsImportedAlready, IsExportedAlready, IsInvalidName, IsExportConflict, IsUnnamed, IsNoEffect, IsNotWorld, placed_imports, IsNotInTarget, IsImportMismatch, IsMissingExport, IsExportMismatch, ImportKindBroken, ImportBroken, LetBroken, ExportAsBroken, ExportOneBroken, ExportOptionsBroken, ExportBroken, StatementBroken, TargetWorldBroken, TargetBroken}
 use Rattle.wac_resolution_rules.specs.Spans.{identifier_of}
 use Rattle.wac_resolution_rules.specs.Places.{Places, names_at}
@@ -38,89 +38,82 @@ use Rattle.wac_resolution_rules.proofs.Options.{some_once, neither}
 
 -- ---- names
 
-bound_stops : (c : Composition) (p : Places) (id : Ident) (e : Error) → NamesRule e → IsBound c p id e → IsFresh id.string c.declared → ⊥
-bound_stops c p id e rule (inl m) fresh = rule m
-bound_stops c p id e rule (inr u) fresh = neither (look_up id.string c.declared) u.0 fresh u.2
+bound_stops : (c : Composition) (p : Places) (id : Ident) (e : Error) → IsBound c p id e → IsFresh id.string c.declared → ⊥
+bound_stops c p id e u fresh = neither (look_up id.string c.declared) u.0 fresh u.2
 
-imported_stops : (c : Composition) (p : Places) (name : List ℕ) (span : Span) (help : Option (List ℕ)) (e : Error) → NamesRule e → IsImportedAlready c p name span help e → IsFresh name (imports c) → ⊥
-imported_stops c p name span help e rule (inl m) fresh = rule m
-imported_stops c p name span help e rule (inr u) fresh = neither (look_up name (imports c)) u.0 fresh u.2
+imported_stops : (c : Composition) (p : Places) (name : List ℕ) (span : Span) (help : Option (List ℕ)) (e : Error) → IsImportedAlready c p name span help e → IsFresh name (imports c) → ⊥
+imported_stops c p name span help e u fresh = neither (look_up name (imports c)) u.0 fresh u.2
 
-exported_stops : (c : Composition) (p : Places) (name : List ℕ) (span : Span) (help : Option (List ℕ)) (e : Error) → NamesRule e → IsExportedAlready c p name span help e → IsFresh name c.exports → ⊥
-exported_stops c p name span help e rule (inl m) fresh = rule m
-exported_stops c p name span help e rule (inr u) fresh = neither (look_up name c.exports) u.0 fresh u.2
+exported_stops : (c : Composition) (p : Places) (name : List ℕ) (span : Span) (help : Option (List ℕ)) (e : Error) → IsExportedAlready c p name span help e → IsFresh name c.exports → ⊥
+exported_stops c p name span help e u fresh = neither (look_up name c.exports) u.0 fresh u.2
 
-invalid_stops : (s : Given) (name : List ℕ) (kind : ExternKind) (span : Span) (e : Error) → NamesRule e → IsInvalidName s name kind span e → s.rules.named name ≡ None → ⊥
-invalid_stops s name kind span e rule (inl m) h = rule m
-invalid_stops s name kind span e rule (inr u) h = neither (s.rules.named name) u.0 h u.1
+invalid_stops : (s : Given) (name : List ℕ) (kind : ExternKind) (span : Span) (e : Error) → IsInvalidName s name kind span e → s.rules.named name ≡ None → ⊥
+invalid_stops s name kind span e u h = neither (s.rules.named name) u.0 h u.1
 
-conflict_stops : (c : Composition) (p : Places) (name : List ℕ) (span : Span) (help : Option (List ℕ)) (e : Error) → NamesRule e → IsExportConflict c p name span help e → definition_bound c name ≡ None → ⊥
-conflict_stops c p name span help e rule (inl m) h = rule m
-conflict_stops c p name span help e rule (inr u) h = neither (definition_bound c name) u.0 h u.2
+conflict_stops : (c : Composition) (p : Places) (name : List ℕ) (span : Span) (help : Option (List ℕ)) (e : Error) → IsExportConflict c p name span help e → definition_bound c name ≡ None → ⊥
+conflict_stops c p name span help e u h = neither (definition_bound c name) u.0 h u.2
 
 -- ---- statements
 
-kind_stops : (s : Given) (old : Composition) (e : Error) → NamesRule e → (x : ImportType) (k : Meaning) (n : ℕ) → ImportKindBroken s old e x → ImportsKind s old x k n → ⊥
-kind_stops s old e rule (ImportType.func x) k n f g = func_stops funcs.Free (root_scope old) [] x e g.0 rule f g.1
-kind_stops s old e rule (ImportType.interface x) k n f g = interface_body_stops s.setting (root_scope old) None None old.resources x.items e g.0 n rule f g.1
-kind_stops s old e rule (ImportType.path x) k n f g = path_stops s.setting (root_scope old) x e k rule f g.0
-kind_stops s old e rule (ImportType.ident x) k n f g = undefined_stops (root_scope old) x e k rule f g.0
+kind_stops : (s : Given) (old : Composition) (e : Error) (x : ImportType) (k : Meaning) (n : ℕ) → ImportKindBroken s old e x → ImportsKind s old x k n → ⊥
+kind_stops s old e (ImportType.func x) k n f g = func_stops funcs.Free (root_scope old) [] x e g.0 f g.1
+kind_stops s old e (ImportType.interface x) k n f g = interface_body_stops s.setting (root_scope old) None None old.resources x.items e g.0 n f g.1
+kind_stops s old e (ImportType.path x) k n f g = path_stops s.setting (root_scope old) x e k f g.0
+kind_stops s old e (ImportType.ident x) k n f g = undefined_stops (root_scope old) x e k f g.0
 
-import_stops : (s : Given) (old : Composition) (p : Places) (e : Error) → NamesRule e → (x : ImportStatement) (new : Composition) → ImportBroken s old p e x → Imports s old x new → ⊥
-import_stops s old p e rule x new (inl f) g = kind_stops s old e rule x.ty g.0 g.1 f g.2
-import_stops s old p e rule x new (inr (k, after, means, f)) g =
+import_stops : (s : Given) (old : Composition) (p : Places) (e : Error) (x : ImportStatement) (new : Composition) → ImportBroken s old p e x → Imports s old x new → ⊥
+import_stops s old p e x new (inl f) g = kind_stops s old e x.ty g.0 g.1 f g.2
+import_stops s old p e x new (inr (k, after, means, f)) g =
     let same = kind_once s old x.ty g.0 k g.1 after g.2 means in
     elim f [
-      | inl a ↦ imported_stops old p (name_imported x k) _ _ e rule a (subst (λ (m : Meaning). IsFresh (name_imported x m) (imports old)) same.0 g.3)
-      | inr r ↦ elim r.1 [ inl a ↦ invalid_stops s (name_imported x k) _ _ e rule a (subst (λ (m : Meaning). s.rules.named (name_imported x m) ≡ None) same.0 g.4) | inr a ↦ bound_stops old p x.id e rule a.1 g.5 ]
+      | inl a ↦ imported_stops old p (name_imported x k) _ _ e a (subst (λ (m : Meaning). IsFresh (name_imported x m) (imports old)) same.0 g.3)
+      | inr r ↦ elim r.1 [ inl a ↦ invalid_stops s (name_imported x k) _ _ e a (subst (λ (m : Meaning). s.rules.named (name_imported x m) ≡ None) same.0 g.4) | inr a ↦ bound_stops old p x.id e a.1 g.5 ]
     ]
 
-let_stops : (s : Given) (old : Composition) (p : Places) (e : Error) → NamesRule e → (x : LetStatement) (new : Composition) → LetBroken s old p e x → Lets s old x new → ⊥
-let_stops s old p e rule x new (inl f) g = expr_stops s old e rule x.expr g.0 f g.1
-let_stops s old p e rule x new (inr (a, stands, f)) g =
+let_stops : (s : Given) (old : Composition) (p : Places) (e : Error) (x : LetStatement) (new : Composition) → LetBroken s old p e x → Lets s old x new → ⊥
+let_stops s old p e x new (inl f) g = expr_stops s old e x.expr g.0 f g.1
+let_stops s old p e x new (inr (a, stands, f)) g =
     let same : g.0 ≡ a = expr_once s old x.expr g.0 a g.1 stands in
-    bound_stops a.composition p x.id e rule f (subst (λ (m : At). IsFresh x.id.string m.composition.declared) same g.2)
+    bound_stops a.composition p x.id e f (subst (λ (m : At). IsFresh x.id.string m.composition.declared) same g.2)
 
-export_as_stops : (s : Given) (c : Composition) (p : Places) (name : List ℕ) (span : Span) (help : Option (List ℕ)) (e : Error) (node : ℕ) (new : Composition) → NamesRule e → ExportAsBroken s c p name span help e → ExportsAs s c name node new → ⊥
-export_as_stops s c p name span help e node new rule (inl f) g = conflict_stops c p name span help e rule f g.0
-export_as_stops s c p name span help e node new rule (inr (conflict, inl f)) g = exported_stops c p name span help e rule f g.1
-export_as_stops s c p name span help e node new rule (inr (conflict, inr f)) g = invalid_stops s name _ span e rule f.1 g.2
+export_as_stops : (s : Given) (c : Composition) (p : Places) (name : List ℕ) (span : Span) (help : Option (List ℕ)) (e : Error) (node : ℕ) (new : Composition) → ExportAsBroken s c p name span help e → ExportsAs s c name node new → ⊥
+export_as_stops s c p name span help e node new (inl f) g = conflict_stops c p name span help e f g.0
+export_as_stops s c p name span help e node new (inr (conflict, inl f)) g = exported_stops c p name span help e f g.1
+export_as_stops s c p name span help e node new (inr (conflict, inr f)) g = invalid_stops s name _ span e f.1 g.2
 
-unnamed_stops : (a : At) (span : Span) (e : Error) (n : Node) (name : List ℕ) → NamesRule e → IsUnnamed a span e → node_at a.composition a.node ≡ Some n → unnamed_export n ≡ Some name → ⊥
-unnamed_stops a span e n name rule (inl m) is h = rule m
-unnamed_stops a span e n name rule (inr u) is h =
+unnamed_stops : (a : At) (span : Span) (e : Error) (n : Node) (name : List ℕ) → IsUnnamed a span e → node_at a.composition a.node ≡ Some n → unnamed_export n ≡ Some name → ⊥
+unnamed_stops a span e n name u is h =
     let same : n ≡ u.0 = some_once (node_at a.composition a.node) n u.0 is u.1 in
     neither (unnamed_export u.0) name u.2 (subst (λ (m : Node). unnamed_export m ≡ Some name) same h)
 
-no_effect_stops : (a : At) (span : Span) (e : Error) (i : Meaning) → NamesRule e → IsNoEffect a span e → instance_at a.composition a.node ≡ Some i → unexported a.composition.exports (exports_of i) ≢ [] → ⊥
-no_effect_stops a span e i rule (inl m) is some = rule m
-no_effect_stops a span e i rule (inr u) is some =
+no_effect_stops : (a : At) (span : Span) (e : Error) (i : Meaning) → IsNoEffect a span e → instance_at a.composition a.node ≡ Some i → unexported a.composition.exports (exports_of i) ≢ [] → ⊥
+no_effect_stops a span e i u is some =
     let same : u.0 ≡ i = some_once (instance_at a.composition a.node) u.0 i u.1 is in
     some (subst (λ (m : Meaning). unexported a.composition.exports (exports_of m) ≡ []) same u.2)
 
-one_stops : (s : Given) (p : Places) (span : Span) (e : Error) (node : ℕ) → NamesRule e → (c : Composition) (before : Named Meaning) (x : List ℕ × Meaning) (next : Composition) → ExportOneBroken s p span e node c before x → ExportsOne s node c x next → ⊥
-one_stops s p span e node rule c before x next f g = export_as_stops s _ (record p { exported = p.exported ++ names_at span before }) x.0 span None e _ next rule f g
+one_stops : (s : Given) (p : Places) (span : Span) (e : Error) (node : ℕ) → (c : Composition) (before : Named Meaning) (x : List ℕ × Meaning) (next : Composition) → ExportOneBroken s p span e node c before x → ExportsOne s node c x next → ⊥
+one_stops s p span e node c before x next f g = export_as_stops s _ (record p { exported = p.exported ++ names_at span before }) x.0 span None e _ next f g
 
-options_stop : (s : Given) (a : At) (p : Places) (e : Error) → NamesRule e → (x : Expr) (o : ExportOptions) (new : Composition) → ExportOptionsBroken s a p e x o → ExportsBy s a o new → ⊥
-options_stop s a p e rule x (ExportOptions.spread span) new (inl f) g = not_instance_stops a.composition a.node Operation.spread _ e g.0 f g.1
-options_stop s a p e rule x (ExportOptions.spread span) new (inr (inl f)) g = no_effect_stops a _ e g.0 rule f g.1 g.2
-options_stop s a p e rule x (ExportOptions.spread span) new (inr (inr (i, is, f))) g =
+options_stop : (s : Given) (a : At) (p : Places) (e : Error) (x : Expr) (o : ExportOptions) (new : Composition) → ExportOptionsBroken s a p e x o → ExportsBy s a o new → ⊥
+options_stop s a p e x (ExportOptions.spread span) new (inl f) g = not_instance_stops a.composition a.node Operation.spread _ e g.0 f g.1
+options_stop s a p e x (ExportOptions.spread span) new (inr (inl f)) g = no_effect_stops a _ e g.0 f g.1 g.2
+options_stop s a p e x (ExportOptions.spread span) new (inr (inr (i, is, f))) g =
     let same : g.0 ≡ i = some_once (instance_at a.composition a.node) g.0 i g.1 is in
-    fails_stop (ExportsOne s a.node) _ (exports_one_once s a.node) (one_stops s p span e a.node rule) a.composition (unexported a.composition.exports (exports_of i)) new f
+    fails_stop (ExportsOne s a.node) _ (exports_one_once s a.node) (one_stops s p span e a.node) a.composition (unexported a.composition.exports (exports_of i)) new f
     (subst (λ (m : Meaning). Steps (ExportsOne s a.node) a.composition (unexported a.composition.exports (exports_of m)) new) same g.3)
-options_stop s a p e rule x (ExportOptions.rename name) new f g = export_as_stops s a.composition p _ _ None e a.node new rule f g
-options_stop s a p e rule x ExportOptions.none new (inl f) g = unnamed_stops a _ e g.0 g.1 rule f g.2 g.3
-options_stop s a p e rule x ExportOptions.none new (inr (n, name, is, named, f)) g =
+options_stop s a p e x (ExportOptions.rename name) new f g = export_as_stops s a.composition p _ _ None e a.node new f g
+options_stop s a p e x ExportOptions.none new (inl f) g = unnamed_stops a _ e g.0 g.1 f g.2 g.3
+options_stop s a p e x ExportOptions.none new (inr (n, name, is, named, f)) g =
     let same : g.0 ≡ n = some_once (node_at a.composition a.node) g.0 n g.2 is in
     let also : unnamed_export n ≡ Some g.1 = subst (λ (m : Node). unnamed_export m ≡ Some g.1) same g.3 in
     let it : g.1 ≡ name = some_once (unnamed_export n) g.1 name also named in
-    export_as_stops s a.composition p name _ _ e a.node new rule f (subst (λ (m : List ℕ). ExportsAs s a.composition m a.node new) it g.4)
+    export_as_stops s a.composition p name _ _ e a.node new f (subst (λ (m : List ℕ). ExportsAs s a.composition m a.node new) it g.4)
 
-export_stops : (s : Given) (old : Composition) (p : Places) (e : Error) → NamesRule e → (x : ExportStatement) (new : Composition) → ExportBroken s old p e x → Exports s old x new → ⊥
-export_stops s old p e rule x new (inl f) g = expr_stops s old e rule x.expr g.0 f g.1
-export_stops s old p e rule x new (inr (a, stands, f)) g =
+export_stops : (s : Given) (old : Composition) (p : Places) (e : Error) (x : ExportStatement) (new : Composition) → ExportBroken s old p e x → Exports s old x new → ⊥
+export_stops s old p e x new (inl f) g = expr_stops s old e x.expr g.0 f g.1
+export_stops s old p e x new (inr (a, stands, f)) g =
     let same : g.0 ≡ a = expr_once s old x.expr g.0 a g.1 stands in
-    options_stop s a p e rule x.expr x.options new f (subst (λ (m : At). ExportsBy s m x.options new) same g.2)
+    options_stop s a p e x.expr x.options new f (subst (λ (m : At). ExportsBy s m x.options new) same g.2)
 
 -- a type statement defines its name
 pub declares_what : (s : Setting) (old : Composition) (x : TypeStatement) (new : Composition) → Declares s old x new → (m : Meaning) × (n : ℕ) × Defines old (identifier_of x).string m n new
@@ -129,11 +122,11 @@ declares_what s old (TypeStatement.world x) new g = (kind_of a_world g.0, g.1, g
 declares_what s old (TypeStatement.ty x) new g = (g.0, g.1, g.3)
 
 -- a statement that breaks a rule resolves to nothing
-pub statement_stops : (s : Given) (old : Composition) (p : Places) (e : Error) → NamesRule e → (x : Statement) (new : Composition) → StatementBroken s old p e x → Goes s old x new → ⊥
-statement_stops s old p e rule (Statement.import_statement x) new f g = import_stops s old p e rule x new f g
-statement_stops s old p e rule (Statement.let_statement x) new f g = let_stops s old p e rule x new f g
-statement_stops s old p e rule (Statement.export_statement x) new f g = export_stops s old p e rule x new f g
-statement_stops s old p e rule (Statement.type_statement x) new f g = broken_stops s.setting old p x e new rule f g
+pub statement_stops : (s : Given) (old : Composition) (p : Places) (e : Error) (x : Statement) (new : Composition) → StatementBroken s old p e x → Goes s old x new → ⊥
+statement_stops s old p e (Statement.import_statement x) new f g = import_stops s old p e x new f g
+statement_stops s old p e (Statement.let_statement x) new f g = let_stops s old p e x new f g
+statement_stops s old p e (Statement.export_statement x) new f g = export_stops s old p e x new f g
+statement_stops s old p e (Statement.type_statement x) new f g = broken_stops s.setting old p x e new f g
 
 -- ---- the target
 
@@ -160,49 +153,44 @@ placed_allowed s c p w h =
     (all_of_map (λ (y : PlacedImport). ImportAllowed s w y.0) (λ (x : List ℕ × Meaning). (x, look_up x.0 p.imported)) (imports c) r.0)
     (all_of_map (λ (y : PlacedImport). ImportAllowed s w y.0) (λ (x : List ℕ × Meaning). (x, None)) (flat_map (open_imports s) c.nodes) r.1)
 
-not_world_stops : (path : PackagePath) (k w : Meaning) (e : Error) → NamesRule e → IsNotWorld path k e → world_of k ≡ Some w → ⊥
-not_world_stops path k w e rule (inl m) h = rule m
-not_world_stops path k w e rule (inr u) h = neither (world_of k) w u.0 h
+not_world_stops : (path : PackagePath) (k w : Meaning) (e : Error) → IsNotWorld path k e → world_of k ≡ Some w → ⊥
+not_world_stops path k w e u h = neither (world_of k) w u.0 h
 
-not_in_target_stops : (s : Given) (c : Composition) (p : Places) (path : PackagePath) (w : Meaning) (e : Error) → NamesRule e → IsNotInTarget s c p path w e → IsAllowed s c w → ⊥
-not_in_target_stops s c p path w e rule (inl m) h = rule m
-not_in_target_stops s c p path w e rule (inr u) h =
+not_in_target_stops : (s : Given) (c : Composition) (p : Places) (path : PackagePath) (w : Meaning) (e : Error) → IsNotInTarget s c p path w e → IsAllowed s c w → ⊥
+not_in_target_stops s c p path w e u h =
     let f = reached_holds (λ (y : PlacedImport). ImportAllowed s w y.0) (λ (y : PlacedImport). ImportAllowed s w y.0) (placed_imports s c p) u.0 u.1 (placed_allowed s c p w h.0) in
     neither (allowed w u.0.0.0) f.0 u.2 f.1
 
-import_mismatch_stops : (s : Given) (c : Composition) (p : Places) (path : PackagePath) (w : Meaning) (e : Error) → NamesRule e → IsImportMismatch s c p path w e → IsAllowed s c w → ⊥
-import_mismatch_stops s c p path w e rule (inl m) h = rule m
-import_mismatch_stops s c p path w e rule (inr (x, k, r, reached, is, against, error)) h =
+import_mismatch_stops : (s : Given) (c : Composition) (p : Places) (path : PackagePath) (w : Meaning) (e : Error) → IsImportMismatch s c p path w e → IsAllowed s c w → ⊥
+import_mismatch_stops s c p path w e (x, k, r, reached, is, against, error) h =
     let f = reached_holds (λ (y : PlacedImport). ImportAllowed s w y.0) (λ (y : PlacedImport). ImportAllowed s w y.0) (placed_imports s c p) x reached (placed_allowed s c p w h.0) in
     let same : f.0 ≡ k = some_once (allowed w x.0.0) f.0 k f.1 is in
     neither (s.rules.passes (promoted k) x.0.1) r (subst (λ (m : Meaning). s.rules.passes (promoted m) x.0.1 ≡ None) same f.2) against
 
-missing_stops : (s : Given) (c : Composition) (path : PackagePath) (w : Meaning) (e : Error) → NamesRule e → IsMissingExport s c path w e → IsAllowed s c w → ⊥
-missing_stops s c path w e rule (inl m) h = rule m
-missing_stops s c path w e rule (inr u) h =
+missing_stops : (s : Given) (c : Composition) (path : PackagePath) (w : Meaning) (e : Error) → IsMissingExport s c path w e → IsAllowed s c w → ⊥
+missing_stops s c path w e u h =
     let f = reached_holds (ExportMet s c) (ExportMet s c) (exports_of w) u.0 u.2 h.1 in
     neither (look_up u.0.0 c.exports) f.0 u.3 f.1
 
-export_mismatch_stops : (s : Given) (c : Composition) (p : Places) (path : PackagePath) (w : Meaning) (e : Error) → NamesRule e → IsExportMismatch s c p path w e → IsAllowed s c w → ⊥
-export_mismatch_stops s c p path w e rule (inl m) h = rule m
-export_mismatch_stops s c p path w e rule (inr (x, node, r, span, all, reached, exported, against, place, error)) h =
+export_mismatch_stops : (s : Given) (c : Composition) (p : Places) (path : PackagePath) (w : Meaning) (e : Error) → IsExportMismatch s c p path w e → IsAllowed s c w → ⊥
+export_mismatch_stops s c p path w e (x, node, r, span, all, reached, exported, against, place, error) h =
     let f = reached_holds (ExportMet s c) (ExportMet s c) (exports_of w) x reached h.1 in
     let same : f.0 ≡ node = some_once (look_up x.0 c.exports) f.0 node f.1 exported in
     neither (s.rules.passes (kind_at c.nodes node) (promoted x.1)) r (subst (λ (m : ℕ). s.rules.passes (kind_at c.nodes m) (promoted x.1) ≡ None) same f.2) against
 
-world_stops : (s : Given) (c : Composition) (p : Places) (e : Error) → NamesRule e → (path : PackagePath) (w : Meaning) → TargetWorldBroken s c p e path w → IsAllowed s c w → ⊥
-world_stops s c p e rule path w (inl f) h = not_in_target_stops s c p path w e rule f h
-world_stops s c p e rule path w (inr (inl f)) h = import_mismatch_stops s c p path w e rule f h
-world_stops s c p e rule path w (inr (inr (inl f))) h = missing_stops s c path w e rule f h
-world_stops s c p e rule path w (inr (inr (inr f))) h = export_mismatch_stops s c p path w e rule f h
+world_stops : (s : Given) (c : Composition) (p : Places) (e : Error) (path : PackagePath) (w : Meaning) → TargetWorldBroken s c p e path w → IsAllowed s c w → ⊥
+world_stops s c p e path w (inl f) h = not_in_target_stops s c p path w e f h
+world_stops s c p e path w (inr (inl f)) h = import_mismatch_stops s c p path w e f h
+world_stops s c p e path w (inr (inr (inl f))) h = missing_stops s c path w e f h
+world_stops s c p e path w (inr (inr (inr f))) h = export_mismatch_stops s c p path w e f h
 
 -- a target that breaks a rule isn't met
-pub target_stops : (s : Given) (c : Composition) (p : Places) (e : Error) → NamesRule e → (path : PackagePath) → TargetBroken s c p e path → MeetsPath s c path → ⊥
-target_stops s c p e rule path (inl f) g = path_stops s.setting (root_scope c) path e g.0 rule f g.2
-target_stops s c p e rule path (inr (k, means, f)) g =
+pub target_stops : (s : Given) (c : Composition) (p : Places) (e : Error) (path : PackagePath) → TargetBroken s c p e path → MeetsPath s c path → ⊥
+target_stops s c p e path (inl f) g = path_stops s.setting (root_scope c) path e g.0 f g.2
+target_stops s c p e path (inr (k, means, f)) g =
     let same : g.0 ≡ k = leads_once s.setting (root_scope c) path g.0 k g.2 means in
     let is : world_of k ≡ Some g.1 = subst (λ (m : Meaning). world_of m ≡ Some g.1) same g.3 in
     elim f [
-      | inl a ↦ not_world_stops path k g.1 e rule a is
-      | inr r ↦ let it : g.1 ≡ r.0 = some_once (world_of k) g.1 r.0 is r.1 in world_stops s c p e rule path r.0 r.2 (subst (λ (m : Meaning). IsAllowed s c m) it g.4)
+      | inl a ↦ not_world_stops path k g.1 e a is
+      | inr r ↦ let it : g.1 ≡ r.0 = some_once (world_of k) g.1 r.0 is r.1 in world_stops s c p e path r.0 r.2 (subst (λ (m : Meaning). IsAllowed s c m) it g.4)
     ]

@@ -15,7 +15,7 @@ use Rattle.wac_graph.specs.Resources.{resource_entry}
 use Rattle.wac_graph.specs.Packages.{Contents, package_of}
 use Rattle.wac_grammar.specs.Tree.{Ident, PackagePath, UsePath, ResourceMethod, ItemTypeDecl, UseItem, Use}
 use Rattle.wac_grammar.specs.Segments.{segment_spans, package_name_span}
-use Rattle.wac_resolution_errors.specs.Error.{Error, undefined_name, duplicate_name, duplicate_interface_export, duplicate_world_item, not_interface, undefined_interface_type, not_interface_value_type, duplicate_resource_constructor, duplicate_resource_method, unknown_package, package_missing_export, package_path_missing_export, use_conflict, memory}
+use Rattle.wac_resolution_errors.specs.Error.{Error, undefined_name, duplicate_name, duplicate_interface_export, duplicate_world_item, not_interface, undefined_interface_type, not_interface_value_type, duplicate_resource_constructor, duplicate_resource_method, unknown_package, package_missing_export, package_path_missing_export, use_conflict}
 use Rattle.wac_resolution_rules.specs.Paths.{Setting, is_own, key_of_path, segments_of, IsMember, UseNames}
 use Rattle.wac_resolution_rules.specs.Declarations.{IsVariant, IsRecord, IsFlags, IsEnum, IsAlias, in_body}
 use Rattle.wac_resolution_rules.specs.Types.{first_params}
@@ -28,7 +28,7 @@ use Rattle.wac_resolution_rules.specs.Spans.{use_path_name, use_path_span}
 
 -- the package of a path is not given
 abbrev pub IsUnknownPathPackage : Setting → PackagePath → Error → Type 0
-IsUnknownPathPackage setting p e = (e ≡ memory) ⊎ ((package_of (key_of_path p) setting.packages ≡ None) × (e ≡ unknown_package p.name (package_name_span p)))
+IsUnknownPathPackage setting p e = (package_of (key_of_path p) setting.packages ≡ None) × (e ≡ unknown_package p.name (package_name_span p))
 
 -- segment number n, and its span
 abbrev pub StandsAt : PackagePath → ℕ → List ℕ → Span → Type 0
@@ -36,11 +36,11 @@ StandsAt p n segment at = slice_get (segment_spans p) n ≡ Some (segment, at)
 
 -- the first segment of a path of the document's own package is undefined
 abbrev pub IsUndefinedSegment : Scope → PackagePath → List ℕ → Error → Type 0
-IsUndefinedSegment root p first e = (e ≡ memory) ⊎ ((at : Span) × IsFresh first root × StandsAt p 0 first at × (e ≡ undefined_name first at))
+IsUndefinedSegment root p first e = (at : Span) × IsFresh first root × StandsAt p 0 first at × (e ≡ undefined_name first at)
 
 -- the package does not define the first segment
 abbrev pub IsNoDefinition : Named Meaning → PackagePath → List ℕ → Error → Type 0
-IsNoDefinition definitions p first e = (e ≡ memory) ⊎ ((at : Span) × IsFresh first definitions × StandsAt p 0 first at × (e ≡ package_missing_export None [] p.name first at))
+IsNoDefinition definitions p first e = (at : Span) × IsFresh first definitions × StandsAt p 0 first at × (e ≡ package_missing_export None [] p.name first at)
 
 -- the last of some names
 abbrev pub last_of : List ℕ → List (List ℕ) → List ℕ
@@ -49,18 +49,18 @@ last_of first (x ∷ xs) = last_of x xs
 
 -- what the segments before it resolve to does not export the segment: in a path of the document's own package
 abbrev pub IsNoExport : PackagePath → List ℕ → Error → Meaning → List (List ℕ) → List ℕ → Type 0
-IsNoExport p first e k before segment = (e ≡ memory) ⊎ ((at : Span) × (export_of k segment ≡ None) × StandsAt p (suc (length before)) segment at × (e ≡ package_path_missing_export (last_of first before) (described k) segment at))
+IsNoExport p first e k before segment = (at : Span) × (export_of k segment ≡ None) × StandsAt p (suc (length before)) segment at × (e ≡ package_path_missing_export (last_of first before) (described k) segment at)
 
 -- the same in a path of another package
 abbrev pub IsNoPackageExport : PackagePath → List ℕ → Error → Meaning → List (List ℕ) → List ℕ → Type 0
-IsNoPackageExport p first e k before segment = (e ≡ memory) ⊎ ((at : Span) × (export_of k segment ≡ None) × StandsAt p (suc (length before)) segment at × (e ≡ package_missing_export (Some (described k)) (join_with_byte slash (first ∷ before)) p.name segment at))
+IsNoPackageExport p first e k before segment = (at : Span) × (export_of k segment ≡ None) × StandsAt p (suc (length before)) segment at × (e ≡ package_missing_export (Some (described k)) (join_with_byte slash (first ∷ before)) p.name segment at)
 
 abbrev pub OwnPathBroken : Scope → PackagePath → List (List ℕ) → Error → Type 0
-OwnPathBroken root p [] e = e ≡ memory
+OwnPathBroken root p [] e = ⊥
 OwnPathBroken root p (first ∷ rest) e = IsUndefinedSegment root p first e ⊎ ((k : Meaning) × StandsFor root first k × Fails IsMember (IsNoExport p first e) k rest)
 
 abbrev pub ForeignPathBroken : Named Meaning → PackagePath → List (List ℕ) → Error → Type 0
-ForeignPathBroken definitions p [] e = e ≡ memory
+ForeignPathBroken definitions p [] e = ⊥
 ForeignPathBroken definitions p (first ∷ rest) e = IsNoDefinition definitions p first e ⊎ ((k : Meaning) × StandsFor definitions first k × Fails IsMember (IsNoPackageExport p first e) k rest)
 
 abbrev pub path_broken : Bool → Setting → Scope → PackagePath → Error → Type 0
@@ -79,7 +79,7 @@ pub data Owner : Type 0 where
 
 -- the identifier is bound in the body already
 abbrev pub IsBoundInBody : Named Span → Scope → Ident → Error → Type 0
-IsBoundInBody places scope x e = (e ≡ memory) ⊎ ((m : Meaning) × (previous : Span) × StandsFor scope x.string m × StandsFor places x.string previous × (e ≡ duplicate_name x.string x.span previous))
+IsBoundInBody places scope x e = (m : Meaning) × (previous : Span) × StandsFor scope x.string m × StandsFor places x.string previous × (e ≡ duplicate_name x.string x.span previous)
 
 abbrev pub conflict : Owner → ExternKind → List ℕ → Span → Error
 conflict (of_interface name) side x at = duplicate_interface_export x name at
@@ -87,7 +87,7 @@ conflict (of_world name) side x at = duplicate_world_item side x name at
 
 -- the name is among the externs already
 abbrev pub IsConflict : Owner → ExternKind → Body → List ℕ → Span → Error → Type 0
-IsConflict of side old x at e = (e ≡ memory) ⊎ ((m : Meaning) × StandsFor (externs side old) x m × (e ≡ conflict of side x at))
+IsConflict of side old x at e = (m : Meaning) × StandsFor (externs side old) x m × (e ≡ conflict of side x at)
 
 -- the identifier is bound already, or its name is among the externs
 abbrev pub NameBroken : Owner → ExternKind → Named Span → Body → Ident → Error → Type 0
@@ -97,12 +97,12 @@ NameBroken of side places old x e = IsBoundInBody places old.scope x e ⊎ (IsFr
 
 -- the resource has a constructor already
 abbrev pub IsSecondConstructor : ExternKind → List ℕ → Body → Span → Error → Type 0
-IsSecondConstructor side resource old at e = (e ≡ memory) ⊎ ((m : Meaning) × StandsFor (externs side old) (constructor_name resource) m × (e ≡ duplicate_resource_constructor resource at))
+IsSecondConstructor side resource old at e = (m : Meaning) × StandsFor (externs side old) (constructor_name resource) m × (e ≡ duplicate_resource_constructor resource at)
 
 -- the resource has a method of that name already
 abbrev pub IsSecondMethod : ExternKind → List ℕ → Body → Ident → Error → Type 0
 IsSecondMethod side resource old x e =
-    (e ≡ memory) ⊎ ((m : Meaning) × (StandsFor (externs side old) (method_name resource x.string) m ⊎ StandsFor (externs side old) (static_name resource x.string) m) × (e ≡ duplicate_resource_method x.string resource x.span))
+    (m : Meaning) × (StandsFor (externs side old) (method_name resource x.string) m ⊎ StandsFor (externs side old) (static_name resource x.string) m) × (e ≡ duplicate_resource_method x.string resource x.span)
 
 abbrev pub method_kind : Bool → FuncKind
 method_kind true = funcs.Static
@@ -139,15 +139,15 @@ UsePathBroken setting root (UsePath.ident x) e = IsUndefined root x e
 
 -- what is named is not an interface
 abbrev pub IsNoInterface : Meaning → List ℕ → Span → Error → Type 0
-IsNoInterface k name at e = (e ≡ memory) ⊎ (IsNoneOf is_interface_form k × (e ≡ not_interface name (described k) at))
+IsNoInterface k name at e = IsNoneOf is_interface_form k × (e ≡ not_interface name (described k) at)
 
 -- the interface exports nothing under the name
 abbrev pub IsNoTypeThere : Meaning → List ℕ → UseItem → Error → Type 0
-IsNoTypeThere interface path x e = (e ≡ memory) ⊎ ((export_of interface x.id.string ≡ None) × (e ≡ undefined_interface_type x.id.string path x.id.span))
+IsNoTypeThere interface path x e = (export_of interface x.id.string ≡ None) × (e ≡ undefined_interface_type x.id.string path x.id.span)
 
 -- what it exports is neither a resource nor a type of values
 abbrev pub IsNoUsableType : Meaning → List ℕ → UseItem → Error → Type 0
-IsNoUsableType interface path x e = (e ≡ memory) ⊎ ((m : Meaning) × (export_of interface x.id.string ≡ Some m) × IsNoneOf is_resource_or_value_form m × (e ≡ not_interface_value_type x.id.string (described m) path x.id.span))
+IsNoUsableType interface path x e = (m : Meaning) × (export_of interface x.id.string ≡ Some m) × IsNoneOf is_resource_or_value_form m × (e ≡ not_interface_value_type x.id.string (described m) path x.id.span)
 
 -- it exports a resource or a type of values
 abbrev pub IsUsable : Meaning → UseItem → Type 0
@@ -162,7 +162,7 @@ help_of_use (Some x) = None
 
 -- the name here is among the externs already
 abbrev pub IsUseConflict : ExternKind → Body → UseItem → Error → Type 0
-IsUseConflict side old x e = (e ≡ memory) ⊎ ((m : Meaning) × StandsFor (externs side old) (used_as x).string m × (e ≡ use_conflict side (used_as x).string (used_as x).span (help_of_use x.as_id)))
+IsUseConflict side old x e = (m : Meaning) × StandsFor (externs side old) (used_as x).string m × (e ≡ use_conflict side (used_as x).string (used_as x).span (help_of_use x.as_id))
 
 abbrev pub UseItemBroken : ExternKind → Meaning → List ℕ → Error → Body → List UseItem → UseItem → Type 0
 UseItemBroken side interface path e old before x = IsNoTypeThere interface path x e ⊎ (IsNoUsableType interface path x e ⊎ (IsUsable interface x × IsUseConflict side old x e))

@@ -6,27 +6,27 @@ use Rattle.wac_types.specs.Scope.{Named, Scope, StandsFor}
 use Rattle.wac_types.specs.Steps.{Fails}
 use Rattle.wac_types.specs.Shape.{described}
 use Rattle.wac_grammar.specs.Tree.{Ident, Ty, VariantCase, VariantDecl, Field, RecordDecl, FlagsDecl, EnumDecl, TypeAliasKind, TypeDecl}
-use Rattle.wac_resolution_errors.specs.Error.{Error, duplicate_variant_case, duplicate_record_field, duplicate_enum_case, duplicate_flag, invalid_alias_type, memory}
+use Rattle.wac_resolution_errors.specs.Error.{Error, duplicate_variant_case, duplicate_record_field, duplicate_enum_case, duplicate_flag, invalid_alias_type}
 use Rattle.wac_resolution_rules.specs.Types.{HasType}
 use Rattle.wac_resolution_rules.specs.Declarations.{HasOption, HasCase, HasField, HasFlag, HasEnumCase, Aliasing, at_root, alone}
 use Rattle.wac_resolution_rules.specs.BrokenTypes.{IsUndefined, TypeBroken, FuncBroken}
 
 -- an earlier case, field or flag has the name
 abbrev pub IsRepeatedCase : Ident → Named Meaning → Ident → Error → Type 0
-IsRepeatedCase declared old x e = (e ≡ memory) ⊎ ((v : Meaning) × StandsFor old x.string v × (e ≡ duplicate_variant_case x.string declared.string x.span))
+IsRepeatedCase declared old x e = (v : Meaning) × StandsFor old x.string v × (e ≡ duplicate_variant_case x.string declared.string x.span)
 
 abbrev pub IsRepeatedField : Ident → Named Meaning → Ident → Error → Type 0
-IsRepeatedField declared old x e = (e ≡ memory) ⊎ ((v : Meaning) × StandsFor old x.string v × (e ≡ duplicate_record_field x.string declared.string x.span))
+IsRepeatedField declared old x e = (v : Meaning) × StandsFor old x.string v × (e ≡ duplicate_record_field x.string declared.string x.span)
 
 abbrev pub IsRepeatedEnumCase : Ident → Named Meaning → Ident → Error → Type 0
-IsRepeatedEnumCase declared old x e = (e ≡ memory) ⊎ ((v : Meaning) × StandsFor old x.string v × (e ≡ duplicate_enum_case x.string declared.string x.span))
+IsRepeatedEnumCase declared old x e = (v : Meaning) × StandsFor old x.string v × (e ≡ duplicate_enum_case x.string declared.string x.span)
 
 abbrev pub IsRepeatedFlag : Ident → Named Meaning → Ident → Error → Type 0
-IsRepeatedFlag declared old x e = (e ≡ memory) ⊎ ((v : Meaning) × StandsFor old x.string v × (e ≡ duplicate_flag x.string declared.string x.span))
+IsRepeatedFlag declared old x e = (v : Meaning) × StandsFor old x.string v × (e ≡ duplicate_flag x.string declared.string x.span)
 
 abbrev pub OptionBroken : Scope → Option Ty → Error → Type 0
-OptionBroken scope None e = e ≡ memory
-OptionBroken scope (Some t) e = (e ≡ memory) ⊎ TypeBroken scope t e
+OptionBroken scope None e = ⊥
+OptionBroken scope (Some t) e = TypeBroken scope t e
 
 abbrev pub CaseBroken : Scope → Ident → Error → Named Meaning → List VariantCase → VariantCase → Type 0
 CaseBroken scope declared e old before c = OptionBroken scope c.ty e ⊎ ((v : Meaning) × HasOption scope c.ty v × IsRepeatedCase declared old c.id e)
@@ -35,23 +35,23 @@ abbrev pub FieldBroken : Scope → Ident → Error → Named Meaning → List Fi
 FieldBroken scope declared e old before f = TypeBroken scope f.ty e ⊎ ((v : Meaning) × HasType scope f.ty v × IsRepeatedField declared old f.id e)
 
 abbrev pub VariantBroken : Scope → VariantDecl → Error → Type 0
-VariantBroken scope d e = (e ≡ memory) ⊎ Fails (HasCase scope) (CaseBroken scope d.id e) [] d.cases
+VariantBroken scope d e = Fails (HasCase scope) (CaseBroken scope d.id e) [] d.cases
 
 abbrev pub RecordBroken : Scope → RecordDecl → Error → Type 0
-RecordBroken scope d e = (e ≡ memory) ⊎ Fails (HasField scope) (FieldBroken scope d.id e) [] d.fields
+RecordBroken scope d e = Fails (HasField scope) (FieldBroken scope d.id e) [] d.fields
 
 abbrev pub FlagsBroken : FlagsDecl → Error → Type 0
-FlagsBroken d e = (e ≡ memory) ⊎ Fails HasFlag (λ old before x. IsRepeatedFlag d.id old x.id e) [] d.flags
+FlagsBroken d e = Fails HasFlag (λ old before x. IsRepeatedFlag d.id old x.id e) [] d.flags
 
 abbrev pub EnumBroken : EnumDecl → Error → Type 0
-EnumBroken d e = (e ≡ memory) ⊎ Fails HasEnumCase (λ old before x. IsRepeatedEnumCase d.id old x.id e) [] d.cases
+EnumBroken d e = Fails HasEnumCase (λ old before x. IsRepeatedEnumCase d.id old x.id e) [] d.cases
 
 -- what the identifier denotes can't be aliased there
 abbrev pub IsNoAlias : Aliasing → Scope → ℕ → List ℕ → Ident → Error → Type 0
-IsNoAlias aliasing scope n name x e = (e ≡ memory) ⊎ ((k : Meaning) × StandsFor scope x.string k × (aliasing n name k ≡ None) × (e ≡ invalid_alias_type x.string (described k) x.span))
+IsNoAlias aliasing scope n name x e = (k : Meaning) × StandsFor scope x.string k × (aliasing n name k ≡ None) × (e ≡ invalid_alias_type x.string (described k) x.span)
 
 abbrev pub TypeAliasBroken : Aliasing → Scope → ℕ → List ℕ → Option Ident → Ty → Error → Type 0
-TypeAliasBroken aliasing scope n name None t e = (e ≡ memory) ⊎ TypeBroken scope t e
+TypeAliasBroken aliasing scope n name None t e = TypeBroken scope t e
 TypeAliasBroken aliasing scope n name (Some x) t e = IsUndefined scope x e ⊎ IsNoAlias aliasing scope n name x e
 
 abbrev pub AliasBroken : Aliasing → Scope → ℕ → List ℕ → TypeAliasKind → Error → Type 0

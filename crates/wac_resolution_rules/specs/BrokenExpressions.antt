@@ -15,7 +15,7 @@ use Rattle.wac_resolution_rules.specs.Given.{Given, instantiable, imports_in}
 use Rattle.wac_resolution_rules.specs.Composition.{Composition, Node, kind_at}
 use Rattle.wac_resolution_rules.specs.Nodes.{node_at, instance_at}
 use Rattle.wac_resolution_rules.specs.Expressions.{At, accessed, Accesses, Giving, nothing_given, name_meant, name_inferred, spread_from, Spreads, spreads_of, has_fill, IsEmpty, Fits, left_out, Stands, PrimaryStands, Gives, GivesOne}
-use Rattle.wac_resolution_errors.specs.Error.{Error, Operation, duplicate_instantiation_arg, fill_argument_not_last, memory, mismatched_instantiation_arg, missing_component_import, missing_instance_export, missing_instantiation_arg, not_an_instance, spread_instantiation_no_match, unknown_package}
+use Rattle.wac_resolution_errors.specs.Error.{Error, Operation, duplicate_instantiation_arg, fill_argument_not_last, mismatched_instantiation_arg, missing_component_import, missing_instance_export, missing_instantiation_arg, not_an_instance, spread_instantiation_no_match, unknown_package}
 use Rattle.wac_resolution_rules.specs.BrokenTypes.{IsUndefined}
 
 -- x is one of the xs, and P holds of each before it
@@ -30,12 +30,12 @@ IsNotInstance c node operation span e = (instance_at c node ≡ None) × (e ≡ 
 
 -- the instance has no such export
 abbrev pub IsNotExported : At → PostfixExpr → Error → Type 0
-IsNotExported a p e = (e ≡ memory) ⊎ ((i : Meaning) × (instance_at a.composition a.node ≡ Some i) × IsFresh (accessed p (exports_of i)) (exports_of i)
-    × (e ≡ missing_instance_export (accessed p (exports_of i)) (postfix_span p)))
+IsNotExported a p e = (i : Meaning) × (instance_at a.composition a.node ≡ Some i) × IsFresh (accessed p (exports_of i)) (exports_of i)
+    × (e ≡ missing_instance_export (accessed p (exports_of i)) (postfix_span p))
 
 -- the package isn't given, or is the document's own
 abbrev pub IsUnknownPackage : Given → PackageName → Error → Type 0
-IsUnknownPackage s x e = (e ≡ memory) ⊎ ((instantiable s x ≡ None) × (e ≡ unknown_package x.name x.span))
+IsUnknownPackage s x e = (instantiable s x ≡ None) × (e ≡ unknown_package x.name x.span)
 
 -- an argument comes after the fill
 abbrev pub IsFillNotLast : Arguments → Span → Error → Type 0
@@ -43,7 +43,7 @@ IsFillNotLast rest span e = (IsEmpty rest → ⊥) × (e ≡ fill_argument_not_l
 
 -- an earlier argument has the name
 abbrev pub IsGivenAlready : Giving → List ℕ → Span → Error → Type 0
-IsGivenAlready g name span e = (e ≡ memory) ⊎ ((node : ℕ) × StandsFor g.arguments name node × (e ≡ duplicate_instantiation_arg name span))
+IsGivenAlready g name span e = (node : ℕ) × StandsFor g.arguments name node × (e ≡ duplicate_instantiation_arg name span)
 
 -- the instance exports no import for which nothing is given yet
 abbrev pub IsNoMatch : Named Meaning → Giving → ℕ → Span → Error → Type 0
@@ -68,18 +68,18 @@ argument_places c imports args = own_places c imports args ++ flat_map (spread_p
 
 -- the package has no such import
 abbrev pub IsNoImport : Given → Contents → PackageName → Arguments → Giving → Error → Type 0
-IsNoImport s p x args g e = (e ≡ memory) ⊎ ((a : List ℕ × ℕ) × (span : Span) × ReachedAt (Fits s.rules (imports_in p) g.composition.nodes) g.arguments a × StandsFor (argument_places g.composition (imports_in p) args) a.0 span
-    × IsFresh a.0 (imports_in p) × (e ≡ missing_component_import x.name a.0 span))
+IsNoImport s p x args g e = (a : List ℕ × ℕ) × (span : Span) × ReachedAt (Fits s.rules (imports_in p) g.composition.nodes) g.arguments a × StandsFor (argument_places g.composition (imports_in p) args) a.0 span
+    × IsFresh a.0 (imports_in p) × (e ≡ missing_component_import x.name a.0 span)
 
 -- the argument does not fit the import
 abbrev pub IsMismatched : Given → Contents → Arguments → Giving → Error → Type 0
-IsMismatched s p args g e = (e ≡ memory) ⊎ ((a : List ℕ × ℕ) × (span : Span) × (wants : Meaning) × (r : Reason) × ReachedAt (Fits s.rules (imports_in p) g.composition.nodes) g.arguments a
-    × StandsFor (argument_places g.composition (imports_in p) args) a.0 span × StandsFor (imports_in p) a.0 wants × (s.rules.passes (kind_at g.composition.nodes a.1) wants ≡ Some r) × (e ≡ mismatched_instantiation_arg a.0 r span))
+IsMismatched s p args g e = (a : List ℕ × ℕ) × (span : Span) × (wants : Meaning) × (r : Reason) × ReachedAt (Fits s.rules (imports_in p) g.composition.nodes) g.arguments a
+    × StandsFor (argument_places g.composition (imports_in p) args) a.0 span × StandsFor (imports_in p) a.0 wants × (s.rules.passes (kind_at g.composition.nodes a.1) wants ≡ Some r) × (e ≡ mismatched_instantiation_arg a.0 r span)
 
 -- nothing is given for an import, and there is no fill
 abbrev pub IsLeftOut : Given → Contents → PackageName → Arguments → Giving → Error → Type 0
-IsLeftOut s p x args g e = (e ≡ memory) ⊎ ((i : List ℕ × Meaning) × (others : Named Meaning) × AllByRecursion (Fits s.rules (imports_in p) g.composition.nodes) g.arguments × (has_fill args ≡ false)
-    × (left_out (imports_in p) g.arguments ≡ i ∷ others) × (e ≡ missing_instantiation_arg i.0 x.string x.span))
+IsLeftOut s p x args g e = (i : List ℕ × Meaning) × (others : Named Meaning) × AllByRecursion (Fits s.rules (imports_in p) g.composition.nodes) g.arguments × (has_fill args ≡ false)
+    × (left_out (imports_in p) g.arguments ≡ i ∷ others) × (e ≡ missing_instantiation_arg i.0 x.string x.span)
 
 -- ---- where they are tested
 
@@ -108,12 +108,12 @@ abbrev mutual
   PrimaryBroken s old e (PrimaryExpr.ident id) = IsUndefined old.declared id e
 
   pub ArgumentsBroken : Given → Named Meaning → Giving → Error → Arguments → Type 0
-  ArgumentsBroken s imports old e Arguments.none = e ≡ memory
-  ArgumentsBroken s imports old e (Arguments.more a rest) = (e ≡ memory) ⊎ (ArgumentBroken s imports rest old e a ⊎ ((mid : Giving) × GivesOne s imports rest old a mid × ArgumentsBroken s imports mid e rest))
+  ArgumentsBroken s imports old e Arguments.none = ⊥
+  ArgumentsBroken s imports old e (Arguments.more a rest) = ArgumentBroken s imports rest old e a ⊎ ((mid : Giving) × GivesOne s imports rest old a mid × ArgumentsBroken s imports mid e rest)
 
   pub ArgumentBroken : Given → Named Meaning → Arguments → Giving → Error → InstantiationArgument → Type 0
   ArgumentBroken s imports rest old e (InstantiationArgument.fill span) = IsFillNotLast rest span e
-  ArgumentBroken s imports rest old e (InstantiationArgument.spread id) = e ≡ memory
+  ArgumentBroken s imports rest old e (InstantiationArgument.spread id) = ⊥
   ArgumentBroken s imports rest old e (InstantiationArgument.named name x) = ExprBroken s old.composition e x
       ⊎ ((a : At) × Stands s old.composition x a × IsGivenAlready old (name_meant name imports) (argument_name_span name) e)
   ArgumentBroken s imports rest old e (InstantiationArgument.inferred id) = IsUndefined old.composition.declared id e

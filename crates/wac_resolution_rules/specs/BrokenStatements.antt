@@ -21,7 +21,7 @@ use Rattle.wac_resolution_rules.specs.Nodes.{node_at, instance_at, imports}
 use Rattle.wac_resolution_rules.specs.Expressions.{At, at, alias_at, Stands}
 use Rattle.wac_resolution_rules.specs.Statements.{ImportsKind, name_imported, definition_bound, unnamed_export, unexported, ExportsOne}
 use Rattle.wac_resolution_rules.specs.Target.{allowed, open_imports, all_imports, ImportAllowed, ExportMet}
-use Rattle.wac_resolution_errors.specs.Error.{Error, Operation, duplicate_extern_name, export_conflict, export_requires_as, import_not_in_target, invalid_extern_name, memory, missing_target_export, not_world, spread_export_no_effect, target_mismatch}
+use Rattle.wac_resolution_errors.specs.Error.{Error, Operation, duplicate_extern_name, export_conflict, export_requires_as, import_not_in_target, invalid_extern_name, missing_target_export, not_world, spread_export_no_effect, target_mismatch}
 use Rattle.wac_resolution_rules.specs.BrokenTypes.{IsUndefined, FuncBroken}
 use Rattle.wac_resolution_rules.specs.BrokenBodies.{PathBroken, as_clause}
 use Rattle.wac_resolution_rules.specs.BrokenWorlds.{InterfaceBroken, IsBound, DeclarationBroken}
@@ -33,34 +33,34 @@ use Rattle.wac_resolution_rules.specs.Places.{Places, names_at}
 
 -- the name is imported already
 abbrev pub IsImportedAlready : Composition → Places → List ℕ → Span → Option (List ℕ) → Error → Type 0
-IsImportedAlready c p name span help e = (e ≡ memory) ⊎ ((k : Meaning) × (previous : Span) × StandsFor (imports c) name k × StandsFor p.imported name previous
-    × (e ≡ duplicate_extern_name externs.Import name span previous help))
+IsImportedAlready c p name span help e = (k : Meaning) × (previous : Span) × StandsFor (imports c) name k × StandsFor p.imported name previous
+    × (e ≡ duplicate_extern_name externs.Import name span previous help)
 
 -- the name is exported already
 abbrev pub IsExportedAlready : Composition → Places → List ℕ → Span → Option (List ℕ) → Error → Type 0
-IsExportedAlready c p name span help e = (e ≡ memory) ⊎ ((node : ℕ) × (previous : Span) × StandsFor c.exports name node × StandsFor p.exported name previous
-    × (e ≡ duplicate_extern_name externs.Export name span previous help))
+IsExportedAlready c p name span help e = (node : ℕ) × (previous : Span) × StandsFor c.exports name node × StandsFor p.exported name previous
+    × (e ≡ duplicate_extern_name externs.Export name span previous help)
 
 -- no import or export may have the name
 abbrev pub IsInvalidName : Given → List ℕ → ExternKind → Span → Error → Type 0
-IsInvalidName s name kind span e = (e ≡ memory) ⊎ ((r : Reason) × (s.rules.named name ≡ Some r) × (e ≡ invalid_extern_name name kind r span))
+IsInvalidName s name kind span e = (r : Reason) × (s.rules.named name ≡ Some r) × (e ≡ invalid_extern_name name kind r span)
 
 -- the name is bound at root to a definition
 abbrev pub IsExportConflict : Composition → Places → List ℕ → Span → Option (List ℕ) → Error → Type 0
-IsExportConflict c p name span help e = (e ≡ memory) ⊎ ((k : Meaning) × (definition : Span) × (definition_bound c name ≡ Some k) × StandsFor p.bound name definition
-    × (e ≡ export_conflict name (described k) span definition help))
+IsExportConflict c p name span help e = (k : Meaning) × (definition : Span) × (definition_bound c name ≡ Some k) × StandsFor p.bound name definition
+    × (e ≡ export_conflict name (described k) span definition help)
 
 -- the node has no name of its own
 abbrev pub IsUnnamed : At → Span → Error → Type 0
-IsUnnamed a span e = (e ≡ memory) ⊎ ((n : Node) × (node_at a.composition a.node ≡ Some n) × (unnamed_export n ≡ None) × (e ≡ export_requires_as span))
+IsUnnamed a span e = (n : Node) × (node_at a.composition a.node ≡ Some n) × (unnamed_export n ≡ None) × (e ≡ export_requires_as span)
 
 -- all exports of the instance are exported already
 abbrev pub IsNoEffect : At → Span → Error → Type 0
-IsNoEffect a span e = (e ≡ memory) ⊎ ((i : Meaning) × (instance_at a.composition a.node ≡ Some i) × (unexported a.composition.exports (exports_of i) ≡ []) × (e ≡ spread_export_no_effect span))
+IsNoEffect a span e = (i : Meaning) × (instance_at a.composition a.node ≡ Some i) × (unexported a.composition.exports (exports_of i) ≡ []) × (e ≡ spread_export_no_effect span)
 
 -- the target isn't a world type
 abbrev pub IsNotWorld : PackagePath → Meaning → Error → Type 0
-IsNotWorld p k e = (e ≡ memory) ⊎ ((world_of k ≡ None) × (e ≡ not_world p.string (described k) p.span))
+IsNotWorld p k e = (world_of k ≡ None) × (e ≡ not_world p.string (described k) p.span)
 
 -- what a composition imports, with places: an import node has that of its name, what an instance leaves open has none
 abbrev pub placed_imports : Given → Composition → Places → List ((List ℕ × Meaning) × Option Span)
@@ -68,24 +68,24 @@ placed_imports s c p = map (λ x. (x, look_up x.0 p.imported)) (imports c) ++ ma
 
 -- the target allows no import of that name
 abbrev pub IsNotInTarget : Given → Composition → Places → PackagePath → Meaning → Error → Type 0
-IsNotInTarget s c p path w e = (e ≡ memory) ⊎ ((x : (List ℕ × Meaning) × Option Span) × ReachedAt (λ y. ImportAllowed s w y.0) (placed_imports s c p) x
-    × (allowed w x.0.0 ≡ None) × (e ≡ import_not_in_target x.0.0 path.string x.1))
+IsNotInTarget s c p path w e = (x : (List ℕ × Meaning) × Option Span) × ReachedAt (λ y. ImportAllowed s w y.0) (placed_imports s c p) x
+    × (allowed w x.0.0 ≡ None) × (e ≡ import_not_in_target x.0.0 path.string x.1)
 
 -- what the target allows does not fit the import
 abbrev pub IsImportMismatch : Given → Composition → Places → PackagePath → Meaning → Error → Type 0
-IsImportMismatch s c p path w e = (e ≡ memory) ⊎ ((x : (List ℕ × Meaning) × Option Span) × (k : Meaning) × (r : Reason) × ReachedAt (λ y. ImportAllowed s w y.0) (placed_imports s c p) x
-    × (allowed w x.0.0 ≡ Some k) × (s.rules.passes (promoted k) x.0.1 ≡ Some r) × (e ≡ target_mismatch externs.Import x.0.0 path.string r x.1))
+IsImportMismatch s c p path w e = (x : (List ℕ × Meaning) × Option Span) × (k : Meaning) × (r : Reason) × ReachedAt (λ y. ImportAllowed s w y.0) (placed_imports s c p) x
+    × (allowed w x.0.0 ≡ Some k) × (s.rules.passes (promoted k) x.0.1 ≡ Some r) × (e ≡ target_mismatch externs.Import x.0.0 path.string r x.1)
 
 -- nothing is exported under the name of an export of the target
 abbrev pub IsMissingExport : Given → Composition → PackagePath → Meaning → Error → Type 0
-IsMissingExport s c path w e = (e ≡ memory) ⊎ ((x : List ℕ × Meaning) × AllByRecursion (ImportAllowed s w) (all_imports s c) × ReachedAt (ExportMet s c) (exports_of w) x
-    × IsFresh x.0 c.exports × (e ≡ missing_target_export x.0 path.string (described x.1) path.span))
+IsMissingExport s c path w e = (x : List ℕ × Meaning) × AllByRecursion (ImportAllowed s w) (all_imports s c) × ReachedAt (ExportMet s c) (exports_of w) x
+    × IsFresh x.0 c.exports × (e ≡ missing_target_export x.0 path.string (described x.1) path.span)
 
 -- what is exported does not fit the export of the target
 abbrev pub IsExportMismatch : Given → Composition → Places → PackagePath → Meaning → Error → Type 0
-IsExportMismatch s c p path w e = (e ≡ memory) ⊎ ((x : List ℕ × Meaning) × (node : ℕ) × (r : Reason) × (span : Span) × AllByRecursion (ImportAllowed s w) (all_imports s c)
+IsExportMismatch s c p path w e = (x : List ℕ × Meaning) × (node : ℕ) × (r : Reason) × (span : Span) × AllByRecursion (ImportAllowed s w) (all_imports s c)
     × ReachedAt (ExportMet s c) (exports_of w) x × StandsFor c.exports x.0 node × (s.rules.passes (kind_at c.nodes node) (promoted x.1) ≡ Some r)
-    × StandsFor p.exported x.0 span × (e ≡ target_mismatch externs.Export x.0 path.string r (Some span)))
+    × StandsFor p.exported x.0 span × (e ≡ target_mismatch externs.Export x.0 path.string r (Some span))
 
 -- ---- where they are tested
 

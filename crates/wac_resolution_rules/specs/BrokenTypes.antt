@@ -7,47 +7,47 @@ use Rattle.wac_types.specs.Steps.{Steps, Fails}
 use Rattle.wac_types.specs.Shape.{IsNoneOf, is_resource_form, is_resource_or_value_form, described, contains_borrow}
 use Rattle.wac_grammar.specs.Tree.{Ident, Ty, OptionalTy, Types, NamedType, ResultList, FuncType}
 use Rattle.wac_grammar.specs.Spans.{ty_span}
-use Rattle.wac_resolution_errors.specs.Error.{Error, undefined_name, not_resource_type, not_value_type, duplicate_parameter, duplicate_result, borrow_in_result, memory}
+use Rattle.wac_resolution_errors.specs.Error.{Error, undefined_name, not_resource_type, not_value_type, duplicate_parameter, duplicate_result, borrow_in_result}
 use Rattle.wac_resolution_rules.specs.Types.{HasType, HasOptional, HasParam, HasResultType, HasResult}
 
 -- the identifier denotes nothing
 abbrev pub IsUndefined : {X : Type 0} → Named X → Ident → Error → Type 0
-IsUndefined all x e = (e ≡ memory) ⊎ (IsFresh x.string all × (e ≡ undefined_name x.string x.span))
+IsUndefined all x e = IsFresh x.string all × (e ≡ undefined_name x.string x.span)
 
 -- what the identifier denotes is not a resource type
 abbrev pub IsNoResource : Scope → Ident → Error → Type 0
-IsNoResource scope x e = (e ≡ memory) ⊎ ((k : Meaning) × StandsFor scope x.string k × IsNoneOf is_resource_form k × (e ≡ not_resource_type x.string (described k) x.span))
+IsNoResource scope x e = (k : Meaning) × StandsFor scope x.string k × IsNoneOf is_resource_form k × (e ≡ not_resource_type x.string (described k) x.span)
 
 -- what the identifier denotes is neither a resource type nor a type of values
 abbrev pub IsNoValue : Scope → Ident → Error → Type 0
-IsNoValue scope x e = (e ≡ memory) ⊎ ((k : Meaning) × StandsFor scope x.string k × IsNoneOf is_resource_or_value_form k × (e ≡ not_value_type x.string (described k) x.span))
+IsNoValue scope x e = (k : Meaning) × StandsFor scope x.string k × IsNoneOf is_resource_or_value_form k × (e ≡ not_value_type x.string (described k) x.span)
 
 abbrev mutual
   -- the first part of a type that has no meaning
   pub TypeBroken : Scope → Ty → Error → Type 0
-  TypeBroken scope (Ty.tuple ts s) e = (e ≡ memory) ⊎ TypesBroken scope ts e
-  TypeBroken scope (Ty.list t s) e = (e ≡ memory) ⊎ TypeBroken scope t e
-  TypeBroken scope (Ty.option t s) e = (e ≡ memory) ⊎ TypeBroken scope t e
-  TypeBroken scope (Ty.result o r s) e = (e ≡ memory) ⊎ (OptionalBroken scope o e ⊎ ((v : Meaning) × HasOptional scope o v × OptionalBroken scope r e))
+  TypeBroken scope (Ty.tuple ts s) e = TypesBroken scope ts e
+  TypeBroken scope (Ty.list t s) e = TypeBroken scope t e
+  TypeBroken scope (Ty.option t s) e = TypeBroken scope t e
+  TypeBroken scope (Ty.result o r s) e = OptionalBroken scope o e ⊎ ((v : Meaning) × HasOptional scope o v × OptionalBroken scope r e)
   TypeBroken scope (Ty.borrow x s) e = IsUndefined scope x e ⊎ IsNoResource scope x e
-  TypeBroken scope (Ty.stream t s) e = (e ≡ memory) ⊎ OptionalBroken scope t e
-  TypeBroken scope (Ty.future t s) e = (e ≡ memory) ⊎ OptionalBroken scope t e
+  TypeBroken scope (Ty.stream t s) e = OptionalBroken scope t e
+  TypeBroken scope (Ty.future t s) e = OptionalBroken scope t e
   TypeBroken scope (Ty.ident x) e = IsUndefined scope x e ⊎ IsNoValue scope x e
-  TypeBroken scope _ e = e ≡ memory
+  TypeBroken scope _ e = ⊥
 
   pub OptionalBroken : Scope → OptionalTy → Error → Type 0
-  OptionalBroken scope OptionalTy.absent e = e ≡ memory
-  OptionalBroken scope (OptionalTy.present t) e = (e ≡ memory) ⊎ TypeBroken scope t e
+  OptionalBroken scope OptionalTy.absent e = ⊥
+  OptionalBroken scope (OptionalTy.present t) e = TypeBroken scope t e
 
   pub TypesBroken : Scope → Types → Error → Type 0
-  TypesBroken scope Types.none e = e ≡ memory
-  TypesBroken scope (Types.more t ts) e = (e ≡ memory) ⊎ (TypeBroken scope t e ⊎ ((v : Meaning) × HasType scope t v × TypesBroken scope ts e))
+  TypesBroken scope Types.none e = ⊥
+  TypesBroken scope (Types.more t ts) e = TypeBroken scope t e ⊎ ((v : Meaning) × HasType scope t v × TypesBroken scope ts e)
 
 -- ---- function types
 
 -- an earlier parameter has the name, or it is a method's own
 abbrev pub IsRepeatedParameter : FuncKind → Named Meaning → Ident → Error → Type 0
-IsRepeatedParameter kind old x e = (e ≡ memory) ⊎ ((v : Meaning) × StandsFor old x.string v × (e ≡ duplicate_parameter kind x.string x.span))
+IsRepeatedParameter kind old x e = (v : Meaning) × StandsFor old x.string v × (e ≡ duplicate_parameter kind x.string x.span)
 
 abbrev pub ParamBroken : FuncKind → Scope → Error → Named Meaning → List NamedType → NamedType → Type 0
 ParamBroken kind scope e old before p = TypeBroken scope p.ty e ⊎ ((v : Meaning) × HasType scope p.ty v × IsRepeatedParameter kind old p.id e)
@@ -57,11 +57,11 @@ ParamsBroken kind scope first ps e = Fails (HasParam scope) (ParamBroken kind sc
 
 -- the result contains a borrow
 abbrev pub IsBorrowInResult : Scope → Ty → Error → Type 0
-IsBorrowInResult scope t e = (e ≡ memory) ⊎ ((v : Meaning) × HasType scope t v × (contains_borrow v ≡ true) × (e ≡ borrow_in_result (ty_span t)))
+IsBorrowInResult scope t e = (v : Meaning) × HasType scope t v × (contains_borrow v ≡ true) × (e ≡ borrow_in_result (ty_span t))
 
 -- an earlier result has the name
 abbrev pub IsRepeatedResult : FuncKind → Named Meaning → Ident → Error → Type 0
-IsRepeatedResult kind old x e = (e ≡ memory) ⊎ ((v : Meaning) × StandsFor old x.string v × (e ≡ duplicate_result kind x.string x.span))
+IsRepeatedResult kind old x e = (v : Meaning) × StandsFor old x.string v × (e ≡ duplicate_result kind x.string x.span)
 
 abbrev pub ResultTypeBroken : Scope → Ty → Error → Type 0
 ResultTypeBroken scope t e = TypeBroken scope t e ⊎ IsBorrowInResult scope t e
@@ -70,11 +70,11 @@ abbrev pub ResultBroken : FuncKind → Scope → Error → Named Meaning → Lis
 ResultBroken kind scope e old before r = ResultTypeBroken scope r.ty e ⊎ ((v : Meaning) × HasResultType scope r.ty v × IsRepeatedResult kind old r.id e)
 
 abbrev pub ResultsBroken : FuncKind → Scope → ResultList → Error → Type 0
-ResultsBroken kind scope ResultList.empty e = e ≡ memory
+ResultsBroken kind scope ResultList.empty e = ⊥
 ResultsBroken kind scope (ResultList.scalar t) e = ResultTypeBroken scope t e
 ResultsBroken kind scope (ResultList.named xs) e = Fails (HasResult scope) (ResultBroken kind scope e) [] xs
 
 -- a function type, where these parameters come first
 abbrev pub FuncBroken : FuncKind → Scope → Named Meaning → FuncType → Error → Type 0
 FuncBroken kind scope first f e =
-    (e ≡ memory) ⊎ (ParamsBroken kind scope first f.params e ⊎ ((ps : Named Meaning) × Steps (HasParam scope) first f.params ps × ResultsBroken kind scope f.results e))
+    ParamsBroken kind scope first f.params e ⊎ ((ps : Named Meaning) × Steps (HasParam scope) first f.params ps × ResultsBroken kind scope f.results e)

@@ -11,7 +11,7 @@ use Rattle.wac_types.specs.Steps.{Steps, Fails}
 use Rattle.wac_types.specs.Shape.{IsA, IsNoneOf, is_func_form, is_interface_form, is_func_or_interface_form, is_world_form, described, entry_of, imports_of, exports_of}
 use Rattle.wac_grammar.specs.Tree.{Ident, FuncTypeRef, InterfaceItem, ExternType, WorldItemPath, WorldItem, WorldRef, WorldIncludeItem, WorldInclude, TypeStatement}
 use Rattle.wac_grammar.specs.Spans.{world_ref_name, world_ref_span}
-use Rattle.wac_resolution_errors.specs.Error.{Error, not_func_or_interface, duplicate_world_include_name, not_world, missing_world_include, world_include_conflict, not_func_type, declaration_conflict, duplicate_name, memory}
+use Rattle.wac_resolution_errors.specs.Error.{Error, not_func_or_interface, duplicate_world_include_name, not_world, missing_world_include, world_include_conflict, not_func_type, declaration_conflict, duplicate_name}
 use Rattle.wac_resolution_rules.specs.Paths.{Setting, LeadsTo, WorldNames}
 use Rattle.wac_resolution_rules.specs.Bodies.{Body, empty_body, externs}
 use Rattle.wac_resolution_rules.specs.Includes.{Entries, HasEntry, has_colon, Taking, name_taken, Takes, HasInclude}
@@ -29,7 +29,7 @@ use Rattle.wac_resolution_rules.specs.Places.{Places, bound_in_interface, bound_
 
 -- what the identifier denotes is neither a function nor a function type
 abbrev pub IsNoFunc : Scope → Ident → Error → Type 0
-IsNoFunc scope x e = (e ≡ memory) ⊎ ((k : Meaning) × StandsFor scope x.string k × IsNoneOf is_func_form k × (e ≡ not_func_type x.string (described k) x.span))
+IsNoFunc scope x e = (k : Meaning) × StandsFor scope x.string k × IsNoneOf is_func_form k × (e ≡ not_func_type x.string (described k) x.span)
 
 abbrev pub FuncRefBroken : Scope → FuncTypeRef → Error → Type 0
 FuncRefBroken scope (FuncTypeRef.func f) e = FuncBroken funcs.Free scope [] f e
@@ -42,13 +42,13 @@ InterfaceItemBroken setting root of e old before (InterfaceItem.interface_export
     FuncRefBroken old.scope x.ty e ⊎ ((f : Meaning) × IsFuncRef old.scope x.ty f × IsConflict of sides.Export old x.id.string x.id.span e)
 
 abbrev pub InterfaceBroken : Setting → Scope → Option (List ℕ) → ℕ → List InterfaceItem → Error → Type 0
-InterfaceBroken setting root name n items e = (e ≡ memory) ⊎ Fails (HasInterfaceItem setting root) (InterfaceItemBroken setting root (of_interface name) e) (empty_body n) items
+InterfaceBroken setting root name n items e = Fails (HasInterfaceItem setting root) (InterfaceItemBroken setting root (of_interface name) e) (empty_body n) items
 
 -- ---- items of worlds
 
 -- what the identifier denotes is neither a function type nor an interface
 abbrev pub IsNoFuncOrInterface : Scope → Ident → Error → Type 0
-IsNoFuncOrInterface scope x e = (e ≡ memory) ⊎ ((k : Meaning) × StandsFor scope x.string k × IsNoneOf is_func_or_interface_form k × (e ≡ not_func_or_interface x.string (described k) x.span))
+IsNoFuncOrInterface scope x e = (k : Meaning) × StandsFor scope x.string k × IsNoneOf is_func_or_interface_form k × (e ≡ not_func_or_interface x.string (described k) x.span)
 
 abbrev pub ExternTypeBroken : Setting → Scope → Scope → ℕ → ExternType → Error → Type 0
 ExternTypeBroken setting root scope n (ExternType.ident x) e = IsUndefined (scope ++ root) x e ⊎ IsNoFuncOrInterface (scope ++ root) x e
@@ -68,14 +68,14 @@ abbrev pub WorldItemBroken : Setting → Scope → Owner → Error → Body → 
 WorldItemBroken setting root of e old before (WorldItem.use_statement u) = UseBroken setting root sides.Import old u e
 WorldItemBroken setting root of e old before (WorldItem.world_import x) = ExternBroken setting root of sides.Import old x.path e
 WorldItemBroken setting root of e old before (WorldItem.world_export x) = ExternBroken setting root of sides.Export old x.path e
-WorldItemBroken setting root of e old before (WorldItem.world_include x) = e ≡ memory
+WorldItemBroken setting root of e old before (WorldItem.world_include x) = ⊥
 WorldItemBroken setting root of e old before (WorldItem.ty d) = ItemBroken setting.naming of sides.Import (bound_in_world before) old d e
 
 -- ---- include
 
 -- an earlier entry renames the same name
 abbrev pub IsSecondEntry : Error → Entries → List WorldIncludeItem → WorldIncludeItem → Type 0
-IsSecondEntry e old before x = (e ≡ memory) ⊎ ((to : List ℕ) × StandsFor old x.from.string to × (e ≡ duplicate_world_include_name x.from.string x.from.span))
+IsSecondEntry e old before x = (to : List ℕ) × StandsFor old x.from.string to × (e ≡ duplicate_world_include_name x.from.string x.from.span)
 
 abbrev pub WorldRefBroken : Setting → Scope → WorldRef → Error → Type 0
 WorldRefBroken setting root (WorldRef.path p) e = PathBroken setting root p e
@@ -83,7 +83,7 @@ WorldRefBroken setting root (WorldRef.ident x) e = IsUndefined root x e
 
 -- what is named is neither a world nor a component
 abbrev pub IsNoWorld : Meaning → WorldRef → Error → Type 0
-IsNoWorld k r e = (e ≡ memory) ⊎ (IsNoneOf is_world_form k × (e ≡ not_world (world_ref_name r) (described k) (world_ref_span r)))
+IsNoWorld k r e = IsNoneOf is_world_form k × (e ≡ not_world (world_ref_name r) (described k) (world_ref_span r))
 
 -- the entry of a `with` clause that renames a name
 abbrev pub entry_named : List ℕ → List WorldIncludeItem → Option WorldIncludeItem
@@ -107,13 +107,13 @@ help_of_include (i ∷ is) = None
 -- a name without a colon, after renaming, exists already
 abbrev pub IsIncludeConflict : WorldInclude → List ℕ → ExternKind → Error → Taking → List (List ℕ × Meaning) → List ℕ × Meaning → Type 0
 IsIncludeConflict x world side e old before n =
-    (e ≡ memory) ⊎ ((m : Meaning) × (has_colon n.0 ≡ false) × StandsFor old.there (name_taken old.entries n.0) m
-    × (e ≡ world_include_conflict side (name_taken old.entries n.0) (world_ref_name x.world) world (span_taken x old.entries n.0) (help_of_include x.items)))
+    (m : Meaning) × (has_colon n.0 ≡ false) × StandsFor old.there (name_taken old.entries n.0) m
+    × (e ≡ world_include_conflict side (name_taken old.entries n.0) (world_ref_name x.world) world (span_taken x old.entries n.0) (help_of_include x.items))
 
 -- an entry is left over: the first
 abbrev pub IsLeftOver : WorldInclude → Entries → Error → Type 0
-IsLeftOver x [] e = e ≡ memory
-IsLeftOver x (left ∷ more) e = (e ≡ memory) ⊎ ((i : WorldIncludeItem) × (entry_named left.0 x.items ≡ Some i) × (e ≡ missing_world_include (world_ref_name x.world) left.0 i.from.span))
+IsLeftOver x [] e = ⊥
+IsLeftOver x (left ∷ more) e = (i : WorldIncludeItem) × (entry_named left.0 x.items ≡ Some i) × (e ≡ missing_world_include (world_ref_name x.world) left.0 i.from.span)
 
 -- taking over the names of a world
 abbrev pub TakingBroken : WorldInclude → List ℕ → Entries → Meaning → Body → Error → Type 0
@@ -134,20 +134,19 @@ IncludeBroken setting root world e old before x =
 
 abbrev pub WorldBroken : Setting → Scope → List ℕ → ℕ → List WorldItem → Error → Type 0
 WorldBroken setting root name n items e =
-    (e ≡ memory)
-    ⊎ (Fails (HasWorldItem setting root) (WorldItemBroken setting root (of_world name) e) (empty_body n) items
+    Fails (HasWorldItem setting root) (WorldItemBroken setting root (of_world name) e) (empty_body n) items
     ⊎ ((mid : Body) × Steps (HasWorldItem setting root) (empty_body n) items mid
-    × Fails (HasInclude setting root) (IncludeBroken setting root name e) mid (includes_of items)))
+    × Fails (HasInclude setting root) (IncludeBroken setting root name e) mid (includes_of items))
 
 -- ---- type statements
 
 -- the name was exported
 abbrev pub IsExported : Composition → Places → Ident → Error → Type 0
-IsExported old places x e = (e ≡ memory) ⊎ ((n : ℕ) × (at : Span) × StandsFor old.exports x.string n × StandsFor places.exported x.string at × (e ≡ declaration_conflict x.string x.span at))
+IsExported old places x e = (n : ℕ) × (at : Span) × StandsFor old.exports x.string n × StandsFor places.exported x.string at × (e ≡ declaration_conflict x.string x.span at)
 
 -- the identifier is bound at root already
 abbrev pub IsBound : Composition → Places → Ident → Error → Type 0
-IsBound old places x e = (e ≡ memory) ⊎ ((n : ℕ) × (previous : Span) × StandsFor old.declared x.string n × StandsFor places.bound x.string previous × (e ≡ duplicate_name x.string x.span previous))
+IsBound old places x e = (n : ℕ) × (previous : Span) × StandsFor old.declared x.string n × StandsFor places.bound x.string previous × (e ≡ duplicate_name x.string x.span previous)
 
 abbrev pub DefinitionBroken : Composition → Places → Ident → Error → Type 0
 DefinitionBroken old places x e = IsExported old places x e ⊎ (IsFresh x.string old.exports × IsBound old places x e)

@@ -11,7 +11,7 @@ use Rattle.wac_resolution_rules.specs.Given.{Given, Rules}
 use Rattle.wac_resolution_rules.specs.Composition.{Composition, start}
 use Rattle.wac_resolution_rules.specs.Statements.{Goes, Composes}
 use Rattle.wac_resolution_rules.specs.Target.{MeetsPath, MeetsTarget}
-use Rattle.wac_resolution_errors.specs.Error.{Error, NamesRule, memory}
+use Rattle.wac_resolution_errors.specs.Error.{Error, Reports, memory}
 use Rattle.wac_resolution_rules.specs.BrokenStatements.{StatementBroken, TargetBroken}
 use Rattle.wac_resolution_rules.specs.Places.{Leads, Placed, placed_start}
 
@@ -52,7 +52,7 @@ pub record TargetFails (s : Given) (doc : Document) (e : Error) : Type 0 where
 
 -- a statement fails first, or the target, and the error names the rule
 abbrev pub FirstFailing : Given → Document → Error → Type 0
-FirstFailing s doc e = NamesRule e × (StatementFails s doc e ⊎ TargetFails s doc e)
+FirstFailing s doc e = StatementFails s doc e ⊎ TargetFails s doc e
 
 -- ---- what resolving promises, for each naming that is one to one
 
@@ -73,4 +73,4 @@ OnlyClause s doc (Err e) = (c : Composition) → Describes s doc c → e ≡ mem
 -- the error names a rule that the first failing statement breaks, unless memory ran out
 abbrev pub FirstClause : Given → Document → Result Composition Error → Type 0
 FirstClause s doc (Ok c) = Unit {0}
-FirstClause s doc (Err e) = (e ≡ memory) ⊎ FirstFailing s doc e
+FirstClause s doc (Err e) = Reports e (FirstFailing s doc e)

@@ -18,7 +18,7 @@ ghost use Rattle.wac_resolution_rules.specs.Bodies.{Body, IsCovered, empty_body}
 ghost use Rattle.wac_resolution_rules.specs.BrokenStatements.{StatementBroken, TargetBroken};
 ghost use Rattle.wac_resolution_rules.specs.Composition.{Composition, start};
 ghost use Rattle.wac_resolution_rules.specs.Declarations.{IsTypeDecl};
-ghost use Rattle.wac_resolution_errors.specs.Error.{Error, NamesRule};
+ghost use Rattle.wac_resolution_errors.specs.Error.{Error};
 ghost use Rattle.wac_resolution_rules.specs.Expressions.{At, Stands};
 ghost use Rattle.wac_resolution_rules.specs.Given.{Given};
 ghost use Rattle.wac_resolution_rules.specs.Includes.{Entries, HasInclude, Included, has_colon};
@@ -59,16 +59,16 @@ pub fn layout_carries_no_meaning()
 
 /// A statement that breaks a rule resolves to nothing, and a target that breaks one isn't met.
 pub fn broken_rules_stop()
-    ensures statement { (s : Given) (old : Composition) (places : Places) (e : Error) (x : Statement) (new : Composition) → NamesRule e → StatementBroken s old places e x → Goes s old x new → ⊥ }
-    ensures target { (s : Given) (c : Composition) (places : Places) (e : Error) (path : PackagePath) → NamesRule e → TargetBroken s c places e path → MeetsPath s c path → ⊥ }
+    ensures statement { (s : Given) (old : Composition) (places : Places) (e : Error) (x : Statement) (new : Composition) → StatementBroken s old places e x → Goes s old x new → ⊥ }
+    ensures target { (s : Given) (c : Composition) (places : Places) (e : Error) (path : PackagePath) → TargetBroken s c places e path → MeetsPath s c path → ⊥ }
 {}
 
 /// A statement that breaks a rule, after statements that compose, is the first failing one; where all compose, a target that breaks one is what fails.
 /// A document in which something fails describes nothing.
 pub fn what_breaks_first_fails()
-    ensures statement { (s : Given) (document : Document) (e : Error) → NamesRule e → (before : List Statement) (x : Statement) (after : List Statement) → document.statements ≡ before ++ x ∷ after
+    ensures statement { (s : Given) (document : Document) (e : Error) (before : List Statement) (x : Statement) (after : List Statement) → document.statements ≡ before ++ x ∷ after
         → (so_far : Placed) → Steps (Leads s) (placed_start start) before so_far → StatementBroken s so_far.composition so_far.places e x → FirstFailing s document e }
-    ensures target { (s : Given) (document : Document) (e : Error) → NamesRule e → (path : PackagePath) → document.directive.targets ≡ Some path
+    ensures target { (s : Given) (document : Document) (e : Error) (path : PackagePath) → document.directive.targets ≡ Some path
         → (whole : Placed) → Steps (Leads s) (placed_start start) document.statements whole → TargetBroken s whole.composition whole.places e path → FirstFailing s document e }
     ensures nothing { (s : Given) (document : Document) (e : Error) (c : Composition) → FirstFailing s document e → Describes s document c → ⊥ }
 {}

@@ -5,6 +5,7 @@ ghost use Rattle.wac_grammar.specs.Tree.{Ty};
 ghost use Rattle.wac_ast_base.specs.Names.{ident_of};
 ghost use Rattle.wac_graph.specs.Graph.{Parts};
 ghost use Rattle.wac_graph.specs.Origin.{Naming};
+ghost use Rattle.wac_resolution_errors.specs.Error.{Reports};
 ghost use Rattle.wac_resolution_errors.specs.Told.{told};
 ghost use Rattle.wac_resolution_rules.specs.BrokenTypes.{IsUndefined, TypeBroken};
 ghost use Rattle.wac_resolution_state.specs.Bindings.{values_of};
@@ -24,7 +25,7 @@ pub fn kind_of(
     id: &Ident<'_>,
 ) -> Result<ItemKind, Error>
     ensures ok { IfOk result (λ k. KindIs (values_of names.now) (ident_of id.now) k) }
-    ensures err { IfErr result (λ e. (naming : Naming) (g : Parts) → IsUndefined (scope_of naming g (values_of names.now)) (ident_of id.now) (told e)) }
+    ensures err { IfErr result (λ e. Reports (told e) ((naming : Naming) (g : Parts) → IsUndefined (scope_of naming g (values_of names.now)) (ident_of id.now) (told e))) }
 {
     match names.find(id.string) {
         Some(kind) => Ok(kind),
@@ -43,7 +44,7 @@ pub fn named_type(
     id: &Ident<'_>,
 ) -> Result<ValueType, Error>
     ensures ok { IfOk result (λ v. ValueIs (values_of names.now) (Ty.ident (ident_of id.now)) v) }
-    ensures err { IfErr result (λ e. (naming : Naming) (g : Parts) → TypeBroken (scope_of naming g (values_of names.now)) (Ty.ident (ident_of id.now)) (told e)) }
+    ensures err { IfErr result (λ e. Reports (told e) ((naming : Naming) (g : Parts) → TypeBroken (scope_of naming g (values_of names.now)) (Ty.ident (ident_of id.now)) (told e))) }
 {
     match kind_of(alloc, names, id)? {
         ItemKind::Ty(Type::Resource(resource)) => Ok(ValueType::Own(resource)),
@@ -64,7 +65,7 @@ pub fn named_resource(
     id: &Ident<'_>,
 ) -> Result<ResourceId, Error>
     ensures ok { IfOk result (λ r. (s : Span) → ValueIs (values_of names.now) (Ty.borrow (ident_of id.now) s) (ValueType.Borrow r)) }
-    ensures err { IfErr result (λ e. (naming : Naming) (g : Parts) (s : Span) → TypeBroken (scope_of naming g (values_of names.now)) (Ty.borrow (ident_of id.now) s) (told e)) }
+    ensures err { IfErr result (λ e. Reports (told e) ((naming : Naming) (g : Parts) (s : Span) → TypeBroken (scope_of naming g (values_of names.now)) (Ty.borrow (ident_of id.now) s) (told e))) }
 {
     match kind_of(alloc, names, id)? {
         ItemKind::Ty(Type::Resource(resource)) => Ok(resource),

@@ -18,7 +18,7 @@ use Rattle.wac_graph.specs.Graph.{Parts}
 use Rattle.wac_graph.specs.Means.{means, entry_means, declared_count}
 use Rattle.wac_graph.specs.Origin.{Naming}
 use Rattle.wac_graph.proofs.Lists.{get_last}
-use Rattle.wac_resolution_errors.specs.Error.{Error, memory}
+use Rattle.wac_resolution_errors.specs.Error.{Error}
 use Rattle.wac_resolution_rules.specs.BrokenStatements.{ImportNameBroken}
 use Rattle.wac_resolution_rules.specs.Composition.{Composition, Node, imported, with_node, with_resources, named_at, first_name, binding}
 use Rattle.wac_resolution_rules.specs.Given.{Rules}
@@ -128,10 +128,6 @@ module _ (setting : Setting) (rules : Rules) (old mid : Parts) (before : Root) (
     subst (λ (l : List ℕ). ImportNameBroken (given_in naming setting rules) (composed naming old before) (places_in before x) e s l) (meant naming)
         (subst (λ (c : Composition). ImportNameBroken (given_in naming setting rules) c (places_in before x) e s name) (composed_kept old mid before naming made.grows stand.agrees) (h naming (given_in naming setting rules) refl)),
   )
-
--- memory ran out as the name was copied
-pub memory_breaks : (setting : Setting) (rules : Rules) (old mid : Parts) (before : Root) (x : Externs) (s : ImportStatement) (k : ItemKind) (e : Error) → ImportMade setting old mid before s.ty k → e ≡ memory → Breaks setting rules old before x (Statement.import_statement s) e
-memory_breaks setting rules old mid before x s k e made is naming one = inr (means naming mid k, declared_count mid, made.is naming rules, inl (inl is))
 
 pub type_breaks : (setting : Setting) (rules : Rules) (old : Parts) (before : Root) (x : Externs) (s : ImportStatement) (e : Error) → ImportTypeBreaks setting old before s.ty e → Breaks setting rules old before x (Statement.import_statement s) e
 type_breaks setting rules old before x s e h naming one = inl (h naming rules)

@@ -1,6 +1,7 @@
 //! What imports import.
 ghost use Rattle.std.specs.Prelude.{IfOk, IfErr};
 ghost use Rattle.wac_ast_worlds.specs.Worlds.{import_type_of};
+ghost use Rattle.wac_resolution_errors.specs.Error.{Reports};
 ghost use Rattle.wac_resolution_errors.specs.Told.{told};
 ghost use Rattle.wac_resolution_nodes.specs.Root.{Agrees};
 ghost use Rattle.wac_resolution_paths.specs.Expands.{HoldsHanded};
@@ -25,7 +26,7 @@ pub(crate) fn import_kind(
     requires agrees { Agrees state.old.graph root.now }
     requires handed { HoldsHanded (packages_in setting.now) state.old.graph }
     ensures ok { IfOk result (λ k. ImportMade setting.now state.old.graph state.new.graph root.now (import_type_of ty.now) k) }
-    ensures err { IfErr result (λ e. ImportTypeBreaks setting.now state.old.graph root.now (import_type_of ty.now) (told e)) }
+    ensures err { IfErr result (λ e. Reports (told e) (ImportTypeBreaks setting.now state.old.graph root.now (import_type_of ty.now) (told e))) }
 {
     match ty {
         ImportType::Package(from) => Ok(path(state, setting, &root.kinds, from)?),

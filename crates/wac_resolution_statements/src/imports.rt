@@ -2,6 +2,7 @@
 ghost use Rattle.std.specs.Prelude.{OnOk, IfErr};
 ghost use Rattle.wac_grammar.specs.Tree.{Statement as StatementTree};
 ghost use Rattle.wac_ast_worlds.specs.Worlds.{import_statement_of};
+ghost use Rattle.wac_resolution_errors.specs.Error.{Reports};
 ghost use Rattle.wac_resolution_errors.specs.Told.{told};
 ghost use Rattle.wac_resolution_rules.specs.Given.{rules_by};
 ghost use Rattle.wac_resolution_bindings.specs.Statements.{Stand, Went, Breaks};
@@ -27,7 +28,7 @@ pub(crate) fn import_statement<'a, R: Rules>(
 ) -> Result<(), Error>
     requires { Stand setting.now state.old.graph root.old externs.old }
     ensures ok { OnOk result (Went setting.now (rules_by (R.passes rules.now) (R.named rules.now)) state.old.graph state.new.graph root.old root.new externs.old externs.new (StatementTree.import_statement (import_statement_of statement.now))) }
-    ensures err { IfErr result (λ e. Breaks setting.now (rules_by (R.passes rules.now) (R.named rules.now)) state.old.graph root.old externs.old (StatementTree.import_statement (import_statement_of statement.now)) (told e)) }
+    ensures err { IfErr result (λ e. Reports (told e) (Breaks setting.now (rules_by (R.passes rules.now) (R.named rules.now)) state.old.graph root.old externs.old (StatementTree.import_statement (import_statement_of statement.now)) (told e))) }
 {
     let kind = import_kind(state, setting, root, &statement.ty)?;
     let item = kind.promote();

@@ -1,6 +1,7 @@
 //! Statements, in order.
 ghost use Rattle.std.specs.Prelude.{OnOk, IfErr, map};
 ghost use Rattle.wac_ast.specs.Statements.{statement_of};
+ghost use Rattle.wac_resolution_errors.specs.Error.{Reports};
 ghost use Rattle.wac_resolution_errors.specs.Told.{told};
 ghost use Rattle.wac_resolution_rules.specs.Given.{rules_by};
 ghost use Rattle.wac_resolution_bindings.specs.Statements.{Stand, Went, Breaks};
@@ -28,7 +29,7 @@ fn statement<'a, R: Rules>(
 ) -> Result<(), Error>
     requires { Stand setting.now state.old.graph root.old externs.old }
     ensures ok { OnOk result (Went setting.now (rules_by (R.passes rules.now) (R.named rules.now)) state.old.graph state.new.graph root.old root.new externs.old externs.new (statement_of statement.now)) }
-    ensures err { IfErr result (λ e. Breaks setting.now (rules_by (R.passes rules.now) (R.named rules.now)) state.old.graph root.old externs.old (statement_of statement.now) (told e)) }
+    ensures err { IfErr result (λ e. Reports (told e) (Breaks setting.now (rules_by (R.passes rules.now) (R.named rules.now)) state.old.graph root.old externs.old (statement_of statement.now) (told e))) }
 {
     match statement {
         Statement::Import(import) => {
@@ -53,7 +54,7 @@ pub fn compose<'a, R: Rules>(
 ) -> Result<(), Error>
     requires { Stand setting.now state.old.graph root.old externs.old }
     ensures ok { OnOk result (AllWent setting.now (rules_by (R.passes rules.now) (R.named rules.now)) state.old.graph state.new.graph root.old root.new externs.old externs.new (map statement_of statements.now)) }
-    ensures err { IfErr result (λ e. OneBreaks setting.now (rules_by (R.passes rules.now) (R.named rules.now)) state.old.graph root.old externs.old (map statement_of statements.now) (told e)) }
+    ensures err { IfErr result (λ e. Reports (told e) (OneBreaks setting.now (rules_by (R.passes rules.now) (R.named rules.now)) state.old.graph root.old externs.old (map statement_of statements.now) (told e))) }
 {
     for next in statements {
         statement(state, setting, rules, root, externs, next)?;

@@ -1,8 +1,8 @@
 -- The first of a list that fails.
-use Rattle.std.proofs.Common.{◌≡◌, ◌∙◌, ◌⊎◌, inl, inr, Result, Ok, Err, OnOk, IfErr, List, [], ◌∷◌, ◌++◌, refl, sym, ap, subst, append-nil}
+use Rattle.std.proofs.Common.{◌≡◌, ◌∙◌, Result, Ok, Err, OnOk, IfErr, List, [], ◌∷◌, ◌++◌, refl, sym, ap, subst, append-nil}
 use Rattle.std.specs.List.{AllByRecursion}
 use Rattle.std.proofs.lemmas.List.{append_assoc}
-use Rattle.wac_resolution_errors.specs.Error.{Error, memory}
+use Rattle.wac_resolution_errors.specs.Error.{Error}
 use Rattle.wac_resolution_target.specs.Testing.{FirstFails}
 
 pub all_append : {X : Type 0} (P : X → Type 0) (xs ys : List X) → AllByRecursion P xs → AllByRecursion P ys → AllByRecursion P (xs ++ ys)
@@ -31,8 +31,7 @@ through_all {X} P all rest is t =
     subst (AllByRecursion P) (sym (t.split ∙ ap (λ (l : List X). t.before ++ l) is ∙ nil)) t.pass
 
 pub fails_within : {X : Type 0} (P : X → Type 0) (D : X → Error → Type 0) (all rest left mid : List X) (e : Error) → rest ≡ mid ++ left → Through P all rest → FirstFails P D mid e → FirstFails P D all e
-fails_within P D all rest left mid e is t (inl m) = inl m
-fails_within {X} P D all rest left mid e is t (inr (x, at, d)) = inr (
+fails_within {X} P D all rest left mid e is t (x, at, d) = (
   x,
   (
     t.before ++ at.0,
@@ -43,9 +42,8 @@ fails_within {X} P D all rest left mid e is t (inr (x, at, d)) = inr (
   d,
 )
 
-pub fails_here : {X : Type 0} (P : X → Type 0) (D : X → Error → Type 0) (all rest left : List X) (x : X) (e : Error) → rest ≡ x ∷ left → Through P all rest → (e ≡ memory) ⊎ D x e → FirstFails P D all e
-fails_here P D all rest left x e is t (inl m) = inl m
-fails_here P D all rest left x e is t (inr d) = inr (x, (t.before, left, t.split ∙ ap (λ l. t.before ++ l) is, t.pass), d)
+pub fails_here : {X : Type 0} (P : X → Type 0) (D : X → Error → Type 0) (all rest left : List X) (x : X) (e : Error) → rest ≡ x ∷ left → Through P all rest → D x e → FirstFails P D all e
+fails_here P D all rest left x e is t d = (x, (t.before, left, t.split ∙ ap (λ l. t.before ++ l) is, t.pass), d)
 
 pub first_there : {X : Type 0} (P : X → Type 0) (rest left : List X) (x : X) → rest ≡ x ∷ left → AllByRecursion P rest → P x
 first_there P rest left x is h = (subst (AllByRecursion P) is h).0

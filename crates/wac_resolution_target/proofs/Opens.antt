@@ -1,12 +1,12 @@
 -- What an instance leaves open, import by import.
-use Rattle.std.proofs.Common.{◌≡◌, ◌∙◌, ℕ, List, [], ◌∷◌, ◌++◌, Option, Some, None, Bool, true, false, cond, Result, Ok, Err, OnOk, IfErr, inl, inr, refl, sym, ap, subst, is_none}
-use Rattle.std.specs.Prelude.{◌⊎◌, slice_get}
+use Rattle.std.proofs.Common.{◌≡◌, ◌∙◌, ℕ, List, [], ◌∷◌, ◌++◌, Option, Some, None, Bool, true, false, cond, Result, Ok, Err, OnOk, IfErr, refl, sym, ap, subst, is_none}
+use Rattle.std.specs.Prelude.{slice_get}
 use Rattle.wac_types.specs.declared.kind.ItemKind.{ItemKind}
 use Rattle.wac_types.specs.Readings.{world_imports}
 use Rattle.wac_types.specs.Scope.{Named, look_up}
 use Rattle.wac_graph.specs.Graph.{Parts, package_of, arguments_of}
 use Rattle.wac_graph.specs.Package.{HeldPackage}
-use Rattle.wac_resolution_errors.specs.Error.{Error, memory}
+use Rattle.wac_resolution_errors.specs.Error.{Error}
 use Rattle.wac_resolution_errors.specs.Told.{told}
 use Rattle.wac_resolution_errors.specs.declared.error.Error.{Error as CodeError}
 use Rattle.wac_resolution_target.specs.Imported.{of_kind, left_open, package_imports, open_at}
@@ -35,18 +35,14 @@ given_allowed t arguments x n is = subst (AllAllowed t (of_kind t.graph)) (sym (
 pub open_allowed : (t : Testing) (arguments : Named ℕ) (x : List ℕ × ItemKind) → look_up x.0 arguments ≡ None → Allowed t (of_kind t.graph x) → AllAllowed t (of_kind t.graph) (left_open arguments (x ∷ []))
 open_allowed t arguments x is h = subst (AllAllowed t (of_kind t.graph)) (sym (open_one arguments x is)) (h, tt)
 
-pub open_denied_one : (t : Testing) (arguments : Named ℕ) (x : List ℕ × ItemKind) (e : Error) → look_up x.0 arguments ≡ None → (e ≡ memory) ⊎ Denied t (of_kind t.graph x) None e → SomeDenied t (of_kind t.graph) nowhere (left_open arguments (x ∷ [])) e
-open_denied_one t arguments x e is h = subst (λ (l : Named ItemKind). SomeDenied t (of_kind t.graph) nowhere l e) (sym (open_one arguments x is)) (go h)
-  where
-    go : (e ≡ memory) ⊎ Denied t (of_kind t.graph x) None e → SomeDenied t (of_kind t.graph) nowhere (x ∷ []) e
-    go (inl m) = inl m
-    go (inr d) = inr (x, ([], [], refl, tt), d)
+pub open_denied_one : (t : Testing) (arguments : Named ℕ) (x : List ℕ × ItemKind) (e : Error) → look_up x.0 arguments ≡ None → Denied t (of_kind t.graph x) None e → SomeDenied t (of_kind t.graph) nowhere (left_open arguments (x ∷ [])) e
+open_denied_one t arguments x e is h = subst (λ (l : Named ItemKind). SomeDenied t (of_kind t.graph) nowhere l e) (sym (open_one arguments x is)) (x, ([], [], refl, tt), h)
 
 pub all_open : (t : Testing) (arguments : Named ℕ) (x : List ℕ × ItemKind) (r : Result (Unit {0}) CodeError) → look_up x.0 arguments ≡ None → OnOk r (Allowed t (of_kind t.graph x)) → OnOk r (AllAllowed t (of_kind t.graph) (left_open arguments (x ∷ [])))
 all_open t arguments x (Ok u) is h = open_allowed t arguments x is h
 all_open t arguments x (Err e) is h = tt
 
-pub some_open : (t : Testing) (arguments : Named ℕ) (x : List ℕ × ItemKind) (r : Result (Unit {0}) CodeError) → look_up x.0 arguments ≡ None → IfErr r (λ e. (told e ≡ memory) ⊎ Denied t (of_kind t.graph x) None (told e))
+pub some_open : (t : Testing) (arguments : Named ℕ) (x : List ℕ × ItemKind) (r : Result (Unit {0}) CodeError) → look_up x.0 arguments ≡ None → IfErr r (λ e. Denied t (of_kind t.graph x) None (told e))
     → IfErr r (λ e. SomeDenied t (of_kind t.graph) nowhere (left_open arguments (x ∷ [])) (told e))
 some_open t arguments x (Ok u) is h = tt
 some_open t arguments x (Err e) is h = open_denied_one t arguments x (told e) is h

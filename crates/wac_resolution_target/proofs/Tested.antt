@@ -1,5 +1,5 @@
 -- One import, or one export, that was tested.
-use Rattle.std.proofs.Common.{◌≡◌, ◌∙◌, ◌⊎◌, ℕ, List, [], ◌∷◌, Option, Some, None, Bool, true, false, cond, inl, inr, sym, ap, subst}
+use Rattle.std.proofs.Common.{◌≡◌, ◌∙◌, ℕ, List, [], ◌∷◌, Option, Some, None, Bool, true, false, cond, inl, inr, sym, ap, subst}
 use Rattle.std.specs.Prelude.{option_map}
 use Rattle.std.specs.Str.{bytes_eq}
 use Rattle.wac_lexer.specs.Span.{Span}
@@ -16,7 +16,7 @@ use Rattle.wac_ast_base.specs.Names.{package_path_of}
 use Rattle.wac_graph.specs.Graph.{Parts}
 use Rattle.wac_graph.specs.Means.{means, entry_means}
 use Rattle.wac_graph.specs.Origin.{Naming, IsOneToOne}
-use Rattle.wac_resolution_errors.specs.Error.{Error, memory, import_not_in_target, missing_target_export, target_mismatch}
+use Rattle.wac_resolution_errors.specs.Error.{Error, import_not_in_target, missing_target_export, target_mismatch}
 use Rattle.wac_resolution_nodes.specs.Nodes.{kind_in}
 use Rattle.wac_resolution_nodes.proofs.Roots.{kind_means}
 use Rattle.wac_resolution_rules.specs.Find.{names_of}
@@ -60,9 +60,8 @@ module _ (g : Parts) (passes : Meaning → Meaning → Option Reason) (named : L
     | inr b ↦ inr (b.0, b.1, b.2, ap (passes (shapes.promoted b.0)) (kind_means naming g n k is) ∙ b.3, b.4)
   ]
 
-  pub node_fails : (name : List ℕ) (n : ℕ) (k : ItemKind) (span place : Option Span) (e : Error) → kind_in g.nodes n ≡ Some k → span ≡ place → (e ≡ memory) ⊎ Denied t (of_kind g (name, k)) span e → (e ≡ memory) ⊎ Denied t (of_node g (name, n)) place e
-  node_fails name n k span place e is same (inl m) = inl m
-  node_fails name n k span place e is same (inr d) = inr (subst (λ (o : Option Span). Denied t (of_node g (name, n)) o e) same (node_denied name n k span e is d))
+  pub node_fails : (name : List ℕ) (n : ℕ) (k : ItemKind) (span place : Option Span) (e : Error) → kind_in g.nodes n ≡ Some k → span ≡ place → Denied t (of_kind g (name, k)) span e → Denied t (of_node g (name, n)) place e
+  node_fails name n k span place e is same d = subst (λ (o : Option Span). Denied t (of_node g (name, n)) o e) same (node_denied name n k span e is d)
 
   -- ---- exports
 

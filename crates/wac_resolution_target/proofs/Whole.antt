@@ -219,28 +219,25 @@ module _ (g : Parts) (passes : Meaning → Meaning → Option Reason) (named : L
         ∙ ap (λ (l : List ((List ℕ × Meaning) × Option Span)). map at_root g.imports ++ l) (map_twice (λ (x : List ℕ × Meaning). (x, None)) (λ x. of_kind g x naming) opens)
 
     from_denied : (x : (List ℕ × Meaning) × Option Span) → ReachedAt IsPlacedIn (map at_root g.imports ++ map at_none opens) x → IsDenied s t.path w x e → TargetWorldBroken s c p e t.path w
-    from_denied x r (inl d) = inl (inr (x, subst (λ l. ReachedAt IsPlacedIn l x) (sym placed_are) r, d.0, d.1))
-    from_denied x r (inr d) = inr (inl (inr (x, d.0, d.1, subst (λ l. ReachedAt IsPlacedIn l x) (sym placed_are) r, d.2, d.3, d.4)))
+    from_denied x r (inl d) = inl (x, subst (λ l. ReachedAt IsPlacedIn l x) (sym placed_are) r, d.0, d.1)
+    from_denied x r (inr d) = inr (inl (x, d.0, d.1, subst (λ l. ReachedAt IsPlacedIn l x) (sym placed_are) r, d.2, d.3, d.4))
 
     pub import_denied : SomeDenied t (of_node g) (λ x. look_up x.0 p.imported) g.imports e → TargetWorldBroken s c p e t.path w
-    import_denied (inl m) = inl (inl m)
-    import_denied (inr (x, r, d)) =
+    import_denied (x, r, d) =
         from_denied (at_root x) (reached_left IsPlacedIn (map at_root g.imports) (map at_none opens) (at_root x) (reached_mapped at_root (λ y. Allowed t (of_node g y)) IsPlacedIn (λ y a. a naming setting one) g.imports x r)) (d naming setting one)
 
     pub open_denied : AllAllowed t (of_node g) g.imports → SomeDenied t (of_kind g) nowhere opens e → TargetWorldBroken s c p e t.path w
-    open_denied all (inl m) = inl (inl m)
-    open_denied all (inr (x, r, d)) =
+    open_denied all (x, r, d) =
         from_denied (at_none x)
         (reached_right IsPlacedIn (map at_root g.imports) (map at_none opens) (at_none x) (all_mapped at_root (λ y. Allowed t (of_node g y)) IsPlacedIn (λ y a. a naming setting one) g.imports all)
         (reached_mapped at_none (λ y. Allowed t (of_kind g y)) IsPlacedIn (λ y a. a naming setting one) opens x r)) (d naming setting one)
 
     pub export_unmet : AllAllowed t (of_node g) g.imports → AllAllowed t (of_kind g) opens → SomeUnmet t p.exported (of_kind g) (world_exports g.types target.world.0) e → TargetWorldBroken s c p e t.path w
-    export_unmet h k (inl m) = inl (inl m)
-    export_unmet h k (inr (x, r, d)) = go (d naming setting declared one)
+    export_unmet h k (x, r, d) = go (d naming setting declared one)
       where
         reached : ReachedAt (ExportMet s c) (exports_of w) (of_kind g x naming)
         reached = subst (λ l. ReachedAt (ExportMet s c) l (of_kind g x naming)) (sym exports_meant) (reached_mapped (λ y. of_kind g y naming) (λ y. Met t (of_kind g y)) (ExportMet s c) (λ y a. a naming setting declared one) (world_exports g.types target.world.0) x r)
 
         go : IsUnmet s c p.exported t.path (of_kind g x naming) e → TargetWorldBroken s c p e t.path w
-        go (inl u) = inr (inr (inl (inr (of_kind g x naming, all_in h k, reached, u.0, u.1))))
-        go (inr u) = inr (inr (inr (inr (of_kind g x naming, u.0, u.1, u.2, all_in h k, reached, u.3, u.4, u.5, u.6))))
+        go (inl u) = inr (inr (inl (of_kind g x naming, all_in h k, reached, u.0, u.1)))
+        go (inr u) = inr (inr (inr (of_kind g x naming, u.0, u.1, u.2, all_in h k, reached, u.3, u.4, u.5, u.6)))

@@ -12,7 +12,7 @@ use Rattle.wac_grammar.specs.Tree.{PackagePath}
 use Rattle.wac_graph.specs.Graph.{Parts}
 use Rattle.wac_graph.specs.Means.{entry_means}
 use Rattle.wac_graph.specs.Origin.{Naming, IsOneToOne}
-use Rattle.wac_resolution_errors.specs.Error.{Error, import_not_in_target, memory, missing_target_export, target_mismatch}
+use Rattle.wac_resolution_errors.specs.Error.{Error, import_not_in_target, missing_target_export, target_mismatch}
 use Rattle.wac_resolution_nodes.specs.Nodes.{composition_of}
 use Rattle.wac_resolution_rules.specs.BrokenExpressions.{ReachedAt}
 use Rattle.wac_resolution_rules.specs.Composition.{Composition, kind_at}
@@ -42,9 +42,9 @@ given_in t setting = given_by t.passes t.named setting
 abbrev pub world_in : Testing → Naming → Meaning
 world_in t naming = entry_means naming t.graph t.world
 
--- the error says that memory ran out, or how the first of a list that does not pass fails
+-- the error says how the first of a list that does not pass fails
 abbrev pub FirstFails : {X : Type 0} → (X → Type 0) → (X → Error → Type 0) → List X → Error → Type 0
-FirstFails {X = X} Passes Failing all e = (e ≡ memory) ⊎ ((x : X) × ReachedAt Passes all x × Failing x e)
+FirstFails {X = X} Passes Failing all e = (x : X) × ReachedAt Passes all x × Failing x e
 
 -- ---- imports
 

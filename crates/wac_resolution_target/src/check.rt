@@ -2,6 +2,7 @@
 ghost use Rattle.std.specs.Prelude.{◌≡◌, OnOk, IfErr};
 ghost use Rattle.wac_types.specs.Table.{Names};
 ghost use Rattle.wac_ast_base.specs.Names.{package_path_of};
+ghost use Rattle.wac_resolution_errors.specs.Error.{Reports};
 ghost use Rattle.wac_resolution_errors.specs.Told.{told};
 ghost use Rattle.wac_resolution_rules.specs.Find.{names_of};
 ghost use Rattle.wac_resolution_nodes.specs.Root.{Agrees};
@@ -34,7 +35,7 @@ fn check_world<R: Rules>(
     requires world { Names state.now.graph.types (ItemKind.Component target.now.world) }
     requires placed { names_of (exported_in externs.now) ≡ names_of state.now.graph.exports }
     ensures ok { OnOk result (WorldMet (testing state.now.graph (R.passes rules.now) (R.named rules.now) target.now)) }
-    ensures err { IfErr result (λ e. WorldUnmet (testing state.now.graph (R.passes rules.now) (R.named rules.now) target.now) (imported_in externs.now) (exported_in externs.now) (told e)) }
+    ensures err { IfErr result (λ e. Reports (told e) (WorldUnmet (testing state.now.graph (R.passes rules.now) (R.named rules.now) target.now) (imported_in externs.now) (exported_in externs.now) (told e))) }
 {
     check_imports(state, rules, target, &externs.imported)?;
     check_open_imports(state, rules, target)?;
@@ -54,7 +55,7 @@ pub fn check_target<R: Rules>(
     requires handed { HoldsHanded (packages_in setting.now) state.old.graph }
     requires placed { names_of (exported_in externs.now) ≡ names_of state.old.graph.exports }
     ensures ok { OnOk result (Meets setting.now (R.passes rules.now) (R.named rules.now) state.old.graph state.new.graph root.now (package_path_of target.now)) }
-    ensures err { IfErr result (λ e. Unmeets setting.now (R.passes rules.now) (R.named rules.now) state.old.graph root.now (package_path_of target.now) (imported_in externs.now) (exported_in externs.now) (told e)) }
+    ensures err { IfErr result (λ e. Reports (told e) (Unmeets setting.now (R.passes rules.now) (R.named rules.now) state.old.graph root.now (package_path_of target.now) (imported_in externs.now) (exported_in externs.now) (told e))) }
 {
     let kind = path(state, setting, &root.kinds, target)?;
     let world = world_of(state.alloc, kind, target)?;

@@ -1,11 +1,11 @@
 //! Exports that a target requires.
-ghost use Rattle.std.specs.Prelude.{◌≡◌, ◌⊎◌, OnOk, IfOk, IfErr};
+ghost use Rattle.std.specs.Prelude.{◌≡◌, OnOk, IfOk, IfErr};
 ghost use Rattle.wac_types.specs.Names.{by_name};
 ghost use Rattle.wac_types.specs.Readings.{world_exports};
 ghost use Rattle.wac_types.specs.Table.{Names, ItemsNamed};
 ghost use Rattle.wac_types.specs.Words.{described};
 ghost use Rattle.wac_ast_base.specs.Names.{package_path_of};
-ghost use Rattle.wac_resolution_errors.specs.Error.{memory, missing_target_export};
+ghost use Rattle.wac_resolution_errors.specs.Error.{Reports, missing_target_export};
 ghost use Rattle.wac_resolution_errors.specs.Told.{told};
 ghost use Rattle.wac_resolution_rules.specs.Find.{names_of};
 ghost use Rattle.wac_resolution_target.specs.Imported.{of_kind};
@@ -50,7 +50,7 @@ fn check_export<R: Rules>(
     requires named { Names state.now.graph.types kind }
     requires placed { names_of (by_name places.now.entries) ≡ names_of state.now.graph.exports }
     ensures ok { OnOk result (Met (testing state.now.graph (R.passes rules.now) (R.named rules.now) target.now) (of_kind state.now.graph (name.now, kind))) }
-    ensures err { IfErr result (λ e. (told e ≡ memory) ⊎ Unmet (testing state.now.graph (R.passes rules.now) (R.named rules.now) target.now) (by_name places.now.entries) (of_kind state.now.graph (name.now, kind)) (told e)) }
+    ensures err { IfErr result (λ e. Reports (told e) (Unmet (testing state.now.graph (R.passes rules.now) (R.named rules.now) target.now) (by_name places.now.entries) (of_kind state.now.graph (name.now, kind)) (told e))) }
 {
     let Some(node) = state.graph.get_export(name) else {
         return Err(missing(state.alloc, target, name, kind)?);
@@ -80,7 +80,7 @@ fn check_each<R: Rules>(
     requires named { ItemsNamed state.now.graph.types (by_name exports.now.entries) }
     requires placed { names_of (by_name places.now.entries) ≡ names_of state.now.graph.exports }
     ensures ok { OnOk result (AllMet (testing state.now.graph (R.passes rules.now) (R.named rules.now) target.now) (of_kind state.now.graph) (by_name exports.now.entries)) }
-    ensures err { IfErr result (λ e. SomeUnmet (testing state.now.graph (R.passes rules.now) (R.named rules.now) target.now) (by_name places.now.entries) (of_kind state.now.graph) (by_name exports.now.entries) (told e)) }
+    ensures err { IfErr result (λ e. Reports (told e) (SomeUnmet (testing state.now.graph (R.passes rules.now) (R.named rules.now) target.now) (by_name places.now.entries) (of_kind state.now.graph) (by_name exports.now.entries) (told e))) }
 {
     for (name, kind) in exports.iter() {
         check_export(state, rules, target, places, name.as_str(), *kind)?;
@@ -97,7 +97,7 @@ pub(crate) fn check_exports<R: Rules>(
 ) -> Result<(), Error>
     requires { names_of (by_name places.now.entries) ≡ names_of state.now.graph.exports }
     ensures ok { OnOk result (AllMet (testing state.now.graph (R.passes rules.now) (R.named rules.now) target.now) (of_kind state.now.graph) (world_exports state.now.graph.types target.now.world.0)) }
-    ensures err { IfErr result (λ e. SomeUnmet (testing state.now.graph (R.passes rules.now) (R.named rules.now) target.now) (by_name places.now.entries) (of_kind state.now.graph) (world_exports state.now.graph.types target.now.world.0) (told e)) }
+    ensures err { IfErr result (λ e. Reports (told e) (SomeUnmet (testing state.now.graph (R.passes rules.now) (R.named rules.now) target.now) (by_name places.now.entries) (of_kind state.now.graph) (world_exports state.now.graph.types target.now.world.0) (told e))) }
 {
     let types = state.graph.types();
     match types.exports(ItemKind::Component(target.world)) {

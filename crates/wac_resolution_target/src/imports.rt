@@ -1,10 +1,10 @@
 //! Imports of a composition, each of which its target allows.
-ghost use Rattle.std.specs.Prelude.{◌≡◌, ◌⊎◌, OnOk, IfOk, IfErr};
+ghost use Rattle.std.specs.Prelude.{◌≡◌, OnOk, IfOk, IfErr};
 ghost use Rattle.wac_types.specs.Names.{by_name};
 ghost use Rattle.wac_types.specs.Scope.{look_up};
 ghost use Rattle.wac_types.specs.Table.{Names};
 ghost use Rattle.wac_ast_base.specs.Names.{package_path_of};
-ghost use Rattle.wac_resolution_errors.specs.Error.{memory, import_not_in_target, target_mismatch};
+ghost use Rattle.wac_resolution_errors.specs.Error.{Reports, import_not_in_target, target_mismatch};
 ghost use Rattle.wac_resolution_errors.specs.Told.{told};
 ghost use Rattle.wac_resolution_target.specs.Imported.{of_node, of_kind};
 ghost use Rattle.wac_resolution_target.specs.Testing.{testing, Allowed, Denied, AllAllowed, SomeDenied};
@@ -67,7 +67,7 @@ pub(crate) fn check_import<R: Rules>(
     requires world { Names state.now.graph.types (ItemKind.Component target.now.world) }
     requires named { Names state.now.graph.types kind }
     ensures ok { OnOk result (Allowed (testing state.now.graph (R.passes rules.now) (R.named rules.now) target.now) (of_kind state.now.graph (name.now, kind))) }
-    ensures err { IfErr result (λ e. (told e ≡ memory) ⊎ Denied (testing state.now.graph (R.passes rules.now) (R.named rules.now) target.now) (of_kind state.now.graph (name.now, kind)) span (told e)) }
+    ensures err { IfErr result (λ e. Reports (told e) (Denied (testing state.now.graph (R.passes rules.now) (R.named rules.now) target.now) (of_kind state.now.graph (name.now, kind)) span (told e))) }
 {
     let Some(wanted) = allowed(state, target.world, name) else {
         return Err(not_in_target(state.alloc, target, name, span)?);
@@ -87,7 +87,7 @@ pub(crate) fn check_imports<R: Rules>(
 ) -> Result<(), Error>
     requires { Names state.now.graph.types (ItemKind.Component target.now.world) }
     ensures ok { OnOk result (AllAllowed (testing state.now.graph (R.passes rules.now) (R.named rules.now) target.now) (of_node state.now.graph) state.now.graph.imports) }
-    ensures err { IfErr result (λ e. SomeDenied (testing state.now.graph (R.passes rules.now) (R.named rules.now) target.now) (of_node state.now.graph) (λ x. look_up x.0 (by_name places.now.entries)) state.now.graph.imports (told e)) }
+    ensures err { IfErr result (λ e. Reports (told e) (SomeDenied (testing state.now.graph (R.passes rules.now) (R.named rules.now) target.now) (of_node state.now.graph) (λ x. look_up x.0 (by_name places.now.entries)) state.now.graph.imports (told e))) }
 {
     for (name, node) in state.graph.imports() {
         let kind = state.graph.kind(node);

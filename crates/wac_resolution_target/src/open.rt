@@ -4,6 +4,7 @@ ghost use Rattle.wac_types.specs.Names.{by_name};
 ghost use Rattle.wac_types.specs.Table.{Names, ItemsNamed};
 ghost use Rattle.wac_graph.specs.Graph.{arguments_of};
 ghost use Rattle.wac_graph.specs.Numbers.{numbers};
+ghost use Rattle.wac_resolution_errors.specs.Error.{Reports};
 ghost use Rattle.wac_resolution_errors.specs.Told.{told};
 ghost use Rattle.wac_resolution_target.specs.Imported.{of_kind, left_open, package_imports, open_at};
 ghost use Rattle.wac_resolution_target.specs.Testing.{testing, AllAllowed, SomeDenied, nowhere};
@@ -28,7 +29,7 @@ fn check_open_import<R: Rules>(
     requires named { Names state.now.graph.types kind }
     requires there { node.0 < length state.now.graph.nodes }
     ensures ok { OnOk result (AllAllowed (testing state.now.graph (R.passes rules.now) (R.named rules.now) target.now) (of_kind state.now.graph) (left_open (arguments_of state.now.graph node.0) ((name.now, kind) ∷ []))) }
-    ensures err { IfErr result (λ e. SomeDenied (testing state.now.graph (R.passes rules.now) (R.named rules.now) target.now) (of_kind state.now.graph) nowhere (left_open (arguments_of state.now.graph node.0) ((name.now, kind) ∷ [])) (told e)) }
+    ensures err { IfErr result (λ e. Reports (told e) (SomeDenied (testing state.now.graph (R.passes rules.now) (R.named rules.now) target.now) (of_kind state.now.graph) nowhere (left_open (arguments_of state.now.graph node.0) ((name.now, kind) ∷ [])) (told e))) }
 {
     match state.graph.argument(node, name) {
         Some(_) => Ok(()),
@@ -48,7 +49,7 @@ fn check_left_open<R: Rules>(
     requires named { ItemsNamed state.now.graph.types (by_name imports.now.entries) }
     requires there { node.0 < length state.now.graph.nodes }
     ensures ok { OnOk result (AllAllowed (testing state.now.graph (R.passes rules.now) (R.named rules.now) target.now) (of_kind state.now.graph) (left_open (arguments_of state.now.graph node.0) (by_name imports.now.entries))) }
-    ensures err { IfErr result (λ e. SomeDenied (testing state.now.graph (R.passes rules.now) (R.named rules.now) target.now) (of_kind state.now.graph) nowhere (left_open (arguments_of state.now.graph node.0) (by_name imports.now.entries)) (told e)) }
+    ensures err { IfErr result (λ e. Reports (told e) (SomeDenied (testing state.now.graph (R.passes rules.now) (R.named rules.now) target.now) (of_kind state.now.graph) nowhere (left_open (arguments_of state.now.graph node.0) (by_name imports.now.entries)) (told e))) }
 {
     for (name, kind) in imports.iter() {
         check_open_import(state, rules, target, node, name.as_str(), *kind)?;
@@ -68,7 +69,7 @@ fn check_instance<R: Rules>(
     requires there { node.0 < length state.now.graph.nodes }
     requires held { «package».0 < length state.now.graph.packages }
     ensures ok { OnOk result (AllAllowed (testing state.now.graph (R.passes rules.now) (R.named rules.now) target.now) (of_kind state.now.graph) (left_open (arguments_of state.now.graph node.0) (package_imports state.now.graph «package».0))) }
-    ensures err { IfErr result (λ e. SomeDenied (testing state.now.graph (R.passes rules.now) (R.named rules.now) target.now) (of_kind state.now.graph) nowhere (left_open (arguments_of state.now.graph node.0) (package_imports state.now.graph «package».0)) (told e)) }
+    ensures err { IfErr result (λ e. Reports (told e) (SomeDenied (testing state.now.graph (R.passes rules.now) (R.named rules.now) target.now) (of_kind state.now.graph) nowhere (left_open (arguments_of state.now.graph node.0) (package_imports state.now.graph «package».0)) (told e))) }
 {
     let held = state.graph.package(package);
     let types = state.graph.types();
@@ -88,7 +89,7 @@ fn check_node<R: Rules>(
     requires world { Names state.now.graph.types (ItemKind.Component target.now.world) }
     requires there { node.0 < length state.now.graph.nodes }
     ensures ok { OnOk result (AllAllowed (testing state.now.graph (R.passes rules.now) (R.named rules.now) target.now) (of_kind state.now.graph) (open_at state.now.graph node.0)) }
-    ensures err { IfErr result (λ e. SomeDenied (testing state.now.graph (R.passes rules.now) (R.named rules.now) target.now) (of_kind state.now.graph) nowhere (open_at state.now.graph node.0) (told e)) }
+    ensures err { IfErr result (λ e. Reports (told e) (SomeDenied (testing state.now.graph (R.passes rules.now) (R.named rules.now) target.now) (of_kind state.now.graph) nowhere (open_at state.now.graph node.0) (told e))) }
 {
     match state.graph.instance_of(node) {
         Some(package) => check_instance(state, rules, target, node, package),
@@ -104,7 +105,7 @@ pub(crate) fn check_open_imports<R: Rules>(
 ) -> Result<(), Error>
     requires { Names state.now.graph.types (ItemKind.Component target.now.world) }
     ensures ok { OnOk result (AllAllowed (testing state.now.graph (R.passes rules.now) (R.named rules.now) target.now) (of_kind state.now.graph) (flat_map (open_at state.now.graph) (numbers 0 (length state.now.graph.nodes)))) }
-    ensures err { IfErr result (λ e. SomeDenied (testing state.now.graph (R.passes rules.now) (R.named rules.now) target.now) (of_kind state.now.graph) nowhere (flat_map (open_at state.now.graph) (numbers 0 (length state.now.graph.nodes))) (told e)) }
+    ensures err { IfErr result (λ e. Reports (told e) (SomeDenied (testing state.now.graph (R.passes rules.now) (R.named rules.now) target.now) (of_kind state.now.graph) nowhere (flat_map (open_at state.now.graph) (numbers 0 (length state.now.graph.nodes))) (told e))) }
 {
     for node in state.graph.nodes() {
         check_node(state, rules, target, node)?;

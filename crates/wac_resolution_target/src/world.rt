@@ -4,6 +4,7 @@ ghost use Rattle.wac_ast_base.specs.Names.{package_path_of};
 ghost use Rattle.wac_graph.specs.Graph.{Parts};
 ghost use Rattle.wac_graph.specs.Means.{means};
 ghost use Rattle.wac_graph.specs.Origin.{Naming};
+ghost use Rattle.wac_resolution_errors.specs.Error.{Reports};
 ghost use Rattle.wac_resolution_errors.specs.Told.{told};
 ghost use Rattle.wac_resolution_rules.specs.BrokenStatements.{IsNotWorld};
 
@@ -20,7 +21,7 @@ pub(crate) fn world_of(
     path: &PackagePath<'_>,
 ) -> Result<WorldId, Error>
     ensures ok { IfOk result (λ w. kind ≡ ItemKind.Ty (Type.World w)) }
-    ensures err { IfErr result (λ e. (naming : Naming) (g : Parts) → IsNotWorld (package_path_of path.now) (means naming g kind) (told e)) }
+    ensures err { IfErr result (λ e. Reports (told e) ((naming : Naming) (g : Parts) → IsNotWorld (package_path_of path.now) (means naming g kind) (told e))) }
 {
     match kind {
         ItemKind::Ty(Type::World(world)) => Ok(world),

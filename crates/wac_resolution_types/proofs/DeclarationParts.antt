@@ -1,5 +1,5 @@
 -- Declarations of types, by their parts.
-use Rattle.std.proofs.Common.{◌≡◌, ◌∙◌, ℕ, List, [], ◌∷◌, Option, Some, sym, ap, subst, map, inr}
+use Rattle.std.proofs.Common.{◌≡◌, ◌∙◌, ℕ, List, [], ◌∷◌, Option, Some, sym, ap, subst, map}
 use Rattle.std.specs.Prelude.{option_map, string_bytes, String}
 use Rattle.std.specs.declared.alloc.Global.{Global}
 use Rattle.wac_grammar.specs.Tree.{VariantDecl, RecordDecl, FlagsDecl, EnumDecl}
@@ -76,7 +76,7 @@ record_is old mid new ks ty fields d v label parts p a =
 
 -- the type of a case breaks
 pub case_type_breaks : (g : Parts) (ks : Named ItemKind) (x : Option «Type») (t : «Type») (e : Error) → x ≡ Some t → ((naming : Naming) → TypeBroken (scope_of naming g ks) (ty_of t) e) → (naming : Naming) → OptionBroken (scope_of naming g ks) (option_map ty_of x) e
-case_type_breaks g ks x t e is h naming = subst (λ (y : Option «Type»). OptionBroken (scope_of naming g ks) (option_map ty_of y) e) (sym is) (inr (h naming))
+case_type_breaks g ks x t e is h naming = subst (λ (y : Option «Type»). OptionBroken (scope_of naming g ks) (option_map ty_of y) e) (sym is) (h naming)
 
 -- ---- names alone, from none
 

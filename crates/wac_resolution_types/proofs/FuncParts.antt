@@ -1,5 +1,5 @@
 -- Function types, by their parts.
-use Rattle.std.proofs.Common.{◌≡◌, ◌∙◌, ℕ, List, [], ◌∷◌, ◌++◌, Option, Bool, true, false, refl, sym, ap, subst, map, ◌⊎◌, inr}
+use Rattle.std.proofs.Common.{◌≡◌, ◌∙◌, ℕ, List, [], ◌∷◌, ◌++◌, Option, Bool, true, false, refl, sym, ap, subst, map, inr}
 use Rattle.std.specs.Prelude.{String, Vec}
 use Rattle.std.specs.declared.alloc.Global.{Global}
 use Rattle.wac_grammar.specs.Tree.{Ty, FuncType, NamedType}
@@ -33,7 +33,7 @@ use Rattle.wac_ast_types.specs.declared.types.«Type».{«Type»}
 use Rattle.wac_ast_types.specs.declared.func_type.NamedType.{NamedType as CodeNamedType}
 use Rattle.wac_ast_types.specs.declared.func_type.ResultList.{ResultList as CodeResultList}
 use Rattle.wac_ast_types.specs.declared.func_type.ResultList.TheVariants as results
-use Rattle.wac_resolution_errors.specs.Error.{Error, borrow_in_result, memory}
+use Rattle.wac_resolution_errors.specs.Error.{Error, borrow_in_result}
 use Rattle.wac_resolution_rules.specs.Types.{HasResult, HasResults, IsFuncWith, first_params}
 use Rattle.wac_resolution_rules.specs.BrokenTypes.{ParamsBroken, ResultTypeBroken, ResultBroken, ResultsBroken, FuncBroken}
 use Rattle.wac_resolution_rules.specs.BrokenBodies.{method_kind}
@@ -58,7 +58,7 @@ result_type_is old new ks t v h none = record { grows = h.grows; named = h.named
 
 pub borrow_breaks : (old new : Parts) (ks : Named ItemKind) (t : Ty) (v : ValueType) (e : Error) → TypeIs old new ks t v → ((naming : Naming) → contains_borrow (means naming new (kinds.Value v)) ≡ true) → e ≡ borrow_in_result (ty_span t)
     → (naming : Naming) → ResultTypeBroken (scope_of naming old ks) t e
-borrow_breaks old new ks t v e h has told naming = inr (inr (means naming new (kinds.Value v), h.is naming, has naming, told))
+borrow_breaks old new ks t v e h has told naming = inr (means naming new (kinds.Value v), h.is naming, has naming, told)
 
 pub scalar_is : (old new : Parts) (ks : Named ItemKind) (x : CodeResultList) (t : «Type») (v : ValueType) → x ≡ results.Scalar t → ResultTypeIs old new ks (ty_of t) v → ResultsAre old new ks (result_list_of x) (given_results.Scalar v)
 scalar_is old new ks x t v is h = subst (λ (y : CodeResultList). ResultsAre old new ks (result_list_of y) (given_results.Scalar v)) (sym is) (record {
@@ -112,7 +112,7 @@ pub func_results_break : (kind : FuncKind) (old mid : Parts) (ks : Named ItemKin
     → ItemsNamed old.types ks → ParamsGo old mid ks first ps f.params → ((naming : Naming) → ResultsBroken kind (scope_of naming mid ks) f.results e) → (naming : Naming) → FuncBroken kind (scope_of naming old ks) (types_named naming old first) f e
 func_results_break kind old mid ks first ps f e named p h naming =
     let scope : scope_of naming mid ks ≡ scope_of naming old ks = scope_kept old mid ks naming p.grows.grows named in
-    inr (inr (types_named naming mid ps, p.go naming, subst (λ (s : Scope). ResultsBroken kind s f.results e) scope (h naming)))
+    inr (types_named naming mid ps, p.go naming, subst (λ (s : Scope). ResultsBroken kind s f.results e) scope (h naming))
 
 -- ---- constructors and methods
 
@@ -129,8 +129,8 @@ constructor_is old mid new ks first ps resource xs id none there p a =
     }
 
 pub constructor_breaks : (g : Parts) (ks : Named ItemKind) (first : Named ValueType) (xs : List NamedType) (e : Error) → first ≡ [] → ((naming : Naming) → ParamsBroken funcs.Constructor (scope_of naming g ks) (types_named naming g first) xs e)
-    → (naming : Naming) → (e ≡ memory) ⊎ ParamsBroken funcs.Constructor (scope_of naming g ks) [] xs e
-constructor_breaks g ks first xs e none h naming = inr (subst (λ (l : Named ValueType). ParamsBroken funcs.Constructor (scope_of naming g ks) (types_named naming g l) xs e) none (h naming))
+    → (naming : Naming) → ParamsBroken funcs.Constructor (scope_of naming g ks) [] xs e
+constructor_breaks g ks first xs e none h naming = subst (λ (l : Named ValueType). ParamsBroken funcs.Constructor (scope_of naming g ks) (types_named naming g l) xs e) none (h naming)
 
 own_params_mean : (naming : Naming) (g : Parts) (is_static : Bool) (resource : ResourceId) → types_named naming g (own_params is_static resource) ≡ first_params is_static (entry_means naming g resource.0)
 own_params_mean naming g true resource = refl

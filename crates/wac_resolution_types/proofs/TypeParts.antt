@@ -25,7 +25,7 @@ use Rattle.wac_ast_types.specs.Types.{ty_of, optional_of}
 use Rattle.wac_ast_types.proofs.TypeParts.{tuple_is as tuple_tree, result_is as result_tree, stream_is as stream_tree, future_is as future_tree}
 use Rattle.wac_ast_types.specs.declared.types.Type as code
 use Rattle.wac_ast_types.specs.declared.types.«Type».{«Type»}
-use Rattle.wac_resolution_errors.specs.Error.{Error, memory}
+use Rattle.wac_resolution_errors.specs.Error.{Error}
 use Rattle.wac_resolution_rules.specs.Types.{HasType, HasOptional, HaveTypes}
 use Rattle.wac_resolution_rules.specs.BrokenTypes.{TypeBroken, OptionalBroken, TypesBroken}
 use Rattle.wac_resolution_state.specs.Growth.{Grows, AddsDefined}
@@ -109,8 +109,8 @@ types_step old mid new ks xs i x vs ws v within read pushed named p q =
 
 -- one of them is broken
 breaks_later : (scope : Scope) (ts us : List Ty) (t : Ty) (ms : List Meaning) (e : Error) → HaveTypes scope (types_from ts) ms → TypeBroken scope t e → TypesBroken scope (types_from (ts ++ t ∷ us)) e
-breaks_later scope [] us t ms e h b = inr (inl b)
-breaks_later scope (x ∷ ts) us t ms e h b = inr (inr (h.0, h.2, breaks_later scope ts us t h.1 e h.3 b))
+breaks_later scope [] us t ms e h b = inl b
+breaks_later scope (x ∷ ts) us t ms e h b = inr (h.0, h.2, breaks_later scope ts us t h.1 e h.3 b)
 
 split_at : (xs : List «Type») (i : ℕ) (x : «Type») → i < length xs → x ≡ get_or xs i x → map ty_of xs ≡ map ty_of (take i xs) ++ (ty_of x ∷ map ty_of (drop (suc i) xs))
 split_at [] i x h is = absurd (omega arith)
@@ -127,10 +127,6 @@ types_break old mid ks xs i x vs e within read named p b naming =
     (breaks_later (scope_of naming old ks) (map ty_of (take i xs)) (map ty_of (drop (suc i) xs)) (ty_of x) (types_mean (entry_means naming mid) vs) e (p.are naming)
     (subst (λ (sc : Scope). TypeBroken sc (ty_of x) e) scope (b naming)))
 
-pub types_memory : (scope : Scope) (ts : Types) (e : Error) → e ≡ memory → TypesBroken scope ts e
-types_memory scope tree.Types.none e is = is
-types_memory scope (tree.Types.more t ts) e is = inl is
-
 -- ---- by the code's trees
 
 pub tuple_type_is : (old mid new : Parts) (ks : Named ItemKind) (x : «Type») (xs : Vec «Type» Global) (s : Span) (ys : List «Type») (vs : Vec ValueType Global) (v : ValueType)
@@ -143,7 +139,7 @@ pub tuple_breaks : (g : Parts) (ks : Named ItemKind) (x : «Type») (xs : Vec «
     → x ≡ code.Tuple xs s → ys ≡ xs.items → ((naming : Naming) → TypesBroken (scope_of naming g ks) (types_from (map ty_of ys)) e) → (naming : Naming) → TypeBroken (scope_of naming g ks) (ty_of x) e
 tuple_breaks g ks x xs s ys e is same h naming =
     subst (λ (t : Ty). TypeBroken (scope_of naming g ks) t e) (sym (ap ty_of is ∙ tuple_tree xs s))
-    (inr (subst (λ (l : List «Type»). TypesBroken (scope_of naming g ks) (types_from (map ty_of l)) e) same (h naming)))
+    (subst (λ (l : List «Type»). TypesBroken (scope_of naming g ks) (types_from (map ty_of l)) e) same (h naming))
 
 pub result_type_is : (old first second new : Parts) (ks : Named ItemKind) (x : «Type») (o u : Option (Box «Type» Global)) (s : Span) (v w : Option ValueType) (z : ValueType)
     → x ≡ code.Result o u s → ItemsNamed old.types ks → OptionalIs old first ks (optional_of o) v → OptionalIs first second ks (optional_of u) w → AddsDefined second new (defined.Result v w) z → TypeIs old new ks (ty_of x) z
@@ -154,7 +150,7 @@ result_type_is old first second new ks x o u s v w z is named p q a =
 pub result_breaks : (g : Parts) (ks : Named ItemKind) (x : «Type») (o u : Option (Box «Type» Global)) (s : Span) (e : Error)
     → x ≡ code.Result o u s → ((naming : Naming) → OptionalBroken (scope_of naming g ks) (optional_of o) e) → (naming : Naming) → TypeBroken (scope_of naming g ks) (ty_of x) e
 result_breaks g ks x o u s e is h naming =
-    subst (λ (t : Ty). TypeBroken (scope_of naming g ks) t e) (sym (ap ty_of is ∙ result_tree o u s)) (inr (inl (h naming)))
+    subst (λ (t : Ty). TypeBroken (scope_of naming g ks) t e) (sym (ap ty_of is ∙ result_tree o u s)) (inl (h naming))
 
 pub result_breaks_later : (old mid : Parts) (ks : Named ItemKind) (x : «Type») (o u : Option (Box «Type» Global)) (s : Span) (v : Option ValueType) (e : Error)
     → x ≡ code.Result o u s → ItemsNamed old.types ks → OptionalIs old mid ks (optional_of o) v → ((naming : Naming) → OptionalBroken (scope_of naming mid ks) (optional_of u) e)
@@ -162,12 +158,12 @@ pub result_breaks_later : (old mid : Parts) (ks : Named ItemKind) (x : «Type»)
 result_breaks_later old mid ks x o u s v e is named p h naming =
     let scope : scope_of naming mid ks ≡ scope_of naming old ks = scope_kept old mid ks naming p.grows.grows named in
     subst (λ (t : Ty). TypeBroken (scope_of naming old ks) t e) (sym (ap ty_of is ∙ result_tree o u s))
-    (inr (inr (optional_means (entry_means naming mid) v, p.is naming, subst (λ (sc : Scope). OptionalBroken sc (optional_of u) e) scope (h naming))))
+    (inr (optional_means (entry_means naming mid) v, p.is naming, subst (λ (sc : Scope). OptionalBroken sc (optional_of u) e) scope (h naming)))
 
 pub stream_breaks : (g : Parts) (ks : Named ItemKind) (x : «Type») (o : Option (Box «Type» Global)) (s : Span) (e : Error)
     → x ≡ code.Stream o s → ((naming : Naming) → OptionalBroken (scope_of naming g ks) (optional_of o) e) → (naming : Naming) → TypeBroken (scope_of naming g ks) (ty_of x) e
-stream_breaks g ks x o s e is h naming = subst (λ (t : Ty). TypeBroken (scope_of naming g ks) t e) (sym (ap ty_of is ∙ stream_tree o s)) (inr (h naming))
+stream_breaks g ks x o s e is h naming = subst (λ (t : Ty). TypeBroken (scope_of naming g ks) t e) (sym (ap ty_of is ∙ stream_tree o s)) (h naming)
 
 pub future_breaks : (g : Parts) (ks : Named ItemKind) (x : «Type») (o : Option (Box «Type» Global)) (s : Span) (e : Error)
     → x ≡ code.Future o s → ((naming : Naming) → OptionalBroken (scope_of naming g ks) (optional_of o) e) → (naming : Naming) → TypeBroken (scope_of naming g ks) (ty_of x) e
-future_breaks g ks x o s e is h naming = subst (λ (t : Ty). TypeBroken (scope_of naming g ks) t e) (sym (ap ty_of is ∙ future_tree o s)) (inr (h naming))
+future_breaks g ks x o s e is h naming = subst (λ (t : Ty). TypeBroken (scope_of naming g ks) t e) (sym (ap ty_of is ∙ future_tree o s)) (h naming)

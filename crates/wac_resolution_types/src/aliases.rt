@@ -1,5 +1,5 @@
 //! Aliases of types.
-ghost use Rattle.std.specs.Prelude.{◌≡◌, ◌⊎◌, IfOk, IfErr, MatchOption, option_map};
+ghost use Rattle.std.specs.Prelude.{◌≡◌, IfOk, IfErr, MatchOption, option_map};
 ghost use Rattle.wac_types.specs.declared.kind.ItemKind.TheVariants as kinds;
 ghost use Rattle.wac_types.specs.declared.kind.«Type».TheVariants as types;
 ghost use Rattle.wac_grammar.specs.Tree.{Ty};
@@ -11,7 +11,7 @@ ghost use Rattle.wac_ast_types.specs.Types.{ty_of};
 ghost use Rattle.wac_ast_types.specs.Declarations.{type_alias_kind_of};
 ghost use Rattle.wac_graph.specs.Means.{declared_count};
 ghost use Rattle.wac_graph.specs.Origin.{Naming};
-ghost use Rattle.wac_resolution_errors.specs.Error.{memory};
+ghost use Rattle.wac_resolution_errors.specs.Error.{Reports};
 ghost use Rattle.wac_resolution_errors.specs.Told.{told};
 ghost use Rattle.wac_resolution_rules.specs.Types.{HasType};
 ghost use Rattle.wac_resolution_rules.specs.Declarations.{alone, at_root, in_body, IsTypeAlias, IsAlias};
@@ -103,7 +103,7 @@ fn alias_of_name(
 ) -> Result<ItemKind, Error>
     requires { ItemsNamed state.old.graph.types (values_of names.now) }
     ensures ok { IfOk result (λ k. KindAdded state.old.graph state.new.graph (λ naming m after. IsTypeAlias (aliasing_at place naming) (scope_of naming state.old.graph (values_of names.now)) (declared_count state.old.graph) name.now (Some (ident_of id.now)) (Ty.ident (ident_of id.now)) m after) k) }
-    ensures err { IfErr result (λ e. (naming : Naming) → TypeAliasBroken (aliasing_at place naming) (scope_of naming state.old.graph (values_of names.now)) (declared_count state.old.graph) name.now (Some (ident_of id.now)) (Ty.ident (ident_of id.now)) (told e)) }
+    ensures err { IfErr result (λ e. Reports (told e) ((naming : Naming) → TypeAliasBroken (aliasing_at place naming) (scope_of naming state.old.graph (values_of names.now)) (declared_count state.old.graph) name.now (Some (ident_of id.now)) (Ty.ident (ident_of id.now)) (told e))) }
 {
     let kind = kind_of(state.alloc, names, id)?;
     match aliased(state, place, name, kind)? {
@@ -124,7 +124,7 @@ fn alias_of_expression(
 ) -> Result<ValueType, Error>
     requires { ItemsNamed state.old.graph.types (values_of names.now) }
     ensures ok { IfOk result (λ v. ValueAdded state.old.graph state.new.graph (λ naming m. (inner : Meaning) × HasType (scope_of naming state.old.graph (values_of names.now)) (ty_of ty.now) inner × (m ≡ alias_type inner)) v) }
-    ensures err { IfErr result (λ e. (naming : Naming) → (told e ≡ memory) ⊎ TypeBroken (scope_of naming state.old.graph (values_of names.now)) (ty_of ty.now) (told e)) }
+    ensures err { IfErr result (λ e. Reports (told e) ((naming : Naming) → TypeBroken (scope_of naming state.old.graph (values_of names.now)) (ty_of ty.now) (told e))) }
 {
     let value = value_type(state, names, ty)?;
     Ok(state.add_defined(DefinedType::Alias(value))?)
@@ -140,7 +140,7 @@ fn alias_of_type(
 ) -> Result<ItemKind, Error>
     requires { ItemsNamed state.old.graph.types (values_of names.now) }
     ensures ok { IfOk result (λ k. KindAdded state.old.graph state.new.graph (λ naming m after. IsTypeAlias (aliasing_at place naming) (scope_of naming state.old.graph (values_of names.now)) (declared_count state.old.graph) name.now (alone (ty_of ty.now)) (ty_of ty.now) m after) k) }
-    ensures err { IfErr result (λ e. (naming : Naming) → TypeAliasBroken (aliasing_at place naming) (scope_of naming state.old.graph (values_of names.now)) (declared_count state.old.graph) name.now (alone (ty_of ty.now)) (ty_of ty.now) (told e)) }
+    ensures err { IfErr result (λ e. Reports (told e) ((naming : Naming) → TypeAliasBroken (aliasing_at place naming) (scope_of naming state.old.graph (values_of names.now)) (declared_count state.old.graph) name.now (alone (ty_of ty.now)) (ty_of ty.now) (told e))) }
 {
     match identifier(ty) {
         Some(id) => Ok(alias_of_name(state, names, place, name, id)?),
@@ -161,7 +161,7 @@ pub fn alias(
 ) -> Result<ItemKind, Error>
     requires { ItemsNamed state.old.graph.types (values_of names.now) }
     ensures ok { IfOk result (λ k. KindAdded state.old.graph state.new.graph (λ naming m after. IsAlias (aliasing_at place naming) (scope_of naming state.old.graph (values_of names.now)) (declared_count state.old.graph) name.now (type_alias_kind_of kind.now) m after) k) }
-    ensures err { IfErr result (λ e. (naming : Naming) → AliasBroken (aliasing_at place naming) (scope_of naming state.old.graph (values_of names.now)) (declared_count state.old.graph) name.now (type_alias_kind_of kind.now) (told e)) }
+    ensures err { IfErr result (λ e. Reports (told e) ((naming : Naming) → AliasBroken (aliasing_at place naming) (scope_of naming state.old.graph (values_of names.now)) (declared_count state.old.graph) name.now (type_alias_kind_of kind.now) (told e))) }
 {
     match kind {
         TypeAliasKind::Func(func) => {

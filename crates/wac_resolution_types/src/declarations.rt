@@ -4,6 +4,7 @@ ghost use Rattle.wac_types.specs.Table.{ItemsNamed};
 ghost use Rattle.wac_ast_types.specs.Declarations.{type_decl_of};
 ghost use Rattle.wac_graph.specs.Means.{declared_count};
 ghost use Rattle.wac_graph.specs.Origin.{Naming};
+ghost use Rattle.wac_resolution_errors.specs.Error.{Reports};
 ghost use Rattle.wac_resolution_errors.specs.Told.{told};
 ghost use Rattle.wac_resolution_rules.specs.Declarations.{IsTypeDecl};
 ghost use Rattle.wac_resolution_rules.specs.BrokenDeclarations.{TypeDeclBroken};
@@ -29,7 +30,7 @@ pub fn type_decl(
 ) -> Result<ItemKind, Error>
     requires { ItemsNamed state.old.graph.types (values_of names.now) }
     ensures ok { IfOk result (λ k. KindAdded state.old.graph state.new.graph (λ naming m after. IsTypeDecl (scope_of naming state.old.graph (values_of names.now)) (declared_count state.old.graph) (type_decl_of decl.now) m after) k) }
-    ensures err { IfErr result (λ e. (naming : Naming) → TypeDeclBroken (scope_of naming state.old.graph (values_of names.now)) (declared_count state.old.graph) (type_decl_of decl.now) (told e)) }
+    ensures err { IfErr result (λ e. Reports (told e) ((naming : Naming) → TypeDeclBroken (scope_of naming state.old.graph (values_of names.now)) (declared_count state.old.graph) (type_decl_of decl.now) (told e))) }
 {
     match decl {
         TypeDecl::Variant(decl) => Ok(ItemKind::Ty(Type::Value(variant(state, names, decl)?))),

@@ -5,6 +5,7 @@ ghost use Rattle.std.specs.Str.{bytes_eq};
 ghost use Rattle.wac_types.specs.Steps.{Steps, Fails};
 ghost use Rattle.wac_ast_base.specs.Names.{ident_of};
 ghost use Rattle.wac_ast_types.specs.Declarations.{flag_of, flags_decl_of, enum_case_of, enum_decl_of};
+ghost use Rattle.wac_resolution_errors.specs.Error.{Reports};
 ghost use Rattle.wac_resolution_errors.specs.Told.{told};
 ghost use Rattle.wac_resolution_rules.specs.Declarations.{HasFlag, HasEnumCase, IsFlags, IsEnum};
 ghost use Rattle.wac_resolution_rules.specs.BrokenDeclarations.{IsRepeatedFlag, IsRepeatedEnumCase, FlagsBroken, EnumBroken};
@@ -35,7 +36,7 @@ fn check_flag(
     id: &Ident<'_>,
 ) -> Result<(), Error>
     ensures ok { OnOk result (list_any (bytes_eq id.now.string.now) (map string_bytes all.now.keys) ≡ false) }
-    ensures err { IfErr result (λ e. IsRepeatedFlag (ident_of declared.now) (names_alone all.now.keys) (ident_of id.now) (told e)) }
+    ensures err { IfErr result (λ e. Reports (told e) (IsRepeatedFlag (ident_of declared.now) (names_alone all.now.keys) (ident_of id.now) (told e))) }
 {
     if has_name(all, id.string) {
         return Err(Error::DuplicateFlag {
@@ -56,7 +57,7 @@ fn check_enum_case(
     id: &Ident<'_>,
 ) -> Result<(), Error>
     ensures ok { OnOk result (list_any (bytes_eq id.now.string.now) (map string_bytes all.now.keys) ≡ false) }
-    ensures err { IfErr result (λ e. IsRepeatedEnumCase (ident_of declared.now) (names_alone all.now.keys) (ident_of id.now) (told e)) }
+    ensures err { IfErr result (λ e. Reports (told e) (IsRepeatedEnumCase (ident_of declared.now) (names_alone all.now.keys) (ident_of id.now) (told e))) }
 {
     if has_name(all, id.string) {
         return Err(Error::DuplicateEnumCase {
@@ -77,7 +78,7 @@ fn flag(
     flag: &Flag<'_>,
 ) -> Result<(), Error>
     ensures ok { OnOk result (HasFlag (names_alone all.old.keys) (flag_of flag.now) (names_alone all.new.keys)) }
-    ensures err { IfErr result (λ e. IsRepeatedFlag (ident_of declared.now) (names_alone all.old.keys) (ident_of flag.now.id) (told e)) }
+    ensures err { IfErr result (λ e. Reports (told e) (IsRepeatedFlag (ident_of declared.now) (names_alone all.old.keys) (ident_of flag.now.id) (told e))) }
 {
     check_flag(alloc, declared, all, &flag.id)?;
     push_name(alloc, all, flag.id.string)?;
@@ -93,7 +94,7 @@ fn enum_case(
     case: &EnumCase<'_>,
 ) -> Result<(), Error>
     ensures ok { OnOk result (HasEnumCase (names_alone all.old.keys) (enum_case_of case.now) (names_alone all.new.keys)) }
-    ensures err { IfErr result (λ e. IsRepeatedEnumCase (ident_of declared.now) (names_alone all.old.keys) (ident_of case.now.id) (told e)) }
+    ensures err { IfErr result (λ e. Reports (told e) (IsRepeatedEnumCase (ident_of declared.now) (names_alone all.old.keys) (ident_of case.now.id) (told e))) }
 {
     check_enum_case(alloc, declared, all, &case.id)?;
     push_name(alloc, all, case.id.string)?;
@@ -108,7 +109,7 @@ fn each_flag(
     flags: &[Flag<'_>],
 ) -> Result<(), Error>
     ensures ok { OnOk result (Steps HasFlag (names_alone all.old.keys) (map flag_of flags.now) (names_alone all.new.keys)) }
-    ensures err { IfErr result (λ e. Fails HasFlag (λ old before x. IsRepeatedFlag (ident_of declared.now) old x.id (told e)) (names_alone all.old.keys) (map flag_of flags.now)) }
+    ensures err { IfErr result (λ e. Reports (told e) (Fails HasFlag (λ old before x. IsRepeatedFlag (ident_of declared.now) old x.id (told e)) (names_alone all.old.keys) (map flag_of flags.now))) }
 {
     for item in flags {
         flag(alloc, declared, all, item)?;
@@ -124,7 +125,7 @@ fn enum_cases(
     cases: &[EnumCase<'_>],
 ) -> Result<(), Error>
     ensures ok { OnOk result (Steps HasEnumCase (names_alone all.old.keys) (map enum_case_of cases.now) (names_alone all.new.keys)) }
-    ensures err { IfErr result (λ e. Fails HasEnumCase (λ old before x. IsRepeatedEnumCase (ident_of declared.now) old x.id (told e)) (names_alone all.old.keys) (map enum_case_of cases.now)) }
+    ensures err { IfErr result (λ e. Reports (told e) (Fails HasEnumCase (λ old before x. IsRepeatedEnumCase (ident_of declared.now) old x.id (told e)) (names_alone all.old.keys) (map enum_case_of cases.now))) }
 {
     for item in cases {
         enum_case(alloc, declared, all, item)?;
@@ -135,7 +136,7 @@ fn enum_cases(
 /// Adds a type of flags.
 pub fn flags(state: &mut State, decl: &FlagsDecl<'_>) -> Result<ValueType, Error>
     ensures ok { IfOk result (λ v. ValueAdded state.old.graph state.new.graph (λ naming m. IsFlags (flags_decl_of decl.now) m) v) }
-    ensures err { IfErr result (λ e. FlagsBroken (flags_decl_of decl.now) (told e)) }
+    ensures err { IfErr result (λ e. Reports (told e) (FlagsBroken (flags_decl_of decl.now) (told e))) }
 {
     let mut all = IndexSet::new(state.alloc);
     each_flag(state.alloc, &decl.id, &mut all, &decl.flags)?;
@@ -145,7 +146,7 @@ pub fn flags(state: &mut State, decl: &FlagsDecl<'_>) -> Result<ValueType, Error
 /// Adds an enum.
 pub fn enumeration(state: &mut State, decl: &EnumDecl<'_>) -> Result<ValueType, Error>
     ensures ok { IfOk result (λ v. ValueAdded state.old.graph state.new.graph (λ naming m. IsEnum (enum_decl_of decl.now) m) v) }
-    ensures err { IfErr result (λ e. EnumBroken (enum_decl_of decl.now) (told e)) }
+    ensures err { IfErr result (λ e. Reports (told e) (EnumBroken (enum_decl_of decl.now) (told e))) }
 {
     let mut all = IndexSet::new(state.alloc);
     enum_cases(state.alloc, &decl.id, &mut all, &decl.cases)?;

@@ -4,6 +4,7 @@ ghost use Rattle.wac_grammar.specs.Tree.{types_from};
 ghost use Rattle.wac_types.specs.Table.{ItemsNamed};
 ghost use Rattle.wac_ast_types.specs.Types.{ty_of, optional_of};
 ghost use Rattle.wac_graph.specs.Origin.{Naming};
+ghost use Rattle.wac_resolution_errors.specs.Error.{Reports};
 ghost use Rattle.wac_resolution_errors.specs.Told.{told};
 ghost use Rattle.wac_resolution_rules.specs.BrokenTypes.{TypeBroken, OptionalBroken, TypesBroken};
 ghost use Rattle.wac_resolution_state.specs.Bindings.{values_of};
@@ -24,7 +25,7 @@ pub fn value_type(
 ) -> Result<ValueType, Error>
     requires { ItemsNamed state.old.graph.types (values_of names.now) }
     ensures ok { IfOk result (λ v. TypeIs state.old.graph state.new.graph (values_of names.now) (ty_of ty.now) v) }
-    ensures err { IfErr result (λ e. (naming : Naming) → TypeBroken (scope_of naming state.old.graph (values_of names.now)) (ty_of ty.now) (told e)) }
+    ensures err { IfErr result (λ e. Reports (told e) ((naming : Naming) → TypeBroken (scope_of naming state.old.graph (values_of names.now)) (ty_of ty.now) (told e))) }
 {
     match ty {
         Type::U8(_) => Ok(ValueType::Primitive(PrimitiveType::U8)),
@@ -80,7 +81,7 @@ fn optional(
 ) -> Result<Option<ValueType>, Error>
     requires { ItemsNamed state.old.graph.types (values_of names.now) }
     ensures ok { IfOk result (λ v. OptionalIs state.old.graph state.new.graph (values_of names.now) (optional_of ty.now) v) }
-    ensures err { IfErr result (λ e. (naming : Naming) → OptionalBroken (scope_of naming state.old.graph (values_of names.now)) (optional_of ty.now) (told e)) }
+    ensures err { IfErr result (λ e. Reports (told e) ((naming : Naming) → OptionalBroken (scope_of naming state.old.graph (values_of names.now)) (optional_of ty.now) (told e))) }
 {
     match ty {
         Some(ty) => Ok(Some(value_type(state, names, ty)?)),
@@ -97,7 +98,7 @@ fn value_types(
 ) -> Result<Vec<ValueType>, Error>
     requires { ItemsNamed state.old.graph.types (values_of names.now) }
     ensures ok { IfOk result (λ vs. TypesAre state.old.graph state.new.graph (values_of names.now) (types_from (map ty_of types.now)) vs.items) }
-    ensures err { IfErr result (λ e. (naming : Naming) → TypesBroken (scope_of naming state.old.graph (values_of names.now)) (types_from (map ty_of types.now)) (told e)) }
+    ensures err { IfErr result (λ e. Reports (told e) ((naming : Naming) → TypesBroken (scope_of naming state.old.graph (values_of names.now)) (types_from (map ty_of types.now)) (told e))) }
 {
     let mut values = Vec::new(state.alloc);
     for ty in types {

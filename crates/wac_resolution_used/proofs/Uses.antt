@@ -176,4 +176,4 @@ use_stands naming g side b x id k named is = subst (λ (z : Ident). StandsFor (e
 pub use_conflicts : (side : ExternKind) (b : Body) (x : UseItem) (id : Ident) (help : Option (List ℕ)) (m : Meaning) (e : Error) → id ≡ used_as x → help ≡ help_of_use x.as_id → StandsFor (externs side b) (used_as x).string m
     → e ≡ use_conflict side id.string id.span help → IsUseConflict side b x e
 use_conflicts side b x id help m e named helped stands is =
-    inr (m, stands, is ∙ ap (λ (z : Ident). use_conflict side z.string z.span help) named ∙ ap (use_conflict side (used_as x).string (used_as x).span) helped)
+    (m, stands, is ∙ ap (λ (z : Ident). use_conflict side z.string z.span help) named ∙ ap (use_conflict side (used_as x).string (used_as x).span) helped)

@@ -4,6 +4,7 @@ ghost use Rattle.wac_ast_uses.specs.Uses.{use_path_of};
 ghost use Rattle.wac_graph.specs.Graph.{Parts};
 ghost use Rattle.wac_graph.specs.Means.{means};
 ghost use Rattle.wac_graph.specs.Origin.{Naming};
+ghost use Rattle.wac_resolution_errors.specs.Error.{Reports};
 ghost use Rattle.wac_resolution_errors.specs.Told.{told};
 ghost use Rattle.wac_resolution_rules.specs.BrokenBodies.{IsNoInterface};
 ghost use Rattle.wac_resolution_rules.specs.Spans.{use_path_name, use_path_span};
@@ -43,7 +44,7 @@ pub fn interface_of(
     span: SourceSpan,
 ) -> Result<InterfaceId, Error>
     ensures ok { IfOk result (λ i. kind ≡ ItemKind.Ty (Type.Interface i)) }
-    ensures err { IfErr result (λ e. (naming : Naming) (g : Parts) → IsNoInterface (means naming g kind) name.now span (told e)) }
+    ensures err { IfErr result (λ e. Reports (told e) ((naming : Naming) (g : Parts) → IsNoInterface (means naming g kind) name.now span (told e))) }
 {
     match kind {
         ItemKind::Ty(Type::Interface(interface)) => Ok(interface),

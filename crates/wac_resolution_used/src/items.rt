@@ -7,6 +7,7 @@ ghost use Rattle.wac_types.specs.Table.{Names as NamesEntry};
 ghost use Rattle.wac_ast_uses.specs.Uses.{use_item_of};
 ghost use Rattle.wac_graph.specs.Means.{means};
 ghost use Rattle.wac_graph.specs.Origin.{Naming};
+ghost use Rattle.wac_resolution_errors.specs.Error.{Reports};
 ghost use Rattle.wac_resolution_errors.specs.Told.{told};
 ghost use Rattle.wac_resolution_rules.specs.Bodies.{UsesItem};
 ghost use Rattle.wac_resolution_rules.specs.BrokenBodies.{UseItemBroken};
@@ -33,7 +34,7 @@ fn use_item<'a>(
     requires body { IsBody state.now.graph.types side (lists_of body.old) }
     requires interface { NamesEntry state.now.graph.types (kinds.Instance interface) }
     ensures ok { OnOk result (UseGoes side state.now.graph interface (lists_of body.old) (lists_of body.new) (use_item_of item.now)) }
-    ensures err { IfErr result (λ e. (naming : Naming) (before : List ItemTree) → UseItemBroken side (means naming state.now.graph (kinds.Instance interface)) path.now (told e) (body_of naming state.now.graph body.old) before (use_item_of item.now)) }
+    ensures err { IfErr result (λ e. Reports (told e) ((naming : Naming) (before : List ItemTree) → UseItemBroken side (means naming state.now.graph (kinds.Instance interface)) path.now (told e) (body_of naming state.now.graph body.old) before (use_item_of item.now))) }
 {
     let kind = used_kind(state, interface, path, item)?;
     check_use(state.alloc, body, side, item)?;
@@ -56,7 +57,7 @@ pub fn use_items<'a>(
     requires body { IsBody state.now.graph.types side (lists_of body.old) }
     requires interface { NamesEntry state.now.graph.types (kinds.Instance interface) }
     ensures ok { OnOk result (UsesGo side state.now.graph interface (lists_of body.old) (lists_of body.new) (map use_item_of items.now)) }
-    ensures err { IfErr result (λ e. (naming : Naming) → Fails (UsesItem side (means naming state.now.graph (kinds.Instance interface))) (UseItemBroken side (means naming state.now.graph (kinds.Instance interface)) path.now (told e)) (body_of naming state.now.graph body.old) (map use_item_of items.now)) }
+    ensures err { IfErr result (λ e. Reports (told e) ((naming : Naming) → Fails (UsesItem side (means naming state.now.graph (kinds.Instance interface))) (UseItemBroken side (means naming state.now.graph (kinds.Instance interface)) path.now (told e)) (body_of naming state.now.graph body.old) (map use_item_of items.now))) }
 {
     for item in items {
         use_item(state, body, side, interface, path, item)?;

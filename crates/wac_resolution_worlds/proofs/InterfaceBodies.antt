@@ -147,4 +147,4 @@ pub items_broken : (setting : Setting) (g : Parts) (root : Named ItemKind) (b : 
     → ((naming : Naming) → Fails (HasInterfaceItem (setting_of naming setting) (scope_of naming g root)) (InterfaceItemBroken (setting_of naming setting) (scope_of naming g root) (of_interface name) e) (body_in naming g b) items)
     → (naming : Naming) → InterfaceBroken (setting_of naming setting) (scope_of naming g root) name (declared_count g) items e
 items_broken setting g root b name items e empty h naming =
-    inr (subst (λ (l : Lists). Fails (HasInterfaceItem (setting_of naming setting) (scope_of naming g root)) (InterfaceItemBroken (setting_of naming setting) (scope_of naming g root) (of_interface name) e) (body_in naming g l) items) empty (h naming))
+    subst (λ (l : Lists). Fails (HasInterfaceItem (setting_of naming setting) (scope_of naming g root)) (InterfaceItemBroken (setting_of naming setting) (scope_of naming g root) (of_interface name) e) (body_in naming g l) items) empty (h naming)

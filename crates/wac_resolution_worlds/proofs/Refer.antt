@@ -1,5 +1,5 @@
 -- What identifiers denote in bodies and at root.
-use Rattle.std.proofs.Common.{◌≡◌, ◌∙◌, ◌++◌, ℕ, List, [], ◌∷◌, Option, Some, None, Bool, true, false, cond, refl, sym, ap, subst, ◌⊎◌, inl, inr}
+use Rattle.std.proofs.Common.{◌≡◌, ◌∙◌, ◌++◌, ℕ, List, [], ◌∷◌, Option, Some, None, Bool, true, false, cond, refl, sym, ap, subst, inr}
 use Rattle.std.specs.Prelude.{option_map}
 use Rattle.std.specs.Str.{bytes_eq}
 use Rattle.wac_grammar.specs.Tree.{Ident, FuncType, FuncTypeRef, ExternType}
@@ -13,14 +13,14 @@ use Rattle.wac_types.specs.declared.kind.InterfaceId.{InterfaceId}
 use Rattle.wac_types.specs.declared.entry.Entry.{Entry}
 use Rattle.wac_types.specs.Meaning.{Meaning, of_kind}
 use Rattle.wac_types.specs.Scope.{Named, look_up, StandsFor, IsFresh}
-use Rattle.wac_types.specs.Shape.{items_mean, IsNoneOf, is_func_or_interface_form, described}
+use Rattle.wac_types.specs.Shape.{items_mean}
 use Rattle.wac_types.specs.Table.{ItemsNamed}
 use Rattle.wac_types.proofs.Shapes.{items_found}
 use Rattle.wac_types.proofs.Found.{found_named}
 use Rattle.wac_graph.specs.Graph.{Parts}
 use Rattle.wac_graph.specs.Means.{means, entry_means}
 use Rattle.wac_graph.specs.Origin.{Naming}
-use Rattle.wac_resolution_errors.specs.Error.{Error, not_func_or_interface, memory}
+use Rattle.wac_resolution_errors.specs.Error.{Error}
 use Rattle.wac_resolution_rules.specs.Types.{IsFuncWith}
 use Rattle.wac_resolution_rules.specs.BrokenTypes.{FuncBroken}
 use Rattle.wac_resolution_rules.specs.BrokenWorlds.{FuncRefBroken, ExternTypeBroken}
@@ -122,11 +122,9 @@ extern_named ks root x k item is h = record {
 
 pub extern_breaks : (ks root : Named ItemKind) (x : Ident) (k : ItemKind) (e : Error) → look_up x.string (ks ++ root) ≡ Some k → IsNoExternKind k x e
     → (naming : Naming) (g : Parts) (setting : Setting) (n : ℕ) → ExternTypeBroken setting (scope_of naming g root) (scope_of naming g ks) n (ExternType.ident x) e
-extern_breaks ks root x k e is h naming g setting n = go (h naming g)
-  where
-    go : (e ≡ memory) ⊎ (IsNoneOf is_func_or_interface_form (means naming g k) × (e ≡ not_func_or_interface x.string (described (means naming g k)) x.span)) → ExternTypeBroken setting (scope_of naming g root) (scope_of naming g ks) n (ExternType.ident x) e
-    go (inl none) = inr (inl none)
-    go (inr p) = inr (inr (means naming g k, either_stands naming g ks root x.string k is, p.0, p.1))
+extern_breaks ks root x k e is h naming g setting n =
+    let p = h naming g in
+    inr (means naming g k, either_stands naming g ks root x.string k is, p.0, p.1)
 
 pub ruleset either_told = (either_fresh, memory_told)
 

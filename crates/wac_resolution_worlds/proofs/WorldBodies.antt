@@ -137,15 +137,15 @@ pub items_broken : (setting : Setting) (g : Parts) (root : Named ItemKind) (b : 
     → ((naming : Naming) → Fails (HasWorldItem (setting_of naming setting) (scope_of naming g root)) (WorldItemBroken (setting_of naming setting) (scope_of naming g root) (of_world name) e) (body_in naming g b) items)
     → (naming : Naming) → WorldBroken (setting_of naming setting) (scope_of naming g root) name (declared_count g) items e
 items_broken setting g root b name items e empty h naming =
-    inr (inl (subst (λ (l : Lists). Fails (HasWorldItem (setting_of naming setting) (scope_of naming g root)) (WorldItemBroken (setting_of naming setting) (scope_of naming g root) (of_world name) e) (body_in naming g l) items) empty (h naming)))
+    inl (subst (λ (l : Lists). Fails (HasWorldItem (setting_of naming setting) (scope_of naming g root)) (WorldItemBroken (setting_of naming setting) (scope_of naming g root) (of_world name) e) (body_in naming g l) items) empty (h naming))
 
 -- an include is broken
 pub includes_broken : (setting : Setting) (old mid : Parts) (root : Named ItemKind) (b c : Lists) (name : List ℕ) (items : List WorldItem) (e : Error) → b ≡ no_lists → ItemsNamed old.types root
     → WorldItemsGo setting old mid root b c items
     → ((naming : Naming) → Fails (HasInclude (setting_of naming setting) (scope_of naming mid root)) (IncludeBroken (setting_of naming setting) (scope_of naming mid root) name e) (body_in naming mid c) (includes_of items))
     → (naming : Naming) → WorldBroken (setting_of naming setting) (scope_of naming old root) name (declared_count old) items e
-includes_broken setting old mid root b c name items e empty named p h naming = inr (inr (
+includes_broken setting old mid root b c name items e empty named p h naming = inr (
   body_in naming mid c,
   subst (λ (l : Lists). Steps (HasWorldItem (setting_of naming setting) (scope_of naming old root)) (body_in naming old l) items (body_in naming mid c)) empty (p.goes naming),
   subst (λ s. Fails (HasInclude (setting_of naming setting) s) (IncludeBroken (setting_of naming setting) s name e) (body_in naming mid c) (includes_of items)) (scope_expanded old mid root naming p.grows named) (h naming),
-))
+)

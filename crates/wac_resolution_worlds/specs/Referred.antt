@@ -1,5 +1,5 @@
 -- What references to functions and interfaces denote.
-use Rattle.std.specs.Prelude.{◌≡◌, ◌⊎◌, ℕ, List}
+use Rattle.std.specs.Prelude.{◌≡◌, ℕ, List}
 use Rattle.wac_grammar.specs.Tree.{Ident, FuncType, FuncTypeRef, ExternType}
 use Rattle.wac_types.specs.declared.kind.ItemKind.{ItemKind}
 use Rattle.wac_types.specs.declared.kind.ItemKind.TheVariants as kinds
@@ -11,7 +11,7 @@ use Rattle.wac_types.specs.Table.{Names, ItemsNamed}
 use Rattle.wac_graph.specs.Graph.{Parts}
 use Rattle.wac_graph.specs.Means.{means, entry_means}
 use Rattle.wac_graph.specs.Origin.{Naming}
-use Rattle.wac_resolution_errors.specs.Error.{Error, not_func_or_interface, memory}
+use Rattle.wac_resolution_errors.specs.Error.{Error, not_func_or_interface}
 use Rattle.wac_resolution_rules.specs.Paths.{Setting}
 use Rattle.wac_resolution_rules.specs.Types.{IsFunc}
 use Rattle.wac_resolution_rules.specs.Worlds.{IsFuncRef, HasExternType}
@@ -39,7 +39,7 @@ pub record IsExternKind (k item : ItemKind) : Type 0 where
 
 -- the kind of an identifier is neither, and this is its error
 abbrev pub IsNoExternKind : ItemKind → Ident → Error → Type 0
-IsNoExternKind k x e = (naming : Naming) (g : Parts) → (e ≡ memory) ⊎ (IsNoneOf is_func_or_interface_form (means naming g k) × (e ≡ not_func_or_interface x.string (described (means naming g k)) x.span))
+IsNoExternKind k x e = (naming : Naming) (g : Parts) → IsNoneOf is_func_or_interface_form (means naming g k) × (e ≡ not_func_or_interface x.string (described (means naming g k)) x.span)
 
 -- in a body, else at root, the identifier denotes a function type or an interface, whose items are of this kind,
 -- whatever the graph is

@@ -4,6 +4,7 @@ ghost use Rattle.wac_types.specs.Table.{ItemsNamed};
 ghost use Rattle.wac_ast_worlds.specs.Worlds.{world_item_of, interface_decl_of, world_decl_of};
 ghost use Rattle.wac_graph.specs.Means.{declared_count};
 ghost use Rattle.wac_graph.specs.Origin.{Naming};
+ghost use Rattle.wac_resolution_errors.specs.Error.{Reports};
 ghost use Rattle.wac_resolution_errors.specs.Told.{told};
 ghost use Rattle.wac_resolution_rules.specs.BrokenWorlds.{InterfaceBroken, WorldBroken};
 ghost use Rattle.wac_resolution_rules.specs.TypeStatements.{version_part};
@@ -57,7 +58,7 @@ pub fn interface_decl(
     requires root { ItemsNamed state.old.graph.types (values_of root.now) }
     requires handed { HoldsHanded (packages_in setting.now) state.old.graph }
     ensures ok { IfOk result (λ k. InterfaceDeclared setting.now state.old.graph state.new.graph (values_of root.now) (interface_decl_of decl.now) k) }
-    ensures err { IfErr result (λ e. (naming : Naming) → InterfaceBroken (setting_of naming setting.now) (scope_of naming state.old.graph (values_of root.now)) (Some decl.now.id.string.now) (declared_count state.old.graph) (interface_decl_of decl.now).items (told e)) }
+    ensures err { IfErr result (λ e. Reports (told e) ((naming : Naming) → InterfaceBroken (setting_of naming setting.now) (scope_of naming state.old.graph (values_of root.now)) (Some decl.now.id.string.now) (declared_count state.old.graph) (interface_decl_of decl.now).items (told e))) }
 {
     let id = declared_id(state.alloc, setting, decl.id.string)?;
     let name = Some(decl.id.string);
@@ -83,7 +84,7 @@ fn world_of(
     requires root { ItemsNamed state.old.graph.types (values_of root.now) }
     requires handed { HoldsHanded (packages_in setting.now) state.old.graph }
     ensures ok { IfOk result (λ k. WorldDeclared setting.now state.old.graph state.new.graph (values_of root.now) name.now (map world_item_of items.now) k) }
-    ensures err { IfErr result (λ e. (naming : Naming) → WorldBroken (setting_of naming setting.now) (scope_of naming state.old.graph (values_of root.now)) name.now (declared_count state.old.graph) (map world_item_of items.now) (told e)) }
+    ensures err { IfErr result (λ e. Reports (told e) ((naming : Naming) → WorldBroken (setting_of naming setting.now) (scope_of naming state.old.graph (values_of root.now)) name.now (declared_count state.old.graph) (map world_item_of items.now) (told e))) }
 {
     let id = declared_id(state.alloc, setting, name)?;
     let declared = world(state, setting, root, Some(id), name, items)?;
@@ -100,7 +101,7 @@ pub fn world_decl(
     requires root { ItemsNamed state.old.graph.types (values_of root.now) }
     requires handed { HoldsHanded (packages_in setting.now) state.old.graph }
     ensures ok { IfOk result (λ k. WorldDeclared setting.now state.old.graph state.new.graph (values_of root.now) decl.now.id.string.now (world_decl_of decl.now).items k) }
-    ensures err { IfErr result (λ e. (naming : Naming) → WorldBroken (setting_of naming setting.now) (scope_of naming state.old.graph (values_of root.now)) decl.now.id.string.now (declared_count state.old.graph) (world_decl_of decl.now).items (told e)) }
+    ensures err { IfErr result (λ e. Reports (told e) ((naming : Naming) → WorldBroken (setting_of naming setting.now) (scope_of naming state.old.graph (values_of root.now)) decl.now.id.string.now (declared_count state.old.graph) (world_decl_of decl.now).items (told e))) }
 {
     world_of(state, setting, root, decl.id.string, items_of(decl))
 }

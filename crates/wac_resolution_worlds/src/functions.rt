@@ -7,6 +7,7 @@ ghost use Rattle.wac_ast_base.specs.Names.{ident_of};
 ghost use Rattle.wac_ast_types.specs.Declarations.{func_type_of, func_type_ref_of};
 ghost use Rattle.wac_graph.specs.Graph.{Parts};
 ghost use Rattle.wac_graph.specs.Origin.{Naming};
+ghost use Rattle.wac_resolution_errors.specs.Error.{Reports};
 ghost use Rattle.wac_resolution_errors.specs.Told.{told};
 ghost use Rattle.wac_resolution_rules.specs.BrokenTypes.{FuncBroken};
 ghost use Rattle.wac_resolution_rules.specs.BrokenWorlds.{FuncRefBroken};
@@ -30,7 +31,7 @@ fn named_func(
     id: &Ident<'_>,
 ) -> Result<FuncTypeId, Error>
     ensures ok { IfOk result (λ f. FuncNamed (values_of names.now) (ident_of id.now) f) }
-    ensures err { IfErr result (λ e. (naming : Naming) (g : Parts) → FuncRefBroken (scope_of naming g (values_of names.now)) (RefTree.ident (ident_of id.now)) (told e)) }
+    ensures err { IfErr result (λ e. Reports (told e) ((naming : Naming) (g : Parts) → FuncRefBroken (scope_of naming g (values_of names.now)) (RefTree.ident (ident_of id.now)) (told e))) }
 {
     match kind_of(alloc, names, id)? {
         ItemKind::Ty(Type::Func(func)) => Ok(func),
@@ -51,7 +52,7 @@ pub fn new_func(
 ) -> Result<FuncTypeId, Error>
     requires { ItemsNamed state.old.graph.types (values_of names.now) }
     ensures ok { IfOk result (λ f. NewFunc state.old.graph state.new.graph (values_of names.now) (func_type_of func.now) f) }
-    ensures err { IfErr result (λ e. (naming : Naming) → FuncBroken funcs.Free (scope_of naming state.old.graph (values_of names.now)) [] (func_type_of func.now) (told e)) }
+    ensures err { IfErr result (λ e. Reports (told e) ((naming : Naming) → FuncBroken funcs.Free (scope_of naming state.old.graph (values_of names.now)) [] (func_type_of func.now) (told e))) }
 {
     let first = IndexMap::new(state.alloc);
     Ok(wac_resolution_types::function(state, names, FuncKind::Free, first, func)?)
@@ -65,7 +66,7 @@ pub fn func_ref(
 ) -> Result<FuncTypeId, Error>
     requires { ItemsNamed state.old.graph.types (values_of names.now) }
     ensures ok { IfOk result (λ f. FuncRefIs state.old.graph state.new.graph (values_of names.now) (func_type_ref_of reference.now) f) }
-    ensures err { IfErr result (λ e. (naming : Naming) → FuncRefBroken (scope_of naming state.old.graph (values_of names.now)) (func_type_ref_of reference.now) (told e)) }
+    ensures err { IfErr result (λ e. Reports (told e) ((naming : Naming) → FuncRefBroken (scope_of naming state.old.graph (values_of names.now)) (func_type_ref_of reference.now) (told e))) }
 {
     match reference {
         FuncTypeRef::Func(func) => Ok(new_func(state, names, func)?),

@@ -6,6 +6,7 @@ ghost use Rattle.wac_types.specs.Shape.{id_of};
 ghost use Rattle.wac_types.specs.Table.{Names};
 ghost use Rattle.wac_graph.specs.Means.{means, entry_means};
 ghost use Rattle.wac_graph.specs.Origin.{Naming};
+ghost use Rattle.wac_resolution_errors.specs.Error.{Reports};
 ghost use Rattle.wac_resolution_errors.specs.Told.{told};
 ghost use Rattle.wac_resolution_rules.specs.BrokenWorlds.{InstanceBroken};
 ghost use Rattle.wac_resolution_bodies.specs.Lists.{lists_of};
@@ -54,7 +55,7 @@ pub fn instance(
     requires body { IsBody state.now.graph.types sides.Import (lists_of body.old) }
     requires kind { Names state.now.graph.types kind }
     ensures ok { OnOk result (InstanceGoes state.now.graph side kind (lists_of body.old) (lists_of body.new)) }
-    ensures err { IfErr result (λ e. (naming : Naming) → InstanceBroken (owner_of owner.now) side (body_of naming state.now.graph body.old) (means naming state.now.graph kind) name.now span (told e)) }
+    ensures err { IfErr result (λ e. Reports (told e) ((naming : Naming) → InstanceBroken (owner_of owner.now) side (body_of naming state.now.graph body.old) (means naming state.now.graph kind) name.now span (told e))) }
 {
     let interface = interface_of(state.alloc, kind, name, span)?;
     let id = instance_id(&state.graph, interface);

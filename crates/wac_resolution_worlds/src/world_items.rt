@@ -6,6 +6,7 @@ ghost use Rattle.wac_types.specs.Steps.{Fails};
 ghost use Rattle.wac_types.specs.Table.{ItemsNamed};
 ghost use Rattle.wac_ast_worlds.specs.Worlds.{world_item_of};
 ghost use Rattle.wac_graph.specs.Origin.{Naming};
+ghost use Rattle.wac_resolution_errors.specs.Error.{Reports};
 ghost use Rattle.wac_resolution_errors.specs.Told.{told};
 ghost use Rattle.wac_resolution_rules.specs.BrokenWorlds.{WorldItemBroken};
 ghost use Rattle.wac_resolution_rules.specs.Places.{bound_in_world};
@@ -42,7 +43,7 @@ fn world_item<'a>(
     requires root { ItemsNamed state.old.graph.types (values_of root.now) }
     requires handed { HoldsHanded (packages_in setting.now) state.old.graph }
     ensures ok { OnOk result (WorldItemGoes setting.now state.old.graph state.new.graph (values_of root.now) (lists_of body.old) (lists_of body.new) (world_item_of item.now)) }
-    ensures err { IfErr result (λ e. (naming : Naming) (before : List ItemTree) → places_of body.old.names ≡ bound_in_world before → WorldItemBroken (setting_of naming setting.now) (scope_of naming state.old.graph (values_of root.now)) (owner_of owner.now) (told e) (body_of naming state.old.graph body.old) before (world_item_of item.now)) }
+    ensures err { IfErr result (λ e. Reports (told e) ((naming : Naming) (before : List ItemTree) → places_of body.old.names ≡ bound_in_world before → WorldItemBroken (setting_of naming setting.now) (scope_of naming state.old.graph (values_of root.now)) (owner_of owner.now) (told e) (body_of naming state.old.graph body.old) before (world_item_of item.now))) }
 {
     match item {
         WorldItem::Use(used) => use_statement(state, setting, root, body, ExternKind::Import, used),
@@ -88,7 +89,7 @@ pub fn world_items<'a>(
     requires root { ItemsNamed state.old.graph.types (values_of root.now) }
     requires handed { HoldsHanded (packages_in setting.now) state.old.graph }
     ensures ok { OnOk result (WorldItemsGo setting.now state.old.graph state.new.graph (values_of root.now) (lists_of body.old) (lists_of body.new) (map world_item_of items.now)) }
-    ensures err { IfErr result (λ e. (naming : Naming) → Fails (HasWorldItem (setting_of naming setting.now) (scope_of naming state.old.graph (values_of root.now))) (WorldItemBroken (setting_of naming setting.now) (scope_of naming state.old.graph (values_of root.now)) (owner_of owner.now) (told e)) (body_of naming state.old.graph body.old) (map world_item_of items.now)) }
+    ensures err { IfErr result (λ e. Reports (told e) ((naming : Naming) → Fails (HasWorldItem (setting_of naming setting.now) (scope_of naming state.old.graph (values_of root.now))) (WorldItemBroken (setting_of naming setting.now) (scope_of naming state.old.graph (values_of root.now)) (owner_of owner.now) (told e)) (body_of naming state.old.graph body.old) (map world_item_of items.now))) }
 {
     for item in items {
         world_item(state, setting, root, body, owner, item)?;

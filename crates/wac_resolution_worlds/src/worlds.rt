@@ -4,6 +4,7 @@ ghost use Rattle.wac_types.specs.Table.{ItemsNamed};
 ghost use Rattle.wac_ast_worlds.specs.Worlds.{world_item_of};
 ghost use Rattle.wac_graph.specs.Means.{declared_count};
 ghost use Rattle.wac_graph.specs.Origin.{Naming};
+ghost use Rattle.wac_resolution_errors.specs.Error.{Reports};
 ghost use Rattle.wac_resolution_errors.specs.Told.{told};
 ghost use Rattle.wac_resolution_rules.specs.BrokenWorlds.{WorldBroken};
 ghost use Rattle.wac_resolution_state.specs.Bindings.{values_of};
@@ -58,7 +59,7 @@ pub fn world(
     requires root { ItemsNamed state.old.graph.types (values_of root.now) }
     requires handed { HoldsHanded (packages_in setting.now) state.old.graph }
     ensures ok { IfOk result (λ w. WorldMade setting.now state.old.graph state.new.graph (values_of root.now) (option_map string_bytes id) (map world_item_of items.now) w) }
-    ensures err { IfErr result (λ e. (naming : Naming) → WorldBroken (setting_of naming setting.now) (scope_of naming state.old.graph (values_of root.now)) name.now (declared_count state.old.graph) (map world_item_of items.now) (told e)) }
+    ensures err { IfErr result (λ e. Reports (told e) ((naming : Naming) → WorldBroken (setting_of naming setting.now) (scope_of naming state.old.graph (values_of root.now)) name.now (declared_count state.old.graph) (map world_item_of items.now) (told e))) }
 {
     let mut body = Body::new(state.alloc);
     let owner = Owner::World(name);

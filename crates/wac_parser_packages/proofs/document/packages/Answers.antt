@@ -1,11 +1,9 @@
-use Rattle.std.proofs.Common.{◌≡◌, ◌∙◌, ℕ, List, ap, map, sym, subst}
-use Rattle.std.specs.Str.{IsUtf8}
+use Rattle.std.proofs.Common.{◌≡◌, ◌∙◌, List, ap, map, sym, subst}
 use Rattle.std.proofs.lemmas.Result.{IfOk-weaker}
 use Rattle.wac_ast.specs.Statements.{document_of, statement_of}
 use Rattle.wac_ast_statements.specs.Statements.{directive_of}
 use Rattle.wac_ast.specs.declared.statement.Statement.{Statement}
-use Rattle.wac_grammar.specs.TextTree.{IsTreeOf}
-use Rattle.wac_parser_packages.specs.Ascending.{Ascend}
+use Rattle.wac_parser_packages.specs.Ascending.{AscendInTexts}
 use Rattle.wac_parser_packages.specs.FirstMentions.{first_mentions}
 use Rattle.wac_parser_packages.specs.Noted.{mentioned_by, mentions_in}
 use Rattle.wac_parser_packages.specs.Packages.{OnlyTheseMatter}
@@ -25,5 +23,5 @@ returns-clause-order c =
     let whole = c.args.document.now in
     let directive = directive_of whole.directive in
     let lent = ap (λ (l : List Statement). first_mentions (mentioned_by directive (map statement_of l))) c.deref.ensures.value in
-    IfOk-weaker c.mentioned.result (λ m. mentions_in m.entries ≡ first_mentions (mentioned_by directive (map statement_of c.deref.result.now))) (λ m. (source : List ℕ) → IsUtf8 source → IsTreeOf source (document_of whole) → Ascend (mentions_in m.entries))
-    (λ m is source utf8 tree. subst Ascend (sym (is ∙ lent)) (c.mentions_stand_in_order.ensures.first source (document_of whole) utf8 tree)) c.mentioned.ensures
+    IfOk-weaker c.mentioned.result (λ m. mentions_in m.entries ≡ first_mentions (mentioned_by directive (map statement_of c.deref.result.now))) (λ m. AscendInTexts (document_of whole) (mentions_in m.entries))
+    (λ m is. subst (AscendInTexts (document_of whole)) (sym (is ∙ lent)) (c.mentions_stand_in_order.ensures.first (document_of whole))) c.mentioned.ensures

@@ -2,6 +2,7 @@ use Rattle.std.proofs.Common.{List, map, subst}
 use Rattle.std.specs.Prelude.{OnOk, IfErr}
 use Rattle.wac_ast.specs.declared.statement.Statement.{Statement}
 use Rattle.wac_ast.specs.Statements.{statement_of}
+use Rattle.wac_resolution_errors.specs.Error.{Reports}
 use Rattle.wac_resolution_errors.specs.Told.{told}
 use Rattle.wac_resolution_rules.specs.Given.{rules_by}
 use Rattle.wac_resolution_statements.specs.Sequences.{AllWent, OneBreaks}
@@ -14,5 +15,5 @@ returns-clause-ok g c =
 
 pub returns-clause-err : goal.returns-clause-err
 returns-clause-err g c =
-    subst (λ (l : List Statement). IfErr c.compose.result (λ e. OneBreaks c.args.setting.now (rules_by (g.R.Rules.passes c.args.rules.now) (g.R.Rules.named c.args.rules.now)) c.args.state.now.graph c.args.root.now c.args.externs.now (map statement_of l) (told e)))
+    subst (λ (l : List Statement). IfErr c.compose.result (λ e. Reports (told e) (OneBreaks c.args.setting.now (rules_by (g.R.Rules.passes c.args.rules.now) (g.R.Rules.named c.args.rules.now)) c.args.state.now.graph c.args.root.now c.args.externs.now (map statement_of l) (told e))))
     c.statements.view_is c.compose.ensures.err

@@ -1,4 +1,4 @@
-use Rattle.std.proofs.Common.{◌∙◌, ℕ, List, map, sym, ap}
+use Rattle.std.proofs.Common.{◌∙◌, ℕ, List, map, sym, ap, inr}
 use Rattle.std.specs.Prelude.{string_bytes}
 use Rattle.wac_types.specs.Names.{by_name}
 use Rattle.wac_grammar.specs.Tree.{arguments_from}
@@ -20,6 +20,6 @@ returns-in-None-clause-ok c =
 
 pub returns-in_ok-from_str-in-Some-2-clause-err : goal.returns-in_ok-from_str-in-Some-2-clause-err
 returns-in_ok-from_str-in-Some-2-clause-err c =
-    incomplete c.args.state.now.graph c.args.world (package_name_of c.args.«package».now) (arguments_from (map argument_of c.args.arguments.now)) (given_nodes (by_name c.args.given.now.entries)) c.in-Some.name.now _ (sym c.has_fill.ensures ∙ c.if-has_fill.false) c.in-Some.ensures
+    inr (incomplete c.args.state.now.graph c.args.world (package_name_of c.args.«package».now) (arguments_from (map argument_of c.args.arguments.now)) (given_nodes (by_name c.args.given.now.entries)) c.in-Some.name.now _ (sym c.has_fill.ensures ∙ c.if-has_fill.false) c.in-Some.ensures
     (ap (λ (n : List ℕ). missing_instantiation_arg n (string_bytes c.in_ok-from_str-in-Some-2.field-0) c.args.«package».now.span) c.in_ok-from_str-in-Some.ensures.ok
-    ∙ ap (λ (t : List ℕ). missing_instantiation_arg c.in-Some.name.now t c.args.«package».now.span) c.in_ok-from_str-in-Some-2.ensures.ok)
+    ∙ ap (λ (t : List ℕ). missing_instantiation_arg c.in-Some.name.now t c.args.«package».now.span) c.in_ok-from_str-in-Some-2.ensures.ok))

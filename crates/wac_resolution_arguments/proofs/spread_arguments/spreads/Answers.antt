@@ -7,6 +7,7 @@ use Rattle.wac_ast_expressions.specs.Expressions.{argument_of}
 use Rattle.wac_resolution_errors.specs.Told.{told}
 use Rattle.wac_resolution_rules.specs.Expressions.{spreads_of}
 use Rattle.wac_resolution_nodes.specs.Root.{numbers_of}
+use Rattle.wac_resolution_errors.proofs.Reports.{reports}
 use Rattle.wac_resolution_nodes.proofs.Roots.{agrees_nodes}
 use Rattle.wac_resolution_arguments.proofs.SpreadSteps.{SpreadsGave, gave_none, world_kept, spreads_next, spreads_break}
 use Rattle.wac_resolution_arguments.proofs.spread_arguments.spreads.Goals as goal
@@ -26,8 +27,8 @@ spread_argument-requires-clause-world c = world_kept c.args.state.now.graph c.lo
 pub returns-in_err-spread_argument-clause-err : goal.returns-in_err-spread_argument-clause-err
 returns-in_err-spread_argument-clause-err c =
     let p = err_from_is_err_and c.from_residual.result c.from_residual.ensures.1 in
-    rw (p.1, p.2) (spreads_break c.args.state.now.graph c.loop-argument.state.graph c.args.world (numbers_of c.args.root.now.nodes) (by_name c.args.given.now.entries) (by_name c.loop-argument.given.entries) c.args.arguments.now c.loop-argument.argument-index c.argument-item.result
-    c.loop-argument-test.true c.argument-item.is c.loop-argument.invariant (told c.in_err-spread_argument.field-0.0) c.in_err-spread_argument.ensures.err)
+    rw (p.1, p.2) (reports c.in_err-spread_argument.ensures.err (spreads_break c.args.state.now.graph c.loop-argument.state.graph c.args.world (numbers_of c.args.root.now.nodes) (by_name c.args.given.now.entries) (by_name c.loop-argument.given.entries) c.args.arguments.now c.loop-argument.argument-index c.argument-item.result
+    c.loop-argument-test.true c.argument-item.is c.loop-argument.invariant (told c.in_err-spread_argument.field-0.0)))
 
 pub loop-argument-preserved : goal.loop-argument-preserved
 loop-argument-preserved c =

@@ -1,4 +1,4 @@
-use Rattle.std.proofs.Common.{sym, rules}
+use Rattle.std.proofs.Common.{sym, rules, inr}
 use Rattle.wac_ast_base.specs.Names.{ident_of}
 use Rattle.wac_resolution_externs.proofs.Checks.{unexported_yet}
 use Rattle.wac_resolution_bindings.proofs.Defining.{exported_before}
@@ -6,7 +6,7 @@ use Rattle.wac_resolution_bindings.proofs.definition.check_unexported.Goals as g
 
 pub returns-in_ok-from_str-in-Some-clause-err : goal.returns-in_ok-from_str-in-Some-clause-err
 returns-in_ok-from_str-in-Some-clause-err c =
-    exported_before c.args.state.now.graph c.args.externs.now (ident_of c.args.id.now) c.in-Some.export _ c.requires (sym c.in-Some.ensures) (search rules)
+    inr (exported_before c.args.state.now.graph c.args.externs.now (ident_of c.args.id.now) c.in-Some.export _ c.requires (sym c.in-Some.ensures) (search rules))
 
 pub returns-in-None-clause-ok : goal.returns-in-None-clause-ok
 returns-in-None-clause-ok c = unexported_yet c.args.state.now.graph c.args.externs.now c.args.id.now.string.now c.requires (sym c.in-None.ensures)

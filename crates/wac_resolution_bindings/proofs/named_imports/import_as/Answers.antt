@@ -2,6 +2,7 @@ use Rattle.std.proofs.lemmas.Result.{err_from_is_err_and}
 use Rattle.wac_ast_worlds.specs.Worlds.{import_statement_of}
 use Rattle.wac_resolution_errors.specs.Told.{told}
 use Rattle.wac_resolution_externs.specs.Externs.{help_of}
+use Rattle.wac_resolution_errors.proofs.Reports.{reports}
 use Rattle.wac_resolution_bindings.proofs.ImportTests.{imported_breaks, invalid_breaks, bound_breaks, imports_as}
 use Rattle.wac_resolution_bindings.proofs.named_imports.import_as.Goals as goal
 
@@ -10,25 +11,28 @@ returns-in_err-check_unimported-clause-err g c =
     let p = err_from_is_err_and c.from_residual.result c.from_residual.ensures.1 in
     let n = c.new_name-name.result in
     rw (p.1, p.2)
+    (reports c.in_err-check_unimported.ensures.err
     (imported_breaks (g.R.Rules.named c.args.rules.now) c.args.state.now.graph c.args.root.now c.args.externs.now (import_statement_of c.args.statement.now) c.args.text.now n.text.now n.span (help_of n)
-    (record { of_text = c.new_name-name.ensures.text; of_span = c.new_name-name.ensures.span; of_help = c.new_name-name.ensures.help }) (told c.in_err-check_unimported.field-0.0) c.in_err-check_unimported.ensures.err)
+    (record { of_text = c.new_name-name.ensures.text; of_span = c.new_name-name.ensures.span; of_help = c.new_name-name.ensures.help }) (told c.in_err-check_unimported.field-0.0)))
 
 pub returns-in_err-check_name-clause-err : goal.returns-in_err-check_name-clause-err
 returns-in_err-check_name-clause-err g c =
     let p = err_from_is_err_and c.from_residual-in_err-check_name.result c.from_residual-in_err-check_name.ensures.1 in
     let n = c.new_name-name.result in
     rw (p.1, p.2)
+    (reports c.in_err-check_name.ensures.err
     (invalid_breaks (g.R.Rules.named c.args.rules.now) c.args.state.now.graph c.args.root.now c.args.externs.now (import_statement_of c.args.statement.now) c.args.text.now n.text.now n.span (help_of n)
-    (record { of_text = c.new_name-name.ensures.text; of_span = c.new_name-name.ensures.span; of_help = c.new_name-name.ensures.help }) (told c.in_err-check_name.field-0.0) c.in_ok-check_unimported.ensures.ok c.in_err-check_name.ensures.err)
+    (record { of_text = c.new_name-name.ensures.text; of_span = c.new_name-name.ensures.span; of_help = c.new_name-name.ensures.help }) (told c.in_err-check_name.field-0.0) c.in_ok-check_unimported.ensures.ok))
 
 pub returns-in_err-check_unbound-clause-err : goal.returns-in_err-check_unbound-clause-err
 returns-in_err-check_unbound-clause-err g c =
     let p = err_from_is_err_and c.from_residual-in_err-check_unbound.result c.from_residual-in_err-check_unbound.ensures.1 in
     let n = c.new_name-name.result in
     rw (p.1, p.2)
-    (bound_breaks (g.R.Rules.named c.args.rules.now) c.args.state.now.graph c.args.root.now c.args.externs.now (import_statement_of c.args.statement.now) c.args.text.now n.text.now n.span (help_of n)
+    (reports c.in_err-check_unbound.ensures.err
+    (λ err. bound_breaks (g.R.Rules.named c.args.rules.now) c.args.state.now.graph c.args.root.now c.args.externs.now (import_statement_of c.args.statement.now) c.args.text.now n.text.now n.span (help_of n)
     (record { of_text = c.new_name-name.ensures.text; of_span = c.new_name-name.ensures.span; of_help = c.new_name-name.ensures.help }) (told c.in_err-check_unbound.field-0.0) c.in_ok-check_unimported.ensures.ok c.in_ok-check_name.ensures.ok
-    (λ naming all same. c.in_err-check_unbound.ensures.err naming c.args.state.now.graph all same))
+    (λ naming all same. err naming c.args.state.now.graph all same)))
 
 pub add_import-requires-clause-new : goal.add_import-requires-clause-new
 add_import-requires-clause-new g c = c.in_ok-check_unimported.ensures.ok.in_graph
@@ -38,9 +42,9 @@ returns-in_err-add_import-clause-err g c =
     let p = err_from_is_err_and c.from_residual-in_err-add_import.result c.from_residual-in_err-add_import.ensures.1 in
     let n = c.new_name-name.result in
     rw (p.1, p.2)
+    (reports c.in_err-add_import.ensures.err
     (bound_breaks (g.R.Rules.named c.args.rules.now) c.args.state.now.graph c.args.root.now c.args.externs.now (import_statement_of c.args.statement.now) c.args.text.now n.text.now n.span (help_of n)
-    (record { of_text = c.new_name-name.ensures.text; of_span = c.new_name-name.ensures.span; of_help = c.new_name-name.ensures.help }) (told c.in_err-add_import.field-0.0) c.in_ok-check_unimported.ensures.ok c.in_ok-check_name.ensures.ok
-    c.in_err-add_import.ensures.err)
+    (record { of_text = c.new_name-name.ensures.text; of_span = c.new_name-name.ensures.span; of_help = c.new_name-name.ensures.help }) (told c.in_err-add_import.field-0.0) c.in_ok-check_unimported.ensures.ok c.in_ok-check_name.ensures.ok))
 
 pub returns-clause-ok : goal.returns-clause-ok
 returns-clause-ok g c =

@@ -4,18 +4,19 @@ use Rattle.wac_grammar.specs.Tree.{ItemTypeDecl}
 use Rattle.wac_ast_types.specs.Declarations.{type_alias_of}
 use Rattle.wac_graph.specs.Means.{means, declared_count}
 use Rattle.wac_resolution_bodies.specs.Lists.{lists_of}
+use Rattle.wac_resolution_errors.proofs.Reports.{reports}
 use Rattle.wac_resolution_bodies.proofs.Declared.{alias_declared}
 use Rattle.wac_resolution_bodies.proofs.items.alias.Goals as goal
 
 pub returns-in_err-kind-clause-err : goal.returns-in_err-kind-clause-err
 returns-in_err-kind-clause-err c =
     let p = err_from_is_err_and c.from_residual.result c.from_residual.ensures.1 in
-    rw (p.1, p.2) (λ naming. inl (c.in_err-kind.ensures.err naming))
+    rw (p.1, p.2) (reports c.in_err-kind.ensures.err (λ err naming. inl (err naming)))
 
 pub returns-in_err-declare-clause-err : goal.returns-in_err-declare-clause-err
 returns-in_err-declare-clause-err c =
     let p = err_from_is_err_and c.from_residual-in_err-declare.result c.from_residual-in_err-declare.ensures.1 in
-    rw (p.1, p.2) (λ naming. inr (means naming c.alias.new.state.graph c.in_ok-kind.kind, declared_count c.alias.new.state.graph, c.in_ok-kind.ensures.ok.is naming, c.in_err-declare.ensures.err naming c.args.state.now.graph))
+    rw (p.1, p.2) (reports c.in_err-declare.ensures.err (λ err naming. inr (means naming c.alias.new.state.graph c.in_ok-kind.kind, declared_count c.alias.new.state.graph, c.in_ok-kind.ensures.ok.is naming, err naming c.args.state.now.graph)))
 
 pub returns-clause-ok : goal.returns-clause-ok
 returns-clause-ok c =

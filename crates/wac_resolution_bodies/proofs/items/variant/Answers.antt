@@ -6,18 +6,19 @@ use Rattle.wac_types.specs.declared.kind.«Type».TheVariants as types
 use Rattle.wac_ast_types.specs.Declarations.{variant_decl_of}
 use Rattle.wac_graph.specs.Means.{means}
 use Rattle.wac_resolution_bodies.specs.Lists.{lists_of}
+use Rattle.wac_resolution_errors.proofs.Reports.{reports}
 use Rattle.wac_resolution_bodies.proofs.Declared.{value_declared}
 use Rattle.wac_resolution_bodies.proofs.items.variant.Goals as goal
 
 pub returns-in_err-value-clause-err : goal.returns-in_err-value-clause-err
 returns-in_err-value-clause-err c =
     let p = err_from_is_err_and c.from_residual.result c.from_residual.ensures.1 in
-    rw (p.1, p.2) (λ naming. inl (c.in_err-value.ensures.err naming))
+    rw (p.1, p.2) (reports c.in_err-value.ensures.err (λ err naming. inl (err naming)))
 
 pub returns-in_err-declare-clause-err : goal.returns-in_err-declare-clause-err
 returns-in_err-declare-clause-err c =
     let p = err_from_is_err_and c.from_residual-in_err-declare.result c.from_residual-in_err-declare.ensures.1 in
-    rw (p.1, p.2) (λ naming. inr (means naming c.variant.new.state.graph (kinds.Ty (types.Value c.in_ok-value.value)), c.in_ok-value.ensures.ok.is naming, c.in_err-declare.ensures.err naming c.args.state.now.graph))
+    rw (p.1, p.2) (reports c.in_err-declare.ensures.err (λ err naming. inr (means naming c.variant.new.state.graph (kinds.Ty (types.Value c.in_ok-value.value)), c.in_ok-value.ensures.ok.is naming, err naming c.args.state.now.graph)))
 
 pub returns-clause-ok : goal.returns-clause-ok
 returns-clause-ok c =

@@ -1,10 +1,9 @@
-use Rattle.std.proofs.Common.{◌≡◌, ◌∙◌, ◌⊎◌, List, [], inl, map, subst}
+use Rattle.std.proofs.Common.{◌≡◌, ◌∙◌, List, [], inl, map, subst}
 use Rattle.std.proofs.lemmas.Result.{err_from_is_err_and}
 use Rattle.wac_types.specs.declared.kind.FuncKind.TheVariants as funcs
 use Rattle.wac_ast_types.specs.Declarations.{named_type_of, constructor_of}
 use Rattle.wac_ast_types.specs.declared.func_type.NamedType.{NamedType}
 use Rattle.wac_graph.specs.Origin.{Naming}
-use Rattle.wac_resolution_errors.specs.Error.{memory}
 use Rattle.wac_resolution_errors.specs.Told.{told}
 use Rattle.wac_resolution_rules.specs.Bodies.{constructor_name}
 use Rattle.wac_resolution_rules.specs.BrokenTypes.{ParamsBroken}
@@ -12,19 +11,20 @@ use Rattle.wac_resolution_state.specs.Bindings.{values_of}
 use Rattle.wac_resolution_types.specs.Funcs.{ConstructorIs}
 use Rattle.wac_resolution_state.specs.Named.{scope_of}
 use Rattle.wac_resolution_bodies.specs.Lists.{lists_of}
+use Rattle.wac_resolution_errors.proofs.Reports.{reports}
 use Rattle.wac_resolution_bodies.proofs.Methods.{constructor_goes, params_break}
 use Rattle.wac_resolution_bodies.proofs.method.add_constructor.Goals as goal
 
 pub returns-in_err-full-clause-err : goal.returns-in_err-full-clause-err
 returns-in_err-full-clause-err c =
     let p = err_from_is_err_and c.from_residual.result c.from_residual.ensures.1 in
-    rw (p.1, p.2) (λ naming before. inl (c.in_err-full.ensures.err naming c.args.state.now.graph))
+    rw (p.1, p.2) (reports c.in_err-full.ensures.err (λ err naming before. inl (err naming c.args.state.now.graph)))
 
 pub returns-in_err-func-clause-err : goal.returns-in_err-func-clause-err
 returns-in_err-func-clause-err c =
     let p = err_from_is_err_and c.from_residual-in_err-func.result c.from_residual-in_err-func.ensures.1 in
-    let h = subst (λ (l : List NamedType). (naming : Naming) → (told c.in_err-func.field-0.0 ≡ memory) ⊎ ParamsBroken funcs.Constructor (scope_of naming c.args.state.now.graph (values_of c.args.body.now.names)) [] (map named_type_of l) (told c.in_err-func.field-0.0)) c.deref.ensures.value c.in_err-func.ensures.err in
-    rw (p.1, p.2) (params_break c.args.side c.args.state.now.graph (lists_of c.args.body.now) c.args.name.now c.args.resource (constructor_of c.args.constructor.now) (told c.in_err-func.field-0.0) c.in_ok-full.ensures.ok h)
+    rw (p.1, p.2) (reports c.in_err-func.ensures.err (λ err. params_break c.args.side c.args.state.now.graph (lists_of c.args.body.now) c.args.name.now c.args.resource (constructor_of c.args.constructor.now) (told c.in_err-func.field-0.0) c.in_ok-full.ensures.ok
+    (subst (λ (l : List NamedType). (naming : Naming) → ParamsBroken funcs.Constructor (scope_of naming c.args.state.now.graph (values_of c.args.body.now.names)) [] (map named_type_of l) (told c.in_err-func.field-0.0)) c.deref.ensures.value err)))
 
 pub returns-clause-ok : goal.returns-clause-ok
 returns-clause-ok c =

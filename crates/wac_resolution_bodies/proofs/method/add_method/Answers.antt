@@ -4,18 +4,19 @@ use Rattle.wac_ast_types.specs.Declarations.{method_of}
 use Rattle.wac_resolution_errors.specs.Told.{told}
 use Rattle.wac_resolution_rules.specs.Bodies.{name_of_method}
 use Rattle.wac_resolution_bodies.specs.Lists.{lists_of}
+use Rattle.wac_resolution_errors.proofs.Reports.{reports}
 use Rattle.wac_resolution_bodies.proofs.Methods.{method_goes, func_breaks}
 use Rattle.wac_resolution_bodies.proofs.method.add_method.Goals as goal
 
 pub returns-in_err-full-clause-err : goal.returns-in_err-full-clause-err
 returns-in_err-full-clause-err c =
     let p = err_from_is_err_and c.from_residual.result c.from_residual.ensures.1 in
-    rw (p.1, p.2) (λ naming before. inl (c.in_err-full.ensures.err naming c.args.state.now.graph))
+    rw (p.1, p.2) (reports c.in_err-full.ensures.err (λ err naming before. inl (err naming c.args.state.now.graph)))
 
 pub returns-in_err-func-clause-err : goal.returns-in_err-func-clause-err
 returns-in_err-func-clause-err c =
     let p = err_from_is_err_and c.from_residual-in_err-func.result c.from_residual-in_err-func.ensures.1 in
-    rw (p.1, p.2) (func_breaks c.args.side c.args.state.now.graph (lists_of c.args.body.now) c.args.name.now c.args.resource (method_of c.args.method.now) (told c.in_err-func.field-0.0) c.in_ok-full.ensures.method c.in_ok-full.ensures.fixed c.in_err-func.ensures.err)
+    rw (p.1, p.2) (reports c.in_err-func.ensures.err (func_breaks c.args.side c.args.state.now.graph (lists_of c.args.body.now) c.args.name.now c.args.resource (method_of c.args.method.now) (told c.in_err-func.field-0.0) c.in_ok-full.ensures.method c.in_ok-full.ensures.fixed))
 
 pub returns-clause-ok : goal.returns-clause-ok
 returns-clause-ok c =

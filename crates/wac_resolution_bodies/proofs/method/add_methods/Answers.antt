@@ -8,6 +8,7 @@ use Rattle.wac_graph.specs.Means.{entry_means}
 use Rattle.wac_resolution_errors.specs.Told.{told}
 use Rattle.wac_resolution_rules.specs.Bodies.{HasMethod}
 use Rattle.wac_resolution_bodies.specs.Lists.{lists_of}
+use Rattle.wac_resolution_errors.proofs.Reports.{reports}
 use Rattle.wac_resolution_bodies.proofs.Going.{none_go, items_all}
 use Rattle.wac_resolution_bodies.proofs.Methods.{methods_step, methods_break}
 use Rattle.wac_resolution_bodies.proofs.method.add_methods.Goals as goal
@@ -24,8 +25,8 @@ add_either-requires-clause-resource c = c.loop-method.invariant.grows.named (kin
 pub returns-in_err-add_either-clause-err : goal.returns-in_err-add_either-clause-err
 returns-in_err-add_either-clause-err c =
     let p = err_from_is_err_and c.from_residual.result c.from_residual.ensures.1 in
-    rw (p.1, p.2) (methods_break resource_method_of c.args.side c.args.state.now.graph c.loop-method.state.graph (lists_of c.args.body.now) (lists_of c.loop-method.body) c.args.name.now c.args.resource c.args.methods.now c.loop-method.method-index c.method-item.result (told c.in_err-add_either.field-0.0)
-    c.loop-method-test.true c.method-item.is c.requires.resource c.loop-method.invariant c.in_err-add_either.ensures.err)
+    rw (p.1, p.2) (reports c.in_err-add_either.ensures.err (methods_break resource_method_of c.args.side c.args.state.now.graph c.loop-method.state.graph (lists_of c.args.body.now) (lists_of c.loop-method.body) c.args.name.now c.args.resource c.args.methods.now c.loop-method.method-index c.method-item.result (told c.in_err-add_either.field-0.0)
+    c.loop-method-test.true c.method-item.is c.requires.resource c.loop-method.invariant))
 
 pub loop-method-preserved : goal.loop-method-preserved
 loop-method-preserved c =

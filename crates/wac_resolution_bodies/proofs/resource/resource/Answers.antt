@@ -12,13 +12,14 @@ use Rattle.wac_resolution_state.specs.Bindings.{places_of}
 use Rattle.wac_resolution_bodies.specs.Lists.{lists_of}
 use Rattle.wac_resolution_bodies.specs.Bodies.{body_of, MethodsGo}
 use Rattle.wac_resolution_bodies.specs.Owners.{owner_of}
+use Rattle.wac_resolution_errors.proofs.Reports.{reports}
 use Rattle.wac_resolution_bodies.proofs.Declared.{resource_item, methods_broken}
 use Rattle.wac_resolution_bodies.proofs.resource.resource.Goals as goal
 
 pub returns-in_err-resource-clause-err : goal.returns-in_err-resource-clause-err
 returns-in_err-resource-clause-err c =
     let p = err_from_is_err_and c.from_residual.result c.from_residual.ensures.1 in
-    rw (p.1, p.2) (λ naming. inl (c.in_err-resource.ensures.err naming c.args.state.now.graph))
+    rw (p.1, p.2) (reports c.in_err-resource.ensures.err (λ err naming. inl (err naming c.args.state.now.graph)))
 
 pub add_methods-requires-clause-body : goal.add_methods-requires-clause-body
 add_methods-requires-clause-body c = c.in_ok-resource.ensures.ok.body.body
@@ -30,8 +31,8 @@ pub returns-in_err-add_methods-clause-err : goal.returns-in_err-add_methods-clau
 returns-in_err-add_methods-clause-err c =
     let p = err_from_is_err_and c.from_residual-in_err-add_methods.result c.from_residual-in_err-add_methods.ensures.1 in
     let name = c.args.decl.now.id.string.now in
-    let h = subst (λ (l : List ResourceMethod). (naming : Naming) → Fails (HasMethod c.args.side name (entry_means naming c.declare_resource.new.state.graph c.in_ok-resource.resource.0)) (MethodBroken c.args.side name (entry_means naming c.declare_resource.new.state.graph c.in_ok-resource.resource.0) (told c.in_err-add_methods.field-0.0)) (body_of naming c.declare_resource.new.state.graph c.declare_resource.new.body) (map resource_method_of l)) c.deref.ensures.value c.in_err-add_methods.ensures.err in
-    rw (p.1, p.2) (methods_broken (owner_of c.args.owner.now) c.args.side c.args.state.now.graph c.declare_resource.new.state.graph (lists_of c.args.body.now) (lists_of c.declare_resource.new.body) (places_of c.args.body.now.names) (resource_decl_of c.args.decl.now) c.in_ok-resource.resource (told c.in_err-add_methods.field-0.0) c.in_ok-resource.ensures.ok h)
+    rw (p.1, p.2) (reports c.in_err-add_methods.ensures.err (λ err. methods_broken (owner_of c.args.owner.now) c.args.side c.args.state.now.graph c.declare_resource.new.state.graph (lists_of c.args.body.now) (lists_of c.declare_resource.new.body) (places_of c.args.body.now.names) (resource_decl_of c.args.decl.now) c.in_ok-resource.resource (told c.in_err-add_methods.field-0.0) c.in_ok-resource.ensures.ok
+    (subst (λ (l : List ResourceMethod). (naming : Naming) → Fails (HasMethod c.args.side name (entry_means naming c.declare_resource.new.state.graph c.in_ok-resource.resource.0)) (MethodBroken c.args.side name (entry_means naming c.declare_resource.new.state.graph c.in_ok-resource.resource.0) (told c.in_err-add_methods.field-0.0)) (body_of naming c.declare_resource.new.state.graph c.declare_resource.new.body) (map resource_method_of l)) c.deref.ensures.value err)))
 
 pub returns-clause-ok : goal.returns-clause-ok
 returns-clause-ok c =

@@ -1,17 +1,19 @@
 use Rattle.std.proofs.Common.{List, map, subst}
 use Rattle.std.specs.Prelude.{IfErr}
-use Rattle.std.proofs.lemmas.Result.{IfErr-weaker}
+use Rattle.std.proofs.lemmas.Result.{IfErr-weaker, err_from_is_err_and}
 use Rattle.wac_types.specs.Names.{by_name}
 use Rattle.wac_grammar.specs.Tree.{arguments_from}
 use Rattle.wac_ast_base.specs.Names.{package_name_of}
 use Rattle.wac_ast_expressions.specs.Expressions.{argument_of}
 use Rattle.wac_ast_expressions.specs.declared.expr.InstantiationArgument.{InstantiationArgument}
+use Rattle.wac_resolution_errors.specs.Error.{Reports}
 use Rattle.wac_resolution_errors.specs.Told.{told}
 use Rattle.wac_resolution_rules.specs.Given.{rules_by}
 use Rattle.wac_resolution_nodes.specs.Root.{numbers_of}
 use Rattle.wac_resolution_arguments.specs.Arguments.{given_nodes}
 use Rattle.wac_resolution_arguments.specs.Complete.{IsIncomplete}
 use Rattle.wac_resolution_expressions.specs.Completing.{AreWrong}
+use Rattle.wac_resolution_errors.proofs.Reports.{reports}
 use Rattle.wac_resolution_expressions.proofs.Checking.{left_wrong}
 use Rattle.wac_resolution_expressions.proofs.completing.check_arguments.Goals as goal
 
@@ -20,8 +22,13 @@ returns-clause-err g c =
     let given = by_name c.args.given.now.entries in
     let args = arguments_from (map argument_of c.args.new.now.arguments.items) in
     let rules = rules_by (g.R.Rules.passes c.args.rules.now) (g.R.Rules.named c.args.rules.now) in
-    let err = subst (λ (l : List InstantiationArgument). IfErr c.check_complete.result (λ e. IsIncomplete c.args.state.now.graph c.args.world (package_name_of c.args.new.now.«package») (arguments_from (map argument_of l)) (given_nodes (by_name c.args.given.now.entries)) (told e)))
+    let err = subst (λ (l : List InstantiationArgument). IfErr c.check_complete.result (λ e. Reports (told e) (IsIncomplete c.args.state.now.graph c.args.world (package_name_of c.args.new.now.«package») (arguments_from (map argument_of l)) (given_nodes (by_name c.args.given.now.entries)) (told e))))
     c.deref.ensures.value c.check_complete.ensures.err in
-    IfErr-weaker c.check_complete.result (λ e. IsIncomplete c.args.state.now.graph c.args.world (package_name_of c.args.new.now.«package») args (given_nodes given) (told e))
-    (λ e. AreWrong rules c.args.state.now.graph (numbers_of c.args.root.now.nodes) c.args.world (package_name_of c.args.new.now.«package») args given (told e))
-    (λ e. left_wrong rules c.args.state.now.graph (numbers_of c.args.root.now.nodes) c.args.world (package_name_of c.args.new.now.«package») args given (told e) c.in_ok-check_fit.ensures.ok) err
+    IfErr-weaker c.check_complete.result (λ e. Reports (told e) (IsIncomplete c.args.state.now.graph c.args.world (package_name_of c.args.new.now.«package») args (given_nodes given) (told e)))
+    (λ e. Reports (told e) (AreWrong rules c.args.state.now.graph (numbers_of c.args.root.now.nodes) c.args.world (package_name_of c.args.new.now.«package») args given (told e)))
+    (λ e h. reports h (left_wrong rules c.args.state.now.graph (numbers_of c.args.root.now.nodes) c.args.world (package_name_of c.args.new.now.«package») args given (told e) c.in_ok-check_fit.ensures.ok)) err
+
+pub returns-in_err-check_fit-clause-err : goal.returns-in_err-check_fit-clause-err
+returns-in_err-check_fit-clause-err g c =
+    let p = err_from_is_err_and c.from_residual.result c.from_residual.ensures.1 in
+    rw (p.1, p.2) c.in_err-check_fit.ensures.err

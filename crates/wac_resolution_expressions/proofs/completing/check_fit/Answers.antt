@@ -1,10 +1,9 @@
-use Rattle.std.proofs.Common.{map}
+use Rattle.std.proofs.Common.{map, inr, ◌≡◌, List, subst}
 use Rattle.wac_types.specs.Names.{by_name}
 use Rattle.wac_grammar.specs.Tree.{arguments_from}
 use Rattle.wac_ast_base.specs.Names.{package_name_of}
 use Rattle.wac_ast_expressions.specs.Expressions.{argument_of}
 use Rattle.wac_ast_expressions.specs.declared.expr.InstantiationArgument.{InstantiationArgument}
-use Rattle.std.proofs.Common.{◌≡◌, List, subst}
 use Rattle.wac_graph.specs.Origin.{Naming}
 use Rattle.wac_types.specs.Scope.{look_up}
 use Rattle.wac_resolution_errors.specs.Told.{told}
@@ -19,5 +18,5 @@ pub returns-in_ok-misfitting-in-Some-clause-err : goal.returns-in_ok-misfitting-
 returns-in_ok-misfitting-in-Some-clause-err g c =
     let args = c.args.new.now.arguments.items in
     let found = subst (λ (l : List InstantiationArgument). (naming : Naming) → look_up c.in-Some.name.now (argument_places (composed naming c.args.state.now.graph c.args.root.now) (imports_at naming c.args.state.now.graph c.args.world) (arguments_from (map argument_of l))) ≡ c.place-place.result) c.deref.ensures.value c.place-place.ensures in
-    misfit_wrong (rules_by (g.R.Rules.passes c.args.rules.now) (g.R.Rules.named c.args.rules.now)) c.args.state.now.graph (numbers_of c.args.root.now.nodes) c.args.world (package_name_of c.args.new.now.«package») (arguments_from (map argument_of args)) (by_name c.args.given.now.entries)
-    c.in-Some.name.now c.place-place.result c.unwrap_or-span.result (told c.in_ok-misfitting-in-Some.field-0) c.requires.stand found c.unwrap_or-span.ensures c.in-Some.reason c.in-Some.ensures c.in_ok-misfitting-in-Some.ensures
+    inr (misfit_wrong (rules_by (g.R.Rules.passes c.args.rules.now) (g.R.Rules.named c.args.rules.now)) c.args.state.now.graph (numbers_of c.args.root.now.nodes) c.args.world (package_name_of c.args.new.now.«package») (arguments_from (map argument_of args)) (by_name c.args.given.now.entries)
+    c.in-Some.name.now c.place-place.result c.unwrap_or-span.result (told c.in_ok-misfitting-in-Some.field-0) c.requires.stand found c.unwrap_or-span.ensures c.in-Some.reason c.in-Some.ensures c.in_ok-misfitting-in-Some.ensures)

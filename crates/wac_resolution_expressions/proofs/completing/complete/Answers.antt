@@ -5,11 +5,17 @@ use Rattle.wac_grammar.specs.Tree.{arguments_from}
 use Rattle.wac_ast_base.specs.Names.{package_name_of}
 use Rattle.wac_ast_expressions.specs.Expressions.{argument_of}
 use Rattle.wac_ast_expressions.specs.declared.expr.InstantiationArgument.{InstantiationArgument}
+use Rattle.wac_types.specs.Steps.{Fails}
+use Rattle.wac_graph.specs.Origin.{Naming}
+use Rattle.wac_resolution_rules.specs.Expressions.{Spreads, spreads_of}
+use Rattle.wac_resolution_rules.specs.BrokenExpressions.{SpreadBroken}
+use Rattle.wac_resolution_arguments.specs.Spreads.{giving_of, imports_at}
 use Rattle.wac_resolution_errors.specs.Told.{told}
 use Rattle.wac_resolution_rules.specs.Given.{rules_by}
 use Rattle.wac_resolution_nodes.specs.Root.{numbers_of}
+use Rattle.wac_resolution_errors.proofs.Reports.{reports}
 use Rattle.wac_resolution_nodes.proofs.Roots.{agrees_nodes}
-use Rattle.wac_resolution_expressions.proofs.Checking.{SpreadsGive, somewhere, wrong_after, loaded_nodes, imports_named, completes}
+use Rattle.wac_resolution_expressions.proofs.Checking.{SpreadsGive, somewhere, wrong_after, spreads_fail, loaded_nodes, imports_named, completes}
 use Rattle.std.proofs.lemmas.Option.{slice_get_within}
 use Rattle.wac_resolution_expressions.proofs.completing.complete.Goals as goal
 
@@ -22,13 +28,21 @@ check_arguments-requires-clause-stand g c =
     c.deref.ensures.value c.in_ok-spreads.ensures.ok in
     somewhere c.args.state.now.graph c.spreads.new.state.graph (by_name c.args.given.now.entries) (by_name c.spreads.new.given.entries) (numbers_of c.args.root.now.nodes) c.args.of.world (arguments_from (map argument_of c.args.new.now.arguments.items)) gave c.requires.stand
 
+pub returns-in_err-spreads-clause-err : goal.returns-in_err-spreads-clause-err
+returns-in_err-spreads-clause-err g c =
+    let e = told c.in_err-spreads.field-0.0 in
+    let p = err_from_is_err_and c.from_residual.result c.from_residual.ensures.1 in
+    rw (p.1, p.2) (reports c.in_err-spreads.ensures.err (λ err.
+    spreads_fail (rules_by (g.R.Rules.passes c.args.rules.now) (g.R.Rules.named c.args.rules.now)) c.args.state.now.graph (numbers_of c.args.root.now.nodes) c.args.of.world (package_name_of c.args.new.now.«package») (arguments_from (map argument_of c.args.new.now.arguments.items)) (by_name c.args.given.now.entries) e
+    (subst (λ (l : List InstantiationArgument). (naming : Naming) → Fails (Spreads (imports_at naming c.args.state.now.graph c.args.of.world)) (SpreadBroken (imports_at naming c.args.state.now.graph c.args.of.world) e) (giving_of naming c.args.state.now.graph (numbers_of c.args.root.now.nodes) (by_name c.args.given.now.entries)) (spreads_of (arguments_from (map argument_of l)))) c.deref.ensures.value err)))
+
 pub returns-in_err-check_arguments-clause-err : goal.returns-in_err-check_arguments-clause-err
 returns-in_err-check_arguments-clause-err g c =
     let gave = subst (λ (l : List InstantiationArgument). SpreadsGive c.args.state.now.graph c.spreads.new.state.graph (by_name c.args.given.now.entries) (by_name c.spreads.new.given.entries) (numbers_of c.args.root.now.nodes) c.args.of.world (arguments_from (map argument_of l)))
     c.deref.ensures.value c.in_ok-spreads.ensures.ok in
     let p = err_from_is_err_and c.from_residual-in_err-check_arguments.result c.from_residual-in_err-check_arguments.ensures.1 in
-    rw (p.1, p.2) (wrong_after c.args.state.now.graph c.spreads.new.state.graph (by_name c.args.given.now.entries) (by_name c.spreads.new.given.entries) (numbers_of c.args.root.now.nodes) c.args.of.world (arguments_from (map argument_of c.args.new.now.arguments.items)) gave
-    (rules_by (g.R.Rules.passes c.args.rules.now) (g.R.Rules.named c.args.rules.now)) (package_name_of c.args.new.now.«package») (told c.in_err-check_arguments.field-0.0) c.in_err-check_arguments.ensures.err)
+    rw (p.1, p.2) (reports c.in_err-check_arguments.ensures.err (wrong_after c.args.state.now.graph c.spreads.new.state.graph (by_name c.args.given.now.entries) (by_name c.spreads.new.given.entries) (numbers_of c.args.root.now.nodes) c.args.of.world (arguments_from (map argument_of c.args.new.now.arguments.items)) gave
+    (rules_by (g.R.Rules.passes c.args.rules.now) (g.R.Rules.named c.args.rules.now)) (package_name_of c.args.new.now.«package») (told c.in_err-check_arguments.field-0.0)))
 
 pub instantiate-requires-clause-held : goal.instantiate-requires-clause-held
 instantiate-requires-clause-held g c =

@@ -1,9 +1,9 @@
-use Rattle.std.proofs.Common.{◌≡◌, ◌∙◌, ◌-◌, suc, List, map, sym, ap, subst, length, arith, rules}
+use Rattle.std.proofs.Common.{◌≡◌, ◌∙◌, ◌-◌, suc, List, map, sym, ap, subst, length, arith, rules, inr}
 use denote.Param.Weighed.{most}
 use Rattle.std.specs.Prelude.{IfOk, IfErr, OnOk, nat_eq}
 use Rattle.std.proofs.lemmas.Result.{err_from_is_err_and, IfOk-weaker, IfErr-weaker, on_ok_weaker}
 use Rattle.wac_lexer.specs.Span.{Span}
-use Rattle.wac_grammar.specs.Tree.{PrimaryExpr, arguments_from}
+use Rattle.wac_grammar.specs.Tree.{PrimaryExpr, InstantiationArgument, arguments_from}
 use Rattle.wac_types.specs.Names.{by_name}
 use Rattle.wac_ast_base.specs.Names.{ident_of, package_name_of}
 use Rattle.wac_ast_expressions.specs.Expressions.{argument_of, argument_name_of, expr_of, new_expr_of, primary_expr_of, postfix_expr_of}
@@ -12,9 +12,11 @@ use Rattle.wac_ast_expressions.specs.declared.expr.NestedExpr.{out-NestedExpr}
 use Rattle.wac_ast_expressions.specs.declared.expr.NewExpr.{size_is-NewExpr}
 use Rattle.wac_ast_expressions.specs.declared.expr.PostfixExpr.{PostfixExpr as CodePostfixExpr}
 use Rattle.wac_ast_expressions.proofs.ExprViews.{new_is}
+use Rattle.wac_resolution_errors.specs.Error.{Reports}
 use Rattle.wac_resolution_errors.specs.Told.{told}
 use Rattle.wac_resolution_rules.specs.BrokenTypes.{IsUndefined}
 use Rattle.wac_resolution_rules.specs.Given.{rules_by}
+use Rattle.wac_resolution_errors.proofs.Reports.{reports, if_reports}
 use Rattle.wac_resolution_state.proofs.Sizes.{most_at}
 use Rattle.wac_resolution_nodes.specs.Accesses.{AccessesGo}
 use Rattle.wac_resolution_nodes.specs.Root.{numbers_of, NodeIs}
@@ -33,8 +35,8 @@ use Rattle.wac_resolution_expressions.proofs.expr.+expression.Goals as goal
 pub expression-returns-in_err-node-clause-err : goal.expression-returns-in_err-node-clause-err
 expression-returns-in_err-node-clause-err g t c =
     let p = err_from_is_err_and c.from_residual.result c.from_residual.ensures.1 in
-    rw (p.1, p.2) (stand.expr_breaks_first c.args.setting.now (rules_by (g.R.Rules.passes c.args.rules.now) (g.R.Rules.named c.args.rules.now)) c.args.state.now.graph (numbers_of c.args.root.now.nodes) c.args.expr.now.span
-    (primary_expr_of c.args.expr.now.primary) (map postfix_expr_of c.args.expr.now.postfix.items) (told c.in_err-node.field-0.0) c.in_err-node.ensures.err)
+    rw (p.1, p.2) (reports c.in_err-node.ensures.err (stand.expr_breaks_first c.args.setting.now (rules_by (g.R.Rules.passes c.args.rules.now) (g.R.Rules.named c.args.rules.now)) c.args.state.now.graph (numbers_of c.args.root.now.nodes) c.args.expr.now.span
+    (primary_expr_of c.args.expr.now.primary) (map postfix_expr_of c.args.expr.now.postfix.items) (told c.in_err-node.field-0.0)))
 
 pub expression-accesses-requires-clause-agrees : goal.expression-accesses-requires-clause-agrees
 expression-accesses-requires-clause-agrees g t c = c.in_ok-node.ensures.ok.extends.stand
@@ -56,10 +58,11 @@ pub expression-returns-clause-err : goal.expression-returns-clause-err
 expression-returns-clause-err g t c =
     let s = c.args.setting.now in
     let rules = rules_by (g.R.Rules.passes c.args.rules.now) (g.R.Rules.named c.args.rules.now) in
-    let there = subst (λ (l : List CodePostfixExpr). IfErr c.accesses.result (λ e. stand.AccessesBreak s rules c.primary.new.state.graph c.span.result c.in_ok-node.node.0 (map postfix_expr_of l) (told e))) c.deref.ensures.value c.accesses.ensures.err in
-    let spanned = subst (λ (x : Span). IfErr c.accesses.result (λ e. stand.AccessesBreak s rules c.primary.new.state.graph x c.in_ok-node.node.0 (map postfix_expr_of c.args.expr.now.postfix.items) (told e))) c.span.ensures there in
-    stand.expr_breaks_later s rules c.args.state.now.graph c.primary.new.state.graph (numbers_of c.args.root.now.nodes) c.args.expr.now.span (primary_expr_of c.args.expr.now.primary) (map postfix_expr_of c.args.expr.now.postfix.items) c.in_ok-node.node.0 c.accesses.result
-    c.in_ok-node.ensures.ok spanned
+    let there = subst (λ (l : List CodePostfixExpr). IfErr c.accesses.result (λ e. Reports (told e) (stand.AccessesBreak s rules c.primary.new.state.graph c.span.result c.in_ok-node.node.0 (map postfix_expr_of l) (told e)))) c.deref.ensures.value c.accesses.ensures.err in
+    let spanned = subst (λ (x : Span). IfErr c.accesses.result (λ e. Reports (told e) (stand.AccessesBreak s rules c.primary.new.state.graph x c.in_ok-node.node.0 (map postfix_expr_of c.args.expr.now.postfix.items) (told e)))) c.span.ensures there in
+    if_reports _ _
+    (λ r. stand.expr_breaks_later s rules c.args.state.now.graph c.primary.new.state.graph (numbers_of c.args.root.now.nodes) c.args.expr.now.span (primary_expr_of c.args.expr.now.primary) (map postfix_expr_of c.args.expr.now.postfix.items) c.in_ok-node.node.0 r c.in_ok-node.ensures.ok)
+    c.accesses.result spanned
 
 -- ---- what comes first
 
@@ -70,7 +73,7 @@ primary-returns-in-New-clause-ok g t c =
 
 pub primary-returns-in-New-clause-err : goal.primary-returns-in-New-clause-err
 primary-returns-in-New-clause-err g t c =
-    subst (λ (x : PrimaryExpr). IfErr c.instantiation.result (λ e. PrimaryBreaks c.args.setting.now (rules_by (g.R.Rules.passes c.args.rules.now) (g.R.Rules.named c.args.rules.now)) c.args.state.now.graph (numbers_of c.args.root.now.nodes) x (told e)))
+    subst (λ (x : PrimaryExpr). IfErr c.instantiation.result (λ e. Reports (told e) (PrimaryBreaks c.args.setting.now (rules_by (g.R.Rules.passes c.args.rules.now) (g.R.Rules.named c.args.rules.now)) c.args.state.now.graph (numbers_of c.args.root.now.nodes) x (told e))))
     (sym (ap primary_expr_of c.in-New.is ∙ new_is c.in-New.part)) c.instantiation.ensures.err
 
 pub primary-returns-in-Ident-clause-ok : goal.primary-returns-in-Ident-clause-ok
@@ -87,9 +90,9 @@ primary-returns-in-Ident-clause-err g t c =
     let s = c.args.setting.now in
     let rules = rules_by (g.R.Rules.passes c.args.rules.now) (g.R.Rules.named c.args.rules.now) in
     let graph = c.args.state.now.graph in
-    subst (λ (x : PrimaryExpr). IfErr c.node.result (λ e. PrimaryBreaks s rules graph (numbers_of c.args.root.now.nodes) x (told e))) (sym (ap primary_expr_of c.in-Ident.is))
-    (IfErr-weaker c.node.result (λ e. IsUndefined (numbers_of c.args.root.now.nodes) (ident_of c.in-Ident.id) (told e)) (λ e. PrimaryBreaks s rules graph (numbers_of c.args.root.now.nodes) (PrimaryExpr.ident (ident_of c.in-Ident.id)) (told e))
-    (λ e h naming one. h) c.node.ensures.err)
+    subst (λ (x : PrimaryExpr). IfErr c.node.result (λ e. Reports (told e) (PrimaryBreaks s rules graph (numbers_of c.args.root.now.nodes) x (told e)))) (sym (ap primary_expr_of c.in-Ident.is))
+    (IfErr-weaker c.node.result (λ e. Reports (told e) (IsUndefined (numbers_of c.args.root.now.nodes) (ident_of c.in-Ident.id) (told e))) (λ e. Reports (told e) (PrimaryBreaks s rules graph (numbers_of c.args.root.now.nodes) (PrimaryExpr.ident (ident_of c.in-Ident.id)) (told e)))
+    (λ e h. reports h (λ b naming one. b)) c.node.ensures.err)
 
 pub primary-returns-in-Nested-clause-ok : goal.primary-returns-in-Nested-clause-ok
 primary-returns-in-Nested-clause-ok g t c =
@@ -114,16 +117,16 @@ primary-returns-in-Nested-clause-err g t c =
     let span = (out-NestedExpr c.in-Nested.nested).span in
     let inner : c.deref.result.now ≡ (out-NestedExpr c.in-Nested.nested).inner.value = search rules in
     let is : primary_expr_of c.args.expr.now ≡ PrimaryExpr.nested span (expr_of c.deref.result.now) = ap primary_expr_of c.in-Nested.is ∙ stand.nested_is c.in-Nested.nested ∙ ap (λ y. PrimaryExpr.nested span (expr_of y)) (sym inner) in
-    subst (λ (x : PrimaryExpr). IfErr c.expression.result (λ e. PrimaryBreaks s rules old declared x (told e))) (sym is)
-    (IfErr-weaker c.expression.result (λ e. ExprBreaks s rules old declared (expr_of c.deref.result.now) (told e)) (λ e. PrimaryBreaks s rules old declared (PrimaryExpr.nested span (expr_of c.deref.result.now)) (told e)) (λ e h. h) c.expression.ensures.err)
+    subst (λ (x : PrimaryExpr). IfErr c.expression.result (λ e. Reports (told e) (PrimaryBreaks s rules old declared x (told e)))) (sym is)
+    (IfErr-weaker c.expression.result (λ e. Reports (told e) (ExprBreaks s rules old declared (expr_of c.deref.result.now) (told e))) (λ e. Reports (told e) (PrimaryBreaks s rules old declared (PrimaryExpr.nested span (expr_of c.deref.result.now)) (told e))) (λ e h. h) c.expression.ensures.err)
 
 -- ---- an instance
 
 pub instantiation-returns-in_err-of-clause-err : goal.instantiation-returns-in_err-of-clause-err
 instantiation-returns-in_err-of-clause-err g t c =
     let p = err_from_is_err_and c.from_residual.result c.from_residual.ensures.1 in
-    rw (p.1, p.2) (stand.unknown_breaks c.args.setting.now (rules_by (g.R.Rules.passes c.args.rules.now) (g.R.Rules.named c.args.rules.now)) c.args.state.now.graph (numbers_of c.args.root.now.nodes) c.args.new.now.span (package_name_of c.args.new.now.«package»)
-    (arguments_from (map argument_of c.args.new.now.arguments.items)) (told c.in_err-of.field-0.0) c.in_err-of.ensures.err)
+    rw (p.1, p.2) (reports c.in_err-of.ensures.err (stand.unknown_breaks c.args.setting.now (rules_by (g.R.Rules.passes c.args.rules.now) (g.R.Rules.named c.args.rules.now)) c.args.state.now.graph (numbers_of c.args.root.now.nodes) c.args.new.now.span (package_name_of c.args.new.now.«package»)
+    (arguments_from (map argument_of c.args.new.now.arguments.items)) (told c.in_err-of.field-0.0)))
 
 pub instantiation-returns-in_err-arguments-clause-err : goal.instantiation-returns-in_err-arguments-clause-err
 instantiation-returns-in_err-arguments-clause-err g t c =
@@ -133,9 +136,10 @@ instantiation-returns-in_err-arguments-clause-err g t c =
     let loaded = c.instantiable.new.state.graph in
     let e = told c.in_err-arguments.field-0.0 in
     let none = ap by_name c.new-given.ensures.empty in
-    let broken = subst (λ (l : List CodeArgument). ArgumentsBreak s rules loaded (by_name c.new-given.result.entries) declared c.in_ok-of.of.world (arguments_from (map argument_of l)) e) c.deref.ensures.value c.in_err-arguments.ensures.err in
     let p = err_from_is_err_and c.from_residual-in_err-arguments.result c.from_residual-in_err-arguments.ensures.1 in
-    rw (p.1, p.2) (stand.arguments_break s rules c.args.state.now.graph loaded declared c.args.new.now.span (package_name_of c.args.new.now.«package») (arguments_from (map argument_of c.args.new.now.arguments.items)) c.in_ok-of.of e c.in_ok-of.ensures.ok (rw none at broken))
+    rw (p.1, p.2) (reports c.in_err-arguments.ensures.err (λ err.
+    let broken = subst (λ (l : List CodeArgument). ArgumentsBreak s rules loaded (by_name c.new-given.result.entries) declared c.in_ok-of.of.world (arguments_from (map argument_of l)) e) c.deref.ensures.value err in
+    stand.arguments_break s rules c.args.state.now.graph loaded declared c.args.new.now.span (package_name_of c.args.new.now.«package») (arguments_from (map argument_of c.args.new.now.arguments.items)) c.in_ok-of.of e c.in_ok-of.ensures.ok (rw none at broken)))
 
 pub instantiation-complete-requires-clause-agrees : goal.instantiation-complete-requires-clause-agrees
 instantiation-complete-requires-clause-agrees g t c =
@@ -185,8 +189,8 @@ instantiation-returns-clause-err g t c =
     let args = arguments_from (map argument_of c.args.new.now.arguments.items) in
     let given = by_name c.arguments.new.given.entries in
     let gave = subst (λ (l : List CodeArgument). ArgumentsGo s rules loaded mid (by_name c.new-given.result.entries) given declared c.in_ok-of.of.world (arguments_from (map argument_of l))) c.deref.ensures.value c.in_ok-arguments.ensures.ok in
-    IfErr-weaker c.complete.result (λ e. FailsToComplete rules mid declared c.in_ok-of.of.world name args given (told e)) (λ e. PrimaryBreaks s rules old declared (new_expr_of c.args.new.now) (told e))
-    (λ e. stand.completing_breaks s rules old loaded mid declared c.args.new.now.span name args c.in_ok-of.of given c.in_ok-of.ensures.ok (rw (ap by_name c.new-given.ensures.empty) at gave) (told e)) c.complete.ensures.err
+    IfErr-weaker c.complete.result (λ e. Reports (told e) (FailsToComplete rules mid declared c.in_ok-of.of.world name args given (told e))) (λ e. Reports (told e) (PrimaryBreaks s rules old declared (new_expr_of c.args.new.now) (told e)))
+    (λ e h. reports h (stand.completing_breaks s rules old loaded mid declared c.args.new.now.span name args c.in_ok-of.of given c.in_ok-of.ensures.ok (rw (ap by_name c.new-given.ensures.empty) at gave) (told e))) c.complete.ensures.err
 
 pub instantiation-arguments-requires : goal.instantiation-arguments-requires
 instantiation-arguments-requires g t c κs within =
@@ -227,9 +231,9 @@ pub arguments-returns-in_err-argument-clause-err : goal.arguments-returns-in_err
 arguments-returns-in_err-argument-clause-err g t c =
     let p = err_from_is_err_and c.from_residual.result c.from_residual.ensures.1 in
     let last : c.loop-one.left - 1 ≡ length c.args.arguments.now - suc c.loop-one.one-index = omega (arith, c.loop-one.invariant.left) in
-    rw (p.1, p.2) (stand.argument_breaks c.args.setting.now (rules_by (g.R.Rules.passes c.args.rules.now) (g.R.Rules.named c.args.rules.now)) c.args.state.now.graph (by_name c.args.given.now.entries) (numbers_of c.args.root.now.nodes) c.args.world
+    rw (p.1, p.2) (reports c.in_err-argument.ensures.err (stand.argument_breaks c.args.setting.now (rules_by (g.R.Rules.passes c.args.rules.now) (g.R.Rules.named c.args.rules.now)) c.args.state.now.graph (by_name c.args.given.now.entries) (numbers_of c.args.root.now.nodes) c.args.world
     c.loop-one.state.graph (by_name c.loop-one.given.entries) c.args.arguments.now c.loop-one.one-index c.one-item.result c.loop-one-test.true c.one-item.is c.requires.world c.loop-one.invariant.so_far
-    (nat_eq (c.loop-one.left - 1) 0) (told c.in_err-argument.field-0.0) (ap (λ k. nat_eq k 0) last) c.in_err-argument.ensures.err)
+    (nat_eq (c.loop-one.left - 1) 0) (told c.in_err-argument.field-0.0) (ap (λ k. nat_eq k 0) last)))
 
 pub arguments-loop-one-preserved : goal.arguments-loop-one-preserved
 arguments-loop-one-preserved g t c =
@@ -274,8 +278,9 @@ argument-returns-in-Fill-clause-err g t c =
     let graph = c.args.state.now.graph in
     let given = by_name c.args.given.now.entries in
     let declared = numbers_of c.args.root.now.nodes in
-    subst (λ (x : CodeArgument). IfErr c.check_last.result (λ e. ArgumentBreaks s rules graph given declared c.args.world c.args.is_last (argument_of x) (told e))) (sym c.in-Fill.is)
-    (stand.fill_breaks s rules graph given declared c.args.world c.args.is_last c.in-Fill.span c.check_last.result c.check_last.ensures.err)
+    subst (λ (x : CodeArgument). IfErr c.check_last.result (λ e. Reports (told e) (ArgumentBreaks s rules graph given declared c.args.world c.args.is_last (argument_of x) (told e)))) (sym c.in-Fill.is)
+    (IfErr-weaker c.check_last.result (λ e. ArgumentBreaks s rules graph given declared c.args.world c.args.is_last (InstantiationArgument.fill c.in-Fill.span) (told e)) (λ e. Reports (told e) (ArgumentBreaks s rules graph given declared c.args.world c.args.is_last (InstantiationArgument.fill c.in-Fill.span) (told e)))
+    (λ e b. inr b) (stand.fill_breaks s rules graph given declared c.args.world c.args.is_last c.in-Fill.span c.check_last.result c.check_last.ensures.err))
 
 pub argument-returns-in-Inferred-clause-ok : goal.argument-returns-in-Inferred-clause-ok
 argument-returns-in-Inferred-clause-ok g t c =
@@ -295,8 +300,8 @@ argument-returns-in-Inferred-clause-err g t c =
     let graph = c.args.state.now.graph in
     let before = by_name c.args.given.now.entries in
     let declared = numbers_of c.args.root.now.nodes in
-    subst (λ (x : CodeArgument). IfErr c.give_inferred.result (λ e. ArgumentBreaks s rules graph before declared c.args.world c.args.is_last (argument_of x) (told e))) (sym c.in-Inferred.is)
-    (stand.inferred_breaks_on s rules graph before declared c.args.world c.args.is_last (ident_of c.in-Inferred.id) c.give_inferred.result c.give_inferred.ensures.err)
+    subst (λ (x : CodeArgument). IfErr c.give_inferred.result (λ e. Reports (told e) (ArgumentBreaks s rules graph before declared c.args.world c.args.is_last (argument_of x) (told e)))) (sym c.in-Inferred.is)
+    (if_reports _ _ (stand.inferred_breaks_on s rules graph before declared c.args.world c.args.is_last (ident_of c.in-Inferred.id)) c.give_inferred.result c.give_inferred.ensures.err)
 
 pub argument-returns-in_err-node-in-Named-clause-err : goal.argument-returns-in_err-node-in-Named-clause-err
 argument-returns-in_err-node-in-Named-clause-err g t c =
@@ -307,8 +312,8 @@ argument-returns-in_err-node-in-Named-clause-err g t c =
     let declared = numbers_of c.args.root.now.nodes in
     let e = told c.in_err-node-in-Named.field-0.0 in
     let p = err_from_is_err_and c.from_residual.result c.from_residual.ensures.1 in
-    rw (p.1, p.2) (subst (λ (x : CodeArgument). ArgumentBreaks s rules graph before declared c.args.world c.args.is_last (argument_of x) e) (sym c.in-Named.is)
-    (stand.named_breaks_first s rules graph before declared c.args.world c.args.is_last (argument_name_of c.in-Named.named.name) (expr_of c.in-Named.named.expr) e c.in_err-node-in-Named.ensures.err))
+    rw (p.1, p.2) (reports c.in_err-node-in-Named.ensures.err (λ err. subst (λ (x : CodeArgument). ArgumentBreaks s rules graph before declared c.args.world c.args.is_last (argument_of x) e) (sym c.in-Named.is)
+    (stand.named_breaks_first s rules graph before declared c.args.world c.args.is_last (argument_name_of c.in-Named.named.name) (expr_of c.in-Named.named.expr) e err)))
 
 pub argument-give_named-requires : goal.argument-give_named-requires
 argument-give_named-requires g t c = world_extended (packages_in c.args.setting.now) c.args.state.now.graph c.expression.new.state.graph c.in_ok-node-in-Named.ensures.ok.extends c.args.world c.requires.world
@@ -333,5 +338,7 @@ argument-returns-in_ok-node-in-Named-clause-err g t c =
     let mid = c.expression.new.state.graph in
     let before = by_name c.args.given.now.entries in
     let declared = numbers_of c.args.root.now.nodes in
-    subst (λ (x : CodeArgument). IfErr c.give_named.result (λ e. ArgumentBreaks s rules graph before declared c.args.world c.args.is_last (argument_of x) (told e))) (sym c.in-Named.is)
-    (stand.named_breaks_later s rules graph before declared c.args.world mid c.args.is_last (argument_name_of c.in-Named.named.name) (expr_of c.in-Named.named.expr) c.in_ok-node-in-Named.node.0 c.give_named.result c.requires.world c.in_ok-node-in-Named.ensures.ok c.give_named.ensures.err)
+    subst (λ (x : CodeArgument). IfErr c.give_named.result (λ e. Reports (told e) (ArgumentBreaks s rules graph before declared c.args.world c.args.is_last (argument_of x) (told e)))) (sym c.in-Named.is)
+    (if_reports _ _
+    (λ r. stand.named_breaks_later s rules graph before declared c.args.world mid c.args.is_last (argument_name_of c.in-Named.named.name) (expr_of c.in-Named.named.expr) c.in_ok-node-in-Named.node.0 r c.requires.world c.in_ok-node-in-Named.ensures.ok)
+    c.give_named.result c.give_named.ensures.err)

@@ -1,9 +1,15 @@
-use Rattle.std.proofs.Common.{◌∙◌, Some, sym, ap}
-use Rattle.std.proofs.lemmas.Result.{on_ok_weaker}
+use Rattle.std.proofs.Common.{◌∙◌, Some, sym, ap, inl}
+use Rattle.std.proofs.lemmas.Result.{err_from_is_err_and, on_ok_weaker}
 use Rattle.wac_types.specs.Names.{by_name}
 use Rattle.wac_ast_base.specs.Names.{ident_of}
+use Rattle.wac_resolution_errors.proofs.Reports.{reports, if_reports}
 use Rattle.wac_resolution_expressions.proofs.GivingNodes.{inferred_goes, inferred_breaks}
 use Rattle.wac_resolution_expressions.proofs.given.give_inferred.Goals as goal
+
+pub returns-in_err-node-clause-err : goal.returns-in_err-node-clause-err
+returns-in_err-node-clause-err c =
+    let p = err_from_is_err_and c.from_residual.result c.from_residual.ensures.1 in
+    rw (p.1, p.2) (reports c.in_err-node.ensures.err (λ err naming s rest. inl err))
 
 pub returns-clause-ok : goal.returns-clause-ok
 returns-clause-ok c =
@@ -14,5 +20,7 @@ returns-clause-ok c =
 
 pub returns-clause-err : goal.returns-clause-err
 returns-clause-err c =
-    inferred_breaks c.args.state.now.graph c.args.root.now c.args.world (ident_of c.args.id.now) c.in_ok-node.node c.as_str.result.now (by_name c.args.given.now.entries) c.give.result c.in_ok-node.ensures.ok
-    (λ naming declared. c.in_ok-import.ensures naming declared ∙ ap Some (sym c.as_str.ensures.value)) c.give.ensures.err
+    if_reports _ _
+    (λ r. inferred_breaks c.args.state.now.graph c.args.root.now c.args.world (ident_of c.args.id.now) c.in_ok-node.node c.as_str.result.now (by_name c.args.given.now.entries) r c.in_ok-node.ensures.ok
+    (λ naming declared. c.in_ok-import.ensures naming declared ∙ ap Some (sym c.as_str.ensures.value)))
+    c.give.result c.give.ensures.err

@@ -4,10 +4,13 @@ use Rattle.wac_grammar.specs.Spans.{argument_name_span}
 use Rattle.wac_ast_expressions.specs.Expressions.{argument_name_of}
 use Rattle.wac_resolution_rules.specs.Expressions.{name_meant}
 use Rattle.wac_resolution_arguments.specs.Spreads.{imports_at}
+use Rattle.wac_resolution_errors.proofs.Reports.{if_reports}
 use Rattle.wac_resolution_expressions.proofs.GivingNodes.{given_for}
 use Rattle.wac_resolution_expressions.proofs.given.give_named.Goals as goal
 
 pub returns-clause-err : goal.returns-clause-err
 returns-clause-err c =
-    given_for c.give.result (by_name c.args.given.now.entries) c.as_str.result.now (λ naming. name_meant (argument_name_of c.args.name.now) (imports_at naming c.args.state.now.graph c.args.world)) c.span.result (argument_name_span (argument_name_of c.args.name.now))
-    (λ naming. c.as_str.ensures.value ∙ c.in_ok-import.ensures naming) c.span.ensures c.give.ensures.err
+    if_reports _ _
+    (λ r. given_for r (by_name c.args.given.now.entries) c.as_str.result.now (λ naming. name_meant (argument_name_of c.args.name.now) (imports_at naming c.args.state.now.graph c.args.world)) c.span.result (argument_name_span (argument_name_of c.args.name.now))
+    (λ naming. c.as_str.ensures.value ∙ c.in_ok-import.ensures naming) c.span.ensures)
+    c.give.result c.give.ensures.err

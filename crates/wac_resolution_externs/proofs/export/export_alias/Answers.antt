@@ -1,6 +1,7 @@
 use Rattle.std.proofs.lemmas.Result.{err_from_is_err_and}
 use Rattle.wac_graph.specs.Graph.{export_kind}
 use Rattle.wac_resolution_errors.specs.Told.{told}
+use Rattle.wac_resolution_errors.proofs.Reports.{reports}
 use Rattle.wac_resolution_nodes.proofs.Roots.{agrees_nodes}
 use Rattle.wac_resolution_externs.specs.Externs.{help_of}
 use Rattle.wac_resolution_externs.proofs.Exporting.{alias_there, alias_rejected, exports_alias}
@@ -15,8 +16,9 @@ pub returns-in_err-export_as-clause-err : goal.returns-in_err-export_as-clause-e
 returns-in_err-export_as-clause-err g c =
     let p = err_from_is_err_and c.from_residual-in_err-export_as.result c.from_residual-in_err-export_as.ensures.1 in
     rw (p.1, p.2)
+    (reports c.in_err-export_as.ensures.err
     (alias_rejected (g.R.Rules.named c.args.rules.now) c.args.state.now.graph c.alias.new.state.graph c.args.root.now c.args.externs.now c.args.node.0 c.in_ok-alias.alias.0 c.args.name.now.text.now c.args.name.now.span (help_of c.args.name.now)
-    (told c.in_err-export_as.field-0.0) (export_kind c.args.state.now.graph c.args.node.0 c.args.name.now.text.now) c.in_ok-alias.ensures c.in_err-export_as.ensures.err)
+    (told c.in_err-export_as.field-0.0) (export_kind c.args.state.now.graph c.args.node.0 c.args.name.now.text.now) c.in_ok-alias.ensures))
 
 pub returns-clause-ok : goal.returns-clause-ok
 returns-clause-ok g c =

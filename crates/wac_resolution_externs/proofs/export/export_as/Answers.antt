@@ -1,8 +1,14 @@
 use Rattle.std.proofs.Common.{sym}
+use Rattle.std.proofs.lemmas.Result.{err_from_is_err_and}
 use Rattle.wac_resolution_externs.specs.Externs.{exported_in}
 use Rattle.wac_resolution_externs.proofs.Checks.{fresh_too}
 use Rattle.wac_resolution_externs.proofs.Exporting.{exports_as}
 use Rattle.wac_resolution_externs.proofs.export.export_as.Goals as goal
+
+pub returns-in_err-check_export-clause-err : goal.returns-in_err-check_export-clause-err
+returns-in_err-check_export-clause-err g c =
+    let p = err_from_is_err_and c.from_residual.result c.from_residual.ensures.1 in
+    rw (p.1, p.2) c.in_err-check_export.ensures.err
 
 pub add_export-requires-2 : goal.add_export-requires-2
 add_export-requires-2 g c = fresh_too c.args.name.now.text.now c.args.state.now.graph.exports (exported_in c.args.externs.now) (sym c.requires.placed.exported) c.in_ok-check_export.ensures.ok.new

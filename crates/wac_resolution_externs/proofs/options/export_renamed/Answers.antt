@@ -1,6 +1,7 @@
 use Rattle.std.proofs.lemmas.Result.{err_from_is_err_and}
 use Rattle.wac_ast_base.specs.Names.{extern_name_of}
 use Rattle.wac_resolution_errors.specs.Told.{told}
+use Rattle.wac_resolution_errors.proofs.Reports.{reports}
 use Rattle.wac_resolution_externs.proofs.Unnamed.{exports_renamed, renamed_broken}
 use Rattle.wac_resolution_externs.proofs.options.export_renamed.Goals as goal
 
@@ -8,8 +9,9 @@ pub returns-in_err-export_as-clause-err : goal.returns-in_err-export_as-clause-e
 returns-in_err-export_as-clause-err g c =
     let p = err_from_is_err_and c.from_residual.result c.from_residual.ensures.1 in
     rw (p.1, p.2)
+    (reports c.in_err-export_as.ensures.err
     (renamed_broken (g.R.Rules.named c.args.rules.now) c.args.state.now.graph c.args.root.now c.args.externs.now c.args.node.0 (extern_name_of c.args.name.now) c.as_str.result.now c.span.result (told c.in_err-export_as.field-0.0)
-    c.as_str.ensures c.span.ensures c.in_err-export_as.ensures.err)
+    c.as_str.ensures c.span.ensures))
 
 pub returns-clause-ok : goal.returns-clause-ok
 returns-clause-ok g c =

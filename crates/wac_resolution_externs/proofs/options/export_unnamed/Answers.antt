@@ -1,20 +1,22 @@
 use Rattle.std.proofs.Common.{◌∙◌, Some, sym, ap}
 use Rattle.std.proofs.lemmas.Result.{err_from_is_err_and}
 use Rattle.wac_resolution_errors.specs.Told.{told}
+use Rattle.wac_resolution_errors.proofs.Reports.{reports}
 use Rattle.wac_resolution_externs.proofs.Unnamed.{exports_unnamed, unnamed_broken, own_name_broken}
 use Rattle.wac_resolution_externs.proofs.options.export_unnamed.Goals as goal
 
 pub returns-in_err-text-clause-err : goal.returns-in_err-text-clause-err
 returns-in_err-text-clause-err g c =
     let p = err_from_is_err_and c.from_residual.result c.from_residual.ensures.1 in
-    rw (p.1, p.2) (unnamed_broken (g.R.Rules.named c.args.rules.now) c.args.state.now.graph c.args.root.now c.args.externs.now c.args.node.0 c.args.span (told c.in_err-text.field-0.0) c.in_err-text.ensures.err)
+    rw (p.1, p.2) (reports c.in_err-text.ensures.err (unnamed_broken (g.R.Rules.named c.args.rules.now) c.args.state.now.graph c.args.root.now c.args.externs.now c.args.node.0 c.args.span (told c.in_err-text.field-0.0)))
 
 pub returns-in_err-export_as-clause-err : goal.returns-in_err-export_as-clause-err
 returns-in_err-export_as-clause-err g c =
     let p = err_from_is_err_and c.from_residual-in_err-export_as.result c.from_residual-in_err-export_as.ensures.1 in
     rw (p.1, p.2)
+    (reports c.in_err-export_as.ensures.err
     (own_name_broken (g.R.Rules.named c.args.rules.now) c.args.state.now.graph c.args.root.now c.args.externs.now c.args.node.0 c.as_str.result.now c.args.span (told c.in_err-export_as.field-0.0)
-    (λ naming declared. c.in_ok-text.ensures.ok naming declared ∙ ap Some (sym c.as_str.ensures.value)) c.in_err-export_as.ensures.err)
+    (λ naming declared. c.in_ok-text.ensures.ok naming declared ∙ ap Some (sym c.as_str.ensures.value))))
 
 pub returns-clause-ok : goal.returns-clause-ok
 returns-clause-ok g c =

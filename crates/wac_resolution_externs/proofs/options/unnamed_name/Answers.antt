@@ -1,4 +1,4 @@
-use Rattle.std.proofs.Common.{◌≡◌, ◌∙◌, Some, sym, ap, rules}
+use Rattle.std.proofs.Common.{◌≡◌, ◌∙◌, Some, sym, ap, rules, inr}
 use Rattle.std.specs.Prelude.{string_bytes}
 use Rattle.wac_resolution_externs.proofs.Unnamed.{is_unnamed}
 use Rattle.wac_resolution_externs.proofs.options.unnamed_name.Goals as goal
@@ -9,4 +9,4 @@ returns-in_ok-from_str-in-Some-clause-ok c naming declared =
     c.in-Some.ensures naming declared ∙ ap Some (sym copied)
 
 pub returns-in-None-clause-err : goal.returns-in-None-clause-err
-returns-in-None-clause-err c = is_unnamed c.args.state.now.graph c.args.node.0 c.args.span c.requires c.in-None.ensures
+returns-in-None-clause-err c = inr (is_unnamed c.args.state.now.graph c.args.node.0 c.args.span c.requires c.in-None.ensures)

@@ -7,6 +7,7 @@ use Rattle.wac_resolution_errors.specs.Told.{told}
 use Rattle.wac_resolution_rules.specs.Statements.{ExportsOne}
 use Rattle.wac_resolution_externs.specs.Externs.{Under}
 use Rattle.wac_resolution_externs.specs.Spreads.{exported_item}
+use Rattle.wac_resolution_errors.proofs.Reports.{reports}
 use Rattle.wac_resolution_externs.proofs.Each.{none_yet, each_next, each_breaks, each_all, each_there, agrees_exports}
 use Rattle.wac_resolution_externs.proofs.Exporting.{placed_more}
 use Rattle.wac_resolution_externs.proofs.spread.export_each.Goals as goal
@@ -31,8 +32,9 @@ pub returns-in_err-export_alias-clause-err : goal.returns-in_err-export_alias-cl
 returns-in_err-export_alias-clause-err g c =
     let p = err_from_is_err_and c.from_residual.result c.from_residual.ensures.1 in
     rw (p.1, p.2)
+    (reports c.in_err-export_alias.ensures.err
     (each_breaks c.args.span (g.R.Rules.named c.args.rules.now) c.args.state.now.graph c.loop-text.state.graph c.args.root.now c.args.externs.now c.loop-text.externs c.args.node.0 c.args.names.now c.loop-text.text-index c.text-item.result c.as_str.result.now
-    (told c.in_err-export_alias.field-0.0) c.loop-text-test.true c.text-item.is c.as_str.ensures.value c.requires.exported c.loop-text.invariant c.in_err-export_alias.ensures.err)
+    (told c.in_err-export_alias.field-0.0) c.loop-text-test.true c.text-item.is c.as_str.ensures.value c.requires.exported c.loop-text.invariant))
 
 pub loop-text-preserved : goal.loop-text-preserved
 loop-text-preserved g c =

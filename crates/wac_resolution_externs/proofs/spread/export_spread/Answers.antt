@@ -1,10 +1,11 @@
-use Rattle.std.proofs.Common.{◌≡◌, ◌∙◌, List, sym, subst, map}
+use Rattle.std.proofs.Common.{◌≡◌, ◌∙◌, List, sym, subst, map, inr}
 use Rattle.std.specs.Prelude.{string_bytes, String}
 use Rattle.std.specs.declared.alloc.Global.{Global}
 use Rattle.std.proofs.lemmas.Result.{err_from_is_err_and}
 use Rattle.wac_types.specs.Readings.{interface_exports}
 use Rattle.wac_resolution_errors.specs.Told.{told}
 use Rattle.wac_resolution_externs.specs.Spreads.{AreUnexported}
+use Rattle.wac_resolution_errors.proofs.Reports.{reports}
 use Rattle.wac_resolution_externs.proofs.Spreading.{open_exported, none_left, some_left}
 use Rattle.wac_resolution_externs.proofs.Each.{spreads, no_effect, spread_of_other, spread_breaks}
 use Rattle.wac_resolution_externs.proofs.spread.export_spread.Goals as goal
@@ -12,12 +13,12 @@ use Rattle.wac_resolution_externs.proofs.spread.export_spread.Goals as goal
 pub returns-in_err-interface-clause-err : goal.returns-in_err-interface-clause-err
 returns-in_err-interface-clause-err g c =
     let p = err_from_is_err_and c.from_residual.result c.from_residual.ensures.1 in
-    rw (p.1, p.2) (spread_of_other (g.R.Rules.named c.args.rules.now) c.args.state.now.graph c.args.root.now c.args.externs.now c.args.node.0 c.args.span c.args.dots (told c.in_err-interface.field-0.0) c.in_err-interface.ensures.err)
+    rw (p.1, p.2) (inr (spread_of_other (g.R.Rules.named c.args.rules.now) c.args.state.now.graph c.args.root.now c.args.externs.now c.args.node.0 c.args.span c.args.dots (told c.in_err-interface.field-0.0) c.in_err-interface.ensures.err))
 
 pub returns-then-is_empty-clause-err : goal.returns-then-is_empty-clause-err
 returns-then-is_empty-clause-err g c =
-    no_effect (g.R.Rules.named c.args.rules.now) c.args.state.now.graph c.args.root.now c.args.externs.now c.args.node.0 c.in_ok-interface.interface c.in_ok-names.names.items c.args.span c.args.dots c.in_ok-interface.ensures.ok c.in_ok-names.ensures
-    (none_left c.in_ok-names.names.items c.in_ok-names.names.len c.in_ok-names.names.ok.0 (sym c.is_empty.ensures ∙ c.if-is_empty.true))
+    inr (no_effect (g.R.Rules.named c.args.rules.now) c.args.state.now.graph c.args.root.now c.args.externs.now c.args.node.0 c.in_ok-interface.interface c.in_ok-names.names.items c.args.span c.args.dots c.in_ok-interface.ensures.ok c.in_ok-names.ensures
+    (none_left c.in_ok-names.names.items c.in_ok-names.names.len c.in_ok-names.names.ok.0 (sym c.is_empty.ensures ∙ c.if-is_empty.true)))
 
 pub export_each-requires-clause-exported : goal.export_each-requires-clause-exported
 export_each-requires-clause-exported g c =
@@ -30,9 +31,9 @@ returns-in_err-export_each-clause-err g c =
     let same : c.deref.result.now ≡ c.in_ok-names.names.items = (let value = c.deref.ensures.value in cc) in
     let p = err_from_is_err_and c.from_residual-in_err-export_each.result c.from_residual-in_err-export_each.ensures.1 in
     rw (p.1, p.2)
+    (reports c.in_err-export_each.ensures.err
     (spread_breaks (g.R.Rules.named c.args.rules.now) c.args.state.now.graph c.args.root.now c.args.externs.now c.args.node.0 c.in_ok-interface.interface c.deref.result.now c.args.span c.args.dots (told c.in_err-export_each.field-0.0) c.in_ok-interface.ensures.ok
-    (subst (λ (l : List (String Global)). AreUnexported c.args.state.now.graph.exports (interface_exports c.args.state.now.graph.types c.in_ok-interface.interface.0) (map string_bytes l)) (sym same) c.in_ok-names.ensures)
-    c.in_err-export_each.ensures.err)
+    (subst (λ (l : List (String Global)). AreUnexported c.args.state.now.graph.exports (interface_exports c.args.state.now.graph.types c.in_ok-interface.interface.0) (map string_bytes l)) (sym same) c.in_ok-names.ensures)))
 
 pub returns-clause-ok : goal.returns-clause-ok
 returns-clause-ok g c =

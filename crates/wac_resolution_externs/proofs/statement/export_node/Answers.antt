@@ -5,6 +5,7 @@ use Rattle.wac_resolution_rules.specs.Expressions.{at}
 use Rattle.wac_resolution_rules.specs.Statements.{ExportsBy}
 use Rattle.wac_resolution_externs.specs.Externs.{Under}
 use Rattle.wac_resolution_externs.specs.Exports.{Exported}
+use Rattle.wac_resolution_errors.proofs.Reports.{reports}
 use Rattle.wac_resolution_externs.proofs.Results.{on_ok, if_err}
 use Rattle.wac_resolution_externs.proofs.statement.export_node.Goals as goal
 
@@ -28,4 +29,4 @@ pub returns-in-Rename-clause-ok : goal.returns-in-Rename-clause-ok
 returns-in-Rename-clause-ok g c = rw c.in-Rename.is (on_ok _ _ c.export_renamed.result (λ e x same. e) c.export_renamed.ensures.ok)
 
 pub returns-in-Rename-clause-err : goal.returns-in-Rename-clause-err
-returns-in-Rename-clause-err g c = rw c.in-Rename.is (if_err _ _ c.export_renamed.result (λ e broken naming x same. broken naming x) c.export_renamed.ensures.err)
+returns-in-Rename-clause-err g c = rw c.in-Rename.is (if_err _ _ c.export_renamed.result (λ e h. reports h (λ broken naming x same. broken naming x)) c.export_renamed.ensures.err)

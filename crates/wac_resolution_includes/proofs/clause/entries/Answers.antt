@@ -5,14 +5,15 @@ use Rattle.wac_types.specs.Names.{by_name}
 use Rattle.wac_ast_uses.specs.Uses.{world_include_item_of}
 use Rattle.wac_resolution_errors.specs.Told.{told}
 use Rattle.wac_resolution_rules.specs.BrokenWorlds.{IsSecondEntry}
+use Rattle.wac_resolution_errors.proofs.Reports.{reports}
 use Rattle.wac_resolution_includes.proofs.Read.{read_step, read_break, all_read}
 use Rattle.wac_resolution_includes.proofs.clause.entries.Goals as goal
 
 pub returns-in_err-entry-clause-err : goal.returns-in_err-entry-clause-err
 returns-in_err-entry-clause-err c =
     let p = err_from_is_err_and c.from_residual.result c.from_residual.ensures.1 in
-    rw (p.1, p.2) (read_break c.args.items.now c.loop-item.item-index c.item-item.result (by_name c.loop-item.all.entries) (IsSecondEntry (told c.in_err-entry.field-0.0))
-    c.loop-item-test.true c.item-item.is c.in_err-entry.ensures.err c.loop-item.invariant)
+    rw (p.1, p.2) (reports c.in_err-entry.ensures.err (λ err. read_break c.args.items.now c.loop-item.item-index c.item-item.result (by_name c.loop-item.all.entries) (IsSecondEntry (told c.in_err-entry.field-0.0))
+    c.loop-item-test.true c.item-item.is err c.loop-item.invariant))
 
 pub loop-item-preserved : goal.loop-item-preserved
 loop-item-preserved c =

@@ -1,6 +1,7 @@
 use Rattle.std.proofs.Common.{◌∙◌, sym}
 use Rattle.wac_ast_base.specs.Names.{package_path_of}
 use Rattle.wac_resolution_state.specs.Bindings.{values_of}
+use Rattle.wac_resolution_errors.proofs.Reports.{if_reports}
 use Rattle.wac_resolution_paths.proofs.Finding.{own_found, own_broken, other_found, other_broken}
 use Rattle.wac_resolution_paths.proofs.paths.path.Goals as goal
 
@@ -10,7 +11,7 @@ returns-then-is_own-clause-ok c =
 
 pub returns-then-is_own-clause-err : goal.returns-then-is_own-clause-err
 returns-then-is_own-clause-err c =
-    own_broken c.args.setting.now c.args.state.now.graph (values_of c.args.root.now) (package_path_of c.args.path.now) c.own_path.result (sym c.is_own.ensures ∙ c.if-is_own.true) c.own_path.ensures.err
+    if_reports _ _ (λ r. own_broken c.args.setting.now c.args.state.now.graph (values_of c.args.root.now) (package_path_of c.args.path.now) r (sym c.is_own.ensures ∙ c.if-is_own.true)) c.own_path.result c.own_path.ensures.err
 
 pub returns-clause-ok : goal.returns-clause-ok
 returns-clause-ok c =
@@ -18,4 +19,4 @@ returns-clause-ok c =
 
 pub returns-clause-err : goal.returns-clause-err
 returns-clause-err c =
-    other_broken c.args.setting.now c.args.state.now.graph c.foreign_path.new.state.graph (values_of c.args.root.now) (package_path_of c.args.path.now) c.foreign_path.result (sym c.is_own.ensures ∙ c.if-is_own.false) c.foreign_path.ensures.err
+    if_reports _ _ (λ r. other_broken c.args.setting.now c.args.state.now.graph c.foreign_path.new.state.graph (values_of c.args.root.now) (package_path_of c.args.path.now) r (sym c.is_own.ensures ∙ c.if-is_own.false)) c.foreign_path.result c.foreign_path.ensures.err

@@ -4,6 +4,7 @@ use Rattle.wac_ast_base.specs.Names.{ident_of}
 use Rattle.wac_ast_uses.specs.Uses.{world_ref_of}
 use Rattle.wac_ast_uses.specs.declared.includes.WorldRef.{WorldRef}
 use Rattle.wac_graph.specs.Origin.{Naming}
+use Rattle.wac_resolution_errors.specs.Error.{Reports}
 use Rattle.wac_resolution_errors.specs.Told.{told}
 use Rattle.wac_resolution_rules.specs.BrokenWorlds.{WorldRefBroken}
 use Rattle.wac_resolution_rules.specs.Paths.{WorldNames}
@@ -11,6 +12,7 @@ use Rattle.wac_resolution_state.specs.Bindings.{values_of}
 use Rattle.wac_resolution_state.specs.Named.{scope_of}
 use Rattle.wac_resolution_paths.specs.Expands.{Found}
 use Rattle.wac_resolution_paths.specs.Setting.{packages_in, setting_of}
+use Rattle.wac_resolution_errors.proofs.Reports.{if_reports}
 use Rattle.wac_resolution_paths.proofs.Finding.{ident_broken}
 use Rattle.wac_resolution_paths.proofs.paths.world_ref.Goals as goal
 
@@ -22,5 +24,5 @@ returns-in-Package-clause-ok c =
 
 pub returns-in-Ident-clause-err : goal.returns-in-Ident-clause-err
 returns-in-Ident-clause-err c =
-    subst (λ (x : WorldRef). IfErr c.kind_of.result (λ e. (naming : Naming) → WorldRefBroken (setting_of naming c.args.setting.now) (scope_of naming c.args.state.now.graph (values_of c.args.root.now)) (world_ref_of x) (told e)))
-    (sym c.in-Ident.is) (ident_broken c.args.state.now.graph (values_of c.args.root.now) (ident_of c.in-Ident.id) c.kind_of.result c.kind_of.ensures.err)
+    subst (λ (x : WorldRef). IfErr c.kind_of.result (λ e. Reports (told e) ((naming : Naming) → WorldRefBroken (setting_of naming c.args.setting.now) (scope_of naming c.args.state.now.graph (values_of c.args.root.now)) (world_ref_of x) (told e))))
+    (sym c.in-Ident.is) (if_reports _ _ (ident_broken c.args.state.now.graph (values_of c.args.root.now) (ident_of c.in-Ident.id)) c.kind_of.result c.kind_of.ensures.err)

@@ -10,6 +10,7 @@ use Rattle.wac_resolution_errors.specs.Told.{told}
 use Rattle.wac_resolution_rules.specs.BrokenWorlds.{InterfaceBroken}
 use Rattle.wac_resolution_state.specs.Bindings.{values_of}
 use Rattle.wac_resolution_state.specs.Named.{scope_of}
+use Rattle.wac_resolution_errors.proofs.Reports.{reports}
 use Rattle.wac_resolution_nodes.proofs.Roots.{items_named}
 use Rattle.wac_resolution_paths.specs.Setting.{setting_of}
 use Rattle.wac_resolution_worlds.specs.Made.{InterfaceMade}
@@ -23,8 +24,8 @@ pub returns-in_err-path-in-Package-clause-err : goal.returns-in_err-path-in-Pack
 returns-in_err-path-in-Package-clause-err c =
     let p = err_from_is_err_and c.from_residual.result c.from_residual.ensures.1 in
     rw (p.1, p.2)
-    (path_breaks c.args.setting.now c.args.state.now.graph c.args.root.now c.requires.agrees (import_type_of c.args.ty.now) (package_path_of c.in-Package.from) (told c.in_err-path-in-Package.field-0.0) (ap import_type_of c.in-Package.is)
-    c.in_err-path-in-Package.ensures.err)
+    (reports c.in_err-path-in-Package.ensures.err
+    (path_breaks c.args.setting.now c.args.state.now.graph c.args.root.now c.requires.agrees (import_type_of c.args.ty.now) (package_path_of c.in-Package.from) (told c.in_err-path-in-Package.field-0.0) (ap import_type_of c.in-Package.is)))
 
 pub returns-in_ok-path-in-Package-clause-ok : goal.returns-in_ok-path-in-Package-clause-ok
 returns-in_ok-path-in-Package-clause-ok c =
@@ -38,8 +39,8 @@ pub returns-in_err-new_func-in-Func-clause-err : goal.returns-in_err-new_func-in
 returns-in_err-new_func-in-Func-clause-err c =
     let p = err_from_is_err_and c.from_residual-in_err-new_func-in-Func.result c.from_residual-in_err-new_func-in-Func.ensures.1 in
     rw (p.1, p.2)
-    (func_breaks c.args.setting.now c.args.state.now.graph c.args.root.now c.requires.agrees (import_type_of c.args.ty.now) (func_type_of c.in-Func.func) (told c.in_err-new_func-in-Func.field-0.0) (ap import_type_of c.in-Func.is)
-    c.in_err-new_func-in-Func.ensures.err)
+    (reports c.in_err-new_func-in-Func.ensures.err
+    (func_breaks c.args.setting.now c.args.state.now.graph c.args.root.now c.requires.agrees (import_type_of c.args.ty.now) (func_type_of c.in-Func.func) (told c.in_err-new_func-in-Func.field-0.0) (ap import_type_of c.in-Func.is)))
 
 pub returns-in_ok-new_func-in-Func-clause-ok : goal.returns-in_ok-new_func-in-Func-clause-ok
 returns-in_ok-new_func-in-Func-clause-ok c =
@@ -53,9 +54,9 @@ pub returns-in_err-interface-in-Interface-clause-err : goal.returns-in_err-inter
 returns-in_err-interface-in-Interface-clause-err c =
     let p = err_from_is_err_and c.from_residual-in_err-interface-in-Interface.result c.from_residual-in_err-interface-in-Interface.ensures.1 in
     let g = c.args.state.now.graph in
-    let h = subst (λ (l : List InterfaceItem). (naming : Naming) → InterfaceBroken (setting_of naming c.args.setting.now) (scope_of naming g (values_of c.args.root.now.kinds)) None (declared_count g) (map interface_item_of l) (told c.in_err-interface-in-Interface.field-0.0)) c.deref.ensures.value c.in_err-interface-in-Interface.ensures.err in
-    rw (p.1, p.2)
-    (inline_breaks c.args.setting.now g c.args.root.now c.requires.agrees (import_type_of c.args.ty.now) (inline_interface_of c.in-Interface.inline) (told c.in_err-interface-in-Interface.field-0.0) (ap import_type_of c.in-Interface.is) h)
+    rw (p.1, p.2) (reports c.in_err-interface-in-Interface.ensures.err (λ err.
+    let h = subst (λ (l : List InterfaceItem). (naming : Naming) → InterfaceBroken (setting_of naming c.args.setting.now) (scope_of naming g (values_of c.args.root.now.kinds)) None (declared_count g) (map interface_item_of l) (told c.in_err-interface-in-Interface.field-0.0)) c.deref.ensures.value err in
+    inline_breaks c.args.setting.now g c.args.root.now c.requires.agrees (import_type_of c.args.ty.now) (inline_interface_of c.in-Interface.inline) (told c.in_err-interface-in-Interface.field-0.0) (ap import_type_of c.in-Interface.is) h))
 
 pub returns-in_ok-interface-in-Interface-clause-ok : goal.returns-in_ok-interface-in-Interface-clause-ok
 returns-in_ok-interface-in-Interface-clause-ok c =
@@ -66,8 +67,8 @@ pub returns-in_err-kind_of-in-Ident-clause-err : goal.returns-in_err-kind_of-in-
 returns-in_err-kind_of-in-Ident-clause-err c =
     let p = err_from_is_err_and c.from_residual-in_err-kind_of-in-Ident.result c.from_residual-in_err-kind_of-in-Ident.ensures.1 in
     rw (p.1, p.2)
-    (ident_breaks c.args.setting.now c.args.state.now.graph c.args.root.now c.requires.agrees (import_type_of c.args.ty.now) (ident_of c.in-Ident.id) (told c.in_err-kind_of-in-Ident.field-0.0) (ap import_type_of c.in-Ident.is)
-    c.in_err-kind_of-in-Ident.ensures.err)
+    (reports c.in_err-kind_of-in-Ident.ensures.err
+    (ident_breaks c.args.setting.now c.args.state.now.graph c.args.root.now c.requires.agrees (import_type_of c.args.ty.now) (ident_of c.in-Ident.id) (told c.in_err-kind_of-in-Ident.field-0.0) (ap import_type_of c.in-Ident.is)))
 
 pub returns-in_ok-kind_of-in-Ident-clause-ok : goal.returns-in_ok-kind_of-in-Ident-clause-ok
 returns-in_ok-kind_of-in-Ident-clause-ok c =

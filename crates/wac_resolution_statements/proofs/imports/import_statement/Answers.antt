@@ -1,10 +1,11 @@
-use Rattle.std.proofs.Common.{◌∙◌, sym}
+use Rattle.std.proofs.Common.{◌∙◌, sym, inl}
 use Rattle.std.proofs.lemmas.Result.{err_from_is_err_and, on_ok_weaker, IfErr-weaker}
 use Rattle.wac_ast_worlds.specs.Worlds.{import_statement_of}
 use Rattle.wac_resolution_errors.specs.Told.{told}
 use Rattle.wac_resolution_rules.specs.Given.{rules_by}
+use Rattle.wac_resolution_errors.proofs.Reports.{reports}
 use Rattle.wac_resolution_state.proofs.Scopes.{memory_told}
-use Rattle.wac_resolution_statements.proofs.Imported.{promoted_named, type_breaks, memory_breaks, name_breaks, statement_went}
+use Rattle.wac_resolution_statements.proofs.Imported.{promoted_named, type_breaks, name_breaks, statement_went}
 use Rattle.wac_resolution_bindings.proofs.Standing.{agrees_kept, placed_kept}
 use Rattle.wac_resolution_statements.proofs.imports.import_statement.Goals as goal
 
@@ -12,7 +13,8 @@ pub returns-in_err-kind-clause-err : goal.returns-in_err-kind-clause-err
 returns-in_err-kind-clause-err g c =
     let p = err_from_is_err_and c.from_residual.result c.from_residual.ensures.1 in
     rw (p.1, p.2)
-    (type_breaks c.args.setting.now (rules_by (g.R.Rules.passes c.args.rules.now) (g.R.Rules.named c.args.rules.now)) c.args.state.now.graph c.args.root.now c.args.externs.now (import_statement_of c.args.statement.now) (told c.in_err-kind.field-0.0) c.in_err-kind.ensures.err)
+    (reports c.in_err-kind.ensures.err
+    (type_breaks c.args.setting.now (rules_by (g.R.Rules.passes c.args.rules.now) (g.R.Rules.named c.args.rules.now)) c.args.state.now.graph c.args.root.now c.args.externs.now (import_statement_of c.args.statement.now) (told c.in_err-kind.field-0.0)))
 
 pub import_kind-requires-clause-agrees : goal.import_kind-requires-clause-agrees
 import_kind-requires-clause-agrees g c = c.requires.agrees
@@ -26,9 +28,7 @@ import_name-requires g c = c.in_ok-kind.ensures.ok.named
 pub returns-in_err-text-clause-err : goal.returns-in_err-text-clause-err
 returns-in_err-text-clause-err g c =
     let p = err_from_is_err_and c.from_residual-in_err-text.result c.from_residual-in_err-text.ensures.1 in
-    rw p.1
-    (memory_breaks c.args.setting.now (rules_by (g.R.Rules.passes c.args.rules.now) (g.R.Rules.named c.args.rules.now)) c.args.state.now.graph c.import_kind.new.state.graph c.args.root.now c.args.externs.now (import_statement_of c.args.statement.now) c.in_ok-kind.kind
-    (told p.0) c.in_ok-kind.ensures.ok (memory_told p.0 p.2))
+    rw p.1 (inl (memory_told p.0 p.2))
 
 pub import_as-requires-clause-agrees : goal.import_as-requires-clause-agrees
 import_as-requires-clause-agrees g c = agrees_kept c.args.state.now.graph c.import_kind.new.state.graph c.args.root.now c.in_ok-kind.ensures.ok.grows c.requires.agrees
@@ -50,6 +50,6 @@ returns-clause-ok g c =
 pub returns-clause-err : goal.returns-clause-err
 returns-clause-err g c =
     IfErr-weaker c.import_as.result _ _
-    (λ e h. name_breaks c.args.setting.now (rules_by (g.R.Rules.passes c.args.rules.now) (g.R.Rules.named c.args.rules.now)) c.args.state.now.graph c.import_kind.new.state.graph c.args.root.now c.args.externs.now (import_statement_of c.args.statement.now)
-    c.as_str.result.now c.in_ok-kind.kind c.requires c.in_ok-kind.ensures.ok (λ naming. c.as_str.ensures.value ∙ c.in_ok-text.ensures naming) (told e) h)
+    (λ e h. reports h (name_breaks c.args.setting.now (rules_by (g.R.Rules.passes c.args.rules.now) (g.R.Rules.named c.args.rules.now)) c.args.state.now.graph c.import_kind.new.state.graph c.args.root.now c.args.externs.now (import_statement_of c.args.statement.now)
+    c.as_str.result.now c.in_ok-kind.kind c.requires c.in_ok-kind.ensures.ok (λ naming. c.as_str.ensures.value ∙ c.in_ok-text.ensures naming) (told e)))
     c.import_as.ensures.err

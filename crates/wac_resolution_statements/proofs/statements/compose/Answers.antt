@@ -6,6 +6,7 @@ use Rattle.wac_ast.specs.Statements.{statement_of}
 use Rattle.wac_resolution_errors.specs.Told.{told}
 use Rattle.wac_resolution_rules.specs.Given.{rules_by}
 use Rattle.wac_resolution_statements.specs.Sequences.{AllWent}
+use Rattle.wac_resolution_errors.proofs.Reports.{reports}
 use Rattle.wac_resolution_statements.proofs.Sequences.{none_went, next_went, next_breaks}
 use Rattle.wac_resolution_statements.proofs.statements.compose.Goals as goal
 
@@ -19,8 +20,9 @@ pub returns-in_err-statement-clause-err : goal.returns-in_err-statement-clause-e
 returns-in_err-statement-clause-err g c =
     let p = err_from_is_err_and c.from_residual.result c.from_residual.ensures.1 in
     rw (p.1, p.2)
+    (reports c.in_err-statement.ensures.err
     (next_breaks c.args.setting.now (rules_by (g.R.Rules.passes c.args.rules.now) (g.R.Rules.named c.args.rules.now)) c.args.state.now.graph c.loop-next.state.graph c.args.root.now c.loop-next.root c.args.externs.now c.loop-next.externs c.args.statements.now c.loop-next.next-index c.next-item.result
-    (told c.in_err-statement.field-0.0) c.loop-next-test.true c.next-item.is c.loop-next.invariant c.in_err-statement.ensures.err)
+    (told c.in_err-statement.field-0.0) c.loop-next-test.true c.next-item.is c.loop-next.invariant))
 
 pub loop-next-preserved : goal.loop-next-preserved
 loop-next-preserved g c =

@@ -2,22 +2,24 @@ use Rattle.std.proofs.Common.{inl, inr}
 use Rattle.std.proofs.lemmas.Result.{err_from_is_err_and}
 use Rattle.wac_types.specs.Names.{by_name}
 use Rattle.wac_types.specs.Readings.{world_exports}
+use Rattle.wac_resolution_errors.specs.Error.{Reports}
 use Rattle.wac_resolution_errors.specs.Told.{told}
 use Rattle.wac_resolution_target.specs.Imported.{of_kind}
 use Rattle.wac_resolution_target.specs.Outcome.{WorldMet, WorldUnmet}
 use Rattle.wac_resolution_target.specs.Testing.{testing, AllMet, SomeUnmet}
+use Rattle.wac_resolution_errors.proofs.Reports.{reports}
 use Rattle.wac_resolution_target.proofs.Firsts.{as_ok, as_err}
 use Rattle.wac_resolution_target.proofs.check.check_world.Goals as goal
 
 pub returns-in_err-check_imports-clause-err : goal.returns-in_err-check_imports-clause-err
 returns-in_err-check_imports-clause-err g c =
     let p = err_from_is_err_and c.from_residual.result c.from_residual.ensures.1 in
-    rw (p.1, p.2) (inl c.in_err-check_imports.ensures.err)
+    rw (p.1, p.2) (reports c.in_err-check_imports.ensures.err (inl))
 
 pub returns-in_err-check_open_imports-clause-err : goal.returns-in_err-check_open_imports-clause-err
 returns-in_err-check_open_imports-clause-err g c =
     let p = err_from_is_err_and c.from_residual-in_err-check_open_imports.result c.from_residual-in_err-check_open_imports.ensures.1 in
-    rw (p.1, p.2) (inr (inl (c.in_ok-check_imports.ensures.ok, c.in_err-check_open_imports.ensures.err)))
+    rw (p.1, p.2) (reports c.in_err-check_open_imports.ensures.err (λ err. inr (inl (c.in_ok-check_imports.ensures.ok, err))))
 
 pub returns-clause-ok : goal.returns-clause-ok
 returns-clause-ok g c =
@@ -25,4 +27,4 @@ returns-clause-ok g c =
 
 pub returns-clause-err : goal.returns-clause-err
 returns-clause-err g c =
-    as_err c.check_exports.result (λ e. SomeUnmet (testing c.args.state.now.graph (g.R.Rules.passes c.args.rules.now) (g.R.Rules.named c.args.rules.now) c.args.target.now) (by_name c.args.externs.now.exported.entries) (of_kind c.args.state.now.graph) (world_exports c.args.state.now.graph.types c.args.target.now.world.0) (told e)) (λ e. WorldUnmet (testing c.args.state.now.graph (g.R.Rules.passes c.args.rules.now) (g.R.Rules.named c.args.rules.now) c.args.target.now) (by_name c.args.externs.now.imported.entries) (by_name c.args.externs.now.exported.entries) (told e)) (λ e d. inr (inr (c.in_ok-check_imports.ensures.ok, c.in_ok-check_open_imports.ensures.ok, d))) c.check_exports.ensures.err
+    as_err c.check_exports.result (λ e. Reports (told e) (SomeUnmet (testing c.args.state.now.graph (g.R.Rules.passes c.args.rules.now) (g.R.Rules.named c.args.rules.now) c.args.target.now) (by_name c.args.externs.now.exported.entries) (of_kind c.args.state.now.graph) (world_exports c.args.state.now.graph.types c.args.target.now.world.0) (told e))) (λ e. Reports (told e) (WorldUnmet (testing c.args.state.now.graph (g.R.Rules.passes c.args.rules.now) (g.R.Rules.named c.args.rules.now) c.args.target.now) (by_name c.args.externs.now.imported.entries) (by_name c.args.externs.now.exported.entries) (told e))) (λ e d. reports d (λ u. inr (inr (c.in_ok-check_imports.ensures.ok, c.in_ok-check_open_imports.ensures.ok, u)))) c.check_exports.ensures.err

@@ -1,13 +1,13 @@
-use Rattle.std.proofs.Common.{◌≡◌, ◌⊎◌, List, ℕ, ap, subst}
+use Rattle.std.proofs.Common.{◌≡◌, List, ℕ, ap, subst}
 use Rattle.std.specs.Prelude.{string_bytes}
 use Rattle.std.proofs.lemmas.Result.{err_from_is_err_and}
 use Rattle.wac_types.specs.declared.kind.ItemKind.{ItemKind}
 use Rattle.wac_types.specs.Names.{by_name}
 use Rattle.wac_types.specs.Table.{Names}
-use Rattle.wac_resolution_errors.specs.Error.{memory}
 use Rattle.wac_resolution_errors.specs.Told.{told}
 use Rattle.wac_resolution_target.specs.Imported.{of_kind}
 use Rattle.wac_resolution_target.specs.Testing.{testing, Met, Unmet}
+use Rattle.wac_resolution_errors.proofs.Reports.{reports}
 use Rattle.wac_resolution_target.proofs.Firsts.{through_next, through_all, fails_here, first_there, left_there}
 use Rattle.wac_resolution_target.proofs.exports.check_each.Goals as goal
 
@@ -18,9 +18,9 @@ check_export-requires-clause-named g c =
 pub returns-in_err-check_export-clause-err : goal.returns-in_err-check_export-clause-err
 returns-in_err-check_export-clause-err g c =
     let p = err_from_is_err_and c.from_residual.result c.from_residual.ensures.1 in
-    rw (p.1, p.2) (fails_here (λ (x : List ℕ × ItemKind). Met (testing c.args.state.now.graph (g.R.Rules.passes c.args.rules.now) (g.R.Rules.named c.args.rules.now) c.args.target.now) (of_kind c.args.state.now.graph x)) (λ (x : List ℕ × ItemKind) e. Unmet (testing c.args.state.now.graph (g.R.Rules.passes c.args.rules.now) (g.R.Rules.named c.args.rules.now) c.args.target.now) (by_name c.args.places.now.entries) (of_kind c.args.state.now.graph x) e) (by_name c.args.exports.now.entries) _ (by_name c.next.new.self)
+    rw (p.1, p.2) (reports c.in_err-check_export.ensures.err (λ err. fails_here (λ (x : List ℕ × ItemKind). Met (testing c.args.state.now.graph (g.R.Rules.passes c.args.rules.now) (g.R.Rules.named c.args.rules.now) c.args.target.now) (of_kind c.args.state.now.graph x)) (λ (x : List ℕ × ItemKind) e. Unmet (testing c.args.state.now.graph (g.R.Rules.passes c.args.rules.now) (g.R.Rules.named c.args.rules.now) c.args.target.now) (by_name c.args.places.now.entries) (of_kind c.args.state.now.graph x) e) (by_name c.args.exports.now.entries) _ (by_name c.next.new.self)
     (string_bytes c.in-Some.name.now, c.in-Some.kind.now) (told c.in_err-check_export.field-0.0) (ap by_name c.in-Some.ensures.steps) c.loop-name.invariant.through
-    (subst (λ (n : List ℕ). (told c.in_err-check_export.field-0.0 ≡ memory) ⊎ Unmet (testing c.args.state.now.graph (g.R.Rules.passes c.args.rules.now) (g.R.Rules.named c.args.rules.now) c.args.target.now) (by_name c.args.places.now.entries) (of_kind c.args.state.now.graph (n, c.in-Some.kind.now)) (told c.in_err-check_export.field-0.0)) c.as_str.ensures.value c.in_err-check_export.ensures.err))
+    (subst (λ (n : List ℕ). Unmet (testing c.args.state.now.graph (g.R.Rules.passes c.args.rules.now) (g.R.Rules.named c.args.rules.now) c.args.target.now) (by_name c.args.places.now.entries) (of_kind c.args.state.now.graph (n, c.in-Some.kind.now)) (told c.in_err-check_export.field-0.0)) c.as_str.ensures.value err)))
 
 pub loop-name-preserved : goal.loop-name-preserved
 loop-name-preserved g c = record {

@@ -7,6 +7,7 @@ use Rattle.wac_types.specs.Readings.{world_exports}
 use Rattle.wac_types.specs.Scope.{Named}
 use Rattle.wac_types.specs.Table.{ItemsNamed}
 use Rattle.wac_types.proofs.Found.{world_exports_named}
+use Rattle.wac_resolution_errors.specs.Error.{Reports}
 use Rattle.wac_resolution_errors.specs.Told.{told}
 use Rattle.wac_resolution_target.specs.Imported.{of_kind}
 use Rattle.wac_resolution_target.specs.Testing.{testing, AllMet, SomeUnmet}
@@ -22,7 +23,7 @@ returns-in-Some-clause-ok g c =
 
 pub returns-in-Some-clause-err : goal.returns-in-Some-clause-err
 returns-in-Some-clause-err g c =
-    subst (λ (l : Named ItemKind). IfErr c.check_each.result (λ e. SomeUnmet (testing c.args.state.now.graph (g.R.Rules.passes c.args.rules.now) (g.R.Rules.named c.args.rules.now) c.args.target.now) (by_name c.args.places.now.entries) (of_kind c.args.state.now.graph) l (told e))) (c.in-Some.ensures ∙ ap (λ (es : List Entry). world_exports es c.args.target.now.world.0) c.types-types.ensures.types)
+    subst (λ (l : Named ItemKind). IfErr c.check_each.result (λ e. Reports (told e) (SomeUnmet (testing c.args.state.now.graph (g.R.Rules.passes c.args.rules.now) (g.R.Rules.named c.args.rules.now) c.args.target.now) (by_name c.args.places.now.entries) (of_kind c.args.state.now.graph) l (told e)))) (c.in-Some.ensures ∙ ap (λ (es : List Entry). world_exports es c.args.target.now.world.0) c.types-types.ensures.types)
     c.check_each.ensures.err
 
 pub returns-in-None-clause-ok : goal.returns-in-None-clause-ok

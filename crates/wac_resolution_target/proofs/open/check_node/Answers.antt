@@ -2,6 +2,7 @@ use Rattle.std.proofs.Common.{sym, subst}
 use Rattle.std.specs.Prelude.{OnOk, IfErr}
 use Rattle.wac_types.specs.declared.kind.ItemKind.{ItemKind}
 use Rattle.wac_types.specs.Scope.{Named}
+use Rattle.wac_resolution_errors.specs.Error.{Reports}
 use Rattle.wac_resolution_errors.specs.Told.{told}
 use Rattle.wac_resolution_target.specs.Imported.{of_kind}
 use Rattle.wac_resolution_target.specs.Testing.{testing, AllAllowed, SomeDenied, nowhere}
@@ -12,7 +13,7 @@ pub returns-in-Some-clause-ok : goal.returns-in-Some-clause-ok
 returns-in-Some-clause-ok g c = subst (λ (l : Named ItemKind). OnOk c.check_instance.result (AllAllowed (testing c.args.state.now.graph (g.R.Rules.passes c.args.rules.now) (g.R.Rules.named c.args.rules.now) c.args.target.now) (of_kind c.args.state.now.graph) l)) (sym (instance_opens c.args.state.now.graph c.args.node.0 c.in-Some.«package».0 (sym c.in-Some.ensures.of))) c.check_instance.ensures.ok
 
 pub returns-in-Some-clause-err : goal.returns-in-Some-clause-err
-returns-in-Some-clause-err g c = subst (λ (l : Named ItemKind). IfErr c.check_instance.result (λ e. SomeDenied (testing c.args.state.now.graph (g.R.Rules.passes c.args.rules.now) (g.R.Rules.named c.args.rules.now) c.args.target.now) (of_kind c.args.state.now.graph) nowhere l (told e))) (sym (instance_opens c.args.state.now.graph c.args.node.0 c.in-Some.«package».0 (sym c.in-Some.ensures.of))) c.check_instance.ensures.err
+returns-in-Some-clause-err g c = subst (λ (l : Named ItemKind). IfErr c.check_instance.result (λ e. Reports (told e) (SomeDenied (testing c.args.state.now.graph (g.R.Rules.passes c.args.rules.now) (g.R.Rules.named c.args.rules.now) c.args.target.now) (of_kind c.args.state.now.graph) nowhere l (told e)))) (sym (instance_opens c.args.state.now.graph c.args.node.0 c.in-Some.«package».0 (sym c.in-Some.ensures.of))) c.check_instance.ensures.err
 
 pub returns-in-None-clause-ok : goal.returns-in-None-clause-ok
 returns-in-None-clause-ok g c = subst (AllAllowed (testing c.args.state.now.graph (g.R.Rules.passes c.args.rules.now) (g.R.Rules.named c.args.rules.now) c.args.target.now) (of_kind c.args.state.now.graph)) (sym (other_opens c.args.state.now.graph c.args.node.0 (sym c.in-None.ensures.of))) tt

@@ -5,13 +5,14 @@ use Rattle.wac_resolution_errors.specs.Told.{told}
 use Rattle.wac_resolution_rules.specs.Declarations.{IsVariant, IsRecord, IsFlags, IsEnum}
 use Rattle.wac_resolution_state.specs.Bindings.{values_of}
 use Rattle.wac_resolution_state.specs.Named.{scope_of}
+use Rattle.wac_resolution_errors.proofs.Reports.{reports}
 use Rattle.wac_resolution_types.proofs.TypeDecls.{value_declared, declared, declaration_breaks}
 use Rattle.wac_resolution_types.proofs.declarations.type_decl.Goals as goal
 
 pub returns-in_err-variant-in-Variant-clause-err : goal.returns-in_err-variant-in-Variant-clause-err
 returns-in_err-variant-in-Variant-clause-err c =
     let p = err_from_is_err_and c.from_residual.result c.from_residual.ensures.1 in
-    rw (p.1, p.2) (declaration_breaks c.args.state.now.graph (values_of c.args.names.now) c.args.decl.now (decls.Variant c.in-Variant.decl) (told c.in_err-variant-in-Variant.field-0.0) c.in-Variant.is c.in_err-variant-in-Variant.ensures.err)
+    rw (p.1, p.2) (reports c.in_err-variant-in-Variant.ensures.err (declaration_breaks c.args.state.now.graph (values_of c.args.names.now) c.args.decl.now (decls.Variant c.in-Variant.decl) (told c.in_err-variant-in-Variant.field-0.0) c.in-Variant.is))
 
 pub returns-in_ok-variant-in-Variant-clause-ok : goal.returns-in_ok-variant-in-Variant-clause-ok
 returns-in_ok-variant-in-Variant-clause-ok c =
@@ -20,7 +21,7 @@ returns-in_ok-variant-in-Variant-clause-ok c =
 pub returns-in_err-record-in-Record-clause-err : goal.returns-in_err-record-in-Record-clause-err
 returns-in_err-record-in-Record-clause-err c =
     let p = err_from_is_err_and c.from_residual-in_err-record-in-Record.result c.from_residual-in_err-record-in-Record.ensures.1 in
-    rw (p.1, p.2) (declaration_breaks c.args.state.now.graph (values_of c.args.names.now) c.args.decl.now (decls.Record c.in-Record.decl) (told c.in_err-record-in-Record.field-0.0) c.in-Record.is c.in_err-record-in-Record.ensures.err)
+    rw (p.1, p.2) (reports c.in_err-record-in-Record.ensures.err (declaration_breaks c.args.state.now.graph (values_of c.args.names.now) c.args.decl.now (decls.Record c.in-Record.decl) (told c.in_err-record-in-Record.field-0.0) c.in-Record.is))
 
 pub returns-in_ok-record-in-Record-clause-ok : goal.returns-in_ok-record-in-Record-clause-ok
 returns-in_ok-record-in-Record-clause-ok c =
@@ -29,7 +30,7 @@ returns-in_ok-record-in-Record-clause-ok c =
 pub returns-in_err-flags-in-Flags-clause-err : goal.returns-in_err-flags-in-Flags-clause-err
 returns-in_err-flags-in-Flags-clause-err c =
     let p = err_from_is_err_and c.from_residual-in_err-flags-in-Flags.result c.from_residual-in_err-flags-in-Flags.ensures.1 in
-    rw (p.1, p.2) (declaration_breaks c.args.state.now.graph (values_of c.args.names.now) c.args.decl.now (decls.Flags c.in-Flags.decl) (told c.in_err-flags-in-Flags.field-0.0) c.in-Flags.is (λ naming. c.in_err-flags-in-Flags.ensures.err))
+    rw (p.1, p.2) (reports c.in_err-flags-in-Flags.ensures.err (λ err. declaration_breaks c.args.state.now.graph (values_of c.args.names.now) c.args.decl.now (decls.Flags c.in-Flags.decl) (told c.in_err-flags-in-Flags.field-0.0) c.in-Flags.is (λ naming. err)))
 
 pub returns-in_ok-flags-in-Flags-clause-ok : goal.returns-in_ok-flags-in-Flags-clause-ok
 returns-in_ok-flags-in-Flags-clause-ok c =
@@ -38,7 +39,7 @@ returns-in_ok-flags-in-Flags-clause-ok c =
 pub returns-in_err-enumeration-in-Enum-clause-err : goal.returns-in_err-enumeration-in-Enum-clause-err
 returns-in_err-enumeration-in-Enum-clause-err c =
     let p = err_from_is_err_and c.from_residual-in_err-enumeration-in-Enum.result c.from_residual-in_err-enumeration-in-Enum.ensures.1 in
-    rw (p.1, p.2) (declaration_breaks c.args.state.now.graph (values_of c.args.names.now) c.args.decl.now (decls.Enum c.in-Enum.decl) (told c.in_err-enumeration-in-Enum.field-0.0) c.in-Enum.is (λ naming. c.in_err-enumeration-in-Enum.ensures.err))
+    rw (p.1, p.2) (reports c.in_err-enumeration-in-Enum.ensures.err (λ err. declaration_breaks c.args.state.now.graph (values_of c.args.names.now) c.args.decl.now (decls.Enum c.in-Enum.decl) (told c.in_err-enumeration-in-Enum.field-0.0) c.in-Enum.is (λ naming. err)))
 
 pub returns-in_ok-enumeration-in-Enum-clause-ok : goal.returns-in_ok-enumeration-in-Enum-clause-ok
 returns-in_ok-enumeration-in-Enum-clause-ok c =
@@ -47,7 +48,7 @@ returns-in_ok-enumeration-in-Enum-clause-ok c =
 pub returns-in_err-alias-in-Alias-clause-err : goal.returns-in_err-alias-in-Alias-clause-err
 returns-in_err-alias-in-Alias-clause-err c =
     let p = err_from_is_err_and c.from_residual-in_err-alias-in-Alias.result c.from_residual-in_err-alias-in-Alias.ensures.1 in
-    rw (p.1, p.2) (declaration_breaks c.args.state.now.graph (values_of c.args.names.now) c.args.decl.now (decls.Alias c.in-Alias.decl) (told c.in_err-alias-in-Alias.field-0.0) c.in-Alias.is c.in_err-alias-in-Alias.ensures.err)
+    rw (p.1, p.2) (reports c.in_err-alias-in-Alias.ensures.err (declaration_breaks c.args.state.now.graph (values_of c.args.names.now) c.args.decl.now (decls.Alias c.in-Alias.decl) (told c.in_err-alias-in-Alias.field-0.0) c.in-Alias.is))
 
 pub returns-in_ok-alias-in-Alias-clause-ok : goal.returns-in_ok-alias-in-Alias-clause-ok
 returns-in_ok-alias-in-Alias-clause-ok c =

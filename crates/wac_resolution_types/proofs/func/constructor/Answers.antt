@@ -8,6 +8,7 @@ use Rattle.wac_types.specs.Names.{by_name}
 use Rattle.wac_ast_types.specs.Declarations.{named_type_of}
 use Rattle.wac_resolution_errors.specs.Told.{told}
 use Rattle.wac_resolution_state.specs.Bindings.{values_of}
+use Rattle.wac_resolution_errors.proofs.Reports.{reports}
 use Rattle.wac_resolution_types.proofs.FuncParts.{func_kinds, constructor_is, constructor_breaks}
 use Rattle.wac_resolution_types.proofs.DeclarationParts.{none_named}
 use Rattle.wac_resolution_types.proofs.func.constructor.Goals as goal
@@ -16,8 +17,8 @@ pub returns-in_err-take_params-clause-err : goal.returns-in_err-take_params-clau
 returns-in_err-take_params-clause-err c =
     let p = err_from_is_err_and c.from_residual.result c.from_residual.ensures.1 in
     let empty : c.new-all.result.entries ≡ [] = search rules in
-    rw (p.1, p.2) (constructor_breaks c.args.state.now.graph (values_of c.args.names.now) (by_name c.new-all.result.entries) (map named_type_of c.args.params.now) (told c.in_err-take_params.field-0.0)
-    (none_named c.new-all.result.entries empty) c.in_err-take_params.ensures.err)
+    rw (p.1, p.2) (reports c.in_err-take_params.ensures.err (constructor_breaks c.args.state.now.graph (values_of c.args.names.now) (by_name c.new-all.result.entries) (map named_type_of c.args.params.now) (told c.in_err-take_params.field-0.0)
+    (none_named c.new-all.result.entries empty)))
 
 pub add_func-requires : goal.add_func-requires
 add_func-requires c =

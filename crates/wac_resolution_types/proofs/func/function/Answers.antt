@@ -1,21 +1,31 @@
-use Rattle.std.proofs.Common.{map, List, subst}
+use Rattle.std.proofs.Common.{map, List, subst, inl}
 use Rattle.std.proofs.lemmas.Result.{err_from_is_err_and}
 use Rattle.wac_types.specs.Names.{by_name}
 use Rattle.wac_ast_types.specs.Declarations.{named_type_of, func_type_of}
 use Rattle.wac_ast_types.specs.declared.func_type.NamedType.{NamedType}
 use Rattle.wac_resolution_errors.specs.Told.{told}
+use Rattle.wac_resolution_rules.specs.BrokenTypes.{ParamsBroken}
 use Rattle.wac_resolution_state.specs.Bindings.{values_of}
-use Rattle.wac_resolution_types.specs.Funcs.{given, ParamsGo}
+use Rattle.wac_resolution_state.specs.Named.{scope_of}
+use Rattle.wac_resolution_types.specs.Funcs.{given, types_named, ParamsGo}
+use Rattle.wac_resolution_errors.proofs.Reports.{reports}
 use Rattle.wac_resolution_types.proofs.NamedParts.{parts_still_named}
 use Rattle.wac_resolution_types.proofs.FuncParts.{func_is, func_kinds, func_results_break}
 use Rattle.wac_resolution_types.proofs.func.function.Goals as goal
+
+pub returns-in_err-take_params-clause-err : goal.returns-in_err-take_params-clause-err
+returns-in_err-take_params-clause-err c =
+    let g = c.args.state.now.graph in
+    let p = err_from_is_err_and c.from_residual.result c.from_residual.ensures.1 in
+    rw (p.1, p.2) (reports c.in_err-take_params.ensures.err (λ err naming.
+    inl (subst (λ (l : List NamedType). ParamsBroken c.args.kind (scope_of naming g (values_of c.args.names.now)) (types_named naming g (by_name c.args.first.entries)) (map named_type_of l) (told c.in_err-take_params.field-0.0)) c.deref.ensures.value (err naming))))
 
 pub returns-in_err-results-clause-err : goal.returns-in_err-results-clause-err
 returns-in_err-results-clause-err c =
     let go = subst (λ (l : List NamedType). ParamsGo c.args.state.now.graph c.take_params.new.state.graph (values_of c.args.names.now) (by_name c.args.first.entries) (by_name c.take_params.new.all.entries) (map named_type_of l)) c.deref.ensures.value c.in_ok-take_params.ensures.ok in
     let p = err_from_is_err_and c.from_residual-in_err-results.result c.from_residual-in_err-results.ensures.1 in
-    rw (p.1, p.2) (func_results_break c.args.kind c.args.state.now.graph c.take_params.new.state.graph (values_of c.args.names.now) (by_name c.args.first.entries) (by_name c.take_params.new.all.entries) (func_type_of c.args.func.now) (told c.in_err-results.field-0.0)
-    c.requires.scope go c.in_err-results.ensures.err)
+    rw (p.1, p.2) (reports c.in_err-results.ensures.err (func_results_break c.args.kind c.args.state.now.graph c.take_params.new.state.graph (values_of c.args.names.now) (by_name c.args.first.entries) (by_name c.take_params.new.all.entries) (func_type_of c.args.func.now) (told c.in_err-results.field-0.0)
+    c.requires.scope go))
 
 pub add_func-requires : goal.add_func-requires
 add_func-requires c =

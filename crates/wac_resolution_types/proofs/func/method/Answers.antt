@@ -3,6 +3,7 @@ use Rattle.wac_types.specs.Names.{by_name}
 use Rattle.wac_ast_types.specs.Declarations.{func_type_of}
 use Rattle.wac_resolution_errors.specs.Told.{told}
 use Rattle.wac_resolution_state.specs.Bindings.{values_of}
+use Rattle.wac_resolution_errors.proofs.Reports.{reports}
 use Rattle.wac_resolution_types.proofs.FuncParts.{first_named, method_is, method_breaks}
 use Rattle.wac_resolution_types.proofs.func.method.Goals as goal
 
@@ -15,4 +16,4 @@ returns-clause-ok c =
 
 pub returns-clause-err : goal.returns-clause-err
 returns-clause-err c =
-    MatchResult-weaker c.function.result c.function.ensures.err (λ f h. h) (λ e h. method_breaks c.kind_of_method.result c.args.state.now.graph (values_of c.args.names.now) c.args.is_static c.args.resource (by_name c.in_ok-first.first.entries) (func_type_of c.args.func.now) (told e) c.kind_of_method.ensures c.in_ok-first.ensures h)
+    MatchResult-weaker c.function.result c.function.ensures.err (λ f h. h) (λ e h. reports h (method_breaks c.kind_of_method.result c.args.state.now.graph (values_of c.args.names.now) c.args.is_static c.args.resource (by_name c.in_ok-first.first.entries) (func_type_of c.args.func.now) (told e) c.kind_of_method.ensures c.in_ok-first.ensures))

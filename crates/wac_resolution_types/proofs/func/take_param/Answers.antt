@@ -1,4 +1,4 @@
-use Rattle.std.proofs.Common.{inr}
+use Rattle.std.proofs.Common.{inr, inl}
 use Rattle.std.proofs.lemmas.Result.{err_from_is_err_and}
 use Rattle.wac_types.specs.declared.kind.ItemKind.TheVariants as kinds
 use Rattle.wac_types.specs.Names.{by_name}
@@ -7,13 +7,19 @@ use Rattle.wac_graph.specs.Means.{means}
 use Rattle.wac_resolution_rules.specs.Types.{HasType}
 use Rattle.wac_resolution_state.specs.Bindings.{values_of}
 use Rattle.wac_resolution_types.specs.Funcs.{given}
+use Rattle.wac_resolution_errors.proofs.Reports.{reports}
 use Rattle.wac_resolution_types.proofs.NamedParts.{part_goes}
 use Rattle.wac_resolution_types.proofs.func.take_param.Goals as goal
+
+pub returns-in_err-value-clause-err : goal.returns-in_err-value-clause-err
+returns-in_err-value-clause-err c =
+    let p = err_from_is_err_and c.from_residual.result c.from_residual.ensures.1 in
+    rw (p.1, p.2) (reports c.in_err-value.ensures.err (λ err naming before. inl (err naming)))
 
 pub returns-in_err-check_param-clause-err : goal.returns-in_err-check_param-clause-err
 returns-in_err-check_param-clause-err c =
     let p = err_from_is_err_and c.from_residual-in_err-check_param.result c.from_residual-in_err-check_param.ensures.1 in
-    rw (p.1, p.2) (λ naming before. inr (means naming c.value_type.new.state.graph (kinds.Value c.in_ok-value.value), c.in_ok-value.ensures.ok.is naming, c.in_err-check_param.ensures.err naming c.args.state.now.graph))
+    rw (p.1, p.2) (reports c.in_err-check_param.ensures.err (λ err naming before. inr (means naming c.value_type.new.state.graph (kinds.Value c.in_ok-value.value), c.in_ok-value.ensures.ok.is naming, err naming c.args.state.now.graph)))
 
 pub returns-clause-ok : goal.returns-clause-ok
 returns-clause-ok c =

@@ -1,4 +1,4 @@
-use Rattle.std.proofs.Common.{◌≡◌, [], map, ap, refl, inr, rules}
+use Rattle.std.proofs.Common.{◌≡◌, [], map, ap, refl, rules}
 use Rattle.std.proofs.lemmas.Result.{err_from_is_err_and}
 use Rattle.wac_types.specs.declared.entry.DefinedType.TheVariants as types
 use Rattle.wac_ast_base.specs.Names.{ident_of}
@@ -7,6 +7,7 @@ use Rattle.wac_resolution_errors.specs.Told.{told}
 use Rattle.wac_resolution_rules.specs.Declarations.{HasFlag}
 use Rattle.wac_resolution_rules.specs.BrokenDeclarations.{IsRepeatedFlag}
 use Rattle.wac_resolution_types.specs.Declarations.{names_alone}
+use Rattle.wac_resolution_errors.proofs.Reports.{reports}
 use Rattle.wac_resolution_types.proofs.DeclarationParts.{names_from, names_fail_from, flags_are, alone_kinds}
 use Rattle.wac_resolution_types.proofs.names_alone.flags.Goals as goal
 
@@ -14,8 +15,8 @@ pub returns-in_err-each_flag-clause-err : goal.returns-in_err-each_flag-clause-e
 returns-in_err-each_flag-clause-err c =
     let p = err_from_is_err_and c.from_residual.result c.from_residual.ensures.1 in
     let empty : c.new-all.result.keys ≡ [] = search rules in
-    rw (p.1, p.2) (inr (names_fail_from HasFlag (λ old before x. IsRepeatedFlag (ident_of c.args.decl.now.id) old x.id (told c.in_err-each_flag.field-0.0)) c.new-all.result.keys (map flag_of c.deref.result.now) (map flag_of c.args.decl.now.flags.items)
-    empty (ap (map flag_of) c.deref.ensures.value) c.in_err-each_flag.ensures.err))
+    rw (p.1, p.2) (reports c.in_err-each_flag.ensures.err (λ err. names_fail_from HasFlag (λ old before x. IsRepeatedFlag (ident_of c.args.decl.now.id) old x.id (told c.in_err-each_flag.field-0.0)) c.new-all.result.keys (map flag_of c.deref.result.now) (map flag_of c.args.decl.now.flags.items)
+    empty (ap (map flag_of) c.deref.ensures.value) err))
 
 pub add_defined-requires : goal.add_defined-requires
 add_defined-requires c = alone_kinds c.args.state.now.graph.types c.each_flag.new.all.keys

@@ -1,4 +1,4 @@
-use Rattle.std.proofs.Common.{◌≡◌, [], map, ap, inr, refl, rules}
+use Rattle.std.proofs.Common.{◌≡◌, [], map, ap, refl, rules}
 use Rattle.std.proofs.lemmas.Result.{err_from_is_err_and}
 use Rattle.wac_types.specs.declared.entry.DefinedType.TheVariants as types
 use Rattle.wac_types.specs.Names.{by_name}
@@ -9,6 +9,7 @@ use Rattle.wac_resolution_rules.specs.Declarations.{HasField}
 use Rattle.wac_resolution_rules.specs.BrokenDeclarations.{FieldBroken}
 use Rattle.wac_resolution_state.specs.Bindings.{values_of}
 use Rattle.wac_resolution_types.specs.Funcs.{given}
+use Rattle.wac_resolution_errors.proofs.Reports.{reports}
 use Rattle.wac_resolution_types.proofs.NamedParts.{values_named}
 use Rattle.wac_resolution_types.proofs.DeclarationParts.{none_named, parts_from, parts_fail_from, record_is}
 use Rattle.wac_resolution_types.proofs.records.record.Goals as goal
@@ -17,8 +18,8 @@ pub returns-in_err-take_fields-clause-err : goal.returns-in_err-take_fields-clau
 returns-in_err-take_fields-clause-err c =
     let p = err_from_is_err_and c.from_residual.result c.from_residual.ensures.1 in
     let empty : c.new-fields.result.entries ≡ [] = search rules in
-    rw (p.1, p.2) (λ naming. inr (parts_fail_from given HasField (λ s. FieldBroken s (ident_of c.args.decl.now.id) (told c.in_err-take_fields.field-0.0)) c.args.state.now.graph (values_of c.args.names.now) (by_name c.new-fields.result.entries) (map field_of c.deref.result.now) (map field_of c.args.decl.now.fields.items)
-    (none_named c.new-fields.result.entries empty) (ap (map field_of) c.deref.ensures.value) c.in_err-take_fields.ensures.err naming))
+    rw (p.1, p.2) (reports c.in_err-take_fields.ensures.err (λ err naming. parts_fail_from given HasField (λ s. FieldBroken s (ident_of c.args.decl.now.id) (told c.in_err-take_fields.field-0.0)) c.args.state.now.graph (values_of c.args.names.now) (by_name c.new-fields.result.entries) (map field_of c.deref.result.now) (map field_of c.args.decl.now.fields.items)
+    (none_named c.new-fields.result.entries empty) (ap (map field_of) c.deref.ensures.value) err naming))
 
 pub add_defined-requires : goal.add_defined-requires
 add_defined-requires c = values_named c.take_fields.new.state.graph.types c.take_fields.new.all.entries c.in_ok-take_fields.ensures.ok.named

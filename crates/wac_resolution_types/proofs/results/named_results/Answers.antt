@@ -10,6 +10,7 @@ use Rattle.wac_resolution_rules.specs.Types.{HasResult}
 use Rattle.wac_resolution_rules.specs.BrokenTypes.{ResultBroken}
 use Rattle.wac_resolution_state.specs.Bindings.{values_of}
 use Rattle.wac_resolution_types.specs.Funcs.{given, ResultsGo}
+use Rattle.wac_resolution_errors.proofs.Reports.{reports}
 use Rattle.wac_resolution_state.proofs.Grown.{still_named}
 use Rattle.wac_resolution_types.proofs.NamedParts.{no_parts, parts_step, parts_all, parts_break}
 use Rattle.wac_resolution_types.proofs.DeclarationParts.{none_named}
@@ -30,8 +31,8 @@ named_result-requires-clause-parts c = c.loop-result.invariant.named
 pub returns-in_err-named_result-clause-err : goal.returns-in_err-named_result-clause-err
 returns-in_err-named_result-clause-err c =
     let p = err_from_is_err_and c.from_residual.result c.from_residual.ensures.1 in
-    rw (p.1, p.2) (parts_break given HasResult (λ s. ResultBroken c.args.kind s (told c.in_err-named_result.field-0.0)) named_type_of c.args.state.now.graph c.loop-result.state.graph (values_of c.args.names.now) [] (by_name c.loop-result.all.entries) c.args.named.now c.loop-result.result-index c.result-item.result
-    c.loop-result-test.true c.result-item.is c.requires c.loop-result.invariant c.in_err-named_result.ensures.err)
+    rw (p.1, p.2) (reports c.in_err-named_result.ensures.err (parts_break given HasResult (λ s. ResultBroken c.args.kind s (told c.in_err-named_result.field-0.0)) named_type_of c.args.state.now.graph c.loop-result.state.graph (values_of c.args.names.now) [] (by_name c.loop-result.all.entries) c.args.named.now c.loop-result.result-index c.result-item.result
+    c.loop-result-test.true c.result-item.is c.requires c.loop-result.invariant))
 
 pub loop-result-preserved : goal.loop-result-preserved
 loop-result-preserved c =

@@ -4,13 +4,14 @@ use Rattle.wac_types.specs.declared.entry.FuncResults.TheVariants as given_resul
 use Rattle.wac_ast_types.specs.Declarations.{named_type_of}
 use Rattle.wac_resolution_errors.specs.Told.{told}
 use Rattle.wac_resolution_state.specs.Bindings.{values_of}
+use Rattle.wac_resolution_errors.proofs.Reports.{reports}
 use Rattle.wac_resolution_types.proofs.FuncParts.{scalar_is, scalar_breaks, named_are, named_break}
 use Rattle.wac_resolution_types.proofs.results.results.Goals as goal
 
 pub returns-in_err-result_type-in-Scalar-clause-err : goal.returns-in_err-result_type-in-Scalar-clause-err
 returns-in_err-result_type-in-Scalar-clause-err c =
     let p = err_from_is_err_and c.from_residual.result c.from_residual.ensures.1 in
-    rw (p.1, p.2) (scalar_breaks c.args.kind c.args.state.now.graph (values_of c.args.names.now) c.args.results.now c.in-Scalar.ty (told c.in_err-result_type-in-Scalar.field-0.0) c.in-Scalar.is c.in_err-result_type-in-Scalar.ensures.err)
+    rw (p.1, p.2) (reports c.in_err-result_type-in-Scalar.ensures.err (scalar_breaks c.args.kind c.args.state.now.graph (values_of c.args.names.now) c.args.results.now c.in-Scalar.ty (told c.in_err-result_type-in-Scalar.field-0.0) c.in-Scalar.is))
 
 pub returns-in_ok-result_type-in-Scalar-clause-ok : goal.returns-in_ok-result_type-in-Scalar-clause-ok
 returns-in_ok-result_type-in-Scalar-clause-ok c =
@@ -19,8 +20,8 @@ returns-in_ok-result_type-in-Scalar-clause-ok c =
 pub returns-in_err-all-in-Named-clause-err : goal.returns-in_err-all-in-Named-clause-err
 returns-in_err-all-in-Named-clause-err c =
     let p = err_from_is_err_and c.from_residual-in_err-all-in-Named.result c.from_residual-in_err-all-in-Named.ensures.1 in
-    rw (p.1, p.2) (named_break c.args.kind c.args.state.now.graph (values_of c.args.names.now) c.args.results.now c.in-Named.named (map named_type_of c.deref.result.now) (told c.in_err-all-in-Named.field-0.0) c.in-Named.is
-    (ap (map named_type_of) c.deref.ensures.value) c.in_err-all-in-Named.ensures.err)
+    rw (p.1, p.2) (reports c.in_err-all-in-Named.ensures.err (named_break c.args.kind c.args.state.now.graph (values_of c.args.names.now) c.args.results.now c.in-Named.named (map named_type_of c.deref.result.now) (told c.in_err-all-in-Named.field-0.0) c.in-Named.is
+    (ap (map named_type_of) c.deref.ensures.value)))
 
 pub returns-in_ok-all-in-Named-clause-ok : goal.returns-in_ok-all-in-Named-clause-ok
 returns-in_ok-all-in-Named-clause-ok c =

@@ -7,13 +7,14 @@ use Rattle.wac_graph.specs.Means.{entry_means}
 use Rattle.wac_resolution_rules.specs.Declarations.{HasOption}
 use Rattle.wac_resolution_state.specs.Bindings.{values_of}
 use Rattle.wac_resolution_types.specs.Declarations.{perhaps}
+use Rattle.wac_resolution_errors.proofs.Reports.{reports}
 use Rattle.wac_resolution_types.proofs.NamedParts.{part_goes}
 use Rattle.wac_resolution_types.proofs.variants.take_case.Goals as goal
 
 pub returns-in_err-check_case-clause-err : goal.returns-in_err-check_case-clause-err
 returns-in_err-check_case-clause-err c =
     let p = err_from_is_err_and c.from_residual-in_err-check_case.result c.from_residual-in_err-check_case.ensures.1 in
-    rw (p.1, p.2) (λ naming before. inr (optional_means (entry_means naming c.case_type.new.state.graph) c.in_ok-value.value, c.in_ok-value.ensures.ok.is naming, c.in_err-check_case.ensures.err naming c.args.state.now.graph))
+    rw (p.1, p.2) (reports c.in_err-check_case.ensures.err (λ err naming before. inr (optional_means (entry_means naming c.case_type.new.state.graph) c.in_ok-value.value, c.in_ok-value.ensures.ok.is naming, err naming c.args.state.now.graph)))
 
 pub returns-clause-ok : goal.returns-clause-ok
 returns-clause-ok c =
@@ -23,4 +24,4 @@ returns-clause-ok c =
 pub returns-in_err-value-clause-err : goal.returns-in_err-value-clause-err
 returns-in_err-value-clause-err c =
     let p = err_from_is_err_and c.from_residual.result c.from_residual.ensures.1 in
-    rw (p.1, p.2) (λ naming before. inl (c.in_err-value.ensures.err naming))
+    rw (p.1, p.2) (reports c.in_err-value.ensures.err (λ err naming before. inl (err naming)))

@@ -9,6 +9,7 @@ use Rattle.wac_resolution_rules.specs.Declarations.{HasCase}
 use Rattle.wac_resolution_rules.specs.BrokenDeclarations.{CaseBroken}
 use Rattle.wac_resolution_state.specs.Bindings.{values_of}
 use Rattle.wac_resolution_types.specs.Declarations.{perhaps}
+use Rattle.wac_resolution_errors.proofs.Reports.{reports}
 use Rattle.wac_resolution_state.proofs.Grown.{still_named}
 use Rattle.wac_resolution_types.proofs.NamedParts.{no_parts, parts_step, parts_all, parts_break}
 use Rattle.wac_resolution_types.proofs.variants.take_cases.Goals as goal
@@ -25,8 +26,8 @@ take_case-requires-clause-parts c = c.loop-case.invariant.named
 pub returns-in_err-take_case-clause-err : goal.returns-in_err-take_case-clause-err
 returns-in_err-take_case-clause-err c =
     let p = err_from_is_err_and c.from_residual.result c.from_residual.ensures.1 in
-    rw (p.1, p.2) (parts_break perhaps HasCase (λ s. CaseBroken s (ident_of c.args.declared.now) (told c.in_err-take_case.field-0.0)) variant_case_of c.args.state.now.graph c.loop-case.state.graph (values_of c.args.names.now) (by_name c.args.all.now.entries) (by_name c.loop-case.all.entries) c.args.cases.now c.loop-case.case-index c.case-item.result
-    c.loop-case-test.true c.case-item.is c.requires.scope c.loop-case.invariant c.in_err-take_case.ensures.err)
+    rw (p.1, p.2) (reports c.in_err-take_case.ensures.err (parts_break perhaps HasCase (λ s. CaseBroken s (ident_of c.args.declared.now) (told c.in_err-take_case.field-0.0)) variant_case_of c.args.state.now.graph c.loop-case.state.graph (values_of c.args.names.now) (by_name c.args.all.now.entries) (by_name c.loop-case.all.entries) c.args.cases.now c.loop-case.case-index c.case-item.result
+    c.loop-case-test.true c.case-item.is c.requires.scope c.loop-case.invariant))
 
 pub loop-case-preserved : goal.loop-case-preserved
 loop-case-preserved c =

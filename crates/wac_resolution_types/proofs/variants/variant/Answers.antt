@@ -1,4 +1,4 @@
-use Rattle.std.proofs.Common.{◌≡◌, [], map, ap, inl, inr, refl, rules}
+use Rattle.std.proofs.Common.{◌≡◌, [], map, ap, inl, refl, rules}
 use Rattle.std.proofs.lemmas.Result.{err_from_is_err_and}
 use Rattle.wac_types.specs.declared.entry.DefinedType.TheVariants as types
 use Rattle.wac_types.specs.Names.{by_name}
@@ -9,6 +9,7 @@ use Rattle.wac_resolution_rules.specs.Declarations.{HasCase}
 use Rattle.wac_resolution_rules.specs.BrokenDeclarations.{CaseBroken}
 use Rattle.wac_resolution_state.specs.Bindings.{values_of}
 use Rattle.wac_resolution_types.specs.Declarations.{perhaps}
+use Rattle.wac_resolution_errors.proofs.Reports.{reports}
 use Rattle.wac_resolution_state.proofs.Scopes.{memory_told}
 use Rattle.wac_resolution_types.proofs.NamedParts.{cases_named}
 use Rattle.wac_resolution_types.proofs.DeclarationParts.{none_named, parts_from, parts_fail_from, variant_is}
@@ -18,8 +19,8 @@ pub returns-in_err-take_cases-clause-err : goal.returns-in_err-take_cases-clause
 returns-in_err-take_cases-clause-err c =
     let p = err_from_is_err_and c.from_residual.result c.from_residual.ensures.1 in
     let empty : c.new-cases.result.entries ≡ [] = search rules in
-    rw (p.1, p.2) (λ naming. inr (parts_fail_from perhaps HasCase (λ s. CaseBroken s (ident_of c.args.decl.now.id) (told c.in_err-take_cases.field-0.0)) c.args.state.now.graph (values_of c.args.names.now) (by_name c.new-cases.result.entries) (map variant_case_of c.deref.result.now) (map variant_case_of c.args.decl.now.cases.items)
-    (none_named c.new-cases.result.entries empty) (ap (map variant_case_of) c.deref.ensures.value) c.in_err-take_cases.ensures.err naming))
+    rw (p.1, p.2) (reports c.in_err-take_cases.ensures.err (λ err naming. parts_fail_from perhaps HasCase (λ s. CaseBroken s (ident_of c.args.decl.now.id) (told c.in_err-take_cases.field-0.0)) c.args.state.now.graph (values_of c.args.names.now) (by_name c.new-cases.result.entries) (map variant_case_of c.deref.result.now) (map variant_case_of c.args.decl.now.cases.items)
+    (none_named c.new-cases.result.entries empty) (ap (map variant_case_of) c.deref.ensures.value) err naming))
 
 pub add_defined-requires : goal.add_defined-requires
 add_defined-requires c = cases_named c.take_cases.new.state.graph.types c.take_cases.new.all.entries c.in_ok-take_cases.ensures.ok.named
@@ -35,4 +36,4 @@ returns-clause-ok c =
 pub returns-in_err-add_defined-clause-err : goal.returns-in_err-add_defined-clause-err
 returns-in_err-add_defined-clause-err c =
     let p = err_from_is_err_and c.from_residual-in_err-add_defined.result c.from_residual-in_err-add_defined.ensures.1 in
-    rw p.1 (λ naming. inl (memory_told p.0 p.2))
+    rw p.1 (inl (memory_told p.0 p.2))

@@ -12,22 +12,23 @@ use Rattle.wac_resolution_state.specs.Bindings.{values_of}
 use Rattle.wac_resolution_state.specs.Named.{scope_of}
 use Rattle.wac_resolution_paths.specs.Expands.{Found}
 use Rattle.wac_resolution_paths.specs.Setting.{packages_in, setting_of}
+use Rattle.wac_resolution_errors.proofs.Reports.{reports}
 use Rattle.wac_resolution_used.proofs.statement.used_interface.Goals as goal
 
 pub returns-in_err-kind-clause-err : goal.returns-in_err-kind-clause-err
 returns-in_err-kind-clause-err c =
     let p = err_from_is_err_and c.from_residual.result c.from_residual.ensures.1 in
-    rw (p.1, p.2) (λ naming. inl (c.in_err-kind.ensures.err naming))
+    rw (p.1, p.2) (reports c.in_err-kind.ensures.err (λ err naming. inl (err naming)))
 
 pub returns-in_err-interface-clause-err : goal.returns-in_err-interface-clause-err
 returns-in_err-interface-clause-err c =
     let p = err_from_is_err_and c.from_residual-in_err-interface.result c.from_residual-in_err-interface.ensures.1 in
-    rw (p.1, p.2) (λ naming. inr (
+    rw (p.1, p.2) (reports c.in_err-interface.ensures.err (λ err naming. inr (
       means naming c.use_path.new.state.graph c.in_ok-kind.kind,
       c.in_ok-kind.ensures.ok.is naming,
       subst (λ (at : Span). IsNoInterface (means naming c.use_path.new.state.graph c.in_ok-kind.kind) (use_path_name (use_path_of c.args.path.now)) at (told c.in_err-interface.field-0.0)) c.path_span.ensures
-          (subst (λ (name : List ℕ). IsNoInterface (means naming c.use_path.new.state.graph c.in_ok-kind.kind) name c.path_span.result (told c.in_err-interface.field-0.0)) c.path_name-name.ensures (c.in_err-interface.ensures.err naming c.use_path.new.state.graph)),
-    ))
+          (subst (λ (name : List ℕ). IsNoInterface (means naming c.use_path.new.state.graph c.in_ok-kind.kind) name c.path_span.result (told c.in_err-interface.field-0.0)) c.path_name-name.ensures (err naming c.use_path.new.state.graph)),
+    )))
 
 pub returns-clause-ok : goal.returns-clause-ok
 returns-clause-ok c =

@@ -11,6 +11,7 @@ use Rattle.wac_resolution_state.specs.Bindings.{values_of}
 use Rattle.wac_resolution_state.specs.Named.{scope_of}
 use Rattle.wac_resolution_paths.specs.Setting.{setting_of}
 use Rattle.wac_resolution_worlds.specs.Made.{InterfaceMade}
+use Rattle.wac_resolution_errors.proofs.Reports.{reports}
 use Rattle.wac_resolution_worlds.proofs.Declaring.{interface_declared}
 use Rattle.wac_resolution_worlds.proofs.declared.interface_decl.Goals as goal
 
@@ -18,7 +19,7 @@ pub returns-in_err-declared-clause-err : goal.returns-in_err-declared-clause-err
 returns-in_err-declared-clause-err c =
     let p = err_from_is_err_and c.from_residual-in_err-declared.result c.from_residual-in_err-declared.ensures.1 in
     let g = c.args.state.now.graph in
-    rw (p.1, p.2) (subst (λ (l : List InterfaceItem). (naming : Naming) → InterfaceBroken (setting_of naming c.args.setting.now) (scope_of naming g (values_of c.args.root.now)) (Some c.args.decl.now.id.string.now) (declared_count g) (map interface_item_of l) (told c.in_err-declared.field-0.0)) c.deref.ensures.value c.in_err-declared.ensures.err)
+    rw (p.1, p.2) (reports c.in_err-declared.ensures.err (subst (λ (l : List InterfaceItem). (naming : Naming) → InterfaceBroken (setting_of naming c.args.setting.now) (scope_of naming g (values_of c.args.root.now)) (Some c.args.decl.now.id.string.now) (declared_count g) (map interface_item_of l) (told c.in_err-declared.field-0.0)) c.deref.ensures.value))
 
 pub returns-clause-ok : goal.returns-clause-ok
 returns-clause-ok c =

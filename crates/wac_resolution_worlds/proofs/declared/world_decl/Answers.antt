@@ -4,6 +4,7 @@ use Rattle.wac_ast_worlds.specs.Worlds.{world_item_of}
 use Rattle.wac_ast_worlds.specs.declared.world.WorldItem.{WorldItem}
 use Rattle.wac_graph.specs.Means.{declared_count}
 use Rattle.wac_graph.specs.Origin.{Naming}
+use Rattle.wac_resolution_errors.specs.Error.{Reports}
 use Rattle.wac_resolution_errors.specs.Told.{told}
 use Rattle.wac_resolution_rules.specs.BrokenWorlds.{WorldBroken}
 use Rattle.wac_resolution_state.specs.Bindings.{values_of}
@@ -19,4 +20,4 @@ returns-clause-ok c =
 pub returns-clause-err : goal.returns-clause-err
 returns-clause-err c =
     let g = c.args.state.now.graph in
-    subst (λ (l : List WorldItem). IfErr c.world_of.result (λ e. (naming : Naming) → WorldBroken (setting_of naming c.args.setting.now) (scope_of naming g (values_of c.args.root.now)) c.args.decl.now.id.string.now (declared_count g) (map world_item_of l) (told e))) c.items_of.ensures c.world_of.ensures.err
+    subst (λ (l : List WorldItem). IfErr c.world_of.result (λ e. Reports (told e) ((naming : Naming) → WorldBroken (setting_of naming c.args.setting.now) (scope_of naming g (values_of c.args.root.now)) c.args.decl.now.id.string.now (declared_count g) (map world_item_of l) (told e)))) c.items_of.ensures c.world_of.ensures.err

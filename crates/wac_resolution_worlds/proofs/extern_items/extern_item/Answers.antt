@@ -4,6 +4,7 @@ use Rattle.wac_ast_worlds.specs.Worlds.{world_item_path_of}
 use Rattle.wac_resolution_state.specs.Bindings.{values_of}
 use Rattle.wac_resolution_bodies.specs.Lists.{lists_of}
 use Rattle.wac_resolution_bodies.specs.Owners.{owner_of}
+use Rattle.wac_resolution_errors.proofs.Reports.{if_reports}
 use Rattle.wac_resolution_worlds.proofs.WorldItems.{ident_item_goes, ident_item_breaks}
 use Rattle.wac_resolution_worlds.proofs.extern_items.extern_item.Goals as goal
 
@@ -19,4 +20,6 @@ returns-in-Ident-clause-ok c =
 
 pub returns-in-Ident-clause-err : goal.returns-in-Ident-clause-err
 returns-in-Ident-clause-err c =
-    ident_item_breaks c.args.setting.now (owner_of c.args.owner.now) c.args.side c.args.state.now.graph (values_of c.args.root.now) (lists_of c.args.body.now) c.args.item.now (ident_of c.in-Ident.id) c.ident_item.result (ap world_item_path_of c.in-Ident.is) c.ident_item.ensures.err
+    if_reports _ _
+    (λ r. ident_item_breaks c.args.setting.now (owner_of c.args.owner.now) c.args.side c.args.state.now.graph (values_of c.args.root.now) (lists_of c.args.body.now) c.args.item.now (ident_of c.in-Ident.id) r (ap world_item_path_of c.in-Ident.is))
+    c.ident_item.result c.ident_item.ensures.err

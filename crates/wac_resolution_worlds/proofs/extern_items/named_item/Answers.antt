@@ -3,6 +3,7 @@ use Rattle.std.proofs.lemmas.Result.{err_from_is_err_and}
 use Rattle.wac_ast_worlds.specs.Worlds.{named_world_item_of}
 use Rattle.wac_resolution_state.specs.Bindings.{values_of}
 use Rattle.wac_resolution_bodies.specs.Lists.{lists_of}
+use Rattle.wac_resolution_errors.proofs.Reports.{reports}
 use Rattle.wac_resolution_bodies.proofs.Lists.{extern_fresh}
 use Rattle.wac_resolution_worlds.proofs.WorldItems.{named_goes}
 use Rattle.wac_resolution_worlds.proofs.extern_items.named_item.Goals as goal
@@ -10,7 +11,7 @@ use Rattle.wac_resolution_worlds.proofs.extern_items.named_item.Goals as goal
 pub returns-in_err-check_extern-clause-err : goal.returns-in_err-check_extern-clause-err
 returns-in_err-check_extern-clause-err c =
     let p = err_from_is_err_and c.from_residual.result c.from_residual.ensures.1 in
-    rw (p.1, p.2) (λ naming. inl (c.in_err-check_extern.ensures.err naming c.args.state.now.graph))
+    rw (p.1, p.2) (reports c.in_err-check_extern.ensures.err (λ err naming. inl (err naming c.args.state.now.graph)))
 
 pub extern_type-requires-clause-names : goal.extern_type-requires-clause-names
 extern_type-requires-clause-names c = c.requires.body.names
@@ -18,7 +19,7 @@ extern_type-requires-clause-names c = c.requires.body.names
 pub returns-in_err-kind-clause-err : goal.returns-in_err-kind-clause-err
 returns-in_err-kind-clause-err c =
     let p = err_from_is_err_and c.from_residual-in_err-kind.result c.from_residual-in_err-kind.ensures.1 in
-    rw (p.1, p.2) (λ naming. inr (extern_fresh naming c.args.state.now.graph c.args.side (lists_of c.args.body.now) c.args.item.now.id.string.now c.in_ok-check_extern.ensures.ok, c.in_err-kind.ensures.err naming))
+    rw (p.1, p.2) (reports c.in_err-kind.ensures.err (λ err naming. inr (extern_fresh naming c.args.state.now.graph c.args.side (lists_of c.args.body.now) c.args.item.now.id.string.now c.in_ok-check_extern.ensures.ok, err naming)))
 
 pub returns-clause-ok : goal.returns-clause-ok
 returns-clause-ok c =

@@ -6,13 +6,14 @@ use Rattle.wac_resolution_state.specs.Bindings.{values_of}
 use Rattle.wac_resolution_paths.specs.Setting.{packages_in}
 use Rattle.wac_resolution_bodies.specs.Lists.{lists_of}
 use Rattle.wac_resolution_bodies.specs.Owners.{owner_of}
+use Rattle.wac_resolution_errors.proofs.Reports.{reports}
 use Rattle.wac_resolution_worlds.proofs.WorldItems.{body_there, path_goes, path_breaks}
 use Rattle.wac_resolution_worlds.proofs.extern_items.path_item.Goals as goal
 
 pub returns-in_err-kind-clause-err : goal.returns-in_err-kind-clause-err
 returns-in_err-kind-clause-err c =
     let p = err_from_is_err_and c.from_residual.result c.from_residual.ensures.1 in
-    rw (p.1, p.2) (λ naming. inl (c.in_err-kind.ensures.err naming))
+    rw (p.1, p.2) (reports c.in_err-kind.ensures.err (λ err naming. inl (err naming)))
 
 pub instance-requires-clause-body : goal.instance-requires-clause-body
 instance-requires-clause-body c = body_there (packages_in c.args.setting.now) c.args.state.now.graph c.path.new.state.graph _ (lists_of c.args.body.now) c.in_ok-kind.kind c.requires.body c.in_ok-kind.ensures.ok
@@ -23,8 +24,8 @@ instance-requires-clause-kind c = c.in_ok-kind.ensures.ok.named
 pub returns-in_err-instance-clause-err : goal.returns-in_err-instance-clause-err
 returns-in_err-instance-clause-err c =
     let p = err_from_is_err_and c.from_residual-in_err-instance.result c.from_residual-in_err-instance.ensures.1 in
-    rw (p.1, p.2) (path_breaks c.args.setting.now (owner_of c.args.owner.now) c.args.side c.args.state.now.graph c.path.new.state.graph (values_of c.args.root.now) (lists_of c.args.body.now) (package_path_of c.args.from.now) c.in_ok-kind.kind (told c.in_err-instance.field-0.0)
-    c.requires.body c.in_ok-kind.ensures.ok c.in_err-instance.ensures.err)
+    rw (p.1, p.2) (reports c.in_err-instance.ensures.err (path_breaks c.args.setting.now (owner_of c.args.owner.now) c.args.side c.args.state.now.graph c.path.new.state.graph (values_of c.args.root.now) (lists_of c.args.body.now) (package_path_of c.args.from.now) c.in_ok-kind.kind (told c.in_err-instance.field-0.0)
+    c.requires.body c.in_ok-kind.ensures.ok))
 
 pub returns-clause-ok : goal.returns-clause-ok
 returns-clause-ok c =

@@ -3,13 +3,14 @@ use Rattle.std.proofs.lemmas.Result.{err_from_is_err_and}
 use Rattle.wac_ast_base.specs.Names.{ident_of}
 use Rattle.wac_resolution_errors.specs.Told.{told}
 use Rattle.wac_resolution_state.specs.Bindings.{values_of}
+use Rattle.wac_resolution_errors.proofs.Reports.{reports}
 use Rattle.wac_resolution_worlds.proofs.Refer.{extern_named, extern_breaks}
 use Rattle.wac_resolution_worlds.proofs.externs.named_extern.Goals as goal
 
 pub returns-in_err-item_of-in-Some-clause-err : goal.returns-in_err-item_of-in-Some-clause-err
 returns-in_err-item_of-in-Some-clause-err c =
     let p = err_from_is_err_and c.from_residual.result c.from_residual.ensures.1 in
-    rw (p.1, p.2) (extern_breaks (values_of c.args.names.now) (values_of c.args.root.now) (ident_of c.args.id.now) c.in-Some.kind (told c.in_err-item_of-in-Some.field-0.0) (sym c.in-Some.ensures) c.in_err-item_of-in-Some.ensures.err)
+    rw (p.1, p.2) (reports c.in_err-item_of-in-Some.ensures.err (extern_breaks (values_of c.args.names.now) (values_of c.args.root.now) (ident_of c.args.id.now) c.in-Some.kind (told c.in_err-item_of-in-Some.field-0.0) (sym c.in-Some.ensures)))
 
 pub returns-in_ok-item_of-in-Some-clause-ok : goal.returns-in_ok-item_of-in-Some-clause-ok
 returns-in_ok-item_of-in-Some-clause-ok c =

@@ -4,13 +4,14 @@ use Rattle.wac_types.specs.Names.{by_name}
 use Rattle.wac_ast_types.specs.Declarations.{func_type_of}
 use Rattle.wac_resolution_errors.specs.Told.{told}
 use Rattle.wac_resolution_state.specs.Bindings.{values_of}
+use Rattle.wac_resolution_errors.proofs.Reports.{reports}
 use Rattle.wac_resolution_worlds.proofs.Refer.{new_func_is, new_func_breaks}
 use Rattle.wac_resolution_worlds.proofs.functions.new_func.Goals as goal
 
 pub returns-in_err-function-clause-err : goal.returns-in_err-function-clause-err
 returns-in_err-function-clause-err c =
     let p = err_from_is_err_and c.from_residual.result c.from_residual.ensures.1 in
-    rw (p.1, p.2) (new_func_breaks c.args.state.now.graph (values_of c.args.names.now) (by_name c.new-first.result.entries) (func_type_of c.args.func.now) (told c.in_err-function.field-0.0) (ap by_name c.new-first.ensures.empty) c.in_err-function.ensures.err)
+    rw (p.1, p.2) (reports c.in_err-function.ensures.err (new_func_breaks c.args.state.now.graph (values_of c.args.names.now) (by_name c.new-first.result.entries) (func_type_of c.args.func.now) (told c.in_err-function.field-0.0) (ap by_name c.new-first.ensures.empty)))
 
 pub returns-clause-ok : goal.returns-clause-ok
 returns-clause-ok c =

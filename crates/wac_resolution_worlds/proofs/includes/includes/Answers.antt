@@ -6,6 +6,7 @@ use Rattle.wac_ast_worlds.specs.Worlds.{world_item_of}
 use Rattle.wac_resolution_errors.specs.Told.{told}
 use Rattle.wac_resolution_rules.specs.Worlds.{includes_of}
 use Rattle.wac_resolution_state.specs.Bindings.{values_of}
+use Rattle.wac_resolution_errors.proofs.Reports.{reports}
 use Rattle.wac_resolution_paths.proofs.Expanding.{items_expanded}
 use Rattle.wac_resolution_bodies.specs.Lists.{lists_of}
 use Rattle.wac_resolution_worlds.specs.WorldItems.{IncludesGo}
@@ -27,8 +28,8 @@ include_item-requires-clause-handed c = c.loop-item.invariant.handed
 pub returns-in_err-include_item-clause-err : goal.returns-in_err-include_item-clause-err
 returns-in_err-include_item-clause-err c =
     let p = err_from_is_err_and c.from_residual.result c.from_residual.ensures.1 in
-    rw (p.1, p.2) (includes_break world_item_of c.args.setting.now c.args.state.now.graph c.loop-item.state.graph (values_of c.args.root.now) c.args.world.now (lists_of c.args.body.now) (lists_of c.loop-item.body) c.args.items.now c.loop-item.item-index c.item-item.result (told c.in_err-include_item.field-0.0)
-    c.loop-item-test.true c.item-item.is c.requires.root c.loop-item.invariant c.in_err-include_item.ensures.err)
+    rw (p.1, p.2) (reports c.in_err-include_item.ensures.err (includes_break world_item_of c.args.setting.now c.args.state.now.graph c.loop-item.state.graph (values_of c.args.root.now) c.args.world.now (lists_of c.args.body.now) (lists_of c.loop-item.body) c.args.items.now c.loop-item.item-index c.item-item.result (told c.in_err-include_item.field-0.0)
+    c.loop-item-test.true c.item-item.is c.requires.root c.loop-item.invariant))
 
 pub loop-item-preserved : goal.loop-item-preserved
 loop-item-preserved c =

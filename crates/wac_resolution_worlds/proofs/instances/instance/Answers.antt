@@ -1,6 +1,7 @@
 use Rattle.std.proofs.Common.{inl}
 use Rattle.std.proofs.lemmas.Result.{err_from_is_err_and}
 use Rattle.wac_resolution_errors.specs.Told.{told}
+use Rattle.wac_resolution_errors.proofs.Reports.{reports}
 use Rattle.wac_resolution_state.proofs.Scopes.{memory_told}
 use Rattle.wac_resolution_bodies.specs.Lists.{lists_of}
 use Rattle.wac_resolution_bodies.specs.Owners.{owner_of}
@@ -11,7 +12,7 @@ use Rattle.wac_resolution_worlds.proofs.instances.instance.Goals as goal
 pub returns-in_err-interface-clause-err : goal.returns-in_err-interface-clause-err
 returns-in_err-interface-clause-err c =
     let p = err_from_is_err_and c.from_residual.result c.from_residual.ensures.1 in
-    rw (p.1, p.2) (λ naming. inl (c.in_err-interface.ensures.err naming c.args.state.now.graph))
+    rw (p.1, p.2) (reports c.in_err-interface.ensures.err (λ err naming. inl (err naming c.args.state.now.graph)))
 
 pub instance_id-id-requires : goal.instance_id-id-requires
 instance_id-id-requires c = (interface_kind c.args.kind c.in_ok-interface.interface c.in_ok-interface.ensures.ok).named c.args.state.now.graph.types c.requires.kind
@@ -19,14 +20,13 @@ instance_id-id-requires c = (interface_kind c.args.kind c.in_ok-interface.interf
 pub returns-in_err-check_extern-clause-err : goal.returns-in_err-check_extern-clause-err
 returns-in_err-check_extern-clause-err c =
     let p = err_from_is_err_and c.from_residual-in_err-check_extern.result c.from_residual-in_err-check_extern.ensures.1 in
-    rw (p.1, p.2) (instance_conflicts (owner_of c.args.owner.now) c.args.state.now.graph c.args.side (lists_of c.args.body.now) c.args.kind c.in_ok-interface.interface c.instance_id-id.result.now c.args.name.now c.args.span (told c.in_err-check_extern.field-0.0)
-    (interface_kind c.args.kind c.in_ok-interface.interface c.in_ok-interface.ensures.ok) c.instance_id-id.ensures (λ naming. c.in_err-check_extern.ensures.err naming c.args.state.now.graph))
+    rw (p.1, p.2) (reports c.in_err-check_extern.ensures.err (λ err. instance_conflicts (owner_of c.args.owner.now) c.args.state.now.graph c.args.side (lists_of c.args.body.now) c.args.kind c.in_ok-interface.interface c.instance_id-id.result.now c.args.name.now c.args.span (told c.in_err-check_extern.field-0.0)
+    (interface_kind c.args.kind c.in_ok-interface.interface c.in_ok-interface.ensures.ok) c.instance_id-id.ensures (λ naming. err naming c.args.state.now.graph)))
 
 pub returns-in_err-add-clause-err : goal.returns-in_err-add-clause-err
 returns-in_err-add-clause-err c =
     let p = err_from_is_err_and c.from_residual-in_err-add.result c.from_residual-in_err-add.ensures.1 in
-    rw p.1 (instance_conflicts (owner_of c.args.owner.now) c.args.state.now.graph c.args.side (lists_of c.args.body.now) c.args.kind c.in_ok-interface.interface c.instance_id-id.result.now c.args.name.now c.args.span (told p.0)
-    (interface_kind c.args.kind c.in_ok-interface.interface c.in_ok-interface.ensures.ok) c.instance_id-id.ensures (λ naming. inl (memory_told p.0 p.2)))
+    rw p.1 (inl (memory_told p.0 p.2))
 
 pub returns-clause-ok : goal.returns-clause-ok
 returns-clause-ok c =

@@ -5,14 +5,15 @@ use Rattle.wac_ast_worlds.specs.Worlds.{interface_item_of}
 use Rattle.wac_resolution_errors.specs.Told.{told}
 use Rattle.wac_resolution_state.specs.Bindings.{values_of}
 use Rattle.wac_resolution_bodies.specs.Lists.{lists_of}
+use Rattle.wac_resolution_errors.proofs.Reports.{reports}
 use Rattle.wac_resolution_worlds.proofs.InterfaceBodies.{interface_made, items_broken}
 use Rattle.wac_resolution_worlds.proofs.interfaces.interface.Goals as goal
 
 pub returns-in_err-interface_items-clause-err : goal.returns-in_err-interface_items-clause-err
 returns-in_err-interface_items-clause-err c =
     let p = err_from_is_err_and c.from_residual.result c.from_residual.ensures.1 in
-    rw (p.1, p.2) (items_broken c.args.setting.now c.args.state.now.graph (values_of c.args.root.now) (lists_of c.new-body.result) (option_map (λ n. n.now) c.args.name) (map interface_item_of c.args.items.now) (told c.in_err-interface_items.field-0.0)
-    c.new-body.ensures c.in_err-interface_items.ensures.err)
+    rw (p.1, p.2) (reports c.in_err-interface_items.ensures.err (items_broken c.args.setting.now c.args.state.now.graph (values_of c.args.root.now) (lists_of c.new-body.result) (option_map (λ n. n.now) c.args.name) (map interface_item_of c.args.items.now) (told c.in_err-interface_items.field-0.0)
+    c.new-body.ensures))
 
 pub finish_interface-requires : goal.finish_interface-requires
 finish_interface-requires c = c.in_ok-interface_items.ensures.ok.body

@@ -2,6 +2,7 @@ use Rattle.std.proofs.Common.{inl}
 use Rattle.std.proofs.lemmas.Result.{err_from_is_err_and}
 use Rattle.wac_ast_worlds.specs.Worlds.{interface_export_of}
 use Rattle.wac_resolution_errors.specs.Told.{told}
+use Rattle.wac_resolution_errors.proofs.Reports.{reports}
 use Rattle.wac_resolution_state.proofs.Scopes.{memory_told}
 use Rattle.wac_resolution_bodies.specs.Lists.{lists_of}
 use Rattle.wac_resolution_bodies.specs.Owners.{owner_of}
@@ -11,19 +12,18 @@ use Rattle.wac_resolution_worlds.proofs.interfaces.interface_export.Goals as goa
 pub returns-in_err-func-clause-err : goal.returns-in_err-func-clause-err
 returns-in_err-func-clause-err c =
     let p = err_from_is_err_and c.from_residual.result c.from_residual.ensures.1 in
-    rw (p.1, p.2) (λ naming setting root before. inl (c.in_err-func.ensures.err naming))
+    rw (p.1, p.2) (reports c.in_err-func.ensures.err (λ err naming setting root before. inl (err naming)))
 
 pub returns-in_err-check_extern-clause-err : goal.returns-in_err-check_extern-clause-err
 returns-in_err-check_extern-clause-err c =
     let p = err_from_is_err_and c.from_residual-in_err-check_extern.result c.from_residual-in_err-check_extern.ensures.1 in
-    rw (p.1, p.2) (export_conflicts (owner_of c.args.owner.now) c.args.state.now.graph c.func_ref.new.state.graph (lists_of c.args.body.now) (interface_export_of c.args.export.now) c.in_ok-func.func (told c.in_err-check_extern.field-0.0)
-    c.in_ok-func.ensures.ok (λ naming. c.in_err-check_extern.ensures.err naming c.args.state.now.graph))
+    rw (p.1, p.2) (reports c.in_err-check_extern.ensures.err (λ err. export_conflicts (owner_of c.args.owner.now) c.args.state.now.graph c.func_ref.new.state.graph (lists_of c.args.body.now) (interface_export_of c.args.export.now) c.in_ok-func.func (told c.in_err-check_extern.field-0.0)
+    c.in_ok-func.ensures.ok (λ naming. err naming c.args.state.now.graph)))
 
 pub returns-in_err-add-clause-err : goal.returns-in_err-add-clause-err
 returns-in_err-add-clause-err c =
     let p = err_from_is_err_and c.from_residual-in_err-add.result c.from_residual-in_err-add.ensures.1 in
-    rw p.1 (export_conflicts (owner_of c.args.owner.now) c.args.state.now.graph c.func_ref.new.state.graph (lists_of c.args.body.now) (interface_export_of c.args.export.now) c.in_ok-func.func (told p.0)
-    c.in_ok-func.ensures.ok (λ naming. inl (memory_told p.0 p.2)))
+    rw p.1 (inl (memory_told p.0 p.2))
 
 pub returns-clause-ok : goal.returns-clause-ok
 returns-clause-ok c =

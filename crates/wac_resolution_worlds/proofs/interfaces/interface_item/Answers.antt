@@ -6,6 +6,7 @@ use Rattle.wac_ast_worlds.specs.Worlds.{interface_export_of, interface_item_of}
 use Rattle.wac_ast_uses.specs.Uses.{use_of}
 use Rattle.wac_ast_uses.specs.declared.uses.Use.{Use}
 use Rattle.wac_graph.specs.Origin.{Naming}
+use Rattle.wac_resolution_errors.specs.Error.{Reports}
 use Rattle.wac_resolution_errors.specs.Told.{told}
 use Rattle.wac_resolution_rules.specs.BrokenBodies.{UseBroken}
 use Rattle.wac_resolution_state.specs.Bindings.{values_of}
@@ -15,6 +16,7 @@ use Rattle.wac_resolution_bodies.specs.Bodies.{body_of}
 use Rattle.wac_resolution_used.specs.Statements.{StatementGoes}
 use Rattle.wac_resolution_bodies.specs.Lists.{lists_of}
 use Rattle.wac_resolution_bodies.specs.Owners.{owner_of}
+use Rattle.wac_resolution_errors.proofs.Reports.{if_reports}
 use Rattle.wac_resolution_worlds.proofs.InterfaceBodies.{use_breaks, export_breaks, declaration_breaks, export_item, declaration_item}
 use Rattle.wac_resolution_worlds.proofs.interfaces.interface_item.Goals as goal
 
@@ -25,8 +27,10 @@ returns-in-Use-clause-ok c =
 
 pub returns-in-Use-clause-err : goal.returns-in-Use-clause-err
 returns-in-Use-clause-err c =
-    let h = subst (λ (u : Use). IfErr c.use_statement.result (λ e. (naming : Naming) → UseBroken (setting_of naming c.args.setting.now) (scope_of naming c.args.state.now.graph (values_of c.args.root.now)) sides.Export (body_of naming c.args.state.now.graph c.args.body.now) (use_of u) (told e))) c.deref.ensures c.use_statement.ensures.err in
-    use_breaks c.args.setting.now c.args.state.now.graph (values_of c.args.root.now) (owner_of c.args.owner.now) (lists_of c.args.body.now) c.args.item.now (use_of c.in-Use.used.value) c.use_statement.result (ap interface_item_of c.in-Use.is) h
+    let h = subst (λ (u : Use). IfErr c.use_statement.result (λ e. Reports (told e) ((naming : Naming) → UseBroken (setting_of naming c.args.setting.now) (scope_of naming c.args.state.now.graph (values_of c.args.root.now)) sides.Export (body_of naming c.args.state.now.graph c.args.body.now) (use_of u) (told e)))) c.deref.ensures c.use_statement.ensures.err in
+    if_reports _ _
+    (λ r. use_breaks c.args.setting.now c.args.state.now.graph (values_of c.args.root.now) (owner_of c.args.owner.now) (lists_of c.args.body.now) c.args.item.now (use_of c.in-Use.used.value) r (ap interface_item_of c.in-Use.is))
+    c.use_statement.result h
 
 pub returns-in-Export-clause-ok : goal.returns-in-Export-clause-ok
 returns-in-Export-clause-ok c =
@@ -34,7 +38,9 @@ returns-in-Export-clause-ok c =
 
 pub returns-in-Export-clause-err : goal.returns-in-Export-clause-err
 returns-in-Export-clause-err c =
-    export_breaks c.args.setting.now c.args.state.now.graph (values_of c.args.root.now) (owner_of c.args.owner.now) (lists_of c.args.body.now) c.args.item.now (interface_export_of c.in-Export.export) c.interface_export.result (ap interface_item_of c.in-Export.is) c.interface_export.ensures.err
+    if_reports _ _
+    (λ r. export_breaks c.args.setting.now c.args.state.now.graph (values_of c.args.root.now) (owner_of c.args.owner.now) (lists_of c.args.body.now) c.args.item.now (interface_export_of c.in-Export.export) r (ap interface_item_of c.in-Export.is))
+    c.interface_export.result c.interface_export.ensures.err
 
 pub returns-in-Ty-clause-ok : goal.returns-in-Ty-clause-ok
 returns-in-Ty-clause-ok c =
@@ -42,4 +48,6 @@ returns-in-Ty-clause-ok c =
 
 pub returns-in-Ty-clause-err : goal.returns-in-Ty-clause-err
 returns-in-Ty-clause-err c =
-    declaration_breaks c.args.setting.now c.args.state.now.graph (values_of c.args.root.now) (owner_of c.args.owner.now) (lists_of c.args.body.now) c.args.item.now (item_type_decl_of c.in-Ty.decl) c.item.result (ap interface_item_of c.in-Ty.is) c.item.ensures.err
+    if_reports _ _
+    (λ r. declaration_breaks c.args.setting.now c.args.state.now.graph (values_of c.args.root.now) (owner_of c.args.owner.now) (lists_of c.args.body.now) c.args.item.now (item_type_decl_of c.in-Ty.decl) r (ap interface_item_of c.in-Ty.is))
+    c.item.result c.item.ensures.err

@@ -5,6 +5,7 @@ use Rattle.wac_ast_uses.specs.Uses.{use_of, world_include_of}
 use Rattle.wac_resolution_state.specs.Bindings.{values_of}
 use Rattle.wac_resolution_bodies.specs.Lists.{lists_of}
 use Rattle.wac_resolution_bodies.specs.Owners.{owner_of}
+use Rattle.wac_resolution_errors.proofs.Reports.{if_reports}
 use Rattle.wac_resolution_worlds.proofs.WorldBodies.{use_breaks, import_breaks, export_breaks, declaration_breaks, declaration_item, include_item}
 use Rattle.wac_resolution_worlds.proofs.world_items.world_item.Goals as goal
 
@@ -13,15 +14,21 @@ returns-in-Use-clause-ok c = rw c.in-Use.is c.use_statement.ensures.ok
 
 pub returns-in-Use-clause-err : goal.returns-in-Use-clause-err
 returns-in-Use-clause-err c =
-    use_breaks c.args.setting.now c.args.state.now.graph (values_of c.args.root.now) (owner_of c.args.owner.now) (lists_of c.args.body.now) c.args.item.now (use_of c.in-Use.used) c.use_statement.result (ap world_item_of c.in-Use.is) c.use_statement.ensures.err
+    if_reports _ _
+    (λ r. use_breaks c.args.setting.now c.args.state.now.graph (values_of c.args.root.now) (owner_of c.args.owner.now) (lists_of c.args.body.now) c.args.item.now (use_of c.in-Use.used) r (ap world_item_of c.in-Use.is))
+    c.use_statement.result c.use_statement.ensures.err
 
 pub returns-in-Import-clause-err : goal.returns-in-Import-clause-err
 returns-in-Import-clause-err c =
-    import_breaks c.args.setting.now c.args.state.now.graph (values_of c.args.root.now) (owner_of c.args.owner.now) (lists_of c.args.body.now) c.args.item.now (world_import_of c.in-Import.import) c.extern_item.result (ap world_item_of c.in-Import.is) c.extern_item.ensures.err
+    if_reports _ _
+    (λ r. import_breaks c.args.setting.now c.args.state.now.graph (values_of c.args.root.now) (owner_of c.args.owner.now) (lists_of c.args.body.now) c.args.item.now (world_import_of c.in-Import.import) r (ap world_item_of c.in-Import.is))
+    c.extern_item.result c.extern_item.ensures.err
 
 pub returns-in-Export-clause-err : goal.returns-in-Export-clause-err
 returns-in-Export-clause-err c =
-    export_breaks c.args.setting.now c.args.state.now.graph (values_of c.args.root.now) (owner_of c.args.owner.now) (lists_of c.args.body.now) c.args.item.now (world_export_of c.in-Export.export) c.extern_item-in-Export.result (ap world_item_of c.in-Export.is) c.extern_item-in-Export.ensures.err
+    if_reports _ _
+    (λ r. export_breaks c.args.setting.now c.args.state.now.graph (values_of c.args.root.now) (owner_of c.args.owner.now) (lists_of c.args.body.now) c.args.item.now (world_export_of c.in-Export.export) r (ap world_item_of c.in-Export.is))
+    c.extern_item-in-Export.result c.extern_item-in-Export.ensures.err
 
 pub returns-in-Include-clause-ok : goal.returns-in-Include-clause-ok
 returns-in-Include-clause-ok c =
@@ -33,4 +40,6 @@ returns-in-Ty-clause-ok c =
 
 pub returns-in-Ty-clause-err : goal.returns-in-Ty-clause-err
 returns-in-Ty-clause-err c =
-    declaration_breaks c.args.setting.now c.args.state.now.graph (values_of c.args.root.now) (owner_of c.args.owner.now) (lists_of c.args.body.now) c.args.item.now (item_type_decl_of c.in-Ty.decl) c.item.result (ap world_item_of c.in-Ty.is) c.item.ensures.err
+    if_reports _ _
+    (λ r. declaration_breaks c.args.setting.now c.args.state.now.graph (values_of c.args.root.now) (owner_of c.args.owner.now) (lists_of c.args.body.now) c.args.item.now (item_type_decl_of c.in-Ty.decl) r (ap world_item_of c.in-Ty.is))
+    c.item.result c.item.ensures.err

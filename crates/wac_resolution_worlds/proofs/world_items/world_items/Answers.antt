@@ -9,6 +9,7 @@ use Rattle.wac_resolution_rules.specs.Places.{bound_in_world_item}
 use Rattle.wac_resolution_rules.specs.Worlds.{HasWorldItem}
 use Rattle.wac_resolution_state.specs.Bindings.{values_of, places_of}
 use Rattle.wac_resolution_paths.specs.Setting.{packages_in, setting_of}
+use Rattle.wac_resolution_errors.proofs.Reports.{reports}
 use Rattle.wac_resolution_paths.proofs.Expanding.{items_expanded}
 use Rattle.wac_resolution_bodies.specs.Lists.{lists_of}
 use Rattle.wac_resolution_bodies.specs.Owners.{owner_of}
@@ -33,9 +34,9 @@ world_item-requires-clause-handed c = c.loop-item.invariant.handed
 pub returns-in_err-world_item-clause-err : goal.returns-in_err-world_item-clause-err
 returns-in_err-world_item-clause-err c =
     let p = err_from_is_err_and c.from_residual.result c.from_residual.ensures.1 in
-    rw (p.1, p.2) (items_break (packages_in c.args.setting.now) (λ naming. HasWorldItem (setting_of naming c.args.setting.now)) (λ naming root. WorldItemBroken (setting_of naming c.args.setting.now) root (owner_of c.args.owner.now) (told c.in_err-world_item.field-0.0)) bound_in_world_item world_item_of sides.Import
+    rw (p.1, p.2) (reports c.in_err-world_item.ensures.err (items_break (packages_in c.args.setting.now) (λ naming. HasWorldItem (setting_of naming c.args.setting.now)) (λ naming root. WorldItemBroken (setting_of naming c.args.setting.now) root (owner_of c.args.owner.now) (told c.in_err-world_item.field-0.0)) bound_in_world_item world_item_of sides.Import
     c.args.state.now.graph c.loop-item.state.graph (values_of c.args.root.now) (lists_of c.args.body.now) (lists_of c.loop-item.body) c.args.items.now c.loop-item.item-index c.item-item.result
-    c.loop-item-test.true c.item-item.is c.requires.root (ap (λ l. places_of l.names) c.requires.empty) c.loop-item.invariant c.in_err-world_item.ensures.err)
+    c.loop-item-test.true c.item-item.is c.requires.root (ap (λ l. places_of l.names) c.requires.empty) c.loop-item.invariant))
 
 pub loop-item-preserved : goal.loop-item-preserved
 loop-item-preserved c =

@@ -4,6 +4,7 @@ use Rattle.std.proofs.lemmas.Result.{err_from_is_err_and}
 use Rattle.wac_ast_worlds.specs.Worlds.{world_item_of}
 use Rattle.wac_resolution_errors.specs.Told.{told}
 use Rattle.wac_resolution_state.specs.Bindings.{values_of}
+use Rattle.wac_resolution_errors.proofs.Reports.{reports}
 use Rattle.wac_resolution_paths.proofs.Expanding.{items_expanded}
 use Rattle.wac_resolution_bodies.specs.Lists.{lists_of}
 use Rattle.wac_resolution_worlds.proofs.WorldBodies.{body_named, world_made, items_broken, includes_broken}
@@ -12,8 +13,8 @@ use Rattle.wac_resolution_worlds.proofs.worlds.world.Goals as goal
 pub returns-in_err-world_items-clause-err : goal.returns-in_err-world_items-clause-err
 returns-in_err-world_items-clause-err c =
     let p = err_from_is_err_and c.from_residual.result c.from_residual.ensures.1 in
-    rw (p.1, p.2) (items_broken c.args.setting.now c.args.state.now.graph (values_of c.args.root.now) (lists_of c.new-body.result) c.args.name.now (map world_item_of c.args.items.now) (told c.in_err-world_items.field-0.0)
-    c.new-body.ensures c.in_err-world_items.ensures.err)
+    rw (p.1, p.2) (reports c.in_err-world_items.ensures.err (items_broken c.args.setting.now c.args.state.now.graph (values_of c.args.root.now) (lists_of c.new-body.result) c.args.name.now (map world_item_of c.args.items.now) (told c.in_err-world_items.field-0.0)
+    c.new-body.ensures))
 
 pub includes-requires-clause-body : goal.includes-requires-clause-body
 includes-requires-clause-body c = body_named c.world_items.new.state.graph.types (lists_of c.world_items.new.body) c.in_ok-world_items.ensures.ok.body
@@ -27,8 +28,8 @@ includes-requires-clause-handed c = c.in_ok-world_items.ensures.ok.handed
 pub returns-in_err-includes-clause-err : goal.returns-in_err-includes-clause-err
 returns-in_err-includes-clause-err c =
     let p = err_from_is_err_and c.from_residual-in_err-includes.result c.from_residual-in_err-includes.ensures.1 in
-    rw (p.1, p.2) (includes_broken c.args.setting.now c.args.state.now.graph c.world_items.new.state.graph (values_of c.args.root.now) (lists_of c.new-body.result) (lists_of c.world_items.new.body) c.args.name.now (map world_item_of c.args.items.now) (told c.in_err-includes.field-0.0)
-    c.new-body.ensures c.requires.root c.in_ok-world_items.ensures.ok c.in_err-includes.ensures.err)
+    rw (p.1, p.2) (reports c.in_err-includes.ensures.err (includes_broken c.args.setting.now c.args.state.now.graph c.world_items.new.state.graph (values_of c.args.root.now) (lists_of c.new-body.result) (lists_of c.world_items.new.body) c.args.name.now (map world_item_of c.args.items.now) (told c.in_err-includes.field-0.0)
+    c.new-body.ensures c.requires.root c.in_ok-world_items.ensures.ok))
 
 pub finish_world-requires : goal.finish_world-requires
 finish_world-requires c = c.in_ok-includes.ensures.ok.named

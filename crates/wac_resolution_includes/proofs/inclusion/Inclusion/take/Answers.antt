@@ -4,19 +4,20 @@ use Rattle.wac_types.specs.Names.{by_name}
 use Rattle.wac_resolution_errors.specs.Told.{told}
 use Rattle.wac_resolution_includes.specs.Entries.{entries_of}
 use Rattle.wac_resolution_includes.specs.Taking.{tree_of}
+use Rattle.wac_resolution_errors.proofs.Reports.{reports}
 use Rattle.wac_resolution_includes.proofs.Worlds.{is_included, world_breaks}
 use Rattle.wac_resolution_includes.proofs.inclusion.Inclusion.take.Goals as goal
 
 pub returns-in_err-world-clause-err : goal.returns-in_err-world-clause-err
 returns-in_err-world-clause-err c =
     let p = err_from_is_err_and c.from_residual.result c.from_residual.ensures.1 in
-    rw (p.1, p.2) (λ naming b. inl (c.in_err-world.ensures.err naming c.args.graph.now))
+    rw (p.1, p.2) (reports c.in_err-world.ensures.err (λ err naming b. inl (err naming c.args.graph.now)))
 
 pub returns-in_err-take_world-clause-err : goal.returns-in_err-take_world-clause-err
 returns-in_err-take_world-clause-err c =
     let p = err_from_is_err_and c.from_residual-in_err-take_world.result c.from_residual-in_err-take_world.ensures.1 in
-    rw (p.1, p.2) (world_breaks c.args.graph.now (tree_of c.args.self.now) c.args.self.now.world.now (entries_of (by_name c.args.entries.entries)) c.args.kind c.in_ok-world.world (by_name c.args.imports.now.entries) (by_name c.args.exports.now.entries) (told c.in_err-take_world.field-0.0)
-    c.in_ok-world.ensures.ok c.in_err-take_world.ensures.err)
+    rw (p.1, p.2) (reports c.in_err-take_world.ensures.err (world_breaks c.args.graph.now (tree_of c.args.self.now) c.args.self.now.world.now (entries_of (by_name c.args.entries.entries)) c.args.kind c.in_ok-world.world (by_name c.args.imports.now.entries) (by_name c.args.exports.now.entries) (told c.in_err-take_world.field-0.0)
+    c.in_ok-world.ensures.ok))
 
 pub returns-clause-ok : goal.returns-clause-ok
 returns-clause-ok c =

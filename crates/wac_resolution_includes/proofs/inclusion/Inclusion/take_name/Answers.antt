@@ -3,6 +3,7 @@ use Rattle.std.proofs.lemmas.Result.{err_from_is_err_and}
 use Rattle.wac_types.specs.Names.{by_name}
 use Rattle.wac_graph.specs.Means.{means}
 use Rattle.wac_resolution_includes.specs.Taking.{clause_of}
+use Rattle.wac_resolution_errors.proofs.Reports.{reports}
 use Rattle.wac_resolution_includes.proofs.Taken.{kept_taken, renamed_taken}
 use Rattle.wac_resolution_includes.proofs.inclusion.Inclusion.take_name.Goals as goal
 
@@ -14,7 +15,7 @@ returns-then-has_colon-clause-ok c =
 pub returns-in_err-check_taken-clause-err : goal.returns-in_err-check_taken-clause-err
 returns-in_err-check_taken-clause-err c =
     let p = err_from_is_err_and c.from_residual-in_err-check_taken.result c.from_residual-in_err-check_taken.ensures.1 in
-    rw (p.1, p.2) (λ naming g before. c.in_err-check_taken.ensures.err naming g before (means naming g c.args.kind))
+    rw (p.1, p.2) (reports c.in_err-check_taken.ensures.err (λ err naming g before. err naming g before (means naming g c.args.kind)))
 
 pub returns-clause-ok : goal.returns-clause-ok
 returns-clause-ok c =

@@ -1,5 +1,6 @@
 use Rattle.std.proofs.lemmas.Result.{err_from_is_err_and}
 use Rattle.wac_ast_base.specs.Names.{ident_of}
+use Rattle.wac_resolution_errors.proofs.Reports.{reports}
 use Rattle.wac_resolution_nodes.proofs.Composed.{still_there}
 use Rattle.wac_resolution_nodes.proofs.Roots.{binds, kinds_fresh}
 use Rattle.wac_resolution_nodes.proofs.root.Root.bind.Goals as goal
@@ -7,7 +8,7 @@ use Rattle.wac_resolution_nodes.proofs.root.Root.bind.Goals as goal
 pub returns-in_err-check_fresh-clause-err : goal.returns-in_err-check_fresh-clause-err
 returns-in_err-check_fresh-clause-err c =
     let p = err_from_is_err_and c.from_residual.result c.from_residual.ensures.1 in
-    rw (p.1, p.2) (λ naming all same. c.in_err-check_fresh.ensures.err naming c.args.state.now.graph all same)
+    rw (p.1, p.2) (reports c.in_err-check_fresh.ensures.err (λ err naming all same. err naming c.args.state.now.graph all same))
 
 pub kind-kind-requires : goal.kind-kind-requires
 kind-kind-requires c = still_there c.args.state.now.graph c.name_node.new.state.graph c.args.node.0 c.in_ok-name_node.ensures.grows c.requires.there
