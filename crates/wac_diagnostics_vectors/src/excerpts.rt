@@ -9,7 +9,7 @@ use wac_positions::Lines;
 /// A text, an offset and a length in it, and what is shown.
 type Row = (&'static str, usize, usize, &'static str);
 
-static ROWS: [Row; 9] = [
+static ROWS: [Row; 10] = [
     // A tab takes four columns.
     (
         "a\n\tlet x = y;\n",
@@ -28,6 +28,8 @@ static ROWS: [Row; 9] = [
         1,
         "1 | a\u{fffd}[31m\u{fffd}b\n  |        ^\n",
     ),
+    // A byte order mark, of which a terminal shows nothing.
+    ("\u{feff}let", 0, 3, "1 | \u{fffd}let\n  | ^\n"),
     // A part of a character is all of it.
     ("aé", 2, 1, "1 | aé\n  |  ^\n"),
     // CR LF ends a line, and so does a CR alone.

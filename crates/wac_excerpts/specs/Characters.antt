@@ -2,9 +2,13 @@
 use Rattle.std.specs.Prelude.{ℕ, List, Bool, ◌&&◌, ◌||◌, false, nat_eq, nat_lt, nat_le, map, chars, encode_utf8_all, unwrap_or, if◌then◌else◌}
 use Rattle.unicode_width.specs.Width.{char_width}
 
--- a control character, or one that overrides the direction of a text: a terminal could take it for a command
+-- one that overrides the direction of a text
+abbrev pub is_override : ℕ → Bool
+is_override c = (nat_le 8234 c && nat_le c 8238) || (nat_le 8294 c && nat_le c 8297)
+
+-- a control character, an override, or a byte order mark: a terminal could take it for a command, or show nothing of it
 abbrev pub is_command : ℕ → Bool
-is_command c = nat_lt c 32 || ((nat_le 127 c && nat_le c 159) || ((nat_le 8234 c && nat_le c 8238) || (nat_le 8294 c && nat_le c 8297)))
+is_command c = nat_lt c 32 || ((nat_le 127 c && nat_le c 159) || (is_override c || nat_eq c 65279))
 
 -- what is written for a character: U+FFFD for a command
 abbrev pub shown : ℕ → ℕ

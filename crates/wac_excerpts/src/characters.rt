@@ -8,14 +8,15 @@ use unicode_width::UnicodeWidthChar;
 /// How many columns a tab takes.
 const TAB: usize = 4;
 
-/// Whether a terminal could take a character for a command: a control character, or one that overrides the direction
-/// of a text.
+/// Whether a terminal could take a character for a command, or show nothing of it: a control character, one that
+/// overrides the direction of a text, or a byte order mark.
 fn is_command(c: char) -> bool
     ensures { result ≡ is_command c }
 {
     match c {
         '\0'..='\u{1f}' | '\u{7f}'..='\u{9f}' => true,
         '\u{202a}'..='\u{202e}' | '\u{2066}'..='\u{2069}' => true,
+        '\u{feff}' => true,
         _ => false,
     }
 }
@@ -38,8 +39,8 @@ pub(crate) fn columns(c: char) -> usize
     }
 }
 
-/// Appends a text, with U+FFFD in place of each control character and each bidirectional override. So it stays on one
-/// line, and can't command a terminal.
+/// Appends a text, with U+FFFD in place of each control character, each bidirectional override and each byte order
+/// mark. So it stays on one line, and can't command a terminal.
 pub fn push_shown(out: &mut String, text: &str) -> Result<(), AllocError>
     ensures { OnOk result (string_bytes out.new ≡ string_bytes out.old ++ shown_text text.now) }
 {
