@@ -1,8 +1,12 @@
 //! What is wrong with a text before it is parsed.
-ghost use Rattle.std.specs.Prelude.{◌≡◌, ◌++◌, IfOk, Some, codes, decimal};
-ghost use Rattle.wac_lexer.specs.Span.{span};
-ghost use Rattle.wac_diagnostics.specs.Reports.{Says};
-ghost use Rattle.wac_error_diagnostics.specs.Reading.{begins_with_mark, IsReading};
+ghost use Rattle.std.specs.Prelude.{◌≡◌, IfOk};
+ghost use Rattle.wac_error_diagnostics.specs.Reading.{
+  begins_with_mark,
+  IsReading,
+  SaysMarked,
+  SaysNotUtf8,
+  SaysTooDeep,
+};
 
 use std::alloc::{AllocError, Global};
 use wac_diagnostics::Diagnostic;
@@ -53,7 +57,7 @@ fn without_mark(alloc: Global, text: &str) -> Result<Reading<'_>, AllocError>
 
 /// What is said of bytes that are UTF-8 only up to an offset.
 fn not_utf8(alloc: Global, offset: usize) -> Result<Diagnostic, AllocError>
-    ensures { IfOk result (λ diagnostic. Says (codes "wac::not-utf-8") (codes "not UTF-8, the first bad byte is at offset " ++ decimal offset) (Some (span offset 1)) diagnostic) }
+    ensures { IfOk result (λ diagnostic. SaysNotUtf8 offset diagnostic) }
 {
     let message = format!(in alloc; "not UTF-8, the first bad byte is at offset {offset}")?;
     let help = String::from_str(alloc, "save the file as UTF-8")?;
@@ -64,7 +68,7 @@ fn not_utf8(alloc: Global, offset: usize) -> Result<Diagnostic, AllocError>
 
 /// What is said of a text that begins with a byte order mark.
 fn byte_order_mark(alloc: Global) -> Result<Diagnostic, AllocError>
-    ensures { IfOk result (λ diagnostic. Says (codes "wac::byte-order-mark") (codes "the text begins with a byte order mark") (Some (span 0 3)) diagnostic) }
+    ensures { IfOk result (λ diagnostic. SaysMarked diagnostic) }
 {
     let message = String::from_str(alloc, "the text begins with a byte order mark")?;
     let help = String::from_str(alloc, "save the file as UTF-8 without a byte order mark")?;
@@ -75,7 +79,7 @@ fn byte_order_mark(alloc: Global) -> Result<Diagnostic, AllocError>
 
 /// What is said of a text whose brackets are nested too deeply. The place is the first bracket that is.
 pub fn nested_too_deep(alloc: Global, span: SourceSpan) -> Result<Diagnostic, AllocError>
-    ensures { IfOk result (λ diagnostic. Says (codes "wac::nested-too-deep") (codes "brackets are nested deeper than 1,000") (Some span) diagnostic) }
+    ensures { IfOk result (λ diagnostic. SaysTooDeep span diagnostic) }
 {
     let message = String::from_str(alloc, "brackets are nested deeper than 1,000")?;
     Ok(Diagnostic::at("wac::nested-too-deep", message, span))

@@ -1,14 +1,14 @@
 -- What is found of a text.
-use Rattle.std.specs.Prelude.{◌≡◌, ◌≢◌, List, ℕ, ◌⊎◌, Bool, true, codes, Some, None}
+use Rattle.std.specs.Prelude.{◌≡◌, ◌≢◌, List, ℕ, ◌⊎◌, Bool, true, Some, None}
 use Rattle.wac_lexer.specs.Span.{Span}
 use Rattle.wac_grammar.specs.Tree.{Document as Tree}
 use Rattle.wac_grammar.specs.TextTree.{IsTreeOf}
 use Rattle.wac_ast.specs.Document.{ErrorOf}
 use Rattle.wac_ast_base.specs.Error.{Told, no_memory}
 use Rattle.wac_comments_layout.specs.Nesting.{too_deep}
-use Rattle.wac_diagnostics.specs.Reports.{Says}
 use Rattle.wac_diagnostics.specs.declared.diagnostic.Diagnostic.{Diagnostic}
 use Rattle.wac_error_diagnostics.specs.Diagnostics.{IsOfParsing}
+use Rattle.wac_error_diagnostics.specs.Reading.{SaysTooDeep}
 use Rattle.wac_first_error.specs.Rules.{IsOfRule}
 use Rattle.wac_first_error.specs.declared.finding.Finding.{Finding}
 use Rattle.wac_first_error.specs.declared.finding.Finding.TheVariants as findings
@@ -19,7 +19,7 @@ IsDocument text = (too_deep text ≡ None) × ((tree : Tree) × IsTreeOf text tr
 
 -- brackets of the text are nested too deeply, and the diagnostic is that of the first one
 abbrev pub IsOfDepth : List ℕ → Diagnostic → Type 0
-IsOfDepth text d = (at : Span) × (too_deep text ≡ Some at) × Says (codes "wac::nested-too-deep") (codes "brackets are nested deeper than 1,000") (Some at) d
+IsOfDepth text d = (at : Span) × (too_deep text ≡ Some at) × SaysTooDeep at d
 
 -- the text is no document, and the diagnostic is that of its error
 abbrev pub IsOfNoDocument : List ℕ → Diagnostic → Type 0
@@ -29,7 +29,7 @@ IsOfNoDocument text d = ((tree : Tree) → ¬ (IsTreeOf text tree)) × ((e : Tol
 abbrev pub IsDepth : Span → Finding → Type 0
 IsDepth at findings.Document = ⊥
 IsDepth at findings.Unresolved = ⊥
-IsDepth at (findings.Rejected d) = Says (codes "wac::nested-too-deep") (codes "brackets are nested deeper than 1,000") (Some at) d
+IsDepth at (findings.Rejected d) = SaysTooDeep at d
 
 -- what is found is this error of parsing
 abbrev pub IsFault : Told → Finding → Type 0
