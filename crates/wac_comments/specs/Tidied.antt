@@ -1,18 +1,14 @@
 -- What a tidied text keeps of its source.
-use Rattle.std.specs.Prelude.{◌≡◌, refl, codes, false, ℕ, List}
-use Rattle.std.specs.List.{list_any}
+use Rattle.std.specs.Prelude.{◌≡◌, refl, codes, Bool, false, ℕ, List}
 use Rattle.wac_lexer.specs.Items.{items_from}
 use Rattle.wac_grammar.specs.Tree.{Document}
 use Rattle.wac_grammar.specs.TextTree.{IsTreeOf}
 use Rattle.wac_layout.specs.Bare.{bare_document, doc_lines}
 use Rattle.wac_layout.specs.Reread as reread
 use Rattle.wac_layout.specs.Reread.{RereadAs}
-use Rattle.wac_comments_layout.specs.Kept.{is_comment}
 use Rattle.wac_comments_layout.specs.Pieces.{comments_at, texts}
 use Rattle.wac_comments_layout.specs.Printing.{printed}
 use Rattle.wac_comments_layout.specs.Plain.{ended}
-use Rattle.wac_comments_layout.specs.Texts.{texts_of}
-use Rattle.wac_comments_layout.specs.declared.pieces.Piece.{Piece}
 use Rattle.wac_comments.specs.Comments.{has_comments}
 use Rattle.wac_comments.specs.Options.{indent_text, line_end_text}
 use Rattle.wac_comments.specs.declared.options.Options.{Options}
@@ -43,9 +39,9 @@ IsPlainWith space line_end source text =
 abbrev pub IsPlain : Options → List ℕ → List ℕ → Type 0
 IsPlain options source text = IsPlainWith (indent_text options.indent) (line_end_text options.line_end) source text
 
--- where none of the pieces is a comment, the text is the formatted one, with these line ends
-abbrev pub IsEnded : List Piece → List ℕ → List ℕ → List ℕ → Type 0
-IsEnded pieces line_end formatted text = list_any is_comment (texts_of pieces) ≡ false → text ≡ ended line_end formatted
+-- where there are no comments, the text is the formatted one, with these line ends
+abbrev pub IsEnded : Bool → List ℕ → List ℕ → List ℕ → Type 0
+IsEnded commented line_end formatted text = commented ≡ false → text ≡ ended line_end formatted
 
 -- example: a comment stays before its token, behind a comma that is added
 comma_is_added : Kept (codes "record r {a/*b*/}") (codes "record r {\n    a, /*b*/\n}")

@@ -49,6 +49,14 @@ impl Default for Options {
 }
 
 impl Indent {
+    /// How many columns a tab takes in a text that is indented so.
+    pub(crate) fn tab(self) -> usize {
+        match self {
+            Indent::Tab => 4,
+            Indent::Blanks(_) => 1,
+        }
+    }
+
     /// The text of the indent.
     pub(crate) fn text(self, alloc: Global) -> Result<String, AllocError>
         ensures text { IfOk result (λ text. string_bytes text ≡ indent_text self) }

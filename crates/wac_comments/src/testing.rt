@@ -64,6 +64,18 @@ fn is_formatted_to(
     }
 }
 
+/// Whether a text is its source, whose tokens and comments are printed as they are.
+pub(crate) fn is_same(text: &str, source: &str, pieces: &[Piece<'_>], printed: &[Piece<'_>]) -> bool
+    ensures same { result ≡ true → text.now ≡ source.now }
+    ensures printed { result ≡ true → texts_of pieces.now ≡ texts_of printed.now }
+{
+    if text == source {
+        have_same_texts(pieces, printed)
+    } else {
+        false
+    }
+}
+
 /// Whether a text has these tokens and comments, in order, and is formatted to another one.
 pub(crate) fn is_kept(
     alloc: Global,

@@ -1,23 +1,27 @@
 // Printing documents with their comments.
-ghost use Rattle.std.specs.Prelude.{◌≡◌, ◌⊎◌, IfOk, IfErr, IfSome, Err, alloc_error, string_bytes};
+ghost use Rattle.std.specs.Prelude.{◌≡◌, ◌⊎◌, IfOk, IfErr, IfSome, OnOk, Err, None, alloc_error, string_bytes};
 ghost use Rattle.std.specs.List.{list_any};
 ghost use Rattle.wac_layout.specs.Joins.{AreBlanks};
+ghost use Rattle.wac_lexer.specs.Characters.{refused};
 ghost use Rattle.wac_comments_layout.specs.Kept.{is_comment};
 ghost use Rattle.wac_comments_layout.specs.Nesting.{too_deep};
-ghost use Rattle.wac_comments_layout.specs.Pieces.{texts};
+ghost use Rattle.wac_comments_layout.specs.Pieces.{pieces, texts};
 ghost use Rattle.wac_comments_layout.specs.Printing.{printed};
-ghost use Rattle.wac_comments_layout.specs.Texts.{texts_of};
-ghost use Rattle.wac_comments.specs.Comments.{comment_texts, doc_texts};
+ghost use Rattle.wac_comments_layout.specs.Texts.{pieces_of, texts_of};
+ghost use Rattle.wac_comments.specs.Comments.{comment_texts, doc_texts, has_comments};
 ghost use Rattle.wac_comments.specs.Errors.{IsErrorOf, is_memory};
 ghost use Rattle.wac_comments.specs.Tidied.{IsEnded, IsFormatted, IsPlain, IsPlainWith, Kept, ReadsBackAs, SameTree};
 ghost use Rattle.wac_comments.specs.declared.error.TidyError.TheVariants.{NestedTooDeep, NotKept, Memory};
 
 use crate::error::TidyError;
 use crate::options::Options;
-use crate::testing::is_kept;
+use crate::testing::{is_kept, is_same};
 use std::alloc::{AllocError, Global};
 use wac_ast_base::Error;
-use wac_comments_layout::{Piece, ReadError, Style, lay_out, plain, printed, read, too_deep};
+use wac_comments_layout::{
+    Piece, ReadError, Style, lay_out, plain, printed, read, too_deep, too_deep_among,
+};
+use wac_lexer::SourceSpan;
 use wac_parser_formatting::format;
 
 /// Prints the document of a text in the one layout, with every comment of the text in its place.
@@ -46,18 +50,44 @@ pub fn tidy(alloc: Global, source: &str, options: Options) -> Result<String, Tid
     // An error is that of the source, unless the test failed or memory ran out.
     ensures only { IfErr result (λ e. IsErrorOf source.now e) }
 {
-    if let Some(span) = too_deep(source) {
+    let pieces = read(alloc, source, options.indent.tab());
+    if let Some(span) = nested(source, &pieces) {
         return Err(TidyError::NestedTooDeep { span });
     }
     match options.indent.text(alloc) {
-        Ok(indent) => tidied(alloc, source, indent.as_str(), options.line_end.text()),
+        Ok(indent) => tidied(
+            alloc,
+            source,
+            &pieces,
+            indent.as_str(),
+            options.line_end.text(),
+        ),
         Err(AllocError) => Err(TidyError::Memory(AllocError)),
     }
 }
 
-/// The same with the texts of the options.
-fn tidied(alloc: Global, source: &str, indent: &str, line_end: &str) -> Result<String, TidyError>
-    requires { AreBlanks indent.now }
+/// The first bracket of a source that is nested too deeply. Where its pieces could not be read, the source is.
+fn nested(source: &str, reading: &Result<Vec<Piece<'_>>, ReadError>) -> Option<SourceSpan>
+    requires found { IfOk reading.now (λ found. pieces_of found.items ≡ pieces source.now) }
+    requires accepted { OnOk reading.now (refused source.now ≡ None) }
+    ensures { result ≡ too_deep source.now }
+{
+    match reading {
+        Ok(found) => too_deep_among(found.as_slice()),
+        Err(_) => too_deep(source),
+    }
+}
+
+/// The same with the texts of the options, and with what was read.
+fn tidied(
+    alloc: Global,
+    source: &str,
+    pieces: &Result<Vec<Piece<'_>>, ReadError>,
+    indent: &str,
+    line_end: &str,
+) -> Result<String, TidyError>
+    requires blanks { AreBlanks indent.now }
+    requires texts { IfOk pieces.now (λ found. texts_of found.items ≡ texts source.now) }
     ensures kept { IfOk result (λ text. Kept source.now (string_bytes text)) }
     ensures formatted { IfOk result (λ text. SameTree source.now (string_bytes text)) }
     ensures plain { IfOk result (λ text. IsPlainWith indent.now line_end.now source.now (string_bytes text)) }
@@ -65,8 +95,8 @@ fn tidied(alloc: Global, source: &str, indent: &str, line_end: &str) -> Result<S
 {
     let formatted = format_text(alloc, source, indent)?;
     let style = Style { indent, line_end };
-    match read_printed(alloc, source, style.tab()) {
-        Ok(pieces) => tested(alloc, pieces.as_slice(), formatted.as_str(), style),
+    match pieces {
+        Ok(pieces) => tested(alloc, source, pieces.as_slice(), formatted.as_str(), style),
         Err(ReadError::Refused(..)) => Err(TidyError::NotKept),
         Err(ReadError::Memory(_)) => Err(TidyError::Memory(AllocError)),
     }
@@ -106,37 +136,46 @@ fn is_memory(error: &Error) -> bool
     }
 }
 
-/// The pieces of a source as they are printed.
-fn read_printed(alloc: Global, source: &str, tab: usize) -> Result<Vec<Piece<'_>>, ReadError>
-    ensures { IfOk result (λ pieces. texts_of pieces.items ≡ printed (texts source.now)) }
-{
-    let pieces = read(alloc, source, tab)?;
-    match printed(alloc, pieces.as_slice()) {
-        Ok(pieces) => Ok(pieces),
-        Err(AllocError) => Err(ReadError::Memory(AllocError)),
-    }
-}
-
-/// The text with these tokens and comments, which is tested before it is returned.
-fn tested<'a>(
+/// The tidy text of a source with these tokens and comments, which is formatted to another text. It is tested before it is
+/// returned: what is not the source itself is read and formatted.
+fn tested(
     alloc: Global,
-    pieces: &'a [Piece<'a>],
+    source: &str,
+    pieces: &[Piece<'_>],
     formatted: &str,
     style: Style<'_>,
 ) -> Result<String, TidyError>
-    requires { AreBlanks style.indent.now }
-    ensures kept { IfOk result (λ text. texts (string_bytes text) ≡ texts_of pieces.now) }
+    requires blanks { AreBlanks style.indent.now }
+    requires pieces { texts_of pieces.now ≡ texts source.now }
+    requires back { ReadsBackAs source.now formatted.now }
+    ensures kept { IfOk result (λ text. Kept source.now (string_bytes text)) }
     ensures back { IfOk result (λ text. ReadsBackAs (string_bytes text) formatted.now) }
-    ensures plain { IfOk result (λ text. IsEnded pieces.now style.entry.line_end.now formatted.now (string_bytes text)) }
+    ensures plain { IfOk result (λ text. IsEnded (has_comments source.now) style.entry.line_end.now formatted.now (string_bytes text)) }
     ensures only { IfErr result (λ e. (e ≡ NotKept) ⊎ (e ≡ Memory alloc_error)) }
 {
-    let candidate = candidate(alloc, pieces, formatted, style)?;
+    let found = wanted(alloc, pieces)?;
+    let wanted = found.as_slice();
+    let candidate = candidate(alloc, wanted, formatted, style)?;
     let text = candidate.as_str();
-    let kept = is_kept(alloc, text, pieces, formatted, style.indent)?;
+    if is_same(text, source, pieces, wanted) {
+        return Ok(candidate);
+    }
+    let kept = is_kept(alloc, text, wanted, formatted, style.indent)?;
     if kept {
         Ok(candidate)
     } else {
         Err(TidyError::NotKept)
+    }
+}
+
+/// The tokens and comments of a source as they are printed.
+fn wanted<'a>(alloc: Global, pieces: &[Piece<'a>]) -> Result<Vec<Piece<'a>>, TidyError>
+    ensures found { IfOk result (λ wanted. texts_of wanted.items ≡ printed (texts_of pieces.now)) }
+    ensures error { IfErr result (λ e. e ≡ Memory alloc_error) }
+{
+    match printed(alloc, pieces) {
+        Ok(wanted) => Ok(wanted),
+        Err(AllocError) => Err(TidyError::Memory(AllocError)),
     }
 }
 
@@ -147,7 +186,7 @@ fn candidate<'a>(
     formatted: &str,
     style: Style<'_>,
 ) -> Result<String, TidyError>
-    ensures plain { IfOk result (λ text. IsEnded pieces.now style.entry.line_end.now formatted.now (string_bytes text)) }
+    ensures plain { IfOk result (λ text. IsEnded (list_any is_comment (texts_of pieces.now)) style.entry.line_end.now formatted.now (string_bytes text)) }
     ensures only { IfErr result (λ e. (e ≡ NotKept) ⊎ (e ≡ Memory alloc_error)) }
 {
     if !has_comments(pieces) {
@@ -156,24 +195,9 @@ fn candidate<'a>(
             Err(AllocError) => Err(TidyError::Memory(AllocError)),
         };
     }
-    match lay_out_text(alloc, pieces, formatted, style) {
+    match lay_out(alloc, pieces, formatted, style) {
         Ok(text) => Ok(text),
-        Err(ReadError::Refused(..)) => Err(TidyError::NotKept),
-        Err(ReadError::Memory(_)) => Err(TidyError::Memory(AllocError)),
-    }
-}
-
-/// Lays out the pieces of a text, whose lines end where those of the formatted text do.
-fn lay_out_text<'a>(
-    alloc: Global,
-    pieces: &'a [Piece<'a>],
-    formatted: &str,
-    style: Style<'_>,
-) -> Result<String, ReadError> {
-    let lines = read(alloc, formatted, style.tab())?;
-    match lay_out(alloc, pieces, lines.as_slice(), style) {
-        Ok(text) => Ok(text),
-        Err(AllocError) => Err(ReadError::Memory(AllocError)),
+        Err(AllocError) => Err(TidyError::Memory(AllocError)),
     }
 }
 

@@ -1,14 +1,18 @@
 -- Tokens that stand at an index.
-use Rattle.std.proofs.Common.{◌≡◌, ℕ, zero, suc, ◌-◌, ◌<◌, ◌≤◌, Bool, true, false, List, map, take, drop, length, min, sym, refl, ap, ◌∙◌, arith, ⊎_elim}
+use Rattle.std.proofs.Common.{◌≡◌, ℕ, zero, suc, ◌+◌, ◌-◌, ◌<◌, ◌≤◌, Bool, true, false, List, [], ◌∷◌, map, take, get_or, subst, codes, drop, length, min, sym, refl, ap, ◌∙◌, arith, ⊎_elim}
 use denote.Bor.{Bor}
 use lib.Pointwise.{pointwise}
 use Rattle.std.specs.Prelude.{◌&&◌, ◌||◌, nat_le}
-use Rattle.std.specs.List.{drop-map, take-map}
+use Rattle.std.specs.List.{drop-map, list_all, starts_with, take-map}
 use Rattle.std.specs.Str.{bytes_eq}
 use Rattle.std.specs.Cmp.Derive.Mapped.{pointwise-map}
-use Rattle.std.proofs.lemmas.List.{drop_min, length-map}
-use Rattle.std.proofs.lemmas.Bool.{cases_lt, le-leb}
-use Rattle.wac_comments_layout.specs.Printing.{now_of, stand_at, is_among}
+use Rattle.std.proofs.lemmas.List.{drop_min, get_or-drop, length-map}
+use Rattle.std.proofs.lemmas.Option.{unwrap_or-slice_get}
+use Rattle.std.proofs.lemmas.Bool.{and_parts, cases_lt, false≢true, le-leb, leb-true}
+use Rattle.wac_lexer.proofs.Texts.{bytes_eq_is}
+use Rattle.wac_comments_layout.specs.Printing.{Texts, goes, is_among, is_last_comma, may_go, now_of, stand_at, token_at, token_before}
+use Rattle.wac_comments_layout.specs.Brackets.{is_closing, is_flat}
+use Rattle.wac_comments_layout.specs.declared.brackets.Brackets.{Brackets}
 
 -- the test on references is that on texts
 pub begin_with : (tokens these : List (Bor (List ℕ))) (at : ℕ)
@@ -41,3 +45,55 @@ found tokens these at (suc n) back lt le here =
     ∙ ap (λ b. is_among tokens at these n || b) (both (nat_le back at) (stand_at tokens (at - back) these) (le-leb back at le) here)
     ∙ or_right (is_among tokens at these n))
     (cases_lt back n)
+
+-- the token at an index behind the place where these stand is one of them
+same_passes : (P : List ℕ → Bool) (t x : List ℕ) → bytes_eq t x ≡ true → P t ≡ true → P x ≡ true
+same_passes P t x e p = subst (λ s. P s ≡ true) (bytes_eq_is t x e) p
+
+stands_pass : (P : List ℕ → Bool) (rest these : Texts) (back : ℕ) → starts_with bytes_eq rest these ≡ true → back < length these → P (get_or these back []) ≡ true → P (get_or rest back []) ≡ true
+stands_pass P rest [] back s lt pass = absurd (omega (arith, lt))
+stands_pass P [] (t ∷ these) back s lt pass = absurd (false≢true s)
+stands_pass P (x ∷ rest) (t ∷ these) zero s lt pass = same_passes P t x (and_parts (bytes_eq t x) (starts_with bytes_eq rest these) s).0 pass
+stands_pass P (x ∷ rest) (t ∷ these) (suc back) s lt pass =
+    stands_pass P rest these back (and_parts (bytes_eq t x) (starts_with bytes_eq rest these) s).1 (omega (arith, lt)) pass
+
+all_pass : (P : List ℕ → Bool) (these : Texts) → list_all P these ≡ true → (k : ℕ) → k < length these → P (get_or these k []) ≡ true
+all_pass P [] all k lt = absurd (omega (arith, lt))
+all_pass P (t ∷ these) all zero lt = (and_parts (P t) (list_all P these) all).0
+all_pass P (t ∷ these) all (suc k) lt = all_pass P these (and_parts (P t) (list_all P these) all).1 k (omega (arith, lt))
+
+-- a token that isn't as the first ones of these are is not among them
+none_among : (P : List ℕ → Bool) (tokens these : Texts) (at count : ℕ) → ((k : ℕ) → k < count → P (get_or these k []) ≡ true) → P (token_at tokens at) ≡ false → count ≤ length these → is_among tokens at these count ≡ false
+none_among P tokens these at zero all other few = refl
+none_among P tokens these at (suc back) all other few =
+    (λ i. none_among P tokens these at back (λ k lt. all k (omega (arith, lt))) other (omega (arith, few)) i || here (nat_le back at) (stand_at tokens (at - back) these) refl refl i)
+  where
+    here : (a b : Bool) → nat_le back at ≡ a → stand_at tokens (at - back) these ≡ b → (nat_le back at && stand_at tokens (at - back) these) ≡ false
+    here false b e f = ap (λ a. a && stand_at tokens (at - back) these) e
+    here true false e f = (λ i. e i && f i)
+    here true true e f =
+        let place : (at - back) + back ≡ at = omega (arith, leb-true back at e) in
+        let passes = stands_pass P (drop (at - back) tokens) these back f (omega (arith, few)) (all back (omega arith)) in
+        let token : get_or (drop (at - back) tokens) back [] ≡ token_at tokens at =
+        get_or-drop (at - back) tokens back [] ∙ ap (λ n. get_or tokens n []) place ∙ sym (unwrap_or-slice_get tokens at []) in
+        absurd (false≢true (sym other ∙ ap P (sym token) ∙ passes))
+
+no_comma : (token : List ℕ) (b : Bool) → may_go token ≡ false → bytes_eq token (codes ",") ≡ b → bytes_eq token (codes ",") ≡ false
+no_comma token false other e = e
+no_comma token true other e = absurd (false≢true (sym other ∙ ap may_go (bytes_eq_is token (codes ",") e)))
+
+-- what begins otherwise than all that printing drops stays
+pub stays : (tokens : Texts) (at : ℕ) (around : Brackets) → may_go (token_at tokens at) ≡ false → goes tokens at around ≡ false
+stays tokens at around other =
+    let with_these = λ (these : Texts) (count : ℕ) (all : list_all may_go these ≡ true) (same : length these ≡ count). none_among may_go tokens these at count (λ k lt. all_pass may_go these all k (omega (arith, lt, same))) other (omega (arith, same)) in
+    let empty = with_these (codes "with" ∷ codes "{" ∷ codes "}" ∷ []) 3 refl refl in
+    let one = with_these (codes "<" ∷ codes "_" ∷ codes ">" ∷ []) 3 refl refl in
+    let two = with_these (codes "<" ∷ codes "_" ∷ codes "," ∷ codes "_" ∷ codes ">" ∷ []) 5 refl refl in
+    let last = none_among may_go tokens (codes "," ∷ codes "_" ∷ codes ">" ∷ []) at 2 (λ k lt. all_pass may_go (codes "," ∷ codes "_" ∷ codes ">" ∷ []) refl k (omega (arith, lt))) other (omega arith) in
+    let arrow = none_among may_go tokens (codes "->" ∷ codes ";" ∷ []) at 1 (λ k lt. first_passes k (omega (arith, lt))) other (omega arith) in
+    let rest = is_closing (token_at tokens (at + 1)) && (is_flat around || bytes_eq (token_before tokens at 1) (codes "...")) in
+    let comma : is_last_comma tokens at around ≡ false = ap (λ b. b && rest) (no_comma (token_at tokens at) (bytes_eq (token_at tokens at) (codes ",")) other refl) in
+    (λ i. empty i || (one i || (two i || (last i || (arrow i || comma i)))))
+  where
+    first_passes : (k : ℕ) → k ≡ 0 → may_go (get_or (codes "->" ∷ codes ";" ∷ []) k []) ≡ true
+    first_passes k e = ap (λ n. may_go (get_or (codes "->" ∷ codes ";" ∷ []) n [])) e

@@ -1,5 +1,5 @@
 -- What printing changes about the tokens of a text.
-use Rattle.std.specs.Prelude.{◌≡◌, refl, codes, ℕ, zero, suc, ◌+◌, ◌-◌, Bool, false, ◌&&◌, ◌||◌, not, nat_le, List, [], ◌∷◌, ◌++◌, take, drop, length, map, filter, slice_get, unwrap_or, if◌then◌else◌}
+use Rattle.std.specs.Prelude.{◌≡◌, refl, codes, ℕ, zero, suc, ◌+◌, ◌-◌, Bool, false, ◌&&◌, ◌||◌, not, nat_eq, nat_le, Some, None, List, [], ◌∷◌, ◌++◌, take, drop, length, map, filter, slice_get, unwrap_or, if◌then◌else◌}
 use denote.Bor.{Bor}
 use Rattle.std.specs.List.{starts_with}
 use Rattle.std.specs.Str.{bytes_eq}
@@ -47,6 +47,15 @@ goes tokens at around =
     || (is_among tokens at (codes "," ∷ codes "_" ∷ codes ">" ∷ []) 2
     || (is_among tokens at (codes "->" ∷ codes ";" ∷ []) 1
     || is_last_comma tokens at around))))
+
+-- whether a token that printing drops in some place begins with this byte: one of w { } < _ > , -
+abbrev pub begins_dropped : ℕ → Bool
+begins_dropped b =
+    nat_eq b 119 || (nat_eq b 123 || (nat_eq b 125 || (nat_eq b 60 || (nat_eq b 95 || (nat_eq b 62 || (nat_eq b 44 || nat_eq b 45))))))
+
+-- whether such a token begins as this one
+abbrev pub may_go : List ℕ → Bool
+may_go token = elim (slice_get token 0) [ Some b ↦ begins_dropped b | None ↦ false ]
 
 -- whether the token is the semicolon of a resource without a body, in whose place `{` and `}` are printed
 abbrev pub ends_resource : Texts → ℕ → Bool

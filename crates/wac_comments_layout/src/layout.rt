@@ -7,15 +7,15 @@ use crate::separators::separators;
 use crate::writer::{Style, Writer};
 use std::alloc::{AllocError, Global};
 
-/// Lays out the pieces of a text as they are printed: its lines end where those of the printed text end, whose pieces
-/// are given too, and where comments ask for it.
+/// Lays out the pieces of a text as they are printed: its lines end where those of the printed text without comments
+/// end, which is given too, and where comments ask for it.
 pub fn lay_out<'a>(
     alloc: Global,
     pieces: &'a [Piece<'a>],
-    printed: &[Piece<'_>],
+    printed: &str,
     style: Style<'_>,
 ) -> Result<String, AllocError> {
-    let separators = separators(alloc, printed)?;
+    let separators = separators(alloc, pieces, printed)?;
     let mut plan = Plan::new(alloc, pieces, separators.as_slice())?;
     let mut writer = Writer::new(alloc, style);
     for index in 0..plan.places.len() {

@@ -16,7 +16,7 @@ mod without_comments;
 mod writer;
 
 pub use layout::lay_out;
-pub use nesting::too_deep;
+pub use nesting::{too_deep, too_deep_among};
 pub use pieces::{Piece, ReadError, read};
 pub use printing::printed;
 pub use without_comments::plain;

@@ -9,7 +9,7 @@ ghost use Rattle.wac_comments_layout.specs.Pieces.{piece, pieces, texts, comment
 ghost use Rattle.wac_comments_layout.specs.Texts.{Adds, pieces_of, texts_of};
 ghost use Rattle.wac_comments_layout.specs.Errors.{IsReadErrorOf};
 
-use crate::columns::column_after;
+use crate::columns::column_at_end;
 use crate::parts::{is_line_comment, kept_len, opens, part_len};
 use std::alloc::{AllocError, Global};
 use thiserror::Error;
@@ -35,7 +35,7 @@ pub struct Piece<'a> {
     pub span: SourceSpan,
     /// How many line ends are between the piece before it and this one.
     pub breaks: usize,
-    /// The column at which it begins.
+    /// The column at which a line comment begins. Of all else it is 0.
     pub column: usize,
 }
 
@@ -72,7 +72,6 @@ struct Reader<'a> {
     tab: usize,
     // The line ends since the last piece.
     breaks: usize,
-    column: usize,
 }
 
 impl<'a> Reader<'a> {
@@ -83,21 +82,19 @@ impl<'a> Reader<'a> {
             pieces: Vec::new(alloc),
             tab,
             breaks: 0,
-            column: 0,
         }
     }
 
-    /// Adds the piece at a span, whose text may end before the span does.
-    fn add(&mut self, text: &'a str, span: SourceSpan) -> Result<(), AllocError>
+    /// Adds the piece at a span and a column. Its text may end before the span does.
+    fn add(&mut self, text: &'a str, span: SourceSpan, column: usize) -> Result<(), AllocError>
         ensures { IfOk result (λ _. Adds self.old.pieces.items (piece text.now span ∷ []) self.new.pieces.items) }
     {
         let piece = Piece {
             text,
             span,
             breaks: self.breaks,
-            column: self.column,
+            column,
         };
-        self.column = column_after(self.column, text, self.tab);
         self.breaks = 0;
         if self.pieces.push(piece).is_err() {
             return Err(AllocError);
@@ -105,19 +102,23 @@ impl<'a> Reader<'a> {
         Ok(())
     }
 
-    /// Adds the blank or the comment at an offset.
-    fn add_part(&mut self, part: &'a str, offset: usize) -> Result<(), AllocError>
+    /// Adds the blank or the comment at an offset, after a text.
+    fn add_part(&mut self, before: &str, part: &'a str, offset: usize) -> Result<(), AllocError>
         ensures { IfOk result (λ _. Adds self.old.pieces.items (comment_of_part offset part.now) self.new.pieces.items) }
     {
         if part == "\n" {
             self.breaks = self.breaks.saturating_add(1);
         }
         if part.len() < 2 {
-            self.column = column_after(self.column, part, self.tab);
             return Ok(());
         }
+        let column = if is_line_comment(part.as_bytes()) {
+            column_at_end(before, self.tab)
+        } else {
+            0
+        };
         let (kept, _) = part.split_at(kept_len(part.as_bytes()));
-        self.add(kept, SourceSpan::new(offset, part.len()))
+        self.add(kept, SourceSpan::new(offset, part.len()), column)
     }
 
     /// Adds the comments between a place of a source and the next item.
@@ -127,13 +128,13 @@ impl<'a> Reader<'a> {
     {
         let mut start = place;
         while start < source.len() {
-            let (_, rest) = source.split_at(start);
+            let (before, rest) = source.split_at(start);
             let len = part_len(rest.as_bytes());
             if len == 0 {
                 return Ok(());
             }
             let (part, _) = rest.split_at(len);
-            self.add_part(part, start)?;
+            self.add_part(before, part, start)?;
             start += len;
         }
         Ok(())
@@ -172,11 +173,11 @@ fn read_items<'a>(
     let mut place = 0;
     while let Some((_, span)) = lexer.next() {
         reader.gap(source, place)?;
-        reader.add(lexer.source(span), span)?;
+        reader.add(lexer.source(span), span, 0)?;
         place = span.offset() + span.len();
     }
     reader.gap(source, place)?;
-    reader.add("", SourceSpan::new(source.len(), 0))?;
+    reader.add("", SourceSpan::new(source.len(), 0), 0)?;
     let Reader { pieces, .. } = reader;
     Ok(pieces)
 }

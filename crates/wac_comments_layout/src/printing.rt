@@ -1,7 +1,7 @@
 // What printing changes about the tokens of a text.
 ghost use Rattle.std.specs.Prelude.{◌≡◌, ◌+◌, ◌<◌, ◌^◌, ◌≤◌, ◌++◌, IfOk, MatchOption, Some, None, false, [], ◌∷◌, length, map};
 ghost use Rattle.wac_comments_layout.specs.Kept.{is_comment};
-ghost use Rattle.wac_comments_layout.specs.Printing.{now_of, token_at, token_before, stand_at, is_among, is_last_comma, goes, ends_resource, needs_none, needs_comma, added, innermost, tokens_of, printed, spelled, with_comment, with_added, with_token, with_piece, with_printed, passed, progress};
+ghost use Rattle.wac_comments_layout.specs.Printing.{now_of, token_at, token_before, stand_at, is_among, is_last_comma, goes, ends_resource, needs_none, needs_comma, added, innermost, may_go, tokens_of, printed, spelled, with_comment, with_added, with_token, with_piece, with_printed, passed, progress};
 ghost use Rattle.wac_comments_layout.specs.Texts.{texts_of};
 
 use crate::brackets::{Brackets, closes, opened_by, opens};
@@ -50,12 +50,25 @@ fn is_among(tokens: &[&str], at: usize, these: &[&str], count: usize) -> bool
     false
 }
 
+/// Whether a text that printing drops in some place begins as this token does.
+fn may_go(token: &str) -> bool
+    ensures { result ≡ may_go token.now }
+{
+    match token.as_bytes().first() {
+        Some(byte) => { matches!(*byte, b'w' | b'{' | b'}' | b'<' | b'_' | b'>' | b',' | b'-') }
+        None => false,
+    }
+}
+
 /// Whether printing drops the token at an index: an empty `with`, results that are nothing, and a comma after the last
 /// of a list.
 fn goes(tokens: &[&str], at: usize, around: Brackets) -> bool
     requires { at < length tokens.now }
     ensures { result ≡ goes (now_of tokens.now) at around }
 {
+    if !may_go(token_at(tokens, at)) {
+        return false;
+    }
     is_among(tokens, at, &["with", "{", "}"], 3)
         || is_among(tokens, at, &["<", "_", ">"], 3)
         || is_among(tokens, at, &["<", "_", ",", "_", ">"], 5)
