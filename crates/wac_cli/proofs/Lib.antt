@@ -1,2 +1,5 @@
 pub mod Replaced
 pub mod Tidied
+pub mod Formatted
+pub mod Checked
+pub mod Rows

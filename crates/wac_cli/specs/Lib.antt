@@ -2,3 +2,5 @@ pub mod Outcomes
 pub mod Tidying
 pub mod Plans
 pub mod Replacing
+pub mod Formatted
+pub mod Checked

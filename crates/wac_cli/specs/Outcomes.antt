@@ -1,5 +1,7 @@
 -- What the outcome of a file comes to, and the number that the program ends with.
-use Rattle.std.specs.Prelude.{ℕ}
+use Rattle.std.specs.Prelude.{◌≡◌, ◌⊎◌, ℕ}
+use Rattle.wac_files.specs.declared.error.FileError.{FileError}
+use Rattle.wac_files.specs.declared.error.FileError.TheVariants as errors
 use Rattle.wac_cli.specs.declared.options.Action.{Action}
 use Rattle.wac_cli.specs.declared.options.Action.TheVariants.{Write, Check, Diff}
 use Rattle.wac_cli.specs.declared.outcome.Outcome.{Outcome}
@@ -28,3 +30,18 @@ status_of Unresolved _ = Well
 status_of Rejected _ = Wrong
 status_of Failed _ = FileFailed
 status_of OutOfMemory _ = MemoryFailed
+
+-- What becomes of a file by a failure.
+abbrev pub failure_of : FileError → Outcome
+failure_of errors.NotFound = Failed
+failure_of errors.PermissionDenied = Failed
+failure_of errors.ReadOnly = Failed
+failure_of errors.NotAFile = Failed
+failure_of errors.ChangedMeanwhile = Failed
+failure_of errors.NameNotUtf8 = Failed
+failure_of (errors.System _) = Failed
+failure_of errors.OutOfMemory = OutOfMemory
+
+-- This outcome is that of a failure. Memory can run out while it is reported.
+abbrev pub IsFailure : FileError → Outcome → Type 0
+IsFailure error outcome = (outcome ≡ failure_of error) ⊎ (outcome ≡ OutOfMemory)

@@ -24,8 +24,8 @@ IsLayoutOf options layout = (layout.indent ≡ options.indent) × EndsLinesAs op
 abbrev pub IsText : List ℕ → Type 0
 IsText bytes = IsUtf8 bytes × (begins_with_mark bytes ≡ false)
 
--- The text is the same document with the same comments, each before the same printed token, and with the same docs. Without comments it is what the
--- document is formatted to.
+-- The text is the same document with the same comments, each before the same printed token, and with the same docs.
+-- Without comments it is what the document is formatted to.
 pub record IsTidied (layout : Options) (source : List ℕ) (text : List ℕ) : Type 0 where
   pub comments : comment_texts text ≡ comment_texts source
   pub kept : Kept source text
@@ -33,6 +33,10 @@ pub record IsTidied (layout : Options) (source : List ℕ) (text : List ℕ) : T
   pub docs : doc_texts text ≡ doc_texts source
   pub plain : IsPlain layout source text
 
+-- a text that a source is tidied to, as `fmt` was asked to format
+abbrev pub IsTidiedAs : FormatOptions → List ℕ → List ℕ → Type 0
+IsTidiedAs options source text = (layout : Options) × IsLayoutOf options layout × IsTidied layout source text
+
 -- a text that a file with these bytes may be given
 abbrev pub IsTidyOf : FormatOptions → List ℕ → List ℕ → Type 0
-IsTidyOf options held text = IsText held × ((layout : Options) × IsLayoutOf options layout × IsTidied layout held text)
+IsTidyOf options held text = IsText held × IsTidiedAs options held text

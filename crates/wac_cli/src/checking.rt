@@ -1,4 +1,7 @@
 // `wacx check`.
+ghost use Rattle.std.specs.Prelude.{◌≡◌, IfOk};
+ghost use Rattle.wac_cli.specs.Checked.{AreChecks, IsCheckOf, IsFoundCheck, IsReadCheck};
+
 use crate::console::Console;
 use crate::formatting::{finish, finish_input};
 use crate::input::{STDIN, read_all};
@@ -18,7 +21,10 @@ pub fn check_paths<F: FileSystem, O: Write + Drop, E: Write + Drop>(
     console: &mut Console<O, E>,
     report: Report,
     paths: &[&str],
-) -> Status {
+) -> Status
+    // No file is replaced.
+    ensures { F.replaced files.new ≡ F.replaced files.old }
+{
     match check_all(alloc, files, console, report, paths) {
         Ok(outcomes) => finish(alloc, console, Task::Check, outcomes.as_slice()),
         Err(AllocError) => console.out_of_memory(),
@@ -31,10 +37,36 @@ fn check_all<F: FileSystem, O: Write + Drop, E: Write + Drop>(
     console: &mut Console<O, E>,
     report: Report,
     paths: &[&str],
-) -> Result<Vec<Outcome>, AllocError> {
+) -> Result<Vec<Outcome>, AllocError>
+    ensures { F.replaced files.new ≡ F.replaced files.old }
+{
     let found = find_files(alloc, files, paths)?;
+    check_each(alloc, files, console, report, found.as_slice())
+}
+
+/// Reports the first error of each of the files that were found. Returns what became of them: an outcome for each, in
+/// order, whatever became of those before. None is `Untidy`.
+///
+/// The error is that memory ran out: then files were checked up to one of them.
+///
+/// ```text
+/// let found = find_files(alloc, files, paths)?;
+/// let outcomes = check_each(alloc, files, console, Report::Human, found.as_slice())?;
+/// ```
+pub fn check_each<F: FileSystem, O: Write + Drop, E: Write + Drop>(
+    alloc: Global,
+    files: &mut F,
+    console: &mut Console<O, E>,
+    report: Report,
+    found: &[Found],
+) -> Result<Vec<Outcome>, AllocError>
+    // No file is replaced.
+    ensures looks { F.replaced files.new ≡ F.replaced files.old }
+    // Each path has its outcome, once, in order.
+    ensures each { IfOk result (λ outcomes. AreChecks found.now outcomes.items) }
+{
     let mut outcomes = Vec::with_capacity(alloc, found.len())?;
-    for found in found.as_slice() {
+    for found in found {
         let outcome = check_found(alloc, files, console, report, found);
         outcomes.push(outcome)?;
     }
@@ -47,13 +79,18 @@ fn check_found<F: FileSystem, O: Write + Drop, E: Write + Drop>(
     console: &mut Console<O, E>,
     report: Report,
     found: &Found,
-) -> Outcome {
+) -> Outcome
+    ensures looks { F.replaced files.new ≡ F.replaced files.old }
+    ensures outcome { IsFoundCheck found.now result }
+{
     let path = found.path.as_str();
-    let read = match found.failure {
-        Some(error) => Err(error),
-        None => files.read(alloc, path),
-    };
-    checked(alloc, console, report, path, read)
+    match found.failure {
+        Some(error) => console.failed(alloc, report, path, error),
+        None => {
+            let read = files.read(alloc, path);
+            checked(alloc, console, report, path, read)
+        }
+    }
 }
 
 /// Reports the first error of what was read. Returns what became of it.
@@ -63,24 +100,41 @@ fn checked<O: Write + Drop, E: Write + Drop>(
     report: Report,
     path: &str,
     read: Result<Vec<u8>, FileError>,
-) -> Outcome {
-    let bytes = match read {
-        Ok(bytes) => bytes,
-        Err(error) => return console.failed(alloc, report, path, error),
-    };
-    match check_bytes(alloc, console, report, path, bytes.as_slice()) {
-        Ok(outcome) => outcome,
-        Err(AllocError) => console.failed(alloc, report, path, FileError::OutOfMemory),
+) -> Outcome
+    ensures { IsReadCheck read result }
+{
+    match read {
+        Ok(bytes) => check_bytes(alloc, console, report, path, bytes.as_slice()),
+        Err(error) => console.failed(alloc, report, path, error),
     }
 }
 
+/// Reports the first error of bytes. Returns what became of them.
 fn check_bytes<O: Write + Drop, E: Write + Drop>(
     alloc: Global,
     console: &mut Console<O, E>,
     report: Report,
     path: &str,
     bytes: &[u8],
-) -> Result<Outcome, AllocError> {
+) -> Outcome
+    ensures { IsCheckOf bytes.now result }
+{
+    match judge(alloc, console, report, path, bytes) {
+        Ok(outcome) => outcome,
+        Err(AllocError) => console.failed(alloc, report, path, FileError::OutOfMemory),
+    }
+}
+
+/// Writes the first error of bytes. Returns what they are.
+fn judge<O: Write + Drop, E: Write + Drop>(
+    alloc: Global,
+    console: &mut Console<O, E>,
+    report: Report,
+    path: &str,
+    bytes: &[u8],
+) -> Result<Outcome, AllocError>
+    ensures { IfOk result (λ outcome. IsCheckOf bytes.now outcome) }
+{
     match first_error(alloc, bytes, true) {
         Ok(Verdict::Document(_)) => Ok(Outcome::Good),
         Ok(Verdict::Unresolved(_)) => Ok(Outcome::Unresolved),

@@ -1,4 +1,6 @@
 // Where a command writes.
+ghost use Rattle.wac_cli.specs.Outcomes.{IsFailure};
+
 use crate::options::Report;
 use crate::outcome::{Outcome, Status};
 use std::alloc::{AllocError, Global};
@@ -105,10 +107,12 @@ impl<O: Write + Drop, E: Write + Drop> Console<O, E> {
         report: Report,
         path: &str,
         error: FileError,
-    ) -> Outcome {
+    ) -> Outcome
+        ensures { IsFailure error result }
+    {
         match self.report_failure(alloc, report, path, error) {
-            Ok(()) if error != FileError::OutOfMemory => Outcome::Failed,
-            _ => Outcome::OutOfMemory,
+            Ok(()) => Outcome::of_failure(error),
+            Err(AllocError) => Outcome::OutOfMemory,
         }
     }
 

@@ -1,5 +1,6 @@
 // `wacx fmt`.
-ghost use Rattle.std.specs.Prelude.{◌≡◌, ◌≢◌, IfOk, length, string_bytes, vec_len};
+ghost use Rattle.std.specs.Prelude.{◌≡◌, ◌≢◌, IfErr};
+ghost use Rattle.wac_cli.specs.Formatted.{ComesTo, FoundComesTo, ReturnsOutcome, ReturnsOutcomes};
 ghost use Rattle.wac_cli.specs.Replacing.{OnlyFormats};
 ghost use Rattle.wac_cli.specs.declared.options.Action.TheVariants.{Write};
 
@@ -68,16 +69,26 @@ fn format_all<F: FileSystem, O: Write + Drop, E: Write + Drop>(
     format_each(alloc, files, console, options, found.as_slice())
 }
 
-/// Formats each of the files that were found. Returns what became of them, in order.
-fn format_each<F: FileSystem, O: Write + Drop, E: Write + Drop>(
+/// Formats each of the files that were found, one after another. Returns what became of them: an outcome for each, in
+/// order, whatever became of those before.
+///
+/// The error is that memory ran out: then files were formatted up to one of them.
+///
+/// ```text
+/// let found = find_files(alloc, files, paths)?;
+/// let outcomes = format_each(alloc, files, console, options, found.as_slice())?;
+/// ```
+pub fn format_each<F: FileSystem, O: Write + Drop, E: Write + Drop>(
     alloc: Global,
     files: &mut F,
     console: &mut Console<O, E>,
     options: FormatOptions,
     found: &[Found],
 ) -> Result<Vec<Outcome>, AllocError>
+    // A file holds what it held or its tidy text, which only a text without an error has.
     ensures formats { OnlyFormats options (F.replaced files.old) (F.replaced files.new) }
-    ensures each { IfOk result (λ outcomes. vec_len outcomes ≡ length found.now) }
+    // Each path has its outcome, once, in order.
+    ensures each { ReturnsOutcomes options found.now result (F.replaced files.old) (F.replaced files.new) }
 {
     let mut outcomes = Vec::with_capacity(alloc, found.len())?;
     for found in found {
@@ -87,6 +98,7 @@ fn format_each<F: FileSystem, O: Write + Drop, E: Write + Drop>(
     Ok(outcomes)
 }
 
+/// Formats what was found. Returns what became of it.
 fn format_found<F: FileSystem, O: Write + Drop, E: Write + Drop>(
     alloc: Global,
     files: &mut F,
@@ -94,20 +106,32 @@ fn format_found<F: FileSystem, O: Write + Drop, E: Write + Drop>(
     options: FormatOptions,
     found: &Found,
 ) -> Outcome
-    ensures { OnlyFormats options (F.replaced files.old) (F.replaced files.new) }
+    ensures { FoundComesTo options found.now result (F.replaced files.old) (F.replaced files.new) }
 {
     let path = found.path.as_str();
-    let done = match found.failure {
-        Some(error) => Err(error),
-        None => format_file(alloc, files, console, options, path),
-    };
-    match done {
+    match found.failure {
+        Some(error) => console.failed(alloc, Report::Human, path, error),
+        None => format_path(alloc, files, console, options, path),
+    }
+}
+
+/// Formats the file at a path, or writes why it could not. Returns what became of it.
+fn format_path<F: FileSystem, O: Write + Drop, E: Write + Drop>(
+    alloc: Global,
+    files: &mut F,
+    console: &mut Console<O, E>,
+    options: FormatOptions,
+    path: &str,
+) -> Outcome
+    ensures { ComesTo options path.now result (F.replaced files.old) (F.replaced files.new) }
+{
+    match format_file(alloc, files, console, options, path) {
         Ok(outcome) => outcome,
         Err(error) => console.failed(alloc, Report::Human, path, error),
     }
 }
 
-/// Formats a file.
+/// Formats the file at a path. Returns what became of it, or why it could not be read or written.
 fn format_file<F: FileSystem, O: Write + Drop, E: Write + Drop>(
     alloc: Global,
     files: &mut F,
@@ -115,7 +139,7 @@ fn format_file<F: FileSystem, O: Write + Drop, E: Write + Drop>(
     options: FormatOptions,
     path: &str,
 ) -> Result<Outcome, FileError>
-    ensures { OnlyFormats options (F.replaced files.old) (F.replaced files.new) }
+    ensures { ReturnsOutcome options path.now result (F.replaced files.old) (F.replaced files.new) }
 {
     let bytes = files.read(alloc, path)?;
     match Plan::of(alloc, bytes.as_slice(), options)? {
@@ -124,7 +148,7 @@ fn format_file<F: FileSystem, O: Write + Drop, E: Write + Drop>(
             match options.action {
                 Action::Write => {
                     files.replace(alloc, path, bytes.as_slice(), text.as_bytes())?;
-                    console.name(alloc, path)?;
+                    named(alloc, console, path)?;
                 }
                 Action::Check => console.name(alloc, path)?,
                 Action::Diff => show_diff(alloc, console, path, bytes.as_slice(), &text)?,
@@ -135,6 +159,20 @@ fn format_file<F: FileSystem, O: Write + Drop, E: Write + Drop>(
             console.report(alloc, Report::Human, path, bytes.as_slice(), &diagnostic)?;
             Ok(Outcome::Rejected)
         }
+    }
+}
+
+/// Writes the path of a file that was replaced.
+fn named<O: Write + Drop, E: Write + Drop>(
+    alloc: Global,
+    console: &mut Console<O, E>,
+    path: &str,
+) -> Result<(), FileError>
+    ensures { IfErr result (λ error. error ≡ FileError.OutOfMemory) }
+{
+    match console.name(alloc, path) {
+        Ok(()) => Ok(()),
+        Err(AllocError) => Err(FileError::OutOfMemory),
     }
 }
 

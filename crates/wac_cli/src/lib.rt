@@ -15,9 +15,9 @@ mod options;
 mod outcome;
 mod planning;
 
-pub use checking::{check_input, check_paths};
+pub use checking::{check_each, check_input, check_paths};
 pub use console::Console;
-pub use formatting::{format_input, format_paths};
+pub use formatting::{format_each, format_input, format_paths};
 pub use line_ends::line_end_of;
 pub use options::{Action, FormatOptions, LineEnds, Report};
 pub use outcome::{Outcome, Status};

@@ -1,8 +1,9 @@
 // What became of files, and the status that follows.
 ghost use Rattle.std.specs.Prelude.{◌≡◌, ◌≤◌};
-ghost use Rattle.wac_cli.specs.Outcomes.{code_of, status_of};
+ghost use Rattle.wac_cli.specs.Outcomes.{code_of, failure_of, status_of};
 
 use crate::options::Action;
+use wac_files::FileError;
 
 /// What became of a file.
 #[derive(Clone, Copy, Debug, PartialEq, Eq)]
@@ -61,6 +62,22 @@ impl Status {
 }
 
 impl Outcome {
+    /// What becomes of a file by a failure.
+    pub(crate) fn of_failure(error: FileError) -> Outcome
+        ensures { result ≡ failure_of error }
+    {
+        match error {
+            FileError::NotFound
+            | FileError::PermissionDenied
+            | FileError::ReadOnly
+            | FileError::NotAFile
+            | FileError::ChangedMeanwhile
+            | FileError::NameNotUtf8
+            | FileError::System(_) => Outcome::Failed,
+            FileError::OutOfMemory => Outcome::OutOfMemory,
+        }
+    }
+
     /// The status that one file leads to.
     pub fn status(self, action: Action) -> Status
         ensures { result ≡ status_of self action }

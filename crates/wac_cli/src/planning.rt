@@ -1,9 +1,8 @@
 // What `fmt` makes of the bytes of a file.
 ghost use Rattle.std.specs.Prelude.{◌≡◌, false, IfErr, IfOk, string_bytes};
-ghost use Rattle.wac_comments.specs.declared.options.Options.{Options};
 ghost use Rattle.wac_comments.specs.Errors.{IsErrorOf};
 ghost use Rattle.wac_cli.specs.Plans.{IsPlan, is_memory};
-ghost use Rattle.wac_cli.specs.Tidying.{IsLayoutOf, IsText, IsTidied};
+ghost use Rattle.wac_cli.specs.Tidying.{IsText, IsTidiedAs};
 
 use crate::line_ends::chosen;
 use crate::options::FormatOptions;
@@ -50,7 +49,7 @@ impl Plan {
 
 /// The tidy text of a text, laid out as asked.
 fn tidy_as_asked(alloc: Global, text: &str, options: FormatOptions) -> Result<String, TidyError>
-    ensures tidied { IfOk result (λ t. (layout : Options) × IsLayoutOf options layout × IsTidied layout text.now (string_bytes t)) }
+    ensures tidied { IfOk result (λ tidied. IsTidiedAs options text.now (string_bytes tidied)) }
     ensures only { IfErr result (λ e. IsErrorOf text.now e) }
 {
     let layout = Options {
