@@ -6,7 +6,7 @@ use wac_components::{DecodeError, Decoded, ErrorKind, Limits, decode};
 use wac_components_types::{ComponentId, InstanceId, Sort};
 
 /// Two instances of one type, each with a resource of its own, are imported; types of both are exported again.
-static IDENTITIES: &[u8] =
+pub(crate) static IDENTITIES: &[u8] =
     b"\0asm\x0d\0\x01\0\x07\x17\x01B\x04\x04\0\x01r\x03\x01\x01i\0\x01@\0\0\x01\x04\0\x01f\x01\x02\x0a\x13\x02\0\x05a:b/x\x05\0\0\x05a:b/y\x05\0\x06\x0b\x02\x03\0\x01\x01r\x01\0\x01\x01f\x05\x0f\x01\x01\x02\0\x02r2\x03\x01\0\x02f2\x01\0\x0b\x16\x02\0\x05a:b/z\x05\x02\0\0\x06a:b/x2\x05\0\0";
 
 /// Components, modules, types and functions at the root.

@@ -1,0 +1,163 @@
+//! Types of values and of functions.
+
+use crate::conversion::ConversionError;
+use crate::converter::Converter;
+use indexmap::{IndexMap, IndexSet};
+use wac_components_types::{Func, Part, Parts, TypeDef, TypeId};
+use wac_types::{DefinedType, FuncResults, FuncType, ItemKind, ResourceId, Type, ValueType};
+
+impl<'t> Converter<'t> {
+    /// Converts a type, of which all that it names is converted.
+    pub(crate) fn convert_type(&mut self, ty: TypeId) -> Result<(), ConversionError> {
+        if self.kinds.contains_key(&ty.0) {
+            return Ok(());
+        }
+        let Some(entry) = self.table.ty(ty) else {
+            return Err(ConversionError::Unsupported);
+        };
+        let kind = match entry.def {
+            TypeDef::Named(named) => self.named_kind(ty, named)?,
+            TypeDef::Primitive(primitive) => {
+                ItemKind::Ty(Type::Value(ValueType::Primitive(primitive)))
+            }
+            TypeDef::Resource => self.unnamed_resource()?,
+            TypeDef::Func(func) => self.func_kind(func)?,
+            TypeDef::Own(resource) => {
+                ItemKind::Ty(Type::Value(ValueType::Own(self.resource(resource)?)))
+            }
+            TypeDef::Borrow(resource) => {
+                ItemKind::Ty(Type::Value(ValueType::Borrow(self.resource(resource)?)))
+            }
+            other => self.defined_kind(other)?,
+        };
+        self.kinds.insert(ty.0, kind)?;
+        Ok(())
+    }
+
+    /// A converted resource.
+    pub(crate) fn resource(&self, ty: TypeId) -> Result<ResourceId, ConversionError> {
+        match self.kind(ty) {
+            Some(ItemKind::Ty(Type::Resource(resource))) => Ok(resource),
+            _ => Err(ConversionError::Unsupported),
+        }
+    }
+
+    fn optional(&self, ty: Option<TypeId>) -> Result<Option<ValueType>, ConversionError> {
+        match ty {
+            Some(ty) => Ok(Some(self.value(ty)?)),
+            None => Ok(None),
+        }
+    }
+
+    fn defined_kind(&mut self, def: TypeDef) -> Result<ItemKind, ConversionError> {
+        let defined = match def {
+            TypeDef::Record(parts) => DefinedType::Record {
+                fields: self.fields(parts)?,
+            },
+            TypeDef::Variant(parts) => DefinedType::Variant {
+                cases: self.cases(parts)?,
+            },
+            TypeDef::Tuple(parts) => DefinedType::Tuple(self.members(parts)?),
+            TypeDef::Flags(parts) => DefinedType::Flags(self.labels(parts)?),
+            TypeDef::Enum(parts) => DefinedType::Enum(self.labels(parts)?),
+            other => self.wrapped(other)?,
+        };
+        self.add_defined(defined)
+    }
+
+    pub(crate) fn add_defined(
+        &mut self,
+        defined: DefinedType,
+    ) -> Result<ItemKind, ConversionError> {
+        let id = self.types.add_defined_type(defined)?;
+        Ok(ItemKind::Ty(Type::Value(ValueType::Defined(id))))
+    }
+
+    fn wrapped(&self, def: TypeDef) -> Result<DefinedType, ConversionError> {
+        match def {
+            TypeDef::List(ty) => Ok(DefinedType::List(self.value(ty)?)),
+            TypeDef::Option(ty) => Ok(DefinedType::Option(self.value(ty)?)),
+            TypeDef::Stream(ty) => Ok(DefinedType::Stream(self.optional(ty)?)),
+            TypeDef::Future(ty) => Ok(DefinedType::Future(self.optional(ty)?)),
+            TypeDef::Result(ok, err) => Ok(DefinedType::Result {
+                ok: self.optional(ok)?,
+                err: self.optional(err)?,
+            }),
+            _ => Err(ConversionError::Unsupported),
+        }
+    }
+
+    fn part(&self, parts: Parts, place: usize) -> Result<Part, ConversionError> {
+        match self.table.part(parts.first.saturating_add(place)) {
+            Some(part) => Ok(part),
+            None => Err(ConversionError::Unsupported),
+        }
+    }
+
+    /// The name of a part, copied.
+    fn part_name(&self, part: Part) -> Result<String, ConversionError> {
+        match part.name {
+            Some(name) => Ok(self.text(name)?),
+            None => Err(ConversionError::Unsupported),
+        }
+    }
+
+    fn part_type(&self, part: Part) -> Result<ValueType, ConversionError> {
+        match part.ty {
+            Some(ty) => self.value(ty),
+            None => Err(ConversionError::Unsupported),
+        }
+    }
+
+    fn fields(&self, parts: Parts) -> Result<IndexMap<String, ValueType>, ConversionError> {
+        let mut all = IndexMap::new(self.alloc);
+        for place in 0..parts.count {
+            let part = self.part(parts, place)?;
+            let ty = self.part_type(part)?;
+            all.insert(self.part_name(part)?, ty)?;
+        }
+        Ok(all)
+    }
+
+    fn cases(&self, parts: Parts) -> Result<IndexMap<String, Option<ValueType>>, ConversionError> {
+        let mut all = IndexMap::new(self.alloc);
+        for place in 0..parts.count {
+            let part = self.part(parts, place)?;
+            let ty = self.optional(part.ty)?;
+            all.insert(self.part_name(part)?, ty)?;
+        }
+        Ok(all)
+    }
+
+    fn labels(&self, parts: Parts) -> Result<IndexSet<String>, ConversionError> {
+        let mut all = IndexSet::new(self.alloc);
+        for place in 0..parts.count {
+            let part = self.part(parts, place)?;
+            all.insert(self.part_name(part)?)?;
+        }
+        Ok(all)
+    }
+
+    fn members(&self, parts: Parts) -> Result<Vec<ValueType>, ConversionError> {
+        let mut all = Vec::new(self.alloc);
+        for place in 0..parts.count {
+            let part = self.part(parts, place)?;
+            all.push(self.part_type(part)?)?;
+        }
+        Ok(all)
+    }
+
+    fn func_kind(&mut self, func: Func) -> Result<ItemKind, ConversionError> {
+        let params = self.fields(func.params)?;
+        let results = match self.optional(func.result)? {
+            Some(ty) => FuncResults::Scalar(ty),
+            None => FuncResults::None,
+        };
+        let id = self.types.add_func_type(FuncType {
+            params,
+            results,
+            is_async: func.is_async,
+        })?;
+        Ok(ItemKind::Ty(Type::Func(id)))
+    }
+}
