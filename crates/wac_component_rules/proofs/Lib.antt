@@ -1,0 +1,9 @@
+pub mod Turning
+pub mod PartRows
+pub mod SideRows
+pub mod Remembered
+pub mod Entries
+pub mod Measures
+pub mod Aliases
+pub mod Compared
+pub mod Stand

@@ -1,0 +1,6 @@
+pub mod Seen
+pub mod Fits
+pub mod Parts
+pub mod Found
+pub mod Sides
+pub mod Renaming
