@@ -106,18 +106,19 @@ impl<'a> Reader<'a> {
     fn add_part(&mut self, before: &str, part: &'a str, offset: usize) -> Result<(), AllocError>
         ensures { IfOk result (λ _. Adds self.old.pieces.items (comment_of_part offset part.now) self.new.pieces.items) }
     {
-        if part == "\n" {
-            self.breaks = self.breaks.saturating_add(1);
-        }
-        if part.len() < 2 {
+        let bytes = part.as_bytes();
+        if bytes.len() < 2 {
+            if bytes.first() == Some(&b'\n') {
+                self.breaks = self.breaks.saturating_add(1);
+            }
             return Ok(());
         }
-        let column = if is_line_comment(part.as_bytes()) {
+        let column = if is_line_comment(bytes) {
             column_at_end(before, self.tab)
         } else {
             0
         };
-        let (kept, _) = part.split_at(kept_len(part.as_bytes()));
+        let (kept, _) = part.split_at(kept_len(bytes));
         self.add(kept, SourceSpan::new(offset, part.len()), column)
     }
 

@@ -4,7 +4,7 @@ ghost use Rattle.wac_comments_layout.specs.Kept.{is_comment};
 ghost use Rattle.wac_comments_layout.specs.Printing.{now_of, token_at, token_before, stand_at, is_among, is_last_comma, goes, ends_resource, needs_none, needs_comma, added, innermost, may_go, tokens_of, printed, spelled, with_comment, with_added, with_token, with_piece, with_printed, passed, progress};
 ghost use Rattle.wac_comments_layout.specs.Texts.{texts_of};
 
-use crate::brackets::{Brackets, closes, opened_by, opens};
+use crate::brackets::{Brackets, closes, is_mark, opened_by, opens};
 use crate::pieces::Piece;
 use std::alloc::{AllocError, Global};
 use std::marker::Model;
@@ -82,7 +82,7 @@ fn is_last_comma(tokens: &[&str], at: usize, around: Brackets) -> bool
     requires { at < length tokens.now }
     ensures { result ≡ is_last_comma (now_of tokens.now) at around }
 {
-    token_at(tokens, at) == ","
+    is_mark(token_at(tokens, at), b',')
         && closes(token_at(tokens, at + 1))
         && (around.is_flat() || token_before(tokens, at, 1) == "...")
 }
@@ -91,21 +91,23 @@ fn is_last_comma(tokens: &[&str], at: usize, around: Brackets) -> bool
 fn ends_resource(tokens: &[&str], at: usize) -> bool
     ensures { result ≡ ends_resource (now_of tokens.now) at }
 {
-    token_at(tokens, at) == ";" && token_before(tokens, at, 2) == "resource"
+    is_mark(token_at(tokens, at), b';') && token_before(tokens, at, 2) == "resource"
 }
 
 /// Whether no comma is printed after a token, before the end of rows or arguments.
 fn needs_none(before: &str) -> bool
     ensures { result ≡ needs_none before.now }
 {
-    before == "{" || before == "," || before == "..."
+    is_mark(before, b'{') || is_mark(before, b',') || before == "..."
 }
 
 /// Whether printing adds a comma before the token, which then ends rows or arguments.
 fn needs_comma(tokens: &[&str], at: usize, around: Brackets) -> bool
     ensures { result ≡ needs_comma (now_of tokens.now) at around }
 {
-    token_at(tokens, at) == "}" && around.has_commas() && !needs_none(token_before(tokens, at, 1))
+    is_mark(token_at(tokens, at), b'}')
+        && around.has_commas()
+        && !needs_none(token_before(tokens, at, 1))
 }
 
 /// The token that printing adds before the one at an index.
