@@ -1,3 +1,6 @@
+pub mod Apart
+pub mod Stepping
+pub mod Preserved
 pub mod Among
 pub mod Progressing
 pub mod Commented

@@ -4,6 +4,7 @@
 
 mod brackets;
 mod columns;
+mod following;
 mod joints;
 mod layout;
 mod nesting;
