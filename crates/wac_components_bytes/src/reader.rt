@@ -1,5 +1,7 @@
 //! A reader of bytes that counts its work.
-ghost use Rattle.std.specs.Prelude.{◌≡◌, ◌+◌, ◌-◌, ◌<◌, ◌≤◌, ◌^◌, length, IfErr, IfOk, IfSome, OnOk};
+ghost use Rattle.std.specs.Prelude.{◌≡◌, ◌+◌, ◌-◌, ◌*◌, ◌%◌, ◌<◌, ◌≤◌, ◌^◌, ◌∷◌, if◌then◌else◌, length, take, drop, IfErr, IfOk, IfSome, OnOk};
+ghost use Rattle.wac_components_bytes.specs.Leb128.{IsGroups, IsLeb128, IsIndex};
+ghost use Rattle.wac_components_bytes.specs.Reading.{unread, Reads, IsName};
 
 use crate::error::{DecodeError, ErrorKind, error_at};
 
@@ -93,6 +95,8 @@ impl<'a> Reader<'a> {
 
     /// The next byte, which stays unread.
     pub fn peek(&self) -> Result<u8, DecodeError>
+        ensures ok { IfOk result (λ b. unread self.now ≡ b ∷ drop 1 (unread self.now)) }
+        ensures left { OnOk result (self.now.position < self.now.end) }
         ensures err { IfErr result (λ e. e.offset ≤ length self.now.bytes.now) }
     {
         if self.position < self.end {
@@ -104,6 +108,7 @@ impl<'a> Reader<'a> {
 
     /// The next byte.
     pub fn byte(&mut self) -> Result<u8, DecodeError>
+        ensures ok { IfOk result (λ b. unread self.old ≡ b ∷ unread self.new) }
         ensures err { IfErr result (λ e. e.offset ≤ length self.old.bytes.now) }
         ensures work { self.new.work ≤ self.old.work }
         ensures taken { OnOk result (self.new.work + 1 ≡ self.old.work) }
@@ -111,53 +116,65 @@ impl<'a> Reader<'a> {
     {
         let byte = self.peek()?;
         self.charge(1, self.position)?;
-        if self.position < self.end {
-            self.position += 1;
-        }
+        self.position += 1;
         Ok(byte)
     }
 
-    /// A number below 2^32, in LEB128.
-    pub fn number(&mut self) -> Result<u32, DecodeError>
-        ensures err { IfErr result (λ e. e.offset ≤ length self.old.bytes.now) }
-        ensures work { self.new.work ≤ self.old.work }
-        ensures bytes { self.new.bytes.now ≡ self.old.bytes.now }
-    {
-        let start = self.position;
-        let mut value: u32 = 0;
-        for place in 0..5u32 {
-            let byte = self.byte()?;
-            if place == 4 && byte > 0x0f {
-                return error_at(ErrorKind::LongNumber, start);
-            }
-            value |= u32::from(byte & 0x7f) << (7 * place);
-            if byte < 0x80 {
-                return Ok(value);
-            }
-        }
-        error_at(ErrorKind::LongNumber, start)
-    }
-
-    /// A signed number of 33 bits, in LEB128: `None` where it is below 0.
-    pub fn index_or_opcode(&mut self) -> Result<Option<u32>, DecodeError>
+    /// At most five groups of seven bits: the number that they are, and the last byte.
+    fn groups(&mut self) -> Result<(u64, u8), DecodeError>
+        ensures ok { IfOk result (λ g. Reads (unread self.old) (λ bs. IsGroups bs g.0 g.1) (unread self.new)) }
         ensures err { IfErr result (λ e. e.offset ≤ length self.old.bytes.now) }
         ensures work { self.new.work ≤ self.old.work }
         ensures bytes { self.new.bytes.now ≡ self.old.bytes.now }
     {
         let start = self.position;
         let mut value: u64 = 0;
-        for place in 0..5u64 {
+        for place in 0..5u32 {
             let byte = self.byte()?;
-            let sign = (byte >> 4) & 7;
-            if place == 4 && (byte >= 0x80 || (sign != 0 && sign != 7)) {
-                return error_at(ErrorKind::LongNumber, start);
-            }
-            value |= u64::from(byte & 0x7f) << (7 * place);
+            value = with_group(value, byte, place);
             if byte < 0x80 {
-                return Ok(index_of(value, byte));
+                return Ok((value, byte));
             }
         }
         error_at(ErrorKind::LongNumber, start)
+    }
+
+    /// A number below 2^32, in LEB128.
+    pub fn number(&mut self) -> Result<u32, DecodeError>
+        ensures ok { IfOk result (λ n. Reads (unread self.old) (λ bs. IsLeb128 bs n) (unread self.new)) }
+        ensures err { IfErr result (λ e. e.offset ≤ length self.old.bytes.now) }
+        ensures work { self.new.work ≤ self.old.work }
+        ensures bytes { self.new.bytes.now ≡ self.old.bytes.now }
+    {
+        let start = self.position;
+        let (value, _) = self.groups()?;
+        match u32::try_from(value) {
+            Ok(number) => Ok(number),
+            Err(_) => error_at(ErrorKind::LongNumber, start),
+        }
+    }
+
+    /// A signed number of 33 bits, in LEB128: `None` where it is below 0.
+    pub fn index_or_opcode(&mut self) -> Result<Option<u32>, DecodeError>
+        ensures ok { IfOk result (λ i. Reads (unread self.old) (λ bs. IsIndex bs i) (unread self.new)) }
+        ensures err { IfErr result (λ e. e.offset ≤ length self.old.bytes.now) }
+        ensures work { self.new.work ≤ self.old.work }
+        ensures bytes { self.new.bytes.now ≡ self.old.bytes.now }
+    {
+        let start = self.position;
+        let (value, last) = self.groups()?;
+        if last < 0x40 {
+            return match u32::try_from(value) {
+                Ok(index) => Ok(Some(index)),
+                Err(_) => error_at(ErrorKind::LongNumber, start),
+            };
+        }
+        let high = value >> 32;
+        if high == 0 || high == 7 {
+            Ok(None)
+        } else {
+            error_at(ErrorKind::LongNumber, start)
+        }
     }
 
     /// A number of at most ten bytes, which isn't needed.
@@ -177,7 +194,9 @@ impl<'a> Reader<'a> {
 
     /// The number of items that follow. Each takes a byte at least, so there are no more of them than bytes.
     pub fn count(&mut self) -> Result<u32, DecodeError>
-        ensures ok { IfOk result (λ n. n ≤ length self.old.bytes.now) }
+        ensures ok { IfOk result (λ n. Reads (unread self.old) (λ bs. IsLeb128 bs n) (unread self.new)) }
+        ensures left { IfOk result (λ n. n ≤ length (unread self.new)) }
+        ensures within { IfOk result (λ n. n ≤ length self.old.bytes.now) }
         ensures err { IfErr result (λ e. e.offset ≤ length self.old.bytes.now) }
         ensures work { self.new.work ≤ self.old.work }
         ensures bytes { self.new.bytes.now ≡ self.old.bytes.now }
@@ -193,6 +212,7 @@ impl<'a> Reader<'a> {
 
     /// A name: its length in bytes, and as many bytes of UTF-8.
     pub fn name(&mut self) -> Result<&'a str, DecodeError>
+        ensures ok { IfOk result (λ s. Reads (unread self.old) (λ bs. IsName bs s.now) (unread self.new)) }
         ensures err { IfErr result (λ e. e.offset ≤ length self.old.bytes.now) }
         ensures work { self.new.work ≤ self.old.work }
         ensures bytes { self.new.bytes.now ≡ self.old.bytes.now }
@@ -211,6 +231,7 @@ impl<'a> Reader<'a> {
 
     /// Whether something follows: a byte 0 or 1.
     pub fn flag(&mut self) -> Result<bool, DecodeError>
+        ensures ok { IfOk result (λ f. unread self.old ≡ (if f then 1 else 0) ∷ unread self.new) }
         ensures err { IfErr result (λ e. e.offset ≤ length self.old.bytes.now) }
         ensures work { self.new.work ≤ self.old.work }
         ensures bytes { self.new.bytes.now ≡ self.old.bytes.now }
@@ -224,17 +245,19 @@ impl<'a> Reader<'a> {
     }
 }
 
-/// The index that the bits of a signed number mean, of whose bytes this was the last.
-fn index_of(value: u64, last: u8) -> Option<u32> {
-    if last & 0x40 != 0 {
-        return None;
-    }
-    u32::try_from(value).ok()
+/// A number with a group of seven bits added to it.
+fn with_group(value: u64, byte: u8, place: u32) -> u64
+    requires value { value < 2 ^ (7 * place) }
+    requires place { place < 5 }
+    ensures { result ≡ value + byte % 128 * 2 ^ (7 * place) }
+{
+    value | (u64::from(byte & 0x7f) << (7 * place))
 }
 
 /// The text of so many bytes from an offset on.
 fn text_at(bytes: &[u8], first: usize, count: usize) -> Result<&str, DecodeError>
     requires { first + count ≤ length bytes.now }
+    ensures ok { IfOk result (λ s. s.now ≡ take count (drop first bytes.now)) }
     ensures err { IfErr result (λ e. e.offset ≤ length bytes.now) }
 {
     match str::from_utf8(&bytes[first..first + count]) {
