@@ -15,12 +15,12 @@ use Rattle.wac_lexer.specs.declared.token.Token.{Token}
 use Rattle.wac_lexer.specs.declared.token.Token.TheVariants as tokens
 use Rattle.wac_lexer.specs.declared.shape.Shape.{Shape}
 use Rattle.wac_lexer.specs.declared.shape.Shape.TheVariants as shapes
-use Rattle.wac_lexer.specs.declared.automaton.Class.{Class}
-use Rattle.wac_lexer.specs.declared.automaton.Class.TheVariants.{Dot}
-use Rattle.wac_lexer.specs.declared.automaton.Package.TheVariants.{Name, Path}
-use Rattle.wac_lexer.specs.declared.automaton.Part.TheVariants.{First, Later}
-use Rattle.wac_lexer.specs.declared.automaton.State.{State}
-use Rattle.wac_lexer.specs.declared.automaton.State.TheVariants.{Start, Small, Capital, Digits, Tail, Closed, OneDot, TwoDots, Ended, Dead}
+use Rattle.wac_lexer.specs.Automaton.{Class}
+use Rattle.wac_lexer.specs.Automaton.Class.{Dot}
+use Rattle.wac_lexer.specs.Automaton.Package.{Name, Path}
+use Rattle.wac_lexer.specs.Automaton.Part.{First, Later}
+use Rattle.wac_lexer.specs.Automaton.{State}
+use Rattle.wac_lexer.specs.Automaton.State.{Start, Small, Capital, Digits, Tail, Closed, OneDot, TwoDots, Ended, Dead}
 use Rattle.wac_lexer.proofs.Sorts.{AreBytes, shape_bytes, shape_found, token_meant}
 use Rattle.wac_lexer.proofs.InFront.{shape_run}
 

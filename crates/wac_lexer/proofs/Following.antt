@@ -2,10 +2,10 @@
 use Rattle.std.specs.Prelude.{◌≡◌, ℕ, Bool, true, false, ◌&&◌, not, List, [], ◌∷◌, is_some, if◌then◌else◌, codes, refl}
 use Rattle.wac_lexer.specs.declared.token.Token.{Token}
 use Rattle.wac_lexer.specs.declared.token.Token.TheVariants as tokens
-use Rattle.wac_lexer.specs.declared.automaton.Package.TheVariants.{Name, Path}
-use Rattle.wac_lexer.specs.declared.automaton.Part.TheVariants.{First, Later}
-use Rattle.wac_lexer.specs.declared.automaton.State.{State}
-use Rattle.wac_lexer.specs.declared.automaton.State.TheVariants.{Small, Capital, Digits, Tail, Closed, OneDot, Ended, Dead}
+use Rattle.wac_lexer.specs.Automaton.Package.{Name, Path}
+use Rattle.wac_lexer.specs.Automaton.Part.{First, Later}
+use Rattle.wac_lexer.specs.Automaton.{State}
+use Rattle.wac_lexer.specs.Automaton.State.{Small, Capital, Digits, Tail, Closed, OneDot, Ended, Dead}
 use Rattle.wac_lexer.specs.Automaton.{class_of, step_of, shape_at}
 use Rattle.wac_lexer.specs.Comments.{begins, opens}
 

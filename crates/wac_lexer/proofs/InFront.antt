@@ -7,8 +7,8 @@ use Rattle.wac_lexer.specs.Tokens.{token_of, longest_token}
 use Rattle.wac_lexer.specs.Automaton.{class_of, step_of, shape_at}
 use Rattle.wac_lexer.proofs.Following.{run, is_dead, quiet}
 use Rattle.wac_lexer.specs.declared.token.Token.{Token}
-use Rattle.wac_lexer.specs.declared.automaton.State.{State}
-use Rattle.wac_lexer.specs.declared.automaton.State.TheVariants.{Start, Dead}
+use Rattle.wac_lexer.specs.Automaton.{State}
+use Rattle.wac_lexer.specs.Automaton.State.{Start, Dead}
 use Rattle.wac_lexer.proofs.States.{Reads, reads_none, reads_more, reads_dead, shape_is}
 use Rattle.wac_lexer.proofs.Sorts.{AreBytes}
 use Rattle.wac_lexer.proofs.Fronts.{one_token}

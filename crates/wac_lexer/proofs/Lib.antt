@@ -2,6 +2,8 @@ pub mod Patterns
 pub mod Refusals
 pub mod States
 pub mod Texts
+pub mod Tables
+pub mod Lengths
 pub mod Fronts
 pub mod Pieces
 pub mod Gaps

@@ -15,10 +15,10 @@ use Rattle.wac_lexer.specs.declared.token.Token.{Token}
 use Rattle.wac_lexer.specs.declared.token.Token.TheVariants.{Ident, PackageName, PackagePath, String}
 use Rattle.wac_lexer.specs.declared.shape.Shape.{Shape}
 use Rattle.wac_lexer.specs.declared.shape.Shape.TheVariants as shapes
-use Rattle.wac_lexer.specs.declared.automaton.Package.TheVariants.{Name, Path}
-use Rattle.wac_lexer.specs.declared.automaton.Part.TheVariants.{First, Later}
-use Rattle.wac_lexer.specs.declared.automaton.State.{State}
-use Rattle.wac_lexer.specs.declared.automaton.State.TheVariants.{Start, Joined, Small, Capital, Behind, Version, Digits, Point, Tail, Inside, Closed, Minus, OneDot, TwoDots, Ended, Dead}
+use Rattle.wac_lexer.specs.Automaton.Package.{Name, Path}
+use Rattle.wac_lexer.specs.Automaton.Part.{First, Later}
+use Rattle.wac_lexer.specs.Automaton.{State}
+use Rattle.wac_lexer.specs.Automaton.State.{Start, Joined, Small, Capital, Behind, Version, Digits, Point, Tail, Inside, Closed, Minus, OneDot, TwoDots, Ended, Dead}
 use Rattle.wac_lexer.proofs.Patterns.{matches_made, matches_meant}
 use Rattle.wac_lexer.proofs.States.{Reads, rest_of, reads_none, reads_more, shape_is}
 use Rattle.wac_lexer.proofs.Texts.{bytes_eq_is, bytes_eq_same, is_shape, is_shape_is, find_first, word_not_found, other_not_found, token_by}

@@ -15,8 +15,8 @@ use Rattle.wac_lexer.specs.Automaton.{class_of, step_of, shape_at}
 use Rattle.wac_lexer.specs.declared.token.Token.{Token}
 use Rattle.wac_lexer.specs.declared.token.Token.TheVariants as tokens
 use Rattle.wac_lexer.specs.declared.shape.Shape.TheVariants as shapes
-use Rattle.wac_lexer.specs.declared.automaton.State.{State}
-use Rattle.wac_lexer.specs.declared.automaton.State.TheVariants.{Start}
+use Rattle.wac_lexer.specs.Automaton.{State}
+use Rattle.wac_lexer.specs.Automaton.State.{Start}
 use Rattle.wac_lexer.proofs.Texts.{bytes_eq_is}
 use Rattle.wac_lexer.proofs.Sorts.{AreBytes, shape_bytes, token_found, token_meant}
 use Rattle.wac_lexer.proofs.States.{reads_none}

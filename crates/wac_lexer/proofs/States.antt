@@ -11,12 +11,12 @@ use Rattle.wac_lexer.specs.Front.{longest}
 use Rattle.wac_lexer.specs.Automaton.{class_of, step_of, shape_at}
 use Rattle.wac_lexer.specs.declared.shape.Shape.{Shape}
 use Rattle.wac_lexer.specs.declared.shape.Shape.TheVariants as shapes
-use Rattle.wac_lexer.specs.declared.automaton.Package.{Package}
-use Rattle.wac_lexer.specs.declared.automaton.Package.TheVariants.{Name, Path}
-use Rattle.wac_lexer.specs.declared.automaton.Part.{Part}
-use Rattle.wac_lexer.specs.declared.automaton.Part.TheVariants.{First, Later}
-use Rattle.wac_lexer.specs.declared.automaton.State.{State}
-use Rattle.wac_lexer.specs.declared.automaton.State.TheVariants.{Start, Joined, Small, Capital, Behind, Version, Digits, Point, Tail, Inside, Closed, Minus, OneDot, TwoDots, Ended, Dead}
+use Rattle.wac_lexer.specs.Automaton.{Package}
+use Rattle.wac_lexer.specs.Automaton.Package.{Name, Path}
+use Rattle.wac_lexer.specs.Automaton.{Part}
+use Rattle.wac_lexer.specs.Automaton.Part.{First, Later}
+use Rattle.wac_lexer.specs.Automaton.{State}
+use Rattle.wac_lexer.specs.Automaton.State.{Start, Joined, Small, Capital, Behind, Version, Digits, Point, Tail, Inside, Closed, Minus, OneDot, TwoDots, Ended, Dead}
 
 abbrev more_words : Pattern
 more_words = Many (Then (byte 45) word)
@@ -147,11 +147,11 @@ agrees_each state b e shape = go shape
     go shapes.Quoted = q.0
     go shapes.Symbol = q.1
 
-abbrev below : (ℕ → Bool) → ℕ → Bool
+abbrev pub below : (ℕ → Bool) → ℕ → Bool
 below test zero = true
 below test (suc n) = test n && below test n
 
-below_at : (test : ℕ → Bool) (n b : ℕ) → below test n ≡ true → b < n → test b ≡ true
+pub below_at : (test : ℕ → Bool) (n b : ℕ) → below test n ≡ true → b < n → test b ≡ true
 below_at test zero b e h = absurd (omega arith)
 below_at test (suc n) b e h =
     let t = and_parts (test n) (below test n) e in

@@ -1,16 +1,66 @@
 -- The states of the walk over a text, as the code has them. Shapes and Tokens define what a token is, without them.
-use Rattle.std.specs.Prelude.{ℕ, ◌&&◌, ◌||◌, nat_le, nat_eq, if◌then◌else◌, Option, Some, None}
+use Rattle.std.specs.Prelude.{ℕ, ◌&&◌, ◌||◌, nat_le, nat_eq, if◌then◌else◌, List, [], ◌∷◌, slice_index_or, Option, Some, None}
 use Rattle.wac_lexer.specs.Ascii.{at_sign, capital_a, capital_z, close_brace, close_bracket, close_parenthesis, colon, comma, digit_nine, digit_zero, equals_sign, full_stop, greater_than_sign, hyphen, less_than_sign, open_brace, open_bracket, open_parenthesis, percent_sign, plus_sign, quotation_mark, semicolon, slash, small_a, small_z, underscore}
 use Rattle.wac_lexer.specs.declared.shape.Shape.{Shape}
 use Rattle.wac_lexer.specs.declared.shape.Shape.TheVariants as shapes
-use Rattle.wac_lexer.specs.declared.automaton.Class.{Class}
-use Rattle.wac_lexer.specs.declared.automaton.Class.TheVariants.{Lower, Upper, Digit, Percent, Dash, Plus, Colon, Slash, At, Dot, Quote, CloseAngle, OtherSymbol, Other}
-use Rattle.wac_lexer.specs.declared.automaton.Package.{Package}
-use Rattle.wac_lexer.specs.declared.automaton.Package.TheVariants.{Name, Path}
-use Rattle.wac_lexer.specs.declared.automaton.Part.{Part}
-use Rattle.wac_lexer.specs.declared.automaton.Part.TheVariants.{First, Later}
-use Rattle.wac_lexer.specs.declared.automaton.State.{State}
-use Rattle.wac_lexer.specs.declared.automaton.State.TheVariants.{Start, Joined, Small, Capital, Behind, Version, Digits, Point, Tail, Inside, Closed, Minus, OneDot, TwoDots, Ended, Dead}
+
+-- what a byte is to a state
+pub data Class : Type 0 where
+  Lower : Class
+  Upper : Class
+  Digit : Class
+  Percent : Class
+  Dash : Class
+  Plus : Class
+  Colon : Class
+  Slash : Class
+  At : Class
+  Dot : Class
+  Quote : Class
+  CloseAngle : Class
+  OtherSymbol : Class
+  Other : Class
+
+-- what a version text belongs to
+pub data Package : Type 0 where
+  Name : Package
+  Path : Package
+
+-- which identifier of a text is read
+pub data Part : Type 0 where
+  First : Part
+  Later : Package → Part
+
+-- what may follow the bytes that were read
+pub data State : Type 0 where
+  Start : State
+  -- a word must follow: `%` or `-` was read
+  Joined : Part → State
+  -- in a word of small letters
+  Small : Part → State
+  -- in a word of capital letters
+  Capital : Part → State
+  -- an identifier must follow `:` in a name or `/` in a path
+  Behind : Package → State
+  -- the first digit of a version must follow
+  Version : Package → State
+  -- in the first number of a version
+  Digits : Package → State
+  -- after a point of a version
+  Point : Package → State
+  -- in a later part of a version
+  Tail : Package → State
+  -- in a string
+  Inside : State
+  -- after a string
+  Closed : State
+  Minus : State
+  OneDot : State
+  TwoDots : State
+  -- after a whole symbol, which nothing continues
+  Ended : State
+  -- no text of any shape begins so
+  Dead : State
 
 abbrev pub class_of : ℕ → Class
 class_of b =
@@ -96,3 +146,52 @@ shape_at Closed = Some shapes.Quoted
 shape_at OneDot = Some shapes.Symbol
 shape_at Ended = Some shapes.Symbol
 shape_at state = None
+
+-- The numbers that the code's tables give to classes and states. A token may end in the first thirteen states alone.
+abbrev pub classes : List Class
+classes = Lower ∷ Upper ∷ Digit ∷ Percent ∷ Dash ∷ Plus ∷ Colon ∷ Slash ∷ At ∷ Dot ∷ Quote ∷ CloseAngle ∷ OtherSymbol ∷ Other ∷ []
+
+abbrev pub states : List State
+states =
+    Small First
+    ∷ Capital First
+    ∷ Small (Later Name)
+    ∷ Capital (Later Name)
+    ∷ Digits Name
+    ∷ Tail Name
+    ∷ Small (Later Path)
+    ∷ Capital (Later Path)
+    ∷ Digits Path
+    ∷ Tail Path
+    ∷ Closed
+    ∷ OneDot
+    ∷ Ended
+    ∷ Start
+    ∷ Joined First
+    ∷ Joined (Later Name)
+    ∷ Joined (Later Path)
+    ∷ Behind Name
+    ∷ Behind Path
+    ∷ Version Name
+    ∷ Version Path
+    ∷ Point Name
+    ∷ Point Path
+    ∷ Inside
+    ∷ Minus
+    ∷ TwoDots
+    ∷ Dead
+    ∷ []
+
+abbrev pub class_at : ℕ → Class
+class_at n = slice_index_or classes n Other
+
+abbrev pub state_at : ℕ → State
+state_at n = slice_index_or states n Dead
+
+-- the columns of the table of steps: one for each class, and two that are never read
+abbrev pub class_count : ℕ
+class_count = 16
+
+-- its rows: one for each state
+abbrev pub state_count : ℕ
+state_count = 27

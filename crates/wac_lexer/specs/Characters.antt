@@ -32,6 +32,10 @@ fault_of c =
     else (if is_discouraged c then Some (DiscouragedUnicodeCodepoint c)
     else (if is_refused_control c then Some (DisallowedControlCode c) else None))
 
+-- the characters of one byte that every source may have: printable ASCII, TAB, LF and CR
+abbrev pub is_plain : ℕ → Bool
+is_plain b = is_within 0x20 0x7e b || (nat_eq b line_feed || (nat_eq b tab || nat_eq b carriage_return))
+
 -- the first rejected one of these characters, which begin at a place
 abbrev pub refused_from : ℕ → List ℕ → Option (Error × Span)
 refused_from place [] = None

@@ -1,5 +1,5 @@
 -- The tokens that are one text each: the keywords and the symbols.
-use Rattle.std.specs.Prelude.{ℕ, List, [], ◌∷◌, ◌++◌, if◌then◌else◌, Option, Some, None, codes}
+use Rattle.std.specs.Prelude.{ℕ, ◌&&◌, nat_le, List, [], ◌∷◌, ◌++◌, length, if◌then◌else◌, Option, Some, None, codes}
 use Rattle.std.specs.Str.{bytes_eq}
 use Rattle.wac_lexer.specs.declared.token.Token.{Token}
 use Rattle.wac_lexer.specs.declared.token.Token.TheVariants as tokens
@@ -126,3 +126,9 @@ fixed_texts = keywords ++ symbols
 abbrev pub find : List ℕ → List (List ℕ × Token) → Option Token
 find text [] = None
 find text (entry ∷ table) = if bytes_eq text entry.0 then Some entry.1 else find text table
+
+-- the entries whose texts have from low to high bytes
+abbrev pub with_lengths : ℕ → ℕ → List (List ℕ × Token) → List (List ℕ × Token)
+with_lengths low high [] = []
+with_lengths low high (entry ∷ table) =
+    if nat_le low (length entry.0) && nat_le (length entry.0) high then entry ∷ with_lengths low high table else with_lengths low high table

@@ -1,276 +1,156 @@
-// Finds the longest prefix of a text that has a shape, in one walk over its bytes.
-ghost use Rattle.std.specs.Prelude.{◌≡◌, length};
-ghost use Rattle.wac_lexer.specs.Automaton.{class_of, behind_word_of, step_of, shape_of_package, shape_at};
+// Finds the longest prefix of a text that has a shape, in one walk over its bytes by two tables.
+ghost use Rattle.std.specs.Prelude.{◌≡◌, ◌<◌, length};
+ghost use Rattle.std.specs.Option.{option_map};
+ghost use Rattle.wac_lexer.specs.Automaton.{class_of, class_at, class_count, step_of, state_at, state_count, shape_at};
 ghost use Rattle.wac_lexer.specs.Front.{longest};
 
 use crate::shape::Shape;
 
+/// The number of the state at the start of a text.
+const START: u8 = 13;
+
+/// The number of the state in which no text of any shape begins.
+const DEAD: u8 = 26;
+
+/// A token may end in the states with smaller numbers.
+const ENDS: u8 = 13;
+
+/// How many columns `STEPS` has: one for each class, and two that are never read, so that a row's place is a shift.
+const CLASS_COUNT: usize = 16;
+
+/// The class of each byte, by its number in `classes`: 0 a small letter, 1 a capital one, 2 a digit, 3 `%`, 4 `-`, 5 `+`, 6 `:`, 7 `/`, 8 `@`, 9 `.`, 10 `"`,
+/// 11 `>`, 12 another symbol, 13 any other byte.
+static CLASSES: [u8; 256] = [
+    // 0x00: control codes, and TAB, LF, CR
+    13, 13, 13, 13, 13, 13, 13, 13, 13, 13, 13, 13, 13, 13, 13, 13,
+    // 0x10: control codes
+    13, 13, 13, 13, 13, 13, 13, 13, 13, 13, 13, 13, 13, 13, 13, 13,
+    // 0x20: space ! " # $ % & ' ( ) * + , - . /
+    13, 13, 10, 13, 13, 3, 13, 13, 12, 12, 13, 5, 12, 4, 9, 7,
+    // 0x30: digits : ; < = > ?
+    2, 2, 2, 2, 2, 2, 2, 2, 2, 2, 6, 12, 12, 12, 11, 13,
+    // 0x40: @, A to O
+    8, 1, 1, 1, 1, 1, 1, 1, 1, 1, 1, 1, 1, 1, 1, 1,
+    // 0x50: P to Z, [ \ ] ^ _
+    1, 1, 1, 1, 1, 1, 1, 1, 1, 1, 1, 12, 13, 12, 13, 12,
+    // 0x60: `, a to o
+    13, 0, 0, 0, 0, 0, 0, 0, 0, 0, 0, 0, 0, 0, 0, 0,
+    // 0x70: p to z, { | } ~ DEL
+    0, 0, 0, 0, 0, 0, 0, 0, 0, 0, 0, 12, 13, 12, 13, 13,
+    // 0x80: a part of another character
+    13, 13, 13, 13, 13, 13, 13, 13, 13, 13, 13, 13, 13, 13, 13, 13,
+    // 0x90: a part of another character
+    13, 13, 13, 13, 13, 13, 13, 13, 13, 13, 13, 13, 13, 13, 13, 13,
+    // 0xa0: a part of another character
+    13, 13, 13, 13, 13, 13, 13, 13, 13, 13, 13, 13, 13, 13, 13, 13,
+    // 0xb0: a part of another character
+    13, 13, 13, 13, 13, 13, 13, 13, 13, 13, 13, 13, 13, 13, 13, 13,
+    // 0xc0: a part of another character
+    13, 13, 13, 13, 13, 13, 13, 13, 13, 13, 13, 13, 13, 13, 13, 13,
+    // 0xd0: a part of another character
+    13, 13, 13, 13, 13, 13, 13, 13, 13, 13, 13, 13, 13, 13, 13, 13,
+    // 0xe0: a part of another character
+    13, 13, 13, 13, 13, 13, 13, 13, 13, 13, 13, 13, 13, 13, 13, 13,
+    // 0xf0: a part of another character
+    13, 13, 13, 13, 13, 13, 13, 13, 13, 13, 13, 13, 13, 13, 13, 13,
+];
+
+/// The state after one more byte: a row for each state, by its number in `states`, and in it a column for each class.
+static STEPS: [u8; 432] = [
+    // 0: Small First
+    0, 26, 0, 26, 14, 26, 17, 26, 26, 26, 26, 26, 26, 26, 26, 26,
+    // 1: Capital First
+    26, 1, 1, 26, 14, 26, 17, 26, 26, 26, 26, 26, 26, 26, 26, 26,
+    // 2: Small (Later Name)
+    2, 26, 2, 26, 15, 26, 17, 18, 19, 26, 26, 26, 26, 26, 26, 26,
+    // 3: Capital (Later Name)
+    26, 3, 3, 26, 15, 26, 17, 18, 19, 26, 26, 26, 26, 26, 26, 26,
+    // 4: Digits Name
+    26, 26, 4, 26, 26, 26, 26, 26, 26, 21, 26, 26, 26, 26, 26, 26,
+    // 5: Tail Name
+    5, 5, 5, 26, 5, 5, 26, 26, 26, 21, 26, 26, 26, 26, 26, 26,
+    // 6: Small (Later Path)
+    6, 26, 6, 26, 16, 26, 26, 18, 20, 26, 26, 26, 26, 26, 26, 26,
+    // 7: Capital (Later Path)
+    26, 7, 7, 26, 16, 26, 26, 18, 20, 26, 26, 26, 26, 26, 26, 26,
+    // 8: Digits Path
+    26, 26, 8, 26, 26, 26, 26, 26, 26, 22, 26, 26, 26, 26, 26, 26,
+    // 9: Tail Path
+    9, 9, 9, 26, 9, 9, 26, 26, 26, 22, 26, 26, 26, 26, 26, 26,
+    // 10: Closed
+    26, 26, 26, 26, 26, 26, 26, 26, 26, 26, 26, 26, 26, 26, 26, 26,
+    // 11: OneDot
+    26, 26, 26, 26, 26, 26, 26, 26, 26, 25, 26, 26, 26, 26, 26, 26,
+    // 12: Ended
+    26, 26, 26, 26, 26, 26, 26, 26, 26, 26, 26, 26, 26, 26, 26, 26,
+    // 13: Start
+    0, 1, 26, 14, 24, 26, 12, 12, 12, 11, 23, 12, 12, 26, 26, 26,
+    // 14: Joined First
+    0, 1, 26, 26, 26, 26, 26, 26, 26, 26, 26, 26, 26, 26, 26, 26,
+    // 15: Joined (Later Name)
+    2, 3, 26, 26, 26, 26, 26, 26, 26, 26, 26, 26, 26, 26, 26, 26,
+    // 16: Joined (Later Path)
+    6, 7, 26, 26, 26, 26, 26, 26, 26, 26, 26, 26, 26, 26, 26, 26,
+    // 17: Behind Name
+    2, 3, 26, 15, 26, 26, 26, 26, 26, 26, 26, 26, 26, 26, 26, 26,
+    // 18: Behind Path
+    6, 7, 26, 16, 26, 26, 26, 26, 26, 26, 26, 26, 26, 26, 26, 26,
+    // 19: Version Name
+    26, 26, 4, 26, 26, 26, 26, 26, 26, 26, 26, 26, 26, 26, 26, 26,
+    // 20: Version Path
+    26, 26, 8, 26, 26, 26, 26, 26, 26, 26, 26, 26, 26, 26, 26, 26,
+    // 21: Point Name
+    5, 5, 5, 26, 5, 5, 26, 26, 26, 26, 26, 26, 26, 26, 26, 26,
+    // 22: Point Path
+    9, 9, 9, 26, 9, 9, 26, 26, 26, 26, 26, 26, 26, 26, 26, 26,
+    // 23: Inside
+    23, 23, 23, 23, 23, 23, 23, 23, 23, 23, 10, 23, 23, 23, 23, 23,
+    // 24: Minus
+    26, 26, 26, 26, 26, 26, 26, 26, 26, 26, 26, 12, 26, 26, 26, 26,
+    // 25: TwoDots
+    26, 26, 26, 26, 26, 26, 26, 26, 26, 12, 26, 26, 26, 26, 26, 26,
+    // 26: Dead
+    26, 26, 26, 26, 26, 26, 26, 26, 26, 26, 26, 26, 26, 26, 26, 26,
+];
+
 /// What a byte is to a state.
-#[derive(Clone, Copy, PartialEq, Eq)]
-enum Class {
-    Lower,
-    Upper,
-    Digit,
-    Percent,
-    Dash,
-    Plus,
-    Colon,
-    Slash,
-    At,
-    Dot,
-    Quote,
-    CloseAngle,
-    OtherSymbol,
-    Other,
-}
-
-/// What a version text belongs to.
-#[derive(Clone, Copy, PartialEq, Eq)]
-enum Package {
-    Name,
-    Path,
-}
-
-/// Which identifier of a text is read.
-#[derive(Clone, Copy, PartialEq, Eq)]
-enum Part {
-    First,
-    Later(Package),
-}
-
-/// What may follow the bytes that were read.
-#[derive(Clone, Copy, PartialEq, Eq)]
-enum State {
-    Start,
-    /// A word must follow: `%` or `-` was read.
-    Joined(Part),
-    /// In a word of small letters.
-    Small(Part),
-    /// In a word of capital letters.
-    Capital(Part),
-    /// An identifier must follow `:` in a name or `/` in a path.
-    Behind(Package),
-    /// The first digit of a version must follow.
-    Version(Package),
-    /// In the first number of a version.
-    Digits(Package),
-    /// After a point of a version.
-    Point(Package),
-    /// In a later part of a version.
-    Tail(Package),
-    /// In a string.
-    Inside,
-    /// After a string.
-    Closed,
-    Minus,
-    OneDot,
-    TwoDots,
-    /// After a whole symbol, which nothing continues.
-    Ended,
-    /// No text of any shape begins so.
-    Dead,
-}
-
-fn class_of(byte: u8) -> Class
-    ensures { result ≡ class_of byte }
+fn class_of(byte: u8) -> u8
+    ensures class { class_at result ≡ class_of byte }
+    ensures within { result < class_count }
 {
-    match byte {
-        b'a'..=b'z' => Class::Lower,
-        b'A'..=b'Z' => Class::Upper,
-        b'0'..=b'9' => Class::Digit,
-        b'%' => Class::Percent,
-        b'-' => Class::Dash,
-        b'+' => Class::Plus,
-        b':' => Class::Colon,
-        b'/' => Class::Slash,
-        b'@' => Class::At,
-        b'.' => Class::Dot,
-        b'"' => Class::Quote,
-        b'>' => Class::CloseAngle,
-        b';' | b'{' | b'}' | b'=' | b'(' | b')' | b'<' | b'_' | b'[' | b']' | b',' => {
-            Class::OtherSymbol
-        }
-        _ => Class::Other,
-    }
-}
-
-/// The state after an identifier's word and a byte that isn't part of it.
-fn behind_word(part: Part, class: Class) -> State
-    ensures { result ≡ behind_word_of part class }
-{
-    match class {
-        Class::Dash => State::Joined(part),
-        Class::Colon => match part {
-            Part::First => State::Behind(Package::Name),
-            Part::Later(Package::Name) => State::Behind(Package::Name),
-            Part::Later(Package::Path) => State::Dead,
-        },
-        Class::Slash => match part {
-            Part::First => State::Dead,
-            Part::Later(_) => State::Behind(Package::Path),
-        },
-        Class::At => match part {
-            Part::First => State::Dead,
-            Part::Later(package) => State::Version(package),
-        },
-        _ => State::Dead,
-    }
-}
-
-/// The state after the first byte.
-fn at_start(class: Class) -> State
-    ensures { result ≡ step_of State.Start class }
-{
-    match class {
-        Class::Lower => State::Small(Part::First),
-        Class::Upper => State::Capital(Part::First),
-        Class::Percent => State::Joined(Part::First),
-        Class::Quote => State::Inside,
-        Class::Dash => State::Minus,
-        Class::Dot => State::OneDot,
-        Class::Colon | Class::Slash | Class::At | Class::CloseAngle | Class::OtherSymbol => {
-            State::Ended
-        }
-        _ => State::Dead,
-    }
-}
-
-/// The state after the first byte of a word.
-fn at_word(part: Part, class: Class) -> State
-    ensures { result ≡ step_of (State.Joined part) class }
-{
-    match class {
-        Class::Lower => State::Small(part),
-        Class::Upper => State::Capital(part),
-        _ => State::Dead,
-    }
-}
-
-/// The state after the first byte of an identifier that follows `:` or `/`.
-fn at_identifier(kind: Package, class: Class) -> State
-    ensures { result ≡ step_of (State.Behind kind) class }
-{
-    match class {
-        Class::Lower => State::Small(Part::Later(kind)),
-        Class::Upper => State::Capital(Part::Later(kind)),
-        Class::Percent => State::Joined(Part::Later(kind)),
-        _ => State::Dead,
-    }
-}
-
-/// The state after a byte of a word of small letters.
-fn in_small(part: Part, class: Class) -> State
-    ensures { result ≡ step_of (State.Small part) class }
-{
-    match class {
-        Class::Lower | Class::Digit => State::Small(part),
-        _ => behind_word(part, class),
-    }
-}
-
-/// The state after a byte of a word of capital letters.
-fn in_capital(part: Part, class: Class) -> State
-    ensures { result ≡ step_of (State.Capital part) class }
-{
-    match class {
-        Class::Upper | Class::Digit => State::Capital(part),
-        _ => behind_word(part, class),
-    }
-}
-
-/// The state after a byte of the first number of a version.
-fn in_digits(kind: Package, class: Class) -> State
-    ensures { result ≡ step_of (State.Digits kind) class }
-{
-    match class {
-        Class::Digit => State::Digits(kind),
-        Class::Dot => State::Point(kind),
-        _ => State::Dead,
-    }
-}
-
-/// The state after the first byte of a later part of a version.
-fn at_tail(kind: Package, class: Class) -> State
-    ensures { result ≡ step_of (State.Point kind) class }
-{
-    match class {
-        Class::Lower | Class::Upper | Class::Digit | Class::Dash | Class::Plus => {
-            State::Tail(kind)
-        }
-        _ => State::Dead,
-    }
-}
-
-/// The state after a byte of a later part of a version.
-fn in_tail(kind: Package, class: Class) -> State
-    ensures { result ≡ step_of (State.Tail kind) class }
-{
-    match class {
-        Class::Dot => State::Point(kind),
-        _ => at_tail(kind, class),
-    }
+    CLASSES[usize::from(byte)]
 }
 
 /// The state after one more byte.
-fn step(state: State, byte: u8) -> State
-    ensures { result ≡ step_of state (class_of byte) }
+fn step(state: u8, byte: u8) -> u8
+    requires { state < state_count }
+    ensures state { state_at result ≡ step_of (state_at state) (class_of byte) }
+    ensures within { result < state_count }
 {
-    let class = class_of(byte);
-    match state {
-        State::Start => at_start(class),
-        State::Joined(part) => at_word(part, class),
-        State::Small(part) => in_small(part, class),
-        State::Capital(part) => in_capital(part, class),
-        State::Behind(package) => at_identifier(package, class),
-        State::Version(package) => match class {
-            Class::Digit => State::Digits(package),
-            _ => State::Dead,
-        },
-        State::Digits(package) => in_digits(package, class),
-        State::Point(package) => at_tail(package, class),
-        State::Tail(package) => in_tail(package, class),
-        State::Inside => match class {
-            Class::Quote => State::Closed,
-            _ => State::Inside,
-        },
-        State::Minus => match class {
-            Class::CloseAngle => State::Ended,
-            _ => State::Dead,
-        },
-        State::OneDot => match class {
-            Class::Dot => State::TwoDots,
-            _ => State::Dead,
-        },
-        State::TwoDots => match class {
-            Class::Dot => State::Ended,
-            _ => State::Dead,
-        },
-        State::Closed | State::Ended | State::Dead => State::Dead,
-    }
-}
-
-fn shape_of_package(kind: Package) -> Shape
-    ensures { result ≡ shape_of_package kind }
-{
-    match kind {
-        Package::Name => Shape::Name,
-        Package::Path => Shape::Path,
-    }
+    STEPS[usize::from(state) * CLASS_COUNT + usize::from(class_of(byte))]
 }
 
 /// The shape of the whole text that was read, if it has one.
-fn shape_at(state: State) -> Option<Shape>
-    ensures { result ≡ shape_at state }
+fn shape_at(state: u8) -> Option<Shape>
+    ensures { result ≡ shape_at (state_at state) }
 {
     match state {
-        State::Small(Part::First) | State::Capital(Part::First) => Some(Shape::Word),
-        State::Small(Part::Later(package)) => Some(shape_of_package(package)),
-        State::Capital(Part::Later(package)) => Some(shape_of_package(package)),
-        State::Digits(package) => Some(shape_of_package(package)),
-        State::Tail(package) => Some(shape_of_package(package)),
-        State::Closed => Some(Shape::Quoted),
-        State::OneDot | State::Ended => Some(Shape::Symbol),
+        0 | 1 => Some(Shape::Word),
+        2..=5 => Some(Shape::Name),
+        6..=9 => Some(Shape::Path),
+        10 => Some(Shape::Quoted),
+        11 | 12 => Some(Shape::Symbol),
         _ => None,
+    }
+}
+
+/// A prefix of this length, with the shape of the texts that end in this state.
+fn front(len: usize, state: u8) -> Option<(usize, Shape)>
+    ensures { result ≡ option_map (λ shape. (len, shape)) (shape_at (state_at state)) }
+{
+    match shape_at(state) {
+        Some(shape) => Some((len, shape)),
+        None => None,
     }
 }
 
@@ -278,16 +158,18 @@ fn shape_at(state: State) -> Option<Shape>
 pub(crate) fn longest_front(bytes: &[u8]) -> Option<(usize, Shape)>
     ensures { result ≡ longest bytes.now (length bytes.now) }
 {
-    let mut state = State::Start;
-    let mut found = None;
+    let mut state = START;
+    let mut len = 0;
+    let mut last = START;
     for (i, byte) in bytes.iter().enumerate() {
         state = step(state, *byte);
-        if let State::Dead = state {
-            return found;
+        if state == DEAD {
+            return front(len, last);
         }
-        if let Some(shape) = shape_at(state) {
-            found = Some((i + 1, shape));
+        if state < ENDS {
+            len = i + 1;
+            last = state;
         }
     }
-    found
+    front(len, last)
 }

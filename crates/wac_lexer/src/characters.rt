@@ -1,6 +1,8 @@
 // Tests the characters of a source.
-ghost use Rattle.std.specs.Prelude.{◌≡◌};
-ghost use Rattle.wac_lexer.specs.Characters.{fault_of, refused};
+ghost use Rattle.std.specs.Prelude.{◌≡◌, ◌≤◌, true, length, take, drop};
+ghost use Rattle.std.specs.List.{list_all, prefix_len};
+ghost use Rattle.std.specs.Str.{IsCharBoundary, chars};
+ghost use Rattle.wac_lexer.specs.Characters.{fault_of, is_plain, refused, refused_from};
 
 use crate::error::Error;
 use crate::span::SourceSpan;
@@ -24,13 +26,89 @@ fn fault_of(c: char) -> Option<Error>
     }
 }
 
+/// Whether a byte is a character that every source may have: printable ASCII, TAB, LF or CR.
+fn is_plain(byte: u8) -> bool
+    ensures { result ≡ is_plain byte }
+{
+    ((byte >= b' ') & (byte <= b'~')) | (byte == b'\n') | (byte == b'\t') | (byte == b'\r')
+}
+
+/// How many bytes are tested at once.
+const BLOCK: usize = 16;
+
+/// Whether all of some bytes are plain. There is no branch for a byte, so that vector instructions can test them side by side.
+fn are_plain(bytes: &[u8]) -> bool
+    ensures { result ≡ list_all is_plain bytes.now }
+{
+    let mut all = true;
+    for byte in bytes {
+        all &= is_plain(*byte);
+    }
+    all
+}
+
+/// How many bytes the whole blocks of plain bytes take that come first.
+fn plain_blocks(bytes: &[u8]) -> usize
+    ensures within { result ≤ length bytes.now }
+    ensures plain { list_all is_plain (take result bytes.now) ≡ true }
+{
+    let mut i = 0;
+    while bytes.len() - i >= BLOCK {
+        let (_, rest) = bytes.split_at(i);
+        let (block, _) = rest.split_at(BLOCK);
+        if !are_plain(block) {
+            return i;
+        }
+        i += BLOCK;
+    }
+    i
+}
+
+/// How many plain bytes come first.
+fn plain_len(bytes: &[u8]) -> usize
+    ensures len { result ≡ prefix_len is_plain bytes.now }
+    ensures within { result ≤ length bytes.now }
+{
+    let len = plain_blocks(bytes);
+    let (_, rest) = bytes.split_at(len);
+    len + single_plain_len(rest)
+}
+
+/// How many plain bytes come first, tested one by one.
+fn single_plain_len(bytes: &[u8]) -> usize
+    ensures len { result ≡ prefix_len is_plain bytes.now }
+    ensures within { result ≤ length bytes.now }
+{
+    bytes.iter().take_while(|byte| is_plain(**byte)).count()
+}
+
+/// Where the plain bytes from a place on end. None of them is a rejected character.
+fn past_plain(source: &str, place: usize) -> usize
+    requires { IsCharBoundary source.now place }
+    ensures within { IsCharBoundary source.now result }
+    ensures onward { place ≤ result }
+    ensures passes { refused_from result (chars (drop result source.now)) ≡ refused_from place (chars (drop place source.now)) }
+{
+    let (_, rest) = source.split_at(place);
+    place + plain_len(rest.as_bytes())
+}
+
 /// The first rejected character.
 pub(crate) fn refused(source: &str) -> Option<(Error, SourceSpan)>
     ensures { result ≡ refused source.now }
 {
-    for (offset, c) in source.char_indices() {
-        if let Some(fault) = fault_of(c) {
-            return Some((fault, SourceSpan::new(offset, c.len_utf8())));
+    let mut place = past_plain(source, 0);
+    while place < source.len() {
+        let (_, rest) = source.split_at(place);
+        match rest.chars().next() {
+            Some(c) => {
+                let len = c.len_utf8();
+                if let Some(fault) = fault_of(c) {
+                    return Some((fault, SourceSpan::new(place, len)));
+                }
+                place = past_plain(source, place + len);
+            }
+            None => return None,
         }
     }
     None

@@ -74,8 +74,14 @@ fn block_len(bytes: &[u8]) -> usize
     }
 }
 
-/// How many bytes the first blank or comment takes, and 0 where there is none.
-pub(crate) fn part_len(bytes: &[u8]) -> usize
+/// How many bytes the first blank or comment of some bytes takes, and 0 where there is none.
+///
+/// A blank is a space, TAB, CR or LF. A line comment ends before its LF, and a block comment without an end is none.
+///
+/// ```
+/// let len = part_len(b"// a\nb"); // 4
+/// ```
+pub fn part_len(bytes: &[u8]) -> usize
     ensures len { result ≡ part_len bytes.now }
     ensures within { result ≤ length bytes.now }
 {

@@ -16,6 +16,7 @@ mod symbols;
 mod token;
 mod words;
 
+pub use comments::part_len;
 pub use device::{Blocks, Bytes, Feed, In, Out, Sink, put_all};
 pub use error::Error;
 pub use follow::{blanks_follow_tokens, identifiers_follow_dots, tokens_are_read_back};

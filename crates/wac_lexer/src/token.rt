@@ -218,6 +218,18 @@ fn name_of(token: Token) -> &'static str
     }
 }
 
+impl Token {
+    ghost use Rattle.std.specs.Prelude.{◌≡◌};
+    ghost use Rattle.wac_lexer.specs.Messages.{name_of};
+
+    /// What messages call the token: the text that its `Display` writes.
+    pub fn name(self) -> &'static str
+        ensures { result.now ≡ name_of self }
+    {
+        name_of(self)
+    }
+}
+
 impl fmt::Display for Token {
     ghost use Rattle.std.specs.Prelude.{Some};
     ghost use Rattle.wac_lexer.specs.Messages.{name_of};

@@ -1,65 +1,29 @@
-// Finds the keyword that a text is.
+// Finds the keyword that a text is, by how many bytes it has.
 ghost use Rattle.std.specs.Prelude.{◌≡◌};
-ghost use Rattle.wac_lexer.specs.Words.{find, keywords, grammar_words, type_words, statement_words, declaration_words, function_words, number_types, other_types};
+ghost use Rattle.wac_lexer.specs.Words.{find, keywords, with_lengths};
 
 use crate::token::Token;
 
-/// The words of statements.
-fn statement_word(text: &str) -> Option<Token>
-    ensures { result ≡ find text.now statement_words }
+/// The keywords of two bytes.
+fn of_two(text: &str) -> Option<Token>
+    ensures { result ≡ find text.now (with_lengths 2 2 keywords) }
 {
     match text {
-        "import" => Some(Token::ImportKeyword),
-        "let" => Some(Token::LetKeyword),
-        "export" => Some(Token::ExportKeyword),
-        "new" => Some(Token::NewKeyword),
         "as" => Some(Token::AsKeyword),
-        "with" => Some(Token::WithKeyword),
-        "package" => Some(Token::PackageKeyword),
-        "targets" => Some(Token::TargetsKeyword),
-        "use" => Some(Token::UseKeyword),
-        "include" => Some(Token::IncludeKeyword),
-        _ => None,
-    }
-}
-
-/// The words that declare interfaces, worlds and types.
-fn declaration_word(text: &str) -> Option<Token>
-    ensures { result ≡ find text.now declaration_words }
-{
-    match text {
-        "interface" => Some(Token::InterfaceKeyword),
-        "world" => Some(Token::WorldKeyword),
-        "type" => Some(Token::TypeKeyword),
-        "resource" => Some(Token::ResourceKeyword),
-        "variant" => Some(Token::VariantKeyword),
-        "record" => Some(Token::RecordKeyword),
-        "flags" => Some(Token::FlagsKeyword),
-        "enum" => Some(Token::EnumKeyword),
-        _ => None,
-    }
-}
-
-/// The words of functions.
-fn function_word(text: &str) -> Option<Token>
-    ensures { result ≡ find text.now function_words }
-{
-    match text {
-        "func" => Some(Token::FuncKeyword),
-        "static" => Some(Token::StaticKeyword),
-        "constructor" => Some(Token::ConstructorKeyword),
-        "async" => Some(Token::AsyncKeyword),
-        _ => None,
-    }
-}
-
-/// The types of numbers.
-fn number_type(text: &str) -> Option<Token>
-    ensures { result ≡ find text.now number_types }
-{
-    match text {
         "u8" => Some(Token::U8Keyword),
         "s8" => Some(Token::S8Keyword),
+        _ => None,
+    }
+}
+
+/// The keywords of three bytes.
+fn of_three(text: &str) -> Option<Token>
+    ensures { result ≡ find text.now (with_lengths 3 3 keywords) }
+{
+    match text {
+        "let" => Some(Token::LetKeyword),
+        "new" => Some(Token::NewKeyword),
+        "use" => Some(Token::UseKeyword),
         "u16" => Some(Token::U16Keyword),
         "s16" => Some(Token::S16Keyword),
         "u32" => Some(Token::U32Keyword),
@@ -72,55 +36,92 @@ fn number_type(text: &str) -> Option<Token>
     }
 }
 
-/// The other types that have a keyword.
-fn other_type(text: &str) -> Option<Token>
-    ensures { result ≡ find text.now other_types }
+/// The keywords of four bytes.
+fn of_four(text: &str) -> Option<Token>
+    ensures { result ≡ find text.now (with_lengths 4 4 keywords) }
 {
     match text {
+        "with" => Some(Token::WithKeyword),
+        "type" => Some(Token::TypeKeyword),
+        "enum" => Some(Token::EnumKeyword),
+        "func" => Some(Token::FuncKeyword),
         "char" => Some(Token::CharKeyword),
         "bool" => Some(Token::BoolKeyword),
-        "string" => Some(Token::StringKeyword),
-        "tuple" => Some(Token::TupleKeyword),
         "list" => Some(Token::ListKeyword),
+        _ => None,
+    }
+}
+
+/// The keywords of five bytes.
+fn of_five(text: &str) -> Option<Token>
+    ensures { result ≡ find text.now (with_lengths 5 5 keywords) }
+{
+    match text {
+        "world" => Some(Token::WorldKeyword),
+        "flags" => Some(Token::FlagsKeyword),
+        "async" => Some(Token::AsyncKeyword),
+        "tuple" => Some(Token::TupleKeyword),
+        _ => None,
+    }
+}
+
+/// The keywords of six bytes.
+fn of_six(text: &str) -> Option<Token>
+    ensures { result ≡ find text.now (with_lengths 6 6 keywords) }
+{
+    match text {
+        "import" => Some(Token::ImportKeyword),
+        "export" => Some(Token::ExportKeyword),
+        "record" => Some(Token::RecordKeyword),
+        "static" => Some(Token::StaticKeyword),
+        "string" => Some(Token::StringKeyword),
         "option" => Some(Token::OptionKeyword),
         "result" => Some(Token::ResultKeyword),
         "borrow" => Some(Token::BorrowKeyword),
         "stream" => Some(Token::StreamKeyword),
         "future" => Some(Token::FutureKeyword),
+        _ => None,
+    }
+}
+
+/// The keywords of seven bytes.
+fn of_seven(text: &str) -> Option<Token>
+    ensures { result ≡ find text.now (with_lengths 7 7 keywords) }
+{
+    match text {
+        "package" => Some(Token::PackageKeyword),
+        "targets" => Some(Token::TargetsKeyword),
+        "include" => Some(Token::IncludeKeyword),
+        "variant" => Some(Token::VariantKeyword),
+        _ => None,
+    }
+}
+
+/// The keywords of eight or more bytes.
+fn longer(text: &str) -> Option<Token>
+    ensures { result ≡ find text.now (with_lengths 8 13 keywords) }
+{
+    match text {
+        "interface" => Some(Token::InterfaceKeyword),
+        "resource" => Some(Token::ResourceKeyword),
+        "constructor" => Some(Token::ConstructorKeyword),
         "error-context" => Some(Token::ErrorContextKeyword),
         _ => None,
     }
 }
 
-/// The words that are no types.
-fn grammar_word(text: &str) -> Option<Token>
-    ensures { result ≡ find text.now grammar_words }
-{
-    match statement_word(text) {
-        Some(token) => Some(token),
-        None => match declaration_word(text) {
-            Some(token) => Some(token),
-            None => function_word(text),
-        },
-    }
-}
-
-/// The words that are types.
-fn type_word(text: &str) -> Option<Token>
-    ensures { result ≡ find text.now type_words }
-{
-    match number_type(text) {
-        Some(token) => Some(token),
-        None => other_type(text),
-    }
-}
-
-/// The keyword that a text is.
+/// The keyword that a text is. A text is compared with those of its length alone.
 pub(crate) fn keyword(text: &str) -> Option<Token>
     ensures { result ≡ find text.now keywords }
 {
-    match grammar_word(text) {
-        Some(token) => Some(token),
-        None => type_word(text),
+    match text.len() {
+        2 => of_two(text),
+        3 => of_three(text),
+        4 => of_four(text),
+        5 => of_five(text),
+        6 => of_six(text),
+        7 => of_seven(text),
+        8..=13 => longer(text),
+        _ => None,
     }
 }

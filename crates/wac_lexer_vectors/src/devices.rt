@@ -9,54 +9,98 @@ use std::process::Abort;
 use std::test::Fail;
 use wac_lexer::{Blocks, Bytes, Feed, In, Out, Sink, put_all};
 
-/// A writer or a reader of a text. It moves at most `width` bytes a call, fails once it has moved `room`, and returns
+/// What a device does at some of its calls in place of moving bytes. A call after that one continues with the text.
+#[derive(Clone, Copy)]
+enum Pause {
+    /// Nothing: it moves bytes at each call.
+    Never,
+    /// At the call of this number it fails by an error of this kind, or says that the text ends there.
+    At(usize, Option<ErrorKind>),
+    /// It fails at its first call, and at every second one behind that.
+    EverySecond,
+}
+
+/// A writer or a reader of a text. It moves at most `width` bytes a call, fails once it has moved `room`, and knows
 /// whether what was written is the text.
 #[derive(Drop)]
-struct Narrow<'a> {
+struct Device<'a> {
     text: &'a [u8],
     width: usize,
     room: usize,
-    moved: usize,
+    pause: Pause,
+    /// How many calls there were.
     calls: usize,
+    /// In how many of them it did not pause.
+    moves: usize,
+    moved: usize,
     is_text: bool,
 }
 
-impl<'a> Narrow<'a> {
+impl<'a> Device<'a> {
     fn new(text: &'a [u8], width: usize, room: usize) -> Self {
-        Narrow {
+        Device {
             text,
             width,
             room,
-            moved: 0,
+            pause: Pause::Never,
             calls: 0,
+            moves: 0,
+            moved: 0,
             is_text: true,
         }
     }
 
-    /// How many of so many bytes a call moves, if it does not fail.
-    fn step(&self, wanted: usize) -> io::Result<usize>
+    /// The same, which pauses.
+    fn pausing(self, pause: Pause) -> Self {
+        Device { pause, ..self }
+    }
+
+    /// What the call gives that is the last so far, where it moves nothing.
+    fn pauses(&self) -> Option<io::Result<usize>>
+        ensures { IfSome result (λ given. IfOk given (λ n. n ≡ 0)) }
+    {
+        match self.pause {
+            Pause::At(at, Some(kind)) if self.calls == at => Some(Err(io::Error::from(kind))),
+            Pause::At(at, None) if self.calls == at => Some(Ok(0)),
+            Pause::EverySecond if self.calls % 2 == 1 => {
+                Some(Err(io::Error::from(ErrorKind::BrokenPipe)))
+            }
+            _ => None,
+        }
+    }
+
+    /// Counts a call, and returns how many of so many bytes it moves, if it does not fail.
+    fn step(&mut self, wanted: usize) -> io::Result<usize>
         ensures { IfOk result (λ n. n ≤ wanted) }
     {
+        self.calls = self.calls.wrapping_add(1);
+        if let Some(given) = self.pauses() {
+            return given;
+        }
+        self.moves = self.moves.wrapping_add(1);
         if self.moved >= self.room {
             return Err(io::Error::from(ErrorKind::BrokenPipe));
         }
         Ok(wanted.min(self.width).min(self.room - self.moved))
     }
 
-    /// Asserts that the first so many bytes of the text were written, and in so many calls.
-    fn holds(&self, rt: &impl Abort, moved: usize, calls: usize) {
-        let found = (self.is_text, self.moved, self.calls);
-        assert!(rt; found == (true, moved, calls), "of {}", self.room);
+    /// What the text has behind the bytes that were moved.
+    fn rest(&self) -> &'a [u8] {
+        let (_, rest) = self.text.split_at(self.moved.min(self.text.len()));
+        rest
+    }
+
+    /// Whether the first so many bytes of the text were written, and in so many calls that did not pause.
+    fn holds(&self, moved: usize, calls: usize) -> bool {
+        self.is_text && self.moved == moved && self.moves == calls
     }
 }
 
-impl Write for Narrow<'_> {
+impl Write for Device<'_> {
     fn write(&mut self, buf: &[u8]) -> io::Result<usize> {
-        self.calls = self.calls.wrapping_add(1);
         let n = self.step(buf.len())?;
-        let (_, rest) = self.text.split_at(self.moved.min(self.text.len()));
         let (part, _) = buf.split_at(n);
-        if !rest.starts_with(part) {
+        if !self.rest().starts_with(part) {
             self.is_text = false;
         }
         self.moved = self.moved.wrapping_add(n);
@@ -68,9 +112,9 @@ impl Write for Narrow<'_> {
     }
 }
 
-impl Read for Narrow<'_> {
+impl Read for Device<'_> {
     fn read(&mut self, buf: &mut [u8]) -> io::Result<usize> {
-        let (_, rest) = self.text.split_at(self.moved.min(self.text.len()));
+        let rest = self.rest();
         let n = self.step(buf.len().min(rest.len()))?;
         let (part, _) = buf.split_at_mut(n);
         let (front, _) = rest.split_at(n);
@@ -80,211 +124,147 @@ impl Read for Narrow<'_> {
     }
 }
 
-/// A writer that takes nothing.
-#[derive(Drop)]
-struct Full;
-
-impl Write for Full {
-    fn write(&mut self, _buf: &[u8]) -> io::Result<usize> {
-        Ok(0)
-    }
-
-    fn flush(&mut self) -> io::Result<()> {
-        Ok(())
-    }
-}
-
-/// A writer and a reader of a text that moves nothing at one of its calls: it fails, or says that the text ends there.
-/// A call after that one would continue with the text.
-#[derive(Drop)]
-struct Pausing<'a> {
-    narrow: Narrow<'a>,
-    pause: Option<ErrorKind>,
-    at: usize,
-    calls: usize,
-}
-
-impl<'a> Pausing<'a> {
-    /// Pauses at the call of this number, by an error of this kind, or by reporting the end.
-    fn new(text: &'a [u8], pause: Option<ErrorKind>, at: usize) -> Self {
-        Pausing {
-            narrow: Narrow::new(text, usize::MAX, usize::MAX),
-            pause,
-            at,
-            calls: 0,
-        }
-    }
-
-    /// Counts a call, and returns what it gives where it is the one that moves nothing.
-    fn pauses(&mut self) -> Option<io::Result<usize>>
-        ensures { IfSome result (λ given. IfOk given (λ n. n ≡ 0)) }
-    {
-        self.calls = self.calls.wrapping_add(1);
-        if self.calls != self.at {
-            return None;
-        }
-        match self.pause {
-            Some(kind) => Some(Err(io::Error::from(kind))),
-            None => Some(Ok(0)),
-        }
-    }
-}
-
-impl Write for Pausing<'_> {
-    fn write(&mut self, buf: &[u8]) -> io::Result<usize> {
-        match self.pauses() {
-            Some(given) => given,
-            None => self.narrow.write(buf),
-        }
-    }
-
-    fn flush(&mut self) -> io::Result<()> {
-        Ok(())
-    }
-}
-
-impl Read for Pausing<'_> {
-    fn read(&mut self, buf: &mut [u8]) -> io::Result<usize> {
-        match self.pauses() {
-            Some(given) => given,
-            None => self.narrow.read(buf),
-        }
-    }
+/// A device of a text that moves nothing at the call of this number: it fails by this error, or reports the end.
+fn pausing(text: &[u8], kind: Option<ErrorKind>, at: usize) -> Device<'_> {
+    Device::new(text, usize::MAX, usize::MAX).pausing(Pause::At(at, kind))
 }
 
 /// Errors of a device. After the first of them std's own loops try again.
-const ERRORS: [ErrorKind; 2] = [ErrorKind::Interrupted, ErrorKind::BrokenPipe];
+static ERRORS: [ErrorKind; 2] = [ErrorKind::Interrupted, ErrorKind::BrokenPipe];
 
-/// Asserts that what is kept in memory is what was put.
-fn keeps(rt: &impl Abort, alloc: Global) {
+/// Whether what is kept in memory is what was put.
+fn keeps(alloc: Global) -> bool {
     let mut kept = Bytes::new(alloc);
-    assert!(rt; kept.put(b"ab") == Some(2), "ab");
-    assert!(rt; kept.put(b"") == Some(0), "nothing");
-    assert!(rt; kept.put(b"c") == Some(1), "c");
-    assert!(rt; kept.into_vec().as_slice() == b"abc".as_slice(), "abc");
+    let are_put = kept.put(b"ab") == Some(2)
+        && kept.put(b"") == Some(0)
+        && kept.put(b"c") == Some(1);
+    let bytes = kept.into_vec();
+    are_put && bytes.as_slice() == b"abc".as_slice()
 }
 
-/// Asserts that what is written is what was put.
-fn writes(rt: &impl Abort, alloc: Global) {
+/// Whether what is written is what was put.
+fn writes(alloc: Global) -> bool {
     let mut written = Vec::new(alloc);
     let mut out = Out::new(&mut written);
-    assert!(rt; out.put(b"let") == Some(3), "let");
-    assert!(rt; out.put(b"") == Some(0), "nothing");
-    assert!(rt; out.put(b" x") == Some(2), "x");
-    assert!(rt; written.as_slice() == b"let x".as_slice(), "let x");
+    let are_put = out.put(b"let") == Some(3)
+        && out.put(b"") == Some(0)
+        && out.put(b" x") == Some(2);
+    are_put && written.as_slice() == b"let x".as_slice()
 }
 
-/// Asserts that a writer that takes nothing fails, but for no bytes.
-fn is_full(rt: &impl Abort) {
-    let mut full = Out::new(Full);
-    assert!(rt; full.put(b"y") == None, "y");
-    assert!(rt; full.put(b"") == Some(0), "nothing");
+/// Whether a writer that takes nothing fails, but for no bytes.
+fn is_full() -> bool {
+    let mut full = Out::new(Device::new(b"", 0, usize::MAX));
+    full.put(b"y") == None && full.put(b"") == Some(0)
 }
 
-/// Asserts what a writer took that fails after so many bytes.
-fn fails_at(rt: &impl Abort, text: &[u8], room: usize) {
-    let mut writer = Narrow::new(text, 1, room);
+/// Whether a put of all fails, and one after it, where a writer fails after so many bytes; it took these.
+fn fails_at(text: &[u8], room: usize) -> bool {
+    let mut writer = Device::new(text, 1, room);
     let mut out = Out::new(&mut writer);
-    assert!(rt; !put_all(&mut out, text), "at {room}");
-    assert!(rt; out.put(b"y") == None, "of {room}");
-    writer.holds(rt, room, room.saturating_add(2));
+    let have_failed = !put_all(&mut out, text) && out.put(b"y") == None;
+    have_failed && writer.holds(room, room.saturating_add(2))
 }
 
-/// Asserts that a put which fails asks the writer once, and leaves it to the next put to try again.
-fn puts_once(rt: &impl Abort, pause: Option<ErrorKind>) {
-    let mut writer = Pausing::new(b"let x", pause, 2);
+/// Whether a put which fails asks the writer once, and leaves it to the next put to try again.
+fn puts_once(pause: Option<ErrorKind>) -> bool {
+    let mut writer = pausing(b"let x", pause, 2);
     let mut out = Out::new(&mut writer);
-    assert!(rt; out.put(b"let") == Some(3), "let");
-    assert!(rt; out.put(b" x") == None, "x");
-    assert!(rt; writer.calls == 2);
-    assert!(rt; Out::new(&mut writer).put(b" x") == Some(2), "x again");
-    assert!(rt; writer.calls == 3);
-    writer.narrow.holds(rt, 5, 2);
+    let are_put = out.put(b"let") == Some(3) && out.put(b" x") == None;
+    if !are_put || writer.calls != 2 {
+        return false;
+    }
+    let is_put = Out::new(&mut writer).put(b" x") == Some(2);
+    is_put && writer.calls == 3 && writer.holds(5, 2)
 }
 
-/// Asserts the same of a put of all, and of blocks.
-fn puts_all_once(rt: &impl Abort, pause: Option<ErrorKind>) {
-    let mut writer = Pausing::new(b"let x", pause, 1);
-    assert!(rt; !put_all(&mut Out::new(&mut writer), b"let x"), "all");
-    assert!(rt; writer.calls == 1);
-    let mut writer = Pausing::new(b"let x", pause, 1);
+/// Whether a put of all asks it once.
+fn puts_all_once(pause: Option<ErrorKind>) -> bool {
+    let mut writer = pausing(b"let x", pause, 1);
+    let is_put = put_all(&mut Out::new(&mut writer), b"let x");
+    !is_put && writer.calls == 1
+}
+
+/// Whether blocks ask it once.
+fn passes_once(pause: Option<ErrorKind>) -> bool {
+    let mut writer = pausing(b"let x", pause, 1);
     let mut blocks = Blocks::new(Out::new(&mut writer));
-    assert!(rt; put_all(&mut blocks, b"let x"), "held");
-    assert!(rt; !blocks.flush(), "passed on");
-    assert!(rt; writer.calls == 1);
-    writer.narrow.holds(rt, 0, 0);
+    let are_held = put_all(&mut blocks, b"let x") && !blocks.flush();
+    are_held && writer.calls == 1 && writer.holds(0, 0)
+}
+
+/// Asserts it of puts, of puts of all, and of blocks.
+fn is_asked_once(rt: &impl Abort, pause: Option<ErrorKind>) {
+    assert!(rt; puts_once(pause), "put");
+    assert!(rt; puts_all_once(pause), "put all");
+    assert!(rt; passes_once(pause), "blocks");
 }
 
 #[test]
 fn sinks_do_not_try_again(rt: HostRuntime) {
-    for kind in ERRORS {
-        puts_once(&rt, Some(kind));
-        puts_all_once(&rt, Some(kind));
+    for kind in &ERRORS {
+        is_asked_once(&rt, Some(*kind));
     }
-    puts_once(&rt, None);
-    puts_all_once(&rt, None);
+    is_asked_once(&rt, None);
 }
 
 #[test]
 fn sinks(rt: HostRuntime) {
-    keeps(&rt, rt.alloc());
-    writes(&rt, rt.alloc());
-    is_full(&rt);
+    assert!(rt; keeps(rt.alloc()), "memory");
+    assert!(rt; writes(rt.alloc()), "a vector");
+    assert!(rt; is_full(), "a full writer");
     for room in 0..5 {
-        fails_at(&rt, b"let x", room);
+        assert!(rt; fails_at(b"let x", room), "at {room}");
     }
 }
 
-/// Asserts that a feed gives its text in parts.
-fn gives(rt: &impl Abort, text: &[u8]) {
+/// Whether a feed gives its text in parts.
+fn gives(text: &[u8]) -> bool {
     let mut feed = In::new(text);
     let mut part = [0; 3];
-    assert!(rt; feed.take(&mut []) == Some(0), "nothing");
-    assert!(rt; feed.take(&mut part) == Some(3), "let");
-    assert!(rt; part == *b"let", "let");
-    assert!(rt; feed.take(&mut part) == Some(2), "x");
-    assert!(rt; part == *b" xt", "x");
-    assert!(rt; feed.take(&mut part) == Some(0), "the end");
+    let first = feed.take(&mut []) == Some(0) && feed.take(&mut part) == Some(3) && part == *b"let";
+    let second = feed.take(&mut part) == Some(2) && part == *b" xt";
+    first && second && feed.take(&mut part) == Some(0)
 }
 
-/// Asserts that a feed gives each byte up to a failure, and then fails.
-fn gives_up_to(rt: &impl Abort, text: &[u8], room: usize) {
-    let mut feed = In::new(Narrow::new(text, 1, room));
+/// Whether a feed gives each byte up to a failure, and then fails.
+fn gives_up_to(text: &[u8], room: usize) -> bool {
+    let mut feed = In::new(Device::new(text, 1, room));
     let mut part = [0; 3];
     for byte in text.iter().take(room) {
-        assert!(rt; feed.take(&mut part) == Some(1), "of {room}");
-        assert!(rt; part[0] == *byte, "of {room}");
+        if feed.take(&mut part) != Some(1) || part[0] != *byte {
+            return false;
+        }
     }
-    assert!(rt; feed.take(&mut part) == None, "of {room}");
+    feed.take(&mut part) == None
 }
 
-/// Asserts that a take which fails, or finds the end, asks the reader once, and leaves it to the next take to retry.
-fn takes_once(rt: &impl Abort, pause: Option<ErrorKind>, taken: Option<usize>) {
-    let mut reader = Pausing::new(b"let x", pause, 2);
+/// Whether a take which fails, or finds the end, asks the reader once, and leaves it to the next take to retry.
+fn takes_once(pause: Option<ErrorKind>, taken: Option<usize>) -> bool {
+    let mut reader = pausing(b"let x", pause, 2);
     let mut part = [0; 3];
     let mut feed = In::new(&mut reader);
-    assert!(rt; feed.take(&mut part) == Some(3), "let");
-    assert!(rt; feed.take(&mut part) == taken, "nothing");
-    assert!(rt; reader.calls == 2);
-    assert!(rt; part == *b"let", "of {}", reader.calls);
-    assert!(rt; In::new(&mut reader).take(&mut part) == Some(2), "x");
-    assert!(rt; reader.calls == 3);
-    assert!(rt; part == *b" xt", "x");
+    let are_taken = feed.take(&mut part) == Some(3) && feed.take(&mut part) == taken;
+    if !are_taken || reader.calls != 2 || part != *b"let" {
+        return false;
+    }
+    let is_taken = In::new(&mut reader).take(&mut part) == Some(2);
+    is_taken && reader.calls == 3 && part == *b" xt"
 }
 
 #[test]
 fn feeds_do_not_try_again(rt: HostRuntime) {
-    for kind in ERRORS {
-        takes_once(&rt, Some(kind), None);
+    for kind in &ERRORS {
+        assert!(rt; takes_once(Some(*kind), None), "a failure");
     }
-    takes_once(&rt, None, Some(0));
+    assert!(rt; takes_once(None, Some(0)), "an end");
 }
 
 #[test]
 fn feeds(rt: HostRuntime) {
-    gives(&rt, b"let x");
+    assert!(rt; gives(b"let x"), "all");
     for room in 0..5 {
-        gives_up_to(&rt, b"let x", room);
+        assert!(rt; gives_up_to(b"let x", room), "of {room}");
     }
 }
 
@@ -298,7 +278,7 @@ fn bytes(alloc: Global, len: usize) -> Result<Vec<u8>, AllocError> {
 }
 
 /// Puts a text into blocks over a writer, in parts of a length, and returns whether the writer took all of it.
-fn passes(writer: &mut Narrow<'_>, text: &[u8], part: usize) -> bool
+fn passes(writer: &mut Device<'_>, text: &[u8], part: usize) -> bool
     requires { 0 < part }
 {
     let mut blocks = Blocks::new(Out::new(writer));
@@ -310,61 +290,48 @@ fn passes(writer: &mut Narrow<'_>, text: &[u8], part: usize) -> bool
     blocks.flush()
 }
 
-/// Asserts that a text arrives whole, in so many calls.
-fn blocks_arrive(rt: &impl Abort, text: &[u8]) {
-    for (part, width, calls) in [
-        (1, usize::MAX, 3),
-        (100, usize::MAX, 3),
-        (16_400, usize::MAX, 3),
-        (7, 1, 16_400),
-        (8192, 3, 5468),
-    ] {
-        let mut writer = Narrow::new(text, width, usize::MAX);
-        assert!(rt; passes(&mut writer, text, part), "in parts of {part}");
-        writer.holds(rt, text.len(), calls);
-    }
-    let mut writer = Narrow::new(text, 1, 0);
-    assert!(rt; passes(&mut writer, b"", 1));
-    writer.holds(rt, 0, 0);
+/// Whether a text arrives whole, in so many calls of a writer of this width.
+fn arrives(text: &[u8], part: usize, width: usize, calls: usize) -> bool
+    requires { 0 < part }
+{
+    let mut writer = Device::new(text, width, usize::MAX);
+    passes(&mut writer, text, part) && writer.holds(text.len(), calls)
 }
 
-/// Asserts what arrives where the writer fails, at each byte in turn.
-fn blocks_arrive_up_to_a_failure(rt: &impl Abort, text: &[u8]) {
+/// Whether it arrives in parts of several lengths.
+fn blocks_arrive(text: &[u8]) -> bool {
+    arrives(text, 1, usize::MAX, 3)
+        && arrives(text, 100, usize::MAX, 3)
+        && arrives(text, 16_400, usize::MAX, 3)
+        && arrives(text, 7, 1, 16_400)
+        && arrives(text, 8192, 3, 5468)
+}
+
+/// Whether no call is made for no bytes.
+fn nothing_arrives(text: &[u8]) -> bool {
+    let mut writer = Device::new(text, 1, 0);
+    passes(&mut writer, b"", 1) && writer.holds(0, 0)
+}
+
+/// Whether the bytes before a failure arrive.
+fn arrives_up_to(text: &[u8], room: usize) -> bool {
+    let mut writer = Device::new(text, usize::MAX, room);
+    !passes(&mut writer, text, 4096) && writer.holds(room, room.div_ceil(8192).wrapping_add(1))
+}
+
+/// Whether they do so where the writer fails at each byte in turn.
+fn blocks_arrive_up_to_a_failure(text: &[u8]) -> bool {
     for room in 0..text.len() {
-        let mut writer = Narrow::new(text, usize::MAX, room);
-        assert!(rt; !passes(&mut writer, text, 4096), "at {room}");
-        writer.holds(rt, room, room.div_ceil(8192) + 1);
-    }
-}
-
-/// A writer of a text that fails at every second call, and takes three bytes at the others.
-#[derive(Drop)]
-struct Faltering<'a> {
-    narrow: Narrow<'a>,
-    fails: bool,
-}
-
-impl Write for Faltering<'_> {
-    fn write(&mut self, buf: &[u8]) -> io::Result<usize> {
-        self.fails = !self.fails;
-        if self.fails {
-            return Err(io::Error::from(ErrorKind::BrokenPipe));
+        if !arrives_up_to(text, room) {
+            return false;
         }
-        self.narrow.write(buf)
     }
-
-    fn flush(&mut self) -> io::Result<()> {
-        Ok(())
-    }
+    true
 }
 
-/// Asserts that failures lose no byte and double none.
-fn blocks_pass_failures(rt: &impl Abort, text: &[u8]) {
-    let mut writer = Faltering {
-        narrow: Narrow::new(text, 3, usize::MAX),
-        fails: false,
-    };
-    let mut blocks = Blocks::new(Out::new(&mut writer));
+/// Puts a text into blocks and passes it on, whatever fails, and returns whether the last call succeeded.
+fn put_and_flush(writer: &mut Device<'_>, text: &[u8]) -> bool {
+    let mut blocks = Blocks::new(Out::new(writer));
     let mut rest = text;
     let mut flushed = false;
     for _ in 0..10_000 {
@@ -375,15 +342,21 @@ fn blocks_pass_failures(rt: &impl Abort, text: &[u8]) {
             rest = after;
         }
     }
-    assert!(rt; flushed);
-    writer.narrow.holds(rt, text.len(), 5468);
+    flushed
+}
+
+/// Whether failures lose no byte and double none.
+fn blocks_pass_failures(text: &[u8]) -> bool {
+    let mut writer = Device::new(text, 3, usize::MAX).pausing(Pause::EverySecond);
+    put_and_flush(&mut writer, text) && writer.holds(text.len(), 5468)
 }
 
 #[test]
 fn blocks(rt: HostRuntime) -> Result<(), Fail> {
     let text = bytes(rt.alloc(), 16_400)?;
-    blocks_arrive(&rt, &text);
-    blocks_arrive_up_to_a_failure(&rt, &text);
-    blocks_pass_failures(&rt, &text);
+    assert!(rt; blocks_arrive(&text), "whole");
+    assert!(rt; nothing_arrives(&text), "nothing");
+    assert!(rt; blocks_arrive_up_to_a_failure(&text), "up to a failure");
+    assert!(rt; blocks_pass_failures(&text), "behind failures");
     Ok(())
 }

@@ -7,20 +7,36 @@ use wac_lexer::{Error, Lexer, LexerResult, SourceSpan, Token};
 
 type Row = (LexerResult<Token>, usize, usize);
 
-/// Asserts that the items of the source are these, each with its offset and length.
-fn items_are(rt: &impl Abort, source: &str, rows: &[Row]) {
+/// Whether the items of the source are these, each with its offset and length.
+fn has_items(source: &str, rows: &[Row]) -> bool {
     let Ok(mut lexer) = Lexer::new(source) else {
-        panic!(rt; "{source} is refused");
+        return false;
     };
     for (item, offset, len) in rows {
-        let item = Some((*item, SourceSpan::new(*offset, *len)));
-        assert!(rt; lexer.next() == item, "of {source}");
+        if lexer.next() != Some((*item, SourceSpan::new(*offset, *len))) {
+            return false;
+        }
     }
-    assert!(rt; lexer.next() == None, "of {source}");
+    lexer.next() == None
+}
+
+/// Asserts that each text has the items of its row.
+fn items_are(rt: &impl Abort, rows: &[(&str, &[Row])]) {
+    for (source, items) in rows {
+        assert!(rt; has_items(source, items), "of {source}");
+    }
+}
+
+/// Asserts that each text is rejected, for its first fault.
+fn are_refused(rt: &impl Abort, rows: &[(&str, Error, usize, usize)]) {
+    for (source, fault, offset, len) in rows {
+        let fault = Some((*fault, SourceSpan::new(*offset, *len)));
+        assert!(rt; Lexer::new(source).err() == fault, "of {source}");
+    }
 }
 
 /// Texts and their items.
-const TEXTS: [(&str, &[Row]); 18] = [
+static TEXTS: [(&str, &[Row]); 18] = [
     (
         "fooBar",
         &[
@@ -114,7 +130,7 @@ const TEXTS: [(&str, &[Row]); 18] = [
 ];
 
 /// Texts, and the first rejected character of each.
-const REFUSED: [(&str, Error, usize, usize); 5] = [
+static REFUSED: [(&str, Error, usize, usize); 5] = [
     (
         "package a:b; x // \u{202a}",
         Error::DisallowedBidirectionalOverride('\u{202a}'),
@@ -230,19 +246,23 @@ fn nested(alloc: Global) -> Result<String, AllocError> {
     Ok(source)
 }
 
+/// The item behind a comment that nests so deep.
+static BEHIND: [Row; 1] = [(Ok(Token::Ident), 800, 1)];
+
+/// Asserts the items of a deep comment, and of one with an item behind it.
+fn deep_comments(rt: &impl Abort, alloc: Global) -> Result<(), AllocError> {
+    let mut source = nested(alloc)?;
+    assert!(rt; has_items(source.as_str(), &[]), "a deep comment");
+    source.push_str("x")?;
+    assert!(rt; has_items(source.as_str(), &BEHIND), "behind it");
+    Ok(())
+}
+
 #[test]
 fn items_of_texts(rt: HostRuntime) -> Result<(), Fail> {
-    for (source, rows) in TEXTS {
-        items_are(&rt, source, rows);
-    }
-    let mut source = nested(rt.alloc())?;
-    items_are(&rt, source.as_str(), &[]);
-    source.push_str("x")?;
-    items_are(&rt, source.as_str(), &[(Ok(Token::Ident), 800, 1)]);
-    for (source, fault, offset, len) in REFUSED {
-        let fault = Some((fault, SourceSpan::new(offset, len)));
-        assert!(rt; Lexer::new(source).err() == fault, "of {source}");
-    }
+    items_are(&rt, &TEXTS);
+    deep_comments(&rt, rt.alloc())?;
+    are_refused(&rt, &REFUSED);
     assert!(rt; Lexer::new("\t\r\n\u{a0}\u{202f}").is_ok());
     Ok(())
 }

@@ -2,7 +2,6 @@
 
 use std::alloc::Global;
 use std::process::Abort;
-use std::test::Fail;
 use wac_lexer::Lexer;
 
 /// A document with each kind of statement, and docs before each.
@@ -39,7 +38,7 @@ export x as "foo";
 const ITEMS: usize = 61;
 
 /// Short sources, and how many items each has: none, tokens, faults, and a fault that takes all that is left.
-const SHORT: [(&str, usize); 6] = [
+static SHORT: [(&str, usize); 6] = [
     ("", 0),
     (" // blank\n", 0),
     ("a", 1),
@@ -48,51 +47,55 @@ const SHORT: [(&str, usize); 6] = [
     ("a b c /* d", 4),
 ];
 
-/// Asserts how many scans there were, of a clone too.
-fn scans_are(rt: &impl Abort, lexer: &Lexer, scans: usize, place: &str) {
-    assert!(rt; lexer.scans() == scans, "of {place}");
-    if let Ok(copy) = lexer.clone() {
-        assert!(rt; copy.scans() == scans, "of {place}");
-    }
+/// Whether there were so many scans, of a clone too.
+fn has_scans(lexer: &Lexer, scans: usize) -> bool {
+    let of_clone = match lexer.clone() {
+        Ok(copy) => copy.scans(),
+        Err(_) => scans,
+    };
+    lexer.scans() == scans && of_clone == scans
 }
 
-/// Asserts how many scans there were, and that peeking, reading docs and cloning are none.
-fn has_scanned(rt: &impl Abort, alloc: Global, lexer: &Lexer, scans: usize, place: &str) {
-    scans_are(rt, lexer, scans, place);
+/// Whether there were so many scans, and peeking, reading docs and cloning are none.
+fn has_scanned(alloc: Global, lexer: &Lexer, scans: usize) -> bool {
+    let before = has_scans(lexer, scans);
     lexer.peek();
     lexer.peek2();
     let _ = lexer.comments(alloc).is_ok();
-    scans_are(rt, lexer, scans, place);
+    before && has_scans(lexer, scans)
 }
 
-/// Reads a source of so many items, and asserts that each was scanned once: two ahead, and the end once.
-fn is_scanned_once(rt: &impl Abort, alloc: Global, source: &str, items: usize) {
+/// Whether a lexer of so many items is at their end, where each was scanned once, and the end once.
+fn ends(alloc: Global, lexer: &mut Lexer, items: usize) -> bool {
+    lexer.next() == None && has_scanned(alloc, lexer, items.saturating_add(1))
+}
+
+/// Whether each item of a source of so many is scanned once: two ahead, and the end once.
+fn is_scanned_once(alloc: Global, source: &str, items: usize) -> bool {
     let Ok(mut lexer) = Lexer::new(source) else {
-        panic!(rt; "{source} is refused");
+        return false;
     };
-    has_scanned(
-        rt,
-        alloc,
-        &lexer,
-        items.saturating_add(1).min(2),
-        "at the start",
-    );
-    for answered in 0..items {
-        assert!(rt; lexer.next().is_some(), "{source} has no item {answered}");
-        let scans = answered.saturating_add(3).min(items.saturating_add(1));
-        has_scanned(rt, alloc, &lexer, scans, "behind an item");
+    if !has_scanned(alloc, &lexer, items.saturating_add(1).min(2)) {
+        return false;
     }
-    for _ in 0..2 {
-        assert!(rt; lexer.next() == None, "of {source}");
-        has_scanned(rt, alloc, &lexer, items.saturating_add(1), "at the end");
+    for answered in 0..items {
+        let scans = answered.saturating_add(3).min(items.saturating_add(1));
+        if lexer.next().is_none() || !has_scanned(alloc, &lexer, scans) {
+            return false;
+        }
+    }
+    ends(alloc, &mut lexer, items) && ends(alloc, &mut lexer, items)
+}
+
+/// Asserts it of each source.
+fn are_scanned_once(rt: &impl Abort, alloc: Global, rows: &[(&str, usize)]) {
+    for (source, items) in rows {
+        assert!(rt; is_scanned_once(alloc, source, *items), "of {source}");
     }
 }
 
 #[test]
-fn each_item_is_scanned_once(rt: HostRuntime) -> Result<(), Fail> {
-    is_scanned_once(&rt, rt.alloc(), DOCUMENT, ITEMS);
-    for (source, items) in SHORT {
-        is_scanned_once(&rt, rt.alloc(), source, items);
-    }
-    Ok(())
+fn each_item_is_scanned_once(rt: HostRuntime) {
+    assert!(rt; is_scanned_once(rt.alloc(), DOCUMENT, ITEMS), "a document");
+    are_scanned_once(&rt, rt.alloc(), &SHORT);
 }

@@ -1,11 +1,12 @@
 //! Names of tokens, and texts of faults.
 
-use std::alloc::Global;
+use std::alloc::{AllocError, Global};
+use std::fmt::Display;
 use std::process::Abort;
 use std::test::Fail;
 use wac_lexer::{Error, Lexer, SourceSpan, Token};
 
-const KEYWORDS: [(&str, Token); 43] = [
+static KEYWORDS: [(&str, Token); 43] = [
     ("import", Token::ImportKeyword),
     ("with", Token::WithKeyword),
     ("type", Token::TypeKeyword),
@@ -51,7 +52,7 @@ const KEYWORDS: [(&str, Token); 43] = [
     ("error-context", Token::ErrorContextKeyword),
 ];
 
-const SYMBOLS: [(&str, Token); 18] = [
+static SYMBOLS: [(&str, Token); 18] = [
     (";", Token::Semicolon),
     ("{", Token::OpenBrace),
     ("}", Token::CloseBrace),
@@ -72,28 +73,38 @@ const SYMBOLS: [(&str, Token); 18] = [
     ("@", Token::At),
 ];
 
-/// Asserts that a text is one token, which is named by the text in quotes and a word for its kind.
-fn is_word(
-    rt: &impl Abort,
-    alloc: Global,
-    text: &str,
-    token: Token,
-    kind: &str,
-) -> Result<(), Fail> {
+/// Whether a text is this token and no other.
+fn is_token(text: &str, token: Token) -> bool {
     let Ok(mut lexer) = Lexer::new(text) else {
-        panic!(rt; "{text} is refused");
+        return false;
     };
     let item = Some((Ok(token), SourceSpan::new(0, text.len())));
-    assert!(rt; lexer.next() == item, "of {text}");
-    assert!(rt; lexer.next() == None, "of {text}");
+    lexer.next() == item && lexer.next() == None
+}
+
+/// Whether a token is named by the text in quotes and a word for its kind.
+fn is_named(alloc: Global, text: &str, token: Token, kind: &str) -> Result<bool, AllocError> {
     let name = format!(in alloc; "{token}")?;
     let expected = format!(in alloc; "`{text}`{kind}")?;
-    assert!(rt; name.as_str() == expected.as_str(), "{name} of {text}");
+    Ok(name.as_str() == expected.as_str())
+}
+
+/// Asserts that each text is one token, which is named so.
+fn are_words(
+    rt: &impl Abort,
+    alloc: Global,
+    rows: &[(&str, Token)],
+    kind: &str,
+) -> Result<(), AllocError> {
+    for (text, token) in rows {
+        let is_word = is_token(text, *token) && is_named(alloc, text, *token, kind)?;
+        assert!(rt; is_word, "of {text}");
+    }
     Ok(())
 }
 
 /// Other tokens.
-const TOKENS: [(Token, &str); 6] = [
+static TOKENS: [(Token, &str); 6] = [
     (Token::Comment, "comment"),
     (Token::BlockComment, "comment"),
     (Token::Ident, "identifier"),
@@ -102,7 +113,7 @@ const TOKENS: [(Token, &str); 6] = [
     (Token::PackagePath, "package path"),
 ];
 
-const FAULTS: [(Error, &str); 6] = [
+static FAULTS: [(Error, &str); 6] = [
     (Error::UnexpectedToken, "unexpected token was encountered"),
     (
         Error::UnterminatedString,
@@ -126,44 +137,40 @@ const FAULTS: [(Error, &str); 6] = [
     ),
 ];
 
-/// Asserts the names of tokens that are no words of their own.
-fn tokens_are_named(rt: &impl Abort, alloc: Global) -> Result<(), Fail> {
-    for (token, expected) in TOKENS {
-        let text = format!(in alloc; "{token}")?;
-        assert!(rt; text.as_str() == expected, "{text} of {expected}");
-    }
-    Ok(())
+/// Whether the text of a value is these words.
+fn is_shown(alloc: Global, value: &impl Display, words: &str) -> Result<bool, AllocError> {
+    let text = value.to_string(alloc)?;
+    Ok(text.as_str() == words)
 }
 
-/// Asserts the texts of faults.
-fn faults_are_told(rt: &impl Abort, alloc: Global) -> Result<(), Fail> {
-    for (fault, expected) in FAULTS {
-        let text = format!(in alloc; "{fault}")?;
-        assert!(rt; text.as_str() == expected, "{text} of {expected}");
+/// Asserts that the text of each value is what is written beside it.
+fn are_shown<D: Display>(
+    rt: &impl Abort,
+    alloc: Global,
+    rows: &[(D, &str)],
+) -> Result<(), AllocError> {
+    for (value, words) in rows {
+        assert!(rt; is_shown(alloc, value, words)?, "of {words}");
     }
     Ok(())
 }
 
 #[test]
 fn keywords(rt: HostRuntime) -> Result<(), Fail> {
-    for (text, token) in KEYWORDS {
-        is_word(&rt, rt.alloc(), text, token, " keyword")?;
-    }
+    are_words(&rt, rt.alloc(), &KEYWORDS, " keyword")?;
     Ok(())
 }
 
 #[test]
 fn symbols(rt: HostRuntime) -> Result<(), Fail> {
-    for (text, token) in SYMBOLS {
-        is_word(&rt, rt.alloc(), text, token, "")?;
-    }
+    are_words(&rt, rt.alloc(), &SYMBOLS, "")?;
     Ok(())
 }
 
 #[test]
 fn names_and_messages(rt: HostRuntime) -> Result<(), Fail> {
-    tokens_are_named(&rt, rt.alloc())?;
-    faults_are_told(&rt, rt.alloc())?;
+    are_shown(&rt, rt.alloc(), &TOKENS)?;
+    are_shown(&rt, rt.alloc(), &FAULTS)?;
     assert!(rt; Error::default() == Error::UnexpectedToken, "default");
     assert!(rt; Error::from(()) == Error::UnexpectedToken, "from");
     Ok(())

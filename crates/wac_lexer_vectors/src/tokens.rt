@@ -3,20 +3,21 @@
 use std::process::Abort;
 use wac_lexer::{Lexer, SourceSpan, Token};
 
-/// Asserts that the items of a text are these tokens.
-fn tokens_are(rt: &impl Abort, source: &str, tokens: &[(Token, usize, usize)]) {
+/// Whether the items of a text are these tokens.
+fn has_tokens(source: &str, tokens: &[(Token, usize, usize)]) -> bool {
     let Ok(mut lexer) = Lexer::new(source) else {
-        panic!(rt; "{source} is refused");
+        return false;
     };
     for (token, offset, len) in tokens {
-        let span = SourceSpan::new(*offset, *len);
-        assert!(rt; lexer.next() == Some((Ok(*token), span)), "of {source}");
+        if lexer.next() != Some((Ok(*token), SourceSpan::new(*offset, *len))) {
+            return false;
+        }
     }
-    assert!(rt; lexer.next() == None, "of {source}");
+    lexer.next() == None
 }
 
 /// Texts, and their tokens.
-const TEXTS: [(&str, &[(Token, usize, usize)]); 5] = [
+static TEXTS: [(&str, &[(Token, usize, usize)]); 5] = [
     // comments
     (
         "\n            //\n            // comment\n            /**/\n            /* a block comment */\n            /* a multi\n               line comment\n             */\n            /* a /* /* deeply */ nested */ block comment */\n            ",
@@ -164,7 +165,7 @@ const TEXTS: [(&str, &[(Token, usize, usize)]); 5] = [
 ];
 
 /// Package paths, each with where it is in the text of them all.
-const PATHS: [(&str, usize); 33] = [
+static PATHS: [(&str, usize); 33] = [
     ("foo:bar/baz/qux/jam", 1),
     ("foo:bar:baz:qux/jam", 21),
     ("foo:bar/baz@0.0.4", 41),
@@ -206,60 +207,65 @@ const PATHS: [(&str, usize); 33] = [
     ("foo:bar/baz@1.0.0-0A.is.legal", 993),
 ];
 
-/// Asserts that the paths are tokens where they are.
-fn paths_are_tokens(rt: &impl Abort) {
-    let Ok(mut lexer) = Lexer::new(
-        "\n\
-        foo:bar/baz/qux/jam\n\
-        foo:bar:baz:qux/jam\n\
-        foo:bar/baz@0.0.4\n\
-        foo:bar/baz@1.2.3\n\
-        foo:bar/baz@10.20.30\n\
-        foo:bar/baz@1.1.2-prerelease+meta\n\
-        foo:bar/baz@1.1.2+meta\n\
-        foo:bar/baz@1.1.2+meta-valid\n\
-        foo:bar/baz@1.0.0-alpha\n\
-        foo:bar/baz@1.0.0-beta\n\
-        foo:bar/baz@1.0.0-alpha.beta\n\
-        foo:bar/baz@1.0.0-alpha.beta.1\n\
-        foo:bar/baz@1.0.0-alpha.1\n\
-        foo:bar/baz@1.0.0-alpha0.valid\n\
-        foo:bar/baz@1.0.0-alpha.0valid\n\
-        foo:bar/baz@1.0.0-alpha-a.b-c-somethinglong+build.1-aef.1-its-okay\n\
-        foo:bar/baz@1.0.0-rc.1+build.1\n\
-        foo:bar/baz@2.0.0-rc.1+build.123\n\
-        foo:bar/baz@1.2.3-beta\n\
-        foo:bar/baz@10.2.3-DEV-SNAPSHOT\n\
-        foo:bar/baz@1.2.3-SNAPSHOT-123\n\
-        foo:bar/baz@1.0.0\n\
-        foo:bar/baz@2.0.0\n\
-        foo:bar/baz@1.1.7\n\
-        foo:bar/baz@2.0.0+build.1848\n\
-        foo:bar/baz@2.0.1-alpha.1227\n\
-        foo:bar/baz@1.0.0-alpha+beta\n\
-        foo:bar/baz@1.2.3----RC-SNAPSHOT.12.9.1--.12+788\n\
-        foo:bar/baz@1.2.3----R-S.12.9.1--.12+meta\n\
-        foo:bar/baz@1.2.3----RC-SNAPSHOT.12.9.1--.12\n\
-        foo:bar/baz@1.0.0+0.build.1-rc.10000aaa-kk-0.1\n\
-        foo:bar/baz@99999999999999999999999.999999999999999999.99999999999999999\n\
-        foo:bar/baz@1.0.0-0A.is.legal\n",
-    ) else {
-        panic!(rt; "refused");
+/// The text of them all.
+static ALL_PATHS: &str = "\n\
+    foo:bar/baz/qux/jam\n\
+    foo:bar:baz:qux/jam\n\
+    foo:bar/baz@0.0.4\n\
+    foo:bar/baz@1.2.3\n\
+    foo:bar/baz@10.20.30\n\
+    foo:bar/baz@1.1.2-prerelease+meta\n\
+    foo:bar/baz@1.1.2+meta\n\
+    foo:bar/baz@1.1.2+meta-valid\n\
+    foo:bar/baz@1.0.0-alpha\n\
+    foo:bar/baz@1.0.0-beta\n\
+    foo:bar/baz@1.0.0-alpha.beta\n\
+    foo:bar/baz@1.0.0-alpha.beta.1\n\
+    foo:bar/baz@1.0.0-alpha.1\n\
+    foo:bar/baz@1.0.0-alpha0.valid\n\
+    foo:bar/baz@1.0.0-alpha.0valid\n\
+    foo:bar/baz@1.0.0-alpha-a.b-c-somethinglong+build.1-aef.1-its-okay\n\
+    foo:bar/baz@1.0.0-rc.1+build.1\n\
+    foo:bar/baz@2.0.0-rc.1+build.123\n\
+    foo:bar/baz@1.2.3-beta\n\
+    foo:bar/baz@10.2.3-DEV-SNAPSHOT\n\
+    foo:bar/baz@1.2.3-SNAPSHOT-123\n\
+    foo:bar/baz@1.0.0\n\
+    foo:bar/baz@2.0.0\n\
+    foo:bar/baz@1.1.7\n\
+    foo:bar/baz@2.0.0+build.1848\n\
+    foo:bar/baz@2.0.1-alpha.1227\n\
+    foo:bar/baz@1.0.0-alpha+beta\n\
+    foo:bar/baz@1.2.3----RC-SNAPSHOT.12.9.1--.12+788\n\
+    foo:bar/baz@1.2.3----R-S.12.9.1--.12+meta\n\
+    foo:bar/baz@1.2.3----RC-SNAPSHOT.12.9.1--.12\n\
+    foo:bar/baz@1.0.0+0.build.1-rc.10000aaa-kk-0.1\n\
+    foo:bar/baz@99999999999999999999999.999999999999999999.99999999999999999\n\
+    foo:bar/baz@1.0.0-0A.is.legal\n";
+
+/// Whether the items of a text are these paths, each where it is.
+fn has_paths(source: &str, paths: &[(&str, usize)]) -> bool {
+    let Ok(mut lexer) = Lexer::new(source) else {
+        return false;
     };
-    for (path, offset) in &PATHS {
+    for (path, offset) in paths {
         let span = SourceSpan::new(*offset, path.len());
-        assert!(rt;
-            lexer.next() == Some((Ok(Token::PackagePath), span)),
-            "of {path}"
-        );
+        if lexer.next() != Some((Ok(Token::PackagePath), span)) {
+            return false;
+        }
     }
-    assert!(rt; lexer.next() == None, "the end");
+    lexer.next() == None
+}
+
+/// Asserts that each text has the tokens of its row.
+fn tokens_are(rt: &impl Abort, rows: &[(&str, &[(Token, usize, usize)])]) {
+    for (source, tokens) in rows {
+        assert!(rt; has_tokens(source, tokens), "of {source}");
+    }
 }
 
 #[test]
 fn tokens_of_texts(rt: HostRuntime) {
-    for (source, tokens) in TEXTS {
-        tokens_are(&rt, source, tokens);
-    }
-    paths_are_tokens(&rt);
+    tokens_are(&rt, &TEXTS);
+    assert!(rt; has_paths(ALL_PATHS, &PATHS), "paths");
 }

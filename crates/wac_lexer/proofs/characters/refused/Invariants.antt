@@ -1,14 +1,14 @@
-use Rattle.std.proofs.Common.{◌≡◌}
-use Rattle.std.specs.Str.{chars, IsUtf8}
-use Rattle.std.specs.Str.Iter.{char_indices_rest, char_indices_offset}
+use Rattle.std.proofs.Common.{◌≡◌, ◌-◌, length, drop}
+use Rattle.std.specs.Str.{IsCharBoundary, chars}
 use Rattle.wac_lexer.specs.Characters.{refused, refused_from}
 use Rattle.wac_lexer.proofs.characters.refused.Given as goal
 
-abbrev pub invariant-loop-offset : goal.invariant-loop-offset
-invariant-loop-offset l =
+abbrev pub invariant-loop-place : goal.invariant-loop-place
+invariant-loop-place l =
     record {
-      can : goal.iterator-loop-offset.can_next l.offset-iterator;
-      finite : goal.iterator-loop-offset.is_finite l.offset-iterator;
-      utf8 : IsUtf8 (char_indices_rest l.offset-iterator);
-      left : refused_from (char_indices_offset l.offset-iterator) (chars (char_indices_rest l.offset-iterator)) ≡ refused l.source;
+      within : IsCharBoundary l.source l.place;
+      left : refused_from l.place (chars (drop l.place l.source)) ≡ refused l.source;
     }
+
+abbrev pub decreases-loop-place : goal.decreases-loop-place
+decreases-loop-place l = length l.source - l.place

@@ -1,21 +1,16 @@
-use Rattle.std.proofs.Common.{sym, ◌∙◌, ◌++◌, List, ℕ}
-use Rattle.wac_lexer.specs.Words.{brackets, separators, long_symbols}
-use Rattle.wac_lexer.specs.declared.token.Token.{Token}
-use Rattle.wac_lexer.proofs.Texts.{find_first, find_next}
+use Rattle.std.proofs.Common.{◌≡◌, ◌++◌, ◌∷◌, [], get_or, length, sym, ap, ◌∙◌}
+use Rattle.wac_lexer.specs.Words.{find, brackets, separators}
+use Rattle.wac_lexer.proofs.Lengths.{one_byte, symbol_of_one, symbol_of_more}
 use Rattle.wac_lexer.proofs.symbols.symbol.Goals as goal
 
-abbrev from_separators : List (List ℕ × Token)
-from_separators = separators ++ long_symbols
-
-pub returns-in-Some : goal.returns-in-Some
-returns-in-Some c =
+pub returns-then-text-eq1 : goal.returns-then-text-eq1
+returns-then-text-eq1 c =
     let text = c.args.text.now in
-    sym
-    (find_first brackets from_separators text c.in-Some.token (sym c.bracket.ensures ∙ c.in-Some.is))
+    let one : length text ≡ 1 = c.if-text-eq1.true in
+    let byte : get_or c.as_bytes.result.now 0 0 ∷ [] ≡ text = ap (λ t. get_or t 0 0 ∷ []) c.as_bytes.ensures.value ∙ sym (one_byte text one) in
+    c.of_one.ensures ∙ ap (λ t. find t (brackets ++ separators)) byte ∙ symbol_of_one text one
 
-pub returns-in-Some-separator : goal.returns-in-Some-separator
-returns-in-Some-separator c =
+pub returns-else-text-eq1 : goal.returns-else-text-eq1
+returns-else-text-eq1 c =
     let text = c.args.text.now in
-    sym
-    (find_next brackets from_separators text (sym c.bracket.ensures ∙ c.in-None.is)
-    ∙ find_first separators long_symbols text c.in-Some-separator.token (sym c.separator.ensures ∙ c.in-Some-separator.is))
+    c.long_symbol.ensures ∙ symbol_of_more text c.if-text-eq1.false
