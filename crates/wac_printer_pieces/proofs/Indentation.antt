@@ -1,9 +1,16 @@
 -- Indentation.
-use Rattle.std.proofs.Common.{◌≡◌, ℕ, zero, suc, ◌+◌, ◌<◌, ◌≤◌, Bool, true, false, cond, List, [], ◌∷◌, ◌++◌, append_assoc, append-nil, refl, sym, ap, ◌∙◌, subst, arith, add-one, ⊎_elim}
+use Rattle.std.proofs.Common.{◌≡◌, ℕ, zero, suc, ◌+◌, ◌*◌, ◌<◌, ◌≤◌, Bool, true, false, cond, List, [], ◌∷◌, ◌++◌, length, take, replicate, append_assoc, append-nil, refl, sym, ap, ◌∙◌, subst, arith, add-one, ⊎_elim}
 use Rattle.std.specs.Prelude.{◌⊎◌}
-use Rattle.wac_layout.specs.Printed.{blank, line, text, fresh_after, times}
-use Rattle.wac_printer_pieces.specs.Printed.{Printer, after, is_front, Prints, spaces, has_failed}
-use Rattle.std.proofs.Common.{Result, Err}
+use Rattle.std.specs.List.{list_all}
+use Rattle.std.specs.Str.{IsAscii}
+use Rattle.std.proofs.Math.Nat.{mul-suc}
+use Rattle.std.proofs.lemmas.Bool.{and_parts, eqb-true}
+use Rattle.std.proofs.lemmas.List.{replicate-append-replicate, take-replicate}
+use Rattle.std.proofs.lemmas.List.Elements.{All-replicate}
+use Rattle.std.proofs.lemmas.Str.Ascii.{IsAscii-from_all}
+use Rattle.wac_layout.specs.Printed.{Piece, blank, line, text, fresh_after, times}
+use Rattle.wac_printer_pieces.specs.Printed.{Printer, after, is_front, is_space, Prints, spaces, has_failed}
+use Rattle.std.proofs.Common.{Result, Ok, Err}
 use Rattle.wac_printer_pieces.specs.declared.error.PrintError.{PrintError}
 use Rattle.wac_printer_pieces.proofs.Printing.{goes, wrote_all, after-append, text-append, fresh_after-append, front-after, seq, after-nil}
 
@@ -41,6 +48,48 @@ unfolding after
 line-stale d s h =
     let e : text s.space s.fresh (line d ∷ []) ≡ [] = ap (λ f. cond f (times d s.space) [] ++ []) h in
     (λ i. record s { bytes = s.bytes ++ e i; fresh = fresh_after s.fresh (e i) })
+
+-- a text that is the space so many times, written at once
+pub at_once : (count : ℕ) (whole : List ℕ) (s : Printer) → whole ≡ times count s.space → after (blank whole ∷ []) s ≡ after (spaces count s.space) s
+unfolding after
+at_once count whole s e =
+    let same : text s.space s.fresh (blank whole ∷ []) ≡ text s.space s.fresh (spaces count s.space) = append-nil whole ∙ e ∙ sym (spaces_text count s.space s.space s.fresh) in
+    (λ i. record s { bytes = s.bytes ++ same i; fresh = fresh_after s.fresh (same i) })
+
+-- pieces that write the same
+pub prints_same : {A : Type 0} (old new : Printer) (r : Result A PrintError) (ps qs : List Piece) → after ps old ≡ after qs old → Prints old r new ps → Prints old r new qs
+prints_same old new (Ok a) ps qs e h = wrote_all old new a qs h.is.0 (h.is.1 ∙ e)
+prints_same old new (Err x) ps qs e h =
+    let o = h.is in
+    record { is = (o.0, o.1, o.2, o.3, subst (λ (p : Printer). is_front (has_failed x) new.bytes p.bytes ≡ true) e o.4, o.5); keeps = h.keeps }
+
+-- the code's blanks
+pub blanks_are_ascii : IsAscii (replicate 64 32)
+blanks_are_ascii = IsAscii-from_all (replicate 64 32) (All-replicate (λ b. b < 128) 64 32 (omega arith))
+
+times_blanks : (count n : ℕ) → times count (replicate n 32) ≡ replicate (n * count) 32
+times_blanks zero n =
+    let none : 0 ≡ n * 0 = omega arith in
+    ap (λ k. replicate k 32) none
+times_blanks (suc count) n =
+    let all : n + n * count ≡ n * suc count = omega (arith, mul-suc n count) in
+    ap (λ t. replicate n 32 ++ t) (times_blanks count n) ∙ replicate-append-replicate n (n * count) 32 ∙ ap (λ k. replicate k 32) all
+
+are_blanks_is : (text : List ℕ) → list_all is_space text ≡ true → text ≡ replicate (length text) 32
+are_blanks_is [] e = refl
+are_blanks_is (b ∷ text) e =
+    let t = and_parts (is_space b) (list_all is_space text) e in
+    let head = eqb-true b 32 t.0 in
+    let tail = are_blanks_is text t.1 in
+    (λ i. head i ∷ tail i)
+
+-- a prefix of some blanks is a text of blanks so many times
+pub times_of_blanks : (count n m : ℕ) (text : List ℕ) → list_all is_space text ≡ true → n ≡ length text * count → n ≤ m → take n (replicate m 32) ≡ times count text
+times_of_blanks count n m text e len fits =
+    take-replicate n m 32 fits
+    ∙ ap (λ k. replicate k 32) len
+    ∙ sym (times_blanks count (length text))
+    ∙ ap (times count) (sym (are_blanks_is text e))
 
 pub ruleset seq_many = (seq, spaces-more, spaces-front)
 

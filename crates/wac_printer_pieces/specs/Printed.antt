@@ -10,6 +10,9 @@ abbrev pub spaces : ℕ → List ℕ → List Piece
 spaces zero space = []
 spaces (suc n) space = spaces n space ++ blank space ∷ []
 
+abbrev pub is_space : ℕ → Bool
+is_space b = nat_eq b 32
+
 -- a printer
 pub record Printer : Type 0 where
   -- what its sink was given, and how many of the sink's calls have failed

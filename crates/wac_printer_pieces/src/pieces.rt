@@ -1,8 +1,9 @@
 //! What writes pieces: how it is made, and what it writes with.
-ghost use Rattle.std.specs.Prelude.{◌≡◌, ◌≤◌, ◌+◌, ℕ, List, [], ◌∷◌, ◌++◌, true, false, Option, Some, None, unwrap_or, codes, length, take, drop};
+ghost use Rattle.std.specs.Prelude.{◌≡◌, ◌≤◌, ◌+◌, ℕ, List, [], ◌∷◌, ◌++◌, true, false, Option, Some, None, IfSome, unwrap_or, codes, length, take, drop};
+ghost use Rattle.std.specs.List.{list_all};
 ghost use Rattle.wac_lexer.specs.Reading.{slice, Slices};
 ghost use Rattle.wac_layout.specs.Printed.{Piece, token, blank, line, fresh_after, times, deeper};
-ghost use Rattle.wac_printer_pieces.specs.Printed.{Printer, Prints, after, spaces, space_of};
+ghost use Rattle.wac_printer_pieces.specs.Printed.{Printer, Prints, after, is_space, spaces, space_of};
 
 use crate::error::{PrintError, PrintResult};
 use std::marker::Model;
@@ -46,6 +47,31 @@ fn one_deeper(depth: usize) -> usize
     } else {
         depth + 1
     }
+}
+
+/// Blanks, of which most indentations are a prefix.
+const BLANKS: &str = "                                                                ";
+
+/// Whether a text is blanks alone.
+fn are_blanks(text: &str) -> bool
+    ensures { result ≡ list_all is_space text.now }
+{
+    text.as_bytes().iter().all(|byte| *byte == b' ')
+}
+
+/// A text so many times, where that is at most sixty-four blanks.
+fn blanks(text: &str, count: usize) -> Option<&'static str>
+    ensures { IfSome result (λ whole. whole.now ≡ times count text.now) }
+{
+    if !are_blanks(text) {
+        return None;
+    }
+    let len = text.len().checked_mul(count)?;
+    if len > BLANKS.len() {
+        return None;
+    }
+    let (whole, _) = BLANKS.split_at(len);
+    Some(whole)
 }
 
 impl<'a, S: Sink> Pieces<'a, S> {
@@ -116,6 +142,17 @@ impl<'a, S: Sink> Pieces<'a, S> {
         Ok(())
     }
 
+    /// Writes the space once for each depth; by one call of the sink, where these are a few blanks.
+    #[tactic(auto, using(crate::proofs::Indentation::seq_many))]
+    fn indentation(&mut self) -> PrintResult
+        ensures { Prints self.old result self.new (spaces self.old.depth self.old.space) }
+    {
+        match blanks(self.space, self.depth) {
+            Some(whole) => self.blank(whole),
+            None => self.many(self.depth),
+        }
+    }
+
     /// Whether it can continue: [`PrintError::Failed`] where the sink has failed.
     pub fn ready(&self) -> PrintResult
         ensures { Prints self.now result self.now [] }
@@ -133,7 +170,7 @@ impl<'a, S: Sink> Pieces<'a, S> {
         ensures { Prints self.old result self.new (line self.old.depth ∷ []) }
     {
         if self.fresh {
-            self.many(self.depth)
+            self.indentation()
         } else {
             self.ready()
         }
