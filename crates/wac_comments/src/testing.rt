@@ -1,6 +1,8 @@
 // The test of a result before it is returned.
 ghost use Rattle.std.specs.Prelude.{◌≡◌, true, IfOk, IfErr, slice_get, Some, alloc_error};
+ghost use Rattle.std.specs.List.{AllByRecursion};
 ghost use Rattle.wac_layout.specs.Joins.{AreBlanks};
+ghost use Rattle.wac_comments_layout.specs.Following.{IsPieceText};
 ghost use Rattle.wac_comments_layout.specs.Pieces.{texts};
 ghost use Rattle.wac_comments_layout.specs.Texts.{texts_of};
 ghost use Rattle.wac_comments.specs.Tidied.{ReadsBackAs};
@@ -9,7 +11,7 @@ ghost use Rattle.wac_comments.specs.declared.error.TidyError.TheVariants.{Memory
 use crate::error::TidyError;
 use std::alloc::{AllocError, Global};
 use wac_ast_base::Error;
-use wac_comments_layout::{Piece, ReadError, read};
+use wac_comments_layout::{Piece, ReadError, read, stand_in};
 use wac_parser_formatting::format;
 
 /// Whether the piece at an index has this text.
@@ -34,11 +36,15 @@ fn have_same_texts(found: &[Piece<'_>], wanted: &[Piece<'_>]) -> bool
     found.len() == wanted.len()
 }
 
-/// Whether a text has these tokens and comments, in order.
+/// Whether a text has these tokens and comments, in order. It is read only where that isn't plain.
 fn has_pieces(alloc: Global, text: &str, wanted: &[Piece<'_>]) -> Result<bool, TidyError>
+    requires { AllByRecursion IsPieceText (texts_of wanted.now) }
     ensures yes { IfOk result (λ yes. yes ≡ true → texts text.now ≡ texts_of wanted.now) }
     ensures error { IfErr result (λ e. e ≡ Memory alloc_error) }
 {
+    if stand_in(text, wanted) {
+        return Ok(true);
+    }
     match read(alloc, text, 1) {
         Ok(found) => Ok(have_same_texts(found.as_slice(), wanted)),
         Err(ReadError::Refused(..)) => Ok(false),
@@ -84,7 +90,8 @@ pub(crate) fn is_kept(
     formatted: &str,
     indent: &str,
 ) -> Result<bool, TidyError>
-    requires { AreBlanks indent.now }
+    requires blanks { AreBlanks indent.now }
+    requires known { AllByRecursion IsPieceText (texts_of wanted.now) }
     ensures kept { IfOk result (λ yes. yes ≡ true → texts text.now ≡ texts_of wanted.now) }
     ensures formatted { IfOk result (λ yes. yes ≡ true → ReadsBackAs text.now formatted.now) }
     ensures error { IfErr result (λ e. e ≡ Memory alloc_error) }

@@ -1,5 +1,5 @@
 -- Tokens that stand at an index.
-use Rattle.std.proofs.Common.{◌≡◌, ℕ, zero, suc, ◌+◌, ◌-◌, ◌<◌, ◌≤◌, Bool, true, false, List, [], ◌∷◌, map, take, get_or, subst, codes, drop, length, min, sym, refl, ap, ◌∙◌, arith, ⊎_elim}
+use Rattle.std.proofs.Common.{◌≡◌, ℕ, zero, suc, ◌+◌, ◌-◌, ◌<◌, ◌≤◌, Bool, true, false, cond, List, [], ◌∷◌, map, take, get_or, subst, codes, drop, length, min, sym, refl, ap, ◌∙◌, arith, ⊎_elim}
 use denote.Bor.{Bor}
 use lib.Pointwise.{pointwise}
 use Rattle.std.specs.Prelude.{◌&&◌, ◌||◌, nat_le}
@@ -8,9 +8,9 @@ use Rattle.std.specs.Str.{bytes_eq}
 use Rattle.std.specs.Cmp.Derive.Mapped.{pointwise-map}
 use Rattle.std.proofs.lemmas.List.{drop_min, get_or-drop, length-map}
 use Rattle.std.proofs.lemmas.Option.{unwrap_or-slice_get}
-use Rattle.std.proofs.lemmas.Bool.{and_parts, cases_lt, false≢true, le-leb, leb-true}
+use Rattle.std.proofs.lemmas.Bool.{and_parts, cases_lt, false≢true, le-leb, leb-true, or_parts}
 use Rattle.wac_lexer.proofs.Texts.{bytes_eq_is}
-use Rattle.wac_comments_layout.specs.Printing.{Texts, goes, is_among, is_last_comma, may_go, now_of, stand_at, token_at, token_before}
+use Rattle.wac_comments_layout.specs.Printing.{Texts, goes, goes_far_from_nothing, is_among, is_last_comma, is_near_nothing, may_go, now_of, stand_at, token_at, token_before}
 use Rattle.wac_comments_layout.specs.Brackets.{is_closing, is_flat}
 use Rattle.wac_comments_layout.specs.declared.brackets.Brackets.{Brackets}
 
@@ -77,6 +77,59 @@ none_among P tokens these at (suc back) all other few =
         let token : get_or (drop (at - back) tokens) back [] ≡ token_at tokens at =
         get_or-drop (at - back) tokens back [] ∙ ap (λ n. get_or tokens n []) place ∙ sym (unwrap_or-slice_get tokens at []) in
         absurd (false≢true (sym other ∙ ap P (sym token) ∙ passes))
+
+-- ---- far from `_`
+
+abbrev is_nothing : List ℕ → Bool
+is_nothing token = bytes_eq token (codes "_")
+
+-- none of three tokens is `_`
+far : (tokens : Texts) (at k : ℕ) → is_near_nothing tokens at ≡ false → at ≤ k + 1 → k ≤ at + 1 → is_nothing (token_at tokens k) ≡ false
+far tokens at k none low high =
+    let p = or_parts (is_nothing (token_before tokens at 1)) _ none in
+    let q = or_parts (is_nothing (token_at tokens at)) _ p.1 in
+    ⊎_elim
+    (λ (h : k < at).
+    let same : at - 1 ≡ k = omega (arith, h, low) in
+    let some : nat_le 1 at ≡ true = le-leb 1 at (omega (arith, h)) in
+    sym (ap (λ b. is_nothing (cond b (token_at tokens (at - 1)) [])) some ∙ ap (λ n. is_nothing (token_at tokens n)) same) ∙ p.0)
+    (λ (h : at ≤ k).
+    ⊎_elim
+    (λ (g : at < k). let same : at + 1 ≡ k = omega (arith, g, high) in ap (λ n. is_nothing (token_at tokens n)) (sym same) ∙ q.1)
+    (λ (g : k ≤ at). let same : at ≡ k = omega (arith, g, h) in ap (λ n. is_nothing (token_at tokens n)) (sym same) ∙ q.0)
+    (cases_lt at k))
+    (cases_lt k at)
+
+-- one of these beside each place of the first is `_`
+abbrev HasNothing : Texts → ℕ → Type 0
+HasNothing these back = (k : ℕ) × (k < length these) × (back ≤ k + 1) × (k ≤ back + 1) × (is_nothing (get_or these k []) ≡ true)
+
+none_near : (tokens these : Texts) (at count : ℕ) → is_near_nothing tokens at ≡ false → ((back : ℕ) → back < count → HasNothing these back) → is_among tokens at these count ≡ false
+none_near tokens these at zero none has = refl
+none_near tokens these at (suc back) none has =
+    (λ i. none_near tokens these at back none (λ k lt. has k (omega (arith, lt))) i || here (nat_le back at) (stand_at tokens (at - back) these) refl refl (has back (omega arith)) i)
+  where
+    here : (a b : Bool) → nat_le back at ≡ a → stand_at tokens (at - back) these ≡ b → HasNothing these back → (nat_le back at && stand_at tokens (at - back) these) ≡ false
+    here false b e f h = ap (λ a. a && stand_at tokens (at - back) these) e
+    here true false e f h = (λ i. e i && f i)
+    here true true e f h =
+        let before = leb-true back at e in
+        let passes = stands_pass is_nothing (drop (at - back) tokens) these h.0 f h.1 h.4 in
+        let token : get_or (drop (at - back) tokens) h.0 [] ≡ token_at tokens (at - back + h.0) = get_or-drop (at - back) tokens h.0 [] ∙ sym (unwrap_or-slice_get tokens (at - back + h.0) []) in
+        let not_here = far tokens at (at - back + h.0) none (omega (arith, before, h.2)) (omega (arith, before, h.3)) in
+        absurd (false≢true (sym not_here ∙ ap is_nothing (sym token) ∙ passes))
+
+pub far_from_nothing : (tokens : Texts) (at : ℕ) (around : Brackets) → is_near_nothing tokens at ≡ false → goes_far_from_nothing tokens at around ≡ goes tokens at around
+far_from_nothing tokens at around none =
+    let one = none_near tokens (codes "<" ∷ codes "_" ∷ codes ">" ∷ []) at 3 none (λ back lt. (1, omega arith, omega (arith, lt), omega arith, refl)) in
+    let two = none_near tokens (codes "<" ∷ codes "_" ∷ codes "," ∷ codes "_" ∷ codes ">" ∷ []) at 5 none
+    (λ back lt. ⊎_elim
+    (λ (h : back < 3). (1, omega arith, omega (arith, h), omega arith, refl))
+    (λ (h : 3 ≤ back). (3, omega arith, omega (arith, lt), omega (arith, h), refl))
+    (cases_lt back 3)) in
+    let last = none_near tokens (codes "," ∷ codes "_" ∷ codes ">" ∷ []) at 2 none (λ back lt. (1, omega arith, omega (arith, lt), omega arith, refl)) in
+    let rest = is_among tokens at (codes "->" ∷ codes ";" ∷ []) 1 || is_last_comma tokens at around in
+    sym (λ i. is_among tokens at (codes "with" ∷ codes "{" ∷ codes "}" ∷ []) 3 || (one i || (two i || (last i || rest))))
 
 no_comma : (token : List ℕ) (b : Bool) → may_go token ≡ false → bytes_eq token (codes ",") ≡ b → bytes_eq token (codes ",") ≡ false
 no_comma token false other e = e

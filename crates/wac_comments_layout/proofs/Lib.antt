@@ -1,3 +1,8 @@
+pub mod Apart
+pub mod Guided
+pub mod Known
+pub mod Stepping
+pub mod Preserved
 pub mod Among
 pub mod Progressing
 pub mod Commented

@@ -23,12 +23,8 @@ NoBracket t = (is_opening t ≡ false) × (is_closing t ≡ false)
 abbrev NoBrackets : List Piece → Type 0
 NoBrackets ps = AllByRecursion (λ p. NoBracket p.text) ps
 
-both : (ps qs : List Piece) → NoBrackets ps → NoBrackets qs → NoBrackets (ps ++ qs)
-both [] qs h k = k
-both (p ∷ ps) qs h k = (h.0, both ps qs h.1 k)
-
 -- what begins with a slash
-abbrev AfterSlash : List ℕ → Type 0
+abbrev pub AfterSlash : List ℕ → Type 0
 AfterSlash [] = Unit {0}
 AfterSlash (b ∷ t) = b ≡ 47
 
@@ -66,29 +62,38 @@ part_slash t more = go (length t == 0) (is_blank (slice_index t 0)) (begins 47 4
 not_less : (n : ℕ) → nat_lt n 2 ≡ false → 1 < n
 not_less n e = let h = ltb-false n 2 e in omega (arith, h)
 
-part_none : (place : ℕ) (t : List ℕ) → NoBrackets (comment_of_part place (take (part_len t) t))
-part_none place t =
-    let part = take (part_len t) t in
-    cond_both (nat_lt (length part) 2) [] (piece (kept part) (record { offset = place; len = length part }) ∷ []) NoBrackets (λ e. tt)
-    (λ e.
-    let more = not_less (length part) e in
-    let slash = part_slash t (omega (arith, more, at_most t)) in
-    (slash_none (kept part) (slash_front (kept_len part) part (slash_front (part_len t) t slash)), tt))
-  where
-    at_most : (t : List ℕ) → length (take (part_len t) t) ≤ part_len t
-    at_most t = let h = taken (part_len t) t in let m = min-le_left (part_len t) (length t) in omega (arith, h, m)
+-- what holds of each text that begins with a slash holds of the comments of a gap
+module _ (P : List ℕ → Type 0) (of_slash : (t : List ℕ) → AfterSlash t → P t) where
+  abbrev All : List Piece → Type 0
+  All ps = AllByRecursion (λ p. P p.text) ps
 
-comments_none : (n : ℕ) (source : List ℕ) (place : ℕ) → NoBrackets (comments_upto n source place)
-comments_none zero source place = tt
-comments_none (suc n) source place =
-    let t = drop place source in
-    let len = part_len t in
-    cond_both (len == 0) [] (comment_of_part place (take len t) ++ comments_upto n source (place + len)) NoBrackets (λ e. tt)
-    (λ e. both (comment_of_part place (take len t)) (comments_upto n source (place + len)) (part_none place t) (comments_none n source (place + len)))
+  pub both : (ps qs : List Piece) → All ps → All qs → All (ps ++ qs)
+  both [] qs h k = k
+  both (p ∷ ps) qs h k = (h.0, both ps qs h.1 k)
 
-gap_none : (source : List ℕ) (place : ℕ) → NoBrackets (comments_at source place)
-unfolding comments_at
-gap_none source place = comments_none (length source) source place
+  part_all : (place : ℕ) (t : List ℕ) → All (comment_of_part place (take (part_len t) t))
+  part_all place t =
+      let part = take (part_len t) t in
+      cond_both (nat_lt (length part) 2) [] (piece (kept part) (record { offset = place; len = length part }) ∷ []) All (λ e. tt)
+      (λ e.
+      let more = not_less (length part) e in
+      let slash = part_slash t (omega (arith, more, at_most t)) in
+      (of_slash (kept part) (slash_front (kept_len part) part (slash_front (part_len t) t slash)), tt))
+    where
+      at_most : (t : List ℕ) → length (take (part_len t) t) ≤ part_len t
+      at_most t = let h = taken (part_len t) t in let m = min-le_left (part_len t) (length t) in omega (arith, h, m)
+
+  comments_all : (n : ℕ) (source : List ℕ) (place : ℕ) → All (comments_upto n source place)
+  comments_all zero source place = tt
+  comments_all (suc n) source place =
+      let t = drop place source in
+      let len = part_len t in
+      cond_both (len == 0) [] (comment_of_part place (take len t) ++ comments_upto n source (place + len)) All (λ e. tt)
+      (λ e. both (comment_of_part place (take len t)) (comments_upto n source (place + len)) (part_all place t) (comments_all n source (place + len)))
+
+  pub gap_all : (source : List ℕ) (place : ℕ) → All (comments_at source place)
+  unfolding comments_at
+  gap_all source place = comments_all (length source) source place
 
 -- one piece
 abbrev among_by : ℕ → ℕ → Piece → List Piece → Bool → Bool → Option Span
@@ -101,10 +106,10 @@ skip limit depth [] qs h = refl
 skip limit depth (p ∷ ps) qs h = (λ i. among_by limit depth p (ps ++ qs) (h.0.0 i) (h.0.1 i)) ∙ skip limit depth ps qs h.1
 
 after : (source : List ℕ) (limit depth place : ℕ) (xs : List Item) → first_among limit depth (pieces_after source place xs) ≡ first_beyond limit depth xs
-after source limit depth place [] = skip limit depth (comments_at source place) (end_piece source ∷ []) (gap_none source place)
+after source limit depth place [] = skip limit depth (comments_at source place) (end_piece source ∷ []) (gap_all NoBracket slash_none source place)
 after source limit depth place (x ∷ xs) =
     let next = end_of x.span in
-    skip limit depth (comments_at source place) (piece x.text x.span ∷ pieces_after source next xs) (gap_none source place)
+    skip limit depth (comments_at source place) (piece x.text x.span ∷ pieces_after source next xs) (gap_all NoBracket slash_none source place)
     ∙ (λ i. cond (is_opening x.text) (cond (nat_le limit depth) (Some x.span) (after source limit (depth + 1) next xs i))
     (after source limit (cond (is_closing x.text) (depth - 1) depth) next xs i))
 

@@ -12,7 +12,7 @@ use Rattle.wac_lexer.specs.Span.{Span}
 use Rattle.wac_lexer.specs.declared.token.Token.{Token}
 use Rattle.wac_lexer.specs.declared.error.Error.{Error}
 use Rattle.wac_lexer.proofs.Texts.{bytes_eq_is}
-use Rattle.wac_lexer.proofs.Unfolded.{before_others, item_is, made, start_of}
+use Rattle.wac_lexer.proofs.Unfolded.{before_others, item_is, start_of}
 use Rattle.wac_comments_layout.specs.Brackets.{is_opening, is_closing}
 use Rattle.wac_comments_layout.specs.Nesting.{first_beyond, may_open}
 

@@ -6,3 +6,4 @@ pub mod Plain
 pub mod Printing
 pub mod Texts
 pub mod Errors
+pub mod Following

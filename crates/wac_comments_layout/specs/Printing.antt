@@ -48,6 +48,18 @@ goes tokens at around =
     || (is_among tokens at (codes "->" ∷ codes ";" ∷ []) 1
     || is_last_comma tokens at around))))
 
+-- whether the token at an index, or one beside it, is `_`
+abbrev pub is_near_nothing : Texts → ℕ → Bool
+is_near_nothing tokens at =
+    bytes_eq (token_before tokens at 1) (codes "_")
+    || (bytes_eq (token_at tokens at) (codes "_") || bytes_eq (token_at tokens (at + 1)) (codes "_"))
+
+-- whether printing drops the token at an index, which none of these is near
+abbrev pub goes_far_from_nothing : Texts → ℕ → Brackets → Bool
+goes_far_from_nothing tokens at around =
+    is_among tokens at (codes "with" ∷ codes "{" ∷ codes "}" ∷ []) 3
+    || (is_among tokens at (codes "->" ∷ codes ";" ∷ []) 1 || is_last_comma tokens at around)
+
 -- whether a token that printing drops in some place begins with this byte: one of w { } < _ > , -
 abbrev pub begins_dropped : ℕ → Bool
 begins_dropped b =
@@ -124,6 +136,10 @@ with_comment text p = record p { waiting = p.waiting ++ text ∷ [] }
 -- after the tokens that are added before the next one
 abbrev pub with_added : Texts → Progress → Progress
 with_added tokens p = record p { done = p.done ++ added tokens p.at (innermost p.opened) }
+
+-- after the comments that wait
+abbrev pub with_waiting : Progress → Progress
+with_waiting p = record p { done = p.done ++ p.waiting; waiting = [] }
 
 -- after a token that is printed
 abbrev pub with_printed : List ℕ → Progress → Progress

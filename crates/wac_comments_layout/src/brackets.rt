@@ -1,5 +1,6 @@
 // Brackets, and what is in them.
-ghost use Rattle.std.specs.Prelude.{◌≡◌};
+ghost use Rattle.std.specs.Prelude.{◌≡◌, [], ◌∷◌};
+ghost use Rattle.std.specs.Str.{bytes_eq};
 ghost use Rattle.wac_comments_layout.specs.Brackets.{is_opening, is_closing, begins_rows, in_braces, opened_by, is_flat, has_commas};
 
 /// What is in brackets.
@@ -36,16 +37,24 @@ impl Brackets {
     }
 }
 
+/// Whether a token is this one byte. Most tokens are tested for several marks, and a call of `==` costs more.
+pub(crate) fn is_mark(token: &str, mark: u8) -> bool
+    ensures { result ≡ bytes_eq token.now (mark ∷ []) }
+{
+    let bytes = token.as_bytes();
+    bytes.len() == 1 && bytes[0] == mark
+}
+
 pub(crate) fn opens(token: &str) -> bool
     ensures { result ≡ is_opening token.now }
 {
-    token == "(" || token == "[" || token == "<" || token == "{"
+    is_mark(token, b'(') || is_mark(token, b'[') || is_mark(token, b'<') || is_mark(token, b'{')
 }
 
 pub(crate) fn closes(token: &str) -> bool
     ensures { result ≡ is_closing token.now }
 {
-    token == ")" || token == "]" || token == ">" || token == "}"
+    is_mark(token, b')') || is_mark(token, b']') || is_mark(token, b'>') || is_mark(token, b'}')
 }
 
 /// Whether rows of a type are in the braces after this word and a name.
@@ -60,7 +69,7 @@ fn begins_rows(word: &str) -> bool
 fn in_braces(before: &str, earlier: &str) -> Brackets
     ensures { result ≡ in_braces before.now earlier.now }
 {
-    if before == "." {
+    if is_mark(before, b'.') {
         Brackets::Flat
     } else if before == "with" || before.as_bytes().contains(&b':') {
         Brackets::Arguments
@@ -75,7 +84,7 @@ fn in_braces(before: &str, earlier: &str) -> Brackets
 pub(crate) fn opened_by(token: &str, before: &str, earlier: &str) -> Brackets
     ensures { result ≡ opened_by token.now before.now earlier.now }
 {
-    if token == "{" {
+    if is_mark(token, b'{') {
         in_braces(before, earlier)
     } else {
         Brackets::Flat

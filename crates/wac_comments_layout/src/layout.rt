@@ -1,5 +1,5 @@
 // The layout of a text with its comments.
-use crate::brackets::{closes, opens};
+use crate::brackets::{closes, is_mark, opens};
 use crate::joints::{Joint, Seam};
 use crate::pieces::Piece;
 use crate::places::{Place, Plan};
@@ -103,7 +103,10 @@ fn token_depth(plan: &Plan<'_>, place: &Place<'_>) -> usize {
         } else {
             inner
         }
-    } else if place.after == "{" || place.after == "," || place.after == ";" {
+    } else if is_mark(place.after, b'{')
+        || is_mark(place.after, b',')
+        || is_mark(place.after, b';')
+    {
         inner
     } else {
         inner.saturating_add(1)

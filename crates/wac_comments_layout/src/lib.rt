@@ -4,6 +4,7 @@
 
 mod brackets;
 mod columns;
+mod following;
 mod joints;
 mod layout;
 mod nesting;
@@ -12,6 +13,7 @@ mod pieces;
 mod places;
 mod printing;
 mod separators;
+mod standing;
 mod without_comments;
 mod writer;
 
@@ -19,5 +21,6 @@ pub use layout::lay_out;
 pub use nesting::{too_deep, too_deep_among};
 pub use pieces::{Piece, ReadError, read};
 pub use printing::printed;
+pub use standing::stand_in;
 pub use without_comments::plain;
 pub use writer::Style;

@@ -64,6 +64,9 @@ impl Piece<'_> {
     }
 }
 
+/// There is room at once for a piece for each so many bytes.
+const BYTES_A_PIECE: usize = 6;
+
 /// Collects the pieces of a text.
 #[derive(Drop)]
 struct Reader<'a> {
@@ -75,14 +78,16 @@ struct Reader<'a> {
 }
 
 impl<'a> Reader<'a> {
-    fn new(alloc: Global, tab: usize) -> Self
-        ensures { result.pieces.items ≡ [] }
+    /// With room for so many pieces.
+    fn new(alloc: Global, tab: usize, room: usize) -> Result<Self, AllocError>
+        ensures { IfOk result (λ reader. reader.pieces.items ≡ []) }
     {
-        Reader {
-            pieces: Vec::new(alloc),
+        let pieces = Vec::with_capacity(alloc, room)?;
+        Ok(Reader {
+            pieces,
             tab,
             breaks: 0,
-        }
+        })
     }
 
     /// Adds the piece at a span and a column. Its text may end before the span does.
@@ -106,18 +111,19 @@ impl<'a> Reader<'a> {
     fn add_part(&mut self, before: &str, part: &'a str, offset: usize) -> Result<(), AllocError>
         ensures { IfOk result (λ _. Adds self.old.pieces.items (comment_of_part offset part.now) self.new.pieces.items) }
     {
-        if part == "\n" {
-            self.breaks = self.breaks.saturating_add(1);
-        }
-        if part.len() < 2 {
+        let bytes = part.as_bytes();
+        if bytes.len() < 2 {
+            if bytes.first() == Some(&b'\n') {
+                self.breaks = self.breaks.saturating_add(1);
+            }
             return Ok(());
         }
-        let column = if is_line_comment(part.as_bytes()) {
+        let column = if is_line_comment(bytes) {
             column_at_end(before, self.tab)
         } else {
             0
         };
-        let (kept, _) = part.split_at(kept_len(part.as_bytes()));
+        let (kept, _) = part.split_at(kept_len(bytes));
         self.add(kept, SourceSpan::new(offset, part.len()), column)
     }
 
@@ -169,7 +175,7 @@ fn read_items<'a>(
     requires left { left lexer ≡ items source.now }
     ensures { IfOk result (λ found. pieces_of found.items ≡ pieces source.now) }
 {
-    let mut reader = Reader::new(alloc, tab);
+    let mut reader = Reader::new(alloc, tab, source.len() / BYTES_A_PIECE)?;
     let mut place = 0;
     while let Some((_, span)) = lexer.next() {
         reader.gap(source, place)?;

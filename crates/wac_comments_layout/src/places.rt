@@ -1,5 +1,5 @@
 // The places of a printed text: its gaps, each between two tokens.
-use crate::brackets::{Brackets, closes, opened_by, opens};
+use crate::brackets::{Brackets, closes, is_mark, opened_by, opens};
 use crate::pieces::Piece;
 use crate::separators::Separator;
 use std::alloc::{AllocError, Global};
@@ -57,7 +57,7 @@ impl Place<'_> {
 
     /// Whether it lies at one end of an element of a list.
     pub(crate) fn is_edge(&self) -> bool {
-        self.is_first() || self.is_last() || self.before == ","
+        self.is_first() || self.is_last() || is_mark(self.before, b',')
     }
 
     /// Whether a line ends in it.
@@ -97,7 +97,7 @@ impl<'a> Plan<'a> {
         pieces: &[Piece<'a>],
         separators: &[Separator],
     ) -> Result<Plan<'a>, AllocError> {
-        let mut planner = Planner::new(alloc);
+        let mut planner = Planner::new(alloc, separators.len())?;
         for (index, piece) in pieces.iter().enumerate() {
             if !piece.is_comment() {
                 planner.add(piece.text, index, separators)?;
@@ -137,7 +137,7 @@ impl<'a> Plan<'a> {
     fn break_elements(&mut self) {
         let groups = self.groups.as_slice();
         for place in self.places.as_mut_slice() {
-            if place.is_edge() && !place.is_break() && is_broken(groups, place.group) {
+            if !place.is_break() && is_broken(groups, place.group) && place.is_edge() {
                 place.separator = Separator {
                     lines: 1,
                     blanks: 0,
@@ -188,10 +188,12 @@ struct Planner<'a> {
 }
 
 impl<'a> Planner<'a> {
-    fn new(alloc: Global) -> Self {
-        Planner {
+    /// A plan of this many places.
+    fn new(alloc: Global, places: usize) -> Result<Self, AllocError> {
+        let places = Vec::with_capacity(alloc, places)?;
+        Ok(Planner {
             plan: Plan {
-                places: Vec::new(alloc),
+                places,
                 groups: Vec::new(alloc),
             },
             group: None,
@@ -199,7 +201,7 @@ impl<'a> Planner<'a> {
             earlier: "",
             earliest: "",
             first: 0,
-        }
+        })
     }
 
     /// Adds the gap before the token at an index.

@@ -1,10 +1,10 @@
 // What printing changes about the tokens of a text.
 ghost use Rattle.std.specs.Prelude.{◌≡◌, ◌+◌, ◌<◌, ◌^◌, ◌≤◌, ◌++◌, IfOk, MatchOption, Some, None, false, [], ◌∷◌, length, map};
 ghost use Rattle.wac_comments_layout.specs.Kept.{is_comment};
-ghost use Rattle.wac_comments_layout.specs.Printing.{now_of, token_at, token_before, stand_at, is_among, is_last_comma, goes, ends_resource, needs_none, needs_comma, added, innermost, may_go, tokens_of, printed, spelled, with_comment, with_added, with_token, with_piece, with_printed, passed, progress};
+ghost use Rattle.wac_comments_layout.specs.Printing.{now_of, token_at, token_before, stand_at, is_among, is_last_comma, is_near_nothing, goes, goes_far_from_nothing, ends_resource, needs_none, needs_comma, added, innermost, may_go, tokens_of, printed, spelled, with_comment, with_added, with_token, with_piece, with_printed, with_waiting, passed, progress};
 ghost use Rattle.wac_comments_layout.specs.Texts.{texts_of};
 
-use crate::brackets::{Brackets, closes, opened_by, opens};
+use crate::brackets::{Brackets, closes, is_mark, opened_by, opens};
 use crate::pieces::Piece;
 use std::alloc::{AllocError, Global};
 use std::marker::Model;
@@ -60,6 +60,26 @@ fn may_go(token: &str) -> bool
     }
 }
 
+/// Whether the token at an index, or one beside it, is `_`.
+fn is_near_nothing(tokens: &[&str], at: usize) -> bool
+    requires { at < length tokens.now }
+    ensures { result ≡ is_near_nothing (now_of tokens.now) at }
+{
+    is_mark(token_before(tokens, at, 1), b'_')
+        || is_mark(token_at(tokens, at), b'_')
+        || is_mark(token_at(tokens, at + 1), b'_')
+}
+
+/// Whether printing drops the token at an index, with no `_` near.
+fn goes_far_from_nothing(tokens: &[&str], at: usize, around: Brackets) -> bool
+    requires { at < length tokens.now }
+    ensures { result ≡ goes_far_from_nothing (now_of tokens.now) at around }
+{
+    is_among(tokens, at, &["with", "{", "}"], 3)
+        || is_among(tokens, at, &["->", ";"], 1)
+        || is_last_comma(tokens, at, around)
+}
+
 /// Whether printing drops the token at an index: an empty `with`, results that are nothing, and a comma after the last
 /// of a list.
 fn goes(tokens: &[&str], at: usize, around: Brackets) -> bool
@@ -68,6 +88,9 @@ fn goes(tokens: &[&str], at: usize, around: Brackets) -> bool
 {
     if !may_go(token_at(tokens, at)) {
         return false;
+    }
+    if !is_near_nothing(tokens, at) {
+        return goes_far_from_nothing(tokens, at, around);
     }
     is_among(tokens, at, &["with", "{", "}"], 3)
         || is_among(tokens, at, &["<", "_", ">"], 3)
@@ -82,7 +105,7 @@ fn is_last_comma(tokens: &[&str], at: usize, around: Brackets) -> bool
     requires { at < length tokens.now }
     ensures { result ≡ is_last_comma (now_of tokens.now) at around }
 {
-    token_at(tokens, at) == ","
+    is_mark(token_at(tokens, at), b',')
         && closes(token_at(tokens, at + 1))
         && (around.is_flat() || token_before(tokens, at, 1) == "...")
 }
@@ -91,21 +114,23 @@ fn is_last_comma(tokens: &[&str], at: usize, around: Brackets) -> bool
 fn ends_resource(tokens: &[&str], at: usize) -> bool
     ensures { result ≡ ends_resource (now_of tokens.now) at }
 {
-    token_at(tokens, at) == ";" && token_before(tokens, at, 2) == "resource"
+    is_mark(token_at(tokens, at), b';') && token_before(tokens, at, 2) == "resource"
 }
 
 /// Whether no comma is printed after a token, before the end of rows or arguments.
 fn needs_none(before: &str) -> bool
     ensures { result ≡ needs_none before.now }
 {
-    before == "{" || before == "," || before == "..."
+    is_mark(before, b'{') || is_mark(before, b',') || before == "..."
 }
 
 /// Whether printing adds a comma before the token, which then ends rows or arguments.
 fn needs_comma(tokens: &[&str], at: usize, around: Brackets) -> bool
     ensures { result ≡ needs_comma (now_of tokens.now) at around }
 {
-    token_at(tokens, at) == "}" && around.has_commas() && !needs_none(token_before(tokens, at, 1))
+    is_mark(token_at(tokens, at), b'}')
+        && around.has_commas()
+        && !needs_none(token_before(tokens, at, 1))
 }
 
 /// The token that printing adds before the one at an index.
@@ -174,16 +199,18 @@ impl<'a> Model for Printing<'a> {
 }
 
 impl<'a> Printing<'a> {
-    fn new(alloc: Global) -> Self
-        ensures { result ≡ progress [] [] 0 [] }
+    /// With room for so many pieces.
+    fn new(alloc: Global, room: usize) -> Result<Self, AllocError>
+        ensures { IfOk result (λ printing. printing ≡ progress [] [] 0 []) }
     {
-        Printing {
-            pieces: Vec::new(alloc),
+        let pieces = Vec::with_capacity(alloc, room)?;
+        Ok(Printing {
+            pieces,
             waiting: Vec::new(alloc),
             breaks: 0,
             at: 0,
             opened: Vec::new(alloc),
-        }
+        })
     }
 
     /// The pieces that were printed, and the comments after them.
@@ -255,11 +282,22 @@ impl<'a> Printing<'a> {
     fn print(&mut self, text: &'a str, piece: &Piece<'_>) -> Result<(), AllocError>
         ensures { IfOk result (λ _. self.new ≡ with_printed text.now self.old) }
     {
-        self.pieces.extend_from_slice(self.waiting.as_slice())?;
-        self.waiting.clear();
+        self.print_waiting()?;
         let breaks = piece.breaks.saturating_add(self.breaks);
         self.breaks = 0;
         push(&mut self.pieces, text, piece, breaks)
+    }
+
+    /// Prints the comments that wait.
+    fn print_waiting(&mut self) -> Result<(), AllocError>
+        ensures { IfOk result (λ _. self.new ≡ with_waiting self.old) }
+    {
+        if self.waiting.is_empty() {
+            return Ok(());
+        }
+        self.pieces.extend_from_slice(self.waiting.as_slice())?;
+        self.waiting.clear();
+        Ok(())
     }
 
     /// What is in the innermost brackets. A text is a body.
@@ -296,7 +334,7 @@ impl<'a> Printing<'a> {
 fn tokens_of<'a>(alloc: Global, pieces: &[Piece<'a>]) -> Result<Vec<&'a str>, AllocError>
     ensures { IfOk result (λ tokens. now_of tokens.items ≡ tokens_of (texts_of pieces.now)) }
 {
-    let mut tokens = Vec::new(alloc);
+    let mut tokens = Vec::with_capacity(alloc, pieces.len())?;
     for piece in pieces {
         if !piece.is_comment() {
             if tokens.push(piece.text).is_err() {
@@ -314,7 +352,7 @@ pub fn printed<'a>(alloc: Global, pieces: &[Piece<'a>]) -> Result<Vec<Piece<'a>>
     ensures { IfOk result (λ found. texts_of found.items ≡ printed (texts_of pieces.now)) }
 {
     let tokens = tokens_of(alloc, pieces)?;
-    let mut printing = Printing::new(alloc);
+    let mut printing = Printing::new(alloc, pieces.len())?;
     for piece in pieces {
         printing.add(tokens.as_slice(), piece)?;
     }

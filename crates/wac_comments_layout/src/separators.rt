@@ -47,7 +47,7 @@ pub(crate) fn separators(
     pieces: &[Piece<'_>],
     printed: &str,
 ) -> Result<Vec<Separator>, AllocError> {
-    let mut separators = Vec::new(alloc);
+    let mut separators = Vec::with_capacity(alloc, pieces.len())?;
     let mut rest = printed.as_bytes();
     // The start of the text begins a line.
     let mut lines = 1;

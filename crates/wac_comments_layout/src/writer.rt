@@ -1,5 +1,5 @@
 // Writing lines.
-use crate::columns::column_after;
+use crate::columns::column_at_end;
 use std::alloc::{AllocError, Global};
 
 /// How lines are written.
@@ -23,7 +23,6 @@ impl Style<'_> {
 pub(crate) struct Writer<'a> {
     text: String,
     style: Style<'a>,
-    column: usize,
     depth: usize,
 }
 
@@ -32,7 +31,6 @@ impl<'a> Writer<'a> {
         Writer {
             text: String::new(alloc),
             style,
-            column: 0,
             depth: 0,
         }
     }
@@ -44,7 +42,7 @@ impl<'a> Writer<'a> {
 
     /// The column at which the next text will begin.
     pub(crate) fn column(&self) -> usize {
-        self.column
+        column_at_end(self.text.as_str(), self.style.tab())
     }
 
     /// How deep the line is.
@@ -53,7 +51,6 @@ impl<'a> Writer<'a> {
     }
 
     pub(crate) fn write(&mut self, text: &str) -> Result<(), AllocError> {
-        self.column = column_after(self.column, text, self.style.tab());
         self.text.push_str(text)
     }
 

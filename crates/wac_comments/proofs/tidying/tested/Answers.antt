@@ -1,12 +1,15 @@
 use Rattle.std.proofs.Common.{◌≡◌, ℕ, List, sym, ap, subst, ◌∙◌}
-use Rattle.std.specs.List.{list_any}
+use Rattle.std.specs.List.{AllByRecursion, list_any}
+use Rattle.wac_comments_layout.specs.Following.{IsPieceText}
 use Rattle.wac_comments_layout.specs.Kept.{is_comment}
 use Rattle.wac_comments_layout.specs.Pieces.{texts}
 use Rattle.wac_comments_layout.specs.Printing.{printed}
 use Rattle.wac_comments_layout.specs.Texts.{texts_of}
+use Rattle.wac_comments_layout.proofs.Known.{printed_known}
 use Rattle.wac_comments.specs.Comments.{has_comments}
 use Rattle.wac_comments.specs.Tidied.{ReadsBackAs}
 use Rattle.wac_comments.proofs.Alike.{has_same}
+use Rattle.wac_comments.proofs.Read.{are_tokens}
 use Rattle.wac_comments.proofs.tidying.tested.Goals as goal
 use Rattle.wac_comments.proofs.tidying.tested.Goals.{After-as_slice-wanted}
 
@@ -30,6 +33,12 @@ returns-then-is_same-clause-back c =
 pub returns-then-is_same-clause-plain : goal.returns-then-is_same-clause-plain
 returns-then-is_same-clause-plain c = λ none.
     c.in_ok-candidate.ensures.plain (commented (goal.at.returns-then-is_same-clause-plain c).After-as_slice-wanted ∙ none)
+
+pub is_kept-requires-clause-known : goal.is_kept-requires-clause-known
+is_kept-requires-clause-known c =
+    let source = c.args.source.now in
+    let is = wanted_is (goal.at.is_kept-requires-clause-known c).After-as_slice-wanted in
+    subst (AllByRecursion IsPieceText) (sym is) (printed_known source (are_tokens source c.requires.back.0 c.requires.back.1))
 
 pub returns-then-kept-clause-kept : goal.returns-then-kept-clause-kept
 returns-then-kept-clause-kept c =

@@ -13,5 +13,5 @@ loop-span-init c =
       finite = tt;
       source = c.requires.source;
       boundary = IsCharBoundary-start source c.utf8.source;
-      found = ap (λ pieces. pieces_of pieces ++ pieces_after source 0 (left c.args.lexer)) c.new-reader.ensures ∙ ap (pieces_after source 0) c.requires.left;
+      found = ap (λ pieces. pieces_of pieces ++ pieces_after source 0 (left c.args.lexer)) c.in_ok-reader.ensures ∙ ap (pieces_after source 0) c.requires.left;
     }

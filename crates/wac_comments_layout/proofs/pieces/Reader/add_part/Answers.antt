@@ -6,4 +6,4 @@ use Rattle.wac_comments_layout.proofs.pieces.Reader.add_part.Goals as goal
 
 pub split_at-requires : goal.split_at-requires
 split_at-requires c =
-    subst (IsCharBoundary c.args.part.now) (sym (c.kept_len.ensures.len ∙ ap kept_len c.as_bytes-2.ensures.value)) (kept_boundary c.args.part.now)
+    subst (IsCharBoundary c.args.part.now) (sym (c.kept_len.ensures.len ∙ ap kept_len c.as_bytes-bytes.ensures.value)) (kept_boundary c.args.part.now)
