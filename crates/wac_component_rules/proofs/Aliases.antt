@@ -1,5 +1,5 @@
 -- What aliases are seen as, and kinds that are none.
-use Rattle.std.proofs.Common.{◌≡◌, ◌∙◌, ◌<◌, ℕ, List, Option, Some, None, refl, sym, ap, subst, arith, length}
+use Rattle.std.proofs.Common.{◌≡◌, ◌∙◌, ◌<◌, ℕ, List, Option, Some, None, refl, sym, ap, subst, length}
 use Rattle.std.specs.Prelude.{slice_get, option_map, IfSome, string_bytes}
 use Rattle.wac_types.specs.declared.kind.ValueType.{ValueType}
 use Rattle.wac_types.specs.declared.kind.ValueType.TheVariants as values
@@ -11,7 +11,6 @@ use Rattle.wac_types.specs.declared.kind.Sort.{Sort}
 use Rattle.wac_types.specs.declared.kind.Sort.TheVariants as sorts
 use Rattle.wac_types.specs.declared.entry.Entry.{Entry}
 use Rattle.wac_types.specs.declared.entry.Entry.TheVariants as entries
-use Rattle.wac_types.specs.declared.entry.DefinedType.{DefinedType}
 use Rattle.wac_types.specs.declared.entry.DefinedType.TheVariants as defined
 use Rattle.wac_types.specs.declared.entry.Resource.{Resource}
 use Rattle.wac_types.specs.declared.entry.ResourceAlias.{ResourceAlias}
@@ -26,7 +25,7 @@ use Rattle.wac_types.specs.Table.{IsTable, IsOfSort, Names}
 use Rattle.wac_types.proofs.Tables.{entry_names, each_entry_named}
 use Rattle.wac_component_rules.specs.Seen as view
 use Rattle.wac_component_rules.specs.Seen.{Seen, What, seen, what, entry_seen, items, entry_what, seen_through, through}
-use Rattle.wac_component_rules.specs.Parts.{aliased_in, aliased_by}
+use Rattle.wac_component_rules.specs.Parts.{aliased_in}
 use Rattle.std.specs.Str.{bytes_eq}
 use Rattle.wac_component_rules.specs.Fits.{stands}
 use Rattle.wac_component_rules.proofs.Entries.{what_at, names_number}

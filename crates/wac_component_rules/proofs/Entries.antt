@@ -1,6 +1,6 @@
 -- What entries and kinds of a table are to the rules.
-use Rattle.std.proofs.Common.{◌≡◌, ◌∙◌, ◌+◌, ◌*◌, ◌<◌, ◌≤◌, ℕ, zero, suc, List, Option, Some, None, Bool, true, false, refl, sym, ap, subst, arith, length}
-use Rattle.std.specs.Prelude.{slice_get, option_map, IfSome, string_bytes, ◌&&◌, ◌||◌, not}
+use Rattle.std.proofs.Common.{◌≡◌, ◌∙◌, ◌<◌, ℕ, List, Option, Some, None, Bool, true, false, refl, sym, ap, subst, length}
+use Rattle.std.specs.Prelude.{slice_get, option_map, IfSome, ◌&&◌, ◌||◌, not}
 use Rattle.wac_types.specs.declared.kind.ValueType.{ValueType}
 use Rattle.wac_types.specs.declared.kind.ValueType.TheVariants as values
 use Rattle.wac_types.specs.declared.kind.«Type».TheVariants as types
@@ -12,20 +12,19 @@ use Rattle.wac_types.specs.declared.entry.Entry.{Entry}
 use Rattle.wac_types.specs.declared.entry.Entry.TheVariants as entries
 use Rattle.wac_types.specs.declared.entry.DefinedType.{DefinedType}
 use Rattle.wac_types.specs.declared.entry.DefinedType.TheVariants as defined
-use Rattle.wac_types.specs.declared.entry.Resource.{Resource}
 use Rattle.wac_types.specs.Kind.{Form, form, named_by, sort_named, value_form, value_named_by}
 use Rattle.wac_types.specs.Kind as forms
 use Rattle.wac_types.specs.Entry.{children, sort_of}
-use Rattle.wac_types.specs.Label.{label, Plain, defined_label}
-use Rattle.wac_types.specs.Meaning.{Meaning, node, row, named, of_kind, meaning_at, NamesBefore, IsEarlier}
-use Rattle.wac_types.specs.Shape.{slot_import, slot_export}
-use Rattle.wac_types.specs.Table.{IsTable, IsOfSort, Names}
+use Rattle.wac_types.specs.Label.{label, defined_label}
+use Rattle.wac_types.specs.Meaning.{Meaning, row, meaning_at, IsEarlier}
+use Rattle.wac_types.specs.Shape.{slot_import}
+use Rattle.wac_types.specs.Table.{Names}
 use Rattle.wac_types.proofs.Meanings.{meaning_at_entry}
 use Rattle.wac_component_rules.specs.declared.sides.Side.TheVariants as sides
 use Rattle.wac_component_rules.specs.Seen as view
 use Rattle.wac_component_rules.specs.Seen.{Seen, What, Items, plain_what, seen, what, entry_seen, items, entry_what, through}
 use Rattle.wac_component_rules.specs.Fits.{fits, stands, serves, same_form, is_type}
-use Rattle.wac_component_rules.specs.Parts.{aliased_in, aliased_by, IsSided}
+use Rattle.wac_component_rules.specs.Parts.{IsSided}
 use Rattle.wac_component_rules.specs.Sides.{side_fits, parts_fit}
 use Rattle.wac_component_rules.proofs.Turning.{serves_stands, taken_is_found, form_same, form_differs, and_false}
 
@@ -94,91 +93,55 @@ pub made_stands : (o : ℕ → ℕ) (es : List Entry) (i j : ℕ) (d e : Entry) 
     → IsMade d → sort_of d ≡ sort_of e → stands (what (meaning_at o es i)) (what (meaning_at o es j)) ≡ parts_fit (meaning_at o es) d e
 made_stands o es i j d e earlier isd ise h s = stands_at o es i j d e earlier isd ise ∙ entries_made (meaning_at o es) (o i) (o j) d e h s
 
--- interfaces stand by their exports
-abbrev pub IsInterface : Entry → Type 0
-IsInterface (entries.Defined d) = ⊥
-IsInterface (entries.Resource r) = ⊥
-IsInterface (entries.Func f) = ⊥
-IsInterface (entries.Interface i) = Unit {0}
-IsInterface (entries.World w) = ⊥
+-- interfaces stand by their exports, worlds by their imports, the other way round, and their exports
+abbrev pub HasSides : Sort → Type 0
+HasSides sorts.Defined = ⊥
+HasSides sorts.Resource = ⊥
+HasSides sorts.Func = ⊥
+HasSides sorts.Interface = Unit {0}
+HasSides sorts.World = Unit {0}
 
-pub interface_sort : (d e : Entry) → IsInterface d → sort_of d ≡ sort_of e → IsInterface e
-interface_sort d (entries.Interface i) h s = tt
-interface_sort (entries.Interface d) (entries.Defined e) h s = absurd (cc)
-interface_sort (entries.Interface d) (entries.Resource r) h s = absurd (cc)
-interface_sort (entries.Interface d) (entries.Func g) h s = absurd (cc)
-interface_sort (entries.Interface d) (entries.World w) h s = absurd (cc)
-interface_sort (entries.Defined d) e h s = absurd h
-interface_sort (entries.Resource d) e h s = absurd h
-interface_sort (entries.Func d) e h s = absurd h
-interface_sort (entries.World d) e h s = absurd h
+abbrev pub by_sides : Sort → (ℕ → Meaning) → Entry → Entry → Bool
+by_sides sorts.Interface f d e = side_fits f sides.Exports d e
+by_sides sorts.World f d e = side_fits f sides.Imports e d && side_fits f sides.Exports d e
+by_sides _ f d e = false
 
-pub interface_sided : (d : Entry) → IsInterface d → IsSided d
-interface_sided (entries.Interface i) h = tt
-interface_sided (entries.Defined d) h = absurd h
-interface_sided (entries.Resource d) h = absurd h
-interface_sided (entries.Func d) h = absurd h
-interface_sided (entries.World d) h = absurd h
+pub sided : (d : Entry) (s : Sort) → HasSides s → sort_of d ≡ s → IsSided d
+sided (entries.Interface d) s h is = tt
+sided (entries.World d) s h is = tt
+sided (entries.Defined d) s h is = absurd (subst HasSides (sym is) h)
+sided (entries.Resource d) s h is = absurd (subst HasSides (sym is) h)
+sided (entries.Func d) s h is = absurd (subst HasSides (sym is) h)
 
-interfaces : (f : ℕ → Meaning) (m n : ℕ) (d e : Entry) → IsInterface d → IsInterface e
-    → stands (entry_what (label m d) (items (row f (children d)))) (entry_what (label n e) (items (row f (children e)))) ≡ side_fits f sides.Exports d e
-interfaces f m n (entries.Interface d) (entries.Interface e) h k = refl
-interfaces f m n (entries.Interface d) (entries.Defined e) h k = absurd k
-interfaces f m n (entries.Interface d) (entries.Resource e) h k = absurd k
-interfaces f m n (entries.Interface d) (entries.Func e) h k = absurd k
-interfaces f m n (entries.Interface d) (entries.World e) h k = absurd k
-interfaces f m n (entries.Defined d) e h k = absurd h
-interfaces f m n (entries.Resource d) e h k = absurd h
-interfaces f m n (entries.Func d) e h k = absurd h
-interfaces f m n (entries.World d) e h k = absurd h
-
-pub interface_stands : (o : ℕ → ℕ) (es : List Entry) (i j : ℕ) (d e : Entry) → IsEarlier es → slice_get es i ≡ Some d → slice_get es j ≡ Some e
-    → IsInterface d → IsInterface e → stands (what (meaning_at o es i)) (what (meaning_at o es j)) ≡ side_fits (meaning_at o es) sides.Exports d e
-interface_stands o es i j d e earlier isd ise h k = stands_at o es i j d e earlier isd ise ∙ interfaces (meaning_at o es) (o i) (o j) d e h k
-
--- worlds stand by their imports, the other way round, and their exports
-abbrev pub IsWorld : Entry → Type 0
-IsWorld (entries.Defined d) = ⊥
-IsWorld (entries.Resource r) = ⊥
-IsWorld (entries.Func f) = ⊥
-IsWorld (entries.Interface i) = ⊥
-IsWorld (entries.World w) = Unit {0}
-
-pub world_sort : (d e : Entry) → IsWorld d → sort_of d ≡ sort_of e → IsWorld e
-world_sort d (entries.World w) h s = tt
-world_sort (entries.World d) (entries.Defined e) h s = absurd (cc)
-world_sort (entries.World d) (entries.Resource r) h s = absurd (cc)
-world_sort (entries.World d) (entries.Func g) h s = absurd (cc)
-world_sort (entries.World d) (entries.Interface w) h s = absurd (cc)
-world_sort (entries.Defined d) e h s = absurd h
-world_sort (entries.Resource d) e h s = absurd h
-world_sort (entries.Func d) e h s = absurd h
-world_sort (entries.Interface d) e h s = absurd h
-
-pub world_sided : (d : Entry) → IsWorld d → IsSided d
-world_sided (entries.World w) h = tt
-world_sided (entries.Defined d) h = absurd h
-world_sided (entries.Resource d) h = absurd h
-world_sided (entries.Func d) h = absurd h
-world_sided (entries.Interface d) h = absurd h
-
-worlds : (f : ℕ → Meaning) (m n : ℕ) (d e : Entry) → IsWorld d → IsWorld e
-    → stands (entry_what (label m d) (items (row f (children d)))) (entry_what (label n e) (items (row f (children e)))) ≡ side_fits f sides.Imports e d && side_fits f sides.Exports d e
-worlds f m n (entries.World d) (entries.World e) h k =
+both_sided : (f : ℕ → Meaning) (m n : ℕ) (s : Sort) (d e : Entry) → HasSides s → sort_of d ≡ s → sort_of e ≡ s
+    → stands (entry_what (label m d) (items (row f (children d)))) (entry_what (label n e) (items (row f (children e)))) ≡ by_sides s f d e
+both_sided f m n sorts.Interface (entries.Interface d) (entries.Interface e) h isd ise = refl
+both_sided f m n sorts.Interface (entries.Interface d) (entries.Defined e) h isd ise = absurd (cc)
+both_sided f m n sorts.Interface (entries.Interface d) (entries.Resource e) h isd ise = absurd (cc)
+both_sided f m n sorts.Interface (entries.Interface d) (entries.Func e) h isd ise = absurd (cc)
+both_sided f m n sorts.Interface (entries.Interface d) (entries.World e) h isd ise = absurd (cc)
+both_sided f m n sorts.Interface (entries.Defined d) e h isd ise = absurd (cc)
+both_sided f m n sorts.Interface (entries.Resource d) e h isd ise = absurd (cc)
+both_sided f m n sorts.Interface (entries.Func d) e h isd ise = absurd (cc)
+both_sided f m n sorts.Interface (entries.World d) e h isd ise = absurd (cc)
+both_sided f m n sorts.World (entries.World d) (entries.World e) h isd ise =
     ap (λ (b : Bool). b && side_fits f sides.Exports (entries.World d) (entries.World e))
     (taken_is_found slot_import (items (row f (children (entries.World d)))) (items (row f (children (entries.World e)))))
-worlds f m n (entries.World d) (entries.Defined e) h k = absurd k
-worlds f m n (entries.World d) (entries.Resource e) h k = absurd k
-worlds f m n (entries.World d) (entries.Func e) h k = absurd k
-worlds f m n (entries.World d) (entries.Interface e) h k = absurd k
-worlds f m n (entries.Defined d) e h k = absurd h
-worlds f m n (entries.Resource d) e h k = absurd h
-worlds f m n (entries.Func d) e h k = absurd h
-worlds f m n (entries.Interface d) e h k = absurd h
+both_sided f m n sorts.World (entries.World d) (entries.Defined e) h isd ise = absurd (cc)
+both_sided f m n sorts.World (entries.World d) (entries.Resource e) h isd ise = absurd (cc)
+both_sided f m n sorts.World (entries.World d) (entries.Func e) h isd ise = absurd (cc)
+both_sided f m n sorts.World (entries.World d) (entries.Interface e) h isd ise = absurd (cc)
+both_sided f m n sorts.World (entries.Defined d) e h isd ise = absurd (cc)
+both_sided f m n sorts.World (entries.Resource d) e h isd ise = absurd (cc)
+both_sided f m n sorts.World (entries.Func d) e h isd ise = absurd (cc)
+both_sided f m n sorts.World (entries.Interface d) e h isd ise = absurd (cc)
+both_sided f m n sorts.Defined d e h isd ise = absurd h
+both_sided f m n sorts.Resource d e h isd ise = absurd h
+both_sided f m n sorts.Func d e h isd ise = absurd h
 
-pub world_stands : (o : ℕ → ℕ) (es : List Entry) (i j : ℕ) (d e : Entry) → IsEarlier es → slice_get es i ≡ Some d → slice_get es j ≡ Some e
-    → IsWorld d → IsWorld e → stands (what (meaning_at o es i)) (what (meaning_at o es j)) ≡ side_fits (meaning_at o es) sides.Imports e d && side_fits (meaning_at o es) sides.Exports d e
-world_stands o es i j d e earlier isd ise h k = stands_at o es i j d e earlier isd ise ∙ worlds (meaning_at o es) (o i) (o j) d e h k
+pub sided_stands : (o : ℕ → ℕ) (es : List Entry) (i j : ℕ) (s : Sort) (d e : Entry) → IsEarlier es → slice_get es i ≡ Some d → slice_get es j ≡ Some e
+    → HasSides s → sort_of d ≡ s → sort_of e ≡ s → stands (what (meaning_at o es i)) (what (meaning_at o es j)) ≡ by_sides s (meaning_at o es) d e
+sided_stands o es i j s d e earlier isd ise h hd he = stands_at o es i j d e earlier isd ise ∙ both_sided (meaning_at o es) (o i) (o j) s d e h hd he
 
 -- ---- kinds
 

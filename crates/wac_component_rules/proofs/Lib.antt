@@ -1,6 +1,8 @@
 pub mod Turning
 pub mod PartRows
 pub mod SideRows
+pub mod Itself
+pub mod Transitive
 pub mod Remembered
 pub mod Entries
 pub mod Measures

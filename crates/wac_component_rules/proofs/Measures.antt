@@ -1,5 +1,5 @@
 -- What falls as kinds and entries are compared.
-use Rattle.std.proofs.Common.{◌≡◌, ◌+◌, ◌*◌, ◌<◌, ◌≤◌, ℕ, zero, suc, Option, Some, None, arith, subst, sym}
+use Rattle.std.proofs.Common.{◌≡◌, ◌+◌, ◌*◌, ◌<◌, ◌≤◌, ℕ, suc, Option, Some, None, arith, subst, sym}
 use Rattle.std.specs.Prelude.{IfSome}
 use Rattle.wac_types.specs.declared.kind.ValueType.{ValueType}
 use Rattle.wac_types.specs.declared.kind.ValueType.TheVariants as values

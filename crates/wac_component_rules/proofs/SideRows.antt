@@ -1,6 +1,6 @@
 -- What interfaces and worlds import and export, read of their meanings, and compared place by place.
-use Rattle.std.proofs.Common.{◌≡◌, ◌∙◌, ◌+◌, ℕ, zero, suc, List, [], ◌∷◌, ◌++◌, length, map, drop, refl, sym, ap, arith, Option, Some, None, subst, add-one, append-nil, Bool, true, false, cond}
-use Rattle.std.specs.Prelude.{slice_get, IfSome, ◌&&◌, option_map, string_bytes, String}
+use Rattle.std.proofs.Common.{◌≡◌, ◌∙◌, ◌+◌, ℕ, zero, suc, List, [], ◌∷◌, ◌++◌, length, map, drop, refl, sym, ap, Option, Some, None, subst, add-one, append-nil, Bool, true, false, cond}
+use Rattle.std.specs.Prelude.{slice_get, ◌&&◌, string_bytes, String}
 use Rattle.std.specs.List.{AllByRecursion}
 use Rattle.std.specs.Str.{bytes_eq}
 use Rattle.std.specs.declared.alloc.Global.{Global}
@@ -99,7 +99,7 @@ side_read f sides.Exports (entries.World w) h =
     (exports_read f w.exports.entries)
 
 -- what is offered is what is listed, each with what it fits
-fit_listed : (pick : Slot → Option (List ℕ)) (xs : Items) → picked pick (offered xs) ≡ map (λ (e : List ℕ × Seen). (e.0, λ (y : Seen). fits e.1 y)) (picked pick (listed xs))
+pub fit_listed : (pick : Slot → Option (List ℕ)) (xs : Items) → picked pick (offered xs) ≡ map (λ (e : List ℕ × Seen). (e.0, λ (y : Seen). fits e.1 y)) (picked pick (listed xs))
 fit_listed pick view.end = refl
 fit_listed pick (view.item s x xs) = go (pick s) (fit_listed pick xs)
   where

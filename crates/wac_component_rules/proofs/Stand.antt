@@ -1,26 +1,27 @@
 -- Entries of a table that are compared, and what is read of them.
-use Rattle.std.proofs.Common.{◌≡◌, ◌∙◌, ◌+◌, ◌*◌, ◌<◌, ◌≤◌, ℕ, zero, suc, List, [], ◌∷◌, Option, Some, None, Bool, true, false, refl, sym, ap, subst, arith, length}
+use Rattle.std.proofs.Common.{◌≡◌, ◌∙◌, ◌*◌, ◌≤◌, ℕ, suc, List, [], ◌∷◌, Option, Some, None, Bool, true, false, refl, sym, ap, subst, arith, length}
 use Rattle.std.specs.Prelude.{slice_get, option_map, IfSome, ◌&&◌, IsTrue, ◌↔◌, String}
 use Rattle.std.specs.declared.alloc.Global.{Global}
 use Rattle.wac_types.specs.Names.{by_name}
 use Rattle.wac_types.specs.declared.kind.ItemKind.{ItemKind}
+use Rattle.wac_types.specs.declared.kind.Sort.TheVariants as sorts
 use Rattle.wac_types.specs.declared.entry.Entry.{Entry}
-use Rattle.wac_types.specs.Entry.{Slot, children, sort_of}
-use Rattle.wac_types.specs.Meaning.{Meaning, EachKind, of_child, meaning_at, NamesBefore, IsEarlier}
+use Rattle.wac_types.specs.Entry.{Slot, sort_of}
+use Rattle.wac_types.specs.Meaning.{Meaning, of_child, meaning_at, NamesBefore, IsEarlier}
 use Rattle.wac_types.specs.Scope.{Named, look_up}
 use Rattle.wac_types.specs.Table.{IsTable, IsOfSort, Names}
 use Rattle.wac_types.proofs.Tables.{entry_names, each_entry_named}
 use Rattle.wac_component_rules.specs.declared.sides.Side.{Side}
 use Rattle.wac_component_rules.specs.declared.sides.Side.TheVariants as sides
-use Rattle.wac_component_rules.specs.Seen.{Seen, What, seen, what}
+use Rattle.wac_component_rules.specs.Seen.{seen, what}
 use Rattle.wac_component_rules.specs.Fits.{fits, stands, same_plain, each_found}
 use Rattle.wac_component_rules.specs.Parts.{parts_of, plain_of, side_items, OfOneSort, IsSided}
 use Rattle.wac_component_rules.specs.Sides.{side_fits, parts_fit}
 use Rattle.wac_component_rules.proofs.Turning.{and_false}
 use Rattle.wac_component_rules.proofs.Aliases.{entry_there}
-use Rattle.wac_component_rules.proofs.Entries.{IsMade, IsInterface, IsWorld, made_stands, interface_sort, interface_sided, interface_stands, world_sort, world_sided, world_stands}
+use Rattle.wac_component_rules.proofs.Entries.{IsMade, made_stands, sided, sided_stands}
 use Rattle.wac_component_rules.proofs.Measures.{above, above_within}
-use Rattle.wac_component_rules.proofs.PartRows.{row_fits, part_named, no_constructor, one_constructor, lengths_refuse}
+use Rattle.wac_component_rules.proofs.PartRows.{row_fits, part_named, no_constructor, one_constructor}
 use Rattle.wac_component_rules.proofs.SideRows.{seen_items, fit_items, side_is, side_each, named_at, named_found}
 
 -- what holds of two entries of a table holds of whatever is read there
@@ -47,33 +48,40 @@ made_answer o es i j d r earlier isd sorts made h =
     let there = other es i j d isd sorts in
     h d there.0 isd there.1 ∙ sym (made_stands o es i j d there.0 earlier isd there.1 made (sym there.2))
 
-pub interface_answer : (o : ℕ → ℕ) (es : List Entry) (i j : ℕ) (d : Entry) (r : Bool) → IsEarlier es → slice_get es i ≡ Some d → OfOneSort es i j → IsInterface d
+pub interface_answer : (o : ℕ → ℕ) (es : List Entry) (i j : ℕ) (d : Entry) (r : Bool) → IsEarlier es → slice_get es i ≡ Some d → OfOneSort es i j → sort_of d ≡ sorts.Interface
     → ((x y : Entry) → slice_get es i ≡ Some x → slice_get es j ≡ Some y → IsSided x → IsSided y → r ≡ side_fits (meaning_at o es) sides.Exports x y)
     → r ≡ stands (what (meaning_at o es i)) (what (meaning_at o es j))
-interface_answer o es i j d r earlier isd sorts k h =
-    let there = other es i j d isd sorts in
-    let l = interface_sort d there.0 k (sym there.2) in
-    h d there.0 isd there.1 (interface_sided d k) (interface_sided there.0 l) ∙ sym (interface_stands o es i j d there.0 earlier isd there.1 k l)
+interface_answer o es i j d r earlier isd alike k h =
+    let there = other es i j d isd alike in
+    let l : sort_of there.0 ≡ sorts.Interface = there.2 ∙ k in
+    h d there.0 isd there.1 (sided d sorts.Interface tt k) (sided there.0 sorts.Interface tt l) ∙ sym (sided_stands o es i j sorts.Interface d there.0 earlier isd there.1 tt k l)
 
-pub world_answer : (o : ℕ → ℕ) (es : List Entry) (i j : ℕ) (d : Entry) (r : Bool) → IsEarlier es → slice_get es i ≡ Some d → OfOneSort es i j → IsWorld d
+-- a world's imports decide first
+world_is : (o : ℕ → ℕ) (es : List Entry) (i j : ℕ) (d e : Entry) (b : Bool) → IsEarlier es → slice_get es i ≡ Some d → slice_get es j ≡ Some e → sort_of d ≡ sorts.World → sort_of e ≡ sorts.World
+    → b ≡ side_fits (meaning_at o es) sides.Imports e d → stands (what (meaning_at o es i)) (what (meaning_at o es j)) ≡ b && side_fits (meaning_at o es) sides.Exports d e
+world_is o es i j d e b earlier isd ise k l imports =
+    sided_stands o es i j sorts.World d e earlier isd ise tt k l ∙ ap (λ (x : Bool). x && side_fits (meaning_at o es) sides.Exports d e) (sym imports)
+
+pub world_answer : (o : ℕ → ℕ) (es : List Entry) (i j : ℕ) (d : Entry) (r : Bool) → IsEarlier es → slice_get es i ≡ Some d → OfOneSort es i j → sort_of d ≡ sorts.World
     → ((x y : Entry) → slice_get es j ≡ Some x → slice_get es i ≡ Some y → IsSided x → IsSided y → true ≡ side_fits (meaning_at o es) sides.Imports x y)
     → ((x y : Entry) → slice_get es i ≡ Some x → slice_get es j ≡ Some y → IsSided x → IsSided y → r ≡ side_fits (meaning_at o es) sides.Exports x y)
     → r ≡ stands (what (meaning_at o es i)) (what (meaning_at o es j))
-world_answer o es i j d r earlier isd sorts k imports exports =
-    let there = other es i j d isd sorts in
-    let l = world_sort d there.0 k (sym there.2) in
-    exports d there.0 isd there.1 (world_sided d k) (world_sided there.0 l)
-    ∙ sym (world_stands o es i j d there.0 earlier isd there.1 k l
-    ∙ ap (λ (b : Bool). b && side_fits (meaning_at o es) sides.Exports d there.0) (sym (imports there.0 d there.1 isd (world_sided there.0 l) (world_sided d k))))
+world_answer o es i j d r earlier isd alike k imports exports =
+    let there = other es i j d isd alike in
+    let l : sort_of there.0 ≡ sorts.World = there.2 ∙ k in
+    let one = sided d sorts.World tt k in
+    let two = sided there.0 sorts.World tt l in
+    exports d there.0 isd there.1 one two ∙ sym (world_is o es i j d there.0 true earlier isd there.1 k l (imports there.0 d there.1 isd two one))
 
-pub world_refuses : (o : ℕ → ℕ) (es : List Entry) (i j : ℕ) (d : Entry) → IsEarlier es → slice_get es i ≡ Some d → OfOneSort es i j → IsWorld d
+pub world_refuses : (o : ℕ → ℕ) (es : List Entry) (i j : ℕ) (d : Entry) → IsEarlier es → slice_get es i ≡ Some d → OfOneSort es i j → sort_of d ≡ sorts.World
     → ((x y : Entry) → slice_get es j ≡ Some x → slice_get es i ≡ Some y → IsSided x → IsSided y → false ≡ side_fits (meaning_at o es) sides.Imports x y)
     → false ≡ stands (what (meaning_at o es i)) (what (meaning_at o es j))
-world_refuses o es i j d earlier isd sorts k imports =
-    let there = other es i j d isd sorts in
-    let l = world_sort d there.0 k (sym there.2) in
-    sym (world_stands o es i j d there.0 earlier isd there.1 k l
-    ∙ ap (λ (b : Bool). b && side_fits (meaning_at o es) sides.Exports d there.0) (sym (imports there.0 d there.1 isd (world_sided there.0 l) (world_sided d k))))
+world_refuses o es i j d earlier isd alike k imports =
+    let there = other es i j d isd alike in
+    let l : sort_of there.0 ≡ sorts.World = there.2 ∙ k in
+    let one = sided d sorts.World tt k in
+    let two = sided there.0 sorts.World tt l in
+    sym (world_is o es i j d there.0 false earlier isd there.1 k l (imports there.0 d there.1 isd two one))
 
 -- ---- part by part
 

@@ -1,5 +1,5 @@
 -- What fits is what is accepted the other way round.
-use Rattle.std.proofs.Common.{◌≡◌, ◌∙◌, ℕ, List, [], ◌∷◌, Option, Some, None, Bool, true, false, refl, sym, ap, subst, cond}
+use Rattle.std.proofs.Common.{◌≡◌, ◌∙◌, ℕ, List, Option, Some, None, Bool, true, false, refl, sym, ap, subst, cond}
 use Rattle.std.specs.Prelude.{◌&&◌, ◌||◌, not}
 use Rattle.std.specs.Str.{bytes_eq}
 use Rattle.std.proofs.Math.Bool.{decide}
@@ -8,7 +8,7 @@ use Rattle.wac_types.specs.Kind.{Form}
 use Rattle.wac_types.specs.Entry.{Slot}
 use Rattle.wac_types.specs.Label.{Plain, plain, kind, absent}
 use Rattle.wac_types.specs.Meaning.{Meaning, node, done, more}
-use Rattle.wac_types.specs.Scope.{Named, look_up}
+use Rattle.wac_types.specs.Scope.{look_up}
 use Rattle.wac_types.specs.Shape.{slot_import, slot_export, cons_named}
 use Rattle.wac_component_rules.specs.Seen as view
 use Rattle.wac_component_rules.specs.Seen.{Seen, What, Items, listed, picked}
@@ -62,6 +62,10 @@ slot_same s t e = decided (meaning_discrete (node (plain absent) (more s (node (
 
 pub slot_differs : (s t : Slot) → (s ≡ t → ⊥) → same_slot s t ≡ false
 slot_differs s t n = undecided (meaning_discrete (node (plain absent) (more s (node (plain absent) done) done)) (node (plain absent) (more t (node (plain absent) done) done))) (λ e. n (cc))
+
+pub slot_truly : (s t : Slot) → same_slot s t ≡ true → s ≡ t
+slot_truly s t h =
+    let e = truly (meaning_discrete (node (plain absent) (more s (node (plain absent) done) done)) (node (plain absent) (more t (node (plain absent) done) done))) h in cc
 
 plain_turned : (p q : Plain) → same_plain p q ≡ same_plain q p
 plain_turned p q = turned_decision (meaning_discrete (node (plain p) done) (node (plain q) done)) (meaning_discrete (node (plain q) done) (node (plain p) done)) (λ e. sym e) (λ e. sym e)

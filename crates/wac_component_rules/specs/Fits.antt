@@ -10,6 +10,7 @@ use Rattle.wac_types.specs.Label.{Plain, plain, kind, absent}
 use Rattle.wac_types.specs.Meaning.{Meaning, node, done, more}
 use Rattle.wac_types.specs.Scope.{Named, look_up}
 use Rattle.wac_types.specs.Shape.{slot_import, slot_export}
+use Rattle.wac_extern_names.specs.Names.{is_extern_name}
 use Rattle.wac_component_rules.specs.Seen as view
 use Rattle.wac_component_rules.specs.Seen.{Seen, What, Items, seen, listed, picked}
 
@@ -113,10 +114,21 @@ abbrev mutual
   demanded view.end = []
   demanded (view.item s x xs) = (s, λ y. accepts x y) ∷ demanded xs
 
-abbrev pub verdict : Bool → Option Reason
-verdict true = None
-verdict false = Some (record { 0 = 1 })
+-- why a kind may not stand where another is expected, and why a name may not be one
+abbrev pub does_not_fit : Reason
+does_not_fit = record { 0 = 1 }
 
--- no reason where the first may stand where the second is expected, else reason 1
+abbrev pub no_name : Reason
+no_name = record { 0 = 2 }
+
+abbrev pub unless : Reason → Bool → Option Reason
+unless reason true = None
+unless reason false = Some reason
+
+-- no reason where the first may stand where the second is expected
 unfoldable pub component_passes : Meaning → Meaning → Option Reason
-component_passes a b = verdict (fits (seen a) (seen b))
+component_passes a b = unless does_not_fit (fits (seen a) (seen b))
+
+-- no reason where imports and exports may have the name
+unfoldable pub component_names : List ℕ → Option Reason
+component_names name = unless no_name (is_extern_name name)

@@ -12,9 +12,6 @@ use Rattle.wac_types.specs.Label.{Plain, defined_label}
 use Rattle.wac_types.specs.Names.{by_name}
 use Rattle.wac_types.specs.Scope.{Named}
 use Rattle.wac_types.specs.Shape.{slot_import, slot_export}
-use Rattle.wac_types.specs.Kind.{form, named_by}
-use Rattle.wac_types.specs.Meaning.{meaning_at, named, of_kind}
-use Rattle.wac_component_rules.specs.Seen.{Seen, seen, entry_seen}
 use Rattle.wac_component_rules.specs.declared.parts.PartSlot.{PartSlot}
 use Rattle.wac_component_rules.specs.declared.parts.PartSlot.TheVariants as places
 use Rattle.wac_component_rules.specs.declared.parts.Part.{Part}
@@ -81,7 +78,3 @@ IsSided (entries.Resource r) = ⊥
 IsSided (entries.Func f) = ⊥
 IsSided (entries.Interface i) = Unit {0}
 IsSided (entries.World w) = Unit {0}
-
--- a kind of a table is seen as the other one, which is no alias
-abbrev pub SeenAs : (ℕ → ℕ) → List Entry → ItemKind → ItemKind → Type 0
-SeenAs o es k plain = seen (of_kind (meaning_at o es) k) ≡ Seen.a_kind (form plain) (entry_seen (named (meaning_at o es) (named_by plain)))

@@ -1,11 +1,11 @@
 -- The origins of resources don't count.
-use Rattle.std.specs.Prelude.{◌≡◌, ℕ, List}
+use Rattle.std.specs.Prelude.{◌≡◌, ℕ}
 use Rattle.std.proofs.Common.{refl, ap, ◌∙◌}
 use Rattle.wac_types.specs.Label.{Label, plain, resource}
 use Rattle.wac_types.specs.Meaning.{Meaning, node, Row, done, more}
 use Rattle.wac_types.specs.Rules.{renamed, renamed_row, renamed_label}
 use Rattle.wac_component_rules.specs.Seen.{What, Items, Seen, seen, what, entry_seen, items, kind_seen, entry_what, item}
-use Rattle.wac_component_rules.specs.Fits.{component_passes, verdict, fits}
+use Rattle.wac_component_rules.specs.Fits.{component_passes, unless, does_not_fit, fits}
 
 label_kind : (f : ℕ → ℕ) (l : Label) (w : What) → kind_seen (renamed_label f l) w ≡ kind_seen l w
 label_kind f (plain p) w = refl
@@ -34,4 +34,4 @@ mutual
 pub passes_renamed : (f : ℕ → ℕ) (a b : Meaning) → component_passes (renamed f a) (renamed f b) ≡ component_passes a b
 unfolding component_passes
 passes_renamed f a b =
-    ap (λ (x : Seen). verdict (fits x (seen (renamed f b)))) (seen_renamed f a) ∙ ap (λ (y : Seen). verdict (fits (seen a) y)) (seen_renamed f b)
+    ap (λ (x : Seen). unless does_not_fit (fits x (seen (renamed f b)))) (seen_renamed f a) ∙ ap (λ (y : Seen). unless does_not_fit (fits (seen a) y)) (seen_renamed f b)

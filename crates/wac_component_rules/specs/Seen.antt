@@ -1,5 +1,5 @@
 -- What the rules see of a kind: aliases are seen through, and a resource is the name of its source.
-use Rattle.std.specs.Prelude.{ℕ, List, [], ◌∷◌, Option, Some, None}
+use Rattle.std.specs.Prelude.{ℕ, List, [], ◌∷◌, Option}
 use Rattle.wac_types.specs.Kind.{Form, a_value, value}
 use Rattle.wac_types.specs.Entry.{Slot}
 use Rattle.wac_types.specs.Label.{Label, plain, resource, Plain, kind, alias}

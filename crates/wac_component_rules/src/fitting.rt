@@ -1,14 +1,12 @@
 //! Whether a kind of a table may stand where another is expected.
-ghost use Rattle.std.specs.Prelude.{◌≡◌, ◌<◌, ℕ, Some, IfSome, length, slice_get};
-ghost use Rattle.wac_types.specs.declared.entry.Entry.{Entry};
-ghost use Rattle.wac_types.specs.Kind.{form, named_by};
-ghost use Rattle.wac_types.specs.Meaning.{meaning_at, meaning, of_child, named};
+ghost use Rattle.std.specs.Prelude.{◌≡◌, ◌<◌, ℕ, IfSome, length};
+ghost use Rattle.wac_types.specs.Meaning.{meaning};
 ghost use Rattle.wac_types.specs.Table.{IsTable, Names};
-ghost use Rattle.wac_component_rules.specs.Fits.{fits, stands};
+ghost use Rattle.wac_component_rules.specs.Compared.{kinds_fit, plainly_fit, entries_fit, TellsSides, TellsParts};
+ghost use Rattle.wac_component_rules.specs.Fits.{fits};
 ghost use Rattle.wac_component_rules.specs.Found.{AllFit};
-ghost use Rattle.wac_component_rules.specs.Parts.{OfOneSort, IsSided};
-ghost use Rattle.wac_component_rules.specs.Seen.{seen, what, entry_seen, Seen};
-ghost use Rattle.wac_component_rules.specs.Sides.{side_fits as side_agrees, parts_fit as parts_agree};
+ghost use Rattle.wac_component_rules.specs.Parts.{OfOneSort};
+ghost use Rattle.wac_component_rules.specs.Seen.{seen};
 
 use crate::found::Found;
 use crate::kinds::{is_type, number, same_form, value_kind};
@@ -20,7 +18,7 @@ use wac_types::{Entry, ItemKind};
 
 /// Whether the first kind may stand where the second is expected, if they are given.
 #[cycle(fitting)]
-pub(crate) fn kind_fits(
+pub fn kind_fits(
     entries: &[Entry],
     found: &mut Found,
     a: Option<ItemKind>,
@@ -30,7 +28,7 @@ pub(crate) fn kind_fits(
     requires first { IfSome a (Names entries.now) }
     requires second { IfSome b (Names entries.now) }
     requires found { AllFit entries.now found.old }
-    ensures fits { (o : ℕ → ℕ) → result ≡ fits (seen (of_child (meaning_at o entries.now) a)) (seen (of_child (meaning_at o entries.now) b)) }
+    ensures fits { (o : ℕ → ℕ) → result ≡ kinds_fit o entries.now a b }
     ensures found { AllFit entries.now found.new }
 {
     match (a, b) {
@@ -58,7 +56,7 @@ fn plain_fits(entries: &[Entry], found: &mut Found, a: ItemKind, b: ItemKind) ->
     requires first { Names entries.now a }
     requires second { Names entries.now b }
     requires found { AllFit entries.now found.old }
-    ensures fits { (o : ℕ → ℕ) → result ≡ fits (Seen.a_kind (form a) (entry_seen (named (meaning_at o entries.now) (named_by a)))) (Seen.a_kind (form b) (entry_seen (named (meaning_at o entries.now) (named_by b)))) }
+    ensures fits { (o : ℕ → ℕ) → result ≡ plainly_fit o entries.now a b }
     ensures found { AllFit entries.now found.new }
 {
     if !same_form(a, b) {
@@ -89,7 +87,7 @@ fn entry_fits(entries: &[Entry], found: &mut Found, i: usize, j: usize) -> bool
     requires second { j < length entries.now }
     requires sorts { OfOneSort entries.now i j }
     requires found { AllFit entries.now found.old }
-    ensures fits { (o : ℕ → ℕ) → result ≡ stands (what (meaning_at o entries.now i)) (what (meaning_at o entries.now j)) }
+    ensures fits { (o : ℕ → ℕ) → result ≡ entries_fit o entries.now i j }
     ensures found { AllFit entries.now found.new }
 {
     if found.has(i, j) {
@@ -110,7 +108,7 @@ fn compared(entries: &[Entry], found: &mut Found, i: usize, j: usize) -> bool
     requires second { j < length entries.now }
     requires sorts { OfOneSort entries.now i j }
     requires found { AllFit entries.now found.old }
-    ensures fits { (o : ℕ → ℕ) → result ≡ stands (what (meaning_at o entries.now i)) (what (meaning_at o entries.now j)) }
+    ensures fits { (o : ℕ → ℕ) → result ≡ entries_fit o entries.now i j }
     ensures found { AllFit entries.now found.new }
 {
     match &entries[i] {
@@ -141,7 +139,7 @@ fn side_fits(
     requires first { given < length entries.now }
     requires second { expected < length entries.now }
     requires found { AllFit entries.now found.old }
-    ensures fits { (o : ℕ → ℕ) (d e : Entry) → slice_get entries.now given ≡ Some d → slice_get entries.now expected ≡ Some e → IsSided d → IsSided e → result ≡ side_agrees (meaning_at o entries.now) side d e }
+    ensures fits { (o : ℕ → ℕ) → TellsSides o entries.now side given expected result }
     ensures found { AllFit entries.now found.new }
 {
     let asked = match items(&entries[expected], side) {
@@ -176,7 +174,7 @@ fn parts_fit(entries: &[Entry], found: &mut Found, i: usize, j: usize) -> bool
     requires second { j < length entries.now }
     requires sorts { OfOneSort entries.now i j }
     requires found { AllFit entries.now found.old }
-    ensures fits { (o : ℕ → ℕ) (d e : Entry) → slice_get entries.now i ≡ Some d → slice_get entries.now j ≡ Some e → result ≡ parts_agree (meaning_at o entries.now) d e }
+    ensures fits { (o : ℕ → ℕ) → TellsParts o entries.now i j result }
     ensures found { AllFit entries.now found.new }
 {
     let first = &entries[i];
@@ -207,7 +205,7 @@ fn parts_fit(entries: &[Entry], found: &mut Found, i: usize, j: usize) -> bool
 }
 
 /// Whether the first kind of a table may stand where the second is expected.
-pub(crate) fn fitting(entries: &[Entry], a: ItemKind, b: ItemKind) -> bool
+pub fn fitting(entries: &[Entry], a: ItemKind, b: ItemKind) -> bool
     requires table { IsTable entries.now }
     requires first { Names entries.now a }
     requires second { Names entries.now b }

@@ -33,7 +33,7 @@ fn same_type_form(a: Type, b: Type) -> bool
 }
 
 /// Whether two kinds have one form, apart from the entries that they name.
-pub(crate) fn same_form(a: ItemKind, b: ItemKind) -> bool
+pub fn same_form(a: ItemKind, b: ItemKind) -> bool
     ensures { IsTrue result ↔ (form a ≡ form b) }
 {
     match (a, b) {
@@ -59,7 +59,7 @@ fn value_number(value: ValueType) -> Option<usize>
 }
 
 /// The number of the entry that a kind names.
-pub(crate) fn number(kind: ItemKind) -> Option<usize>
+pub fn number(kind: ItemKind) -> Option<usize>
     ensures { result ≡ named_by kind }
 {
     match kind {
@@ -78,7 +78,7 @@ pub(crate) fn number(kind: ItemKind) -> Option<usize>
 }
 
 /// Whether a kind is that of a type, as an item of its own.
-pub(crate) fn is_type(kind: ItemKind) -> bool
+pub fn is_type(kind: ItemKind) -> bool
     ensures { result ≡ is_type_form (form kind) }
 {
     match kind {
@@ -97,7 +97,7 @@ pub(crate) fn is_type(kind: ItemKind) -> bool
 }
 
 /// The kind of a value, if its type is given.
-pub(crate) fn value_kind(value: Option<ValueType>) -> Option<ItemKind>
+pub fn value_kind(value: Option<ValueType>) -> Option<ItemKind>
     ensures { result ≡ optional value }
 {
     match value {

@@ -1,7 +1,6 @@
 //! The parts of defined types and of function types, one by one.
 ghost use Rattle.std.specs.Prelude.{◌≡◌, [], ◌∷◌, ◌++◌, ◌<◌, ◌^◌, IsTrue, ◌↔◌, length, slice_get, option_map, string_bytes};
 ghost use Rattle.wac_types.specs.Entry.{optional, defined_children, value_children, case_children, name_children, tuple_children, named_result_children, result_children, children, sort_of, Slot};
-ghost use Rattle.wac_types.specs.Label.{defined_label};
 ghost use Rattle.wac_component_rules.specs.Parts.{slot_of, part_view, parts_of, plain_of, aliased_in, aliased_by};
 
 use indexmap::{IndexMap, IndexSet};
@@ -9,7 +8,7 @@ use wac_types::{DefinedType, Entry, FuncResults, FuncType, ValueType};
 
 /// Where in an entry a part is.
 #[derive(Clone, Copy)]
-pub(crate) enum PartSlot<'a> {
+pub enum PartSlot<'a> {
     Only,
     Ok,
     Err,
@@ -19,7 +18,7 @@ pub(crate) enum PartSlot<'a> {
 
 /// A part, with its type, if it has one.
 #[derive(Clone, Copy)]
-pub(crate) struct Part<'a> {
+pub struct Part<'a> {
     pub slot: PartSlot<'a>,
     pub value: Option<ValueType>,
 }
@@ -226,7 +225,7 @@ fn func_part(func: &FuncType, at: usize) -> Option<Part<'_>>
 }
 
 /// The number of parts of a defined type or a function type.
-pub(crate) fn part_count(entry: &Entry) -> usize
+pub fn part_count(entry: &Entry) -> usize
     ensures { result ≡ length (parts_of entry.now) }
 {
     match entry {
@@ -239,7 +238,7 @@ pub(crate) fn part_count(entry: &Entry) -> usize
 }
 
 /// The part of a defined type or a function type at a place.
-pub(crate) fn part_at(entry: &Entry, at: usize) -> Option<Part<'_>>
+pub fn part_at(entry: &Entry, at: usize) -> Option<Part<'_>>
     ensures { option_map part_view result ≡ slice_get (parts_of entry.now) at }
 {
     match entry {
@@ -251,32 +250,13 @@ pub(crate) fn part_at(entry: &Entry, at: usize) -> Option<Part<'_>>
     }
 }
 
-fn same_shape(first: &DefinedType, second: &DefinedType) -> bool
-    ensures { IsTrue result ↔ (defined_label first.now ≡ defined_label second.now) }
-{
-    match (first, second) {
-        (DefinedType::Tuple(_), DefinedType::Tuple(_)) => true,
-        (DefinedType::List(_), DefinedType::List(_)) => true,
-        (DefinedType::Option(_), DefinedType::Option(_)) => true,
-        (DefinedType::Result { .. }, DefinedType::Result { .. }) => true,
-        (DefinedType::Variant { .. }, DefinedType::Variant { .. }) => true,
-        (DefinedType::Record { .. }, DefinedType::Record { .. }) => true,
-        (DefinedType::Flags(_), DefinedType::Flags(_)) => true,
-        (DefinedType::Enum(_), DefinedType::Enum(_)) => true,
-        (DefinedType::Alias(_), DefinedType::Alias(_)) => true,
-        (DefinedType::Stream(_), DefinedType::Stream(_)) => true,
-        (DefinedType::Future(_), DefinedType::Future(_)) => true,
-        _ => false,
-    }
-}
-
 /// Whether two defined types, or two function types, are alike apart from their parts.
-pub(crate) fn same_constructor(first: &Entry, second: &Entry) -> bool
+pub fn same_constructor(first: &Entry, second: &Entry) -> bool
     requires { sort_of first.now ≡ sort_of second.now }
     ensures { IsTrue result ↔ (plain_of first.now ≡ plain_of second.now) }
 {
     match (first, second) {
-        (Entry::Defined(a), Entry::Defined(b)) => same_shape(a, b),
+        (Entry::Defined(a), Entry::Defined(b)) => a.same_shape(b),
         (Entry::Func(a), Entry::Func(b)) => a.is_async == b.is_async,
         _ => true,
     }
@@ -292,7 +272,7 @@ fn aliased_type(ty: &DefinedType) -> Option<ValueType>
 }
 
 /// The type that an entry is another name of, if it is an alias of a type of values.
-pub(crate) fn aliased(entry: &Entry) -> Option<ValueType>
+pub fn aliased(entry: &Entry) -> Option<ValueType>
     ensures { result ≡ aliased_in entry.now }
 {
     match entry {

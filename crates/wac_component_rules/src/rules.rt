@@ -1,22 +1,28 @@
 //! The rules that a caller hands to the resolver.
 
 use crate::fitting::fitting;
+use wac_extern_names::is_extern_name;
 use wac_types::{ItemKind, Reason, Rules, Types};
+
+/// Why [`ComponentRules`] refuse a kind: it may not stand where the other one is expected.
+pub const DOES_NOT_FIT: Reason = Reason(1);
+
+/// Why [`ComponentRules`] refuse a name: no import or export may have it.
+pub const NO_NAME: Reason = Reason(2);
 
 /// The rules of the component model.
 ///
-/// `Reason(1)` says that a kind doesn't fit.
+/// They say no for [`DOES_NOT_FIT`] and [`NO_NAME`] alone, and take no memory.
 #[derive(Clone, Copy, Debug)]
 pub struct ComponentRules;
 
 impl Rules for ComponentRules {
-    ghost use Rattle.std.specs.Prelude.{None};
-    ghost use Rattle.wac_component_rules.specs.Fits.{component_passes};
+    ghost use Rattle.wac_component_rules.specs.Fits.{component_passes, component_names};
     ghost use Rattle.wac_component_rules.specs.Renaming.{passes_renamed};
 
     ghost passes = { λ _ a b. component_passes a b };
 
-    ghost named = { λ _ name. None };
+    ghost named = { λ _ name. component_names name };
 
     ghost alike_renamed = { λ _ f a b apart. passes_renamed f a b };
 
@@ -24,11 +30,15 @@ impl Rules for ComponentRules {
         if fitting(types.entries(), a, b) {
             Ok(())
         } else {
-            Err(Reason(1))
+            Err(DOES_NOT_FIT)
         }
     }
 
-    fn extern_name(&self, _name: &str) -> Result<(), Reason> {
-        Ok(())
+    fn extern_name(&self, name: &str) -> Result<(), Reason> {
+        if is_extern_name(name) {
+            Ok(())
+        } else {
+            Err(NO_NAME)
+        }
     }
 }

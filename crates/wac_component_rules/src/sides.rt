@@ -8,13 +8,13 @@ use wac_types::{Entry, ItemKind};
 
 /// What is compared of interfaces and worlds.
 #[derive(Clone, Copy, Debug, PartialEq, Eq)]
-pub(crate) enum Side {
+pub enum Side {
     Imports,
     Exports,
 }
 
 /// What an entry imports or exports, if it is an interface or a world. An interface imports nothing.
-pub(crate) fn items(entry: &Entry, side: Side) -> Option<&IndexMap<String, ItemKind>>
+pub fn items(entry: &Entry, side: Side) -> Option<&IndexMap<String, ItemKind>>
     ensures { unwrap_or (option_map (λ m. by_name m.now.entries) result) [] ≡ side_items side entry.now }
 {
     match (entry, side) {

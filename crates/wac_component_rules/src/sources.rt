@@ -2,13 +2,11 @@
 ghost use Rattle.std.specs.Prelude.{◌≡◌, ◌<◌, ℕ, Some, length, slice_get, option_map, option_copied};
 ghost use Rattle.wac_types.specs.Entry.{sort_of};
 ghost use Rattle.wac_types.specs.declared.kind.Sort.TheVariants as sorts;
-ghost use Rattle.wac_types.specs.declared.kind.«Type».TheVariants as types;
-ghost use Rattle.wac_types.specs.Kind.{Form, value_form, value_named_by};
-ghost use Rattle.wac_types.specs.Meaning.{meaning_at, of_kind, named, NamesBefore};
+ghost use Rattle.wac_types.specs.Meaning.{meaning_at, NamesBefore};
 ghost use Rattle.wac_types.specs.Readings.{as_resource};
 ghost use Rattle.wac_types.specs.Table.{IsTable, Names};
-ghost use Rattle.wac_component_rules.specs.Parts.{SeenAs};
-ghost use Rattle.wac_component_rules.specs.Seen.{seen, what, entry_seen, Seen, What};
+ghost use Rattle.wac_component_rules.specs.Compared.{SeenAs, type_kind};
+ghost use Rattle.wac_component_rules.specs.Seen.{what, What};
 
 use crate::parts::aliased;
 use wac_types::{Entry, ItemKind, Resource, Type, ValueType};
@@ -26,7 +24,7 @@ fn resource_of(entry: &Entry) -> Option<&Resource>
 }
 
 /// The name of a resource's source: of what it is an alias of in the end.
-pub(crate) fn source_name(entries: &[Entry], number: usize) -> &str
+pub fn source_name(entries: &[Entry], number: usize) -> &str
     requires table { IsTable entries.now }
     requires within { number < length entries.now }
     requires sort { option_map sort_of (slice_get entries.now number) ≡ Some sorts.Resource }
@@ -42,13 +40,13 @@ pub(crate) fn source_name(entries: &[Entry], number: usize) -> &str
 }
 
 /// The type that a type of values is in the end, with aliases seen through.
-pub(crate) fn plain_value(entries: &[Entry], value: ValueType) -> ValueType
+pub fn plain_value(entries: &[Entry], value: ValueType) -> ValueType
     requires table { IsTable entries.now }
     requires named { Names entries.now (ItemKind.Value value) }
     ensures named { Names entries.now (ItemKind.Value result) }
     ensures before { (n : ℕ) → NamesBefore n (ItemKind.Value value) → NamesBefore n (ItemKind.Value result) }
-    ensures value { (o : ℕ → ℕ) → seen (of_kind (meaning_at o entries.now) (ItemKind.Value value)) ≡ Seen.a_kind (Form.value (value_form result)) (entry_seen (named (meaning_at o entries.now) (value_named_by result))) }
-    ensures typed { (o : ℕ → ℕ) → seen (of_kind (meaning_at o entries.now) (ItemKind.Ty (types.Value value))) ≡ Seen.a_kind (Form.a_value (value_form result)) (entry_seen (named (meaning_at o entries.now) (value_named_by result))) }
+    ensures value { (o : ℕ → ℕ) → SeenAs o entries.now (ItemKind.Value value) (ItemKind.Value result) }
+    ensures typed { (o : ℕ → ℕ) → SeenAs o entries.now (type_kind value) (type_kind result) }
 {
     match value {
         ValueType::Primitive(_) => value,
@@ -80,7 +78,7 @@ fn plain_type(entries: &[Entry], ty: Type) -> Type
 }
 
 /// The kind that a kind is in the end, with aliases of types of values seen through.
-pub(crate) fn plain_kind(entries: &[Entry], kind: ItemKind) -> ItemKind
+pub fn plain_kind(entries: &[Entry], kind: ItemKind) -> ItemKind
     requires table { IsTable entries.now }
     requires named { Names entries.now kind }
     ensures named { Names entries.now result }

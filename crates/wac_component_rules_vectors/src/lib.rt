@@ -8,6 +8,10 @@ mod chains;
 #[cfg(test)]
 mod items;
 #[cfg(test)]
+mod names;
+#[cfg(test)]
 mod rows;
 #[cfg(test)]
 mod values;
+#[cfg(test)]
+mod versions;

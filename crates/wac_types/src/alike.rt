@@ -18,22 +18,26 @@ fn same_id(first: &Option<String>, second: &Option<String>) -> bool
     }
 }
 
-fn same_shape(first: &DefinedType, second: &DefinedType) -> bool
-    ensures { IsTrue result ↔ (defined_label first.now ≡ defined_label second.now) }
-{
-    match (first, second) {
-        (DefinedType::Tuple(_), DefinedType::Tuple(_)) => true,
-        (DefinedType::List(_), DefinedType::List(_)) => true,
-        (DefinedType::Option(_), DefinedType::Option(_)) => true,
-        (DefinedType::Result { .. }, DefinedType::Result { .. }) => true,
-        (DefinedType::Variant { .. }, DefinedType::Variant { .. }) => true,
-        (DefinedType::Record { .. }, DefinedType::Record { .. }) => true,
-        (DefinedType::Flags(_), DefinedType::Flags(_)) => true,
-        (DefinedType::Enum(_), DefinedType::Enum(_)) => true,
-        (DefinedType::Alias(_), DefinedType::Alias(_)) => true,
-        (DefinedType::Stream(_), DefinedType::Stream(_)) => true,
-        (DefinedType::Future(_), DefinedType::Future(_)) => true,
-        _ => false,
+impl DefinedType {
+    /// Whether both are made in the same way, whatever their parts, names and numbers of parts are: two records are,
+    /// and so are two tuples, but not a record and a tuple.
+    pub fn same_shape(&self, other: &DefinedType) -> bool
+        ensures { IsTrue result ↔ (defined_label self.now ≡ defined_label other.now) }
+    {
+        match (self, other) {
+            (DefinedType::Tuple(_), DefinedType::Tuple(_)) => true,
+            (DefinedType::List(_), DefinedType::List(_)) => true,
+            (DefinedType::Option(_), DefinedType::Option(_)) => true,
+            (DefinedType::Result { .. }, DefinedType::Result { .. }) => true,
+            (DefinedType::Variant { .. }, DefinedType::Variant { .. }) => true,
+            (DefinedType::Record { .. }, DefinedType::Record { .. }) => true,
+            (DefinedType::Flags(_), DefinedType::Flags(_)) => true,
+            (DefinedType::Enum(_), DefinedType::Enum(_)) => true,
+            (DefinedType::Alias(_), DefinedType::Alias(_)) => true,
+            (DefinedType::Stream(_), DefinedType::Stream(_)) => true,
+            (DefinedType::Future(_), DefinedType::Future(_)) => true,
+            _ => false,
+        }
     }
 }
 
@@ -42,7 +46,7 @@ fn same_label(first: &Entry, second: &Entry) -> bool
     ensures { (p q : ℕ) → (IsResource first.now → IsResource second.now → p ≢ q) → (IsTrue result ↔ (label p first.now ≡ label q second.now)) }
 {
     match (first, second) {
-        (Entry::Defined(a), Entry::Defined(b)) => same_shape(a, b),
+        (Entry::Defined(a), Entry::Defined(b)) => a.same_shape(b),
         (Entry::Resource(_), Entry::Resource(_)) => false,
         (Entry::Func(a), Entry::Func(b)) => a.is_async == b.is_async,
         (Entry::Interface(a), Entry::Interface(b)) => same_id(&a.id, &b.id),

@@ -1,5 +1,7 @@
-use Rattle.std.proofs.Common.{◌≡◌, ◌∙◌, ℕ, List, [], Option, Some, None, Bool, true, false, refl, sym, ap, subst, arith}
+use Rattle.std.proofs.Common.{◌≡◌, ◌∙◌, [], Some, None, true, false, refl, sym, ap, subst, arith}
 use Rattle.std.specs.Prelude.{option_map, unwrap_or, string_bytes}
+use Rattle.wac_types.specs.Entry.{sort_of}
+use Rattle.wac_types.specs.Kind.{named_by}
 use Rattle.wac_types.specs.Meaning.{meaning_at}
 use Rattle.wac_types.specs.Names.{by_name}
 use Rattle.wac_types.specs.Scope.{look_up}
@@ -8,7 +10,7 @@ use Rattle.wac_types.proofs.Views.{mapped_at}
 use Rattle.wac_component_rules.specs.Parts.{IsSided, parts_of, part_view, side_items}
 use Rattle.wac_component_rules.specs.Sides.{side_fits, parts_fit}
 use Rattle.wac_component_rules.proofs.Compared.{forms_differ, without_entries, types_fit, items_fit}
-use Rattle.wac_component_rules.proofs.Entries.{IsMade, IsInterface, IsWorld}
+use Rattle.wac_component_rules.proofs.Entries.{IsMade}
 use Rattle.wac_component_rules.proofs.Measures.{above_both}
 use Rattle.wac_component_rules.proofs.PartRows.{rest_fits_step, slot_refuses, part_refuses, rest_fits_end, lengths_refuse}
 use Rattle.wac_component_rules.proofs.SideRows.{rest_found_step, rest_found_end, item_missing, item_unfit}
@@ -25,15 +27,15 @@ compared-returns-in-Func-clause-fits t c = λ o.
 
 pub compared-returns-in-Interface-clause-fits : goal.compared-returns-in-Interface-clause-fits
 compared-returns-in-Interface-clause-fits t c = λ o.
-    interface_answer o c.args.entries.now c.args.i c.args.j c.index-entries-i.result c.side_fits.result c.requires.table.0 (stands c.args.entries.now c.args.i c.index-entries-i.result c.requires.first c.index-entries-i.is) c.requires.sorts (subst IsInterface (sym c.in-Interface.is) tt) (c.side_fits.ensures.fits o)
+    interface_answer o c.args.entries.now c.args.i c.args.j c.index-entries-i.result c.side_fits.result c.requires.table.0 (stands c.args.entries.now c.args.i c.index-entries-i.result c.requires.first c.index-entries-i.is) c.requires.sorts (ap sort_of c.in-Interface.is) (c.side_fits.ensures.fits o)
 
 pub compared-returns-then-side_fits-clause-fits : goal.compared-returns-then-side_fits-clause-fits
 compared-returns-then-side_fits-clause-fits t c = λ o.
-    world_answer o c.args.entries.now c.args.i c.args.j c.index-entries-i.result c.side_fits-then-side_fits.result c.requires.table.0 (stands c.args.entries.now c.args.i c.index-entries-i.result c.requires.first c.index-entries-i.is) c.requires.sorts (subst IsWorld (sym c.in-World.is) tt) (c.if-side_fits.ensures.fits o) (c.side_fits-then-side_fits.ensures.fits o)
+    world_answer o c.args.entries.now c.args.i c.args.j c.index-entries-i.result c.side_fits-then-side_fits.result c.requires.table.0 (stands c.args.entries.now c.args.i c.index-entries-i.result c.requires.first c.index-entries-i.is) c.requires.sorts (ap sort_of c.in-World.is) (c.if-side_fits.ensures.fits o) (c.side_fits-then-side_fits.ensures.fits o)
 
 pub compared-returns-else-side_fits-clause-fits : goal.compared-returns-else-side_fits-clause-fits
 compared-returns-else-side_fits-clause-fits t c = λ o.
-    world_refuses o c.args.entries.now c.args.i c.args.j c.index-entries-i.result c.requires.table.0 (stands c.args.entries.now c.args.i c.index-entries-i.result c.requires.first c.index-entries-i.is) c.requires.sorts (subst IsWorld (sym c.in-World.is) tt) (c.if-side_fits.ensures.fits o)
+    world_refuses o c.args.entries.now c.args.i c.args.j c.index-entries-i.result c.requires.table.0 (stands c.args.entries.now c.args.i c.index-entries-i.result c.requires.first c.index-entries-i.is) c.requires.sorts (ap sort_of c.in-World.is) (c.if-side_fits.ensures.fits o)
 
 pub entry_fits-returns-then-compared-clause-found : goal.entry_fits-returns-then-compared-clause-found
 entry_fits-returns-then-compared-clause-found t c = c.add.ensures c.args.entries.now c.if-compared.ensures.found (λ o. sym (c.if-compared.ensures.fits o))
@@ -89,7 +91,10 @@ pub plain_fits-returns-then-not-same_form-clause-fits : goal.plain_fits-returns-
 plain_fits-returns-then-not-same_form-clause-fits t c = λ o. forms_differ (meaning_at o c.args.entries.now) c.args.a c.args.b (λ e. let f = c.if-not-same_form.ensures.1 e in cc)
 
 pub plain_fits-returns-in-None-None-clause-fits : goal.plain_fits-returns-in-None-None-clause-fits
-plain_fits-returns-in-None-None-clause-fits t c = λ o. without_entries (meaning_at o c.args.entries.now) c.args.a c.args.b (c.if-not-same_form.ensures.0 refl) c.in-None-None.ensures-1 c.in-None-None.ensures
+plain_fits-returns-in-None-None-clause-fits t c =
+    let first : None ≡ named_by c.args.a = cc in
+    let second : None ≡ named_by c.args.b = cc in
+    λ o. without_entries (meaning_at o c.args.entries.now) c.args.a c.args.b (c.if-not-same_form.ensures.0 refl) first second
 
 pub plain_fits-returns-then-is_type-clause-fits : goal.plain_fits-returns-then-is_type-clause-fits
 plain_fits-returns-then-is_type-clause-fits t c = λ o. types_fit (meaning_at o c.args.entries.now) c.args.a c.args.b c.in-Some-Some.i c.in-Some-Some.j c.entry_fits-then-is_type.result (c.if-not-same_form.ensures.0 refl) c.in-Some-Some.ensures c.in-Some-Some.ensures' (sym c.if-is_type.ensures) (sym (c.if-not-entry_fits.ensures.fits o)) (c.entry_fits-then-is_type.ensures.fits o)

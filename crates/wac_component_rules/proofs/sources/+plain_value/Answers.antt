@@ -1,4 +1,4 @@
-use Rattle.std.proofs.Common.{◌≡◌, ◌∙◌, ◌<◌, ℕ, Some, refl, sym, ap, arith}
+use Rattle.std.proofs.Common.{◌∙◌, sym, ap, arith}
 use Rattle.wac_types.specs.declared.kind.ItemKind.TheVariants as kinds
 use Rattle.wac_types.specs.Kind as forms
 use Rattle.wac_types.specs.Kind.{value_form}

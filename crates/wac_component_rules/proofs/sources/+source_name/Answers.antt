@@ -1,5 +1,5 @@
-use Rattle.std.proofs.Common.{◌≡◌, ◌∙◌, ℕ, List, Some, sym, ap, arith}
-use Rattle.std.specs.Prelude.{slice_get, option_copied}
+use Rattle.std.proofs.Common.{◌∙◌, Some, sym, ap, arith}
+use Rattle.std.specs.Prelude.{option_copied}
 use Rattle.wac_types.specs.declared.kind.Sort.TheVariants as sorts
 use Rattle.wac_types.proofs.Rows.{stands}
 use Rattle.wac_component_rules.specs.Seen.{What}

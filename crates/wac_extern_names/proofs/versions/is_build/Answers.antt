@@ -1,0 +1,11 @@
+use Rattle.std.proofs.Common.{rules, arith}
+use Rattle.std.proofs.lemmas.Iterator.Search.{all_from_yields_List}
+use Rattle.std.proofs.lemmas.Iterator.Splits.{YieldsList-from_str_split}
+use borrow.Author.Tests.{tests}
+use Rattle.semver.specs.Grammar.{is_build_identifier}
+use Rattle.wac_extern_names.proofs.versions.is_build.Goals as goal
+
+pub returns : goal.returns
+returns c = all_from_yields_List is_build_identifier _ _ _ c.all.ensures.ran
+    (YieldsList-from_str_split 46 c.args.text.now (omega arith) c.split.ensures.text c.split.ensures.has_more c.split.ensures.pattern)
+    (λ x b q k. search (rules, tests))
