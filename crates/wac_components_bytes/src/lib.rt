@@ -4,7 +4,9 @@
 #![tactic(auto)]
 
 mod error;
+mod laws;
 mod reader;
 
 pub use error::{DecodeError, ErrorKind, error_at, found};
+pub use laws::three_groups_are_a_number;
 pub use reader::Reader;

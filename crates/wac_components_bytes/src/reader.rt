@@ -1,5 +1,8 @@
 //! A reader of bytes that counts its work.
-ghost use Rattle.std.specs.Prelude.{◌≡◌, ◌+◌, ◌-◌, ◌<◌, ◌≤◌, ◌^◌, length, IfErr, IfOk, IfSome, OnOk};
+ghost use Rattle.std.specs.Prelude.{◌≡◌, ◌+◌, ◌-◌, ◌<◌, ◌≤◌, length, IfErr, OnErr, OnOk};
+
+mod numbers;
+mod pieces;
 
 use crate::error::{DecodeError, ErrorKind, error_at};
 
@@ -80,6 +83,7 @@ impl<'a> Reader<'a> {
     pub fn charge(&mut self, units: u64, offset: usize) -> Result<(), DecodeError>
         ensures ok { OnOk result (self.new.work + units ≡ self.old.work) }
         ensures err { IfErr result (λ e. e ≡ record { kind = ErrorKind.Work; offset = offset }) }
+        ensures short { OnErr result (self.old.work < units) }
         ensures work { self.new.work ≤ self.old.work }
         ensures place { (self.new.bytes.now ≡ self.old.bytes.now) × (self.new.position ≡ self.old.position) × (self.new.end ≡ self.old.end) }
     {
@@ -89,159 +93,5 @@ impl<'a> Reader<'a> {
         } else {
             error_at(ErrorKind::Work, offset)
         }
-    }
-
-    /// The next byte, which stays unread.
-    pub fn peek(&self) -> Result<u8, DecodeError>
-        ensures err { IfErr result (λ e. e.offset ≤ length self.now.bytes.now) }
-    {
-        if self.position < self.end {
-            Ok(self.bytes[self.position])
-        } else {
-            error_at(ErrorKind::UnexpectedEnd, self.position)
-        }
-    }
-
-    /// The next byte.
-    pub fn byte(&mut self) -> Result<u8, DecodeError>
-        ensures err { IfErr result (λ e. e.offset ≤ length self.old.bytes.now) }
-        ensures work { self.new.work ≤ self.old.work }
-        ensures taken { OnOk result (self.new.work + 1 ≡ self.old.work) }
-        ensures bytes { self.new.bytes.now ≡ self.old.bytes.now }
-    {
-        let byte = self.peek()?;
-        self.charge(1, self.position)?;
-        if self.position < self.end {
-            self.position += 1;
-        }
-        Ok(byte)
-    }
-
-    /// A number below 2^32, in LEB128.
-    pub fn number(&mut self) -> Result<u32, DecodeError>
-        ensures err { IfErr result (λ e. e.offset ≤ length self.old.bytes.now) }
-        ensures work { self.new.work ≤ self.old.work }
-        ensures bytes { self.new.bytes.now ≡ self.old.bytes.now }
-    {
-        let start = self.position;
-        let mut value: u32 = 0;
-        for place in 0..5u32 {
-            let byte = self.byte()?;
-            if place == 4 && byte > 0x0f {
-                return error_at(ErrorKind::LongNumber, start);
-            }
-            value |= u32::from(byte & 0x7f) << (7 * place);
-            if byte < 0x80 {
-                return Ok(value);
-            }
-        }
-        error_at(ErrorKind::LongNumber, start)
-    }
-
-    /// A signed number of 33 bits, in LEB128: `None` where it is below 0.
-    pub fn index_or_opcode(&mut self) -> Result<Option<u32>, DecodeError>
-        ensures err { IfErr result (λ e. e.offset ≤ length self.old.bytes.now) }
-        ensures work { self.new.work ≤ self.old.work }
-        ensures bytes { self.new.bytes.now ≡ self.old.bytes.now }
-    {
-        let start = self.position;
-        let mut value: u64 = 0;
-        for place in 0..5u64 {
-            let byte = self.byte()?;
-            let sign = (byte >> 4) & 7;
-            if place == 4 && (byte >= 0x80 || (sign != 0 && sign != 7)) {
-                return error_at(ErrorKind::LongNumber, start);
-            }
-            value |= u64::from(byte & 0x7f) << (7 * place);
-            if byte < 0x80 {
-                return Ok(index_of(value, byte));
-            }
-        }
-        error_at(ErrorKind::LongNumber, start)
-    }
-
-    /// A number of at most ten bytes, which isn't needed.
-    pub fn skip_long_number(&mut self) -> Result<(), DecodeError>
-        ensures err { IfErr result (λ e. e.offset ≤ length self.old.bytes.now) }
-        ensures work { self.new.work ≤ self.old.work }
-        ensures bytes { self.new.bytes.now ≡ self.old.bytes.now }
-    {
-        let start = self.position;
-        for _ in 0..10u32 {
-            if self.byte()? < 0x80 {
-                return Ok(());
-            }
-        }
-        error_at(ErrorKind::LongNumber, start)
-    }
-
-    /// The number of items that follow. Each takes a byte at least, so there are no more of them than bytes.
-    pub fn count(&mut self) -> Result<u32, DecodeError>
-        ensures ok { IfOk result (λ n. n ≤ length self.old.bytes.now) }
-        ensures err { IfErr result (λ e. e.offset ≤ length self.old.bytes.now) }
-        ensures work { self.new.work ≤ self.old.work }
-        ensures bytes { self.new.bytes.now ≡ self.old.bytes.now }
-    {
-        let start = self.position;
-        let count = self.number()?;
-        if count as usize <= self.end - self.position {
-            Ok(count)
-        } else {
-            error_at(ErrorKind::Count, start)
-        }
-    }
-
-    /// A name: its length in bytes, and as many bytes of UTF-8.
-    pub fn name(&mut self) -> Result<&'a str, DecodeError>
-        ensures err { IfErr result (λ e. e.offset ≤ length self.old.bytes.now) }
-        ensures work { self.new.work ≤ self.old.work }
-        ensures bytes { self.new.bytes.now ≡ self.old.bytes.now }
-    {
-        let start = self.position;
-        let length = self.number()? as usize;
-        if length > self.end - self.position {
-            return error_at(ErrorKind::UnexpectedEnd, start);
-        }
-        self.charge(length as u64, start)?;
-        let first = self.position;
-        self.position += length;
-        let bytes = self.bytes;
-        text_at(bytes, first, length)
-    }
-
-    /// Whether something follows: a byte 0 or 1.
-    pub fn flag(&mut self) -> Result<bool, DecodeError>
-        ensures err { IfErr result (λ e. e.offset ≤ length self.old.bytes.now) }
-        ensures work { self.new.work ≤ self.old.work }
-        ensures bytes { self.new.bytes.now ≡ self.old.bytes.now }
-    {
-        let start = self.position;
-        match self.byte()? {
-            0 => Ok(false),
-            1 => Ok(true),
-            _ => error_at(ErrorKind::Opcode, start),
-        }
-    }
-}
-
-/// The index that the bits of a signed number mean, of whose bytes this was the last.
-fn index_of(value: u64, last: u8) -> Option<u32> {
-    if last & 0x40 != 0 {
-        return None;
-    }
-    u32::try_from(value).ok()
-}
-
-/// The text of so many bytes from an offset on.
-fn text_at(bytes: &[u8], first: usize, count: usize) -> Result<&str, DecodeError>
-    requires { first + count ≤ length bytes.now }
-    ensures err { IfErr result (λ e. e.offset ≤ length bytes.now) }
-{
-    match str::from_utf8(&bytes[first..first + count]) {
-        Ok(text) => Ok(text),
-        Err(fault) => error_at(
-            ErrorKind::Utf8,
-            first.saturating_add(fault.valid_up_to()).min(bytes.len()),
-        ),
     }
 }
