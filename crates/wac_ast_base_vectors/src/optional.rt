@@ -48,8 +48,11 @@ fn given(lexer: &mut Lexer) -> Given {
     }
 }
 
+/// An item, with its offset and length.
+type Item = (LexerResult<Token>, usize, usize);
+
 /// Texts, what an optional part at the start of each gives, and the items that are left.
-const OPTIONAL: [(&str, Given, &[(LexerResult<Token>, usize, usize)]); 5] = [
+static OPTIONAL: [(&str, Given, &[Item]); 5] = [
     ("as x;", Ok(Some((3, 1))), &[(Ok(Token::Semicolon), 4, 1)]),
     (
         "is x;",
@@ -73,13 +76,14 @@ const OPTIONAL: [(&str, Given, &[(LexerResult<Token>, usize, usize)]); 5] = [
     ("as ;", Err(Some(((3, 1), Some(Token::Semicolon)))), &[]),
 ];
 
-/// Asserts which items are left.
-fn leaves(rt: &impl Abort, mut lexer: Lexer, items: &[(LexerResult<Token>, usize, usize)]) {
+/// Whether these items are left.
+fn leaves(mut lexer: Lexer, items: &[Item]) -> bool {
     for (item, offset, len) in items {
-        let item = Some((*item, SourceSpan::new(*offset, *len)));
-        assert!(rt; lexer.next() == item, "of {offset}");
+        if lexer.next() != Some((*item, SourceSpan::new(*offset, *len))) {
+            return false;
+        }
     }
-    assert!(rt; lexer.next() == None, "the end");
+    lexer.next() == None
 }
 
 /// Where what a stream holds lies, and the stream.
@@ -125,21 +129,31 @@ fn taken(rt: &impl Abort, alloc: Global, source: &str) -> Taken {
 
 /// Texts, and what a type of each takes. Where the text ends with it, nothing is read after it: the lexer's span is
 /// that of the last item, which ends where the text ends and so is the byte before its start.
-const PAYLOADS: [(&str, Taken); 4] = [
+static PAYLOADS: [(&str, Taken); 4] = [
     ("stream<u8> x", (Some((7, 2)), (0, 10), true, (9, 1))),
     ("stream x", (None, (0, 6), true, (0, 6))),
     ("stream<u8>", (Some((7, 2)), (0, 10), false, (8, 1))),
     ("stream", (None, (0, 6), false, (0, 1))),
 ];
 
+/// Asserts what an optional part at the start of each text gives, and what it leaves.
+fn are_given(rt: &impl Abort, rows: &[(&str, Given, &[Item])]) {
+    for (source, expected, items) in rows {
+        let mut lexer = lexer(rt, source);
+        assert!(rt; given(&mut lexer) == *expected, "of {source}");
+        assert!(rt; leaves(lexer, items), "of {source}");
+    }
+}
+
+/// Asserts what a type of each text takes.
+fn are_taken(rt: &impl Abort, alloc: Global, rows: &[(&str, Taken)]) {
+    for (source, expected) in rows {
+        assert!(rt; taken(rt, alloc, source) == *expected, "of {source}");
+    }
+}
+
 #[test]
 fn optional_parts_and_payloads(rt: HostRuntime) {
-    for (source, expected, items) in OPTIONAL {
-        let mut lexer = lexer(&rt, source);
-        assert!(rt; given(&mut lexer) == expected, "of {source}");
-        leaves(&rt, lexer, items);
-    }
-    for (source, expected) in PAYLOADS {
-        assert!(rt; taken(&rt, rt.alloc(), source) == expected, "of {source}");
-    }
+    are_given(&rt, &OPTIONAL);
+    are_taken(&rt, rt.alloc(), &PAYLOADS);
 }

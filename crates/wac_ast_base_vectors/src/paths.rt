@@ -27,23 +27,27 @@ fn segments(alloc: Global, source: &str) -> ParseResult<SegmentSpans<'_>> {
     Ok(path.segment_spans())
 }
 
+/// Whether a path is the one of the test.
+fn is_path(path: &PackagePath) -> bool {
+    path.name == "%c:d"
+        && path.segments == "e/%f"
+        && path.package_name_span() == SourceSpan::new(23, 4)
+        && path.version.is_some()
+}
+
+/// Whether segments are those of the test.
+fn are_segments(mut segments: SegmentSpans<'_>) -> bool {
+    segments.next() == Some(("e", SourceSpan::new(28, 1)))
+        && segments.next() == Some(("%f", SourceSpan::new(30, 2)))
+        && segments.next() == None
+}
+
 #[test]
 fn names_and_segments(rt: HostRuntime) -> Result<(), Fail> {
-    let alloc = rt.alloc();
     let source = "package a:b; import x: %c:d/e/%f@1.0.0;";
-    let path = imported(alloc, source)?;
-    assert!(rt;
-        (path.name, path.segments) == ("%c:d", "e/%f"),
-        "of {source}"
-    );
-    assert!(rt;
-        path.package_name_span() == SourceSpan::new(23, 4),
-        "of {source}"
-    );
-    assert!(rt; path.version.is_some());
-    let mut segments = segments(alloc, source)?;
-    assert_eq!(rt; segments.next(), Some(("e", SourceSpan::new(28, 1))));
-    assert_eq!(rt; segments.next(), Some(("%f", SourceSpan::new(30, 2))));
-    assert_eq!(rt; segments.next(), None);
+    let path = imported(rt.alloc(), source)?;
+    assert!(rt; is_path(&path), "of {source}");
+    let segments = segments(rt.alloc(), source)?;
+    assert!(rt; are_segments(segments), "of {source}");
     Ok(())
 }

@@ -8,6 +8,14 @@ use std::test::Fail;
 use wac_ast_base::{Error, Lookahead, parse_token};
 use wac_lexer::{Lexer, SourceSpan, Token};
 
+/// Whether docs are one of this text, there.
+fn is_one(docs: &[(&str, SourceSpan)], text: &str, span: SourceSpan) -> bool {
+    match docs.first() {
+        Some((doc, place)) => docs.len() == 1 && *doc == text && *place == span,
+        None => false,
+    }
+}
+
 /// Asserts that one doc follows the lexer's place.
 fn has_doc(
     rt: &impl Abort,
@@ -17,14 +25,7 @@ fn has_doc(
     span: SourceSpan,
 ) -> Result<(), Fail> {
     let docs = lexer.comments(alloc)?;
-    assert!(rt; docs.len() == 1, "of {text}");
-    match docs.first() {
-        Some((doc, place)) => {
-            assert!(rt; *doc == text, "of {text}");
-            assert!(rt; *place == span, "of {text}");
-        }
-        None => panic!(rt; "no doc"),
-    }
+    assert!(rt; is_one(&docs, text, span), "of {text}");
     Ok(())
 }
 
@@ -73,7 +74,7 @@ fn a_refused_token_is_consumed(rt: &impl Abort, alloc: Global) -> Result<(), Fai
 }
 
 /// Eleven tokens, none of which is an identifier.
-const ELEVEN: [Token; 11] = [
+static ELEVEN: [Token; 11] = [
     Token::Semicolon,
     Token::Comma,
     Token::Colon,

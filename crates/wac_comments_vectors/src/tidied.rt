@@ -4,14 +4,14 @@ use crate::rows::{
     ROWS_1, ROWS_2, ROWS_3, ROWS_4, ROWS_5, ROWS_6, ROWS_7, ROWS_8, ROWS_9, ROWS_10, ROWS_11,
     ROWS_12, Row,
 };
-use std::alloc::Global;
+use std::alloc::{AllocError, Global};
 use std::process::Abort;
 use std::test::Fail;
 use wac_comments::{Indent, LineEnd, Options, TidyError, tidy};
 use wac_comments_layout::too_deep;
 
 /// Further options that each row is tidied with.
-const OPTIONS: [Options; 3] = [
+static OPTIONS: [Options; 3] = [
     Options {
         indent: Indent::Tab,
         line_end: LineEnd::Lf,
@@ -123,7 +123,7 @@ fn rows_12(rt: HostRuntime) -> Result<(), Fail> {
 }
 
 /// Documents, and what they are tidied to with tabs and CR LF. Line ends in strings and block comments stay.
-const WITH_TABS: [(&str, &str); 3] = [
+static WITH_TABS: [(&str, &str); 3] = [
     (
         "package a:b;\n// x\nexport y;",
         "package a:b;\r\n\r\n// x\r\nexport y;\r\n",
@@ -144,7 +144,7 @@ fn line_ends(rt: HostRuntime) {
         indent: Indent::Tab,
         line_end: LineEnd::CrLf,
     };
-    for (source, wanted) in WITH_TABS {
+    for (source, wanted) in &WITH_TABS {
         let is_tidied = tidies(rt.alloc(), source, wanted, options);
         assert!(rt; is_tidied, "{source}");
     }
@@ -164,6 +164,14 @@ fn nested(alloc: Global, depth: usize) -> Result<String, Fail> {
     Ok(text)
 }
 
+/// What is said of a text that isn't tidied.
+fn error_of(alloc: Global, source: &str) -> Result<String, AllocError> {
+    match tidy(alloc, source, Options::default()) {
+        Ok(_) => String::from_str(alloc, "it is tidied"),
+        Err(error) => error.to_string(alloc),
+    }
+}
+
 #[test]
 fn brackets_are_nested(rt: HostRuntime) -> Result<(), Fail> {
     let most = nested(rt.alloc(), 1000)?;
@@ -171,16 +179,11 @@ fn brackets_are_nested(rt: HostRuntime) -> Result<(), Fail> {
     let is_tidied = tidies(rt.alloc(), most, most, Options::default());
     assert!(rt; is_tidied, "a thousand");
     let more = nested(rt.alloc(), 1001)?;
-    match tidy(rt.alloc(), more.as_str(), Options::default()) {
-        Ok(text) => panic!(rt; "{text}"),
-        Err(error) => {
-            let told = error.to_string(rt.alloc())?;
-            assert!(rt;
-                told.as_str() == "brackets are nested deeper than 1,000",
-                "{told}"
-            );
-        }
-    }
+    let told = error_of(rt.alloc(), more.as_str())?;
+    assert!(rt;
+        told.as_str() == "brackets are nested deeper than 1,000",
+        "{told}"
+    );
     Ok(())
 }
 
@@ -201,7 +204,7 @@ fn the_first_bracket_is_reported(rt: HostRuntime) -> Result<(), Fail> {
 }
 
 /// Texts that are no documents, and what their errors say.
-const REFUSED: [(&str, &str); 3] = [
+static REFUSED: [(&str, &str); 3] = [
     ("package a:b // x", "expected `;`, found end of input"),
     (
         "package a:b; let x /* z */ y;",
@@ -213,16 +216,18 @@ const REFUSED: [(&str, &str); 3] = [
     ),
 ];
 
+/// Whether a text is no document, for this reason.
+fn is_refused(alloc: Global, source: &str, wanted: &str) -> Result<bool, AllocError> {
+    match tidy(alloc, source, Options::default()) {
+        Err(TidyError::Parse(error)) => Ok(error.to_string(alloc)?.as_str() == wanted),
+        _ => Ok(false),
+    }
+}
+
 #[test]
 fn texts_that_are_no_documents(rt: HostRuntime) -> Result<(), Fail> {
-    for (source, wanted) in REFUSED {
-        match tidy(rt.alloc(), source, Options::default()) {
-            Err(TidyError::Parse(error)) => {
-                let told = error.to_string(rt.alloc())?;
-                assert!(rt; told.as_str() == wanted, "{told} of {source}");
-            }
-            _ => panic!(rt; "{source} is tidied"),
-        }
+    for (source, wanted) in &REFUSED {
+        assert!(rt; is_refused(rt.alloc(), source, wanted)?, "of {source}");
     }
     Ok(())
 }

@@ -12,7 +12,7 @@ use wac_lexer::Lexer;
 const COUNT: u64 = 300;
 
 /// What stands in gaps. A text that is listed more than once is chosen more often.
-const GAPS: [&str; 40] = [
+static GAPS: [&str; 40] = [
     " ",
     " ",
     " ",
@@ -55,17 +55,22 @@ const GAPS: [&str; 40] = [
     "/***/\n",
 ];
 
-/// The tokens of a document, with another gap before each and at the end, as a seed determines.
-fn with_comments(alloc: Global, source: &str, seed: u64) -> Result<String, AllocError> {
+/// The tokens of a document, with another of these gaps before each and at the end, as a seed determines.
+fn with_comments(
+    alloc: Global,
+    source: &str,
+    seed: u64,
+    gaps: &[&str],
+) -> Result<String, AllocError> {
     let mut choices = Choices::new(seed);
     let mut all = String::new(alloc);
     if let Ok(mut lexer) = Lexer::new(source) {
         while let Some((_, span)) = lexer.next() {
-            all.push_str(choices.one_of(&GAPS))?;
+            all.push_str(choices.one_of(gaps))?;
             all.push_str(lexer.source(span))?;
         }
     }
-    all.push_str(choices.one_of(&GAPS))?;
+    all.push_str(choices.one_of(gaps))?;
     Ok(all)
 }
 
@@ -88,7 +93,7 @@ fn stays(rt: &impl Abort, alloc: Global, source: &str, options: Options) {
 fn all_stay(rt: &impl Abort, alloc: Global, options: Options) -> Result<(), Fail> {
     for seed in 0..COUNT {
         let source = document(alloc, seed)?;
-        let commented = with_comments(alloc, &source, seed)?;
+        let commented = with_comments(alloc, &source, seed, &GAPS)?;
         stays(rt, alloc, &commented, options);
     }
     Ok(())

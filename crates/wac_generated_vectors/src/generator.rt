@@ -8,7 +8,7 @@ type Rule = (char, &'static [&'static str]);
 
 /// What characters represent, from the whole document down. A text holds characters of later rules alone, so after the
 /// last rule none is left but `#`, which represents a number of its own.
-const RULES: [Rule; 27] = [
+static RULES: [Rule; 27] = [
     // a document
     (
         'D',
@@ -335,12 +335,18 @@ fn numbered(alloc: Global, text: &str) -> Result<String, AllocError> {
     Ok(all)
 }
 
+/// A document by these rules, one after the other, before its numbers.
+fn chosen(alloc: Global, rules: &[Rule], choices: &mut Choices) -> Result<String, AllocError> {
+    let mut text = String::from_str(alloc, "D")?;
+    for rule in rules {
+        text = replaced(alloc, &text, *rule, choices)?;
+    }
+    Ok(text)
+}
+
 /// The document of a seed.
 pub fn document(alloc: Global, seed: u64) -> Result<String, AllocError> {
     let mut choices = Choices::new(seed);
-    let mut text = String::from_str(alloc, "D")?;
-    for rule in RULES {
-        text = replaced(alloc, &text, rule, &mut choices)?;
-    }
+    let text = chosen(alloc, &RULES, &mut choices)?;
     numbered(alloc, &text)
 }

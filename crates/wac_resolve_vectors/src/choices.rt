@@ -7,7 +7,7 @@ use std::test::Fail;
 /// Whether `x` and `y` mean the same: an alias is a type of its own, but that of a function is a copy, and that of a resource
 /// is a resource of its own. So is each resource that is declared, also under one name. Lists are equal in order, and a type
 /// that is used under its own name, written once more, was renamed.
-const SAME: &[Row] = &[
+static SAME: &[Row] = &[
     (
         With::Nothing,
         "package a:b; type t = u8; type x = func(a: t); type y = func(a: u8);",
@@ -101,7 +101,7 @@ const SAME: &[Row] = &[
 ];
 
 /// Which of several broken rules is reported.
-const FIRST: &[Row] = &[
+static FIRST: &[Row] = &[
     (
         With::Nothing,
         "package a:b; record r { a: u8, a: u8, b: y }",
@@ -150,7 +150,7 @@ const FIRST: &[Row] = &[
 ];
 
 /// What a target does not allow.
-const OUTSIDE: &[Row] = &[
+static OUTSIDE: &[Row] = &[
     (
         With::Nothing,
         "package a:b targets a:b/w; interface i { type t = u8; } world v { use i.{ t }; } world w { include v; } import x: a:b/i;",
@@ -174,7 +174,7 @@ const OUTSIDE: &[Row] = &[
 ];
 
 /// What a target allows.
-const INSIDE: &[Row] = &[
+static INSIDE: &[Row] = &[
     (
         With::SameFits,
         "package a:b targets a:b/w; interface i { type t = u8; } world w { use i.{ t }; } import x: a:b/i;",
@@ -198,7 +198,7 @@ const INSIDE: &[Row] = &[
 ];
 
 /// What the world `w` includes: no uses. The import alone is renamed where an export has its name too.
-const INCLUDED: &[Row] = &[
+static INCLUDED: &[Row] = &[
     (
         With::Nothing,
         "package a:b; interface i { type t = u8; } world v { use i.{ t }; } world w { include v; }",
@@ -217,7 +217,7 @@ const INCLUDED: &[Row] = &[
 ];
 
 /// Names of paths, exports and world items.
-const NAMES: &[Row] = &[
+static NAMES: &[Row] = &[
     (
         With::Nothing,
         "package a:b; interface i { } import x: a:b/%i;",
@@ -266,7 +266,7 @@ const NAMES: &[Row] = &[
 ];
 
 /// Names of imports and exports.
-const NAMED: &[Row] = &[
+static NAMED: &[Row] = &[
     (
         With::Nothing,
         "package %a:b; interface i { } import x: %a:b/i;",
@@ -285,7 +285,7 @@ const NAMED: &[Row] = &[
 ];
 
 /// Arguments whose imports are inferred from their identifiers and nodes, and a spread of what is not exported yet.
-const FOUND: &[Row] = &[
+static FOUND: &[Row] = &[
     (
         With::Packages,
         "package a:b; import z: interface { f: func(); }; let i = new c:d { z, log: z.f };",

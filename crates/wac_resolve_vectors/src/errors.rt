@@ -5,7 +5,7 @@ use crate::readings::Asked;
 use std::test::Fail;
 
 /// Of names and worlds.
-const NAMES: &[Row] = &[
+static NAMES: &[Row] = &[
     (
         With::Nothing,
         "package a:b; import g: func(); let h = f;",
@@ -104,7 +104,7 @@ const NAMES: &[Row] = &[
 ];
 
 /// Of types.
-const TYPES: &[Row] = &[
+static TYPES: &[Row] = &[
     (
         With::Nothing,
         "package a:b; interface i { resource r { constructor(); constructor(); } }",
@@ -188,7 +188,7 @@ const TYPES: &[Row] = &[
 ];
 
 /// Of packages and arguments.
-const PACKAGES: &[Row] = &[
+static PACKAGES: &[Row] = &[
     (
         With::Packages,
         "package a:b; let x = new a:b {};",
@@ -237,7 +237,7 @@ const PACKAGES: &[Row] = &[
 ];
 
 /// Of accesses, exports and names outside.
-const EXPORTS: &[Row] = &[
+static EXPORTS: &[Row] = &[
     (
         With::Packages,
         "package a:b; import g: func(); let i = new c:d { ...g };",
@@ -331,7 +331,7 @@ const EXPORTS: &[Row] = &[
 ];
 
 /// Of targets.
-const TARGETS: &[Row] = &[
+static TARGETS: &[Row] = &[
     (
         With::Nothing,
         "package a:b targets a:b/w; world w { } import f as \"g\": func();",

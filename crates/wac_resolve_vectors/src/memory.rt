@@ -6,7 +6,7 @@ use std::alloc::{AllocError, Global};
 use std::test::Fail;
 
 /// Documents with what they are resolved with, and their graphs as lines or their errors.
-const DOCUMENTS: &[Row] = &[
+static DOCUMENTS: &[Row] = &[
     (
         With::Packages,
         "package a:b; import log: func(); let i = new c:d { log, ... }; export i.run;",

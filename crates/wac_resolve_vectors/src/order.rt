@@ -5,7 +5,7 @@ use crate::readings::Asked;
 use std::test::Fail;
 
 /// Documents, and the keys of the packages of their graphs.
-const KEYS: &[Row] = &[
+static KEYS: &[Row] = &[
     (With::Packages, "package a:b;", ""),
     (
         With::Packages,

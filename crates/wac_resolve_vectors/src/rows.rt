@@ -5,7 +5,7 @@ use crate::readings::Asked;
 use std::test::Fail;
 
 /// Declarations that are rejected.
-const DECLARATIONS: &[Row] = &[
+static DECLARATIONS: &[Row] = &[
     (
         With::Nothing,
         "package a:b; interface i { f: func(); type f = u32; }",
@@ -49,7 +49,7 @@ const DECLARATIONS: &[Row] = &[
 ];
 
 /// Declarations, and what the world `w` imports and exports.
-const WORLDS: &[Row] = &[
+static WORLDS: &[Row] = &[
     (
         With::Nothing,
         "package a:b; world v { import p: func(); export q: func(); } world w { include v with { p as p2 }; }",
@@ -63,7 +63,7 @@ const WORLDS: &[Row] = &[
 ];
 
 /// Compositions that are rejected.
-const COMPOSITIONS: &[Row] = &[
+static COMPOSITIONS: &[Row] = &[
     (
         With::Packages,
         "package a:b; let x = new c:d { ..., y };",
@@ -117,7 +117,7 @@ const COMPOSITIONS: &[Row] = &[
 ];
 
 /// Compositions, and their graphs.
-const GRAPHS: &[Row] = &[
+static GRAPHS: &[Row] = &[
     (
         With::Packages,
         "package a:b; import log: func(); let i = new c:d { log, ... }; export i.run;",

@@ -7,7 +7,7 @@ use std::test::Fail;
 use wac_resolution::Error;
 
 /// Documents, and the entries of the tables of their graphs.
-const ENTRIES: &[Row] = &[
+static ENTRIES: &[Row] = &[
     (With::Nothing, "package a:b; type a = u8;", "alias U8; "),
     (
         With::Nothing,
@@ -118,7 +118,7 @@ const ENTRIES: &[Row] = &[
 ];
 
 /// Documents whose last declaration breaks a rule.
-const ERRORS: &[Row] = &[
+static ERRORS: &[Row] = &[
     (
         With::Nothing,
         "package a:b; type a = list<%x>;",

@@ -148,7 +148,7 @@ fn make(
     }
 }
 
-const STEPS: [Step<'static>; 14] = [
+static STEPS: [Step<'static>; 14] = [
     Step::Import("a:b/log"),
     Step::Name(0, "log"),
     Step::Instance(None),
@@ -181,9 +181,10 @@ fn make_all(
     alloc: Global,
     graph: &mut CompositionGraph,
     package: &Package,
+    steps: &[Step<'_>],
 ) -> Result<bool, AllocError> {
-    for step in STEPS {
-        if !make(alloc, graph, package, step)? {
+    for step in steps {
+        if !make(alloc, graph, package, *step)? {
             return Ok(false);
         }
     }
@@ -194,7 +195,7 @@ fn make_all(
 pub fn composed(alloc: Global) -> Result<Option<CompositionGraph>, PackageError> {
     let package = component(alloc)?;
     let mut graph = CompositionGraph::new(alloc);
-    if make_all(alloc, &mut graph, &package)? {
+    if make_all(alloc, &mut graph, &package, &STEPS)? {
         Ok(Some(graph))
     } else {
         Ok(None)
