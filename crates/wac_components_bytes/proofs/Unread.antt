@@ -1,34 +1,8 @@
--- What is unread, before and after a byte or a name.
-use Rattle.std.proofs.Common.{◌≡◌, ℕ, ◌+◌, ◌-◌, ◌<◌, ◌≤◌, List, [], ◌∷◌, ◌++◌, length, take, drop, get_or, refl, sym, ap, subst, ◌∙◌, arith, append_assoc}
-use Rattle.std.proofs.lemmas.List.{drop_more, drop-drop, get_or-take, length-take-le, length-drop, take-append-drop, drop-take, take-take}
+-- What is unread, before and after a name.
+use Rattle.std.proofs.Common.{◌≡◌, ℕ, ◌+◌, ◌-◌, ◌≤◌, List, ◌++◌, length, take, drop, refl, sym, ap, subst, ◌∙◌, arith, append_assoc}
+use Rattle.std.proofs.lemmas.List.{drop-drop, length-take-le, length-drop, take-append-drop, drop-take, take-take}
 use Rattle.wac_components_bytes.specs.Leb128.{IsLeb128}
 use Rattle.wac_components_bytes.specs.Reading.{Reads, IsName}
-
--- the byte at a place before the end is what is unread first
-pub unread_first :
-    (bs : List ℕ) (place end byte : ℕ) → place < end → end ≤ length bs → byte ≡ get_or bs place byte
-    → drop place (take end bs) ≡ byte ∷ drop 1 (drop place (take end bs))
-unread_first bs place end byte below within is =
-    let long : length (take end bs) ≡ end = length-take-le end bs within in
-    let inside : place < length (take end bs) = omega arith in
-    let split : drop place (take end bs) ≡ get_or (take end bs) place byte ∷ drop (place + 1) (take end bs)
-    = drop_more (take end bs) place byte inside in
-    let same : get_or (take end bs) place byte ≡ get_or bs place byte = get_or-take end bs place byte below in
-    let rest : drop 1 (drop place (take end bs)) ≡ drop (place + 1) (take end bs) = drop-drop 1 place (take end bs) in
-    cc (split, same, is, rest)
-
--- behind the first byte is what is unread from the next place on
-pub unread_rest :
-    (bs : List ℕ) (place end byte : ℕ) → drop place (take end bs) ≡ byte ∷ drop 1 (drop place (take end bs))
-    → drop place (take end bs) ≡ byte ∷ drop (place + 1) (take end bs)
-unread_rest bs place end byte first =
-    let rest : drop 1 (drop place (take end bs)) ≡ drop (place + 1) (take end bs) = drop-drop 1 place (take end bs) in
-    cc (first, rest)
-
-pub unread_length : (bs : List ℕ) (place end : ℕ) → end ≤ length bs → length (drop place (take end bs)) ≡ end - place
-unread_length bs place end within =
-    let long : length (take end bs) ≡ end = length-take-le end bs within in
-    length-drop place (take end bs) ∙ ap (λ n. n - place) long
 
 -- so many bytes of what is unread, and what is unread behind them
 pub unread_split :

@@ -6,7 +6,7 @@ use wac_components_types::{ComponentId, InstanceId, Item, NameId, Owner, Table, 
 use wac_types::ExternKind;
 
 /// The names of types in one interface or world: those that it gives, and those of what these are names of.
-pub(crate) struct Names {
+pub struct Names {
     own: IndexMap<usize, NameId>,
     by_target: IndexMap<usize, NameId>,
 }
@@ -22,7 +22,8 @@ impl Drop for Names {
 
 /// Where a type was first: the side and the name of the interface, and the type's name there.
 #[derive(Clone, Copy)]
-pub(crate) struct Origin {
+pub struct Origin {
+    /// Whether a world imports or exports the interface.
     pub kind: ExternKind,
     pub interface: NameId,
     pub name: NameId,
@@ -32,7 +33,7 @@ pub(crate) struct Origin {
 const LONGEST_CHAIN: usize = 1000;
 
 /// What a type is another name of.
-pub(crate) fn target(table: &Table, ty: TypeId) -> Option<TypeId> {
+pub fn target(table: &Table, ty: TypeId) -> Option<TypeId> {
     match table.ty(ty) {
         Some(entry) => match entry.def {
             TypeDef::Named(named) => Some(named.target),
@@ -60,7 +61,8 @@ fn import_count(table: &Table, component: ComponentId) -> usize {
 }
 
 impl Names {
-    pub(crate) fn new(alloc: Global) -> Names {
+    /// No names.
+    pub fn new(alloc: Global) -> Names {
         Names {
             own: IndexMap::new(alloc),
             by_target: IndexMap::new(alloc),
@@ -95,7 +97,7 @@ impl Names {
     }
 
     /// Adds what an instance exports.
-    pub(crate) fn add_exports(
+    pub fn add_exports(
         &mut self,
         table: &Table,
         instance: InstanceId,
@@ -110,7 +112,7 @@ impl Names {
     }
 
     /// Adds what a component imports.
-    pub(crate) fn add_imports(
+    pub fn add_imports(
         &mut self,
         table: &Table,
         component: ComponentId,
@@ -125,7 +127,7 @@ impl Names {
     }
 
     /// The name that is given to exactly this type.
-    pub(crate) fn own(&self, ty: TypeId) -> Option<NameId> {
+    pub fn own(&self, ty: TypeId) -> Option<NameId> {
         self.own.get(&ty.0).copied()
     }
 
@@ -154,7 +156,7 @@ impl Names {
     }
 
     /// The name by which a type is called.
-    pub(crate) fn of(&self, table: &Table, ty: TypeId) -> Option<NameId> {
+    pub fn of(&self, table: &Table, ty: TypeId) -> Option<NameId> {
         match self.own_of(table, ty) {
             Some(name) => Some(name),
             None => self.shared_of(table, ty),
@@ -163,7 +165,7 @@ impl Names {
 }
 
 /// Where a type was first, if that is an interface with a name, and not this owner.
-pub(crate) fn origin_of(table: &Table, ty: TypeId, owner: Option<Owner>) -> Option<Origin> {
+pub fn origin_of(table: &Table, ty: TypeId, owner: Option<Owner>) -> Option<Origin> {
     let mut current = ty;
     let mut first = None;
     for _ in 0..LONGEST_CHAIN {
