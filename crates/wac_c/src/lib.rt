@@ -1,0 +1,7 @@
+//! The words of `wac` for callers in other languages, by C's conventions. include/wac.h declares what is exported.
+#![tactic(auto)]
+
+mod answer;
+mod run;
+
+pub use answer::WacAnswer;

@@ -1,0 +1,5 @@
+//! Tests of `wac_calls`.
+#![tactic(auto)]
+
+#[cfg(test)]
+mod calls;
