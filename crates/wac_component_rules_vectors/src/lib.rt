@@ -6,6 +6,14 @@ mod building;
 #[cfg(test)]
 mod chains;
 #[cfg(test)]
+mod choices;
+#[cfg(test)]
+mod definition;
+#[cfg(test)]
+mod generated;
+#[cfg(test)]
+mod generator;
+#[cfg(test)]
 mod items;
 #[cfg(test)]
 mod names;
