@@ -8,7 +8,7 @@ use Rattle.wac_lexer.specs.declared.token.Token.{Token}
 use Rattle.wac_lexer.specs.declared.token.Token.TheVariants as t
 use Rattle.wac_ast_base.specs.declared.error.Error.{Error}
 use Rattle.wac_grammar.specs.Tokens.{is_token, at, valid}
-use Rattle.wac_grammar.specs.Grammar.{Sym, Listed, listed, listed_more, Body}
+use Rattle.wac_grammar.specs.Grammar.{Sym, Listed, listed, listed_more}
 use Rattle.wac_grammar.specs.Grammar as g
 use Rattle.wac_grammar.specs.Reading.{Stop, can, closes as closing, follows, version, refuse, mapped, two, pair_with, read, read_in, read_token, read_sym, at_one_of, begins, empty}
 use Rattle.wac_ast_base.specs.Answer.{End, end_of_input, told, told_in, Fails, has_more, plain}

@@ -1,8 +1,8 @@
 -- What std's calls say of a text.
-use Rattle.std.proofs.Common.{◌≡◌, ℕ, ◌<◌, List, [], ◌∷◌, drop, length, Option, Some, None, MatchOption, refl, sym, ap, ◌∙◌, Bor, ◌==◌, arith, lit<, ◌+◌, ne_eqb, ◌++◌}
+use Rattle.std.proofs.Common.{◌≡◌, ℕ, ◌<◌, List, [], ◌∷◌, drop, length, Option, Some, None, MatchOption, refl, sym, ap, ◌∙◌, Bor, lit<, ◌+◌, ne_eqb, ◌++◌}
 use Rattle.std.proofs.lemmas.Str.Pattern.{strip_prefix_char}
 use Rattle.std.specs.Str.Pattern.{FindsCharPrefix}
-use Rattle.std.specs.Prelude.{if◌then◌else◌, Bool, true, false, unwrap_or}
+use Rattle.std.specs.Prelude.{unwrap_or}
 use Rattle.wac_grammar.specs.Tree.{without_percent, without_front_quote, without_last_quote}
 
 differs : (text : List ℕ) → ((rest : List ℕ) → text ≡ 37 ∷ rest → ⊥) → without_percent text ≡ text

@@ -1,5 +1,5 @@
 -- What a production gives: its parts in order, one step per part.
-use Rattle.std.proofs.Common.{◌≡◌, ◌<◌, Bool, true, false, cond, List, [], ◌∷◌, ◌++◌, length, map, Ok, inl, inr, refl, ap, Err, ◌∙◌, arith}
+use Rattle.std.proofs.Common.{◌≡◌, Bool, true, false, cond, List, [], ◌∷◌, ◌++◌, map, Ok, inl, inr, refl, ap, ◌∙◌}
 use Rattle.wac_lexer.specs.declared.token.Token.{Token}
 use Rattle.wac_lexer.specs.Item.{Item, Doc, OnFirst}
 use Rattle.wac_lexer.specs.Reading.{Reading, left}

@@ -1,8 +1,7 @@
 -- The trees of names, paths and docs, as values have them.
-use Rattle.std.specs.Prelude.{ℕ, List, [], Result, Ok, Err, ◌≡◌}
+use Rattle.std.specs.Prelude.{[], Result, Ok, Err, ◌≡◌}
 use Rattle.std.specs.Option.{option_map}
 use Rattle.semver.specs.Identifiers.{parts_of}
-use Rattle.wac_lexer.specs.Span.{Span}
 use Rattle.wac_lexer.specs.Item.{Doc}
 use Rattle.wac_lexer.specs.Reading.{Reading, left}
 use Rattle.wac_lexer.specs.declared.token.Token.{Token}

@@ -1,6 +1,5 @@
 -- The trees of expressions.
-use Rattle.std.specs.Prelude.{ℕ, List, map}
-use Rattle.wac_lexer.specs.Span.{Span}
+use Rattle.std.specs.Prelude.{List, map}
 use Rattle.wac_lexer.specs.Item.{Item}
 use Rattle.wac_grammar.specs.Grammar.{build, expr, postfixes as postfix_list}
 use Rattle.wac_grammar.specs.Reading.{mapped, read}

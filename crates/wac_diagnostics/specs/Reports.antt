@@ -2,7 +2,6 @@
 use Rattle.std.specs.Prelude.{◌≡◌, ℕ, List, [], Option, None, string_bytes}
 use Rattle.wac_lexer.specs.Span.{Span}
 use Rattle.wac_diagnostics.specs.declared.diagnostic.Diagnostic.{Diagnostic}
-use Rattle.wac_diagnostics.specs.declared.diagnostic.Severity.{Severity}
 use Rattle.wac_diagnostics.specs.declared.diagnostic.Severity.TheVariants.{Error}
 
 -- it is an error with this code, this message and this place

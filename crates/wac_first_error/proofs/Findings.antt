@@ -1,6 +1,6 @@
 -- What is found of a text that is no document.
 use Rattle.std.proofs.Common.{◌≡◌, ap, ℕ, List, inl, inr, Result, Ok, Err, IfOk, ⊎_elim, Bool}
-use Rattle.std.specs.Prelude.{◌⊎◌, ◌≢◌, alloc_error}
+use Rattle.std.specs.Prelude.{◌⊎◌, alloc_error}
 use Rattle.wac_grammar.specs.Tree.{Document}
 use Rattle.wac_grammar.specs.TextTree.{IsTreeOf}
 use Rattle.wac_ast.specs.Document.{ErrorOf}

@@ -1,6 +1,6 @@
 -- JSON values without floats: their compact text is decided by `serde_json`'s `compact_text`.
-use Rattle.std.specs.Prelude.{◌≡◌, List, [], ◌∷◌, Bool, true, false, Float, codes, refl}
-use Rattle.serde_json.specs.Data.{unsigned, float, Data, null, boolean, number, string, array, object, Items, no_items, item, Members, no_members, member}
+use Rattle.std.specs.Prelude.{◌≡◌, true, false, Float, codes, refl}
+use Rattle.serde_json.specs.Data.{unsigned, float, null, boolean, number, string, array, object, Items, no_items, item, Members, no_members, member}
 use Rattle.serde_json.specs.View.{view}
 use Rattle.serde_json.specs.Written.{has_float, items_have_float, members_have_float}
 use Rattle.serde_json.specs.declared.value.Value.{Value}

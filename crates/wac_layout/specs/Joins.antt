@@ -1,6 +1,6 @@
 -- Pieces that join: each is what it is meant to be, has no rejected character,
 -- and what follows a token doesn't continue it.
-use Rattle.std.specs.Prelude.{◌≡◌, ◌≢◌, ℕ, Bool, true, false, List, [], ◌∷◌, ◌++◌, Some, None, codes, refl}
+use Rattle.std.specs.Prelude.{◌≡◌, ◌≢◌, ℕ, Bool, true, List, [], ◌∷◌, ◌++◌}
 use Rattle.std.specs.List.{AllByRecursion}
 use Rattle.std.specs.Str.{trim}
 use Rattle.wac_lexer.specs.Ascii.{line_feed}

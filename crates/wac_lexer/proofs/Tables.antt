@@ -1,8 +1,7 @@
 -- The code's tables are the automaton's classes and steps: held against them entry by entry, by computation.
-use Rattle.std.proofs.Common.{◌≡◌, ℕ, ◌+◌, ◌*◌, ◌-◌, ◌<◌, ◌≤◌, Bool, true, get_or, refl, ap, ◌∙◌, subst, ⊎_elim, arith, Option, Some, None}
-use Rattle.std.specs.Prelude.{nat_eq, nat_lt, is_some, is_none}
-use Rattle.std.specs.Option.{option_map}
-use Rattle.std.proofs.lemmas.Bool.{eqb-true, ltb-true, cases_lt}
+use Rattle.std.proofs.Common.{◌≡◌, ℕ, zero, suc, ◌+◌, ◌*◌, ◌-◌, ◌<◌, ◌≤◌, Bool, true, List, [], take, get_or, refl, sym, ap, ◌∙◌, subst, ⊎_elim, arith, Option, Some, None}
+use Rattle.std.specs.Prelude.{nat_eq, nat_lt, is_some, is_none, option_map}
+use Rattle.std.proofs.lemmas.Bool.{eqb-true, ltb-true, cases_lt, false≢true}
 use Rattle.std.proofs.lemmas.List.{get_or_past}
 use Rattle.wac_lexer.specs.Automaton.{Class, State, class_of, step_of, shape_at, class_at, state_at, states}
 use Rattle.wac_lexer.specs.Automaton.Class.{Lower, Upper, Digit, Percent, Dash, Plus, Colon, Slash, At, Dot, Quote, CloseAngle, OtherSymbol, Other}
@@ -12,7 +11,8 @@ use Rattle.wac_lexer.specs.Automaton.State.{Start, Joined, Small, Capital, Behin
 use Rattle.wac_lexer.specs.declared.shape.Shape.{Shape}
 use Rattle.wac_lexer.specs.declared.shape.Shape.TheVariants as shapes
 use Rattle.wac_lexer.specs.declared.automaton.TheConstants.{CLASSES, STEPS}
-use Rattle.wac_lexer.proofs.States.{below, below_at, one_longer}
+use Rattle.wac_lexer.specs.Front.{found_at, longest}
+use Rattle.wac_lexer.proofs.States.{Reads, below, below_at, one_longer, shape_is, walk_longest}
 use Rattle.wac_lexer.proofs.Texts.{is_shape, is_shape_is}
 
 abbrev class_number : Class → ℕ
@@ -181,9 +181,6 @@ pub ends_none : (n : ℕ) → 13 ≤ n → shape_at (state_at n) ≡ None
 ends_none n low = ⊎_elim (λ (h : n < 27). none_from n h low) (λ (h : 27 ≤ n). ap shape_at (get_or_past states n Dead h)) (cases_lt n 27)
 
 -- a prefix of this length, with the shape of the texts that end in a state
-abbrev pub found_at : ℕ → ℕ → Option (ℕ × Shape)
-found_at len state = option_map (λ shape. (len, shape)) (shape_at (state_at state))
-
 -- one byte of the walk: what was found is the whole of what was read where a token may end, and stays where none does
 pub found_longer : (n state : ℕ) (found : Option (ℕ × Shape)) → state < 13 → found_at n state ≡ one_longer n (shape_at (state_at state)) found
 found_longer n state found h = go (shape_at (state_at state)) (ends_some state h)
@@ -194,3 +191,16 @@ found_longer n state found h = go (shape_at (state_at state)) (ends_some state h
 
 pub found_stays : (n state : ℕ) (found : Option (ℕ × Shape)) → 13 ≤ state → one_longer n (shape_at (state_at state)) found ≡ found
 found_stays n state found h = ap (λ s. one_longer n s found) (ends_none state h)
+
+none_is_some : (shape : Option Shape) → None ≡ shape → is_some shape ≡ true → ⊥
+none_is_some None e h = absurd (false≢true h)
+none_is_some (Some s) e h = absurd cc
+
+-- where the walk stands in a state in which a token may end, all that it has read is the longest prefix with a shape
+pub found_there : (text : List ℕ) (n state : ℕ) → Reads (state_at state) (take n text) → state < 13 → found_at n state ≡ longest text n
+found_there text zero state reads h = absurd (none_is_some (shape_at (state_at state)) (shape_is (state_at state) [] reads) (ends_some state h))
+found_there text (suc n) state reads h =
+    let more : n + 1 ≡ suc n = omega arith in
+    let there : Reads (state_at state) (take (n + 1) text) = subst (λ k. Reads (state_at state) (take k text)) (sym more) reads in
+    let found = found_longer (n + 1) state (longest text n) h ∙ sym (walk_longest text n (state_at state) (shape_at (state_at state)) there refl) in
+    subst (λ k. found_at k state ≡ longest text k) more found

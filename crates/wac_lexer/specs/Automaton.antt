@@ -195,3 +195,7 @@ class_count = 16
 -- its rows: one for each state
 abbrev pub state_count : ℕ
 state_count = 27
+
+-- the rows in which a token may end, which are the first
+abbrev pub end_count : ℕ
+end_count = 13

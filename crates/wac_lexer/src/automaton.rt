@@ -1,8 +1,7 @@
 // Finds the longest prefix of a text that has a shape, in one walk over its bytes by two tables.
 ghost use Rattle.std.specs.Prelude.{◌≡◌, ◌<◌, length};
-ghost use Rattle.std.specs.Option.{option_map};
-ghost use Rattle.wac_lexer.specs.Automaton.{class_of, class_at, class_count, step_of, state_at, state_count, shape_at};
-ghost use Rattle.wac_lexer.specs.Front.{longest};
+ghost use Rattle.wac_lexer.specs.Automaton.{class_of, class_at, class_count, step_of, state_at, state_count, end_count, shape_at};
+ghost use Rattle.wac_lexer.specs.Front.{found_at, longest};
 
 use crate::shape::Shape;
 
@@ -146,7 +145,7 @@ fn shape_at(state: u8) -> Option<Shape>
 
 /// A prefix of this length, with the shape of the texts that end in this state.
 fn front(len: usize, state: u8) -> Option<(usize, Shape)>
-    ensures { result ≡ option_map (λ shape. (len, shape)) (shape_at (state_at state)) }
+    ensures { result ≡ found_at len state }
 {
     match shape_at(state) {
         Some(shape) => Some((len, shape)),
@@ -154,8 +153,23 @@ fn front(len: usize, state: u8) -> Option<(usize, Shape)>
     }
 }
 
-/// The longest prefix that has a shape.
-pub(crate) fn longest_front(bytes: &[u8]) -> Option<(usize, Shape)>
+/// How many bytes come before the one that no text of any shape continues with, and the state behind them.
+fn walk(bytes: &[u8]) -> (usize, u8)
+    ensures { result.1 < end_count → found_at result.0 result.1 ≡ longest bytes.now (length bytes.now) }
+{
+    let mut state = START;
+    for (i, byte) in bytes.iter().enumerate() {
+        let next = step(state, *byte);
+        if next == DEAD {
+            return (i, state);
+        }
+        state = next;
+    }
+    (bytes.len(), state)
+}
+
+/// The longest prefix that has a shape, where the walk goes on behind it, as in `a:b/` or in `"` without an end.
+fn longest_ended(bytes: &[u8]) -> Option<(usize, Shape)>
     ensures { result ≡ longest bytes.now (length bytes.now) }
 {
     let mut state = START;
@@ -172,4 +186,16 @@ pub(crate) fn longest_front(bytes: &[u8]) -> Option<(usize, Shape)>
         }
     }
     front(len, last)
+}
+
+/// The longest prefix that has a shape.
+pub(crate) fn longest_front(bytes: &[u8]) -> Option<(usize, Shape)>
+    ensures { result ≡ longest bytes.now (length bytes.now) }
+{
+    let (len, state) = walk(bytes);
+    if state < ENDS {
+        front(len, state)
+    } else {
+        longest_ended(bytes)
+    }
 }

@@ -1,5 +1,5 @@
 -- What a new printer has written after a document.
-use Rattle.std.proofs.Common.{◌≡◌, ℕ, true, false, List, [], refl, ap, ◌∙◌}
+use Rattle.std.proofs.Common.{◌≡◌, ℕ, true, false, List, [], ap, ◌∙◌}
 use Rattle.wac_grammar.specs.Tree.{Document}
 use Rattle.wac_layout.specs.Bare.{doc_lines, bare_document}
 use Rattle.wac_layout.specs.StatementLayout.{document_layout}

@@ -1,6 +1,6 @@
 -- Spreads, name by name.
 use Rattle.std.proofs.Common.{◌≡◌, ◌∙◌, ◌+◌, ◌<◌, ℕ, List, [], ◌∷◌, ◌++◌, Option, Some, None, Bool, true, false, cond, refl, sym, ap, subst, map, take, length, get_or, fold, is_some, is_none, append_assoc, append-nil}
-use Rattle.std.specs.Prelude.{slice_get, option_map, option_and_then, IfSome, string_bytes, String}
+use Rattle.std.specs.Prelude.{option_map, IfSome, string_bytes, String}
 use Rattle.std.specs.declared.alloc.Global.{Global}
 use Rattle.std.proofs.lemmas.List.{map_push, length-map, get_or-map}
 use Rattle.std.proofs.lemmas.List.Sums.{fold_more}
@@ -10,13 +10,11 @@ use Rattle.wac_types.specs.declared.kind.InterfaceId.{InterfaceId}
 use Rattle.wac_types.specs.declared.kind.WorldId.{WorldId}
 use Rattle.wac_types.specs.declared.entry.Entry.{Entry}
 use Rattle.wac_types.specs.Meaning.{Meaning}
-use Rattle.wac_types.specs.Readings.{instance_exports, interface_exports, world_imports}
+use Rattle.wac_types.specs.Readings.{interface_exports, world_imports}
 use Rattle.wac_types.specs.Scope.{Named, look_up, with_named}
 use Rattle.wac_types.specs.Shape.{exports_of, items_mean}
 use Rattle.wac_types.specs.Table.{Names}
-use Rattle.wac_types.proofs.Shapes.{items_found}
 use Rattle.wac_graph.specs.declared.node.NodeId.{NodeId}
-use Rattle.wac_graph.specs.Node.{Node as GraphNode}
 use Rattle.wac_graph.specs.Graph.{Parts, export_kind}
 use Rattle.wac_graph.specs.Means.{means, entry_means, EntriesMean}
 use Rattle.wac_graph.specs.Origin.{Naming}

@@ -1,5 +1,5 @@
 -- Resources and declarations of types.
-use Rattle.std.proofs.Common.{◌≡◌, ◌∙◌, ◌⊎◌, inl, inr, ℕ, suc, List, [], ◌∷◌, ◌++◌, refl, sym, ap, subst, append-nil}
+use Rattle.std.proofs.Common.{◌≡◌, ◌∙◌, inr, ℕ, suc, [], ◌∷◌, ◌++◌, sym, ap, subst, append-nil}
 use Rattle.wac_lexer.specs.Span.{Span}
 use Rattle.wac_grammar.specs.Tree.{Ident, ResourceDecl, ItemTypeDecl}
 use Rattle.wac_types.specs.declared.kind.ExternKind.{ExternKind}
@@ -11,7 +11,7 @@ use Rattle.wac_types.specs.declared.kind.ResourceId.{ResourceId}
 use Rattle.wac_types.specs.declared.kind.ValueType.{ValueType}
 use Rattle.wac_types.specs.Kind.{a_resource}
 use Rattle.wac_types.specs.Meaning.{Meaning}
-use Rattle.wac_types.specs.Scope.{Named, Scope, IsFresh, with_named}
+use Rattle.wac_types.specs.Scope.{Named, IsFresh}
 use Rattle.wac_types.specs.Shape.{kind_of}
 use Rattle.wac_types.specs.Steps.{Steps, Fails}
 use Rattle.wac_types.specs.Table.{Names}
@@ -20,15 +20,15 @@ use Rattle.wac_graph.specs.Means.{means, entry_means, declared_count}
 use Rattle.wac_graph.specs.Origin.{Naming}
 use Rattle.wac_graph.specs.Resources.{resource_entry}
 use Rattle.wac_resolution_errors.specs.Error.{Error}
-use Rattle.wac_resolution_rules.specs.Bodies.{Body, with_count, with_type, with_resource, IsNew, DeclaresIn, HasMethod, HasItem}
-use Rattle.wac_resolution_rules.specs.BrokenBodies.{Owner, NameBroken, MethodBroken, ItemBroken}
+use Rattle.wac_resolution_rules.specs.Bodies.{Body, with_count, with_type, with_resource, DeclaresIn, HasMethod, HasItem}
+use Rattle.wac_resolution_rules.specs.BrokenBodies.{Owner, MethodBroken, ItemBroken}
 use Rattle.wac_resolution_rules.specs.Places.{at_ident}
 use Rattle.wac_resolution_rules.specs.Spans.{item_identifier}
 use Rattle.wac_resolution_state.specs.Bindings.{values_of, places_of}
 use Rattle.wac_resolution_types.specs.Declarations.{ValueAdded, KindAdded}
 use Rattle.wac_resolution_state.specs.Growth.{Grows, AddsResource}
 use Rattle.wac_resolution_state.proofs.Grown.{grows_on}
-use Rattle.wac_resolution_bodies.specs.Lists.{Lists, kinds_of, with_kind, with_bound}
+use Rattle.wac_resolution_bodies.specs.Lists.{Lists, kinds_of, with_bound}
 use Rattle.wac_resolution_bodies.specs.Bodies.{body_in, IsBody, BodyGoes, MethodsGo, ResourceGoes, IsDeclared, ItemGoes}
 use Rattle.wac_resolution_bodies.proofs.Lists.{body_still, body_kept, body_with_bound, means_with_bound, extern_fresh, bound_fresh, places_append}
 

@@ -1,9 +1,8 @@
 -- What is found among names that are bound, and among names with one more.
-use Rattle.std.proofs.Common.{◌≡◌, ◌∙◌, ℕ, List, [], ◌∷◌, Option, Some, None, Bool, true, false, cond, refl, sym, ap}
+use Rattle.std.proofs.Common.{◌≡◌, ◌∙◌, ℕ, List, Option, Some, None, refl, sym, ap}
 use Rattle.std.specs.Prelude.{option_map}
-use Rattle.std.specs.Str.{bytes_eq}
 use Rattle.wac_lexer.specs.Span.{Span}
-use Rattle.wac_types.specs.Scope.{Named, look_up, IsFresh, with_named}
+use Rattle.wac_types.specs.Scope.{look_up, IsFresh}
 use Rattle.wac_resolution_state.specs.Bindings.{Bindings, places_of, values_of}
 use Rattle.wac_resolution_state.proofs.Bound.{read_found}
 

@@ -1,6 +1,6 @@
 -- Bodies of a graph: what they mean as they and the graph grow.
-use Rattle.std.proofs.Common.{◌≡◌, ◌∙◌, ℕ, List, [], ◌∷◌, ◌++◌, Option, Some, None, refl, sym, ap, subst, map}
-use Rattle.std.specs.Prelude.{option_map, string_bytes}
+use Rattle.std.proofs.Common.{◌≡◌, ◌∙◌, ℕ, List, [], ◌∷◌, ◌++◌, Some, refl, sym, ap, subst}
+use Rattle.std.specs.Prelude.{option_map}
 use Rattle.std.proofs.lemmas.List.{map_push}
 use Rattle.wac_lexer.specs.Span.{Span}
 use Rattle.wac_types.specs.declared.kind.ExternKind.{ExternKind}
@@ -24,7 +24,6 @@ use Rattle.wac_resolution_state.specs.Named.{scope_of}
 use Rattle.wac_resolution_bodies.specs.Lists.{Lists, kinds_of, with_kind, with_bound}
 use Rattle.wac_resolution_bodies.specs.Bodies.{body_in, UsesNamed, Covers, IsBody}
 use Rattle.wac_resolution_rules.proofs.Scopes.{fresh_before, fresh_after}
-use Rattle.wac_resolution_bodies.proofs.Found.{value_fresh}
 
 -- each kind of the old graph means what it meant
 abbrev pub KeepsMeant : Naming → Parts → Parts → Type 0

@@ -1,7 +1,6 @@
 -- Constructors and methods.
-use Rattle.std.proofs.Common.{◌≡◌, ◌∙◌, ◌+◌, ◌<◌, inl, inr, ℕ, List, [], ◌∷◌, ◌++◌, Bool, true, false, refl, sym, ap, subst, map, take, length, get_or, append-nil}
-use Rattle.wac_lexer.specs.Span.{Span}
-use Rattle.wac_grammar.specs.Tree.{Ident, NamedType, Constructor, Method, ResourceMethod}
+use Rattle.std.proofs.Common.{◌≡◌, ◌∙◌, ◌+◌, ◌<◌, inl, inr, ℕ, List, [], ◌++◌, refl, sym, ap, subst, map, take, length, get_or, append-nil}
+use Rattle.wac_grammar.specs.Tree.{Ident, Constructor, Method, ResourceMethod}
 use Rattle.wac_types.specs.declared.kind.ExternKind.{ExternKind}
 use Rattle.wac_types.specs.declared.kind.ExternKind.TheVariants as sides
 use Rattle.wac_types.specs.declared.kind.FuncKind.TheVariants as funcs
@@ -12,12 +11,12 @@ use Rattle.wac_types.specs.declared.kind.FuncTypeId.{FuncTypeId}
 use Rattle.wac_types.specs.declared.kind.ResourceId.{ResourceId}
 use Rattle.wac_types.specs.Kind.{func}
 use Rattle.wac_types.specs.Meaning.{Meaning}
-use Rattle.wac_types.specs.Scope.{Named, Scope, StandsFor, IsFresh}
+use Rattle.wac_types.specs.Scope.{Scope, StandsFor, IsFresh}
 use Rattle.wac_types.specs.Shape.{kind_of, entry_of}
-use Rattle.wac_types.specs.Steps.{Steps, Fails}
+use Rattle.wac_types.specs.Steps.{Fails}
 use Rattle.wac_types.specs.Table.{Names}
 use Rattle.wac_graph.specs.Graph.{Parts}
-use Rattle.wac_graph.specs.Means.{means, entry_means, declared_count}
+use Rattle.wac_graph.specs.Means.{means, entry_means}
 use Rattle.wac_graph.specs.Origin.{Naming}
 use Rattle.wac_resolution_errors.specs.Error.{Error, duplicate_resource_method}
 use Rattle.wac_resolution_rules.specs.Types.{IsFuncWith, IsConstructor, first_params}
@@ -26,8 +25,7 @@ use Rattle.wac_resolution_rules.specs.BrokenTypes.{ParamsBroken, FuncBroken}
 use Rattle.wac_resolution_rules.specs.BrokenBodies.{IsSecondMethod, MethodBroken, method_kind}
 use Rattle.wac_resolution_state.specs.Bindings.{values_of, places_of}
 use Rattle.wac_resolution_types.specs.Funcs.{FuncAdded}
-use Rattle.wac_resolution_state.specs.Growth.{Grows, GrowsPlainly}
-use Rattle.wac_resolution_state.specs.Named.{scope_of}
+use Rattle.wac_resolution_state.specs.Growth.{Grows}
 use Rattle.wac_resolution_bodies.specs.Lists.{Lists, kinds_of, with_kind}
 use Rattle.wac_resolution_bodies.specs.Bodies.{body_in, IsBody, BodyGoes, IsTaken, MethodGoes, MethodsGo}
 use Rattle.wac_resolution_bodies.proofs.Lists.{body_still, body_kept, body_with_kind, means_with_kind, extern_fresh}

@@ -2,7 +2,7 @@
 use Rattle.std.proofs.Common.{◌≡◌, ◌∙◌, ◌+◌, ◌<◌, ◌≤◌, ℕ, suc, List, [], ◌∷◌, ◌++◌, inl, inr, refl, sym, ap, subst, take, drop, length, get_or}
 use Rattle.std.proofs.lemmas.List.{take_more, take_all, take-append-drop, drop_all}
 use Rattle.std.proofs.Math.Seq.{drop-cons}
-use Rattle.wac_grammar.specs.Tree.{Arguments, InstantiationArgument, arguments_from}
+use Rattle.wac_grammar.specs.Tree.{InstantiationArgument, arguments_from}
 use Rattle.wac_types.specs.Meaning.{Meaning}
 use Rattle.wac_types.specs.Scope.{Named}
 use Rattle.wac_resolution_errors.specs.Error.{Error}

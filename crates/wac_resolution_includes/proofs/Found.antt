@@ -1,6 +1,6 @@
 -- What a name finds among the entries of a `with` clause.
-use Rattle.std.proofs.Common.{◌≡◌, ◌∙◌, ℕ, List, [], ◌∷◌, Option, Some, None, Bool, true, false, cond, refl, sym, ap, map, Bor}
-use Rattle.std.specs.Prelude.{option_map, unwrap_or, alloc_error, string_bytes, String, slice_get}
+use Rattle.std.proofs.Common.{◌≡◌, ◌∙◌, ℕ, List, [], ◌∷◌, Option, Some, None, Bool, true, false, cond, refl, sym, ap, Bor}
+use Rattle.std.specs.Prelude.{option_map, unwrap_or, string_bytes, String, slice_get}
 use Rattle.std.specs.declared.alloc.Global.{Global}
 use Rattle.std.specs.Map.{remove_entry}
 use Rattle.std.specs.Str.{bytes_eq}
@@ -13,13 +13,11 @@ use Rattle.wac_ast_uses.specs.Uses.{world_include_item_of}
 use Rattle.wac_ast_uses.specs.declared.includes.WorldIncludeItem.{WorldIncludeItem as CodeWorldIncludeItem}
 use Rattle.wac_resolution_errors.specs.Error.{missing_world_include}
 use Rattle.wac_resolution_errors.specs.Told.{told}
-use Rattle.wac_resolution_errors.specs.declared.error.Error.{Error as CodeError}
 use Rattle.wac_resolution_errors.specs.declared.error.Error.TheVariants as errors
 use Rattle.wac_resolution_rules.specs.Includes.{name_taken}
 use Rattle.wac_resolution_rules.specs.BrokenWorlds.{entry_named, span_of_entry, span_taken, IsLeftOver}
 use Rattle.wac_grammar.specs.Spans.{world_ref_name, world_ref_span}
 use Rattle.wac_resolution_state.proofs.Bound.{read_found}
-use Rattle.wac_resolution_state.proofs.Scopes.{memory_told}
 use Rattle.wac_resolution_includes.specs.Entries.{Renamings, entries_of, AreOf}
 
 -- the name that an entry gives

@@ -8,7 +8,7 @@ use Rattle.std.proofs.lemmas.Option.{slice_get_within, get_or_from_slice_get}
 use Rattle.wac_lexer.specs.Span.{Span}
 use Rattle.wac_types.specs.declared.kind.ItemKind.{ItemKind}
 use Rattle.wac_types.specs.Meaning.{Meaning}
-use Rattle.wac_types.specs.Scope.{Named, Scope, look_up, IsFresh}
+use Rattle.wac_types.specs.Scope.{Named, Scope, look_up}
 use Rattle.wac_types.specs.Shape.{described}
 use Rattle.wac_types.specs.Steps.{Fails}
 use Rattle.wac_grammar.specs.Segments.{behind, located, segment_spans}
@@ -17,7 +17,7 @@ use Rattle.wac_grammar.specs.Version.{is_slash}
 use Rattle.wac_graph.specs.Graph.{Parts}
 use Rattle.wac_graph.specs.Means.{means}
 use Rattle.wac_graph.specs.Origin.{Naming}
-use Rattle.wac_resolution_errors.specs.Error.{Error, undefined_name, package_missing_export, package_path_missing_export}
+use Rattle.wac_resolution_errors.specs.Error.{Error, package_missing_export, package_path_missing_export}
 use Rattle.wac_resolution_rules.specs.BrokenBodies.{last_of, StandsAt, IsNoExport, IsNoPackageExport, OwnPathBroken, ForeignPathBroken}
 use Rattle.wac_resolution_rules.specs.BrokenTypes.{IsUndefined}
 use Rattle.wac_resolution_rules.specs.Paths.{segments_of, IsMember, LeadsFrom}

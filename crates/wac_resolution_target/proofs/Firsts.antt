@@ -1,5 +1,5 @@
 -- The first of a list that fails.
-use Rattle.std.proofs.Common.{◌≡◌, ◌∙◌, Result, Ok, Err, OnOk, IfErr, List, [], ◌∷◌, ◌++◌, refl, sym, ap, subst, append-nil}
+use Rattle.std.proofs.Common.{◌≡◌, ◌∙◌, Result, Ok, Err, OnOk, IfErr, List, [], ◌∷◌, ◌++◌, sym, ap, subst, append-nil}
 use Rattle.std.specs.List.{AllByRecursion}
 use Rattle.std.proofs.lemmas.List.{append_assoc}
 use Rattle.wac_resolution_errors.specs.Error.{Error}

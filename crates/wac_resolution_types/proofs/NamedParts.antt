@@ -1,8 +1,7 @@
 -- Named parts that are taken in order.
-use Rattle.std.proofs.Common.{◌≡◌, ◌∙◌, ◌+◌, ◌<◌, ℕ, List, [], ◌∷◌, Option, Some, Bool, true, false, cond, refl, sym, ap, subst, map, take, length, get_or}
+use Rattle.std.proofs.Common.{◌≡◌, ◌∙◌, ◌+◌, ◌<◌, ℕ, List, [], ◌∷◌, Option, Some, refl, sym, ap, subst, map, take, length, get_or}
 use Rattle.std.specs.Prelude.{option_map, IfSome, String}
 use Rattle.std.specs.declared.alloc.Global.{Global}
-use Rattle.std.specs.Str.{bytes_eq}
 use Rattle.std.proofs.lemmas.List.{map_push}
 use Rattle.wac_grammar.specs.Tree.{Ident}
 use Rattle.wac_types.specs.declared.kind.ItemKind.{ItemKind}

@@ -1,7 +1,6 @@
 -- What a type means, by what its parts mean.
-use Rattle.std.proofs.Common.{◌≡◌, ◌∙◌, ◌+◌, ◌<◌, ◌≤◌, ℕ, zero, suc, List, [], ◌∷◌, ◌++◌, Option, refl, sym, ap, subst, map, inl, inr, take, drop, length, get_or, arith}
+use Rattle.std.proofs.Common.{◌≡◌, ◌∙◌, ◌+◌, ◌<◌, ℕ, zero, suc, List, [], ◌∷◌, ◌++◌, Option, refl, sym, ap, subst, map, inl, inr, take, drop, length, get_or, arith}
 use Rattle.std.proofs.lemmas.List.{take_more, map_push}
-use denote.Param.Weighed.{most}
 use Rattle.std.specs.Prelude.{Vec, Box}
 use Rattle.std.specs.declared.alloc.Global.{Global}
 use Rattle.wac_lexer.specs.Span.{Span}

@@ -1,4 +1,4 @@
-use Rattle.std.proofs.Common.{◌≡◌, ap, ◌∙◌, lit<}
+use Rattle.std.proofs.Common.{ap, ◌∙◌, lit<}
 use Rattle.std.proofs.lemmas.Str.Pattern.{strip_prefix_char, strip_suffix_char}
 use Rattle.wac_grammar.specs.Tree.{without_last_quote}
 use Rattle.wac_ast_base.proofs.Strips.{front_stripped, last_stripped}

@@ -1,4 +1,4 @@
-use Rattle.std.proofs.Common.{◌≡◌, Ok, refl, sym, subst, List}
+use Rattle.std.proofs.Common.{Ok, refl, subst, List}
 use Rattle.std.specs.Fn.{FnOnceReturnsAtMut}
 use Rattle.wac_lexer.specs.Item.{Item}
 use Rattle.wac_lexer.specs.Reading.{left}

@@ -1,7 +1,4 @@
-use Rattle.std.proofs.Common.{◌≡◌, true, subst}
-use Rattle.wac_lexer.specs.Reading.{Reading, left}
 use Rattle.wac_lexer.specs.declared.token.Token.TheVariants as k
-use Rattle.wac_grammar.specs.Tokens.{at}
 use Rattle.wac_ast_base.proofs.Exits as x
 use Rattle.wac_ast_base.proofs.Yields as y
 use Rattle.wac_ast_types.proofs.NamedResults.{no_name, names_fail, names_yield}

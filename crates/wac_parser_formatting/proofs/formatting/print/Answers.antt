@@ -1,4 +1,4 @@
-use Rattle.std.proofs.Common.{◌≡◌, ap, ◌∙◌}
+use Rattle.std.proofs.Common.{ap, ◌∙◌}
 use Rattle.wac_lexer.specs.Device.{Kept}
 use Rattle.wac_ast.specs.Statements.{document_of}
 use Rattle.wac_printer_pieces.specs.Printed.{space_of}

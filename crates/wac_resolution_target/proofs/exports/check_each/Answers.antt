@@ -1,4 +1,4 @@
-use Rattle.std.proofs.Common.{◌≡◌, List, ℕ, ap, subst}
+use Rattle.std.proofs.Common.{List, ℕ, ap, subst}
 use Rattle.std.specs.Prelude.{string_bytes}
 use Rattle.std.proofs.lemmas.Result.{err_from_is_err_and}
 use Rattle.wac_types.specs.declared.kind.ItemKind.{ItemKind}

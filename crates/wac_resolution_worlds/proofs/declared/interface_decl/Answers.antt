@@ -1,4 +1,4 @@
-use Rattle.std.proofs.Common.{List, Option, Some, map, subst}
+use Rattle.std.proofs.Common.{List, Some, map, subst}
 use Rattle.std.specs.Prelude.{string_bytes}
 use Rattle.std.proofs.lemmas.Result.{err_from_is_err_and}
 use Rattle.wac_ast_worlds.specs.Worlds.{interface_item_of, interface_decl_of}

@@ -1,9 +1,8 @@
 use Rattle.std.proofs.Common.{◌≡◌, ◌<◌, take}
 use Rattle.wac_lexer.specs.Automaton.{state_at, state_count}
-use Rattle.wac_lexer.specs.Front.{longest}
+use Rattle.wac_lexer.specs.Front.{found_at, longest}
 use Rattle.wac_lexer.proofs.States.{Reads}
-use Rattle.wac_lexer.proofs.Tables.{found_at}
-use Rattle.wac_lexer.proofs.automaton.longest_front.Given as goal
+use Rattle.wac_lexer.proofs.automaton.longest_ended.Given as goal
 
 abbrev pub invariant-loop-i : goal.invariant-loop-i
 invariant-loop-i l =

@@ -1,10 +1,10 @@
 use Rattle.std.proofs.Common.{◌+◌, take, sym, refl, ap, ◌∙◌, arith}
 use Rattle.wac_lexer.specs.Automaton.{state_at}
-use Rattle.wac_lexer.specs.Front.{longest}
+use Rattle.wac_lexer.specs.Front.{found_at, longest}
 use Rattle.wac_lexer.proofs.States.{Reads, walk_reads, walk_longest, walk_ends}
-use Rattle.wac_lexer.proofs.Tables.{found_at, found_longer, found_stays}
-use Rattle.wac_lexer.proofs.automaton.longest_front.Goals as goal
-use Rattle.wac_lexer.proofs.automaton.longest_front.Goals.{After-step-state, then-state-lt-ENDS, else-state-lt-ENDS}
+use Rattle.wac_lexer.proofs.Tables.{found_longer, found_stays}
+use Rattle.wac_lexer.proofs.automaton.longest_ended.Goals as goal
+use Rattle.wac_lexer.proofs.automaton.longest_ended.Goals.{After-step-state, then-state-lt-ENDS, else-state-lt-ENDS}
 
 -- the state after the byte knows what may follow
 next_reads : (c : After-step-state) → Reads (state_at c.step-state.result) (take (c.loop-i.i + 1) c.args.bytes.now)
