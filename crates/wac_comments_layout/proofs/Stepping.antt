@@ -2,15 +2,14 @@
 use Rattle.std.proofs.Common.{◌≡◌, ℕ, zero, suc, ◌+◌, ◌<◌, ◌≤◌, cond, List, [], ◌∷◌, ◌++◌, map, take, drop, length, sym, refl, ap, ◌∙◌, arith, Ok, Option, Some, None, Result, append_assoc}
 use Rattle.std.specs.Prelude.{◌==◌}
 use Rattle.std.proofs.Math.Seq.{take-append_seam}
-use Rattle.std.proofs.lemmas.Bool.{ne_eqb}
 use Rattle.std.proofs.lemmas.List.{drop-drop, length-drop, map-append}
-use Rattle.wac_lexer.specs.Comments.{part_len, parts_len, gap}
+use Rattle.wac_lexer.specs.Comments.{part_len, gap}
 use Rattle.wac_lexer.specs.Follow.{Follows}
 use Rattle.wac_lexer.specs.Items.{first_item, items_from}
 use Rattle.wac_lexer.specs.Span.{span}
 use Rattle.wac_lexer.specs.declared.token.Token.{Token}
 use Rattle.wac_lexer.specs.declared.error.Error.{Error}
-use Rattle.wac_lexer.proofs.Gaps.{gap_done}
+use Rattle.wac_lexer.proofs.Gaps.{gap_done, gap_part}
 use Rattle.wac_lexer.proofs.Standing.{stands_alone}
 use Rattle.wac_lexer.proofs.Unfolded.{start_of, items_some, items_none, items_end}
 use Rattle.wac_comments_layout.specs.Pieces.{Piece, comment_of_part, comments_at, comments_upto, end_piece, piece, pieces_after}
@@ -60,32 +59,6 @@ unfolding comments_at
 part_step source place p e positive more =
     let step = comments_more source (length source) place p e positive more (omega arith) in
     step.2 ∙ ap (λ c. comment_of_part place (take p (drop place source)) ++ c) (same_comments source step.0 (length source) (place + p) step.1 (omega arith))
-
--- the length of a gap, part by part: any number of parts not below that of the bytes will do
-abbrev next_part : ℕ → ℕ → List ℕ → ℕ
-next_part p m t = p + cond (p == 0) 0 (parts_len m (drop p t))
-
-parts_none : (m : ℕ) → parts_len m [] ≡ 0
-parts_none zero = refl
-parts_none (suc m) = refl
-
-enough : (n m : ℕ) (t : List ℕ) → length t ≤ n → length t ≤ m → parts_len n t ≡ parts_len m t
-enough zero m [] a b = sym (parts_none m)
-enough zero m (x ∷ t) a b = absurd (omega arith)
-enough (suc n) zero [] a b = parts_none (suc n)
-enough (suc n) zero (x ∷ t) a b = absurd (omega arith)
-enough (suc n) (suc m) t a b = by_part (part_len t) refl (λ p pos. enough n m (drop p t) (omega (arith, length-drop p t)) (omega (arith, length-drop p t)))
-  where
-    by_part : (p : ℕ) → part_len t ≡ p → ((p : ℕ) → 0 < p → parts_len n (drop p t) ≡ parts_len m (drop p t)) → parts_len (suc n) t ≡ parts_len (suc m) t
-    by_part zero e rec = ap (λ p. next_part p n t) e ∙ sym (ap (λ p. next_part p m t) e)
-    by_part (suc p) e rec = ap (λ p. next_part p n t) e ∙ ap (λ r. suc p + cond (suc p == 0) 0 r) (rec (suc p) (omega arith)) ∙ sym (ap (λ p. next_part p m t) e)
-
-gap_part : (t : List ℕ) (p : ℕ) → part_len t ≡ p → 0 < p → 0 < length t → gap t ≡ p + gap (drop p t)
-gap_part [] p e pos long = absurd (omega arith)
-gap_part (x ∷ t) p e pos long =
-    ap (λ p. next_part p (length t) (x ∷ t)) e
-    ∙ ap (λ b. p + cond b 0 (parts_len (length t) (drop p (x ∷ t)))) (ne_eqb p 0 (λ z. omega arith))
-    ∙ ap (λ n. p + n) (enough (length t) (length (drop p (x ∷ t))) (drop p (x ∷ t)) (omega (arith, length-drop p (x ∷ t))) (omega arith))
 
 -- behind a part the next item begins where it did
 same_start : (source : List ℕ) (place p : ℕ) → part_len (drop place source) ≡ p → 0 < p → place < length source → start_of source place ≡ start_of source (place + p)

@@ -1,51 +1,24 @@
 -- Reading past a blank or a comment: the items after it, with its doc.
-use Rattle.std.proofs.Common.{◌≡◌, ◌≢◌, ℕ, zero, suc, ◌+◌, ◌-◌, ◌<◌, ◌≤◌, Bool, true, false, cond, List, [], ◌∷◌, ◌++◌, take, drop, length, sym, refl, ap, ◌∙◌, subst, inl, inr, arith, Option, Some, None, Result, length-append, add-zero}
-use Rattle.std.specs.Prelude.{◌==◌, ◌&&◌, nat_eq}
+use Rattle.std.proofs.Common.{◌≡◌, ◌≢◌, ℕ, suc, ◌+◌, ◌-◌, ◌<◌, Bool, true, false, cond, List, [], ◌∷◌, ◌++◌, take, drop, length, sym, refl, ap, ◌∙◌, subst, inl, inr, arith, Option, Some, None, Result, length-append, add-zero}
+use Rattle.std.specs.Prelude.{◌&&◌, nat_eq}
 use Rattle.std.specs.Str.{IsUtf8, trim, trim_start, trim_end, chars, skip_leading_whitespace, encode_utf8_all}
 use Rattle.std.proofs.Math.Seq.{drop-append_seam}
-use Rattle.std.proofs.lemmas.List.{drop-drop, length-drop}
-use Rattle.std.proofs.lemmas.Bool.{ne_eqb}
+use Rattle.std.proofs.lemmas.List.{drop-drop}
 use Rattle.std.proofs.lemmas.Str.{chars-append, chars-IsAscii, IsUtf8-from_ascii}
 use Rattle.std.proofs.lemmas.Str.Ascii.{IsAscii-nil, IsAscii-cons}
 use Rattle.wac_lexer.specs.Span.{span}
 use Rattle.wac_lexer.specs.Item.{Item, Doc}
-use Rattle.wac_lexer.specs.Comments.{part_len, parts_len, gap}
+use Rattle.wac_lexer.specs.Comments.{part_len, gap}
 use Rattle.wac_lexer.specs.Docs.{doc_text, doc_of_part, docs_at}
 use Rattle.wac_lexer.specs.Gap.{IsPart, Gap, EndsLine, docs_among}
 use Rattle.wac_lexer.specs.Items.{first_item, items_from}
 use Rattle.wac_lexer.specs.declared.token.Token.{Token}
 use Rattle.wac_lexer.specs.declared.error.Error.{Error}
+use Rattle.wac_lexer.proofs.Gaps.{gap_part}
 use Rattle.wac_lexer.proofs.Parts.{part_takes, longest_gap, docs_in_gap}
 use Rattle.wac_lexer.proofs.Unfolded.{start_of, items_none, items_some}
 use Rattle.wac_layout.specs.Joins.{AreBlanks, IsDocLine}
 use Rattle.wac_layout.specs.Placed.{with_docs}
-
--- the length of a gap, part by part
-abbrev next_part : ℕ → ℕ → List ℕ → ℕ
-next_part p m t = p + cond (p == 0) 0 (parts_len m (drop p t))
-
-parts_none : (m : ℕ) → parts_len m [] ≡ 0
-parts_none zero = refl
-parts_none (suc m) = refl
-
--- any number of parts not below that of the bytes will do
-enough : (n m : ℕ) (t : List ℕ) → length t ≤ n → length t ≤ m → parts_len n t ≡ parts_len m t
-enough zero m [] a b = sym (parts_none m)
-enough zero m (x ∷ t) a b = absurd (omega arith)
-enough (suc n) zero [] a b = parts_none (suc n)
-enough (suc n) zero (x ∷ t) a b = absurd (omega arith)
-enough (suc n) (suc m) t a b = by_part (part_len t) refl (λ p pos. enough n m (drop p t) (omega (arith, length-drop p t)) (omega (arith, length-drop p t)))
-  where
-    by_part : (p : ℕ) → part_len t ≡ p → ((p : ℕ) → 0 < p → parts_len n (drop p t) ≡ parts_len m (drop p t)) → parts_len (suc n) t ≡ parts_len (suc m) t
-    by_part zero e rec = ap (λ p. next_part p n t) e ∙ sym (ap (λ p. next_part p m t) e)
-    by_part (suc p) e rec = ap (λ p. next_part p n t) e ∙ ap (λ r. suc p + cond (suc p == 0) 0 r) (rec (suc p) (omega arith)) ∙ sym (ap (λ p. next_part p m t) e)
-
-gap_part : (t : List ℕ) (p : ℕ) → part_len t ≡ p → 0 < p → 0 < length t → gap t ≡ p + gap (drop p t)
-gap_part [] p e pos long = absurd (omega arith)
-gap_part (x ∷ t) p e pos long =
-    ap (λ p. next_part p (length t) (x ∷ t)) e
-    ∙ ap (λ b. p + cond b 0 (parts_len (length t) (drop p (x ∷ t)))) (ne_eqb p 0 (λ z. omega arith))
-    ∙ ap (λ n. p + n) (enough (length t) (length (drop p (x ∷ t))) (drop p (x ∷ t)) (omega (arith, length-drop p (x ∷ t))) (omega arith))
 
 -- the items of a source after a place, from where its first item begins and the docs of the place
 abbrev items_by : List ℕ → ℕ → List Doc → Option (Result Token Error × ℕ) → List Item

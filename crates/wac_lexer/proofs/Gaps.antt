@@ -1,10 +1,11 @@
 -- One step over the blanks and comments of a gap.
-use Rattle.std.proofs.Common.{◌≡◌, ℕ, zero, suc, ◌+◌, ◌-◌, ◌<◌, ◌≤◌, false, cond, List, drop, length, sym, ap, ◌∙◌, arith, Some, None, add-zero}
+use Rattle.std.proofs.Common.{◌≡◌, ℕ, zero, suc, ◌+◌, ◌-◌, ◌<◌, ◌≤◌, false, cond, List, [], ◌∷◌, drop, length, sym, refl, ap, ◌∙◌, arith, Some, None, add-zero}
 use Rattle.std.specs.Prelude.{◌==◌}
 use Rattle.std.proofs.lemmas.List.{drop-drop, drop_all, length-drop}
 use Rattle.std.proofs.lemmas.Bool.{ne_eqb}
-use Rattle.wac_lexer.specs.Comments.{behind, block_len, part_len, parts_len}
+use Rattle.wac_lexer.specs.Comments.{behind, block_len, gap, part_len, parts_len}
 
+-- the length of a gap, part by part
 abbrev next_part : ℕ → ℕ → List ℕ → ℕ
 next_part p m t = p + cond (p == 0) 0 (parts_len m (drop p t))
 
@@ -32,3 +33,26 @@ block_is text n long fits e =
 
 pub block_none : (text : List ℕ) → behind 1 (drop 2 text) ≡ None → 0 ≡ block_len text
 block_none text e = sym (ap (λ o. elim o [ Some r ↦ length text - length r | None ↦ 0 ]) e)
+
+parts_none : (m : ℕ) → parts_len m [] ≡ 0
+parts_none zero = refl
+parts_none (suc m) = refl
+
+-- any number of parts not below that of the bytes will do
+enough : (n m : ℕ) (t : List ℕ) → length t ≤ n → length t ≤ m → parts_len n t ≡ parts_len m t
+enough zero m [] a b = sym (parts_none m)
+enough zero m (x ∷ t) a b = absurd (omega arith)
+enough (suc n) zero [] a b = parts_none (suc n)
+enough (suc n) zero (x ∷ t) a b = absurd (omega arith)
+enough (suc n) (suc m) t a b = by_part (part_len t) refl (λ p pos. enough n m (drop p t) (omega (arith, length-drop p t)) (omega (arith, length-drop p t)))
+  where
+    by_part : (p : ℕ) → part_len t ≡ p → ((p : ℕ) → 0 < p → parts_len n (drop p t) ≡ parts_len m (drop p t)) → parts_len (suc n) t ≡ parts_len (suc m) t
+    by_part zero e rec = ap (λ p. next_part p n t) e ∙ sym (ap (λ p. next_part p m t) e)
+    by_part (suc p) e rec = ap (λ p. next_part p n t) e ∙ ap (λ r. suc p + cond (suc p == 0) 0 r) (rec (suc p) (omega arith)) ∙ sym (ap (λ p. next_part p m t) e)
+
+pub gap_part : (t : List ℕ) (p : ℕ) → part_len t ≡ p → 0 < p → 0 < length t → gap t ≡ p + gap (drop p t)
+gap_part [] p e pos long = absurd (omega arith)
+gap_part (x ∷ t) p e pos long =
+    ap (λ p. next_part p (length t) (x ∷ t)) e
+    ∙ ap (λ b. p + cond b 0 (parts_len (length t) (drop p (x ∷ t)))) (ne_eqb p 0 (λ z. omega arith))
+    ∙ ap (λ n. p + n) (enough (length t) (length (drop p (x ∷ t))) (drop p (x ∷ t)) (omega (arith, length-drop p (x ∷ t))) (omega arith))
