@@ -1,0 +1,4 @@
+mod Assembling
+mod Choosing
+mod Defining
+mod Unmoved

@@ -1,0 +1,10 @@
+use Rattle.std.proofs.Common.{◌≡◌, ℕ, List, subst}
+use Rattle.std.specs.Prelude.{IfOk}
+use Rattle.wac_types.specs.declared.kind.ItemKind.{ItemKind}
+use Rattle.wac_types.specs.Names.{by_name}
+use Rattle.wac_graph_packages.proofs.Unmoved.{items_stay}
+use Rattle.wac_graph_packages.proofs.copies.copied_items.Goals as goal
+
+pub returns : goal.returns
+returns c =
+    subst (λ (ds : List (List ℕ × ItemKind)). IfOk c.copy_items.result (λ items. by_name items.entries ≡ ds)) (items_stay (by_name c.args.from.now.entries)) c.copy_items.ensures
