@@ -2,13 +2,13 @@
 use Rattle.std.proofs.Common.{◌≡◌, ℕ, zero, suc, ◌+◌, ◌-◌, ◌<◌, ◌≤◌, Bool, true, false, cond, List, [], ◌∷◌, map, take, get_or, subst, codes, drop, length, min, sym, refl, ap, ◌∙◌, arith, ⊎_elim}
 use denote.Bor.{Bor}
 use lib.Pointwise.{pointwise}
-use Rattle.std.specs.Prelude.{◌&&◌, ◌||◌, nat_le}
+use Rattle.std.specs.Prelude.{◌&&◌, ◌||◌, nat_eq, nat_le}
 use Rattle.std.specs.List.{drop-map, list_all, starts_with, take-map}
 use Rattle.std.specs.Str.{bytes_eq}
 use Rattle.std.specs.Cmp.Derive.Mapped.{pointwise-map}
 use Rattle.std.proofs.lemmas.List.{drop_min, get_or-drop, length-map}
 use Rattle.std.proofs.lemmas.Option.{unwrap_or-slice_get}
-use Rattle.std.proofs.lemmas.Bool.{and_parts, cases_lt, false≢true, le-leb, leb-true, or_parts}
+use Rattle.std.proofs.lemmas.Bool.{and_parts, cases_lt, eq-eqb, false≢true, le-leb, leb-true, or_parts}
 use Rattle.wac_lexer.proofs.Texts.{bytes_eq_is}
 use Rattle.wac_comments_layout.specs.Printing.{Texts, goes, goes_far_from_nothing, is_among, is_last_comma, is_near_nothing, may_go, now_of, stand_at, token_at, token_before}
 use Rattle.wac_comments_layout.specs.Brackets.{is_closing, is_flat}
@@ -56,6 +56,21 @@ stands_pass P [] (t ∷ these) back s lt pass = absurd (false≢true s)
 stands_pass P (x ∷ rest) (t ∷ these) zero s lt pass = same_passes P t x (and_parts (bytes_eq t x) (starts_with bytes_eq rest these) s).0 pass
 stands_pass P (x ∷ rest) (t ∷ these) (suc back) s lt pass =
     stands_pass P rest these back (and_parts (bytes_eq t x) (starts_with bytes_eq rest these) s).1 (omega (arith, lt)) pass
+
+-- where the token at an index is not as long as the first of these, they don't stand there
+pub other_length : (tokens these : Texts) (at : ℕ) → 0 < length these → nat_eq (length (token_at tokens at)) (length (token_at these 0)) ≡ false → stand_at tokens at these ≡ false
+other_length tokens these at some other = go (stand_at tokens at these) refl
+  where
+    as_long : List ℕ → Bool
+    as_long t = nat_eq (length t) (length (token_at these 0))
+
+    go : (b : Bool) → stand_at tokens at these ≡ b → stand_at tokens at these ≡ false
+    go false e = e
+    go true e =
+        let first : as_long (get_or these 0 []) ≡ true = ap as_long (sym (unwrap_or-slice_get these 0 [])) ∙ eq-eqb (length (token_at these 0)) (length (token_at these 0)) refl in
+        let here : at + 0 ≡ at = omega arith in
+        let token : get_or (drop at tokens) 0 [] ≡ token_at tokens at = get_or-drop at tokens 0 [] ∙ ap (λ n. get_or tokens n []) here ∙ sym (unwrap_or-slice_get tokens at []) in
+        absurd (false≢true (sym other ∙ ap as_long (sym token) ∙ stands_pass as_long (drop at tokens) these 0 e some first))
 
 all_pass : (P : List ℕ → Bool) (these : Texts) → list_all P these ≡ true → (k : ℕ) → k < length these → P (get_or these k []) ≡ true
 all_pass P [] all k lt = absurd (omega (arith, lt))

@@ -1,20 +1,44 @@
 -- One step of the walk over the pieces of a text, and over the comments of a gap.
-use Rattle.std.proofs.Common.{◌≡◌, ℕ, zero, suc, ◌+◌, ◌<◌, ◌≤◌, false, cond, List, [], ◌∷◌, ◌++◌, map, take, drop, length, sym, refl, subst, ap, ◌∙◌, arith, Some, None, append_assoc}
-use Rattle.std.specs.Prelude.{◌==◌, Result}
-use Rattle.std.proofs.lemmas.List.{drop_all}
+use Rattle.std.proofs.Common.{◌≡◌, ℕ, zero, suc, ◌+◌, ◌<◌, ◌≤◌, true, false, cond, get_or, List, [], ◌∷◌, ◌++◌, map, take, drop, length, sym, refl, subst, ap, ◌∙◌, arith, Some, None, append_assoc}
+use Rattle.std.specs.Prelude.{◌==◌, nat_eq, Result}
+use Rattle.std.proofs.lemmas.List.{drop_all, drop_more}
 use Rattle.std.proofs.lemmas.Bool.{ne_eqb}
-use Rattle.wac_lexer.specs.Comments.{part_len}
+use Rattle.wac_lexer.specs.Comments.{begins, is_blank, opens, part_len}
 use Rattle.wac_lexer.specs.Item.{Item, Handed, handed, behind_first, OnFirst}
 use Rattle.wac_lexer.specs.Reading.{Nexts, Reading, left, slice}
 use Rattle.wac_lexer.specs.Span.{Span, end_of}
 use Rattle.wac_lexer.specs.declared.error.Error.{Error}
 use Rattle.wac_lexer.specs.declared.token.Token.{Token}
+use Rattle.wac_lexer.proofs.Followed.{no_comment, part_by}
 use Rattle.wac_comments_layout.specs.Pieces.{Piece, comment_of_part, comments_at, comments_upto, end_piece, pieces_after}
 use Rattle.wac_comments_layout.specs.Texts.{pieces_of, texts_of}
 use Rattle.wac_comments_layout.specs.declared.pieces.Piece.{Piece as Read}
 
 abbrev next_comments : ℕ → ℕ → List ℕ → ℕ → List Piece
 next_comments len m source start = cond (len == 0) [] (comment_of_part start (take len (drop start source)) ++ comments_upto m source (start + len))
+
+-- a blank takes one byte, and what begins neither as a blank nor as a comment takes none
+some_bytes : (b : ℕ) (t : List ℕ) → (length (b ∷ t) == 0) ≡ false
+some_bytes b t = ne_eqb (length (b ∷ t)) 0 (λ z. omega arith)
+
+pub blank_len : (source : List ℕ) (place : ℕ) → place < length source → is_blank (get_or source place 0) ≡ true → part_len (drop place source) ≡ 1
+blank_len source place more blank =
+    let t = get_or source place 0 ∷ drop (place + 1) source in
+    ap part_len (drop_more source place 0 more) ∙ (λ i. part_by t (some_bytes (get_or source place 0) (drop (place + 1) source) i) (blank i) (begins 47 47 t) (opens t))
+
+pub no_len : (source : List ℕ) (place : ℕ) → place < length source → is_blank (get_or source place 0) ≡ false → nat_eq (get_or source place 0) 47 ≡ false → part_len (drop place source) ≡ 0
+no_len source place more blank other =
+    let b = get_or source place 0 in
+    let rest = drop (place + 1) source in
+    ap part_len (drop_more source place 0 more) ∙ (λ i. part_by (b ∷ rest) (some_bytes b rest i) (blank i) (no_comment b rest 47 other i) (no_comment b rest 42 other i))
+
+-- a part of less than two bytes is no comment
+pub short_part : (place n : ℕ) (t : List ℕ) → n < 2 → comment_of_part place (take n t) ≡ []
+short_part place zero [] short = refl
+short_part place zero (b ∷ t) short = refl
+short_part place (suc zero) [] short = refl
+short_part place (suc zero) (b ∷ t) short = refl
+short_part place (suc (suc n)) t short = absurd (omega (arith, short))
 
 pub comments_done : (source : List ℕ) (n start : ℕ) → part_len (drop start source) ≡ 0 → comments_upto n source start ≡ []
 comments_done source zero start e = refl

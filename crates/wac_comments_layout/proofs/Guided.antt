@@ -18,21 +18,15 @@ use Rattle.wac_comments_layout.specs.Pieces.{Piece, comment_of_part, piece}
 use Rattle.wac_comments_layout.specs.Texts.{texts_of}
 use Rattle.wac_comments_layout.specs.declared.pieces.Piece.{Piece as Read}
 use Rattle.wac_comments_layout.proofs.Apart.{what_may_follow}
+use Rattle.wac_comments_layout.proofs.Commented.{blank_len, short_part}
 use Rattle.wac_comments_layout.proofs.Stepping.{gap_step, token_step}
 
 -- ---- blanks
 
-blank_part : (b : ℕ) (t : List ℕ) → is_blank b ≡ true → part_len (b ∷ t) ≡ 1
-blank_part b t e =
-    let some : (length (b ∷ t) == 0) ≡ false = ne_eqb (length (b ∷ t)) 0 (λ z. omega arith) in
-    (λ i. part_by (b ∷ t) (some i) (e i) (begins 47 47 (b ∷ t)) (opens (b ∷ t)))
-
 one_blank : (source : List ℕ) (place : ℕ) → place < length source → is_blank (get_or source place 0) ≡ true → texts_from source place ≡ texts_from source (place + 1)
 one_blank source place more blank =
-    let whole = drop_more source place 0 more in
-    let part : part_len (drop place source) ≡ 1 = ap part_len whole ∙ blank_part (get_or source place 0) (drop (place + 1) source) blank in
-    let none : comment_of_part place (take 1 (drop place source)) ≡ [] = ap (λ t. comment_of_part place (take 1 t)) whole in
-    gap_step source place 1 part (omega arith) more ∙ ap (λ cs. map (λ (c : Piece). c.text) cs ++ texts_from source (place + 1)) none
+    let none = short_part place 1 (drop place source) (omega arith) in
+    gap_step source place 1 (blank_len source place more blank) (omega arith) more ∙ ap (λ cs. map (λ (c : Piece). c.text) cs ++ texts_from source (place + 1)) none
 
 passed : (source : List ℕ) (n place : ℕ) → ((i : ℕ) → i < n → is_blank (get_or source (place + i) 0) ≡ true) → place + n ≤ length source → texts_from source (place + n) ≡ texts_from source place
 passed source zero place blanks within = let same : place + 0 ≡ place = omega arith in ap (texts_from source) same

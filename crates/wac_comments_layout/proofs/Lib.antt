@@ -1,6 +1,7 @@
 pub mod Apart
 pub mod Guided
 pub mod Known
+pub mod LineEnds
 pub mod Stepping
 pub mod Preserved
 pub mod Among

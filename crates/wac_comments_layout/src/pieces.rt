@@ -1,7 +1,8 @@
 // The pieces of a text: its tokens and comments, in order.
-ghost use Rattle.std.specs.Prelude.{◌≡◌, ◌+◌, ◌++◌, IfOk, IfErr, OnOk, MatchOption, Some, None, [], ◌∷◌, alloc_error, map};
+ghost use Rattle.std.specs.Prelude.{◌≡◌, ◌+◌, ◌<◌, ◌≤◌, ◌++◌, IfOk, IfErr, OnOk, MatchOption, Some, None, [], ◌∷◌, alloc_error, drop, length, map, take};
 ghost use Rattle.std.specs.Str.{IsCharBoundary};
 ghost use Rattle.wac_lexer.specs.Characters.{refused};
+ghost use Rattle.wac_lexer.specs.Comments.{part_len};
 ghost use Rattle.wac_lexer.specs.Items.{items};
 ghost use Rattle.wac_lexer.specs.Reading.{left};
 ghost use Rattle.wac_comments_layout.specs.Kept.{is_line, is_comment, is_doc};
@@ -10,7 +11,7 @@ ghost use Rattle.wac_comments_layout.specs.Texts.{Adds, pieces_of, texts_of};
 ghost use Rattle.wac_comments_layout.specs.Errors.{IsReadErrorOf};
 
 use crate::columns::column_at_end;
-use crate::parts::{is_line_comment, kept_len, opens, part_len};
+use crate::parts::{is_blank, is_line_comment, kept_len, opens, part_len};
 use std::alloc::{AllocError, Global};
 use thiserror::Error;
 use wac_lexer::{Lexer, SourceSpan};
@@ -107,15 +108,12 @@ impl<'a> Reader<'a> {
         Ok(())
     }
 
-    /// Adds the blank or the comment at an offset, after a text.
+    /// Adds the comment at an offset, after a text. A part of one byte is a blank.
     fn add_part(&mut self, before: &str, part: &'a str, offset: usize) -> Result<(), AllocError>
         ensures { IfOk result (λ _. Adds self.old.pieces.items (comment_of_part offset part.now) self.new.pieces.items) }
     {
         let bytes = part.as_bytes();
         if bytes.len() < 2 {
-            if bytes.first() == Some(&b'\n') {
-                self.breaks = self.breaks.saturating_add(1);
-            }
             return Ok(());
         }
         let column = if is_line_comment(bytes) {
@@ -127,6 +125,43 @@ impl<'a> Reader<'a> {
         self.add(kept, SourceSpan::new(offset, part.len()), column)
     }
 
+    /// Adds the comment at an offset of a source: how many bytes it takes, and 0 where there is none.
+    fn read_comment(&mut self, source: &'a str, start: usize) -> Result<usize, AllocError>
+        requires boundary { IsCharBoundary source.now start }
+        requires within { start < length source.now }
+        ensures len { IfOk result (λ len. len ≡ part_len (drop start source.now)) }
+        ensures within { IfOk result (λ len. start + len ≤ length source.now) }
+        ensures added { IfOk result (λ len. Adds self.old.pieces.items (comment_of_part start (take len (drop start source.now))) self.new.pieces.items) }
+    {
+        let (before, rest) = source.split_at(start);
+        let len = part_len(rest.as_bytes());
+        let (part, _) = rest.split_at(len);
+        self.add_part(before, part, start)?;
+        Ok(len)
+    }
+
+    /// Adds the comment at an offset of a source, or counts the blank: how many bytes it takes, and 0 where there is
+    /// neither. Most are blanks.
+    fn read_part(&mut self, source: &'a str, start: usize) -> Result<usize, AllocError>
+        requires boundary { IsCharBoundary source.now start }
+        requires within { start < length source.now }
+        ensures len { IfOk result (λ len. len ≡ part_len (drop start source.now)) }
+        ensures within { IfOk result (λ len. start + len ≤ length source.now) }
+        ensures added { IfOk result (λ len. Adds self.old.pieces.items (comment_of_part start (take len (drop start source.now))) self.new.pieces.items) }
+    {
+        let byte = source.as_bytes()[start];
+        if is_blank(byte) {
+            if byte == b'\n' {
+                self.breaks = self.breaks.saturating_add(1);
+            }
+            return Ok(1);
+        }
+        if byte != b'/' {
+            return Ok(0);
+        }
+        self.read_comment(source, start)
+    }
+
     /// Adds the comments between a place of a source and the next item.
     fn gap(&mut self, source: &'a str, place: usize) -> Result<(), AllocError>
         requires { IsCharBoundary source.now place }
@@ -134,13 +169,10 @@ impl<'a> Reader<'a> {
     {
         let mut start = place;
         while start < source.len() {
-            let (before, rest) = source.split_at(start);
-            let len = part_len(rest.as_bytes());
+            let len = self.read_part(source, start)?;
             if len == 0 {
                 return Ok(());
             }
-            let (part, _) = rest.split_at(len);
-            self.add_part(before, part, start)?;
             start += len;
         }
         Ok(())

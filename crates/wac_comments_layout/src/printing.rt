@@ -30,10 +30,20 @@ fn token_before<'a>(tokens: &[&'a str], at: usize, back: usize) -> &'a str
     }
 }
 
+/// Whether the token at an index is as long as the first of these. Most are not, and to compare all costs more.
+fn may_stand_at(tokens: &[&str], at: usize, these: &[&str]) -> bool
+    ensures { result ≡ false → stand_at (now_of tokens.now) at (now_of these.now) ≡ false }
+{
+    these.is_empty() || token_at(tokens, at).len() == token_at(these, 0).len()
+}
+
 /// Whether the tokens that begin at an index are these.
 fn stand_at(tokens: &[&str], at: usize, these: &[&str]) -> bool
     ensures { result ≡ stand_at (now_of tokens.now) at (now_of these.now) }
 {
+    if !may_stand_at(tokens, at, these) {
+        return false;
+    }
     let (_, rest) = tokens.split_at(at.min(tokens.len()));
     rest.starts_with(these)
 }

@@ -1,9 +1,12 @@
-use Rattle.std.proofs.Common.{ℕ, ap, ◌∙◌, List, length, drop, take}
+use Rattle.std.proofs.Common.{ℕ, sym, ap, ◌∙◌, List, length, drop, take}
 use denote.Bor.{Bor}
 use lib.Pointwise.{pointwise}
 use Rattle.std.specs.Str.{bytes_eq}
 use Rattle.wac_comments_layout.proofs.Among.{begin_with}
 use Rattle.wac_comments_layout.proofs.printing.stand_at.Goals as goal
+
+pub returns-then-not-may_stand_at : goal.returns-then-not-may_stand_at
+returns-then-not-may_stand_at c = sym (c.may_stand_at.ensures c.if-not-may_stand_at.true)
 
 pub returns : goal.returns
 returns c =

@@ -1,16 +1,10 @@
-use Rattle.std.proofs.Common.{◌≡◌, ◌+◌, ◌++◌, take, drop, length, sym, refl, ap, ◌∙◌, subst, arith, append-nil, append_assoc, zero-add}
+use Rattle.std.proofs.Common.{◌+◌, ◌++◌, take, drop, length, sym, refl, ap, ◌∙◌, subst, arith, append-nil, append_assoc}
 use Rattle.std.specs.Str.{IsCharBoundary}
-use Rattle.std.proofs.lemmas.Str.{IsUtf8-drop, IsCharBoundary-start}
-use Rattle.wac_lexer.specs.Comments.{part_len}
 use Rattle.wac_lexer.proofs.Boundaries.{part_boundary}
 use Rattle.wac_comments_layout.specs.Pieces.{comment_of_part, comments_at, comments_upto}
 use Rattle.wac_comments_layout.specs.Texts.{pieces_of}
-use Rattle.wac_comments_layout.proofs.Commented.{comments_done, comments_end, comments_more}
+use Rattle.wac_comments_layout.proofs.Commented.{comments_done, comments_end, comments_more, short_part}
 use Rattle.wac_comments_layout.proofs.pieces.Reader.gap.Goals as goal
-use Rattle.wac_comments_layout.proofs.pieces.Reader.gap.Goals.{After-part_len-len}
-
-part_is : (c : After-part_len-len) → c.part_len-len.result ≡ part_len (drop c.loop-start.start c.args.source.now)
-part_is c = c.part_len-len.ensures.len ∙ ap part_len (c.as_bytes.ensures.value ∙ c.split_at.ensures.back)
 
 pub loop-start-init : goal.loop-start-init
 unfolding comments_at
@@ -19,36 +13,30 @@ loop-start-init c = record { boundary = c.requires; found = (length c.args.sourc
 pub returns-then-len-eq0 : goal.returns-then-len-eq0
 returns-then-len-eq0 c =
     let found = c.loop-start.invariant.found in
-    let none = comments_done c.args.source.now found.0 c.loop-start.start (sym (part_is (goal.at.returns-then-len-eq0 c).After-part_len-len) ∙ c.if-len-eq0.true) in
-    sym (append-nil (pieces_of c.loop-start.self.pieces.items)) ∙ ap (λ more. pieces_of c.loop-start.self.pieces.items ++ more) (sym none) ∙ found.2
-
-pub split_at-requires-in-loop-start : goal.split_at-requires-in-loop-start
-split_at-requires-in-loop-start c =
-    let source = c.args.source.now in
     let start = c.loop-start.start in
-    let rest = drop start source in
-    let utf8 = IsUtf8-drop source start c.utf8.source c.loop-start.invariant.boundary in
-    let here = part_boundary rest utf8 0 (IsCharBoundary-start rest utf8) in
-    let at : IsCharBoundary rest c.part_len-len.result =
-    subst (IsCharBoundary rest) (zero-add (part_len rest) ∙ sym (part_is (goal.at.split_at-requires-in-loop-start c).After-part_len-len)) here in
-    subst (λ text. IsCharBoundary text c.part_len-len.result) (sym c.split_at.ensures.back) at
+    let none = comments_done c.args.source.now found.0 start (sym c.in_ok-len.ensures.len ∙ c.if-len-eq0.true) in
+    let before = pieces_of c.loop-start.self.pieces.items in
+    let rest = drop start c.args.source.now in
+    c.in_ok-len.ensures.added
+    ∙ ap (λ n. before ++ comment_of_part start (take n rest)) c.if-len-eq0.true
+    ∙ ap (λ more. before ++ more) (short_part start 0 rest (omega arith) ∙ sym none)
+    ∙ found.2
 
 pub loop-start-preserved : goal.loop-start-preserved
 loop-start-preserved c =
     let source = c.args.source.now in
     let start = c.loop-start.start in
-    let len = c.part_len-len.result in
+    let len = c.in_ok-len.len in
     let before = pieces_of c.loop-start.self.pieces.items in
-    let is = part_is (goal.at.loop-start-preserved c).After-part_len-len in
+    let is = c.in_ok-len.ensures.len in
     let found = c.loop-start.invariant.found in
     let more = comments_more source found.0 start len (sym is) (omega arith) c.loop-start-test.true found.1 in
-    let part : c.split_at-in-loop-start.result.0.now ≡ take len (drop start source) = c.split_at-in-loop-start.ensures.front ∙ ap (take len) c.split_at.ensures.back in
     record {
       boundary = subst (λ n. IsCharBoundary source (start + n)) (sym is) (part_boundary source c.utf8.source start c.loop-start.invariant.boundary);
       found = (
         more.0,
         more.1,
-        ap (λ pieces. pieces ++ comments_upto more.0 source (start + len)) (c.in_ok-add_part.ensures ∙ ap (λ t. before ++ comment_of_part start t) part)
+        ap (λ pieces. pieces ++ comments_upto more.0 source (start + len)) c.in_ok-len.ensures.added
             ∙ append_assoc before (comment_of_part start (take len (drop start source))) (comments_upto more.0 source (start + len))
             ∙ ap (λ pieces. before ++ pieces) (sym more.2)
             ∙ found.2,
