@@ -2,7 +2,7 @@
 use crate::brackets::{closes, is_mark, opens};
 use crate::joints::{Joint, Seam};
 use crate::pieces::Piece;
-use crate::places::{Place, Plan};
+use crate::places::{Group, Place, Plan, brackets_at, group_at};
 use crate::separators::separators;
 use crate::writer::{Style, Writer};
 use std::alloc::{AllocError, Global};
@@ -16,28 +16,27 @@ pub fn lay_out<'a>(
     style: Style<'_>,
 ) -> Result<String, AllocError> {
     let separators = separators(alloc, pieces, printed)?;
-    let mut plan = Plan::new(alloc, pieces, separators.as_slice())?;
+    let Plan { places, mut groups } = Plan::new(alloc, pieces, separators.as_slice())?;
     let mut writer = Writer::new(alloc, style);
-    for index in 0..plan.places.len() {
-        if let Some(place) = plan.places.get(index).copied() {
-            write_gap(alloc, &mut writer, &plan, place, pieces)?;
-            writer.write(place.after)?;
-            if opens(place.after) {
-                set_depth(&mut plan, index.saturating_add(1), writer.depth());
-            }
+    for (index, place) in places.iter().enumerate() {
+        write_gap(alloc, &mut writer, groups.as_slice(), place, pieces)?;
+        writer.write(place.after)?;
+        if opens(place.after) {
+            let next = places.get(index.saturating_add(1));
+            set_depth(groups.as_mut_slice(), next, writer.depth());
         }
     }
     Ok(writer.into_text())
 }
 
 /// Keeps how deep the line is on which the brackets around a place open.
-fn set_depth(plan: &mut Plan<'_>, index: usize, depth: usize) {
-    let group = match plan.places.get(index) {
+fn set_depth(groups: &mut [Group], place: Option<&Place<'_>>, depth: usize) {
+    let group = match place {
         Some(place) => place.group,
         None => None,
     };
     if let Some(group) = group {
-        if let Some(group) = plan.groups.get_mut(group) {
+        if let Some(group) = groups.get_mut(group) {
             group.depth = depth;
         }
     }
@@ -47,22 +46,22 @@ fn set_depth(plan: &mut Plan<'_>, index: usize, depth: usize) {
 fn write_gap<'a>(
     alloc: Global,
     writer: &mut Writer<'_>,
-    plan: &Plan<'_>,
-    place: Place<'a>,
+    groups: &[Group],
+    place: &Place<'a>,
     pieces: &'a [Piece<'a>],
 ) -> Result<(), AllocError> {
     if !place.has_comments() {
-        return write_separator(writer, plan, &place);
+        return write_separator(writer, groups, place);
     }
-    let seam = Seam::new(plan.brackets(&place), place, pieces);
+    let seam = Seam::new(brackets_at(groups, place.group), *place, pieces);
     let joints = seam.joints(alloc)?;
-    write_comments(writer, plan, &seam, joints.as_slice())
+    write_comments(writer, groups, &seam, joints.as_slice())
 }
 
 /// Writes a gap without comments.
 fn write_separator(
     writer: &mut Writer<'_>,
-    plan: &Plan<'_>,
+    groups: &[Group],
     place: &Place<'_>,
 ) -> Result<(), AllocError> {
     if place.at_end() {
@@ -72,21 +71,21 @@ fn write_separator(
     } else if place.at_start() {
         Ok(())
     } else {
-        writer.begin_line(token_depth(plan, place), place.separator.lines)
+        writer.begin_line(token_depth(groups, place), place.separator.lines)
     }
 }
 
 /// How deep what is in the brackets around a place is.
-fn inner_depth(plan: &Plan<'_>, place: &Place<'_>) -> usize {
-    match plan.group(place.group) {
+fn inner_depth(groups: &[Group], place: &Place<'_>) -> usize {
+    match group_at(groups, place.group) {
         Some(group) => group.depth.saturating_add(1),
         None => 0,
     }
 }
 
 /// How deep a line is that begins with a comment.
-fn comment_depth(plan: &Plan<'_>, place: &Place<'_>) -> usize {
-    let inner = inner_depth(plan, place);
+fn comment_depth(groups: &[Group], place: &Place<'_>) -> usize {
+    let inner = inner_depth(groups, place);
     if place.is_break() {
         inner
     } else {
@@ -95,8 +94,8 @@ fn comment_depth(plan: &Plan<'_>, place: &Place<'_>) -> usize {
 }
 
 /// How deep a line is that begins with the token after the gap.
-fn token_depth(plan: &Plan<'_>, place: &Place<'_>) -> usize {
-    let inner = inner_depth(plan, place);
+fn token_depth(groups: &[Group], place: &Place<'_>) -> usize {
+    let inner = inner_depth(groups, place);
     if place.is_break() {
         if closes(place.after) {
             inner.saturating_sub(1)
@@ -116,7 +115,7 @@ fn token_depth(plan: &Plan<'_>, place: &Place<'_>) -> usize {
 /// Writes the comments of a gap.
 fn write_comments(
     writer: &mut Writer<'_>,
-    plan: &Plan<'_>,
+    groups: &[Group],
     seam: &Seam<'_>,
     joints: &[Joint],
 ) -> Result<(), AllocError> {
@@ -130,8 +129,8 @@ fn write_comments(
                 }
             }
             Joint::Below => writer.begin_below(column)?,
-            Joint::Line => begin(writer, plan, seam, (index, 1, last_line))?,
-            Joint::Paragraph => begin(writer, plan, seam, (index, 2, last_line))?,
+            Joint::Line => begin(writer, groups, seam, (index, 1, last_line))?,
+            Joint::Paragraph => begin(writer, groups, seam, (index, 2, last_line))?,
         }
         column = writer.column();
         if piece.is_comment() {
@@ -171,7 +170,7 @@ fn closes_line(token: &str) -> bool {
 /// Begins the line of the piece at an index, after so many line ends. A line with the token on it is as deep as that.
 fn begin(
     writer: &mut Writer<'_>,
-    plan: &Plan<'_>,
+    groups: &[Group],
     seam: &Seam<'_>,
     (index, line_ends, last_line): (usize, usize, Option<usize>),
 ) -> Result<(), AllocError> {
@@ -183,9 +182,9 @@ fn begin(
         return Ok(());
     }
     let depth = if last_line == Some(index) {
-        token_depth(plan, &seam.place)
+        token_depth(groups, &seam.place)
     } else {
-        comment_depth(plan, &seam.place)
+        comment_depth(groups, &seam.place)
     };
     writer.begin_line(depth, line_ends)
 }

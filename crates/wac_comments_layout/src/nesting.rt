@@ -59,10 +59,10 @@ fn first_too_deep(mut lexer: Lexer<'_>) -> Option<SourceSpan>
     None
 }
 
-/// The first of a text's pieces that is a bracket nested deeper than a thousand: `too_deep` of the text, which is not read
-/// again.
+/// The first of a text's pieces that is a bracket nested deeper than a thousand: `too_deep` of the text, which is not
+/// read again.
 pub fn too_deep_among(found: &[Piece<'_>]) -> Option<SourceSpan>
-    ensures { (source : List ℕ) → refused source ≡ None → pieces_of found.now ≡ pieces source → result ≡ too_deep source }
+    ensures { (text : List ℕ) → refused text ≡ None → pieces_of found.now ≡ pieces text → result ≡ too_deep text }
 {
     first_among(found)
 }

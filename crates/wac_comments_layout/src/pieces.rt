@@ -1,5 +1,5 @@
 // The pieces of a text: its tokens and comments, in order.
-ghost use Rattle.std.specs.Prelude.{◌≡◌, ◌+◌, ◌<◌, ◌≤◌, ◌++◌, IfOk, IfErr, OnOk, MatchOption, Some, None, [], ◌∷◌, alloc_error, drop, length, map, take};
+ghost use Rattle.std.specs.Prelude.{◌≡◌, ◌+◌, ◌<◌, ◌≤◌, ◌++◌, IfOk, IfErr, OnOk, MatchOption, Some, None, [], ◌∷◌, alloc_error, drop, length, map};
 ghost use Rattle.std.specs.Str.{IsCharBoundary};
 ghost use Rattle.wac_lexer.specs.Characters.{refused};
 ghost use Rattle.wac_lexer.specs.Comments.{part_len};
@@ -7,7 +7,7 @@ ghost use Rattle.wac_lexer.specs.Items.{items};
 ghost use Rattle.wac_lexer.specs.Reading.{left};
 ghost use Rattle.wac_comments_layout.specs.Kept.{is_line, is_comment, is_doc};
 ghost use Rattle.wac_comments_layout.specs.Pieces.{piece, pieces, texts, comment_of_part, comments_at};
-ghost use Rattle.wac_comments_layout.specs.Texts.{Adds, pieces_of, texts_of};
+ghost use Rattle.wac_comments_layout.specs.Texts.{Adds, AddsPart, pieces_of, texts_of};
 ghost use Rattle.wac_comments_layout.specs.Errors.{IsReadErrorOf};
 
 use crate::columns::column_at_end;
@@ -108,9 +108,9 @@ impl<'a> Reader<'a> {
         Ok(())
     }
 
-    /// Adds the comment at an offset, after a text. A part of one byte is a blank.
-    fn add_part(&mut self, before: &str, part: &'a str, offset: usize) -> Result<(), AllocError>
-        ensures { IfOk result (λ _. Adds self.old.pieces.items (comment_of_part offset part.now) self.new.pieces.items) }
+    /// Adds the comment at a place, after a text. A part of one byte is a blank.
+    fn add_part(&mut self, before: &str, part: &'a str, place: usize) -> Result<(), AllocError>
+        ensures { IfOk result (λ _. Adds self.old.pieces.items (comment_of_part place part.now) self.new.pieces.items) }
     {
         let bytes = part.as_bytes();
         if bytes.len() < 2 {
@@ -122,16 +122,16 @@ impl<'a> Reader<'a> {
             0
         };
         let (kept, _) = part.split_at(kept_len(bytes));
-        self.add(kept, SourceSpan::new(offset, part.len()), column)
+        self.add(kept, SourceSpan::new(place, part.len()), column)
     }
 
-    /// Adds the comment at an offset of a source: how many bytes it takes, and 0 where there is none.
+    /// Adds the comment at a place of a source: how many bytes it takes, and 0 where there is none.
     fn read_comment(&mut self, source: &'a str, start: usize) -> Result<usize, AllocError>
         requires boundary { IsCharBoundary source.now start }
         requires within { start < length source.now }
         ensures len { IfOk result (λ len. len ≡ part_len (drop start source.now)) }
         ensures within { IfOk result (λ len. start + len ≤ length source.now) }
-        ensures added { IfOk result (λ len. Adds self.old.pieces.items (comment_of_part start (take len (drop start source.now))) self.new.pieces.items) }
+        ensures added { IfOk result (λ len. AddsPart self.old.pieces.items source.now start len self.new.pieces.items) }
     {
         let (before, rest) = source.split_at(start);
         let len = part_len(rest.as_bytes());
@@ -140,14 +140,14 @@ impl<'a> Reader<'a> {
         Ok(len)
     }
 
-    /// Adds the comment at an offset of a source, or counts the blank: how many bytes it takes, and 0 where there is
+    /// Adds the comment at a place of a source, or counts the blank: how many bytes it takes, and 0 where there is
     /// neither. Most are blanks.
     fn read_part(&mut self, source: &'a str, start: usize) -> Result<usize, AllocError>
         requires boundary { IsCharBoundary source.now start }
         requires within { start < length source.now }
         ensures len { IfOk result (λ len. len ≡ part_len (drop start source.now)) }
         ensures within { IfOk result (λ len. start + len ≤ length source.now) }
-        ensures added { IfOk result (λ len. Adds self.old.pieces.items (comment_of_part start (take len (drop start source.now))) self.new.pieces.items) }
+        ensures added { IfOk result (λ len. AddsPart self.old.pieces.items source.now start len self.new.pieces.items) }
     {
         let byte = source.as_bytes()[start];
         if is_blank(byte) {

@@ -83,6 +83,22 @@ fn has_line_end(pieces: &[Piece<'_>], first: usize, last: usize) -> bool {
     false
 }
 
+/// The group at an index.
+pub(crate) fn group_at(groups: &[Group], index: Option<usize>) -> Option<Group> {
+    match index {
+        Some(index) => groups.get(index).copied(),
+        None => None,
+    }
+}
+
+/// What is in the brackets of the group at an index. A text is a body.
+pub(crate) fn brackets_at(groups: &[Group], index: Option<usize>) -> Brackets {
+    match group_at(groups, index) {
+        Some(group) => group.brackets,
+        None => Brackets::Body,
+    }
+}
+
 /// The places of a printed text, and the groups of its brackets.
 #[derive(Drop)]
 pub(crate) struct Plan<'a> {
@@ -104,33 +120,24 @@ impl<'a> Plan<'a> {
             }
         }
         let Planner { mut plan, .. } = planner;
-        plan.break_groups(pieces);
-        plan.break_elements();
+        // Else each line ends where it does without comments.
+        if plan.break_groups(pieces) {
+            plan.break_elements();
+        }
         Ok(plan)
     }
 
-    /// What is in the brackets around a place.
-    pub(crate) fn brackets(&self, place: &Place<'_>) -> Brackets {
-        match self.group(place.group) {
-            Some(group) => group.brackets,
-            None => Brackets::Body,
-        }
-    }
-
-    pub(crate) fn group(&self, index: Option<usize>) -> Option<Group> {
-        match index {
-            Some(index) => self.groups.get(index).copied(),
-            None => None,
-        }
-    }
-
-    /// Breaks each group in which a comment asks for a line end, and those around it up to one that is broken anyway.
-    fn break_groups(&mut self, pieces: &[Piece<'_>]) {
+    /// Breaks each group in which a comment asks for a line end, and those around it up to one that is broken anyway:
+    /// whether one asks.
+    fn break_groups(&mut self, pieces: &[Piece<'_>]) -> bool {
+        let mut asks = false;
         for place in self.places.as_slice() {
             if place.breaks_line(pieces) {
                 break_from(self.groups.as_mut_slice(), place.group);
+                asks = true;
             }
         }
+        asks
     }
 
     /// Begins a line with each element of a broken group.
@@ -259,7 +266,7 @@ impl<'a> Planner<'a> {
 
     /// Leaves the innermost brackets.
     fn close(&mut self) {
-        self.group = match self.plan.group(self.group) {
+        self.group = match group_at(self.plan.groups.as_slice(), self.group) {
             Some(group) => group.around,
             None => None,
         };

@@ -145,7 +145,7 @@ fn needs_comma(tokens: &[&str], at: usize, around: Brackets) -> bool
 
 /// The token that printing adds before the one at an index.
 fn added(tokens: &[&str], at: usize, around: Brackets) -> Option<&'static str>
-    ensures { let found = added (now_of tokens.now) at around in MatchOption result (found ≡ []) (λ token. found ≡ token.now ∷ []) }
+    ensures { let all = added (now_of tokens.now) at around in MatchOption result (all ≡ []) (λ t. all ≡ t.now ∷ []) }
 {
     if ends_resource(tokens, at) {
         Some("{")

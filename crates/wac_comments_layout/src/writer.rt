@@ -63,7 +63,10 @@ impl<'a> Writer<'a> {
 
     /// So many blanks.
     pub(crate) fn blanks(&mut self, count: usize) -> Result<(), AllocError> {
-        self.repeat(" ", count)
+        for _ in 0..count {
+            self.text.push(' ')?;
+        }
+        Ok(())
     }
 
     /// Ends so many lines.
