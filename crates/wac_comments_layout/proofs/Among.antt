@@ -10,7 +10,7 @@ use Rattle.std.proofs.lemmas.List.{drop_min, get_or-drop, length-map}
 use Rattle.std.proofs.lemmas.Option.{unwrap_or-slice_get}
 use Rattle.std.proofs.lemmas.Bool.{and_parts, cases_lt, eq-eqb, false≢true, le-leb, leb-true, or_parts}
 use Rattle.wac_lexer.proofs.Texts.{bytes_eq_is}
-use Rattle.wac_comments_layout.specs.Printing.{Texts, goes, goes_far_from_nothing, is_among, is_last_comma, is_near_nothing, may_go, now_of, stand_at, token_at, token_before}
+use Rattle.wac_comments_layout.specs.Printing.{Texts, empty_with, goes, goes_far_from_nothing, is_among, is_last_comma, is_near_nothing, may_be_of_with, may_go, now_of, stand_at, token_at, token_before}
 use Rattle.wac_comments_layout.specs.Brackets.{is_closing, is_flat}
 use Rattle.wac_comments_layout.specs.declared.brackets.Brackets.{Brackets}
 
@@ -93,6 +93,10 @@ none_among P tokens these at (suc back) all other few =
         get_or-drop (at - back) tokens back [] ∙ ap (λ n. get_or tokens n []) place ∙ sym (unwrap_or-slice_get tokens at []) in
         absurd (false≢true (sym other ∙ ap P (sym token) ∙ passes))
 
+-- a token that begins otherwise than those of an empty `with` is not of one
+pub none_of_with : (tokens : Texts) (at : ℕ) → may_be_of_with (token_at tokens at) ≡ false → is_among tokens at empty_with 3 ≡ false
+none_of_with tokens at other = none_among may_be_of_with tokens empty_with at 3 (λ k lt. all_pass may_be_of_with empty_with refl k (omega (arith, lt))) other (omega arith)
+
 -- ---- far from `_`
 
 abbrev is_nothing : List ℕ → Bool
@@ -144,7 +148,7 @@ far_from_nothing tokens at around none =
     (cases_lt back 3)) in
     let last = none_near tokens (codes "," ∷ codes "_" ∷ codes ">" ∷ []) at 2 none (λ back lt. (1, omega arith, omega (arith, lt), omega arith, refl)) in
     let rest = is_among tokens at (codes "->" ∷ codes ";" ∷ []) 1 || is_last_comma tokens at around in
-    sym (λ i. is_among tokens at (codes "with" ∷ codes "{" ∷ codes "}" ∷ []) 3 || (one i || (two i || (last i || rest))))
+    sym (λ i. is_among tokens at empty_with 3 || (one i || (two i || (last i || rest))))
 
 no_comma : (token : List ℕ) (b : Bool) → may_go token ≡ false → bytes_eq token (codes ",") ≡ b → bytes_eq token (codes ",") ≡ false
 no_comma token false other e = e
@@ -154,7 +158,7 @@ no_comma token true other e = absurd (false≢true (sym other ∙ ap may_go (byt
 pub stays : (tokens : Texts) (at : ℕ) (around : Brackets) → may_go (token_at tokens at) ≡ false → goes tokens at around ≡ false
 stays tokens at around other =
     let with_these = λ (these : Texts) (count : ℕ) (all : list_all may_go these ≡ true) (same : length these ≡ count). none_among may_go tokens these at count (λ k lt. all_pass may_go these all k (omega (arith, lt, same))) other (omega (arith, same)) in
-    let empty = with_these (codes "with" ∷ codes "{" ∷ codes "}" ∷ []) 3 refl refl in
+    let empty = with_these empty_with 3 refl refl in
     let one = with_these (codes "<" ∷ codes "_" ∷ codes ">" ∷ []) 3 refl refl in
     let two = with_these (codes "<" ∷ codes "_" ∷ codes "," ∷ codes "_" ∷ codes ">" ∷ []) 5 refl refl in
     let last = none_among may_go tokens (codes "," ∷ codes "_" ∷ codes ">" ∷ []) at 2 (λ k lt. all_pass may_go (codes "," ∷ codes "_" ∷ codes ">" ∷ []) refl k (omega (arith, lt))) other (omega arith) in

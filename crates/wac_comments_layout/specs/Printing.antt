@@ -32,6 +32,14 @@ abbrev pub is_among : Texts → ℕ → Texts → ℕ → Bool
 is_among tokens at these zero = false
 is_among tokens at these (suc back) = is_among tokens at these back || (nat_le back at && stand_at tokens (at - back) these)
 
+-- an empty `with`, which is not printed
+abbrev pub empty_with : Texts
+empty_with = codes "with" ∷ codes "{" ∷ codes "}" ∷ []
+
+-- whether one of its tokens begins as this one
+abbrev pub may_be_of_with : List ℕ → Bool
+may_be_of_with token = elim (slice_get token 0) [ Some b ↦ nat_eq b 119 || (nat_eq b 123 || nat_eq b 125) | None ↦ false ]
+
 -- whether the token is a comma before the end of a list on one line, or behind a fill that ends arguments
 abbrev pub is_last_comma : Texts → ℕ → Brackets → Bool
 is_last_comma tokens at around =
@@ -41,7 +49,7 @@ is_last_comma tokens at around =
 -- whether printing drops the token at an index: an empty `with`, results that are nothing, and the comma behind the last of a list
 abbrev pub goes : Texts → ℕ → Brackets → Bool
 goes tokens at around =
-    is_among tokens at (codes "with" ∷ codes "{" ∷ codes "}" ∷ []) 3
+    is_among tokens at empty_with 3
     || (is_among tokens at (codes "<" ∷ codes "_" ∷ codes ">" ∷ []) 3
     || (is_among tokens at (codes "<" ∷ codes "_" ∷ codes "," ∷ codes "_" ∷ codes ">" ∷ []) 5
     || (is_among tokens at (codes "," ∷ codes "_" ∷ codes ">" ∷ []) 2
@@ -57,7 +65,7 @@ is_near_nothing tokens at =
 -- whether printing drops the token at an index, which none of these is near
 abbrev pub goes_far_from_nothing : Texts → ℕ → Brackets → Bool
 goes_far_from_nothing tokens at around =
-    is_among tokens at (codes "with" ∷ codes "{" ∷ codes "}" ∷ []) 3
+    is_among tokens at empty_with 3
     || (is_among tokens at (codes "->" ∷ codes ";" ∷ []) 1 || is_last_comma tokens at around)
 
 -- whether a token that printing drops in some place begins with this byte: one of w { } < _ > , -

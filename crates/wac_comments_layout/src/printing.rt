@@ -1,7 +1,7 @@
 // What printing changes about the tokens of a text.
 ghost use Rattle.std.specs.Prelude.{◌≡◌, ◌+◌, ◌<◌, ◌^◌, ◌≤◌, ◌++◌, IfOk, MatchOption, Some, None, false, [], ◌∷◌, length, map};
 ghost use Rattle.wac_comments_layout.specs.Kept.{is_comment};
-ghost use Rattle.wac_comments_layout.specs.Printing.{now_of, token_at, token_before, stand_at, is_among, is_last_comma, is_near_nothing, goes, goes_far_from_nothing, ends_resource, needs_none, needs_comma, added, innermost, may_go, tokens_of, printed, spelled, with_comment, with_added, with_token, with_piece, with_printed, with_waiting, passed, progress};
+ghost use Rattle.wac_comments_layout.specs.Printing.{now_of, token_at, token_before, stand_at, is_among, is_last_comma, is_near_nothing, goes, goes_far_from_nothing, ends_resource, needs_none, needs_comma, added, innermost, may_go, may_be_of_with, empty_with, tokens_of, printed, spelled, with_comment, with_added, with_token, with_piece, with_printed, with_waiting, passed, progress};
 ghost use Rattle.wac_comments_layout.specs.Texts.{texts_of};
 
 use crate::brackets::{Brackets, closes, is_mark, opened_by, opens};
@@ -70,6 +70,26 @@ fn may_go(token: &str) -> bool
     }
 }
 
+/// Whether a token of an empty `with` begins as this one does.
+fn may_be_of_with(token: &str) -> bool
+    ensures { result ≡ may_be_of_with token.now }
+{
+    match token.as_bytes().first() {
+        Some(byte) => matches!(*byte, b'w' | b'{' | b'}'),
+        None => false,
+    }
+}
+
+/// Whether the token at an index is one of an empty `with`.
+fn is_of_with(tokens: &[&str], at: usize) -> bool
+    ensures { result ≡ is_among (now_of tokens.now) at empty_with 3 }
+{
+    if !may_be_of_with(token_at(tokens, at)) {
+        return false;
+    }
+    is_among(tokens, at, &["with", "{", "}"], 3)
+}
+
 /// Whether the token at an index, or one beside it, is `_`.
 fn is_near_nothing(tokens: &[&str], at: usize) -> bool
     requires { at < length tokens.now }
@@ -85,7 +105,7 @@ fn goes_far_from_nothing(tokens: &[&str], at: usize, around: Brackets) -> bool
     requires { at < length tokens.now }
     ensures { result ≡ goes_far_from_nothing (now_of tokens.now) at around }
 {
-    is_among(tokens, at, &["with", "{", "}"], 3)
+    is_of_with(tokens, at)
         || is_among(tokens, at, &["->", ";"], 1)
         || is_last_comma(tokens, at, around)
 }
@@ -102,7 +122,7 @@ fn goes(tokens: &[&str], at: usize, around: Brackets) -> bool
     if !is_near_nothing(tokens, at) {
         return goes_far_from_nothing(tokens, at, around);
     }
-    is_among(tokens, at, &["with", "{", "}"], 3)
+    is_of_with(tokens, at)
         || is_among(tokens, at, &["<", "_", ">"], 3)
         || is_among(tokens, at, &["<", "_", ",", "_", ">"], 5)
         || is_among(tokens, at, &[",", "_", ">"], 2)
