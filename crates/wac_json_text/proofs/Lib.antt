@@ -1,0 +1,6 @@
+pub mod Texts
+pub mod Escapes
+pub mod Steps
+pub mod Trees
+pub mod ExpressionTrees
+pub mod NewSink

@@ -1,0 +1,21 @@
+-- What the writer's functions cite.
+use Rattle.std.proofs.Common.{List, map, sym, Result, Option}
+use Rattle.std.specs.Option.{option_map}
+use Rattle.serde_json.specs.Data.{Data}
+use Rattle.wac_printer_pieces.specs.Printed.{Printer, Prints}
+use Rattle.wac_printer_pieces.specs.declared.error.PrintError.{PrintError}
+use Rattle.wac_printer_pieces.proofs.Printing.{seq}
+use Rattle.wac_printer_pieces.proofs.Sequence.{printed_at}
+use Rattle.wac_json_text.specs.Forms.{list_json, optional}
+use Rattle.wac_json_text.specs.Pieces.{pieces}
+use Rattle.wac_json_text.proofs.Texts.{list_of-map, optional-map}
+
+pub ruleset steps = (seq, list_of-map, optional-map)
+
+-- a list of values is written as the list of their trees
+pub of_items : {A X Y : Type 0} {old new : Printer} {r : Result A PrintError} (form : Y → Data) (g : X → Y) (xs : List X) → Prints old r new (pieces (list_json (λ x. form (g x)) xs)) → Prints old r new (pieces (list_json form (map g xs)))
+of_items form g xs h = printed_at pieces (sym (list_of-map form g xs)) h
+
+-- a part that may be absent, as its tree
+pub of_option : {A X Y : Type 0} {old new : Printer} {r : Result A PrintError} (form : Y → Data) (g : X → Y) (o : Option X) → Prints old r new (pieces (optional (λ x. form (g x)) o)) → Prints old r new (pieces (optional form (option_map g o)))
+of_option form g o h = printed_at pieces (sym (optional-map form g o)) h

@@ -1,0 +1,102 @@
+-- The parts that are put for a value are its compact text.
+use Rattle.std.proofs.Common.{◌≡◌, ℕ, Bool, true, false, List, [], ◌∷◌, ◌++◌, map, length, codes, append_assoc, append-nil, refl, sym, ap, ◌∙◌, arith, Result, Ok, Err, OnErr, Option, Some, None}
+use Rattle.std.specs.List.{flat_map}
+use Rattle.std.specs.Option.{option_map}
+use Rattle.json.specs.Print.{quoted}
+use Rattle.serde_json.specs.Data.{Data, null, boolean, number, string, array, object, Items, no_items, item, Members, no_members, member}
+use Rattle.serde_json.specs.Written.{compact_text, items_text, members_text, number_text}
+use Rattle.wac_layout.specs.Printed.{Piece, blank, text, fresh_after}
+use Rattle.wac_printer_pieces.specs.Printed.{Printer, Prints, after, is_front, has_failed}
+use Rattle.wac_printer_pieces.specs.declared.error.PrintError.{PrintError}
+use Rattle.wac_printer_pieces.proofs.Printing.{text-append, after-blank, fresh_after-append}
+use Rattle.wac_json_text.specs.Forms.{items_of, list_json, optional}
+use Rattle.wac_json_text.specs.Pieces.{pieces, items_pieces, others_pieces, members_pieces, behind_comma, list_pieces, IsBegun}
+
+-- a value, and what follows it
+followed : (space : List ℕ) (fresh : Bool) (d : Data) (others : List Piece) (out : List ℕ) → ((f : Bool) → text space f (pieces d) ≡ compact_text d) → ((f : Bool) → text space f others ≡ out)
+    → text space fresh (pieces d ++ others) ≡ compact_text d ++ out
+followed space fresh d others out here later = text-append space fresh (pieces d) others ∙ (λ i. here fresh i ++ later (fresh_after fresh (text space fresh (pieces d))) i)
+
+mutual
+  pub written_is : (space : List ℕ) (fresh : Bool) (d : Data) → text space fresh (pieces d) ≡ compact_text d
+  written_is space fresh null = refl
+  written_is space fresh (boolean true) = refl
+  written_is space fresh (boolean false) = refl
+  written_is space fresh (number n) = append-nil (number_text n)
+  written_is space fresh (string s) = refl
+  written_is space fresh (array ds) = ap (λ t. 91 ∷ t) (items_is space (fresh_after fresh (codes "[")) ds)
+  written_is space fresh (object no_members) = refl
+  written_is space fresh (object (member k d ms)) =
+      ap (λ t. 123 ∷ t)
+      (append_assoc (quoted k) (codes ":") _
+      ∙ ap (λ t. quoted k ++ (58 ∷ t)) (followed space (fresh_after fresh (codes "{" ++ (quoted k ++ codes ":"))) d (members_pieces ms) (members_text true ms) (λ f. written_is space f d) (λ f. members_is space f ms)))
+
+  items_is : (space : List ℕ) (fresh : Bool) (ds : Items) → text space fresh (items_pieces ds) ≡ items_text false ds
+  items_is space fresh no_items = refl
+  items_is space fresh (item d ds) = followed space fresh d (others_pieces ds) (items_text true ds) (λ f. written_is space f d) (λ f. others_are space f ds)
+
+  others_are : (space : List ℕ) (fresh : Bool) (ds : Items) → text space fresh (others_pieces ds) ≡ items_text true ds
+  others_are space fresh no_items = refl
+  others_are space fresh (item d ds) =
+      ap (λ t. 44 ∷ t) (followed space (fresh_after fresh (codes ",")) d (others_pieces ds) (items_text true ds) (λ f. written_is space f d) (λ f. others_are space f ds))
+
+  members_is : (space : List ℕ) (fresh : Bool) (ms : Members) → text space fresh (members_pieces ms) ≡ members_text true ms
+  members_is space fresh no_members = refl
+  members_is space fresh (member k d ms) =
+      ap (λ t. 44 ∷ t)
+      (append_assoc (quoted k) (codes ":") _
+      ∙ ap (λ t. quoted k ++ (58 ∷ t)) (followed space (fresh_after fresh (codes "," ++ (quoted k ++ codes ":"))) d (members_pieces ms) (members_text true ms) (λ f. written_is space f d) (λ f. members_is space f ms)))
+
+-- ---- lists and optional parts, made of the values and of the trees of them
+
+behind_all : {X : Type 0} (form : X → Data) (xs : List X) → flat_map (λ x. behind_comma (pieces (form x))) xs ++ blank (codes "]") ∷ [] ≡ others_pieces (items_of form xs)
+behind_all form [] = refl
+behind_all form (x ∷ xs) =
+    append_assoc (behind_comma (pieces (form x))) (flat_map (λ y. behind_comma (pieces (form y))) xs) (blank (codes "]") ∷ [])
+    ∙ ap (λ ps. blank (codes ",") ∷ (pieces (form x) ++ ps)) (behind_all form xs)
+
+pub list_is : {X : Type 0} (form : X → Data) (xs : List X) → list_pieces (λ x. pieces (form x)) xs ≡ pieces (list_json form xs)
+unfolding list_json
+list_is form [] = refl
+list_is form (x ∷ xs) =
+    ap (λ ps. blank (codes "[") ∷ ps)
+    (append_assoc (pieces (form x)) (flat_map (λ y. behind_comma (pieces (form y))) xs) (blank (codes "]") ∷ []) ∙ ap (λ ps. pieces (form x) ++ ps) (behind_all form xs))
+
+items_of-map : {X Y : Type 0} (form : Y → Data) (g : X → Y) (xs : List X) → items_of form (map g xs) ≡ items_of (λ x. form (g x)) xs
+items_of-map form g [] = refl
+items_of-map form g (x ∷ xs) = ap (item (form (g x))) (items_of-map form g xs)
+
+pub list_of-map : {X Y : Type 0} (form : Y → Data) (g : X → Y) (xs : List X) → list_json form (map g xs) ≡ list_json (λ x. form (g x)) xs
+unfolding list_json
+list_of-map form g xs = ap array (items_of-map form g xs)
+
+pub optional-map : {X Y : Type 0} (form : Y → Data) (g : X → Y) (o : Option X) → optional form (option_map g o) ≡ optional (λ x. form (g x)) o
+unfolding optional
+optional-map form g None = refl
+optional-map form g (Some x) = refl
+
+pub none_left : {X : Type 0} (xs : List X) → length xs ≡ 0 → xs ≡ []
+none_left [] e = refl
+none_left (x ∷ xs) e = absurd (omega arith)
+
+-- ---- a whole value, into a new sink
+
+pub wrote_text : (old new : Printer) (d : Data) → new ≡ after (pieces d) old → new.bytes ≡ old.bytes ++ compact_text d
+unfolding after
+wrote_text old new d e = ap (λ (p : Printer). p.bytes) e ∙ ap (λ t. old.bytes ++ t) (written_is old.space old.fresh d)
+
+pub begun : {A : Type 0} (old new : Printer) (r : Result A PrintError) (d : Data) → old.failed ≡ false → Prints old r new (pieces d) → OnErr r (IsBegun old.bytes new.bytes (compact_text d))
+unfolding after
+begun old new (Ok x) d works h = tt
+begun old new (Err e) d works h =
+    let partly : has_failed e ≡ false = sym h.is.0 ∙ works in (
+      (λ i. is_front (sym partly i) new.bytes (old.bytes ++ sym (written_is old.space old.fresh d) i)) ∙ h.is.4,
+      h.is.3,
+    )
+
+-- two texts are written as one
+pub one_text : (a b : List ℕ) (p : Printer) → after (blank (a ++ b) ∷ []) p ≡ after (blank b ∷ []) (after (blank a ∷ []) p)
+one_text a b p =
+    after-blank (a ++ b) p
+    ∙ (λ i. record p { bytes = sym (append_assoc p.bytes a b) i; fresh = fresh_after-append p.fresh a b i })
+    ∙ sym (ap (after (blank b ∷ [])) (after-blank a p) ∙ after-blank b (record p { bytes = p.bytes ++ a; fresh = fresh_after p.fresh a }))

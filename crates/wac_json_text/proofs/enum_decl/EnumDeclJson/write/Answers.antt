@@ -1,0 +1,12 @@
+use Rattle.json.specs.Print.{escape_byte}
+use Rattle.wac_ast_base.specs.Names.{doc_comment_of}
+use Rattle.wac_ast_types.specs.Declarations.{enum_case_of}
+use Rattle.wac_json_text.proofs.Steps.{of_items}
+use Rattle.wac_json_text.specs.Forms.{enum_decl_json, enum_case_json, doc_json}
+use Rattle.wac_printer_pieces.proofs.Sequence.{first, last, after}
+use Rattle.wac_json_text.proofs.enum_decl.EnumDeclJson.write.Goals as goal
+
+pub returns : goal.returns
+unfolding enum_decl_json escape_byte
+returns g c =
+    last c.and-6.ensures (after c.and-5.ensures (after c.and-4.ensures (after c.and-3.ensures (after c.and-2.ensures (after c.and.ensures (first c.blank.ensures) (of_items enum_case_json enum_case_of _ c.write.ensures)) c.blank-2.ensures) (of_items doc_json doc_comment_of _ c.write-2.ensures)) c.blank-3.ensures) c.write-3.ensures) c.blank-4.ensures

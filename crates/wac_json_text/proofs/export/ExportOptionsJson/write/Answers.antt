@@ -1,0 +1,19 @@
+use Rattle.json.specs.Print.{escape_byte}
+use Rattle.std.proofs.Common.{sym}
+use Rattle.wac_ast_statements.specs.Statements.{export_options_of}
+use Rattle.wac_json_text.specs.Forms.{export_options_json}
+use Rattle.wac_json_text.specs.Pieces.{pieces}
+use Rattle.wac_printer_pieces.proofs.Sequence.{printed_at}
+use Rattle.wac_json_text.proofs.export.ExportOptionsJson.write.Goals as goal
+
+pub returns-in-None : goal.returns-in-None
+unfolding export_options_json escape_byte
+returns-in-None g c = printed_at (λ x. pieces (export_options_json (export_options_of x))) (sym c.in-None.is) c.write.ensures
+
+pub returns-in-Spread : goal.returns-in-Spread
+unfolding export_options_json escape_byte
+returns-in-Spread g c = printed_at (λ x. pieces (export_options_json (export_options_of x))) (sym c.in-Spread.is) c.variant.ensures
+
+pub returns-in-Rename : goal.returns-in-Rename
+unfolding export_options_json escape_byte
+returns-in-Rename g c = printed_at (λ x. pieces (export_options_json (export_options_of x))) (sym c.in-Rename.is) c.variant-in-Rename.ensures

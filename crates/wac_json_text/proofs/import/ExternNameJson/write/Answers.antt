@@ -1,0 +1,15 @@
+use Rattle.json.specs.Print.{escape_byte}
+use Rattle.std.proofs.Common.{sym}
+use Rattle.wac_ast_base.specs.Names.{extern_name_of}
+use Rattle.wac_json_text.specs.Forms.{extern_name_json}
+use Rattle.wac_json_text.specs.Pieces.{pieces}
+use Rattle.wac_printer_pieces.proofs.Sequence.{printed_at}
+use Rattle.wac_json_text.proofs.import.ExternNameJson.write.Goals as goal
+
+pub returns-in-Ident : goal.returns-in-Ident
+unfolding extern_name_json escape_byte
+returns-in-Ident g c = printed_at (λ x. pieces (extern_name_json (extern_name_of x))) (sym c.in-Ident.is) c.variant.ensures
+
+pub returns-in-String : goal.returns-in-String
+unfolding extern_name_json escape_byte
+returns-in-String g c = printed_at (λ x. pieces (extern_name_json (extern_name_of x))) (sym c.in-String.is) c.variant-in-String.ensures

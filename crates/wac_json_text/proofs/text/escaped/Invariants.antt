@@ -1,0 +1,17 @@
+use Rattle.std.proofs.Common.{◌≡◌, ◌-◌, ◌∷◌, [], false, length, take}
+use Rattle.std.specs.Str.{IsCharBoundary}
+use Rattle.json.specs.Print.{escape}
+use Rattle.wac_layout.specs.Printed.{blank}
+use Rattle.wac_printer_pieces.specs.Printed.{after}
+use Rattle.wac_json_text.proofs.text.escaped.Given as goal
+
+abbrev pub invariant-loop-place : goal.invariant-loop-place
+invariant-loop-place g l =
+    record {
+      boundary : IsCharBoundary l.text l.place;
+      wrote : l.out ≡ after (blank (escape (take l.place l.text)) ∷ []) l.fn.out;
+      works : l.fn.out.failed ≡ false;
+    }
+
+abbrev pub decreases-loop-place : goal.decreases-loop-place
+decreases-loop-place g l = length l.text - l.place

@@ -1,0 +1,19 @@
+use Rattle.json.specs.Print.{escape_byte}
+use Rattle.std.proofs.Common.{sym}
+use Rattle.wac_ast_worlds.specs.Worlds.{world_item_path_of}
+use Rattle.wac_json_text.specs.Forms.{world_item_path_json}
+use Rattle.wac_json_text.specs.Pieces.{pieces}
+use Rattle.wac_printer_pieces.proofs.Sequence.{printed_at}
+use Rattle.wac_json_text.proofs.world_decl.WorldItemPathJson.write.Goals as goal
+
+pub returns-in-Named : goal.returns-in-Named
+unfolding world_item_path_json escape_byte
+returns-in-Named g c = printed_at (λ x. pieces (world_item_path_json (world_item_path_of x))) (sym c.in-Named.is) c.variant.ensures
+
+pub returns-in-Package : goal.returns-in-Package
+unfolding world_item_path_json escape_byte
+returns-in-Package g c = printed_at (λ x. pieces (world_item_path_json (world_item_path_of x))) (sym c.in-Package.is) c.variant-in-Package.ensures
+
+pub returns-in-Ident : goal.returns-in-Ident
+unfolding world_item_path_json escape_byte
+returns-in-Ident g c = printed_at (λ x. pieces (world_item_path_json (world_item_path_of x))) (sym c.in-Ident.is) c.variant-in-Ident.ensures

@@ -1,0 +1,218 @@
+//! Types.
+ghost use Rattle.std.specs.Prelude.{◌≡◌, ℕ, List, codes};
+ghost use Rattle.std.specs.List.{flat_map};
+ghost use Rattle.wac_ast_base.specs.Names.{ident_of};
+ghost use Rattle.wac_ast_types.specs.Types.{optional_of, ty_of};
+ghost use Rattle.wac_printer_pieces.specs.Printed.{Prints};
+ghost use Rattle.wac_json_text.specs.Contents.{failure_pieces, result_end_pieces, success_pieces, variant_pieces};
+ghost use Rattle.wac_json_text.specs.Forms.{ident_json, list_json, optional_ty_json, pair, span_json, ty_json};
+ghost use Rattle.wac_json_text.specs.Pieces.{behind_comma, joined_pieces, pieces};
+
+use crate::form::Json;
+use wac_ast::{Ident, Type};
+use wac_lexer::{Sink, SourceSpan};
+use wac_printer_pieces::{Pieces, PrintResult};
+
+impl Json for Type<'_> {
+    ghost form = { λ x. ty_json (ty_of x) };
+
+    fn write<S: Sink>(&self, out: &mut Pieces<'_, S>) -> PrintResult {
+        ty(self, out)
+    }
+}
+
+/// Writes a type that is a keyword: its place.
+fn keyword<S: Sink>(opening: &str, span: &SourceSpan, out: &mut Pieces<'_, S>) -> PrintResult
+    ensures { Prints out.old result out.new (variant_pieces opening.now (span_json span.now)) }
+{
+    out.blank(opening).and(span.write(out)).and(out.blank("}"))
+}
+
+/// Writes a type that is a name.
+fn named<S: Sink>(id: &Ident<'_>, out: &mut Pieces<'_, S>) -> PrintResult
+    ensures { Prints out.old result out.new (variant_pieces (codes "{\"ident\":") (ident_json (ident_of id.now))) }
+{
+    out.blank("{\"ident\":")
+        .and(id.write(out))
+        .and(out.blank("}"))
+}
+
+/// Writes a borrowed resource.
+fn borrowed<S: Sink>(id: &Ident<'_>, span: &SourceSpan, out: &mut Pieces<'_, S>) -> PrintResult
+    ensures { Prints out.old result out.new (variant_pieces (codes "{\"borrow\":") (pair (ident_json (ident_of id.now)) (span_json span.now))) }
+{
+    out.blank("{\"borrow\":")
+        .and(out.blank("["))
+        .and(id.write(out))
+        .and(out.blank(","))
+        .and(span.write(out))
+        .and(out.blank("]"))
+        .and(out.blank("}"))
+}
+
+/// Writes a type.
+#[cycle(types)]
+pub(crate) fn ty<S: Sink>(tree: &Type<'_>, out: &mut Pieces<'_, S>) -> PrintResult
+    ensures { Prints out.old result out.new (pieces (ty_json (ty_of tree.now))) }
+{
+    match tree {
+        Type::U8(span) => keyword("{\"u8\":", span, out),
+        Type::S8(span) => keyword("{\"s8\":", span, out),
+        Type::U16(span) => keyword("{\"u16\":", span, out),
+        Type::S16(span) => keyword("{\"s16\":", span, out),
+        Type::U32(span) => keyword("{\"u32\":", span, out),
+        Type::S32(span) => keyword("{\"s32\":", span, out),
+        Type::U64(span) => keyword("{\"u64\":", span, out),
+        Type::S64(span) => keyword("{\"s64\":", span, out),
+        Type::F32(span) => keyword("{\"f32\":", span, out),
+        Type::F64(span) => keyword("{\"f64\":", span, out),
+        Type::Char(span) => keyword("{\"char\":", span, out),
+        Type::Bool(span) => keyword("{\"bool\":", span, out),
+        Type::String(span) => keyword("{\"string\":", span, out),
+        Type::Tuple(types, span) => tuple(types, span, out),
+        Type::List(held, span) => holding("{\"list\":", held, span, out),
+        Type::Option(held, span) => holding("{\"option\":", held, span, out),
+        Type::Result { ok, err, span } => failure(err, out)
+            .and(success(ok, out))
+            .and(result_end(span, out)),
+        Type::Borrow(id, span) => borrowed(id, span, out),
+        Type::Stream(held, span) => perhaps_holding("{\"stream\":", held, span, out),
+        Type::Future(held, span) => perhaps_holding("{\"future\":", held, span, out),
+        Type::ErrorContext(span) => keyword("{\"errorContext\":", span, out),
+        Type::Ident(id) => named(id, out),
+    }
+}
+
+/// Writes a type that holds one.
+#[cycle(types)]
+fn holding<S: Sink>(
+    opening: &str,
+    held: &Type<'_>,
+    span: &SourceSpan,
+    out: &mut Pieces<'_, S>,
+) -> PrintResult
+    ensures { Prints out.old result out.new (variant_pieces opening.now (pair (ty_json (ty_of held.now)) (span_json span.now))) }
+{
+    out.blank(opening)
+        .and(out.blank("["))
+        .and(ty(held, out))
+        .and(out.blank(","))
+        .and(span.write(out))
+        .and(out.blank("]"))
+        .and(out.blank("}"))
+}
+
+/// Writes a type that may hold one.
+#[cycle(types)]
+fn perhaps_holding<S: Sink>(
+    opening: &str,
+    held: &Option<Box<Type<'_>>>,
+    span: &SourceSpan,
+    out: &mut Pieces<'_, S>,
+) -> PrintResult
+    ensures { Prints out.old result out.new (variant_pieces opening.now (pair (optional_ty_json (optional_of held.now)) (span_json span.now))) }
+{
+    out.blank(opening)
+        .and(out.blank("["))
+        .and(payload(held, out))
+        .and(out.blank(","))
+        .and(span.write(out))
+        .and(out.blank("]"))
+        .and(out.blank("}"))
+}
+
+/// Writes a type that may be left out.
+#[cycle(types)]
+fn payload<S: Sink>(held: &Option<Box<Type<'_>>>, out: &mut Pieces<'_, S>) -> PrintResult
+    ensures { Prints out.old result out.new (pieces (optional_ty_json (optional_of held.now))) }
+{
+    match held {
+        Some(held) => ty(held, out),
+        None => out.blank("null"),
+    }
+}
+
+/// Writes what comes first of a result: what it gives on failure.
+#[cycle(types)]
+fn failure<S: Sink>(err: &Option<Box<Type<'_>>>, out: &mut Pieces<'_, S>) -> PrintResult
+    ensures { Prints out.old result out.new (failure_pieces (optional_ty_json (optional_of err.now))) }
+{
+    out.blank("{\"result\":")
+        .and(out.blank("{\"err\":"))
+        .and(payload(err, out))
+}
+
+/// Writes what a result gives on success.
+#[cycle(types)]
+fn success<S: Sink>(ok: &Option<Box<Type<'_>>>, out: &mut Pieces<'_, S>) -> PrintResult
+    ensures { Prints out.old result out.new (success_pieces (optional_ty_json (optional_of ok.now))) }
+{
+    out.blank(",\"ok\":").and(payload(ok, out))
+}
+
+/// Writes the place of a result, which comes last.
+fn result_end<S: Sink>(span: &SourceSpan, out: &mut Pieces<'_, S>) -> PrintResult
+    ensures { Prints out.old result out.new (result_end_pieces (span_json span.now)) }
+{
+    out.blank(",\"span\":")
+        .and(span.write(out))
+        .and(out.blank("}"))
+        .and(out.blank("}"))
+}
+
+/// Writes a tuple.
+#[cycle(types)]
+fn tuple<S: Sink>(types: &[Type<'_>], span: &SourceSpan, out: &mut Pieces<'_, S>) -> PrintResult
+    ensures { Prints out.old result out.new (variant_pieces (codes "{\"tuple\":") (pair (list_json (λ x. ty_json (ty_of x)) types.now) (span_json span.now))) }
+{
+    out.blank("{\"tuple\":")
+        .and(out.blank("["))
+        .and(type_list(types, out))
+        .and(out.blank(","))
+        .and(span.write(out))
+        .and(out.blank("]"))
+        .and(out.blank("}"))
+}
+
+/// Writes types in brackets.
+#[cycle(types)]
+fn type_list<S: Sink>(types: &[Type<'_>], out: &mut Pieces<'_, S>) -> PrintResult
+    ensures { Prints out.old result out.new (pieces (list_json (λ x. ty_json (ty_of x)) types.now)) }
+{
+    out.blank("[")
+        .and(joined_types(types, out))
+        .and(out.blank("]"))
+}
+
+/// Writes types with a comma between two.
+#[cycle(types)]
+fn joined_types<S: Sink>(types: &[Type<'_>], out: &mut Pieces<'_, S>) -> PrintResult
+    ensures { Prints out.old result out.new (joined_pieces (λ x. pieces (ty_json (ty_of x))) types.now) }
+{
+    match types.split_first() {
+        None => out.ready(),
+        Some((first, rest)) => {
+            ty(first, out)?;
+            further_types(rest, out)
+        }
+    }
+}
+
+/// Writes types, each after a comma.
+#[cycle(types)]
+fn further_types<S: Sink>(types: &[Type<'_>], out: &mut Pieces<'_, S>) -> PrintResult
+    ensures { Prints out.old result out.new (flat_map (λ x. behind_comma (pieces (ty_json (ty_of x)))) types.now) }
+{
+    out.ready()?;
+    for held in types {
+        further_type(held, out)?;
+    }
+    Ok(())
+}
+
+#[cycle(types)]
+fn further_type<S: Sink>(held: &Type<'_>, out: &mut Pieces<'_, S>) -> PrintResult
+    ensures { Prints out.old result out.new (behind_comma (pieces (ty_json (ty_of held.now)))) }
+{
+    out.blank(",").and(ty(held, out))
+}
