@@ -1,5 +1,6 @@
 pub mod Fronts
 pub mod Printing
+pub mod JsonLines
 pub mod ItemLines
 pub mod NoTree
 pub mod NotFormatted

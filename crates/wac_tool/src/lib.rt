@@ -4,6 +4,7 @@
 mod checking;
 mod command;
 mod error;
+mod listing;
 mod packages;
 mod refusing;
 mod reporting;
