@@ -17,7 +17,7 @@ pub use composing::{SameTypes, composition_error};
 pub use errors::first_error;
 pub use formatting::{formatted, is_formatted};
 pub use imports::imported_packages;
-pub use json::to_json;
+pub use json::{put_json, to_json};
 pub use lines::position;
 pub use missing::missing_packages;
 pub use packages::{cache, cache_alone};

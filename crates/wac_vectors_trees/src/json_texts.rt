@@ -26,7 +26,7 @@ fn has_json(rt: &impl Abort, alloc: Global, source: &str, json: &str) -> Result<
 }
 
 /// Texts, and the JSON of the tree of each.
-const TEXTS: [(&str, &str); 24] = [
+pub(crate) static TEXTS: [(&str, &str); 24] = [
     // directive alone
     (
         "package a:b;",
@@ -151,7 +151,7 @@ const TEXTS: [(&str, &str); 24] = [
 
 #[test]
 fn trees_as_json(rt: HostRuntime) -> Result<(), Fail> {
-    for (source, json) in TEXTS {
+    for (source, json) in &TEXTS {
         has_json(&rt, rt.alloc(), source, json)?;
     }
     Ok(())

@@ -5,3 +5,5 @@
 mod json_texts;
 #[cfg(test)]
 mod json_values;
+#[cfg(test)]
+mod json_written;
