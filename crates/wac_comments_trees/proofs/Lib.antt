@@ -1,0 +1,4 @@
+pub mod Built
+pub mod Derived
+pub mod Lines
+pub mod Printed

@@ -1,0 +1,3 @@
+pub mod BareItems
+pub mod Alike
+pub mod Docs
