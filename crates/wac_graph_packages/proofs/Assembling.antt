@@ -1,5 +1,5 @@
 -- Tables that grow by a world and an interface.
-use Rattle.std.proofs.Common.{◌≡◌, ◌∙◌, ◌+◌, ◌<◌, ◌≤◌, ℕ, Option, Some, None, List, [], ◌∷◌, ◌++◌, length, refl, sym, ap, subst, arith, append_assoc, append-nil, Result, Ok, Err}
+use Rattle.std.proofs.Common.{◌≡◌, ◌∙◌, ◌<◌, ◌≤◌, ℕ, Option, Some, None, List, [], ◌∷◌, ◌++◌, length, refl, sym, ap, subst, arith, append_assoc, append-nil, Result, Ok, Err}
 use Rattle.std.specs.Prelude.{IfSome, slice_get, option_and_then, OnOk, OnErr}
 use Rattle.wac_types.specs.declared.entry.Entry.{Entry}
 use Rattle.wac_types.specs.declared.entry.Entry.TheVariants as entries

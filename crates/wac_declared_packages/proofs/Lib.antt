@@ -1,0 +1,4 @@
+mod Copies
+mod Declares
+mod First
+mod Texts
