@@ -22,3 +22,9 @@ pub use line_ends::line_end_of;
 pub use options::{Action, FormatOptions, LineEnds, Report};
 pub use outcome::{Outcome, Status};
 pub use planning::Plan;
+
+/// What other words of the program use: reading standard input, and the last line and status of a run.
+pub mod internals {
+    pub use crate::checking::finish_check;
+    pub use crate::input::{STDIN, read_all};
+}

@@ -2,6 +2,7 @@
 use clap::{Arg, ArgAction, ArgMatches, Command, Error};
 use std::alloc::{AllocError, Global};
 use wac_cli::{Action, FormatOptions, LineEnds, Report};
+use wac_cli_packages::Form;
 use wac_comments::Indent;
 
 /// The version of the program.
@@ -13,6 +14,7 @@ pub(crate) struct Values<'a> {
     colors: [&'a str; 3],
     line_ends: [&'a str; 3],
     reports: [&'a str; 3],
+    forms: [&'a str; 3],
     indents: [&'a str; 17],
 }
 
@@ -22,6 +24,7 @@ impl<'a> Values<'a> {
             colors: ["auto", "always", "never"],
             line_ends: ["auto", "lf", "crlf"],
             reports: ["human", "json", "github"],
+            forms: ["text", "json", "dot"],
             indents: [
                 "1", "2", "3", "4", "5", "6", "7", "8", "9", "10", "11", "12", "13", "14", "15",
                 "16", "tab",
@@ -43,6 +46,8 @@ pub(crate) enum Color {
 pub(crate) enum Work {
     Format(FormatOptions),
     Check(Report),
+    Packages,
+    Graph(Form),
 }
 
 /// What the program has to do.
@@ -53,6 +58,10 @@ pub(crate) struct Task<'a> {
     pub(crate) quiet: bool,
     /// The paths; it is `-` alone for standard input.
     pub(crate) paths: Vec<&'a str>,
+    /// Where packages are.
+    pub(crate) packages: Vec<&'a str>,
+    /// Names of packages, each with the world that is chosen.
+    pub(crate) worlds: Vec<(&'a str, &'a str)>,
     /// The name of standard input in messages.
     pub(crate) input_name: Option<&'a str>,
 }
@@ -74,6 +83,8 @@ pub(crate) fn read_words<'a>(
     let matches = definition(alloc, values)?.try_get_matches_from(words)?;
     match matches.subcommand() {
         Some(("fmt", found)) => Ok(request_of(alloc, Work::Format(format_options(found)), found)?),
+        Some(("packages", found)) => Ok(request_of(alloc, Work::Packages, found)?),
+        Some(("graph", found)) => Ok(request_of(alloc, Work::Graph(form_of(found)), found)?),
         Some((_, found)) => Ok(request_of(alloc, Work::Check(report_of(found)), found)?),
         None => Ok(Request::Misused("a command is missing")),
     }
@@ -85,14 +96,18 @@ fn request_of<'a>(
     work: Work,
     found: &ArgMatches<'a>,
 ) -> Result<Request<'a>, AllocError> {
-    let mut paths = Vec::new(alloc);
-    if let Some(given) = found.get_strs("PATH") {
-        paths.extend_from_slice(given)?;
-    }
+    let paths = all_of(alloc, found, "PATH")?;
+    let packages = all_of(alloc, found, "packages")?;
+    let Some(worlds) = worlds_of(alloc, found)? else {
+        return Ok(Request::Misused("--world takes a package and a world, as in a:b@1.0.0=w"));
+    };
     let is_input = paths.as_slice().iter().any(|path| *path == "-");
     let input_name = found.get_str("stdin-filepath");
     if is_input && paths.len() > 1 {
         return Ok(Request::Misused("`-` can't be used with other paths"));
+    }
+    if is_input && (work_reads_files(work) || !packages.is_empty()) {
+        return Ok(Request::Misused("`-` can't be used with packages"));
     }
     if !is_input && input_name.is_some() {
         return Ok(Request::Misused("--stdin-filepath is used with the path `-` alone"));
@@ -102,8 +117,54 @@ fn request_of<'a>(
         color: color_of(found),
         quiet: found.get_flag("quiet"),
         paths,
+        packages,
+        worlds,
         input_name,
     }))
+}
+
+/// Whether a command reads files alone.
+fn work_reads_files(work: Work) -> bool {
+    match work {
+        Work::Packages | Work::Graph(_) => true,
+        Work::Format(_) | Work::Check(_) => false,
+    }
+}
+
+/// All values of an argument.
+fn all_of<'a>(
+    alloc: Global,
+    found: &ArgMatches<'a>,
+    name: &str,
+) -> Result<Vec<&'a str>, AllocError> {
+    let mut all = Vec::new(alloc);
+    if let Some(given) = found.get_strs(name) {
+        all.extend_from_slice(given)?;
+    }
+    Ok(all)
+}
+
+/// The chosen worlds, unless one is not written as `KEY=NAME`.
+fn worlds_of<'a>(
+    alloc: Global,
+    found: &ArgMatches<'a>,
+) -> Result<Option<Vec<(&'a str, &'a str)>>, AllocError> {
+    let mut worlds = Vec::new(alloc);
+    for choice in all_of(alloc, found, "world")? {
+        match choice.split_once('=') {
+            Some(pair) => worlds.push(pair)?,
+            None => return Ok(None),
+        }
+    }
+    Ok(Some(worlds))
+}
+
+fn form_of(found: &ArgMatches<'_>) -> Form {
+    match found.get_str("output") {
+        Some("json") => Form::Json,
+        Some("dot") => Form::Dot,
+        _ => Form::Text,
+    }
 }
 
 fn color_of(found: &ArgMatches<'_>) -> Color {
@@ -159,7 +220,9 @@ fn definition<'a>(alloc: Global, values: &'a Values<'a>) -> Result<Command<'a>, 
         .about("Formats and checks WAC files")
         .subcommand_required(true)
         .subcommand(fmt_definition(alloc, values)?)?
-        .subcommand(check_definition(alloc, values)?)
+        .subcommand(check_definition(alloc, values)?)?
+        .subcommand(packages_definition(alloc, values)?)?
+        .subcommand(graph_definition(alloc, values)?)
 }
 
 fn fmt_definition<'a>(alloc: Global, values: &'a Values<'a>) -> Result<Command<'a>, AllocError> {
@@ -202,7 +265,8 @@ fn check_definition<'a>(alloc: Global, values: &'a Values<'a>) -> Result<Command
     let command = Command::new(alloc, "check")
         .about("Reports the first error of each file")
         .after_help(
-            "Files are parsed, and resolved where they mention no foreign package.\n\
+            "Files are parsed, and resolved where they mention no foreign package, or where --packages says\n\
+            which documents declare packages.\n\
             Status: 0 all is well, 1 a file has an error, 2 wrong use, 3 a file could not be read,\n\
             4 out of memory.",
         )
@@ -215,7 +279,68 @@ fn check_definition<'a>(alloc: Global, values: &'a Values<'a>) -> Result<Command
                 .value_name("FORM")
                 .help("The form of errors"),
         )?;
-    common(alloc, values, command)
+    common(alloc, values, with_packages(alloc, command)?)
+}
+
+fn packages_definition<'a>(
+    alloc: Global,
+    values: &'a Values<'a>,
+) -> Result<Command<'a>, AllocError> {
+    let command = Command::new(alloc, "packages")
+        .about("Lists the packages that a file mentions, and which file declares each")
+        .after_help(
+            "A line KEY found FILE or KEY missing for each package.\n\
+            Status: 0 all are found, 1 one is missing or a file has an error, 2 wrong use, 3 a file could\n\
+            not be read, 4 out of memory.",
+        )
+        .arg(one_path(alloc))?;
+    common(alloc, values, with_packages(alloc, command)?)
+}
+
+fn graph_definition<'a>(alloc: Global, values: &'a Values<'a>) -> Result<Command<'a>, AllocError> {
+    let command = Command::new(alloc, "graph")
+        .about("Shows the graph of a file")
+        .after_help(
+            "Status: 0 all is well, 1 a file has an error, 2 wrong use, 3 a file could not be read,\n\
+            4 out of memory.",
+        )
+        .arg(one_path(alloc))?
+        .arg(
+            choice(alloc, "output", values.forms.as_slice(), "text")
+                .value_name("FORM")
+                .help("The form of the graph; dot: for Graphviz"),
+        )?;
+    common(alloc, values, with_packages(alloc, command)?)
+}
+
+/// Adds where packages are, and their worlds.
+fn with_packages<'a>(alloc: Global, command: Command<'a>) -> Result<Command<'a>, AllocError> {
+    command
+        .arg(
+            Arg::new(alloc, "packages")
+                .long("packages")
+                .value_name("PATH")
+                .action(ArgAction::Append)
+                .help(
+                    "A file that declares a package, or a folder for all *.wac below; may be repeated",
+                ),
+        )?
+        .arg(
+            Arg::new(alloc, "world")
+                .long("world")
+                .value_name("KEY=NAME")
+                .action(ArgAction::Append)
+                .help("Chooses a world of a package that declares several, as a:b@1.0.0=w"),
+        )
+}
+
+fn one_path<'a>(alloc: Global) -> Arg<'a> {
+    Arg::new(alloc, "PATH")
+        .required(true)
+        .action(ArgAction::Append)
+        .num_args(1)
+        .value_name("PATH")
+        .help("The file")
 }
 
 /// Adds what both commands take.
