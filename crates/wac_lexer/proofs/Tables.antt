@@ -1,5 +1,5 @@
 -- The code's tables are the automaton's classes and steps: held against them entry by entry, by computation.
-use Rattle.std.proofs.Common.{◌≡◌, ℕ, zero, suc, ◌+◌, ◌*◌, ◌-◌, ◌<◌, ◌≤◌, Bool, true, List, [], take, get_or, refl, sym, ap, ◌∙◌, subst, ⊎_elim, arith, Option, Some, None}
+use Rattle.std.proofs.Common.{◌≡◌, ℕ, zero, suc, ◌+◌, ◌*◌, ◌-◌, ◌<◌, ◌≤◌, Bool, true, List, [], ◌∷◌, take, length, get_or, refl, sym, ap, ◌∙◌, subst, ⊎_elim, arith, Option, Some, None}
 use Rattle.std.specs.Prelude.{nat_eq, nat_lt, is_some, is_none, option_map}
 use Rattle.std.proofs.lemmas.Bool.{eqb-true, ltb-true, cases_lt, false≢true}
 use Rattle.std.proofs.lemmas.List.{get_or_past}
@@ -12,7 +12,7 @@ use Rattle.wac_lexer.specs.declared.shape.Shape.{Shape}
 use Rattle.wac_lexer.specs.declared.shape.Shape.TheVariants as shapes
 use Rattle.wac_lexer.specs.declared.automaton.TheConstants.{CLASSES, STEPS}
 use Rattle.wac_lexer.specs.Front.{found_at, longest}
-use Rattle.wac_lexer.proofs.States.{Reads, below, below_at, one_longer, shape_is, walk_longest}
+use Rattle.wac_lexer.proofs.States.{Reads, below, below_at, one_longer, shape_is, walk_longest, walk_reads, walk_ends}
 use Rattle.wac_lexer.proofs.Texts.{is_shape, is_shape_is}
 
 abbrev class_number : Class → ℕ
@@ -204,3 +204,12 @@ found_there text (suc n) state reads h =
     let there : Reads (state_at state) (take (n + 1) text) = subst (λ k. Reads (state_at state) (take k text)) (sym more) reads in
     let found = found_longer (n + 1) state (longest text n) h ∙ sym (walk_longest text n (state_at state) (shape_at (state_at state)) there refl) in
     subst (λ k. found_at k state ≡ longest text k) more found
+
+-- where the first byte ends a symbol that no byte continues, no longer prefix has a shape
+pub ended_alone : (text : List ℕ) → 0 < length text → ((k : ℕ) → get_or text k 0 < 256) → Reads (state_at 12) (take 1 text) → longest text (length text) ≡ Some (1, shapes.Symbol)
+ended_alone [] some fits reads = absurd (omega (arith, some))
+ended_alone (b ∷ []) some fits reads = sym (found_there (b ∷ []) 1 12 reads (omega arith))
+ended_alone (b ∷ next ∷ rest) some fits reads =
+    let text = b ∷ next ∷ rest in
+    let dead : Reads Dead (take 2 text) = walk_reads text 1 Ended Dead (omega arith) (fits 1) reads refl in
+    sym (walk_ends text 1 Dead (omega arith) dead refl) ∙ sym (found_there text 1 12 reads (omega arith))

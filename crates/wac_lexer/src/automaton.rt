@@ -1,18 +1,22 @@
 // Finds the longest prefix of a text that has a shape, in one walk over its bytes by two tables.
-ghost use Rattle.std.specs.Prelude.{◌≡◌, ◌<◌, length};
+ghost use Rattle.std.specs.Prelude.{◌≡◌, ◌<◌, length, true, Some};
 ghost use Rattle.wac_lexer.specs.Automaton.{class_of, class_at, class_count, step_of, state_at, state_count, end_count, shape_at};
 ghost use Rattle.wac_lexer.specs.Front.{found_at, longest};
+ghost use Rattle.wac_lexer.specs.declared.shape.Shape.TheVariants.{Symbol};
 
 use crate::shape::Shape;
 
 /// The number of the state at the start of a text.
-const START: u8 = 13;
+const START: usize = 13;
 
 /// The number of the state in which no text of any shape begins.
-const DEAD: u8 = 26;
+const DEAD: usize = 26;
 
 /// A token may end in the states with smaller numbers.
-const ENDS: u8 = 13;
+const ENDS: usize = 13;
+
+/// The number of the state at the end of a symbol that no byte continues.
+const ENDED: usize = 12;
 
 /// How many columns `STEPS` has: one for each class, and two that are never read, so that a row's place is a shift.
 const CLASS_COUNT: usize = 16;
@@ -121,16 +125,16 @@ fn class_of(byte: u8) -> u8
 }
 
 /// The state after one more byte.
-fn step(state: u8, byte: u8) -> u8
+fn step(state: usize, byte: u8) -> usize
     requires { state < state_count }
     ensures state { state_at result ≡ step_of (state_at state) (class_of byte) }
     ensures within { result < state_count }
 {
-    STEPS[usize::from(state) * CLASS_COUNT + usize::from(class_of(byte))]
+    usize::from(STEPS[state * CLASS_COUNT + usize::from(class_of(byte))])
 }
 
 /// The shape of the whole text that was read, if it has one.
-fn shape_at(state: u8) -> Option<Shape>
+fn shape_at(state: usize) -> Option<Shape>
     ensures { result ≡ shape_at (state_at state) }
 {
     match state {
@@ -144,7 +148,7 @@ fn shape_at(state: u8) -> Option<Shape>
 }
 
 /// A prefix of this length, with the shape of the texts that end in this state.
-fn front(len: usize, state: u8) -> Option<(usize, Shape)>
+fn front(len: usize, state: usize) -> Option<(usize, Shape)>
     ensures { result ≡ found_at len state }
 {
     match shape_at(state) {
@@ -154,7 +158,7 @@ fn front(len: usize, state: u8) -> Option<(usize, Shape)>
 }
 
 /// How many bytes come before the one that no text of any shape continues with, and the state behind them.
-fn walk(bytes: &[u8]) -> (usize, u8)
+fn walk(bytes: &[u8]) -> (usize, usize)
     ensures { result.1 < end_count → found_at result.0 result.1 ≡ longest bytes.now (length bytes.now) }
 {
     let mut state = START;
@@ -188,10 +192,23 @@ fn longest_ended(bytes: &[u8]) -> Option<(usize, Shape)>
     front(len, last)
 }
 
-/// The longest prefix that has a shape.
+/// Whether the first byte is a symbol that no byte continues, as `;` is.
+fn begins_alone(bytes: &[u8]) -> bool
+    ensures { result ≡ true → longest bytes.now (length bytes.now) ≡ Some (1, Symbol) }
+{
+    if bytes.is_empty() {
+        return false;
+    }
+    step(START, bytes[0]) == ENDED
+}
+
+/// The longest prefix that has a shape. Half of all tokens are a symbol alone, for which nothing is walked over.
 pub(crate) fn longest_front(bytes: &[u8]) -> Option<(usize, Shape)>
     ensures { result ≡ longest bytes.now (length bytes.now) }
 {
+    if begins_alone(bytes) {
+        return Some((1, Shape::Symbol));
+    }
     let (len, state) = walk(bytes);
     if state < ENDS {
         front(len, state)
