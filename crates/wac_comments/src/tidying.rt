@@ -150,7 +150,8 @@ fn tested(
     requires back { ReadsBackAs source.now formatted.now }
     ensures kept { IfOk result (λ text. Kept source.now (string_bytes text)) }
     ensures back { IfOk result (λ text. ReadsBackAs (string_bytes text) formatted.now) }
-    ensures plain { IfOk result (λ text. IsEnded (has_comments source.now) style.entry.line_end.now formatted.now (string_bytes text)) }
+    ensures plain { IfOk result (λ text.
+        IsEnded (has_comments source.now) style.entry.line_end.now formatted.now (string_bytes text)) }
     ensures only { IfErr result (λ e. (e ≡ NotKept) ⊎ (e ≡ Memory alloc_error)) }
 {
     let found = wanted(alloc, pieces)?;
@@ -186,7 +187,9 @@ fn candidate<'a>(
     formatted: &str,
     style: Style<'_>,
 ) -> Result<String, TidyError>
-    ensures plain { IfOk result (λ text. IsEnded (list_any is_comment (texts_of pieces.now)) style.entry.line_end.now formatted.now (string_bytes text)) }
+    ensures plain { IfOk result (λ text.
+        IsEnded (list_any is_comment (texts_of pieces.now)) style.entry.line_end.now formatted.now
+        (string_bytes text)) }
     ensures only { IfErr result (λ e. (e ≡ NotKept) ⊎ (e ≡ Memory alloc_error)) }
 {
     if !has_comments(pieces) {
