@@ -1,0 +1,95 @@
+//! Where two kinds differ first.
+ghost use Rattle.std.specs.Prelude.{ℕ, IfOk, IfSome};
+ghost use Rattle.wac_types.specs.Table.{IsTable, Names};
+ghost use Rattle.wac_component_mismatch.specs.Told.{IsThereUnlessFits, LeadsInBoth};
+
+use crate::differences::{Difference, Pair, first_difference};
+use crate::places::{Topic, place};
+use crate::words::{Mismatch, Step};
+use std::alloc::{AllocError, Global};
+use wac_component_rules::internals::fitting;
+use wac_types::{Entry, ItemKind, Types};
+
+/// Where the first kind of a table differs from the second one, if it may not stand where the second is expected.
+///
+/// Parts are compared in this order: `async`; parameters pair by pair, name, then type, then their number; results
+/// the same way; a component's imports in its own order, then its exports in the expected one's. Types are compared
+/// both ways, this way first. Only the path takes memory.
+///
+/// ```text
+/// match mismatch(alloc, types, given, expected)? {
+///     None => ..,           // `given` fits
+///     Some(found) => ..,    // `found` reads: at parameter `x`: expected s8, found u8
+/// }
+/// ```
+pub fn mismatch<'a>(
+    alloc: Global,
+    types: &'a Types,
+    a: ItemKind,
+    b: ItemKind,
+) -> Result<Option<Mismatch<'a>>, AllocError>
+    requires table { IsTable types.now }
+    requires first { Names types.now a }
+    requires second { Names types.now b }
+    ensures there { (o : ℕ → ℕ) → IfOk result (λ m. IsThereUnlessFits o types.now a b m) }
+    ensures leads { IfOk result (λ m. IfSome m (LeadsInBoth types.now a b)) }
+{
+    if fitting(types.entries(), a, b) {
+        return Ok(None);
+    }
+    let pair = Pair {
+        given: a,
+        expected: b,
+    };
+    match located(alloc, types.entries(), pair) {
+        Err(e) => Err(e),
+        Ok(found) => Ok(Some(found)),
+    }
+}
+
+/// The first place where a pair differs.
+fn located<'a>(alloc: Global, entries: &'a [Entry], pair: Pair) -> Result<Mismatch<'a>, AllocError>
+    requires table { IsTable entries.now }
+    ensures { IfOk result (LeadsInBoth entries.now pair.given pair.expected) }
+{
+    let mut path = Vec::new(alloc);
+    let mut at = pair;
+    // Each step leads to earlier entries, and a pair is turned at most once before the next.
+    for _ in 0..(entries.len() as u128 * 2 + 2) {
+        match first_difference(entries, at) {
+            Difference::Here(step, topic) => {
+                push(&mut path, step)?;
+                return Ok(told(entries, path, pair, topic));
+            }
+            Difference::At(step, part) => {
+                push(&mut path, step)?;
+                at = part;
+            }
+        }
+    }
+    Ok(told(entries, path, pair, Topic::Kind))
+}
+
+fn push<'a>(path: &mut Vec<Step<'a>>, step: Option<Step<'a>>) -> Result<(), AllocError> {
+    match step {
+        None => Ok(()),
+        Some(step) => {
+            path.push(step)?;
+            Ok(())
+        }
+    }
+}
+
+/// What is at the end of the path in each of the two kinds.
+fn told<'a>(entries: &'a [Entry], path: Vec<Step<'a>>, pair: Pair, topic: Topic) -> Mismatch<'a>
+    requires table { IsTable entries.now }
+    ensures { LeadsInBoth entries.now pair.given pair.expected result }
+{
+    let expected = place(entries, pair.expected, path.as_slice(), topic);
+    let found = place(entries, pair.given, path.as_slice(), topic);
+    Mismatch {
+        path,
+        expected,
+        found,
+    }
+}
