@@ -5,7 +5,6 @@
 //! world, else by its name where it was first, else by its structure. Resources are numbered in the order of printing.
 #![tactic(auto)]
 
-mod names;
 mod printer;
 mod words;
 

@@ -1,11 +1,11 @@
 //! Prints what is decoded.
 
-use crate::names::{Names, Origin, origin_of, target};
 use crate::words::{primitive_name, quoted, side};
 use indexmap::IndexSet;
 use std::alloc::{AllocError, AllocFailed, Global};
 use std::fmt;
 use wac_components::Decoded;
+use wac_components_names::{Names, Origin, Reference, origin_of, reference_of};
 use wac_components_types::{
     ComponentId, Func, InstanceId, Item, NameId, Named, Owner, Part, Parts, Table, TypeDef, TypeId,
 };
@@ -203,13 +203,6 @@ impl<'d> Printer<'d> {
     fn name_in(&self, ty: TypeId, scope: usize) -> Option<NameId> {
         match self.scopes.get(scope) {
             Some(names) => names.of(self.table, ty),
-            None => None,
-        }
-    }
-
-    fn own_name_in(&self, ty: TypeId, scope: usize) -> Option<NameId> {
-        match self.scopes.get(scope) {
-            Some(names) => names.own(ty),
             None => None,
         }
     }
@@ -473,7 +466,7 @@ impl<'d> Printer<'d> {
         };
         match self.table.base_def(ty) {
             Some(TypeDef::Resource) => {
-                let before = self.reference(ty, named, owner, scope)?;
+                let before = self.reference(ty, owner, scope)?;
                 self.write(if before { "," } else { "{" })?;
                 self.resource(self.table.base(ty))?;
                 self.write("}")
@@ -484,7 +477,7 @@ impl<'d> Printer<'d> {
             }
             Some(TypeDef::Body(_, _)) => self.body(named),
             _ => {
-                if self.reference(ty, named, owner, scope)? {
+                if self.reference(ty, owner, scope)? {
                     self.write("}")
                 } else {
                     self.structure(self.table.base(ty), scope)
@@ -511,40 +504,24 @@ impl<'d> Printer<'d> {
         }
     }
 
+    fn reference_of(&self, ty: TypeId, owner: Owner, scope: usize) -> Option<Reference> {
+        let names = self.scopes.get(scope)?;
+        reference_of(self.table, names, ty, owner)
+    }
+
     /// The beginning of a type that is another one's name, without its end. Whether it is one.
-    fn reference(
-        &mut self,
-        ty: TypeId,
-        named: Option<Named>,
-        owner: Owner,
-        scope: usize,
-    ) -> Result<bool, JsonError> {
-        let of = match named {
-            Some(named) => named.target,
-            None => ty,
-        };
-        let is_named = target(self.table, of).is_some();
-        let own = if is_named {
-            self.own_name_in(of, scope)
-        } else {
-            None
-        };
-        if let Some(name) = own {
-            self.write("{\"named\":")?;
-            self.name(name)?;
-            return Ok(true);
-        }
-        if let Some(far) = origin_of(self.table, ty, Some(owner)) {
-            self.used(far)?;
-            return Ok(true);
-        }
-        match self.name_in(of, scope) {
-            Some(name) if is_named => {
+    fn reference(&mut self, ty: TypeId, owner: Owner, scope: usize) -> Result<bool, JsonError> {
+        match self.reference_of(ty, owner, scope) {
+            Some(Reference::Named(name)) => {
                 self.write("{\"named\":")?;
                 self.name(name)?;
                 Ok(true)
             }
-            _ => Ok(false),
+            Some(Reference::Used(far)) => {
+                self.used(far)?;
+                Ok(true)
+            }
+            None => Ok(false),
         }
     }
 

@@ -1,12 +1,14 @@
 //! Tests of `wac_components`: broken components with kind and offset of their error, small components that were made by
-//! hand, one with a large core module, and one that grows without end; of numbers and names in bytes; of packages. Each
-//! test passes whichever request for memory fails.
+//! hand, one with a large core module, and one that grows without end; of numbers and names in bytes; of the names of
+//! types; of packages. Each test passes whichever request for memory fails.
 #![tactic(auto)]
 
 #[cfg(test)]
 mod broken;
 #[cfg(test)]
 mod large;
+#[cfg(test)]
+mod names;
 #[cfg(test)]
 mod numbers;
 #[cfg(test)]

@@ -38,7 +38,7 @@ static OTHERS_EXPORTS: [Row; 7] = [
 ];
 
 /// What bytes are decoded to; decoded once more where memory runs out.
-fn decoded_again(alloc: Global, bytes: &[u8]) -> Result<Decoded, DecodeError> {
+pub(crate) fn decoded_again(alloc: Global, bytes: &[u8]) -> Result<Decoded, DecodeError> {
     let limits = Limits::for_length(bytes.len());
     match decode(alloc, bytes, limits) {
         Err(error) if error.kind == ErrorKind::Memory => decode(alloc, bytes, limits),

@@ -6,7 +6,13 @@ use wac_components_types::{ComponentId, InstanceId, Item, NameId, Owner, Table, 
 use wac_types::ExternKind;
 
 /// The names of types in one interface or world: those that it gives, and those of what these are names of.
-pub(crate) struct Names {
+///
+/// ```text
+/// let mut names = Names::new(alloc);
+/// names.add_exports(table, instance)?;
+/// names.of(table, ty)     // the name by which the instance's interface calls the type
+/// ```
+pub struct Names {
     own: IndexMap<usize, NameId>,
     by_target: IndexMap<usize, NameId>,
 }
@@ -22,7 +28,8 @@ impl Drop for Names {
 
 /// Where a type was first: the side and the name of the interface, and the type's name there.
 #[derive(Clone, Copy)]
-pub(crate) struct Origin {
+pub struct Origin {
+    /// Whether a world imports or exports the interface.
     pub kind: ExternKind,
     pub interface: NameId,
     pub name: NameId,
@@ -31,8 +38,12 @@ pub(crate) struct Origin {
 /// How many names a chain may have: the depth of types is limited to fewer.
 const LONGEST_CHAIN: usize = 1000;
 
-/// What a type is another name of.
-pub(crate) fn target(table: &Table, ty: TypeId) -> Option<TypeId> {
+/// What a type is another name of, if it is one.
+///
+/// ```text
+/// target(table, ty)       // of `type size = u64` the type u64
+/// ```
+pub fn target(table: &Table, ty: TypeId) -> Option<TypeId> {
     match table.ty(ty) {
         Some(entry) => match entry.def {
             TypeDef::Named(named) => Some(named.target),
@@ -60,7 +71,8 @@ fn import_count(table: &Table, component: ComponentId) -> usize {
 }
 
 impl Names {
-    pub(crate) fn new(alloc: Global) -> Names {
+    /// No names.
+    pub fn new(alloc: Global) -> Names {
         Names {
             own: IndexMap::new(alloc),
             by_target: IndexMap::new(alloc),
@@ -95,11 +107,7 @@ impl Names {
     }
 
     /// Adds what an instance exports.
-    pub(crate) fn add_exports(
-        &mut self,
-        table: &Table,
-        instance: InstanceId,
-    ) -> Result<(), AllocError> {
+    pub fn add_exports(&mut self, table: &Table, instance: InstanceId) -> Result<(), AllocError> {
         for place in 0..table.export_count(instance) {
             if let Some((name, item)) = table.export_at(instance, place) {
                 self.add_own(name, item)?;
@@ -110,11 +118,7 @@ impl Names {
     }
 
     /// Adds what a component imports.
-    pub(crate) fn add_imports(
-        &mut self,
-        table: &Table,
-        component: ComponentId,
-    ) -> Result<(), AllocError> {
+    pub fn add_imports(&mut self, table: &Table, component: ComponentId) -> Result<(), AllocError> {
         for place in 0..import_count(table, component) {
             if let Some((name, item)) = table.import_at(component, place) {
                 self.add_own(name, item)?;
@@ -125,7 +129,7 @@ impl Names {
     }
 
     /// The name that is given to exactly this type.
-    pub(crate) fn own(&self, ty: TypeId) -> Option<NameId> {
+    pub fn own(&self, ty: TypeId) -> Option<NameId> {
         self.own.get(&ty.0).copied()
     }
 
@@ -153,8 +157,9 @@ impl Names {
         None
     }
 
-    /// The name by which a type is called.
-    pub(crate) fn of(&self, table: &Table, ty: TypeId) -> Option<NameId> {
+    /// The name by which a type is called: one that is given to it or to what it is another name of, else one of those
+    /// that are names of the same.
+    pub fn of(&self, table: &Table, ty: TypeId) -> Option<NameId> {
         match self.own_of(table, ty) {
             Some(name) => Some(name),
             None => self.shared_of(table, ty),
@@ -163,7 +168,11 @@ impl Names {
 }
 
 /// Where a type was first, if that is an interface with a name, and not this owner.
-pub(crate) fn origin_of(table: &Table, ty: TypeId, owner: Option<Owner>) -> Option<Origin> {
+///
+/// ```text
+/// origin_of(table, ty, Some(Owner::Instance(instance)))   // of `use types.{size}` the interface and the name there
+/// ```
+pub fn origin_of(table: &Table, ty: TypeId, owner: Option<Owner>) -> Option<Origin> {
     let mut current = ty;
     let mut first = None;
     for _ in 0..LONGEST_CHAIN {
