@@ -8,9 +8,9 @@ use Rattle.wac_lexer.specs.Characters.{refused}
 use Rattle.wac_lexer.specs.Reading.{Reading, left}
 use Rattle.wac_ast_base.specs.declared.error.Error.{Error}
 use Rattle.wac_ast_base.specs.Answer.{End, end_of_input, Gives, has_more, final_span, told_in}
-use Rattle.wac_grammar.specs.Tree.{Document}
-use Rattle.wac_grammar.specs.Grammar.{document}
-use Rattle.wac_grammar.specs.Reading.{read}
+use Rattle.wac_ast_grammar.specs.Tree.{Document}
+use Rattle.wac_ast_grammar.specs.Grammar.{document}
+use Rattle.wac_ast_grammar.specs.Reading.{read}
 use Rattle.wac_ast.specs.Document.{end_of_text, Parses}
 
 same_end : (x y : End) → x.source ≡ y.source → x.final ≡ y.final → x ≡ y

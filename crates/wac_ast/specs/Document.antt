@@ -4,9 +4,9 @@ use Rattle.wac_lexer.specs.Span.{Span, span}
 use Rattle.wac_lexer.specs.Items.{items}
 use Rattle.wac_lexer.specs.Characters.{refused}
 use Rattle.wac_lexer.specs.declared.error.Error.{Error as Fault}
-use Rattle.wac_grammar.specs.Tree.{Document}
-use Rattle.wac_grammar.specs.Grammar.{document}
-use Rattle.wac_grammar.specs.Reading.{read}
+use Rattle.wac_ast_grammar.specs.Tree.{Document}
+use Rattle.wac_ast_grammar.specs.Grammar.{document}
+use Rattle.wac_ast_grammar.specs.Reading.{read}
 use Rattle.wac_ast_base.specs.declared.error.Error.{Error}
 use Rattle.wac_ast_base.specs.Error.{Told, told_by, faulty, no_memory}
 use Rattle.wac_ast_base.specs.Answer.{End, final_span, told_in}

@@ -1,7 +1,7 @@
 -- The trees of statements and documents.
 use Rattle.std.specs.Prelude.{map}
-use Rattle.wac_grammar.specs.Tree as tree
-use Rattle.wac_grammar.specs.Tree.{Statement}
+use Rattle.wac_ast_grammar.specs.Tree as tree
+use Rattle.wac_ast_grammar.specs.Tree.{Statement}
 use Rattle.wac_ast_base.specs.Names.{doc_comment_of}
 use Rattle.wac_ast_statements.specs.Statements.{directive_of, let_statement_of, export_statement_of}
 use Rattle.wac_ast.specs.declared.type_statement.TypeStatement.{TypeStatement}

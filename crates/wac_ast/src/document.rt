@@ -4,13 +4,13 @@ ghost use Rattle.std.specs.Prelude.{◌≡◌, ◌<◌, ◌⊎◌, [], map, allo
 ghost use Rattle.wac_lexer.specs.Reading.{left};
 ghost use Rattle.wac_ast_base.specs.declared.error.Error.TheVariants.{Memory};
 ghost use Rattle.wac_ast_base.specs.Error.{told_by};
-ghost use Rattle.wac_grammar.specs.Tree.{Document as Tree};
+ghost use Rattle.wac_ast_grammar.specs.Tree.{Document as Tree};
 ghost use Rattle.wac_ast_base.specs.Answer.{Gives};
-ghost use Rattle.wac_grammar.specs.TextTree.{IsTreeOf};
+ghost use Rattle.wac_ast_grammar.specs.TextTree.{IsTreeOf};
 ghost use Rattle.wac_ast.specs.Document.{ErrorOf, Parses};
-ghost use Rattle.wac_grammar.specs.Slices.{DocumentSlices};
-ghost use Rattle.wac_grammar.specs.Reading.{read};
-ghost use Rattle.wac_grammar.specs.Grammar as symbols;
+ghost use Rattle.wac_ast_grammar.specs.Slices.{DocumentSlices};
+ghost use Rattle.wac_ast_grammar.specs.Reading.{read};
+ghost use Rattle.wac_ast_grammar.specs.Grammar as symbols;
 ghost use Rattle.wac_ast.specs.Statements.{statement_of, document_of};
 
 use crate::statement::Statement;

@@ -17,6 +17,10 @@ pub use wac_ast_expressions::{
     AccessExpr, Expr, InstantiationArgument, InstantiationArgumentName, NamedAccessExpr,
     NamedInstantiationArgument, NestedExpr, NewExpr, PostfixExpr, PrimaryExpr,
 };
+pub use wac_ast_grammar::{
+    arguments_are_refused_at_first_faults, refusals_lie_at_first_faults, tokens_have_texts,
+    trees_end_where_they_must, trees_stand_in_their_text, what_is_read_derives,
+};
 pub use wac_ast_statements::{ExportOptions, ExportStatement, LetStatement, PackageDirective};
 pub use wac_ast_types::{
     Constructor, EnumCase, EnumDecl, Field, Flag, FlagsDecl, FuncType, FuncTypeRef, ItemTypeDecl,
@@ -27,10 +31,6 @@ pub use wac_ast_uses::{Use, UseItem, UsePath, WorldInclude, WorldIncludeItem, Wo
 pub use wac_ast_worlds::{
     ExternType, ImportStatement, ImportType, InlineInterface, InterfaceDecl, InterfaceExport,
     InterfaceItem, NamedWorldItem, WorldDecl, WorldExport, WorldImport, WorldItem, WorldItemPath,
-};
-pub use wac_grammar::{
-    arguments_are_refused_at_first_faults, refusals_lie_at_first_faults, tokens_have_texts,
-    trees_end_where_they_must, trees_stand_in_their_text, what_is_read_derives,
 };
 
 /// How each part of a document is parsed, and what callers that are proved themselves lend.

@@ -1,7 +1,7 @@
 //! The statements of a document.
 
 ghost use Rattle.std.specs.Prelude.{◌<◌};
-ghost use Rattle.wac_grammar.specs.Grammar as symbols;
+ghost use Rattle.wac_ast_grammar.specs.Grammar as symbols;
 ghost use Rattle.wac_ast.specs.Statements.{statement_of};
 
 use crate::type_statement::TypeStatement;

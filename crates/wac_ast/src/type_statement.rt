@@ -1,7 +1,7 @@
 //! Statements that declare an interface, a world or a type.
 
-ghost use Rattle.wac_grammar.specs.Grammar as symbols;
-ghost use Rattle.wac_grammar.specs.Reading.{begins};
+ghost use Rattle.wac_ast_grammar.specs.Grammar as symbols;
+ghost use Rattle.wac_ast_grammar.specs.Reading.{begins};
 ghost use Rattle.wac_ast_base.specs.Lookahead.{Peeks};
 ghost use Rattle.wac_ast.specs.Statements.{type_statement_of};
 

@@ -8,29 +8,29 @@ use Rattle.wac_lexer.specs.Reading.{Reading, left}
 use Rattle.wac_lexer.specs.declared.token.Token.{Token}
 use Rattle.wac_lexer.specs.declared.token.Token.TheVariants as t
 use Rattle.wac_lexer.specs.declared.error.Error.{Error as Fault}
-use Rattle.wac_grammar.specs.Tokens.{is_token, at}
-use Rattle.wac_grammar.specs.Grammar.{Sym, argument, Body, TreeOf}
-use Rattle.wac_grammar.specs.Reading.{Standing, at_once, closing, behind_comma, Tried, can, Stop, Why, other, version, empty_body, told as told_of_item, before, read}
-use Rattle.wac_grammar.specs.Viable.{Viable}
-use Rattle.wac_grammar.specs.Possible.{same_standing, named}
-use Rattle.wac_grammar.specs.Bodies.{Opens}
-use Rattle.wac_grammar.specs.Arguments.{EndsArgued, CutShort}
-use Rattle.wac_grammar.specs.Stopped.{Fault as IsFault, CanStand, Stands, Stopped}
+use Rattle.wac_ast_grammar.specs.Tokens.{is_token, at}
+use Rattle.wac_ast_grammar.specs.Grammar.{Sym, argument, Body, TreeOf}
+use Rattle.wac_ast_grammar.specs.Reading.{Standing, at_once, closing, behind_comma, Tried, can, Stop, Why, other, version, empty_body, told as told_of_item, before, read}
+use Rattle.wac_ast_grammar.specs.Viable.{Viable}
+use Rattle.wac_ast_grammar.specs.Possible.{same_standing, named}
+use Rattle.wac_ast_grammar.specs.Bodies.{Opens}
+use Rattle.wac_ast_grammar.specs.Arguments.{EndsArgued, CutShort}
+use Rattle.wac_ast_grammar.specs.Stopped.{Fault as IsFault, CanStand, Stands, Stopped}
 use Rattle.wac_ast_base.specs.declared.error.Error.{Error}
 use Rattle.wac_ast_base.specs.declared.error.Error.TheVariants as errors
 use Rattle.wac_ast_base.specs.Error.{Told, told_by, faulty, empty_type, no_memory, expected}
 use Rattle.wac_ast_base.specs.Lookahead.{refusal}
 use Rattle.wac_ast_base.specs.Answer.{End, end_of_input, end_span, body_name, part_name, version_told, told_at, told, told_in, Gives}
 use Rattle.wac_ast_base.specs.FirstFault.{FirstFault, Expects, AllExpected, Finds, Holds, Tells, TellsFirstFault, TellsRefusal, Answers}
-use Rattle.wac_grammar.proofs.Tables.{same_token, needs_more}
-use Rattle.wac_grammar.proofs.Sound.{sound}
-use Rattle.wac_grammar.proofs.Completed.{same_is, self_token}
-use Rattle.wac_grammar.proofs.Bodies.{empty_exactly, closes_body}
-use Rattle.wac_grammar.proofs.Strings.{is_told, told_exactly}
-use Rattle.wac_grammar.proofs.Reasons.{Reason, reason}
-use Rattle.wac_grammar.proofs.Refused.{stopped, no_such, stays}
-use Rattle.wac_grammar.proofs.Arguments.{stopped_argument}
-use Rattle.wac_grammar.proofs.Local.{Seen}
+use Rattle.wac_ast_grammar.proofs.Tables.{same_token, needs_more}
+use Rattle.wac_ast_grammar.proofs.Sound.{sound}
+use Rattle.wac_ast_grammar.proofs.Completed.{same_is, self_token}
+use Rattle.wac_ast_grammar.proofs.Bodies.{empty_exactly, closes_body}
+use Rattle.wac_ast_grammar.proofs.Strings.{is_told, told_exactly}
+use Rattle.wac_ast_grammar.proofs.Reasons.{Reason, reason}
+use Rattle.wac_ast_grammar.proofs.Refused.{stopped, no_such, stays}
+use Rattle.wac_ast_grammar.proofs.Arguments.{stopped_argument}
+use Rattle.wac_ast_grammar.proofs.Local.{Seen}
 
 -- ---- the tokens that are named
 

@@ -9,10 +9,10 @@ use Rattle.wac_lexer.specs.Reading.{Reading, left, shown}
 use Rattle.wac_lexer.specs.declared.token.Token.{Token}
 use Rattle.wac_lexer.specs.declared.error.Error.{Error as LexError}
 use Rattle.wac_ast_base.specs.declared.error.Error.{Error}
-use Rattle.wac_grammar.specs.Tokens.{at}
-use Rattle.wac_grammar.specs.Grammar as g
-use Rattle.wac_grammar.specs.Grammar.{Sym}
-use Rattle.wac_grammar.specs.Reading.{Stop, Tried, can, follows, begins, at_one_of, refuse}
+use Rattle.wac_ast_grammar.specs.Tokens.{at}
+use Rattle.wac_ast_grammar.specs.Grammar as g
+use Rattle.wac_ast_grammar.specs.Grammar.{Sym}
+use Rattle.wac_ast_grammar.specs.Reading.{Stop, Tried, can, follows, begins, at_one_of, refuse}
 use Rattle.wac_ast_base.specs.Error.{Told, told_by, expected}
 use Rattle.wac_ast_base.specs.Lookahead.{Looked, looked, is_next, is_one_of, tried, refusal, told_of, peeked, Peeks}
 use Rattle.wac_ast_base.specs.Lists.{tells}

@@ -7,10 +7,10 @@ use Rattle.std.proofs.lemmas.List.{drop-drop, drop-take, drop_all, get_or-take, 
 use Rattle.std.proofs.lemmas.List.Sums.{fails_before_first, passes_at_first, position_or_len_is, prefix_len-le-length}
 use Rattle.wac_lexer.specs.Span.{Span, span, end_of}
 use Rattle.wac_lexer.specs.Reading.{slice}
-use Rattle.wac_grammar.specs.Version.{is_slash, is_at_sign, unversioned, path_name, path_segments}
-use Rattle.wac_grammar.specs.Tree.{PackagePath}
-use Rattle.wac_grammar.specs.Spelled.{spelled}
-use Rattle.wac_grammar.specs.Segments.{behind, located, segment_spans, package_name_span}
+use Rattle.wac_ast_grammar.specs.Version.{is_slash, is_at_sign, unversioned, path_name, path_segments}
+use Rattle.wac_ast_grammar.specs.Tree.{PackagePath}
+use Rattle.wac_ast_grammar.specs.Spelled.{spelled}
+use Rattle.wac_ast_grammar.specs.Segments.{behind, located, segment_spans, package_name_span}
 
 module _ (source : List ℕ) where
   -- each part is the slice at its span

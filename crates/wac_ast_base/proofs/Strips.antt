@@ -3,7 +3,7 @@ use Rattle.std.proofs.Common.{◌≡◌, ℕ, ◌<◌, List, [], ◌∷◌, drop
 use Rattle.std.proofs.lemmas.Str.Pattern.{strip_prefix_char}
 use Rattle.std.specs.Str.Pattern.{FindsCharPrefix}
 use Rattle.std.specs.Prelude.{unwrap_or}
-use Rattle.wac_grammar.specs.Tree.{without_percent, without_front_quote, without_last_quote}
+use Rattle.wac_ast_grammar.specs.Tree.{without_percent, without_front_quote, without_last_quote}
 
 differs : (text : List ℕ) → ((rest : List ℕ) → text ≡ 37 ∷ rest → ⊥) → without_percent text ≡ text
 differs [] h = refl

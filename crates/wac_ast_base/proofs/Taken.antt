@@ -9,9 +9,9 @@ use Rattle.wac_lexer.specs.Reading.{Reading, left, shown}
 use Rattle.wac_lexer.specs.declared.token.Token.{Token}
 use Rattle.wac_lexer.specs.declared.token.Token.TheVariants as t
 use Rattle.wac_ast_base.specs.declared.error.Error.{Error}
-use Rattle.wac_grammar.specs.Version.{reads_version}
-use Rattle.wac_grammar.specs.Tokens.{kind, is_token, is_bad, valid, at}
-use Rattle.wac_grammar.specs.Reading.{read_token, can, version, other, refuse, Stop, Tried, not_fault}
+use Rattle.wac_ast_grammar.specs.Version.{reads_version}
+use Rattle.wac_ast_grammar.specs.Tokens.{kind, is_token, is_bad, valid, at}
+use Rattle.wac_ast_grammar.specs.Reading.{read_token, can, version, other, refuse, Stop, Tried, not_fault}
 use Rattle.wac_ast_base.specs.Error.{Told, told_by, faulty, expected, expected_one, no_memory}
 use Rattle.wac_ast_base.specs.Lookahead.{refusal, fault_at}
 use Rattle.wac_ast_base.specs.Answer.{plain, first_item, End, end_of_input, end_span, empty_end, told, version_told, Fails}

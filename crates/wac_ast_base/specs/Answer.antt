@@ -7,10 +7,10 @@ use Rattle.wac_lexer.specs.declared.token.Token.{Token}
 use Rattle.wac_lexer.specs.declared.token.Token.TheVariants as tokens
 use Rattle.wac_lexer.specs.declared.error.Error.TheVariants as faults
 use Rattle.wac_ast_base.specs.declared.error.Error.{Error}
-use Rattle.wac_grammar.specs.Version.{version_text}
-use Rattle.wac_grammar.specs.Grammar.{Body, variant_body, record_body, flags_body, enum_body}
-use Rattle.wac_grammar.specs.Reading.{Stop, Tried, Why, other, empty_body, version, before, read_token, not_fault}
-use Rattle.wac_grammar.specs.Tokens.{at}
+use Rattle.wac_ast_grammar.specs.Version.{version_text}
+use Rattle.wac_ast_grammar.specs.Grammar.{Body, variant_body, record_body, flags_body, enum_body}
+use Rattle.wac_ast_grammar.specs.Reading.{Stop, Tried, Why, other, empty_body, version, before, read_token, not_fault}
+use Rattle.wac_ast_grammar.specs.Tokens.{at}
 use Rattle.wac_ast_base.specs.Error.{Told, told_by, expected, empty_type, invalid_version, no_memory}
 use Rattle.wac_ast_base.specs.Lookahead.{refusal}
 

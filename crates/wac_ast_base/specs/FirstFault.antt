@@ -6,12 +6,12 @@ use Rattle.wac_lexer.specs.Reading.{Reading, left, shown}
 use Rattle.wac_lexer.specs.declared.token.Token.{Token}
 use Rattle.wac_lexer.specs.declared.token.Token.TheVariants as t
 use Rattle.wac_lexer.specs.declared.error.Error.{Error as Fault}
-use Rattle.wac_grammar.specs.Tokens.{is_token, valid}
-use Rattle.wac_grammar.specs.Grammar.{Sym, argument, Body, TreeOf, Derives}
-use Rattle.wac_grammar.specs.Viable.{Viable}
-use Rattle.wac_grammar.specs.Bodies.{Opens}
-use Rattle.wac_grammar.specs.Arguments.{IsAlone, EndsArgued}
-use Rattle.wac_grammar.specs.Stopped.{Fault as IsFault, CanStand, CanFollowComma, EndsInList}
+use Rattle.wac_ast_grammar.specs.Tokens.{is_token, valid}
+use Rattle.wac_ast_grammar.specs.Grammar.{Sym, argument, Body, TreeOf, Derives}
+use Rattle.wac_ast_grammar.specs.Viable.{Viable}
+use Rattle.wac_ast_grammar.specs.Bodies.{Opens}
+use Rattle.wac_ast_grammar.specs.Arguments.{IsAlone, EndsArgued}
+use Rattle.wac_ast_grammar.specs.Stopped.{Fault as IsFault, CanStand, CanFollowComma, EndsInList}
 use Rattle.wac_ast_base.specs.declared.error.Error.{Error}
 use Rattle.wac_ast_base.specs.declared.error.Error.TheVariants.{Memory}
 use Rattle.wac_ast_base.specs.Error.{Told, told_by, places, faulty, expected_one, expected_either, expected_many, empty_type, invalid_version, no_memory}

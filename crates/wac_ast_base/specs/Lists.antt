@@ -6,9 +6,9 @@ use Rattle.wac_lexer.specs.Reading.{Reading, left, shown}
 use Rattle.wac_lexer.specs.declared.token.Token.{Token}
 use Rattle.wac_lexer.specs.declared.token.Token.TheVariants as t
 use Rattle.wac_ast_base.specs.declared.error.Error.{Error}
-use Rattle.wac_grammar.specs.Tokens.{at}
-use Rattle.wac_grammar.specs.Grammar.{Sym, TreeOf, Listed, arguments, more_arguments, argument, cases, more_cases, variant_case, fields, more_fields, field, flags, more_flags, flag, enum_cases, more_enum_cases, enum_case, params, more_params, named_type, types, more_types, ty, use_items, more_use_items, use_item, include_items, more_include_items, include_item, methods, resource_method, interface_items, interface_item, world_items, world_item}
-use Rattle.wac_grammar.specs.Reading.{Stop, can, follows, refuse, mapped, two, read_token, read_sym, read}
+use Rattle.wac_ast_grammar.specs.Tokens.{at}
+use Rattle.wac_ast_grammar.specs.Grammar.{Sym, TreeOf, Listed, arguments, more_arguments, argument, cases, more_cases, variant_case, fields, more_fields, field, flags, more_flags, flag, enum_cases, more_enum_cases, enum_case, params, more_params, named_type, types, more_types, ty, use_items, more_use_items, use_item, include_items, more_include_items, include_item, methods, resource_method, interface_items, interface_item, world_items, world_item}
+use Rattle.wac_ast_grammar.specs.Reading.{Stop, can, follows, refuse, mapped, two, read_token, read_sym, read}
 use Rattle.wac_ast_base.specs.Error.{Told, expected}
 use Rattle.wac_ast_base.specs.Lookahead.{refusal}
 use Rattle.wac_ast_base.specs.Answer.{end_of_input, Fails}

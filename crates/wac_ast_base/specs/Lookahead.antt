@@ -4,7 +4,7 @@ use Rattle.wac_lexer.specs.Span.{Span}
 use Rattle.wac_lexer.specs.Item.{Handed, handed}
 use Rattle.wac_lexer.specs.Reading.{Reading, left, shown}
 use Rattle.wac_lexer.specs.declared.token.Token.{Token}
-use Rattle.wac_grammar.specs.Tokens.{is_token}
+use Rattle.wac_ast_grammar.specs.Tokens.{is_token}
 use Rattle.wac_ast_base.specs.Error.{Told, faulty, expected}
 
 -- what is next, the span that is reported at the end of the input, the first ten tokens that were tried, and how many were

@@ -7,11 +7,11 @@ use Rattle.wac_lexer.specs.Reading.{Reading, left}
 use Rattle.wac_lexer.specs.declared.token.Token.{Token}
 use Rattle.wac_ast_base.specs.declared.error.Error.{Error}
 use Rattle.wac_ast_base.specs.declared.version.Versioned.{Versioned}
-use Rattle.wac_grammar.specs.Version.{unversioned, version_of}
-use Rattle.wac_grammar.specs.Reading.{read_token}
+use Rattle.wac_ast_grammar.specs.Version.{unversioned, version_of}
+use Rattle.wac_ast_grammar.specs.Reading.{read_token}
 use Rattle.wac_ast_base.specs.Answer.{first_item, end_of_input, Fails}
-use Rattle.wac_grammar.specs.Tree as tree
-use Rattle.wac_grammar.specs.Tree.{ExternName}
+use Rattle.wac_ast_grammar.specs.Tree as tree
+use Rattle.wac_ast_grammar.specs.Tree.{ExternName}
 use Rattle.wac_ast_base.specs.declared.names.Ident.{Ident as CodeIdent}
 use Rattle.wac_ast_base.specs.declared.names.String.{String as CodeString}
 use Rattle.wac_ast_base.specs.declared.package.PackagePath.{PackagePath as CodePackagePath}

@@ -8,8 +8,8 @@ use Rattle.wac_ast_base.specs.declared.error.Error.{Error}
 use Rattle.wac_lexer.specs.declared.token.Token.TheVariants as t
 use Rattle.wac_ast_base.specs.declared.pieces.BodyKind.{BodyKind}
 use Rattle.wac_ast_base.specs.declared.pieces.BodyKind.TheVariants as kinds
-use Rattle.wac_grammar.specs.Grammar.{Body, Sym, TreeOf, Grammar, Parts, token, sym, nothing, anything, not_empty, optional, ◌▸◌, variant_body, record_body, flags_body, enum_body, variant_case, more_cases, field, more_fields, flag, more_flags, enum_case, more_enum_cases}
-use Rattle.wac_grammar.specs.Reading.{read, read_in}
+use Rattle.wac_ast_grammar.specs.Grammar.{Body, Sym, TreeOf, Grammar, Parts, token, sym, nothing, anything, not_empty, optional, ◌▸◌, variant_body, record_body, flags_body, enum_body, variant_case, more_cases, field, more_fields, flag, more_flags, enum_case, more_enum_cases}
+use Rattle.wac_ast_grammar.specs.Reading.{read, read_in}
 use Rattle.wac_ast_base.specs.Answer.{end_of_input, Fails}
 
 abbrev pub PartOf : {X Y E : Type 0} (g : Grammar) → (Parts g → Y) → (Error → E → Type 0) → (X → Y) → Result X E → Reading → Reading → Type 0

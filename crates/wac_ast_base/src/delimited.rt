@@ -3,9 +3,9 @@
 ghost use Rattle.std.specs.Prelude.{◌≡◌, ◌≤◌, ◌<◌, ◌^◌, [], ◌∷◌, true, false, length, map, Some, IfOk, OnOk};
 ghost use Rattle.wac_lexer.specs.Span.{end_of};
 ghost use Rattle.wac_lexer.specs.Reading.{left};
-ghost use Rattle.wac_grammar.specs.Tokens.{at};
-ghost use Rattle.wac_grammar.specs.Grammar.{Sym, sym};
-ghost use Rattle.wac_grammar.specs.Reading.{at_one_of, begins, can, read, read_in};
+ghost use Rattle.wac_ast_grammar.specs.Tokens.{at};
+ghost use Rattle.wac_ast_grammar.specs.Grammar.{Sym, sym};
+ghost use Rattle.wac_ast_grammar.specs.Reading.{at_one_of, begins, can, read, read_in};
 ghost use Rattle.wac_ast_base.specs.Error.{told_by};
 ghost use Rattle.wac_ast_base.specs.Lookahead.{looked, tried, told_of};
 ghost use Rattle.wac_ast_base.specs.Lists.{TakesListBy, GivesBy, GoesOn, unclosed, list_of, more_of, closes, body_of, repeats};

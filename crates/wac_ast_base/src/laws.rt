@@ -3,13 +3,13 @@ ghost use Rattle.std.specs.Prelude.{◌≡◌, ◌<◌, ◌≤◌, ◌^◌, ℕ,
 ghost use Rattle.std.specs.List.{AllByRecursion};
 ghost use Rattle.wac_lexer.specs.Span.{end_of};
 ghost use Rattle.wac_lexer.specs.Reading.{Reading, left, slice};
-ghost use Rattle.wac_grammar.specs.Reading.{read};
-ghost use Rattle.wac_grammar.specs.Spelled.{spelled};
-ghost use Rattle.wac_grammar.specs.Tree.{PackagePath};
+ghost use Rattle.wac_ast_grammar.specs.Reading.{read};
+ghost use Rattle.wac_ast_grammar.specs.Spelled.{spelled};
+ghost use Rattle.wac_ast_grammar.specs.Tree.{PackagePath};
 ghost use Rattle.wac_ast_base.specs.declared.error.Error.{Error};
 ghost use Rattle.wac_ast_base.specs.Answer.{Gives};
 ghost use Rattle.wac_ast_base.specs.FirstFault.{Answers};
-ghost use Rattle.wac_grammar.specs.Segments.{package_name_span, segment_spans};
+ghost use Rattle.wac_ast_grammar.specs.Segments.{package_name_span, segment_spans};
 
 use crate::parse::Parse;
 

@@ -3,12 +3,12 @@
 ghost use Rattle.std.specs.Prelude.{◌≡◌, ◌<◌, ◌^◌};
 ghost use Rattle.wac_lexer.specs.Span.{end_of};
 ghost use Rattle.wac_ast_base.specs.Lookahead.{Peeks};
-ghost use Rattle.wac_grammar.specs.Reading.{begins};
-ghost use Rattle.wac_grammar.specs.Grammar.{identifier};
-ghost use Rattle.wac_grammar.specs.Grammar as symbols;
-ghost use Rattle.wac_grammar.specs.Tree.{between_quotes, without_percent};
+ghost use Rattle.wac_ast_grammar.specs.Reading.{begins};
+ghost use Rattle.wac_ast_grammar.specs.Grammar.{identifier};
+ghost use Rattle.wac_ast_grammar.specs.Grammar as symbols;
+ghost use Rattle.wac_ast_grammar.specs.Tree.{between_quotes, without_percent};
 ghost use Rattle.wac_ast_base.specs.Names.{extern_name_of};
-ghost use Rattle.wac_grammar.specs.Spans.{extern_name_text, extern_name_span};
+ghost use Rattle.wac_ast_grammar.specs.Spans.{extern_name_text, extern_name_span};
 
 use crate::error::ParseResult;
 use crate::lookahead::Lookahead;
@@ -29,8 +29,8 @@ impl<'a> Parse<'a> for Ident<'a> {
     ghost use Rattle.std.specs.Prelude.{◌≡◌, ◌≤◌, ◌<◌, ◌^◌, IfOk};
     ghost use Rattle.wac_ast_base.specs.Answer.{Gives};
     ghost use Rattle.wac_ast_base.specs.Names.{ident_of};
-    ghost use Rattle.wac_grammar.specs.Grammar.{identifier};
-    ghost use Rattle.wac_grammar.specs.Reading.{read};
+    ghost use Rattle.wac_ast_grammar.specs.Grammar.{identifier};
+    ghost use Rattle.wac_ast_grammar.specs.Reading.{read};
     ghost use Rattle.wac_lexer.specs.Item.{handed};
     ghost use Rattle.wac_lexer.specs.Reading.{left, Nexts};
 
@@ -40,7 +40,7 @@ impl<'a> Parse<'a> for Ident<'a> {
 
     ghost fits = { λ x. end_of x.span < 2 ^ 64 };
 
-    #[tactic(auto, using(wac_grammar::proofs::Fixed::read_is))]
+    #[tactic(auto, using(wac_ast_grammar::proofs::Fixed::read_is))]
     fn parse(alloc: Global, lexer: &mut Lexer<'a>) -> ParseResult<Self>
         ensures gives { Gives ident_of result lexer.old lexer.new (read identifier (left lexer.old)) }
         ensures source { lexer.new.source ≡ lexer.old.source }
@@ -81,7 +81,7 @@ impl<'a> Parse<'a> for String<'a> {
     ghost use Rattle.std.specs.Prelude.{◌≡◌, ◌≤◌, ◌<◌, ◌^◌, IfOk};
     ghost use Rattle.wac_ast_base.specs.Answer.{Gives};
     ghost use Rattle.wac_ast_base.specs.Names.{string_of};
-    ghost use Rattle.wac_grammar.specs.Reading.{read};
+    ghost use Rattle.wac_ast_grammar.specs.Reading.{read};
     ghost use Rattle.wac_lexer.specs.Item.{handed};
     ghost use Rattle.wac_lexer.specs.Reading.{left, Nexts};
 
@@ -91,7 +91,7 @@ impl<'a> Parse<'a> for String<'a> {
 
     ghost fits = { λ x. end_of x.span < 2 ^ 64 };
 
-    #[tactic(auto, using(wac_grammar::proofs::Fixed::read_is))]
+    #[tactic(auto, using(wac_ast_grammar::proofs::Fixed::read_is))]
     fn parse(alloc: Global, lexer: &mut Lexer<'a>) -> ParseResult<Self>
         ensures gives { Gives string_of result lexer.old lexer.new (read symbols.string (left lexer.old)) }
         ensures source { lexer.new.source ≡ lexer.old.source }

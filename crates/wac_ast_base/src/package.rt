@@ -2,11 +2,11 @@
 
 ghost use Rattle.std.specs.Prelude.{◌≡◌, ◌+◌, length};
 ghost use Rattle.std.specs.List.{count_by};
-ghost use Rattle.wac_grammar.specs.Grammar as symbols;
-ghost use Rattle.wac_grammar.specs.Reading.{begins};
+ghost use Rattle.wac_ast_grammar.specs.Grammar as symbols;
+ghost use Rattle.wac_ast_grammar.specs.Reading.{begins};
 ghost use Rattle.wac_ast_base.specs.Lookahead.{Peeks};
-ghost use Rattle.wac_grammar.specs.Version.{path_name, after_slash, is_slash};
-ghost use Rattle.wac_grammar.specs.Segments.{package_name_span, segment_spans};
+ghost use Rattle.wac_ast_grammar.specs.Version.{path_name, after_slash, is_slash};
+ghost use Rattle.wac_ast_grammar.specs.Segments.{package_name_span, segment_spans};
 ghost use Rattle.wac_ast_base.specs.Names.{package_name_of, package_path_of};
 
 use crate::error::ParseResult;
@@ -36,7 +36,7 @@ impl<'a> Parse<'a> for PackageName<'a> {
 
     ghost tree = { package_name_of };
 
-    #[tactic(auto, using(wac_grammar::proofs::Fixed::read_is))]
+    #[tactic(auto, using(wac_ast_grammar::proofs::Fixed::read_is))]
     fn parse(alloc: Global, lexer: &mut Lexer<'a>) -> ParseResult<Self> {
         let found = take_package(alloc, lexer, Token::PackageName)?;
         Ok(PackageName {
@@ -89,7 +89,7 @@ impl<'a> Parse<'a> for PackagePath<'a> {
 
     ghost tree = { package_path_of };
 
-    #[tactic(auto, using(wac_grammar::proofs::Fixed::read_is))]
+    #[tactic(auto, using(wac_ast_grammar::proofs::Fixed::read_is))]
     fn parse(alloc: Global, lexer: &mut Lexer<'a>) -> ParseResult<Self> {
         let found = take_package(alloc, lexer, Token::PackagePath)?;
         Ok(PackagePath {

@@ -4,10 +4,10 @@ ghost use Rattle.std.specs.Prelude.{◌≡◌, ◌≤◌, ◌<◌, ◌^◌, true
 ghost use Rattle.wac_lexer.specs.Span.{span, end_of};
 ghost use Rattle.wac_lexer.specs.Item.{handed, behind_first, OnFirst};
 ghost use Rattle.wac_lexer.specs.Reading.{left, shown, slice, Slices, Reading, Nexts};
-ghost use Rattle.wac_grammar.specs.Tokens.{at, is_token};
-ghost use Rattle.wac_grammar.specs.Tree.{join as joined};
-ghost use Rattle.wac_grammar.specs.Grammar.{Sym, TreeOf};
-ghost use Rattle.wac_grammar.specs.Reading.{read};
+ghost use Rattle.wac_ast_grammar.specs.Tokens.{at, is_token};
+ghost use Rattle.wac_ast_grammar.specs.Tree.{join as joined};
+ghost use Rattle.wac_ast_grammar.specs.Grammar.{Sym, TreeOf};
+ghost use Rattle.wac_ast_grammar.specs.Reading.{read};
 ghost use Rattle.wac_ast_base.specs.Error.{told_by, expected_one, no_memory, empty_type};
 ghost use Rattle.wac_ast_base.specs.Lookahead.{refusal, Peeks, fault_at};
 ghost use Rattle.wac_ast_base.specs.Answer.{Gives, Takes, plain, empty_end, end_of_input, first_item, has_more, TakesOptional, first_span};
@@ -16,7 +16,7 @@ ghost use Rattle.wac_lexer.specs.declared.token.Token as the_token;
 ghost use Rattle.wac_ast_base.specs.declared.error.Error.TheVariants.{Memory};
 ghost use Rattle.std.specs.Fn.{FnOnceReturnsAtMut};
 ghost use Rattle.wac_ast_base.specs.Optional.{AnswersBy, FailsBy, ReportsFault};
-ghost use Rattle.wac_grammar.specs.Consumed.{Consumed};
+ghost use Rattle.wac_ast_grammar.specs.Consumed.{Consumed};
 ghost use Rattle.wac_lexer.specs.declared.token.Token.TheVariants as tokens;
 
 use crate::error::{Error, ParseResult};

@@ -4,11 +4,11 @@ ghost use Rattle.std.specs.Prelude.{◌≡◌, ◌≤◌, true, false, map, Some
 ghost use Rattle.std.specs.Option.{option_map};
 ghost use Rattle.wac_lexer.specs.Reading.{left};
 ghost use Rattle.wac_lexer.specs.declared.token.Token.TheVariants as tokens;
-ghost use Rattle.wac_grammar.specs.Tokens.{at};
+ghost use Rattle.wac_ast_grammar.specs.Tokens.{at};
 ghost use Rattle.wac_ast_base.specs.Error.{told_by, empty_type};
 ghost use Rattle.wac_ast_base.specs.Answer.{plain, body_name, part_name, first_span};
-ghost use Rattle.wac_grammar.specs.Grammar.{token, perhaps, is_there};
-ghost use Rattle.wac_grammar.specs.Reading.{begins};
+ghost use Rattle.wac_ast_grammar.specs.Grammar.{token, perhaps, is_there};
+ghost use Rattle.wac_ast_grammar.specs.Reading.{begins};
 ghost use Rattle.wac_ast_base.specs.Pieces.{GivesPart, part_before, part_after, behind_word, body_of, body_of_items, filled, filled_items};
 
 use crate::delimited::parse_list;

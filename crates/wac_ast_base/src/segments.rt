@@ -1,7 +1,7 @@
 //! The segments of paths.
 
 ghost use Rattle.std.specs.Prelude.{◌≡◌};
-ghost use Rattle.wac_grammar.specs.Segments.{segments_from};
+ghost use Rattle.wac_ast_grammar.specs.Segments.{segments_from};
 
 use std::marker::Model;
 use wac_lexer::SourceSpan;
@@ -18,7 +18,7 @@ pub struct SegmentSpans<'a> {
 impl<'a> Model for SegmentSpans<'a> {
     ghost use Rattle.std.specs.Prelude.{List, ℕ, option_map};
     ghost use Rattle.wac_lexer.specs.Span.{Span};
-    ghost use Rattle.wac_grammar.specs.Segments.{segments_left};
+    ghost use Rattle.wac_ast_grammar.specs.Segments.{segments_left};
 
     ghost Value = { List (List ℕ × Span) };
 

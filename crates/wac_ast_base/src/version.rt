@@ -5,7 +5,7 @@ ghost use Rattle.std.specs.Option.{option_map};
 ghost use Rattle.semver.specs.Identifiers.{parts_of};
 ghost use Rattle.semver.specs.Parse.{version_parts};
 ghost use Rattle.wac_lexer.specs.Span.{span, end_of};
-ghost use Rattle.wac_grammar.specs.Version.{is_ok, reads_version, unversioned, version_of};
+ghost use Rattle.wac_ast_grammar.specs.Version.{is_ok, reads_version, unversioned, version_of};
 ghost use Rattle.wac_ast_base.specs.Error.{told_by, invalid_version, no_memory};
 ghost use Rattle.wac_ast_base.specs.Answer.{version_told, version_told_at, plain};
 ghost use Rattle.wac_ast_base.specs.Names.{TakesPackage};

@@ -1,11 +1,11 @@
 -- The trees of expressions.
 use Rattle.std.specs.Prelude.{List, map}
 use Rattle.wac_lexer.specs.Item.{Item}
-use Rattle.wac_grammar.specs.Grammar.{build, expr, postfixes as postfix_list}
-use Rattle.wac_grammar.specs.Reading.{mapped, read}
+use Rattle.wac_ast_grammar.specs.Grammar.{build, expr, postfixes as postfix_list}
+use Rattle.wac_ast_grammar.specs.Reading.{mapped, read}
 use Rattle.wac_ast_base.specs.Lists.{Reads}
-use Rattle.wac_grammar.specs.Tree as tree
-use Rattle.wac_grammar.specs.Tree.{arguments_from, Expr, PrimaryExpr, PostfixExpr}
+use Rattle.wac_ast_grammar.specs.Tree as tree
+use Rattle.wac_ast_grammar.specs.Tree.{arguments_from, Expr, PrimaryExpr, PostfixExpr}
 use Rattle.wac_ast_expressions.specs.declared.expr.AccessExpr.{AccessExpr as CodeAccessExpr}
 use Rattle.wac_ast_expressions.specs.declared.expr.NamedAccessExpr.{NamedAccessExpr as CodeNamedAccessExpr}
 use Rattle.wac_ast_expressions.specs.declared.expr.PostfixExpr.{PostfixExpr as CodePostfixExpr}

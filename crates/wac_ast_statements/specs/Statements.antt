@@ -1,8 +1,8 @@
 -- The trees of the package directive, of bindings and of exports.
 use Rattle.std.specs.Prelude.{map}
 use Rattle.std.specs.Option.{option_map}
-use Rattle.wac_grammar.specs.Tree as tree
-use Rattle.wac_grammar.specs.Tree.{ExportOptions}
+use Rattle.wac_ast_grammar.specs.Tree as tree
+use Rattle.wac_ast_grammar.specs.Tree.{ExportOptions}
 use Rattle.wac_ast_statements.specs.declared.export.ExportOptions.{ExportOptions as CodeExportOptions}
 use Rattle.wac_ast_statements.specs.declared.export.ExportOptions.TheVariants as options
 use Rattle.wac_ast_statements.specs.declared.export.ExportStatement.{ExportStatement as CodeExportStatement}

@@ -1,6 +1,6 @@
 //! The beginning of a document.
 
-ghost use Rattle.wac_grammar.specs.Grammar as symbols;
+ghost use Rattle.wac_ast_grammar.specs.Grammar as symbols;
 ghost use Rattle.wac_ast_statements.specs.Statements.{directive_of};
 
 use std::alloc::Global;

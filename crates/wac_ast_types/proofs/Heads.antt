@@ -3,9 +3,9 @@ use Rattle.std.proofs.Common.{◌≡◌, List, [], Result, Ok, Err, ap, subst, �
 use Rattle.wac_lexer.specs.declared.token.Token.{Token}
 use Rattle.wac_lexer.specs.Item.{Item, Doc}
 use Rattle.wac_lexer.specs.Reading.{Reading, left}
-use Rattle.wac_grammar.specs.Tree.{Ident}
-use Rattle.wac_grammar.specs.Grammar.{Grammar, Parts, token, sym, then, docs, docs_of, identifier}
-use Rattle.wac_grammar.specs.Reading.{Stop, pair_with, two, read, read_in, read_token}
+use Rattle.wac_ast_grammar.specs.Tree.{Ident}
+use Rattle.wac_ast_grammar.specs.Grammar.{Grammar, Parts, token, sym, then, docs, docs_of, identifier}
+use Rattle.wac_ast_grammar.specs.Reading.{Stop, pair_with, two, read, read_in, read_token}
 use Rattle.wac_ast_base.specs.declared.error.Error.{Error}
 use Rattle.wac_ast_base.specs.Answer.{End, end_of_input, Fails}
 use Rattle.wac_ast_base.specs.Pieces.{GivesPart}

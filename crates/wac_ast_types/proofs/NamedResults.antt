@@ -4,11 +4,11 @@ use Rattle.wac_lexer.specs.declared.token.Token.TheVariants as k
 use Rattle.wac_lexer.specs.declared.token.Token.{Token}
 use Rattle.wac_lexer.specs.Item.{Item}
 use Rattle.wac_lexer.specs.Reading.{Reading, left}
-use Rattle.wac_grammar.specs.Tokens.{at}
-use Rattle.wac_grammar.specs.Tree.{NamedType}
-use Rattle.wac_grammar.specs.Grammar as g
-use Rattle.wac_grammar.specs.Grammar.{Listed, then, sym}
-use Rattle.wac_grammar.specs.Reading.{can, read, read_token, refuse, at_one_of, begins}
+use Rattle.wac_ast_grammar.specs.Tokens.{at}
+use Rattle.wac_ast_grammar.specs.Tree.{NamedType}
+use Rattle.wac_ast_grammar.specs.Grammar as g
+use Rattle.wac_ast_grammar.specs.Grammar.{Listed, then, sym}
+use Rattle.wac_ast_grammar.specs.Reading.{can, read, read_token, refuse, at_one_of, begins}
 use Rattle.wac_ast_base.specs.declared.error.Error.{Error}
 use Rattle.wac_ast_base.specs.Answer.{Fails, end_of_input}
 use Rattle.wac_ast_base.proofs.Lists.{comma_list, body_fails, filled_ends}

@@ -3,8 +3,8 @@ use Rattle.std.proofs.Common.{◌≡◌, Bool, true, Result, Ok, Err, inl, refl}
 use Rattle.wac_lexer.specs.declared.token.Token.{Token}
 use Rattle.wac_lexer.specs.Item.{Item}
 use Rattle.wac_lexer.specs.Reading.{Reading, left}
-use Rattle.wac_grammar.specs.Grammar.{Sym, TreeOf, Parts, token, sym, then, optional}
-use Rattle.wac_grammar.specs.Reading.{read}
+use Rattle.wac_ast_grammar.specs.Grammar.{Sym, TreeOf, Parts, token, sym, then, optional}
+use Rattle.wac_ast_grammar.specs.Reading.{read}
 use Rattle.wac_ast_base.specs.declared.error.Error.{Error}
 use Rattle.wac_ast_base.specs.Answer.{Gives, TakesOptional}
 use Rattle.wac_ast_base.specs.Pieces.{GivesPart}

@@ -1,7 +1,7 @@
 -- The trees of function types, and of declarations of types.
 use Rattle.std.specs.Prelude.{List, ◌∷◌, map}
 use Rattle.std.specs.Option.{option_map}
-use Rattle.wac_grammar.specs.Tree as tree
+use Rattle.wac_ast_grammar.specs.Tree as tree
 use Rattle.wac_ast_types.specs.declared.flags_decl.Flag.{Flag as CodeFlag}
 use Rattle.wac_ast_types.specs.declared.flags_decl.FlagsDecl.{FlagsDecl as CodeFlagsDecl}
 use Rattle.wac_ast_types.specs.declared.enum_decl.EnumCase.{EnumCase as CodeEnumCase}
@@ -9,7 +9,7 @@ use Rattle.wac_ast_types.specs.declared.enum_decl.EnumDecl.{EnumDecl as CodeEnum
 use Rattle.wac_ast_base.specs.Names.{ident_of, doc_comment_of}
 use Rattle.wac_ast_types.specs.Types.{ty_of}
 use Rattle.wac_lexer.specs.declared.token.Token.TheVariants as tokens
-use Rattle.wac_grammar.specs.Grammar.{Grammar, Parts, token, sym, optional, ◌▸◌, result_list, named_type, more_params}
+use Rattle.wac_ast_grammar.specs.Grammar.{Grammar, Parts, token, sym, optional, ◌▸◌, result_list, named_type, more_params}
 use Rattle.wac_ast_types.specs.declared.func_type.NamedType.{NamedType}
 use Rattle.wac_ast_types.specs.declared.func_type.ResultList.{ResultList}
 use Rattle.wac_ast_types.specs.declared.func_type.ResultList.TheVariants as results

@@ -2,8 +2,8 @@
 use Rattle.std.specs.Prelude.{List, [], Option, Some, None}
 use Rattle.std.proofs.Common.{inl, inr}
 use Rattle.wac_lexer.specs.declared.token.Token.TheVariants as t
-use Rattle.wac_grammar.specs.Tree.{ResourceMethod, Ty}
-use Rattle.wac_grammar.specs.Grammar.{Grammar, Parts, token, sym, optional, methods, ty, ◌▸◌, ◌¦◌}
+use Rattle.wac_ast_grammar.specs.Tree.{ResourceMethod, Ty}
+use Rattle.wac_ast_grammar.specs.Grammar.{Grammar, Parts, token, sym, optional, methods, ty, ◌▸◌, ◌¦◌}
 
 -- the methods of a resource, or a semicolon
 abbrev pub resource_tail : Grammar

@@ -4,12 +4,12 @@ use Rattle.std.proofs.Common.{Global, inl, inr}
 use Rattle.wac_lexer.specs.Span.{Span}
 use Rattle.wac_lexer.specs.Item.{Item, Handed, behind_first}
 use Rattle.wac_ast_base.specs.Answer.{first_item}
-use Rattle.wac_grammar.specs.Consumed.{Consumed}
+use Rattle.wac_ast_grammar.specs.Consumed.{Consumed}
 use Rattle.wac_lexer.specs.declared.token.Token.{Token}
 use Rattle.wac_lexer.specs.declared.token.Token.TheVariants as tokens
-use Rattle.wac_grammar.specs.Tree.{Ty, Types, OptionalTy, join}
-use Rattle.wac_grammar.specs.Grammar.{Grammar, Parts, token, sym, optional, ◌▸◌, ty, payload, result_part}
-use Rattle.wac_grammar.specs.Reading.{refuse, mapped, read}
+use Rattle.wac_ast_grammar.specs.Tree.{Ty, Types, OptionalTy, join}
+use Rattle.wac_ast_grammar.specs.Grammar.{Grammar, Parts, token, sym, optional, ◌▸◌, ty, payload, result_part}
+use Rattle.wac_ast_grammar.specs.Reading.{refuse, mapped, read}
 use Rattle.wac_ast_base.specs.Lists.{Reads}
 use Rattle.wac_ast_base.specs.Names.{ident_of}
 use Rattle.wac_ast_types.specs.declared.types.Type as code

@@ -1,7 +1,7 @@
 //! Enums.
 
-ghost use Rattle.wac_grammar.specs.Grammar as symbols;
-ghost use Rattle.wac_grammar.specs.Reading.{begins};
+ghost use Rattle.wac_ast_grammar.specs.Grammar as symbols;
+ghost use Rattle.wac_ast_grammar.specs.Reading.{begins};
 ghost use Rattle.wac_ast_base.specs.Lookahead.{Peeks};
 ghost use Rattle.wac_ast_types.specs.Declarations.{enum_case_of, enum_decl_of};
 

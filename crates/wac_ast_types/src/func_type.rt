@@ -3,10 +3,10 @@
 ghost use Rattle.std.specs.Prelude.{◌≡◌, ◌≤◌, [], true, map, OnOk, IfErr};
 ghost use Rattle.wac_lexer.specs.Reading.{left};
 ghost use Rattle.wac_lexer.specs.declared.token.Token.TheVariants as tokens;
-ghost use Rattle.wac_grammar.specs.Grammar as symbols;
-ghost use Rattle.wac_grammar.specs.Grammar.{results_of};
-ghost use Rattle.wac_grammar.specs.Reading.{begins, read_token};
-ghost use Rattle.wac_grammar.specs.Tokens.{at};
+ghost use Rattle.wac_ast_grammar.specs.Grammar as symbols;
+ghost use Rattle.wac_ast_grammar.specs.Grammar.{results_of};
+ghost use Rattle.wac_ast_grammar.specs.Reading.{begins, read_token};
+ghost use Rattle.wac_ast_grammar.specs.Tokens.{at};
 ghost use Rattle.wac_ast_base.specs.Answer.{Fails, end_of_input};
 ghost use Rattle.wac_ast_base.specs.Lookahead.{Peeks};
 ghost use Rattle.wac_ast_base.specs.Pieces.{GivesPart};

@@ -2,8 +2,8 @@
 
 ghost use Rattle.std.specs.Prelude.{◌≡◌, ◌≤◌, List, true, map};
 ghost use Rattle.wac_lexer.specs.Item.{Doc};
-ghost use Rattle.wac_grammar.specs.Tree.{Ident as Name};
-ghost use Rattle.wac_grammar.specs.Grammar.{docs, token, sym, identifier, ◌▸◌};
+ghost use Rattle.wac_ast_grammar.specs.Tree.{Ident as Name};
+ghost use Rattle.wac_ast_grammar.specs.Grammar.{docs, token, sym, identifier, ◌▸◌};
 ghost use Rattle.wac_ast_base.specs.Answer.{plain};
 ghost use Rattle.wac_ast_base.specs.Names.{doc_comment_of, ident_of};
 ghost use Rattle.wac_ast_base.specs.Pieces.{GivesPart};

@@ -5,10 +5,10 @@ ghost use Rattle.std.specs.Option.{option_map};
 ghost use Rattle.wac_lexer.specs.Item.{handed, behind_first};
 ghost use Rattle.wac_lexer.specs.Reading.{left};
 ghost use Rattle.wac_lexer.specs.declared.token.Token.TheVariants as tokens;
-ghost use Rattle.wac_grammar.specs.Grammar as symbols;
-ghost use Rattle.wac_grammar.specs.Tokens.{at};
-ghost use Rattle.wac_grammar.specs.Grammar.{sym};
-ghost use Rattle.wac_grammar.specs.Reading.{read, read_in, begins, can, at_one_of};
+ghost use Rattle.wac_ast_grammar.specs.Grammar as symbols;
+ghost use Rattle.wac_ast_grammar.specs.Tokens.{at};
+ghost use Rattle.wac_ast_grammar.specs.Grammar.{sym};
+ghost use Rattle.wac_ast_grammar.specs.Reading.{read, read_in, begins, can, at_one_of};
 ghost use Rattle.wac_ast_base.specs.declared.error.Error.{Error as Fault};
 ghost use Rattle.wac_ast_base.specs.Error.{told_by};
 ghost use Rattle.wac_ast_base.specs.Lookahead.{Peeks, looked, tried, told_of};
@@ -16,7 +16,7 @@ ghost use Rattle.wac_ast_base.specs.Answer.{Gives, Fails, plain, has_more, first
 ghost use Rattle.wac_ast_base.specs.Lists.{unclosed};
 ghost use Rattle.wac_ast_base.specs.Pieces.{GivesPart};
 ghost use Rattle.wac_ast_types.specs.Types.{ty_of, optional_of, compound, word_type, word_at, angled, angled_parts, with_payload, second_rule, second_of, MadeOf};
-ghost use Rattle.wac_grammar.specs.Spans.{ty_span};
+ghost use Rattle.wac_ast_grammar.specs.Spans.{ty_span};
 
 use std::alloc::Global;
 use std::fmt;

@@ -2,8 +2,8 @@
 
 ghost use Rattle.std.specs.Prelude.{◌≡◌, ◌≤◌};
 ghost use Rattle.std.specs.Option.{option_map};
-ghost use Rattle.wac_grammar.specs.Grammar as symbols;
-ghost use Rattle.wac_grammar.specs.Reading.{begins};
+ghost use Rattle.wac_ast_grammar.specs.Grammar as symbols;
+ghost use Rattle.wac_ast_grammar.specs.Reading.{begins};
 ghost use Rattle.wac_ast_base.specs.Lookahead.{Peeks};
 ghost use Rattle.wac_ast_base.specs.Pieces.{GivesPart};
 ghost use Rattle.wac_ast_types.specs.Types.{ty_of};

@@ -2,8 +2,8 @@
 use Rattle.std.specs.Prelude.{List, []}
 use Rattle.std.proofs.Common.{inl, inr}
 use Rattle.wac_lexer.specs.declared.token.Token.TheVariants as t
-use Rattle.wac_grammar.specs.Tree.{UseItem, WorldIncludeItem}
-use Rattle.wac_grammar.specs.Grammar.{use_items, include_items, Grammar, Parts, token, sym, optional, ◌▸◌}
+use Rattle.wac_ast_grammar.specs.Tree.{UseItem, WorldIncludeItem}
+use Rattle.wac_ast_grammar.specs.Grammar.{use_items, include_items, Grammar, Parts, token, sym, optional, ◌▸◌}
 
 -- the items of a use, and the semicolon
 abbrev pub use_tail : Grammar

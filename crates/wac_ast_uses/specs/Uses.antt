@@ -1,8 +1,8 @@
 -- The trees of uses and inclusions.
 use Rattle.std.specs.Prelude.{map}
 use Rattle.std.specs.Option.{option_map}
-use Rattle.wac_grammar.specs.Tree as tree
-use Rattle.wac_grammar.specs.Tree.{UsePath, WorldRef}
+use Rattle.wac_ast_grammar.specs.Tree as tree
+use Rattle.wac_ast_grammar.specs.Tree.{UsePath, WorldRef}
 use Rattle.wac_ast_uses.specs.declared.uses.UseItem.{UseItem as CodeUseItem}
 use Rattle.wac_ast_uses.specs.declared.uses.UsePath.{UsePath as CodeUsePath}
 use Rattle.wac_ast_uses.specs.declared.uses.UsePath.TheVariants as uses

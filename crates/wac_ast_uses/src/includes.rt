@@ -1,9 +1,9 @@
 //! Inclusions of worlds.
 
 ghost use Rattle.std.specs.Prelude.{◌≡◌, ◌≤◌, map};
-ghost use Rattle.wac_grammar.specs.Grammar as symbols;
-ghost use Rattle.wac_grammar.specs.Reading.{begins};
-ghost use Rattle.wac_grammar.specs.Spans.{world_ref_name, world_ref_span};
+ghost use Rattle.wac_ast_grammar.specs.Grammar as symbols;
+ghost use Rattle.wac_ast_grammar.specs.Reading.{begins};
+ghost use Rattle.wac_ast_grammar.specs.Spans.{world_ref_name, world_ref_span};
 ghost use Rattle.wac_ast_base.specs.Lookahead.{Peeks};
 ghost use Rattle.wac_ast_base.specs.Pieces.{GivesPart};
 ghost use Rattle.wac_ast_uses.specs.Tails.{with_part, with_items};

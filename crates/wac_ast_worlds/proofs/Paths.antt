@@ -6,12 +6,12 @@ use Rattle.wac_lexer.specs.Reading.{Reading, left}
 use Rattle.wac_ast_base.specs.Lookahead.{Looked, Peeks}
 use Rattle.wac_ast_base.proofs.Lookaheads.{Looks, looks_on, tests}
 use Rattle.wac_lexer.specs.Item.{Item, behind_first}
-use Rattle.wac_grammar.specs.Tokens.{at, is_token}
-use Rattle.wac_grammar.specs.Tree.{Ident, NamedWorldItem, WorldItemPath}
-use Rattle.wac_grammar.specs.Grammar.{identifier, world_item_path, named_world_item}
-use Rattle.wac_grammar.specs.Reading.{mapped, read, begins, at_one_of}
-use Rattle.wac_grammar.proofs.Bodies.{is_ok_token}
-use Rattle.wac_grammar.proofs.Ahead.{path_named, path_ident}
+use Rattle.wac_ast_grammar.specs.Tokens.{at, is_token}
+use Rattle.wac_ast_grammar.specs.Tree.{Ident, NamedWorldItem, WorldItemPath}
+use Rattle.wac_ast_grammar.specs.Grammar.{identifier, world_item_path, named_world_item}
+use Rattle.wac_ast_grammar.specs.Reading.{mapped, read, begins, at_one_of}
+use Rattle.wac_ast_grammar.proofs.Bodies.{is_ok_token}
+use Rattle.wac_ast_grammar.proofs.Ahead.{path_named, path_ident}
 
 one : (b : Bool) → cond b true false ≡ true → b ≡ true
 one true h = refl

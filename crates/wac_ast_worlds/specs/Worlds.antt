@@ -1,7 +1,7 @@
 -- The trees of interfaces, worlds and imports.
 use Rattle.std.specs.Prelude.{map}
 use Rattle.std.specs.Option.{option_map}
-use Rattle.wac_grammar.specs.Tree as tree
+use Rattle.wac_ast_grammar.specs.Tree as tree
 use Rattle.wac_ast_base.specs.Names.{doc_comment_of, ident_of, package_path_of, extern_name_of}
 use Rattle.wac_ast_uses.specs.Uses.{use_of, world_include_of}
 use Rattle.wac_ast_types.specs.Declarations.{func_type_of, func_type_ref_of, item_type_decl_of}

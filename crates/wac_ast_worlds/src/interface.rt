@@ -1,7 +1,7 @@
 //! Interfaces.
 
-ghost use Rattle.wac_grammar.specs.Grammar as symbols;
-ghost use Rattle.wac_grammar.specs.Reading.{begins};
+ghost use Rattle.wac_ast_grammar.specs.Grammar as symbols;
+ghost use Rattle.wac_ast_grammar.specs.Reading.{begins};
 ghost use Rattle.wac_ast_base.specs.Lookahead.{Peeks};
 ghost use Rattle.wac_ast_worlds.specs.Worlds.{interface_export_of, interface_item_of, interface_decl_of, inline_interface_of};
 

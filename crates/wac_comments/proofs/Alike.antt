@@ -8,10 +8,10 @@ use Rattle.wac_ast.specs.Document.{ErrorOf}
 use Rattle.wac_ast_base.specs.Error.{told_by}
 use Rattle.wac_ast_base.specs.declared.error.Error.{Error}
 use Rattle.wac_ast_base.specs.declared.error.Error.TheVariants as errors
-use Rattle.wac_grammar.specs.Tree.{Document}
-use Rattle.wac_layout.specs.Bare.{bare_document}
-use Rattle.wac_layout.specs.Joins.{AreBlanks}
-use Rattle.wac_layout.specs.Reread.{read_docs}
+use Rattle.wac_ast_grammar.specs.Tree.{Document}
+use Rattle.wac_printer_layout.specs.Bare.{bare_document}
+use Rattle.wac_printer_layout.specs.Joins.{AreBlanks}
+use Rattle.wac_printer_layout.specs.Reread.{read_docs}
 use Rattle.wac_comments_layout.specs.Kept.{is_comment}
 use Rattle.wac_comments_layout.specs.Pieces.{texts}
 use Rattle.wac_comments_layout.specs.Printing.{Texts, printed}

@@ -1,11 +1,11 @@
 -- What a tidied text keeps of its source.
 use Rattle.std.specs.Prelude.{◌≡◌, refl, codes, Bool, false, ℕ, List}
 use Rattle.wac_lexer.specs.Items.{items_from}
-use Rattle.wac_grammar.specs.Tree.{Document}
-use Rattle.wac_grammar.specs.TextTree.{IsTreeOf}
-use Rattle.wac_layout.specs.Bare.{bare_document, doc_lines}
-use Rattle.wac_layout.specs.Reread as reread
-use Rattle.wac_layout.specs.Reread.{RereadAs}
+use Rattle.wac_ast_grammar.specs.Tree.{Document}
+use Rattle.wac_ast_grammar.specs.TextTree.{IsTreeOf}
+use Rattle.wac_printer_layout.specs.Bare.{bare_document, doc_lines}
+use Rattle.wac_printer_layout.specs.Reread as reread
+use Rattle.wac_printer_layout.specs.Reread.{RereadAs}
 use Rattle.wac_comments_layout.specs.Pieces.{comments_at, texts}
 use Rattle.wac_comments_layout.specs.Printing.{printed}
 use Rattle.wac_comments_layout.specs.Plain.{ended}

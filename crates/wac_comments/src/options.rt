@@ -1,6 +1,6 @@
 // How a document is printed.
 ghost use Rattle.std.specs.Prelude.{◌≡◌, IfOk, string_bytes};
-ghost use Rattle.wac_layout.specs.Joins.{AreBlanks};
+ghost use Rattle.wac_printer_layout.specs.Joins.{AreBlanks};
 ghost use Rattle.wac_comments.specs.Options.{indent_text, line_end_text};
 
 use std::alloc::{AllocError, Global};

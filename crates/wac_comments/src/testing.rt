@@ -1,7 +1,7 @@
 // The test of a result before it is returned.
 ghost use Rattle.std.specs.Prelude.{◌≡◌, true, IfOk, IfErr, slice_get, Some, alloc_error};
 ghost use Rattle.std.specs.List.{AllByRecursion};
-ghost use Rattle.wac_layout.specs.Joins.{AreBlanks};
+ghost use Rattle.wac_printer_layout.specs.Joins.{AreBlanks};
 ghost use Rattle.wac_comments_layout.specs.Following.{IsPieceText};
 ghost use Rattle.wac_comments_layout.specs.Pieces.{texts};
 ghost use Rattle.wac_comments_layout.specs.Texts.{texts_of};

@@ -1,7 +1,7 @@
 // Printing documents with their comments.
 ghost use Rattle.std.specs.Prelude.{◌≡◌, ◌⊎◌, IfOk, IfErr, IfSome, OnOk, Err, None, alloc_error, string_bytes};
 ghost use Rattle.std.specs.List.{list_any};
-ghost use Rattle.wac_layout.specs.Joins.{AreBlanks};
+ghost use Rattle.wac_printer_layout.specs.Joins.{AreBlanks};
 ghost use Rattle.wac_lexer.specs.Characters.{refused};
 ghost use Rattle.wac_comments_layout.specs.Kept.{is_comment};
 ghost use Rattle.wac_comments_layout.specs.Nesting.{too_deep};

@@ -2,10 +2,10 @@
 use Rattle.std.proofs.Common.{◌≡◌, ◌∙◌, ◌+◌, ℕ, suc, List, [], length, drop, sym, ap, Option, Some, None, subst, add-one, Bool, true, false, cond}
 use Rattle.std.specs.Prelude.{slice_get, unwrap_or}
 use Rattle.std.specs.Map.{lookup}
-use Rattle.wac_types.specs.declared.kind.ItemKind.{ItemKind}
-use Rattle.wac_types.specs.declared.entry.Entry.{Entry}
-use Rattle.wac_types.specs.Entry.{Slot}
-use Rattle.wac_types.proofs.Rows.{drop_some, drop_past}
+use Rattle.wac_graph_types.specs.declared.kind.ItemKind.{ItemKind}
+use Rattle.wac_graph_types.specs.declared.entry.Entry.{Entry}
+use Rattle.wac_graph_types.specs.Entry.{Slot}
+use Rattle.wac_graph_types.proofs.Rows.{drop_some, drop_past}
 use Rattle.wac_component_rules.specs.Fits.{same_slot}
 use Rattle.wac_component_rules.specs.Parts.{parts_of}
 use Rattle.wac_component_rules.proofs.Turning.{slot_same, slot_differs}

@@ -1,9 +1,9 @@
 -- A path is followed step by step: where the rest leads, the whole leads.
 use Rattle.std.proofs.Common.{◌≡◌, ◌+◌, ℕ, suc, List, [], ◌∷◌, length, drop, refl, sym, Option, Some, None, subst, add-one}
 use Rattle.std.specs.Prelude.{slice_get, option_and_then}
-use Rattle.wac_types.specs.declared.kind.ItemKind.{ItemKind}
-use Rattle.wac_types.specs.declared.entry.Entry.{Entry}
-use Rattle.wac_types.proofs.Rows.{drop_some, drop_past}
+use Rattle.wac_graph_types.specs.declared.kind.ItemKind.{ItemKind}
+use Rattle.wac_graph_types.specs.declared.entry.Entry.{Entry}
+use Rattle.wac_graph_types.proofs.Rows.{drop_some, drop_past}
 use Rattle.wac_component_mismatch.specs.declared.words.Step.{Step}
 use Rattle.wac_component_mismatch.specs.Paths.{Leads, IsPlainly, entry_named, step_in}
 

@@ -1,12 +1,12 @@
 -- Where a path leads from a kind.
 use Rattle.std.specs.Prelude.{◌≡◌, ◌⊎◌, ℕ, List, [], ◌∷◌, Option, Some, None, option_map, option_and_then, unwrap_or, slice_get}
 use Rattle.std.specs.Map.{lookup}
-use Rattle.wac_types.specs.declared.kind.ItemKind.{ItemKind}
-use Rattle.wac_types.specs.declared.entry.Entry.{Entry}
-use Rattle.wac_types.specs.Entry as slots
-use Rattle.wac_types.specs.Entry.{Slot}
-use Rattle.wac_types.specs.Kind.{named_by}
-use Rattle.wac_types.specs.Scope.{look_up}
+use Rattle.wac_graph_types.specs.declared.kind.ItemKind.{ItemKind}
+use Rattle.wac_graph_types.specs.declared.entry.Entry.{Entry}
+use Rattle.wac_graph_types.specs.Entry as slots
+use Rattle.wac_graph_types.specs.Entry.{Slot}
+use Rattle.wac_graph_types.specs.Kind.{named_by}
+use Rattle.wac_graph_types.specs.Scope.{look_up}
 use Rattle.wac_component_rules.specs.declared.sides.Side.TheVariants as sides
 use Rattle.wac_component_rules.specs.Compared.{SeenAs}
 use Rattle.wac_component_rules.specs.Fits.{same_slot}

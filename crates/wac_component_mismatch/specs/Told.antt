@@ -1,8 +1,8 @@
 -- Where there is a mismatch, and what it tells.
 use Rattle.std.specs.Prelude.{◌≡◌, ◌↔◌, ℕ, List, Option, Some, IsNone, true}
-use Rattle.wac_types.specs.declared.kind.ItemKind.{ItemKind}
-use Rattle.wac_types.specs.declared.entry.Entry.{Entry}
-use Rattle.wac_types.specs.Meaning.{meaning}
+use Rattle.wac_graph_types.specs.declared.kind.ItemKind.{ItemKind}
+use Rattle.wac_graph_types.specs.declared.entry.Entry.{Entry}
+use Rattle.wac_graph_types.specs.Meaning.{meaning}
 use Rattle.wac_component_rules.specs.Fits.{fits}
 use Rattle.wac_component_rules.specs.Seen.{seen}
 use Rattle.wac_component_mismatch.specs.declared.words.Mismatch.{Mismatch}

@@ -1,14 +1,14 @@
 //! What differs in a pair of kinds: the kinds themselves, or a part of them.
 
-ghost use Rattle.wac_types.specs.Table.{IsTable};
+ghost use Rattle.wac_graph_types.specs.Table.{IsTable};
 
 use crate::groups::{Group, group_of};
 use crate::known::{entry_of, known_fits, plain};
 use crate::places::Topic;
 use crate::words::Step;
 use wac_component_rules::internals::{Part, Side, items, same_form};
-use wac_types::names::find;
-use wac_types::{Entry, ItemKind, Type};
+use wac_graph_types::names::find;
+use wac_graph_types::{Entry, ItemKind, Type};
 
 /// Two kinds that are compared, and may be the other way round than the whole ones.
 #[derive(Clone, Copy)]

@@ -1,6 +1,6 @@
 //! Where two kinds differ first.
 ghost use Rattle.std.specs.Prelude.{ℕ, IfOk, IfSome};
-ghost use Rattle.wac_types.specs.Table.{IsTable, Names};
+ghost use Rattle.wac_graph_types.specs.Table.{IsTable, Names};
 ghost use Rattle.wac_component_mismatch.specs.Told.{IsThereUnlessFits, LeadsInBoth};
 
 use crate::differences::{Difference, Pair, first_difference};
@@ -8,7 +8,7 @@ use crate::places::{Topic, place};
 use crate::words::{Mismatch, Step};
 use std::alloc::{AllocError, Global};
 use wac_component_rules::internals::fitting;
-use wac_types::{Entry, ItemKind, Types};
+use wac_graph_types::{Entry, ItemKind, Types};
 
 /// Where the first kind of a table differs from the second one, if it may not stand where the second is expected.
 ///

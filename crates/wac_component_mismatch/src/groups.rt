@@ -2,7 +2,7 @@
 
 use crate::words::{Step, Words};
 use wac_component_rules::internals::{Part, PartSlot, part_at, part_count};
-use wac_types::{DefinedType, Entry};
+use wac_graph_types::{DefinedType, Entry};
 
 /// What parts are of the type that they belong to.
 #[derive(Clone, Copy)]

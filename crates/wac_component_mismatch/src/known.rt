@@ -1,15 +1,15 @@
 //! Kinds that are tested against their table, and in words.
 
 ghost use Rattle.std.specs.Prelude.{◌≡◌, IsTrue, option_copied};
-ghost use Rattle.wac_types.specs.Entry.{sort_of};
-ghost use Rattle.wac_types.specs.Kind.{sort_named};
-ghost use Rattle.wac_types.specs.declared.kind.Sort.TheVariants as sorts;
-ghost use Rattle.wac_types.specs.Table.{IsTable, Names};
+ghost use Rattle.wac_graph_types.specs.Entry.{sort_of};
+ghost use Rattle.wac_graph_types.specs.Kind.{sort_named};
+ghost use Rattle.wac_graph_types.specs.declared.kind.Sort.TheVariants as sorts;
+ghost use Rattle.wac_graph_types.specs.Table.{IsTable, Names};
 ghost use Rattle.wac_component_mismatch.specs.Paths.{IsPlainly, entry_named};
 
 use crate::words::Words;
 use wac_component_rules::internals::{fitting, number, plain_kind};
-use wac_types::{DefinedType, Entry, ItemKind, PrimitiveType, ResourceId, Type, ValueType};
+use wac_graph_types::{DefinedType, Entry, ItemKind, PrimitiveType, ResourceId, Type, ValueType};
 
 /// Whether an entry is of the sort that a kind names.
 fn is_of(entry: &Entry, kind: ItemKind) -> bool

@@ -1,8 +1,8 @@
 //! What is at the end of a path in a kind.
 ghost use Rattle.std.specs.Prelude.{◌≡◌, Some, option_and_then};
-ghost use Rattle.wac_types.specs.Entry.{optional};
-ghost use Rattle.wac_types.specs.Scope.{look_up};
-ghost use Rattle.wac_types.specs.Table.{IsTable};
+ghost use Rattle.wac_graph_types.specs.Entry.{optional};
+ghost use Rattle.wac_graph_types.specs.Scope.{look_up};
+ghost use Rattle.wac_graph_types.specs.Table.{IsTable};
 ghost use Rattle.wac_component_rules.specs.Parts.{side_items, slot_of};
 ghost use Rattle.wac_component_mismatch.specs.Paths.{Leads, entry_named, of_place, of_slot, step_in};
 
@@ -10,8 +10,8 @@ use crate::groups::Group;
 use crate::known::{entry_of, kind_words, plain, value_words};
 use crate::words::{Place, Step, Words};
 use wac_component_rules::internals::{PartSlot, Side, items, part_at, part_count};
-use wac_types::names::find;
-use wac_types::{Entry, FuncType, ItemKind, Type, ValueType};
+use wac_graph_types::names::find;
+use wac_graph_types::{Entry, FuncType, ItemKind, Type, ValueType};
 
 /// What of two kinds differs.
 #[derive(Clone, Copy)]

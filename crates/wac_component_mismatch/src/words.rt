@@ -1,7 +1,7 @@
 //! What a mismatch says: the steps of a path, and what was expected and found at its end.
 
 use std::fmt;
-use wac_types::ItemKind;
+use wac_graph_types::ItemKind;
 
 /// A step from a kind to one of its parts.
 #[derive(Clone, Copy, Debug, PartialEq, Eq)]

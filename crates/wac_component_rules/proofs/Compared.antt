@@ -1,8 +1,8 @@
 -- Kinds that are compared and are no aliases, with an entry or without.
 use Rattle.std.proofs.Common.{◌≡◌, ℕ, Option, Some, None, Bool, true, false, sym, subst}
-use Rattle.wac_types.specs.declared.kind.ItemKind.{ItemKind}
-use Rattle.wac_types.specs.Kind.{form, named_by}
-use Rattle.wac_types.specs.Meaning.{Meaning, named}
+use Rattle.wac_graph_types.specs.declared.kind.ItemKind.{ItemKind}
+use Rattle.wac_graph_types.specs.Kind.{form, named_by}
+use Rattle.wac_graph_types.specs.Meaning.{Meaning, named}
 use Rattle.wac_component_rules.specs.Seen as view
 use Rattle.wac_component_rules.specs.Seen.{Seen, What, what, entry_seen}
 use Rattle.wac_component_rules.specs.Fits.{fits, stands, is_type}

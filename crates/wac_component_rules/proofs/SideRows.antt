@@ -4,16 +4,16 @@ use Rattle.std.specs.Prelude.{slice_get, ◌&&◌, string_bytes, String}
 use Rattle.std.specs.List.{AllByRecursion}
 use Rattle.std.specs.Str.{bytes_eq}
 use Rattle.std.specs.declared.alloc.Global.{Global}
-use Rattle.wac_types.specs.declared.kind.ItemKind.{ItemKind}
-use Rattle.wac_types.specs.declared.entry.Entry.{Entry}
-use Rattle.wac_types.specs.declared.entry.Entry.TheVariants as entries
-use Rattle.wac_types.specs.declared.entry.UsedType.{UsedType}
-use Rattle.wac_types.specs.Entry.{Slot, children, use_children, import_children, export_children}
-use Rattle.wac_types.specs.Meaning.{Meaning, of_kind, of_child, row, EachKind}
-use Rattle.wac_types.specs.Names.{by_name}
-use Rattle.wac_types.specs.Scope.{Named, look_up}
-use Rattle.wac_types.specs.Shape.{slot_import, slot_export, cons_named}
-use Rattle.wac_types.proofs.Rows.{drop_some, drop_past}
+use Rattle.wac_graph_types.specs.declared.kind.ItemKind.{ItemKind}
+use Rattle.wac_graph_types.specs.declared.entry.Entry.{Entry}
+use Rattle.wac_graph_types.specs.declared.entry.Entry.TheVariants as entries
+use Rattle.wac_graph_types.specs.declared.entry.UsedType.{UsedType}
+use Rattle.wac_graph_types.specs.Entry.{Slot, children, use_children, import_children, export_children}
+use Rattle.wac_graph_types.specs.Meaning.{Meaning, of_kind, of_child, row, EachKind}
+use Rattle.wac_graph_types.specs.Names.{by_name}
+use Rattle.wac_graph_types.specs.Scope.{Named, look_up}
+use Rattle.wac_graph_types.specs.Shape.{slot_import, slot_export, cons_named}
+use Rattle.wac_graph_types.proofs.Rows.{drop_some, drop_past}
 use Rattle.wac_component_rules.specs.declared.sides.Side.{Side}
 use Rattle.wac_component_rules.specs.declared.sides.Side.TheVariants as sides
 use Rattle.wac_component_rules.specs.Seen as view

@@ -2,15 +2,15 @@
 use Rattle.std.proofs.Common.{◌≡◌, ◌∙◌, ◌*◌, ◌≤◌, ℕ, suc, List, [], ◌∷◌, Option, Some, None, Bool, true, false, refl, sym, ap, subst, arith, length}
 use Rattle.std.specs.Prelude.{slice_get, option_map, IfSome, ◌&&◌, IsTrue, ◌↔◌, String}
 use Rattle.std.specs.declared.alloc.Global.{Global}
-use Rattle.wac_types.specs.Names.{by_name}
-use Rattle.wac_types.specs.declared.kind.ItemKind.{ItemKind}
-use Rattle.wac_types.specs.declared.kind.Sort.TheVariants as sorts
-use Rattle.wac_types.specs.declared.entry.Entry.{Entry}
-use Rattle.wac_types.specs.Entry.{Slot, sort_of}
-use Rattle.wac_types.specs.Meaning.{Meaning, of_child, meaning_at, NamesBefore, IsEarlier}
-use Rattle.wac_types.specs.Scope.{Named, look_up}
-use Rattle.wac_types.specs.Table.{IsTable, IsOfSort, Names}
-use Rattle.wac_types.proofs.Tables.{entry_names, each_entry_named}
+use Rattle.wac_graph_types.specs.Names.{by_name}
+use Rattle.wac_graph_types.specs.declared.kind.ItemKind.{ItemKind}
+use Rattle.wac_graph_types.specs.declared.kind.Sort.TheVariants as sorts
+use Rattle.wac_graph_types.specs.declared.entry.Entry.{Entry}
+use Rattle.wac_graph_types.specs.Entry.{Slot, sort_of}
+use Rattle.wac_graph_types.specs.Meaning.{Meaning, of_child, meaning_at, NamesBefore, IsEarlier}
+use Rattle.wac_graph_types.specs.Scope.{Named, look_up}
+use Rattle.wac_graph_types.specs.Table.{IsTable, IsOfSort, Names}
+use Rattle.wac_graph_types.proofs.Tables.{entry_names, each_entry_named}
 use Rattle.wac_component_rules.specs.declared.sides.Side.{Side}
 use Rattle.wac_component_rules.specs.declared.sides.Side.TheVariants as sides
 use Rattle.wac_component_rules.specs.Seen.{seen, what}

@@ -3,13 +3,13 @@ use Rattle.std.proofs.Common.{◌≡◌, ◌∙◌, ℕ, List, Option, Some, Non
 use Rattle.std.specs.Prelude.{◌&&◌, ◌||◌, not}
 use Rattle.std.specs.Str.{bytes_eq}
 use Rattle.std.proofs.Math.Bool.{decide}
-use Rattle.wac_types.specs.Equality.{meaning_discrete}
-use Rattle.wac_types.specs.Kind.{Form}
-use Rattle.wac_types.specs.Entry.{Slot}
-use Rattle.wac_types.specs.Label.{Plain, plain, kind, absent}
-use Rattle.wac_types.specs.Meaning.{Meaning, node, done, more}
-use Rattle.wac_types.specs.Scope.{look_up}
-use Rattle.wac_types.specs.Shape.{slot_import, slot_export, cons_named}
+use Rattle.wac_graph_types.specs.Equality.{meaning_discrete}
+use Rattle.wac_graph_types.specs.Kind.{Form}
+use Rattle.wac_graph_types.specs.Entry.{Slot}
+use Rattle.wac_graph_types.specs.Label.{Plain, plain, kind, absent}
+use Rattle.wac_graph_types.specs.Meaning.{Meaning, node, done, more}
+use Rattle.wac_graph_types.specs.Scope.{look_up}
+use Rattle.wac_graph_types.specs.Shape.{slot_import, slot_export, cons_named}
 use Rattle.wac_component_rules.specs.Seen as view
 use Rattle.wac_component_rules.specs.Seen.{Seen, What, Items, listed, picked}
 use Rattle.wac_component_rules.specs.Fits.{same_plain, same_form, same_slot, is_type, found_fits, each_found, fits_found, each_taken, fits, accepts, stands, serves, each_fits, each_accepts, offered, demanded}

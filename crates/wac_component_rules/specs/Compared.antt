@@ -1,12 +1,12 @@
 -- What is compared of kinds and entries of a table, under any origins.
 use Rattle.std.specs.Prelude.{◌≡◌, ℕ, List, Option, Some, Bool, slice_get}
-use Rattle.wac_types.specs.declared.kind.ValueType.{ValueType}
-use Rattle.wac_types.specs.declared.kind.«Type».TheVariants as types
-use Rattle.wac_types.specs.declared.kind.ItemKind.{ItemKind}
-use Rattle.wac_types.specs.declared.kind.ItemKind.TheVariants as kinds
-use Rattle.wac_types.specs.declared.entry.Entry.{Entry}
-use Rattle.wac_types.specs.Kind.{form, named_by}
-use Rattle.wac_types.specs.Meaning.{meaning_at, named, of_kind, of_child}
+use Rattle.wac_graph_types.specs.declared.kind.ValueType.{ValueType}
+use Rattle.wac_graph_types.specs.declared.kind.«Type».TheVariants as types
+use Rattle.wac_graph_types.specs.declared.kind.ItemKind.{ItemKind}
+use Rattle.wac_graph_types.specs.declared.kind.ItemKind.TheVariants as kinds
+use Rattle.wac_graph_types.specs.declared.entry.Entry.{Entry}
+use Rattle.wac_graph_types.specs.Kind.{form, named_by}
+use Rattle.wac_graph_types.specs.Meaning.{meaning_at, named, of_kind, of_child}
 use Rattle.wac_component_rules.specs.declared.sides.Side.{Side}
 use Rattle.wac_component_rules.specs.Seen.{Seen, seen, what, entry_seen}
 use Rattle.wac_component_rules.specs.Fits.{fits, stands}

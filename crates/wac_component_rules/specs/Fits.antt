@@ -2,14 +2,14 @@
 use Rattle.std.specs.Prelude.{ℕ, List, [], ◌∷◌, Option, Some, None, Bool, true, false, ◌&&◌, ◌||◌, not}
 use Rattle.std.specs.Str.{bytes_eq}
 use Rattle.std.proofs.Math.Bool.{decide}
-use Rattle.wac_types.specs.declared.rules.Reason.{Reason}
-use Rattle.wac_types.specs.Equality.{meaning_discrete}
-use Rattle.wac_types.specs.Kind.{Form, a_resource, a_func, an_interface, a_world, func, instance, component, a_core_module, core_module, a_value, value}
-use Rattle.wac_types.specs.Entry.{Slot}
-use Rattle.wac_types.specs.Label.{Plain, plain, kind, absent}
-use Rattle.wac_types.specs.Meaning.{Meaning, node, done, more}
-use Rattle.wac_types.specs.Scope.{Named, look_up}
-use Rattle.wac_types.specs.Shape.{slot_import, slot_export}
+use Rattle.wac_graph_types.specs.declared.rules.Reason.{Reason}
+use Rattle.wac_graph_types.specs.Equality.{meaning_discrete}
+use Rattle.wac_graph_types.specs.Kind.{Form, a_resource, a_func, an_interface, a_world, func, instance, component, a_core_module, core_module, a_value, value}
+use Rattle.wac_graph_types.specs.Entry.{Slot}
+use Rattle.wac_graph_types.specs.Label.{Plain, plain, kind, absent}
+use Rattle.wac_graph_types.specs.Meaning.{Meaning, node, done, more}
+use Rattle.wac_graph_types.specs.Scope.{Named, look_up}
+use Rattle.wac_graph_types.specs.Shape.{slot_import, slot_export}
 use Rattle.wac_extern_names.specs.Names.{is_extern_name}
 use Rattle.wac_component_rules.specs.Seen as view
 use Rattle.wac_component_rules.specs.Seen.{Seen, What, Items, seen, listed, picked}

@@ -1,8 +1,8 @@
 -- Pairs of entries of which the first was found to fit the second, each in its slot.
 use Rattle.std.specs.Prelude.{◌≡◌, ℕ, List, Option, IfSome, true}
 use Rattle.std.specs.List.{All}
-use Rattle.wac_types.specs.declared.entry.Entry.{Entry}
-use Rattle.wac_types.specs.Meaning.{meaning_at}
+use Rattle.wac_graph_types.specs.declared.entry.Entry.{Entry}
+use Rattle.wac_graph_types.specs.Meaning.{meaning_at}
 use Rattle.wac_component_rules.specs.Seen.{what}
 use Rattle.wac_component_rules.specs.Fits.{stands}
 

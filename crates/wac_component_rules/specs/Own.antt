@@ -1,8 +1,8 @@
 -- Kinds in which each name is that of one item, as in those of a table.
 use Rattle.std.specs.Prelude.{◌≡◌, ℕ, List, [], ◌∷◌, Option, Some}
-use Rattle.wac_types.specs.Entry.{Slot}
-use Rattle.wac_types.specs.Scope.{Named, look_up}
-use Rattle.wac_types.specs.Shape.{slot_import, slot_export}
+use Rattle.wac_graph_types.specs.Entry.{Slot}
+use Rattle.wac_graph_types.specs.Scope.{Named, look_up}
+use Rattle.wac_graph_types.specs.Shape.{slot_import, slot_export}
 use Rattle.wac_component_rules.specs.Seen as view
 use Rattle.wac_component_rules.specs.Seen.{Seen, What, Items, listed, picked}
 

@@ -1,17 +1,17 @@
 -- What is read of an entry: its parts, and what it imports and exports.
 use Rattle.std.specs.Prelude.{◌≡◌, ℕ, List, [], Option, Some, None, option_map, slice_get}
-use Rattle.wac_types.specs.declared.kind.ValueType.{ValueType}
-use Rattle.wac_types.specs.declared.kind.ItemKind.{ItemKind}
-use Rattle.wac_types.specs.declared.entry.Entry.{Entry}
-use Rattle.wac_types.specs.declared.entry.Entry.TheVariants as entries
-use Rattle.wac_types.specs.declared.entry.DefinedType.{DefinedType}
-use Rattle.wac_types.specs.declared.entry.DefinedType.TheVariants as defined
-use Rattle.wac_types.specs.Entry as slots
-use Rattle.wac_types.specs.Entry.{Slot, optional, defined_children, result_children, value_children, sort_of}
-use Rattle.wac_types.specs.Label.{Plain, defined_label}
-use Rattle.wac_types.specs.Names.{by_name}
-use Rattle.wac_types.specs.Scope.{Named}
-use Rattle.wac_types.specs.Shape.{slot_import, slot_export}
+use Rattle.wac_graph_types.specs.declared.kind.ValueType.{ValueType}
+use Rattle.wac_graph_types.specs.declared.kind.ItemKind.{ItemKind}
+use Rattle.wac_graph_types.specs.declared.entry.Entry.{Entry}
+use Rattle.wac_graph_types.specs.declared.entry.Entry.TheVariants as entries
+use Rattle.wac_graph_types.specs.declared.entry.DefinedType.{DefinedType}
+use Rattle.wac_graph_types.specs.declared.entry.DefinedType.TheVariants as defined
+use Rattle.wac_graph_types.specs.Entry as slots
+use Rattle.wac_graph_types.specs.Entry.{Slot, optional, defined_children, result_children, value_children, sort_of}
+use Rattle.wac_graph_types.specs.Label.{Plain, defined_label}
+use Rattle.wac_graph_types.specs.Names.{by_name}
+use Rattle.wac_graph_types.specs.Scope.{Named}
+use Rattle.wac_graph_types.specs.Shape.{slot_import, slot_export}
 use Rattle.wac_component_rules.specs.declared.parts.PartSlot.{PartSlot}
 use Rattle.wac_component_rules.specs.declared.parts.PartSlot.TheVariants as places
 use Rattle.wac_component_rules.specs.declared.parts.Part.{Part}

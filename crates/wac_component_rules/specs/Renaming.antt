@@ -1,9 +1,9 @@
 -- The origins of resources don't count.
 use Rattle.std.specs.Prelude.{◌≡◌, ℕ}
 use Rattle.std.proofs.Common.{refl, ap, ◌∙◌}
-use Rattle.wac_types.specs.Label.{Label, plain, resource}
-use Rattle.wac_types.specs.Meaning.{Meaning, node, Row, done, more}
-use Rattle.wac_types.specs.Rules.{renamed, renamed_row, renamed_label}
+use Rattle.wac_graph_types.specs.Label.{Label, plain, resource}
+use Rattle.wac_graph_types.specs.Meaning.{Meaning, node, Row, done, more}
+use Rattle.wac_graph_types.specs.Rules.{renamed, renamed_row, renamed_label}
 use Rattle.wac_component_rules.specs.Seen.{What, Items, Seen, seen, what, entry_seen, items, kind_seen, entry_what, item}
 use Rattle.wac_component_rules.specs.Fits.{component_passes, unless, does_not_fit, fits}
 

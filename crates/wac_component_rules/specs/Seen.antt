@@ -1,11 +1,11 @@
 -- What the rules see of a kind: aliases are seen through, and a resource is the name of its source.
 use Rattle.std.specs.Prelude.{ℕ, List, [], ◌∷◌, Option}
-use Rattle.wac_types.specs.Kind.{Form, a_value, value}
-use Rattle.wac_types.specs.Entry.{Slot}
-use Rattle.wac_types.specs.Label.{Label, plain, resource, Plain, kind, alias}
-use Rattle.wac_types.specs.Meaning.{Meaning, node, Row, done, more}
-use Rattle.wac_types.specs.Shape.{cons_named}
-use Rattle.wac_types.specs.Scope.{Named}
+use Rattle.wac_graph_types.specs.Kind.{Form, a_value, value}
+use Rattle.wac_graph_types.specs.Entry.{Slot}
+use Rattle.wac_graph_types.specs.Label.{Label, plain, resource, Plain, kind, alias}
+use Rattle.wac_graph_types.specs.Meaning.{Meaning, node, Row, done, more}
+use Rattle.wac_graph_types.specs.Shape.{cons_named}
+use Rattle.wac_graph_types.specs.Scope.{Named}
 
 mutual
   -- a kind: its form, and what the entry is that it names; or a part that is not given

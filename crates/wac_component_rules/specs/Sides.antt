@@ -1,8 +1,8 @@
 -- What two entries of a table are compared by.
 use Rattle.std.specs.Prelude.{ℕ, Bool, ◌&&◌}
-use Rattle.wac_types.specs.declared.entry.Entry.{Entry}
-use Rattle.wac_types.specs.Entry.{children}
-use Rattle.wac_types.specs.Meaning.{Meaning, row}
+use Rattle.wac_graph_types.specs.declared.entry.Entry.{Entry}
+use Rattle.wac_graph_types.specs.Entry.{children}
+use Rattle.wac_graph_types.specs.Meaning.{Meaning, row}
 use Rattle.wac_component_rules.specs.declared.sides.Side.{Side}
 use Rattle.wac_component_rules.specs.Seen.{items, listed, picked}
 use Rattle.wac_component_rules.specs.Fits.{same_plain, each_found, each_fits, offered}

@@ -1,7 +1,7 @@
 //! Whether a kind of a table may stand where another is expected.
 ghost use Rattle.std.specs.Prelude.{◌≡◌, ◌<◌, ℕ, IfSome, length};
-ghost use Rattle.wac_types.specs.Meaning.{meaning};
-ghost use Rattle.wac_types.specs.Table.{IsTable, Names};
+ghost use Rattle.wac_graph_types.specs.Meaning.{meaning};
+ghost use Rattle.wac_graph_types.specs.Table.{IsTable, Names};
 ghost use Rattle.wac_component_rules.specs.Compared.{kinds_fit, plainly_fit, entries_fit, TellsSides, TellsParts};
 ghost use Rattle.wac_component_rules.specs.Fits.{fits};
 ghost use Rattle.wac_component_rules.specs.Found.{AllFit};
@@ -13,8 +13,8 @@ use crate::kinds::{is_type, number, same_form, value_kind};
 use crate::parts::{part_at, part_count, same_constructor};
 use crate::sides::{Side, items};
 use crate::sources::{plain_kind, source_name};
-use wac_types::names::find;
-use wac_types::{Entry, ItemKind};
+use wac_graph_types::names::find;
+use wac_graph_types::{Entry, ItemKind};
 
 /// Whether the first kind may stand where the second is expected, if they are given.
 #[cycle(fitting)]

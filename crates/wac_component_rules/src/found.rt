@@ -1,6 +1,6 @@
 //! Pairs of entries of which the first was found to fit the second, so that few are compared again.
 ghost use Rattle.std.specs.Prelude.{ℕ, ◌<◌, List, IsTrue};
-ghost use Rattle.wac_types.specs.declared.entry.Entry.{Entry};
+ghost use Rattle.wac_graph_types.specs.declared.entry.Entry.{Entry};
 ghost use Rattle.wac_component_rules.specs.Found.{AllFit, EntryFits};
 
 use std::marker::Model;

@@ -1,10 +1,10 @@
 //! What is read of a kind without a table.
 ghost use Rattle.std.specs.Prelude.{◌≡◌, IsTrue, ◌↔◌};
-ghost use Rattle.wac_types.specs.Entry.{optional};
-ghost use Rattle.wac_types.specs.Kind.{form, named_by, value_form, value_named_by};
+ghost use Rattle.wac_graph_types.specs.Entry.{optional};
+ghost use Rattle.wac_graph_types.specs.Kind.{form, named_by, value_form, value_named_by};
 ghost use Rattle.wac_component_rules.specs.Fits.{is_type as is_type_form};
 
-use wac_types::{ItemKind, Type, ValueType};
+use wac_graph_types::{ItemKind, Type, ValueType};
 
 fn same_value_form(a: ValueType, b: ValueType) -> bool
     ensures { IsTrue result ↔ (value_form a ≡ value_form b) }

@@ -1,6 +1,6 @@
 //! Laws of the definition `fits`. Each function does nothing: its contract is the law.
 ghost use Rattle.std.specs.Prelude.{◌≡◌, true};
-ghost use Rattle.wac_types.specs.Meaning.{Meaning};
+ghost use Rattle.wac_graph_types.specs.Meaning.{Meaning};
 ghost use Rattle.wac_component_rules.specs.Fits.{fits};
 ghost use Rattle.wac_component_rules.specs.Own.{IsClear};
 ghost use Rattle.wac_component_rules.specs.Seen.{Seen, seen};

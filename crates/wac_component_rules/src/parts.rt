@@ -1,10 +1,10 @@
 //! The parts of defined types and of function types, one by one.
 ghost use Rattle.std.specs.Prelude.{◌≡◌, [], ◌∷◌, ◌++◌, ◌<◌, ◌^◌, IsTrue, ◌↔◌, length, slice_get, option_map, string_bytes};
-ghost use Rattle.wac_types.specs.Entry.{optional, defined_children, value_children, case_children, name_children, tuple_children, named_result_children, result_children, children, sort_of, Slot};
+ghost use Rattle.wac_graph_types.specs.Entry.{optional, defined_children, value_children, case_children, name_children, tuple_children, named_result_children, result_children, children, sort_of, Slot};
 ghost use Rattle.wac_component_rules.specs.Parts.{slot_of, part_view, parts_of, plain_of, aliased_in, aliased_by};
 
 use indexmap::{IndexMap, IndexSet};
-use wac_types::{DefinedType, Entry, FuncResults, FuncType, ValueType};
+use wac_graph_types::{DefinedType, Entry, FuncResults, FuncType, ValueType};
 
 /// Where in an entry a part is.
 #[derive(Clone, Copy)]

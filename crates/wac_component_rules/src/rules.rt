@@ -2,7 +2,7 @@
 
 use crate::fitting::fitting;
 use wac_extern_names::is_extern_name;
-use wac_types::{ItemKind, Reason, Rules, Types};
+use wac_graph_types::{ItemKind, Reason, Rules, Types};
 
 /// Why [`ComponentRules`] refuse a kind: it may not stand where the other one is expected.
 pub const DOES_NOT_FIT: Reason = Reason(1);

@@ -1,10 +1,10 @@
 //! What interfaces and worlds import and export.
 ghost use Rattle.std.specs.Prelude.{◌≡◌, [], option_map, unwrap_or};
-ghost use Rattle.wac_types.specs.Names.{by_name};
+ghost use Rattle.wac_graph_types.specs.Names.{by_name};
 ghost use Rattle.wac_component_rules.specs.Parts.{side_items};
 
 use indexmap::IndexMap;
-use wac_types::{Entry, ItemKind};
+use wac_graph_types::{Entry, ItemKind};
 
 /// What is compared of interfaces and worlds.
 #[derive(Clone, Copy, Debug, PartialEq, Eq)]

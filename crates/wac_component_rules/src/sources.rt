@@ -1,15 +1,15 @@
 //! What names stand for: the sources of resources, and the types that aliases of value types are names of.
 ghost use Rattle.std.specs.Prelude.{◌≡◌, ◌<◌, ℕ, Some, length, slice_get, option_map, option_copied};
-ghost use Rattle.wac_types.specs.Entry.{sort_of};
-ghost use Rattle.wac_types.specs.declared.kind.Sort.TheVariants as sorts;
-ghost use Rattle.wac_types.specs.Meaning.{meaning_at, NamesBefore};
-ghost use Rattle.wac_types.specs.Readings.{as_resource};
-ghost use Rattle.wac_types.specs.Table.{IsTable, Names};
+ghost use Rattle.wac_graph_types.specs.Entry.{sort_of};
+ghost use Rattle.wac_graph_types.specs.declared.kind.Sort.TheVariants as sorts;
+ghost use Rattle.wac_graph_types.specs.Meaning.{meaning_at, NamesBefore};
+ghost use Rattle.wac_graph_types.specs.Readings.{as_resource};
+ghost use Rattle.wac_graph_types.specs.Table.{IsTable, Names};
 ghost use Rattle.wac_component_rules.specs.Compared.{SeenAs, type_kind};
 ghost use Rattle.wac_component_rules.specs.Seen.{what, What};
 
 use crate::parts::aliased;
-use wac_types::{Entry, ItemKind, Resource, Type, ValueType};
+use wac_graph_types::{Entry, ItemKind, Resource, Type, ValueType};
 
 fn resource_of(entry: &Entry) -> Option<&Resource>
     ensures { option_copied result ≡ as_resource entry.now }

@@ -6,7 +6,7 @@ use wac_components_bytes::{DecodeError, ErrorKind, error_at, found};
 use wac_components_types::{
     BodyKind, ComponentId, InstanceId, Item, NameId, Named, Owner, TypeDef, TypeId,
 };
-use wac_types::ExternKind;
+use wac_graph_types::ExternKind;
 
 impl<'a> Decoder<'a> {
     /// Adds a body, and returns its number.

@@ -6,7 +6,7 @@ use wac_components_bytes::{DecodeError, ErrorKind, error_at, found};
 use wac_components_types::{
     BodyKind, CoreSort, InstanceId, Item, NameId, Owner, Sort, TypeDef, TypeSort,
 };
-use wac_types::ExternKind;
+use wac_graph_types::ExternKind;
 
 impl<'a> Decoder<'a> {
     /// An item by what it is described as. A type is named for the owner.

@@ -3,7 +3,7 @@
 use wac_components_types::{
     BodyKind, ComponentId, InstanceId, Item, Lengths, NameId, Named, Owner, Sort,
 };
-use wac_types::ExternKind;
+use wac_graph_types::ExternKind;
 
 /// The body of a component, or of the type of a component or an instance, which is read when it is evaluated.
 #[derive(Clone, Copy)]

@@ -5,7 +5,7 @@ use crate::frame::{Binding, Frame, Next, Task};
 use indexmap::IndexMap;
 use wac_components_bytes::{DecodeError, ErrorKind, error_at, found};
 use wac_components_types::{Item, NameId, Sort};
-use wac_types::ExternKind;
+use wac_graph_types::ExternKind;
 
 impl<'a> Decoder<'a> {
     /// An instance, which gets the next index once it is evaluated.

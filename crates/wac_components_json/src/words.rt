@@ -5,7 +5,7 @@ ghost use Rattle.serde_json.specs.Read.{read};
 
 use serde_json::Value;
 use std::alloc::{AllocError, Global};
-use wac_types::{ExternKind, PrimitiveType};
+use wac_graph_types::{ExternKind, PrimitiveType};
 
 /// The name of a primitive type, in quotes.
 pub(crate) fn primitive_name(primitive: PrimitiveType) -> &'static str {

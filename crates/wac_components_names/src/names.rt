@@ -3,7 +3,7 @@
 use indexmap::IndexMap;
 use std::alloc::{AllocError, Global};
 use wac_components_types::{ComponentId, InstanceId, Item, NameId, Owner, Table, TypeDef, TypeId};
-use wac_types::ExternKind;
+use wac_graph_types::ExternKind;
 
 /// The names of types in one interface or world: those that it gives, and those of what these are names of.
 ///

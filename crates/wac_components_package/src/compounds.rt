@@ -4,7 +4,7 @@ use crate::conversion::ConversionError;
 use crate::converter::Converter;
 use indexmap::{IndexMap, IndexSet};
 use wac_components_types::{Func, Part, Parts, TypeDef, TypeId};
-use wac_types::{DefinedType, FuncResults, FuncType, ItemKind, ResourceId, Type, ValueType};
+use wac_graph_types::{DefinedType, FuncResults, FuncType, ItemKind, ResourceId, Type, ValueType};
 
 impl<'t> Converter<'t> {
     /// Converts a type, of which all that it names is converted.

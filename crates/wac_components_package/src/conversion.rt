@@ -1,6 +1,6 @@
 //! Packages of decoded components.
 ghost use Rattle.std.specs.Prelude.{IfOk};
-ghost use Rattle.wac_types.specs.Package.{IsPackage};
+ghost use Rattle.wac_graph_types.specs.Package.{IsPackage};
 
 use crate::converter::Converter;
 use indexmap::IndexMap;
@@ -8,7 +8,7 @@ use std::alloc::{AllocError, AllocFailed, Global};
 use std::fmt;
 use wac_components::Decoded;
 use wac_components_types::Item;
-use wac_types::{Interface, InterfaceId, ItemKind, Package, PackageError, WorldId};
+use wac_graph_types::{Interface, InterfaceId, ItemKind, Package, PackageError, WorldId};
 
 /// Why a decoded component is no package.
 #[derive(Debug, Drop)]

@@ -6,7 +6,7 @@ use std::alloc::{AllocError, Global};
 use wac_components_types::{
     ComponentId, InstanceId, Item, NameId, Owner, Parts, Table, TypeDef, TypeId,
 };
-use wac_types::{InterfaceId, ItemKind, Type, Types, ValueType, WorldId};
+use wac_graph_types::{InterfaceId, ItemKind, Type, Types, ValueType, WorldId};
 
 /// What is to be converted. What is `Ready` has all that it names converted.
 #[derive(Clone, Copy)]

@@ -3,7 +3,9 @@
 use crate::conversion::ConversionError;
 use crate::converter::Converter;
 use wac_components_types::{Named, Owner, TypeDef, TypeId};
-use wac_types::{DefinedType, InterfaceId, ItemKind, Resource, ResourceAlias, Type, ValueType};
+use wac_graph_types::{
+    DefinedType, InterfaceId, ItemKind, Resource, ResourceAlias, Type, ValueType,
+};
 
 /// How many names a chain may have: the depth of types is limited to fewer.
 const LONGEST_CHAIN: usize = 1000;

@@ -4,7 +4,7 @@ use crate::conversion::ConversionError;
 use crate::converter::Converter;
 use indexmap::IndexMap;
 use wac_components_types::{ComponentId, InstanceId, Item, NameId, Owner, TypeDef, TypeId};
-use wac_types::{Interface, ItemKind, ModuleTypeId, Type, UsedType, World};
+use wac_graph_types::{Interface, ItemKind, ModuleTypeId, Type, UsedType, World};
 
 impl<'t> Converter<'t> {
     /// The kind of an item, all of which is converted.

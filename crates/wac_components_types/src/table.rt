@@ -5,7 +5,7 @@ use crate::ty::{Func, Named, Owner, PRIMITIVES, Part, Parts, TypeDef, TypeEntry,
 use indexmap::{IndexMap, IndexSet};
 use std::alloc::{AllocError, Global};
 use std::marker::Model;
-use wac_types::ExternKind;
+use wac_graph_types::ExternKind;
 
 /// An instance: what it exports, by name and in order.
 pub struct Instance {

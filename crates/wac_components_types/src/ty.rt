@@ -1,7 +1,7 @@
 //! Types.
 
 use crate::item::{ComponentId, InstanceId, NameId, TypeId};
-use wac_types::PrimitiveType;
+use wac_graph_types::PrimitiveType;
 
 /// Consecutive parts of a table, by the number of the first and how many they are.
 #[derive(Clone, Copy, Debug, PartialEq, Eq)]

@@ -1,8 +1,8 @@
 -- What a text is, said of its bytes.
 use Rattle.std.specs.Prelude.{◌≡◌, ℕ, List, codes}
-use Rattle.wac_grammar.specs.Tree.{Document}
-use Rattle.wac_grammar.specs.TextTree.{IsTreeOf}
-use Rattle.wac_layout.specs.Reread.{printed}
+use Rattle.wac_ast_grammar.specs.Tree.{Document}
+use Rattle.wac_ast_grammar.specs.TextTree.{IsTreeOf}
+use Rattle.wac_printer_layout.specs.Reread.{printed}
 
 -- the text is a document: it has a tree
 abbrev pub IsDocument : List ℕ → Type 0

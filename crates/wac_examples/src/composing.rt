@@ -11,7 +11,7 @@ pub struct SameTypes;
 
 impl Rules for SameTypes {
     ghost use Rattle.std.specs.Prelude.{None};
-    ghost use Rattle.wac_types.specs.Equality.{equal_or, meaning_discrete, equal_or-renamed};
+    ghost use Rattle.wac_graph_types.specs.Equality.{equal_or, meaning_discrete, equal_or-renamed};
 
     ghost passes = { λ _ a b. equal_or (record { 0 = 1 }) (meaning_discrete a b) };
 

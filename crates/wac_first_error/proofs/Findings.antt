@@ -1,8 +1,8 @@
 -- What is found of a text that is no document.
 use Rattle.std.proofs.Common.{◌≡◌, ap, ℕ, List, inl, inr, Result, Ok, Err, IfOk, ⊎_elim, Bool}
 use Rattle.std.specs.Prelude.{◌⊎◌, alloc_error}
-use Rattle.wac_grammar.specs.Tree.{Document}
-use Rattle.wac_grammar.specs.TextTree.{IsTreeOf}
+use Rattle.wac_ast_grammar.specs.Tree.{Document}
+use Rattle.wac_ast_grammar.specs.TextTree.{IsTreeOf}
 use Rattle.wac_ast.specs.Document.{ErrorOf}
 use Rattle.wac_ast_base.specs.Error.{told_by}
 use Rattle.wac_ast_base.specs.declared.error.Error.{Error}

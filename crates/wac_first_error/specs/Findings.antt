@@ -1,8 +1,8 @@
 -- What is found of a text.
 use Rattle.std.specs.Prelude.{◌≡◌, ◌≢◌, List, ℕ, ◌⊎◌, Bool, true, Some, None}
 use Rattle.wac_lexer.specs.Span.{Span}
-use Rattle.wac_grammar.specs.Tree.{Document as Tree}
-use Rattle.wac_grammar.specs.TextTree.{IsTreeOf}
+use Rattle.wac_ast_grammar.specs.Tree.{Document as Tree}
+use Rattle.wac_ast_grammar.specs.TextTree.{IsTreeOf}
 use Rattle.wac_ast.specs.Document.{ErrorOf}
 use Rattle.wac_ast_base.specs.Error.{Told, no_memory}
 use Rattle.wac_comments_layout.specs.Nesting.{too_deep}

@@ -6,8 +6,8 @@ use Rattle.std.specs.Str.{bytes_eq}
 use Rattle.std.proofs.lemmas.Bool.Decides.{Decides-eqb}
 use Rattle.std.proofs.lemmas.Slice.Eq.{bytes_eq-Decides}
 use Rattle.std.proofs.lemmas.List.{length-append}
-use Rattle.wac_types.specs.declared.kind.ItemKind.{ItemKind}
-use Rattle.wac_types.specs.Scope.{Named, look_up, with_named, IsFresh}
+use Rattle.wac_graph_types.specs.declared.kind.ItemKind.{ItemKind}
+use Rattle.wac_graph_types.specs.Scope.{Named, look_up, with_named, IsFresh}
 use Rattle.wac_graph.specs.Node.{Node, Form, import, definition, alias, instantiation, source_in, is_alias_of}
 use Rattle.wac_graph.specs.Graph.{alias_in, plain_node}
 use Rattle.wac_graph.specs.HeldNodes.{aliases_at, AreIndexed}

@@ -5,7 +5,7 @@ use Rattle.std.specs.List.{AllByRecursion, position, position_or_len}
 use Rattle.std.specs.Str.{bytes_eq}
 use Rattle.std.proofs.lemmas.Bool.{lt-ltb}
 use Rattle.std.proofs.lemmas.Slice.Eq.{bytes_eq-Decides}
-use Rattle.wac_types.specs.Scope.{Named, look_up, IsFresh}
+use Rattle.wac_graph_types.specs.Scope.{Named, look_up, IsFresh}
 use Rattle.wac_graph.specs.Sound.{EachAt, Differ, name_in}
 
 -- ---- by number

@@ -4,18 +4,18 @@ use Rattle.std.specs.Prelude.{slice_get, nat_le, nat_lt, option_map}
 use Rattle.std.specs.List.{AllByRecursion}
 use Rattle.std.proofs.lemmas.Bool.{lt-ltb, le-ltb}
 use Rattle.std.proofs.lemmas.Bool.Decides.{nat_tests}
-use Rattle.wac_types.specs.declared.kind.ItemKind.{ItemKind}
-use Rattle.wac_types.specs.declared.entry.Entry.{Entry}
-use Rattle.wac_types.specs.Entry.{children}
-use Rattle.wac_types.specs.Label.{label}
-use Rattle.wac_types.specs.Meaning.{node, of_kind, row, meaning, meaning_at, NamesBefore, ChildrenBefore, EachKind}
-use Rattle.wac_types.specs.Readings.{kind_exports}
-use Rattle.wac_types.specs.Scope.{look_up}
-use Rattle.wac_types.specs.Shape.{export_of}
-use Rattle.wac_types.specs.Table.{Names}
-use Rattle.wac_types.proofs.Found.{export_found}
-use Rattle.wac_types.specs.Package.{PackageParts}
-use Rattle.wac_types.proofs.Meanings.{grown_under, meaning_at_entry, added}
+use Rattle.wac_graph_types.specs.declared.kind.ItemKind.{ItemKind}
+use Rattle.wac_graph_types.specs.declared.entry.Entry.{Entry}
+use Rattle.wac_graph_types.specs.Entry.{children}
+use Rattle.wac_graph_types.specs.Label.{label}
+use Rattle.wac_graph_types.specs.Meaning.{node, of_kind, row, meaning, meaning_at, NamesBefore, ChildrenBefore, EachKind}
+use Rattle.wac_graph_types.specs.Readings.{kind_exports}
+use Rattle.wac_graph_types.specs.Scope.{look_up}
+use Rattle.wac_graph_types.specs.Shape.{export_of}
+use Rattle.wac_graph_types.specs.Table.{Names}
+use Rattle.wac_graph_types.proofs.Found.{export_found}
+use Rattle.wac_graph_types.specs.Package.{PackageParts}
+use Rattle.wac_graph_types.proofs.Meanings.{grown_under, meaning_at_entry, added}
 use Rattle.wac_graph.specs.Package.{Key, HeldPackage, IsHeld, moved_package}
 use Rattle.wac_graph.specs.Graph.{Parts, with_entry, with_package}
 use Rattle.wac_graph.specs.Sound.{EachAt, IsSound}
@@ -95,7 +95,7 @@ keeps_unchanged old new is naming k h = ap (λ (g : Parts). means naming g k) is
 earlier_children : (es : List Entry) (e : Entry) → EachKind (Names es) (children e) → ChildrenBefore (length es) (children e)
 earlier_children es e h = go (children e) h
   where
-    go : (cs : List (Rattle.wac_types.specs.Entry.Slot × Option ItemKind)) → EachKind (Names es) cs → ChildrenBefore (length es) cs
+    go : (cs : List (Rattle.wac_graph_types.specs.Entry.Slot × Option ItemKind)) → EachKind (Names es) cs → ChildrenBefore (length es) cs
     go [] h = tt
     go (c ∷ cs) h = (one c.1 h.0, go cs h.1)
       where

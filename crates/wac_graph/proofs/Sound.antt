@@ -2,20 +2,20 @@
 use Rattle.std.proofs.Common.{◌≡◌, ◌∙◌, ◌<◌, ◌≤◌, ◌+◌, ℕ, zero, suc, Option, Some, None, List, [], ◌∷◌, ◌++◌, length, length-append, append-nil, refl, sym, ap, subst, arith, true, false, inl, inr}
 use Rattle.std.specs.Prelude.{slice_get, slice_set, IsSome, option_and_then}
 use Rattle.std.specs.List.{AllByRecursion}
-use Rattle.wac_types.specs.declared.kind.ItemKind.{ItemKind}
-use Rattle.wac_types.specs.declared.kind.ItemKind.TheVariants as kinds
-use Rattle.wac_types.specs.declared.entry.Entry.{Entry}
-use Rattle.wac_types.specs.Entry.{children}
-use Rattle.wac_types.specs.Meaning.{EachKind}
-use Rattle.wac_types.specs.Growth.{KeepsMeanings}
-use Rattle.wac_types.specs.Package.{PackageParts, IsPackage}
-use Rattle.wac_types.specs.Scope.{Named, IsFresh}
-use Rattle.wac_types.specs.Shape.{cons_named}
-use Rattle.wac_types.specs.Table.{Names, IsTable, ItemsNamed}
-use Rattle.wac_types.proofs.Growing.{keeps_appended}
-use Rattle.wac_types.proofs.Packages.{package_world, package_instance, package_definitions}
-use Rattle.wac_types.proofs.Shapes.{cons_append}
-use Rattle.wac_types.proofs.Tables.{names_kept, table_more}
+use Rattle.wac_graph_types.specs.declared.kind.ItemKind.{ItemKind}
+use Rattle.wac_graph_types.specs.declared.kind.ItemKind.TheVariants as kinds
+use Rattle.wac_graph_types.specs.declared.entry.Entry.{Entry}
+use Rattle.wac_graph_types.specs.Entry.{children}
+use Rattle.wac_graph_types.specs.Meaning.{EachKind}
+use Rattle.wac_graph_types.specs.Growth.{KeepsMeanings}
+use Rattle.wac_graph_types.specs.Package.{PackageParts, IsPackage}
+use Rattle.wac_graph_types.specs.Scope.{Named, IsFresh}
+use Rattle.wac_graph_types.specs.Shape.{cons_named}
+use Rattle.wac_graph_types.specs.Table.{Names, IsTable, ItemsNamed}
+use Rattle.wac_graph_types.proofs.Growing.{keeps_appended}
+use Rattle.wac_graph_types.proofs.Packages.{package_world, package_instance, package_definitions}
+use Rattle.wac_graph_types.proofs.Shapes.{cons_append}
+use Rattle.wac_graph_types.proofs.Tables.{names_kept, table_more}
 use Rattle.wac_graph_copies.specs.Moved.{moved_items}
 use Rattle.wac_graph_copies.specs.Copied.{IsGrown, IsGrownBy}
 use Rattle.wac_graph.specs.Package.{Key, HeldPackage, IsHeld, moved_package, package_keyed, same_key}

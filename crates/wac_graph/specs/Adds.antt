@@ -1,8 +1,8 @@
 -- What a table gains.
 use Rattle.std.specs.Prelude.{◌≡◌, ◌+◌, ℕ, Some, length, slice_get}
-use Rattle.wac_types.specs.declared.entry.Entry.{Entry}
-use Rattle.wac_types.specs.Growth.{KeepsNames}
-use Rattle.wac_types.specs.Package.{PackageParts}
+use Rattle.wac_graph_types.specs.declared.entry.Entry.{Entry}
+use Rattle.wac_graph_types.specs.Growth.{KeepsNames}
+use Rattle.wac_graph_types.specs.Package.{PackageParts}
 use Rattle.wac_graph_copies.specs.Copied.{IsGrownBy, MeansTheSame}
 use Rattle.wac_graph.specs.Graph.{Parts, with_entry, with_package}
 use Rattle.wac_graph.specs.Means.{declared_count, resources_in, KeepsKinds, MeansAdded, CopiesMean}

@@ -1,11 +1,11 @@
 -- The parts of a composition's graph.
 use Rattle.std.specs.Prelude.{ℕ, List, [], ◌∷◌, ◌++◌, Option, Some, None, option_and_then, length, slice_get, slice_set}
 use Rattle.std.specs.List.{position}
-use Rattle.wac_types.specs.declared.kind.ItemKind.{ItemKind}
-use Rattle.wac_types.specs.declared.entry.Entry.{Entry}
-use Rattle.wac_types.specs.Package.{PackageParts}
-use Rattle.wac_types.specs.Readings.{instance_exports, world_imports}
-use Rattle.wac_types.specs.Scope.{Named, look_up, with_named}
+use Rattle.wac_graph_types.specs.declared.kind.ItemKind.{ItemKind}
+use Rattle.wac_graph_types.specs.declared.entry.Entry.{Entry}
+use Rattle.wac_graph_types.specs.Package.{PackageParts}
+use Rattle.wac_graph_types.specs.Readings.{instance_exports, world_imports}
+use Rattle.wac_graph_types.specs.Scope.{Named, look_up, with_named}
 use Rattle.wac_graph.specs.Package.{Key, HeldPackage, moved_package}
 use Rattle.wac_graph.specs.Node.{Node, Form, import, definition, alias, instantiation, is_alias_of, package_in, arguments_in}
 

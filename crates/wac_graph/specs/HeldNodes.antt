@@ -1,6 +1,6 @@
 -- Nodes as a graph holds them.
 use Rattle.std.specs.Prelude.{◌≡◌, ℕ, List, [], Some, None, unwrap_or, length, slice_get, slice_set}
-use Rattle.wac_types.specs.Scope.{Named, look_up}
+use Rattle.wac_graph_types.specs.Scope.{Named, look_up}
 use Rattle.wac_graph.specs.Node.{Node, arguments_in}
 use Rattle.wac_graph.specs.Graph.{alias_in}
 

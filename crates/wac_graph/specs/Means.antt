@@ -1,13 +1,13 @@
 -- Where the resources of a graph come from, and what its kinds mean.
 use Rattle.std.specs.Prelude.{◌≡◌, ◌+◌, ◌-◌, ℕ, suc, List, [], ◌∷◌, Option, Some, None, ◌&&◌, cond, nat_le, nat_lt, take, length, slice_get}
-use Rattle.wac_types.specs.declared.kind.ItemKind.{ItemKind}
-use Rattle.wac_types.specs.declared.entry.Entry.{Entry}
-use Rattle.wac_types.specs.declared.entry.Entry.TheVariants as entries
-use Rattle.wac_types.specs.Entry.{children}
-use Rattle.wac_types.specs.Label.{label}
-use Rattle.wac_types.specs.Meaning.{Meaning, node, of_kind, row, meaning, meaning_at, NamesBefore}
-use Rattle.wac_types.specs.Meaning as tables
-use Rattle.wac_types.specs.Package.{PackageParts}
+use Rattle.wac_graph_types.specs.declared.kind.ItemKind.{ItemKind}
+use Rattle.wac_graph_types.specs.declared.entry.Entry.{Entry}
+use Rattle.wac_graph_types.specs.declared.entry.Entry.TheVariants as entries
+use Rattle.wac_graph_types.specs.Entry.{children}
+use Rattle.wac_graph_types.specs.Label.{label}
+use Rattle.wac_graph_types.specs.Meaning.{Meaning, node, of_kind, row, meaning, meaning_at, NamesBefore}
+use Rattle.wac_graph_types.specs.Meaning as tables
+use Rattle.wac_graph_types.specs.Package.{PackageParts}
 use Rattle.wac_graph.specs.Package.{Key, HeldPackage}
 use Rattle.wac_graph_copies.specs.Moved.{moved}
 use Rattle.wac_graph.specs.Graph.{Parts}

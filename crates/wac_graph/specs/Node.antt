@@ -2,8 +2,8 @@
 use Rattle.std.specs.Prelude.{◌≡◌, ◌<◌, IsSome, ℕ, List, [], Option, Some, None, string_bytes, Bool, false, ◌&&◌, String, nat_eq}
 use Rattle.std.specs.declared.alloc.Global.{Global}
 use Rattle.std.specs.Str.{bytes_eq}
-use Rattle.wac_types.specs.Scope.{Named}
-use Rattle.wac_types.specs.declared.kind.ItemKind.{ItemKind}
+use Rattle.wac_graph_types.specs.Scope.{Named}
+use Rattle.wac_graph_types.specs.declared.kind.ItemKind.{ItemKind}
 use Rattle.wac_graph.specs.declared.node.NodeId.{NodeId}
 use Rattle.wac_graph.specs.declared.node.NodeKind.{NodeKind}
 use Rattle.wac_graph.specs.declared.node.NodeKind.TheVariants as nodes

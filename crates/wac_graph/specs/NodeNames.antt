@@ -1,6 +1,6 @@
 -- Nodes by name.
 use Rattle.std.specs.Prelude.{ℕ, map}
-use Rattle.wac_types.specs.Scope.{Named}
+use Rattle.wac_graph_types.specs.Scope.{Named}
 use Rattle.wac_graph.specs.declared.node.NodeId.{NodeId}
 
 -- names, each with the number of its node

@@ -1,6 +1,6 @@
 -- Packages as a graph holds them.
 use Rattle.std.specs.Prelude.{List, map}
-use Rattle.wac_types.specs.Names.{by_name}
+use Rattle.wac_graph_types.specs.Names.{by_name}
 use Rattle.wac_graph.specs.declared.package_key.PackageKey.{PackageKey}
 use Rattle.wac_graph.specs.declared.packages.PackageCopy.{PackageCopy}
 use Rattle.wac_graph.specs.Package.{Key, HeldPackage, key_of}

@@ -1,11 +1,11 @@
 -- Packages that a caller of resolving supplies.
 use Rattle.std.specs.Prelude.{◌≡◌, List, map, length, Option}
 use Rattle.std.specs.Map.{lookup}
-use Rattle.wac_types.specs.declared.kind.ItemKind.TheVariants as kinds
-use Rattle.wac_types.specs.Meaning.{Meaning, meaning}
-use Rattle.wac_types.specs.Package.{PackageParts}
-use Rattle.wac_types.specs.Scope.{Named}
-use Rattle.wac_types.specs.Shape.{items_mean}
+use Rattle.wac_graph_types.specs.declared.kind.ItemKind.TheVariants as kinds
+use Rattle.wac_graph_types.specs.Meaning.{Meaning, meaning}
+use Rattle.wac_graph_types.specs.Package.{PackageParts}
+use Rattle.wac_graph_types.specs.Scope.{Named}
+use Rattle.wac_graph_types.specs.Shape.{items_mean}
 use Rattle.wac_graph.specs.Package.{Key, HeldPackage, same_key, moved_package}
 use Rattle.wac_graph.specs.Graph.{Parts}
 use Rattle.wac_graph.specs.Means.{means, entry_means}

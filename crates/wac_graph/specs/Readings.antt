@@ -1,5 +1,5 @@
 -- What is read of a package.
-use Rattle.wac_types.specs.Names.{by_name}
+use Rattle.wac_graph_types.specs.Names.{by_name}
 use Rattle.wac_graph.specs.declared.packages.GraphPackage.{GraphPackage}
 use Rattle.wac_graph.specs.Package.{HeldPackage, key_of}
 

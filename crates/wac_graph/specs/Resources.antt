@@ -1,10 +1,10 @@
 -- Entries of the resources that a composition declares.
 use Rattle.std.specs.Prelude.{ℕ, List}
-use Rattle.wac_types.specs.Kind.{a_resource}
-use Rattle.wac_types.specs.Entry.{owner, source}
-use Rattle.wac_types.specs.Label.{resource}
-use Rattle.wac_types.specs.Meaning.{Meaning, node, done, more}
-use Rattle.wac_types.specs.Shape.{kind_of, owner_of}
+use Rattle.wac_graph_types.specs.Kind.{a_resource}
+use Rattle.wac_graph_types.specs.Entry.{owner, source}
+use Rattle.wac_graph_types.specs.Label.{resource}
+use Rattle.wac_graph_types.specs.Meaning.{Meaning, node, done, more}
+use Rattle.wac_graph_types.specs.Shape.{kind_of, owner_of}
 use Rattle.wac_graph.specs.Origin.{Naming, declared}
 
 -- the entry of a resource that the document declares

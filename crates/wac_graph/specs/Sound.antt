@@ -1,11 +1,11 @@
 -- What always holds of a graph.
 use Rattle.std.specs.Prelude.{◌≡◌, ◌<◌, ℕ, suc, List, [], ◌∷◌, Some, IsSome, length, slice_get}
 use Rattle.std.specs.List.{AllByRecursion}
-use Rattle.wac_types.specs.declared.kind.ItemKind.{ItemKind}
-use Rattle.wac_types.specs.declared.kind.ItemKind.TheVariants as kinds
-use Rattle.wac_types.specs.Scope.{Named, look_up}
-use Rattle.wac_types.specs.Shape.{cons_named}
-use Rattle.wac_types.specs.Table.{Names, IsTable}
+use Rattle.wac_graph_types.specs.declared.kind.ItemKind.{ItemKind}
+use Rattle.wac_graph_types.specs.declared.kind.ItemKind.TheVariants as kinds
+use Rattle.wac_graph_types.specs.Scope.{Named, look_up}
+use Rattle.wac_graph_types.specs.Shape.{cons_named}
+use Rattle.wac_graph_types.specs.Table.{Names, IsTable}
 use Rattle.wac_graph.specs.Package.{HeldPackage, IsHeld}
 use Rattle.wac_graph.specs.Node.{Node, Form, import, definition, alias, instantiation, import_in}
 use Rattle.wac_graph.specs.Graph.{Parts, export_kind, import_kind}

@@ -1,15 +1,15 @@
 //! The graph of a composition.
 ghost use Rattle.std.specs.Prelude.{◌≡◌, ◌+◌, ◌<◌, ℕ, [], ◌∷◌, ◌++◌, OnOk, OnErr, IfOk, IfSome, IsSome, None, Some, option_map, option_and_then, unwrap_or, length, slice_get, string_bytes};
 ghost use Rattle.std.specs.List.{AllByRecursion};
-ghost use Rattle.wac_types.specs.Entry.{children};
-ghost use Rattle.wac_types.specs.Growth.{KeepsMeanings, KeepsNames};
-ghost use Rattle.wac_types.specs.Meaning.{EachKind};
-ghost use Rattle.wac_types.specs.Package.{IsPackage};
-ghost use Rattle.wac_types.specs.Readings.{kind_exports, world_imports};
-ghost use Rattle.wac_types.specs.Scope.{look_up, IsFresh};
-ghost use Rattle.wac_types.specs.Shape.{export_of};
-ghost use Rattle.wac_types.specs.Table.{IsTable, EachEntryNamed, Names as NamesEntry};
-ghost use Rattle.wac_types.specs.declared.entry.Entry.TheVariants as entries;
+ghost use Rattle.wac_graph_types.specs.Entry.{children};
+ghost use Rattle.wac_graph_types.specs.Growth.{KeepsMeanings, KeepsNames};
+ghost use Rattle.wac_graph_types.specs.Meaning.{EachKind};
+ghost use Rattle.wac_graph_types.specs.Package.{IsPackage};
+ghost use Rattle.wac_graph_types.specs.Readings.{kind_exports, world_imports};
+ghost use Rattle.wac_graph_types.specs.Scope.{look_up, IsFresh};
+ghost use Rattle.wac_graph_types.specs.Shape.{export_of};
+ghost use Rattle.wac_graph_types.specs.Table.{IsTable, EachEntryNamed, Names as NamesEntry};
+ghost use Rattle.wac_graph_types.specs.declared.entry.Entry.TheVariants as entries;
 ghost use Rattle.wac_graph.specs.Adds.{Adds, AddsPackage};
 ghost use Rattle.wac_graph.specs.Aliased.{IsAliased};
 ghost use Rattle.wac_graph_copies.specs.Copied.{IsGrown, IsGrownBy, MeansTheSame};
@@ -31,7 +31,7 @@ use crate::packages::{GraphPackage, HeldPackages, PackageCopy};
 use std::alloc::{AllocError, Global};
 use std::marker::Model;
 use wac_graph_copies::copy_types;
-use wac_types::{
+use wac_graph_types::{
     DefinedType, DefinedTypeId, Entry, FuncType, FuncTypeId, Interface, InterfaceId, ItemKind,
     Package, Resource, ResourceId, Type, Types, ValueType, World, WorldId,
 };
@@ -57,7 +57,7 @@ impl Model for CompositionGraph {
     ghost use Rattle.std.specs.Coded.{codes};
     ghost use Rattle.wac_graph.specs.Graph.{Parts};
     ghost use Rattle.wac_graph.specs.Sound.{IsSound};
-    ghost use Rattle.wac_types.specs.contracts.entry.Entry as entry;
+    ghost use Rattle.wac_graph_types.specs.contracts.entry.Entry as entry;
 
     ghost Value = { Parts };
 

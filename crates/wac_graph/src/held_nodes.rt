@@ -1,6 +1,6 @@
 //! The nodes of a graph, and how their aliases are found.
 ghost use Rattle.std.specs.Prelude.{◌≡◌, ◌+◌, ◌<◌, [], ◌∷◌, ◌++◌, None, Some, OnOk, OnErr, IsSome, option_map, option_and_then, length, slice_get, string_bytes};
-ghost use Rattle.wac_types.specs.Scope.{IsFresh};
+ghost use Rattle.wac_graph_types.specs.Scope.{IsFresh};
 ghost use Rattle.wac_graph.specs.Graph.{alias_in, given_too, plain_node};
 ghost use Rattle.wac_graph.specs.HeldNodes.{arguments_at, changed_in};
 ghost use Rattle.wac_graph.specs.Node.{alias, package_in, source_in};
@@ -9,7 +9,7 @@ use crate::named::NodeNames;
 use crate::node::{Node, NodeId};
 use std::alloc::{AllocError, Global};
 use std::marker::Model;
-use wac_types::ItemKind;
+use wac_graph_types::ItemKind;
 
 /// Nodes in order. A contract sees the list of them, and how many more there is room for.
 #[derive(Drop)]

@@ -1,14 +1,14 @@
 //! Laws of the definitions that the contracts cite. Each function does nothing: its contract is the law.
 ghost use Rattle.std.specs.Prelude.{◌≡◌, ◌<◌, ◌↔◌, ℕ, List, [], IsSome, IsTrue, Some, option_and_then, length, slice_get};
-ghost use Rattle.wac_types.specs.declared.entry.Entry.{Entry as AnEntry};
-ghost use Rattle.wac_types.specs.declared.kind.ItemKind.{ItemKind as Kind};
-ghost use Rattle.wac_types.specs.Package.{PackageParts};
-ghost use Rattle.wac_types.specs.declared.kind.InterfaceId.{InterfaceId as AnInterface};
-ghost use Rattle.wac_types.specs.declared.kind.WorldId.{WorldId as AWorld};
-ghost use Rattle.wac_types.specs.Readings.{instance_exports, interface_exports, world_exports, world_imports};
-ghost use Rattle.wac_types.specs.Shape.{exports_of, imports_of, items_mean};
-ghost use Rattle.wac_types.specs.Table.{Names};
-ghost use Rattle.wac_types.specs.Scope.{look_up, IsFresh};
+ghost use Rattle.wac_graph_types.specs.declared.entry.Entry.{Entry as AnEntry};
+ghost use Rattle.wac_graph_types.specs.declared.kind.ItemKind.{ItemKind as Kind};
+ghost use Rattle.wac_graph_types.specs.Package.{PackageParts};
+ghost use Rattle.wac_graph_types.specs.declared.kind.InterfaceId.{InterfaceId as AnInterface};
+ghost use Rattle.wac_graph_types.specs.declared.kind.WorldId.{WorldId as AWorld};
+ghost use Rattle.wac_graph_types.specs.Readings.{instance_exports, interface_exports, world_exports, world_imports};
+ghost use Rattle.wac_graph_types.specs.Shape.{exports_of, imports_of, items_mean};
+ghost use Rattle.wac_graph_types.specs.Table.{Names};
+ghost use Rattle.wac_graph_types.specs.Scope.{look_up, IsFresh};
 ghost use Rattle.wac_graph_copies.specs.Copied.{IsGrown};
 ghost use Rattle.wac_graph.specs.Graph.{Parts, with_entry, with_package, with_import, with_definition, with_export, with_alias, with_instantiation, with_name, with_argument, export_kind, import_kind, parameter_kind, package_of, arguments_of, alias_in};
 ghost use Rattle.wac_graph.specs.Kept.{Keeps};
@@ -17,7 +17,7 @@ ghost use Rattle.wac_graph.specs.Origin.{Naming, IsOneToOne, numbered};
 ghost use Rattle.wac_graph.specs.Package.{Key, HeldPackage, IsHeld, same_key};
 ghost use Rattle.wac_graph.specs.Packages.{contents_in};
 
-use wac_types::ItemKind;
+use wac_graph_types::ItemKind;
 
 /// What interfaces and worlds export and import, in the table's order, is what their meanings do.
 pub fn tables_mean()

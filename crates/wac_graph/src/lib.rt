@@ -5,7 +5,7 @@
 //! instantiation that it is given to. Besides, it holds which node is imported or exported under which name, the
 //! packages that were added, and one table with the types of all of these.
 //!
-//! The types, what they mean, packages and rules are those of `wac_types`, whose names are re-exported: a table's
+//! The types, what they mean, packages and rules are those of `wac_graph_types`, whose names are re-exported: a table's
 //! entries name earlier entries by number, and two kinds are the same when they mean the same, whatever their numbers
 //! are. A resource is its origin: two resources of one name are two.
 //!
@@ -30,7 +30,7 @@ pub use named::Names;
 pub use node::{NodeId, NodeKind, PackageId};
 pub use package_key::PackageKey;
 pub use packages::GraphPackage;
-pub use wac_types::{
+pub use wac_graph_types::{
     DefinedType, DefinedTypeId, Entry, ExternKind, FuncKind, FuncResults, FuncType, FuncTypeId,
     Interface, InterfaceId, ItemKind, ModuleTypeId, Package, PackageError, PrimitiveType, Reason,
     Resource, ResourceAlias, ResourceId, Rules, Type, Types, UsedType, ValueType, World, WorldId,

@@ -1,14 +1,14 @@
 //! Nodes by name, in order.
 ghost use Rattle.std.specs.Prelude.{◌≡◌, [], ◌∷◌, ◌++◌, OnOk, OnErr, IfOk, option_map, length};
 ghost use Rattle.std.specs.Iterator.{YieldsFirstBy, item_count};
-ghost use Rattle.wac_types.specs.Scope.{look_up, with_named, IsFresh};
+ghost use Rattle.wac_graph_types.specs.Scope.{look_up, with_named, IsFresh};
 
 use crate::node::NodeId;
 use indexmap::IndexMap;
 use indexmap::map::Iter;
 use std::alloc::{AllocError, Global};
 use std::marker::Model;
-use wac_types::names::{find, push};
+use wac_graph_types::names::{find, push};
 
 /// Nodes by name. A contract sees the list of names and numbers.
 #[derive(Drop)]
@@ -21,7 +21,7 @@ impl Model for NodeNames {
 
     ghost Value = { List (List ℕ × ℕ) };
 
-    ghost use Rattle.wac_types.specs.Names.{by_name};
+    ghost use Rattle.wac_graph_types.specs.Names.{by_name};
     ghost use Rattle.wac_graph.specs.NodeNames.{numbers_of};
 
     ghost view = { λ n. numbers_of (by_name n.nodes.entries) };
@@ -71,7 +71,7 @@ impl<'a> Model for Names<'a> {
 
     ghost Value = { List (List ℕ × ℕ) };
 
-    ghost use Rattle.wac_types.specs.Names.{by_name};
+    ghost use Rattle.wac_graph_types.specs.Names.{by_name};
     ghost use Rattle.wac_graph.specs.NodeNames.{numbers_of};
 
     ghost view = { λ n. numbers_of (by_name n.rest) };

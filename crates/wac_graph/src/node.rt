@@ -1,13 +1,13 @@
 //! The nodes of a composition.
 ghost use Rattle.std.specs.Prelude.{◌≡◌, [], OnOk, OnErr, option_map, IsSome, Some, None, string_bytes};
-ghost use Rattle.wac_types.specs.Scope.{IsFresh};
+ghost use Rattle.wac_graph_types.specs.Scope.{IsFresh};
 ghost use Rattle.wac_graph.specs.Graph.{given_too, plain_node};
 ghost use Rattle.wac_graph.specs.Node.{import, definition, alias, instantiation, sort_in, sort_of, source_in, import_in, package_in, arguments_in};
 
 use crate::named::NodeNames;
 use std::alloc::{AllocError, Global};
 use std::marker::Model;
-use wac_types::{InterfaceId, ItemKind};
+use wac_graph_types::{InterfaceId, ItemKind};
 
 /// The number of a node in its graph.
 #[derive(Clone, Copy, Debug, PartialEq, Eq)]

@@ -1,6 +1,6 @@
 //! Packages that were added to a graph.
 ghost use Rattle.std.specs.Prelude.{◌≡◌, ◌+◌, ◌<◌, ◌^◌, [], ◌∷◌, ◌++◌, None, Some, OnOk, OnErr, IfOk, length, slice_get};
-ghost use Rattle.wac_types.specs.Names.{by_name};
+ghost use Rattle.wac_graph_types.specs.Names.{by_name};
 ghost use Rattle.wac_graph.specs.Package.{Key, key_of, package_keyed, moved_package};
 ghost use Rattle.wac_graph.specs.PackageCopies.{held_under};
 ghost use Rattle.wac_graph.specs.Readings.{held_of};
@@ -10,7 +10,7 @@ use indexmap::IndexMap;
 use std::alloc::{AllocError, Global};
 use std::marker::Model;
 use wac_graph_copies::copy_items;
-use wac_types::{InterfaceId, ItemKind, Package, WorldId};
+use wac_graph_types::{InterfaceId, ItemKind, Package, WorldId};
 
 /// What was copied of a package, in the graph's numbers.
 #[derive(Drop)]

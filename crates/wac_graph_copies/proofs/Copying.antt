@@ -8,9 +8,9 @@ use Rattle.std.specs.Bool.{one_answer}
 use Rattle.std.specs.String.{string_eq}
 use Rattle.std.specs.Map.{keys_of}
 use Rattle.std.proofs.lemmas.Slice.Eq.{bytes_eq-Decides}
-use Rattle.wac_types.specs.Names.{by_name}
-use Rattle.wac_types.specs.Scope.{IsFresh}
-use Rattle.wac_types.proofs.Maps.{fresh_name}
+use Rattle.wac_graph_types.specs.Names.{by_name}
+use Rattle.wac_graph_types.specs.Scope.{IsFresh}
+use Rattle.wac_graph_types.proofs.Maps.{fresh_name}
 
 bytes_eq-sym : (a b : List ℕ) → bytes_eq a b ≡ bytes_eq b a
 bytes_eq-sym a b = one_answer (bytes_eq a b) (bytes_eq b a) (bytes_eq-Decides a b) (let d = bytes_eq-Decides b a in (λ h. sym (d.0 h), λ e. d.1 (sym e)))

@@ -1,10 +1,10 @@
 -- A table that has grown by copies of another.
 use Rattle.std.specs.Prelude.{◌≡◌, ◌+◌, ℕ, List, [], ◌∷◌, ◌++◌, length}
-use Rattle.wac_types.specs.declared.entry.Entry.{Entry}
-use Rattle.wac_types.specs.declared.kind.ItemKind.{ItemKind}
-use Rattle.wac_types.specs.Entry.{children, sort_of}
-use Rattle.wac_types.specs.Label.{label}
-use Rattle.wac_types.specs.Meaning.{meaning, NamesBefore}
+use Rattle.wac_graph_types.specs.declared.entry.Entry.{Entry}
+use Rattle.wac_graph_types.specs.declared.kind.ItemKind.{ItemKind}
+use Rattle.wac_graph_types.specs.Entry.{children, sort_of}
+use Rattle.wac_graph_types.specs.Label.{label}
+use Rattle.wac_graph_types.specs.Meaning.{meaning, NamesBefore}
 use Rattle.wac_graph_copies.specs.Moved.{moved, moved_children}
 
 -- the second entry is the first with its numbers moved by n

@@ -1,14 +1,14 @@
 -- Kinds whose numbers are moved by n.
 use Rattle.std.specs.Prelude.{ℕ, ◌+◌, ◌<◌, ◌^◌, Option, option_map, IfSome, List, map}
 use Rattle.std.specs.List.{AllByRecursion}
-use Rattle.wac_types.specs.declared.kind.ValueType.{ValueType}
-use Rattle.wac_types.specs.declared.kind.ValueType.TheVariants as values
-use Rattle.wac_types.specs.declared.kind.«Type».{«Type» as ItemType}
-use Rattle.wac_types.specs.declared.kind.«Type».TheVariants as types
-use Rattle.wac_types.specs.declared.kind.ItemKind.{ItemKind}
-use Rattle.wac_types.specs.declared.kind.ItemKind.TheVariants as kinds
-use Rattle.wac_types.specs.Kind.{named_by}
-use Rattle.wac_types.specs.Entry.{Slot}
+use Rattle.wac_graph_types.specs.declared.kind.ValueType.{ValueType}
+use Rattle.wac_graph_types.specs.declared.kind.ValueType.TheVariants as values
+use Rattle.wac_graph_types.specs.declared.kind.«Type».{«Type» as ItemType}
+use Rattle.wac_graph_types.specs.declared.kind.«Type».TheVariants as types
+use Rattle.wac_graph_types.specs.declared.kind.ItemKind.{ItemKind}
+use Rattle.wac_graph_types.specs.declared.kind.ItemKind.TheVariants as kinds
+use Rattle.wac_graph_types.specs.Kind.{named_by}
+use Rattle.wac_graph_types.specs.Entry.{Slot}
 
 abbrev pub moved_value : ℕ → ValueType → ValueType
 moved_value n (values.Primitive p) = values.Primitive p

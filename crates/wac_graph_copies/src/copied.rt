@@ -1,19 +1,19 @@
 //! Entries that are copied from one table to another.
 ghost use Rattle.std.specs.Prelude.{◌≡◌, ◌+◌, ◌<◌, ◌^◌, IfSome, IfOk, OnOk, length, option_map, string_bytes};
-ghost use Rattle.wac_types.specs.Entry.{children, defined_children, alias_children, result_children};
-ghost use Rattle.wac_types.specs.Label.{defined_label};
-ghost use Rattle.wac_types.specs.Meaning.{EachKind};
-ghost use Rattle.wac_types.specs.Table.{IsTable};
+ghost use Rattle.wac_graph_types.specs.Entry.{children, defined_children, alias_children, result_children};
+ghost use Rattle.wac_graph_types.specs.Label.{defined_label};
+ghost use Rattle.wac_graph_types.specs.Meaning.{EachKind};
+ghost use Rattle.wac_graph_types.specs.Table.{IsTable};
 ghost use Rattle.wac_graph_copies.specs.Moved.{moved_children, Fits};
 ghost use Rattle.wac_graph_copies.specs.Copied.{IsCopy, IsGrown, IsGrownBy, MeansTheSame};
-ghost use Rattle.wac_types.specs.declared.entry.Entry.TheVariants as entries;
+ghost use Rattle.wac_graph_types.specs.declared.entry.Entry.TheVariants as entries;
 
 use crate::copy::{
     copy_cases, copy_items, copy_names, copy_text, copy_tuple, copy_uses, copy_values,
     moved_optional, moved_value,
 };
 use std::alloc::{AllocError, Global};
-use wac_types::{
+use wac_graph_types::{
     DefinedType, Entry, FuncResults, FuncType, Interface, InterfaceId, Resource, ResourceAlias,
     ResourceId, Types, World,
 };

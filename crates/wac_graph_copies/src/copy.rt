@@ -1,14 +1,14 @@
 //! Copies of what is in an entry, with new numbers.
 ghost use Rattle.std.specs.Prelude.{◌≡◌, ◌+◌, ◌<◌, ◌^◌, IfSome, IfOk, option_map, string_bytes};
-ghost use Rattle.wac_types.specs.Names.{by_name};
-ghost use Rattle.wac_types.specs.Entry.{value_children, case_children, use_children, name_children, tuple_children};
-ghost use Rattle.wac_types.specs.Meaning.{EachKind};
+ghost use Rattle.wac_graph_types.specs.Names.{by_name};
+ghost use Rattle.wac_graph_types.specs.Entry.{value_children, case_children, use_children, name_children, tuple_children};
+ghost use Rattle.wac_graph_types.specs.Meaning.{EachKind};
 ghost use Rattle.wac_graph_copies.specs.Moved.{moved_value as value_moved, moved as kind_moved, moved_children, moved_items, Fits, ItemsFit};
 
 use indexmap::{IndexMap, IndexSet};
 use std::alloc::{AllocError, Global};
-use wac_types::names::{push, push_name};
-use wac_types::{
+use wac_graph_types::names::{push, push_name};
+use wac_graph_types::{
     DefinedTypeId, FuncTypeId, InterfaceId, ItemKind, ResourceId, Type, UsedType, ValueType,
     WorldId,
 };

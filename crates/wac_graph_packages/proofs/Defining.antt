@@ -4,9 +4,9 @@ use Rattle.std.specs.Prelude.{slice_get}
 use Rattle.std.specs.List.{list_any, AllByRecursion}
 use Rattle.std.specs.Str.{bytes_eq}
 use Rattle.std.proofs.lemmas.Slice.Eq.{bytes_eq-Decides}
-use Rattle.wac_types.specs.declared.kind.ItemKind.{ItemKind}
-use Rattle.wac_types.specs.Scope.{Named, IsFresh}
-use Rattle.wac_types.proofs.Maps.{fresh_name}
+use Rattle.wac_graph_types.specs.declared.kind.ItemKind.{ItemKind}
+use Rattle.wac_graph_types.specs.Scope.{Named, IsFresh}
+use Rattle.wac_graph_types.proofs.Maps.{fresh_name}
 use Rattle.wac_graph.specs.Graph.{Parts}
 use Rattle.wac_graph.specs.Sound.{Differ, IsSound, NamesNodes, name_in}
 use Rattle.wac_graph_packages.specs.Definitions.{AreExported, kind_at, kind_defined as shown, kind_exported as exported}

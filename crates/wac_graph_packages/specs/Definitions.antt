@@ -1,13 +1,13 @@
 -- The package that the definitions of a graph make.
 use Rattle.std.specs.Prelude.{◌≡◌, ℕ, List, [], ◌∷◌, Option, Some, None, map, flat_map, option_map, option_and_then, slice_get}
-use Rattle.wac_types.specs.declared.kind.ItemKind.{ItemKind}
-use Rattle.wac_types.specs.declared.kind.ItemKind.TheVariants as kinds
-use Rattle.wac_types.specs.declared.kind.«Type».{«Type» as ItemType}
-use Rattle.wac_types.specs.declared.kind.«Type».TheVariants as types
-use Rattle.wac_types.specs.declared.kind.WorldId.{WorldId}
-use Rattle.wac_types.specs.Package.{PackageParts}
-use Rattle.wac_types.specs.Readings.{world_imports, world_exports}
-use Rattle.wac_types.specs.Scope.{Named, look_up}
+use Rattle.wac_graph_types.specs.declared.kind.ItemKind.{ItemKind}
+use Rattle.wac_graph_types.specs.declared.kind.ItemKind.TheVariants as kinds
+use Rattle.wac_graph_types.specs.declared.kind.«Type».{«Type» as ItemType}
+use Rattle.wac_graph_types.specs.declared.kind.«Type».TheVariants as types
+use Rattle.wac_graph_types.specs.declared.kind.WorldId.{WorldId}
+use Rattle.wac_graph_types.specs.Package.{PackageParts}
+use Rattle.wac_graph_types.specs.Readings.{world_imports, world_exports}
+use Rattle.wac_graph_types.specs.Scope.{Named, look_up}
 use Rattle.wac_graph.specs.Graph.{Parts}
 
 -- the kind of a node

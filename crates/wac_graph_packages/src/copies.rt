@@ -1,14 +1,14 @@
 //! Copies of tables and packages.
 ghost use Rattle.std.specs.Prelude.{◌≡◌, ◌<◌, ◌^◌, IfOk, length};
-ghost use Rattle.wac_types.specs.Growth.{KeepsMeanings};
-ghost use Rattle.wac_types.specs.Names.{by_name};
-ghost use Rattle.wac_types.specs.Table.{IsTable, ItemsNamed};
+ghost use Rattle.wac_graph_types.specs.Growth.{KeepsMeanings};
+ghost use Rattle.wac_graph_types.specs.Names.{by_name};
+ghost use Rattle.wac_graph_types.specs.Table.{IsTable, ItemsNamed};
 ghost use Rattle.wac_graph_packages.specs.Packages.{IsCopy};
 
 use indexmap::IndexMap;
 use std::alloc::{AllocError, Global};
 use wac_graph_copies::{copy_items, copy_types};
-use wac_types::{ItemKind, Package, PackageError, Types};
+use wac_graph_types::{ItemKind, Package, PackageError, Types};
 
 /// A copy of a table, in which each kind means what it means there.
 pub(crate) fn copied_types(alloc: Global, from: &Types) -> Result<Types, AllocError>

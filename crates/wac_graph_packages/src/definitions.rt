@@ -1,13 +1,13 @@
 //! The definitions of a graph.
 ghost use Rattle.std.specs.Prelude.{IfOk};
-ghost use Rattle.wac_types.specs.Names.{by_name};
+ghost use Rattle.wac_graph_types.specs.Names.{by_name};
 ghost use Rattle.wac_graph_packages.specs.Definitions.{AreExported};
 
 use indexmap::IndexMap;
 use std::alloc::{AllocError, Global};
 use wac_graph::CompositionGraph;
-use wac_types::ItemKind;
-use wac_types::names::push;
+use wac_graph_types::ItemKind;
+use wac_graph_types::names::push;
 
 /// What a graph exports, by name and in order, each with its kind.
 pub(crate) fn definitions_of(

@@ -2,7 +2,7 @@
 
 use std::alloc::AllocError;
 use std::fmt;
-use wac_types::PackageError;
+use wac_graph_types::PackageError;
 
 /// Why the definitions of a graph make no package.
 #[derive(Debug, Drop)]
@@ -27,7 +27,7 @@ impl std::error::Error for DefinitionsError {}
 impl From<AllocError> for DefinitionsError {
     ghost use Rattle.std.specs.Prelude.{◌≡◌};
     ghost use Rattle.wac_graph_packages.specs.declared.error.DefinitionsError.TheVariants as errors;
-    ghost use Rattle.wac_types.specs.declared.package.PackageError.TheVariants as faults;
+    ghost use Rattle.wac_graph_types.specs.declared.package.PackageError.TheVariants as faults;
 
     ghost from_gives = { λ refused e. e ≡ errors.Parts (faults.Memory refused) };
 

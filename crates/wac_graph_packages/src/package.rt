@@ -1,7 +1,7 @@
 //! The package that the definitions of a graph make.
 ghost use Rattle.std.specs.Prelude.{◌≡◌, [], IfOk, None, option_map};
-ghost use Rattle.wac_types.specs.Growth.{KeepsMeanings};
-ghost use Rattle.wac_types.specs.Names.{by_name};
+ghost use Rattle.wac_graph_types.specs.Growth.{KeepsMeanings};
+ghost use Rattle.wac_graph_types.specs.Names.{by_name};
 ghost use Rattle.wac_graph_copies.specs.Copied.{IsGrown};
 ghost use Rattle.wac_graph_packages.specs.Definitions.{AreExported, HasWorld, IsChosen, IsWorld};
 
@@ -12,7 +12,7 @@ use crate::worlds::{named_world, sole_world};
 use indexmap::IndexMap;
 use std::alloc::{AllocError, Global};
 use wac_graph::CompositionGraph;
-use wac_types::{Interface, InterfaceId, ItemKind, Package, Types, World, WorldId};
+use wac_graph_types::{Interface, InterfaceId, ItemKind, Package, Types, World, WorldId};
 
 /// The package that the definitions of a graph make: its world is the named one, or the only one. With no world, or with
 /// several and none named, it has the definitions, and a world that imports and exports nothing.

@@ -1,12 +1,12 @@
 //! Which world of a package's definitions is the package's own.
 ghost use Rattle.std.specs.Prelude.{◌≡◌, ◌++◌, IfOk, OnOk};
-ghost use Rattle.wac_types.specs.Names.{by_name};
+ghost use Rattle.wac_graph_types.specs.Names.{by_name};
 ghost use Rattle.wac_graph_packages.specs.Definitions.{listed, only_world, sole as only, world_named, world_of as world_in, worlds_in};
 
 use indexmap::IndexMap;
 use std::alloc::{AllocError, Global};
-use wac_types::names::find;
-use wac_types::{ItemKind, Type, WorldId};
+use wac_graph_types::names::find;
+use wac_graph_types::{ItemKind, Type, WorldId};
 
 /// The world that a kind is, if it is one.
 fn world_of(kind: ItemKind) -> Option<WorldId>

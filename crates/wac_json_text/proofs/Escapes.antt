@@ -13,10 +13,10 @@ use Rattle.std.proofs.lemmas.Str.{IsCharBoundary-before_ascii, IsCharBoundary-en
 use Rattle.json.specs.Print.{escape, escape_byte}
 use Rattle.wac_lexer.proofs.States.{below, below_at}
 use Rattle.wac_lexer.proofs.Texts.{bytes_eq_is}
-use Rattle.wac_layout.proofs.Bytes.{utf8_bytes}
+use Rattle.wac_printer_layout.proofs.Bytes.{utf8_bytes}
 use Rattle.semver.specs.Parse.{Parts}
 use Rattle.semver.specs.Identifiers.{marked, parts_text}
-use Rattle.wac_layout.specs.Printed.{Piece, blank, text, fresh_after}
+use Rattle.wac_printer_layout.specs.Printed.{Piece, blank, text, fresh_after}
 use Rattle.wac_printer_pieces.specs.Printed.{Printer, Prints, after}
 use Rattle.wac_printer_pieces.specs.declared.error.PrintError.{PrintError}
 use Rattle.wac_printer_pieces.proofs.Indentation.{prints_same}

@@ -1,8 +1,8 @@
 -- The trees of expressions, which hold others of their kind, as JSON.
 use Rattle.std.proofs.Common.{◌≡◌, List, [], ◌∷◌, map, refl, sym, ap, Result}
 use Rattle.serde_json.specs.Data.{array, item}
-use Rattle.wac_grammar.specs.Tree as tree
-use Rattle.wac_grammar.specs.Tree.{arguments_from}
+use Rattle.wac_ast_grammar.specs.Tree as tree
+use Rattle.wac_ast_grammar.specs.Tree.{arguments_from}
 use Rattle.wac_ast_expressions.specs.Expressions.{argument_of, expr_of, nested_expr_of, primary_expr_of}
 use Rattle.wac_ast_expressions.specs.declared.expr.InstantiationArgument.{InstantiationArgument}
 use Rattle.wac_ast_expressions.specs.declared.expr.PrimaryExpr.{PrimaryExpr}

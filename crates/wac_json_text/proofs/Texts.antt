@@ -5,7 +5,7 @@ use Rattle.std.specs.Option.{option_map}
 use Rattle.json.specs.Print.{quoted}
 use Rattle.serde_json.specs.Data.{Data, null, boolean, number, string, array, object, Items, no_items, item, Members, no_members, member}
 use Rattle.serde_json.specs.Written.{compact_text, items_text, members_text, number_text}
-use Rattle.wac_layout.specs.Printed.{Piece, blank, text, fresh_after}
+use Rattle.wac_printer_layout.specs.Printed.{Piece, blank, text, fresh_after}
 use Rattle.wac_printer_pieces.specs.Printed.{Printer, Prints, after, is_front, has_failed}
 use Rattle.wac_printer_pieces.specs.declared.error.PrintError.{PrintError}
 use Rattle.wac_printer_pieces.proofs.Printing.{text-append, after-blank, fresh_after-append}

@@ -4,9 +4,9 @@ use Rattle.std.specs.Prelude.{Box}
 use Rattle.json.specs.Print.{escape_byte}
 use Rattle.serde_json.specs.Data.{Data, array, item}
 use Rattle.wac_lexer.specs.Span.{Span}
-use Rattle.wac_layout.specs.Printed.{Piece, blank}
-use Rattle.wac_grammar.specs.Tree as tree
-use Rattle.wac_grammar.specs.Tree.{types_from}
+use Rattle.wac_printer_layout.specs.Printed.{Piece, blank}
+use Rattle.wac_ast_grammar.specs.Tree as tree
+use Rattle.wac_ast_grammar.specs.Tree.{types_from}
 use Rattle.wac_ast_types.specs.Types.{ty_of, optional_of}
 use Rattle.wac_ast_types.specs.declared.types.«Type» as code
 use Rattle.wac_ast_types.specs.declared.types.«Type».{«Type»}

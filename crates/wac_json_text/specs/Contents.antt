@@ -1,7 +1,7 @@
 -- The contents of variants, as the parts of the writer put them.
 use Rattle.std.specs.Prelude.{ℕ, List, [], ◌∷◌, ◌++◌, codes}
 use Rattle.serde_json.specs.Data.{Data}
-use Rattle.wac_layout.specs.Printed.{Piece, blank}
+use Rattle.wac_printer_layout.specs.Printed.{Piece, blank}
 use Rattle.wac_json_text.specs.Forms.{object_of}
 use Rattle.wac_json_text.specs.Pieces.{pieces}
 

@@ -9,7 +9,7 @@ use Rattle.semver.specs.Parse.{Parts}
 use Rattle.semver.specs.Identifiers.{parts_text}
 use Rattle.wac_lexer.specs.Span.{Span, span}
 use Rattle.wac_lexer.specs.Item.{Doc}
-use Rattle.wac_grammar.specs.Tree as tree
+use Rattle.wac_ast_grammar.specs.Tree as tree
 
 -- ---- what forms are made of
 

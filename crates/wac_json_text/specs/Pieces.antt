@@ -7,7 +7,7 @@ use Rattle.semver.specs.Parse.{Parts}
 use Rattle.json.specs.Print.{escape, quoted}
 use Rattle.serde_json.specs.Data.{Data, null, boolean, number, string, array, object, Items, no_items, item, Members, no_members, member}
 use Rattle.serde_json.specs.Written.{number_text}
-use Rattle.wac_layout.specs.Printed.{Piece, blank}
+use Rattle.wac_printer_layout.specs.Printed.{Piece, blank}
 use Rattle.wac_printer_pieces.specs.Printed.{Printer, Prints, is_front}
 use Rattle.wac_printer_pieces.specs.declared.error.PrintError.{PrintError}
 

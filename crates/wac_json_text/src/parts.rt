@@ -1,7 +1,7 @@
 //! Variants, lists, optional parts, numbers, truth values.
 ghost use Rattle.std.specs.Prelude.{ℕ, List, [], ◌∷◌, codes, decimal};
 ghost use Rattle.std.specs.List.{flat_map};
-ghost use Rattle.wac_layout.specs.Printed.{blank};
+ghost use Rattle.wac_printer_layout.specs.Printed.{blank};
 ghost use Rattle.wac_printer_pieces.specs.Printed.{Prints};
 ghost use Rattle.wac_json_text.specs.Contents.{variant_pieces};
 ghost use Rattle.wac_json_text.specs.Forms.{list_json};

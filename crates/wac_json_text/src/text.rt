@@ -3,7 +3,7 @@ ghost use Rattle.std.specs.Prelude.{◌≡◌, ◌≤◌, ◌<◌, ℕ, List, []
 ghost use Rattle.std.specs.List.{prefix_len};
 ghost use Rattle.json.specs.Print.{escape, escape_byte};
 ghost use Rattle.semver.specs.Identifiers.{build_text, parts_of, parts_text, pre_text};
-ghost use Rattle.wac_layout.specs.Printed.{blank};
+ghost use Rattle.wac_printer_layout.specs.Printed.{blank};
 ghost use Rattle.wac_printer_pieces.specs.Printed.{Prints};
 ghost use Rattle.wac_json_text.specs.Pieces.{FrontWritten, code_escape, is_plain, marked_pieces, marks_pieces, numbers_pieces, version_pieces};
 

@@ -33,8 +33,8 @@ pub use wac_ast::{
 };
 pub use wac_json::ToValue;
 pub use wac_parser_formatting::format;
-pub use wac_parser_packages::packages;
 pub use wac_printer::{
     DocumentPrinter, Page, PrintError, PrintResult, equal_bare_trees_print_equally,
     printed_documents_read_back, trees_of_texts_can_be_printed,
 };
+pub use wac_resolution_mentions::packages;

@@ -1,9 +1,9 @@
 -- What a new printer has written after a document.
 use Rattle.std.proofs.Common.{◌≡◌, ℕ, true, false, List, [], ap, ◌∙◌}
-use Rattle.wac_grammar.specs.Tree.{Document}
-use Rattle.wac_layout.specs.Bare.{doc_lines, bare_document}
-use Rattle.wac_layout.specs.StatementLayout.{document_layout}
-use Rattle.wac_layout.specs.Reread.{printed}
+use Rattle.wac_ast_grammar.specs.Tree.{Document}
+use Rattle.wac_printer_layout.specs.Bare.{doc_lines, bare_document}
+use Rattle.wac_printer_layout.specs.StatementLayout.{document_layout}
+use Rattle.wac_printer_layout.specs.Reread.{printed}
 use Rattle.wac_printer_pieces.specs.Printed.{Printer, after}
 
 -- the printer, where its sink holds these bytes

@@ -1,21 +1,21 @@
 //! Formatting texts.
 ghost use Rattle.std.specs.Prelude.{◌≡◌, ◌⊎◌, IfOk, IfErr, MatchResult, alloc_error, string_bytes};
-ghost use Rattle.wac_grammar.specs.Tree.{Document as Tree};
-ghost use Rattle.wac_grammar.specs.TextTree.{IsTreeOf};
+ghost use Rattle.wac_ast_grammar.specs.Tree.{Document as Tree};
+ghost use Rattle.wac_ast_grammar.specs.TextTree.{IsTreeOf};
 ghost use Rattle.wac_ast.specs.Document.{ErrorOf};
 ghost use Rattle.wac_ast_base.specs.Error.{told_by};
 ghost use Rattle.wac_ast.specs.Statements.{document_of};
 ghost use Rattle.wac_ast_base.specs.declared.error.Error.TheVariants.{Memory};
-ghost use Rattle.wac_layout.specs.Joins.{AreBlanks};
-ghost use Rattle.wac_layout.specs.Reread.{IsFixed, printed, ReadsBack, WasPrinted};
+ghost use Rattle.wac_printer_layout.specs.Joins.{AreBlanks};
+ghost use Rattle.wac_printer_layout.specs.Reread.{IsFixed, printed, ReadsBack, WasPrinted};
 ghost use Rattle.wac_printer_pieces.specs.Printed.{space_of};
 ghost use Rattle.wac_printer.specs.Sliced.{DocumentSliced};
 
 use std::alloc::{AllocError, Global};
 use wac_ast::{Document, Error, ParseResult};
-use wac_layout::{printed_texts_read_back, printed_texts_stay};
 use wac_lexer::Bytes;
 use wac_printer::{DocumentPrinter, Page, trees_of_texts_can_be_printed};
+use wac_printer_layout::{printed_texts_read_back, printed_texts_stay};
 
 /// Prints the document of a text in the one layout.
 ///

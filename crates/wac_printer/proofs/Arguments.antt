@@ -3,8 +3,8 @@ use Rattle.std.proofs.Common.{rules, ◌≡◌, ℕ, Bool, true, false, List, []
 use Rattle.std.specs.Bool.{◌==◌}
 use Rattle.std.specs.List.{All, flat_map}
 use Rattle.wac_lexer.specs.Span.{Span}
-use Rattle.wac_grammar.specs.Tree as tree
-use Rattle.wac_grammar.specs.Tree.{Arguments, arguments_from}
+use Rattle.wac_ast_grammar.specs.Tree as tree
+use Rattle.wac_ast_grammar.specs.Tree.{Arguments, arguments_from}
 use Rattle.wac_ast_expressions.specs.Expressions.{argument_name_of, argument_of, arguments_of_row, expr_of, nested_expr_of, new_expr_of, primary_expr_of}
 use Rattle.wac_ast_base.specs.Names.{package_name_of}
 use mathlib.Core.Former.{Count}
@@ -14,10 +14,10 @@ use Rattle.wac_ast_expressions.specs.declared.expr.NamedInstantiationArgument.{N
 use Rattle.wac_ast_expressions.specs.declared.expr.NewExpr.{NewExpr, Row_of-InstantiationArgument, end_of-InstantiationArgument, more_of-InstantiationArgument, items-the_row-InstantiationArgument, items_hidden-the_row-InstantiationArgument-0}
 use Rattle.wac_ast_expressions.specs.declared.expr.PrimaryExpr.{PrimaryExpr, New, New', Nested}
 use Rattle.wac_ast_expressions.specs.declared.expr.NestedExpr.{NestedExpr, NestedExpr', out-NestedExpr}
-use Rattle.wac_layout.specs.Bare.{bare_argument, bare_argument_name, bare_arguments, bare_expr, bare_primary_expr}
-use Rattle.wac_layout.specs.Printed.{Piece, token, line, deeper}
-use Rattle.wac_layout.specs.Parts.{space, newline}
-use Rattle.wac_layout.specs.ExpressionLayout.{argument_layout, argument_name_layout, arguments_layout, braced_layout, comma_layout, expr_layout, primary_expr_layout}
+use Rattle.wac_printer_layout.specs.Bare.{bare_argument, bare_argument_name, bare_arguments, bare_expr, bare_primary_expr}
+use Rattle.wac_printer_layout.specs.Printed.{Piece, token, line, deeper}
+use Rattle.wac_printer_layout.specs.Parts.{space, newline}
+use Rattle.wac_printer_layout.specs.ExpressionLayout.{argument_layout, argument_name_layout, arguments_layout, braced_layout, comma_layout, expr_layout, primary_expr_layout}
 use Rattle.wac_printer_pieces.specs.Arguments.{ending_layout}
 use Rattle.wac_printer.specs.Arguments.{argument_line_layout, braces_layout, is_lone_fill}
 use Rattle.wac_printer.specs.Sliced.{ArgumentSliced, ArgumentsSliced}

@@ -1,10 +1,10 @@
 -- Parts of the layout of an instantiation.
 use Rattle.std.specs.Prelude.{ℕ, Bool, true, false, List, [], ◌∷◌, ◌++◌, codes}
-use Rattle.wac_grammar.specs.Tree as tree
-use Rattle.wac_grammar.specs.Tree.{Arguments, PackageName, InstantiationArgument}
-use Rattle.wac_layout.specs.Printed.{Piece, token, line, deeper}
-use Rattle.wac_layout.specs.Parts.{space}
-use Rattle.wac_layout.specs.ExpressionLayout.{argument_layout, arguments_layout, braced_layout}
+use Rattle.wac_ast_grammar.specs.Tree as tree
+use Rattle.wac_ast_grammar.specs.Tree.{Arguments, PackageName, InstantiationArgument}
+use Rattle.wac_printer_layout.specs.Printed.{Piece, token, line, deeper}
+use Rattle.wac_printer_layout.specs.Parts.{space}
+use Rattle.wac_printer_layout.specs.ExpressionLayout.{argument_layout, arguments_layout, braced_layout}
 use Rattle.wac_printer_pieces.specs.Arguments.{ending_layout}
 
 -- `new S {`

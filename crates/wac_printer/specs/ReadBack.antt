@@ -1,10 +1,10 @@
 -- What is promised of the text that is printed of a document.
 use Rattle.std.specs.Prelude.{◌≡◌, true, ◌++◌, Result, Ok, Err}
 use Rattle.std.specs.Str.{IsUtf8}
-use Rattle.wac_grammar.specs.Tree.{Document}
-use Rattle.wac_grammar.specs.TextTree.{IsTreeOf}
-use Rattle.wac_layout.specs.Joins.{AreBlanks}
-use Rattle.wac_layout.specs.Reread.{printed, ReadsBack}
+use Rattle.wac_ast_grammar.specs.Tree.{Document}
+use Rattle.wac_ast_grammar.specs.TextTree.{IsTreeOf}
+use Rattle.wac_printer_layout.specs.Joins.{AreBlanks}
+use Rattle.wac_printer_layout.specs.Reread.{printed, ReadsBack}
 use Rattle.wac_printer_pieces.specs.Printed.{Printer}
 use Rattle.wac_printer_pieces.specs.declared.error.PrintError.{PrintError}
 

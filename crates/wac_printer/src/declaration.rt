@@ -7,14 +7,14 @@ ghost use Rattle.wac_ast_types.specs.Declarations.{constructor_of, item_type_dec
 ghost use Rattle.wac_ast_types.specs.Declarations.{enum_case_of, enum_decl_of, flag_of, flags_decl_of};
 ghost use Rattle.wac_ast_base.specs.Names.{ident_of};
 ghost use Rattle.wac_ast_types.specs.Types.{ty_of};
-ghost use Rattle.wac_layout.specs.Printed.{token};
+ghost use Rattle.wac_printer_layout.specs.Printed.{token};
 ghost use Rattle.wac_printer_pieces.specs.Printed.{Prints};
-ghost use Rattle.wac_grammar.specs.Leaves.{IfThere};
+ghost use Rattle.wac_ast_grammar.specs.Leaves.{IfThere};
 ghost use Rattle.wac_printer.specs.Sliced.{NamedTypeSliced, ConstructorSliced, EnumCaseSliced, EnumDeclSliced, FieldSliced, FlagSliced, FlagsDeclSliced, IdentSliced, ItemTypeDeclSliced, MethodSliced, RecordDeclSliced, ResourceDeclSliced, ResourceMethodSliced, TySliced, TypeAliasKindSliced, TypeAliasSliced, TypeDeclSliced, VariantCaseSliced, VariantDeclSliced};
-ghost use Rattle.wac_layout.specs.Bare.{bare_named_type, bare_alias_kind, bare_constructor, bare_enum_case, bare_enum_decl, bare_field, bare_flag, bare_flags_decl, bare_ident, bare_item_type_decl, bare_method, bare_record_decl, bare_resource_decl, bare_resource_method, bare_ty, bare_type_alias, bare_type_decl, bare_variant_case, bare_variant_decl, doc_lines};
-ghost use Rattle.wac_layout.specs.DeclarationLayout.{alias_kind_layout, constructor_layout, enum_case_layout, enum_decl_layout, field_layout, flag_layout, flags_decl_layout, head_layout, item_type_decl_layout, label_layout, method_layout, payload_layout, record_decl_layout, resource_decl_layout, resource_method_layout, static_layout, type_alias_layout, type_decl_layout, variant_case_layout, variant_decl_layout};
-ghost use Rattle.wac_layout.specs.TypeLayout.{params_layout};
-ghost use Rattle.wac_layout.specs.Parts.{body};
+ghost use Rattle.wac_printer_layout.specs.Bare.{bare_named_type, bare_alias_kind, bare_constructor, bare_enum_case, bare_enum_decl, bare_field, bare_flag, bare_flags_decl, bare_ident, bare_item_type_decl, bare_method, bare_record_decl, bare_resource_decl, bare_resource_method, bare_ty, bare_type_alias, bare_type_decl, bare_variant_case, bare_variant_decl, doc_lines};
+ghost use Rattle.wac_printer_layout.specs.DeclarationLayout.{alias_kind_layout, constructor_layout, enum_case_layout, enum_decl_layout, field_layout, flag_layout, flags_decl_layout, head_layout, item_type_decl_layout, label_layout, method_layout, payload_layout, record_decl_layout, resource_decl_layout, resource_method_layout, static_layout, type_alias_layout, type_decl_layout, variant_case_layout, variant_decl_layout};
+ghost use Rattle.wac_printer_layout.specs.TypeLayout.{params_layout};
+ghost use Rattle.wac_printer_layout.specs.Parts.{body};
 
 use crate::lists::Node;
 use crate::printer::DocumentPrinter;

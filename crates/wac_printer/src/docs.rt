@@ -4,8 +4,8 @@ ghost use Rattle.std.specs.List.{flat_map};
 ghost use Rattle.std.specs.Str.Lines.{lines};
 ghost use Rattle.wac_ast_base.specs.Names.{doc_comment_of};
 ghost use Rattle.wac_printer_pieces.specs.Printed.{Prints};
-ghost use Rattle.wac_layout.specs.Bare.{doc_line, doc_lines};
-ghost use Rattle.wac_layout.specs.Parts.{docs_layout};
+ghost use Rattle.wac_printer_layout.specs.Bare.{doc_line, doc_lines};
+ghost use Rattle.wac_printer_layout.specs.Parts.{docs_layout};
 
 use crate::lists::Node;
 use crate::printer::DocumentPrinter;

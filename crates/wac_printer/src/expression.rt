@@ -1,15 +1,15 @@
 //! Printing expressions.
 ghost use Rattle.std.specs.Prelude.{◌≡◌, true, false, List, [], ◌∷◌, ◌++◌, codes, map};
 ghost use Rattle.std.specs.List.{All, flat_map};
-ghost use Rattle.wac_grammar.specs.Tree.{arguments_from};
+ghost use Rattle.wac_ast_grammar.specs.Tree.{arguments_from};
 ghost use Rattle.wac_ast_expressions.specs.Expressions.{access_expr_of, argument_name_of, argument_of, expr_of, named_access_expr_of, new_expr_of, postfix_expr_of, primary_expr_of};
 ghost use Rattle.wac_ast_base.specs.Names.{package_name_of};
-ghost use Rattle.wac_layout.specs.Printed.{token, line, deeper};
+ghost use Rattle.wac_printer_layout.specs.Printed.{token, line, deeper};
 ghost use Rattle.wac_printer_pieces.specs.Printed.{Prints};
 ghost use Rattle.wac_printer.specs.Sliced.{AccessExprSliced, ArgumentNameSliced, ArgumentSliced, ArgumentsSliced, ExprSliced, NamedAccessExprSliced, PackageNameSliced, PostfixExprSliced, PrimaryExprSliced};
-ghost use Rattle.wac_layout.specs.Bare.{bare_access_expr, bare_argument, bare_argument_name, bare_arguments, bare_expr, bare_named_access_expr, bare_package_name, bare_postfix_expr, bare_primary_expr};
-ghost use Rattle.wac_layout.specs.Parts.{space, newline};
-ghost use Rattle.wac_layout.specs.ExpressionLayout.{access_expr_layout, argument_layout, argument_name_layout, arguments_layout, expr_layout, named_access_expr_layout, postfix_expr_layout, primary_expr_layout};
+ghost use Rattle.wac_printer_layout.specs.Bare.{bare_access_expr, bare_argument, bare_argument_name, bare_arguments, bare_expr, bare_named_access_expr, bare_package_name, bare_postfix_expr, bare_primary_expr};
+ghost use Rattle.wac_printer_layout.specs.Parts.{space, newline};
+ghost use Rattle.wac_printer_layout.specs.ExpressionLayout.{access_expr_layout, argument_layout, argument_name_layout, arguments_layout, expr_layout, named_access_expr_layout, postfix_expr_layout, primary_expr_layout};
 ghost use Rattle.wac_printer_pieces.specs.Arguments.{ending_layout};
 ghost use Rattle.wac_printer.specs.Arguments.{argument_line_layout, braces_layout, is_lone_fill, new_head_layout};
 
@@ -95,7 +95,7 @@ fn is_lone_fill(arguments: &[InstantiationArgument<'_>]) -> bool
 #[tactic(auto, using(crate::proofs::Steps::steps))]
 impl<'a, S: Sink> DocumentPrinter<'a, S> {
     /// Prints an expression.
-    #[tactic(auto, using(crate::proofs::Steps::steps), unfolding(wac_layout::specs::ExpressionLayout::expr_layout, wac_layout::specs::ExpressionLayout::primary_expr_layout, wac_layout::specs::ExpressionLayout::argument_layout, wac_layout::specs::Bare::bare_expr, wac_layout::specs::Bare::bare_primary_expr, wac_layout::specs::Bare::bare_argument))]
+    #[tactic(auto, using(crate::proofs::Steps::steps), unfolding(wac_printer_layout::specs::ExpressionLayout::expr_layout, wac_printer_layout::specs::ExpressionLayout::primary_expr_layout, wac_printer_layout::specs::ExpressionLayout::argument_layout, wac_printer_layout::specs::Bare::bare_expr, wac_printer_layout::specs::Bare::bare_primary_expr, wac_printer_layout::specs::Bare::bare_argument))]
     #[cycle(expr)]
     pub fn expr(&mut self, expr: &Expr<'_>) -> PrintResult
         requires { ExprSliced self.old.source (expr_of expr.now) }
@@ -106,7 +106,7 @@ impl<'a, S: Sink> DocumentPrinter<'a, S> {
     }
 
     /// Prints what an expression begins with.
-    #[tactic(auto, using(crate::proofs::Steps::steps), unfolding(wac_layout::specs::ExpressionLayout::expr_layout, wac_layout::specs::ExpressionLayout::primary_expr_layout, wac_layout::specs::ExpressionLayout::argument_layout, wac_layout::specs::Bare::bare_expr, wac_layout::specs::Bare::bare_primary_expr, wac_layout::specs::Bare::bare_argument))]
+    #[tactic(auto, using(crate::proofs::Steps::steps), unfolding(wac_printer_layout::specs::ExpressionLayout::expr_layout, wac_printer_layout::specs::ExpressionLayout::primary_expr_layout, wac_printer_layout::specs::ExpressionLayout::argument_layout, wac_printer_layout::specs::Bare::bare_expr, wac_printer_layout::specs::Bare::bare_primary_expr, wac_printer_layout::specs::Bare::bare_argument))]
     #[cycle(expr)]
     pub fn primary_expr(&mut self, expr: &PrimaryExpr<'_>) -> PrintResult
         requires { PrimaryExprSliced self.old.source (primary_expr_of expr.now) }
@@ -124,7 +124,7 @@ impl<'a, S: Sink> DocumentPrinter<'a, S> {
     }
 
     /// Prints an instantiation: `new a:b {}`, `new a:b { ... }`, or each argument on a line of its own.
-    #[tactic(auto, using(crate::proofs::Steps::steps), unfolding(wac_layout::specs::ExpressionLayout::expr_layout, wac_layout::specs::ExpressionLayout::primary_expr_layout, wac_layout::specs::ExpressionLayout::argument_layout, wac_layout::specs::Bare::bare_expr, wac_layout::specs::Bare::bare_primary_expr, wac_layout::specs::Bare::bare_argument))]
+    #[tactic(auto, using(crate::proofs::Steps::steps), unfolding(wac_printer_layout::specs::ExpressionLayout::expr_layout, wac_printer_layout::specs::ExpressionLayout::primary_expr_layout, wac_printer_layout::specs::ExpressionLayout::argument_layout, wac_printer_layout::specs::Bare::bare_expr, wac_printer_layout::specs::Bare::bare_primary_expr, wac_printer_layout::specs::Bare::bare_argument))]
     #[cycle(expr)]
     pub fn new_expr(&mut self, expr: &NewExpr<'_>) -> PrintResult
         requires { PrimaryExprSliced self.old.source (new_expr_of expr.now) }
@@ -232,7 +232,7 @@ impl<'a, S: Sink> DocumentPrinter<'a, S> {
         self.pieces.ending(argument, is_last)
     }
 
-    #[tactic(auto, using(crate::proofs::Steps::steps), unfolding(wac_layout::specs::ExpressionLayout::expr_layout, wac_layout::specs::ExpressionLayout::primary_expr_layout, wac_layout::specs::ExpressionLayout::argument_layout, wac_layout::specs::Bare::bare_expr, wac_layout::specs::Bare::bare_primary_expr, wac_layout::specs::Bare::bare_argument))]
+    #[tactic(auto, using(crate::proofs::Steps::steps), unfolding(wac_printer_layout::specs::ExpressionLayout::expr_layout, wac_printer_layout::specs::ExpressionLayout::primary_expr_layout, wac_printer_layout::specs::ExpressionLayout::argument_layout, wac_printer_layout::specs::Bare::bare_expr, wac_printer_layout::specs::Bare::bare_primary_expr, wac_printer_layout::specs::Bare::bare_argument))]
     #[cycle(expr)]
     fn argument(&mut self, argument: &InstantiationArgument<'_>) -> PrintResult
         requires { ArgumentSliced self.old.source (argument_of argument.now) }

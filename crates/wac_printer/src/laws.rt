@@ -1,14 +1,14 @@
 // Laws of the definitions that the printer's contracts cite. Each function does nothing: its contract is the law.
 ghost use Rattle.std.specs.Prelude.{◌≡◌, ℕ, Bool, List, Result};
-ghost use Rattle.wac_grammar.specs.Tree.{Document};
-ghost use Rattle.wac_grammar.specs.Slices.{DocumentSlices};
+ghost use Rattle.wac_ast_grammar.specs.Tree.{Document};
+ghost use Rattle.wac_ast_grammar.specs.Slices.{DocumentSlices};
 ghost use Rattle.wac_printer.specs.Sliced.{DocumentSliced};
 ghost use Rattle.wac_printer_pieces.specs.Printed.{Printer, Prints};
 ghost use Rattle.wac_printer.specs.ReadBack.{IsReadBack};
 ghost use Rattle.wac_printer_pieces.specs.declared.error.PrintError.{PrintError};
-ghost use Rattle.wac_layout.specs.Printed.{text};
-ghost use Rattle.wac_layout.specs.Bare.{bare_document, doc_lines};
-ghost use Rattle.wac_layout.specs.StatementLayout.{document_layout};
+ghost use Rattle.wac_printer_layout.specs.Printed.{text};
+ghost use Rattle.wac_printer_layout.specs.Bare.{bare_document, doc_lines};
+ghost use Rattle.wac_printer_layout.specs.StatementLayout.{document_layout};
 
 /// Documents that are equal but for spans, with each name as its source spells it and each line of docs apart,
 /// print equally, whatever their layout was.

@@ -1,9 +1,9 @@
 //! Printing the lists of a tree.
 ghost use Rattle.std.specs.Prelude.{◌≡◌, ℕ, List, [], ◌∷◌, ◌++◌, codes};
 ghost use Rattle.std.specs.List.{flat_map, All};
-ghost use Rattle.wac_layout.specs.Printed.{Piece, token, deeper};
+ghost use Rattle.wac_printer_layout.specs.Printed.{Piece, token, deeper};
 ghost use Rattle.wac_printer_pieces.specs.Printed.{Prints};
-ghost use Rattle.wac_layout.specs.Parts.{space, newline, joined, spaced, body, rows, open_body, close_body};
+ghost use Rattle.wac_printer_layout.specs.Parts.{space, newline, joined, spaced, body, rows, open_body, close_body};
 
 use crate::printer::DocumentPrinter;
 use wac_lexer::Sink;

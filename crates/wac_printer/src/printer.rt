@@ -2,10 +2,10 @@
 ghost use Rattle.std.specs.Prelude.{◌≡◌, ℕ, List, [], ◌∷◌, ◌++◌, false, true, Option, codes};
 ghost use Rattle.wac_lexer.specs.Reading.{slice, Slices};
 ghost use Rattle.wac_ast_base.specs.Names.{ident_of, string_of, package_name_of, package_path_of};
-ghost use Rattle.wac_layout.specs.Bare.{bare_package_path};
-ghost use Rattle.wac_layout.specs.TypeLayout.{package_path_layout};
+ghost use Rattle.wac_printer_layout.specs.Bare.{bare_package_path};
+ghost use Rattle.wac_printer_layout.specs.TypeLayout.{package_path_layout};
 ghost use Rattle.wac_printer.specs.Sliced.{IdentSliced, StringSliced, PackageNameSliced, PackagePathSliced};
-ghost use Rattle.wac_layout.specs.Printed.{token, blank, line, deeper};
+ghost use Rattle.wac_printer_layout.specs.Printed.{token, blank, line, deeper};
 ghost use Rattle.wac_printer_pieces.specs.Printed.{Printer, Prints, space_of};
 
 use std::marker::Model;

@@ -9,11 +9,11 @@ ghost use Rattle.wac_ast_worlds.specs.Worlds.{import_statement_of, import_type_o
 ghost use Rattle.wac_ast.specs.Statements.{type_statement_of};
 ghost use Rattle.wac_printer_pieces.specs.Printed.{Prints};
 ghost use Rattle.wac_printer.specs.ReadBack.{IsReadBack};
-ghost use Rattle.wac_grammar.specs.Leaves.{IfThere};
+ghost use Rattle.wac_ast_grammar.specs.Leaves.{IfThere};
 ghost use Rattle.wac_printer.specs.Sliced.{DirectiveSliced, DocumentSliced, ExportOptionsSliced, ExportStatementSliced, ExternNameSliced, ImportStatementSliced, ImportTypeSliced, LetStatementSliced, PackagePathSliced, StatementSliced, TypeStatementSliced};
-ghost use Rattle.wac_layout.specs.Bare.{bare_directive, bare_document, bare_export_options, bare_export_statement, bare_extern_name, bare_import_statement, bare_import_type, bare_let_statement, bare_package_path, bare_statement, bare_type_statement, doc_lines};
-ghost use Rattle.wac_layout.specs.StatementLayout.{directive_layout, document_layout, export_options_layout, export_statement_layout, import_name_layout, import_statement_layout, import_type_layout, let_statement_layout, renamed_layout, statement_layout, targets_layout, type_statement_layout};
-ghost use Rattle.wac_layout.specs.Parts.{spaced};
+ghost use Rattle.wac_printer_layout.specs.Bare.{bare_directive, bare_document, bare_export_options, bare_export_statement, bare_extern_name, bare_import_statement, bare_import_type, bare_let_statement, bare_package_path, bare_statement, bare_type_statement, doc_lines};
+ghost use Rattle.wac_printer_layout.specs.StatementLayout.{directive_layout, document_layout, export_options_layout, export_statement_layout, import_name_layout, import_statement_layout, import_type_layout, let_statement_layout, renamed_layout, statement_layout, targets_layout, type_statement_layout};
+ghost use Rattle.wac_printer_layout.specs.Parts.{spaced};
 
 use crate::laws::printed_documents_read_back;
 use crate::lists::Node;

@@ -4,13 +4,13 @@ ghost use Rattle.std.specs.List.{All, flat_map};
 ghost use Rattle.wac_ast_base.specs.Names.{extern_name_of, ident_of};
 ghost use Rattle.wac_ast_types.specs.Declarations.{func_type_of, func_type_ref_of, named_type_of, result_list_of};
 ghost use Rattle.wac_ast_types.specs.Types.{ty_of};
-ghost use Rattle.wac_layout.specs.Printed.{token};
+ghost use Rattle.wac_printer_layout.specs.Printed.{token};
 ghost use Rattle.wac_printer_pieces.specs.Printed.{Prints};
 ghost use Rattle.wac_printer.specs.Sliced.{IdentSliced, ExternNameSliced, FuncTypeRefSliced, FuncTypeSliced, NamedTypeSliced, ResultListSliced, TySliced};
-ghost use Rattle.wac_layout.specs.Bare.{bare_extern_name, bare_func_type, bare_func_type_ref, bare_named_type, bare_result_list, bare_ty};
+ghost use Rattle.wac_printer_layout.specs.Bare.{bare_extern_name, bare_func_type, bare_func_type_ref, bare_named_type, bare_result_list, bare_ty};
 ghost use Rattle.wac_lexer.specs.Reading.{slice};
-ghost use Rattle.wac_layout.specs.Parts.{space, joined};
-ghost use Rattle.wac_layout.specs.TypeLayout.{async_layout, extern_name_layout, func_type_layout, func_type_ref_layout, named_type_layout, params_layout, results_layout, ty_layout};
+ghost use Rattle.wac_printer_layout.specs.Parts.{space, joined};
+ghost use Rattle.wac_printer_layout.specs.TypeLayout.{async_layout, extern_name_layout, func_type_layout, func_type_ref_layout, named_type_layout, params_layout, results_layout, ty_layout};
 
 use crate::lists::Node;
 use crate::printer::DocumentPrinter;

@@ -4,12 +4,12 @@ ghost use Rattle.std.specs.List.{All};
 ghost use Rattle.wac_ast_worlds.specs.Worlds.{extern_type_of, named_world_item_of, world_decl_of, world_export_of, world_import_of, world_item_of, world_item_path_of};
 ghost use Rattle.wac_ast_uses.specs.Uses.{world_include_of};
 ghost use Rattle.wac_ast_uses.specs.Uses.{world_include_item_of, world_ref_of};
-ghost use Rattle.wac_layout.specs.Printed.{token};
+ghost use Rattle.wac_printer_layout.specs.Printed.{token};
 ghost use Rattle.wac_printer_pieces.specs.Printed.{Prints};
 ghost use Rattle.wac_printer.specs.Sliced.{ExternTypeSliced, NamedWorldItemSliced, WorldDeclSliced, WorldExportSliced, WorldImportSliced, WorldIncludeItemSliced, WorldIncludeSliced, WorldItemPathSliced, WorldItemSliced, WorldRefSliced};
-ghost use Rattle.wac_layout.specs.Bare.{bare_extern_type, bare_named_world_item, bare_world_decl, bare_world_export, bare_world_import, bare_world_include, bare_world_include_item, bare_world_item, bare_world_item_path, bare_world_ref, doc_lines};
-ghost use Rattle.wac_layout.specs.Parts.{space, rows, body};
-ghost use Rattle.wac_layout.specs.WorldLayout.{extern_type_layout, named_world_item_layout, with_layout, world_decl_layout, world_export_layout, world_import_layout, world_include_item_layout, world_include_layout, world_item_layout, world_item_path_layout, world_ref_layout};
+ghost use Rattle.wac_printer_layout.specs.Bare.{bare_extern_type, bare_named_world_item, bare_world_decl, bare_world_export, bare_world_import, bare_world_include, bare_world_include_item, bare_world_item, bare_world_item_path, bare_world_ref, doc_lines};
+ghost use Rattle.wac_printer_layout.specs.Parts.{space, rows, body};
+ghost use Rattle.wac_printer_layout.specs.WorldLayout.{extern_type_layout, named_world_item_layout, with_layout, world_decl_layout, world_export_layout, world_import_layout, world_include_item_layout, world_include_layout, world_item_layout, world_item_path_layout, world_ref_layout};
 
 use crate::lists::Node;
 use crate::printer::DocumentPrinter;

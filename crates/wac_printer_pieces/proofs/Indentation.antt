@@ -8,7 +8,7 @@ use Rattle.std.proofs.lemmas.Bool.{and_parts, eqb-true}
 use Rattle.std.proofs.lemmas.List.{replicate-append-replicate, take-replicate}
 use Rattle.std.proofs.lemmas.List.Elements.{All-replicate}
 use Rattle.std.proofs.lemmas.Str.Ascii.{IsAscii-from_all}
-use Rattle.wac_layout.specs.Printed.{Piece, blank, line, text, fresh_after, times}
+use Rattle.wac_printer_layout.specs.Printed.{Piece, blank, line, text, fresh_after, times}
 use Rattle.wac_printer_pieces.specs.Printed.{Printer, after, is_front, is_space, Prints, spaces, has_failed}
 use Rattle.std.proofs.Common.{Result, Ok, Err}
 use Rattle.wac_printer_pieces.specs.declared.error.PrintError.{PrintError}

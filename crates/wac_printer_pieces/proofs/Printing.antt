@@ -5,7 +5,7 @@ use Rattle.std.proofs.lemmas.List.{take_more, take-append-drop, take_all}
 use Rattle.std.specs.Prelude.{nat_eq}
 use Rattle.wac_printer_pieces.specs.declared.error.PrintError.{PrintError}
 use Rattle.wac_printer_pieces.specs.declared.error.PrintError.TheVariants.{Writer, Failed}
-use Rattle.wac_layout.specs.Printed.{Piece, token, blank, doc, text, text_of, fresh_after}
+use Rattle.wac_printer_layout.specs.Printed.{Piece, token, blank, doc, text, text_of, fresh_after}
 use Rattle.wac_printer_pieces.specs.Printed.{Printer, after, is_front, Prints, Keeps, has_failed, failures_of}
 use Rattle.wac_printer_pieces.proofs.Fronts.{is_front-append, is_front-longer}
 

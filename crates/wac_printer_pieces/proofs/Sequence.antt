@@ -4,7 +4,7 @@ use Rattle.std.specs.Result.{IsErrAnd, result_and}
 use Rattle.std.proofs.lemmas.Result.{err_from_is_err_and}
 use Rattle.wac_printer_pieces.specs.declared.error.PrintError.{PrintError}
 use Rattle.wac_printer_pieces.specs.declared.error.PrintError.TheVariants.{Writer, Failed}
-use Rattle.wac_layout.specs.Printed.{Piece}
+use Rattle.wac_printer_layout.specs.Printed.{Piece}
 use Rattle.wac_printer_pieces.specs.Printed.{Printer, Prints, is_front, has_failed}
 use Rattle.wac_printer_pieces.specs.Printed as printed
 use Rattle.wac_printer_pieces.proofs.Printing as one

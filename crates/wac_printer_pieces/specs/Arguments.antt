@@ -1,9 +1,9 @@
 -- What ends the line of an argument of an instantiation.
 use Rattle.std.specs.Prelude.{Bool, true, List, [], ◌∷◌, codes}
-use Rattle.wac_grammar.specs.Tree as tree
-use Rattle.wac_grammar.specs.Tree.{InstantiationArgument}
-use Rattle.wac_layout.specs.Printed.{Piece, token}
-use Rattle.wac_layout.specs.Parts.{newline}
+use Rattle.wac_ast_grammar.specs.Tree as tree
+use Rattle.wac_ast_grammar.specs.Tree.{InstantiationArgument}
+use Rattle.wac_printer_layout.specs.Printed.{Piece, token}
+use Rattle.wac_printer_layout.specs.Parts.{newline}
 
 -- what ends the line of an argument: a comma, unless it is a fill and the last
 abbrev pub ending_layout : Bool → InstantiationArgument → List Piece

@@ -1,7 +1,7 @@
 -- What a call of a printer does.
 use Rattle.std.specs.Prelude.{◌≡◌, ℕ, zero, suc, ◌+◌, ◌≤◌, Bool, true, false, ◌&&◌, nat_eq, List, [], ◌∷◌, ◌++◌, length, Result, Ok, Err, Option, Some, None, codes}
 use denote.Ref.{Bor}
-use Rattle.wac_layout.specs.Printed.{Piece, blank, text, fresh_after}
+use Rattle.wac_printer_layout.specs.Printed.{Piece, blank, text, fresh_after}
 use Rattle.wac_printer_pieces.specs.declared.error.PrintError.{PrintError}
 use Rattle.wac_printer_pieces.specs.declared.error.PrintError.TheVariants.{Writer, Failed}
 

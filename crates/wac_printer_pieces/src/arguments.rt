@@ -1,6 +1,6 @@
 //! What ends the line of an argument.
 ghost use Rattle.std.specs.Prelude.{◌≡◌, ℕ, List, [], ◌∷◌, ◌++◌, codes};
-ghost use Rattle.wac_layout.specs.Printed.{Piece, token};
+ghost use Rattle.wac_printer_layout.specs.Printed.{Piece, token};
 ghost use Rattle.wac_ast_expressions.specs.Expressions.{argument_of};
 ghost use Rattle.wac_printer_pieces.specs.Arguments.{ending_layout};
 ghost use Rattle.wac_printer_pieces.specs.Printed.{Prints};

@@ -3,9 +3,9 @@ ghost use Rattle.std.specs.Prelude.{◌≡◌, ℕ, List, [], ◌∷◌, ◌++�
 ghost use Rattle.std.specs.List.{flat_map};
 ghost use Rattle.std.specs.Str.{trim};
 ghost use Rattle.std.specs.Str.Lines.{lines};
-ghost use Rattle.wac_layout.specs.Printed.{doc};
-ghost use Rattle.wac_layout.specs.Bare.{doc_line};
-ghost use Rattle.wac_layout.specs.Parts.{doc_layout, docs_layout};
+ghost use Rattle.wac_printer_layout.specs.Printed.{doc};
+ghost use Rattle.wac_printer_layout.specs.Bare.{doc_line};
+ghost use Rattle.wac_printer_layout.specs.Parts.{doc_layout, docs_layout};
 ghost use Rattle.wac_printer_pieces.specs.Printed.{Prints};
 
 use crate::error::PrintResult;

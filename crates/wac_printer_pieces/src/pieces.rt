@@ -2,7 +2,7 @@
 ghost use Rattle.std.specs.Prelude.{◌≡◌, ◌≤◌, ◌+◌, ℕ, List, [], ◌∷◌, ◌++◌, true, false, Option, Some, None, IfSome, unwrap_or, codes, length, take, drop};
 ghost use Rattle.std.specs.List.{list_all};
 ghost use Rattle.wac_lexer.specs.Reading.{slice, Slices};
-ghost use Rattle.wac_layout.specs.Printed.{Piece, token, blank, line, fresh_after, times, deeper};
+ghost use Rattle.wac_printer_layout.specs.Printed.{Piece, token, blank, line, fresh_after, times, deeper};
 ghost use Rattle.wac_printer_pieces.specs.Printed.{Printer, Prints, after, is_space, spaces, space_of};
 
 use crate::error::{PrintError, PrintResult};

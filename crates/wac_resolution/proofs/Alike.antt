@@ -1,17 +1,17 @@
 -- Layout carries no meaning.
 use Rattle.std.proofs.Common.{◌≡◌, ℕ, List, [], Result, Ok, Err, sym}
 use Rattle.std.specs.Str.{IsUtf8}
-use Rattle.wac_types.specs.Package.{PackageParts}
-use Rattle.wac_types.specs.Scope.{Named}
+use Rattle.wac_graph_types.specs.Package.{PackageParts}
+use Rattle.wac_graph_types.specs.Scope.{Named}
 use Rattle.wac_graph.specs.declared.package_key.PackageKey.{PackageKey}
 use Rattle.wac_graph.specs.Origin.{Naming, IsOneToOne}
 use Rattle.wac_graph.specs.Package.{Key}
-use Rattle.wac_grammar.specs.Slices.{DocumentSlices}
-use Rattle.wac_grammar.specs.Spelled.{DocumentSpelled}
-use Rattle.wac_grammar.specs.TextTree.{IsTreeOf}
-use Rattle.wac_grammar.specs.Tree.{Document}
-use Rattle.wac_layout.specs.Bare.{doc_lines}
-use Rattle.wac_layout.specs.Reread.{IsReread, read_docs}
+use Rattle.wac_ast_grammar.specs.Slices.{DocumentSlices}
+use Rattle.wac_ast_grammar.specs.Spelled.{DocumentSpelled}
+use Rattle.wac_ast_grammar.specs.TextTree.{IsTreeOf}
+use Rattle.wac_ast_grammar.specs.Tree.{Document}
+use Rattle.wac_printer_layout.specs.Bare.{doc_lines}
+use Rattle.wac_printer_layout.specs.Reread.{IsReread, read_docs}
 use Rattle.wac_resolution_errors.specs.declared.error.Error.{Error as CodeError}
 use Rattle.wac_resolution_errors.specs.Error.{Error, memory}
 use Rattle.wac_resolution_errors.specs.Told.{told}

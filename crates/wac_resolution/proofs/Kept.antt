@@ -1,10 +1,10 @@
 -- What is right with the packages that are mentioned is right with all that were supplied.
 use Rattle.std.proofs.Common.{◌≡◌, ◌∙◌, ◌↔◌, ℕ, List, [], ◌∷◌, filter, Some, Result, Ok, Err, Bool, true, false, cond, inl, inr, refl, sym, ap, subst}
 use Rattle.std.specs.List.{AllByRecursion}
-use Rattle.wac_types.specs.Package.{PackageParts}
-use Rattle.wac_types.specs.Scope.{Named}
-use Rattle.wac_grammar.specs.Tree.{Document}
-use Rattle.wac_grammar.specs.Version.{version_text}
+use Rattle.wac_graph_types.specs.Package.{PackageParts}
+use Rattle.wac_graph_types.specs.Scope.{Named}
+use Rattle.wac_ast_grammar.specs.Tree.{Document}
+use Rattle.wac_ast_grammar.specs.Version.{version_text}
 use Rattle.wac_ast.specs.declared.document.Document.{Document as CodeDocument}
 use Rattle.wac_ast.specs.Statements.{document_of}
 use Rattle.wac_graph.proofs.Keys.{keys_same}
@@ -20,7 +20,7 @@ use Rattle.wac_resolution_rules.specs.Given.{Given, Rules}
 use Rattle.wac_resolution_rules.specs.Mentions.{IsMentioned, Mention, given_over, is_mentioned, kept, mentions}
 use Rattle.wac_resolution_rules.specs.ResolvedDocument.{Describes, FirstClause, FirstFailing, GraphClause, OnlyClause, given_to}
 use Rattle.wac_resolution_paths.specs.Expands.{HoldsHanded, IsHandedAs}
-use Rattle.wac_parser_packages.specs.Packages.{AreFirst, OnlyTheseMatter}
+use Rattle.wac_resolution_mentions.specs.Packages.{AreFirst, OnlyTheseMatter}
 use Rattle.wac_resolution.specs.Resolved.{HoldsMentioned, HoldsSupplied, Promised, Resolved, by_key, returned}
 
 -- ---- what is kept

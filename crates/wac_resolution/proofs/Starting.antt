@@ -1,7 +1,7 @@
 -- What resolving begins with: an empty graph, no names and no places.
 use Rattle.std.proofs.Common.{◌≡◌, ◌∙◌, ℕ, [], refl, sym, ap, subst}
 use Rattle.wac_lexer.specs.Span.{Span}
-use Rattle.wac_types.specs.Scope.{Named}
+use Rattle.wac_graph_types.specs.Scope.{Named}
 use Rattle.wac_graph.specs.declared.node.NodeId.{NodeId}
 use Rattle.wac_graph.specs.Graph.{Parts, empty}
 use Rattle.wac_graph.specs.Means.{declared_count, own_from}

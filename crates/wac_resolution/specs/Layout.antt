@@ -1,8 +1,8 @@
 -- Layout carries no meaning: what is returned for a document is right for each document with the same bare tree.
 use Rattle.std.specs.Prelude.{◌≡◌, ℕ, List, Result, Ok, Err}
-use Rattle.wac_grammar.specs.Spelled.{DocumentSpelled}
-use Rattle.wac_grammar.specs.Tree.{Document}
-use Rattle.wac_layout.specs.Bare.{Keep, bare_document}
+use Rattle.wac_ast_grammar.specs.Spelled.{DocumentSpelled}
+use Rattle.wac_ast_grammar.specs.Tree.{Document}
+use Rattle.wac_printer_layout.specs.Bare.{Keep, bare_document}
 use Rattle.wac_resolution_errors.specs.Error.{Error, memory}
 use Rattle.wac_resolution_rules.specs.Composition.{Composition}
 use Rattle.wac_resolution_rules.specs.Given.{Given}

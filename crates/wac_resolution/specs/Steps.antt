@@ -1,8 +1,8 @@
 -- What resolving yields, step by step.
 use Rattle.std.specs.Prelude.{◌≡◌, ℕ, List, Option, Some, ◌⊎◌}
-use Rattle.wac_types.specs.Scope.{Named}
-use Rattle.wac_types.specs.Steps.{Steps, Fails}
-use Rattle.wac_grammar.specs.Tree.{PackagePath, Statement}
+use Rattle.wac_graph_types.specs.Scope.{Named}
+use Rattle.wac_graph_types.specs.Steps.{Steps, Fails}
+use Rattle.wac_ast_grammar.specs.Tree.{PackagePath, Statement}
 use Rattle.wac_graph.specs.Graph.{Parts}
 use Rattle.wac_graph.specs.Origin.{Naming, IsOneToOne}
 use Rattle.wac_resolution_errors.specs.Error.{Error}

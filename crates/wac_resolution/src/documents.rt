@@ -1,8 +1,8 @@
 //! Resolving a document, in one call.
 ghost use Rattle.std.specs.Prelude.{◌≡◌, ℕ, IfOk};
 ghost use Rattle.wac_ast.specs.Statements.{document_of};
-ghost use Rattle.wac_grammar.specs.Tree.{Document as Tree};
-ghost use Rattle.wac_types.specs.Scope.{Named};
+ghost use Rattle.wac_ast_grammar.specs.Tree.{Document as Tree};
+ghost use Rattle.wac_graph_types.specs.Scope.{Named};
 ghost use Rattle.wac_resolution_rules.specs.Given.{rules_by};
 ghost use Rattle.wac_resolution_rules.specs.Mentions.{mentions};
 ghost use Rattle.wac_resolution_rules.specs.ResolvedDocument.{GraphClause, OnlyClause, FirstClause};

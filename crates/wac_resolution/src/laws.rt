@@ -1,19 +1,19 @@
 // Laws of what resolving returns. Each function does nothing: its contract is the law.
 ghost use Rattle.std.specs.Prelude.{ℕ, List, Result};
 ghost use Rattle.std.specs.Str.{IsUtf8};
-ghost use Rattle.wac_types.specs.Package.{PackageParts};
-ghost use Rattle.wac_types.specs.Scope.{Named};
+ghost use Rattle.wac_graph_types.specs.Package.{PackageParts};
+ghost use Rattle.wac_graph_types.specs.Scope.{Named};
 ghost use Rattle.wac_graph.specs.declared.package_key.PackageKey.{PackageKey};
-ghost use Rattle.wac_grammar.specs.TextTree.{IsTreeOf};
-ghost use Rattle.wac_grammar.specs.Tree.{Document};
-ghost use Rattle.wac_layout.specs.Reread.{IsReread};
+ghost use Rattle.wac_ast_grammar.specs.TextTree.{IsTreeOf};
+ghost use Rattle.wac_ast_grammar.specs.Tree.{Document};
+ghost use Rattle.wac_printer_layout.specs.Reread.{IsReread};
 ghost use Rattle.wac_resolution_errors.specs.declared.error.Error.{Error};
 ghost use Rattle.wac_resolution_rules.specs.Given.{Rules};
 ghost use Rattle.wac_resolution_rules.specs.ResolvedDocument.{DescribeAlike, EveryNaming};
 ghost use Rattle.wac_resolution.specs.Layout.{DescribedClause, ReturnedAlike, SameBareTree};
 ghost use Rattle.wac_resolution.specs.Resolved.{Promised, Resolved, returned};
 
-use wac_grammar::trees_stand_in_their_text;
+use wac_ast_grammar::trees_stand_in_their_text;
 
 /// Formatting changes no graph. What is printed of a document has the same bare tree, and documents with the same bare tree are described alike:
 /// what resolving returns for them are graphs that mean the same, or two errors, unless memory runs out.

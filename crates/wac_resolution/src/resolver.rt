@@ -1,10 +1,10 @@
 //! The resolver of a document.
 ghost use Rattle.std.specs.Prelude.{◌≡◌, ℕ, IfOk};
 ghost use Rattle.wac_ast.specs.Statements.{document_of};
-ghost use Rattle.wac_grammar.specs.Tree.{Document as Tree};
-ghost use Rattle.wac_types.specs.Scope.{Named};
-ghost use Rattle.wac_parser_packages.specs.Noted.{mentions_in};
-ghost use Rattle.wac_parser_packages.specs.Packages.{AreFirst, OnlyTheseMatter};
+ghost use Rattle.wac_ast_grammar.specs.Tree.{Document as Tree};
+ghost use Rattle.wac_graph_types.specs.Scope.{Named};
+ghost use Rattle.wac_resolution_mentions.specs.Noted.{mentions_in};
+ghost use Rattle.wac_resolution_mentions.specs.Packages.{AreFirst, OnlyTheseMatter};
 ghost use Rattle.wac_resolution_rules.specs.Given.{rules_by};
 ghost use Rattle.wac_resolution_rules.specs.Mentions.{mentions};
 ghost use Rattle.wac_resolution_rules.specs.ResolvedDocument.{GraphClause, OnlyClause, FirstClause};
@@ -22,7 +22,7 @@ use wac_ast::Document;
 use wac_ast::internals::Statements;
 use wac_graph::{Package, PackageKey, Rules};
 use wac_lexer::SourceSpan;
-use wac_parser_packages::packages;
+use wac_resolution_mentions::packages;
 
 /// A resolver of one document.
 #[derive(Drop)]

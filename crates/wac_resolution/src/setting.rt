@@ -1,7 +1,7 @@
 //! What a document is resolved in.
 ghost use Rattle.std.specs.Prelude.{◌≡◌, option_map};
 ghost use Rattle.wac_ast_statements.specs.Statements.{directive_of};
-ghost use Rattle.wac_grammar.specs.Version.{version_text};
+ghost use Rattle.wac_ast_grammar.specs.Version.{version_text};
 ghost use Rattle.wac_resolution_paths.specs.Setting.{packages_in};
 ghost use Rattle.wac_resolution.specs.Resolved.{by_key};
 

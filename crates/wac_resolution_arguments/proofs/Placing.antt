@@ -2,10 +2,10 @@
 use Rattle.std.proofs.Common.{◌≡◌, ◌∙◌, ℕ, List, [], ◌∷◌, Option, Some, None, ap}
 use Rattle.std.specs.Prelude.{option_map, option_and_then}
 use Rattle.wac_lexer.specs.Span.{Span}
-use Rattle.wac_grammar.specs.Tree.{Ident}
-use Rattle.wac_grammar.specs.Tree.{InstantiationArgument}
-use Rattle.wac_types.specs.Meaning.{Meaning}
-use Rattle.wac_types.specs.Scope.{Named, look_up}
+use Rattle.wac_ast_grammar.specs.Tree.{Ident}
+use Rattle.wac_ast_grammar.specs.Tree.{InstantiationArgument}
+use Rattle.wac_graph_types.specs.Meaning.{Meaning}
+use Rattle.wac_graph_types.specs.Scope.{Named, look_up}
 use Rattle.wac_resolution_rules.specs.BrokenExpressions.{argument_place}
 use Rattle.wac_resolution_rules.specs.Composition.{Composition, Node}
 use Rattle.wac_resolution_rules.specs.Expressions.{name_inferred}

@@ -1,6 +1,6 @@
 -- Arguments of an instantiation as they are given.
 use Rattle.std.specs.Prelude.{ℕ, List, [], ◌∷◌, map, Option, Some, None}
-use Rattle.wac_types.specs.Scope.{Named}
+use Rattle.wac_graph_types.specs.Scope.{Named}
 use Rattle.wac_graph.specs.declared.node.NodeId.{NodeId}
 
 -- the numbers of the nodes that are given

@@ -1,6 +1,6 @@
 -- Arguments that are given by nodes of a graph that grows.
 use Rattle.std.specs.Prelude.{ℕ}
-use Rattle.wac_types.specs.Scope.{Named}
+use Rattle.wac_graph_types.specs.Scope.{Named}
 use Rattle.wac_graph.specs.declared.node.NodeId.{NodeId}
 use Rattle.wac_graph.specs.Graph.{Parts}
 use Rattle.wac_graph.specs.Origin.{Naming}

@@ -1,10 +1,10 @@
 //! Arguments that fit.
 ghost use Rattle.std.specs.Prelude.{◌≡◌, ◌<◌, ℕ, IfErr, MatchOption, OnOk, length};
-ghost use Rattle.wac_types.specs.Names.{by_name};
-ghost use Rattle.wac_types.specs.Readings.{world_imports};
-ghost use Rattle.wac_types.specs.Rules.{Answers};
-ghost use Rattle.wac_types.specs.Scope.{Named, look_up};
-ghost use Rattle.wac_types.specs.Table.{Names};
+ghost use Rattle.wac_graph_types.specs.Names.{by_name};
+ghost use Rattle.wac_graph_types.specs.Readings.{world_imports};
+ghost use Rattle.wac_graph_types.specs.Rules.{Answers};
+ghost use Rattle.wac_graph_types.specs.Scope.{Named, look_up};
+ghost use Rattle.wac_graph_types.specs.Table.{Names};
 ghost use Rattle.wac_graph.specs.Means.{means};
 ghost use Rattle.wac_graph.specs.Origin.{Naming, IsOneToOne};
 ghost use Rattle.wac_resolution_rules.specs.Composition.{kind_at};

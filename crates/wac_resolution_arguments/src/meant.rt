@@ -1,11 +1,11 @@
 //! The import for which an argument is given.
 ghost use Rattle.std.specs.Prelude.{◌≡◌, ◌<◌, ℕ, [], Some, IfOk, length, option_map, unwrap_or, string_bytes};
 ghost use Rattle.std.specs.Option.{option_or};
-ghost use Rattle.wac_types.specs.Meaning.{Meaning};
-ghost use Rattle.wac_types.specs.Names.{by_name};
-ghost use Rattle.wac_types.specs.Scope.{Named};
-ghost use Rattle.wac_types.specs.Shape.{imports_of, items_mean};
-ghost use Rattle.wac_types.specs.Table.{Names};
+ghost use Rattle.wac_graph_types.specs.Meaning.{Meaning};
+ghost use Rattle.wac_graph_types.specs.Names.{by_name};
+ghost use Rattle.wac_graph_types.specs.Scope.{Named};
+ghost use Rattle.wac_graph_types.specs.Shape.{imports_of, items_mean};
+ghost use Rattle.wac_graph_types.specs.Table.{Names};
 ghost use Rattle.wac_ast_expressions.specs.Expressions.{argument_name_of};
 ghost use Rattle.wac_graph.specs.Means.{entry_means};
 ghost use Rattle.wac_graph.specs.Origin.{Naming};

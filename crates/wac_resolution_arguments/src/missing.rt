@@ -1,8 +1,8 @@
 //! Imports for which nothing is given.
 ghost use Rattle.std.specs.Prelude.{◌≡◌, ℕ, option_map};
-ghost use Rattle.wac_types.specs.Meaning.{Meaning};
-ghost use Rattle.wac_types.specs.Names.{by_name};
-ghost use Rattle.wac_types.specs.Shape.{items_mean};
+ghost use Rattle.wac_graph_types.specs.Meaning.{Meaning};
+ghost use Rattle.wac_graph_types.specs.Names.{by_name};
+ghost use Rattle.wac_graph_types.specs.Shape.{items_mean};
 ghost use Rattle.wac_resolution_rules.specs.Expressions.{left_out};
 ghost use Rattle.wac_resolution_arguments.specs.Arguments.{given_nodes, first_name};
 

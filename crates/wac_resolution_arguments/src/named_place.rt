@@ -1,8 +1,8 @@
 //! Where the arguments that aren't spreads are.
 ghost use Rattle.std.specs.Prelude.{◌≡◌, [], ◌∷◌, map};
-ghost use Rattle.wac_grammar.specs.Tree.{arguments_from};
-ghost use Rattle.wac_types.specs.Scope.{look_up};
-ghost use Rattle.wac_types.specs.Table.{Names};
+ghost use Rattle.wac_ast_grammar.specs.Tree.{arguments_from};
+ghost use Rattle.wac_graph_types.specs.Scope.{look_up};
+ghost use Rattle.wac_graph_types.specs.Table.{Names};
 ghost use Rattle.wac_ast_expressions.specs.Expressions.{argument_of};
 ghost use Rattle.wac_graph.specs.Origin.{Naming};
 ghost use Rattle.wac_resolution_rules.specs.BrokenExpressions.{argument_place, own_places as places_of_own};

@@ -1,7 +1,7 @@
 //! Where arguments are.
 ghost use Rattle.std.specs.Prelude.{◌≡◌, option_map};
-ghost use Rattle.wac_grammar.specs.Tree.{InstantiationArgument as ArgumentTree};
-ghost use Rattle.wac_types.specs.Table.{Names};
+ghost use Rattle.wac_ast_grammar.specs.Tree.{InstantiationArgument as ArgumentTree};
+ghost use Rattle.wac_graph_types.specs.Table.{Names};
 ghost use Rattle.wac_ast_base.specs.Names.{ident_of};
 ghost use Rattle.wac_ast_expressions.specs.Expressions.{argument_of};
 ghost use Rattle.wac_graph.specs.Origin.{Naming};

@@ -1,8 +1,8 @@
 //! Instances that are spread.
 ghost use Rattle.std.specs.Prelude.{◌≡◌, ◌<◌, [], ◌∷◌, IfOk, OnOk, length, map, string_bytes};
-ghost use Rattle.wac_types.specs.Names.{by_name};
-ghost use Rattle.wac_types.specs.Readings.{world_imports};
-ghost use Rattle.wac_types.specs.Table.{Names};
+ghost use Rattle.wac_graph_types.specs.Names.{by_name};
+ghost use Rattle.wac_graph_types.specs.Readings.{world_imports};
+ghost use Rattle.wac_graph_types.specs.Table.{Names};
 ghost use Rattle.wac_resolution_rules.specs.Find.{names_of};
 ghost use Rattle.wac_resolution_nodes.specs.Nodes.{NodesStand};
 ghost use Rattle.wac_resolution_arguments.specs.Spreads.{GivenThere, NamesSpread, NodeSpread};

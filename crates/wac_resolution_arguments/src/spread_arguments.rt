@@ -1,10 +1,10 @@
 //! Arguments that are spreads.
 ghost use Rattle.std.specs.Prelude.{◌≡◌, ◌≢◌, List, IfErr, OnOk, length, map};
-ghost use Rattle.wac_grammar.specs.Tree.{Ident as IdentTree};
-ghost use Rattle.wac_types.specs.Names.{by_name};
-ghost use Rattle.wac_types.specs.Steps.{Steps, Fails};
-ghost use Rattle.wac_types.specs.Table.{Names};
-ghost use Rattle.wac_grammar.specs.Tree.{arguments_from};
+ghost use Rattle.wac_ast_grammar.specs.Tree.{Ident as IdentTree};
+ghost use Rattle.wac_graph_types.specs.Names.{by_name};
+ghost use Rattle.wac_graph_types.specs.Steps.{Steps, Fails};
+ghost use Rattle.wac_graph_types.specs.Table.{Names};
+ghost use Rattle.wac_ast_grammar.specs.Tree.{arguments_from};
 ghost use Rattle.wac_ast_base.specs.Names.{ident_of};
 ghost use Rattle.wac_ast_expressions.specs.Expressions.{argument_of};
 ghost use Rattle.wac_graph.specs.Origin.{Naming};

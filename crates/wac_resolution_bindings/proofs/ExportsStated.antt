@@ -1,8 +1,8 @@
 -- Export statements that are executed.
 use Rattle.std.proofs.Common.{◌≡◌, ◌∙◌, ℕ, ◌++◌, inl, inr, refl, sym, ap, append-nil}
 use Rattle.wac_lexer.specs.Span.{Span}
-use Rattle.wac_types.specs.Scope.{Named}
-use Rattle.wac_grammar.specs.Tree.{Expr, ExportStatement, Statement}
+use Rattle.wac_graph_types.specs.Scope.{Named}
+use Rattle.wac_ast_grammar.specs.Tree.{Expr, ExportStatement, Statement}
 use Rattle.wac_graph.specs.Graph.{Parts}
 use Rattle.wac_graph.specs.Origin.{Naming}
 use Rattle.wac_graph.specs.Sound.{IsSound}

@@ -2,7 +2,7 @@
 use Rattle.std.proofs.Common.{◌≡◌, ◌∙◌, ℕ, List, [], ◌∷◌, ap, length, drop}
 use Rattle.std.proofs.Math.Seq.{drop-append_seam, drop-length}
 use Rattle.wac_lexer.specs.Span.{Span}
-use Rattle.wac_types.specs.Scope.{Named, with_named}
+use Rattle.wac_graph_types.specs.Scope.{Named, with_named}
 use Rattle.wac_resolution_rules.specs.Places.{Places, names_at, more_at}
 
 -- one more name, at its place

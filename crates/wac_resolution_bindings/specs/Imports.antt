@@ -1,12 +1,12 @@
 -- Imports, as they are added to a graph.
 use Rattle.std.specs.Prelude.{◌≡◌, ℕ, List, Option, None, length, option_map, option_and_then, slice_get, string_bytes}
 use Rattle.wac_lexer.specs.Span.{Span}
-use Rattle.wac_grammar.specs.Tree.{Ident, ImportStatement}
-use Rattle.wac_types.specs.declared.kind.ItemKind.{ItemKind}
-use Rattle.wac_types.specs.declared.entry.Entry.{Entry}
-use Rattle.wac_types.specs.declared.rules.Reason.{Reason}
-use Rattle.wac_types.specs.Readings.{as_world}
-use Rattle.wac_types.specs.Scope.{Named, IsFresh, with_named}
+use Rattle.wac_ast_grammar.specs.Tree.{Ident, ImportStatement}
+use Rattle.wac_graph_types.specs.declared.kind.ItemKind.{ItemKind}
+use Rattle.wac_graph_types.specs.declared.entry.Entry.{Entry}
+use Rattle.wac_graph_types.specs.declared.rules.Reason.{Reason}
+use Rattle.wac_graph_types.specs.Readings.{as_world}
+use Rattle.wac_graph_types.specs.Scope.{Named, IsFresh, with_named}
 use Rattle.wac_graph.specs.Graph.{Parts}
 use Rattle.wac_graph.specs.Means.{means}
 use Rattle.wac_graph.specs.Origin.{Naming}

@@ -1,5 +1,5 @@
 -- Statements that are executed in a graph, with the names at root and the places of imports and exports beside it.
-use Rattle.wac_grammar.specs.Tree.{Statement}
+use Rattle.wac_ast_grammar.specs.Tree.{Statement}
 use Rattle.wac_graph.specs.Graph.{Parts}
 use Rattle.wac_graph.specs.Origin.{Naming, IsOneToOne}
 use Rattle.wac_resolution_errors.specs.Error.{Error}

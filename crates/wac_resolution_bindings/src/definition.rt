@@ -1,7 +1,7 @@
 //! Definitions at root.
 ghost use Rattle.std.specs.Prelude.{◌≡◌, ℕ, OnOk, IfErr};
-ghost use Rattle.wac_types.specs.Scope.{Named, IsFresh};
-ghost use Rattle.wac_types.specs.Table.{Names as NamesEntry};
+ghost use Rattle.wac_graph_types.specs.Scope.{Named, IsFresh};
+ghost use Rattle.wac_graph_types.specs.Table.{Names as NamesEntry};
 ghost use Rattle.wac_ast_base.specs.Names.{ident_of};
 ghost use Rattle.wac_graph.specs.Origin.{Naming};
 ghost use Rattle.wac_resolution_errors.specs.Error.{Reports};

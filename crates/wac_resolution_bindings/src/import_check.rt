@@ -1,6 +1,6 @@
 //! Tests of imports.
 ghost use Rattle.std.specs.Prelude.{◌≡◌, ℕ, OnOk, IfErr};
-ghost use Rattle.wac_types.specs.Scope.{Named, IsFresh};
+ghost use Rattle.wac_graph_types.specs.Scope.{Named, IsFresh};
 ghost use Rattle.wac_graph.specs.Origin.{Naming};
 ghost use Rattle.wac_resolution_errors.specs.Error.{Reports};
 ghost use Rattle.wac_resolution_errors.specs.Told.{told};

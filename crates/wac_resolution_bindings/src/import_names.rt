@@ -1,6 +1,6 @@
 //! The names of imports.
 ghost use Rattle.std.specs.Prelude.{◌≡◌, IfOk, option_map, unwrap_or, string_bytes};
-ghost use Rattle.wac_types.specs.Table.{Names};
+ghost use Rattle.wac_graph_types.specs.Table.{Names};
 ghost use Rattle.wac_ast_base.specs.Names.{ident_of};
 ghost use Rattle.wac_ast_worlds.specs.Worlds.{import_type_of, import_statement_of};
 ghost use Rattle.wac_graph.specs.Means.{means};

@@ -1,7 +1,7 @@
 //! `let` statements.
 ghost use Rattle.std.specs.Prelude.{OnOk, IfErr};
 ghost use Rattle.wac_ast_statements.specs.Statements.{let_statement_of};
-ghost use Rattle.wac_grammar.specs.Tree.{Statement};
+ghost use Rattle.wac_ast_grammar.specs.Tree.{Statement};
 ghost use Rattle.wac_resolution_errors.specs.Error.{Reports};
 ghost use Rattle.wac_resolution_errors.specs.Told.{told};
 ghost use Rattle.wac_resolution_rules.specs.Given.{rules_by};

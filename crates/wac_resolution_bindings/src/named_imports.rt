@@ -1,7 +1,7 @@
 //! Imports of what is resolved.
 ghost use Rattle.std.specs.Prelude.{◌≡◌, OnOk, IfErr};
-ghost use Rattle.wac_types.specs.Scope.{IsFresh};
-ghost use Rattle.wac_types.specs.Table.{Names};
+ghost use Rattle.wac_graph_types.specs.Scope.{IsFresh};
+ghost use Rattle.wac_graph_types.specs.Table.{Names};
 ghost use Rattle.wac_ast_base.specs.Names.{ident_of};
 ghost use Rattle.wac_ast_worlds.specs.Worlds.{import_statement_of};
 ghost use Rattle.wac_graph.specs.Origin.{Naming};

@@ -2,7 +2,7 @@
 use Rattle.std.proofs.Common.{◌≡◌, ◌∙◌, ℕ, List, Option, Some, None, refl, sym, ap}
 use Rattle.std.specs.Prelude.{option_map}
 use Rattle.wac_lexer.specs.Span.{Span}
-use Rattle.wac_types.specs.Scope.{look_up, IsFresh}
+use Rattle.wac_graph_types.specs.Scope.{look_up, IsFresh}
 use Rattle.wac_resolution_state.specs.Bindings.{Bindings, places_of, values_of}
 use Rattle.wac_resolution_state.proofs.Bound.{read_found}
 

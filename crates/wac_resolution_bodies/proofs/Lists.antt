@@ -3,18 +3,18 @@ use Rattle.std.proofs.Common.{◌≡◌, ◌∙◌, ℕ, List, [], ◌∷◌, �
 use Rattle.std.specs.Prelude.{option_map}
 use Rattle.std.proofs.lemmas.List.{map_push}
 use Rattle.wac_lexer.specs.Span.{Span}
-use Rattle.wac_types.specs.declared.kind.ExternKind.{ExternKind}
-use Rattle.wac_types.specs.declared.kind.ExternKind.TheVariants as sides
-use Rattle.wac_types.specs.declared.kind.ItemKind.{ItemKind}
-use Rattle.wac_types.specs.declared.kind.ItemKind.TheVariants as kinds
-use Rattle.wac_types.specs.declared.entry.Entry.{Entry}
-use Rattle.wac_types.specs.declared.entry.UsedType.{UsedType}
-use Rattle.wac_types.specs.Growth.{KeepsNames}
-use Rattle.wac_types.specs.Meaning.{Meaning}
-use Rattle.wac_types.specs.Scope.{Named, Scope, look_up, StandsFor, IsFresh, with_named}
-use Rattle.wac_types.specs.Shape.{Uses, items_mean, uses_mean}
-use Rattle.wac_types.specs.Table.{Names, ItemsNamed}
-use Rattle.wac_types.proofs.Shapes.{items_found}
+use Rattle.wac_graph_types.specs.declared.kind.ExternKind.{ExternKind}
+use Rattle.wac_graph_types.specs.declared.kind.ExternKind.TheVariants as sides
+use Rattle.wac_graph_types.specs.declared.kind.ItemKind.{ItemKind}
+use Rattle.wac_graph_types.specs.declared.kind.ItemKind.TheVariants as kinds
+use Rattle.wac_graph_types.specs.declared.entry.Entry.{Entry}
+use Rattle.wac_graph_types.specs.declared.entry.UsedType.{UsedType}
+use Rattle.wac_graph_types.specs.Growth.{KeepsNames}
+use Rattle.wac_graph_types.specs.Meaning.{Meaning}
+use Rattle.wac_graph_types.specs.Scope.{Named, Scope, look_up, StandsFor, IsFresh, with_named}
+use Rattle.wac_graph_types.specs.Shape.{Uses, items_mean, uses_mean}
+use Rattle.wac_graph_types.specs.Table.{Names, ItemsNamed}
+use Rattle.wac_graph_types.proofs.Shapes.{items_found}
 use Rattle.wac_graph.specs.Graph.{Parts}
 use Rattle.wac_graph.specs.Means.{means, entry_means, declared_count}
 use Rattle.wac_graph.specs.Origin.{Naming}
@@ -143,8 +143,8 @@ body_with_bound es sides.Export b name at k h here = record {
 
 -- ---- what it means then
 
-items_mean_append : (f : ℕ → Meaning) (all : Named ItemKind) (name : List ℕ) (k : ItemKind) → items_mean f (with_named all name k) ≡ with_named (items_mean f all) name (Rattle.wac_types.specs.Meaning.of_kind f k)
-items_mean_append f all name k = map_push (λ e. (e.0, Rattle.wac_types.specs.Meaning.of_kind f e.1)) all (name, k)
+items_mean_append : (f : ℕ → Meaning) (all : Named ItemKind) (name : List ℕ) (k : ItemKind) → items_mean f (with_named all name k) ≡ with_named (items_mean f all) name (Rattle.wac_graph_types.specs.Meaning.of_kind f k)
+items_mean_append f all name k = map_push (λ e. (e.0, Rattle.wac_graph_types.specs.Meaning.of_kind f e.1)) all (name, k)
 
 pub means_with_kind : (naming : Naming) (g : Parts) (side : ExternKind) (b : Lists) (name : List ℕ) (k : ItemKind) → body_in naming g (with_kind side b name k) ≡ with_extern side (body_in naming g b) name (means naming g k)
 means_with_kind naming g sides.Import b name k = ap (λ (l : Named Meaning). record (body_in naming g b) { imports = l }) (items_mean_append (entry_means naming g) b.imports name k)

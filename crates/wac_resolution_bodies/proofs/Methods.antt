@@ -1,20 +1,20 @@
 -- Constructors and methods.
 use Rattle.std.proofs.Common.{◌≡◌, ◌∙◌, ◌+◌, ◌<◌, inl, inr, ℕ, List, [], ◌++◌, refl, sym, ap, subst, map, take, length, get_or, append-nil}
-use Rattle.wac_grammar.specs.Tree.{Ident, Constructor, Method, ResourceMethod}
-use Rattle.wac_types.specs.declared.kind.ExternKind.{ExternKind}
-use Rattle.wac_types.specs.declared.kind.ExternKind.TheVariants as sides
-use Rattle.wac_types.specs.declared.kind.FuncKind.TheVariants as funcs
-use Rattle.wac_types.specs.declared.kind.ItemKind.{ItemKind}
-use Rattle.wac_types.specs.declared.kind.ItemKind.TheVariants as kinds
-use Rattle.wac_types.specs.declared.kind.«Type».TheVariants as types
-use Rattle.wac_types.specs.declared.kind.FuncTypeId.{FuncTypeId}
-use Rattle.wac_types.specs.declared.kind.ResourceId.{ResourceId}
-use Rattle.wac_types.specs.Kind.{func}
-use Rattle.wac_types.specs.Meaning.{Meaning}
-use Rattle.wac_types.specs.Scope.{Scope, StandsFor, IsFresh}
-use Rattle.wac_types.specs.Shape.{kind_of, entry_of}
-use Rattle.wac_types.specs.Steps.{Fails}
-use Rattle.wac_types.specs.Table.{Names}
+use Rattle.wac_ast_grammar.specs.Tree.{Ident, Constructor, Method, ResourceMethod}
+use Rattle.wac_graph_types.specs.declared.kind.ExternKind.{ExternKind}
+use Rattle.wac_graph_types.specs.declared.kind.ExternKind.TheVariants as sides
+use Rattle.wac_graph_types.specs.declared.kind.FuncKind.TheVariants as funcs
+use Rattle.wac_graph_types.specs.declared.kind.ItemKind.{ItemKind}
+use Rattle.wac_graph_types.specs.declared.kind.ItemKind.TheVariants as kinds
+use Rattle.wac_graph_types.specs.declared.kind.«Type».TheVariants as types
+use Rattle.wac_graph_types.specs.declared.kind.FuncTypeId.{FuncTypeId}
+use Rattle.wac_graph_types.specs.declared.kind.ResourceId.{ResourceId}
+use Rattle.wac_graph_types.specs.Kind.{func}
+use Rattle.wac_graph_types.specs.Meaning.{Meaning}
+use Rattle.wac_graph_types.specs.Scope.{Scope, StandsFor, IsFresh}
+use Rattle.wac_graph_types.specs.Shape.{kind_of, entry_of}
+use Rattle.wac_graph_types.specs.Steps.{Fails}
+use Rattle.wac_graph_types.specs.Table.{Names}
 use Rattle.wac_graph.specs.Graph.{Parts}
 use Rattle.wac_graph.specs.Means.{means, entry_means}
 use Rattle.wac_graph.specs.Origin.{Naming}

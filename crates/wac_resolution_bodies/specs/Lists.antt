@@ -1,12 +1,12 @@
 -- The lists of a body.
 use Rattle.wac_lexer.specs.Span.{Span}
 use Rattle.std.specs.Prelude.{ℕ, List}
-use Rattle.wac_types.specs.declared.kind.ExternKind.{ExternKind}
-use Rattle.wac_types.specs.declared.kind.ExternKind.TheVariants as sides
-use Rattle.wac_types.specs.declared.kind.ItemKind.{ItemKind}
-use Rattle.wac_types.specs.declared.entry.UsedType.{UsedType}
-use Rattle.wac_types.specs.Names.{by_name}
-use Rattle.wac_types.specs.Scope.{Named, with_named}
+use Rattle.wac_graph_types.specs.declared.kind.ExternKind.{ExternKind}
+use Rattle.wac_graph_types.specs.declared.kind.ExternKind.TheVariants as sides
+use Rattle.wac_graph_types.specs.declared.kind.ItemKind.{ItemKind}
+use Rattle.wac_graph_types.specs.declared.entry.UsedType.{UsedType}
+use Rattle.wac_graph_types.specs.Names.{by_name}
+use Rattle.wac_graph_types.specs.Scope.{Named, with_named}
 use Rattle.wac_resolution_state.specs.Bindings.{Bindings}
 use Rattle.wac_resolution_bodies.specs.declared.body.Body.{Body}
 

@@ -1,6 +1,6 @@
 //! Bodies of interfaces and worlds.
 ghost use Rattle.std.specs.Prelude.{◌≡◌, [], OnOk};
-ghost use Rattle.wac_types.specs.Scope.{look_up, IsFresh};
+ghost use Rattle.wac_graph_types.specs.Scope.{look_up, IsFresh};
 ghost use Rattle.wac_resolution_state.specs.Bindings.{values_of};
 ghost use Rattle.wac_resolution_bodies.specs.Lists.{lists_of, kinds_of, with_kind, with_bound, with_used};
 

@@ -1,6 +1,6 @@
 //! Declarations of types in a body.
 ghost use Rattle.std.specs.Prelude.{IfErr, OnOk};
-ghost use Rattle.wac_grammar.specs.Tree.{ItemTypeDecl as ItemTree};
+ghost use Rattle.wac_ast_grammar.specs.Tree.{ItemTypeDecl as ItemTree};
 ghost use Rattle.wac_ast_types.specs.Declarations.{variant_decl_of, record_decl_of, flags_decl_of, enum_decl_of, type_alias_of, item_type_decl_of};
 ghost use Rattle.wac_graph.specs.Origin.{Naming};
 ghost use Rattle.wac_resolution_errors.specs.Error.{Reports};

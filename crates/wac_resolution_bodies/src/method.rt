@@ -1,11 +1,11 @@
 //! Constructors and methods of resources.
 ghost use Rattle.std.specs.Prelude.{◌≡◌, List, IfOk, IfErr, OnOk, map, string_bytes};
-ghost use Rattle.wac_grammar.specs.Tree.{ResourceMethod as MethodTree};
-ghost use Rattle.wac_types.specs.declared.kind.ItemKind.TheVariants as kinds;
-ghost use Rattle.wac_types.specs.declared.kind.«Type».TheVariants as types;
-ghost use Rattle.wac_types.specs.Scope.{IsFresh};
-ghost use Rattle.wac_types.specs.Steps.{Fails};
-ghost use Rattle.wac_types.specs.Table.{Names as NamesEntry};
+ghost use Rattle.wac_ast_grammar.specs.Tree.{ResourceMethod as MethodTree};
+ghost use Rattle.wac_graph_types.specs.declared.kind.ItemKind.TheVariants as kinds;
+ghost use Rattle.wac_graph_types.specs.declared.kind.«Type».TheVariants as types;
+ghost use Rattle.wac_graph_types.specs.Scope.{IsFresh};
+ghost use Rattle.wac_graph_types.specs.Steps.{Fails};
+ghost use Rattle.wac_graph_types.specs.Table.{Names as NamesEntry};
 ghost use Rattle.wac_ast_base.specs.Names.{ident_of};
 ghost use Rattle.wac_ast_types.specs.Declarations.{constructor_of, method_of, resource_method_of};
 ghost use Rattle.wac_graph.specs.Graph.{Parts};

@@ -1,6 +1,6 @@
 //! Whether a name of a body is new.
 ghost use Rattle.std.specs.Prelude.{◌≡◌, IfOk, IfErr, OnOk, option_map, string_bytes};
-ghost use Rattle.wac_types.specs.Scope.{IsFresh};
+ghost use Rattle.wac_graph_types.specs.Scope.{IsFresh};
 ghost use Rattle.wac_ast_base.specs.Names.{ident_of};
 ghost use Rattle.wac_graph.specs.Graph.{Parts};
 ghost use Rattle.wac_graph.specs.Origin.{Naming};

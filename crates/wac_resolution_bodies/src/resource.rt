@@ -1,6 +1,6 @@
 //! Resources.
 ghost use Rattle.std.specs.Prelude.{◌≡◌, IfOk, IfErr, OnOk};
-ghost use Rattle.wac_grammar.specs.Tree.{ItemTypeDecl as ItemTree};
+ghost use Rattle.wac_ast_grammar.specs.Tree.{ItemTypeDecl as ItemTree};
 ghost use Rattle.wac_ast_base.specs.Names.{ident_of};
 ghost use Rattle.wac_ast_types.specs.Declarations.{resource_decl_of};
 ghost use Rattle.wac_graph.specs.Graph.{Parts};

@@ -1,9 +1,9 @@
 -- Why documents are rejected.
 use Rattle.std.specs.Prelude.{◌≡◌, ◌⊎◌, ℕ, List, Option}
 use Rattle.wac_lexer.specs.Span.{Span}
-use Rattle.wac_types.specs.declared.kind.ExternKind.{ExternKind}
-use Rattle.wac_types.specs.declared.kind.FuncKind.{FuncKind}
-use Rattle.wac_types.specs.declared.rules.Reason.{Reason}
+use Rattle.wac_graph_types.specs.declared.kind.ExternKind.{ExternKind}
+use Rattle.wac_graph_types.specs.declared.kind.FuncKind.{FuncKind}
+use Rattle.wac_graph_types.specs.declared.rules.Reason.{Reason}
 
 -- what an instance is required for
 pub data Operation : Type 0 where

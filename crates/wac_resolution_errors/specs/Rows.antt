@@ -1,8 +1,8 @@
 -- Messages, written out.
 use Rattle.std.specs.Prelude.{◌≡◌, None, Some, codes, refl}
 use Rattle.wac_lexer.specs.Span.{Span}
-use Rattle.wac_types.specs.declared.kind.ExternKind.TheVariants.{Import}
-use Rattle.wac_types.specs.declared.kind.FuncKind.TheVariants.{Static}
+use Rattle.wac_graph_types.specs.declared.kind.ExternKind.TheVariants.{Import}
+use Rattle.wac_graph_types.specs.declared.kind.FuncKind.TheVariants.{Static}
 use Rattle.wac_resolution_errors.specs.Error as rules
 use Rattle.wac_resolution_errors.specs.Messages.{text_of}
 use Rattle.wac_resolution_errors.specs.Shapes.{quoted, pair, kinded, kinded_within, part_of_function, missing_export, world_item, include_conflict, export_conflict, use_conflict}

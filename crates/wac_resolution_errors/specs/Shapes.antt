@@ -1,8 +1,8 @@
 -- Forms of messages. Names are in backquotes.
 use Rattle.std.specs.Prelude.{ℕ, List, ◌++◌, codes}
-use Rattle.wac_types.specs.Words.{extern_word, func_word}
-use Rattle.wac_types.specs.declared.kind.ExternKind.{ExternKind}
-use Rattle.wac_types.specs.declared.kind.FuncKind.{FuncKind}
+use Rattle.wac_graph_types.specs.Words.{extern_word, func_word}
+use Rattle.wac_graph_types.specs.declared.kind.ExternKind.{ExternKind}
+use Rattle.wac_graph_types.specs.declared.kind.FuncKind.{FuncKind}
 
 -- of one name
 unfoldable pub quoted : (before name after : List ℕ) → List ℕ

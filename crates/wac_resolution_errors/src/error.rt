@@ -11,8 +11,8 @@ use crate::message::Message;
 use crate::operation::InstanceOperation;
 use std::alloc::{AllocError, AllocFailed};
 use std::fmt::{self, Display};
+use wac_graph_types::{ExternKind, FuncKind, Reason};
 use wac_lexer::SourceSpan;
-use wac_types::{ExternKind, FuncKind, Reason};
 
 /// Why a document can't be resolved: the rule that the first failing statement breaks.
 ///

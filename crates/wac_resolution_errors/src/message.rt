@@ -4,7 +4,7 @@ ghost use Rattle.wac_resolution_errors.specs.Shapes.{quoted, pair, kinded, kinde
 
 use crate::operation::InstanceOperation;
 use std::fmt;
-use wac_types::{ExternKind, FuncKind};
+use wac_graph_types::{ExternKind, FuncKind};
 
 /// A message.
 #[derive(Drop)]

@@ -4,16 +4,16 @@ use Rattle.std.specs.Prelude.{slice_get, option_and_then, unwrap_or, IsSome}
 use Rattle.std.specs.List.{AllByRecursion}
 use Rattle.std.proofs.lemmas.Option.{slice_get_within}
 use Rattle.wac_lexer.specs.Span.{Span}
-use Rattle.wac_grammar.specs.Tree.{PackageName, Arguments}
-use Rattle.wac_types.specs.declared.kind.ItemKind.{ItemKind}
-use Rattle.wac_types.specs.declared.kind.ItemKind.TheVariants as kinds
-use Rattle.wac_types.specs.declared.kind.WorldId.{WorldId}
-use Rattle.wac_types.specs.declared.rules.Reason.{Reason}
-use Rattle.wac_types.specs.Meaning.{Meaning}
-use Rattle.wac_types.specs.Readings.{world_imports}
-use Rattle.wac_types.specs.Scope.{Named, look_up, StandsFor, IsFresh}
-use Rattle.wac_types.specs.Shape.{imports_of}
-use Rattle.wac_types.specs.Steps.{Steps, Fails}
+use Rattle.wac_ast_grammar.specs.Tree.{PackageName, Arguments}
+use Rattle.wac_graph_types.specs.declared.kind.ItemKind.{ItemKind}
+use Rattle.wac_graph_types.specs.declared.kind.ItemKind.TheVariants as kinds
+use Rattle.wac_graph_types.specs.declared.kind.WorldId.{WorldId}
+use Rattle.wac_graph_types.specs.declared.rules.Reason.{Reason}
+use Rattle.wac_graph_types.specs.Meaning.{Meaning}
+use Rattle.wac_graph_types.specs.Readings.{world_imports}
+use Rattle.wac_graph_types.specs.Scope.{Named, look_up, StandsFor, IsFresh}
+use Rattle.wac_graph_types.specs.Shape.{imports_of}
+use Rattle.wac_graph_types.specs.Steps.{Steps, Fails}
 use Rattle.wac_graph.specs.declared.node.NodeId.{NodeId}
 use Rattle.wac_graph.specs.Graph.{Parts, import_kind}
 use Rattle.wac_graph.specs.Means.{means, entry_means}

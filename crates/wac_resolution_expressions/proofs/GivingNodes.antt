@@ -4,9 +4,9 @@ use Rattle.std.specs.Prelude.{option_map, IfErr}
 use Rattle.std.proofs.lemmas.List.{map_push}
 use Rattle.std.proofs.lemmas.Result.{IfErr-weaker}
 use Rattle.wac_lexer.specs.Span.{Span}
-use Rattle.wac_grammar.specs.Tree.{Ident, Arguments, InstantiationArgument}
-use Rattle.wac_types.specs.declared.kind.WorldId.{WorldId}
-use Rattle.wac_types.specs.Scope.{Named, look_up, IsFresh, with_named}
+use Rattle.wac_ast_grammar.specs.Tree.{Ident, Arguments, InstantiationArgument}
+use Rattle.wac_graph_types.specs.declared.kind.WorldId.{WorldId}
+use Rattle.wac_graph_types.specs.Scope.{Named, look_up, IsFresh, with_named}
 use Rattle.wac_graph.specs.declared.node.NodeId.{NodeId}
 use Rattle.wac_graph.specs.Graph.{Parts}
 use Rattle.wac_graph.specs.Origin.{Naming}

@@ -2,7 +2,7 @@
 use Rattle.std.proofs.Common.{◌≡◌, ◌∙◌, Some, None, Bool, false, cond, refl, sym, ap, subst}
 use Rattle.std.specs.Prelude.{slice_get, option_map}
 use Rattle.std.specs.Str.{bytes_eq}
-use Rattle.wac_grammar.specs.Tree.{PackageName}
+use Rattle.wac_ast_grammar.specs.Tree.{PackageName}
 use Rattle.wac_graph.specs.declared.node.PackageId.{PackageId}
 use Rattle.wac_graph.specs.Graph.{Parts}
 use Rattle.wac_graph.specs.Package.{Key, HeldPackage, IsHeld}

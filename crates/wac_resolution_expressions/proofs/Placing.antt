@@ -5,12 +5,12 @@ use Rattle.std.specs.List.{AllByRecursion}
 use Rattle.std.specs.Str.{bytes_eq}
 use Rattle.std.proofs.lemmas.Slice.Eq.{bytes_eq-Decides}
 use Rattle.wac_lexer.specs.Span.{Span}
-use Rattle.wac_grammar.specs.Tree.{Ident, Arguments, InstantiationArgument}
-use Rattle.wac_grammar.specs.Spans.{argument_name_span}
-use Rattle.wac_types.specs.Meaning.{Meaning}
-use Rattle.wac_types.specs.Scope.{Named, look_up}
-use Rattle.wac_types.specs.Shape.{exports_of}
-use Rattle.wac_types.specs.Steps.{Steps}
+use Rattle.wac_ast_grammar.specs.Tree.{Ident, Arguments, InstantiationArgument}
+use Rattle.wac_ast_grammar.specs.Spans.{argument_name_span}
+use Rattle.wac_graph_types.specs.Meaning.{Meaning}
+use Rattle.wac_graph_types.specs.Scope.{Named, look_up}
+use Rattle.wac_graph_types.specs.Shape.{exports_of}
+use Rattle.wac_graph_types.specs.Steps.{Steps}
 use Rattle.wac_graph.proofs.Lists.{get_kept, all_more, all_implies}
 use Rattle.wac_resolution_rules.specs.BrokenExpressions.{argument_place, own_places, spread_places, argument_places}
 use Rattle.wac_resolution_rules.specs.Composition.{Composition, Node, kind_at}

@@ -5,15 +5,15 @@ use Rattle.std.specs.List.{AllByRecursion}
 use Rattle.std.proofs.lemmas.List.{length-map, get_or-map, length-drop}
 use Rattle.std.proofs.lemmas.Result.{IfErr-weaker}
 use Rattle.wac_lexer.specs.Span.{Span}
-use Rattle.wac_grammar.specs.Tree.{Ident, PackageName, PostfixExpr, Expr, PrimaryExpr, Arguments, InstantiationArgument, InstantiationArgumentName, arguments_from}
-use Rattle.wac_grammar.specs.Grammar.{primary_span}
-use Rattle.wac_grammar.specs.Spans.{argument_name_span}
-use Rattle.wac_types.specs.declared.kind.ItemKind.TheVariants as kinds
-use Rattle.wac_types.specs.declared.kind.WorldId.{WorldId}
-use Rattle.wac_types.specs.Meaning.{Meaning}
-use Rattle.wac_types.specs.Scope.{Named, look_up, IsFresh}
-use Rattle.wac_types.specs.Steps.{Steps, Fails}
-use Rattle.wac_types.specs.Table.{Names}
+use Rattle.wac_ast_grammar.specs.Tree.{Ident, PackageName, PostfixExpr, Expr, PrimaryExpr, Arguments, InstantiationArgument, InstantiationArgumentName, arguments_from}
+use Rattle.wac_ast_grammar.specs.Grammar.{primary_span}
+use Rattle.wac_ast_grammar.specs.Spans.{argument_name_span}
+use Rattle.wac_graph_types.specs.declared.kind.ItemKind.TheVariants as kinds
+use Rattle.wac_graph_types.specs.declared.kind.WorldId.{WorldId}
+use Rattle.wac_graph_types.specs.Meaning.{Meaning}
+use Rattle.wac_graph_types.specs.Scope.{Named, look_up, IsFresh}
+use Rattle.wac_graph_types.specs.Steps.{Steps, Fails}
+use Rattle.wac_graph_types.specs.Table.{Names}
 use Rattle.wac_ast_expressions.specs.Expressions.{argument_of, expr_of, nested_expr_of}
 use Rattle.wac_ast_expressions.specs.declared.expr.InstantiationArgument.{InstantiationArgument as CodeArgument}
 use Rattle.wac_ast_expressions.specs.declared.expr.NestedExpr.{NestedExpr as CodeNestedExpr, NestedExpr', out-NestedExpr}

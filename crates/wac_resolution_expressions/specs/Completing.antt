@@ -1,11 +1,11 @@
 -- The rest of an instantiation, after the arguments that aren't spreads were given.
 use Rattle.std.specs.Prelude.{◌≡◌, ◌<◌, ◌⊎◌, ℕ, List, Option, Some, None, length}
 use Rattle.wac_lexer.specs.Span.{Span}
-use Rattle.wac_types.specs.declared.kind.WorldId.{WorldId}
-use Rattle.wac_types.specs.declared.rules.Reason.{Reason}
-use Rattle.wac_types.specs.Scope.{Named}
-use Rattle.wac_types.specs.Steps.{Steps, Fails}
-use Rattle.wac_grammar.specs.Tree.{PackageName, Arguments}
+use Rattle.wac_graph_types.specs.declared.kind.WorldId.{WorldId}
+use Rattle.wac_graph_types.specs.declared.rules.Reason.{Reason}
+use Rattle.wac_graph_types.specs.Scope.{Named}
+use Rattle.wac_graph_types.specs.Steps.{Steps, Fails}
+use Rattle.wac_ast_grammar.specs.Tree.{PackageName, Arguments}
 use Rattle.wac_graph.specs.declared.node.NodeId.{NodeId}
 use Rattle.wac_graph.specs.Graph.{Parts}
 use Rattle.wac_graph.specs.Origin.{Naming, IsOneToOne}

@@ -1,10 +1,10 @@
 -- Arguments that are given.
 use Rattle.std.specs.Prelude.{◌≡◌, ℕ, List, Bool, true, false}
 use Rattle.wac_lexer.specs.Span.{Span}
-use Rattle.wac_grammar.specs.Tree.{Arguments, InstantiationArgument}
-use Rattle.wac_types.specs.declared.kind.WorldId.{WorldId}
-use Rattle.wac_types.specs.Package.{PackageParts}
-use Rattle.wac_types.specs.Scope.{Named, IsFresh, StandsFor, with_named}
+use Rattle.wac_ast_grammar.specs.Tree.{Arguments, InstantiationArgument}
+use Rattle.wac_graph_types.specs.declared.kind.WorldId.{WorldId}
+use Rattle.wac_graph_types.specs.Package.{PackageParts}
+use Rattle.wac_graph_types.specs.Scope.{Named, IsFresh, StandsFor, with_named}
 use Rattle.wac_graph.specs.declared.node.NodeId.{NodeId}
 use Rattle.wac_graph.specs.Graph.{Parts}
 use Rattle.wac_graph.specs.Origin.{Naming, IsOneToOne}

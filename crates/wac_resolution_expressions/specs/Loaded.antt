@@ -1,9 +1,9 @@
 -- Packages that are instantiated.
 use Rattle.std.specs.Prelude.{◌≡◌, ℕ, Some, slice_get}
-use Rattle.wac_types.specs.declared.kind.ItemKind.TheVariants as kinds
-use Rattle.wac_types.specs.Scope.{Named}
-use Rattle.wac_types.specs.Table.{Names}
-use Rattle.wac_grammar.specs.Tree.{PackageName}
+use Rattle.wac_graph_types.specs.declared.kind.ItemKind.TheVariants as kinds
+use Rattle.wac_graph_types.specs.Scope.{Named}
+use Rattle.wac_graph_types.specs.Table.{Names}
+use Rattle.wac_ast_grammar.specs.Tree.{PackageName}
 use Rattle.wac_graph.specs.Graph.{Parts}
 use Rattle.wac_graph.specs.Origin.{Naming}
 use Rattle.wac_graph.specs.Package.{HeldPackage}

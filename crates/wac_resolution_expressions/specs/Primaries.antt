@@ -1,7 +1,7 @@
 -- What expressions begin with.
 use Rattle.std.specs.Prelude.{◌<◌, ℕ, length}
-use Rattle.wac_types.specs.Scope.{Named}
-use Rattle.wac_grammar.specs.Tree.{PrimaryExpr}
+use Rattle.wac_graph_types.specs.Scope.{Named}
+use Rattle.wac_ast_grammar.specs.Tree.{PrimaryExpr}
 use Rattle.wac_graph.specs.Graph.{Parts}
 use Rattle.wac_graph.specs.Origin.{Naming, IsOneToOne}
 use Rattle.wac_resolution_errors.specs.Error.{Error}

@@ -1,8 +1,8 @@
 //! The rest of an instantiation, after the arguments that aren't spreads were given.
 ghost use Rattle.std.specs.Prelude.{◌≡◌, IfOk, IfErr, OnOk, map};
-ghost use Rattle.wac_grammar.specs.Tree.{arguments_from};
-ghost use Rattle.wac_types.specs.Names.{by_name};
-ghost use Rattle.wac_types.specs.Table.{Names};
+ghost use Rattle.wac_ast_grammar.specs.Tree.{arguments_from};
+ghost use Rattle.wac_graph_types.specs.Names.{by_name};
+ghost use Rattle.wac_graph_types.specs.Table.{Names};
 ghost use Rattle.wac_ast_base.specs.Names.{package_name_of};
 ghost use Rattle.wac_ast_expressions.specs.Expressions.{argument_of};
 ghost use Rattle.wac_resolution_errors.specs.Error.{Reports};

@@ -1,11 +1,11 @@
 //! Arguments that are given.
 ghost use Rattle.std.specs.Prelude.{◌≡◌, ◌<◌, IfErr, OnOk, length, true, false};
-ghost use Rattle.wac_grammar.specs.Tree.{Arguments, InstantiationArgument as ArgumentTree};
-ghost use Rattle.wac_grammar.specs.Spans.{argument_name_span};
-ghost use Rattle.wac_types.specs.Names.{by_name};
-ghost use Rattle.wac_types.specs.Scope.{IsFresh, with_named};
-ghost use Rattle.wac_types.specs.Shape.{imports_of};
-ghost use Rattle.wac_types.specs.Table.{Names};
+ghost use Rattle.wac_ast_grammar.specs.Tree.{Arguments, InstantiationArgument as ArgumentTree};
+ghost use Rattle.wac_ast_grammar.specs.Spans.{argument_name_span};
+ghost use Rattle.wac_graph_types.specs.Names.{by_name};
+ghost use Rattle.wac_graph_types.specs.Scope.{IsFresh, with_named};
+ghost use Rattle.wac_graph_types.specs.Shape.{imports_of};
+ghost use Rattle.wac_graph_types.specs.Table.{Names};
 ghost use Rattle.wac_ast_base.specs.Names.{ident_of};
 ghost use Rattle.wac_ast_expressions.specs.Expressions.{argument_name_of};
 ghost use Rattle.wac_graph.specs.Origin.{Naming};

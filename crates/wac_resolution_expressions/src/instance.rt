@@ -1,7 +1,7 @@
 //! Instances of packages.
 ghost use Rattle.std.specs.Prelude.{◌<◌, IfOk, IsSome, length};
 ghost use Rattle.std.specs.List.{AllByRecursion};
-ghost use Rattle.wac_types.specs.Names.{by_name};
+ghost use Rattle.wac_graph_types.specs.Names.{by_name};
 ghost use Rattle.wac_graph.specs.Graph.{import_kind};
 ghost use Rattle.wac_resolution_arguments.specs.Spreads.{GivenThere};
 ghost use Rattle.wac_resolution_expressions.specs.Instances.{MakesInstance};

@@ -1,10 +1,10 @@
 // Laws of graphs that are extended. Each function does nothing: its contract is the law.
 ghost use Rattle.std.specs.Prelude.{◌≡◌, ◌<◌, ℕ, List, Some, length, slice_get};
-ghost use Rattle.wac_types.specs.declared.kind.ItemKind.TheVariants as kinds;
-ghost use Rattle.wac_types.specs.declared.kind.WorldId.{WorldId};
-ghost use Rattle.wac_types.specs.Package.{PackageParts};
-ghost use Rattle.wac_types.specs.Scope.{Named};
-ghost use Rattle.wac_types.specs.Table.{Names};
+ghost use Rattle.wac_graph_types.specs.declared.kind.ItemKind.TheVariants as kinds;
+ghost use Rattle.wac_graph_types.specs.declared.kind.WorldId.{WorldId};
+ghost use Rattle.wac_graph_types.specs.Package.{PackageParts};
+ghost use Rattle.wac_graph_types.specs.Scope.{Named};
+ghost use Rattle.wac_graph_types.specs.Table.{Names};
 ghost use Rattle.wac_graph.specs.declared.node.NodeId.{NodeId};
 ghost use Rattle.wac_graph.specs.Graph.{Parts};
 ghost use Rattle.wac_graph.specs.Means.{declared_count};

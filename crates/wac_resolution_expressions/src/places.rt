@@ -1,8 +1,8 @@
 //! Where arguments are.
 ghost use Rattle.std.specs.Prelude.{◌≡◌, ◌<◌, ℕ, length, flat_map, map, option_map, is_some};
-ghost use Rattle.wac_grammar.specs.Tree.{arguments_from};
-ghost use Rattle.wac_types.specs.Scope.{Named, look_up};
-ghost use Rattle.wac_types.specs.Table.{Names};
+ghost use Rattle.wac_ast_grammar.specs.Tree.{arguments_from};
+ghost use Rattle.wac_graph_types.specs.Scope.{Named, look_up};
+ghost use Rattle.wac_graph_types.specs.Table.{Names};
 ghost use Rattle.wac_ast_base.specs.Names.{ident_of};
 ghost use Rattle.wac_ast_expressions.specs.Expressions.{argument_of};
 ghost use Rattle.wac_graph.specs.Graph.{export_kind};

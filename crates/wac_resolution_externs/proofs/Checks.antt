@@ -5,11 +5,11 @@ use Rattle.std.specs.List.{AllByRecursion}
 use Rattle.std.specs.Str.{bytes_eq}
 use Rattle.std.proofs.lemmas.Option.{slice_get-map}
 use Rattle.wac_lexer.specs.Span.{Span}
-use Rattle.wac_types.specs.declared.kind.ExternKind.TheVariants as sides
-use Rattle.wac_types.specs.declared.kind.ItemKind.{ItemKind}
-use Rattle.wac_types.specs.Scope.{Named, look_up, IsFresh, StandsFor}
-use Rattle.wac_types.specs.Words as words
-use Rattle.wac_types.proofs.Shapes.{word_is}
+use Rattle.wac_graph_types.specs.declared.kind.ExternKind.TheVariants as sides
+use Rattle.wac_graph_types.specs.declared.kind.ItemKind.{ItemKind}
+use Rattle.wac_graph_types.specs.Scope.{Named, look_up, IsFresh, StandsFor}
+use Rattle.wac_graph_types.specs.Words as words
+use Rattle.wac_graph_types.proofs.Shapes.{word_is}
 use Rattle.wac_graph.specs.declared.node.NodeId.{NodeId}
 use Rattle.wac_graph.specs.declared.node.NodeKind.{NodeKind}
 use Rattle.wac_graph.specs.declared.node.NodeKind.TheVariants as nodes

@@ -4,11 +4,11 @@ use Rattle.std.specs.Prelude.{slice_get, option_map, option_and_then}
 use Rattle.std.specs.Option.{option_or}
 use Rattle.std.proofs.lemmas.Option.{slice_get-map}
 use Rattle.wac_lexer.specs.Span.{Span}
-use Rattle.wac_grammar.specs.Tree.{Expr, ExternName, ExportOptions}
-use Rattle.wac_grammar.specs.Spans.{extern_name_text, extern_name_span}
-use Rattle.wac_types.specs.declared.rules.Reason.{Reason}
-use Rattle.wac_types.specs.Scope.{Named}
-use Rattle.wac_types.proofs.Rows.{none_within}
+use Rattle.wac_ast_grammar.specs.Tree.{Expr, ExternName, ExportOptions}
+use Rattle.wac_ast_grammar.specs.Spans.{extern_name_text, extern_name_span}
+use Rattle.wac_graph_types.specs.declared.rules.Reason.{Reason}
+use Rattle.wac_graph_types.specs.Scope.{Named}
+use Rattle.wac_graph_types.proofs.Rows.{none_within}
 use Rattle.wac_graph.specs.Node.{Node as GraphNode}
 use Rattle.wac_graph.specs.Graph.{Parts}
 use Rattle.wac_graph.specs.Origin.{Naming}

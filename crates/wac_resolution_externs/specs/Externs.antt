@@ -1,9 +1,9 @@
 -- Where names were imported and exported, beside a graph.
 use Rattle.std.specs.Prelude.{◌≡◌, ℕ, List, Option, option_map}
 use Rattle.wac_lexer.specs.Span.{Span}
-use Rattle.wac_types.specs.declared.rules.Reason.{Reason}
-use Rattle.wac_types.specs.Names.{by_name}
-use Rattle.wac_types.specs.Scope.{Named}
+use Rattle.wac_graph_types.specs.declared.rules.Reason.{Reason}
+use Rattle.wac_graph_types.specs.Names.{by_name}
+use Rattle.wac_graph_types.specs.Scope.{Named}
 use Rattle.wac_graph.specs.Graph.{Parts}
 use Rattle.wac_resolution_rules.specs.Find.{names_of}
 use Rattle.wac_resolution_rules.specs.Given.{Given}

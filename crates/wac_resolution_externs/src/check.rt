@@ -1,6 +1,6 @@
 //! Tests of the names of imports and exports.
 ghost use Rattle.std.specs.Prelude.{◌≡◌, ℕ, None, OnOk, IfErr, IfSome, option_map};
-ghost use Rattle.wac_types.specs.Scope.{Named, IsFresh, StandsFor};
+ghost use Rattle.wac_graph_types.specs.Scope.{Named, IsFresh, StandsFor};
 ghost use Rattle.wac_graph.specs.Means.{means};
 ghost use Rattle.wac_graph.specs.Origin.{Naming};
 ghost use Rattle.wac_resolution_errors.specs.Error.{Reports};

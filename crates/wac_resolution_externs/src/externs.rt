@@ -1,6 +1,6 @@
 //! Where names were imported and exported.
 ghost use Rattle.std.specs.Prelude.{◌≡◌, [], OnOk};
-ghost use Rattle.wac_types.specs.Scope.{IsFresh, with_named};
+ghost use Rattle.wac_graph_types.specs.Scope.{IsFresh, with_named};
 ghost use Rattle.wac_resolution_externs.specs.Externs.{imported_in, exported_in};
 
 use indexmap::IndexMap;

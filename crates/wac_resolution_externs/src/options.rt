@@ -1,9 +1,9 @@
 //! The names under which nodes are exported.
 ghost use Rattle.std.specs.Prelude.{◌≡◌, ◌<◌, ℕ, Some, OnOk, IfOk, IfErr, length, option_map, option_and_then, string_bytes};
-ghost use Rattle.wac_grammar.specs.Tree.{Expr, ExportOptions as Options};
-ghost use Rattle.wac_types.specs.Scope.{Named};
+ghost use Rattle.wac_ast_grammar.specs.Tree.{Expr, ExportOptions as Options};
+ghost use Rattle.wac_graph_types.specs.Scope.{Named};
 ghost use Rattle.wac_ast_base.specs.Names.{extern_name_of};
-ghost use Rattle.wac_grammar.specs.Spans.{extern_name_span};
+ghost use Rattle.wac_ast_grammar.specs.Spans.{extern_name_span};
 ghost use Rattle.wac_graph.specs.Origin.{Naming};
 ghost use Rattle.wac_resolution_errors.specs.Error.{Reports};
 ghost use Rattle.wac_resolution_errors.specs.Told.{told};

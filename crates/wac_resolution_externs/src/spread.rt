@@ -1,9 +1,9 @@
 //! Exports of an instance that are exported under their own names.
 ghost use Rattle.std.specs.Prelude.{◌≡◌, ◌<◌, ℕ, OnOk, IfOk, IfErr, length, map, string_bytes};
-ghost use Rattle.wac_grammar.specs.Tree.{Expr, ExportOptions as Options};
-ghost use Rattle.wac_types.specs.Names.{by_name};
-ghost use Rattle.wac_types.specs.Readings.{interface_exports};
-ghost use Rattle.wac_types.specs.Steps.{Steps, Fails};
+ghost use Rattle.wac_ast_grammar.specs.Tree.{Expr, ExportOptions as Options};
+ghost use Rattle.wac_graph_types.specs.Names.{by_name};
+ghost use Rattle.wac_graph_types.specs.Readings.{interface_exports};
+ghost use Rattle.wac_graph_types.specs.Steps.{Steps, Fails};
 ghost use Rattle.wac_graph.specs.Origin.{Naming};
 ghost use Rattle.wac_resolution_errors.specs.Error.{Reports};
 ghost use Rattle.wac_resolution_errors.specs.Told.{told};

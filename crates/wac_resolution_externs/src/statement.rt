@@ -1,6 +1,6 @@
 //! Export statements.
 ghost use Rattle.std.specs.Prelude.{◌≡◌, ◌<◌, OnOk, IfErr, length};
-ghost use Rattle.wac_grammar.specs.Tree.{Expr};
+ghost use Rattle.wac_ast_grammar.specs.Tree.{Expr};
 ghost use Rattle.wac_ast_statements.specs.Statements.{export_options_of};
 ghost use Rattle.wac_graph.specs.Origin.{Naming};
 ghost use Rattle.wac_resolution_errors.specs.Error.{Reports};

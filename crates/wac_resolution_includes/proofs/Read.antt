@@ -5,9 +5,9 @@ use Rattle.std.specs.List.{AllByRecursion}
 use Rattle.std.specs.Str.{bytes_eq}
 use Rattle.std.proofs.lemmas.List.{take_more, map_push}
 use Rattle.wac_lexer.proofs.Texts.{bytes_eq_same}
-use Rattle.wac_grammar.specs.Tree.{WorldIncludeItem}
-use Rattle.wac_types.specs.Scope.{Named, look_up, IsFresh, with_named}
-use Rattle.wac_types.specs.Steps.{Steps, Fails}
+use Rattle.wac_ast_grammar.specs.Tree.{WorldIncludeItem}
+use Rattle.wac_graph_types.specs.Scope.{Named, look_up, IsFresh, with_named}
+use Rattle.wac_graph_types.specs.Steps.{Steps, Fails}
 use Rattle.wac_ast_uses.specs.Uses.{world_include_item_of}
 use Rattle.wac_ast_uses.specs.declared.includes.WorldIncludeItem.{WorldIncludeItem as CodeWorldIncludeItem}
 use Rattle.wac_resolution_rules.specs.Includes.{Entries, HasEntry}

@@ -3,16 +3,16 @@ use Rattle.std.proofs.Common.{◌≡◌, ◌∙◌, ℕ, List, [], ◌∷◌, �
 use Rattle.std.specs.Prelude.{option_map}
 use Rattle.std.proofs.lemmas.List.{map_push}
 use Rattle.wac_lexer.specs.Span.{Span}
-use Rattle.wac_grammar.specs.Tree.{WorldIncludeItem}
-use Rattle.wac_types.specs.declared.kind.ItemKind.{ItemKind}
-use Rattle.wac_types.specs.declared.kind.ExternKind.{ExternKind}
-use Rattle.wac_types.specs.declared.entry.Entry.{Entry}
-use Rattle.wac_types.specs.Meaning.{Meaning, of_kind}
-use Rattle.wac_types.specs.Scope.{Named, look_up, IsFresh, StandsFor, with_named, without_first}
-use Rattle.wac_types.specs.Shape.{items_mean}
-use Rattle.wac_types.specs.Steps.{Steps, Fails}
-use Rattle.wac_types.specs.Table.{Names, ItemsNamed}
-use Rattle.wac_types.proofs.Shapes.{items_found}
+use Rattle.wac_ast_grammar.specs.Tree.{WorldIncludeItem}
+use Rattle.wac_graph_types.specs.declared.kind.ItemKind.{ItemKind}
+use Rattle.wac_graph_types.specs.declared.kind.ExternKind.{ExternKind}
+use Rattle.wac_graph_types.specs.declared.entry.Entry.{Entry}
+use Rattle.wac_graph_types.specs.Meaning.{Meaning, of_kind}
+use Rattle.wac_graph_types.specs.Scope.{Named, look_up, IsFresh, StandsFor, with_named, without_first}
+use Rattle.wac_graph_types.specs.Shape.{items_mean}
+use Rattle.wac_graph_types.specs.Steps.{Steps, Fails}
+use Rattle.wac_graph_types.specs.Table.{Names, ItemsNamed}
+use Rattle.wac_graph_types.proofs.Shapes.{items_found}
 use Rattle.wac_graph.specs.Graph.{Parts}
 use Rattle.wac_graph.specs.Means.{means, entry_means}
 use Rattle.wac_graph.specs.Origin.{Naming}

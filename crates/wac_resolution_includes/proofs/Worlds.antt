@@ -1,18 +1,18 @@
 -- Included worlds, by what is taken of them.
 use Rattle.std.proofs.Common.{◌≡◌, ◌⊎◌, ℕ, List, [], refl, sym, ap, subst, inl, inr}
-use Rattle.wac_grammar.specs.Tree.{WorldInclude, WorldIncludeItem}
-use Rattle.wac_types.specs.declared.kind.«Type».TheVariants as types
-use Rattle.wac_types.specs.declared.kind.ItemKind.{ItemKind}
-use Rattle.wac_types.specs.declared.kind.ItemKind.TheVariants as kinds
-use Rattle.wac_types.specs.declared.kind.ExternKind.TheVariants as sides
-use Rattle.wac_types.specs.declared.kind.WorldId.{WorldId}
-use Rattle.wac_types.specs.Meaning.{Meaning}
-use Rattle.wac_types.specs.Readings.{world_imports, world_exports}
-use Rattle.wac_types.specs.Scope.{Named}
-use Rattle.wac_types.specs.Shape.{IsA, is_world_form, entry_of, imports_of, exports_of, items_mean}
-use Rattle.wac_types.specs.Steps.{Steps, Fails}
-use Rattle.wac_types.specs.Table.{Names, EachEntryNamed}
-use Rattle.wac_types.proofs.Found.{world_imports_mean, world_exports_mean, world_imports_named, world_exports_named}
+use Rattle.wac_ast_grammar.specs.Tree.{WorldInclude, WorldIncludeItem}
+use Rattle.wac_graph_types.specs.declared.kind.«Type».TheVariants as types
+use Rattle.wac_graph_types.specs.declared.kind.ItemKind.{ItemKind}
+use Rattle.wac_graph_types.specs.declared.kind.ItemKind.TheVariants as kinds
+use Rattle.wac_graph_types.specs.declared.kind.ExternKind.TheVariants as sides
+use Rattle.wac_graph_types.specs.declared.kind.WorldId.{WorldId}
+use Rattle.wac_graph_types.specs.Meaning.{Meaning}
+use Rattle.wac_graph_types.specs.Readings.{world_imports, world_exports}
+use Rattle.wac_graph_types.specs.Scope.{Named}
+use Rattle.wac_graph_types.specs.Shape.{IsA, is_world_form, entry_of, imports_of, exports_of, items_mean}
+use Rattle.wac_graph_types.specs.Steps.{Steps, Fails}
+use Rattle.wac_graph_types.specs.Table.{Names, EachEntryNamed}
+use Rattle.wac_graph_types.proofs.Found.{world_imports_mean, world_exports_mean, world_imports_named, world_exports_named}
 use Rattle.wac_graph.specs.Graph.{Parts}
 use Rattle.wac_graph.specs.Means.{means, entry_means, EntriesMean, origin_at}
 use Rattle.wac_graph.specs.Origin.{Naming}

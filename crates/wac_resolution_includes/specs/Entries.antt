@@ -2,9 +2,9 @@
 use Rattle.std.specs.Prelude.{◌≡◌, List, [], map, Some}
 use Rattle.std.specs.Borrow.{Bor}
 use Rattle.std.specs.List.{AllByRecursion}
-use Rattle.wac_grammar.specs.Tree.{WorldIncludeItem}
-use Rattle.wac_types.specs.Scope.{Named}
-use Rattle.wac_types.specs.Steps.{Steps}
+use Rattle.wac_ast_grammar.specs.Tree.{WorldIncludeItem}
+use Rattle.wac_graph_types.specs.Scope.{Named}
+use Rattle.wac_graph_types.specs.Steps.{Steps}
 use Rattle.wac_ast_uses.specs.Uses.{world_include_item_of}
 use Rattle.wac_ast_uses.specs.declared.includes.WorldIncludeItem.{WorldIncludeItem as CodeWorldIncludeItem}
 use Rattle.wac_resolution_rules.specs.Includes.{Entries, HasEntry}

@@ -1,14 +1,14 @@
 -- What is taken of an included world of a graph.
 use Rattle.std.specs.Prelude.{◌≡◌, ℕ, List, Some, None}
-use Rattle.wac_grammar.specs.Tree.{WorldInclude, WorldIncludeItem}
-use Rattle.wac_types.specs.declared.kind.ItemKind.{ItemKind}
-use Rattle.wac_types.specs.declared.kind.ItemKind.TheVariants as kinds
-use Rattle.wac_types.specs.declared.kind.WorldId.{WorldId}
-use Rattle.wac_types.specs.declared.entry.Entry.{Entry}
-use Rattle.wac_types.specs.Scope.{Named, look_up, with_named}
-use Rattle.wac_types.specs.Shape.{IsA, is_world_form, entry_of, items_mean}
-use Rattle.wac_types.specs.Steps.{Steps}
-use Rattle.wac_types.specs.Table.{Names, ItemsNamed}
+use Rattle.wac_ast_grammar.specs.Tree.{WorldInclude, WorldIncludeItem}
+use Rattle.wac_graph_types.specs.declared.kind.ItemKind.{ItemKind}
+use Rattle.wac_graph_types.specs.declared.kind.ItemKind.TheVariants as kinds
+use Rattle.wac_graph_types.specs.declared.kind.WorldId.{WorldId}
+use Rattle.wac_graph_types.specs.declared.entry.Entry.{Entry}
+use Rattle.wac_graph_types.specs.Scope.{Named, look_up, with_named}
+use Rattle.wac_graph_types.specs.Shape.{IsA, is_world_form, entry_of, items_mean}
+use Rattle.wac_graph_types.specs.Steps.{Steps}
+use Rattle.wac_graph_types.specs.Table.{Names, ItemsNamed}
 use Rattle.wac_graph.specs.Graph.{Parts}
 use Rattle.wac_graph.specs.Means.{means, entry_means}
 use Rattle.wac_graph.specs.Origin.{Naming}

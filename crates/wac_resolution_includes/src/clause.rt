@@ -1,9 +1,9 @@
 //! The entries of a `with` clause.
 ghost use Rattle.std.specs.Prelude.{◌≡◌, [], List, IfOk, IfErr, OnOk, map};
-ghost use Rattle.wac_grammar.specs.Tree.{WorldIncludeItem as Item};
-ghost use Rattle.wac_types.specs.Names.{by_name};
-ghost use Rattle.wac_types.specs.Scope.{with_named, IsFresh};
-ghost use Rattle.wac_types.specs.Steps.{Fails};
+ghost use Rattle.wac_ast_grammar.specs.Tree.{WorldIncludeItem as Item};
+ghost use Rattle.wac_graph_types.specs.Names.{by_name};
+ghost use Rattle.wac_graph_types.specs.Scope.{with_named, IsFresh};
+ghost use Rattle.wac_graph_types.specs.Steps.{Fails};
 ghost use Rattle.wac_ast_uses.specs.Uses.{world_include_item_of};
 ghost use Rattle.wac_resolution_errors.specs.Error.{Reports};
 ghost use Rattle.wac_resolution_errors.specs.Told.{told};

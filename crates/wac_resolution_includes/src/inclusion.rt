@@ -1,8 +1,8 @@
 //! An include, and what its errors say.
 ghost use Rattle.std.specs.Prelude.{◌≡◌, ℕ, [], List, false, IfOk, IfErr, OnOk, option_map};
-ghost use Rattle.wac_types.specs.Meaning.{Meaning};
-ghost use Rattle.wac_types.specs.Names.{by_name};
-ghost use Rattle.wac_types.specs.Scope.{IsFresh};
+ghost use Rattle.wac_graph_types.specs.Meaning.{Meaning};
+ghost use Rattle.wac_graph_types.specs.Names.{by_name};
+ghost use Rattle.wac_graph_types.specs.Scope.{IsFresh};
 ghost use Rattle.wac_graph.specs.Graph.{Parts};
 ghost use Rattle.wac_graph.specs.Means.{means};
 ghost use Rattle.wac_graph.specs.Origin.{Naming};

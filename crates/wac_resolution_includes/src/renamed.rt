@@ -1,7 +1,7 @@
 //! The name that a name of an included world gets.
 ghost use Rattle.std.specs.Prelude.{◌≡◌, OnOk};
-ghost use Rattle.wac_types.specs.Names.{by_name};
-ghost use Rattle.wac_types.specs.Scope.{IsFresh, with_named, without_first};
+ghost use Rattle.wac_graph_types.specs.Names.{by_name};
+ghost use Rattle.wac_graph_types.specs.Scope.{IsFresh, with_named, without_first};
 ghost use Rattle.wac_resolution_rules.specs.Includes.{has_colon as colon_in, name_taken as taken_name};
 ghost use Rattle.wac_resolution_includes.specs.Entries.{entries_of};
 ghost use Rattle.wac_resolution_includes.specs.Taking.{unless_there};

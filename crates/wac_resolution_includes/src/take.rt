@@ -1,13 +1,13 @@
 //! What is taken of an included world.
 ghost use Rattle.std.specs.Prelude.{◌⊎◌, ℕ, List, IfErr, OnOk};
-ghost use Rattle.wac_types.specs.declared.kind.ItemKind.TheVariants as kinds;
-ghost use Rattle.wac_types.specs.declared.kind.ExternKind.TheVariants as sides;
-ghost use Rattle.wac_types.specs.Meaning.{Meaning};
-ghost use Rattle.wac_types.specs.Names.{by_name};
-ghost use Rattle.wac_types.specs.Readings.{world_imports, world_exports};
-ghost use Rattle.wac_types.specs.Shape.{IsA, is_world_form, entry_of, items_mean};
-ghost use Rattle.wac_types.specs.Steps.{Fails};
-ghost use Rattle.wac_types.specs.Table.{Names};
+ghost use Rattle.wac_graph_types.specs.declared.kind.ItemKind.TheVariants as kinds;
+ghost use Rattle.wac_graph_types.specs.declared.kind.ExternKind.TheVariants as sides;
+ghost use Rattle.wac_graph_types.specs.Meaning.{Meaning};
+ghost use Rattle.wac_graph_types.specs.Names.{by_name};
+ghost use Rattle.wac_graph_types.specs.Readings.{world_imports, world_exports};
+ghost use Rattle.wac_graph_types.specs.Shape.{IsA, is_world_form, entry_of, items_mean};
+ghost use Rattle.wac_graph_types.specs.Steps.{Fails};
+ghost use Rattle.wac_graph_types.specs.Table.{Names};
 ghost use Rattle.wac_graph.specs.Graph.{Parts};
 ghost use Rattle.wac_graph.specs.Means.{means, entry_means};
 ghost use Rattle.wac_graph.specs.Origin.{Naming};

@@ -7,12 +7,12 @@ use Rattle.std.specs.Str.{bytes_eq}
 use Rattle.std.proofs.lemmas.Bool.{ne_eqb}
 use Rattle.std.proofs.lemmas.Str.Pattern.{NoCharPasses-char, drop_at_char}
 use Rattle.std.proofs.lemmas.List.{reverse-append, reverse-reverse, take-append-drop}
-use Rattle.wac_types.specs.declared.kind.ItemKind.{ItemKind}
-use Rattle.wac_types.specs.Meaning.{Meaning, of_kind}
-use Rattle.wac_types.specs.Scope.{Named, look_up}
-use Rattle.wac_types.specs.Shape.{items_mean}
-use Rattle.wac_types.proofs.Shapes.{items_found}
-use Rattle.wac_grammar.specs.Version.{is_slash, is_at_sign}
+use Rattle.wac_graph_types.specs.declared.kind.ItemKind.{ItemKind}
+use Rattle.wac_graph_types.specs.Meaning.{Meaning, of_kind}
+use Rattle.wac_graph_types.specs.Scope.{Named, look_up}
+use Rattle.wac_graph_types.specs.Shape.{items_mean}
+use Rattle.wac_graph_types.proofs.Shapes.{items_found}
+use Rattle.wac_ast_grammar.specs.Version.{is_slash, is_at_sign}
 use Rattle.wac_resolution_rules.specs.Find.{after_last_slash, is_short_for, only_one, long_names, names_of, find_name}
 
 -- ---- among meanings

@@ -3,21 +3,21 @@ use Rattle.std.proofs.Common.{◌≡◌, ◌∙◌, ◌+◌, ◌<◌, ℕ, List,
 use Rattle.std.specs.Prelude.{slice_get, option_map, option_and_then, IfSome, IsSome, ◌⊎◌}
 use Rattle.std.proofs.lemmas.List.{take_more, length-map, get_or-map}
 use Rattle.wac_lexer.specs.Span.{Span}
-use Rattle.wac_grammar.specs.Tree.{PostfixExpr}
-use Rattle.wac_grammar.specs.Grammar.{postfix_span, last_span}
-use Rattle.wac_types.specs.declared.kind.ItemKind.{ItemKind}
-use Rattle.wac_types.specs.declared.kind.ItemKind.TheVariants as kinds
-use Rattle.wac_types.specs.declared.kind.«Type».TheVariants as types
-use Rattle.wac_types.specs.declared.kind.InterfaceId.{InterfaceId}
-use Rattle.wac_types.specs.Meaning.{Meaning, of_kind}
-use Rattle.wac_types.specs.Readings.{instance_exports, interface_exports}
-use Rattle.wac_types.specs.Scope.{Named, look_up, IsFresh}
-use Rattle.wac_types.specs.Shape.{described, exports_of, items_mean}
-use Rattle.wac_types.specs.Steps.{Fails}
-use Rattle.wac_types.specs.Table.{Names}
-use Rattle.wac_types.specs.Words as words
-use Rattle.wac_types.proofs.Found.{interface_exports_mean}
-use Rattle.wac_types.proofs.Shapes.{items_found, word_is}
+use Rattle.wac_ast_grammar.specs.Tree.{PostfixExpr}
+use Rattle.wac_ast_grammar.specs.Grammar.{postfix_span, last_span}
+use Rattle.wac_graph_types.specs.declared.kind.ItemKind.{ItemKind}
+use Rattle.wac_graph_types.specs.declared.kind.ItemKind.TheVariants as kinds
+use Rattle.wac_graph_types.specs.declared.kind.«Type».TheVariants as types
+use Rattle.wac_graph_types.specs.declared.kind.InterfaceId.{InterfaceId}
+use Rattle.wac_graph_types.specs.Meaning.{Meaning, of_kind}
+use Rattle.wac_graph_types.specs.Readings.{instance_exports, interface_exports}
+use Rattle.wac_graph_types.specs.Scope.{Named, look_up, IsFresh}
+use Rattle.wac_graph_types.specs.Shape.{described, exports_of, items_mean}
+use Rattle.wac_graph_types.specs.Steps.{Fails}
+use Rattle.wac_graph_types.specs.Table.{Names}
+use Rattle.wac_graph_types.specs.Words as words
+use Rattle.wac_graph_types.proofs.Found.{interface_exports_mean}
+use Rattle.wac_graph_types.proofs.Shapes.{items_found, word_is}
 use Rattle.wac_ast_expressions.specs.Expressions.{postfix_expr_of}
 use Rattle.wac_ast_expressions.specs.declared.expr.PostfixExpr.{PostfixExpr as CodePostfixExpr}
 use Rattle.wac_graph.specs.Node.{Node as GraphNode}

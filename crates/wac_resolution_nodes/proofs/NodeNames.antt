@@ -4,20 +4,20 @@ use Rattle.std.specs.Prelude.{slice_get, option_map, option_and_then, string_byt
 use Rattle.std.specs.Option.{option_or}
 use Rattle.std.specs.Str.{bytes_eq}
 use Rattle.std.proofs.lemmas.Option.{slice_get-map}
-use Rattle.wac_types.specs.declared.kind.ItemKind.{ItemKind}
-use Rattle.wac_types.specs.declared.kind.ItemKind.TheVariants as kinds
-use Rattle.wac_types.specs.declared.kind.InterfaceId.{InterfaceId}
-use Rattle.wac_types.specs.declared.kind.Sort.TheVariants as sorts
-use Rattle.wac_types.specs.declared.entry.Entry.{Entry}
-use Rattle.wac_types.specs.declared.entry.Entry.TheVariants as entries
-use Rattle.wac_types.specs.declared.entry.Interface.{Interface}
-use Rattle.wac_types.specs.Entry.{sort_of}
-use Rattle.wac_types.specs.Meaning.{Meaning}
-use Rattle.wac_types.specs.Readings.{as_interface}
-use Rattle.wac_types.specs.Scope.{Named, look_up}
-use Rattle.wac_types.specs.Shape.{id_of}
-use Rattle.wac_types.specs.Table.{Names}
-use Rattle.wac_types.proofs.Parts as parts
+use Rattle.wac_graph_types.specs.declared.kind.ItemKind.{ItemKind}
+use Rattle.wac_graph_types.specs.declared.kind.ItemKind.TheVariants as kinds
+use Rattle.wac_graph_types.specs.declared.kind.InterfaceId.{InterfaceId}
+use Rattle.wac_graph_types.specs.declared.kind.Sort.TheVariants as sorts
+use Rattle.wac_graph_types.specs.declared.entry.Entry.{Entry}
+use Rattle.wac_graph_types.specs.declared.entry.Entry.TheVariants as entries
+use Rattle.wac_graph_types.specs.declared.entry.Interface.{Interface}
+use Rattle.wac_graph_types.specs.Entry.{sort_of}
+use Rattle.wac_graph_types.specs.Meaning.{Meaning}
+use Rattle.wac_graph_types.specs.Readings.{as_interface}
+use Rattle.wac_graph_types.specs.Scope.{Named, look_up}
+use Rattle.wac_graph_types.specs.Shape.{id_of}
+use Rattle.wac_graph_types.specs.Table.{Names}
+use Rattle.wac_graph_types.proofs.Parts as parts
 use Rattle.wac_graph.specs.declared.node.NodeId.{NodeId}
 use Rattle.wac_graph.specs.Node.{Node as GraphNode, Form, import, definition as defined, alias, instantiation, import_in, source_in}
 use Rattle.wac_graph.specs.Graph.{Parts}
@@ -35,7 +35,7 @@ use Rattle.wac_resolution_nodes.proofs.Instances.{no_instance}
 
 -- ---- ids of instances
 
-id_is : (f : ℕ → Meaning) (o : Option Entry) (m : Meaning) (origin : ℕ) → option_map sort_of o ≡ Some sorts.Interface → ((e : Entry) → o ≡ Some e → m ≡ Rattle.wac_types.specs.Shape.entry_over f origin e)
+id_is : (f : ℕ → Meaning) (o : Option Entry) (m : Meaning) (origin : ℕ) → option_map sort_of o ≡ Some sorts.Interface → ((e : Entry) → o ≡ Some e → m ≡ Rattle.wac_graph_types.specs.Shape.entry_over f origin e)
     → id_of m ≡ option_and_then (λ (i : Interface). option_map string_bytes i.id) (option_and_then as_interface o)
 id_is f None m origin h law = absurd (cc)
 id_is f (Some (entries.Defined d)) m origin h law = absurd (cc)

@@ -6,12 +6,12 @@ use Rattle.std.specs.Str.{bytes_eq}
 use Rattle.std.proofs.lemmas.List.{map_push}
 use Rattle.std.proofs.lemmas.Option.{slice_get-map, slice_get_within}
 use Rattle.wac_lexer.specs.Span.{Span}
-use Rattle.wac_grammar.specs.Tree.{Ident}
-use Rattle.wac_types.specs.declared.kind.ItemKind.{ItemKind}
-use Rattle.wac_types.specs.Growth.{KeepsNames}
-use Rattle.wac_types.specs.Meaning.{Meaning}
-use Rattle.wac_types.specs.Scope.{Named, look_up, IsFresh, StandsFor, with_named}
-use Rattle.wac_types.specs.Table.{Names, ItemsNamed}
+use Rattle.wac_ast_grammar.specs.Tree.{Ident}
+use Rattle.wac_graph_types.specs.declared.kind.ItemKind.{ItemKind}
+use Rattle.wac_graph_types.specs.Growth.{KeepsNames}
+use Rattle.wac_graph_types.specs.Meaning.{Meaning}
+use Rattle.wac_graph_types.specs.Scope.{Named, look_up, IsFresh, StandsFor, with_named}
+use Rattle.wac_graph_types.specs.Table.{Names, ItemsNamed}
 use Rattle.wac_graph.specs.declared.node.NodeId.{NodeId}
 use Rattle.wac_graph.specs.Package.{HeldPackage}
 use Rattle.wac_graph.specs.Node.{Node as GraphNode}

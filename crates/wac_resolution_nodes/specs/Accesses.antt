@@ -1,9 +1,9 @@
 -- Accesses to the exports of instances.
 use Rattle.std.specs.Prelude.{◌≡◌, ◌<◌, ℕ, List, length}
-use Rattle.wac_types.specs.declared.kind.ItemKind.{ItemKind}
-use Rattle.wac_types.specs.Scope.{Named}
-use Rattle.wac_types.specs.Steps.{Steps}
-use Rattle.wac_grammar.specs.Tree.{PostfixExpr}
+use Rattle.wac_graph_types.specs.declared.kind.ItemKind.{ItemKind}
+use Rattle.wac_graph_types.specs.Scope.{Named}
+use Rattle.wac_graph_types.specs.Steps.{Steps}
+use Rattle.wac_ast_grammar.specs.Tree.{PostfixExpr}
 use Rattle.wac_graph.specs.Graph.{Parts}
 use Rattle.wac_graph.specs.Means.{means}
 use Rattle.wac_graph.specs.Origin.{Naming}

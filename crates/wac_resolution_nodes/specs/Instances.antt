@@ -1,12 +1,12 @@
 -- Nodes that are instances.
 use Rattle.std.specs.Prelude.{◌≡◌, ℕ, List, Option, Some, option_map, option_and_then, slice_get, string_bytes}
-use Rattle.wac_types.specs.declared.kind.ItemKind.TheVariants as kinds
-use Rattle.wac_types.specs.declared.kind.InterfaceId.{InterfaceId}
-use Rattle.wac_types.specs.declared.entry.Entry.{Entry}
-use Rattle.wac_types.specs.Readings.{as_interface, interface_exports}
-use Rattle.wac_types.specs.Scope.{Named}
-use Rattle.wac_types.specs.Shape.{exports_of, items_mean}
-use Rattle.wac_types.specs.Table.{Names}
+use Rattle.wac_graph_types.specs.declared.kind.ItemKind.TheVariants as kinds
+use Rattle.wac_graph_types.specs.declared.kind.InterfaceId.{InterfaceId}
+use Rattle.wac_graph_types.specs.declared.entry.Entry.{Entry}
+use Rattle.wac_graph_types.specs.Readings.{as_interface, interface_exports}
+use Rattle.wac_graph_types.specs.Scope.{Named}
+use Rattle.wac_graph_types.specs.Shape.{exports_of, items_mean}
+use Rattle.wac_graph_types.specs.Table.{Names}
 use Rattle.wac_graph.specs.Graph.{Parts}
 use Rattle.wac_graph.specs.Means.{entry_means}
 use Rattle.wac_graph.specs.Origin.{Naming}

@@ -1,9 +1,9 @@
 -- The composition that a graph represents.
 use Rattle.std.specs.Prelude.{ℕ, List, map, Option, Some, None, option_map, slice_get, IfSome, IsSome}
 use Rattle.std.specs.List.{AllByRecursion}
-use Rattle.wac_types.specs.declared.kind.ItemKind.{ItemKind}
-use Rattle.wac_types.specs.Scope.{Named}
-use Rattle.wac_types.specs.Table.{Names}
+use Rattle.wac_graph_types.specs.declared.kind.ItemKind.{ItemKind}
+use Rattle.wac_graph_types.specs.Scope.{Named}
+use Rattle.wac_graph_types.specs.Table.{Names}
 use Rattle.wac_graph.specs.Package.{HeldPackage}
 use Rattle.wac_graph.specs.Node.{Node as GraphNode, Form, import, definition as defined, alias, instantiation, package_in, arguments_in}
 use Rattle.wac_graph.specs.Graph.{Parts}

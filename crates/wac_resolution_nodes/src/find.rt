@@ -1,7 +1,7 @@
 //! Names that are found by their last part.
 ghost use Rattle.std.specs.Prelude.{◌≡◌, option_map};
-ghost use Rattle.wac_grammar.specs.Version.{unversioned};
-ghost use Rattle.wac_types.specs.Names.{by_name};
+ghost use Rattle.wac_ast_grammar.specs.Version.{unversioned};
+ghost use Rattle.wac_graph_types.specs.Names.{by_name};
 ghost use Rattle.wac_resolution_rules.specs.Find.{after_last_slash, is_short_for as short_for, only_one, long_names, names_of, find_name as found_name};
 
 use indexmap::IndexMap;

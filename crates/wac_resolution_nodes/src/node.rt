@@ -1,6 +1,6 @@
 //! Nodes.
 ghost use Rattle.std.specs.Prelude.{◌≡◌, ◌<◌, OnOk, IfOk, IfErr, length, option_map, option_and_then};
-ghost use Rattle.wac_types.specs.Scope.{Named};
+ghost use Rattle.wac_graph_types.specs.Scope.{Named};
 ghost use Rattle.std.specs.Prelude.{ℕ};
 ghost use Rattle.wac_graph.specs.Origin.{Naming};
 ghost use Rattle.wac_resolution_errors.specs.Told.{told, operation_of};

@@ -1,11 +1,11 @@
 //! Accesses to the exports of instances.
 ghost use Rattle.std.specs.Prelude.{◌≡◌, ◌<◌, ◌⊎◌, ℕ, [], IfOk, IfErr, IfSome, IsSome, length, map, option_map, unwrap_or, string_bytes};
-ghost use Rattle.wac_types.specs.Meaning.{Meaning};
-ghost use Rattle.wac_types.specs.Names.{by_name};
-ghost use Rattle.wac_types.specs.Readings.{interface_exports};
-ghost use Rattle.wac_types.specs.Scope.{Named};
-ghost use Rattle.wac_types.specs.Shape.{items_mean};
-ghost use Rattle.wac_types.specs.Steps.{Fails};
+ghost use Rattle.wac_graph_types.specs.Meaning.{Meaning};
+ghost use Rattle.wac_graph_types.specs.Names.{by_name};
+ghost use Rattle.wac_graph_types.specs.Readings.{interface_exports};
+ghost use Rattle.wac_graph_types.specs.Scope.{Named};
+ghost use Rattle.wac_graph_types.specs.Shape.{items_mean};
+ghost use Rattle.wac_graph_types.specs.Steps.{Fails};
 ghost use Rattle.wac_ast_expressions.specs.Expressions.{postfix_expr_of};
 ghost use Rattle.wac_graph.specs.Graph.{export_kind};
 ghost use Rattle.wac_graph.specs.Origin.{Naming};

@@ -1,6 +1,6 @@
 //! The scope at root.
 ghost use Rattle.std.specs.Prelude.{◌≡◌, ◌<◌, [], OnOk, IfOk, IfErr, length};
-ghost use Rattle.wac_types.specs.Scope.{IsFresh, StandsFor};
+ghost use Rattle.wac_graph_types.specs.Scope.{IsFresh, StandsFor};
 ghost use Rattle.wac_ast_base.specs.Names.{ident_of};
 ghost use Rattle.wac_graph.specs.Graph.{Parts};
 ghost use Rattle.wac_graph.specs.Origin.{Naming};

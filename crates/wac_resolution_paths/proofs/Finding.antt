@@ -3,12 +3,12 @@ use Rattle.std.proofs.Common.{◌≡◌, ◌∙◌, inl, inr, ℕ, List, [], Som
 use Rattle.std.specs.Prelude.{slice_get, option_map, Result, IfOk, IfErr}
 use Rattle.std.specs.Str.{bytes_eq}
 use Rattle.std.proofs.lemmas.Result.{IfOk-weaker, IfErr-weaker}
-use Rattle.wac_types.specs.declared.kind.ItemKind.{ItemKind}
-use Rattle.wac_types.specs.Package.{PackageParts}
-use Rattle.wac_types.specs.Scope.{Named, StandsFor}
-use Rattle.wac_types.specs.Table.{ItemsNamed}
-use Rattle.wac_grammar.specs.Segments.{package_name_span}
-use Rattle.wac_grammar.specs.Tree.{Ident, PackagePath}
+use Rattle.wac_graph_types.specs.declared.kind.ItemKind.{ItemKind}
+use Rattle.wac_graph_types.specs.Package.{PackageParts}
+use Rattle.wac_graph_types.specs.Scope.{Named, StandsFor}
+use Rattle.wac_graph_types.specs.Table.{ItemsNamed}
+use Rattle.wac_ast_grammar.specs.Segments.{package_name_span}
+use Rattle.wac_ast_grammar.specs.Tree.{Ident, PackagePath}
 use Rattle.wac_graph.specs.Graph.{Parts}
 use Rattle.wac_graph.specs.Origin.{Naming}
 use Rattle.wac_graph.specs.Package.{Key, HeldPackage}

@@ -6,14 +6,14 @@ use Rattle.std.specs.List.{join_with_byte, slice_split}
 use Rattle.std.proofs.lemmas.List.{length-map, length-take, get_or-map}
 use Rattle.std.proofs.lemmas.Option.{slice_get_within, get_or_from_slice_get}
 use Rattle.wac_lexer.specs.Span.{Span}
-use Rattle.wac_types.specs.declared.kind.ItemKind.{ItemKind}
-use Rattle.wac_types.specs.Meaning.{Meaning}
-use Rattle.wac_types.specs.Scope.{Named, Scope, look_up}
-use Rattle.wac_types.specs.Shape.{described}
-use Rattle.wac_types.specs.Steps.{Fails}
-use Rattle.wac_grammar.specs.Segments.{behind, located, segment_spans}
-use Rattle.wac_grammar.specs.Tree.{PackagePath}
-use Rattle.wac_grammar.specs.Version.{is_slash}
+use Rattle.wac_graph_types.specs.declared.kind.ItemKind.{ItemKind}
+use Rattle.wac_graph_types.specs.Meaning.{Meaning}
+use Rattle.wac_graph_types.specs.Scope.{Named, Scope, look_up}
+use Rattle.wac_graph_types.specs.Shape.{described}
+use Rattle.wac_graph_types.specs.Steps.{Fails}
+use Rattle.wac_ast_grammar.specs.Segments.{behind, located, segment_spans}
+use Rattle.wac_ast_grammar.specs.Tree.{PackagePath}
+use Rattle.wac_ast_grammar.specs.Version.{is_slash}
 use Rattle.wac_graph.specs.Graph.{Parts}
 use Rattle.wac_graph.specs.Means.{means}
 use Rattle.wac_graph.specs.Origin.{Naming}

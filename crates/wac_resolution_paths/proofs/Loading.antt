@@ -5,8 +5,8 @@ use Rattle.std.specs.List.{AllByRecursion}
 use Rattle.std.specs.Map.{lookup}
 use Rattle.std.proofs.lemmas.List.Quantifiers.{position-Some}
 use Rattle.std.proofs.lemmas.Option.{slice_get-get_or, slice_get_within}
-use Rattle.wac_types.specs.Growth.{KeepsNames}
-use Rattle.wac_types.specs.Package.{PackageParts}
+use Rattle.wac_graph_types.specs.Growth.{KeepsNames}
+use Rattle.wac_graph_types.specs.Package.{PackageParts}
 use Rattle.wac_graph.specs.Adds.{AddsPackage}
 use Rattle.wac_graph.specs.Graph.{Parts}
 use Rattle.wac_graph.specs.Means.{KeepsKinds}

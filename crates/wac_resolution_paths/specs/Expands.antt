@@ -1,11 +1,11 @@
 -- What a graph gets as paths are resolved: more types and packages, and nothing else.
 use Rattle.std.specs.Prelude.{◌≡◌, ◌<◌, ℕ, List, Some, None, option_map, length, slice_get}
 use Rattle.std.specs.List.{AllByRecursion}
-use Rattle.wac_types.specs.declared.kind.ItemKind.{ItemKind}
-use Rattle.wac_types.specs.Growth.{KeepsNames}
-use Rattle.wac_types.specs.Meaning.{Meaning}
-use Rattle.wac_types.specs.Package.{PackageParts}
-use Rattle.wac_types.specs.Table.{Names}
+use Rattle.wac_graph_types.specs.declared.kind.ItemKind.{ItemKind}
+use Rattle.wac_graph_types.specs.Growth.{KeepsNames}
+use Rattle.wac_graph_types.specs.Meaning.{Meaning}
+use Rattle.wac_graph_types.specs.Package.{PackageParts}
+use Rattle.wac_graph_types.specs.Table.{Names}
 use Rattle.wac_graph.specs.Graph.{Parts}
 use Rattle.wac_graph.specs.Means.{means, declared_count}
 use Rattle.wac_graph.specs.Origin.{Naming}

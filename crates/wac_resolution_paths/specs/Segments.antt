@@ -1,16 +1,16 @@
 -- What the segments of a path resolve to in a graph.
 use Rattle.std.specs.Prelude.{◌≡◌, ℕ, List, map, take, Some, None, Bool, slice_get}
 use Rattle.wac_lexer.specs.Span.{Span}
-use Rattle.wac_types.specs.declared.kind.ItemKind.{ItemKind}
-use Rattle.wac_types.specs.Meaning.{Meaning}
-use Rattle.wac_types.specs.Scope.{Named, Scope}
-use Rattle.wac_types.specs.Shape.{export_of}
-use Rattle.wac_types.specs.Steps.{Steps}
-use Rattle.wac_types.specs.Table.{Names}
+use Rattle.wac_graph_types.specs.declared.kind.ItemKind.{ItemKind}
+use Rattle.wac_graph_types.specs.Meaning.{Meaning}
+use Rattle.wac_graph_types.specs.Scope.{Named, Scope}
+use Rattle.wac_graph_types.specs.Shape.{export_of}
+use Rattle.wac_graph_types.specs.Steps.{Steps}
+use Rattle.wac_graph_types.specs.Table.{Names}
 use Rattle.wac_graph.specs.Graph.{Parts}
 use Rattle.wac_graph.specs.Means.{means}
 use Rattle.wac_graph.specs.Origin.{Naming}
-use Rattle.wac_grammar.specs.Tree.{PackagePath}
+use Rattle.wac_ast_grammar.specs.Tree.{PackagePath}
 use Rattle.wac_resolution_rules.specs.BrokenBodies.{last_of}
 use Rattle.wac_resolution_rules.specs.Paths.{Setting, key_of_path, segments_of, beginning_of, IsMember, LeadsFrom}
 use Rattle.wac_resolution_state.specs.Named.{scope_of}

@@ -1,6 +1,6 @@
 -- What a document is resolved in, as the code holds it.
 use Rattle.std.specs.Prelude.{List, map, option_map}
-use Rattle.wac_types.specs.Package.{PackageParts}
+use Rattle.wac_graph_types.specs.Package.{PackageParts}
 use Rattle.wac_graph.specs.Origin.{Naming}
 use Rattle.wac_graph.specs.Package.{Key, key_of}
 use Rattle.wac_graph.specs.Packages.{handed}

@@ -2,12 +2,12 @@
 ghost use Rattle.std.specs.Prelude.{◌≡◌, ◌∷◌, ◌++◌, [], suc, OnOk, Some, None, false, IfOk, IfErr, MatchOption, take, string_bytes};
 ghost use Rattle.std.specs.List.{join_with_byte};
 ghost use Rattle.wac_lexer.specs.Ascii.{slash};
-ghost use Rattle.wac_types.specs.Names.{by_name};
-ghost use Rattle.wac_types.specs.Scope.{look_up};
-ghost use Rattle.wac_types.specs.Shape.{described};
-ghost use Rattle.wac_types.specs.Table.{ItemsNamed};
+ghost use Rattle.wac_graph_types.specs.Names.{by_name};
+ghost use Rattle.wac_graph_types.specs.Scope.{look_up};
+ghost use Rattle.wac_graph_types.specs.Shape.{described};
+ghost use Rattle.wac_graph_types.specs.Table.{ItemsNamed};
 ghost use Rattle.wac_ast_base.specs.Names.{package_path_of};
-ghost use Rattle.wac_grammar.specs.Segments.{package_name_span};
+ghost use Rattle.wac_ast_grammar.specs.Segments.{package_name_span};
 ghost use Rattle.wac_graph.specs.Graph.{Parts};
 ghost use Rattle.wac_graph.specs.Means.{means};
 ghost use Rattle.wac_graph.specs.Origin.{Naming};

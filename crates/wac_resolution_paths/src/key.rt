@@ -1,6 +1,6 @@
 //! Keys of packages.
 ghost use Rattle.std.specs.Prelude.{◌≡◌, IfOk, option_map, string_bytes};
-ghost use Rattle.wac_grammar.specs.Version.{version_text};
+ghost use Rattle.wac_ast_grammar.specs.Version.{version_text};
 ghost use Rattle.wac_graph.specs.Package.{key_of};
 
 use std::alloc::{AllocError, Global};

@@ -1,9 +1,9 @@
 // Laws of graphs that get more types and packages. Each function does nothing: its contract is the law.
 ghost use Rattle.std.specs.Prelude.{◌≡◌, List};
-ghost use Rattle.wac_types.specs.declared.kind.ItemKind.{ItemKind};
-ghost use Rattle.wac_types.specs.Package.{PackageParts};
-ghost use Rattle.wac_types.specs.Scope.{Named};
-ghost use Rattle.wac_types.specs.Table.{ItemsNamed};
+ghost use Rattle.wac_graph_types.specs.declared.kind.ItemKind.{ItemKind};
+ghost use Rattle.wac_graph_types.specs.Package.{PackageParts};
+ghost use Rattle.wac_graph_types.specs.Scope.{Named};
+ghost use Rattle.wac_graph_types.specs.Table.{ItemsNamed};
 ghost use Rattle.wac_graph.specs.Graph.{Parts};
 ghost use Rattle.wac_graph.specs.Origin.{Naming};
 ghost use Rattle.wac_graph.specs.Package.{Key};

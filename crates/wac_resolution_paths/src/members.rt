@@ -1,6 +1,6 @@
 //! Later segments of paths.
 ghost use Rattle.std.specs.Prelude.{◌<◌, ◌^◌, IfOk, IfErr, length};
-ghost use Rattle.wac_types.specs.Table.{Names as NamesEntry};
+ghost use Rattle.wac_graph_types.specs.Table.{Names as NamesEntry};
 ghost use Rattle.wac_resolution_paths.specs.Segments.{texts, MembersLead, Misses};
 
 use wac_ast_base::SegmentSpans;

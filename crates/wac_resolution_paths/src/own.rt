@@ -1,7 +1,7 @@
 //! Paths of the document's own package.
 ghost use Rattle.std.specs.Prelude.{◌≡◌, IfOk, IfErr};
-ghost use Rattle.wac_types.specs.Shape.{described};
-ghost use Rattle.wac_types.specs.Table.{ItemsNamed};
+ghost use Rattle.wac_graph_types.specs.Shape.{described};
+ghost use Rattle.wac_graph_types.specs.Table.{ItemsNamed};
 ghost use Rattle.wac_ast_base.specs.Names.{package_path_of};
 ghost use Rattle.wac_graph.specs.Graph.{Parts};
 ghost use Rattle.wac_graph.specs.Means.{means};

@@ -1,7 +1,7 @@
 //! What paths and references resolve to.
 ghost use Rattle.std.specs.Prelude.{◌≡◌, IfOk, IfErr};
 ghost use Rattle.std.specs.Str.{bytes_eq};
-ghost use Rattle.wac_types.specs.Table.{ItemsNamed};
+ghost use Rattle.wac_graph_types.specs.Table.{ItemsNamed};
 ghost use Rattle.wac_ast_base.specs.Names.{package_path_of};
 ghost use Rattle.wac_ast_uses.specs.Uses.{use_path_of, world_ref_of};
 ghost use Rattle.wac_graph.specs.Origin.{Naming};

@@ -3,13 +3,13 @@ use Rattle.std.proofs.Common.{◌≡◌, ◌⊎◌, inl, inr, ◌↔◌, ℕ, Li
 use Rattle.std.specs.Prelude.{flat_map}
 use Rattle.std.specs.List.{AllByRecursion}
 use Rattle.wac_lexer.specs.Span.{Span}
-use Rattle.wac_types.specs.Meaning.{Meaning}
-use Rattle.wac_types.specs.Scope.{Named, look_up}
-use Rattle.wac_types.specs.Steps.{Steps, Fails}
+use Rattle.wac_graph_types.specs.Meaning.{Meaning}
+use Rattle.wac_graph_types.specs.Scope.{Named, look_up}
+use Rattle.wac_graph_types.specs.Steps.{Steps, Fails}
 use Rattle.wac_graph.specs.Packages.{Packages, Contents, package_of}
-use Rattle.wac_grammar.specs.Grammar.{primary_span}
-use Rattle.wac_grammar.specs.Spans.{argument_name_span}
-use Rattle.wac_grammar.specs.Tree.{PackagePath, Expr, PrimaryExpr, Arguments, InstantiationArgument, ImportType, ImportStatement, LetStatement, ExportOptions, ExportStatement, Statement, Document}
+use Rattle.wac_ast_grammar.specs.Grammar.{primary_span}
+use Rattle.wac_ast_grammar.specs.Spans.{argument_name_span}
+use Rattle.wac_ast_grammar.specs.Tree.{PackagePath, Expr, PrimaryExpr, Arguments, InstantiationArgument, ImportType, ImportStatement, LetStatement, ExportOptions, ExportStatement, Statement, Document}
 use Rattle.wac_resolution_errors.specs.Error.{Error, unknown_package}
 use Rattle.wac_resolution_rules.specs.Given.{Given, imports_in}
 use Rattle.wac_resolution_rules.specs.Composition.{Composition, root_scope, start}

@@ -2,12 +2,12 @@
 use Rattle.std.proofs.Common.{◌≡◌, ◌≢◌, ℕ, List, ◌∙◌, ap, subst, Some, None, Bool, false, IsTrue, inl, inr}
 use Rattle.std.specs.List.{AllByRecursion}
 use Rattle.wac_lexer.specs.Span.{Span}
-use Rattle.wac_types.specs.Meaning.{Meaning}
-use Rattle.wac_types.specs.Scope.{Named, look_up, StandsFor, IsFresh}
-use Rattle.wac_types.specs.Shape.{exports_of}
-use Rattle.wac_types.specs.Steps.{Steps}
+use Rattle.wac_graph_types.specs.Meaning.{Meaning}
+use Rattle.wac_graph_types.specs.Scope.{Named, look_up, StandsFor, IsFresh}
+use Rattle.wac_graph_types.specs.Shape.{exports_of}
+use Rattle.wac_graph_types.specs.Steps.{Steps}
 use Rattle.wac_graph.specs.Packages.{Contents}
-use Rattle.wac_grammar.specs.Tree.{Ident, PackageName, PostfixExpr, Expr, PrimaryExpr, Arguments, InstantiationArgument}
+use Rattle.wac_ast_grammar.specs.Tree.{Ident, PackageName, PostfixExpr, Expr, PrimaryExpr, Arguments, InstantiationArgument}
 use Rattle.wac_resolution_rules.specs.Given.{Given, instantiable, key_named, imports_in}
 use Rattle.wac_resolution_rules.specs.Composition.{Composition, Node, kind_at}
 use Rattle.wac_resolution_rules.specs.Nodes.{node_at, instance_at}

@@ -1,7 +1,7 @@
 -- What follows for whole documents: a document describes one composition, and where it fails it describes none.
 use Rattle.std.proofs.Common.{◌≡◌, List, [], ◌∷◌, ◌++◌, ap, subst, Option, Some, inl, inr}
-use Rattle.wac_types.specs.Steps.{Steps}
-use Rattle.wac_grammar.specs.Tree.{PackagePath, Statement, Document}
+use Rattle.wac_graph_types.specs.Steps.{Steps}
+use Rattle.wac_ast_grammar.specs.Tree.{PackagePath, Statement, Document}
 use Rattle.wac_resolution_rules.specs.Given.{Given}
 use Rattle.wac_resolution_rules.specs.Composition.{Composition, start}
 use Rattle.wac_resolution_rules.specs.Statements.{Goes, Composes}

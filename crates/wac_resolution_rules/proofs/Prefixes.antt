@@ -5,11 +5,11 @@ use Rattle.std.specs.Str.{bytes_eq}
 use Rattle.std.specs.List.{AllByRecursion}
 use Rattle.std.proofs.lemmas.List.Quantifiers.{position-Some}
 use Rattle.std.proofs.lemmas.Option.{slice_get-get_or}
-use Rattle.wac_types.specs.Meaning.{Meaning}
-use Rattle.wac_types.specs.Scope.{Named, look_up, with_named}
-use Rattle.wac_types.specs.Shape.{exports_of, promoted}
-use Rattle.wac_types.specs.Steps.{Steps}
-use Rattle.wac_grammar.specs.Tree.{PostfixExpr, Expr, PrimaryExpr, ImportStatement, LetStatement, ExportOptions, ExportStatement, TypeStatement, Statement}
+use Rattle.wac_graph_types.specs.Meaning.{Meaning}
+use Rattle.wac_graph_types.specs.Scope.{Named, look_up, with_named}
+use Rattle.wac_graph_types.specs.Shape.{exports_of, promoted}
+use Rattle.wac_graph_types.specs.Steps.{Steps}
+use Rattle.wac_ast_grammar.specs.Tree.{PostfixExpr, Expr, PrimaryExpr, ImportStatement, LetStatement, ExportOptions, ExportStatement, TypeStatement, Statement}
 use Rattle.wac_resolution_rules.specs.Given.{Given, imports_in}
 use Rattle.wac_resolution_rules.specs.Composition.{NodeForm, imported, definition, aliased, instantiated, Composition, Node, first_name, named_at, binding, with_node, with_export, with_resources, start}
 use Rattle.wac_resolution_rules.specs.Nodes.{is_alias_of, alias_in, next_of}

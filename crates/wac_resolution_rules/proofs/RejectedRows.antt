@@ -1,17 +1,17 @@
 -- Documents that break a rule of statements, expressions or targets: at the last statement, or at the target.
 use Rattle.std.proofs.Common.{◌-◌, ℕ, List, [], ◌∷◌, refl, Option, Some, None, false, codes, inl, inr}
 use Rattle.wac_lexer.specs.Span.{span}
-use Rattle.wac_types.specs.declared.kind.ExternKind.TheVariants as externs
-use Rattle.wac_types.specs.declared.kind.PrimitiveType.TheVariants as primitives
-use Rattle.wac_types.specs.declared.rules.Reason.{Reason}
-use Rattle.wac_types.specs.Kind.{a_resource, an_interface, a_world, func, instance}
-use Rattle.wac_types.specs.Meaning.{Meaning, Row, done, more}
-use Rattle.wac_types.specs.Scope.{Named}
-use Rattle.wac_types.specs.Shape.{kind_of, entry_of, row_of, alias_type, primitive_value, func_entry, interface_entry, world_entry}
+use Rattle.wac_graph_types.specs.declared.kind.ExternKind.TheVariants as externs
+use Rattle.wac_graph_types.specs.declared.kind.PrimitiveType.TheVariants as primitives
+use Rattle.wac_graph_types.specs.declared.rules.Reason.{Reason}
+use Rattle.wac_graph_types.specs.Kind.{a_resource, an_interface, a_world, func, instance}
+use Rattle.wac_graph_types.specs.Meaning.{Meaning, Row, done, more}
+use Rattle.wac_graph_types.specs.Scope.{Named}
+use Rattle.wac_graph_types.specs.Shape.{kind_of, entry_of, row_of, alias_type, primitive_value, func_entry, interface_entry, world_entry}
 use Rattle.wac_graph.specs.Origin.{Naming}
 use Rattle.wac_graph.specs.Resources.{resource_entry}
 use Rattle.wac_graph.specs.Packages.{Contents}
-use Rattle.wac_grammar.specs.Tree.{PackageName, PackagePath, Ty, TypeAliasKind, TypeDecl, TypeStatement, PostfixExpr, InstantiationArgumentName, InstantiationArgument, Arguments, PrimaryExpr, Expr, ExternName, ImportType, ExportOptions, Statement}
+use Rattle.wac_ast_grammar.specs.Tree.{PackageName, PackagePath, Ty, TypeAliasKind, TypeDecl, TypeStatement, PostfixExpr, InstantiationArgumentName, InstantiationArgument, Arguments, PrimaryExpr, Expr, ExternName, ImportType, ExportOptions, Statement}
 use Rattle.wac_resolution_rules.specs.Given.{Given}
 use Rattle.wac_resolution_rules.specs.Composition.{Composition, Node, imported, definition, aliased, start}
 use Rattle.wac_resolution_rules.specs.Expressions.{at, Giving}

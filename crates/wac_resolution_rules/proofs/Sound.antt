@@ -4,13 +4,13 @@ use Rattle.std.specs.Prelude.{fold}
 use Rattle.std.specs.List.{AllByRecursion}
 use Rattle.std.specs.Str.{bytes_eq}
 use Rattle.std.proofs.lemmas.Option.{slice_get_within}
-use Rattle.wac_types.specs.Meaning.{Meaning, EachFrom}
-use Rattle.wac_types.specs.Scope.{Named, look_up, StandsFor, IsFresh, with_named}
-use Rattle.wac_types.specs.Shape.{exports_of, promoted}
-use Rattle.wac_types.specs.Steps.{Steps}
+use Rattle.wac_graph_types.specs.Meaning.{Meaning, EachFrom}
+use Rattle.wac_graph_types.specs.Scope.{Named, look_up, StandsFor, IsFresh, with_named}
+use Rattle.wac_graph_types.specs.Shape.{exports_of, promoted}
+use Rattle.wac_graph_types.specs.Steps.{Steps}
 use Rattle.wac_graph.specs.Package.{Key}
 use Rattle.wac_graph.specs.Packages.{Contents, package_of}
-use Rattle.wac_grammar.specs.Tree.{Ident, PackageName, PostfixExpr, Expr, PrimaryExpr, Arguments, InstantiationArgument, ImportStatement, LetStatement, ExportOptions, ExportStatement, TypeStatement, Statement}
+use Rattle.wac_ast_grammar.specs.Tree.{Ident, PackageName, PostfixExpr, Expr, PrimaryExpr, Arguments, InstantiationArgument, ImportStatement, LetStatement, ExportOptions, ExportStatement, TypeStatement, Statement}
 use Rattle.wac_resolution_rules.specs.Given.{Given, instantiable, key_named, imports_in}
 use Rattle.wac_resolution_rules.specs.Composition.{NodeForm, imported, definition, aliased, instantiated, Composition, Node, kind_at, named_at, binding, with_node, with_export, with_resources, start}
 use Rattle.wac_resolution_rules.specs.Nodes.{alias_in, with_alias, next_of, key_of_node}

@@ -1,16 +1,16 @@
 -- Documents that are worked out: what they compose, or which rule they break.
 use Rattle.std.proofs.Common.{◌≡◌, ℕ, List, [], ◌∷◌, refl, Option, Some, None, false, codes, inl, inr}
 use Rattle.wac_lexer.specs.Span.{span}
-use Rattle.wac_types.specs.declared.kind.ExternKind.TheVariants as externs
-use Rattle.wac_types.specs.declared.rules.Reason.{Reason}
-use Rattle.wac_types.specs.Kind.{func, instance, component, a_world}
-use Rattle.wac_types.specs.Meaning.{Meaning}
-use Rattle.wac_types.specs.Scope.{Named, look_up}
-use Rattle.wac_types.specs.Shape.{kind_of, func_entry, interface_entry, world_entry}
+use Rattle.wac_graph_types.specs.declared.kind.ExternKind.TheVariants as externs
+use Rattle.wac_graph_types.specs.declared.rules.Reason.{Reason}
+use Rattle.wac_graph_types.specs.Kind.{func, instance, component, a_world}
+use Rattle.wac_graph_types.specs.Meaning.{Meaning}
+use Rattle.wac_graph_types.specs.Scope.{Named, look_up}
+use Rattle.wac_graph_types.specs.Shape.{kind_of, func_entry, interface_entry, world_entry}
 use Rattle.wac_graph.specs.Package.{Key}
 use Rattle.wac_graph.specs.Origin.{Naming}
 use Rattle.wac_graph.specs.Packages.{Contents}
-use Rattle.wac_grammar.specs.Tree.{Ident, PackageName, PackagePath, FuncType, InterfaceItem, Expr, Arguments, Statement, ExportOptions, ExternName, ExternType, FuncTypeRef, ImportType, InstantiationArgument, PostfixExpr, PrimaryExpr, ResultList, TypeStatement, WorldItem, WorldItemPath}
+use Rattle.wac_ast_grammar.specs.Tree.{Ident, PackageName, PackagePath, FuncType, InterfaceItem, Expr, Arguments, Statement, ExportOptions, ExternName, ExternType, FuncTypeRef, ImportType, InstantiationArgument, PostfixExpr, PrimaryExpr, ResultList, TypeStatement, WorldItem, WorldItemPath}
 use Rattle.wac_resolution_rules.specs.Given.{Given, Rules, imports_in}
 use Rattle.wac_resolution_rules.specs.Bodies.{Body}
 use Rattle.wac_resolution_rules.specs.Composition.{Composition, Node, imported, definition, aliased, instantiated, root_scope, start}

@@ -3,14 +3,14 @@ use Rattle.std.proofs.Common.{◌≡◌, ◌≢◌, ℕ, List, [], ◌∷◌, �
 use Rattle.std.specs.Prelude.{flat_map}
 use Rattle.std.specs.List.{AllByRecursion}
 use Rattle.wac_lexer.specs.Span.{Span}
-use Rattle.wac_types.specs.declared.kind.ExternKind.{ExternKind}
-use Rattle.wac_types.specs.Meaning.{Meaning}
-use Rattle.wac_types.specs.Scope.{Named, look_up, IsFresh}
-use Rattle.wac_types.specs.Kind.{an_interface, a_world}
-use Rattle.wac_types.specs.Shape.{kind_of, exports_of, promoted}
-use Rattle.wac_types.specs.Steps.{Steps}
-use Rattle.wac_types.specs.declared.kind.FuncKind.TheVariants as funcs
-use Rattle.wac_grammar.specs.Tree.{Ident, PackagePath, ImportType, ImportStatement, LetStatement, Expr, ExportOptions, ExportStatement, TypeStatement, Statement}
+use Rattle.wac_graph_types.specs.declared.kind.ExternKind.{ExternKind}
+use Rattle.wac_graph_types.specs.Meaning.{Meaning}
+use Rattle.wac_graph_types.specs.Scope.{Named, look_up, IsFresh}
+use Rattle.wac_graph_types.specs.Kind.{an_interface, a_world}
+use Rattle.wac_graph_types.specs.Shape.{kind_of, exports_of, promoted}
+use Rattle.wac_graph_types.specs.Steps.{Steps}
+use Rattle.wac_graph_types.specs.declared.kind.FuncKind.TheVariants as funcs
+use Rattle.wac_ast_grammar.specs.Tree.{Ident, PackagePath, ImportType, ImportStatement, LetStatement, Expr, ExportOptions, ExportStatement, TypeStatement, Statement}
 use Rattle.wac_resolution_rules.specs.Paths.{Setting}
 use Rattle.wac_resolution_rules.specs.TypeStatements.{Declares, Defines}
 use Rattle.wac_resolution_rules.specs.Kinds.{world_of}

@@ -2,10 +2,10 @@
 use Rattle.std.proofs.Common.{◌≡◌, ℕ, List, [], ◌∷◌, None, refl}
 use Rattle.std.specs.Prelude.{codes, map}
 use Rattle.wac_lexer.specs.Span.{span}
-use Rattle.wac_types.specs.Steps.{Steps}
-use Rattle.wac_types.specs.Shape.{entry_of, imports_of, exports_of}
+use Rattle.wac_graph_types.specs.Steps.{Steps}
+use Rattle.wac_graph_types.specs.Shape.{entry_of, imports_of, exports_of}
 use Rattle.wac_graph.specs.Origin.{Naming}
-use Rattle.wac_grammar.specs.Tree.{Ident, WorldItem, WorldItemPath, WorldRef, TypeStatement}
+use Rattle.wac_ast_grammar.specs.Tree.{Ident, WorldItem, WorldItemPath, WorldRef, TypeStatement}
 use Rattle.wac_resolution_rules.specs.Paths.{Setting}
 use Rattle.wac_resolution_rules.specs.Composition.{Composition, start, kind_at}
 use Rattle.wac_resolution_rules.specs.TypeStatements.{Declares}

@@ -1,15 +1,15 @@
 -- What the items of a body declare.
 use Rattle.std.specs.Prelude.{◌≡◌, ℕ, suc, List, [], ◌∷◌, ◌++◌, Option, Some, option_map, unwrap_or, Bool, true, false, codes}
-use Rattle.wac_types.specs.declared.kind.ExternKind.{ExternKind}
-use Rattle.wac_types.specs.declared.kind.ExternKind.TheVariants as sides
-use Rattle.wac_types.specs.Kind.{func, a_resource}
-use Rattle.wac_types.specs.Meaning.{Meaning}
-use Rattle.wac_types.specs.Scope.{Named, Scope, IsFresh, with_named}
-use Rattle.wac_types.specs.Steps.{Steps}
-use Rattle.wac_types.specs.Shape.{Uses, IsA, is_interface_form, is_resource_or_value_form, kind_of, export_of, promoted}
+use Rattle.wac_graph_types.specs.declared.kind.ExternKind.{ExternKind}
+use Rattle.wac_graph_types.specs.declared.kind.ExternKind.TheVariants as sides
+use Rattle.wac_graph_types.specs.Kind.{func, a_resource}
+use Rattle.wac_graph_types.specs.Meaning.{Meaning}
+use Rattle.wac_graph_types.specs.Scope.{Named, Scope, IsFresh, with_named}
+use Rattle.wac_graph_types.specs.Steps.{Steps}
+use Rattle.wac_graph_types.specs.Shape.{Uses, IsA, is_interface_form, is_resource_or_value_form, kind_of, export_of, promoted}
 use Rattle.wac_graph.specs.Origin.{Naming}
 use Rattle.wac_graph.specs.Resources.{resource_entry}
-use Rattle.wac_grammar.specs.Tree.{Ident, ResourceMethod, ItemTypeDecl, UseItem, Use}
+use Rattle.wac_ast_grammar.specs.Tree.{Ident, ResourceMethod, ItemTypeDecl, UseItem, Use}
 use Rattle.wac_resolution_rules.specs.Types.{IsFuncWith, IsConstructor, first_params}
 use Rattle.wac_resolution_rules.specs.Declarations.{IsVariant, IsRecord, IsFlags, IsEnum, IsAlias, in_body}
 use Rattle.wac_resolution_rules.specs.Paths.{Setting, UseNames}

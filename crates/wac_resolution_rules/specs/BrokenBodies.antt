@@ -3,18 +3,18 @@ use Rattle.std.specs.Prelude.{◌≡◌, ◌⊎◌, ℕ, suc, List, [], ◌∷�
 use Rattle.std.specs.List.{join_with_byte}
 use Rattle.wac_lexer.specs.Ascii.{slash}
 use Rattle.wac_lexer.specs.Span.{Span}
-use Rattle.wac_types.specs.declared.kind.ExternKind.{ExternKind}
-use Rattle.wac_types.specs.declared.kind.FuncKind.{FuncKind}
-use Rattle.wac_types.specs.declared.kind.FuncKind.TheVariants as funcs
-use Rattle.wac_types.specs.Meaning.{Meaning}
-use Rattle.wac_types.specs.Scope.{Named, Scope, StandsFor, IsFresh}
-use Rattle.wac_types.specs.Steps.{Fails}
-use Rattle.wac_types.specs.Shape.{IsNoneOf, IsA, is_interface_form, is_resource_or_value_form, described, export_of, promoted}
+use Rattle.wac_graph_types.specs.declared.kind.ExternKind.{ExternKind}
+use Rattle.wac_graph_types.specs.declared.kind.FuncKind.{FuncKind}
+use Rattle.wac_graph_types.specs.declared.kind.FuncKind.TheVariants as funcs
+use Rattle.wac_graph_types.specs.Meaning.{Meaning}
+use Rattle.wac_graph_types.specs.Scope.{Named, Scope, StandsFor, IsFresh}
+use Rattle.wac_graph_types.specs.Steps.{Fails}
+use Rattle.wac_graph_types.specs.Shape.{IsNoneOf, IsA, is_interface_form, is_resource_or_value_form, described, export_of, promoted}
 use Rattle.wac_graph.specs.Origin.{Naming}
 use Rattle.wac_graph.specs.Resources.{resource_entry}
 use Rattle.wac_graph.specs.Packages.{Contents, package_of}
-use Rattle.wac_grammar.specs.Tree.{Ident, PackagePath, UsePath, ResourceMethod, ItemTypeDecl, UseItem, Use}
-use Rattle.wac_grammar.specs.Segments.{segment_spans, package_name_span}
+use Rattle.wac_ast_grammar.specs.Tree.{Ident, PackagePath, UsePath, ResourceMethod, ItemTypeDecl, UseItem, Use}
+use Rattle.wac_ast_grammar.specs.Segments.{segment_spans, package_name_span}
 use Rattle.wac_resolution_errors.specs.Error.{Error, undefined_name, duplicate_name, duplicate_interface_export, duplicate_world_item, not_interface, undefined_interface_type, not_interface_value_type, duplicate_resource_constructor, duplicate_resource_method, unknown_package, package_missing_export, package_path_missing_export, use_conflict}
 use Rattle.wac_resolution_rules.specs.Paths.{Setting, is_own, key_of_path, segments_of, IsMember, UseNames}
 use Rattle.wac_resolution_rules.specs.Declarations.{IsVariant, IsRecord, IsFlags, IsEnum, IsAlias, in_body}

@@ -1,11 +1,11 @@
 -- Which rule of declarations an error says is broken, as in BrokenTypes.
 use Rattle.std.specs.Prelude.{◌≡◌, ◌⊎◌, ℕ, List, [], Option, Some, None}
-use Rattle.wac_types.specs.declared.kind.FuncKind.TheVariants as funcs
-use Rattle.wac_types.specs.Meaning.{Meaning}
-use Rattle.wac_types.specs.Scope.{Named, Scope, StandsFor}
-use Rattle.wac_types.specs.Steps.{Fails}
-use Rattle.wac_types.specs.Shape.{described}
-use Rattle.wac_grammar.specs.Tree.{Ident, Ty, VariantCase, VariantDecl, Field, RecordDecl, FlagsDecl, EnumDecl, TypeAliasKind, TypeDecl}
+use Rattle.wac_graph_types.specs.declared.kind.FuncKind.TheVariants as funcs
+use Rattle.wac_graph_types.specs.Meaning.{Meaning}
+use Rattle.wac_graph_types.specs.Scope.{Named, Scope, StandsFor}
+use Rattle.wac_graph_types.specs.Steps.{Fails}
+use Rattle.wac_graph_types.specs.Shape.{described}
+use Rattle.wac_ast_grammar.specs.Tree.{Ident, Ty, VariantCase, VariantDecl, Field, RecordDecl, FlagsDecl, EnumDecl, TypeAliasKind, TypeDecl}
 use Rattle.wac_resolution_errors.specs.Error.{Error, duplicate_variant_case, duplicate_record_field, duplicate_enum_case, duplicate_flag, invalid_alias_type}
 use Rattle.wac_resolution_rules.specs.Types.{HasType}
 use Rattle.wac_resolution_rules.specs.Declarations.{HasOption, HasCase, HasField, HasFlag, HasEnumCase, Aliasing, at_root, alone}

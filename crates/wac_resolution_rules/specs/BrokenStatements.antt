@@ -3,16 +3,16 @@
 use Rattle.std.specs.Prelude.{◌≡◌, ℕ, List, [], ◌++◌, Option, Some, None, flat_map, map, ◌⊎◌}
 use Rattle.std.specs.List.{AllByRecursion}
 use Rattle.wac_lexer.specs.Span.{Span}
-use Rattle.wac_types.specs.declared.kind.ExternKind.{ExternKind}
-use Rattle.wac_types.specs.declared.kind.ExternKind.TheVariants as externs
-use Rattle.wac_types.specs.declared.rules.Reason.{Reason}
-use Rattle.wac_types.specs.Meaning.{Meaning}
-use Rattle.wac_types.specs.Scope.{Named, look_up, StandsFor, IsFresh}
-use Rattle.wac_types.specs.Steps.{Fails}
-use Rattle.wac_types.specs.Shape.{exports_of, promoted, described}
-use Rattle.wac_types.specs.declared.kind.FuncKind.TheVariants as funcs
-use Rattle.wac_grammar.specs.Tree.{PackagePath, ImportType, ImportStatement, LetStatement, Expr, ExportOptions, ExportStatement, Statement}
-use Rattle.wac_grammar.specs.Spans.{extern_name_text, extern_name_span}
+use Rattle.wac_graph_types.specs.declared.kind.ExternKind.{ExternKind}
+use Rattle.wac_graph_types.specs.declared.kind.ExternKind.TheVariants as externs
+use Rattle.wac_graph_types.specs.declared.rules.Reason.{Reason}
+use Rattle.wac_graph_types.specs.Meaning.{Meaning}
+use Rattle.wac_graph_types.specs.Scope.{Named, look_up, StandsFor, IsFresh}
+use Rattle.wac_graph_types.specs.Steps.{Fails}
+use Rattle.wac_graph_types.specs.Shape.{exports_of, promoted, described}
+use Rattle.wac_graph_types.specs.declared.kind.FuncKind.TheVariants as funcs
+use Rattle.wac_ast_grammar.specs.Tree.{PackagePath, ImportType, ImportStatement, LetStatement, Expr, ExportOptions, ExportStatement, Statement}
+use Rattle.wac_ast_grammar.specs.Spans.{extern_name_text, extern_name_span}
 use Rattle.wac_resolution_rules.specs.Kinds.{world_of}
 use Rattle.wac_resolution_rules.specs.Given.{Given}
 use Rattle.wac_resolution_rules.specs.Paths.{LeadsTo}

@@ -1,12 +1,12 @@
 -- Which rule of types an error says is broken. `Is..` is one rule; `..Broken` says where rules are tested, each after the tests before it passed.
 use Rattle.std.specs.Prelude.{◌≡◌, ◌⊎◌, List, [], true}
-use Rattle.wac_types.specs.declared.kind.FuncKind.{FuncKind}
-use Rattle.wac_types.specs.Meaning.{Meaning}
-use Rattle.wac_types.specs.Scope.{Named, Scope, StandsFor, IsFresh}
-use Rattle.wac_types.specs.Steps.{Steps, Fails}
-use Rattle.wac_types.specs.Shape.{IsNoneOf, is_resource_form, is_resource_or_value_form, described, contains_borrow}
-use Rattle.wac_grammar.specs.Tree.{Ident, Ty, OptionalTy, Types, NamedType, ResultList, FuncType}
-use Rattle.wac_grammar.specs.Spans.{ty_span}
+use Rattle.wac_graph_types.specs.declared.kind.FuncKind.{FuncKind}
+use Rattle.wac_graph_types.specs.Meaning.{Meaning}
+use Rattle.wac_graph_types.specs.Scope.{Named, Scope, StandsFor, IsFresh}
+use Rattle.wac_graph_types.specs.Steps.{Steps, Fails}
+use Rattle.wac_graph_types.specs.Shape.{IsNoneOf, is_resource_form, is_resource_or_value_form, described, contains_borrow}
+use Rattle.wac_ast_grammar.specs.Tree.{Ident, Ty, OptionalTy, Types, NamedType, ResultList, FuncType}
+use Rattle.wac_ast_grammar.specs.Spans.{ty_span}
 use Rattle.wac_resolution_errors.specs.Error.{Error, undefined_name, not_resource_type, not_value_type, duplicate_parameter, duplicate_result, borrow_in_result}
 use Rattle.wac_resolution_rules.specs.Types.{HasType, HasOptional, HasParam, HasResultType, HasResult}
 

@@ -2,15 +2,15 @@
 use Rattle.std.specs.Prelude.{◌≡◌, ◌⊎◌, ℕ, List, [], ◌∷◌, ◌++◌, Option, Some, None, codes, find, false}
 use Rattle.std.specs.Str.{bytes_eq}
 use Rattle.wac_lexer.specs.Span.{Span}
-use Rattle.wac_types.specs.declared.kind.ExternKind.{ExternKind}
-use Rattle.wac_types.specs.declared.kind.ExternKind.TheVariants as sides
-use Rattle.wac_types.specs.declared.kind.FuncKind.TheVariants as funcs
-use Rattle.wac_types.specs.Meaning.{Meaning}
-use Rattle.wac_types.specs.Scope.{Scope, look_up, StandsFor, IsFresh}
-use Rattle.wac_types.specs.Steps.{Steps, Fails}
-use Rattle.wac_types.specs.Shape.{IsA, IsNoneOf, is_func_form, is_interface_form, is_func_or_interface_form, is_world_form, described, entry_of, imports_of, exports_of}
-use Rattle.wac_grammar.specs.Tree.{Ident, FuncTypeRef, InterfaceItem, ExternType, WorldItemPath, WorldItem, WorldRef, WorldIncludeItem, WorldInclude, TypeStatement}
-use Rattle.wac_grammar.specs.Spans.{world_ref_name, world_ref_span}
+use Rattle.wac_graph_types.specs.declared.kind.ExternKind.{ExternKind}
+use Rattle.wac_graph_types.specs.declared.kind.ExternKind.TheVariants as sides
+use Rattle.wac_graph_types.specs.declared.kind.FuncKind.TheVariants as funcs
+use Rattle.wac_graph_types.specs.Meaning.{Meaning}
+use Rattle.wac_graph_types.specs.Scope.{Scope, look_up, StandsFor, IsFresh}
+use Rattle.wac_graph_types.specs.Steps.{Steps, Fails}
+use Rattle.wac_graph_types.specs.Shape.{IsA, IsNoneOf, is_func_form, is_interface_form, is_func_or_interface_form, is_world_form, described, entry_of, imports_of, exports_of}
+use Rattle.wac_ast_grammar.specs.Tree.{Ident, FuncTypeRef, InterfaceItem, ExternType, WorldItemPath, WorldItem, WorldRef, WorldIncludeItem, WorldInclude, TypeStatement}
+use Rattle.wac_ast_grammar.specs.Spans.{world_ref_name, world_ref_span}
 use Rattle.wac_resolution_errors.specs.Error.{Error, not_func_or_interface, duplicate_world_include_name, not_world, missing_world_include, world_include_conflict, not_func_type, declaration_conflict, duplicate_name}
 use Rattle.wac_resolution_rules.specs.Paths.{Setting, LeadsTo, WorldNames}
 use Rattle.wac_resolution_rules.specs.Bodies.{Body, empty_body, externs}

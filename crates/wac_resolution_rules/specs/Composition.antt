@@ -1,8 +1,8 @@
 -- What statements compose: nodes, exports and declarations, without a table.
 use Rattle.std.specs.Prelude.{ℕ, List, [], ◌∷◌, ◌++◌, map, Option, Some, None, slice_get, slice_set}
-use Rattle.wac_types.specs.Label.{plain, dangling}
-use Rattle.wac_types.specs.Meaning.{Meaning, node, done}
-use Rattle.wac_types.specs.Scope.{Named, Scope, with_named}
+use Rattle.wac_graph_types.specs.Label.{plain, dangling}
+use Rattle.wac_graph_types.specs.Meaning.{Meaning, node, done}
+use Rattle.wac_graph_types.specs.Scope.{Named, Scope, with_named}
 use Rattle.wac_graph.specs.Package.{Key}
 
 -- an import of a name, a definition, an alias of an export of a node, or an instance of a package

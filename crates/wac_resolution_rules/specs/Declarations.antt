@@ -1,14 +1,14 @@
 -- Which kind a type declaration declares.
 use Rattle.std.specs.Prelude.{◌≡◌, ℕ, suc, List, [], Option, Some, None, option_map}
-use Rattle.wac_types.specs.Kind.{Form, a_func, func, a_value, a_resource}
-use Rattle.wac_types.specs.Label.{Plain}
-use Rattle.wac_types.specs.Meaning.{Meaning}
-use Rattle.wac_types.specs.Scope.{Named, Scope, StandsFor, IsFresh, with_named}
-use Rattle.wac_types.specs.Steps.{Steps}
-use Rattle.wac_types.specs.Shape.{form_of, kind_of, entry_of, as_value, nothing, defined_type, naming_each, alias_type}
+use Rattle.wac_graph_types.specs.Kind.{Form, a_func, func, a_value, a_resource}
+use Rattle.wac_graph_types.specs.Label.{Plain}
+use Rattle.wac_graph_types.specs.Meaning.{Meaning}
+use Rattle.wac_graph_types.specs.Scope.{Named, Scope, StandsFor, IsFresh, with_named}
+use Rattle.wac_graph_types.specs.Steps.{Steps}
+use Rattle.wac_graph_types.specs.Shape.{form_of, kind_of, entry_of, as_value, nothing, defined_type, naming_each, alias_type}
 use Rattle.wac_graph.specs.Origin.{Naming}
 use Rattle.wac_graph.specs.Resources.{alias_entry}
-use Rattle.wac_grammar.specs.Tree.{Ident, Ty, VariantCase, VariantDecl, Field, RecordDecl, Flag, FlagsDecl, EnumCase, EnumDecl, TypeAliasKind, TypeDecl}
+use Rattle.wac_ast_grammar.specs.Tree.{Ident, Ty, VariantCase, VariantDecl, Field, RecordDecl, Flag, FlagsDecl, EnumCase, EnumDecl, TypeAliasKind, TypeDecl}
 use Rattle.wac_resolution_rules.specs.Types.{HasType, IsFunc}
 
 abbrev pub HasOption : Scope → Option Ty → Meaning → Type 0

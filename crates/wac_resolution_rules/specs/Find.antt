@@ -2,8 +2,8 @@
 use Rattle.std.specs.Prelude.{ℕ, List, [], ◌∷◌, Option, Some, None, is_some, unwrap_or, map, filter, Bool, ◌&&◌, reverse, if◌then◌else◌}
 use Rattle.std.specs.List.{before_first, list_any}
 use Rattle.std.specs.Str.{bytes_eq}
-use Rattle.wac_types.specs.Scope.{Named, look_up}
-use Rattle.wac_grammar.specs.Version.{is_at_sign, is_slash}
+use Rattle.wac_graph_types.specs.Scope.{Named, look_up}
+use Rattle.wac_ast_grammar.specs.Version.{is_at_sign, is_slash}
 
 -- the text after its last '/'
 abbrev pub after_last_slash : List ℕ → List ℕ

@@ -1,14 +1,14 @@
 -- What resolving is given besides a document: the setting, and rules.
 use Rattle.std.specs.Prelude.{ℕ, List, Option, None, if◌then◌else◌}
 use Rattle.std.specs.Str.{bytes_eq}
-use Rattle.wac_types.specs.declared.rules.Reason.{Reason}
-use Rattle.wac_types.specs.Meaning.{Meaning}
-use Rattle.wac_types.specs.Scope.{Named}
-use Rattle.wac_types.specs.Shape.{entry_of, imports_of}
+use Rattle.wac_graph_types.specs.declared.rules.Reason.{Reason}
+use Rattle.wac_graph_types.specs.Meaning.{Meaning}
+use Rattle.wac_graph_types.specs.Scope.{Named}
+use Rattle.wac_graph_types.specs.Shape.{entry_of, imports_of}
 use Rattle.wac_graph.specs.Package.{Key}
 use Rattle.wac_graph.specs.Packages.{Contents, package_of}
-use Rattle.wac_grammar.specs.Tree.{PackageName}
-use Rattle.wac_grammar.specs.Version.{version_text}
+use Rattle.wac_ast_grammar.specs.Tree.{PackageName}
+use Rattle.wac_ast_grammar.specs.Version.{version_text}
 use Rattle.wac_resolution_rules.specs.Paths.{Setting}
 
 -- two tests: each returns no reason, or the reason against

@@ -2,11 +2,11 @@
 use Rattle.std.specs.Prelude.{◌≡◌, ℕ, ◌==◌, List, [], Some, None, unwrap_or, Bool, true, false}
 use Rattle.std.specs.List.{list_any}
 use Rattle.wac_lexer.specs.Ascii.{colon}
-use Rattle.wac_types.specs.Meaning.{Meaning}
-use Rattle.wac_types.specs.Scope.{Named, Scope, look_up, IsFresh, with_named, without_first}
-use Rattle.wac_types.specs.Steps.{Steps}
-use Rattle.wac_types.specs.Shape.{IsA, is_world_form, entry_of, imports_of, exports_of}
-use Rattle.wac_grammar.specs.Tree.{WorldInclude, WorldIncludeItem}
+use Rattle.wac_graph_types.specs.Meaning.{Meaning}
+use Rattle.wac_graph_types.specs.Scope.{Named, Scope, look_up, IsFresh, with_named, without_first}
+use Rattle.wac_graph_types.specs.Steps.{Steps}
+use Rattle.wac_graph_types.specs.Shape.{IsA, is_world_form, entry_of, imports_of, exports_of}
+use Rattle.wac_ast_grammar.specs.Tree.{WorldInclude, WorldIncludeItem}
 use Rattle.wac_resolution_rules.specs.Paths.{Setting, WorldNames}
 use Rattle.wac_resolution_rules.specs.Bodies.{Body}
 

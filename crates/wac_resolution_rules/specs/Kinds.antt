@@ -1,8 +1,8 @@
 -- The entry of a kind of one sort.
 use Rattle.std.specs.Prelude.{Option, Some, None, Bool, true, false, if◌then◌else◌}
-use Rattle.wac_types.specs.Kind.{Form, a_world, component}
-use Rattle.wac_types.specs.Meaning.{Meaning}
-use Rattle.wac_types.specs.Shape.{is_a, is_instance_form, entry_of}
+use Rattle.wac_graph_types.specs.Kind.{Form, a_world, component}
+use Rattle.wac_graph_types.specs.Meaning.{Meaning}
+use Rattle.wac_graph_types.specs.Shape.{is_a, is_instance_form, entry_of}
 
 -- the entry of a kind whose form passes the test
 abbrev pub entry_if : (Form → Bool) → Meaning → Option Meaning

@@ -5,8 +5,8 @@ use Rattle.std.specs.Str.{bytes_eq}
 use Rattle.wac_lexer.specs.Span.{Span}
 use Rattle.wac_graph.specs.Package.{Key, same_key}
 use Rattle.wac_graph.specs.Packages.{Packages, package_of}
-use Rattle.wac_grammar.specs.Tree.{PackageName, PackagePath, UsePath, InterfaceItem, ExternType, WorldItemPath, WorldRef, WorldItem, TypeStatement, Expr, PrimaryExpr, Arguments, InstantiationArgument, ImportType, Statement, Document}
-use Rattle.wac_grammar.specs.Segments.{package_name_span}
+use Rattle.wac_ast_grammar.specs.Tree.{PackageName, PackagePath, UsePath, InterfaceItem, ExternType, WorldItemPath, WorldRef, WorldItem, TypeStatement, Expr, PrimaryExpr, Arguments, InstantiationArgument, ImportType, Statement, Document}
+use Rattle.wac_ast_grammar.specs.Segments.{package_name_span}
 use Rattle.wac_resolution_rules.specs.Paths.{Setting, key_of_path}
 use Rattle.wac_resolution_rules.specs.Given.{Given, key_named}
 use Rattle.wac_resolution_rules.specs.Composition.{Node}

@@ -2,15 +2,15 @@
 use Rattle.std.specs.Prelude.{◌≡◌, ℕ, List, [], ◌∷◌, Option, Some, option_map, Bool, true, false}
 use Rattle.std.specs.List.{slice_split}
 use Rattle.std.specs.Str.{bytes_eq}
-use Rattle.wac_types.specs.Meaning.{Meaning}
-use Rattle.wac_types.specs.Scope.{Scope, StandsFor}
-use Rattle.wac_types.specs.Steps.{Steps}
-use Rattle.wac_types.specs.Shape.{export_of}
+use Rattle.wac_graph_types.specs.Meaning.{Meaning}
+use Rattle.wac_graph_types.specs.Scope.{Scope, StandsFor}
+use Rattle.wac_graph_types.specs.Steps.{Steps}
+use Rattle.wac_graph_types.specs.Shape.{export_of}
 use Rattle.wac_graph.specs.Package.{Key}
 use Rattle.wac_graph.specs.Origin.{Naming}
 use Rattle.wac_graph.specs.Packages.{Packages, Contents, package_of}
-use Rattle.wac_grammar.specs.Tree.{PackagePath, UsePath, WorldRef}
-use Rattle.wac_grammar.specs.Version.{is_slash, version_text}
+use Rattle.wac_ast_grammar.specs.Tree.{PackagePath, UsePath, WorldRef}
+use Rattle.wac_ast_grammar.specs.Version.{is_slash, version_text}
 
 -- what a document is resolved in: numbers for origins, the document's own package, and the given packages
 pub record Setting : Type 0 where

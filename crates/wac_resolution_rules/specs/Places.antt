@@ -2,8 +2,8 @@
 use Rattle.std.specs.Prelude.{◌≡◌, ℕ, List, [], ◌∷◌, ◌++◌, drop, length, map}
 use Rattle.std.specs.List.{flat_map}
 use Rattle.wac_lexer.specs.Span.{Span}
-use Rattle.wac_types.specs.Scope.{Named}
-use Rattle.wac_grammar.specs.Tree.{Ident, UseItem, InterfaceItem, WorldItem, Statement}
+use Rattle.wac_graph_types.specs.Scope.{Named}
+use Rattle.wac_ast_grammar.specs.Tree.{Ident, UseItem, InterfaceItem, WorldItem, Statement}
 use Rattle.wac_resolution_rules.specs.Bodies.{used_as}
 use Rattle.wac_resolution_rules.specs.Spans.{item_identifier, identifier_of, import_span, export_span}
 use Rattle.wac_resolution_rules.specs.Given.{Given}

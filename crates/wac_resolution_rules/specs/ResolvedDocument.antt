@@ -1,12 +1,12 @@
 -- What resolving returns: exactly the composition that a document describes, or a rule that the first failing statement breaks.
 use Rattle.std.specs.Prelude.{◌≡◌, ◌↔◌, List, ◌∷◌, ◌++◌, Some, Result, Ok, Err, ◌⊎◌}
-use Rattle.wac_types.specs.Steps.{Steps}
-use Rattle.wac_types.specs.Package.{PackageParts}
+use Rattle.wac_graph_types.specs.Steps.{Steps}
+use Rattle.wac_graph_types.specs.Package.{PackageParts}
 use Rattle.wac_graph.specs.Origin.{Naming, IsOneToOne}
 use Rattle.wac_graph.specs.Package.{Key}
 use Rattle.wac_graph.specs.Packages.{handed}
-use Rattle.wac_grammar.specs.Tree.{PackagePath, Statement, Document}
-use Rattle.wac_grammar.specs.Version.{version_text}
+use Rattle.wac_ast_grammar.specs.Tree.{PackagePath, Statement, Document}
+use Rattle.wac_ast_grammar.specs.Version.{version_text}
 use Rattle.wac_resolution_rules.specs.Given.{Given, Rules}
 use Rattle.wac_resolution_rules.specs.Composition.{Composition, start}
 use Rattle.wac_resolution_rules.specs.Statements.{Goes, Composes}

@@ -1,8 +1,8 @@
 -- What always holds of a composition, and what it keeps as it grows.
 use Rattle.std.specs.Prelude.{◌≡◌, ◌<◌, ℕ, List, [], ◌∷◌, ◌++◌, Option, Some, None, length, ◌⊎◌, Bool, false}
 use Rattle.std.specs.List.{AllByRecursion}
-use Rattle.wac_types.specs.Meaning.{EachFrom}
-use Rattle.wac_types.specs.Scope.{Named, IsFresh}
+use Rattle.wac_graph_types.specs.Meaning.{EachFrom}
+use Rattle.wac_graph_types.specs.Scope.{Named, IsFresh}
 use Rattle.wac_graph.specs.Package.{Key}
 use Rattle.wac_graph.specs.Packages.{Contents, package_of}
 use Rattle.wac_resolution_rules.specs.Given.{Given, imports_in}

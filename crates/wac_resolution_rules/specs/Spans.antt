@@ -1,8 +1,8 @@
 -- Where the parts of a tree are, and the identifiers and texts that name them.
 use Rattle.std.specs.Prelude.{ℕ, List, Some, None}
 use Rattle.wac_lexer.specs.Span.{Span}
-use Rattle.wac_grammar.specs.Tree.{Ident, UsePath, ItemTypeDecl, TypeStatement, ImportType, ImportStatement, Expr, ExportOptions, ExportStatement}
-use Rattle.wac_grammar.specs.Spans.{extern_name_span}
+use Rattle.wac_ast_grammar.specs.Tree.{Ident, UsePath, ItemTypeDecl, TypeStatement, ImportType, ImportStatement, Expr, ExportOptions, ExportStatement}
+use Rattle.wac_ast_grammar.specs.Spans.{extern_name_span}
 use Rattle.wac_resolution_rules.specs.TypeStatements.{declared_as}
 
 -- ---- types and declarations

@@ -1,13 +1,13 @@
 -- What a statement does to a composition.
 use Rattle.std.specs.Prelude.{◌≡◌, ◌≢◌, ℕ, List, [], Option, Some, None, is_none, unwrap_or, option_and_then, filter, if◌then◌else◌}
 use Rattle.std.specs.Option.{option_or}
-use Rattle.wac_types.specs.Kind.{func, instance}
-use Rattle.wac_types.specs.Meaning.{Meaning}
-use Rattle.wac_types.specs.Scope.{Named, look_up, StandsFor, IsFresh}
-use Rattle.wac_types.specs.Steps.{Steps}
-use Rattle.wac_types.specs.Shape.{kind_of, exports_of, id_of, promoted}
-use Rattle.wac_grammar.specs.Tree.{Ident, ImportType, ImportStatement, LetStatement, ExportOptions, ExportStatement, Statement}
-use Rattle.wac_grammar.specs.Spans.{extern_name_text}
+use Rattle.wac_graph_types.specs.Kind.{func, instance}
+use Rattle.wac_graph_types.specs.Meaning.{Meaning}
+use Rattle.wac_graph_types.specs.Scope.{Named, look_up, StandsFor, IsFresh}
+use Rattle.wac_graph_types.specs.Steps.{Steps}
+use Rattle.wac_graph_types.specs.Shape.{kind_of, exports_of, id_of, promoted}
+use Rattle.wac_ast_grammar.specs.Tree.{Ident, ImportType, ImportStatement, LetStatement, ExportOptions, ExportStatement, Statement}
+use Rattle.wac_ast_grammar.specs.Spans.{extern_name_text}
 use Rattle.wac_resolution_rules.specs.Types.{IsFunc}
 use Rattle.wac_resolution_rules.specs.Paths.{LeadsTo}
 use Rattle.wac_resolution_rules.specs.Worlds.{IsInterface}

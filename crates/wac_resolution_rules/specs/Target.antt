@@ -2,11 +2,11 @@
 use Rattle.std.specs.Prelude.{◌≡◌, ℕ, List, [], ◌++◌, Option, Some, None, option_map, option_and_then, filter_map, flat_map, map, reverse}
 use Rattle.std.specs.Option.{option_or}
 use Rattle.std.specs.List.{AllByRecursion}
-use Rattle.wac_types.specs.Meaning.{Meaning}
-use Rattle.wac_types.specs.Scope.{Named, look_up, StandsFor}
-use Rattle.wac_types.specs.Shape.{exports_of, imports_of, uses_of, id_of, promoted}
+use Rattle.wac_graph_types.specs.Meaning.{Meaning}
+use Rattle.wac_graph_types.specs.Scope.{Named, look_up, StandsFor}
+use Rattle.wac_graph_types.specs.Shape.{exports_of, imports_of, uses_of, id_of, promoted}
 use Rattle.wac_graph.specs.Packages.{package_of}
-use Rattle.wac_grammar.specs.Tree.{PackagePath}
+use Rattle.wac_ast_grammar.specs.Tree.{PackagePath}
 use Rattle.wac_resolution_rules.specs.Kinds.{instance_of, world_of}
 use Rattle.wac_resolution_rules.specs.Given.{Given, imports_in}
 use Rattle.wac_resolution_rules.specs.Paths.{LeadsTo}

@@ -1,10 +1,10 @@
 -- Type statements at root.
 use Rattle.std.specs.Prelude.{◌≡◌, ℕ, List, ◌++◌, Option, Some, None, length, codes}
-use Rattle.wac_types.specs.Kind.{an_interface, a_world}
-use Rattle.wac_types.specs.Meaning.{Meaning}
-use Rattle.wac_types.specs.Scope.{IsFresh}
-use Rattle.wac_types.specs.Shape.{kind_of}
-use Rattle.wac_grammar.specs.Tree.{Ident, TypeStatement, TypeDecl}
+use Rattle.wac_graph_types.specs.Kind.{an_interface, a_world}
+use Rattle.wac_graph_types.specs.Meaning.{Meaning}
+use Rattle.wac_graph_types.specs.Scope.{IsFresh}
+use Rattle.wac_graph_types.specs.Shape.{kind_of}
+use Rattle.wac_ast_grammar.specs.Tree.{Ident, TypeStatement, TypeDecl}
 use Rattle.wac_resolution_rules.specs.Paths.{Setting}
 use Rattle.wac_resolution_rules.specs.Declarations.{IsTypeDecl}
 use Rattle.wac_resolution_rules.specs.Worlds.{IsInterface, IsWorld}

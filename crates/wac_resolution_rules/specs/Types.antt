@@ -1,13 +1,13 @@
 -- Which meaning a type has in a scope.
 use Rattle.std.specs.Prelude.{◌≡◌, List, [], ◌∷◌, Bool, true, false, codes}
-use Rattle.wac_types.specs.declared.kind.PrimitiveType.TheVariants as primitives
-use Rattle.wac_types.specs.Label.{Plain}
-use Rattle.wac_types.specs.Entry.{Slot}
-use Rattle.wac_types.specs.Meaning.{Meaning}
-use Rattle.wac_types.specs.Scope.{Named, Scope, StandsFor, IsFresh, with_named}
-use Rattle.wac_types.specs.Steps.{Steps}
-use Rattle.wac_types.specs.Shape.{IsA, is_resource_form, is_resource_or_value_form, entry_of, as_value, nothing, primitive_value, borrow_of, own_of, defined_value, in_order, one_child, result_children, one_result, named_results, func_entry, contains_borrow}
-use Rattle.wac_grammar.specs.Tree.{Ty, OptionalTy, Types, NamedType, ResultList, FuncType}
+use Rattle.wac_graph_types.specs.declared.kind.PrimitiveType.TheVariants as primitives
+use Rattle.wac_graph_types.specs.Label.{Plain}
+use Rattle.wac_graph_types.specs.Entry.{Slot}
+use Rattle.wac_graph_types.specs.Meaning.{Meaning}
+use Rattle.wac_graph_types.specs.Scope.{Named, Scope, StandsFor, IsFresh, with_named}
+use Rattle.wac_graph_types.specs.Steps.{Steps}
+use Rattle.wac_graph_types.specs.Shape.{IsA, is_resource_form, is_resource_or_value_form, entry_of, as_value, nothing, primitive_value, borrow_of, own_of, defined_value, in_order, one_child, result_children, one_result, named_results, func_entry, contains_borrow}
+use Rattle.wac_ast_grammar.specs.Tree.{Ty, OptionalTy, Types, NamedType, ResultList, FuncType}
 
 abbrev mutual
   -- the type of values

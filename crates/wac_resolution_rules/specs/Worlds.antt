@@ -1,14 +1,14 @@
 -- What interfaces and worlds mean.
 use Rattle.std.specs.Prelude.{◌≡◌, ℕ, List, [], ◌++◌, Option, Some, None, unwrap_or}
 use Rattle.std.specs.List.{filter_map}
-use Rattle.wac_types.specs.declared.kind.ExternKind.{ExternKind}
-use Rattle.wac_types.specs.declared.kind.ExternKind.TheVariants as sides
-use Rattle.wac_types.specs.Kind.{func, instance}
-use Rattle.wac_types.specs.Meaning.{Meaning}
-use Rattle.wac_types.specs.Scope.{Scope, StandsFor, IsFresh}
-use Rattle.wac_types.specs.Steps.{Steps}
-use Rattle.wac_types.specs.Shape.{IsA, is_func_form, is_interface_form, is_func_or_interface_form, entry_of, id_of, kind_of, promoted, interface_entry, world_entry}
-use Rattle.wac_grammar.specs.Tree.{FuncTypeRef, InterfaceItem, ExternType, WorldItemPath, WorldItem, WorldInclude}
+use Rattle.wac_graph_types.specs.declared.kind.ExternKind.{ExternKind}
+use Rattle.wac_graph_types.specs.declared.kind.ExternKind.TheVariants as sides
+use Rattle.wac_graph_types.specs.Kind.{func, instance}
+use Rattle.wac_graph_types.specs.Meaning.{Meaning}
+use Rattle.wac_graph_types.specs.Scope.{Scope, StandsFor, IsFresh}
+use Rattle.wac_graph_types.specs.Steps.{Steps}
+use Rattle.wac_graph_types.specs.Shape.{IsA, is_func_form, is_interface_form, is_func_or_interface_form, entry_of, id_of, kind_of, promoted, interface_entry, world_entry}
+use Rattle.wac_ast_grammar.specs.Tree.{FuncTypeRef, InterfaceItem, ExternType, WorldItemPath, WorldItem, WorldInclude}
 use Rattle.wac_resolution_rules.specs.Types.{IsFunc}
 use Rattle.wac_resolution_rules.specs.Paths.{Setting, LeadsTo}
 use Rattle.wac_resolution_rules.specs.Bodies.{Body, empty_body, externs, with_extern, with_count, HasItem, HasUse}

@@ -1,32 +1,32 @@
 -- What is added to the types of a graph.
 use Rattle.std.proofs.Common.{◌≡◌, ◌∙◌, ℕ, List, [], ◌∷◌, Option, Some, None, refl, sym, ap, subst, arith}
 use Rattle.std.specs.Prelude.{slice_get, option_map, option_and_then, string_bytes, IfSome}
-use Rattle.wac_types.specs.declared.kind.ItemKind.TheVariants as kinds
-use Rattle.wac_types.specs.declared.kind.«Type».TheVariants as types
-use Rattle.wac_types.specs.declared.kind.ValueType.TheVariants as values
-use Rattle.wac_types.specs.declared.kind.Sort.TheVariants as sorts
-use Rattle.wac_types.specs.declared.kind.DefinedTypeId.{DefinedTypeId}
-use Rattle.wac_types.specs.declared.kind.FuncTypeId.{FuncTypeId}
-use Rattle.wac_types.specs.declared.kind.InterfaceId.{InterfaceId}
-use Rattle.wac_types.specs.declared.kind.WorldId.{WorldId}
-use Rattle.wac_types.specs.declared.kind.ResourceId.{ResourceId}
-use Rattle.wac_types.specs.declared.entry.Entry.{Entry}
-use Rattle.wac_types.specs.declared.entry.Entry.TheVariants as entries
-use Rattle.wac_types.specs.declared.entry.DefinedType.{DefinedType}
-use Rattle.wac_types.specs.declared.entry.FuncType.{FuncType}
-use Rattle.wac_types.specs.declared.entry.Interface.{Interface}
-use Rattle.wac_types.specs.declared.entry.World.{World}
-use Rattle.wac_types.specs.declared.entry.Resource.{Resource}
-use Rattle.wac_types.specs.declared.entry.ResourceAlias.{ResourceAlias}
-use Rattle.wac_types.specs.Entry.{children, sort_of, alias_children}
-use Rattle.wac_types.specs.Kind.{value, defined}
-use Rattle.wac_types.specs.Label.{resource}
-use Rattle.wac_types.specs.Meaning.{Meaning, node, row, of_child, EachKind}
-use Rattle.wac_types.specs.Names.{by_name}
-use Rattle.wac_types.specs.Readings.{as_resource}
-use Rattle.wac_types.specs.Shape.{kind_of, entry_over, owner_of, func_entry, interface_entry, world_entry, results_mean, values_mean, items_mean, uses_mean}
-use Rattle.wac_types.specs.Table.{Names, EachEntryNamed}
-use Rattle.wac_types.proofs.Parts.{defined_is, func_is, interface_is, world_is}
+use Rattle.wac_graph_types.specs.declared.kind.ItemKind.TheVariants as kinds
+use Rattle.wac_graph_types.specs.declared.kind.«Type».TheVariants as types
+use Rattle.wac_graph_types.specs.declared.kind.ValueType.TheVariants as values
+use Rattle.wac_graph_types.specs.declared.kind.Sort.TheVariants as sorts
+use Rattle.wac_graph_types.specs.declared.kind.DefinedTypeId.{DefinedTypeId}
+use Rattle.wac_graph_types.specs.declared.kind.FuncTypeId.{FuncTypeId}
+use Rattle.wac_graph_types.specs.declared.kind.InterfaceId.{InterfaceId}
+use Rattle.wac_graph_types.specs.declared.kind.WorldId.{WorldId}
+use Rattle.wac_graph_types.specs.declared.kind.ResourceId.{ResourceId}
+use Rattle.wac_graph_types.specs.declared.entry.Entry.{Entry}
+use Rattle.wac_graph_types.specs.declared.entry.Entry.TheVariants as entries
+use Rattle.wac_graph_types.specs.declared.entry.DefinedType.{DefinedType}
+use Rattle.wac_graph_types.specs.declared.entry.FuncType.{FuncType}
+use Rattle.wac_graph_types.specs.declared.entry.Interface.{Interface}
+use Rattle.wac_graph_types.specs.declared.entry.World.{World}
+use Rattle.wac_graph_types.specs.declared.entry.Resource.{Resource}
+use Rattle.wac_graph_types.specs.declared.entry.ResourceAlias.{ResourceAlias}
+use Rattle.wac_graph_types.specs.Entry.{children, sort_of, alias_children}
+use Rattle.wac_graph_types.specs.Kind.{value, defined}
+use Rattle.wac_graph_types.specs.Label.{resource}
+use Rattle.wac_graph_types.specs.Meaning.{Meaning, node, row, of_child, EachKind}
+use Rattle.wac_graph_types.specs.Names.{by_name}
+use Rattle.wac_graph_types.specs.Readings.{as_resource}
+use Rattle.wac_graph_types.specs.Shape.{kind_of, entry_over, owner_of, func_entry, interface_entry, world_entry, results_mean, values_mean, items_mean, uses_mean}
+use Rattle.wac_graph_types.specs.Table.{Names, EachEntryNamed}
+use Rattle.wac_graph_types.proofs.Parts.{defined_is, func_is, interface_is, world_is}
 use Rattle.wac_graph.specs.Adds.{Adds}
 use Rattle.wac_graph.specs.Graph.{Parts}
 use Rattle.wac_graph.specs.Means.{entry_means, declared_count, origin_at, EntriesMean}
@@ -103,7 +103,7 @@ adds_alias old new r name from owner id alias named owned a there = record {
       added_means old new (entries.Resource r) id.0 a naming
       ∙ ap (λ (n : List ℕ). node (resource origin n) (row f (alias_children r.alias))) named
       ∙ ap (λ (x : Option ResourceAlias). node (resource origin name) (row f (alias_children x))) alias
-      ∙ ap (λ (m : Meaning). node (resource origin name) (Rattle.wac_types.specs.Meaning.Row.more Rattle.wac_types.specs.Entry.Slot.owner m (row f ((Rattle.wac_types.specs.Entry.Slot.source, Some (kinds.Ty (types.Resource from))) ∷ [])))) (owned naming);
+      ∙ ap (λ (m : Meaning). node (resource origin name) (Rattle.wac_graph_types.specs.Meaning.Row.more Rattle.wac_graph_types.specs.Entry.Slot.owner m (row f ((Rattle.wac_graph_types.specs.Entry.Slot.source, Some (kinds.Ty (types.Resource from))) ∷ [])))) (owned naming);
 }
 
 pub alias_kinds : (ts : List Entry) (x : Option ResourceAlias) (owner : Option InterfaceId) (from : ResourceId) → x ≡ Some (record { owner = owner; source = from })

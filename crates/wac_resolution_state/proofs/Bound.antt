@@ -4,7 +4,7 @@ use Rattle.std.specs.Prelude.{option_map}
 use Rattle.std.specs.Map.{lookup}
 use Rattle.std.specs.Str.{bytes_eq}
 use Rattle.indexmap.specs.IndexMap.{insert_entry}
-use Rattle.wac_types.specs.Scope.{Named, look_up, with_named, IsFresh}
+use Rattle.wac_graph_types.specs.Scope.{Named, look_up, with_named, IsFresh}
 use Rattle.wac_resolution_state.specs.Bindings.{by_text}
 
 -- what a map has under a text is found by the text

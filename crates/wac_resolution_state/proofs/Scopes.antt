@@ -2,16 +2,16 @@
 use Rattle.std.proofs.Common.{◌≡◌, ◌∙◌, ℕ, List, Some, None, refl, ap}
 use Rattle.std.specs.Prelude.{option_map, alloc_error}
 use Rattle.wac_lexer.specs.Span.{Span}
-use Rattle.wac_grammar.specs.Tree.{Ident, Ty}
-use Rattle.wac_types.specs.declared.kind.ItemKind.{ItemKind}
-use Rattle.wac_types.specs.declared.kind.ItemKind.TheVariants as kinds
-use Rattle.wac_types.specs.declared.kind.«Type».TheVariants as types
-use Rattle.wac_types.specs.declared.kind.ValueType.{ValueType}
-use Rattle.wac_types.specs.declared.kind.ValueType.TheVariants as values
-use Rattle.wac_types.specs.declared.kind.ResourceId.{ResourceId}
-use Rattle.wac_types.specs.Scope.{Named, look_up, IsFresh}
-use Rattle.wac_types.proofs.Shapes.{items_found}
-use Rattle.wac_types.proofs.Found.{found_named}
+use Rattle.wac_ast_grammar.specs.Tree.{Ident, Ty}
+use Rattle.wac_graph_types.specs.declared.kind.ItemKind.{ItemKind}
+use Rattle.wac_graph_types.specs.declared.kind.ItemKind.TheVariants as kinds
+use Rattle.wac_graph_types.specs.declared.kind.«Type».TheVariants as types
+use Rattle.wac_graph_types.specs.declared.kind.ValueType.{ValueType}
+use Rattle.wac_graph_types.specs.declared.kind.ValueType.TheVariants as values
+use Rattle.wac_graph_types.specs.declared.kind.ResourceId.{ResourceId}
+use Rattle.wac_graph_types.specs.Scope.{Named, look_up, IsFresh}
+use Rattle.wac_graph_types.proofs.Shapes.{items_found}
+use Rattle.wac_graph_types.proofs.Found.{found_named}
 use Rattle.wac_graph.specs.Graph.{Parts}
 use Rattle.wac_graph.specs.Means.{means, entry_means}
 use Rattle.wac_graph.specs.Origin.{Naming}

@@ -1,19 +1,19 @@
 -- What a graph gets as types are resolved: more types, and nothing else.
 use Rattle.std.specs.Prelude.{◌≡◌, suc}
-use Rattle.wac_types.specs.declared.kind.ItemKind.{ItemKind}
-use Rattle.wac_types.specs.declared.kind.ItemKind.TheVariants as kinds
-use Rattle.wac_types.specs.declared.kind.«Type».TheVariants as types
-use Rattle.wac_types.specs.declared.kind.ValueType.{ValueType}
-use Rattle.wac_types.specs.declared.kind.ResourceId.{ResourceId}
-use Rattle.wac_types.specs.declared.kind.FuncTypeId.{FuncTypeId}
-use Rattle.wac_types.specs.declared.kind.InterfaceId.{InterfaceId}
-use Rattle.wac_types.specs.declared.kind.WorldId.{WorldId}
-use Rattle.wac_types.specs.declared.entry.DefinedType.{DefinedType}
-use Rattle.wac_types.specs.Growth.{KeepsNames}
-use Rattle.wac_types.specs.Label.{defined_label}
-use Rattle.wac_types.specs.Meaning.{Meaning}
-use Rattle.wac_types.specs.Shape.{defined_value, defined_parts}
-use Rattle.wac_types.specs.Table.{Names}
+use Rattle.wac_graph_types.specs.declared.kind.ItemKind.{ItemKind}
+use Rattle.wac_graph_types.specs.declared.kind.ItemKind.TheVariants as kinds
+use Rattle.wac_graph_types.specs.declared.kind.«Type».TheVariants as types
+use Rattle.wac_graph_types.specs.declared.kind.ValueType.{ValueType}
+use Rattle.wac_graph_types.specs.declared.kind.ResourceId.{ResourceId}
+use Rattle.wac_graph_types.specs.declared.kind.FuncTypeId.{FuncTypeId}
+use Rattle.wac_graph_types.specs.declared.kind.InterfaceId.{InterfaceId}
+use Rattle.wac_graph_types.specs.declared.kind.WorldId.{WorldId}
+use Rattle.wac_graph_types.specs.declared.entry.DefinedType.{DefinedType}
+use Rattle.wac_graph_types.specs.Growth.{KeepsNames}
+use Rattle.wac_graph_types.specs.Label.{defined_label}
+use Rattle.wac_graph_types.specs.Meaning.{Meaning}
+use Rattle.wac_graph_types.specs.Shape.{defined_value, defined_parts}
+use Rattle.wac_graph_types.specs.Table.{Names}
 use Rattle.wac_graph.specs.Graph.{Parts}
 use Rattle.wac_graph.specs.Means.{means, entry_means, declared_count}
 use Rattle.wac_graph.specs.Origin.{Naming}

@@ -1,13 +1,13 @@
 -- What identifiers denote, where each name denotes a kind of a graph.
 use Rattle.std.specs.Prelude.{List}
-use Rattle.wac_grammar.specs.Tree.{Ident, Ty}
-use Rattle.wac_types.specs.declared.kind.ItemKind.{ItemKind}
-use Rattle.wac_types.specs.declared.kind.ItemKind.TheVariants as kinds
-use Rattle.wac_types.specs.declared.kind.ValueType.{ValueType}
-use Rattle.wac_types.specs.declared.entry.Entry.{Entry}
-use Rattle.wac_types.specs.Scope.{Named, Scope, StandsFor}
-use Rattle.wac_types.specs.Shape.{items_mean}
-use Rattle.wac_types.specs.Table.{Names, ItemsNamed}
+use Rattle.wac_ast_grammar.specs.Tree.{Ident, Ty}
+use Rattle.wac_graph_types.specs.declared.kind.ItemKind.{ItemKind}
+use Rattle.wac_graph_types.specs.declared.kind.ItemKind.TheVariants as kinds
+use Rattle.wac_graph_types.specs.declared.kind.ValueType.{ValueType}
+use Rattle.wac_graph_types.specs.declared.entry.Entry.{Entry}
+use Rattle.wac_graph_types.specs.Scope.{Named, Scope, StandsFor}
+use Rattle.wac_graph_types.specs.Shape.{items_mean}
+use Rattle.wac_graph_types.specs.Table.{Names, ItemsNamed}
 use Rattle.wac_graph.specs.Graph.{Parts}
 use Rattle.wac_graph.specs.Means.{means, entry_means}
 use Rattle.wac_graph.specs.Origin.{Naming}

@@ -1,7 +1,7 @@
 //! What identifiers denote.
 ghost use Rattle.std.specs.Prelude.{IfOk, IfErr};
 ghost use Rattle.wac_lexer.specs.Span.{Span};
-ghost use Rattle.wac_grammar.specs.Tree.{Ty};
+ghost use Rattle.wac_ast_grammar.specs.Tree.{Ty};
 ghost use Rattle.wac_ast_base.specs.Names.{ident_of};
 ghost use Rattle.wac_graph.specs.Graph.{Parts};
 ghost use Rattle.wac_graph.specs.Origin.{Naming};

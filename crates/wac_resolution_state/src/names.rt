@@ -1,6 +1,6 @@
 //! Names of a scope.
 ghost use Rattle.std.specs.Prelude.{◌≡◌, [], OnOk, OnErr, option_map};
-ghost use Rattle.wac_types.specs.Scope.{look_up, with_named, IsFresh};
+ghost use Rattle.wac_graph_types.specs.Scope.{look_up, with_named, IsFresh};
 ghost use Rattle.wac_resolution_state.specs.Bindings.{places_of, values_of};
 
 use indexmap::IndexMap;

@@ -1,12 +1,12 @@
 //! The graph so far, and what is added to its types.
 ghost use Rattle.std.specs.Prelude.{◌≡◌, IfOk, IfSome, option_map, option_and_then, slice_get, string_bytes};
-ghost use Rattle.wac_types.specs.declared.entry.Entry.TheVariants as entries;
-ghost use Rattle.wac_types.specs.Entry.{children, defined_children};
-ghost use Rattle.wac_types.specs.Meaning.{EachKind, of_child};
-ghost use Rattle.wac_types.specs.Names.{by_name};
-ghost use Rattle.wac_types.specs.Readings.{as_resource};
-ghost use Rattle.wac_types.specs.Shape.{func_entry, interface_entry, world_entry, results_mean, values_mean, items_mean, uses_mean, owner_of as owner_meant};
-ghost use Rattle.wac_types.specs.Table.{Names};
+ghost use Rattle.wac_graph_types.specs.declared.entry.Entry.TheVariants as entries;
+ghost use Rattle.wac_graph_types.specs.Entry.{children, defined_children};
+ghost use Rattle.wac_graph_types.specs.Meaning.{EachKind, of_child};
+ghost use Rattle.wac_graph_types.specs.Names.{by_name};
+ghost use Rattle.wac_graph_types.specs.Readings.{as_resource};
+ghost use Rattle.wac_graph_types.specs.Shape.{func_entry, interface_entry, world_entry, results_mean, values_mean, items_mean, uses_mean, owner_of as owner_meant};
+ghost use Rattle.wac_graph_types.specs.Table.{Names};
 ghost use Rattle.wac_graph.specs.Means.{entry_means, declared_count};
 ghost use Rattle.wac_graph.specs.Origin.{Naming};
 ghost use Rattle.wac_graph.specs.Resources.{resource_entry, alias_entry};

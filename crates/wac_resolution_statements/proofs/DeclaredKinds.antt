@@ -1,12 +1,12 @@
 -- Kinds that type statements declare.
 use Rattle.std.proofs.Common.{◌≡◌, Some, Result, Ok, Err, sym, subst}
 use Rattle.std.specs.Prelude.{IfOk, IfErr}
-use Rattle.wac_grammar.specs.Tree.{InterfaceDecl, WorldDecl, TypeDecl, TypeStatement}
-use Rattle.wac_types.specs.declared.kind.ItemKind.{ItemKind}
-use Rattle.wac_types.specs.Kind.{an_interface, a_world}
-use Rattle.wac_types.specs.Meaning.{Meaning}
-use Rattle.wac_types.specs.Scope.{Scope}
-use Rattle.wac_types.specs.Shape.{kind_of}
+use Rattle.wac_ast_grammar.specs.Tree.{InterfaceDecl, WorldDecl, TypeDecl, TypeStatement}
+use Rattle.wac_graph_types.specs.declared.kind.ItemKind.{ItemKind}
+use Rattle.wac_graph_types.specs.Kind.{an_interface, a_world}
+use Rattle.wac_graph_types.specs.Meaning.{Meaning}
+use Rattle.wac_graph_types.specs.Scope.{Scope}
+use Rattle.wac_graph_types.specs.Shape.{kind_of}
 use Rattle.wac_ast.specs.Statements.{type_statement_of}
 use Rattle.wac_ast.specs.declared.type_statement.TypeStatement.{TypeStatement as CodeStatement}
 use Rattle.wac_graph.specs.Graph.{Parts}

@@ -1,13 +1,13 @@
 -- What the types of imports mean.
 use Rattle.std.proofs.Common.{◌≡◌, [], None, refl, sym, subst}
-use Rattle.wac_grammar.specs.Tree.{Ident, PackagePath, FuncType, InlineInterface, ImportType}
-use Rattle.wac_types.specs.declared.kind.FuncTypeId.{FuncTypeId}
-use Rattle.wac_types.specs.declared.kind.FuncKind.TheVariants as funcs
-use Rattle.wac_types.specs.declared.kind.InterfaceId.{InterfaceId}
-use Rattle.wac_types.specs.declared.kind.ItemKind.{ItemKind}
-use Rattle.wac_types.specs.declared.kind.ItemKind.TheVariants as kinds
-use Rattle.wac_types.specs.Scope.{Scope, StandsFor}
-use Rattle.wac_types.specs.Shape.{entry_of}
+use Rattle.wac_ast_grammar.specs.Tree.{Ident, PackagePath, FuncType, InlineInterface, ImportType}
+use Rattle.wac_graph_types.specs.declared.kind.FuncTypeId.{FuncTypeId}
+use Rattle.wac_graph_types.specs.declared.kind.FuncKind.TheVariants as funcs
+use Rattle.wac_graph_types.specs.declared.kind.InterfaceId.{InterfaceId}
+use Rattle.wac_graph_types.specs.declared.kind.ItemKind.{ItemKind}
+use Rattle.wac_graph_types.specs.declared.kind.ItemKind.TheVariants as kinds
+use Rattle.wac_graph_types.specs.Scope.{Scope, StandsFor}
+use Rattle.wac_graph_types.specs.Shape.{entry_of}
 use Rattle.wac_graph.specs.Graph.{Parts}
 use Rattle.wac_graph.specs.Means.{means, entry_means, declared_count}
 use Rattle.wac_graph.specs.Origin.{Naming}

@@ -3,17 +3,17 @@ use Rattle.std.proofs.Common.{◌≡◌, ◌∙◌, ℕ, List, [], ◌∷◌, �
 use Rattle.std.specs.Prelude.{slice_set, filter_map}
 use Rattle.std.proofs.lemmas.List.Elements.{filter_map-append}
 use Rattle.wac_lexer.specs.Span.{Span}
-use Rattle.wac_grammar.specs.Tree.{ImportStatement, Statement}
-use Rattle.wac_types.specs.declared.kind.ItemKind.{ItemKind}
-use Rattle.wac_types.specs.declared.kind.ItemKind.TheVariants as kinds
-use Rattle.wac_types.specs.declared.kind.«Type».TheVariants as types
-use Rattle.wac_types.specs.declared.entry.Entry.{Entry}
-use Rattle.wac_types.specs.Kind.{promoted}
-use Rattle.wac_types.specs.Meaning.{Meaning}
-use Rattle.wac_types.specs.Scope.{Named, look_up, IsFresh, with_named}
-use Rattle.wac_types.specs.Shape as shapes
-use Rattle.wac_types.specs.Table.{Names}
-use Rattle.wac_types.proofs.Shapes.{promoted_is}
+use Rattle.wac_ast_grammar.specs.Tree.{ImportStatement, Statement}
+use Rattle.wac_graph_types.specs.declared.kind.ItemKind.{ItemKind}
+use Rattle.wac_graph_types.specs.declared.kind.ItemKind.TheVariants as kinds
+use Rattle.wac_graph_types.specs.declared.kind.«Type».TheVariants as types
+use Rattle.wac_graph_types.specs.declared.entry.Entry.{Entry}
+use Rattle.wac_graph_types.specs.Kind.{promoted}
+use Rattle.wac_graph_types.specs.Meaning.{Meaning}
+use Rattle.wac_graph_types.specs.Scope.{Named, look_up, IsFresh, with_named}
+use Rattle.wac_graph_types.specs.Shape as shapes
+use Rattle.wac_graph_types.specs.Table.{Names}
+use Rattle.wac_graph_types.proofs.Shapes.{promoted_is}
 use Rattle.wac_graph.specs.Graph.{Parts}
 use Rattle.wac_graph.specs.Means.{means, entry_means, declared_count}
 use Rattle.wac_graph.specs.Origin.{Naming}

@@ -1,10 +1,10 @@
 -- Type statements as they are executed in a graph.
 use Rattle.std.specs.Prelude.{◌≡◌, ℕ}
-use Rattle.wac_grammar.specs.Tree.{TypeStatement}
-use Rattle.wac_types.specs.declared.kind.ItemKind.{ItemKind}
-use Rattle.wac_types.specs.Kind.{an_interface, a_world}
-use Rattle.wac_types.specs.Meaning.{Meaning}
-use Rattle.wac_types.specs.Shape.{kind_of}
+use Rattle.wac_ast_grammar.specs.Tree.{TypeStatement}
+use Rattle.wac_graph_types.specs.declared.kind.ItemKind.{ItemKind}
+use Rattle.wac_graph_types.specs.Kind.{an_interface, a_world}
+use Rattle.wac_graph_types.specs.Meaning.{Meaning}
+use Rattle.wac_graph_types.specs.Shape.{kind_of}
 use Rattle.wac_graph.specs.Graph.{Parts}
 use Rattle.wac_resolution_rules.specs.Composition.{Composition, root_scope}
 use Rattle.wac_resolution_rules.specs.Declarations.{IsTypeDecl}

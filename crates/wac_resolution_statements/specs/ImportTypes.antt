@@ -1,6 +1,6 @@
 -- What imports import, as it is added to a graph.
-use Rattle.wac_grammar.specs.Tree.{ImportType}
-use Rattle.wac_types.specs.declared.kind.ItemKind.{ItemKind}
+use Rattle.wac_ast_grammar.specs.Tree.{ImportType}
+use Rattle.wac_graph_types.specs.declared.kind.ItemKind.{ItemKind}
 use Rattle.wac_graph.specs.Graph.{Parts}
 use Rattle.wac_graph.specs.Origin.{Naming}
 use Rattle.wac_resolution_errors.specs.Error.{Error}

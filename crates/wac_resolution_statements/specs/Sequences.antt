@@ -1,7 +1,7 @@
 -- Statements that are executed in order.
 use Rattle.std.specs.Prelude.{List}
-use Rattle.wac_types.specs.Steps.{Steps, Fails}
-use Rattle.wac_grammar.specs.Tree.{Statement}
+use Rattle.wac_graph_types.specs.Steps.{Steps, Fails}
+use Rattle.wac_ast_grammar.specs.Tree.{Statement}
 use Rattle.wac_graph.specs.Graph.{Parts}
 use Rattle.wac_graph.specs.Origin.{Naming, IsOneToOne}
 use Rattle.wac_resolution_errors.specs.Error.{Error}

@@ -1,6 +1,6 @@
 //! Type statements.
 ghost use Rattle.std.specs.Prelude.{◌≡◌, OnOk, IfOk, IfErr};
-ghost use Rattle.wac_grammar.specs.Tree.{Statement};
+ghost use Rattle.wac_ast_grammar.specs.Tree.{Statement};
 ghost use Rattle.wac_ast_base.specs.Names.{ident_of};
 ghost use Rattle.wac_ast.specs.Statements.{type_statement_of};
 ghost use Rattle.wac_graph.specs.Origin.{Naming};

@@ -1,6 +1,6 @@
 //! Import statements.
 ghost use Rattle.std.specs.Prelude.{OnOk, IfErr};
-ghost use Rattle.wac_grammar.specs.Tree.{Statement as StatementTree};
+ghost use Rattle.wac_ast_grammar.specs.Tree.{Statement as StatementTree};
 ghost use Rattle.wac_ast_worlds.specs.Worlds.{import_statement_of};
 ghost use Rattle.wac_resolution_errors.specs.Error.{Reports};
 ghost use Rattle.wac_resolution_errors.specs.Told.{told};

@@ -1,15 +1,15 @@
 -- Kinds that are compared by rules.
 use Rattle.std.proofs.Common.{◌≡◌, ℕ, List, Option, Result, subst}
-use Rattle.wac_types.specs.declared.rules.Reason.{Reason}
-use Rattle.wac_types.specs.declared.kind.ItemKind.{ItemKind}
-use Rattle.wac_types.specs.declared.kind.ItemKind.TheVariants as kinds
-use Rattle.wac_types.specs.declared.kind.«Type».TheVariants as types
-use Rattle.wac_types.specs.declared.entry.Entry.{Entry}
-use Rattle.wac_types.specs.Kind.{promoted}
-use Rattle.wac_types.specs.Meaning.{Meaning, meaning}
-use Rattle.wac_types.specs.Meaning as tables
-use Rattle.wac_types.specs.Rules.{Answers}
-use Rattle.wac_types.specs.Table.{Names}
+use Rattle.wac_graph_types.specs.declared.rules.Reason.{Reason}
+use Rattle.wac_graph_types.specs.declared.kind.ItemKind.{ItemKind}
+use Rattle.wac_graph_types.specs.declared.kind.ItemKind.TheVariants as kinds
+use Rattle.wac_graph_types.specs.declared.kind.«Type».TheVariants as types
+use Rattle.wac_graph_types.specs.declared.entry.Entry.{Entry}
+use Rattle.wac_graph_types.specs.Kind.{promoted}
+use Rattle.wac_graph_types.specs.Meaning.{Meaning, meaning}
+use Rattle.wac_graph_types.specs.Meaning as tables
+use Rattle.wac_graph_types.specs.Rules.{Answers}
+use Rattle.wac_graph_types.specs.Table.{Names}
 use Rattle.wac_graph.specs.Graph.{Parts}
 use Rattle.wac_graph.specs.Means.{means, origin_at, entry_means_in, OriginsApart}
 use Rattle.wac_graph.specs.Origin.{Naming, IsOneToOne}

@@ -3,13 +3,13 @@ use Rattle.std.proofs.Common.{◌≡◌, ◌∙◌, inl, inr, ℕ, zero, suc, Li
 use Rattle.std.specs.Prelude.{slice_get}
 use Rattle.std.specs.List.{AllByRecursion}
 use Rattle.wac_lexer.specs.Span.{Span}
-use Rattle.wac_types.specs.declared.rules.Reason.{Reason}
-use Rattle.wac_types.specs.declared.kind.ItemKind.{ItemKind}
-use Rattle.wac_types.specs.declared.kind.ItemKind.TheVariants as kinds
-use Rattle.wac_types.specs.declared.kind.«Type».TheVariants as types
-use Rattle.wac_types.specs.Meaning.{Meaning}
-use Rattle.wac_types.specs.Scope.{Named, Scope, look_up}
-use Rattle.wac_types.specs.Table.{Names}
+use Rattle.wac_graph_types.specs.declared.rules.Reason.{Reason}
+use Rattle.wac_graph_types.specs.declared.kind.ItemKind.{ItemKind}
+use Rattle.wac_graph_types.specs.declared.kind.ItemKind.TheVariants as kinds
+use Rattle.wac_graph_types.specs.declared.kind.«Type».TheVariants as types
+use Rattle.wac_graph_types.specs.Meaning.{Meaning}
+use Rattle.wac_graph_types.specs.Scope.{Named, Scope, look_up}
+use Rattle.wac_graph_types.specs.Table.{Names}
 use Rattle.wac_ast_base.specs.Names.{package_path_of}
 use Rattle.wac_graph.specs.Graph.{Parts}
 use Rattle.wac_graph.specs.Means.{means, entry_means, EntriesMean}
@@ -108,4 +108,4 @@ module _ (setting : Setting) (passes : Meaning → Meaning → Option Reason) (n
         go (inr (inl (n, d))) = open_denied new passes named target naming one (setting_of naming setting) (numbers_of root.nodes) sound law (holds_handed setting new naming f.handed) world_there p e n d
         go (inr (inr (n, o, d))) =
             export_unmet new passes named target naming one (setting_of naming setting) (numbers_of root.nodes) sound law (holds_handed setting new naming f.handed) world_there p e n o
-            (subst (λ (l : Named Span). SomeUnmet (testing new passes named target) l (of_kind new) (Rattle.wac_types.specs.Readings.world_exports new.types target.world.0) e) (sym ex) d)
+            (subst (λ (l : Named Span). SomeUnmet (testing new passes named target) l (of_kind new) (Rattle.wac_graph_types.specs.Readings.world_exports new.types target.world.0) e) (sym ex) d)

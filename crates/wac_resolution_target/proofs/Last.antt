@@ -6,14 +6,14 @@ use Rattle.std.specs.Option.{option_or}
 use Rattle.std.specs.Str.{bytes_eq}
 use Rattle.std.proofs.lemmas.List.{reverse-append}
 use Rattle.std.proofs.lemmas.List.Elements.{filter_map-append}
-use Rattle.wac_types.specs.declared.kind.ItemKind.{ItemKind}
-use Rattle.wac_types.specs.declared.kind.InterfaceId.{InterfaceId}
-use Rattle.wac_types.specs.declared.entry.Entry.{Entry}
-use Rattle.wac_types.specs.declared.entry.UsedType.{UsedType}
-use Rattle.wac_types.specs.declared.entry.World.{World}
-use Rattle.wac_types.specs.Names.{by_name}
-use Rattle.wac_types.specs.Readings.{as_world}
-use Rattle.wac_types.specs.Scope.{Named, look_up}
+use Rattle.wac_graph_types.specs.declared.kind.ItemKind.{ItemKind}
+use Rattle.wac_graph_types.specs.declared.kind.InterfaceId.{InterfaceId}
+use Rattle.wac_graph_types.specs.declared.entry.Entry.{Entry}
+use Rattle.wac_graph_types.specs.declared.entry.UsedType.{UsedType}
+use Rattle.wac_graph_types.specs.declared.entry.World.{World}
+use Rattle.wac_graph_types.specs.Names.{by_name}
+use Rattle.wac_graph_types.specs.Readings.{as_world}
+use Rattle.wac_graph_types.specs.Scope.{Named, look_up}
 use Rattle.wac_resolution_nodes.specs.Instances.{written_id}
 use Rattle.wac_resolution_target.specs.Used.{interfaces_in, import_uses, used_in, with_id, has_id, last_of}
 

@@ -6,25 +6,25 @@ use Rattle.std.specs.List.{AllByRecursion, cons_option}
 use Rattle.std.specs.Option.{option_or}
 use Rattle.std.specs.Str.{bytes_eq}
 use Rattle.std.proofs.lemmas.List.{map-append}
-use Rattle.wac_types.specs.declared.kind.ItemKind.{ItemKind}
-use Rattle.wac_types.specs.declared.kind.ItemKind.TheVariants as kinds
-use Rattle.wac_types.specs.declared.kind.«Type».TheVariants as types
-use Rattle.wac_types.specs.declared.kind.InterfaceId.{InterfaceId}
-use Rattle.wac_types.specs.declared.kind.WorldId.{WorldId}
-use Rattle.wac_types.specs.declared.kind.Sort.TheVariants as sorts
-use Rattle.wac_types.specs.declared.entry.Entry.{Entry}
-use Rattle.wac_types.specs.declared.entry.Entry.TheVariants as entries
-use Rattle.wac_types.specs.declared.entry.UsedType.{UsedType}
-use Rattle.wac_types.specs.Entry.{Slot, sort_of, use_children, import_children, export_children}
-use Rattle.wac_types.specs.Meaning.{Meaning, of_kind, EachKind}
-use Rattle.wac_types.specs.Names.{by_name}
-use Rattle.wac_types.specs.Readings.{as_interface, as_world, world_imports}
-use Rattle.wac_types.specs.Scope.{Named, look_up}
-use Rattle.wac_types.specs.Shape.{imports_of, uses_mean, items_mean}
-use Rattle.wac_types.specs.Table.{Names, ItemsNamed, EachEntryNamed}
-use Rattle.wac_types.proofs.Found.{world_imports_mean, world_imports_named, found_named}
-use Rattle.wac_types.proofs.Parts as parts
-use Rattle.wac_types.proofs.Shapes.{items_found}
+use Rattle.wac_graph_types.specs.declared.kind.ItemKind.{ItemKind}
+use Rattle.wac_graph_types.specs.declared.kind.ItemKind.TheVariants as kinds
+use Rattle.wac_graph_types.specs.declared.kind.«Type».TheVariants as types
+use Rattle.wac_graph_types.specs.declared.kind.InterfaceId.{InterfaceId}
+use Rattle.wac_graph_types.specs.declared.kind.WorldId.{WorldId}
+use Rattle.wac_graph_types.specs.declared.kind.Sort.TheVariants as sorts
+use Rattle.wac_graph_types.specs.declared.entry.Entry.{Entry}
+use Rattle.wac_graph_types.specs.declared.entry.Entry.TheVariants as entries
+use Rattle.wac_graph_types.specs.declared.entry.UsedType.{UsedType}
+use Rattle.wac_graph_types.specs.Entry.{Slot, sort_of, use_children, import_children, export_children}
+use Rattle.wac_graph_types.specs.Meaning.{Meaning, of_kind, EachKind}
+use Rattle.wac_graph_types.specs.Names.{by_name}
+use Rattle.wac_graph_types.specs.Readings.{as_interface, as_world, world_imports}
+use Rattle.wac_graph_types.specs.Scope.{Named, look_up}
+use Rattle.wac_graph_types.specs.Shape.{imports_of, uses_mean, items_mean}
+use Rattle.wac_graph_types.specs.Table.{Names, ItemsNamed, EachEntryNamed}
+use Rattle.wac_graph_types.proofs.Found.{world_imports_mean, world_imports_named, found_named}
+use Rattle.wac_graph_types.proofs.Parts as parts
+use Rattle.wac_graph_types.proofs.Shapes.{items_found}
 use Rattle.wac_graph.specs.Graph.{Parts}
 use Rattle.wac_graph.specs.Means.{means, entry_means, origin_at, EntriesMean}
 use Rattle.wac_graph.specs.Origin.{Naming}

@@ -1,9 +1,9 @@
 -- What an instance leaves open, import by import.
 use Rattle.std.proofs.Common.{◌≡◌, ◌∙◌, ℕ, List, [], ◌∷◌, ◌++◌, Option, Some, None, Bool, true, false, cond, Result, Ok, Err, OnOk, IfErr, refl, sym, ap, subst, is_none}
 use Rattle.std.specs.Prelude.{slice_get}
-use Rattle.wac_types.specs.declared.kind.ItemKind.{ItemKind}
-use Rattle.wac_types.specs.Readings.{world_imports}
-use Rattle.wac_types.specs.Scope.{Named, look_up}
+use Rattle.wac_graph_types.specs.declared.kind.ItemKind.{ItemKind}
+use Rattle.wac_graph_types.specs.Readings.{world_imports}
+use Rattle.wac_graph_types.specs.Scope.{Named, look_up}
 use Rattle.wac_graph.specs.Graph.{Parts, package_of, arguments_of}
 use Rattle.wac_graph.specs.Package.{HeldPackage}
 use Rattle.wac_resolution_errors.specs.Error.{Error}

@@ -1,8 +1,8 @@
 -- What a graph imports: its import nodes, and what each instance of a package leaves open.
 use Rattle.std.specs.Prelude.{ℕ, List, [], Some, None, is_none, filter, slice_get}
-use Rattle.wac_types.specs.declared.kind.ItemKind.{ItemKind}
-use Rattle.wac_types.specs.Readings.{world_imports}
-use Rattle.wac_types.specs.Scope.{Named, look_up}
+use Rattle.wac_graph_types.specs.declared.kind.ItemKind.{ItemKind}
+use Rattle.wac_graph_types.specs.Readings.{world_imports}
+use Rattle.wac_graph_types.specs.Scope.{Named, look_up}
 use Rattle.wac_graph.specs.Graph.{Parts, package_of, arguments_of}
 use Rattle.wac_graph.specs.Means.{means}
 use Rattle.wac_resolution_nodes.specs.Nodes.{composition_of}

@@ -1,12 +1,12 @@
 -- The result of testing a whole composition.
 use Rattle.std.specs.Prelude.{◌≡◌, ◌⊎◌, ℕ, List, Option, length, flat_map}
 use Rattle.wac_lexer.specs.Span.{Span}
-use Rattle.wac_types.specs.declared.kind.ItemKind.{ItemKind}
-use Rattle.wac_types.specs.declared.rules.Reason.{Reason}
-use Rattle.wac_types.specs.Meaning.{Meaning}
-use Rattle.wac_types.specs.Readings.{world_exports}
-use Rattle.wac_types.specs.Scope.{Named, look_up}
-use Rattle.wac_grammar.specs.Tree.{PackagePath}
+use Rattle.wac_graph_types.specs.declared.kind.ItemKind.{ItemKind}
+use Rattle.wac_graph_types.specs.declared.rules.Reason.{Reason}
+use Rattle.wac_graph_types.specs.Meaning.{Meaning}
+use Rattle.wac_graph_types.specs.Readings.{world_exports}
+use Rattle.wac_graph_types.specs.Scope.{Named, look_up}
+use Rattle.wac_ast_grammar.specs.Tree.{PackagePath}
 use Rattle.wac_graph.specs.Graph.{Parts}
 use Rattle.wac_graph.specs.Means.{declared_count}
 use Rattle.wac_graph.specs.Numbers.{numbers}

@@ -2,13 +2,13 @@
 use Rattle.std.specs.Prelude.{◌≡◌, ◌⊎◌, ℕ, List, Option, Some, None}
 use Rattle.std.specs.List.{AllByRecursion}
 use Rattle.wac_lexer.specs.Span.{Span}
-use Rattle.wac_types.specs.declared.kind.ExternKind.TheVariants as externs
-use Rattle.wac_types.specs.declared.rules.Reason.{Reason}
-use Rattle.wac_types.specs.Meaning.{Meaning}
-use Rattle.wac_types.specs.Scope.{Named, IsFresh, StandsFor}
-use Rattle.wac_types.specs.Shape.{promoted, described}
+use Rattle.wac_graph_types.specs.declared.kind.ExternKind.TheVariants as externs
+use Rattle.wac_graph_types.specs.declared.rules.Reason.{Reason}
+use Rattle.wac_graph_types.specs.Meaning.{Meaning}
+use Rattle.wac_graph_types.specs.Scope.{Named, IsFresh, StandsFor}
+use Rattle.wac_graph_types.specs.Shape.{promoted, described}
 use Rattle.wac_ast_base.specs.Names.{package_path_of}
-use Rattle.wac_grammar.specs.Tree.{PackagePath}
+use Rattle.wac_ast_grammar.specs.Tree.{PackagePath}
 use Rattle.wac_graph.specs.Graph.{Parts}
 use Rattle.wac_graph.specs.Means.{entry_means}
 use Rattle.wac_graph.specs.Origin.{Naming, IsOneToOne}

@@ -2,14 +2,14 @@
 use Rattle.std.specs.Prelude.{ℕ, List, [], ◌++◌, map, flat_map, filter_map, reverse, Option, Some, None, option_map, option_and_then, slice_get, Bool, false}
 use Rattle.std.specs.Option.{option_or}
 use Rattle.std.specs.Str.{bytes_eq}
-use Rattle.wac_types.specs.declared.kind.ItemKind.{ItemKind}
-use Rattle.wac_types.specs.declared.kind.ItemKind.TheVariants as kinds
-use Rattle.wac_types.specs.declared.kind.InterfaceId.{InterfaceId}
-use Rattle.wac_types.specs.declared.entry.Entry.{Entry}
-use Rattle.wac_types.specs.declared.entry.UsedType.{UsedType}
-use Rattle.wac_types.specs.Names.{by_name}
-use Rattle.wac_types.specs.Readings.{as_interface, as_world, world_imports}
-use Rattle.wac_types.specs.Scope.{Named, look_up}
+use Rattle.wac_graph_types.specs.declared.kind.ItemKind.{ItemKind}
+use Rattle.wac_graph_types.specs.declared.kind.ItemKind.TheVariants as kinds
+use Rattle.wac_graph_types.specs.declared.kind.InterfaceId.{InterfaceId}
+use Rattle.wac_graph_types.specs.declared.entry.Entry.{Entry}
+use Rattle.wac_graph_types.specs.declared.entry.UsedType.{UsedType}
+use Rattle.wac_graph_types.specs.Names.{by_name}
+use Rattle.wac_graph_types.specs.Readings.{as_interface, as_world, world_imports}
+use Rattle.wac_graph_types.specs.Scope.{Named, look_up}
 use Rattle.wac_resolution_nodes.specs.Instances.{written_id}
 
 -- what a world uses, and what an interface does

@@ -1,9 +1,9 @@
 //! Exports that a target requires.
 ghost use Rattle.std.specs.Prelude.{◌≡◌, OnOk, IfOk, IfErr};
-ghost use Rattle.wac_types.specs.Names.{by_name};
-ghost use Rattle.wac_types.specs.Readings.{world_exports};
-ghost use Rattle.wac_types.specs.Table.{Names, ItemsNamed};
-ghost use Rattle.wac_types.specs.Words.{described};
+ghost use Rattle.wac_graph_types.specs.Names.{by_name};
+ghost use Rattle.wac_graph_types.specs.Readings.{world_exports};
+ghost use Rattle.wac_graph_types.specs.Table.{Names, ItemsNamed};
+ghost use Rattle.wac_graph_types.specs.Words.{described};
 ghost use Rattle.wac_ast_base.specs.Names.{package_path_of};
 ghost use Rattle.wac_resolution_errors.specs.Error.{Reports, missing_target_export};
 ghost use Rattle.wac_resolution_errors.specs.Told.{told};

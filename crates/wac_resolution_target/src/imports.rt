@@ -1,8 +1,8 @@
 //! Imports of a composition, each of which its target allows.
 ghost use Rattle.std.specs.Prelude.{◌≡◌, OnOk, IfOk, IfErr};
-ghost use Rattle.wac_types.specs.Names.{by_name};
-ghost use Rattle.wac_types.specs.Scope.{look_up};
-ghost use Rattle.wac_types.specs.Table.{Names};
+ghost use Rattle.wac_graph_types.specs.Names.{by_name};
+ghost use Rattle.wac_graph_types.specs.Scope.{look_up};
+ghost use Rattle.wac_graph_types.specs.Table.{Names};
 ghost use Rattle.wac_ast_base.specs.Names.{package_path_of};
 ghost use Rattle.wac_resolution_errors.specs.Error.{Reports, import_not_in_target, target_mismatch};
 ghost use Rattle.wac_resolution_errors.specs.Told.{told};

@@ -1,7 +1,7 @@
 //! Imports that instances of packages leave open, each of which the target allows.
 ghost use Rattle.std.specs.Prelude.{◌<◌, [], ◌∷◌, OnOk, IfErr, length, flat_map};
-ghost use Rattle.wac_types.specs.Names.{by_name};
-ghost use Rattle.wac_types.specs.Table.{Names, ItemsNamed};
+ghost use Rattle.wac_graph_types.specs.Names.{by_name};
+ghost use Rattle.wac_graph_types.specs.Table.{Names, ItemsNamed};
 ghost use Rattle.wac_graph.specs.Graph.{arguments_of};
 ghost use Rattle.wac_graph.specs.Numbers.{numbers};
 ghost use Rattle.wac_resolution_errors.specs.Error.{Reports};

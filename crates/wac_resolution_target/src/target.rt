@@ -1,6 +1,6 @@
 //! A target, and kinds that are compared for it.
-ghost use Rattle.wac_types.specs.Rules.{Answers};
-ghost use Rattle.wac_types.specs.Table.{Names};
+ghost use Rattle.wac_graph_types.specs.Rules.{Answers};
+ghost use Rattle.wac_graph_types.specs.Table.{Names};
 ghost use Rattle.wac_graph.specs.Means.{means};
 ghost use Rattle.wac_graph.specs.Origin.{Naming, IsOneToOne};
 

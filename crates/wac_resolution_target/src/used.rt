@@ -1,7 +1,7 @@
 //! Interfaces that a world and its imports use.
 ghost use Rattle.std.specs.Prelude.{◌≡◌, [], ◌∷◌, flat_map};
 ghost use Rattle.std.specs.Option.{option_or};
-ghost use Rattle.wac_types.specs.Names.{by_name};
+ghost use Rattle.wac_graph_types.specs.Names.{by_name};
 ghost use Rattle.wac_resolution_target.specs.Used.{has_id as id_is, interfaces_in, import_uses, used_in, last_of};
 
 use indexmap::IndexMap;

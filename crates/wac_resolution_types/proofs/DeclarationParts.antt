@@ -2,20 +2,20 @@
 use Rattle.std.proofs.Common.{◌≡◌, ◌∙◌, ℕ, List, [], ◌∷◌, Option, Some, sym, ap, subst, map}
 use Rattle.std.specs.Prelude.{option_map, string_bytes, String}
 use Rattle.std.specs.declared.alloc.Global.{Global}
-use Rattle.wac_grammar.specs.Tree.{VariantDecl, RecordDecl, FlagsDecl, EnumDecl}
-use Rattle.wac_types.specs.declared.kind.ItemKind.{ItemKind}
-use Rattle.wac_types.specs.declared.kind.ValueType.{ValueType}
-use Rattle.wac_types.specs.declared.entry.DefinedType.{DefinedType}
-use Rattle.wac_types.specs.declared.entry.Entry.{Entry}
-use Rattle.wac_types.specs.Entry as slots
-use Rattle.wac_types.specs.Entry.{Slot}
-use Rattle.wac_types.specs.Label.{Plain, defined_label}
-use Rattle.wac_types.specs.Meaning.{Meaning, EachKind}
-use Rattle.wac_types.specs.Names.{by_name}
-use Rattle.wac_types.specs.Scope.{Named, Scope}
-use Rattle.wac_types.specs.Shape.{defined_type, defined_parts, as_type, naming_each, name_children, values_mean, cases_mean}
-use Rattle.wac_types.specs.Steps.{Steps, Fails}
-use Rattle.wac_types.specs.Table.{Names}
+use Rattle.wac_ast_grammar.specs.Tree.{VariantDecl, RecordDecl, FlagsDecl, EnumDecl}
+use Rattle.wac_graph_types.specs.declared.kind.ItemKind.{ItemKind}
+use Rattle.wac_graph_types.specs.declared.kind.ValueType.{ValueType}
+use Rattle.wac_graph_types.specs.declared.entry.DefinedType.{DefinedType}
+use Rattle.wac_graph_types.specs.declared.entry.Entry.{Entry}
+use Rattle.wac_graph_types.specs.Entry as slots
+use Rattle.wac_graph_types.specs.Entry.{Slot}
+use Rattle.wac_graph_types.specs.Label.{Plain, defined_label}
+use Rattle.wac_graph_types.specs.Meaning.{Meaning, EachKind}
+use Rattle.wac_graph_types.specs.Names.{by_name}
+use Rattle.wac_graph_types.specs.Scope.{Named, Scope}
+use Rattle.wac_graph_types.specs.Shape.{defined_type, defined_parts, as_type, naming_each, name_children, values_mean, cases_mean}
+use Rattle.wac_graph_types.specs.Steps.{Steps, Fails}
+use Rattle.wac_graph_types.specs.Table.{Names}
 use Rattle.wac_graph.specs.Graph.{Parts}
 use Rattle.wac_graph.specs.Means.{entry_means}
 use Rattle.wac_graph.specs.Origin.{Naming}

@@ -3,17 +3,17 @@ use Rattle.std.proofs.Common.{◌≡◌, ◌∙◌, ◌+◌, ◌<◌, ℕ, List,
 use Rattle.std.specs.Prelude.{option_map, IfSome, String}
 use Rattle.std.specs.declared.alloc.Global.{Global}
 use Rattle.std.proofs.lemmas.List.{map_push}
-use Rattle.wac_grammar.specs.Tree.{Ident}
-use Rattle.wac_types.specs.declared.kind.ItemKind.{ItemKind}
-use Rattle.wac_types.specs.declared.kind.ValueType.{ValueType}
-use Rattle.wac_types.specs.declared.entry.Entry.{Entry}
-use Rattle.wac_types.specs.Entry.{optional, value_children, named_result_children, case_children}
-use Rattle.wac_types.specs.Meaning.{Meaning, EachKind}
-use Rattle.wac_types.specs.Names.{by_name}
-use Rattle.wac_types.specs.Scope.{Named, Scope, look_up, StandsFor, IsFresh, with_named}
-use Rattle.wac_types.specs.Shape.{optional_means}
-use Rattle.wac_types.specs.Steps.{Fails}
-use Rattle.wac_types.specs.Table.{Names, ItemsNamed}
+use Rattle.wac_ast_grammar.specs.Tree.{Ident}
+use Rattle.wac_graph_types.specs.declared.kind.ItemKind.{ItemKind}
+use Rattle.wac_graph_types.specs.declared.kind.ValueType.{ValueType}
+use Rattle.wac_graph_types.specs.declared.entry.Entry.{Entry}
+use Rattle.wac_graph_types.specs.Entry.{optional, value_children, named_result_children, case_children}
+use Rattle.wac_graph_types.specs.Meaning.{Meaning, EachKind}
+use Rattle.wac_graph_types.specs.Names.{by_name}
+use Rattle.wac_graph_types.specs.Scope.{Named, Scope, look_up, StandsFor, IsFresh, with_named}
+use Rattle.wac_graph_types.specs.Shape.{optional_means}
+use Rattle.wac_graph_types.specs.Steps.{Fails}
+use Rattle.wac_graph_types.specs.Table.{Names, ItemsNamed}
 use Rattle.wac_graph.specs.Graph.{Parts}
 use Rattle.wac_graph.specs.Means.{entry_means}
 use Rattle.wac_graph.specs.Origin.{Naming}

@@ -5,11 +5,11 @@ use Rattle.std.specs.declared.alloc.Global.{Global}
 use Rattle.std.specs.List.{list_any}
 use Rattle.std.specs.Str.{bytes_eq}
 use Rattle.std.proofs.lemmas.List.{map_push}
-use Rattle.wac_types.specs.Meaning.{Meaning}
-use Rattle.wac_types.specs.Entry.{Slot}
-use Rattle.wac_types.specs.Scope.{Named, look_up, StandsFor, IsFresh, with_named}
-use Rattle.wac_types.specs.Shape.{nothing, naming_each, name_children}
-use Rattle.wac_types.specs.Steps.{Steps, Fails}
+use Rattle.wac_graph_types.specs.Meaning.{Meaning}
+use Rattle.wac_graph_types.specs.Entry.{Slot}
+use Rattle.wac_graph_types.specs.Scope.{Named, look_up, StandsFor, IsFresh, with_named}
+use Rattle.wac_graph_types.specs.Shape.{nothing, naming_each, name_children}
+use Rattle.wac_graph_types.specs.Steps.{Steps, Fails}
 use Rattle.wac_resolution_rules.proofs.StepLaws.{steps_on_map, fails_at_map}
 use Rattle.wac_resolution_types.specs.Declarations.{names_alone}
 use Rattle.wac_resolution_state.proofs.Scopes.{memory_told}

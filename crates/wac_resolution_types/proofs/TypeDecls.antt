@@ -1,11 +1,11 @@
 -- Declarations at root, by what they declare.
 use Rattle.std.proofs.Common.{◌≡◌, ℕ, sym, subst}
-use Rattle.wac_types.specs.declared.kind.ItemKind.{ItemKind}
-use Rattle.wac_types.specs.declared.kind.ItemKind.TheVariants as kinds
-use Rattle.wac_types.specs.declared.kind.«Type».TheVariants as types
-use Rattle.wac_types.specs.declared.kind.ValueType.{ValueType}
-use Rattle.wac_types.specs.Meaning.{Meaning}
-use Rattle.wac_types.specs.Scope.{Named}
+use Rattle.wac_graph_types.specs.declared.kind.ItemKind.{ItemKind}
+use Rattle.wac_graph_types.specs.declared.kind.ItemKind.TheVariants as kinds
+use Rattle.wac_graph_types.specs.declared.kind.«Type».TheVariants as types
+use Rattle.wac_graph_types.specs.declared.kind.ValueType.{ValueType}
+use Rattle.wac_graph_types.specs.Meaning.{Meaning}
+use Rattle.wac_graph_types.specs.Scope.{Named}
 use Rattle.wac_graph.specs.Graph.{Parts}
 use Rattle.wac_graph.specs.Means.{declared_count}
 use Rattle.wac_graph.specs.Origin.{Naming}

@@ -4,19 +4,19 @@ use Rattle.std.proofs.lemmas.List.{take_more, map_push}
 use Rattle.std.specs.Prelude.{Vec, Box}
 use Rattle.std.specs.declared.alloc.Global.{Global}
 use Rattle.wac_lexer.specs.Span.{Span}
-use Rattle.wac_grammar.specs.Tree as tree
-use Rattle.wac_grammar.specs.Tree.{Ty, Types, OptionalTy, types_from}
-use Rattle.wac_types.specs.declared.kind.ItemKind.{ItemKind}
-use Rattle.wac_types.specs.declared.kind.ItemKind.TheVariants as kinds
-use Rattle.wac_types.specs.declared.kind.ValueType.{ValueType}
-use Rattle.wac_types.specs.declared.entry.Entry.{Entry}
-use Rattle.wac_types.specs.declared.entry.DefinedType.TheVariants as defined
-use Rattle.wac_types.specs.Entry.{optional, tuple_children}
-use Rattle.wac_types.specs.Label.{Plain}
-use Rattle.wac_types.specs.Meaning.{Meaning, EachKind}
-use Rattle.wac_types.specs.Scope.{Named, Scope}
-use Rattle.wac_types.specs.Shape.{types_mean, optional_means, defined_value, result_children}
-use Rattle.wac_types.specs.Table.{Names, ItemsNamed}
+use Rattle.wac_ast_grammar.specs.Tree as tree
+use Rattle.wac_ast_grammar.specs.Tree.{Ty, Types, OptionalTy, types_from}
+use Rattle.wac_graph_types.specs.declared.kind.ItemKind.{ItemKind}
+use Rattle.wac_graph_types.specs.declared.kind.ItemKind.TheVariants as kinds
+use Rattle.wac_graph_types.specs.declared.kind.ValueType.{ValueType}
+use Rattle.wac_graph_types.specs.declared.entry.Entry.{Entry}
+use Rattle.wac_graph_types.specs.declared.entry.DefinedType.TheVariants as defined
+use Rattle.wac_graph_types.specs.Entry.{optional, tuple_children}
+use Rattle.wac_graph_types.specs.Label.{Plain}
+use Rattle.wac_graph_types.specs.Meaning.{Meaning, EachKind}
+use Rattle.wac_graph_types.specs.Scope.{Named, Scope}
+use Rattle.wac_graph_types.specs.Shape.{types_mean, optional_means, defined_value, result_children}
+use Rattle.wac_graph_types.specs.Table.{Names, ItemsNamed}
 use Rattle.wac_graph.specs.Graph.{Parts}
 use Rattle.wac_graph.specs.Means.{means, entry_means}
 use Rattle.wac_graph.specs.Origin.{Naming}

@@ -1,16 +1,16 @@
 -- Declarations of types as they are resolved into a graph.
 use Rattle.std.specs.Prelude.{◌≡◌, ℕ, List, [], map, Option, Some, None, IfSome, string_bytes, String}
 use Rattle.std.specs.declared.alloc.Global.{Global}
-use Rattle.wac_grammar.specs.Tree.{Ty, VariantCase, Field}
-use Rattle.wac_types.specs.declared.kind.ItemKind.{ItemKind}
-use Rattle.wac_types.specs.declared.kind.ItemKind.TheVariants as kinds
-use Rattle.wac_types.specs.declared.kind.«Type».TheVariants as types
-use Rattle.wac_types.specs.declared.kind.ValueType.{ValueType}
-use Rattle.wac_types.specs.Entry.{optional}
-use Rattle.wac_types.specs.Meaning.{Meaning}
-use Rattle.wac_types.specs.Scope.{Named}
-use Rattle.wac_types.specs.Shape.{nothing, optional_means}
-use Rattle.wac_types.specs.Table.{Names}
+use Rattle.wac_ast_grammar.specs.Tree.{Ty, VariantCase, Field}
+use Rattle.wac_graph_types.specs.declared.kind.ItemKind.{ItemKind}
+use Rattle.wac_graph_types.specs.declared.kind.ItemKind.TheVariants as kinds
+use Rattle.wac_graph_types.specs.declared.kind.«Type».TheVariants as types
+use Rattle.wac_graph_types.specs.declared.kind.ValueType.{ValueType}
+use Rattle.wac_graph_types.specs.Entry.{optional}
+use Rattle.wac_graph_types.specs.Meaning.{Meaning}
+use Rattle.wac_graph_types.specs.Scope.{Named}
+use Rattle.wac_graph_types.specs.Shape.{nothing, optional_means}
+use Rattle.wac_graph_types.specs.Table.{Names}
 use Rattle.wac_graph.specs.Graph.{Parts}
 use Rattle.wac_graph.specs.Means.{means, entry_means, declared_count}
 use Rattle.wac_graph.specs.Origin.{Naming}

@@ -1,19 +1,19 @@
 -- Function types as they are resolved into a graph.
 use Rattle.std.specs.Prelude.{List, [], ◌∷◌, Option, Some, Bool, true, false, codes}
-use Rattle.wac_grammar.specs.Tree.{Ty, NamedType, ResultList, FuncType}
-use Rattle.wac_types.specs.declared.kind.ItemKind.{ItemKind}
-use Rattle.wac_types.specs.declared.kind.ItemKind.TheVariants as kinds
-use Rattle.wac_types.specs.declared.kind.ValueType.{ValueType}
-use Rattle.wac_types.specs.declared.kind.ValueType.TheVariants as values
-use Rattle.wac_types.specs.declared.kind.FuncTypeId.{FuncTypeId}
-use Rattle.wac_types.specs.declared.kind.ResourceId.{ResourceId}
-use Rattle.wac_types.specs.declared.entry.Entry.{Entry}
-use Rattle.wac_types.specs.declared.entry.FuncResults.{FuncResults}
-use Rattle.wac_types.specs.Entry.{result_children}
-use Rattle.wac_types.specs.Meaning.{Meaning, EachKind}
-use Rattle.wac_types.specs.Scope.{Named, Scope}
-use Rattle.wac_types.specs.Shape.{results_mean}
-use Rattle.wac_types.specs.Table.{Names}
+use Rattle.wac_ast_grammar.specs.Tree.{Ty, NamedType, ResultList, FuncType}
+use Rattle.wac_graph_types.specs.declared.kind.ItemKind.{ItemKind}
+use Rattle.wac_graph_types.specs.declared.kind.ItemKind.TheVariants as kinds
+use Rattle.wac_graph_types.specs.declared.kind.ValueType.{ValueType}
+use Rattle.wac_graph_types.specs.declared.kind.ValueType.TheVariants as values
+use Rattle.wac_graph_types.specs.declared.kind.FuncTypeId.{FuncTypeId}
+use Rattle.wac_graph_types.specs.declared.kind.ResourceId.{ResourceId}
+use Rattle.wac_graph_types.specs.declared.entry.Entry.{Entry}
+use Rattle.wac_graph_types.specs.declared.entry.FuncResults.{FuncResults}
+use Rattle.wac_graph_types.specs.Entry.{result_children}
+use Rattle.wac_graph_types.specs.Meaning.{Meaning, EachKind}
+use Rattle.wac_graph_types.specs.Scope.{Named, Scope}
+use Rattle.wac_graph_types.specs.Shape.{results_mean}
+use Rattle.wac_graph_types.specs.Table.{Names}
 use Rattle.wac_graph.specs.Graph.{Parts}
 use Rattle.wac_graph.specs.Means.{means, entry_means}
 use Rattle.wac_graph.specs.Origin.{Naming}

@@ -1,16 +1,16 @@
 -- Named parts that are taken in order: parameters, fields, cases. Each part is read as a type of values or as none.
 use Rattle.std.specs.Prelude.{◌≡◌, List, map, Option, IfSome}
 use Rattle.std.specs.List.{AllByRecursion}
-use Rattle.wac_grammar.specs.Tree.{Ident}
-use Rattle.wac_types.specs.declared.kind.ItemKind.{ItemKind}
-use Rattle.wac_types.specs.declared.kind.ValueType.{ValueType}
-use Rattle.wac_types.specs.declared.entry.Entry.{Entry}
-use Rattle.wac_types.specs.Entry.{optional}
-use Rattle.wac_types.specs.Meaning.{Meaning}
-use Rattle.wac_types.specs.Scope.{Named, Scope, IsFresh, with_named}
-use Rattle.wac_types.specs.Shape.{optional_means}
-use Rattle.wac_types.specs.Steps.{Steps}
-use Rattle.wac_types.specs.Table.{Names}
+use Rattle.wac_ast_grammar.specs.Tree.{Ident}
+use Rattle.wac_graph_types.specs.declared.kind.ItemKind.{ItemKind}
+use Rattle.wac_graph_types.specs.declared.kind.ValueType.{ValueType}
+use Rattle.wac_graph_types.specs.declared.entry.Entry.{Entry}
+use Rattle.wac_graph_types.specs.Entry.{optional}
+use Rattle.wac_graph_types.specs.Meaning.{Meaning}
+use Rattle.wac_graph_types.specs.Scope.{Named, Scope, IsFresh, with_named}
+use Rattle.wac_graph_types.specs.Shape.{optional_means}
+use Rattle.wac_graph_types.specs.Steps.{Steps}
+use Rattle.wac_graph_types.specs.Table.{Names}
 use Rattle.wac_graph.specs.Graph.{Parts}
 use Rattle.wac_graph.specs.Means.{entry_means}
 use Rattle.wac_graph.specs.Origin.{Naming}

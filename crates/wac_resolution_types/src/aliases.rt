@@ -1,11 +1,11 @@
 //! Aliases of types.
 ghost use Rattle.std.specs.Prelude.{◌≡◌, IfOk, IfErr, MatchOption, option_map};
-ghost use Rattle.wac_types.specs.declared.kind.ItemKind.TheVariants as kinds;
-ghost use Rattle.wac_types.specs.declared.kind.«Type».TheVariants as types;
-ghost use Rattle.wac_grammar.specs.Tree.{Ty};
-ghost use Rattle.wac_types.specs.Meaning.{Meaning};
-ghost use Rattle.wac_types.specs.Shape.{alias_type};
-ghost use Rattle.wac_types.specs.Table.{ItemsNamed, Names as NamesEntry};
+ghost use Rattle.wac_graph_types.specs.declared.kind.ItemKind.TheVariants as kinds;
+ghost use Rattle.wac_graph_types.specs.declared.kind.«Type».TheVariants as types;
+ghost use Rattle.wac_ast_grammar.specs.Tree.{Ty};
+ghost use Rattle.wac_graph_types.specs.Meaning.{Meaning};
+ghost use Rattle.wac_graph_types.specs.Shape.{alias_type};
+ghost use Rattle.wac_graph_types.specs.Table.{ItemsNamed, Names as NamesEntry};
 ghost use Rattle.wac_ast_base.specs.Names.{ident_of};
 ghost use Rattle.wac_ast_types.specs.Types.{ty_of};
 ghost use Rattle.wac_ast_types.specs.Declarations.{type_alias_kind_of};

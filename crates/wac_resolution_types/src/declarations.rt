@@ -1,6 +1,6 @@
 //! Declarations of types at root.
 ghost use Rattle.std.specs.Prelude.{IfOk, IfErr};
-ghost use Rattle.wac_types.specs.Table.{ItemsNamed};
+ghost use Rattle.wac_graph_types.specs.Table.{ItemsNamed};
 ghost use Rattle.wac_ast_types.specs.Declarations.{type_decl_of};
 ghost use Rattle.wac_graph.specs.Means.{declared_count};
 ghost use Rattle.wac_graph.specs.Origin.{Naming};

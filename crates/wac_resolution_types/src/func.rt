@@ -1,12 +1,12 @@
 //! Function types.
 ghost use Rattle.std.specs.Prelude.{◌≡◌, [], List, IfOk, IfErr, OnOk, map};
-ghost use Rattle.wac_grammar.specs.Tree.{NamedType as ParamTree};
-ghost use Rattle.wac_types.specs.declared.kind.FuncKind.TheVariants as funcs;
-ghost use Rattle.wac_types.specs.declared.kind.ItemKind.TheVariants as kinds;
-ghost use Rattle.wac_types.specs.declared.kind.«Type».TheVariants as types;
-ghost use Rattle.wac_types.specs.Names.{by_name};
-ghost use Rattle.wac_types.specs.Scope.{IsFresh};
-ghost use Rattle.wac_types.specs.Table.{ItemsNamed, Names as NamesEntry};
+ghost use Rattle.wac_ast_grammar.specs.Tree.{NamedType as ParamTree};
+ghost use Rattle.wac_graph_types.specs.declared.kind.FuncKind.TheVariants as funcs;
+ghost use Rattle.wac_graph_types.specs.declared.kind.ItemKind.TheVariants as kinds;
+ghost use Rattle.wac_graph_types.specs.declared.kind.«Type».TheVariants as types;
+ghost use Rattle.wac_graph_types.specs.Names.{by_name};
+ghost use Rattle.wac_graph_types.specs.Scope.{IsFresh};
+ghost use Rattle.wac_graph_types.specs.Table.{ItemsNamed, Names as NamesEntry};
 ghost use Rattle.wac_ast_base.specs.Names.{ident_of};
 ghost use Rattle.wac_ast_types.specs.Declarations.{named_type_of, func_type_of};
 ghost use Rattle.wac_graph.specs.Graph.{Parts};

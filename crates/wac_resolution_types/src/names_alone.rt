@@ -2,7 +2,7 @@
 ghost use Rattle.std.specs.Prelude.{◌≡◌, false, IfOk, IfErr, OnOk, map, string_bytes};
 ghost use Rattle.std.specs.List.{list_any};
 ghost use Rattle.std.specs.Str.{bytes_eq};
-ghost use Rattle.wac_types.specs.Steps.{Steps, Fails};
+ghost use Rattle.wac_graph_types.specs.Steps.{Steps, Fails};
 ghost use Rattle.wac_ast_base.specs.Names.{ident_of};
 ghost use Rattle.wac_ast_types.specs.Declarations.{flag_of, flags_decl_of, enum_case_of, enum_decl_of};
 ghost use Rattle.wac_resolution_errors.specs.Error.{Reports};

@@ -1,10 +1,10 @@
 //! Records.
 ghost use Rattle.std.specs.Prelude.{◌≡◌, List, IfOk, IfErr, OnOk, map};
-ghost use Rattle.wac_grammar.specs.Tree.{Field as FieldTree};
-ghost use Rattle.wac_types.specs.Names.{by_name};
-ghost use Rattle.wac_types.specs.Scope.{IsFresh};
-ghost use Rattle.wac_types.specs.Steps.{Fails};
-ghost use Rattle.wac_types.specs.Table.{ItemsNamed};
+ghost use Rattle.wac_ast_grammar.specs.Tree.{Field as FieldTree};
+ghost use Rattle.wac_graph_types.specs.Names.{by_name};
+ghost use Rattle.wac_graph_types.specs.Scope.{IsFresh};
+ghost use Rattle.wac_graph_types.specs.Steps.{Fails};
+ghost use Rattle.wac_graph_types.specs.Table.{ItemsNamed};
 ghost use Rattle.wac_ast_base.specs.Names.{ident_of};
 ghost use Rattle.wac_ast_types.specs.Declarations.{field_of, record_decl_of};
 ghost use Rattle.wac_graph.specs.Graph.{Parts};

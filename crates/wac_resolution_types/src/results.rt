@@ -1,13 +1,13 @@
 //! The results of functions.
 ghost use Rattle.std.specs.Prelude.{◌≡◌, [], List, IfOk, IfErr, OnOk, map, true, false};
-ghost use Rattle.wac_grammar.specs.Spans.{ty_span};
-ghost use Rattle.wac_grammar.specs.Tree.{NamedType as ResultTree};
-ghost use Rattle.wac_types.specs.declared.kind.ItemKind.TheVariants as kinds;
-ghost use Rattle.wac_types.specs.Names.{by_name};
-ghost use Rattle.wac_types.specs.Scope.{IsFresh};
-ghost use Rattle.wac_types.specs.Shape.{contains_borrow as has_borrow};
-ghost use Rattle.wac_types.specs.Steps.{Fails};
-ghost use Rattle.wac_types.specs.Table.{ItemsNamed, Names as NamesEntry};
+ghost use Rattle.wac_ast_grammar.specs.Spans.{ty_span};
+ghost use Rattle.wac_ast_grammar.specs.Tree.{NamedType as ResultTree};
+ghost use Rattle.wac_graph_types.specs.declared.kind.ItemKind.TheVariants as kinds;
+ghost use Rattle.wac_graph_types.specs.Names.{by_name};
+ghost use Rattle.wac_graph_types.specs.Scope.{IsFresh};
+ghost use Rattle.wac_graph_types.specs.Shape.{contains_borrow as has_borrow};
+ghost use Rattle.wac_graph_types.specs.Steps.{Fails};
+ghost use Rattle.wac_graph_types.specs.Table.{ItemsNamed, Names as NamesEntry};
 ghost use Rattle.wac_ast_base.specs.Names.{ident_of};
 ghost use Rattle.wac_ast_types.specs.Types.{ty_of};
 ghost use Rattle.wac_ast_types.specs.Declarations.{named_type_of, result_list_of};

@@ -1,9 +1,9 @@
 //! Variants.
 ghost use Rattle.std.specs.Prelude.{◌≡◌, List, IfOk, IfErr, OnOk, map, option_map};
-ghost use Rattle.wac_grammar.specs.Tree.{VariantCase as CaseTree};
-ghost use Rattle.wac_types.specs.Names.{by_name};
-ghost use Rattle.wac_types.specs.Scope.{IsFresh};
-ghost use Rattle.wac_types.specs.Table.{ItemsNamed};
+ghost use Rattle.wac_ast_grammar.specs.Tree.{VariantCase as CaseTree};
+ghost use Rattle.wac_graph_types.specs.Names.{by_name};
+ghost use Rattle.wac_graph_types.specs.Scope.{IsFresh};
+ghost use Rattle.wac_graph_types.specs.Table.{ItemsNamed};
 ghost use Rattle.wac_ast_base.specs.Names.{ident_of};
 ghost use Rattle.wac_ast_types.specs.Types.{ty_of};
 ghost use Rattle.wac_ast_types.specs.Declarations.{variant_case_of, variant_decl_of};
@@ -17,7 +17,7 @@ ghost use Rattle.wac_resolution_state.specs.Bindings.{values_of};
 ghost use Rattle.wac_resolution_types.specs.Declarations.{perhaps, cases_named, CaseTypeIs, CaseGoes, CasesGo, ValueAdded};
 ghost use Rattle.wac_resolution_state.specs.Named.{scope_of};
 ghost use Rattle.wac_resolution_types.specs.NamedParts.{PartsNamed};
-ghost use Rattle.wac_types.specs.Steps.{Fails};
+ghost use Rattle.wac_graph_types.specs.Steps.{Fails};
 
 use crate::types::value_type;
 use indexmap::IndexMap;

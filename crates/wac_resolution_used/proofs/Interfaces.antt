@@ -1,10 +1,10 @@
 -- Kinds that are no interfaces.
 use Rattle.std.proofs.Common.{◌≡◌, refl}
-use Rattle.wac_types.specs.declared.kind.InterfaceId.{InterfaceId}
-use Rattle.wac_types.specs.declared.kind.ItemKind.{ItemKind}
-use Rattle.wac_types.specs.declared.kind.ItemKind.TheVariants as kinds
-use Rattle.wac_types.specs.declared.kind.«Type».TheVariants as types
-use Rattle.wac_types.specs.Shape.{IsNoneOf, is_interface_form}
+use Rattle.wac_graph_types.specs.declared.kind.InterfaceId.{InterfaceId}
+use Rattle.wac_graph_types.specs.declared.kind.ItemKind.{ItemKind}
+use Rattle.wac_graph_types.specs.declared.kind.ItemKind.TheVariants as kinds
+use Rattle.wac_graph_types.specs.declared.kind.«Type».TheVariants as types
+use Rattle.wac_graph_types.specs.Shape.{IsNoneOf, is_interface_form}
 use Rattle.wac_graph.specs.Graph.{Parts}
 use Rattle.wac_graph.specs.Means.{means}
 use Rattle.wac_graph.specs.Origin.{Naming}

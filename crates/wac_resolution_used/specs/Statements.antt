@@ -1,15 +1,15 @@
 -- The types of an interface that is named, as a body uses them.
 use Rattle.std.specs.Prelude.{◌≡◌, ◌⊎◌, ◌++◌, List}
 use Rattle.wac_lexer.specs.Span.{Span}
-use Rattle.wac_grammar.specs.Tree.{UsePath, Use}
-use Rattle.wac_types.specs.declared.kind.ExternKind.{ExternKind}
-use Rattle.wac_types.specs.declared.kind.InterfaceId.{InterfaceId}
-use Rattle.wac_types.specs.declared.kind.ItemKind.{ItemKind}
-use Rattle.wac_types.specs.declared.kind.ItemKind.TheVariants as kinds
-use Rattle.wac_types.specs.declared.kind.«Type».TheVariants as types
-use Rattle.wac_types.specs.Meaning.{Meaning}
-use Rattle.wac_types.specs.Package.{PackageParts}
-use Rattle.wac_types.specs.Scope.{Named, Scope}
+use Rattle.wac_ast_grammar.specs.Tree.{UsePath, Use}
+use Rattle.wac_graph_types.specs.declared.kind.ExternKind.{ExternKind}
+use Rattle.wac_graph_types.specs.declared.kind.InterfaceId.{InterfaceId}
+use Rattle.wac_graph_types.specs.declared.kind.ItemKind.{ItemKind}
+use Rattle.wac_graph_types.specs.declared.kind.ItemKind.TheVariants as kinds
+use Rattle.wac_graph_types.specs.declared.kind.«Type».TheVariants as types
+use Rattle.wac_graph_types.specs.Meaning.{Meaning}
+use Rattle.wac_graph_types.specs.Package.{PackageParts}
+use Rattle.wac_graph_types.specs.Scope.{Named, Scope}
 use Rattle.wac_graph.specs.Graph.{Parts}
 use Rattle.wac_graph.specs.Origin.{Naming}
 use Rattle.wac_graph.specs.Package.{Key}

@@ -1,8 +1,8 @@
 //! A used type, by its parts.
 ghost use Rattle.std.specs.Prelude.{◌≡◌, ◌⊎◌, IfOk, IfErr, OnOk, option_map, string_bytes};
-ghost use Rattle.wac_types.specs.declared.kind.ItemKind.TheVariants as kinds;
-ghost use Rattle.wac_types.specs.Scope.{IsFresh};
-ghost use Rattle.wac_types.specs.Table.{Names as NamesEntry};
+ghost use Rattle.wac_graph_types.specs.declared.kind.ItemKind.TheVariants as kinds;
+ghost use Rattle.wac_graph_types.specs.Scope.{IsFresh};
+ghost use Rattle.wac_graph_types.specs.Table.{Names as NamesEntry};
 ghost use Rattle.wac_ast_base.specs.Names.{ident_of};
 ghost use Rattle.wac_ast_uses.specs.Uses.{use_item_of};
 ghost use Rattle.wac_graph.specs.Graph.{Parts};

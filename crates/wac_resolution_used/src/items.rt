@@ -1,9 +1,9 @@
 //! Used types of an interface.
 ghost use Rattle.std.specs.Prelude.{List, IfErr, OnOk, map};
-ghost use Rattle.wac_grammar.specs.Tree.{UseItem as ItemTree};
-ghost use Rattle.wac_types.specs.declared.kind.ItemKind.TheVariants as kinds;
-ghost use Rattle.wac_types.specs.Steps.{Fails};
-ghost use Rattle.wac_types.specs.Table.{Names as NamesEntry};
+ghost use Rattle.wac_ast_grammar.specs.Tree.{UseItem as ItemTree};
+ghost use Rattle.wac_graph_types.specs.declared.kind.ItemKind.TheVariants as kinds;
+ghost use Rattle.wac_graph_types.specs.Steps.{Fails};
+ghost use Rattle.wac_graph_types.specs.Table.{Names as NamesEntry};
 ghost use Rattle.wac_ast_uses.specs.Uses.{use_item_of};
 ghost use Rattle.wac_graph.specs.Means.{means};
 ghost use Rattle.wac_graph.specs.Origin.{Naming};

@@ -3,12 +3,12 @@ use Rattle.std.proofs.Common.{◌≡◌, ◌∙◌, ◌+◌, ◌<◌, ℕ, List,
 use Rattle.std.proofs.lemmas.List.{flat_map_more, take_more, length-map, get_or-map}
 use Rattle.std.specs.List.{flat_map}
 use Rattle.wac_lexer.specs.Span.{Span}
-use Rattle.wac_types.specs.declared.kind.ExternKind.{ExternKind}
-use Rattle.wac_types.specs.declared.kind.ItemKind.{ItemKind}
-use Rattle.wac_types.specs.Package.{PackageParts}
-use Rattle.wac_types.specs.Scope.{Named, Scope}
-use Rattle.wac_types.specs.Steps.{Steps, Fails}
-use Rattle.wac_types.specs.Table.{ItemsNamed}
+use Rattle.wac_graph_types.specs.declared.kind.ExternKind.{ExternKind}
+use Rattle.wac_graph_types.specs.declared.kind.ItemKind.{ItemKind}
+use Rattle.wac_graph_types.specs.Package.{PackageParts}
+use Rattle.wac_graph_types.specs.Scope.{Named, Scope}
+use Rattle.wac_graph_types.specs.Steps.{Steps, Fails}
+use Rattle.wac_graph_types.specs.Table.{ItemsNamed}
 use Rattle.wac_graph.specs.Graph.{Parts}
 use Rattle.wac_graph.specs.Origin.{Naming}
 use Rattle.wac_graph.specs.Package.{Key}

@@ -5,20 +5,20 @@ use Rattle.std.specs.declared.alloc.Global.{Global}
 use Rattle.std.proofs.lemmas.Result.{IfErr-weaker}
 use Rattle.indexmap.proofs.MapLemmas.{OnOk-map}
 use Rattle.wac_lexer.specs.Span.{Span}
-use Rattle.wac_grammar.specs.Tree.{Use, ItemTypeDecl, InterfaceExport, InterfaceItem}
-use Rattle.wac_types.specs.declared.kind.ExternKind.TheVariants as sides
-use Rattle.wac_types.specs.declared.kind.ItemKind.{ItemKind}
-use Rattle.wac_types.specs.declared.kind.ItemKind.TheVariants as kinds
-use Rattle.wac_types.specs.declared.kind.FuncTypeId.{FuncTypeId}
-use Rattle.wac_types.specs.declared.kind.InterfaceId.{InterfaceId}
-use Rattle.wac_types.specs.declared.entry.Entry.{Entry}
-use Rattle.wac_types.specs.declared.entry.UsedType.{UsedType}
-use Rattle.wac_types.specs.Entry.{Slot, use_children, export_children}
-use Rattle.wac_types.specs.Meaning.{EachKind}
-use Rattle.wac_types.specs.Names.{by_name}
-use Rattle.wac_types.specs.Scope.{Named, Scope, IsFresh}
-use Rattle.wac_types.specs.Steps.{Steps, Fails}
-use Rattle.wac_types.specs.Table.{Names, ItemsNamed}
+use Rattle.wac_ast_grammar.specs.Tree.{Use, ItemTypeDecl, InterfaceExport, InterfaceItem}
+use Rattle.wac_graph_types.specs.declared.kind.ExternKind.TheVariants as sides
+use Rattle.wac_graph_types.specs.declared.kind.ItemKind.{ItemKind}
+use Rattle.wac_graph_types.specs.declared.kind.ItemKind.TheVariants as kinds
+use Rattle.wac_graph_types.specs.declared.kind.FuncTypeId.{FuncTypeId}
+use Rattle.wac_graph_types.specs.declared.kind.InterfaceId.{InterfaceId}
+use Rattle.wac_graph_types.specs.declared.entry.Entry.{Entry}
+use Rattle.wac_graph_types.specs.declared.entry.UsedType.{UsedType}
+use Rattle.wac_graph_types.specs.Entry.{Slot, use_children, export_children}
+use Rattle.wac_graph_types.specs.Meaning.{EachKind}
+use Rattle.wac_graph_types.specs.Names.{by_name}
+use Rattle.wac_graph_types.specs.Scope.{Named, Scope, IsFresh}
+use Rattle.wac_graph_types.specs.Steps.{Steps, Fails}
+use Rattle.wac_graph_types.specs.Table.{Names, ItemsNamed}
 use Rattle.wac_ast_worlds.specs.Worlds.{interface_item_of}
 use Rattle.wac_ast_worlds.specs.declared.interface.InterfaceItem.{InterfaceItem as CodeInterfaceItem}
 use Rattle.wac_graph.specs.Graph.{Parts}

@@ -2,21 +2,21 @@
 use Rattle.std.proofs.Common.{◌≡◌, ◌∙◌, ◌++◌, ℕ, List, [], ◌∷◌, Option, Some, None, Bool, true, false, cond, refl, sym, ap, subst, inr}
 use Rattle.std.specs.Prelude.{option_map}
 use Rattle.std.specs.Str.{bytes_eq}
-use Rattle.wac_grammar.specs.Tree.{Ident, FuncType, FuncTypeRef, ExternType}
-use Rattle.wac_types.specs.declared.kind.ItemKind.{ItemKind}
-use Rattle.wac_types.specs.declared.kind.ItemKind.TheVariants as kinds
-use Rattle.wac_types.specs.declared.kind.«Type».TheVariants as types
-use Rattle.wac_types.specs.declared.kind.ValueType.{ValueType}
-use Rattle.wac_types.specs.declared.kind.FuncTypeId.{FuncTypeId}
-use Rattle.wac_types.specs.declared.kind.FuncKind.TheVariants as funcs
-use Rattle.wac_types.specs.declared.kind.InterfaceId.{InterfaceId}
-use Rattle.wac_types.specs.declared.entry.Entry.{Entry}
-use Rattle.wac_types.specs.Meaning.{Meaning, of_kind}
-use Rattle.wac_types.specs.Scope.{Named, look_up, StandsFor, IsFresh}
-use Rattle.wac_types.specs.Shape.{items_mean}
-use Rattle.wac_types.specs.Table.{ItemsNamed}
-use Rattle.wac_types.proofs.Shapes.{items_found}
-use Rattle.wac_types.proofs.Found.{found_named}
+use Rattle.wac_ast_grammar.specs.Tree.{Ident, FuncType, FuncTypeRef, ExternType}
+use Rattle.wac_graph_types.specs.declared.kind.ItemKind.{ItemKind}
+use Rattle.wac_graph_types.specs.declared.kind.ItemKind.TheVariants as kinds
+use Rattle.wac_graph_types.specs.declared.kind.«Type».TheVariants as types
+use Rattle.wac_graph_types.specs.declared.kind.ValueType.{ValueType}
+use Rattle.wac_graph_types.specs.declared.kind.FuncTypeId.{FuncTypeId}
+use Rattle.wac_graph_types.specs.declared.kind.FuncKind.TheVariants as funcs
+use Rattle.wac_graph_types.specs.declared.kind.InterfaceId.{InterfaceId}
+use Rattle.wac_graph_types.specs.declared.entry.Entry.{Entry}
+use Rattle.wac_graph_types.specs.Meaning.{Meaning, of_kind}
+use Rattle.wac_graph_types.specs.Scope.{Named, look_up, StandsFor, IsFresh}
+use Rattle.wac_graph_types.specs.Shape.{items_mean}
+use Rattle.wac_graph_types.specs.Table.{ItemsNamed}
+use Rattle.wac_graph_types.proofs.Shapes.{items_found}
+use Rattle.wac_graph_types.proofs.Found.{found_named}
 use Rattle.wac_graph.specs.Graph.{Parts}
 use Rattle.wac_graph.specs.Means.{means, entry_means}
 use Rattle.wac_graph.specs.Origin.{Naming}

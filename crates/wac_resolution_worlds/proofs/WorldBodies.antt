@@ -5,18 +5,18 @@ use Rattle.std.specs.declared.alloc.Global.{Global}
 use Rattle.std.proofs.lemmas.Result.{IfErr-weaker}
 use Rattle.indexmap.proofs.MapLemmas.{OnOk-map}
 use Rattle.wac_lexer.specs.Span.{Span}
-use Rattle.wac_grammar.specs.Tree.{Use, ItemTypeDecl, WorldImport, WorldExport, WorldInclude, WorldItem}
-use Rattle.wac_types.specs.declared.kind.ExternKind.TheVariants as sides
-use Rattle.wac_types.specs.declared.kind.ItemKind.{ItemKind}
-use Rattle.wac_types.specs.declared.kind.WorldId.{WorldId}
-use Rattle.wac_types.specs.declared.entry.Entry.{Entry}
-use Rattle.wac_types.specs.declared.entry.UsedType.{UsedType}
-use Rattle.wac_types.specs.Entry.{use_children, import_children, export_children}
-use Rattle.wac_types.specs.Meaning.{EachKind}
-use Rattle.wac_types.specs.Names.{by_name}
-use Rattle.wac_types.specs.Scope.{Named}
-use Rattle.wac_types.specs.Steps.{Steps, Fails}
-use Rattle.wac_types.specs.Table.{Names, ItemsNamed}
+use Rattle.wac_ast_grammar.specs.Tree.{Use, ItemTypeDecl, WorldImport, WorldExport, WorldInclude, WorldItem}
+use Rattle.wac_graph_types.specs.declared.kind.ExternKind.TheVariants as sides
+use Rattle.wac_graph_types.specs.declared.kind.ItemKind.{ItemKind}
+use Rattle.wac_graph_types.specs.declared.kind.WorldId.{WorldId}
+use Rattle.wac_graph_types.specs.declared.entry.Entry.{Entry}
+use Rattle.wac_graph_types.specs.declared.entry.UsedType.{UsedType}
+use Rattle.wac_graph_types.specs.Entry.{use_children, import_children, export_children}
+use Rattle.wac_graph_types.specs.Meaning.{EachKind}
+use Rattle.wac_graph_types.specs.Names.{by_name}
+use Rattle.wac_graph_types.specs.Scope.{Named}
+use Rattle.wac_graph_types.specs.Steps.{Steps, Fails}
+use Rattle.wac_graph_types.specs.Table.{Names, ItemsNamed}
 use Rattle.wac_ast_worlds.specs.Worlds.{world_item_of}
 use Rattle.wac_ast_worlds.specs.declared.world.WorldItem.{WorldItem as CodeWorldItem}
 use Rattle.wac_graph.specs.Graph.{Parts}

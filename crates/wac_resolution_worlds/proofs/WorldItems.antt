@@ -4,18 +4,18 @@ use Rattle.std.specs.Prelude.{Result, IfErr, OnOk, unwrap_or}
 use Rattle.std.proofs.lemmas.Result.{IfErr-weaker}
 use Rattle.indexmap.proofs.MapLemmas.{OnOk-map}
 use Rattle.wac_lexer.specs.Span.{Span}
-use Rattle.wac_grammar.specs.Tree.{Ident, PackagePath, FuncType, InlineInterface, ExternType, NamedWorldItem, WorldItemPath}
-use Rattle.wac_types.specs.declared.kind.ExternKind.{ExternKind}
-use Rattle.wac_types.specs.declared.kind.ExternKind.TheVariants as sides
-use Rattle.wac_types.specs.declared.kind.ItemKind.{ItemKind}
-use Rattle.wac_types.specs.declared.kind.ItemKind.TheVariants as kinds
-use Rattle.wac_types.specs.declared.kind.FuncTypeId.{FuncTypeId}
-use Rattle.wac_types.specs.declared.kind.InterfaceId.{InterfaceId}
-use Rattle.wac_types.specs.Meaning.{Meaning}
-use Rattle.wac_types.specs.Package.{PackageParts}
-use Rattle.wac_types.specs.Scope.{Named, IsFresh}
-use Rattle.wac_types.specs.Shape.{id_of, entry_of}
-use Rattle.wac_types.specs.Table.{Names, ItemsNamed}
+use Rattle.wac_ast_grammar.specs.Tree.{Ident, PackagePath, FuncType, InlineInterface, ExternType, NamedWorldItem, WorldItemPath}
+use Rattle.wac_graph_types.specs.declared.kind.ExternKind.{ExternKind}
+use Rattle.wac_graph_types.specs.declared.kind.ExternKind.TheVariants as sides
+use Rattle.wac_graph_types.specs.declared.kind.ItemKind.{ItemKind}
+use Rattle.wac_graph_types.specs.declared.kind.ItemKind.TheVariants as kinds
+use Rattle.wac_graph_types.specs.declared.kind.FuncTypeId.{FuncTypeId}
+use Rattle.wac_graph_types.specs.declared.kind.InterfaceId.{InterfaceId}
+use Rattle.wac_graph_types.specs.Meaning.{Meaning}
+use Rattle.wac_graph_types.specs.Package.{PackageParts}
+use Rattle.wac_graph_types.specs.Scope.{Named, IsFresh}
+use Rattle.wac_graph_types.specs.Shape.{id_of, entry_of}
+use Rattle.wac_graph_types.specs.Table.{Names, ItemsNamed}
 use Rattle.wac_ast_worlds.specs.Worlds.{extern_type_of, world_item_path_of}
 use Rattle.wac_ast_worlds.specs.declared.world.ExternType.{ExternType as CodeExternType}
 use Rattle.wac_ast_worlds.specs.declared.world.WorldItemPath.{WorldItemPath as CodeWorldItemPath}

@@ -1,11 +1,11 @@
 -- Interfaces and worlds that the document declares.
 use Rattle.std.specs.Prelude.{◌≡◌, ℕ, List, ◌++◌, option_map, codes}
-use Rattle.wac_grammar.specs.Tree.{InterfaceDecl, WorldItem}
-use Rattle.wac_types.specs.declared.kind.ItemKind.{ItemKind}
-use Rattle.wac_types.specs.Kind.{an_interface, a_world}
-use Rattle.wac_types.specs.Meaning.{Meaning}
-use Rattle.wac_types.specs.Scope.{Named}
-use Rattle.wac_types.specs.Shape.{kind_of}
+use Rattle.wac_ast_grammar.specs.Tree.{InterfaceDecl, WorldItem}
+use Rattle.wac_graph_types.specs.declared.kind.ItemKind.{ItemKind}
+use Rattle.wac_graph_types.specs.Kind.{an_interface, a_world}
+use Rattle.wac_graph_types.specs.Meaning.{Meaning}
+use Rattle.wac_graph_types.specs.Scope.{Named}
+use Rattle.wac_graph_types.specs.Shape.{kind_of}
 use Rattle.wac_graph.specs.Graph.{Parts}
 use Rattle.wac_graph.specs.Means.{declared_count}
 use Rattle.wac_resolution_rules.specs.TypeStatements.{version_part, declared_id}

@@ -1,8 +1,8 @@
 //! Imports and exports of worlds.
 ghost use Rattle.std.specs.Prelude.{IfOk, IfErr, OnOk};
-ghost use Rattle.wac_grammar.specs.Tree.{WorldItemPath as PathTree};
-ghost use Rattle.wac_types.specs.declared.kind.ExternKind.TheVariants as sides;
-ghost use Rattle.wac_types.specs.Table.{ItemsNamed};
+ghost use Rattle.wac_ast_grammar.specs.Tree.{WorldItemPath as PathTree};
+ghost use Rattle.wac_graph_types.specs.declared.kind.ExternKind.TheVariants as sides;
+ghost use Rattle.wac_graph_types.specs.Table.{ItemsNamed};
 ghost use Rattle.wac_ast_base.specs.Names.{ident_of, package_path_of};
 ghost use Rattle.wac_ast_worlds.specs.Worlds.{extern_type_of, named_world_item_of, world_item_path_of};
 ghost use Rattle.wac_graph.specs.Means.{declared_count};

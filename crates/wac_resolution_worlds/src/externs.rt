@@ -1,7 +1,7 @@
 //! Kinds of imports and exports that are given names.
 ghost use Rattle.std.specs.Prelude.{◌≡◌, ◌++◌, ℕ, IfOk, IfErr};
-ghost use Rattle.wac_grammar.specs.Tree.{ExternType as ExternTree};
-ghost use Rattle.wac_types.specs.Scope.{look_up};
+ghost use Rattle.wac_ast_grammar.specs.Tree.{ExternType as ExternTree};
+ghost use Rattle.wac_graph_types.specs.Scope.{look_up};
 ghost use Rattle.wac_ast_base.specs.Names.{ident_of};
 ghost use Rattle.wac_graph.specs.Graph.{Parts};
 ghost use Rattle.wac_graph.specs.Origin.{Naming};

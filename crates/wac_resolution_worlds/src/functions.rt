@@ -1,8 +1,8 @@
 //! References to function types.
 ghost use Rattle.std.specs.Prelude.{[], IfOk, IfErr};
-ghost use Rattle.wac_grammar.specs.Tree.{FuncTypeRef as RefTree};
-ghost use Rattle.wac_types.specs.declared.kind.FuncKind.TheVariants as funcs;
-ghost use Rattle.wac_types.specs.Table.{ItemsNamed};
+ghost use Rattle.wac_ast_grammar.specs.Tree.{FuncTypeRef as RefTree};
+ghost use Rattle.wac_graph_types.specs.declared.kind.FuncKind.TheVariants as funcs;
+ghost use Rattle.wac_graph_types.specs.Table.{ItemsNamed};
 ghost use Rattle.wac_ast_base.specs.Names.{ident_of};
 ghost use Rattle.wac_ast_types.specs.Declarations.{func_type_of, func_type_ref_of};
 ghost use Rattle.wac_graph.specs.Graph.{Parts};

@@ -1,9 +1,9 @@
 //! Interfaces that are imported or exported under their ids.
 ghost use Rattle.std.specs.Prelude.{◌≡◌, [], IfErr, OnOk, option_map, unwrap_or, string_bytes};
-ghost use Rattle.wac_types.specs.declared.kind.ExternKind.TheVariants as sides;
-ghost use Rattle.wac_types.specs.declared.kind.ItemKind.TheVariants as kinds;
-ghost use Rattle.wac_types.specs.Shape.{id_of};
-ghost use Rattle.wac_types.specs.Table.{Names};
+ghost use Rattle.wac_graph_types.specs.declared.kind.ExternKind.TheVariants as sides;
+ghost use Rattle.wac_graph_types.specs.declared.kind.ItemKind.TheVariants as kinds;
+ghost use Rattle.wac_graph_types.specs.Shape.{id_of};
+ghost use Rattle.wac_graph_types.specs.Table.{Names};
 ghost use Rattle.wac_graph.specs.Means.{means, entry_means};
 ghost use Rattle.wac_graph.specs.Origin.{Naming};
 ghost use Rattle.wac_resolution_errors.specs.Error.{Reports};

@@ -1,10 +1,10 @@
 //! Interfaces.
 ghost use Rattle.std.specs.Prelude.{◌≡◌, List, IfOk, IfErr, OnOk, map, option_map, string_bytes};
-ghost use Rattle.wac_grammar.specs.Tree.{InterfaceItem as ItemTree};
-ghost use Rattle.wac_types.specs.declared.kind.ExternKind.TheVariants as sides;
-ghost use Rattle.wac_types.specs.Scope.{Scope};
-ghost use Rattle.wac_types.specs.Steps.{Fails};
-ghost use Rattle.wac_types.specs.Table.{ItemsNamed};
+ghost use Rattle.wac_ast_grammar.specs.Tree.{InterfaceItem as ItemTree};
+ghost use Rattle.wac_graph_types.specs.declared.kind.ExternKind.TheVariants as sides;
+ghost use Rattle.wac_graph_types.specs.Scope.{Scope};
+ghost use Rattle.wac_graph_types.specs.Steps.{Fails};
+ghost use Rattle.wac_graph_types.specs.Table.{ItemsNamed};
 ghost use Rattle.wac_ast_worlds.specs.Worlds.{interface_export_of, interface_item_of};
 ghost use Rattle.wac_graph.specs.Means.{declared_count};
 ghost use Rattle.wac_graph.specs.Origin.{Naming};

@@ -1,9 +1,9 @@
 //! Items of worlds.
 ghost use Rattle.std.specs.Prelude.{◌≡◌, List, IfErr, OnOk, map};
-ghost use Rattle.wac_grammar.specs.Tree.{WorldItem as ItemTree};
-ghost use Rattle.wac_types.specs.declared.kind.ExternKind.TheVariants as sides;
-ghost use Rattle.wac_types.specs.Steps.{Fails};
-ghost use Rattle.wac_types.specs.Table.{ItemsNamed};
+ghost use Rattle.wac_ast_grammar.specs.Tree.{WorldItem as ItemTree};
+ghost use Rattle.wac_graph_types.specs.declared.kind.ExternKind.TheVariants as sides;
+ghost use Rattle.wac_graph_types.specs.Steps.{Fails};
+ghost use Rattle.wac_graph_types.specs.Table.{ItemsNamed};
 ghost use Rattle.wac_ast_worlds.specs.Worlds.{world_item_of};
 ghost use Rattle.wac_graph.specs.Origin.{Naming};
 ghost use Rattle.wac_resolution_errors.specs.Error.{Reports};

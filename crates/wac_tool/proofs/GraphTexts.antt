@@ -3,14 +3,14 @@ use Rattle.std.proofs.Common.{◌≡◌, ℕ, suc, List, [], ◌∷◌, ◌++◌
 use Rattle.std.specs.Prelude.{◌⊎◌, Result, IfOk, IfErr, alloc_error}
 use Rattle.wac_ast.specs.Statements.{document_of}
 use Rattle.wac_ast.specs.declared.document.Document.{Document as CodeDocument}
-use Rattle.wac_grammar.specs.TextTree.{IsTreeOf}
-use Rattle.wac_grammar.specs.Tree.{Document}
+use Rattle.wac_ast_grammar.specs.TextTree.{IsTreeOf}
+use Rattle.wac_ast_grammar.specs.Tree.{Document}
 use Rattle.wac_graph.specs.Graph.{Parts}
 use Rattle.wac_graph.specs.Node.{Node as GraphNode, arguments_in}
 use Rattle.wac_graph.specs.Origin.{Naming}
 use Rattle.wac_graph.specs.declared.package_key.PackageKey.{PackageKey}
-use Rattle.wac_types.specs.Package.{PackageParts}
-use Rattle.wac_types.specs.Scope.{Named}
+use Rattle.wac_graph_types.specs.Package.{PackageParts}
+use Rattle.wac_graph_types.specs.Scope.{Named}
 use Rattle.wac_resolution.specs.Resolved.{Resolved, Promised}
 use Rattle.wac_resolution_errors.specs.Error.{memory}
 use Rattle.wac_resolution_errors.specs.Told.{told}

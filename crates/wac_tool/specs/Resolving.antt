@@ -1,9 +1,9 @@
 -- What a document alone resolves to: with no package supplied, and by the rules of the program.
 use Rattle.std.specs.Prelude.{◌≡◌, ◌≢◌, ℕ, List, [], Option, None, alloc_error, string_bytes}
 use Rattle.wac_lexer.specs.Span.{Span}
-use Rattle.wac_types.specs.Scope.{Named}
-use Rattle.wac_grammar.specs.Tree.{Document}
-use Rattle.wac_grammar.specs.TextTree.{IsTreeOf}
+use Rattle.wac_graph_types.specs.Scope.{Named}
+use Rattle.wac_ast_grammar.specs.Tree.{Document}
+use Rattle.wac_ast_grammar.specs.TextTree.{IsTreeOf}
 use Rattle.wac_graph.specs.Graph.{Parts}
 use Rattle.wac_graph.specs.Origin.{Naming}
 use Rattle.wac_resolution_errors.specs.Error.{Error as Told, NamesRule}

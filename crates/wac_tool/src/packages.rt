@@ -3,8 +3,8 @@ ghost use Rattle.std.specs.Prelude.{◌≡◌, ◌+◌, ◌++◌, IfOk, IfErr, I
 ghost use Rattle.wac_ast.specs.Statements.{document_of};
 ghost use Rattle.wac_graph.specs.Package.{key_of};
 ghost use Rattle.wac_resolution_rules.specs.Mentions.{mentions};
-ghost use Rattle.wac_parser_packages.specs.FirstMentions.{first_mentions};
-ghost use Rattle.wac_parser_packages.specs.Noted.{mentions_in};
+ghost use Rattle.wac_resolution_mentions.specs.FirstMentions.{first_mentions};
+ghost use Rattle.wac_resolution_mentions.specs.Noted.{mentions_in};
 ghost use Rattle.wac_tool.specs.Running.{Answers, Rejects, Writes, input_failures, output_failures, package_line, package_lines};
 ghost use Rattle.wac_tool.specs.declared.command.Command.TheVariants as commands;
 

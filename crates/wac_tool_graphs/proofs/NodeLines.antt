@@ -1,10 +1,10 @@
 -- The lines of the nodes of a graph.
 use Rattle.std.proofs.Common.{◌≡◌, ◌∙◌, ◌<◌, ℕ, zero, suc, List, [], ◌∷◌, ◌++◌, Option, Some, None, refl, sym, ap, subst, map, length, append_assoc, codes, flat_map, arith, ◌+◌, Result, Err}
 use Rattle.std.specs.Prelude.{slice_get, option_map, decimal}
-use Rattle.wac_types.specs.declared.kind.ItemKind.{ItemKind}
-use Rattle.wac_types.specs.Shape.{described}
-use Rattle.wac_types.specs.Words as words
-use Rattle.wac_types.proofs.Shapes.{word_is}
+use Rattle.wac_graph_types.specs.declared.kind.ItemKind.{ItemKind}
+use Rattle.wac_graph_types.specs.Shape.{described}
+use Rattle.wac_graph_types.specs.Words as words
+use Rattle.wac_graph_types.proofs.Shapes.{word_is}
 use Rattle.wac_graph.specs.Node.{Node as GraphNode, arguments_in}
 use Rattle.wac_graph.specs.Graph.{Parts}
 use Rattle.wac_graph.specs.Means.{means, entry_means}

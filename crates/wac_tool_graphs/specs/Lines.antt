@@ -1,7 +1,7 @@
 -- The lines of a composition.
 use Rattle.std.specs.Prelude.{ℕ, suc, List, [], ◌∷◌, ◌++◌, flat_map, codes, decimal, Option, Some, None}
-use Rattle.wac_types.specs.Scope.{Named}
-use Rattle.wac_types.specs.Shape.{described}
+use Rattle.wac_graph_types.specs.Scope.{Named}
+use Rattle.wac_graph_types.specs.Shape.{described}
 use Rattle.wac_resolution_rules.specs.Composition.{Composition, Node, NodeForm, imported, definition, aliased, instantiated}
 
 -- ---- parts of a node's line

@@ -1,8 +1,8 @@
 -- What the rules of the program say of kinds.
 use Rattle.std.specs.Prelude.{Option}
-use Rattle.wac_types.specs.declared.rules.Reason.{Reason}
-use Rattle.wac_types.specs.Equality.{equal_or, meaning_discrete}
-use Rattle.wac_types.specs.Meaning.{Meaning}
+use Rattle.wac_graph_types.specs.declared.rules.Reason.{Reason}
+use Rattle.wac_graph_types.specs.Equality.{equal_or, meaning_discrete}
+use Rattle.wac_graph_types.specs.Meaning.{Meaning}
 
 -- a kind fits one of equal meaning; reason 1 is against any other
 abbrev pub same_passes : Meaning → Meaning → Option Reason

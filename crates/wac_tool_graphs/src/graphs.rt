@@ -1,6 +1,6 @@
 //! The lines of a graph.
 ghost use Rattle.std.specs.Prelude.{◌≡◌, ◌<◌, ◌++◌, ℕ, Some, length, map, option_map, slice_get, codes, decimal};
-ghost use Rattle.wac_types.specs.Scope.{Named};
+ghost use Rattle.wac_graph_types.specs.Scope.{Named};
 ghost use Rattle.wac_graph.specs.Node.{Node, arguments_in};
 ghost use Rattle.wac_graph.specs.Origin.{Naming};
 ghost use Rattle.wac_graph.specs.Package.{key_of};

@@ -1,6 +1,6 @@
 //! The rules by which `wac resolve` tests.
 
-use wac_types::{ItemKind, Reason, Rules, Types};
+use wac_graph_types::{ItemKind, Reason, Rules, Types};
 
 /// Rules under which a kind fits one that means the same, and no other; each name may be used.
 #[derive(Clone, Copy, Debug)]
@@ -8,7 +8,7 @@ pub struct SameRules;
 
 impl Rules for SameRules {
     ghost use Rattle.std.specs.Prelude.{None};
-    ghost use Rattle.wac_types.specs.Equality.{equal_or-renamed};
+    ghost use Rattle.wac_graph_types.specs.Equality.{equal_or-renamed};
     ghost use Rattle.wac_tool_graphs.specs.Rules.{same_passes};
 
     ghost passes = { λ _ a b. same_passes a b };

@@ -2,7 +2,7 @@ use Rattle.std.proofs.Common.{Ok, refl, subst, List}
 use Rattle.std.specs.Fn.{FnOnceReturnsAtMut}
 use Rattle.wac_lexer.specs.Item.{Item}
 use Rattle.wac_lexer.specs.Reading.{left}
-use Rattle.wac_grammar.specs.Consumed.{Consumed}
+use Rattle.wac_ast_grammar.specs.Consumed.{Consumed}
 use Rattle.wac_ast_base.proofs.parse.parse_optional.Goals as goal
 
 pub returns-in-Ok-clause-derives : goal.returns-in-Ok-clause-derives

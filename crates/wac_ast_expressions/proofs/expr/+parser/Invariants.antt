@@ -1,6 +1,6 @@
 use Rattle.std.proofs.Common.{◌+◌, ◌*◌, ◌≤◌, map, length}
 use Rattle.wac_lexer.specs.Reading.{left}
-use Rattle.wac_grammar.specs.Grammar.{argument}
+use Rattle.wac_ast_grammar.specs.Grammar.{argument}
 use Rattle.wac_ast_base.specs.Lists.{list_of}
 use Rattle.wac_ast_expressions.specs.Expressions.{argument_of}
 use Rattle.wac_ast_base.proofs.Lists.{ListSoFar}

@@ -1,8 +1,8 @@
 use Rattle.std.proofs.Common.{refl, ◌∙◌}
 use Rattle.wac_lexer.specs.Reading.{left}
 use Rattle.wac_lexer.specs.declared.token.Token.TheVariants as tokens
-use Rattle.wac_grammar.specs.Grammar.{argument}
-use Rattle.wac_grammar.specs.Reading.{read}
+use Rattle.wac_ast_grammar.specs.Grammar.{argument}
+use Rattle.wac_ast_grammar.specs.Reading.{read}
 use Rattle.wac_ast_base.proofs.Loops.{fails_bind}
 use Rattle.wac_ast_base.proofs.Lists.{never_fails, same_fails, moved_end}
 use Rattle.wac_ast_base.proofs.Exits as x

@@ -1,6 +1,6 @@
 use Rattle.std.proofs.Common.{ℕ, ◌+◌, ◌*◌, Some}
-use Rattle.wac_types.specs.Meaning.{meaning_at}
-use Rattle.wac_types.specs.Names.{by_name}
+use Rattle.wac_graph_types.specs.Meaning.{meaning_at}
+use Rattle.wac_graph_types.specs.Names.{by_name}
 use Rattle.wac_component_rules.specs.Found.{AllFit}
 use Rattle.wac_component_rules.specs.Parts.{parts_of}
 use Rattle.wac_component_rules.proofs.Measures.{above}

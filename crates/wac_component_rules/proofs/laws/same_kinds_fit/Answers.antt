@@ -1,5 +1,5 @@
 use Rattle.std.proofs.Common.{◌≡◌, true, subst}
-use Rattle.wac_types.specs.Meaning.{Meaning}
+use Rattle.wac_graph_types.specs.Meaning.{Meaning}
 use Rattle.wac_component_rules.specs.Fits.{fits}
 use Rattle.wac_component_rules.specs.Seen.{seen}
 use Rattle.wac_component_rules.proofs.Itself.{fits_itself}

@@ -1,7 +1,7 @@
 use Rattle.std.proofs.Common.{ℕ, List, Result, Ok, Err, IfOk, String, Global, string_bytes, refl}
-use Rattle.wac_grammar.specs.Tree.{Document}
-use Rattle.wac_grammar.specs.TextTree.{IsTreeOf}
-use Rattle.wac_layout.specs.Reread.{ReadsBack}
+use Rattle.wac_ast_grammar.specs.Tree.{Document}
+use Rattle.wac_ast_grammar.specs.TextTree.{IsTreeOf}
+use Rattle.wac_printer_layout.specs.Reread.{ReadsBack}
 use Rattle.wac_examples.specs.Documents.{IsDocument}
 use Rattle.wac_examples.proofs.formatting.formatted.Goals as goal
 

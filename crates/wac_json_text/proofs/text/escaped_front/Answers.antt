@@ -3,7 +3,7 @@ use Rattle.std.specs.List.{slice_get}
 use Rattle.std.specs.Str.{IsCharBoundary}
 use Rattle.std.proofs.lemmas.Str.{IsCharBoundary-after_ascii}
 use Rattle.json.specs.Print.{escape}
-use Rattle.wac_layout.specs.Printed.{blank}
+use Rattle.wac_printer_layout.specs.Printed.{blank}
 use Rattle.wac_printer_pieces.specs.Printed.{Prints}
 use Rattle.wac_json_text.specs.Pieces.{FrontWritten}
 use Rattle.wac_json_text.proofs.Escapes.{as_ok, behind_at, both, escape_parts, first_fails, front_escaped, none_behind, not_plain_ascii, not_plain_at, plain_boundary, run_front}

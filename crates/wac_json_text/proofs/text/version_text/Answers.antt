@@ -1,7 +1,7 @@
 use Rattle.std.proofs.Common.{◌∷◌, []}
 use Rattle.json.specs.Print.{escape}
 use Rattle.semver.specs.Identifiers.{parts_of, parts_text}
-use Rattle.wac_layout.specs.Printed.{blank}
+use Rattle.wac_printer_layout.specs.Printed.{blank}
 use Rattle.wac_printer_pieces.proofs.Indentation.{prints_same}
 use Rattle.wac_json_text.specs.Pieces.{version_pieces}
 use Rattle.wac_json_text.proofs.Escapes.{version_is}

@@ -1,8 +1,8 @@
 use Rattle.std.proofs.Common.{List, ℕ, sym, ap, subst, ◌∙◌}
 use Rattle.std.proofs.lemmas.Result.{err_from_is_err_and}
-use Rattle.wac_grammar.specs.Tree.{Document}
+use Rattle.wac_ast_grammar.specs.Tree.{Document}
 use Rattle.wac_ast.specs.Statements.{document_of}
-use Rattle.wac_layout.specs.Reread.{printed, ReadsBack, IsFixed}
+use Rattle.wac_printer_layout.specs.Reread.{printed, ReadsBack, IsFixed}
 use Rattle.wac_printer_pieces.specs.Printed.{space_of}
 use Rattle.wac_parser_formatting.proofs.formatting.format.Goals as goal
 

@@ -2,8 +2,8 @@ use Rattle.std.specs.Prelude.{ℕ, IfOk}
 use Rattle.std.proofs.Common.{subst}
 use Rattle.wac_ast.specs.Statements.{document_of}
 use Rattle.wac_ast.specs.declared.document.Document.{Document as CodeDocument}
-use Rattle.wac_grammar.specs.Tree.{Document as Tree}
-use Rattle.wac_types.specs.Scope.{Named}
+use Rattle.wac_ast_grammar.specs.Tree.{Document as Tree}
+use Rattle.wac_graph_types.specs.Scope.{Named}
 use Rattle.wac_resolution_rules.specs.Given.{rules_by}
 use Rattle.wac_resolution_rules.specs.Mentions.{mentions}
 use Rattle.wac_resolution.specs.Layout.{DescribedClause, SameBareTree}

@@ -1,7 +1,7 @@
 use Rattle.std.proofs.Common.{◌∙◌, ℕ, List, map, sym, ap, inr}
 use Rattle.std.specs.Prelude.{string_bytes}
-use Rattle.wac_types.specs.Names.{by_name}
-use Rattle.wac_grammar.specs.Tree.{arguments_from}
+use Rattle.wac_graph_types.specs.Names.{by_name}
+use Rattle.wac_ast_grammar.specs.Tree.{arguments_from}
 use Rattle.wac_ast_base.specs.Names.{package_name_of}
 use Rattle.wac_ast_expressions.specs.Expressions.{argument_of}
 use Rattle.wac_resolution_errors.specs.Error.{missing_instantiation_arg}

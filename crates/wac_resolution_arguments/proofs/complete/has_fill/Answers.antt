@@ -1,6 +1,6 @@
 use Rattle.std.proofs.Common.{◌≡◌, ◌∙◌, List, map, sym, subst, false, arith}
 use Rattle.std.proofs.lemmas.List.{take_all, length-map}
-use Rattle.wac_grammar.specs.Tree.{InstantiationArgument, arguments_from}
+use Rattle.wac_ast_grammar.specs.Tree.{InstantiationArgument, arguments_from}
 use Rattle.wac_ast_expressions.specs.Expressions.{argument_of}
 use Rattle.wac_resolution_rules.specs.Expressions.{has_fill}
 use Rattle.wac_resolution_arguments.proofs.Completing.{no_fill_next, fill_found}

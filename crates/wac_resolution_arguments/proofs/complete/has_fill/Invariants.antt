@@ -1,5 +1,5 @@
 use Rattle.std.proofs.Common.{◌≡◌, map, take, false}
-use Rattle.wac_grammar.specs.Tree.{arguments_from}
+use Rattle.wac_ast_grammar.specs.Tree.{arguments_from}
 use Rattle.wac_ast_expressions.specs.Expressions.{argument_of}
 use Rattle.wac_resolution_rules.specs.Expressions.{has_fill}
 use Rattle.wac_resolution_arguments.proofs.complete.has_fill.Given as goal

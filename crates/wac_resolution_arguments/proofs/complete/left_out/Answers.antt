@@ -1,8 +1,8 @@
 use Rattle.std.proofs.Common.{◌∙◌, List, refl, ap}
 use Rattle.std.specs.Prelude.{option_map}
-use Rattle.wac_types.specs.declared.entry.Entry.{Entry}
-use Rattle.wac_types.specs.Names.{by_name}
-use Rattle.wac_types.specs.Readings.{world_imports}
+use Rattle.wac_graph_types.specs.declared.entry.Entry.{Entry}
+use Rattle.wac_graph_types.specs.Names.{by_name}
+use Rattle.wac_graph_types.specs.Readings.{world_imports}
 use Rattle.wac_resolution_arguments.specs.Arguments.{given_nodes}
 use Rattle.wac_resolution_arguments.proofs.Completing.{left_here}
 use Rattle.wac_resolution_arguments.proofs.complete.left_out.Goals as goal

@@ -1,6 +1,6 @@
 use Rattle.std.proofs.Common.{List, ap, subst, ℕ}
 use Rattle.std.specs.Prelude.{string_bytes}
-use Rattle.wac_types.specs.Names.{by_name}
+use Rattle.wac_graph_types.specs.Names.{by_name}
 use Rattle.wac_resolution_rules.specs.Given.{rules_by}
 use Rattle.wac_resolution_arguments.specs.Fits.{IsFit}
 use Rattle.wac_resolution_arguments.proofs.Fitting.{none_fit, next_there, fit_next, fit_end, misfit_first}

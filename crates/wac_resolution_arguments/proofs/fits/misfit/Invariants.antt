@@ -1,4 +1,4 @@
-use Rattle.wac_types.specs.Names.{by_name}
+use Rattle.wac_graph_types.specs.Names.{by_name}
 use Rattle.wac_resolution_rules.specs.Given.{rules_by}
 use Rattle.wac_resolution_arguments.proofs.Fitting.{FitSoFar}
 use Rattle.wac_resolution_arguments.proofs.fits.misfit.Given as goal

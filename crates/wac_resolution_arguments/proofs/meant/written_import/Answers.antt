@@ -1,8 +1,8 @@
 use Rattle.std.proofs.Common.{◌∙◌, List, [], ap}
 use Rattle.std.specs.Prelude.{option_map, unwrap_or}
-use Rattle.wac_types.specs.declared.entry.Entry.{Entry}
-use Rattle.wac_types.specs.Names.{by_name}
-use Rattle.wac_types.specs.Readings.{world_imports}
+use Rattle.wac_graph_types.specs.declared.entry.Entry.{Entry}
+use Rattle.wac_graph_types.specs.Names.{by_name}
+use Rattle.wac_graph_types.specs.Readings.{world_imports}
 use Rattle.wac_ast_expressions.specs.Expressions.{argument_name_of}
 use Rattle.wac_resolution_arguments.proofs.Imports.{written_here}
 use Rattle.wac_resolution_arguments.proofs.meant.written_import.Goals as goal

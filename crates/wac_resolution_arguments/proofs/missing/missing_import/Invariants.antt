@@ -1,4 +1,4 @@
-use Rattle.wac_types.specs.Names.{by_name}
+use Rattle.wac_graph_types.specs.Names.{by_name}
 use Rattle.wac_resolution_arguments.specs.Arguments.{given_nodes}
 use Rattle.wac_resolution_arguments.proofs.Imports.{Skipping}
 use Rattle.wac_resolution_arguments.proofs.missing.missing_import.Given as goal

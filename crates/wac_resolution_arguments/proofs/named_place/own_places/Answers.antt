@@ -1,7 +1,7 @@
 use Rattle.std.proofs.Common.{◌≡◌, None, List, map, subst, arith}
 use Rattle.std.proofs.lemmas.List.{take_all, length-map}
-use Rattle.wac_grammar.specs.Tree.{InstantiationArgument, arguments_from}
-use Rattle.wac_types.specs.Scope.{look_up}
+use Rattle.wac_ast_grammar.specs.Tree.{InstantiationArgument, arguments_from}
+use Rattle.wac_graph_types.specs.Scope.{look_up}
 use Rattle.wac_ast_expressions.specs.Expressions.{argument_of}
 use Rattle.wac_resolution_rules.specs.BrokenExpressions.{own_places}
 use Rattle.wac_resolution_nodes.specs.Root.{composed}

@@ -1,6 +1,6 @@
 use Rattle.std.proofs.Common.{◌≡◌, None, map, take}
-use Rattle.wac_grammar.specs.Tree.{arguments_from}
-use Rattle.wac_types.specs.Scope.{look_up}
+use Rattle.wac_ast_grammar.specs.Tree.{arguments_from}
+use Rattle.wac_graph_types.specs.Scope.{look_up}
 use Rattle.wac_ast_expressions.specs.Expressions.{argument_of}
 use Rattle.wac_graph.specs.Origin.{Naming}
 use Rattle.wac_resolution_rules.specs.BrokenExpressions.{own_places}

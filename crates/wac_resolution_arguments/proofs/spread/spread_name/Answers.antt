@@ -1,5 +1,5 @@
 use Rattle.std.proofs.Common.{◌≡◌, ◌∙◌, true, false, sym, ap, is_some, is_none, rules}
-use Rattle.wac_types.specs.Names.{by_name}
+use Rattle.wac_graph_types.specs.Names.{by_name}
 use Rattle.wac_resolution_arguments.proofs.Spreading.{name_given, name_missing, name_exported}
 use Rattle.wac_resolution_arguments.proofs.spread.spread_name.Goals as goal
 

@@ -1,6 +1,6 @@
 use Rattle.std.proofs.Common.{map, take}
 use Rattle.std.specs.Prelude.{string_bytes}
-use Rattle.wac_types.specs.Names.{by_name}
+use Rattle.wac_graph_types.specs.Names.{by_name}
 use Rattle.wac_resolution_arguments.specs.Spreads.{NamesSpread}
 use Rattle.wac_resolution_arguments.proofs.spread.spread_names.Given as goal
 

@@ -1,8 +1,8 @@
 use Rattle.std.proofs.Common.{refl, map, subst, arith, List}
 use Rattle.std.proofs.lemmas.Result.{err_from_is_err_and}
 use Rattle.std.proofs.lemmas.List.{take_all, length-map}
-use Rattle.wac_grammar.specs.Tree.{InstantiationArgument, arguments_from}
-use Rattle.wac_types.specs.Names.{by_name}
+use Rattle.wac_ast_grammar.specs.Tree.{InstantiationArgument, arguments_from}
+use Rattle.wac_graph_types.specs.Names.{by_name}
 use Rattle.wac_ast_expressions.specs.Expressions.{argument_of}
 use Rattle.wac_resolution_errors.specs.Told.{told}
 use Rattle.wac_resolution_rules.specs.Expressions.{spreads_of}

@@ -1,6 +1,6 @@
 use Rattle.std.proofs.Common.{map, take}
-use Rattle.wac_grammar.specs.Tree.{arguments_from}
-use Rattle.wac_types.specs.Names.{by_name}
+use Rattle.wac_ast_grammar.specs.Tree.{arguments_from}
+use Rattle.wac_graph_types.specs.Names.{by_name}
 use Rattle.wac_ast_expressions.specs.Expressions.{argument_of}
 use Rattle.wac_resolution_rules.specs.Expressions.{spreads_of}
 use Rattle.wac_resolution_nodes.specs.Root.{numbers_of}

@@ -1,8 +1,8 @@
 use Rattle.std.proofs.Common.{inl, inr}
 use Rattle.std.proofs.lemmas.Result.{err_from_is_err_and}
-use Rattle.wac_grammar.specs.Tree.{ItemTypeDecl}
-use Rattle.wac_types.specs.declared.kind.ItemKind.TheVariants as kinds
-use Rattle.wac_types.specs.declared.kind.«Type».TheVariants as types
+use Rattle.wac_ast_grammar.specs.Tree.{ItemTypeDecl}
+use Rattle.wac_graph_types.specs.declared.kind.ItemKind.TheVariants as kinds
+use Rattle.wac_graph_types.specs.declared.kind.«Type».TheVariants as types
 use Rattle.wac_ast_types.specs.Declarations.{record_decl_of}
 use Rattle.wac_graph.specs.Means.{means}
 use Rattle.wac_resolution_bodies.specs.Lists.{lists_of}

@@ -1,6 +1,6 @@
 use Rattle.std.proofs.Common.{◌≡◌, ◌∙◌, List, [], inl, map, subst}
 use Rattle.std.proofs.lemmas.Result.{err_from_is_err_and}
-use Rattle.wac_types.specs.declared.kind.FuncKind.TheVariants as funcs
+use Rattle.wac_graph_types.specs.declared.kind.FuncKind.TheVariants as funcs
 use Rattle.wac_ast_types.specs.Declarations.{named_type_of, constructor_of}
 use Rattle.wac_ast_types.specs.declared.func_type.NamedType.{NamedType}
 use Rattle.wac_graph.specs.Origin.{Naming}

@@ -1,8 +1,8 @@
 use Rattle.std.proofs.Common.{map, take, [], arith}
 use Rattle.std.proofs.lemmas.Result.{err_from_is_err_and}
 use Rattle.std.proofs.lemmas.List.{take_all, length-map}
-use Rattle.wac_types.specs.declared.kind.ItemKind.TheVariants as kinds
-use Rattle.wac_types.specs.declared.kind.«Type».TheVariants as types
+use Rattle.wac_graph_types.specs.declared.kind.ItemKind.TheVariants as kinds
+use Rattle.wac_graph_types.specs.declared.kind.«Type».TheVariants as types
 use Rattle.wac_ast_types.specs.Declarations.{resource_method_of}
 use Rattle.wac_graph.specs.Means.{entry_means}
 use Rattle.wac_resolution_errors.specs.Told.{told}

@@ -1,5 +1,5 @@
 use Rattle.std.proofs.Common.{◌≡◌, ◌∙◌, ℕ, List, inr, sym, subst, rules}
-use Rattle.wac_types.specs.Scope.{StandsFor}
+use Rattle.wac_graph_types.specs.Scope.{StandsFor}
 use Rattle.wac_graph.specs.Means.{means}
 use Rattle.wac_resolution_rules.specs.Bodies.{externs, constructor_name}
 use Rattle.wac_resolution_bodies.specs.Bodies.{body_of}

@@ -1,5 +1,5 @@
 use Rattle.std.proofs.Common.{◌≡◌, Some, inr, sym, rules}
-use Rattle.wac_types.specs.Scope.{look_up}
+use Rattle.wac_graph_types.specs.Scope.{look_up}
 use Rattle.wac_graph.specs.Means.{means}
 use Rattle.wac_resolution_state.specs.Bindings.{places_of}
 use Rattle.wac_resolution_bodies.proofs.Found.{placed, unplaced}

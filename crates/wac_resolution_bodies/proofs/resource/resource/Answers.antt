@@ -1,6 +1,6 @@
 use Rattle.std.proofs.Common.{List, inl, map, subst}
 use Rattle.std.proofs.lemmas.Result.{err_from_is_err_and}
-use Rattle.wac_types.specs.Steps.{Fails}
+use Rattle.wac_graph_types.specs.Steps.{Fails}
 use Rattle.wac_ast_types.specs.Declarations.{resource_decl_of, resource_method_of}
 use Rattle.wac_ast_types.specs.declared.resource.ResourceMethod.{ResourceMethod}
 use Rattle.wac_graph.specs.Means.{entry_means}

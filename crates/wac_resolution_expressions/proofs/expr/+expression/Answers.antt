@@ -3,8 +3,8 @@ use denote.Param.Weighed.{most}
 use Rattle.std.specs.Prelude.{IfOk, IfErr, OnOk, nat_eq}
 use Rattle.std.proofs.lemmas.Result.{err_from_is_err_and, IfOk-weaker, IfErr-weaker, on_ok_weaker}
 use Rattle.wac_lexer.specs.Span.{Span}
-use Rattle.wac_grammar.specs.Tree.{PrimaryExpr, InstantiationArgument, arguments_from}
-use Rattle.wac_types.specs.Names.{by_name}
+use Rattle.wac_ast_grammar.specs.Tree.{PrimaryExpr, InstantiationArgument, arguments_from}
+use Rattle.wac_graph_types.specs.Names.{by_name}
 use Rattle.wac_ast_base.specs.Names.{ident_of, package_name_of}
 use Rattle.wac_ast_expressions.specs.Expressions.{argument_of, argument_name_of, expr_of, new_expr_of, primary_expr_of, postfix_expr_of}
 use Rattle.wac_ast_expressions.specs.declared.expr.InstantiationArgument.{InstantiationArgument as CodeArgument, size-InstantiationArgument}

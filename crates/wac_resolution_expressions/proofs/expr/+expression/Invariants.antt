@@ -1,6 +1,6 @@
 use Rattle.std.proofs.Common.{◌+◌, ◌*◌}
 use denote.Param.Weighed.{most}
-use Rattle.wac_types.specs.Names.{by_name}
+use Rattle.wac_graph_types.specs.Names.{by_name}
 use Rattle.wac_ast_expressions.specs.declared.expr.Expr.{size-Expr}
 use Rattle.wac_ast_expressions.specs.declared.expr.InstantiationArgument.{size-InstantiationArgument}
 use Rattle.wac_ast_expressions.specs.declared.expr.NewExpr.{size-NewExpr}

@@ -1,6 +1,6 @@
 use Rattle.std.proofs.Common.{◌∙◌}
-use Rattle.wac_types.specs.Names.{by_name}
-use Rattle.wac_grammar.specs.Spans.{argument_name_span}
+use Rattle.wac_graph_types.specs.Names.{by_name}
+use Rattle.wac_ast_grammar.specs.Spans.{argument_name_span}
 use Rattle.wac_ast_expressions.specs.Expressions.{argument_name_of}
 use Rattle.wac_resolution_rules.specs.Expressions.{name_meant}
 use Rattle.wac_resolution_arguments.specs.Spreads.{imports_at}

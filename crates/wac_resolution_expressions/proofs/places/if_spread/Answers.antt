@@ -1,5 +1,5 @@
 use Rattle.std.proofs.Common.{◌∙◌, ap, append-nil}
-use Rattle.wac_types.specs.Scope.{look_up}
+use Rattle.wac_graph_types.specs.Scope.{look_up}
 use Rattle.wac_ast_base.specs.Names.{ident_of}
 use Rattle.wac_ast_expressions.specs.Expressions.{argument_of}
 use Rattle.wac_ast_expressions.specs.declared.expr.InstantiationArgument.{InstantiationArgument}

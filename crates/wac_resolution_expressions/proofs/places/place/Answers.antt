@@ -1,5 +1,5 @@
 use Rattle.std.proofs.Common.{◌∙◌, map}
-use Rattle.wac_grammar.specs.Tree.{arguments_from}
+use Rattle.wac_ast_grammar.specs.Tree.{arguments_from}
 use Rattle.wac_ast_expressions.specs.Expressions.{argument_of}
 use Rattle.wac_resolution_rules.specs.BrokenExpressions.{own_places}
 use Rattle.wac_resolution_nodes.specs.Root.{composed}

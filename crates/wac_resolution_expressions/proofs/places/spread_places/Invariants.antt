@@ -1,5 +1,5 @@
 use Rattle.std.proofs.Common.{◌≡◌, None, map, take}
-use Rattle.wac_types.specs.Scope.{look_up}
+use Rattle.wac_graph_types.specs.Scope.{look_up}
 use Rattle.wac_ast_expressions.specs.Expressions.{argument_of}
 use Rattle.wac_graph.specs.Origin.{Naming}
 use Rattle.wac_resolution_nodes.specs.Root.{composed}

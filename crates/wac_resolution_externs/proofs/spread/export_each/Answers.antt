@@ -2,7 +2,7 @@ use Rattle.std.proofs.Common.{map, take, arith}
 use Rattle.std.specs.Prelude.{string_bytes}
 use Rattle.std.proofs.lemmas.Result.{err_from_is_err_and}
 use Rattle.std.proofs.lemmas.List.{take_all, length-map}
-use Rattle.wac_types.specs.Steps.{Steps}
+use Rattle.wac_graph_types.specs.Steps.{Steps}
 use Rattle.wac_resolution_errors.specs.Told.{told}
 use Rattle.wac_resolution_rules.specs.Statements.{ExportsOne}
 use Rattle.wac_resolution_externs.specs.Externs.{Under}

@@ -2,7 +2,7 @@ use Rattle.std.proofs.Common.{◌≡◌, ◌∙◌, List, sym, subst, map, inr}
 use Rattle.std.specs.Prelude.{string_bytes, String}
 use Rattle.std.specs.declared.alloc.Global.{Global}
 use Rattle.std.proofs.lemmas.Result.{err_from_is_err_and}
-use Rattle.wac_types.specs.Readings.{interface_exports}
+use Rattle.wac_graph_types.specs.Readings.{interface_exports}
 use Rattle.wac_resolution_errors.specs.Told.{told}
 use Rattle.wac_resolution_externs.specs.Spreads.{AreUnexported}
 use Rattle.wac_resolution_errors.proofs.Reports.{reports}

@@ -1,6 +1,6 @@
 use Rattle.std.proofs.Common.{sym, subst}
 use Rattle.wac_lexer.specs.Span.{Span}
-use Rattle.wac_grammar.specs.Tree.{ExportOptions}
+use Rattle.wac_ast_grammar.specs.Tree.{ExportOptions}
 use Rattle.wac_resolution_rules.specs.Expressions.{at}
 use Rattle.wac_resolution_rules.specs.Statements.{ExportsBy}
 use Rattle.wac_resolution_externs.specs.Externs.{Under}

@@ -2,11 +2,11 @@ use Rattle.std.proofs.Common.{◌≡◌, ◌∙◌, [], ◌∷◌, None, sym, su
 use Rattle.std.specs.Prelude.{string_bytes}
 use Rattle.std.proofs.lemmas.Result.{err_from_is_err_and}
 use Rattle.wac_lexer.specs.Span.{Span}
-use Rattle.wac_types.specs.Names.{by_name}
-use Rattle.wac_types.specs.Scope.{look_up}
-use Rattle.wac_types.proofs.Found.{found_named}
+use Rattle.wac_graph_types.specs.Names.{by_name}
+use Rattle.wac_graph_types.specs.Scope.{look_up}
+use Rattle.wac_graph_types.proofs.Found.{found_named}
 use Rattle.wac_ast_base.specs.Names.{package_path_of}
-use Rattle.wac_grammar.specs.Segments.{segment_spans}
+use Rattle.wac_ast_grammar.specs.Segments.{segment_spans}
 use Rattle.wac_resolution_errors.specs.Error.{package_missing_export}
 use Rattle.wac_resolution_errors.specs.Told.{told}
 use Rattle.wac_resolution_errors.proofs.Reports.{reports}

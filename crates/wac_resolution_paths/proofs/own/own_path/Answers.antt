@@ -3,7 +3,7 @@ use Rattle.std.specs.Prelude.{unwrap_or}
 use Rattle.std.proofs.lemmas.Result.{err_from_is_err_and}
 use Rattle.wac_lexer.specs.Span.{Span}
 use Rattle.wac_ast_base.specs.Names.{package_path_of}
-use Rattle.wac_grammar.specs.Segments.{segment_spans}
+use Rattle.wac_ast_grammar.specs.Segments.{segment_spans}
 use Rattle.wac_resolution_errors.specs.Told.{told}
 use Rattle.wac_resolution_rules.specs.BrokenTypes.{IsUndefined}
 use Rattle.wac_resolution_state.specs.Bindings.{values_of}

@@ -1,6 +1,6 @@
 use Rattle.std.proofs.Common.{subst}
 use Rattle.std.proofs.lemmas.Result.{err_from_is_err_and}
-use Rattle.wac_grammar.specs.Tree.{Ident}
+use Rattle.wac_ast_grammar.specs.Tree.{Ident}
 use Rattle.wac_ast.specs.Statements.{type_statement_of}
 use Rattle.wac_graph.specs.Origin.{Naming}
 use Rattle.wac_resolution_errors.specs.Told.{told}

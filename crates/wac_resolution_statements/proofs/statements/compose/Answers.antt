@@ -1,7 +1,7 @@
 use Rattle.std.proofs.Common.{List, map, arith, subst}
 use Rattle.std.proofs.lemmas.Result.{err_from_is_err_and}
 use Rattle.std.proofs.lemmas.List.{take_all, length-map}
-use Rattle.wac_grammar.specs.Tree.{Statement}
+use Rattle.wac_ast_grammar.specs.Tree.{Statement}
 use Rattle.wac_ast.specs.Statements.{statement_of}
 use Rattle.wac_resolution_errors.specs.Told.{told}
 use Rattle.wac_resolution_rules.specs.Given.{rules_by}

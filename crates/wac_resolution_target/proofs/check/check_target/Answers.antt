@@ -1,5 +1,5 @@
 use Rattle.std.proofs.lemmas.Result.{err_from_is_err_and}
-use Rattle.wac_types.specs.Names.{by_name}
+use Rattle.wac_graph_types.specs.Names.{by_name}
 use Rattle.wac_ast_base.specs.Names.{package_path_of}
 use Rattle.wac_resolution_errors.specs.Error.{Reports}
 use Rattle.wac_resolution_errors.specs.Told.{told}

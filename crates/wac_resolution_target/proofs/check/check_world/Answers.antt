@@ -1,7 +1,7 @@
 use Rattle.std.proofs.Common.{inl, inr}
 use Rattle.std.proofs.lemmas.Result.{err_from_is_err_and}
-use Rattle.wac_types.specs.Names.{by_name}
-use Rattle.wac_types.specs.Readings.{world_exports}
+use Rattle.wac_graph_types.specs.Names.{by_name}
+use Rattle.wac_graph_types.specs.Readings.{world_exports}
 use Rattle.wac_resolution_errors.specs.Error.{Reports}
 use Rattle.wac_resolution_errors.specs.Told.{told}
 use Rattle.wac_resolution_target.specs.Imported.{of_kind}

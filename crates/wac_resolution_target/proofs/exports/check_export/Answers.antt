@@ -1,8 +1,8 @@
 use Rattle.std.proofs.Common.{◌≡◌, ◌∙◌, Option, Some, inr, sym, ap, subst}
 use Rattle.wac_lexer.specs.Span.{Span}
-use Rattle.wac_types.specs.declared.kind.ExternKind.TheVariants as externs
-use Rattle.wac_types.specs.declared.kind.ItemKind.{ItemKind}
-use Rattle.wac_types.specs.Names.{by_name}
+use Rattle.wac_graph_types.specs.declared.kind.ExternKind.TheVariants as externs
+use Rattle.wac_graph_types.specs.declared.kind.ItemKind.{ItemKind}
+use Rattle.wac_graph_types.specs.Names.{by_name}
 use Rattle.wac_ast_base.specs.Names.{package_path_of}
 use Rattle.wac_graph.specs.Means.{means}
 use Rattle.wac_graph.specs.Origin.{Naming, IsOneToOne}

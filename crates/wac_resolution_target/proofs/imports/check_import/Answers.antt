@@ -1,5 +1,5 @@
 use Rattle.std.proofs.Common.{◌≡◌, Some, None, inr, subst}
-use Rattle.wac_types.specs.declared.kind.ItemKind.{ItemKind}
+use Rattle.wac_graph_types.specs.declared.kind.ItemKind.{ItemKind}
 use Rattle.wac_graph.specs.Means.{means}
 use Rattle.wac_graph.specs.Origin.{Naming, IsOneToOne}
 use Rattle.wac_resolution_errors.specs.Told.{told}

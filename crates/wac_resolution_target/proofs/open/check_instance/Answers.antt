@@ -1,11 +1,11 @@
 use Rattle.std.proofs.Common.{◌∙◌, List, sym, ap, subst}
 use Rattle.std.specs.Prelude.{OnOk, IfErr}
-use Rattle.wac_types.specs.declared.entry.Entry.{Entry}
-use Rattle.wac_types.specs.declared.kind.ItemKind.{ItemKind}
-use Rattle.wac_types.specs.Readings.{world_imports}
-use Rattle.wac_types.specs.Scope.{Named}
-use Rattle.wac_types.specs.Table.{ItemsNamed}
-use Rattle.wac_types.proofs.Found.{world_imports_named}
+use Rattle.wac_graph_types.specs.declared.entry.Entry.{Entry}
+use Rattle.wac_graph_types.specs.declared.kind.ItemKind.{ItemKind}
+use Rattle.wac_graph_types.specs.Readings.{world_imports}
+use Rattle.wac_graph_types.specs.Scope.{Named}
+use Rattle.wac_graph_types.specs.Table.{ItemsNamed}
+use Rattle.wac_graph_types.proofs.Found.{world_imports_named}
 use Rattle.wac_graph.specs.Graph.{arguments_of}
 use Rattle.wac_graph.specs.Readings.{held_of}
 use Rattle.wac_resolution_errors.specs.Error.{Reports}

@@ -1,5 +1,5 @@
-use Rattle.wac_types.specs.Names.{by_name}
-use Rattle.wac_types.specs.Table.{ItemsNamed}
+use Rattle.wac_graph_types.specs.Names.{by_name}
+use Rattle.wac_graph_types.specs.Table.{ItemsNamed}
 use Rattle.wac_graph.specs.Graph.{arguments_of}
 use Rattle.wac_resolution_target.specs.Imported.{of_kind, left_open}
 use Rattle.wac_resolution_target.specs.Testing.{testing, Allowed}

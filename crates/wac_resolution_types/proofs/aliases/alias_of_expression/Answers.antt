@@ -1,8 +1,8 @@
 use Rattle.std.proofs.Common.{◌≡◌, refl}
-use Rattle.wac_types.specs.declared.kind.ItemKind.TheVariants as kinds
-use Rattle.wac_types.specs.declared.entry.DefinedType.TheVariants as types
-use Rattle.wac_types.specs.Meaning.{Meaning}
-use Rattle.wac_types.specs.Shape.{alias_type}
+use Rattle.wac_graph_types.specs.declared.kind.ItemKind.TheVariants as kinds
+use Rattle.wac_graph_types.specs.declared.entry.DefinedType.TheVariants as types
+use Rattle.wac_graph_types.specs.Meaning.{Meaning}
+use Rattle.wac_graph_types.specs.Shape.{alias_type}
 use Rattle.wac_ast_types.specs.Types.{ty_of}
 use Rattle.wac_graph.specs.Means.{means}
 use Rattle.wac_resolution_rules.specs.Types.{HasType}

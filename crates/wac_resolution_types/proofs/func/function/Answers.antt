@@ -1,6 +1,6 @@
 use Rattle.std.proofs.Common.{map, List, subst, inl}
 use Rattle.std.proofs.lemmas.Result.{err_from_is_err_and}
-use Rattle.wac_types.specs.Names.{by_name}
+use Rattle.wac_graph_types.specs.Names.{by_name}
 use Rattle.wac_ast_types.specs.Declarations.{named_type_of, func_type_of}
 use Rattle.wac_ast_types.specs.declared.func_type.NamedType.{NamedType}
 use Rattle.wac_resolution_errors.specs.Told.{told}

@@ -1,5 +1,5 @@
 use Rattle.std.proofs.lemmas.Result.{IfOk-weaker, MatchResult-weaker}
-use Rattle.wac_types.specs.Names.{by_name}
+use Rattle.wac_graph_types.specs.Names.{by_name}
 use Rattle.wac_ast_types.specs.Declarations.{func_type_of}
 use Rattle.wac_resolution_errors.specs.Told.{told}
 use Rattle.wac_resolution_state.specs.Bindings.{values_of}

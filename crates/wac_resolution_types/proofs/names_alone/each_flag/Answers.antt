@@ -1,8 +1,8 @@
 use Rattle.std.proofs.Common.{List, map, arith, subst}
 use Rattle.std.proofs.lemmas.Result.{err_from_is_err_and}
 use Rattle.std.proofs.lemmas.List.{take_all, length-map}
-use Rattle.wac_grammar.specs.Tree as tree
-use Rattle.wac_types.specs.Steps.{Steps}
+use Rattle.wac_ast_grammar.specs.Tree as tree
+use Rattle.wac_graph_types.specs.Steps.{Steps}
 use Rattle.wac_ast_base.specs.Names.{ident_of}
 use Rattle.wac_ast_types.specs.Declarations.{flag_of}
 use Rattle.wac_resolution_errors.specs.Told.{told}

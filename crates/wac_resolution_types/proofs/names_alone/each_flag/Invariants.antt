@@ -1,5 +1,5 @@
 use Rattle.std.proofs.Common.{map, take}
-use Rattle.wac_types.specs.Steps.{Steps}
+use Rattle.wac_graph_types.specs.Steps.{Steps}
 use Rattle.wac_ast_types.specs.Declarations.{flag_of}
 use Rattle.wac_resolution_rules.specs.Declarations.{HasFlag}
 use Rattle.wac_resolution_types.specs.Declarations.{names_alone}

@@ -1,6 +1,6 @@
 use Rattle.std.proofs.Common.{◌≡◌, [], map, ap, refl, rules}
 use Rattle.std.proofs.lemmas.Result.{err_from_is_err_and}
-use Rattle.wac_types.specs.declared.entry.DefinedType.TheVariants as types
+use Rattle.wac_graph_types.specs.declared.entry.DefinedType.TheVariants as types
 use Rattle.wac_ast_base.specs.Names.{ident_of}
 use Rattle.wac_ast_types.specs.Declarations.{enum_case_of, enum_decl_of}
 use Rattle.wac_resolution_errors.specs.Told.{told}

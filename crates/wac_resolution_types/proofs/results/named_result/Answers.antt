@@ -1,7 +1,7 @@
 use Rattle.std.proofs.Common.{inl, inr}
 use Rattle.std.proofs.lemmas.Result.{err_from_is_err_and}
-use Rattle.wac_types.specs.declared.kind.ItemKind.TheVariants as kinds
-use Rattle.wac_types.specs.Names.{by_name}
+use Rattle.wac_graph_types.specs.declared.kind.ItemKind.TheVariants as kinds
+use Rattle.wac_graph_types.specs.Names.{by_name}
 use Rattle.wac_ast_types.specs.Declarations.{named_type_of}
 use Rattle.wac_graph.specs.Means.{means}
 use Rattle.wac_resolution_rules.specs.Types.{HasResultType}

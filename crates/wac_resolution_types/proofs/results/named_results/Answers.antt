@@ -1,9 +1,9 @@
 use Rattle.std.proofs.Common.{◌≡◌, [], sym, subst, map, take, arith, rules}
 use Rattle.std.proofs.lemmas.Result.{err_from_is_err_and}
 use Rattle.std.proofs.lemmas.List.{take_all, length-map}
-use Rattle.wac_types.specs.Names.{by_name}
-use Rattle.wac_types.specs.Scope.{Named}
-use Rattle.wac_types.specs.declared.kind.ValueType.{ValueType}
+use Rattle.wac_graph_types.specs.Names.{by_name}
+use Rattle.wac_graph_types.specs.Scope.{Named}
+use Rattle.wac_graph_types.specs.declared.kind.ValueType.{ValueType}
 use Rattle.wac_ast_types.specs.Declarations.{named_type_of}
 use Rattle.wac_resolution_errors.specs.Told.{told}
 use Rattle.wac_resolution_rules.specs.Types.{HasResult}

@@ -1,9 +1,9 @@
 use Rattle.std.proofs.Common.{◌≡◌, List, map, take, sym, ap, subst, arith, inl}
 use Rattle.std.proofs.lemmas.Result.{err_from_is_err_and}
 use Rattle.std.proofs.lemmas.List.{take_all}
-use Rattle.wac_grammar.specs.Tree.{Ty, Types, types_from}
-use Rattle.wac_types.specs.declared.kind.ValueType.{ValueType}
-use Rattle.wac_types.specs.declared.kind.ValueType.TheVariants as values
+use Rattle.wac_ast_grammar.specs.Tree.{Ty, Types, types_from}
+use Rattle.wac_graph_types.specs.declared.kind.ValueType.{ValueType}
+use Rattle.wac_graph_types.specs.declared.kind.ValueType.TheVariants as values
 use Rattle.wac_ast_base.specs.Names.{ident_of}
 use Rattle.wac_ast_types.specs.Types.{ty_of}
 use Rattle.wac_ast_types.specs.declared.types.«Type».{«Type», size-Type}

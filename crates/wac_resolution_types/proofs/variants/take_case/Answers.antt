@@ -1,7 +1,7 @@
 use Rattle.std.proofs.Common.{inl, inr}
 use Rattle.std.proofs.lemmas.Result.{err_from_is_err_and}
-use Rattle.wac_types.specs.Names.{by_name}
-use Rattle.wac_types.specs.Shape.{optional_means}
+use Rattle.wac_graph_types.specs.Names.{by_name}
+use Rattle.wac_graph_types.specs.Shape.{optional_means}
 use Rattle.wac_ast_types.specs.Declarations.{variant_case_of}
 use Rattle.wac_graph.specs.Means.{entry_means}
 use Rattle.wac_resolution_rules.specs.Declarations.{HasOption}

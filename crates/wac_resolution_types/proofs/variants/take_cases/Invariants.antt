@@ -1,5 +1,5 @@
 use Rattle.std.proofs.Common.{map, take}
-use Rattle.wac_types.specs.Names.{by_name}
+use Rattle.wac_graph_types.specs.Names.{by_name}
 use Rattle.wac_ast_types.specs.Declarations.{variant_case_of}
 use Rattle.wac_resolution_state.specs.Bindings.{values_of}
 use Rattle.wac_resolution_types.specs.Declarations.{CasesGo}

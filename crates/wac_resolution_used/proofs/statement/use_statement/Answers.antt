@@ -1,7 +1,7 @@
 use Rattle.std.proofs.Common.{ℕ, List, map, subst}
 use Rattle.std.proofs.lemmas.Result.{err_from_is_err_and}
-use Rattle.wac_types.specs.declared.kind.ItemKind.TheVariants as kinds
-use Rattle.wac_types.specs.Steps.{Fails}
+use Rattle.wac_graph_types.specs.declared.kind.ItemKind.TheVariants as kinds
+use Rattle.wac_graph_types.specs.Steps.{Fails}
 use Rattle.wac_ast_uses.specs.declared.uses.UseItem.{UseItem}
 use Rattle.wac_ast_uses.specs.Uses.{use_item_of, use_of, use_path_of}
 use Rattle.wac_graph.specs.Means.{means}

@@ -1,6 +1,6 @@
 use Rattle.std.proofs.Common.{List, None, ap, map, subst}
 use Rattle.std.proofs.lemmas.Result.{err_from_is_err_and}
-use Rattle.wac_grammar.specs.Tree.{ExternType}
+use Rattle.wac_ast_grammar.specs.Tree.{ExternType}
 use Rattle.wac_ast_base.specs.Names.{ident_of}
 use Rattle.wac_ast_types.specs.Declarations.{func_type_of}
 use Rattle.wac_ast_worlds.specs.Worlds.{interface_item_of, inline_interface_of, extern_type_of}

@@ -1,7 +1,7 @@
 use Rattle.std.proofs.Common.{List, [], inl, map, refl, subst}
 use Rattle.std.proofs.lemmas.Result.{err_from_is_err_and}
-use Rattle.wac_types.specs.Names.{by_name}
-use Rattle.wac_types.specs.Steps.{Fails}
+use Rattle.wac_graph_types.specs.Names.{by_name}
+use Rattle.wac_graph_types.specs.Steps.{Fails}
 use Rattle.wac_ast_uses.specs.Uses.{world_include_item_of, world_include_of}
 use Rattle.wac_ast_uses.specs.declared.includes.WorldIncludeItem.{WorldIncludeItem}
 use Rattle.wac_resolution_errors.specs.Told.{told}

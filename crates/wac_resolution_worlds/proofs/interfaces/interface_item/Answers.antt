@@ -1,6 +1,6 @@
 use Rattle.std.proofs.Common.{ap, subst}
 use Rattle.std.specs.Prelude.{IfErr, OnOk}
-use Rattle.wac_types.specs.declared.kind.ExternKind.TheVariants as sides
+use Rattle.wac_graph_types.specs.declared.kind.ExternKind.TheVariants as sides
 use Rattle.wac_ast_types.specs.Declarations.{item_type_decl_of}
 use Rattle.wac_ast_worlds.specs.Worlds.{interface_export_of, interface_item_of}
 use Rattle.wac_ast_uses.specs.Uses.{use_of}

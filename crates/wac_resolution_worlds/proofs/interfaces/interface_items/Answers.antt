@@ -1,7 +1,7 @@
 use Rattle.std.proofs.Common.{map, take, ap, arith}
 use Rattle.std.proofs.lemmas.Result.{err_from_is_err_and}
 use Rattle.std.proofs.lemmas.List.{take_all, length-map}
-use Rattle.wac_types.specs.declared.kind.ExternKind.TheVariants as sides
+use Rattle.wac_graph_types.specs.declared.kind.ExternKind.TheVariants as sides
 use Rattle.wac_ast_worlds.specs.Worlds.{interface_item_of}
 use Rattle.wac_resolution_errors.specs.Told.{told}
 use Rattle.wac_resolution_rules.specs.BrokenWorlds.{InterfaceItemBroken}

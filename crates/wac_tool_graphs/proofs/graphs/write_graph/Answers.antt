@@ -1,5 +1,5 @@
 use Rattle.std.proofs.Common.{ℕ, subst}
-use Rattle.wac_types.specs.Scope.{Named}
+use Rattle.wac_graph_types.specs.Scope.{Named}
 use Rattle.wac_tool_graphs.specs.Lines.{export_lines}
 use Rattle.wac_tool_graphs.specs.Puts.{Puts}
 use Rattle.wac_tool_graphs.proofs.Putting.{puts_after}

@@ -1,6 +1,6 @@
 use Rattle.std.proofs.Common.{◌≡◌, ◌++◌, ◌∙◌, ℕ, [], ap, subst, rules, Err, Option, Some, None}
 use Rattle.std.specs.Prelude.{slice_get}
-use Rattle.wac_types.specs.Scope.{Named}
+use Rattle.wac_graph_types.specs.Scope.{Named}
 use Rattle.wac_graph.specs.Graph.{Parts, arguments_of}
 use Rattle.wac_graph.specs.Node.{Node, arguments_in}
 use Rattle.wac_tool_graphs.specs.Lines.{argument_lines}

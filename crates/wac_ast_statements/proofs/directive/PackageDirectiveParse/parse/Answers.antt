@@ -1,5 +1,5 @@
 use Rattle.wac_ast_statements.proofs.Built.{directive_built}
-use Rattle.wac_grammar.specs.Grammar.{directive}
+use Rattle.wac_ast_grammar.specs.Grammar.{directive}
 use Rattle.wac_ast_base.proofs.Exits as x
 use Rattle.wac_ast_base.proofs.Yields as y
 use Rattle.wac_ast_statements.proofs.directive.PackageDirectiveParse.parse.Goals as goal

@@ -1,5 +1,5 @@
 use Rattle.std.proofs.Common.{refl}
-use Rattle.wac_grammar.specs.Grammar.{export_options}
+use Rattle.wac_ast_grammar.specs.Grammar.{export_options}
 use Rattle.wac_lexer.specs.Reading.{left}
 use Rattle.wac_lexer.specs.declared.token.Token.TheVariants as tokens
 use Rattle.wac_ast_base.proofs.Exits as x

@@ -1,4 +1,4 @@
-use Rattle.wac_grammar.specs.Grammar.{export_statement}
+use Rattle.wac_ast_grammar.specs.Grammar.{export_statement}
 use Rattle.wac_ast_base.proofs.Exits as x
 use Rattle.wac_ast_base.proofs.Yields as y
 use Rattle.wac_ast_statements.proofs.export.ExportStatementParse.parse.Goals as goal

@@ -1,4 +1,4 @@
-use Rattle.wac_grammar.specs.Grammar.{let_statement}
+use Rattle.wac_ast_grammar.specs.Grammar.{let_statement}
 use Rattle.wac_ast_base.proofs.Exits as x
 use Rattle.wac_ast_base.proofs.Yields as y
 use Rattle.wac_ast_statements.proofs.let_statement.LetStatementParse.parse.Goals as goal

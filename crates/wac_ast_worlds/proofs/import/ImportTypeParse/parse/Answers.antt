@@ -1,5 +1,5 @@
 use Rattle.std.proofs.Common.{refl}
-use Rattle.wac_grammar.specs.Grammar.{import_type}
+use Rattle.wac_ast_grammar.specs.Grammar.{import_type}
 use Rattle.wac_ast_base.proofs.Lookaheads.{looks}
 use Rattle.wac_ast_base.proofs.Exits as x
 use Rattle.wac_ast_base.proofs.Yields as y

@@ -1,6 +1,6 @@
 use Rattle.std.proofs.Common.{refl}
-use Rattle.wac_types.specs.Meaning.{meaning}
-use Rattle.wac_types.specs.Equality.{meaning_discrete, equal_or-equal, equal_or-unequal}
+use Rattle.wac_graph_types.specs.Meaning.{meaning}
+use Rattle.wac_graph_types.specs.Equality.{meaning_discrete, equal_or-equal, equal_or-unequal}
 use Rattle.wac_examples.proofs.composing.SameTypesRules.subtype.Goals as goal
 
 pub returns-then-same : goal.returns-then-same

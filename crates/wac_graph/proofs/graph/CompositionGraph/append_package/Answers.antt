@@ -1,6 +1,6 @@
 use Rattle.std.proofs.Common.{◌≡◌, ◌∙◌, None, List, [], ◌∷◌, ◌++◌, length, sym, ap, subst}
-use Rattle.wac_types.specs.declared.entry.Entry.{Entry}
-use Rattle.wac_types.specs.Growth.{KeepsMeanings}
+use Rattle.wac_graph_types.specs.declared.entry.Entry.{Entry}
+use Rattle.wac_graph_types.specs.Growth.{KeepsMeanings}
 use Rattle.wac_graph_copies.specs.Copied.{IsGrown, IsGrownBy}
 use Rattle.wac_graph.specs.Graph.{Parts, with_package}
 use Rattle.wac_graph.specs.Sound.{IsSound}

@@ -1,6 +1,6 @@
 use Rattle.std.specs.Prelude.{[], ◌∷◌, decimal}
 use Rattle.json.specs.Print.{escape_byte}
-use Rattle.wac_layout.specs.Printed.{blank}
+use Rattle.wac_printer_layout.specs.Printed.{blank}
 use Rattle.wac_printer_pieces.proofs.Sequence.{after, first, last, printed_at}
 use Rattle.wac_json_text.specs.Forms.{span_json}
 use Rattle.wac_json_text.proofs.parts.SourceSpanJson.write.Goals as goal

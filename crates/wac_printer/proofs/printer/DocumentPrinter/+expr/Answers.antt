@@ -1,15 +1,15 @@
 use Rattle.std.proofs.Common.{arith, rules, ap, refl, sym, subst, map, ◌∙◌, ◌≡◌, ◌≤◌, ◌<◌, ◌++◌, ◌∷◌, [], codes, length, true, false, Err}
 use Rattle.std.specs.List.{flat_map}
-use Rattle.wac_grammar.specs.Tree.{arguments_from}
+use Rattle.wac_ast_grammar.specs.Tree.{arguments_from}
 use Rattle.wac_ast_expressions.specs.Expressions.{argument_of, expr_of, primary_expr_of, postfix_expr_of}
 use Rattle.wac_ast_expressions.specs.declared.expr.InstantiationArgument.{size-InstantiationArgument}
 use Rattle.wac_ast_expressions.specs.declared.expr.PrimaryExpr.{size-PrimaryExpr}
 use Rattle.wac_ast_expressions.specs.declared.expr.InstantiationArgument.TheViews.{sized-New}
 use Rattle.wac_ast_expressions.specs.declared.expr.NestedExpr.{out-NestedExpr}
-use Rattle.wac_layout.specs.Printed.{token, line, deeper}
-use Rattle.wac_layout.specs.Parts.{space}
-use Rattle.wac_layout.specs.Bare.{bare_argument, bare_expr, bare_primary_expr, bare_arguments, bare_postfix_expr}
-use Rattle.wac_layout.specs.ExpressionLayout.{argument_layout, arguments_layout, expr_layout, primary_expr_layout, postfix_expr_layout}
+use Rattle.wac_printer_layout.specs.Printed.{token, line, deeper}
+use Rattle.wac_printer_layout.specs.Parts.{space}
+use Rattle.wac_printer_layout.specs.Bare.{bare_argument, bare_expr, bare_primary_expr, bare_arguments, bare_postfix_expr}
+use Rattle.wac_printer_layout.specs.ExpressionLayout.{argument_layout, arguments_layout, expr_layout, primary_expr_layout, postfix_expr_layout}
 use Rattle.wac_printer_pieces.specs.Arguments.{ending_layout}
 use Rattle.wac_printer.specs.Arguments.{braces_layout}
 use Rattle.wac_printer_pieces.specs.Printed.{Prints}

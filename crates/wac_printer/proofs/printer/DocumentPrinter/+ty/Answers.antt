@@ -3,11 +3,11 @@ use Rattle.wac_printer_pieces.specs.declared.error.PrintError.{PrintError}
 use Rattle.std.specs.List.{flat_map, All}
 use denote.Param.Weighed.{most}
 use Rattle.wac_ast_types.specs.Types.{ty_of}
-use Rattle.wac_layout.specs.Printed.{Piece, token}
-use Rattle.wac_layout.specs.Bare.{bare_ty}
+use Rattle.wac_printer_layout.specs.Printed.{Piece, token}
+use Rattle.wac_printer_layout.specs.Bare.{bare_ty}
 use Rattle.wac_printer.specs.Sliced.{TySliced}
-use Rattle.wac_layout.specs.Parts.{space, joined}
-use Rattle.wac_layout.specs.TypeLayout.{ty_layout}
+use Rattle.wac_printer_layout.specs.Parts.{space, joined}
+use Rattle.wac_printer_layout.specs.TypeLayout.{ty_layout}
 use Rattle.wac_ast_types.specs.declared.types.«Type» as code
 use Rattle.wac_ast_types.specs.declared.types.«Type».{«Type», size-Type}
 use Rattle.wac_printer_pieces.specs.Printed.{Printer, Prints}

@@ -1,7 +1,7 @@
 use Rattle.std.proofs.Common.{◌≡◌, rules, Err, ◌≤◌, length}
 use Rattle.std.specs.Prelude.{[], ◌∷◌, ◌++◌, codes}
-use Rattle.wac_layout.specs.Printed.{token}
-use Rattle.wac_layout.specs.Parts.{space}
+use Rattle.wac_printer_layout.specs.Printed.{token}
+use Rattle.wac_printer_layout.specs.Parts.{space}
 use Rattle.wac_printer_pieces.proofs.Progress.{part_at, starts, goes_at, stops_at, ends}
 use Rattle.wac_printer.proofs.printer.DocumentPrinter.behind_commas.Goals as goal
 

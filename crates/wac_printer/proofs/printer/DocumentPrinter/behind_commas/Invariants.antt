@@ -1,6 +1,6 @@
 use Rattle.std.specs.Prelude.{[], ◌∷◌, ◌++◌, codes}
-use Rattle.wac_layout.specs.Printed.{token}
-use Rattle.wac_layout.specs.Parts.{space}
+use Rattle.wac_printer_layout.specs.Printed.{token}
+use Rattle.wac_printer_layout.specs.Parts.{space}
 use Rattle.wac_printer_pieces.proofs.Progress.{IsSoFar}
 use Rattle.wac_printer.proofs.printer.DocumentPrinter.behind_commas.Given as goal
 

@@ -1,7 +1,7 @@
 use Rattle.std.specs.Prelude.{[], ◌∷◌, ◌++◌, codes}
 use Rattle.std.specs.List.{flat_map}
-use Rattle.wac_layout.specs.Printed.{token}
-use Rattle.wac_layout.specs.Parts.{newline}
+use Rattle.wac_printer_layout.specs.Printed.{token}
+use Rattle.wac_printer_layout.specs.Parts.{newline}
 use Rattle.wac_printer_pieces.proofs.Progress.{deeper_part}
 use Rattle.wac_printer.proofs.printer.DocumentPrinter.deeper_rows.Goals as goal
 

@@ -1,4 +1,4 @@
-use Rattle.wac_layout.specs.Printed.{line, token}
+use Rattle.wac_printer_layout.specs.Printed.{line, token}
 use Rattle.wac_printer_pieces.proofs.Sequence.{after, first, last, printed_at}
 use Rattle.wac_printer.proofs.BareLists.{of_docs}
 use Rattle.std.proofs.Common.{[], ◌∙◌, ◌∷◌}

@@ -5,9 +5,9 @@ use Rattle.wac_printer.specs.Sliced.{EnumCaseSliced}
 use Rattle.wac_printer_pieces.proofs.Progress.{All-at}
 use Rattle.wac_printer_pieces.proofs.Sequence.{after, first, last, printed_as, printed_at, there}
 use Rattle.wac_printer.proofs.BareLists.{of_docs, rows_bare}
-use Rattle.wac_layout.specs.Bare.{bare_enum_case, bare_ident, doc_lines}
-use Rattle.wac_layout.specs.DeclarationLayout.{enum_case_layout, head_layout}
-use Rattle.wac_layout.specs.Parts.{rows}
+use Rattle.wac_printer_layout.specs.Bare.{bare_enum_case, bare_ident, doc_lines}
+use Rattle.wac_printer_layout.specs.DeclarationLayout.{enum_case_layout, head_layout}
+use Rattle.wac_printer_layout.specs.Parts.{rows}
 use Rattle.wac_ast_base.specs.Names.{ident_of}
 use Rattle.wac_printer.proofs.printer.DocumentPrinter.enum_decl.Goals as goal
 

@@ -3,9 +3,9 @@ use Rattle.wac_printer.specs.Sliced.{NamedTypeSliced}
 use Rattle.wac_printer_pieces.proofs.Progress.{All-at}
 use Rattle.wac_printer_pieces.proofs.Sequence.{after, first, last, printed_as, printed_at}
 use Rattle.wac_printer.proofs.BareLists.{joined_bare}
-use Rattle.wac_layout.specs.TypeLayout.{named_type_layout}
-use Rattle.wac_layout.specs.Bare.{bare_named_type}
-use Rattle.wac_layout.specs.Parts.{joined}
+use Rattle.wac_printer_layout.specs.TypeLayout.{named_type_layout}
+use Rattle.wac_printer_layout.specs.Bare.{bare_named_type}
+use Rattle.wac_printer_layout.specs.Parts.{joined}
 use Rattle.wac_printer.proofs.printer.DocumentPrinter.params.Goals as goal
 
 pub joined-requires : goal.joined-requires

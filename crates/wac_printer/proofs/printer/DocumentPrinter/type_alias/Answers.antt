@@ -1,7 +1,7 @@
 use Rattle.wac_printer_pieces.proofs.Sequence.{after, first, last, printed_at, there}
 use Rattle.wac_printer.proofs.BareLists.{of_docs}
-use Rattle.wac_layout.specs.Bare.{bare_alias_kind, bare_ident}
-use Rattle.wac_layout.specs.DeclarationLayout.{alias_kind_layout, head_layout}
+use Rattle.wac_printer_layout.specs.Bare.{bare_alias_kind, bare_ident}
+use Rattle.wac_printer_layout.specs.DeclarationLayout.{alias_kind_layout, head_layout}
 use Rattle.std.proofs.Common.{codes, ◌∙◌}
 use Rattle.wac_ast_types.specs.Declarations.{type_alias_kind_of}
 use Rattle.wac_ast_base.specs.Names.{ident_of}

@@ -4,9 +4,9 @@ use Rattle.wac_printer.specs.Sliced.{UseItemSliced}
 use Rattle.wac_printer_pieces.proofs.Progress.{All-at}
 use Rattle.wac_printer_pieces.proofs.Sequence.{after, first, last, printed_as, printed_at}
 use Rattle.wac_printer.proofs.BareLists.{joined_bare}
-use Rattle.wac_layout.specs.InterfaceLayout.{use_item_layout}
-use Rattle.wac_layout.specs.Bare.{bare_use_item}
-use Rattle.wac_layout.specs.Parts.{joined}
+use Rattle.wac_printer_layout.specs.InterfaceLayout.{use_item_layout}
+use Rattle.wac_printer_layout.specs.Bare.{bare_use_item}
+use Rattle.wac_printer_layout.specs.Parts.{joined}
 use Rattle.wac_printer.proofs.printer.DocumentPrinter.use_items.Goals as goal
 
 pub joined-requires : goal.joined-requires

@@ -1,9 +1,9 @@
-use Rattle.wac_layout.specs.Printed.{line, token}
+use Rattle.wac_printer_layout.specs.Printed.{line, token}
 use Rattle.wac_printer_pieces.proofs.Sequence.{after, first, last, printed_at}
 use Rattle.wac_printer.proofs.BareLists.{of_docs}
-use Rattle.wac_layout.specs.Bare.{bare_ty}
+use Rattle.wac_printer_layout.specs.Bare.{bare_ty}
 use Rattle.std.proofs.Common.{[], ◌∙◌, ◌∷◌}
-use Rattle.wac_layout.specs.DeclarationLayout.{payload_layout}
+use Rattle.wac_printer_layout.specs.DeclarationLayout.{payload_layout}
 use Rattle.std.specs.Option.{option_map}
 use Rattle.wac_ast_types.specs.Types.{ty_of}
 use Rattle.wac_lexer.specs.Reading.{slice}

@@ -4,9 +4,9 @@ use Rattle.wac_printer.specs.Sliced.{WorldIncludeItemSliced}
 use Rattle.wac_printer_pieces.proofs.Progress.{All-at}
 use Rattle.wac_printer_pieces.proofs.Sequence.{after, first, last, printed_as, there}
 use Rattle.wac_printer.proofs.BareLists.{rows_bare}
-use Rattle.wac_layout.specs.Parts.{rows}
-use Rattle.wac_layout.specs.WorldLayout.{world_include_item_layout}
-use Rattle.wac_layout.specs.Bare.{bare_world_include_item}
+use Rattle.wac_printer_layout.specs.Parts.{rows}
+use Rattle.wac_printer_layout.specs.WorldLayout.{world_include_item_layout}
+use Rattle.wac_printer_layout.specs.Bare.{bare_world_include_item}
 use Rattle.wac_printer.proofs.printer.DocumentPrinter.with_rows.Goals as goal
 
 pub rows-requires : goal.rows-requires

@@ -1,7 +1,7 @@
 use Rattle.std.proofs.Common.{◌≡◌, sym, subst, rules, Err, arith}
 use Rattle.std.specs.Str.Lines.{lines}
-use Rattle.wac_layout.specs.Bare.{doc_line}
-use Rattle.wac_layout.specs.Parts.{doc_layout, docs_layout}
+use Rattle.wac_printer_layout.specs.Bare.{doc_line}
+use Rattle.wac_printer_layout.specs.Parts.{doc_layout, docs_layout}
 use Rattle.wac_printer_pieces.specs.Printed.{Prints}
 use Rattle.wac_printer_pieces.proofs.Progress.{IsSoFar, starts, goes_at, stops_at, ends}
 use Rattle.wac_printer_pieces.proofs.Printing.{flat_map-of}

@@ -1,7 +1,7 @@
 use Rattle.std.proofs.Common.{◌∙◌, inl}
 use Rattle.std.proofs.lemmas.Result.{IfOk-weaker, err_from_is_err_and}
 use Rattle.wac_ast.specs.Statements.{document_of}
-use Rattle.wac_parser_packages.specs.Noted.{mentions_in}
+use Rattle.wac_resolution_mentions.specs.Noted.{mentions_in}
 use Rattle.wac_resolution_rules.specs.Given.{rules_by}
 use Rattle.wac_resolution_rules.specs.Mentions.{mentions}
 use Rattle.wac_resolution_state.proofs.Scopes.{memory_told}

@@ -1,0 +1,609 @@
+-- The grammar, its trees, and which items derive which tree.
+use Rattle.std.specs.Prelude.{◌≡◌, ℕ, zero, suc, List, [], ◌∷◌, ◌++◌, ◌⊎◌, Option, Some, None, Bool, true, false}
+use Rattle.std.proofs.Common.{inl, inr}
+use Rattle.wac_lexer.specs.declared.token.Token.{Token}
+use Rattle.wac_lexer.specs.declared.token.Token.TheVariants as t
+use Rattle.wac_lexer.specs.Span.{Span}
+use Rattle.wac_lexer.specs.Item.{Item, Doc}
+use Rattle.wac_ast_grammar.specs.Version.{unversioned, path_name, path_segments, version_of}
+use Rattle.wac_ast_grammar.specs.Tokens.{is_token, valid}
+use Rattle.wac_ast_grammar.specs.Tree.{join, without_percent, between_quotes, types_from, arguments_from, AccessExpr, Constructor, Document, EnumCase, EnumDecl, ExportOptions, ExportStatement, Expr, ExternName, ExternType, Field, Flag, FlagsDecl, FuncType, FuncTypeRef, Ident, ImportStatement, ImportType, InlineInterface, InstantiationArgument, InstantiationArgumentName, InterfaceDecl, InterfaceExport, InterfaceItem, ItemTypeDecl, LetStatement, Method, NamedAccessExpr, NamedInstantiationArgument, NamedType, NamedWorldItem, OptionalTy, PackageDirective, PackageName, PackagePath, PostfixExpr, PrimaryExpr, RecordDecl, ResourceDecl, ResourceMethod, ResultList, Statement, String, Ty, TypeAlias, TypeAliasKind, TypeDecl, TypeStatement, Use, UseItem, UsePath, VariantCase, VariantDecl, WorldDecl, WorldExport, WorldImport, WorldInclude, WorldIncludeItem, WorldItem, WorldItemPath, WorldRef, Types}
+
+pub data Sym : Type 0 where
+  document : Sym
+  directive : Sym
+  statements : Sym
+  statement : Sym
+  import_statement : Sym
+  extern_name : Sym
+  import_type : Sym
+  let_statement : Sym
+  export_statement : Sym
+  export_options : Sym
+  expr : Sym
+  primary_expr : Sym
+  new_expr : Sym
+  arguments : Sym
+  more_arguments : Sym
+  argument : Sym
+  named_argument : Sym
+  argument_name : Sym
+  nested_expr : Sym
+  postfixes : Sym
+  postfix_expr : Sym
+  access_expr : Sym
+  named_access_expr : Sym
+  type_statement : Sym
+  type_decl : Sym
+  item_type_decl : Sym
+  resource_decl : Sym
+  methods : Sym
+  resource_method : Sym
+  constructor : Sym
+  method : Sym
+  variant_decl : Sym
+  cases : Sym
+  more_cases : Sym
+  variant_case : Sym
+  record_decl : Sym
+  fields : Sym
+  more_fields : Sym
+  field : Sym
+  flags_decl : Sym
+  flags : Sym
+  more_flags : Sym
+  flag : Sym
+  enum_decl : Sym
+  enum_cases : Sym
+  more_enum_cases : Sym
+  enum_case : Sym
+  type_alias : Sym
+  type_alias_kind : Sym
+  func_type_ref : Sym
+  func_type : Sym
+  params : Sym
+  more_params : Sym
+  result_list : Sym
+  named_type : Sym
+  ty : Sym
+  tuple_type : Sym
+  list_type : Sym
+  option_type : Sym
+  result_type : Sym
+  borrow_type : Sym
+  stream_type : Sym
+  future_type : Sym
+  types : Sym
+  more_types : Sym
+  result_part : Sym
+  payload : Sym
+  interface_decl : Sym
+  inline_interface : Sym
+  interface_items : Sym
+  interface_item : Sym
+  interface_export : Sym
+  use_statement : Sym
+  use_path : Sym
+  use_items : Sym
+  more_use_items : Sym
+  use_item : Sym
+  world_decl : Sym
+  world_items : Sym
+  world_item : Sym
+  world_import : Sym
+  world_export : Sym
+  world_item_path : Sym
+  named_world_item : Sym
+  extern_type : Sym
+  world_include : Sym
+  world_ref : Sym
+  include_items : Sym
+  more_include_items : Sym
+  include_item : Sym
+  identifier : Sym
+  string : Sym
+  package_name : Sym
+  package_path : Sym
+
+-- The declarations whose braces may not be empty.
+pub data Body : Type 0 where
+  variant_body : Body
+  record_body : Body
+  flags_body : Body
+  enum_body : Body
+
+-- What must follow a part that is left out.
+pub data Behind : Type 0 where
+  anything : Behind
+  -- no fault
+  no_fault : Behind
+  one_among : List Token → Behind
+
+pub data Grammar : Type 0 where
+  token : Token → Grammar
+  sym : Sym → Grammar
+  then : Grammar → Grammar → Grammar
+  -- the first, tried aloud (true) or silently, or the second
+  either : Bool → Grammar → Grammar → Grammar
+  nothing : Behind → Grammar
+  -- up to the end of the list
+  to_end : Grammar → Grammar
+  -- with the docs of the first item
+  docs : Grammar → Grammar
+  -- where the token comes at once the body is empty: an error of its own kind
+  not_empty : Body → Token → Grammar → Grammar
+  -- after an item of a comma list: where the input ends the closing token and the item are named
+  more : Token → Sym → Grammar → Grammar
+  -- the first, or the token and the second; where this does not follow the token, the rejection is reported at the token and names the first
+  or_told : Grammar → Token → Grammar → Grammar
+
+infixr 20 ◌▸◌
+abbrev pub ◌▸◌ : Grammar → Grammar → Grammar
+g ▸ h = then g h
+
+infixr 15 ◌¦◌
+abbrev pub ◌¦◌ : Grammar → Grammar → Grammar
+g ¦ h = either true g h
+
+-- an optional part, which names nothing: parse_optional, where a fault is rejected; and a mere look at the next token
+abbrev pub optional : Grammar → Grammar
+optional g = either true g (nothing no_fault)
+
+abbrev pub perhaps : Grammar → Grammar
+perhaps g = either true g (nothing anything)
+
+-- what follows an item of a comma list, up to the closing token
+abbrev pub rest_of : Token → Sym → Sym → Grammar
+rest_of close item items = more close item (either false (token close) (token t.Comma ▸ sym items))
+
+-- THE GRAMMAR
+abbrev pub rule : Sym → Grammar
+rule document = docs (sym directive ▸ sym statements)
+rule directive = token t.PackageKeyword ▸ sym package_name ▸ optional (token t.TargetsKeyword ▸ sym package_path) ▸ token t.Semicolon
+rule statements = to_end (sym statement ▸ sym statements)
+rule statement = sym import_statement ¦ sym let_statement ¦ sym export_statement ¦ sym type_statement
+rule import_statement = docs (token t.ImportKeyword ▸ sym identifier ▸ optional (token t.AsKeyword ▸ sym extern_name) ▸ token t.Colon ▸ sym import_type ▸ token t.Semicolon)
+rule extern_name = sym identifier ¦ sym string
+rule import_type = sym func_type ¦ sym inline_interface ¦ sym package_path ¦ sym identifier
+rule let_statement = docs (token t.LetKeyword ▸ sym identifier ▸ token t.Equals ▸ sym expr ▸ token t.Semicolon)
+rule export_statement = docs (token t.ExportKeyword ▸ sym expr ▸ sym export_options ▸ token t.Semicolon)
+rule export_options = token t.Ellipsis ¦ perhaps (token t.AsKeyword ▸ sym extern_name)
+rule expr = sym primary_expr ▸ sym postfixes
+rule primary_expr = sym new_expr ¦ sym nested_expr ¦ sym identifier
+rule new_expr = token t.NewKeyword ▸ sym package_name ▸ token t.OpenBrace ▸ sym arguments
+rule arguments = token t.CloseBrace ¦ sym argument ▸ sym more_arguments
+rule more_arguments = rest_of t.CloseBrace argument arguments
+rule argument = token t.Ellipsis ▸ (sym identifier ¦ nothing (one_among (t.Comma ∷ t.CloseBrace ∷ []))) ¦ or_told (sym identifier ▸ perhaps (token t.Colon ▸ sym expr)) t.String (token t.Colon ▸ sym expr)
+rule named_argument = sym argument_name ▸ token t.Colon ▸ sym expr
+rule argument_name = sym identifier ¦ sym string
+rule nested_expr = token t.OpenParen ▸ sym expr ▸ token t.CloseParen
+rule postfixes = perhaps (sym postfix_expr ▸ sym postfixes)
+rule postfix_expr = sym access_expr ¦ sym named_access_expr
+rule access_expr = token t.Dot ▸ sym identifier
+rule named_access_expr = token t.OpenBracket ▸ sym string ▸ token t.CloseBracket
+rule type_statement = sym interface_decl ¦ sym world_decl ¦ sym type_decl
+rule type_decl = sym variant_decl ¦ sym record_decl ¦ sym flags_decl ¦ sym enum_decl ¦ sym type_alias
+rule item_type_decl = sym resource_decl ¦ sym variant_decl ¦ sym record_decl ¦ sym flags_decl ¦ sym enum_decl ¦ sym type_alias
+rule resource_decl = docs (token t.ResourceKeyword ▸ sym identifier ▸ (token t.Semicolon ¦ token t.OpenBrace ▸ sym methods))
+rule methods = token t.CloseBrace ¦ sym resource_method ▸ sym methods
+rule resource_method = sym constructor ¦ sym method
+rule constructor = docs (token t.ConstructorKeyword ▸ token t.OpenParen ▸ sym params ▸ token t.Semicolon)
+rule method = docs (sym identifier ▸ token t.Colon ▸ perhaps (token t.StaticKeyword) ▸ sym func_type ▸ token t.Semicolon)
+rule variant_decl = docs (token t.VariantKeyword ▸ sym identifier ▸ token t.OpenBrace ▸ not_empty variant_body t.CloseBrace (sym variant_case ▸ sym more_cases))
+rule cases = token t.CloseBrace ¦ sym variant_case ▸ sym more_cases
+rule more_cases = rest_of t.CloseBrace variant_case cases
+rule variant_case = docs (sym identifier ▸ optional (token t.OpenParen ▸ sym ty ▸ token t.CloseParen))
+rule record_decl = docs (token t.RecordKeyword ▸ sym identifier ▸ token t.OpenBrace ▸ not_empty record_body t.CloseBrace (sym field ▸ sym more_fields))
+rule fields = token t.CloseBrace ¦ sym field ▸ sym more_fields
+rule more_fields = rest_of t.CloseBrace field fields
+rule field = docs (sym named_type)
+rule flags_decl = docs (token t.FlagsKeyword ▸ sym identifier ▸ token t.OpenBrace ▸ not_empty flags_body t.CloseBrace (sym flag ▸ sym more_flags))
+rule flags = token t.CloseBrace ¦ sym flag ▸ sym more_flags
+rule more_flags = rest_of t.CloseBrace flag flags
+rule flag = docs (sym identifier)
+rule enum_decl = docs (token t.EnumKeyword ▸ sym identifier ▸ token t.OpenBrace ▸ not_empty enum_body t.CloseBrace (sym enum_case ▸ sym more_enum_cases))
+rule enum_cases = token t.CloseBrace ¦ sym enum_case ▸ sym more_enum_cases
+rule more_enum_cases = rest_of t.CloseBrace enum_case enum_cases
+rule enum_case = docs (sym identifier)
+rule type_alias = docs (token t.TypeKeyword ▸ sym identifier ▸ token t.Equals ▸ sym type_alias_kind ▸ token t.Semicolon)
+rule type_alias_kind = sym func_type ¦ sym ty
+rule func_type_ref = sym func_type ¦ sym identifier
+rule func_type = optional (token t.AsyncKeyword) ▸ token t.FuncKeyword ▸ token t.OpenParen ▸ sym params ▸ optional (token t.Arrow ▸ sym result_list)
+rule params = token t.CloseParen ¦ sym named_type ▸ sym more_params
+rule more_params = rest_of t.CloseParen named_type params
+rule result_list = token t.OpenParen ▸ sym named_type ▸ sym more_params ¦ perhaps (sym ty)
+rule named_type = sym identifier ▸ token t.Colon ▸ sym ty
+rule ty = token t.U8Keyword ¦ token t.S8Keyword ¦ token t.U16Keyword ¦ token t.S16Keyword ¦ token t.U32Keyword ¦ token t.S32Keyword ¦ token t.U64Keyword ¦ token t.S64Keyword ¦ token t.F32Keyword ¦ token t.F64Keyword ¦ token t.CharKeyword ¦ token t.BoolKeyword ¦ token t.StringKeyword ¦ sym tuple_type ¦ sym list_type ¦ sym option_type ¦ sym result_type ¦ sym borrow_type ¦ sym stream_type ¦ sym future_type ¦ token t.ErrorContextKeyword ¦ sym identifier
+rule tuple_type = token t.TupleKeyword ▸ token t.OpenAngle ▸ sym ty ▸ sym more_types
+rule list_type = token t.ListKeyword ▸ token t.OpenAngle ▸ sym ty ▸ token t.CloseAngle
+rule option_type = token t.OptionKeyword ▸ token t.OpenAngle ▸ sym ty ▸ token t.CloseAngle
+rule result_type = token t.ResultKeyword ▸ optional (token t.OpenAngle ▸ sym result_part ▸ optional (token t.Comma ▸ sym result_part) ▸ token t.CloseAngle)
+rule borrow_type = token t.BorrowKeyword ▸ token t.OpenAngle ▸ sym identifier ▸ token t.CloseAngle
+rule stream_type = token t.StreamKeyword ▸ sym payload
+rule future_type = token t.FutureKeyword ▸ sym payload
+rule types = token t.CloseAngle ¦ sym ty ▸ sym more_types
+rule more_types = rest_of t.CloseAngle ty types
+rule result_part = token t.Underscore ¦ sym ty
+rule payload = optional (token t.OpenAngle ▸ sym ty ▸ token t.CloseAngle)
+rule interface_decl = docs (token t.InterfaceKeyword ▸ sym identifier ▸ token t.OpenBrace ▸ sym interface_items)
+rule inline_interface = token t.InterfaceKeyword ▸ token t.OpenBrace ▸ sym interface_items
+rule interface_items = token t.CloseBrace ¦ sym interface_item ▸ sym interface_items
+rule interface_item = sym use_statement ¦ sym interface_export ¦ sym item_type_decl
+rule interface_export = docs (sym identifier ▸ token t.Colon ▸ sym func_type_ref ▸ token t.Semicolon)
+rule use_statement = docs (token t.UseKeyword ▸ sym use_path ▸ token t.Dot ▸ token t.OpenBrace ▸ sym use_items ▸ token t.Semicolon)
+rule use_path = sym package_path ¦ sym identifier
+rule use_items = token t.CloseBrace ¦ sym use_item ▸ sym more_use_items
+rule more_use_items = rest_of t.CloseBrace use_item use_items
+rule use_item = sym identifier ▸ optional (token t.AsKeyword ▸ sym identifier)
+rule world_decl = docs (token t.WorldKeyword ▸ sym identifier ▸ token t.OpenBrace ▸ sym world_items)
+rule world_items = token t.CloseBrace ¦ sym world_item ▸ sym world_items
+rule world_item = sym use_statement ¦ sym world_import ¦ sym world_export ¦ sym world_include ¦ sym item_type_decl
+rule world_import = docs (token t.ImportKeyword ▸ sym world_item_path ▸ token t.Semicolon)
+rule world_export = docs (token t.ExportKeyword ▸ sym world_item_path ▸ token t.Semicolon)
+rule world_item_path = sym package_path ¦ sym identifier ▸ perhaps (token t.Colon ▸ sym extern_type)
+rule named_world_item = sym identifier ▸ token t.Colon ▸ sym extern_type
+rule extern_type = sym identifier ¦ sym func_type ¦ sym inline_interface
+rule world_include = docs (token t.IncludeKeyword ▸ sym world_ref ▸ optional (token t.WithKeyword ▸ token t.OpenBrace ▸ sym include_items) ▸ token t.Semicolon)
+rule world_ref = sym package_path ¦ sym identifier
+rule include_items = token t.CloseBrace ¦ sym include_item ▸ sym more_include_items
+rule more_include_items = rest_of t.CloseBrace include_item include_items
+rule include_item = sym identifier ▸ token t.AsKeyword ▸ sym identifier
+rule identifier = token t.Ident
+rule string = token t.String
+rule package_name = token t.PackageName
+rule package_path = token t.PackagePath
+
+-- a list's items, and the token that closes it
+abbrev pub Listed : Type 0 → Type 0
+Listed A = List A × Item
+
+-- what each symbol's tree is
+abbrev pub TreeOf : Sym → Type 0
+TreeOf document = Document
+TreeOf directive = PackageDirective
+TreeOf statements = List Statement
+TreeOf statement = Statement
+TreeOf import_statement = ImportStatement
+TreeOf extern_name = ExternName
+TreeOf import_type = ImportType
+TreeOf let_statement = LetStatement
+TreeOf export_statement = ExportStatement
+TreeOf export_options = ExportOptions
+TreeOf expr = Expr
+TreeOf primary_expr = PrimaryExpr
+TreeOf new_expr = PrimaryExpr
+TreeOf arguments = Listed InstantiationArgument
+TreeOf more_arguments = Listed InstantiationArgument
+TreeOf argument = InstantiationArgument
+TreeOf named_argument = NamedInstantiationArgument
+TreeOf argument_name = InstantiationArgumentName
+TreeOf nested_expr = PrimaryExpr
+TreeOf postfixes = List PostfixExpr
+TreeOf postfix_expr = PostfixExpr
+TreeOf access_expr = AccessExpr
+TreeOf named_access_expr = NamedAccessExpr
+TreeOf type_statement = TypeStatement
+TreeOf type_decl = TypeDecl
+TreeOf item_type_decl = ItemTypeDecl
+TreeOf resource_decl = ResourceDecl
+TreeOf methods = Listed ResourceMethod
+TreeOf resource_method = ResourceMethod
+TreeOf constructor = Constructor
+TreeOf method = Method
+TreeOf variant_decl = VariantDecl
+TreeOf cases = Listed VariantCase
+TreeOf more_cases = Listed VariantCase
+TreeOf variant_case = VariantCase
+TreeOf record_decl = RecordDecl
+TreeOf fields = Listed Field
+TreeOf more_fields = Listed Field
+TreeOf field = Field
+TreeOf flags_decl = FlagsDecl
+TreeOf flags = Listed Flag
+TreeOf more_flags = Listed Flag
+TreeOf flag = Flag
+TreeOf enum_decl = EnumDecl
+TreeOf enum_cases = Listed EnumCase
+TreeOf more_enum_cases = Listed EnumCase
+TreeOf enum_case = EnumCase
+TreeOf type_alias = TypeAlias
+TreeOf type_alias_kind = TypeAliasKind
+TreeOf func_type_ref = FuncTypeRef
+TreeOf func_type = FuncType
+TreeOf params = Listed NamedType
+TreeOf more_params = Listed NamedType
+TreeOf result_list = ResultList
+TreeOf named_type = NamedType
+TreeOf ty = Ty
+TreeOf tuple_type = Ty
+TreeOf list_type = Ty
+TreeOf option_type = Ty
+TreeOf result_type = Ty
+TreeOf borrow_type = Ty
+TreeOf stream_type = Ty
+TreeOf future_type = Ty
+TreeOf types = Listed Ty
+TreeOf more_types = Listed Ty
+TreeOf result_part = OptionalTy
+TreeOf payload = Option (Ty × Item)
+TreeOf interface_decl = InterfaceDecl
+TreeOf inline_interface = InlineInterface
+TreeOf interface_items = Listed InterfaceItem
+TreeOf interface_item = InterfaceItem
+TreeOf interface_export = InterfaceExport
+TreeOf use_statement = Use
+TreeOf use_path = UsePath
+TreeOf use_items = Listed UseItem
+TreeOf more_use_items = Listed UseItem
+TreeOf use_item = UseItem
+TreeOf world_decl = WorldDecl
+TreeOf world_items = Listed WorldItem
+TreeOf world_item = WorldItem
+TreeOf world_import = WorldImport
+TreeOf world_export = WorldExport
+TreeOf world_item_path = WorldItemPath
+TreeOf named_world_item = NamedWorldItem
+TreeOf extern_type = ExternType
+TreeOf world_include = WorldInclude
+TreeOf world_ref = WorldRef
+TreeOf include_items = Listed WorldIncludeItem
+TreeOf more_include_items = Listed WorldIncludeItem
+TreeOf include_item = WorldIncludeItem
+TreeOf identifier = Ident
+TreeOf string = String
+TreeOf package_name = PackageName
+TreeOf package_path = PackagePath
+
+-- the parts that a grammar has
+abbrev pub Parts : Grammar → Type 0
+Parts (token k) = Item
+Parts (sym s) = TreeOf s
+Parts (then g h) = Parts g × Parts h
+Parts (either loud g h) = Parts g ⊎ Parts h
+Parts (nothing b) = Unit {0}
+Parts (to_end g) = Unit {0} ⊎ Parts g
+Parts (docs g) = List Doc × Parts g
+Parts (not_empty e k g) = Parts g
+Parts (more k s g) = Parts g
+Parts (or_told g k h) = Parts g ⊎ (Item × Parts h)
+
+abbrev pub primary_span : PrimaryExpr → Span
+primary_span (PrimaryExpr.new s name xs) = s
+primary_span (PrimaryExpr.nested s inner) = s
+primary_span (PrimaryExpr.ident id) = id.span
+
+abbrev pub postfix_span : PostfixExpr → Span
+postfix_span (PostfixExpr.access x) = x.span
+postfix_span (PostfixExpr.named_access x) = x.span
+
+-- the span of the last postfix, or where there is none the span before
+abbrev pub last_span : Span → List PostfixExpr → Span
+last_span s [] = s
+last_span s (x ∷ others) = last_span (postfix_span x) others
+
+-- the closing token at once, or an item and the others
+abbrev pub listed : {A : Type 0} → Item ⊎ (A × Listed A) → Listed A
+listed (inl last) = ([], last)
+listed (inr (x, others)) = (x ∷ others.0, others.1)
+
+-- after an item: the closing token, or a comma and the others
+abbrev pub listed_more : {A : Type 0} → Item ⊎ (Item × Listed A) → Listed A
+listed_more (inl last) = ([], last)
+listed_more (inr (_, others)) = others
+
+abbrev pub is_there : {A B : Type 0} → A ⊎ B → Bool
+is_there (inl _) = true
+is_there (inr _) = false
+
+abbrev pub results_of : (Item × ResultList) ⊎ Unit {0} → ResultList
+results_of (inl (_, results)) = results
+results_of (inr _) = ResultList.empty
+
+abbrev pub string_of : Item → String
+string_of x = record { value = between_quotes x.text; span = x.span }
+
+-- THE TREE of each symbol's parts
+abbrev pub build : (s : Sym) → Parts (rule s) → TreeOf s
+build document (ds, (d, xs)) = record { docs = ds; directive = d; statements = xs }
+build directive (_, (name, (inl (_, path), _))) = record { package_name = name; targets = Some path }
+build directive (_, (name, (inr _, _))) = record { package_name = name; targets = None }
+build statements (inl _) = []
+build statements (inr (x, xs)) = x ∷ xs
+build statement (inl x) = Statement.import_statement x
+build statement (inr (inl x)) = Statement.let_statement x
+build statement (inr (inr (inl x))) = Statement.export_statement x
+build statement (inr (inr (inr x))) = Statement.type_statement x
+build import_statement (ds, (_, (id, (inl (_, name), (_, (kind, _)))))) = record { docs = ds; id = id; name = Some name; ty = kind }
+build import_statement (ds, (_, (id, (inr _, (_, (kind, _)))))) = record { docs = ds; id = id; name = None; ty = kind }
+build extern_name (inl x) = ExternName.ident x
+build extern_name (inr x) = ExternName.string x
+build import_type (inl x) = ImportType.func x
+build import_type (inr (inl x)) = ImportType.interface x
+build import_type (inr (inr (inl x))) = ImportType.path x
+build import_type (inr (inr (inr x))) = ImportType.ident x
+build let_statement (ds, (_, (id, (_, (value, _))))) = record { docs = ds; id = id; expr = value }
+build export_statement (ds, (_, (value, (options, _)))) = record { docs = ds; expr = value; options = options }
+build export_options (inl dots) = ExportOptions.spread dots.span
+build export_options (inr (inl (_, name))) = ExportOptions.rename name
+build export_options (inr (inr _)) = ExportOptions.none
+build expr (first, others) = Expr.expr (join (primary_span first) (last_span (primary_span first) others)) first others
+build primary_expr (inl x) = x
+build primary_expr (inr (inl x)) = x
+build primary_expr (inr (inr x)) = PrimaryExpr.ident x
+build new_expr (first, (name, (_, (xs, last)))) = PrimaryExpr.new (join first.span last.span) name (arguments_from xs)
+build arguments p = listed p
+build more_arguments p = listed_more p
+build argument (inl (dots, inl id)) = InstantiationArgument.spread id
+build argument (inl (dots, inr _)) = InstantiationArgument.fill dots.span
+build argument (inr (inl (id, inl (_, value)))) = InstantiationArgument.named (InstantiationArgumentName.ident id) value
+build argument (inr (inl (id, inr _))) = InstantiationArgument.inferred id
+build argument (inr (inr (x, (_, value)))) = InstantiationArgument.named (InstantiationArgumentName.string (string_of x)) value
+build named_argument (name, (_, value)) = record { name = name; expr = value }
+build argument_name (inl x) = InstantiationArgumentName.ident x
+build argument_name (inr x) = InstantiationArgumentName.string x
+build nested_expr (first, (inner, last)) = PrimaryExpr.nested (join first.span last.span) inner
+build postfixes (inl (x, xs)) = x ∷ xs
+build postfixes (inr _) = []
+build postfix_expr (inl x) = PostfixExpr.access x
+build postfix_expr (inr x) = PostfixExpr.named_access x
+build access_expr (dot, id) = record { span = join dot.span id.span; id = id }
+build named_access_expr (first, (value, last)) = record { span = join first.span last.span; string = value }
+build type_statement (inl x) = TypeStatement.interface x
+build type_statement (inr (inl x)) = TypeStatement.world x
+build type_statement (inr (inr x)) = TypeStatement.ty x
+build type_decl (inl x) = TypeDecl.variant x
+build type_decl (inr (inl x)) = TypeDecl.record_decl x
+build type_decl (inr (inr (inl x))) = TypeDecl.flags x
+build type_decl (inr (inr (inr (inl x)))) = TypeDecl.enum x
+build type_decl (inr (inr (inr (inr x)))) = TypeDecl.alias x
+build item_type_decl (inl x) = ItemTypeDecl.resource x
+build item_type_decl (inr (inl x)) = ItemTypeDecl.variant x
+build item_type_decl (inr (inr (inl x))) = ItemTypeDecl.record_decl x
+build item_type_decl (inr (inr (inr (inl x)))) = ItemTypeDecl.flags x
+build item_type_decl (inr (inr (inr (inr (inl x))))) = ItemTypeDecl.enum x
+build item_type_decl (inr (inr (inr (inr (inr x))))) = ItemTypeDecl.alias x
+build resource_decl (ds, (_, (id, inl _))) = record { docs = ds; id = id; methods = [] }
+build resource_decl (ds, (_, (id, inr (_, xs)))) = record { docs = ds; id = id; methods = xs.0 }
+build methods p = listed p
+build resource_method (inl x) = ResourceMethod.constructor x
+build resource_method (inr x) = ResourceMethod.method x
+build constructor (ds, (first, (_, (xs, _)))) = record { docs = ds; span = first.span; params = xs.0 }
+build method (ds, (id, (_, (inl _, (func, _))))) = record { docs = ds; id = id; is_static = true; ty = func }
+build method (ds, (id, (_, (inr _, (func, _))))) = record { docs = ds; id = id; is_static = false; ty = func }
+build variant_decl (ds, (_, (id, (_, (x, others))))) = record { docs = ds; id = id; cases = x ∷ others.0 }
+build cases p = listed p
+build more_cases p = listed_more p
+build variant_case (ds, (id, inl (_, (value, _)))) = record { docs = ds; id = id; ty = Some value }
+build variant_case (ds, (id, inr _)) = record { docs = ds; id = id; ty = None }
+build record_decl (ds, (_, (id, (_, (x, others))))) = record { docs = ds; id = id; fields = x ∷ others.0 }
+build fields p = listed p
+build more_fields p = listed_more p
+build field (ds, x) = record { docs = ds; id = x.id; ty = x.ty }
+build flags_decl (ds, (_, (id, (_, (x, others))))) = record { docs = ds; id = id; flags = x ∷ others.0 }
+build flags p = listed p
+build more_flags p = listed_more p
+build flag (ds, id) = record { docs = ds; id = id }
+build enum_decl (ds, (_, (id, (_, (x, others))))) = record { docs = ds; id = id; cases = x ∷ others.0 }
+build enum_cases p = listed p
+build more_enum_cases p = listed_more p
+build enum_case (ds, id) = record { docs = ds; id = id }
+build type_alias (ds, (_, (id, (_, (value, _))))) = record { docs = ds; id = id; kind = value }
+build type_alias_kind (inl x) = TypeAliasKind.func x
+build type_alias_kind (inr x) = TypeAliasKind.ty x
+build func_type_ref (inl x) = FuncTypeRef.func x
+build func_type_ref (inr x) = FuncTypeRef.ident x
+build func_type (first, (_, (_, (xs, results)))) = record { is_async = is_there first; params = xs.0; results = results_of results }
+build params p = listed p
+build more_params p = listed_more p
+build result_list (inl (_, (x, others))) = ResultList.named (x ∷ others.0)
+build result_list (inr (inl x)) = ResultList.scalar x
+build result_list (inr (inr _)) = ResultList.empty
+build named_type (id, (_, value)) = record { id = id; ty = value }
+build ty (inl x) = Ty.u8 x.span
+build ty (inr (inl x)) = Ty.s8 x.span
+build ty (inr (inr (inl x))) = Ty.u16 x.span
+build ty (inr (inr (inr (inl x)))) = Ty.s16 x.span
+build ty (inr (inr (inr (inr (inl x))))) = Ty.u32 x.span
+build ty (inr (inr (inr (inr (inr (inl x)))))) = Ty.s32 x.span
+build ty (inr (inr (inr (inr (inr (inr (inl x))))))) = Ty.u64 x.span
+build ty (inr (inr (inr (inr (inr (inr (inr (inl x)))))))) = Ty.s64 x.span
+build ty (inr (inr (inr (inr (inr (inr (inr (inr (inl x))))))))) = Ty.f32 x.span
+build ty (inr (inr (inr (inr (inr (inr (inr (inr (inr (inl x)))))))))) = Ty.f64 x.span
+build ty (inr (inr (inr (inr (inr (inr (inr (inr (inr (inr (inl x))))))))))) = Ty.char x.span
+build ty (inr (inr (inr (inr (inr (inr (inr (inr (inr (inr (inr (inl x)))))))))))) = Ty.bool x.span
+build ty (inr (inr (inr (inr (inr (inr (inr (inr (inr (inr (inr (inr (inl x))))))))))))) = Ty.string x.span
+build ty (inr (inr (inr (inr (inr (inr (inr (inr (inr (inr (inr (inr (inr (inl x)))))))))))))) = x
+build ty (inr (inr (inr (inr (inr (inr (inr (inr (inr (inr (inr (inr (inr (inr (inl x))))))))))))))) = x
+build ty (inr (inr (inr (inr (inr (inr (inr (inr (inr (inr (inr (inr (inr (inr (inr (inl x)))))))))))))))) = x
+build ty (inr (inr (inr (inr (inr (inr (inr (inr (inr (inr (inr (inr (inr (inr (inr (inr (inl x))))))))))))))))) = x
+build ty (inr (inr (inr (inr (inr (inr (inr (inr (inr (inr (inr (inr (inr (inr (inr (inr (inr (inl x)))))))))))))))))) = x
+build ty (inr (inr (inr (inr (inr (inr (inr (inr (inr (inr (inr (inr (inr (inr (inr (inr (inr (inr (inl x))))))))))))))))))) = x
+build ty (inr (inr (inr (inr (inr (inr (inr (inr (inr (inr (inr (inr (inr (inr (inr (inr (inr (inr (inr (inl x)))))))))))))))))))) = x
+build ty (inr (inr (inr (inr (inr (inr (inr (inr (inr (inr (inr (inr (inr (inr (inr (inr (inr (inr (inr (inr (inl x))))))))))))))))))))) = Ty.error_context x.span
+build ty (inr (inr (inr (inr (inr (inr (inr (inr (inr (inr (inr (inr (inr (inr (inr (inr (inr (inr (inr (inr (inr x))))))))))))))))))))) = Ty.ident x
+build tuple_type (first, (_, (x, (xs, last)))) = Ty.tuple (Types.more x (types_from xs)) (join first.span last.span)
+build list_type (first, (_, (x, last))) = Ty.list x (join first.span last.span)
+build option_type (first, (_, (x, last))) = Ty.option x (join first.span last.span)
+build result_type (first, inl (_, (ok, (inl (_, err), last)))) = Ty.result ok err (join first.span last.span)
+build result_type (first, inl (_, (ok, (inr _, last)))) = Ty.result ok OptionalTy.absent (join first.span last.span)
+build result_type (first, inr _) = Ty.result OptionalTy.absent OptionalTy.absent first.span
+build borrow_type (first, (_, (id, last))) = Ty.borrow id (join first.span last.span)
+build stream_type (first, Some (x, last)) = Ty.stream (OptionalTy.present x) (join first.span last.span)
+build stream_type (first, None) = Ty.stream OptionalTy.absent first.span
+build future_type (first, Some (x, last)) = Ty.future (OptionalTy.present x) (join first.span last.span)
+build future_type (first, None) = Ty.future OptionalTy.absent first.span
+build types p = listed p
+build more_types p = listed_more p
+build result_part (inl _) = OptionalTy.absent
+build result_part (inr x) = OptionalTy.present x
+build payload (inl (_, (x, last))) = Some (x, last)
+build payload (inr _) = None
+build interface_decl (ds, (_, (id, (_, xs)))) = record { docs = ds; id = id; items = xs.0 }
+build inline_interface (_, (_, xs)) = record { items = xs.0 }
+build interface_items p = listed p
+build interface_item (inl x) = InterfaceItem.use_statement x
+build interface_item (inr (inl x)) = InterfaceItem.interface_export x
+build interface_item (inr (inr x)) = InterfaceItem.ty x
+build interface_export (ds, (id, (_, (value, _)))) = record { docs = ds; id = id; ty = value }
+build use_statement (ds, (_, (path, (_, (_, (xs, _)))))) = record { docs = ds; path = path; items = xs.0 }
+build use_path (inl x) = UsePath.path x
+build use_path (inr x) = UsePath.ident x
+build use_items p = listed p
+build more_use_items p = listed_more p
+build use_item (id, inl (_, name)) = record { id = id; as_id = Some name }
+build use_item (id, inr _) = record { id = id; as_id = None }
+build world_decl (ds, (_, (id, (_, xs)))) = record { docs = ds; id = id; items = xs.0 }
+build world_items p = listed p
+build world_item (inl x) = WorldItem.use_statement x
+build world_item (inr (inl x)) = WorldItem.world_import x
+build world_item (inr (inr (inl x))) = WorldItem.world_export x
+build world_item (inr (inr (inr (inl x)))) = WorldItem.world_include x
+build world_item (inr (inr (inr (inr x)))) = WorldItem.ty x
+build world_import (ds, (_, (path, _))) = record { docs = ds; path = path }
+build world_export (ds, (_, (path, _))) = record { docs = ds; path = path }
+build world_item_path (inl x) = WorldItemPath.path x
+build world_item_path (inr (id, inl (_, value))) = WorldItemPath.named (record { id = id; ty = value })
+build world_item_path (inr (id, inr _)) = WorldItemPath.ident id
+build named_world_item (id, (_, value)) = record { id = id; ty = value }
+build extern_type (inl x) = ExternType.ident x
+build extern_type (inr (inl x)) = ExternType.func x
+build extern_type (inr (inr x)) = ExternType.interface x
+build world_include (ds, (_, (world, (inl (_, (_, xs)), _)))) = record { docs = ds; world = world; items = xs.0 }
+build world_include (ds, (_, (world, (inr _, _)))) = record { docs = ds; world = world; items = [] }
+build world_ref (inl x) = WorldRef.path x
+build world_ref (inr x) = WorldRef.ident x
+build include_items p = listed p
+build more_include_items p = listed_more p
+build include_item (id, (_, name)) = record { from = id; to = name }
+build identifier x = record { string = without_percent x.text; span = x.span }
+build string x = string_of x
+build package_name x = record { string = x.text; name = unversioned x.text; version = version_of x.text; span = x.span }
+build package_path x = record { span = x.span; string = x.text; name = path_name x.text; segments = path_segments x.text; version = version_of x.text }
+
+abbrev pub docs_of : List Item → List Doc
+docs_of [] = []
+docs_of (x ∷ xs) = x.docs
+
+-- The list is the parts' list, where a symbol's list has its tree by `rec`.
+abbrev pub DerivesIn : ((s : Sym) → List Item → TreeOf s → Type 0) → (g : Grammar) → List Item → Parts g → Type 0
+DerivesIn rec (token k) xs x = (xs ≡ x ∷ []) × (is_token k x.token ≡ true) × (valid k x.text ≡ true)
+DerivesIn rec (sym s) xs t = rec s xs t
+DerivesIn rec (then g h) xs p = (front : List Item) × (back : List Item) × (xs ≡ front ++ back) × DerivesIn rec g front p.0 × DerivesIn rec h back p.1
+DerivesIn rec (either loud g h) xs (inl p) = DerivesIn rec g xs p
+DerivesIn rec (either loud g h) xs (inr p) = DerivesIn rec h xs p
+DerivesIn rec (nothing b) xs p = xs ≡ []
+DerivesIn rec (to_end g) xs (inl _) = xs ≡ []
+DerivesIn rec (to_end g) xs (inr p) = DerivesIn rec g xs p
+DerivesIn rec (docs g) xs p = (p.0 ≡ docs_of xs) × DerivesIn rec g xs p.1
+DerivesIn rec (not_empty e k g) xs p = DerivesIn rec g xs p
+DerivesIn rec (more k s g) xs p = DerivesIn rec g xs p
+DerivesIn rec (or_told g k h) xs (inl p) = DerivesIn rec g xs p
+DerivesIn rec (or_told g k h) xs (inr p) = (back : List Item) × (xs ≡ p.0 ∷ back) × (is_token k p.0.token ≡ true) × (valid k p.0.text ≡ true) × DerivesIn rec h back p.1
+
+-- a tree of the list, at most n symbols deep
+abbrev pub DerivesBy : ℕ → (s : Sym) → List Item → TreeOf s → Type 0
+DerivesBy zero s xs t = ⊥
+DerivesBy (suc n) s xs t = (p : Parts (rule s)) × DerivesIn (DerivesBy n) (rule s) xs p × (build s p ≡ t)
+
+abbrev pub Derives : (s : Sym) → List Item → TreeOf s → Type 0
+Derives s xs t = (n : ℕ) × DerivesBy n s xs t

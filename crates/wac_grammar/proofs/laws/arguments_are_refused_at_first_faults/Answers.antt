@@ -1,5 +1,0 @@
-use Rattle.wac_grammar.proofs.Arguments.{stopped_argument}
-use Rattle.wac_grammar.proofs.laws.arguments_are_refused_at_first_faults.Goals as goal
-
-pub returns : goal.returns
-returns c = stopped_argument

@@ -1,5 +1,0 @@
-use Rattle.wac_grammar.proofs.TokenTexts.{has_text}
-use Rattle.wac_grammar.proofs.laws.tokens_have_texts.Goals as goal
-
-pub returns : goal.returns
-returns c = has_text

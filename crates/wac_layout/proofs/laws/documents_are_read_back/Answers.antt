@@ -1,5 +1,0 @@
-use Rattle.wac_layout.proofs.DocumentsBack.{reread}
-use Rattle.wac_layout.proofs.laws.documents_are_read_back.Goals as goal
-
-pub returns : goal.returns
-returns c = reread

@@ -1,5 +1,0 @@
-use Rattle.wac_layout.proofs.TreesBack.{fixed_again}
-use Rattle.wac_layout.proofs.laws.printed_texts_stay.Goals as goal
-
-pub returns : goal.returns
-returns c = fixed_again

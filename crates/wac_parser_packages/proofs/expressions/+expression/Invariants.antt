@@ -1,8 +1,0 @@
-use Rattle.std.proofs.Common.{take, map, flat_map}
-use Rattle.wac_ast_expressions.specs.Expressions.{argument_of}
-use Rattle.wac_resolution_rules.specs.Mentions.{argument_mentions}
-use Rattle.wac_parser_packages.specs.Noted.{Notes}
-use Rattle.wac_parser_packages.proofs.expressions.+expression.Given as goal
-
-abbrev pub invariant-arguments-loop-one : goal.invariant-arguments-loop-one
-invariant-arguments-loop-one l = Notes l.fn.mentions l.mentions (flat_map (argument_mentions l.fn.mentions.own) (map argument_of (take l.one-index l.arguments)))

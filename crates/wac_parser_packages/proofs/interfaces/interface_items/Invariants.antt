@@ -1,8 +1,0 @@
-use Rattle.std.proofs.Common.{take, map, flat_map}
-use Rattle.wac_ast_worlds.specs.Worlds.{interface_item_of}
-use Rattle.wac_resolution_rules.specs.Mentions.{interface_item_mentions}
-use Rattle.wac_parser_packages.specs.Noted.{Notes}
-use Rattle.wac_parser_packages.proofs.interfaces.interface_items.Given as goal
-
-abbrev pub invariant-loop-item : goal.invariant-loop-item
-invariant-loop-item l = Notes l.fn.mentions l.mentions (flat_map (interface_item_mentions l.fn.mentions.own) (map interface_item_of (take l.item-index l.items)))

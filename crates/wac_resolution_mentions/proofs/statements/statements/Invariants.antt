@@ -1,0 +1,8 @@
+use Rattle.std.proofs.Common.{take, map, flat_map}
+use Rattle.wac_ast.specs.Statements.{statement_of}
+use Rattle.wac_resolution_rules.specs.Mentions.{statement_mentions}
+use Rattle.wac_resolution_mentions.specs.Noted.{Notes}
+use Rattle.wac_resolution_mentions.proofs.statements.statements.Given as goal
+
+abbrev pub invariant-loop-next : goal.invariant-loop-next
+invariant-loop-next l = Notes l.fn.mentions l.mentions (flat_map (statement_mentions l.fn.mentions.own) (map statement_of (take l.next-index l.statements)))

@@ -1,6 +1,0 @@
-use Rattle.std.proofs.Common.{◌∙◌}
-use Rattle.wac_types.proofs.Maps.{by_name_found}
-use Rattle.wac_types.proofs.names.find.Goals as goal
-
-pub returns : goal.returns
-returns g c = c.copied.ensures ∙ c.get.ensures.value ∙ by_name_found c.args.name.now c.args.all.now.entries

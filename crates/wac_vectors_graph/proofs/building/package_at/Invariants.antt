@@ -1,0 +1,6 @@
+use Rattle.std.proofs.Common.{◌<◌, length}
+use Rattle.std.specs.List.{AllByRecursion}
+use Rattle.wac_vectors_graph.proofs.building.package_at.Given as goal
+
+abbrev pub invariant-loop-id : goal.invariant-loop-id
+invariant-loop-id l = AllByRecursion (λ k. k < length l.graph.packages) l.id-iterator
