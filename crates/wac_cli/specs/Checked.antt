@@ -2,7 +2,7 @@
 use Rattle.std.specs.Prelude.{◌≢◌, ℕ, true, List, [], ◌∷◌, Result, MatchOption, MatchResult, Vec}
 use Rattle.std.specs.declared.alloc.Global.{Global}
 use Rattle.wac_diagnostics.specs.declared.diagnostic.Diagnostic.{Diagnostic}
-use Rattle.wac_first_error.specs.Verdicts.{IsPlainDocument, IsVerdict}
+use Rattle.wac_first_error.specs.Verdicts.{IsGood, IsUnresolved, IsVerdict}
 use Rattle.wac_first_error.specs.declared.first.Verdict.TheVariants as verdicts
 use Rattle.wac_files.specs.declared.error.FileError.{FileError}
 use Rattle.wac_files.specs.declared.walk.Found.{Found}
@@ -10,11 +10,12 @@ use Rattle.wac_cli.specs.Outcomes.{IsFailure}
 use Rattle.wac_cli.specs.declared.outcome.Outcome.{Outcome}
 use Rattle.wac_cli.specs.declared.outcome.Outcome.TheVariants.{Good, Untidy, Unresolved, Rejected, Failed, OutOfMemory}
 
--- The outcome of bytes: they are a document, or a diagnostic says what is wrong with them first; or memory ran out.
+-- The outcome of bytes: they are a document that describes a composition, or one that mentions foreign packages; or a diagnostic says what is wrong
+-- with them first; or memory ran out.
 abbrev pub IsCheckOf : List ℕ → Outcome → Type 0
-IsCheckOf bytes Good = IsPlainDocument bytes bytes
+IsCheckOf bytes Good = IsGood bytes true
 IsCheckOf bytes Untidy = ⊥
-IsCheckOf bytes Unresolved = IsPlainDocument bytes bytes
+IsCheckOf bytes Unresolved = IsUnresolved bytes true
 IsCheckOf bytes Rejected = (d : Diagnostic) × IsVerdict bytes true (verdicts.Rejected d)
 IsCheckOf bytes Failed = ⊥
 IsCheckOf bytes OutOfMemory = Unit {0}

@@ -1,13 +1,19 @@
--- What is found of a text that is no document.
-use Rattle.std.proofs.Common.{◌≡◌, ap, ℕ, List, inl, inr, Result, Ok, Err, IfOk, ⊎_elim, Bool}
-use Rattle.std.specs.Prelude.{◌⊎◌, alloc_error}
+-- What is found of a text.
+use Rattle.std.proofs.Common.{◌≡◌, refl, ap, ℕ, List, inl, inr, Result, Ok, Err, IfOk, ⊎_elim, Bool, true, false}
+use Rattle.std.specs.Prelude.{◌⊎◌, None, alloc_error}
 use Rattle.wac_ast_grammar.specs.Tree.{Document}
 use Rattle.wac_ast_grammar.specs.TextTree.{IsTreeOf}
 use Rattle.wac_ast.specs.Document.{ErrorOf}
 use Rattle.wac_ast_base.specs.Error.{told_by}
 use Rattle.wac_ast_base.specs.declared.error.Error.{Error}
 use Rattle.wac_ast_base.specs.declared.error.Error.TheVariants as errors
-use Rattle.wac_first_error.specs.Findings.{IsFault, IsFinding}
+use Rattle.wac_comments_layout.specs.Nesting.{too_deep}
+use Rattle.wac_resolution_errors.specs.Told.{told}
+use Rattle.wac_resolution_errors.specs.declared.error.Error.{Error as ResolutionError}
+use Rattle.wac_resolution_errors.specs.declared.error.Error.TheVariants as resolution_errors
+use Rattle.wac_resolution_findings.specs.Mentioned.{mentions_foreign}
+use Rattle.wac_tool_graphs.specs.Alone.{BreaksRule}
+use Rattle.wac_first_error.specs.Findings.{IsFault, IsFinding, IsResolved, IsRule}
 use Rattle.wac_first_error.specs.declared.finding.Finding.{Finding}
 use Rattle.wac_first_error.specs.declared.finding.Finding.TheVariants as findings
 
@@ -19,3 +25,20 @@ fault_found text resolve e (Ok (findings.Rejected d)) only told h =
 fault_found text resolve e (Ok findings.Document) only told h = absurd h
 fault_found text resolve e (Ok findings.Unresolved) only told h = absurd h
 fault_found text resolve e (Err x) only told h = tt
+
+-- a document of a text is what it was found to be
+pub document_found : {E : Type 0} (text : List ℕ) (resolve : Bool) (tree : Document) (r : Result Finding E) → too_deep text ≡ None → IsTreeOf text tree
+    → IfOk r (λ f. IsResolved tree resolve f) → IfOk r (λ f. IsFinding text resolve f)
+document_found text resolve tree (Ok findings.Document) flat is h = (flat, (tree, is, h))
+document_found text resolve tree (Ok findings.Unresolved) flat is h = (flat, (tree, is, h))
+document_found text resolve tree (Ok (findings.Rejected d)) flat is h = inr (inr (flat, (tree, is, h)))
+document_found text resolve tree (Err x) flat is h = tt
+
+-- an error of resolving names the rule that a document breaks
+pub rule_found : {E : Type 0} (tree : Document) (e : ResolutionError) (r : Result Finding E) → mentions_foreign tree ≡ false
+    → (e ≡ resolution_errors.Memory alloc_error) ⊎ BreaksRule tree (told e) → IfOk r (λ f. IsRule e f) → IfOk r (λ f. IsResolved tree true f)
+rule_found tree e (Ok (findings.Rejected d)) none broken h =
+    (refl, none, (told e, ⊎_elim (λ m. absurd (h.0 m)) (λ b. b) broken, h.1))
+rule_found tree e (Ok findings.Document) none broken h = absurd h
+rule_found tree e (Ok findings.Unresolved) none broken h = absurd h
+rule_found tree e (Err x) none broken h = tt

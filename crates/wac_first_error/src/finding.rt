@@ -1,8 +1,9 @@
 //! What a text is, or what is wrong with it first.
 ghost use Rattle.std.specs.Prelude.{◌≡◌, IfOk, None, true};
+ghost use Rattle.wac_ast.specs.Statements.{document_of};
 ghost use Rattle.wac_ast_base.specs.Error.{told_by};
 ghost use Rattle.wac_comments_layout.specs.Nesting.{too_deep};
-ghost use Rattle.wac_first_error.specs.Findings.{IsDepth, IsFault, IsFinding, IsResolved};
+ghost use Rattle.wac_first_error.specs.Findings.{IsDepth, IsFault, IsFinding, IsResolved, IsRule};
 
 use std::alloc::{AllocError, Global};
 use wac_ast::Document;
@@ -75,7 +76,7 @@ fn find_fault(alloc: Global, error: &Error) -> Result<Finding, AllocError>
 
 /// What a document is, and which rule it breaks first where it is to be resolved.
 fn find_in(alloc: Global, page: Page<'_, '_>, resolve: bool) -> Result<Finding, AllocError>
-    ensures { IfOk result (λ finding. IsResolved resolve finding) }
+    ensures { IfOk result (λ finding. IsResolved (document_of page.entry) resolve finding) }
 {
     if resolve {
         find_resolved(alloc, page)
@@ -86,7 +87,7 @@ fn find_in(alloc: Global, page: Page<'_, '_>, resolve: bool) -> Result<Finding, 
 
 /// What a document is, or which rule it breaks first.
 fn find_resolved(alloc: Global, page: Page<'_, '_>) -> Result<Finding, AllocError>
-    ensures { IfOk result (λ finding. IsResolved true finding) }
+    ensures { IfOk result (λ finding. IsResolved (document_of page.entry) true finding) }
 {
     let Page { document } = page;
     if mentions_packages(alloc, Page { document })? {
@@ -100,7 +101,7 @@ fn find_resolved(alloc: Global, page: Page<'_, '_>) -> Result<Finding, AllocErro
 
 /// What is said of a document that breaks a rule.
 fn find_rule(alloc: Global, error: &ResolutionError) -> Result<Finding, AllocError>
-    ensures { IfOk result (λ finding. IsResolved true finding) }
+    ensures { IfOk result (λ finding. IsRule error.now finding) }
 {
     match resolution_diagnostic(alloc, error) {
         Ok(diagnostic) => Ok(Finding::Rejected(diagnostic)),

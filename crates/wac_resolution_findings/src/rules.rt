@@ -1,4 +1,10 @@
 //! Resolving a document for its errors alone.
+ghost use Rattle.std.specs.Prelude.{◌≡◌, ◌⊎◌, IfErr, IfOk, alloc_error};
+ghost use Rattle.wac_ast.specs.Statements.{document_of};
+ghost use Rattle.wac_resolution_errors.specs.Told.{told};
+ghost use Rattle.wac_resolution_errors.specs.declared.error.Error.TheVariants.{Memory};
+ghost use Rattle.wac_tool_graphs.specs.Alone.{BreaksRule, IsComposition};
+ghost use Rattle.wac_resolution_findings.specs.Mentioned.{mentions_foreign};
 
 use indexmap::IndexMap;
 use std::alloc::{AllocError, Global};
@@ -7,13 +13,21 @@ use wac_parser::{Page, packages};
 use wac_tool_graphs::SameRules;
 
 /// Whether a document mentions foreign packages. The error is that memory ran out.
-pub fn mentions_packages(alloc: Global, page: Page<'_, '_>) -> Result<bool, AllocError> {
+pub fn mentions_packages(alloc: Global, page: Page<'_, '_>) -> Result<bool, AllocError>
+    ensures { IfOk result (λ mentioned. mentioned ≡ mentions_foreign (document_of page.entry)) }
+{
     let Page { document } = page;
-    Ok(!packages(alloc, document)?.is_empty())
+    let mentioned = packages(alloc, document)?;
+    Ok(!mentioned.is_empty())
 }
 
 /// Which rule a document breaks first where no foreign package is there: its error, or that memory ran out.
-pub fn broken_rule(alloc: Global, page: Page<'_, '_>) -> ResolutionResult<()> {
+pub fn broken_rule(alloc: Global, page: Page<'_, '_>) -> ResolutionResult<()>
+    // It describes a composition.
+    ensures composes { IfOk result (λ _. IsComposition (document_of page.entry)) }
+    // The error names the first rule that it breaks.
+    ensures breaks { IfErr result (λ e. (e ≡ Memory alloc_error) ⊎ BreaksRule (document_of page.entry) (told e)) }
+{
     let Page { document } = page;
     match resolve(alloc, document, IndexMap::new(alloc), &SameRules) {
         Ok(_) => Ok(()),

@@ -19,7 +19,8 @@ use Rattle.wac_resolution_errors.specs.declared.error.Error.TheVariants as error
 use Rattle.wac_resolution_rules.specs.ResolvedDocument.{FirstFailing, EveryNaming, GraphClause, FirstClause}
 use Rattle.wac_resolution_nodes.specs.Nodes.{composition_of, node_of}
 use Rattle.wac_tool_graphs.specs.Lines.{node_line, node_lines, argument_lines, export_lines, graph_lines}
-use Rattle.wac_tool.specs.Resolving.{alone, same_rules, IsGraphText, IsGraphOf, HasGraph, IsRejection, IsErrorOf}
+use Rattle.wac_tool_graphs.specs.Alone.{alone, same_rules}
+use Rattle.wac_tool.specs.Resolving.{IsGraphText, IsGraphOf, HasGraph, IsRejection, IsErrorOf}
 use Rattle.wac_tool.specs.Running.{Writes, Rejects}
 use Rattle.wac_tool.specs.declared.command.Command.TheVariants.{Resolve}
 use Rattle.wac_tool.specs.declared.error.RunError.{RunError}
@@ -53,7 +54,7 @@ is_memory _ h = absurd (cc h)
 
 -- An error of resolving names a rule that the document breaks, and has that error's place and text.
 pub is_error : (document : Document) (e : Error) (answer : RunError) → EveryNaming (λ naming. (told e ≡ memory) ⊎ FirstFailing (alone naming document) document (told e)) → IsRejection e answer → IsErrorOf document answer
-is_error document e (Refused place message) first is = (told e, (λ m. is.1 (is_memory e m)), (λ naming one. ⊎_elim (λ m. absurd (is.1 (is_memory e m))) (λ x. x) (first naming one)), is.0, is.2)
+is_error document e (Refused place message) first is = (told e, ((λ m. is.1 (is_memory e m)), (λ naming one. ⊎_elim (λ m. absurd (is.1 (is_memory e m))) (λ x. x) (first naming one))), is.0, is.2)
 is_error document e (Memory a) first is = tt
 is_error document e Input first is = absurd is
 is_error document e Output first is = absurd is

@@ -1,33 +1,23 @@
 -- What a document alone resolves to: with no package supplied, and by the rules of the program.
-use Rattle.std.specs.Prelude.{◌≡◌, ◌≢◌, ℕ, List, [], Option, None, alloc_error, string_bytes}
+use Rattle.std.specs.Prelude.{◌≡◌, ◌≢◌, ℕ, List, Option, alloc_error, string_bytes}
 use Rattle.wac_lexer.specs.Span.{Span}
 use Rattle.wac_graph_types.specs.Scope.{Named}
 use Rattle.wac_ast_grammar.specs.Tree.{Document}
 use Rattle.wac_ast_grammar.specs.TextTree.{IsTreeOf}
 use Rattle.wac_graph.specs.Graph.{Parts}
-use Rattle.wac_graph.specs.Origin.{Naming}
-use Rattle.wac_resolution_errors.specs.Error.{Error as Told, NamesRule}
+use Rattle.wac_resolution_errors.specs.Error.{Error as Told}
 use Rattle.wac_resolution_errors.specs.Messages.{text_of}
 use Rattle.wac_resolution_errors.specs.Places.{span_of}
 use Rattle.wac_resolution_errors.specs.Told.{told}
 use Rattle.wac_resolution_errors.specs.declared.error.Error.{Error}
 use Rattle.wac_resolution_errors.specs.declared.error.Error.TheVariants as errors
 use Rattle.wac_resolution_rules.specs.Composition.{Composition}
-use Rattle.wac_resolution_rules.specs.Given.{Given, Rules, rules_by}
-use Rattle.wac_resolution_rules.specs.ResolvedDocument.{given_to, Describes, FirstFailing, EveryNaming}
+use Rattle.wac_resolution_rules.specs.ResolvedDocument.{Describes, EveryNaming}
 use Rattle.wac_resolution_nodes.specs.Nodes.{composition_of}
 use Rattle.wac_tool_graphs.specs.Lines.{graph_lines}
-use Rattle.wac_tool_graphs.specs.Rules.{same_passes}
+use Rattle.wac_tool_graphs.specs.Alone.{alone, BreaksRule}
 use Rattle.wac_tool.specs.declared.error.RunError.{RunError}
 use Rattle.wac_tool.specs.declared.error.RunError.TheVariants.{Refused, Memory}
-
--- a kind fits one of equal meaning, and any text may be a name
-abbrev pub same_rules : Rules
-same_rules = rules_by same_passes (λ name. None)
-
--- what a document is resolved with
-abbrev pub alone : Naming → Document → Given
-alone naming document = given_to naming [] same_rules document
 
 -- ---- what is written, and what is rejected
 
@@ -37,7 +27,7 @@ IsGraphText document out = EveryNaming (λ naming. (c : Composition) × Describe
 
 -- The document breaks a rule: its error names it, and has this place and this text.
 abbrev pub IsRejected : Document → Option Span → List ℕ → Type 0
-IsRejected document place text = (e : Told) × NamesRule e × EveryNaming (λ naming. FirstFailing (alone naming document) document e) × (place ≡ span_of e) × (text ≡ text_of e)
+IsRejected document place text = (e : Told) × BreaksRule document e × (place ≡ span_of e) × (text ≡ text_of e)
 
 -- ---- graphs and errors
 

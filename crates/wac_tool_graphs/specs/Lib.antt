@@ -1,3 +1,4 @@
 pub mod Lines
 pub mod Puts
 pub mod Rules
+pub mod Alone
