@@ -1,7 +1,10 @@
 //! Objects and arrays, member by member and item by item.
 
-ghost use Rattle.std.specs.Prelude.{◌≡◌, false, IfOk, OnOk};
-ghost use Rattle.serde_json.specs.View.{items_view, members_view};
+ghost use Rattle.std.specs.Prelude.{◌≡◌, ◌++◌, ◌∷◌, [], IfOk};
+ghost use Rattle.serde_json.specs.Data.{array, object, string};
+ghost use Rattle.serde_json.specs.View.{items_view, members_view, view};
+ghost use Rattle.wac_json_forms.specs.Forms.{pair, variant};
+ghost use Rattle.wac_json.specs.Built.{Puts};
 ghost use Rattle.wac_json.specs.Floatless.{HasFloatlessItems, HasFloatlessMembers, IsFloatless};
 
 use crate::ToValue;
@@ -18,7 +21,9 @@ pub(crate) struct Object {
 
 impl Object {
     /// An object without members.
-    pub(crate) fn new(alloc: Global) -> Object {
+    pub(crate) fn new(alloc: Global) -> Object
+        ensures { result.members.entries ≡ [] }
+    {
         Object {
             alloc,
             members: Map::new(alloc),
@@ -29,6 +34,7 @@ impl Object {
     #[tactic(auto, using(crate::proofs::Members::put_floatless))]
     pub(crate) fn with_value(self, key: &str, value: Value) -> Result<Object, AllocError>
         requires { IsFloatless value }
+        ensures { IfOk result (λ object. Puts key.now (view value) self.members.entries object.members.entries) }
     {
         let Object { alloc, mut members } = self;
         serde_json::put(&mut members, alloc, key, value)?;
@@ -36,14 +42,17 @@ impl Object {
     }
 
     /// The object with one more member, the JSON form of `part`.
-    pub(crate) fn with<T: ToValue>(self, key: &str, part: &T) -> Result<Object, AllocError> {
+    pub(crate) fn with<T: ToValue>(self, key: &str, part: &T) -> Result<Object, AllocError>
+        ensures { IfOk result (λ object. Puts key.now (T.form part.now) self.members.entries object.members.entries) }
+    {
         let value = part.to_value(self.alloc)?;
         self.with_value(key, value)
     }
 
     /// The object as a value.
     pub(crate) fn into_value(self) -> Value
-        ensures { IsFloatless result }
+        ensures holds { view result ≡ object (members_view self.members.entries) }
+        ensures floatless { IsFloatless result }
     {
         Value::Object(self.members)
     }
@@ -58,7 +67,9 @@ pub(crate) struct Array {
 
 impl Array {
     /// An array without items.
-    pub(crate) fn new(alloc: Global) -> Array {
+    pub(crate) fn new(alloc: Global) -> Array
+        ensures { result.items.items ≡ [] }
+    {
         Array {
             items: Vec::new(alloc),
         }
@@ -68,6 +79,7 @@ impl Array {
     #[tactic(auto, using(crate::proofs::Members::push_floatless))]
     pub(crate) fn push(&mut self, value: Value) -> Result<(), AllocError>
         requires { IsFloatless value }
+        ensures { IfOk result (λ _. self.new.items.items ≡ self.old.items.items ++ value ∷ []) }
     {
         self.items.push(value)?;
         Ok(())
@@ -75,7 +87,8 @@ impl Array {
 
     /// The array as a value.
     pub(crate) fn into_value(self) -> Value
-        ensures { IsFloatless result }
+        ensures holds { view result ≡ array (items_view self.items.items) }
+        ensures floatless { IsFloatless result }
     {
         Value::Array(self.items)
     }
@@ -84,7 +97,8 @@ impl Array {
 /// A variant with content: an object of one member, under the variant's name.
 pub(crate) fn variant(alloc: Global, name: &str, content: Value) -> Result<Value, AllocError>
     requires { IsFloatless content }
-    ensures { IfOk result IsFloatless }
+    ensures holds { IfOk result (λ value. view value ≡ variant name.now (view content)) }
+    ensures floatless { IfOk result IsFloatless }
 {
     Ok(Object::new(alloc).with_value(name, content)?.into_value())
 }
@@ -95,7 +109,8 @@ pub(crate) fn variant_of<T: ToValue>(
     name: &str,
     content: &T,
 ) -> Result<Value, AllocError>
-    ensures { IfOk result IsFloatless }
+    ensures holds { IfOk result (λ value. view value ≡ variant name.now (T.form content.now)) }
+    ensures floatless { IfOk result IsFloatless }
 {
     Ok(Object::new(alloc).with(name, content)?.into_value())
 }
@@ -104,7 +119,8 @@ pub(crate) fn variant_of<T: ToValue>(
 pub(crate) fn pair(alloc: Global, first: Value, second: Value) -> Result<Value, AllocError>
     requires first { IsFloatless first }
     requires second { IsFloatless second }
-    ensures { IfOk result IsFloatless }
+    ensures holds { IfOk result (λ value. view value ≡ pair (view first) (view second)) }
+    ensures floatless { IfOk result IsFloatless }
 {
     let mut both = Array::new(alloc);
     both.push(first)?;
@@ -114,7 +130,8 @@ pub(crate) fn pair(alloc: Global, first: Value, second: Value) -> Result<Value, 
 
 /// A text as a JSON string.
 pub(crate) fn text(alloc: Global, text: &str) -> Result<Value, AllocError>
-    ensures { IfOk result IsFloatless }
+    ensures holds { IfOk result (λ value. view value ≡ string text.now) }
+    ensures floatless { IfOk result IsFloatless }
 {
     Value::try_from_str(alloc, text)
 }

@@ -1,7 +1,9 @@
 //! Expressions.
 
-ghost use Rattle.std.specs.Prelude.{IfOk};
+ghost use Rattle.std.specs.Prelude.{◌≡◌, IfOk};
+ghost use Rattle.serde_json.specs.View.{view};
 ghost use Rattle.wac_json.specs.Floatless.{IsFloatless};
+ghost use Rattle.wac_json.specs.Lists.{argument_list};
 
 use crate::ToValue;
 use crate::build::{Array, Object, variant, variant_of};
@@ -13,7 +15,13 @@ use wac_ast::{
 };
 
 impl ToValue for Expr<'_> {
+    ghost use Rattle.wac_ast_expressions.specs.Expressions.{expr_of};
+    ghost use Rattle.wac_json_forms.specs.Forms.{expr_json};
+
+    ghost form = { λ x. expr_json (expr_of x) };
+
     #[cycle(expressions)]
+    #[tactic(auto, using(crate::proofs::Forms::forms), unfolding(wac_json_forms::specs::Forms::expr_json))]
     fn to_value(&self, alloc: Global) -> Result<Value, AllocError> {
         let primary = self.primary.to_value(alloc)?;
         Ok(
@@ -27,7 +35,13 @@ impl ToValue for Expr<'_> {
 }
 
 impl ToValue for PrimaryExpr<'_> {
+    ghost use Rattle.wac_ast_expressions.specs.Expressions.{primary_expr_of};
+    ghost use Rattle.wac_json_forms.specs.Forms.{primary_expr_json};
+
+    ghost form = { λ x. primary_expr_json (primary_expr_of x) };
+
     #[cycle(expressions)]
+    #[tactic(auto, unfolding(wac_json_forms::specs::Forms::primary_expr_json))]
     fn to_value(&self, alloc: Global) -> Result<Value, AllocError> {
         match self {
             PrimaryExpr::New(expr) => variant(alloc, "new", expr.to_value(alloc)?),
@@ -38,7 +52,13 @@ impl ToValue for PrimaryExpr<'_> {
 }
 
 impl ToValue for NewExpr<'_> {
+    ghost use Rattle.wac_ast_expressions.specs.Expressions.{new_expr_of};
+    ghost use Rattle.wac_json_forms.specs.Forms.{content, primary_expr_json};
+
+    ghost form = { λ x. content (primary_expr_json (new_expr_of x)) };
+
     #[cycle(expressions)]
+    #[tactic(auto, unfolding(wac_json_forms::specs::Forms::primary_expr_json))]
     fn to_value(&self, alloc: Global) -> Result<Value, AllocError> {
         let arguments = arguments_value(alloc, &self.arguments)?;
         Ok(
@@ -57,7 +77,8 @@ fn arguments_value(
     alloc: Global,
     arguments: &Vec<InstantiationArgument<'_>>,
 ) -> Result<Value, AllocError>
-    ensures { IfOk result IsFloatless }
+    ensures formed { IfOk result (λ value. view value ≡ argument_list arguments.now.items) }
+    ensures floatless { IfOk result IsFloatless }
 {
     let mut values = Array::new(alloc);
     for argument in arguments {
@@ -67,7 +88,13 @@ fn arguments_value(
 }
 
 impl ToValue for InstantiationArgument<'_> {
+    ghost use Rattle.wac_ast_expressions.specs.Expressions.{argument_of};
+    ghost use Rattle.wac_json_forms.specs.Forms.{argument_json};
+
+    ghost form = { λ x. argument_json (argument_of x) };
+
     #[cycle(expressions)]
+    #[tactic(auto, unfolding(wac_json_forms::specs::Forms::argument_json))]
     fn to_value(&self, alloc: Global) -> Result<Value, AllocError> {
         match self {
             InstantiationArgument::Inferred(id) => variant_of(alloc, "inferred", id),
@@ -81,7 +108,13 @@ impl ToValue for InstantiationArgument<'_> {
 }
 
 impl ToValue for NamedInstantiationArgument<'_> {
+    ghost use Rattle.wac_ast_expressions.specs.Expressions.{named_argument_of};
+    ghost use Rattle.wac_json_forms.specs.Forms.{named_argument_json};
+
+    ghost form = { λ x. named_argument_json (named_argument_of x) };
+
     #[cycle(expressions)]
+    #[tactic(auto, using(crate::proofs::Forms::forms), unfolding(wac_json_forms::specs::Forms::named_argument_json))]
     fn to_value(&self, alloc: Global) -> Result<Value, AllocError> {
         let expr = self.expr.to_value(alloc)?;
         Ok(
@@ -94,7 +127,13 @@ impl ToValue for NamedInstantiationArgument<'_> {
 }
 
 impl ToValue for NestedExpr<'_> {
+    ghost use Rattle.wac_ast_expressions.specs.Expressions.{nested_expr_of};
+    ghost use Rattle.wac_json_forms.specs.Forms.{content, primary_expr_json};
+
+    ghost form = { λ x. content (primary_expr_json (nested_expr_of x)) };
+
     #[cycle(expressions)]
+    #[tactic(auto, unfolding(wac_json_forms::specs::Forms::primary_expr_json))]
     fn to_value(&self, alloc: Global) -> Result<Value, AllocError> {
         let inner = self.inner.to_value(alloc)?;
         Ok(
@@ -107,6 +146,12 @@ impl ToValue for NestedExpr<'_> {
 }
 
 impl ToValue for InstantiationArgumentName<'_> {
+    ghost use Rattle.wac_ast_expressions.specs.Expressions.{argument_name_of};
+    ghost use Rattle.wac_json_forms.specs.Forms.{argument_name_json};
+
+    ghost form = { λ x. argument_name_json (argument_name_of x) };
+
+    #[tactic(auto, unfolding(wac_json_forms::specs::Forms::argument_name_json))]
     fn to_value(&self, alloc: Global) -> Result<Value, AllocError> {
         match self {
             InstantiationArgumentName::Ident(id) => variant_of(alloc, "ident", id),
@@ -116,6 +161,12 @@ impl ToValue for InstantiationArgumentName<'_> {
 }
 
 impl ToValue for PostfixExpr<'_> {
+    ghost use Rattle.wac_ast_expressions.specs.Expressions.{postfix_expr_of};
+    ghost use Rattle.wac_json_forms.specs.Forms.{postfix_expr_json};
+
+    ghost form = { λ x. postfix_expr_json (postfix_expr_of x) };
+
+    #[tactic(auto, unfolding(wac_json_forms::specs::Forms::postfix_expr_json))]
     fn to_value(&self, alloc: Global) -> Result<Value, AllocError> {
         match self {
             PostfixExpr::Access(access) => variant_of(alloc, "access", access),
@@ -125,6 +176,12 @@ impl ToValue for PostfixExpr<'_> {
 }
 
 impl ToValue for AccessExpr<'_> {
+    ghost use Rattle.wac_ast_expressions.specs.Expressions.{access_expr_of};
+    ghost use Rattle.wac_json_forms.specs.Forms.{access_expr_json};
+
+    ghost form = { λ x. access_expr_json (access_expr_of x) };
+
+    #[tactic(auto, unfolding(wac_json_forms::specs::Forms::access_expr_json))]
     fn to_value(&self, alloc: Global) -> Result<Value, AllocError> {
         Ok(
             Object::new(alloc)
@@ -136,6 +193,12 @@ impl ToValue for AccessExpr<'_> {
 }
 
 impl ToValue for NamedAccessExpr<'_> {
+    ghost use Rattle.wac_ast_expressions.specs.Expressions.{named_access_expr_of};
+    ghost use Rattle.wac_json_forms.specs.Forms.{named_access_expr_json};
+
+    ghost form = { λ x. named_access_expr_json (named_access_expr_of x) };
+
+    #[tactic(auto, unfolding(wac_json_forms::specs::Forms::named_access_expr_json))]
     fn to_value(&self, alloc: Global) -> Result<Value, AllocError> {
         Ok(
             Object::new(alloc)

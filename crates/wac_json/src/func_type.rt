@@ -7,6 +7,12 @@ use std::alloc::{AllocError, Global};
 use wac_ast::{FuncType, FuncTypeRef, NamedType, ResultList};
 
 impl ToValue for FuncType<'_> {
+    ghost use Rattle.wac_ast_types.specs.Declarations.{func_type_of};
+    ghost use Rattle.wac_json_forms.specs.Forms.{func_type_json};
+
+    ghost form = { λ x. func_type_json (func_type_of x) };
+
+    #[tactic(auto, using(crate::proofs::Forms::forms), unfolding(wac_json_forms::specs::Forms::func_type_json))]
     fn to_value(&self, alloc: Global) -> Result<Value, AllocError> {
         Ok(
             Object::new(alloc)
@@ -19,6 +25,12 @@ impl ToValue for FuncType<'_> {
 }
 
 impl ToValue for ResultList<'_> {
+    ghost use Rattle.wac_ast_types.specs.Declarations.{result_list_of};
+    ghost use Rattle.wac_json_forms.specs.Forms.{result_list_json};
+
+    ghost form = { λ x. result_list_json (result_list_of x) };
+
+    #[tactic(auto, using(crate::proofs::Forms::forms), unfolding(wac_json_forms::specs::Forms::result_list_json))]
     fn to_value(&self, alloc: Global) -> Result<Value, AllocError> {
         match self {
             ResultList::Empty => text(alloc, "empty"),
@@ -29,6 +41,12 @@ impl ToValue for ResultList<'_> {
 }
 
 impl ToValue for NamedType<'_> {
+    ghost use Rattle.wac_ast_types.specs.Declarations.{named_type_of};
+    ghost use Rattle.wac_json_forms.specs.Forms.{named_type_json};
+
+    ghost form = { λ x. named_type_json (named_type_of x) };
+
+    #[tactic(auto, using(crate::proofs::Forms::forms), unfolding(wac_json_forms::specs::Forms::named_type_json))]
     fn to_value(&self, alloc: Global) -> Result<Value, AllocError> {
         Ok(
             Object::new(alloc)
@@ -40,6 +58,12 @@ impl ToValue for NamedType<'_> {
 }
 
 impl ToValue for FuncTypeRef<'_> {
+    ghost use Rattle.wac_ast_types.specs.Declarations.{func_type_ref_of};
+    ghost use Rattle.wac_json_forms.specs.Forms.{func_type_ref_json};
+
+    ghost form = { λ x. func_type_ref_json (func_type_ref_of x) };
+
+    #[tactic(auto, unfolding(wac_json_forms::specs::Forms::func_type_ref_json))]
     fn to_value(&self, alloc: Global) -> Result<Value, AllocError> {
         match self {
             FuncTypeRef::Func(func) => variant_of(alloc, "func", func),

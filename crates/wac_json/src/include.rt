@@ -7,6 +7,12 @@ use std::alloc::{AllocError, Global};
 use wac_ast::{WorldInclude, WorldIncludeItem, WorldRef};
 
 impl ToValue for WorldInclude<'_> {
+    ghost use Rattle.wac_ast_uses.specs.Uses.{world_include_of};
+    ghost use Rattle.wac_json_forms.specs.Forms.{world_include_json};
+
+    ghost form = { λ x. world_include_json (world_include_of x) };
+
+    #[tactic(auto, using(crate::proofs::Forms::forms), unfolding(wac_json_forms::specs::Forms::world_include_json))]
     fn to_value(&self, alloc: Global) -> Result<Value, AllocError> {
         Ok(
             Object::new(alloc)
@@ -19,6 +25,12 @@ impl ToValue for WorldInclude<'_> {
 }
 
 impl ToValue for WorldRef<'_> {
+    ghost use Rattle.wac_ast_uses.specs.Uses.{world_ref_of};
+    ghost use Rattle.wac_json_forms.specs.Forms.{world_ref_json};
+
+    ghost form = { λ x. world_ref_json (world_ref_of x) };
+
+    #[tactic(auto, unfolding(wac_json_forms::specs::Forms::world_ref_json))]
     fn to_value(&self, alloc: Global) -> Result<Value, AllocError> {
         match self {
             WorldRef::Ident(id) => variant_of(alloc, "ident", id),
@@ -28,6 +40,12 @@ impl ToValue for WorldRef<'_> {
 }
 
 impl ToValue for WorldIncludeItem<'_> {
+    ghost use Rattle.wac_ast_uses.specs.Uses.{world_include_item_of};
+    ghost use Rattle.wac_json_forms.specs.Forms.{world_include_item_json};
+
+    ghost form = { λ x. world_include_item_json (world_include_item_of x) };
+
+    #[tactic(auto, unfolding(wac_json_forms::specs::Forms::world_include_item_json))]
     fn to_value(&self, alloc: Global) -> Result<Value, AllocError> {
         Ok(
             Object::new(alloc)

@@ -8,6 +8,12 @@ use std::alloc::{AllocError, Global};
 use wac_ast::{PackageName, PackagePath};
 
 impl ToValue for PackageName<'_> {
+    ghost use Rattle.wac_ast_base.specs.Names.{package_name_of};
+    ghost use Rattle.wac_json_forms.specs.Forms.{package_name_json};
+
+    ghost form = { λ x. package_name_json (package_name_of x) };
+
+    #[tactic(auto, using(crate::proofs::Forms::forms), unfolding(wac_json_forms::specs::Forms::package_name_json))]
     fn to_value(&self, alloc: Global) -> Result<Value, AllocError> {
         Ok(
             Object::new(alloc)
@@ -21,6 +27,12 @@ impl ToValue for PackageName<'_> {
 }
 
 impl ToValue for PackagePath<'_> {
+    ghost use Rattle.wac_ast_base.specs.Names.{package_path_of};
+    ghost use Rattle.wac_json_forms.specs.Forms.{package_path_json};
+
+    ghost form = { λ x. package_path_json (package_path_of x) };
+
+    #[tactic(auto, using(crate::proofs::Forms::forms), unfolding(wac_json_forms::specs::Forms::package_path_json))]
     fn to_value(&self, alloc: Global) -> Result<Value, AllocError> {
         Ok(
             Object::new(alloc)
@@ -36,6 +48,12 @@ impl ToValue for PackagePath<'_> {
 
 /// A version is its text.
 impl ToValue for Version {
+    ghost use Rattle.semver.specs.Identifiers.{parts_of};
+    ghost use Rattle.wac_json_forms.specs.Forms.{version_json};
+
+    ghost form = { λ v. version_json (parts_of v) };
+
+    #[tactic(auto, unfolding(wac_json_forms::specs::Forms::version_json))]
     fn to_value(&self, alloc: Global) -> Result<Value, AllocError> {
         Ok(Value::String(format!(in alloc; "{self}")?))
     }

@@ -7,6 +7,12 @@ use std::alloc::{AllocError, Global};
 use wac_ast::{Constructor, Method, ResourceDecl, ResourceMethod};
 
 impl ToValue for ResourceDecl<'_> {
+    ghost use Rattle.wac_ast_types.specs.Declarations.{resource_decl_of};
+    ghost use Rattle.wac_json_forms.specs.Forms.{resource_decl_json};
+
+    ghost form = { λ x. resource_decl_json (resource_decl_of x) };
+
+    #[tactic(auto, using(crate::proofs::Forms::forms), unfolding(wac_json_forms::specs::Forms::resource_decl_json))]
     fn to_value(&self, alloc: Global) -> Result<Value, AllocError> {
         Ok(
             Object::new(alloc)
@@ -19,6 +25,12 @@ impl ToValue for ResourceDecl<'_> {
 }
 
 impl ToValue for ResourceMethod<'_> {
+    ghost use Rattle.wac_ast_types.specs.Declarations.{resource_method_of};
+    ghost use Rattle.wac_json_forms.specs.Forms.{resource_method_json};
+
+    ghost form = { λ x. resource_method_json (resource_method_of x) };
+
+    #[tactic(auto, unfolding(wac_json_forms::specs::Forms::resource_method_json))]
     fn to_value(&self, alloc: Global) -> Result<Value, AllocError> {
         match self {
             ResourceMethod::Constructor(constructor) => variant_of(
@@ -32,6 +44,12 @@ impl ToValue for ResourceMethod<'_> {
 }
 
 impl ToValue for Constructor<'_> {
+    ghost use Rattle.wac_ast_types.specs.Declarations.{constructor_of};
+    ghost use Rattle.wac_json_forms.specs.Forms.{constructor_json};
+
+    ghost form = { λ x. constructor_json (constructor_of x) };
+
+    #[tactic(auto, using(crate::proofs::Forms::forms), unfolding(wac_json_forms::specs::Forms::constructor_json))]
     fn to_value(&self, alloc: Global) -> Result<Value, AllocError> {
         Ok(
             Object::new(alloc)
@@ -44,6 +62,12 @@ impl ToValue for Constructor<'_> {
 }
 
 impl ToValue for Method<'_> {
+    ghost use Rattle.wac_ast_types.specs.Declarations.{method_of};
+    ghost use Rattle.wac_json_forms.specs.Forms.{method_json};
+
+    ghost form = { λ x. method_json (method_of x) };
+
+    #[tactic(auto, using(crate::proofs::Forms::forms), unfolding(wac_json_forms::specs::Forms::method_json))]
     fn to_value(&self, alloc: Global) -> Result<Value, AllocError> {
         Ok(
             Object::new(alloc)

@@ -7,6 +7,12 @@ use std::alloc::{AllocError, Global};
 use wac_ast::{ItemTypeDecl, TypeDecl, TypeStatement};
 
 impl ToValue for TypeStatement<'_> {
+    ghost use Rattle.wac_ast.specs.Statements.{type_statement_of};
+    ghost use Rattle.wac_json_forms.specs.Forms.{type_statement_json};
+
+    ghost form = { λ x. type_statement_json (type_statement_of x) };
+
+    #[tactic(auto, unfolding(wac_json_forms::specs::Forms::type_statement_json))]
     fn to_value(&self, alloc: Global) -> Result<Value, AllocError> {
         match self {
             TypeStatement::Interface(decl) => variant_of(alloc, "interface", decl),
@@ -17,6 +23,12 @@ impl ToValue for TypeStatement<'_> {
 }
 
 impl ToValue for TypeDecl<'_> {
+    ghost use Rattle.wac_ast_types.specs.Declarations.{type_decl_of};
+    ghost use Rattle.wac_json_forms.specs.Forms.{type_decl_json};
+
+    ghost form = { λ x. type_decl_json (type_decl_of x) };
+
+    #[tactic(auto, unfolding(wac_json_forms::specs::Forms::type_decl_json))]
     fn to_value(&self, alloc: Global) -> Result<Value, AllocError> {
         match self {
             TypeDecl::Variant(decl) => variant_of(alloc, "variant", decl),
@@ -29,6 +41,12 @@ impl ToValue for TypeDecl<'_> {
 }
 
 impl ToValue for ItemTypeDecl<'_> {
+    ghost use Rattle.wac_ast_types.specs.Declarations.{item_type_decl_of};
+    ghost use Rattle.wac_json_forms.specs.Forms.{item_type_decl_json};
+
+    ghost form = { λ x. item_type_decl_json (item_type_decl_of x) };
+
+    #[tactic(auto, unfolding(wac_json_forms::specs::Forms::item_type_decl_json))]
     fn to_value(&self, alloc: Global) -> Result<Value, AllocError> {
         match self {
             ItemTypeDecl::Resource(decl) => variant_of(alloc, "resource", decl),

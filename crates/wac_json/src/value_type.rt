@@ -1,7 +1,12 @@
 //! Types of values.
 
-ghost use Rattle.std.specs.Prelude.{IfOk};
+ghost use Rattle.std.specs.Prelude.{◌≡◌, IfOk};
+ghost use Rattle.serde_json.specs.View.{members_view, view};
+ghost use Rattle.wac_ast_types.specs.Types.{optional_of};
+ghost use Rattle.wac_json_forms.specs.Forms.{optional_ty_json, pair, span_json, variant};
+ghost use Rattle.wac_json.specs.Built.{placed, result_variant};
 ghost use Rattle.wac_json.specs.Floatless.{IsFloatless};
+ghost use Rattle.wac_json.specs.Lists.{type_list};
 
 use crate::ToValue;
 use crate::build::{Array, Object, pair, variant, variant_of};
@@ -11,7 +16,13 @@ use wac_ast::Type;
 use wac_lexer::SourceSpan;
 
 impl ToValue for Type<'_> {
+    ghost use Rattle.wac_ast_types.specs.Types.{ty_of};
+    ghost use Rattle.wac_json_forms.specs.Forms.{ty_json};
+
+    ghost form = { λ x. ty_json (ty_of x) };
+
     #[cycle(types)]
+    #[tactic(auto, unfolding(wac_json_forms::specs::Forms::ty_json, wac_json_forms::specs::Forms::optional_ty_json))]
     fn to_value(&self, alloc: Global) -> Result<Value, AllocError> {
         match self {
             Type::U8(span) => variant_of(alloc, "u8", span),
@@ -47,7 +58,8 @@ impl ToValue for Type<'_> {
 /// The types of a tuple.
 #[cycle(types)]
 fn types_value(alloc: Global, types: &Vec<Type<'_>>) -> Result<Value, AllocError>
-    ensures { IfOk result IsFloatless }
+    ensures formed { IfOk result (λ value. view value ≡ type_list types.now.items) }
+    ensures floatless { IfOk result IsFloatless }
 {
     let mut values = Array::new(alloc);
     for ty in types {
@@ -58,8 +70,10 @@ fn types_value(alloc: Global, types: &Vec<Type<'_>>) -> Result<Value, AllocError
 
 /// A type that may be left out.
 #[cycle(types)]
+#[tactic(auto, unfolding(wac_json_forms::specs::Forms::optional_ty_json))]
 fn payload_value(alloc: Global, payload: &Option<Box<Type<'_>>>) -> Result<Value, AllocError>
-    ensures { IfOk result IsFloatless }
+    ensures formed { IfOk result (λ value. view value ≡ optional_ty_json (optional_of payload.now)) }
+    ensures floatless { IfOk result IsFloatless }
 {
     match payload {
         Some(ty) => ty.to_value(alloc),
@@ -75,7 +89,8 @@ fn with_span(
     span: &SourceSpan,
 ) -> Result<Value, AllocError>
     requires { IsFloatless content }
-    ensures { IfOk result IsFloatless }
+    ensures formed { IfOk result (λ value. view value ≡ variant name.now (pair (view content) (span_json span.now))) }
+    ensures floatless { IfOk result IsFloatless }
 {
     let contents = pair(alloc, content, span.to_value(alloc)?)?;
     variant(alloc, name, contents)
@@ -90,7 +105,8 @@ fn result_value(
 ) -> Result<Value, AllocError>
     requires ok { IsFloatless ok }
     requires err { IsFloatless err }
-    ensures { IfOk result IsFloatless }
+    ensures formed { IfOk result (λ value. view value ≡ result_variant (view ok) (view err) (span_json span.now)) }
+    ensures floatless { IfOk result IsFloatless }
 {
     let placed = placed_value(alloc, ok, span)?;
     variant(alloc, "result", placed.with_value("err", err)?.into_value())
@@ -99,6 +115,7 @@ fn result_value(
 /// The members of a result but its second type.
 fn placed_value(alloc: Global, ok: Value, span: &SourceSpan) -> Result<Object, AllocError>
     requires { IsFloatless ok }
+    ensures { IfOk result (λ object. members_view object.members.entries ≡ placed (view ok) (span_json span.now)) }
 {
     Object::new(alloc).with_value("ok", ok)?.with("span", span)
 }

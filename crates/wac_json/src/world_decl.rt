@@ -9,6 +9,12 @@ use wac_ast::{
 };
 
 impl ToValue for WorldDecl<'_> {
+    ghost use Rattle.wac_ast_worlds.specs.Worlds.{world_decl_of};
+    ghost use Rattle.wac_json_forms.specs.Forms.{world_decl_json};
+
+    ghost form = { λ x. world_decl_json (world_decl_of x) };
+
+    #[tactic(auto, using(crate::proofs::Forms::forms), unfolding(wac_json_forms::specs::Forms::world_decl_json))]
     fn to_value(&self, alloc: Global) -> Result<Value, AllocError> {
         let items = self.items.to_value(alloc)?;
         Ok(
@@ -22,6 +28,12 @@ impl ToValue for WorldDecl<'_> {
 }
 
 impl ToValue for WorldItem<'_> {
+    ghost use Rattle.wac_ast_worlds.specs.Worlds.{world_item_of};
+    ghost use Rattle.wac_json_forms.specs.Forms.{world_item_json};
+
+    ghost form = { λ x. world_item_json (world_item_of x) };
+
+    #[tactic(auto, unfolding(wac_json_forms::specs::Forms::world_item_json))]
     fn to_value(&self, alloc: Global) -> Result<Value, AllocError> {
         match self {
             WorldItem::Use(item) => variant_of(alloc, "use", item),
@@ -34,6 +46,12 @@ impl ToValue for WorldItem<'_> {
 }
 
 impl ToValue for WorldImport<'_> {
+    ghost use Rattle.wac_ast_worlds.specs.Worlds.{world_import_of};
+    ghost use Rattle.wac_json_forms.specs.Forms.{world_import_json};
+
+    ghost form = { λ x. world_import_json (world_import_of x) };
+
+    #[tactic(auto, using(crate::proofs::Forms::forms), unfolding(wac_json_forms::specs::Forms::world_import_json))]
     fn to_value(&self, alloc: Global) -> Result<Value, AllocError> {
         Ok(
             Object::new(alloc)
@@ -45,6 +63,12 @@ impl ToValue for WorldImport<'_> {
 }
 
 impl ToValue for WorldExport<'_> {
+    ghost use Rattle.wac_ast_worlds.specs.Worlds.{world_export_of};
+    ghost use Rattle.wac_json_forms.specs.Forms.{world_export_json};
+
+    ghost form = { λ x. world_export_json (world_export_of x) };
+
+    #[tactic(auto, using(crate::proofs::Forms::forms), unfolding(wac_json_forms::specs::Forms::world_export_json))]
     fn to_value(&self, alloc: Global) -> Result<Value, AllocError> {
         Ok(
             Object::new(alloc)
@@ -56,6 +80,12 @@ impl ToValue for WorldExport<'_> {
 }
 
 impl ToValue for WorldItemPath<'_> {
+    ghost use Rattle.wac_ast_worlds.specs.Worlds.{world_item_path_of};
+    ghost use Rattle.wac_json_forms.specs.Forms.{world_item_path_json};
+
+    ghost form = { λ x. world_item_path_json (world_item_path_of x) };
+
+    #[tactic(auto, unfolding(wac_json_forms::specs::Forms::world_item_path_json))]
     fn to_value(&self, alloc: Global) -> Result<Value, AllocError> {
         match self {
             WorldItemPath::Named(item) => variant_of(alloc, "named", item),
@@ -66,6 +96,12 @@ impl ToValue for WorldItemPath<'_> {
 }
 
 impl ToValue for NamedWorldItem<'_> {
+    ghost use Rattle.wac_ast_worlds.specs.Worlds.{named_world_item_of};
+    ghost use Rattle.wac_json_forms.specs.Forms.{named_world_item_json};
+
+    ghost form = { λ x. named_world_item_json (named_world_item_of x) };
+
+    #[tactic(auto, using(crate::proofs::Forms::forms), unfolding(wac_json_forms::specs::Forms::named_world_item_json))]
     fn to_value(&self, alloc: Global) -> Result<Value, AllocError> {
         Ok(
             Object::new(alloc)
@@ -77,6 +113,12 @@ impl ToValue for NamedWorldItem<'_> {
 }
 
 impl ToValue for ExternType<'_> {
+    ghost use Rattle.wac_ast_worlds.specs.Worlds.{extern_type_of};
+    ghost use Rattle.wac_json_forms.specs.Forms.{extern_type_json};
+
+    ghost form = { λ x. extern_type_json (extern_type_of x) };
+
+    #[tactic(auto, unfolding(wac_json_forms::specs::Forms::extern_type_json))]
     fn to_value(&self, alloc: Global) -> Result<Value, AllocError> {
         match self {
             ExternType::Ident(id) => variant_of(alloc, "ident", id),

@@ -1,4 +1,5 @@
 pub mod Texts
+pub mod Joined
 pub mod Escapes
 pub mod Steps
 pub mod Trees

@@ -9,8 +9,8 @@ use Rattle.wac_printer_layout.specs.Printed.{Piece, blank, text, fresh_after}
 use Rattle.wac_printer_pieces.specs.Printed.{Printer, Prints, after, is_front, has_failed}
 use Rattle.wac_printer_pieces.specs.declared.error.PrintError.{PrintError}
 use Rattle.wac_printer_pieces.proofs.Printing.{text-append, after-blank, fresh_after-append}
-use Rattle.wac_json_text.specs.Forms.{items_of, list_json, optional}
-use Rattle.wac_json_text.specs.Pieces.{pieces, items_pieces, others_pieces, members_pieces, behind_comma, list_pieces, IsBegun}
+use Rattle.wac_json_forms.specs.Forms.{items_of, list_json, optional}
+use Rattle.wac_json_text.specs.Pieces.{pieces, items_pieces, others_pieces, members_pieces, behind_comma, joined_pieces, list_pieces, IsBegun}
 
 -- a value, and what follows it
 followed : (space : List ℕ) (fresh : Bool) (d : Data) (others : List Piece) (out : List ℕ) → ((f : Bool) → text space f (pieces d) ≡ compact_text d) → ((f : Bool) → text space f others ≡ out)
@@ -31,7 +31,7 @@ mutual
       (append_assoc (quoted k) (codes ":") _
       ∙ ap (λ t. quoted k ++ (58 ∷ t)) (followed space (fresh_after fresh (codes "{" ++ (quoted k ++ codes ":"))) d (members_pieces ms) (members_text true ms) (λ f. written_is space f d) (λ f. members_is space f ms)))
 
-  items_is : (space : List ℕ) (fresh : Bool) (ds : Items) → text space fresh (items_pieces ds) ≡ items_text false ds
+  pub items_is : (space : List ℕ) (fresh : Bool) (ds : Items) → text space fresh (items_pieces ds) ≡ items_text false ds
   items_is space fresh no_items = refl
   items_is space fresh (item d ds) = followed space fresh d (others_pieces ds) (items_text true ds) (λ f. written_is space f d) (λ f. others_are space f ds)
 
@@ -55,14 +55,29 @@ behind_all form (x ∷ xs) =
     append_assoc (behind_comma (pieces (form x))) (flat_map (λ y. behind_comma (pieces (form y))) xs) (blank (codes "]") ∷ [])
     ∙ ap (λ ps. blank (codes ",") ∷ (pieces (form x) ++ ps)) (behind_all form xs)
 
+joined_items : {X : Type 0} (form : X → Data) (xs : List X) → joined_pieces (λ x. pieces (form x)) xs ++ blank (codes "]") ∷ [] ≡ items_pieces (items_of form xs)
+joined_items form [] = refl
+joined_items form (x ∷ xs) =
+    append_assoc (pieces (form x)) (flat_map (λ y. behind_comma (pieces (form y))) xs) (blank (codes "]") ∷ []) ∙ ap (λ ps. pieces (form x) ++ ps) (behind_all form xs)
+
 pub list_is : {X : Type 0} (form : X → Data) (xs : List X) → list_pieces (λ x. pieces (form x)) xs ≡ pieces (list_json form xs)
 unfolding list_json
-list_is form [] = refl
-list_is form (x ∷ xs) =
-    ap (λ ps. blank (codes "[") ∷ ps)
-    (append_assoc (pieces (form x)) (flat_map (λ y. behind_comma (pieces (form y))) xs) (blank (codes "]") ∷ []) ∙ ap (λ ps. pieces (form x) ++ ps) (behind_all form xs))
+list_is form xs = ap (λ ps. blank (codes "[") ∷ ps) (joined_items form xs)
 
-items_of-map : {X Y : Type 0} (form : Y → Data) (g : X → Y) (xs : List X) → items_of form (map g xs) ≡ items_of (λ x. form (g x)) xs
+-- items, and a text that begins with the closing bracket
+pub closed_items : {X : Type 0} (space : List ℕ) (fresh : Bool) (form : X → Data) (xs : List X) (b : List ℕ)
+    → text space fresh (joined_pieces (λ x. pieces (form x)) xs ++ blank (93 ∷ b) ∷ []) ≡ (items_text false (items_of form xs) ++ b) ++ []
+closed_items space fresh form xs b =
+    let front : List Piece = joined_pieces (λ x. pieces (form x)) xs in
+    let whole : text space fresh front ++ 93 ∷ [] ≡ items_text false (items_of form xs) =
+    sym (text-append space fresh front (blank (codes "]") ∷ [])) ∙ ap (text space fresh) (joined_items form xs) ∙ items_is space fresh (items_of form xs) in
+    text-append space fresh front (blank (93 ∷ b) ∷ [])
+    ∙ sym (append_assoc (text space fresh front) (93 ∷ b) [])
+    ∙ ap (λ t. t ++ []) (sym (append_assoc (text space fresh front) (93 ∷ []) b) ∙ ap (λ t. t ++ b) whole)
+
+-- the items of values and of the trees of them
+
+pub items_of-map : {X Y : Type 0} (form : Y → Data) (g : X → Y) (xs : List X) → items_of form (map g xs) ≡ items_of (λ x. form (g x)) xs
 items_of-map form g [] = refl
 items_of-map form g (x ∷ xs) = ap (item (form (g x))) (items_of-map form g xs)
 

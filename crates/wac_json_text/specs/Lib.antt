@@ -1,3 +1,2 @@
-pub mod Forms
 pub mod Pieces
 pub mod Contents

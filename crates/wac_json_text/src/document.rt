@@ -3,7 +3,7 @@ ghost use Rattle.std.specs.Prelude.{ℕ, List};
 ghost use Rattle.std.specs.Option.{option_map};
 ghost use Rattle.wac_ast_base.specs.Names.{package_path_of};
 ghost use Rattle.wac_printer_pieces.specs.Printed.{Prints};
-ghost use Rattle.wac_json_text.specs.Forms.{target_member};
+ghost use Rattle.wac_json_forms.specs.Forms.{target_member};
 ghost use Rattle.wac_json_text.specs.Pieces.{members_pieces};
 
 use crate::form::Json;
@@ -15,7 +15,7 @@ use wac_printer_pieces::{Pieces, PrintResult};
 /// The one object with a member that may be left out: `targets`.
 impl Json for PackageDirective<'_> {
     ghost use Rattle.wac_ast_statements.specs.Statements.{directive_of};
-    ghost use Rattle.wac_json_text.specs.Forms.{directive_json};
+    ghost use Rattle.wac_json_forms.specs.Forms.{directive_json};
 
     ghost form = { λ x. directive_json (directive_of x) };
 
@@ -39,7 +39,7 @@ fn target<S: Sink>(path: &Option<PackagePath<'_>>, out: &mut Pieces<'_, S>) -> P
 /// The one enum whose variants keep their capital letters.
 impl Json for Statement<'_> {
     ghost use Rattle.wac_ast.specs.Statements.{statement_of};
-    ghost use Rattle.wac_json_text.specs.Forms.{statement_json};
+    ghost use Rattle.wac_json_forms.specs.Forms.{statement_json};
 
     ghost form = { λ x. statement_json (statement_of x) };
 

@@ -1,44 +1,44 @@
 //! Parts of expressions that hold no expression.
 
-use crate::form::Json;
-use crate::parts::variant;
+use crate::form::{Enclosed, Json};
+use crate::parts::{enclosed, variant};
 use wac_ast::{AccessExpr, InstantiationArgumentName, NamedAccessExpr, PostfixExpr};
 use wac_lexer::Sink;
 use wac_printer_pieces::{Pieces, PrintResult};
 
 impl Json for AccessExpr<'_> {
     ghost use Rattle.wac_ast_expressions.specs.Expressions.{access_expr_of};
-    ghost use Rattle.wac_json_text.specs.Forms.{access_expr_json};
+    ghost use Rattle.wac_json_forms.specs.Forms.{access_expr_json};
 
     ghost form = { λ x. access_expr_json (access_expr_of x) };
 
     fn write<S: Sink>(&self, out: &mut Pieces<'_, S>) -> PrintResult {
-        out.blank("{\"id\":")
-            .and(self.id.write(out))
-            .and(out.blank(",\"span\":"))
-            .and(self.span.write(out))
-            .and(out.blank("}"))
+        out.blank("{\"id\":{\"span\":{\"length\":")
+            .and(self.id.write_inside(out))
+            .and(out.blank("\"},\"span\":{\"length\":"))
+            .and(self.span.write_inside(out))
+            .and(out.blank("}}"))
     }
 }
 
 impl Json for NamedAccessExpr<'_> {
     ghost use Rattle.wac_ast_expressions.specs.Expressions.{named_access_expr_of};
-    ghost use Rattle.wac_json_text.specs.Forms.{named_access_expr_json};
+    ghost use Rattle.wac_json_forms.specs.Forms.{named_access_expr_json};
 
     ghost form = { λ x. named_access_expr_json (named_access_expr_of x) };
 
     fn write<S: Sink>(&self, out: &mut Pieces<'_, S>) -> PrintResult {
-        out.blank("{\"span\":")
-            .and(self.span.write(out))
-            .and(out.blank(",\"string\":"))
-            .and(self.string.write(out))
-            .and(out.blank("}"))
+        out.blank("{\"span\":{\"length\":")
+            .and(self.span.write_inside(out))
+            .and(out.blank("},\"string\":{\"span\":{\"length\":"))
+            .and(self.string.write_inside(out))
+            .and(out.blank("\"}}"))
     }
 }
 
 impl Json for PostfixExpr<'_> {
     ghost use Rattle.wac_ast_expressions.specs.Expressions.{postfix_expr_of};
-    ghost use Rattle.wac_json_text.specs.Forms.{postfix_expr_json};
+    ghost use Rattle.wac_json_forms.specs.Forms.{postfix_expr_json};
 
     ghost form = { λ x. postfix_expr_json (postfix_expr_of x) };
 
@@ -52,14 +52,24 @@ impl Json for PostfixExpr<'_> {
 
 impl Json for InstantiationArgumentName<'_> {
     ghost use Rattle.wac_ast_expressions.specs.Expressions.{argument_name_of};
-    ghost use Rattle.wac_json_text.specs.Forms.{argument_name_json};
+    ghost use Rattle.wac_json_forms.specs.Forms.{argument_name_json};
 
     ghost form = { λ x. argument_name_json (argument_name_of x) };
 
     fn write<S: Sink>(&self, out: &mut Pieces<'_, S>) -> PrintResult {
         match self {
-            InstantiationArgumentName::Ident(part) => variant("{\"ident\":", part, out),
-            InstantiationArgumentName::String(part) => variant("{\"string\":", part, out),
+            InstantiationArgumentName::Ident(part) => enclosed(
+                "{\"ident\":{\"span\":{\"length\":",
+                part,
+                "\"}}",
+                out,
+            ),
+            InstantiationArgumentName::String(part) => enclosed(
+                "{\"string\":{\"span\":{\"length\":",
+                part,
+                "\"}}",
+                out,
+            ),
         }
     }
 }

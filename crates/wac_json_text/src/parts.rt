@@ -1,13 +1,13 @@
 //! Variants, lists, optional parts, numbers, truth values.
-ghost use Rattle.std.specs.Prelude.{ℕ, List, [], ◌∷◌, codes, decimal};
+ghost use Rattle.std.specs.Prelude.{ℕ, List, [], ◌∷◌, ◌++◌, codes, decimal};
 ghost use Rattle.std.specs.List.{flat_map};
 ghost use Rattle.wac_printer_layout.specs.Printed.{blank};
 ghost use Rattle.wac_printer_pieces.specs.Printed.{Prints};
 ghost use Rattle.wac_json_text.specs.Contents.{variant_pieces};
-ghost use Rattle.wac_json_text.specs.Forms.{list_json};
+ghost use Rattle.wac_json_forms.specs.Forms.{list_json};
 ghost use Rattle.wac_json_text.specs.Pieces.{pieces, behind_comma, joined_pieces};
 
-use crate::form::Json;
+use crate::form::{Enclosed, Json};
 use itoa::Buffer;
 use wac_lexer::{Sink, SourceSpan};
 use wac_printer_pieces::{Pieces, PrintResult};
@@ -26,6 +26,21 @@ pub(crate) fn variant<T: Json, S: Sink>(
         .and(out.blank("}"))
 }
 
+/// Writes an enclosed form: `opening` and `closing` are what it begins and ends with, and what stands around it.
+#[tactic(auto, using(crate::proofs::Steps::steps))]
+pub(crate) fn enclosed<T: Enclosed, S: Sink>(
+    opening: &str,
+    content: &T,
+    closing: &str,
+    out: &mut Pieces<'_, S>,
+) -> PrintResult
+    ensures { Prints out.old result out.new (blank opening.now ∷ (T.inside content.now ++ blank closing.now ∷ [])) }
+{
+    out.blank(opening)
+        .and(content.write_inside(out))
+        .and(out.blank(closing))
+}
+
 /// Writes a number in decimal.
 fn number<S: Sink>(n: u64, out: &mut Pieces<'_, S>) -> PrintResult
     ensures { Prints out.old result out.new (blank (decimal n) ∷ []) }
@@ -35,16 +50,24 @@ fn number<S: Sink>(n: u64, out: &mut Pieces<'_, S>) -> PrintResult
 }
 
 impl Json for SourceSpan {
-    ghost use Rattle.wac_json_text.specs.Forms.{span_json};
+    ghost use Rattle.wac_json_forms.specs.Forms.{span_json};
 
     ghost form = { span_json };
 
     fn write<S: Sink>(&self, out: &mut Pieces<'_, S>) -> PrintResult {
-        out.blank("{\"length\":")
-            .and(number(self.len() as u64, out))
+        enclosed("{\"length\":", self, "}", out)
+    }
+}
+
+impl Enclosed for SourceSpan {
+    ghost use Rattle.wac_json_text.specs.Contents.{span_inside};
+
+    ghost inside = { span_inside };
+
+    fn write_inside<S: Sink>(&self, out: &mut Pieces<'_, S>) -> PrintResult {
+        number(self.len() as u64, out)
             .and(out.blank(",\"offset\":"))
             .and(number(self.offset() as u64, out))
-            .and(out.blank("}"))
     }
 }
 
@@ -63,11 +86,11 @@ impl Json for bool {
 }
 
 impl<T: Json> Json for Option<T> {
-    ghost use Rattle.wac_json_text.specs.Forms.{optional};
+    ghost use Rattle.wac_json_forms.specs.Forms.{optional};
 
     ghost form = { optional T.form };
 
-    #[tactic(auto, unfolding(crate::specs::Forms::optional))]
+    #[tactic(auto, unfolding(wac_json_forms::specs::Forms::optional))]
     fn write<S: Sink>(&self, out: &mut Pieces<'_, S>) -> PrintResult {
         match self {
             Some(part) => part.write(out),
@@ -77,12 +100,20 @@ impl<T: Json> Json for Option<T> {
 }
 
 impl<T: Json> Json for Vec<T> {
-    ghost use Rattle.wac_json_text.specs.Forms.{list_json};
+    ghost use Rattle.wac_json_forms.specs.Forms.{list_json};
 
     ghost form = { λ v. list_json T.form v.items };
 
     fn write<S: Sink>(&self, out: &mut Pieces<'_, S>) -> PrintResult {
-        list(self, out)
+        enclosed("[", self, "]", out)
+    }
+}
+
+impl<T: Json> Enclosed for Vec<T> {
+    ghost inside = { λ v. joined_pieces (λ x. pieces (T.form x)) v.items };
+
+    fn write_inside<S: Sink>(&self, out: &mut Pieces<'_, S>) -> PrintResult {
+        joined(self, out)
     }
 }
 

@@ -1,6 +1,6 @@
 //! Resources.
 
-use crate::form::Json;
+use crate::form::{Enclosed, Json};
 use crate::parts::variant;
 use wac_ast::{Constructor, Method, ResourceDecl, ResourceMethod};
 use wac_lexer::Sink;
@@ -8,50 +8,50 @@ use wac_printer_pieces::{Pieces, PrintResult};
 
 impl Json for ResourceDecl<'_> {
     ghost use Rattle.wac_ast_types.specs.Declarations.{resource_decl_of};
-    ghost use Rattle.wac_json_text.specs.Forms.{resource_decl_json};
+    ghost use Rattle.wac_json_forms.specs.Forms.{resource_decl_json};
 
     ghost form = { λ x. resource_decl_json (resource_decl_of x) };
 
     fn write<S: Sink>(&self, out: &mut Pieces<'_, S>) -> PrintResult {
-        out.blank("{\"docs\":")
-            .and(self.docs.write(out))
-            .and(out.blank(",\"id\":"))
-            .and(self.id.write(out))
-            .and(out.blank(",\"methods\":"))
-            .and(self.methods.write(out))
-            .and(out.blank("}"))
+        out.blank("{\"docs\":[")
+            .and(self.docs.write_inside(out))
+            .and(out.blank("],\"id\":{\"span\":{\"length\":"))
+            .and(self.id.write_inside(out))
+            .and(out.blank("\"},\"methods\":["))
+            .and(self.methods.write_inside(out))
+            .and(out.blank("]}"))
     }
 }
 
 impl Json for Constructor<'_> {
     ghost use Rattle.wac_ast_types.specs.Declarations.{constructor_of};
-    ghost use Rattle.wac_json_text.specs.Forms.{constructor_json};
+    ghost use Rattle.wac_json_forms.specs.Forms.{constructor_json};
 
     ghost form = { λ x. constructor_json (constructor_of x) };
 
     fn write<S: Sink>(&self, out: &mut Pieces<'_, S>) -> PrintResult {
-        out.blank("{\"docs\":")
-            .and(self.docs.write(out))
-            .and(out.blank(",\"params\":"))
-            .and(self.params.write(out))
-            .and(out.blank(",\"span\":"))
-            .and(self.span.write(out))
-            .and(out.blank("}"))
+        out.blank("{\"docs\":[")
+            .and(self.docs.write_inside(out))
+            .and(out.blank("],\"params\":["))
+            .and(self.params.write_inside(out))
+            .and(out.blank("],\"span\":{\"length\":"))
+            .and(self.span.write_inside(out))
+            .and(out.blank("}}"))
     }
 }
 
 impl Json for Method<'_> {
     ghost use Rattle.wac_ast_types.specs.Declarations.{method_of};
-    ghost use Rattle.wac_json_text.specs.Forms.{method_json};
+    ghost use Rattle.wac_json_forms.specs.Forms.{method_json};
 
     ghost form = { λ x. method_json (method_of x) };
 
     fn write<S: Sink>(&self, out: &mut Pieces<'_, S>) -> PrintResult {
-        out.blank("{\"docs\":")
-            .and(self.docs.write(out))
-            .and(out.blank(",\"id\":"))
-            .and(self.id.write(out))
-            .and(out.blank(",\"isStatic\":"))
+        out.blank("{\"docs\":[")
+            .and(self.docs.write_inside(out))
+            .and(out.blank("],\"id\":{\"span\":{\"length\":"))
+            .and(self.id.write_inside(out))
+            .and(out.blank("\"},\"isStatic\":"))
             .and(self.is_static.write(out))
             .and(out.blank(",\"ty\":"))
             .and(self.ty.write(out))
@@ -61,7 +61,7 @@ impl Json for Method<'_> {
 
 impl Json for ResourceMethod<'_> {
     ghost use Rattle.wac_ast_types.specs.Declarations.{resource_method_of};
-    ghost use Rattle.wac_json_text.specs.Forms.{resource_method_json};
+    ghost use Rattle.wac_json_forms.specs.Forms.{resource_method_json};
 
     ghost form = { λ x. resource_method_json (resource_method_of x) };
 

@@ -7,7 +7,8 @@ ghost use Rattle.wac_printer_layout.specs.Printed.{blank};
 ghost use Rattle.wac_printer_pieces.specs.Printed.{Prints};
 ghost use Rattle.wac_json_text.specs.Pieces.{FrontWritten, code_escape, is_plain, marked_pieces, marks_pieces, numbers_pieces, version_pieces};
 
-use crate::form::Json;
+use crate::form::{Enclosed, Json};
+use crate::parts::enclosed;
 use itoa::Buffer;
 use semver::Version;
 use wac_lexer::Sink;
@@ -18,9 +19,16 @@ impl Json for &str {
 
     ghost form = { λ text. string text.now };
 
-    #[tactic(auto, using(crate::proofs::Steps::steps))]
     fn write<S: Sink>(&self, out: &mut Pieces<'_, S>) -> PrintResult {
-        out.blank("\"").and(escaped(self, out)).and(out.blank("\""))
+        enclosed("\"", self, "\"", out)
+    }
+}
+
+impl Enclosed for &str {
+    ghost inside = { λ text. blank (escape text.now) ∷ [] };
+
+    fn write_inside<S: Sink>(&self, out: &mut Pieces<'_, S>) -> PrintResult {
+        escaped(self, out)
     }
 }
 
@@ -110,11 +118,11 @@ fn code_escape(byte: u8) -> &'static str
 /// A version is its text.
 impl Json for Version {
     ghost use Rattle.semver.specs.Identifiers.{parts_of};
-    ghost use Rattle.wac_json_text.specs.Forms.{version_json};
+    ghost use Rattle.wac_json_forms.specs.Forms.{version_json};
 
     ghost form = { λ v. version_json (parts_of v) };
 
-    #[tactic(auto, using(crate::proofs::Steps::steps), unfolding(crate::specs::Forms::version_json))]
+    #[tactic(auto, using(crate::proofs::Steps::steps), unfolding(wac_json_forms::specs::Forms::version_json))]
     fn write<S: Sink>(&self, out: &mut Pieces<'_, S>) -> PrintResult {
         out.blank("\"")
             .and(version_text(self, out))

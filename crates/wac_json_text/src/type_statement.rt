@@ -8,7 +8,7 @@ use wac_printer_pieces::{Pieces, PrintResult};
 
 impl Json for TypeDecl<'_> {
     ghost use Rattle.wac_ast_types.specs.Declarations.{type_decl_of};
-    ghost use Rattle.wac_json_text.specs.Forms.{type_decl_json};
+    ghost use Rattle.wac_json_forms.specs.Forms.{type_decl_json};
 
     ghost form = { λ x. type_decl_json (type_decl_of x) };
 
@@ -25,7 +25,7 @@ impl Json for TypeDecl<'_> {
 
 impl Json for ItemTypeDecl<'_> {
     ghost use Rattle.wac_ast_types.specs.Declarations.{item_type_decl_of};
-    ghost use Rattle.wac_json_text.specs.Forms.{item_type_decl_json};
+    ghost use Rattle.wac_json_forms.specs.Forms.{item_type_decl_json};
 
     ghost form = { λ x. item_type_decl_json (item_type_decl_of x) };
 
@@ -43,7 +43,7 @@ impl Json for ItemTypeDecl<'_> {
 
 impl Json for TypeStatement<'_> {
     ghost use Rattle.wac_ast.specs.Statements.{type_statement_of};
-    ghost use Rattle.wac_json_text.specs.Forms.{type_statement_json};
+    ghost use Rattle.wac_json_forms.specs.Forms.{type_statement_json};
 
     ghost form = { λ x. type_statement_json (type_statement_of x) };
 

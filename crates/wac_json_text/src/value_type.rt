@@ -1,14 +1,16 @@
 //! Types.
-ghost use Rattle.std.specs.Prelude.{◌≡◌, ℕ, List, codes};
+ghost use Rattle.std.specs.Prelude.{◌≡◌, ℕ, List, codes, map};
 ghost use Rattle.std.specs.List.{flat_map};
+ghost use Rattle.wac_ast_grammar.specs.Tree as tree;
 ghost use Rattle.wac_ast_base.specs.Names.{ident_of};
 ghost use Rattle.wac_ast_types.specs.Types.{optional_of, ty_of};
 ghost use Rattle.wac_printer_pieces.specs.Printed.{Prints};
-ghost use Rattle.wac_json_text.specs.Contents.{failure_pieces, result_end_pieces, success_pieces, variant_pieces};
-ghost use Rattle.wac_json_text.specs.Forms.{ident_json, list_json, optional_ty_json, pair, span_json, ty_json};
+ghost use Rattle.wac_json_text.specs.Contents.{failure_pieces, held_pieces, keyword_pieces, perhaps_held_pieces, result_end_pieces, success_pieces, tuple_json};
+ghost use Rattle.wac_json_forms.specs.Forms.{optional_ty_json, ty_json};
 ghost use Rattle.wac_json_text.specs.Pieces.{behind_comma, joined_pieces, pieces};
 
-use crate::form::Json;
+use crate::form::{Enclosed, Json};
+use crate::parts::enclosed;
 use wac_ast::{Ident, Type};
 use wac_lexer::{Sink, SourceSpan};
 use wac_printer_pieces::{Pieces, PrintResult};
@@ -23,31 +25,20 @@ impl Json for Type<'_> {
 
 /// Writes a type that is a keyword: its place.
 fn keyword<S: Sink>(opening: &str, span: &SourceSpan, out: &mut Pieces<'_, S>) -> PrintResult
-    ensures { Prints out.old result out.new (variant_pieces opening.now (span_json span.now)) }
+    ensures { Prints out.old result out.new (keyword_pieces opening.now span.now) }
 {
-    out.blank(opening).and(span.write(out)).and(out.blank("}"))
-}
-
-/// Writes a type that is a name.
-fn named<S: Sink>(id: &Ident<'_>, out: &mut Pieces<'_, S>) -> PrintResult
-    ensures { Prints out.old result out.new (variant_pieces (codes "{\"ident\":") (ident_json (ident_of id.now))) }
-{
-    out.blank("{\"ident\":")
-        .and(id.write(out))
-        .and(out.blank("}"))
+    enclosed(opening, span, "}}", out)
 }
 
 /// Writes a borrowed resource.
 fn borrowed<S: Sink>(id: &Ident<'_>, span: &SourceSpan, out: &mut Pieces<'_, S>) -> PrintResult
-    ensures { Prints out.old result out.new (variant_pieces (codes "{\"borrow\":") (pair (ident_json (ident_of id.now)) (span_json span.now))) }
+    ensures { Prints out.old result out.new (pieces (ty_json (tree.Ty.borrow (ident_of id.now) span.now))) }
 {
-    out.blank("{\"borrow\":")
-        .and(out.blank("["))
-        .and(id.write(out))
-        .and(out.blank(","))
-        .and(span.write(out))
-        .and(out.blank("]"))
-        .and(out.blank("}"))
+    out.blank("{\"borrow\":[{\"span\":{\"length\":")
+        .and(id.write_inside(out))
+        .and(out.blank("\"},{\"length\":"))
+        .and(span.write_inside(out))
+        .and(out.blank("}]}"))
 }
 
 /// Writes a type.
@@ -56,30 +47,30 @@ pub(crate) fn ty<S: Sink>(tree: &Type<'_>, out: &mut Pieces<'_, S>) -> PrintResu
     ensures { Prints out.old result out.new (pieces (ty_json (ty_of tree.now))) }
 {
     match tree {
-        Type::U8(span) => keyword("{\"u8\":", span, out),
-        Type::S8(span) => keyword("{\"s8\":", span, out),
-        Type::U16(span) => keyword("{\"u16\":", span, out),
-        Type::S16(span) => keyword("{\"s16\":", span, out),
-        Type::U32(span) => keyword("{\"u32\":", span, out),
-        Type::S32(span) => keyword("{\"s32\":", span, out),
-        Type::U64(span) => keyword("{\"u64\":", span, out),
-        Type::S64(span) => keyword("{\"s64\":", span, out),
-        Type::F32(span) => keyword("{\"f32\":", span, out),
-        Type::F64(span) => keyword("{\"f64\":", span, out),
-        Type::Char(span) => keyword("{\"char\":", span, out),
-        Type::Bool(span) => keyword("{\"bool\":", span, out),
-        Type::String(span) => keyword("{\"string\":", span, out),
+        Type::U8(span) => keyword("{\"u8\":{\"length\":", span, out),
+        Type::S8(span) => keyword("{\"s8\":{\"length\":", span, out),
+        Type::U16(span) => keyword("{\"u16\":{\"length\":", span, out),
+        Type::S16(span) => keyword("{\"s16\":{\"length\":", span, out),
+        Type::U32(span) => keyword("{\"u32\":{\"length\":", span, out),
+        Type::S32(span) => keyword("{\"s32\":{\"length\":", span, out),
+        Type::U64(span) => keyword("{\"u64\":{\"length\":", span, out),
+        Type::S64(span) => keyword("{\"s64\":{\"length\":", span, out),
+        Type::F32(span) => keyword("{\"f32\":{\"length\":", span, out),
+        Type::F64(span) => keyword("{\"f64\":{\"length\":", span, out),
+        Type::Char(span) => keyword("{\"char\":{\"length\":", span, out),
+        Type::Bool(span) => keyword("{\"bool\":{\"length\":", span, out),
+        Type::String(span) => keyword("{\"string\":{\"length\":", span, out),
         Type::Tuple(types, span) => tuple(types, span, out),
-        Type::List(held, span) => holding("{\"list\":", held, span, out),
-        Type::Option(held, span) => holding("{\"option\":", held, span, out),
+        Type::List(held, span) => holding("{\"list\":[", held, span, out),
+        Type::Option(held, span) => holding("{\"option\":[", held, span, out),
         Type::Result { ok, err, span } => failure(err, out)
             .and(success(ok, out))
             .and(result_end(span, out)),
         Type::Borrow(id, span) => borrowed(id, span, out),
-        Type::Stream(held, span) => perhaps_holding("{\"stream\":", held, span, out),
-        Type::Future(held, span) => perhaps_holding("{\"future\":", held, span, out),
-        Type::ErrorContext(span) => keyword("{\"errorContext\":", span, out),
-        Type::Ident(id) => named(id, out),
+        Type::Stream(held, span) => perhaps_holding("{\"stream\":[", held, span, out),
+        Type::Future(held, span) => perhaps_holding("{\"future\":[", held, span, out),
+        Type::ErrorContext(span) => keyword("{\"errorContext\":{\"length\":", span, out),
+        Type::Ident(id) => enclosed("{\"ident\":{\"span\":{\"length\":", id, "\"}}", out),
     }
 }
 
@@ -91,15 +82,13 @@ fn holding<S: Sink>(
     span: &SourceSpan,
     out: &mut Pieces<'_, S>,
 ) -> PrintResult
-    ensures { Prints out.old result out.new (variant_pieces opening.now (pair (ty_json (ty_of held.now)) (span_json span.now))) }
+    ensures { Prints out.old result out.new (held_pieces opening.now (ty_json (ty_of held.now)) span.now) }
 {
     out.blank(opening)
-        .and(out.blank("["))
         .and(ty(held, out))
-        .and(out.blank(","))
-        .and(span.write(out))
-        .and(out.blank("]"))
-        .and(out.blank("}"))
+        .and(out.blank(",{\"length\":"))
+        .and(span.write_inside(out))
+        .and(out.blank("}]}"))
 }
 
 /// Writes a type that may hold one.
@@ -110,15 +99,13 @@ fn perhaps_holding<S: Sink>(
     span: &SourceSpan,
     out: &mut Pieces<'_, S>,
 ) -> PrintResult
-    ensures { Prints out.old result out.new (variant_pieces opening.now (pair (optional_ty_json (optional_of held.now)) (span_json span.now))) }
+    ensures { Prints out.old result out.new (perhaps_held_pieces opening.now (optional_of held.now) span.now) }
 {
     out.blank(opening)
-        .and(out.blank("["))
         .and(payload(held, out))
-        .and(out.blank(","))
-        .and(span.write(out))
-        .and(out.blank("]"))
-        .and(out.blank("}"))
+        .and(out.blank(",{\"length\":"))
+        .and(span.write_inside(out))
+        .and(out.blank("}]}"))
 }
 
 /// Writes a type that may be left out.
@@ -137,9 +124,7 @@ fn payload<S: Sink>(held: &Option<Box<Type<'_>>>, out: &mut Pieces<'_, S>) -> Pr
 fn failure<S: Sink>(err: &Option<Box<Type<'_>>>, out: &mut Pieces<'_, S>) -> PrintResult
     ensures { Prints out.old result out.new (failure_pieces (optional_ty_json (optional_of err.now))) }
 {
-    out.blank("{\"result\":")
-        .and(out.blank("{\"err\":"))
-        .and(payload(err, out))
+    out.blank("{\"result\":{\"err\":").and(payload(err, out))
 }
 
 /// Writes what a result gives on success.
@@ -152,36 +137,21 @@ fn success<S: Sink>(ok: &Option<Box<Type<'_>>>, out: &mut Pieces<'_, S>) -> Prin
 
 /// Writes the place of a result, which comes last.
 fn result_end<S: Sink>(span: &SourceSpan, out: &mut Pieces<'_, S>) -> PrintResult
-    ensures { Prints out.old result out.new (result_end_pieces (span_json span.now)) }
+    ensures { Prints out.old result out.new (result_end_pieces span.now) }
 {
-    out.blank(",\"span\":")
-        .and(span.write(out))
-        .and(out.blank("}"))
-        .and(out.blank("}"))
+    enclosed(",\"span\":{\"length\":", span, "}}}", out)
 }
 
 /// Writes a tuple.
 #[cycle(types)]
 fn tuple<S: Sink>(types: &[Type<'_>], span: &SourceSpan, out: &mut Pieces<'_, S>) -> PrintResult
-    ensures { Prints out.old result out.new (variant_pieces (codes "{\"tuple\":") (pair (list_json (λ x. ty_json (ty_of x)) types.now) (span_json span.now))) }
+    ensures { Prints out.old result out.new (pieces (tuple_json (map ty_of types.now) span.now)) }
 {
-    out.blank("{\"tuple\":")
-        .and(out.blank("["))
-        .and(type_list(types, out))
-        .and(out.blank(","))
-        .and(span.write(out))
-        .and(out.blank("]"))
-        .and(out.blank("}"))
-}
-
-/// Writes types in brackets.
-#[cycle(types)]
-fn type_list<S: Sink>(types: &[Type<'_>], out: &mut Pieces<'_, S>) -> PrintResult
-    ensures { Prints out.old result out.new (pieces (list_json (λ x. ty_json (ty_of x)) types.now)) }
-{
-    out.blank("[")
+    out.blank("{\"tuple\":[[")
         .and(joined_types(types, out))
-        .and(out.blank("]"))
+        .and(out.blank("],{\"length\":"))
+        .and(span.write_inside(out))
+        .and(out.blank("}]}"))
 }
 
 /// Writes types with a comma between two.

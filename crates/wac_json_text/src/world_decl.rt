@@ -2,11 +2,11 @@
 ghost use Rattle.std.specs.Prelude.{◌≡◌, map};
 ghost use Rattle.wac_ast_worlds.specs.Worlds.{world_item_of};
 ghost use Rattle.wac_printer_pieces.specs.Printed.{Prints};
-ghost use Rattle.wac_json_text.specs.Forms.{list_json, world_item_json};
+ghost use Rattle.wac_json_forms.specs.Forms.{list_json, world_item_json};
 ghost use Rattle.wac_json_text.specs.Pieces.{pieces};
 
-use crate::form::Json;
-use crate::parts::{list, variant};
+use crate::form::{Enclosed, Json};
+use crate::parts::{enclosed, list, variant};
 use wac_ast::{
     ExternType, NamedWorldItem, WorldDecl, WorldExport, WorldImport, WorldItem, WorldItemPath,
 };
@@ -15,14 +15,14 @@ use wac_printer_pieces::{Pieces, PrintResult};
 
 impl Json for NamedWorldItem<'_> {
     ghost use Rattle.wac_ast_worlds.specs.Worlds.{named_world_item_of};
-    ghost use Rattle.wac_json_text.specs.Forms.{named_world_item_json};
+    ghost use Rattle.wac_json_forms.specs.Forms.{named_world_item_json};
 
     ghost form = { λ x. named_world_item_json (named_world_item_of x) };
 
     fn write<S: Sink>(&self, out: &mut Pieces<'_, S>) -> PrintResult {
-        out.blank("{\"id\":")
-            .and(self.id.write(out))
-            .and(out.blank(",\"ty\":"))
+        out.blank("{\"id\":{\"span\":{\"length\":")
+            .and(self.id.write_inside(out))
+            .and(out.blank("\"},\"ty\":"))
             .and(self.ty.write(out))
             .and(out.blank("}"))
     }
@@ -30,14 +30,14 @@ impl Json for NamedWorldItem<'_> {
 
 impl Json for WorldImport<'_> {
     ghost use Rattle.wac_ast_worlds.specs.Worlds.{world_import_of};
-    ghost use Rattle.wac_json_text.specs.Forms.{world_import_json};
+    ghost use Rattle.wac_json_forms.specs.Forms.{world_import_json};
 
     ghost form = { λ x. world_import_json (world_import_of x) };
 
     fn write<S: Sink>(&self, out: &mut Pieces<'_, S>) -> PrintResult {
-        out.blank("{\"docs\":")
-            .and(self.docs.write(out))
-            .and(out.blank(",\"path\":"))
+        out.blank("{\"docs\":[")
+            .and(self.docs.write_inside(out))
+            .and(out.blank("],\"path\":"))
             .and(self.path.write(out))
             .and(out.blank("}"))
     }
@@ -45,14 +45,14 @@ impl Json for WorldImport<'_> {
 
 impl Json for WorldExport<'_> {
     ghost use Rattle.wac_ast_worlds.specs.Worlds.{world_export_of};
-    ghost use Rattle.wac_json_text.specs.Forms.{world_export_json};
+    ghost use Rattle.wac_json_forms.specs.Forms.{world_export_json};
 
     ghost form = { λ x. world_export_json (world_export_of x) };
 
     fn write<S: Sink>(&self, out: &mut Pieces<'_, S>) -> PrintResult {
-        out.blank("{\"docs\":")
-            .and(self.docs.write(out))
-            .and(out.blank(",\"path\":"))
+        out.blank("{\"docs\":[")
+            .and(self.docs.write_inside(out))
+            .and(out.blank("],\"path\":"))
             .and(self.path.write(out))
             .and(out.blank("}"))
     }
@@ -73,16 +73,16 @@ fn write_items<S: Sink>(decl: &WorldDecl<'_>, out: &mut Pieces<'_, S>) -> PrintR
 
 impl Json for WorldDecl<'_> {
     ghost use Rattle.wac_ast_worlds.specs.Worlds.{world_decl_of};
-    ghost use Rattle.wac_json_text.specs.Forms.{world_decl_json};
+    ghost use Rattle.wac_json_forms.specs.Forms.{world_decl_json};
 
     ghost form = { λ x. world_decl_json (world_decl_of x) };
 
     fn write<S: Sink>(&self, out: &mut Pieces<'_, S>) -> PrintResult {
-        out.blank("{\"docs\":")
-            .and(self.docs.write(out))
-            .and(out.blank(",\"id\":"))
-            .and(self.id.write(out))
-            .and(out.blank(",\"items\":"))
+        out.blank("{\"docs\":[")
+            .and(self.docs.write_inside(out))
+            .and(out.blank("],\"id\":{\"span\":{\"length\":"))
+            .and(self.id.write_inside(out))
+            .and(out.blank("\"},\"items\":"))
             .and(write_items(self, out))
             .and(out.blank("}"))
     }
@@ -90,13 +90,18 @@ impl Json for WorldDecl<'_> {
 
 impl Json for ExternType<'_> {
     ghost use Rattle.wac_ast_worlds.specs.Worlds.{extern_type_of};
-    ghost use Rattle.wac_json_text.specs.Forms.{extern_type_json};
+    ghost use Rattle.wac_json_forms.specs.Forms.{extern_type_json};
 
     ghost form = { λ x. extern_type_json (extern_type_of x) };
 
     fn write<S: Sink>(&self, out: &mut Pieces<'_, S>) -> PrintResult {
         match self {
-            ExternType::Ident(part) => variant("{\"ident\":", part, out),
+            ExternType::Ident(part) => enclosed(
+                "{\"ident\":{\"span\":{\"length\":",
+                part,
+                "\"}}",
+                out,
+            ),
             ExternType::Func(part) => variant("{\"func\":", part, out),
             ExternType::Interface(part) => variant("{\"interface\":", part, out),
         }
@@ -105,7 +110,7 @@ impl Json for ExternType<'_> {
 
 impl Json for WorldItemPath<'_> {
     ghost use Rattle.wac_ast_worlds.specs.Worlds.{world_item_path_of};
-    ghost use Rattle.wac_json_text.specs.Forms.{world_item_path_json};
+    ghost use Rattle.wac_json_forms.specs.Forms.{world_item_path_json};
 
     ghost form = { λ x. world_item_path_json (world_item_path_of x) };
 
@@ -113,14 +118,19 @@ impl Json for WorldItemPath<'_> {
         match self {
             WorldItemPath::Named(part) => variant("{\"named\":", part, out),
             WorldItemPath::Package(part) => variant("{\"package\":", part, out),
-            WorldItemPath::Ident(part) => variant("{\"ident\":", part, out),
+            WorldItemPath::Ident(part) => enclosed(
+                "{\"ident\":{\"span\":{\"length\":",
+                part,
+                "\"}}",
+                out,
+            ),
         }
     }
 }
 
 impl Json for WorldItem<'_> {
     ghost use Rattle.wac_ast_worlds.specs.Worlds.{world_item_of};
-    ghost use Rattle.wac_json_text.specs.Forms.{world_item_json};
+    ghost use Rattle.wac_json_forms.specs.Forms.{world_item_json};
 
     ghost form = { λ x. world_item_json (world_item_of x) };
 

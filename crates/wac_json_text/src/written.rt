@@ -2,10 +2,10 @@
 ghost use Rattle.std.specs.Prelude.{◌≡◌, ◌+◌, ◌++◌, ℕ, List, [], OnOk, OnErr, map};
 ghost use Rattle.wac_ast.specs.Statements.{document_of, statement_of};
 ghost use Rattle.wac_printer_pieces.specs.Printed.{Prints};
-ghost use Rattle.wac_json_text.specs.Forms.{json_of, json_text, list_json, statement_json};
+ghost use Rattle.wac_json_forms.specs.Forms.{json_of, json_text, list_json, statement_json};
 ghost use Rattle.wac_json_text.specs.Pieces.{pieces, IsBegun};
 
-use crate::form::Json;
+use crate::form::{Enclosed, Json};
 use crate::parts::list;
 use std::marker::Model;
 use wac_ast::{Document, Statement};
@@ -85,9 +85,9 @@ fn document<S: Sink>(page: Page<'_, '_>, out: &mut Pieces<'_, S>) -> PrintResult
     let statements = Statements { document };
     out.blank("{\"directive\":")
         .and(document.directive.write(out))
-        .and(out.blank(",\"docs\":"))
-        .and(document.docs.write(out))
-        .and(out.blank(",\"statements\":"))
+        .and(out.blank(",\"docs\":["))
+        .and(document.docs.write_inside(out))
+        .and(out.blank("],\"statements\":"))
         .and(write_statements(statements.all(), out))
         .and(out.blank("}"))
 }

@@ -3,7 +3,7 @@ use Rattle.std.specs.Option.{option_map}
 use Rattle.json.specs.Print.{escape_byte}
 use Rattle.wac_ast_base.specs.Names.{package_path_of}
 use Rattle.wac_printer_pieces.proofs.Sequence.{printed_at}
-use Rattle.wac_json_text.specs.Forms.{target_member}
+use Rattle.wac_json_forms.specs.Forms.{target_member}
 use Rattle.wac_json_text.specs.Pieces.{members_pieces}
 use Rattle.wac_json_text.proofs.document.target.Goals as goal
 

@@ -1,20 +1,21 @@
-use Rattle.std.proofs.Common.{◌≡◌, ◌≤◌, [], Err, ap, arith, codes, length, refl, rules, sym, ◌∙◌}
+use Rattle.std.proofs.Common.{◌≡◌, ◌≤◌, [], Err, ap, arith, codes, length, refl, rules, sym}
 use Rattle.std.specs.List.{flat_map}
 use Rattle.json.specs.Print.{escape_byte}
-use Rattle.wac_ast_base.specs.Names.{package_name_of}
-use Rattle.wac_ast_expressions.specs.Expressions.{argument_of, expr_of, postfix_expr_of}
+use Rattle.wac_ast_base.specs.Names.{ident_of}
+use Rattle.wac_ast_expressions.specs.Expressions.{argument_name_of, argument_of, expr_of, new_expr_of, postfix_expr_of}
 use Rattle.wac_ast_expressions.specs.declared.expr.InstantiationArgument.{size-InstantiationArgument}
 use Rattle.wac_ast_expressions.specs.declared.expr.NestedExpr.{out-NestedExpr}
 use Rattle.wac_ast_expressions.proofs.ExprViews.{new_is}
 use Rattle.wac_printer.proofs.Trees.{most_rest}
-use Rattle.wac_printer_pieces.proofs.Progress.{ends, first_goes, first_stops, goes_at, none_is, starts, stops_at}
-use Rattle.wac_printer_pieces.proofs.Sequence.{after, first, last, printed_as, printed_at}
-use Rattle.wac_json_text.specs.Contents.{nested_json, new_json, variant_pieces}
-use Rattle.wac_json_text.specs.Forms.{argument_json, expr_json, list_json, package_name_json, postfix_expr_json, primary_expr_json, span_json}
+use Rattle.wac_printer_pieces.proofs.Progress as list
+use Rattle.wac_printer_pieces.proofs.Progress.{first_goes, first_stops, goes_at, none_is, starts, stops_at}
+use Rattle.wac_printer_pieces.proofs.Sequence.{first, last, printed_at}
+use Rattle.wac_json_text.specs.Contents.{named_json, nested_json}
+use Rattle.wac_json_forms.specs.Forms.{argument_json, expr_json, ident_json, list_json, postfix_expr_json, primary_expr_json, span_json, variant}
 use Rattle.wac_json_text.specs.Pieces.{behind_comma, joined_pieces, pieces}
-use Rattle.wac_json_text.proofs.Texts.{list_is, none_left}
-use Rattle.wac_json_text.proofs.Steps.{of_items}
-use Rattle.wac_json_text.proofs.ExpressionTrees.{arguments_put, as_argument, as_primary, nested_is}
+use Rattle.wac_json_text.proofs.ExpressionTrees.{arguments_items, as_argument, as_primary, nested_is}
+use Rattle.wac_json_text.proofs.Joined.{as_form, as_pieces, ends, form, list_then, put, then}
+use Rattle.wac_json_text.proofs.Texts.{items_of-map, none_left}
 use Rattle.wac_json_text.proofs.expression.+expressions.Goals as goal
 
 -- ---- lists of arguments
@@ -39,7 +40,7 @@ further_arguments-loop-tree-preserved g t c =
 pub further_arguments-returns : goal.further_arguments-returns
 further_arguments-returns g t c =
     let h : length c.args.arguments.now ≤ c.loop-tree.tree-index = search rules in
-    ends (λ source depth x. behind_comma (pieces (argument_json (argument_of x)))) c.args.arguments.now _ c.args.out.now _ _ c.loop-tree.invariant h
+    list.ends (λ source depth x. behind_comma (pieces (argument_json (argument_of x)))) c.args.arguments.now _ c.args.out.now _ _ c.loop-tree.invariant h
 
 pub further_argument-returns : goal.further_argument-returns
 further_argument-returns g t c = last c.and.ensures (first c.blank.ensures) c.argument.ensures
@@ -63,73 +64,80 @@ joined_arguments-returns-in_ok-argument-in-Some g t c =
     first_goes _ _ _ _ _ _ _ (λ source depth. flat_map (λ x. behind_comma (pieces (argument_json (argument_of x)))) c.in-Some.rest.now) (ap (joined_pieces (λ x. pieces (argument_json (argument_of x)))) c.in-Some.ensures.cases.0)
     c.in_ok-argument-in-Some.ensures c.further_arguments.ensures
 
-pub argument_list-returns : goal.argument_list-returns
-argument_list-returns g t c = printed_as (list_is (λ x. argument_json (argument_of x)) c.args.arguments.now) (last c.and-2.ensures (after c.and.ensures (first c.blank.ensures) c.joined_arguments.ensures) c.blank-2.ensures)
-
 -- ---- arguments
 
-pub named_contents-returns : goal.named_contents-returns
-unfolding escape_byte
-named_contents-returns g t c = last c.and-4.ensures (after c.and-3.ensures (after c.and-2.ensures (after c.and.ensures (first c.blank.ensures) c.expr.ensures) c.blank-2.ensures) c.write.ensures) c.blank-3.ensures
-
 pub named-returns : goal.named-returns
-named-returns g t c = last c.and-2.ensures (after c.and.ensures (first c.blank.ensures) c.named_contents.ensures) c.blank-2.ensures
+unfolding escape_byte
+named-returns g t c =
+    as_form (named_json (expr_of c.args.value.now) (argument_name_of c.args.name.now))
+    (ends c.and-4.ensures (then c.and-3.ensures (then c.and-2.ensures (then c.and.ensures (put c.blank.ensures) (form _ c.expr.ensures)) (put c.blank-2.ensures)) (form _ c.write.ensures)) c.blank-3.ensures)
 
 pub argument-returns-in-Inferred : goal.argument-returns-in-Inferred
-unfolding argument_json escape_byte
-argument-returns-in-Inferred g t c = as_argument c.in-Inferred.is c.variant.ensures
+unfolding argument_json ident_json span_json escape_byte
+argument-returns-in-Inferred g t c =
+    as_argument c.in-Inferred.is (as_pieces (variant (codes "inferred") (ident_json (ident_of c.in-Inferred.id))) (λ space fresh. refl) c.enclosed.ensures)
 
 pub argument-returns-in-Spread : goal.argument-returns-in-Spread
-unfolding argument_json escape_byte
-argument-returns-in-Spread g t c = as_argument c.in-Spread.is c.variant-in-Spread.ensures
+unfolding argument_json ident_json span_json escape_byte
+argument-returns-in-Spread g t c =
+    as_argument c.in-Spread.is (as_pieces (variant (codes "spread") (ident_json (ident_of c.in-Spread.id))) (λ space fresh. refl) c.enclosed-in-Spread.ensures)
 
 pub argument-returns-in-Named : goal.argument-returns-in-Named
 unfolding argument_json escape_byte
 argument-returns-in-Named g t c = as_argument c.in-Named.is c.named.ensures
 
 pub argument-returns-in-Fill : goal.argument-returns-in-Fill
-unfolding argument_json escape_byte
-argument-returns-in-Fill g t c = as_argument c.in-Fill.is c.variant-in-Fill.ensures
+unfolding argument_json span_json escape_byte
+argument-returns-in-Fill g t c =
+    as_argument c.in-Fill.is (as_pieces (variant (codes "fill") (span_json c.in-Fill.span)) (λ space fresh. refl) c.enclosed-in-Fill.ensures)
 
 -- ---- expressions
 
 pub expr-returns : goal.expr-returns
-unfolding expr_json escape_byte
+unfolding expr_json list_json span_json escape_byte
 expr-returns g t c =
-    last c.and-6.ensures (after c.and-5.ensures (after c.and-4.ensures (after c.and-3.ensures (after c.and-2.ensures (after c.and.ensures (first c.blank.ensures) (of_items postfix_expr_json postfix_expr_of _ c.write.ensures)) c.blank-2.ensures) c.primary.ensures) c.blank-3.ensures) c.write-2.ensures) c.blank-4.ensures
-
-pub nested_contents-returns : goal.nested_contents-returns
-unfolding escape_byte
-nested_contents-returns g t c = last c.and-4.ensures (after c.and-3.ensures (after c.and-2.ensures (after c.and.ensures (first c.blank.ensures) c.expr.ensures) c.blank-2.ensures) c.write.ensures) c.blank-3.ensures
+    as_form (expr_json (expr_of c.args.tree.now))
+    (ends c.and-6.ensures
+    (then c.and-5.ensures
+    (then c.and-4.ensures
+    (then c.and-3.ensures (list_then (λ x. postfix_expr_json (postfix_expr_of x)) _ (sym (items_of-map postfix_expr_json postfix_expr_of _)) c.and.ensures c.and-2.ensures (put c.blank.ensures) c.write_inside.ensures c.blank-2.ensures) (form _ c.primary.ensures))
+    (put c.blank-3.ensures))
+    (put c.write_inside-2.ensures))
+    c.blank-4.ensures)
 
 pub nested-returns : goal.nested-returns
-nested-returns g t c = last c.and-2.ensures (after c.and.ensures (first c.blank.ensures) c.nested_contents.ensures) c.blank-2.ensures
-
-pub new_contents-returns : goal.new_contents-returns
-unfolding escape_byte
-new_contents-returns g t c =
-    last c.and-6.ensures (after c.and-5.ensures (after c.and-4.ensures (after c.and-3.ensures (after c.and-2.ensures (after c.and.ensures (first c.blank.ensures) c.argument_list.ensures) c.blank-2.ensures) c.write.ensures) c.blank-3.ensures) c.write-2.ensures) c.blank-4.ensures
+unfolding span_json escape_byte
+nested-returns g t c =
+    as_form (nested_json (expr_of c.args.inner.now) c.args.span.now)
+    (ends c.and-4.ensures (then c.and-3.ensures (then c.and-2.ensures (then c.and.ensures (put c.blank.ensures) (form _ c.expr.ensures)) (put c.blank-2.ensures)) (put c.write_inside.ensures)) c.blank-3.ensures)
 
 pub new_expr-returns : goal.new_expr-returns
-unfolding primary_expr_json escape_byte
+unfolding primary_expr_json span_json escape_byte
 new_expr-returns g t c =
-    printed_at (λ d. variant_pieces (codes "{\"new\":") (new_json d (package_name_json (package_name_of c.args.tree.now.«package»)) (span_json c.args.tree.now.span)))
-    (ap (list_json (λ x. argument_json (argument_of x))) c.deref.ensures.value ∙ arguments_put c.args.tree.now.arguments.items)
-    (last c.and-2.ensures (after c.and.ensures (first c.blank.ensures) c.new_contents.ensures) c.blank-2.ensures)
+    let arguments = printed_at (λ xs. joined_pieces (λ x. pieces (argument_json (argument_of x))) xs) c.deref.ensures.value c.joined_arguments.ensures in
+    as_form (primary_expr_json (new_expr_of c.args.tree.now))
+    (ends c.and-6.ensures
+    (then c.and-5.ensures
+    (then c.and-4.ensures
+    (then c.and-3.ensures (list_then (λ x. argument_json (argument_of x)) _ (arguments_items c.args.tree.now.arguments.items) c.and.ensures c.and-2.ensures (put c.blank.ensures) arguments c.blank-2.ensures) (form _ c.write.ensures))
+    (put c.blank-3.ensures))
+    (put c.write_inside.ensures))
+    c.blank-4.ensures)
 
 pub primary-returns-in-New : goal.primary-returns-in-New
 primary-returns-in-New g t c =
     as_primary c.in-New.is (printed_at (λ x. pieces (primary_expr_json x)) (sym (new_is c.in-New.tree)) c.new_expr.ensures)
 
 pub primary-returns-in-Nested : goal.primary-returns-in-Nested
-unfolding primary_expr_json escape_byte
+unfolding primary_expr_json
 primary-returns-in-Nested g t c =
     let x = c.deref.result.now in
     let v : x ≡ (out-NestedExpr c.in-Nested.tree).inner.value = search rules in
     as_primary c.in-Nested.is
     (printed_at (λ y. pieces (primary_expr_json y)) (sym (nested_is c.in-Nested.tree))
-    (printed_at (λ y. variant_pieces (codes "{\"nested\":") (nested_json (expr_json (expr_of y)) (span_json (out-NestedExpr c.in-Nested.tree).span))) v c.nested.ensures))
+    (printed_at (λ y. pieces (nested_json (expr_of y) (out-NestedExpr c.in-Nested.tree).span)) v c.nested.ensures))
 
 pub primary-returns-in-Ident : goal.primary-returns-in-Ident
-unfolding primary_expr_json escape_byte
-primary-returns-in-Ident g t c = as_primary c.in-Ident.is c.variant.ensures
+unfolding primary_expr_json ident_json span_json escape_byte
+primary-returns-in-Ident g t c =
+    as_primary c.in-Ident.is (as_pieces (variant (codes "ident") (ident_json (ident_of c.in-Ident.id))) (λ space fresh. refl) c.enclosed.ensures)

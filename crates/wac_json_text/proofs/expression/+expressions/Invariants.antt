@@ -6,7 +6,7 @@ use Rattle.wac_ast_expressions.specs.declared.expr.InstantiationArgument.{size-I
 use Rattle.wac_ast_expressions.specs.declared.expr.NewExpr.{size-NewExpr}
 use Rattle.wac_ast_expressions.specs.declared.expr.PrimaryExpr.{size-PrimaryExpr}
 use Rattle.wac_printer_pieces.proofs.Progress.{IsSoFar}
-use Rattle.wac_json_text.specs.Forms.{argument_json}
+use Rattle.wac_json_forms.specs.Forms.{argument_json}
 use Rattle.wac_json_text.specs.Pieces.{behind_comma, pieces}
 use Rattle.wac_json_text.proofs.expression.+expressions.Given as goal
 
@@ -28,14 +28,8 @@ decreases-argument g l = 8 * size-InstantiationArgument l.tree.now + 0
 abbrev pub decreases-further_argument : goal.decreases-further_argument
 decreases-further_argument g l = 8 * size-InstantiationArgument l.tree.now + 1
 
-abbrev pub decreases-nested_contents : goal.decreases-nested_contents
-decreases-nested_contents g l = 8 * size-Expr l.inner.now + 1
-
 abbrev pub decreases-nested : goal.decreases-nested
 decreases-nested g l = 8 * size-Expr l.inner.now + 2
-
-abbrev pub decreases-named_contents : goal.decreases-named_contents
-decreases-named_contents g l = 8 * size-Expr l.value.now + 1
 
 abbrev pub decreases-named : goal.decreases-named
 decreases-named g l = 8 * size-Expr l.value.now + 2
@@ -45,9 +39,3 @@ decreases-further_arguments g l = 8 * most size-InstantiationArgument l.argument
 
 abbrev pub decreases-joined_arguments : goal.decreases-joined_arguments
 decreases-joined_arguments g l = 8 * most size-InstantiationArgument l.arguments.now + 3
-
-abbrev pub decreases-argument_list : goal.decreases-argument_list
-decreases-argument_list g l = 8 * most size-InstantiationArgument l.arguments.now + 4
-
-abbrev pub decreases-new_contents : goal.decreases-new_contents
-decreases-new_contents g l = 8 * most size-InstantiationArgument l.arguments.now + 5

@@ -5,7 +5,7 @@ use Rattle.wac_ast_types.specs.declared.types.«Type».{size-Type}
 use Rattle.wac_ast_types.specs.declared.types.«Type».TheShapes.{weighed-Type-Result-0}
 use Rattle.wac_ast_types.specs.declared.types.«Type».TheVariants.{the_data}
 use Rattle.wac_printer_pieces.proofs.Progress.{IsSoFar}
-use Rattle.wac_json_text.specs.Forms.{ty_json}
+use Rattle.wac_json_forms.specs.Forms.{ty_json}
 use Rattle.wac_json_text.specs.Pieces.{behind_comma, pieces}
 use Rattle.wac_json_text.proofs.value_type.+types.Given as goal
 
@@ -38,9 +38,6 @@ decreases-further_types g l = 8 * most size-Type l.types.now + 2
 
 abbrev pub decreases-joined_types : goal.decreases-joined_types
 decreases-joined_types g l = 8 * most size-Type l.types.now + 3
-
-abbrev pub decreases-type_list : goal.decreases-type_list
-decreases-type_list g l = 8 * most size-Type l.types.now + 4
 
 abbrev pub decreases-tuple : goal.decreases-tuple
 decreases-tuple g l = 8 * most size-Type l.types.now + 5

@@ -1,5 +1,4 @@
-use Rattle.wac_printer_pieces.proofs.Sequence.{after, first, last}
 use Rattle.wac_json_text.proofs.value_type.keyword.Goals as goal
 
 pub returns : goal.returns
-returns g c = last c.and-2.ensures (after c.and.ensures (first c.blank.ensures) c.write.ensures) c.blank-2.ensures
+returns g c = c.enclosed.ensures

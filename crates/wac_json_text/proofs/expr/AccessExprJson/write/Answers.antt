@@ -1,9 +1,10 @@
 use Rattle.json.specs.Print.{escape_byte}
-use Rattle.wac_json_text.specs.Forms.{access_expr_json}
-use Rattle.wac_printer_pieces.proofs.Sequence.{first, last, after}
+use Rattle.wac_ast_expressions.specs.Expressions.{access_expr_of}
+use Rattle.wac_json_forms.specs.Forms.{access_expr_json, ident_json, span_json}
+use Rattle.wac_json_text.proofs.Joined.{as_form, ends, put, then}
 use Rattle.wac_json_text.proofs.expr.AccessExprJson.write.Goals as goal
 
 pub returns : goal.returns
-unfolding access_expr_json escape_byte
+unfolding access_expr_json ident_json span_json escape_byte
 returns g c =
-    last c.and-4.ensures (after c.and-3.ensures (after c.and-2.ensures (after c.and.ensures (first c.blank.ensures) c.write.ensures) c.blank-2.ensures) c.write-2.ensures) c.blank-3.ensures
+    as_form (access_expr_json (access_expr_of c.args.self.now)) (ends c.and-4.ensures (then c.and-3.ensures (then c.and-2.ensures (then c.and.ensures (put c.blank.ensures) (put c.write_inside.ensures)) (put c.blank-2.ensures)) (put c.write_inside-2.ensures)) c.blank-3.ensures)

@@ -1,12 +1,13 @@
 use Rattle.json.specs.Print.{escape_byte}
+use Rattle.std.proofs.Common.{sym}
 use Rattle.wac_ast_base.specs.Names.{doc_comment_of}
-use Rattle.wac_ast_types.specs.Declarations.{flag_of}
-use Rattle.wac_json_text.proofs.Steps.{of_items}
-use Rattle.wac_json_text.specs.Forms.{flags_decl_json, doc_json, flag_json}
-use Rattle.wac_printer_pieces.proofs.Sequence.{first, last, after}
+use Rattle.wac_ast_types.specs.Declarations.{flag_of, flags_decl_of}
+use Rattle.wac_json_forms.specs.Forms.{doc_json, flag_json, flags_decl_json, ident_json, list_json, span_json}
+use Rattle.wac_json_text.proofs.Joined.{as_form, ends, list_then, put, then}
+use Rattle.wac_json_text.proofs.Texts.{items_of-map}
 use Rattle.wac_json_text.proofs.flags_decl.FlagsDeclJson.write.Goals as goal
 
 pub returns : goal.returns
-unfolding flags_decl_json escape_byte
+unfolding flags_decl_json list_json ident_json span_json escape_byte
 returns g c =
-    last c.and-6.ensures (after c.and-5.ensures (after c.and-4.ensures (after c.and-3.ensures (after c.and-2.ensures (after c.and.ensures (first c.blank.ensures) (of_items doc_json doc_comment_of _ c.write.ensures)) c.blank-2.ensures) (of_items flag_json flag_of _ c.write-2.ensures)) c.blank-3.ensures) c.write-3.ensures) c.blank-4.ensures
+    as_form (flags_decl_json (flags_decl_of c.args.self.now)) (ends c.and-6.ensures (then c.and-5.ensures (list_then (λ x. flag_json (flag_of x)) _ (sym (items_of-map flag_json flag_of _)) c.and-3.ensures c.and-4.ensures (list_then (λ x. doc_json (doc_comment_of x)) _ (sym (items_of-map doc_json doc_comment_of _)) c.and.ensures c.and-2.ensures (put c.blank.ensures) c.write_inside.ensures c.blank-2.ensures) c.write_inside-2.ensures c.blank-3.ensures) (put c.write_inside-3.ensures)) c.blank-4.ensures)

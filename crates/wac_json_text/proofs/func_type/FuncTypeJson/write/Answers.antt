@@ -1,11 +1,13 @@
 use Rattle.json.specs.Print.{escape_byte}
-use Rattle.wac_ast_types.specs.Declarations.{named_type_of}
-use Rattle.wac_json_text.proofs.Steps.{of_items}
-use Rattle.wac_json_text.specs.Forms.{func_type_json, named_type_json}
-use Rattle.wac_printer_pieces.proofs.Sequence.{first, last, after}
+use Rattle.serde_json.specs.Data.{boolean}
+use Rattle.std.proofs.Common.{sym}
+use Rattle.wac_ast_types.specs.Declarations.{func_type_of, named_type_of}
+use Rattle.wac_json_forms.specs.Forms.{func_type_json, list_json, named_type_json}
+use Rattle.wac_json_text.proofs.Joined.{as_form, ends, form, list_then, put, then}
+use Rattle.wac_json_text.proofs.Texts.{items_of-map}
 use Rattle.wac_json_text.proofs.func_type.FuncTypeJson.write.Goals as goal
 
 pub returns : goal.returns
-unfolding func_type_json escape_byte
+unfolding func_type_json list_json escape_byte
 returns g c =
-    last c.and-6.ensures (after c.and-5.ensures (after c.and-4.ensures (after c.and-3.ensures (after c.and-2.ensures (after c.and.ensures (first c.blank.ensures) c.write.ensures) c.blank-2.ensures) (of_items named_type_json named_type_of _ c.write-2.ensures)) c.blank-3.ensures) c.write-3.ensures) c.blank-4.ensures
+    as_form (func_type_json (func_type_of c.args.self.now)) (ends c.and-6.ensures (then c.and-5.ensures (list_then (λ x. named_type_json (named_type_of x)) _ (sym (items_of-map named_type_json named_type_of _)) c.and-3.ensures c.and-4.ensures (then c.and-2.ensures (then c.and.ensures (put c.blank.ensures) (form (boolean c.args.self.now.is_async) c.write.ensures)) (put c.blank-2.ensures)) c.write_inside.ensures c.blank-3.ensures) (form _ c.write-2.ensures)) c.blank-4.ensures)

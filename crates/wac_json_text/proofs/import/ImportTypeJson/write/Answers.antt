@@ -1,7 +1,9 @@
 use Rattle.json.specs.Print.{escape_byte}
-use Rattle.std.proofs.Common.{sym}
+use Rattle.std.proofs.Common.{codes, refl, sym}
 use Rattle.wac_ast_worlds.specs.Worlds.{import_type_of}
-use Rattle.wac_json_text.specs.Forms.{import_type_json}
+use Rattle.wac_ast_base.specs.Names.{ident_of}
+use Rattle.wac_json_text.proofs.Joined.{as_pieces}
+use Rattle.wac_json_forms.specs.Forms.{ident_json, import_type_json, span_json, variant}
 use Rattle.wac_json_text.specs.Pieces.{pieces}
 use Rattle.wac_printer_pieces.proofs.Sequence.{printed_at}
 use Rattle.wac_json_text.proofs.import.ImportTypeJson.write.Goals as goal
@@ -19,5 +21,5 @@ unfolding import_type_json escape_byte
 returns-in-Interface g c = printed_at (λ x. pieces (import_type_json (import_type_of x))) (sym c.in-Interface.is) c.variant-in-Interface.ensures
 
 pub returns-in-Ident : goal.returns-in-Ident
-unfolding import_type_json escape_byte
-returns-in-Ident g c = printed_at (λ x. pieces (import_type_json (import_type_of x))) (sym c.in-Ident.is) c.variant-in-Ident.ensures
+unfolding import_type_json ident_json span_json escape_byte
+returns-in-Ident g c = printed_at (λ x. pieces (import_type_json (import_type_of x))) (sym c.in-Ident.is) (as_pieces (variant (codes "ident") (ident_json (ident_of c.in-Ident.part))) (λ space fresh. refl) c.enclosed.ensures)

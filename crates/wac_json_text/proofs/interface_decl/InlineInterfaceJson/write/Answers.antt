@@ -1,11 +1,12 @@
 use Rattle.json.specs.Print.{escape_byte}
-use Rattle.wac_ast_worlds.specs.Worlds.{interface_item_of}
-use Rattle.wac_json_text.proofs.Steps.{of_items}
-use Rattle.wac_json_text.specs.Forms.{inline_interface_json, interface_item_json}
-use Rattle.wac_printer_pieces.proofs.Sequence.{first, last, after}
+use Rattle.std.proofs.Common.{sym}
+use Rattle.wac_ast_worlds.specs.Worlds.{inline_interface_of, interface_item_of}
+use Rattle.wac_json_forms.specs.Forms.{inline_interface_json, interface_item_json, list_json}
+use Rattle.wac_json_text.proofs.Joined.{as_form, list_ends, put}
+use Rattle.wac_json_text.proofs.Texts.{items_of-map}
 use Rattle.wac_json_text.proofs.interface_decl.InlineInterfaceJson.write.Goals as goal
 
 pub returns : goal.returns
-unfolding inline_interface_json escape_byte
+unfolding inline_interface_json list_json escape_byte
 returns g c =
-    last c.and-2.ensures (after c.and.ensures (first c.blank.ensures) (of_items interface_item_json interface_item_of _ c.write.ensures)) c.blank-2.ensures
+    as_form (inline_interface_json (inline_interface_of c.args.self.now)) (list_ends (λ x. interface_item_json (interface_item_of x)) _ (sym (items_of-map interface_item_json interface_item_of _)) c.and.ensures c.and-2.ensures (put c.blank.ensures) c.write_inside.ensures c.blank-2.ensures)

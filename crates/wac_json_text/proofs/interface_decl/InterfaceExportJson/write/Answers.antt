@@ -1,11 +1,13 @@
 use Rattle.json.specs.Print.{escape_byte}
+use Rattle.std.proofs.Common.{sym}
 use Rattle.wac_ast_base.specs.Names.{doc_comment_of}
-use Rattle.wac_json_text.proofs.Steps.{of_items}
-use Rattle.wac_json_text.specs.Forms.{interface_export_json, doc_json}
-use Rattle.wac_printer_pieces.proofs.Sequence.{first, last, after}
+use Rattle.wac_ast_worlds.specs.Worlds.{interface_export_of}
+use Rattle.wac_json_forms.specs.Forms.{doc_json, ident_json, interface_export_json, list_json, span_json}
+use Rattle.wac_json_text.proofs.Joined.{as_form, ends, form, list_then, put, then}
+use Rattle.wac_json_text.proofs.Texts.{items_of-map}
 use Rattle.wac_json_text.proofs.interface_decl.InterfaceExportJson.write.Goals as goal
 
 pub returns : goal.returns
-unfolding interface_export_json escape_byte
+unfolding interface_export_json list_json ident_json span_json escape_byte
 returns g c =
-    last c.and-6.ensures (after c.and-5.ensures (after c.and-4.ensures (after c.and-3.ensures (after c.and-2.ensures (after c.and.ensures (first c.blank.ensures) (of_items doc_json doc_comment_of _ c.write.ensures)) c.blank-2.ensures) c.write-2.ensures) c.blank-3.ensures) c.write-3.ensures) c.blank-4.ensures
+    as_form (interface_export_json (interface_export_of c.args.self.now)) (ends c.and-6.ensures (then c.and-5.ensures (then c.and-4.ensures (then c.and-3.ensures (list_then (λ x. doc_json (doc_comment_of x)) _ (sym (items_of-map doc_json doc_comment_of _)) c.and.ensures c.and-2.ensures (put c.blank.ensures) c.write_inside.ensures c.blank-2.ensures) (put c.write_inside-2.ensures)) (put c.blank-3.ensures)) (form _ c.write.ensures)) c.blank-4.ensures)

@@ -1,9 +1,11 @@
 use Rattle.json.specs.Print.{escape_byte}
-use Rattle.wac_json_text.specs.Forms.{doc_json}
-use Rattle.wac_printer_pieces.proofs.Sequence.{first, last, after}
+use Rattle.wac_ast_base.specs.Names.{doc_comment_of}
+use Rattle.wac_json_forms.specs.Forms.{doc_json, span_json}
+use Rattle.wac_json_text.proofs.Joined.{as_form, ends, put, then}
 use Rattle.wac_json_text.proofs.name.DocCommentJson.write.Goals as goal
 
 pub returns : goal.returns
-unfolding doc_json escape_byte
+unfolding doc_json span_json escape_byte
 returns g c =
-    last c.and-4.ensures (after c.and-3.ensures (after c.and-2.ensures (after c.and.ensures (first c.blank.ensures) c.write.ensures) c.blank-2.ensures) c.write-2.ensures) c.blank-3.ensures
+    as_form (doc_json (doc_comment_of c.args.self.now))
+    (ends c.and-4.ensures (then c.and-3.ensures (then c.and-2.ensures (then c.and.ensures (put c.blank.ensures) (put c.write_inside.ensures)) (put c.blank-2.ensures)) (put c.write_inside-2.ensures)) c.blank-3.ensures)

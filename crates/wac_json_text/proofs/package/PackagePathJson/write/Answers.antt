@@ -1,11 +1,12 @@
 use Rattle.json.specs.Print.{escape_byte}
 use Rattle.semver.specs.Identifiers.{parts_of}
+use Rattle.wac_ast_base.specs.Names.{package_path_of}
+use Rattle.wac_json_forms.specs.Forms.{package_path_json, span_json, version_json}
+use Rattle.wac_json_text.proofs.Joined.{as_form, ends, form, put, then}
 use Rattle.wac_json_text.proofs.Steps.{of_option}
-use Rattle.wac_json_text.specs.Forms.{package_path_json, version_json}
-use Rattle.wac_printer_pieces.proofs.Sequence.{first, last, after}
 use Rattle.wac_json_text.proofs.package.PackagePathJson.write.Goals as goal
 
 pub returns : goal.returns
-unfolding package_path_json escape_byte
+unfolding package_path_json span_json escape_byte
 returns g c =
-    last c.and-10.ensures (after c.and-9.ensures (after c.and-8.ensures (after c.and-7.ensures (after c.and-6.ensures (after c.and-5.ensures (after c.and-4.ensures (after c.and-3.ensures (after c.and-2.ensures (after c.and.ensures (first c.blank.ensures) c.write.ensures) c.blank-2.ensures) c.write-2.ensures) c.blank-3.ensures) c.write-3.ensures) c.blank-4.ensures) c.write-4.ensures) c.blank-5.ensures) (of_option version_json parts_of _ c.write-5.ensures)) c.blank-6.ensures
+    as_form (package_path_json (package_path_of c.args.self.now)) (ends c.and-10.ensures (then c.and-9.ensures (then c.and-8.ensures (then c.and-7.ensures (then c.and-6.ensures (then c.and-5.ensures (then c.and-4.ensures (then c.and-3.ensures (then c.and-2.ensures (then c.and.ensures (put c.blank.ensures) (put c.write_inside.ensures)) (put c.blank-2.ensures)) (put c.write_inside-2.ensures)) (put c.blank-3.ensures)) (put c.write_inside-3.ensures)) (put c.blank-4.ensures)) (put c.write_inside-4.ensures)) (put c.blank-5.ensures)) (form _ (of_option version_json parts_of _ c.write.ensures))) c.blank-6.ensures)

@@ -1,7 +1,6 @@
-use Rattle.wac_printer_pieces.proofs.Sequence.{printed_at}
-use Rattle.wac_json_text.specs.Forms.{list_json}
-use Rattle.wac_json_text.specs.Pieces.{pieces}
+use Rattle.wac_printer_pieces.proofs.Sequence.{printed_as}
+use Rattle.wac_json_text.proofs.Texts.{list_is}
 use Rattle.wac_json_text.proofs.parts.VecJson.write.Goals as goal
 
 pub returns : goal.returns
-returns g c = printed_at (λ xs. pieces (list_json g.T.Json.form xs)) c.deref.ensures.value c.list.ensures
+returns g c = printed_as (list_is g.T.Json.form c.args.self.now.items) c.enclosed.ensures

@@ -1,11 +1,14 @@
 use Rattle.json.specs.Print.{escape_byte}
+use Rattle.serde_json.specs.Data.{boolean}
+use Rattle.std.proofs.Common.{sym}
 use Rattle.wac_ast_base.specs.Names.{doc_comment_of}
-use Rattle.wac_json_text.proofs.Steps.{of_items}
-use Rattle.wac_json_text.specs.Forms.{method_json, doc_json}
-use Rattle.wac_printer_pieces.proofs.Sequence.{first, last, after}
+use Rattle.wac_ast_types.specs.Declarations.{method_of}
+use Rattle.wac_json_forms.specs.Forms.{doc_json, ident_json, list_json, method_json, span_json}
+use Rattle.wac_json_text.proofs.Joined.{as_form, ends, form, list_then, put, then}
+use Rattle.wac_json_text.proofs.Texts.{items_of-map}
 use Rattle.wac_json_text.proofs.resource_decl.MethodJson.write.Goals as goal
 
 pub returns : goal.returns
-unfolding method_json escape_byte
+unfolding method_json list_json ident_json span_json escape_byte
 returns g c =
-    last c.and-8.ensures (after c.and-7.ensures (after c.and-6.ensures (after c.and-5.ensures (after c.and-4.ensures (after c.and-3.ensures (after c.and-2.ensures (after c.and.ensures (first c.blank.ensures) (of_items doc_json doc_comment_of _ c.write.ensures)) c.blank-2.ensures) c.write-2.ensures) c.blank-3.ensures) c.write-3.ensures) c.blank-4.ensures) c.write-4.ensures) c.blank-5.ensures
+    as_form (method_json (method_of c.args.self.now)) (ends c.and-8.ensures (then c.and-7.ensures (then c.and-6.ensures (then c.and-5.ensures (then c.and-4.ensures (then c.and-3.ensures (list_then (λ x. doc_json (doc_comment_of x)) _ (sym (items_of-map doc_json doc_comment_of _)) c.and.ensures c.and-2.ensures (put c.blank.ensures) c.write_inside.ensures c.blank-2.ensures) (put c.write_inside-2.ensures)) (put c.blank-3.ensures)) (form (boolean c.args.self.now.is_static) c.write.ensures)) (put c.blank-4.ensures)) (form _ c.write-2.ensures)) c.blank-5.ensures)

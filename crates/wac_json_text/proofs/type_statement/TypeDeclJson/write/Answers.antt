@@ -1,7 +1,7 @@
 use Rattle.json.specs.Print.{escape_byte}
 use Rattle.std.proofs.Common.{sym}
 use Rattle.wac_ast_types.specs.Declarations.{type_decl_of}
-use Rattle.wac_json_text.specs.Forms.{type_decl_json}
+use Rattle.wac_json_forms.specs.Forms.{type_decl_json}
 use Rattle.wac_json_text.specs.Pieces.{pieces}
 use Rattle.wac_printer_pieces.proofs.Sequence.{printed_at}
 use Rattle.wac_json_text.proofs.type_statement.TypeDeclJson.write.Goals as goal

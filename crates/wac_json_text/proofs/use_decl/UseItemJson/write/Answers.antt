@@ -1,11 +1,12 @@
 use Rattle.json.specs.Print.{escape_byte}
 use Rattle.wac_ast_base.specs.Names.{ident_of}
+use Rattle.wac_ast_uses.specs.Uses.{use_item_of}
+use Rattle.wac_json_forms.specs.Forms.{ident_json, span_json, use_item_json}
+use Rattle.wac_json_text.proofs.Joined.{as_form, ends, form, put, then}
 use Rattle.wac_json_text.proofs.Steps.{of_option}
-use Rattle.wac_json_text.specs.Forms.{use_item_json, ident_json}
-use Rattle.wac_printer_pieces.proofs.Sequence.{first, last, after}
 use Rattle.wac_json_text.proofs.use_decl.UseItemJson.write.Goals as goal
 
 pub returns : goal.returns
-unfolding use_item_json escape_byte
+unfolding use_item_json ident_json span_json escape_byte
 returns g c =
-    last c.and-4.ensures (after c.and-3.ensures (after c.and-2.ensures (after c.and.ensures (first c.blank.ensures) (of_option ident_json ident_of _ c.write.ensures)) c.blank-2.ensures) c.write-2.ensures) c.blank-3.ensures
+    as_form (use_item_json (use_item_of c.args.self.now)) (ends c.and-4.ensures (then c.and-3.ensures (then c.and-2.ensures (then c.and.ensures (put c.blank.ensures) (form _ (of_option ident_json ident_of _ c.write.ensures))) (put c.blank-2.ensures)) (put c.write_inside.ensures)) c.blank-3.ensures)

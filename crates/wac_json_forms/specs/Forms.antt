@@ -29,6 +29,11 @@ variant name content = object (member name content no_members)
 abbrev pub word : List ℕ → Data
 word name = string name
 
+-- what stands under a variant's name: the form of a part whose tree is the whole variant
+abbrev pub content : Data → Data
+content (object (member name inner no_members)) = inner
+content other = other
+
 -- two contents without names
 abbrev pub pair : Data → Data → Data
 pair first second = array (item first (item second no_items))
@@ -89,6 +94,10 @@ extern_name_json (tree.ExternName.string x) = variant (codes "string") (string_j
 
 -- ---- types
 
+-- a result's contents, by the forms of its parts
+abbrev pub result_json : Data → Data → Data → Data
+result_json ok err s = object_of ((codes "err", err) ∷ (codes "ok", ok) ∷ (codes "span", s) ∷ [])
+
 unfoldable mutual
   pub ty_json : tree.Ty → Data
   ty_json (tree.Ty.u8 s) = variant (codes "u8") (span_json s)
@@ -108,12 +117,7 @@ unfoldable mutual
   ty_json (tree.Ty.list t s) = variant (codes "list") (pair (ty_json t) (span_json s))
   ty_json (tree.Ty.option t s) = variant (codes "option") (pair (ty_json t) (span_json s))
   ty_json (tree.Ty.result ok err s) =
-      variant (codes "result")
-      (object_of
-      ((codes "err", optional_ty_json err)
-      ∷ (codes "ok", optional_ty_json ok)
-      ∷ (codes "span", span_json s)
-      ∷ []))
+      variant (codes "result") (result_json (optional_ty_json ok) (optional_ty_json err) (span_json s))
   ty_json (tree.Ty.borrow id s) = variant (codes "borrow") (pair (ident_json id) (span_json s))
   ty_json (tree.Ty.stream held s) = variant (codes "stream") (pair (optional_ty_json held) (span_json s))
   ty_json (tree.Ty.future held s) = variant (codes "future") (pair (optional_ty_json held) (span_json s))
@@ -409,6 +413,10 @@ unfoldable mutual
   pub arguments_json : tree.Arguments → Items
   arguments_json tree.Arguments.none = no_items
   arguments_json (tree.Arguments.more x xs) = item (argument_json x) (arguments_json xs)
+
+-- a named argument, as it stands under the variant's name
+unfoldable pub named_argument_json : tree.NamedInstantiationArgument → Data
+named_argument_json x = object_of ((codes "expr", expr_json x.expr) ∷ (codes "name", argument_name_json x.name) ∷ [])
 
 -- ---- statements and documents
 

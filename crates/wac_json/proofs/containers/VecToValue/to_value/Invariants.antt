@@ -1,0 +1,6 @@
+use Rattle.std.specs.Prelude.{◌≡◌, map, take}
+use Rattle.serde_json.specs.View.{view}
+use Rattle.wac_json.proofs.containers.VecToValue.to_value.Given as goal
+
+abbrev pub invariant-loop-item : goal.invariant-loop-item
+invariant-loop-item g l = map view l.values.items.items ≡ map g.T.ToValue.form (take l.item-index l.self.items)

@@ -1,0 +1,8 @@
+use Rattle.std.specs.Prelude.{◌≡◌, map, take}
+use Rattle.serde_json.specs.View.{view}
+use Rattle.wac_ast_types.specs.Types.{ty_of}
+use Rattle.wac_json_forms.specs.Forms.{ty_json}
+use Rattle.wac_json.proofs.value_type.+types.Given as goal
+
+abbrev pub invariant-types_value-loop-ty : goal.invariant-types_value-loop-ty
+invariant-types_value-loop-ty l = map view l.values.items.items ≡ map (λ x. ty_json (ty_of x)) (take l.ty-index l.types.items)
