@@ -1,8 +1,8 @@
-//! How names are written in WAC, and the parts of paths.
+//! How names are written in WAC, the parts of paths, and keys of packages.
 
 use std::alloc::{AllocError, Global};
 use std::test::Fail;
-use wac_components_words::{identifier, is_key, path_of};
+use wac_components_words::{Path, identifier, is_key, path_of};
 
 /// Names, and how each is written, if it is an identifier.
 static IDENTIFIERS: [(&str, Option<&str>); 6] = [
@@ -72,5 +72,50 @@ fn keys_are_names_of_packages(rt: HostRuntime) -> Result<(), Fail> {
     assert!(rt; is_key("wasi:http@0.2.0"));
     assert!(rt; !is_key("a:b/c"));
     assert!(rt; !is_key("http"));
+    Ok(())
+}
+
+/// Paths, keys of packages, and whether the path is one of that package.
+static PACKAGES: [(&str, &str, bool); 6] = [
+    ("wasi:http/types@0.2.0", "wasi:http@0.2.0", true),
+    ("wasi:http/types@0.2.0", "wasi:http@0.2.1", false),
+    ("wasi:http/types@0.2.0", "wasi:http", false),
+    ("a:b/c", "a:b", true),
+    ("a:b/c", "a:c", false),
+    ("a:b/c", "a:b@0.2.0", false),
+];
+
+fn are_of_their_packages() -> bool {
+    for (text, key, wanted) in PACKAGES.iter() {
+        match path_of(text) {
+            Some(path) if path.is_of(key) == *wanted => (),
+            _ => return false,
+        }
+    }
+    true
+}
+
+/// The key of a path's package; asked once more where memory runs out.
+fn key_again(alloc: Global, path: Path<'_>) -> Result<String, AllocError> {
+    match path.key(alloc) {
+        Err(_) => path.key(alloc),
+        answer => answer,
+    }
+}
+
+fn has_key(alloc: Global, text: &str, key: &str) -> Result<bool, AllocError> {
+    match path_of(text) {
+        Some(path) => Ok(key_again(alloc, path)?.as_str() == key),
+        None => Ok(false),
+    }
+}
+
+#[test]
+fn paths_are_of_their_packages(rt: HostRuntime) -> Result<(), Fail> {
+    assert!(rt; are_of_their_packages());
+    let versioned = has_key(rt.alloc(), "wasi:http/types@0.2.0", "wasi:http@0.2.0")?;
+    assert!(rt; versioned);
+    let plain = has_key(rt.alloc(), "a:b/c", "a:b")?;
+    assert!(rt; plain);
     Ok(())
 }

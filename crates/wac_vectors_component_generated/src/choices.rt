@@ -1,0 +1,27 @@
+//! Choices that a seed determines.
+
+use rand_core::Rng;
+use rand_pcg::Pcg32;
+
+/// Choices, in order, the same ones for the same seed.
+#[derive(Drop)]
+pub struct Choices {
+    words: Pcg32,
+}
+
+impl Choices {
+    pub fn new(seed: u64) -> Self {
+        Choices {
+            words: Pcg32::new(seed, 0),
+        }
+    }
+
+    /// A number below a bound; 0 where there is none.
+    pub fn below(&mut self, bound: usize) -> usize {
+        let word = self.words.next_u32() as usize;
+        match word.checked_rem(bound) {
+            None => 0,
+            Some(number) => number,
+        }
+    }
+}

@@ -1,0 +1,39 @@
+//! Modules and types of modules, which no document declares.
+
+use crate::tables::{NAMES, fits, package_of};
+use std::alloc::{AllocError, Global};
+use std::test::Fail;
+use wac_graph_types::{ItemKind, ModuleTypeId, Package, Type, Types};
+
+/// A module and a type of modules of each of two numbers.
+const ITEMS: [ItemKind; 4] = [
+    ItemKind::Module(ModuleTypeId(0)),
+    ItemKind::Module(ModuleTypeId(1)),
+    ItemKind::Ty(Type::Module(ModuleTypeId(0))),
+    ItemKind::Ty(Type::Module(ModuleTypeId(1))),
+];
+
+/// Whether one of the items fits itself, and no other one.
+fn fits_itself(alloc: Global, package: &Package, a: usize) -> Result<bool, AllocError> {
+    for b in 0..ITEMS.len() {
+        if fits(alloc, package, NAMES[a % NAMES.len()], NAMES[b])? != Some(a == b) {
+            return Ok(false);
+        }
+    }
+    Ok(true)
+}
+
+#[test]
+fn modules_have_numbers(rt: HostRuntime) -> Result<(), Fail> {
+    let alloc = rt.alloc();
+    match package_of(alloc, Types::new(alloc), &ITEMS) {
+        Err(_) => assert!(rt; false, "the items make no package"),
+        Ok(package) => {
+            for a in 0..ITEMS.len() {
+                let alone = fits_itself(alloc, &package, a)?;
+                assert!(rt; alone, "{a} fits another one");
+            }
+        }
+    }
+    Ok(())
+}
