@@ -1,0 +1,5 @@
+mod Copies
+mod Declares
+mod First
+mod Refuses
+mod Texts

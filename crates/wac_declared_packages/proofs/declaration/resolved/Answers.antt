@@ -1,0 +1,17 @@
+use Rattle.std.proofs.Common.{[], sym, subst}
+use Rattle.wac_ast.specs.Statements.{document_of}
+use Rattle.wac_ast.specs.declared.document.Document.{Document}
+use Rattle.wac_graph.specs.Graph.{Parts}
+use Rattle.wac_declared_packages.specs.Declaring.{IsGraphOf, IsUnresolved}
+use Rattle.wac_declared_packages.proofs.Refuses.{unresolved}
+use Rattle.wac_declared_packages.proofs.declaration.resolved.Goals as goal
+
+pub returns-in-Ok-clause-ok : goal.returns-in-Ok-clause-ok
+returns-in-Ok-clause-ok c =
+    subst (λ (d : Document). IsGraphOf c.args.packages.entries (document_of d) c.graph_of.result) c.page.view_is
+    (subst (λ (g : Parts). IsGraphOf c.args.packages.entries (document_of c.page.inside.document.now) g) (sym c.graph_of.ensures) c.in-Ok.ensures.graph)
+
+pub returns-in-Err-clause-err : goal.returns-in-Err-clause-err
+returns-in-Err-clause-err c =
+    subst (λ (d : Document). IsUnresolved c.args.packages.entries (document_of d) c.of_resolving.result) c.page.view_is
+    (unresolved c.args.packages.entries (document_of c.page.inside.document.now) c.in-Err.error c.of_resolving.result (λ naming one. c.in-Err.ensures.first [] naming one) c.of_resolving.ensures)

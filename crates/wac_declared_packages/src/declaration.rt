@@ -1,0 +1,98 @@
+//! The package that one document declares.
+ghost use Rattle.std.specs.Prelude.{◌≡◌, IfErr, IfOk, option_map};
+ghost use Rattle.wac_ast.specs.Statements.{document_of};
+ghost use Rattle.wac_graph.specs.Package.{key_of as key_in};
+ghost use Rattle.wac_graph_packages.specs.Definitions.{AreExported, HasWorld};
+ghost use Rattle.wac_graph_types.specs.Growth.{KeepsMeanings};
+ghost use Rattle.wac_declared_packages.specs.Declaring.{IsDeclaredBy, IsGraphOf, IsRefused, IsUnresolved};
+ghost use Rattle.wac_declared_packages.specs.Together.{declared_key};
+ghost use Rattle.wac_declared_packages.specs.Refusing.{IsDeclaration, IsUnmade};
+
+use crate::causes::{of_parts, of_resolving};
+use crate::error::DeclarationError;
+use crate::header::{key_of, test_declaration};
+use crate::rules::NoRules;
+use indexmap::IndexMap;
+use std::alloc::Global;
+use wac_graph::{CompositionGraph, Package, PackageKey};
+use wac_graph_packages::{DefinitionsError, package_of};
+use wac_lexer::SourceSpan;
+use wac_printer::Page;
+use wac_resolution::{Resolution, resolve};
+
+/// The graph of a resolution. It is a function of its own for the prover's sake.
+fn graph_of(resolution: Resolution<'_, '_>) -> CompositionGraph
+    ensures { result ≡ resolution.entry.graph }
+{
+    resolution.into_graph()
+}
+
+/// The graph of a document.
+fn resolved(
+    page: Page<'_, '_>,
+    alloc: Global,
+    packages: IndexMap<PackageKey, Package>,
+) -> Result<CompositionGraph, DeclarationError>
+    ensures ok { IfOk result (IsGraphOf packages.entries (document_of page.entry)) }
+    ensures err { IfErr result (IsUnresolved packages.entries (document_of page.entry)) }
+{
+    let Page { document } = page;
+    match resolve(alloc, document, packages, &NoRules) {
+        Ok(resolution) => Ok(graph_of(resolution)),
+        Err(error) => Err(of_resolving(error)),
+    }
+}
+
+/// The package of a graph, whose document has its package's name in that place.
+fn packaged(
+    alloc: Global,
+    graph: &CompositionGraph,
+    world: Option<&str>,
+    place: SourceSpan,
+) -> Result<Package, DeclarationError>
+    ensures definitions { IfOk result (λ p. AreExported graph.now p.definitions) }
+    ensures means { IfOk result (λ p. KeepsMeanings graph.now.types p.types) }
+    ensures world { IfOk result (λ p. HasWorld (option_map (λ s. s.now) world.entry) p) }
+    ensures err { IfErr result (IsUnmade place) }
+{
+    match package_of(alloc, graph, world) {
+        Ok(package) => Ok(package),
+        Err(DefinitionsError::NoSuchWorld) => Err(DeclarationError::NoSuchWorld(place)),
+        Err(DefinitionsError::Parts(error)) => Err(of_parts(error)),
+    }
+}
+
+/// The package that a document of type statements declares, with its key, which is the directive's name and version.
+///
+/// The world is the named one, or the only one; with none, or with several and none named, the package has its
+/// definitions and a world that imports and exports nothing. `packages` are those that the document may mention. It
+/// tests no rules, since type statements test none.
+///
+/// ```text
+/// package a:b@1.0.0; interface i { f: func(); } world w { export i; }      a:b@1.0.0, which exports a:b/i@1.0.0
+/// package a:b; import x: func();                                           a statement of another sort, at 20+1
+/// ```
+pub fn declared_package(
+    page: Page<'_, '_>,
+    alloc: Global,
+    world: Option<&str>,
+    packages: IndexMap<PackageKey, Package>,
+) -> Result<(PackageKey, Package), DeclarationError>
+    // The key is the directive's.
+    ensures key { IfOk result (λ p. key_in p.0 ≡ declared_key (document_of page.entry)) }
+    // It has what the document's graph exports, with the meanings there, and the chosen world.
+    ensures is { IfOk result (λ p. IsDeclaredBy packages.entries (document_of page.entry) (option_map (λ s. s.now) world.entry) p.1) }
+    // The document has no target, and type statements alone.
+    ensures fits { IfOk result (λ _. IsDeclaration (document_of page.entry)) }
+    // The error says what in the document is no declaration, or what in a declaration makes no package.
+    ensures err { IfErr result (IsRefused packages.entries (document_of page.entry)) }
+{
+    let Page { document } = page;
+    test_declaration(Page { document })?;
+    let name = &document.directive.package;
+    let place = name.span;
+    let key = key_of(alloc, name)?;
+    let graph = resolved(Page { document }, alloc, packages)?;
+    let package = packaged(alloc, &graph, world, place)?;
+    Ok((key, package))
+}

@@ -1,0 +1,31 @@
+//! Packages that documents of type statements declare.
+//!
+//! ```text
+//! package example:cache@1.2.0;
+//! interface metrics { hits: func() -> u64; }
+//! world cache { import log: func(line: string); export metrics; export get: func(key: string) -> option<string>; }
+//! ```
+//!
+//! [`declared_package`] makes the package that one document declares, and [`declared_packages`] those of many, in any
+//! order; [`declare_all`] goes on behind an error. `docs/PACKAGES.md` says what such documents are, and how to go from
+//! WIT to them.
+#![tactic(auto)]
+
+mod causes;
+mod cycles;
+mod declaration;
+mod ending;
+mod error;
+mod header;
+mod making;
+mod many;
+mod outlines;
+mod rules;
+mod sources;
+mod supplying;
+
+pub use declaration::declared_package;
+pub use error::{DeclarationError, DeclarationFault};
+pub use many::{Declared, declare_all, declared_packages};
+pub use supplying::supplied_packages;
+pub use wac_graph_packages::copied_package;
