@@ -1,0 +1,15 @@
+//! Tests of `wac_cli_packages`: its commands over files in memory.
+#![tactic(auto)]
+
+#[cfg(test)]
+mod checked;
+#[cfg(test)]
+mod copied;
+#[cfg(test)]
+mod helped;
+#[cfg(test)]
+mod runs;
+#[cfg(test)]
+mod shown;
+#[cfg(test)]
+mod warned;
