@@ -31,6 +31,15 @@ pub fn check_paths<F: FileSystem, O: Write + Drop, E: Write + Drop>(
     }
 }
 
+/// Writes the last line of a check. Returns the status that files and output lead to.
+pub fn finish_check<O: Write + Drop, E: Write + Drop>(
+    alloc: Global,
+    console: &mut Console<O, E>,
+    outcomes: &[Outcome],
+) -> Status {
+    finish(alloc, console, Task::Check, outcomes)
+}
+
 fn check_all<F: FileSystem, O: Write + Drop, E: Write + Drop>(
     alloc: Global,
     files: &mut F,

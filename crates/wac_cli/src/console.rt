@@ -59,7 +59,7 @@ impl<O: Write + Drop, E: Write + Drop> Console<O, E> {
     }
 
     /// Writes a text for programs.
-    pub(crate) fn write(&mut self, text: &[u8]) {
+    pub fn write(&mut self, text: &[u8]) {
         self.output.write(text);
     }
 
@@ -73,7 +73,7 @@ impl<O: Write + Drop, E: Write + Drop> Console<O, E> {
     }
 
     /// Writes what is wrong with a file.
-    pub(crate) fn report(
+    pub fn report(
         &mut self,
         alloc: Global,
         report: Report,
@@ -101,13 +101,7 @@ impl<O: Write + Drop, E: Write + Drop> Console<O, E> {
     }
 
     /// Writes why a file could not be read or written. Returns what became of it.
-    pub(crate) fn failed(
-        &mut self,
-        alloc: Global,
-        report: Report,
-        path: &str,
-        error: FileError,
-    ) -> Outcome
+    pub fn failed(&mut self, alloc: Global, report: Report, path: &str, error: FileError) -> Outcome
         ensures { IsFailure error result }
     {
         match self.report_failure(alloc, report, path, error) {
@@ -142,14 +136,14 @@ impl<O: Write + Drop, E: Write + Drop> Console<O, E> {
     }
 
     /// Says that a request for memory failed.
-    pub(crate) fn out_of_memory(&mut self) -> Status {
+    pub fn out_of_memory(&mut self) -> Status {
         self.errors
             .write(b"error[wac::out-of-memory]: out of memory\n");
         Status::MemoryFailed
     }
 
     /// The status that the output leads to. It is no failure that nobody reads it any more.
-    pub(crate) fn output_status(&self) -> Status {
+    pub fn output_status(&self) -> Status {
         match self.output.failure {
             None | Some(ErrorKind::BrokenPipe) => Status::Well,
             Some(_) => Status::FileFailed,

@@ -22,3 +22,8 @@ pub use line_ends::line_end_of;
 pub use options::{Action, FormatOptions, LineEnds, Report};
 pub use outcome::{Outcome, Status};
 pub use planning::Plan;
+
+/// What other words of the program use: the last line and the status of a check.
+pub mod internals {
+    pub use crate::checking::finish_check;
+}
