@@ -4,7 +4,7 @@ _wacx() {
     local word=$2 before=$3 command='' words='' files='' at
     for ((at = 1; at < COMP_CWORD; at++)); do
         case ${COMP_WORDS[at]} in
-        fmt | check | help)
+        fmt | check | graph | help)
             command=${COMP_WORDS[at]}
             break
             ;;
@@ -18,10 +18,13 @@ _wacx() {
     check,--output) words='human json github' ;;
     check,--stdin-filepath) words='' files=yes ;;
     check,--color) words='auto always never' ;;
-    ,*) words='fmt check help -h --help -V --version' ;;
+    graph,--output) words='text json dot' ;;
+    graph,--color) words='auto always never' ;;
+    ,*) words='fmt check graph help -h --help -V --version' ;;
     fmt,*) words='--check --diff --indent --line-end --stdin-filepath --color --quiet -h --help' files=yes ;;
     check,*) words='--output --stdin-filepath --color --quiet -h --help' files=yes ;;
-    help,*) words='fmt check' ;;
+    graph,*) words='--output --color -h --help' files=yes ;;
+    help,*) words='fmt check graph' ;;
     esac
     mapfile -t COMPREPLY < <(compgen -W "$words" -- "$word")
     if [[ -n $files && $word != -* ]]; then

@@ -2,6 +2,7 @@
 complete -c wacx -f
 complete -c wacx -n __fish_use_subcommand -a fmt -d 'Writes files in the one layout, with every comment in its place'
 complete -c wacx -n __fish_use_subcommand -a check -d 'Reports the first error of each file'
+complete -c wacx -n __fish_use_subcommand -a graph -d 'Shows the graph of a file'
 complete -c wacx -n __fish_use_subcommand -a help -d 'Print this message or the help of the given subcommand(s)'
 complete -c wacx -n '__fish_use_subcommand' -s h -l help -d 'Print help'
 complete -c wacx -n '__fish_use_subcommand' -s V -l version -d 'Print version'
@@ -20,4 +21,8 @@ complete -c wacx -n '__fish_seen_subcommand_from check' -l color -x -a 'auto alw
 complete -c wacx -n '__fish_seen_subcommand_from check' -l quiet -d 'Leaves out the last line, which counts files'
 complete -c wacx -n '__fish_seen_subcommand_from check' -s h -l help -d 'Print help'
 complete -c wacx -n '__fish_seen_subcommand_from check' -k -a '(__fish_complete_suffix .wac)'
-complete -c wacx -n '__fish_seen_subcommand_from help' -a 'fmt check'
+complete -c wacx -n '__fish_seen_subcommand_from graph' -l output -x -a 'text json dot' -d 'The form of the graph; dot: for Graphviz'
+complete -c wacx -n '__fish_seen_subcommand_from graph' -l color -x -a 'auto always never' -d 'Colours errors'
+complete -c wacx -n '__fish_seen_subcommand_from graph' -s h -l help -d 'Print help'
+complete -c wacx -n '__fish_seen_subcommand_from graph' -k -a '(__fish_complete_suffix .wac)'
+complete -c wacx -n '__fish_seen_subcommand_from help' -a 'fmt check graph'

@@ -2,6 +2,7 @@
 use clap::{Arg, ArgAction, ArgMatches, Command, Error};
 use std::alloc::{AllocError, Global};
 use wac_cli::{Action, FormatOptions, LineEnds, Report};
+use wac_cli_graph::Form;
 use wac_comments::Indent;
 
 /// The version of the program.
@@ -13,6 +14,7 @@ pub(crate) struct Values<'a> {
     colors: [&'a str; 3],
     line_ends: [&'a str; 3],
     reports: [&'a str; 3],
+    forms: [&'a str; 3],
     indents: [&'a str; 17],
 }
 
@@ -22,6 +24,7 @@ impl<'a> Values<'a> {
             colors: ["auto", "always", "never"],
             line_ends: ["auto", "lf", "crlf"],
             reports: ["human", "json", "github"],
+            forms: ["text", "json", "dot"],
             indents: [
                 "1", "2", "3", "4", "5", "6", "7", "8", "9", "10", "11", "12", "13", "14", "15",
                 "16", "tab",
@@ -43,6 +46,7 @@ pub(crate) enum Color {
 pub(crate) enum Work {
     Format(FormatOptions),
     Check(Report),
+    Graph(Form),
 }
 
 /// What the program has to do.
@@ -74,6 +78,7 @@ pub(crate) fn read_words<'a>(
     let matches = definition(alloc, values)?.try_get_matches_from(words)?;
     match matches.subcommand() {
         Some(("fmt", found)) => Ok(request_of(alloc, Work::Format(format_options(found)), found)?),
+        Some(("graph", found)) => Ok(request_of(alloc, Work::Graph(form_of(found)), found)?),
         Some((_, found)) => Ok(request_of(alloc, Work::Check(report_of(found)), found)?),
         None => Ok(Request::Misused("a command is missing")),
     }
@@ -85,25 +90,60 @@ fn request_of<'a>(
     work: Work,
     found: &ArgMatches<'a>,
 ) -> Result<Request<'a>, AllocError> {
-    let mut paths = Vec::new(alloc);
-    if let Some(given) = found.get_strs("PATH") {
-        paths.extend_from_slice(given)?;
-    }
-    let is_input = paths.as_slice().iter().any(|path| *path == "-");
-    let input_name = found.get_str("stdin-filepath");
-    if is_input && paths.len() > 1 {
-        return Ok(Request::Misused("`-` can't be used with other paths"));
-    }
-    if !is_input && input_name.is_some() {
-        return Ok(Request::Misused("--stdin-filepath is used with the path `-` alone"));
-    }
-    Ok(Request::Run(Task {
+    let task = Task {
         work,
         color: color_of(found),
         quiet: found.get_flag("quiet"),
-        paths,
-        input_name,
-    }))
+        paths: all_of(alloc, found, "PATH")?,
+        input_name: found.get_str("stdin-filepath"),
+    };
+    match misuse(&task) {
+        Some(reason) => Ok(Request::Misused(reason)),
+        None => Ok(Request::Run(task)),
+    }
+}
+
+/// Why a task can't be done, if it can't.
+fn misuse(task: &Task<'_>) -> Option<&'static str> {
+    let is_input = task.paths.as_slice().iter().any(|path| *path == "-");
+    if is_input && task.paths.len() > 1 {
+        Some("`-` can't be used with other paths")
+    } else if is_input && reads_files_alone(task.work) {
+        Some("this command reads a file, and not standard input")
+    } else if !is_input && task.input_name.is_some() {
+        Some("--stdin-filepath is used with the path `-` alone")
+    } else {
+        None
+    }
+}
+
+/// Whether a command reads files alone.
+fn reads_files_alone(work: Work) -> bool {
+    match work {
+        Work::Graph(_) => true,
+        Work::Format(_) | Work::Check(_) => false,
+    }
+}
+
+/// All values of an argument.
+fn all_of<'a>(
+    alloc: Global,
+    found: &ArgMatches<'a>,
+    name: &str,
+) -> Result<Vec<&'a str>, AllocError> {
+    let mut all = Vec::new(alloc);
+    if let Some(given) = found.get_strs(name) {
+        all.extend_from_slice(given)?;
+    }
+    Ok(all)
+}
+
+fn form_of(found: &ArgMatches<'_>) -> Form {
+    match found.get_str("output") {
+        Some("json") => Form::Json,
+        Some("dot") => Form::Dot,
+        _ => Form::Text,
+    }
 }
 
 fn color_of(found: &ArgMatches<'_>) -> Color {
@@ -159,7 +199,8 @@ fn definition<'a>(alloc: Global, values: &'a Values<'a>) -> Result<Command<'a>, 
         .about("Formats and checks WAC files")
         .subcommand_required(true)
         .subcommand(fmt_definition(alloc, values)?)?
-        .subcommand(check_definition(alloc, values)?)
+        .subcommand(check_definition(alloc, values)?)?
+        .subcommand(graph_definition(alloc, values)?)
 }
 
 fn fmt_definition<'a>(alloc: Global, values: &'a Values<'a>) -> Result<Command<'a>, AllocError> {
@@ -195,7 +236,7 @@ fn fmt_definition<'a>(alloc: Global, values: &'a Values<'a>) -> Result<Command<'
                 .value_name("LINE-END")
                 .help("What ends lines; auto: what ends the first line"),
         )?;
-    common(alloc, values, command)
+    of_many(alloc, values, command)
 }
 
 fn check_definition<'a>(alloc: Global, values: &'a Values<'a>) -> Result<Command<'a>, AllocError> {
@@ -215,33 +256,64 @@ fn check_definition<'a>(alloc: Global, values: &'a Values<'a>) -> Result<Command
                 .value_name("FORM")
                 .help("The form of errors"),
         )?;
+    of_many(alloc, values, command)
+}
+
+fn graph_definition<'a>(alloc: Global, values: &'a Values<'a>) -> Result<Command<'a>, AllocError> {
+    let command = Command::new(alloc, "graph")
+        .about("Shows the graph of a file")
+        .after_help(
+            "Status: 0 all is well, 1 a file has an error, 2 wrong use, 3 a file could not be read,\n\
+            4 out of memory.",
+        )
+        .arg(one_path(alloc))?
+        .arg(
+            choice(alloc, "output", values.forms.as_slice(), "text")
+                .value_name("FORM")
+                .help("The form of the graph; dot: for Graphviz"),
+        )?;
     common(alloc, values, command)
 }
 
-/// Adds what both commands take.
+fn one_path<'a>(alloc: Global) -> Arg<'a> {
+    Arg::new(alloc, "PATH")
+        .required(true)
+        .action(ArgAction::Set)
+        .value_name("PATH")
+        .help("The file")
+}
+
+/// Adds what all commands take.
 fn common<'a>(
     alloc: Global,
     values: &'a Values<'a>,
     command: Command<'a>,
 ) -> Result<Command<'a>, AllocError> {
-    command
-        .arg(
-            Arg::new(alloc, "stdin-filepath")
-                .long("stdin-filepath")
-                .value_name("NAME")
-                .action(ArgAction::Set)
-                .help("The name of standard input in messages"),
-        )?
-        .arg(
-            choice(alloc, "color", values.colors.as_slice(), "auto")
-                .value_name("WHEN")
-                .help("Colours errors"),
-        )?
-        .arg(flag(
-            alloc,
-            "quiet",
-            "Leaves out the last line, which counts files",
-        ))
+    command.arg(
+        choice(alloc, "color", values.colors.as_slice(), "auto")
+            .value_name("WHEN")
+            .help("Colours errors"),
+    )
+}
+
+/// Adds what the commands take that do many files, or standard input.
+fn of_many<'a>(
+    alloc: Global,
+    values: &'a Values<'a>,
+    command: Command<'a>,
+) -> Result<Command<'a>, AllocError> {
+    let command = command.arg(
+        Arg::new(alloc, "stdin-filepath")
+            .long("stdin-filepath")
+            .value_name("NAME")
+            .action(ArgAction::Set)
+            .help("The name of standard input in messages"),
+    )?;
+    common(alloc, values, command)?.arg(flag(
+        alloc,
+        "quiet",
+        "Leaves out the last line, which counts files",
+    ))
 }
 
 fn paths<'a>(alloc: Global, help: &'a str) -> Arg<'a> {

@@ -2,53 +2,65 @@
 use crate::arguments::Words;
 use crate::command::{Color, Task, Work};
 use std::env::VarError;
-use std::io::IsTerminal;
+use std::io::{IsTerminal, Stderr, Stdout};
 use std::process::ExitCode;
 use std::{env, process};
 use wac_cli::{Console, Status, check_input, check_paths, format_input, format_paths};
+use wac_cli_graph::show_graph;
 use wac_files::Disk;
 
 /// Does a task with the files and streams of the process.
 pub(crate) fn perform(rt: &HostRuntime, task: &Task<'_>, words: &Words) -> ExitCode {
-    let mut console = Console::new(
-        rt.stdout(),
-        rt.stderr(),
-        is_colored(rt, task.color),
-        task.quiet,
-    );
-    let paths = task.paths.as_slice();
-    let status = if paths.first().copied() == Some("-") {
-        let mut input = rt.stdin();
-        match task.work {
-            Work::Format(options) => {
-                format_input(
-                    rt.alloc(),
-                    &mut input,
-                    &mut console,
-                    options,
-                    task.input_name,
-                )
-            }
-            Work::Check(report) => {
-                check_input(
-                    rt.alloc(),
-                    &mut input,
-                    &mut console,
-                    report,
-                    task.input_name,
-                )
-            }
-        }
+    let status = if task.paths.first().copied() == Some("-") {
+        perform_on_input(rt, task)
     } else {
-        let mut files = Disk::new(*rt, process::id(rt.process()));
-        match task.work {
-            Work::Format(options) => {
-                format_paths(rt.alloc(), &mut files, &mut console, options, paths)
-            }
-            Work::Check(report) => check_paths(rt.alloc(), &mut files, &mut console, report, paths),
-        }
+        perform_on_files(rt, task)
     };
     ExitCode::from(status.code())
+}
+
+/// Where a task writes.
+fn console_of(rt: &HostRuntime, task: &Task<'_>) -> Console<Stdout, Stderr> {
+    let color = is_colored(rt, task.color);
+    Console::new(rt.stdout(), rt.stderr(), color, task.quiet)
+}
+
+/// Does a task with standard input.
+fn perform_on_input(rt: &HostRuntime, task: &Task<'_>) -> Status {
+    let mut console = console_of(rt, task);
+    let mut input = rt.stdin();
+    let name = task.input_name;
+    match task.work {
+        Work::Format(options) => {
+            format_input(rt.alloc(), &mut input, &mut console, options, name)
+        }
+        Work::Check(report) => check_input(rt.alloc(), &mut input, &mut console, report, name),
+        // The words of the command line allow no standard input here.
+        Work::Graph(_) => Status::Wrong,
+    }
+}
+
+/// Does a task with files.
+fn perform_on_files(rt: &HostRuntime, task: &Task<'_>) -> Status {
+    let mut console = console_of(rt, task);
+    let mut files = Disk::new(*rt, process::id(rt.process()));
+    let paths = task.paths.as_slice();
+    match task.work {
+        Work::Format(options) => {
+            format_paths(rt.alloc(), &mut files, &mut console, options, paths)
+        }
+        Work::Check(report) => check_paths(rt.alloc(), &mut files, &mut console, report, paths),
+        Work::Graph(form) => {
+            show_graph(rt.alloc(), &mut files, &mut console, form, first_of(paths))
+        }
+    }
+}
+
+fn first_of<'p>(paths: &[&'p str]) -> &'p str {
+    match paths.first() {
+        Some(path) => path,
+        None => "",
+    }
 }
 
 /// Whether errors are coloured.
