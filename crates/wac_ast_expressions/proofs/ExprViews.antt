@@ -29,7 +29,7 @@ new_is x =
     let row = packed (New x) in
     ap (PrimaryExpr.new x.span (package_name_of x.«package»)) (of_row row.0 row.1 ∙ ap (λ l. arguments_from (map argument_of l)) (items_hidden-the_row-InstantiationArgument-0 x.arguments))
 
-nested_out : (x : CodeNestedExpr) → nested_expr_of x ≡ PrimaryExpr.nested (out-NestedExpr x).span (expr_of (out-NestedExpr x).inner.value)
+pub nested_out : (x : CodeNestedExpr) → nested_expr_of x ≡ PrimaryExpr.nested (out-NestedExpr x).span (expr_of (out-NestedExpr x).inner.value)
 unfolding out-NestedExpr denote.Hole.Carrier.out
 nested_out (NestedExpr' s p outer first others) = refl
 

@@ -1,3 +1,2 @@
 pub mod Forms
 pub mod Members
-pub mod Trees

@@ -8,7 +8,7 @@ use Rattle.wac_printer_pieces.proofs.Printing.{seq}
 use Rattle.wac_printer_pieces.proofs.Sequence.{printed_at}
 use Rattle.wac_json_forms.specs.Forms.{list_json, optional}
 use Rattle.wac_json_text.specs.Pieces.{pieces}
-use Rattle.wac_json_text.proofs.Texts.{list_of-map, optional-map}
+use Rattle.wac_json_forms.proofs.Lists.{list_of-map, optional-map}
 
 pub ruleset steps = (seq, list_of-map, optional-map)
 

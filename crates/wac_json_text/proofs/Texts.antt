@@ -1,7 +1,6 @@
 -- The parts that are put for a value are its compact text.
-use Rattle.std.proofs.Common.{◌≡◌, ℕ, Bool, true, false, List, [], ◌∷◌, ◌++◌, map, length, codes, append_assoc, append-nil, refl, sym, ap, ◌∙◌, arith, Result, Ok, Err, OnErr, Option, Some, None}
+use Rattle.std.proofs.Common.{◌≡◌, ℕ, Bool, true, false, List, [], ◌∷◌, ◌++◌, map, length, codes, append_assoc, append-nil, refl, sym, ap, ◌∙◌, arith, Result, Ok, Err, OnErr}
 use Rattle.std.specs.List.{flat_map}
-use Rattle.std.specs.Option.{option_map}
 use Rattle.json.specs.Print.{quoted}
 use Rattle.serde_json.specs.Data.{Data, null, boolean, number, string, array, object, Items, no_items, item, Members, no_members, member}
 use Rattle.serde_json.specs.Written.{compact_text, items_text, members_text, number_text}
@@ -74,21 +73,6 @@ closed_items space fresh form xs b =
     text-append space fresh front (blank (93 ∷ b) ∷ [])
     ∙ sym (append_assoc (text space fresh front) (93 ∷ b) [])
     ∙ ap (λ t. t ++ []) (sym (append_assoc (text space fresh front) (93 ∷ []) b) ∙ ap (λ t. t ++ b) whole)
-
--- the items of values and of the trees of them
-
-pub items_of-map : {X Y : Type 0} (form : Y → Data) (g : X → Y) (xs : List X) → items_of form (map g xs) ≡ items_of (λ x. form (g x)) xs
-items_of-map form g [] = refl
-items_of-map form g (x ∷ xs) = ap (item (form (g x))) (items_of-map form g xs)
-
-pub list_of-map : {X Y : Type 0} (form : Y → Data) (g : X → Y) (xs : List X) → list_json form (map g xs) ≡ list_json (λ x. form (g x)) xs
-unfolding list_json
-list_of-map form g xs = ap array (items_of-map form g xs)
-
-pub optional-map : {X Y : Type 0} (form : Y → Data) (g : X → Y) (o : Option X) → optional form (option_map g o) ≡ optional (λ x. form (g x)) o
-unfolding optional
-optional-map form g None = refl
-optional-map form g (Some x) = refl
 
 pub none_left : {X : Type 0} (xs : List X) → length xs ≡ 0 → xs ≡ []
 none_left [] e = refl

@@ -1,19 +1,17 @@
 -- The trees of types and of expressions, which hold others of their kind, as JSON.
-use Rattle.std.proofs.Common.{◌≡◌, ℕ, List, [], ◌∷◌, ◌++◌, map, codes, decimal, refl, sym, ap, Option, Some, None, Result, Global}
-use Rattle.std.specs.Prelude.{Box}
-use Rattle.serde_json.specs.Data.{Data, item}
+use Rattle.std.proofs.Common.{◌≡◌, ℕ, List, [], ◌∷◌, ◌++◌, codes, decimal, sym, Result}
+use Rattle.serde_json.specs.Data.{Data}
 use Rattle.wac_lexer.specs.Span.{Span}
 use Rattle.wac_printer_layout.specs.Printed.{blank}
 use Rattle.wac_ast_grammar.specs.Tree as tree
-use Rattle.wac_ast_grammar.specs.Tree.{types_from}
-use Rattle.wac_ast_types.specs.Types.{ty_of, optional_of}
+use Rattle.wac_ast_types.specs.Types.{ty_of}
 use Rattle.wac_ast_types.specs.declared.types.«Type» as code
 use Rattle.wac_ast_types.specs.declared.types.«Type».{«Type»}
 use Rattle.wac_printer_pieces.specs.Printed.{Printer, Prints}
 use Rattle.wac_printer_pieces.specs.declared.error.PrintError.{PrintError}
 use Rattle.wac_printer_pieces.proofs.Sequence.{printed_at}
 use Rattle.wac_json_text.specs.Contents.{held_pieces, span_inside}
-use Rattle.wac_json_forms.specs.Forms.{items_of, ty_json, types_json}
+use Rattle.wac_json_forms.specs.Forms.{ty_json}
 use Rattle.wac_json_text.specs.Pieces.{pieces}
 use Rattle.wac_json_text.proofs.Joined.{around, before}
 
@@ -27,14 +25,3 @@ held_put opening d s h = around d (blank (codes ",{\"length\":") ∷ (span_insid
 -- a type that is another
 pub as_ty : {A : Type 0} {x y : «Type»} {old new : Printer} {r : Result A PrintError} → x ≡ y → Prints old r new (pieces (ty_json (ty_of y))) → Prints old r new (pieces (ty_json (ty_of x)))
 as_ty e h = printed_at (λ z. pieces (ty_json (ty_of z))) (sym e) h
-
-pub types_items : (xs : List «Type») → items_of (λ x. ty_json (ty_of x)) xs ≡ types_json (types_from (map ty_of xs))
-unfolding types_json
-types_items [] = refl
-types_items (x ∷ xs) = ap (item (ty_json (ty_of x))) (types_items xs)
-
-pub result_is : (ok err : Option (Box «Type» Global)) (s : Span) → ty_of (code.Result ok err s) ≡ tree.Ty.result (optional_of ok) (optional_of err) s
-result_is None None s = refl
-result_is None (Some e) s = refl
-result_is (Some o) None s = refl
-result_is (Some o) (Some e) s = refl

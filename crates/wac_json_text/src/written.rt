@@ -7,10 +7,9 @@ ghost use Rattle.wac_json_text.specs.Pieces.{pieces, IsBegun};
 
 use crate::form::{Enclosed, Json};
 use crate::parts::list;
-use std::marker::Model;
-use wac_ast::{Document, Statement};
+use wac_ast::Statement;
 use wac_lexer::Sink;
-use wac_printer::Page;
+use wac_printer::{Page, Statements};
 use wac_printer_pieces::{Pieces, PrintResult};
 
 /// Writes the JSON form of a document into a sink: compact, each object's keys sorted by their bytes.
@@ -31,43 +30,6 @@ pub fn write_json<S: Sink>(page: Page<'_, '_>, writer: &mut S) -> PrintResult
     // The proof reads from this use what the writer holds.
     let _ = &*writer;
     result
-}
-
-/// The statements of a document, which the prover follows through a call at less cost than the document.
-#[derive(Drop)]
-struct Statements<'t, 'a> {
-    document: &'t Document<'a>,
-}
-
-impl<'t, 'a> Model for Statements<'t, 'a> {
-    ghost use Rattle.std.specs.Prelude.{List, []};
-    ghost use Rattle.std.specs.Coded.{codes};
-    ghost use Rattle.wac_ast_types.specs.contracts.types.«Type» as ty;
-    ghost use Rattle.wac_ast_expressions.specs.contracts.expr.PrimaryExpr as primary;
-    ghost use mir.Syntax.{erased};
-    ghost use Rattle.wac_ast.specs.declared.statement.Statement.{Statement};
-
-    ghost Value = { List Statement };
-
-    ghost coded = { Prim.hlevel (codes, (ty.the_row (record { mir = erased; lft = [] })).coded, (primary.the_row (record { mir = erased; lft = [] })).coded) };
-
-    ghost view = { λ s. s.document.now.statements.items };
-
-    ghost invariant = { λ s. Unit {0} };
-}
-
-fn statements_of<'t, 'a>(document: &'t Document<'a>) -> &'t [Statement<'a>]
-    ensures { result.now ≡ document.now.statements.items }
-{
-    &document.statements
-}
-
-impl<'t, 'a> Statements<'t, 'a> {
-    fn all(self) -> &'t [Statement<'a>]
-        ensures { result.now ≡ self.entry }
-    {
-        statements_of(self.document)
-    }
 }
 
 /// Writes statements in brackets.

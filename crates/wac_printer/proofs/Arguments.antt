@@ -5,15 +5,13 @@ use Rattle.std.specs.List.{All, flat_map}
 use Rattle.wac_lexer.specs.Span.{Span}
 use Rattle.wac_ast_grammar.specs.Tree as tree
 use Rattle.wac_ast_grammar.specs.Tree.{Arguments, arguments_from}
-use Rattle.wac_ast_expressions.specs.Expressions.{argument_name_of, argument_of, arguments_of_row, expr_of, nested_expr_of, new_expr_of, primary_expr_of}
-use Rattle.wac_ast_base.specs.Names.{package_name_of}
-use mathlib.Core.Former.{Count}
+use Rattle.wac_ast_expressions.specs.Expressions.{argument_name_of, argument_of, expr_of, primary_expr_of}
 use denote.Param.Weighed.{most}
 use Rattle.wac_ast_expressions.specs.declared.expr.InstantiationArgument.{InstantiationArgument, Fill, Named}
 use Rattle.wac_ast_expressions.specs.declared.expr.NamedInstantiationArgument.{NamedInstantiationArgument}
-use Rattle.wac_ast_expressions.specs.declared.expr.NewExpr.{NewExpr, Row_of-InstantiationArgument, end_of-InstantiationArgument, more_of-InstantiationArgument, items-the_row-InstantiationArgument, items_hidden-the_row-InstantiationArgument-0}
-use Rattle.wac_ast_expressions.specs.declared.expr.PrimaryExpr.{PrimaryExpr, New, New', Nested}
-use Rattle.wac_ast_expressions.specs.declared.expr.NestedExpr.{NestedExpr, NestedExpr', out-NestedExpr}
+use Rattle.wac_ast_expressions.specs.declared.expr.PrimaryExpr.{PrimaryExpr, Nested}
+use Rattle.wac_ast_expressions.specs.declared.expr.NestedExpr.{NestedExpr, out-NestedExpr}
+use Rattle.wac_ast_expressions.proofs.ExprViews.{nested_out}
 use Rattle.wac_printer_layout.specs.Bare.{bare_argument, bare_argument_name, bare_arguments, bare_expr, bare_primary_expr}
 use Rattle.wac_printer_layout.specs.Printed.{Piece, token, line, deeper}
 use Rattle.wac_printer_layout.specs.Parts.{space, newline}
@@ -136,28 +134,11 @@ braces_lines source depth (x ∷ xs) n h = line_braces source depth (argument_of
 
 -- ---- the trees of expressions that hold others
 
-of_row : (n : _) (row : Row_of-InstantiationArgument n) → arguments_of_row row ≡ arguments_from (map argument_of (items-the_row-InstantiationArgument n row))
-of_row _ end_of-InstantiationArgument = refl
-of_row _ (more_of-InstantiationArgument x others) = ap (Arguments.more (argument_of x)) (of_row _ others)
-
-abbrev packed : PrimaryExpr → (n : Count) × Row_of-InstantiationArgument n
-packed (New' span name shape row) = (_, row)
-packed _ = (_, end_of-InstantiationArgument)
-
-pub new_is : (x : NewExpr) → primary_expr_of (New x) ≡ new_expr_of x
-new_is x =
-    let row = packed (New x) in
-    ap (tree.PrimaryExpr.new x.span (package_name_of x.«package»)) (of_row row.0 row.1 ∙ ap (λ l. arguments_from (map argument_of l)) (items_hidden-the_row-InstantiationArgument-0 x.arguments))
-
-pub nested_is : (x : NestedExpr) → nested_expr_of x ≡ tree.PrimaryExpr.nested (out-NestedExpr x).span (expr_of (out-NestedExpr x).inner.value)
-unfolding out-NestedExpr denote.Hole.Carrier.out
-nested_is (NestedExpr' s p outer first others) = refl
-
 pub nested_layout : (source : List ℕ) (depth : ℕ) (p : PrimaryExpr) (x : NestedExpr) → p ≡ Nested x
     → primary_expr_layout depth (bare_primary_expr source (primary_expr_of p)) ≡ token (codes "(") ∷ (expr_layout depth (bare_expr source (expr_of (out-NestedExpr x).inner.value)) ++ token (codes ")") ∷ [])
 unfolding primary_expr_layout
 nested_layout source depth p x e =
-    ap (λ y. primary_expr_layout depth (bare_primary_expr source (primary_expr_of y))) e ∙ ap (λ y. primary_expr_layout depth (bare_primary_expr source y)) (nested_is x)
+    ap (λ y. primary_expr_layout depth (bare_primary_expr source (primary_expr_of y))) e ∙ ap (λ y. primary_expr_layout depth (bare_primary_expr source y)) (nested_out x)
 
 pub named_is : (source : List ℕ) (depth : ℕ) (x : InstantiationArgument) (a : NamedInstantiationArgument) → x ≡ Named a
     → argument_layout depth (bare_argument source (argument_of x)) ≡ argument_name_layout (bare_argument_name source (argument_name_of a.name)) ++ token (codes ":") ∷ space ∷ expr_layout depth (bare_expr source (expr_of a.expr))

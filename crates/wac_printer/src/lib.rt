@@ -16,5 +16,5 @@ pub use laws::{
     equal_bare_trees_print_equally, printed_documents_read_back, trees_of_texts_can_be_printed,
 };
 pub use printer::DocumentPrinter;
-pub use statement::Page;
+pub use statement::{Page, Statements};
 pub use wac_printer_pieces::{PrintError, PrintResult};

@@ -63,10 +63,14 @@ impl<'t, 'a> Model for Page<'t, 'a> {
     ghost invariant = { λ p. Unit {0} };
 }
 
-/// The statements of a document.
+/// The statements of a document that is lent.
+///
+/// `Statements { document }.all()` is `&document.statements`. It is for callers that are proved themselves: the prover
+/// follows the statements through a call at less cost than the document.
 #[derive(Drop)]
-struct Statements<'t, 'a> {
-    document: &'t Document<'a>,
+pub struct Statements<'t, 'a> {
+    /// The document.
+    pub document: &'t Document<'a>,
 }
 
 impl<'t, 'a> Model for Statements<'t, 'a> {
@@ -93,7 +97,8 @@ fn statements_of<'t, 'a>(document: &'t Document<'a>) -> &'t [Statement<'a>]
 }
 
 impl<'t, 'a> Statements<'t, 'a> {
-    fn all(self) -> &'t [Statement<'a>]
+    /// All statements, in order.
+    pub fn all(self) -> &'t [Statement<'a>]
         ensures { result.now ≡ self.entry }
     {
         statements_of(self.document)

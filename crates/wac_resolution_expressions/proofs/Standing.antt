@@ -14,9 +14,8 @@ use Rattle.wac_graph_types.specs.Meaning.{Meaning}
 use Rattle.wac_graph_types.specs.Scope.{Named, look_up, IsFresh}
 use Rattle.wac_graph_types.specs.Steps.{Steps, Fails}
 use Rattle.wac_graph_types.specs.Table.{Names}
-use Rattle.wac_ast_expressions.specs.Expressions.{argument_of, expr_of, nested_expr_of}
+use Rattle.wac_ast_expressions.specs.Expressions.{argument_of}
 use Rattle.wac_ast_expressions.specs.declared.expr.InstantiationArgument.{InstantiationArgument as CodeArgument}
-use Rattle.wac_ast_expressions.specs.declared.expr.NestedExpr.{NestedExpr as CodeNestedExpr, NestedExpr', out-NestedExpr}
 use Rattle.wac_graph.specs.declared.node.NodeId.{NodeId}
 use Rattle.wac_graph.specs.Graph.{Parts}
 use Rattle.wac_graph.specs.Origin.{Naming, IsOneToOne}
@@ -51,11 +50,6 @@ use Rattle.wac_resolution_expressions.proofs.Extending.{extends_self, extends_on
 use Rattle.wac_resolution_expressions.proofs.GivingInOrder.{GivesFirst, gives_next, gives_breaks, gives_end}
 use Rattle.wac_resolution_expressions.proofs.GivingNodes.{after_more, there_more}
 use Rattle.wac_resolution_expressions.proofs.Placing.{each_own}
-
--- an expression in parentheses
-pub nested_is : (x : CodeNestedExpr) → nested_expr_of x ≡ PrimaryExpr.nested (out-NestedExpr x).span (expr_of (out-NestedExpr x).inner.value)
-unfolding out-NestedExpr denote.Hole.Carrier.out
-nested_is (NestedExpr' s p outer first others) = refl
 
 -- whether arguments are left by their number
 none_left : (l : List InstantiationArgument) → is_none (arguments_from l) ≡ nat_eq (length l) 0

@@ -5,8 +5,8 @@ use Rattle.serde_json.specs.View.{items_of}
 use Rattle.wac_ast_expressions.specs.Expressions.{argument_of, primary_expr_of}
 use Rattle.wac_ast_expressions.proofs.ExprViews.{new_is}
 use Rattle.wac_json_forms.specs.Forms.{argument_json, named_argument_json, primary_expr_json, variant}
-use Rattle.wac_json.proofs.Forms.{formed_as}
-use Rattle.wac_json.proofs.Trees.{arguments_are}
+use Rattle.wac_json_forms.proofs.Lists.{arguments_items}
+use Rattle.wac_json.proofs.Forms.{formed_as, items_are}
 use Rattle.wac_json.proofs.expr.+expressions.Goals as goal
 
 pub PrimaryExprToValue::to_value-returns-in_ok-to_value-in-New-clause-formed :
@@ -32,4 +32,4 @@ arguments_value-returns-clause-formed t c =
     let h : length c.args.arguments.now.items ≤ c.loop-argument.argument-index = search rules in
     c.into_value.ensures.holds
     ∙ ap (λ ds. array (items_of ds)) (c.loop-argument.invariant ∙ ap (map (λ x. argument_json (argument_of x))) (take_all _ _ h))
-    ∙ ap array (arguments_are _)
+    ∙ ap array (items_are _ _ ∙ arguments_items argument_of _)

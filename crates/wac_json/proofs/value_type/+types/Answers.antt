@@ -5,8 +5,8 @@ use Rattle.serde_json.specs.View.{items_of}
 use Rattle.wac_ast_types.specs.Types.{ty_of}
 use Rattle.wac_ast_types.proofs.TypeParts.{tuple_is}
 use Rattle.wac_json_forms.specs.Forms.{pair, span_json, ty_json, variant}
-use Rattle.wac_json.proofs.Forms.{formed_as}
-use Rattle.wac_json.proofs.Trees.{types_are}
+use Rattle.wac_json_forms.proofs.Lists.{types_items}
+use Rattle.wac_json.proofs.Forms.{formed_as, items_are}
 use Rattle.wac_json.proofs.value_type.+types.Goals as goal
 
 pub TypeToValue::to_value-returns-in_ok-types_value-in-Tuple-clause-formed :
@@ -23,4 +23,4 @@ types_value-returns-clause-formed t c =
     let h : length c.args.types.now.items ≤ c.loop-ty.ty-index = search rules in
     c.into_value.ensures.holds
     ∙ ap (λ ds. array (items_of ds)) (c.loop-ty.invariant ∙ ap (map (λ x. ty_json (ty_of x))) (take_all _ _ h))
-    ∙ ap array (types_are _)
+    ∙ ap array (items_are _ _ ∙ types_items ty_of _)

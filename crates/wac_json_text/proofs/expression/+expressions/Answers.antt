@@ -5,17 +5,18 @@ use Rattle.wac_ast_base.specs.Names.{ident_of}
 use Rattle.wac_ast_expressions.specs.Expressions.{argument_name_of, argument_of, expr_of, new_expr_of, postfix_expr_of}
 use Rattle.wac_ast_expressions.specs.declared.expr.InstantiationArgument.{size-InstantiationArgument}
 use Rattle.wac_ast_expressions.specs.declared.expr.NestedExpr.{out-NestedExpr}
-use Rattle.wac_ast_expressions.proofs.ExprViews.{new_is}
+use Rattle.wac_ast_expressions.proofs.ExprViews.{nested_out, new_is}
 use Rattle.wac_printer.proofs.Trees.{most_rest}
 use Rattle.wac_printer_pieces.proofs.Progress as list
 use Rattle.wac_printer_pieces.proofs.Progress.{first_goes, first_stops, goes_at, none_is, starts, stops_at}
 use Rattle.wac_printer_pieces.proofs.Sequence.{first, last, printed_at}
 use Rattle.wac_json_text.specs.Contents.{named_json, nested_json}
 use Rattle.wac_json_forms.specs.Forms.{argument_json, expr_json, ident_json, list_json, postfix_expr_json, primary_expr_json, span_json, variant}
+use Rattle.wac_json_forms.proofs.Lists.{arguments_items, items_of-map}
 use Rattle.wac_json_text.specs.Pieces.{behind_comma, joined_pieces, pieces}
-use Rattle.wac_json_text.proofs.ExpressionTrees.{arguments_items, as_argument, as_primary, nested_is}
+use Rattle.wac_json_text.proofs.ExpressionTrees.{as_argument, as_primary}
 use Rattle.wac_json_text.proofs.Joined.{as_form, as_pieces, ends, form, list_then, put, then}
-use Rattle.wac_json_text.proofs.Texts.{items_of-map, none_left}
+use Rattle.wac_json_text.proofs.Texts.{none_left}
 use Rattle.wac_json_text.proofs.expression.+expressions.Goals as goal
 
 -- ---- lists of arguments
@@ -119,7 +120,7 @@ new_expr-returns g t c =
     (ends c.and-6.ensures
     (then c.and-5.ensures
     (then c.and-4.ensures
-    (then c.and-3.ensures (list_then (λ x. argument_json (argument_of x)) _ (arguments_items c.args.tree.now.arguments.items) c.and.ensures c.and-2.ensures (put c.blank.ensures) arguments c.blank-2.ensures) (form _ c.write.ensures))
+    (then c.and-3.ensures (list_then (λ x. argument_json (argument_of x)) _ (arguments_items argument_of c.args.tree.now.arguments.items) c.and.ensures c.and-2.ensures (put c.blank.ensures) arguments c.blank-2.ensures) (form _ c.write.ensures))
     (put c.blank-3.ensures))
     (put c.write_inside.ensures))
     c.blank-4.ensures)
@@ -134,7 +135,7 @@ primary-returns-in-Nested g t c =
     let x = c.deref.result.now in
     let v : x ≡ (out-NestedExpr c.in-Nested.tree).inner.value = search rules in
     as_primary c.in-Nested.is
-    (printed_at (λ y. pieces (primary_expr_json y)) (sym (nested_is c.in-Nested.tree))
+    (printed_at (λ y. pieces (primary_expr_json y)) (sym (nested_out c.in-Nested.tree))
     (printed_at (λ y. pieces (nested_json (expr_of y) (out-NestedExpr c.in-Nested.tree).span)) v c.nested.ensures))
 
 pub primary-returns-in-Ident : goal.primary-returns-in-Ident

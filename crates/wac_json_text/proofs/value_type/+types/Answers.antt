@@ -5,7 +5,7 @@ use Rattle.wac_ast_base.specs.Names.{ident_of}
 use Rattle.wac_ast_grammar.specs.Tree as tree
 use Rattle.wac_ast_types.specs.Types.{optional_of, ty_of}
 use Rattle.wac_ast_types.specs.declared.types.«Type».{size-Type}
-use Rattle.wac_ast_types.proofs.TypeParts.{future_is, stream_is, tuple_is}
+use Rattle.wac_ast_types.proofs.TypeParts.{future_is, result_is, stream_is, tuple_is}
 use Rattle.wac_printer_pieces.proofs.Printing.{stops}
 use Rattle.wac_printer.proofs.Trees.{most_rest}
 use Rattle.wac_printer_pieces.proofs.Progress as list
@@ -13,10 +13,11 @@ use Rattle.wac_printer_pieces.proofs.Progress.{first_goes, first_stops, goes_at,
 use Rattle.wac_printer_pieces.proofs.Sequence.{after, first, last, printed_at}
 use Rattle.wac_json_text.specs.Contents.{held_pieces, tuple_json}
 use Rattle.wac_json_forms.specs.Forms.{ident_json, optional_ty_json, pair, span_json, ty_json, variant}
+use Rattle.wac_json_forms.proofs.Lists.{types_items}
 use Rattle.wac_json_text.specs.Pieces.{behind_comma, joined_pieces, pieces}
 use Rattle.wac_json_text.proofs.Joined.{as_form, as_pieces, at_once, ends, list_then, opened, put, then}
 use Rattle.wac_json_text.proofs.Texts.{none_left}
-use Rattle.wac_json_text.proofs.Trees.{as_ty, held_put, result_is, types_items}
+use Rattle.wac_json_text.proofs.Trees.{as_ty, held_put}
 use Rattle.wac_json_text.proofs.value_type.+types.Goals as goal
 
 -- ---- lists of types
@@ -71,7 +72,7 @@ pub tuple-returns : goal.tuple-returns
 unfolding ty_json span_json escape_byte
 tuple-returns g t c =
     as_form (tuple_json (map ty_of c.args.types.now) c.args.span.now)
-    (ends c.and-4.ensures (then c.and-3.ensures (list_then (λ x. ty_json (ty_of x)) _ (types_items c.args.types.now) c.and.ensures c.and-2.ensures (put c.blank.ensures) c.joined_types.ensures c.blank-2.ensures) (put c.write_inside.ensures)) c.blank-3.ensures)
+    (ends c.and-4.ensures (then c.and-3.ensures (list_then (λ x. ty_json (ty_of x)) _ (types_items ty_of c.args.types.now) c.and.ensures c.and-2.ensures (put c.blank.ensures) c.joined_types.ensures c.blank-2.ensures) (put c.write_inside.ensures)) c.blank-3.ensures)
 
 pub holding-returns : goal.holding-returns
 holding-returns g t c =

@@ -6,7 +6,7 @@ use Rattle.wac_printer_pieces.proofs.Sequence.{printed_at}
 use Rattle.wac_json_forms.specs.Forms.{doc_json, json_of, list_json, statement_json}
 use Rattle.wac_json_text.specs.Pieces.{pieces}
 use Rattle.wac_json_text.proofs.Joined.{as_form, ends, form, list_then, put, then}
-use Rattle.wac_json_text.proofs.Texts.{items_of-map}
+use Rattle.wac_json_forms.proofs.Lists.{items_of-map}
 use Rattle.wac_json_text.proofs.written.document.Goals as goal
 
 pub returns : goal.returns

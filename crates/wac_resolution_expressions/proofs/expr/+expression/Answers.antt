@@ -11,7 +11,7 @@ use Rattle.wac_ast_expressions.specs.declared.expr.InstantiationArgument.{Instan
 use Rattle.wac_ast_expressions.specs.declared.expr.NestedExpr.{out-NestedExpr}
 use Rattle.wac_ast_expressions.specs.declared.expr.NewExpr.{size_is-NewExpr}
 use Rattle.wac_ast_expressions.specs.declared.expr.PostfixExpr.{PostfixExpr as CodePostfixExpr}
-use Rattle.wac_ast_expressions.proofs.ExprViews.{new_is}
+use Rattle.wac_ast_expressions.proofs.ExprViews.{nested_out, new_is}
 use Rattle.wac_resolution_errors.specs.Error.{Reports}
 use Rattle.wac_resolution_errors.specs.Told.{told}
 use Rattle.wac_resolution_rules.specs.BrokenTypes.{IsUndefined}
@@ -103,7 +103,7 @@ primary-returns-in-Nested-clause-ok g t c =
     let declared = numbers_of c.args.root.now.nodes in
     let span = (out-NestedExpr c.in-Nested.nested).span in
     let inner : c.deref.result.now ≡ (out-NestedExpr c.in-Nested.nested).inner.value = search rules in
-    let is : primary_expr_of c.args.expr.now ≡ PrimaryExpr.nested span (expr_of c.deref.result.now) = ap primary_expr_of c.in-Nested.is ∙ stand.nested_is c.in-Nested.nested ∙ ap (λ y. PrimaryExpr.nested span (expr_of y)) (sym inner) in
+    let is : primary_expr_of c.args.expr.now ≡ PrimaryExpr.nested span (expr_of c.deref.result.now) = ap primary_expr_of c.in-Nested.is ∙ nested_out c.in-Nested.nested ∙ ap (λ y. PrimaryExpr.nested span (expr_of y)) (sym inner) in
     subst (λ (x : PrimaryExpr). IfOk c.expression.result (λ n. PrimaryGoes s rules old new declared x n.0)) (sym is)
     (IfOk-weaker c.expression.result (λ n. ExprGoes s rules old new declared (expr_of c.deref.result.now) n.0) (λ n. PrimaryGoes s rules old new declared (PrimaryExpr.nested span (expr_of c.deref.result.now)) n.0)
     (λ n p. stand.nested_goes s rules old new declared span (expr_of c.deref.result.now) n.0 p) c.expression.ensures.ok)
@@ -116,7 +116,7 @@ primary-returns-in-Nested-clause-err g t c =
     let declared = numbers_of c.args.root.now.nodes in
     let span = (out-NestedExpr c.in-Nested.nested).span in
     let inner : c.deref.result.now ≡ (out-NestedExpr c.in-Nested.nested).inner.value = search rules in
-    let is : primary_expr_of c.args.expr.now ≡ PrimaryExpr.nested span (expr_of c.deref.result.now) = ap primary_expr_of c.in-Nested.is ∙ stand.nested_is c.in-Nested.nested ∙ ap (λ y. PrimaryExpr.nested span (expr_of y)) (sym inner) in
+    let is : primary_expr_of c.args.expr.now ≡ PrimaryExpr.nested span (expr_of c.deref.result.now) = ap primary_expr_of c.in-Nested.is ∙ nested_out c.in-Nested.nested ∙ ap (λ y. PrimaryExpr.nested span (expr_of y)) (sym inner) in
     subst (λ (x : PrimaryExpr). IfErr c.expression.result (λ e. Reports (told e) (PrimaryBreaks s rules old declared x (told e)))) (sym is)
     (IfErr-weaker c.expression.result (λ e. Reports (told e) (ExprBreaks s rules old declared (expr_of c.deref.result.now) (told e))) (λ e. Reports (told e) (PrimaryBreaks s rules old declared (PrimaryExpr.nested span (expr_of c.deref.result.now)) (told e))) (λ e h. h) c.expression.ensures.err)
 

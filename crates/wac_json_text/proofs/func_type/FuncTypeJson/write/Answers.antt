@@ -4,7 +4,7 @@ use Rattle.std.proofs.Common.{sym}
 use Rattle.wac_ast_types.specs.Declarations.{func_type_of, named_type_of}
 use Rattle.wac_json_forms.specs.Forms.{func_type_json, list_json, named_type_json}
 use Rattle.wac_json_text.proofs.Joined.{as_form, ends, form, list_then, put, then}
-use Rattle.wac_json_text.proofs.Texts.{items_of-map}
+use Rattle.wac_json_forms.proofs.Lists.{items_of-map}
 use Rattle.wac_json_text.proofs.func_type.FuncTypeJson.write.Goals as goal
 
 pub returns : goal.returns

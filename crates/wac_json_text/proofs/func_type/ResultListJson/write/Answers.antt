@@ -1,7 +1,7 @@
 use Rattle.json.specs.Print.{escape_byte}
 use Rattle.std.proofs.Common.{sym, ◌∷◌, ◌++◌, [], codes}
 use Rattle.wac_ast_types.specs.Declarations.{result_list_of, named_type_of}
-use Rattle.wac_json_text.proofs.Texts.{list_of-map}
+use Rattle.wac_json_forms.proofs.Lists.{list_of-map}
 use Rattle.wac_json_forms.specs.Forms.{result_list_json, named_type_json}
 use Rattle.wac_json_text.specs.Pieces.{pieces}
 use Rattle.wac_printer_layout.specs.Printed.{blank}

@@ -5,7 +5,7 @@ use Rattle.wac_ast_worlds.specs.Worlds.{import_statement_of}
 use Rattle.wac_json_forms.specs.Forms.{doc_json, extern_name_json, ident_json, import_statement_json, list_json, span_json}
 use Rattle.wac_json_text.proofs.Joined.{as_form, ends, form, list_then, put, then}
 use Rattle.wac_json_text.proofs.Steps.{of_option}
-use Rattle.wac_json_text.proofs.Texts.{items_of-map}
+use Rattle.wac_json_forms.proofs.Lists.{items_of-map}
 use Rattle.wac_json_text.proofs.import.ImportStatementJson.write.Goals as goal
 
 pub returns : goal.returns

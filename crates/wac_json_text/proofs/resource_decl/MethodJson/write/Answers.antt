@@ -5,7 +5,7 @@ use Rattle.wac_ast_base.specs.Names.{doc_comment_of}
 use Rattle.wac_ast_types.specs.Declarations.{method_of}
 use Rattle.wac_json_forms.specs.Forms.{doc_json, ident_json, list_json, method_json, span_json}
 use Rattle.wac_json_text.proofs.Joined.{as_form, ends, form, list_then, put, then}
-use Rattle.wac_json_text.proofs.Texts.{items_of-map}
+use Rattle.wac_json_forms.proofs.Lists.{items_of-map}
 use Rattle.wac_json_text.proofs.resource_decl.MethodJson.write.Goals as goal
 
 pub returns : goal.returns

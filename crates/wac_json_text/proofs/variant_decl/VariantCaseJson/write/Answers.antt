@@ -6,7 +6,7 @@ use Rattle.wac_ast_types.specs.Types.{ty_of}
 use Rattle.wac_json_forms.specs.Forms.{doc_json, ident_json, list_json, span_json, ty_json, variant_case_json}
 use Rattle.wac_json_text.proofs.Joined.{as_form, ends, form, list_then, put, then}
 use Rattle.wac_json_text.proofs.Steps.{of_option}
-use Rattle.wac_json_text.proofs.Texts.{items_of-map}
+use Rattle.wac_json_forms.proofs.Lists.{items_of-map}
 use Rattle.wac_json_text.proofs.variant_decl.VariantCaseJson.write.Goals as goal
 
 pub returns : goal.returns

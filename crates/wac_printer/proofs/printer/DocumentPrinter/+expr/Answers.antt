@@ -6,6 +6,7 @@ use Rattle.wac_ast_expressions.specs.declared.expr.InstantiationArgument.{size-I
 use Rattle.wac_ast_expressions.specs.declared.expr.PrimaryExpr.{size-PrimaryExpr}
 use Rattle.wac_ast_expressions.specs.declared.expr.InstantiationArgument.TheViews.{sized-New}
 use Rattle.wac_ast_expressions.specs.declared.expr.NestedExpr.{out-NestedExpr}
+use Rattle.wac_ast_expressions.proofs.ExprViews.{new_is}
 use Rattle.wac_printer_layout.specs.Printed.{token, line, deeper}
 use Rattle.wac_printer_layout.specs.Parts.{space}
 use Rattle.wac_printer_layout.specs.Bare.{bare_argument, bare_expr, bare_primary_expr, bare_arguments, bare_postfix_expr}
@@ -14,7 +15,7 @@ use Rattle.wac_printer_pieces.specs.Arguments.{ending_layout}
 use Rattle.wac_printer.specs.Arguments.{braces_layout}
 use Rattle.wac_printer_pieces.specs.Printed.{Prints}
 use Rattle.wac_printer.specs.Sliced.{ArgumentSliced, PrimaryExprSliced}
-use Rattle.wac_printer.proofs.Arguments.{bared, its_line, arguments_lines, no_arguments, braces_none, braces_lone, braces_lines, ending_bare, front_sliced, last_sliced, most_front, most_last, named_is, nested_layout, new_is}
+use Rattle.wac_printer.proofs.Arguments.{bared, its_line, arguments_lines, no_arguments, braces_none, braces_lone, braces_lines, ending_bare, front_sliced, last_sliced, most_front, most_last, named_is, nested_layout}
 use Rattle.wac_printer.proofs.PartsOf.{no_items}
 use Rattle.wac_printer_pieces.proofs.Progress.{part_at, starts, goes_at, stops_at, ends, first_stops, first_goes, none_is, deeper_part}
 use Rattle.wac_printer.proofs.Trees.{most_at}
