@@ -8,8 +8,9 @@ ghost use Rattle.wac_resolution_findings.specs.Mentioned.{mentions_foreign};
 
 use indexmap::IndexMap;
 use std::alloc::{AllocError, Global};
-use wac_parser::resolution::{ResolutionResult, resolve};
-use wac_parser::{Page, packages};
+use wac_printer::Page;
+use wac_resolution::{ResolutionResult, resolve};
+use wac_resolution_mentions::packages;
 use wac_tool_graphs::SameRules;
 
 /// Whether a document mentions foreign packages. The error is that memory ran out.

@@ -68,7 +68,7 @@ fn faulty(alloc: Global, fault: (wac_lexer::Error, SourceSpan)) -> RunError
     ensures { IsRefusal (errors.Lexer fault.0 fault.1) result }
 {
     let (error, span) = fault;
-    refusal(alloc, wac_parser::Error::Lexer { error, span })
+    refusal(alloc, wac_ast::Error::Lexer { error, span })
 }
 
 /// Appends the line of an item.

@@ -12,9 +12,11 @@ use crate::error::RunError;
 use crate::refusing::refusal;
 use indexmap::IndexMap;
 use std::alloc::{AllocError, Global};
+use wac_ast::Document;
+use wac_graph::PackageKey;
 use wac_lexer::{Sink, SourceSpan, put_all};
-use wac_parser::resolution::PackageKey;
-use wac_parser::{Document, Page, packages};
+use wac_printer::Page;
+use wac_resolution_mentions::packages;
 
 /// Writes a line for each package that the document of a source mentions.
 pub(crate) fn write_packages<S: Sink>(

@@ -9,9 +9,10 @@ use crate::error::RunError;
 use crate::refusing::refusal;
 use indexmap::IndexMap;
 use std::alloc::{AllocError, Global};
+use wac_ast::Document;
+use wac_graph::CompositionGraph;
 use wac_lexer::Sink;
-use wac_parser::Document;
-use wac_parser::resolution::{AstResolver, CompositionGraph, Error};
+use wac_resolution::{AstResolver, Error};
 use wac_tool_graphs::{SameRules, write_graph};
 
 /// Writes the lines of the graph that the document of a source describes.
