@@ -11,9 +11,9 @@ use Rattle.wac_files.specs.declared.error.FileError.{FileError}
 use Rattle.wac_files.specs.declared.error.FileError.TheVariants as errors
 use Rattle.wac_files.specs.declared.walk.Found.{Found}
 use Rattle.wac_cli.specs.Checked.{AreChecks, IsCheckOf, IsFoundCheck, IsReadCheck}
-use Rattle.wac_cli.specs.Outcomes.{IsFailure, failure_of}
-use Rattle.wac_cli.specs.declared.outcome.Outcome.{Outcome}
-use Rattle.wac_cli.specs.declared.outcome.Outcome.TheVariants.{Untidy, Rejected}
+use Rattle.wac_cli_console.specs.Outcomes.{IsFailure, failure_of}
+use Rattle.wac_cli_console.specs.declared.outcome.Outcome.{Outcome}
+use Rattle.wac_cli_console.specs.declared.outcome.Outcome.TheVariants.{Untidy, Rejected}
 
 -- one file more
 checks_more : (all : List Found) (outcomes : List Outcome) (found : Found) (outcome : Outcome) → AreChecks all outcomes → IsFoundCheck found outcome

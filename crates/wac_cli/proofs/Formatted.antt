@@ -7,11 +7,11 @@ use Rattle.wac_files.specs.declared.error.FileError.{FileError}
 use Rattle.wac_files.specs.declared.error.FileError.TheVariants as errors
 use Rattle.wac_files.specs.declared.walk.Found.{Found}
 use Rattle.wac_cli.specs.Formatted.{IsReplaced, ComesTo, FailsWith, FoundComesTo, ComeTo}
-use Rattle.wac_cli.specs.Outcomes.{IsFailure, failure_of}
+use Rattle.wac_cli_console.specs.Outcomes.{IsFailure, failure_of}
 use Rattle.wac_cli.specs.Replacing.{OnlyFormats}
 use Rattle.wac_cli.specs.declared.options.FormatOptions.{FormatOptions}
-use Rattle.wac_cli.specs.declared.outcome.Outcome.{Outcome}
-use Rattle.wac_cli.specs.declared.outcome.Outcome.TheVariants.{Good, Untidy, Unresolved, Rejected, Failed, OutOfMemory}
+use Rattle.wac_cli_console.specs.declared.outcome.Outcome.{Outcome}
+use Rattle.wac_cli_console.specs.declared.outcome.Outcome.TheVariants.{Good, Untidy, Unresolved, Rejected, Failed, OutOfMemory}
 use Rattle.wac_cli.proofs.Replaced.{both}
 
 -- memory that ran out is an outcome, whatever failed

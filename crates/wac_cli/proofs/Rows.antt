@@ -9,7 +9,7 @@ use Rattle.wac_cli.specs.Checked.{AreChecks}
 use Rattle.wac_cli.specs.Formatted.{ComeTo}
 use Rattle.wac_cli.specs.Replacing.{IsFormatting}
 use Rattle.wac_cli.specs.declared.options.FormatOptions.{FormatOptions}
-use Rattle.wac_cli.specs.declared.outcome.Outcome.TheVariants.{Good, Untidy, Rejected, Failed}
+use Rattle.wac_cli_console.specs.declared.outcome.Outcome.TheVariants.{Good, Untidy, Rejected, Failed}
 
 abbrev there : String Global → Found
 there path = record { path = path; failure = None }

@@ -6,9 +6,9 @@ use Rattle.wac_first_error.specs.Verdicts.{IsGood, IsUnresolved, IsVerdict}
 use Rattle.wac_first_error.specs.declared.first.Verdict.TheVariants as verdicts
 use Rattle.wac_files.specs.declared.error.FileError.{FileError}
 use Rattle.wac_files.specs.declared.walk.Found.{Found}
-use Rattle.wac_cli.specs.Outcomes.{IsFailure}
-use Rattle.wac_cli.specs.declared.outcome.Outcome.{Outcome}
-use Rattle.wac_cli.specs.declared.outcome.Outcome.TheVariants.{Good, Untidy, Unresolved, Rejected, Failed, OutOfMemory}
+use Rattle.wac_cli_console.specs.Outcomes.{IsFailure}
+use Rattle.wac_cli_console.specs.declared.outcome.Outcome.{Outcome}
+use Rattle.wac_cli_console.specs.declared.outcome.Outcome.TheVariants.{Good, Untidy, Unresolved, Rejected, Failed, OutOfMemory}
 
 -- The outcome of bytes: they are a document that describes a composition, or one that mentions foreign packages; or a diagnostic says what is wrong
 -- with them first; or memory ran out.

@@ -5,12 +5,12 @@ use Rattle.wac_files.specs.Replacements.{Replacement}
 use Rattle.wac_files.specs.declared.error.FileError.{FileError}
 use Rattle.wac_files.specs.declared.error.FileError.TheVariants as errors
 use Rattle.wac_files.specs.declared.walk.Found.{Found}
-use Rattle.wac_cli.specs.Outcomes.{IsFailure}
+use Rattle.wac_cli_console.specs.Outcomes.{IsFailure}
 use Rattle.wac_cli.specs.Replacing.{IsFormatting}
-use Rattle.wac_cli.specs.declared.options.Action.TheVariants.{Write}
+use Rattle.wac_cli_console.specs.declared.options.Action.TheVariants.{Write}
 use Rattle.wac_cli.specs.declared.options.FormatOptions.{FormatOptions}
-use Rattle.wac_cli.specs.declared.outcome.Outcome.{Outcome}
-use Rattle.wac_cli.specs.declared.outcome.Outcome.TheVariants.{Good, Untidy, Unresolved, Rejected, Failed, OutOfMemory}
+use Rattle.wac_cli_console.specs.declared.outcome.Outcome.{Outcome}
+use Rattle.wac_cli_console.specs.declared.outcome.Outcome.TheVariants.{Good, Untidy, Unresolved, Rejected, Failed, OutOfMemory}
 
 -- The file at this path was made to hold its tidy text, and nothing else was replaced.
 abbrev pub IsReplaced : FormatOptions → List ℕ → List Replacement → List Replacement → Type 0

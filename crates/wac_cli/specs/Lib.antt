@@ -1,4 +1,3 @@
-pub mod Outcomes
 pub mod Tidying
 pub mod Plans
 pub mod Replacing

@@ -2,7 +2,7 @@
 use Rattle.std.specs.Prelude.{◌≡◌, ◌≢◌, List, ◌++◌, [], ◌∷◌}
 use Rattle.wac_files.specs.Replacements.{Replacement}
 use Rattle.wac_cli.specs.Tidying.{IsTidyOf}
-use Rattle.wac_cli.specs.declared.options.Action.TheVariants.{Write}
+use Rattle.wac_cli_console.specs.declared.options.Action.TheVariants.{Write}
 use Rattle.wac_cli.specs.declared.options.FormatOptions.{FormatOptions}
 
 -- `fmt` was to write, and the file held other bytes than their tidy text, which it was made to hold.

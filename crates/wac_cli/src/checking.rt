@@ -2,14 +2,11 @@
 ghost use Rattle.std.specs.Prelude.{◌≡◌, IfOk};
 ghost use Rattle.wac_cli.specs.Checked.{AreChecks, IsCheckOf, IsFoundCheck, IsReadCheck};
 
-use crate::console::Console;
-use crate::formatting::{finish, finish_input};
-use crate::input::{STDIN, read_all};
-use crate::last_line::Task;
-use crate::options::Report;
-use crate::outcome::{Outcome, Status};
 use std::alloc::{AllocError, Global};
 use std::io::{Read, Write};
+use wac_cli_console::{
+    Console, Outcome, Report, STDIN, Status, Task, finish, finish_input, read_all,
+};
 use wac_files::{FileError, FileSystem, Found, find_files};
 use wac_first_error::{Verdict, first_error};
 
@@ -29,15 +26,6 @@ pub fn check_paths<F: FileSystem, O: Write + Drop, E: Write + Drop>(
         Ok(outcomes) => finish(alloc, console, Task::Check, outcomes.as_slice()),
         Err(AllocError) => console.out_of_memory(),
     }
-}
-
-/// Writes the last line of a check. Returns the status that files and output lead to.
-pub fn finish_check<O: Write + Drop, E: Write + Drop>(
-    alloc: Global,
-    console: &mut Console<O, E>,
-    outcomes: &[Outcome],
-) -> Status {
-    finish(alloc, console, Task::Check, outcomes)
 }
 
 fn check_all<F: FileSystem, O: Write + Drop, E: Write + Drop>(

@@ -2,16 +2,15 @@
 ghost use Rattle.std.specs.Prelude.{◌≡◌, ◌≢◌, IfErr};
 ghost use Rattle.wac_cli.specs.Formatted.{ComesTo, FoundComesTo, ReturnsOutcome, ReturnsOutcomes};
 ghost use Rattle.wac_cli.specs.Replacing.{OnlyFormats};
-ghost use Rattle.wac_cli.specs.declared.options.Action.TheVariants.{Write};
+ghost use Rattle.wac_cli_console.specs.declared.options.Action.TheVariants.{Write};
 
-use crate::console::Console;
-use crate::input::{STDIN, read_all};
-use crate::last_line::{Task, summary};
-use crate::options::{Action, FormatOptions, Report};
-use crate::outcome::{Outcome, Status, worst};
+use crate::options::FormatOptions;
 use crate::planning::Plan;
 use std::alloc::{AllocError, Global};
 use std::io::{Read, Write};
+use wac_cli_console::{
+    Action, Console, Outcome, Report, STDIN, Status, Task, finish, finish_input, read_all,
+};
 use wac_diff::unified;
 use wac_files::{FileError, FileSystem, Found, find_files};
 
@@ -36,24 +35,6 @@ pub fn format_paths<F: FileSystem, O: Write + Drop, E: Write + Drop>(
         Ok(outcomes) => finish(alloc, console, task, outcomes.as_slice()),
         Err(AllocError) => console.out_of_memory(),
     }
-}
-
-/// Writes the last line. Returns the status that files and output lead to.
-pub(crate) fn finish<O: Write + Drop, E: Write + Drop>(
-    alloc: Global,
-    console: &mut Console<O, E>,
-    task: Task,
-    outcomes: &[Outcome],
-) -> Status {
-    let reported = match console.report_output(alloc) {
-        Ok(()) => Status::Well,
-        Err(AllocError) => console.out_of_memory(),
-    };
-    let written = console.last_line(summary(alloc, task, outcomes));
-    worst(outcomes, task.action())
-        .or(console.output_status())
-        .or(reported)
-        .or(written)
 }
 
 fn format_all<F: FileSystem, O: Write + Drop, E: Write + Drop>(
@@ -207,21 +188,6 @@ pub fn format_input<I: Read, O: Write + Drop, E: Write + Drop>(
         Err(error) => console.failed(alloc, Report::Human, name, error),
     };
     finish_input(alloc, console, Task::Format(options.action), outcome)
-}
-
-/// As `finish`, but says nothing where all is well.
-pub(crate) fn finish_input<O: Write + Drop, E: Write + Drop>(
-    alloc: Global,
-    console: &mut Console<O, E>,
-    task: Task,
-    outcome: Outcome,
-) -> Status {
-    let status = outcome.status(task.action()).or(console.output_status());
-    if status == Status::Well {
-        return status;
-    }
-    let outcomes = [outcome];
-    finish(alloc, console, task, outcomes.as_slice())
 }
 
 fn format_read<I: Read, O: Write + Drop, E: Write + Drop>(

@@ -5,7 +5,7 @@ use std::alloc::{AllocError, Global};
 use std::io::Write;
 use wac_ast::Document;
 use wac_ast::internals::Statements;
-use wac_cli::{Action, Console, Outcome, Report, Status};
+use wac_cli_console::{Action, Console, Outcome, Report, Status};
 use wac_component_rules::ComponentRules;
 use wac_composition::{flat_text, graph_with};
 use wac_diagnostics::Diagnostic;

@@ -2,7 +2,7 @@
 use crate::runs::{check, expect};
 use std::alloc::Global;
 use std::test::Fail;
-use wac_cli::Report;
+use wac_cli_console::Report;
 use wac_files::MemoryFiles;
 
 /// Files without an error, with one of parsing, with one of resolving, and with a foreign package.

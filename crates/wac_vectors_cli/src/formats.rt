@@ -2,7 +2,8 @@
 use crate::runs::{expect, format, format_text, options};
 use std::alloc::Global;
 use std::test::Fail;
-use wac_cli::{Action, FormatOptions, LineEnds};
+use wac_cli::{FormatOptions, LineEnds};
+use wac_cli_console::Action;
 use wac_comments::Indent;
 use wac_files::MemoryFiles;
 

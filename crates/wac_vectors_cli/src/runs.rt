@@ -2,9 +2,8 @@
 use std::alloc::Global;
 use std::process::Abort;
 use std::test::Fail;
-use wac_cli::{
-    Action, Console, FormatOptions, LineEnds, Report, check_paths, format_input, format_paths,
-};
+use wac_cli::{FormatOptions, LineEnds, check_paths, format_input, format_paths};
+use wac_cli_console::{Action, Console, Report};
 use wac_comments::Indent;
 use wac_files::MemoryFiles;
 

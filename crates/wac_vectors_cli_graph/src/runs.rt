@@ -1,6 +1,6 @@
 // Runs of `wacx graph` over a file in memory.
 use std::alloc::{AllocError, Global};
-use wac_cli::Console;
+use wac_cli_console::Console;
 use wac_cli_graph::{Form, show_graph};
 use wac_files::MemoryFiles;
 

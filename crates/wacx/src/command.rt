@@ -1,7 +1,8 @@
 // What the words of the command line ask for.
 use clap::{Arg, ArgAction, ArgMatches, Command, Error};
 use std::alloc::{AllocError, Global};
-use wac_cli::{Action, FormatOptions, LineEnds, Report};
+use wac_cli::{FormatOptions, LineEnds};
+use wac_cli_console::{Action, Report};
 use wac_cli_graph::Form;
 use wac_comments::Indent;
 

@@ -5,7 +5,8 @@ use std::env::VarError;
 use std::io::{IsTerminal, Stderr, Stdout};
 use std::process::ExitCode;
 use std::{env, process};
-use wac_cli::{Console, Status, check_input, check_paths, format_input, format_paths};
+use wac_cli::{check_input, check_paths, format_input, format_paths};
+use wac_cli_console::{Console, Status};
 use wac_cli_graph::show_graph;
 use wac_files::Disk;
 

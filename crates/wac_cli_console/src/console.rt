@@ -1,5 +1,5 @@
 // Where a command writes.
-ghost use Rattle.wac_cli.specs.Outcomes.{IsFailure};
+ghost use Rattle.wac_cli_console.specs.Outcomes.{IsFailure};
 
 use crate::options::Report;
 use crate::outcome::{Outcome, Status};
@@ -64,7 +64,7 @@ impl<O: Write + Drop, E: Write + Drop> Console<O, E> {
     }
 
     /// Writes the path of a file, on a line for programs.
-    pub(crate) fn name(&mut self, alloc: Global, path: &str) -> Result<(), AllocError> {
+    pub fn name(&mut self, alloc: Global, path: &str) -> Result<(), AllocError> {
         let mut line = String::new(alloc);
         push_shown(&mut line, path)?;
         line.push('\n')?;
@@ -123,7 +123,7 @@ impl<O: Write + Drop, E: Write + Drop> Console<O, E> {
     }
 
     /// Writes the last line, unless it is to be left out. Without memory for it a shorter one is written.
-    pub(crate) fn last_line(&mut self, line: Result<String, AllocError>) -> Status {
+    pub fn last_line(&mut self, line: Result<String, AllocError>) -> Status {
         match line {
             Ok(line) => {
                 if !self.quiet {
@@ -151,7 +151,7 @@ impl<O: Write + Drop, E: Write + Drop> Console<O, E> {
     }
 
     /// Says that the output failed, if it did.
-    pub(crate) fn report_output(&mut self, alloc: Global) -> Result<(), AllocError> {
+    pub fn report_output(&mut self, alloc: Global) -> Result<(), AllocError> {
         match self.output.failure {
             None | Some(ErrorKind::BrokenPipe) => Ok(()),
             Some(kind) => {

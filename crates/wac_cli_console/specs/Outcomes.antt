@@ -2,12 +2,12 @@
 use Rattle.std.specs.Prelude.{◌≡◌, ◌⊎◌, ℕ}
 use Rattle.wac_files.specs.declared.error.FileError.{FileError}
 use Rattle.wac_files.specs.declared.error.FileError.TheVariants as errors
-use Rattle.wac_cli.specs.declared.options.Action.{Action}
-use Rattle.wac_cli.specs.declared.options.Action.TheVariants.{Write, Check, Diff}
-use Rattle.wac_cli.specs.declared.outcome.Outcome.{Outcome}
-use Rattle.wac_cli.specs.declared.outcome.Outcome.TheVariants.{Good, Untidy, Unresolved, Rejected, Failed, OutOfMemory}
-use Rattle.wac_cli.specs.declared.outcome.Status.{Status}
-use Rattle.wac_cli.specs.declared.outcome.Status.TheVariants.{Well, Wrong, FileFailed, MemoryFailed}
+use Rattle.wac_cli_console.specs.declared.options.Action.{Action}
+use Rattle.wac_cli_console.specs.declared.options.Action.TheVariants.{Write, Check, Diff}
+use Rattle.wac_cli_console.specs.declared.outcome.Outcome.{Outcome}
+use Rattle.wac_cli_console.specs.declared.outcome.Outcome.TheVariants.{Good, Untidy, Unresolved, Rejected, Failed, OutOfMemory}
+use Rattle.wac_cli_console.specs.declared.outcome.Status.{Status}
+use Rattle.wac_cli_console.specs.declared.outcome.Status.TheVariants.{Well, Wrong, FileFailed, MemoryFailed}
 
 -- The number that the program ends with.
 abbrev pub code_of : Status → ℕ

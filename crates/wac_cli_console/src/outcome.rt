@@ -1,6 +1,6 @@
 // What became of files, and the status that follows.
 ghost use Rattle.std.specs.Prelude.{◌≡◌, ◌≤◌};
-ghost use Rattle.wac_cli.specs.Outcomes.{code_of, failure_of, status_of};
+ghost use Rattle.wac_cli_console.specs.Outcomes.{code_of, failure_of, status_of};
 
 use crate::options::Action;
 use wac_files::FileError;
@@ -63,7 +63,7 @@ impl Status {
 
 impl Outcome {
     /// What becomes of a file by a failure.
-    pub(crate) fn of_failure(error: FileError) -> Outcome
+    pub fn of_failure(error: FileError) -> Outcome
         ensures { result ≡ failure_of error }
     {
         match error {
@@ -96,7 +96,7 @@ impl Outcome {
 }
 
 /// The worst status that files lead to.
-pub(crate) fn worst(outcomes: &[Outcome], action: Action) -> Status {
+pub fn worst(outcomes: &[Outcome], action: Action) -> Status {
     let mut status = Status::Well;
     for outcome in outcomes {
         status = status.or(outcome.status(action));

@@ -5,14 +5,16 @@ use std::alloc::{AllocError, Global};
 
 /// Which command a summary is of.
 #[derive(Clone, Copy, PartialEq, Eq)]
-pub(crate) enum Task {
+pub enum Task {
+    /// `fmt`, with what it does with a file that is not tidy.
     Format(Action),
+    /// `check`.
     Check,
 }
 
 impl Task {
     /// What was asked of files that are not tidy. `check` asks nothing of them.
-    pub(crate) fn action(self) -> Action {
+    pub fn action(self) -> Action {
         match self {
             Task::Format(action) => action,
             Task::Check => Action::Check,
@@ -29,11 +31,7 @@ fn count(outcomes: &[Outcome], wanted: Outcome) -> usize {
 }
 
 /// How many files there were, and what became of them, on a line.
-pub(crate) fn summary(
-    alloc: Global,
-    task: Task,
-    outcomes: &[Outcome],
-) -> Result<String, AllocError> {
+pub fn summary(alloc: Global, task: Task, outcomes: &[Outcome]) -> Result<String, AllocError> {
     let mut line = String::new(alloc);
     match outcomes.len() {
         1 => line.push_str("1 file")?,

@@ -4,10 +4,10 @@ use std::io::{ErrorKind, Read};
 use wac_files::FileError;
 
 /// The name of standard input where no other is given.
-pub(crate) const STDIN: &str = "<stdin>";
+pub const STDIN: &str = "<stdin>";
 
 /// All bytes of a reader.
-pub(crate) fn read_all<I: Read>(alloc: Global, input: &mut I) -> Result<Vec<u8>, FileError> {
+pub fn read_all<I: Read>(alloc: Global, input: &mut I) -> Result<Vec<u8>, FileError> {
     let mut bytes = Vec::new(alloc);
     let mut part = [0u8; 65536];
     for _ in 0..u64::MAX {
