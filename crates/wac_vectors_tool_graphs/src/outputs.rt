@@ -30,7 +30,8 @@ const JSON: &str = "{\"nodes\":[\
     \"imports\":[{\"name\":\"a:b/log\",\"kind\":\"value\",\"by\":[0]},\
     {\"name\":\"more\",\"kind\":\"function\",\"by\":[1]},{\"name\":\"last\",\"kind\":\"value\",\"by\":[5]}]}";
 
-const DOT: &str = "digraph composition {\n  rankdir=LR;\n  node [fontname=\"sans-serif\", margin=\"0.25,0.1\"];\n  \
+const DOT: &str =
+    "digraph composition {\n  rankdir=LR;\n  node [fontname=\"sans-serif\", margin=\"0.25,0.1\"];\n  \
     edge [fontname=\"sans-serif\", fontsize=10];\n  \
     n0 [shape=cds, label=\"log\\na:b/log\"];\n  \
     n1 [shape=box, label=\"i\\nc:d\"];\n  n0 -> n1 [label=\"log\"];\n  \
