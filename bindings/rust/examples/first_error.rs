@@ -1,0 +1,11 @@
+//! Formats a text, or says where it is wrong.
+
+fn main() {
+    match wac_front::tidy("package a:b; let x y;") {
+        Ok(printed) => print!("{printed}"),
+        Err(error) => match &error.span {
+            Some(span) => println!("byte {}: {error}", span.start),
+            None => println!("{error}"),
+        },
+    }
+}

@@ -1,0 +1,4 @@
+pub mod Feed
+pub mod Frames
+pub mod Nesting
+pub mod Room
