@@ -1,0 +1,39 @@
+//! Reading the fields of values.
+use serde_json::Value;
+use std::alloc::{AllocError, Global};
+
+/// The field of a value, if it is an object that has it.
+pub(crate) fn field<'v>(value: &'v Value, name: &str) -> Option<&'v Value> {
+    value.get(name)
+}
+
+/// The text of a field.
+pub(crate) fn text<'v>(value: &'v Value, name: &str) -> Option<&'v str> {
+    field(value, name)?.as_str()
+}
+
+/// The text of a field, copied.
+pub(crate) fn owned_text(
+    alloc: Global,
+    value: &Value,
+    name: &str,
+) -> Result<Option<String>, AllocError> {
+    match text(value, name) {
+        Some(text) => Ok(Some(String::from_str(alloc, text)?)),
+        None => Ok(None),
+    }
+}
+
+/// The number of a field that isn't negative.
+pub(crate) fn count(value: &Value, name: &str) -> Option<usize> {
+    let number = field(value, name)?.as_u64()?;
+    usize::try_from(number).ok()
+}
+
+/// The URI of the document that a field names.
+pub(crate) fn uri(alloc: Global, params: &Value) -> Result<Option<String>, AllocError> {
+    match field(params, "textDocument") {
+        Some(document) => owned_text(alloc, document, "uri"),
+        None => Ok(None),
+    }
+}

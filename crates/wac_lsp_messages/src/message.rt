@@ -1,0 +1,93 @@
+//! The messages of a client.
+use crate::call::{Call, read_call};
+use crate::fields::{field, text};
+use crate::id::Id;
+use crate::notice::{Notice, read_notice};
+use crate::refusal::{Code, Refusal};
+use crate::surrogates::without_lone_surrogates;
+use serde_json::Value;
+use std::alloc::{AllocError, Global};
+
+/// A message of a client.
+#[derive(Debug, Drop)]
+pub enum Message {
+    /// A request, which gets exactly one reply with its id: what it asks for, or why it is refused.
+    Request {
+        /// Its id.
+        id: Id,
+        /// What it asks for.
+        call: Result<Call, Refusal>,
+    },
+    /// A notification, which gets no reply.
+    Notification(Notice),
+    /// A reply of the client, which gets none.
+    Reply,
+    /// No message of the protocol. It gets a reply without an id.
+    Wrong(Refusal),
+}
+
+/// A body that is no JSON.
+const NO_JSON: Refusal = Refusal {
+    code: Code::ParseError,
+    message: "the body is no JSON text",
+};
+
+/// A value that is no message.
+const NO_MESSAGE: Refusal = Refusal {
+    code: Code::InvalidRequest,
+    message: "the body is no message",
+};
+
+/// The message that a body is. A lone surrogate in it is read as U+FFFD. The error is that memory ran out.
+pub fn read_message(alloc: Global, body: &[u8]) -> Result<Message, AllocError> {
+    let body = without_lone_surrogates(alloc, body)?;
+    match Value::from_slice(alloc, body.as_slice()) {
+        Ok(value) => message_of(alloc, &value),
+        Err(error) if error.is_memory() => Err(AllocError),
+        Err(_) => Ok(Message::Wrong(NO_JSON)),
+    }
+}
+
+/// The message that a value is.
+fn message_of(alloc: Global, value: &Value) -> Result<Message, AllocError> {
+    match text(value, "method") {
+        Some(method) => sent(alloc, value, method),
+        None if is_reply(value) => Ok(Message::Reply),
+        None => without_method(alloc, value),
+    }
+}
+
+/// Whether a value is a reply.
+fn is_reply(value: &Value) -> bool {
+    field(value, "result").is_some() || field(value, "error").is_some()
+}
+
+/// An object without a method: a request that can't be one, if it has an id.
+fn without_method(alloc: Global, value: &Value) -> Result<Message, AllocError> {
+    match field(value, "id") {
+        Some(id) => match Id::of(alloc, id)? {
+            Some(id) => Ok(Message::Request {
+                id,
+                call: Err(NO_MESSAGE),
+            }),
+            None => Ok(Message::Wrong(NO_MESSAGE)),
+        },
+        None => Ok(Message::Wrong(NO_MESSAGE)),
+    }
+}
+
+/// A request or a notification of this method.
+fn sent(alloc: Global, value: &Value, method: &str) -> Result<Message, AllocError> {
+    let nothing = Value::Null;
+    let params = field(value, "params").unwrap_or(&nothing);
+    match field(value, "id") {
+        Some(id) => match Id::of(alloc, id)? {
+            Some(id) => Ok(Message::Request {
+                id,
+                call: read_call(alloc, method, params)?,
+            }),
+            None => Ok(Message::Wrong(NO_MESSAGE)),
+        },
+        None => Ok(Message::Notification(read_notice(alloc, method, params)?)),
+    }
+}

@@ -1,0 +1,324 @@
+//! Bodies, and which message each is.
+
+use std::alloc::{AllocError, Global};
+use std::process::Abort;
+use std::test::Fail;
+use wac_lsp_messages::{Call, Change, Id, Initialize, Message, Notice, read_message};
+
+/// A body, and the message in words.
+type Row = (&'static str, &'static str);
+
+/// Bodies that are no requests or notifications.
+static WRONG: [Row; 15] = [
+    ("", "wrong -32700"),
+    ("{", "wrong -32700"),
+    ("{\"id\":1} x", "wrong -32700"),
+    ("[]", "wrong -32600"),
+    (
+        "[{\"jsonrpc\":\"2.0\",\"id\":1,\"method\":\"shutdown\"}]",
+        "wrong -32600",
+    ),
+    ("3", "wrong -32600"),
+    ("null", "wrong -32600"),
+    ("{\"jsonrpc\":\"2.0\"}", "wrong -32600"),
+    ("{\"jsonrpc\":\"2.0\",\"id\":7}", "request 7 refused -32600"),
+    (
+        "{\"jsonrpc\":\"2.0\",\"id\":7,\"method\":3}",
+        "request 7 refused -32600",
+    ),
+    (
+        "{\"jsonrpc\":\"2.0\",\"id\":null,\"method\":\"shutdown\"}",
+        "wrong -32600",
+    ),
+    (
+        "{\"jsonrpc\":\"2.0\",\"id\":[1],\"method\":\"shutdown\"}",
+        "wrong -32600",
+    ),
+    (
+        "{\"jsonrpc\":\"2.0\",\"id\":1.5,\"method\":\"shutdown\"}",
+        "wrong -32600",
+    ),
+    ("{\"jsonrpc\":\"2.0\",\"id\":1,\"result\":null}", "reply"),
+    (
+        "{\"jsonrpc\":\"2.0\",\"id\":1,\"error\":{\"code\":1,\"message\":\"\"}}",
+        "reply",
+    ),
+];
+
+/// Requests, and those that are refused.
+static REQUESTS: [Row; 18] = [
+    (
+        "{\"jsonrpc\":\"2.0\",\"id\":1,\"method\":\"shutdown\"}",
+        "request 1 shutdown",
+    ),
+    (
+        "{\"method\":\"shutdown\",\"params\":null,\"id\":-3}",
+        "request -3 shutdown",
+    ),
+    (
+        "{\"jsonrpc\":\"2.0\",\"id\":\"a b\",\"method\":\"shutdown\"}",
+        "request \"a b\" shutdown",
+    ),
+    (
+        "{\"jsonrpc\":\"2.0\",\"id\":2,\"method\":\"textDocument/nothing\"}",
+        "request 2 refused -32601",
+    ),
+    (
+        "{\"jsonrpc\":\"2.0\",\"id\":2,\"method\":\"$/nothing\"}",
+        "request 2 refused -32601",
+    ),
+    (
+        "{\"id\":1,\"method\":\"initialize\",\"params\":{\"processId\":17,\"capabilities\":{}}}",
+        "request 1 initialize 17 utf-16 flat",
+    ),
+    (
+        "{\"id\":1,\"method\":\"initialize\",\"params\":{\"processId\":null,\"capabilities\":{\"general\":{\"positionEncodings\":[\"utf-32\",\"utf-8\",\"utf-16\"]}}}}",
+        "request 1 initialize - utf-8 flat",
+    ),
+    (
+        "{\"id\":1,\"method\":\"initialize\",\"params\":{\"processId\":null,\"capabilities\":{\"general\":{\"positionEncodings\":[\"utf-16\",\"utf-8\"]},\"textDocument\":{\"documentSymbol\":{\"hierarchicalDocumentSymbolSupport\":true}}}}}",
+        "request 1 initialize - utf-16 nested",
+    ),
+    (
+        "{\"id\":1,\"method\":\"initialize\",\"params\":{\"processId\":null,\"capabilities\":{\"general\":{\"positionEncodings\":[\"utf-32\"]}}}}",
+        "request 1 initialize - utf-16 flat",
+    ),
+    (
+        "{\"id\":1,\"method\":\"initialize\"}",
+        "request 1 refused -32602",
+    ),
+    (
+        "{\"id\":1,\"method\":\"initialize\",\"params\":{\"capabilities\":3}}",
+        "request 1 refused -32602",
+    ),
+    (
+        "{\"id\":4,\"method\":\"textDocument/formatting\",\"params\":{\"textDocument\":{\"uri\":\"file:///a%20b.wac\"},\"options\":{\"tabSize\":4,\"insertSpaces\":true}}}",
+        "request 4 formatting file:///a%20b.wac 4 blanks",
+    ),
+    (
+        "{\"id\":4,\"method\":\"textDocument/formatting\",\"params\":{\"textDocument\":{\"uri\":\"x\"},\"options\":{\"tabSize\":-4,\"insertSpaces\":true}}}",
+        "request 4 refused -32602",
+    ),
+    (
+        "{\"id\":4,\"method\":\"textDocument/formatting\",\"params\":{\"textDocument\":{\"uri\":\"x\"}}}",
+        "request 4 refused -32602",
+    ),
+    (
+        "{\"id\":4,\"method\":\"textDocument/formatting\",\"params\":{\"options\":{\"tabSize\":4,\"insertSpaces\":false}}}",
+        "request 4 refused -32602",
+    ),
+    (
+        "{\"id\":5,\"method\":\"textDocument/documentSymbol\",\"params\":{\"textDocument\":{\"uri\":\"x\"}}}",
+        "request 5 symbols x",
+    ),
+    (
+        "{\"id\":5,\"method\":\"textDocument/documentSymbol\",\"params\":{\"textDocument\":\"x\"}}",
+        "request 5 refused -32602",
+    ),
+    (
+        "{\"id\":6,\"method\":\"textDocument/semanticTokens/full\",\"params\":{\"textDocument\":{\"uri\":\"x\"}}}",
+        "request 6 tokens x",
+    ),
+];
+
+/// Notifications, and those that lack something.
+static NOTIFICATIONS: [Row; 13] = [
+    ("{\"method\":\"initialized\",\"params\":{}}", "initialized"),
+    ("{\"method\":\"exit\"}", "exit"),
+    (
+        "{\"method\":\"textDocument/didSave\",\"params\":{}}",
+        "other",
+    ),
+    (
+        "{\"method\":\"$/cancelRequest\",\"params\":{\"id\":1}}",
+        "other",
+    ),
+    (
+        "{\"method\":\"textDocument/didOpen\",\"params\":{\"textDocument\":{\"uri\":\"x\",\"languageId\":\"wac\",\"version\":1,\"text\":\"a\\nb\"}}}",
+        "opened x 1 \"a\nb\"",
+    ),
+    (
+        "{\"method\":\"textDocument/didOpen\",\"params\":{\"textDocument\":{\"uri\":\"x\",\"version\":1}}}",
+        "other",
+    ),
+    (
+        "{\"method\":\"textDocument/didOpen\",\"params\":{\"textDocument\":{\"uri\":\"x\",\"version\":1,\"text\":\"\\ud83d\\ude00 \\ud83d \\ude00\"}}}",
+        "opened x 1 \"\u{1f600} \u{fffd} \u{fffd}\"",
+    ),
+    (
+        "{\"method\":\"textDocument/didOpen\",\"params\":{\"textDocument\":{\"uri\":\"x\",\"version\":1,\"text\":\"\\\\ud83d\"}}}",
+        "opened x 1 \"\\ud83d\"",
+    ),
+    (
+        "{\"method\":\"textDocument/didChange\",\"params\":{\"textDocument\":{\"uri\":\"x\",\"version\":2},\"contentChanges\":[{\"text\":\"a\"},{\"range\":{\"start\":{\"line\":0,\"character\":1},\"end\":{\"line\":2,\"character\":3}},\"text\":\"\"}]}}",
+        "changed x 2 all \"a\" 0:1-2:3 \"\"",
+    ),
+    (
+        "{\"method\":\"textDocument/didChange\",\"params\":{\"textDocument\":{\"uri\":\"x\",\"version\":2},\"contentChanges\":[]}}",
+        "changed x 2",
+    ),
+    (
+        "{\"method\":\"textDocument/didChange\",\"params\":{\"textDocument\":{\"uri\":\"x\",\"version\":2},\"contentChanges\":[{\"range\":{\"start\":{\"line\":-1,\"character\":1},\"end\":{\"line\":2,\"character\":3}},\"text\":\"\"}]}}",
+        "other",
+    ),
+    (
+        "{\"method\":\"textDocument/didChange\",\"params\":{\"textDocument\":{\"uri\":\"x\",\"version\":2}}}",
+        "other",
+    ),
+    (
+        "{\"method\":\"textDocument/didClose\",\"params\":{\"textDocument\":{\"uri\":\"x\"}}}",
+        "closed x",
+    ),
+];
+
+/// An id in words.
+fn id_words(alloc: Global, id: &Id) -> Result<String, AllocError> {
+    match id {
+        Id::Number(number) => format!(in alloc; "{number}"),
+        Id::Text(text) => format!(in alloc; "\"{text}\""),
+    }
+}
+
+/// What a client says of itself, in words.
+fn initialize_words(alloc: Global, found: &Initialize) -> Result<String, AllocError> {
+    let encoding = if found.counts_bytes {
+        "utf-8"
+    } else {
+        "utf-16"
+    };
+    let symbols = if found.nests_symbols {
+        "nested"
+    } else {
+        "flat"
+    };
+    match found.process_id {
+        Some(process) => format!(in alloc; "initialize {process} {encoding} {symbols}"),
+        None => format!(in alloc; "initialize - {encoding} {symbols}"),
+    }
+}
+
+/// A request in words.
+fn call_words(alloc: Global, call: &Call) -> Result<String, AllocError> {
+    match call {
+        Call::Initialize(found) => initialize_words(alloc, found),
+        Call::Shutdown => String::from_str(alloc, "shutdown"),
+        Call::Formatting { uri, options } => {
+            let size = options.tab_size;
+            let kind = if options.insert_spaces {
+                "blanks"
+            } else {
+                "tabs"
+            };
+            format!(in alloc; "formatting {uri} {size} {kind}")
+        }
+        Call::DocumentSymbol { uri } => format!(in alloc; "symbols {uri}"),
+        Call::SemanticTokens { uri } => format!(in alloc; "tokens {uri}"),
+    }
+}
+
+/// A change in words.
+fn change_words(alloc: Global, change: &Change) -> Result<String, AllocError> {
+    let text = &change.text;
+    match change.range {
+        Some(range) => {
+            let line = range.start.line;
+            let column = range.start.column;
+            let end_line = range.end.line;
+            let end_column = range.end.column;
+            format!(in alloc; " {line}:{column}-{end_line}:{end_column} \"{text}\"")
+        }
+        None => format!(in alloc; " all \"{text}\""),
+    }
+}
+
+/// A notification in words.
+fn notice_words(alloc: Global, notice: &Notice) -> Result<String, AllocError> {
+    match notice {
+        Notice::Initialized => String::from_str(alloc, "initialized"),
+        Notice::Exit => String::from_str(alloc, "exit"),
+        Notice::Opened { uri, version, text } => {
+            format!(in alloc; "opened {uri} {version} \"{text}\"")
+        }
+        Notice::Changed {
+            uri,
+            version,
+            changes,
+        } => {
+            let mut words = format!(in alloc; "changed {uri} {version}")?;
+            for change in changes.as_slice() {
+                words.push_str(change_words(alloc, change)?.as_str())?;
+            }
+            Ok(words)
+        }
+        Notice::Closed { uri } => format!(in alloc; "closed {uri}"),
+        Notice::Other => String::from_str(alloc, "other"),
+    }
+}
+
+/// A message in words.
+fn words(alloc: Global, message: &Message) -> Result<String, AllocError> {
+    match message {
+        Message::Request { id, call: Ok(call) } => {
+            let id = id_words(alloc, id)?;
+            let call = call_words(alloc, call)?;
+            format!(in alloc; "request {id} {call}")
+        }
+        Message::Request {
+            id,
+            call: Err(refusal),
+        } => {
+            let id = id_words(alloc, id)?;
+            let code = refusal.code.number();
+            format!(in alloc; "request {id} refused {code}")
+        }
+        Message::Notification(notice) => notice_words(alloc, notice),
+        Message::Reply => String::from_str(alloc, "reply"),
+        Message::Wrong(refusal) => {
+            let code = refusal.code.number();
+            format!(in alloc; "wrong {code}")
+        }
+    }
+}
+
+/// Asserts that each body is the message of its row.
+fn are_read(rt: &impl Abort, alloc: Global, rows: &[Row]) -> Result<(), Fail> {
+    for (body, expected) in rows {
+        let message = read_message(alloc, body.as_bytes())?;
+        let found = words(alloc, &message)?;
+        assert!(rt; found.as_str() == *expected, "{body}: {found}");
+    }
+    Ok(())
+}
+
+#[test]
+fn wrong_messages(rt: HostRuntime) -> Result<(), Fail> {
+    are_read(&rt, rt.alloc(), &WRONG)
+}
+
+#[test]
+fn requests(rt: HostRuntime) -> Result<(), Fail> {
+    are_read(&rt, rt.alloc(), &REQUESTS)
+}
+
+#[test]
+fn notifications(rt: HostRuntime) -> Result<(), Fail> {
+    are_read(&rt, rt.alloc(), &NOTIFICATIONS)
+}
+
+#[test]
+fn bodies_that_are_no_texts(rt: HostRuntime) -> Result<(), Fail> {
+    let message = read_message(rt.alloc(), b"{\"id\":1,\"method\":\"\xff\"}")?;
+    let found = words(rt.alloc(), &message)?;
+    assert!(rt; found.as_str() == "wrong -32700", "{found}");
+    let mut deep = String::new(rt.alloc());
+    for _ in 0..200 {
+        deep.push('[')?;
+    }
+    for _ in 0..200 {
+        deep.push(']')?;
+    }
+    let message = read_message(rt.alloc(), deep.as_bytes())?;
+    let found = words(rt.alloc(), &message)?;
+    assert!(rt; found.as_str() == "wrong -32700", "{found}");
+    Ok(())
+}
