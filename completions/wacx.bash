@@ -1,10 +1,10 @@
 # Completions of wacx, made by completions/generate from the help of the program.
 # shellcheck shell=bash
 _wacx() {
-    local word=$2 before=$3 command='' words='' files='' at
+    local word=$2 before=$3 command='' words='' files='' at suffix
     for ((at = 1; at < COMP_CWORD; at++)); do
         case ${COMP_WORDS[at]} in
-        fmt | check | graph | help)
+        fmt | check | graph | package | targets | help)
             command=${COMP_WORDS[at]}
             break
             ;;
@@ -13,23 +13,36 @@ _wacx() {
     case $command,$before in
     fmt,--indent) words='' ;;
     fmt,--line-end) words='auto lf crlf' ;;
-    fmt,--stdin-filepath) words='' files=yes ;;
+    fmt,--stdin-filepath) words='' files=wac ;;
     fmt,--color) words='auto always never' ;;
     check,--output) words='human json github' ;;
-    check,--stdin-filepath) words='' files=yes ;;
+    check,--stdin-filepath) words='' files=wac ;;
     check,--color) words='auto always never' ;;
     graph,--output) words='text json dot' ;;
     graph,--color) words='auto always never' ;;
-    ,*) words='fmt check graph help -h --help -V --version' ;;
-    fmt,*) words='--check --diff --indent --line-end --stdin-filepath --color --quiet -h --help' files=yes ;;
-    check,*) words='--output --stdin-filepath --color --quiet -h --help' files=yes ;;
-    graph,*) words='--output --color -h --help' files=yes ;;
-    help,*) words='fmt check graph' ;;
+    package,--name) words='' ;;
+    package,--output) words='wac json' ;;
+    package,--color) words='auto always never' ;;
+    targets,--world) words='' ;;
+    targets,--output) words='human json github' ;;
+    targets,--color) words='auto always never' ;;
+    ,*) words='fmt check graph package targets help -h --help -V --version' ;;
+    fmt,*) words='--check --diff --indent --line-end --stdin-filepath --color --quiet -h --help' files='wac' ;;
+    check,*) words='--output --stdin-filepath --color --quiet -h --help' files='wac' ;;
+    graph,*) words='--output --color -h --help' files='wac' ;;
+    package,*) words='--name --output --color -h --help' files='wasm' ;;
+    targets,*) words='--world --output --color -h --help' files='wac wasm' ;;
+    help,*) words='fmt check graph package targets' ;;
     esac
     mapfile -t COMPREPLY < <(compgen -W "$words" -- "$word")
     if [[ -n $files && $word != -* ]]; then
         compopt -o filenames 2>/dev/null
-        mapfile -t COMPREPLY < <(compgen -d -- "$word"; compgen -f -X '!*.wac' -- "$word")
+        mapfile -t COMPREPLY < <(
+            compgen -d -- "$word"
+            for suffix in $files; do
+                compgen -f -X "!*.$suffix" -- "$word"
+            done
+        )
     fi
 }
 complete -F _wacx wacx

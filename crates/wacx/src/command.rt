@@ -2,6 +2,7 @@
 use clap::{Arg, ArgAction, ArgMatches, Command, Error};
 use std::alloc::{AllocError, Global};
 use wac_cli::{FormatOptions, LineEnds};
+use wac_cli_components::{PackageForm, is_package_key};
 use wac_cli_console::{Action, Report};
 use wac_cli_graph::Form;
 use wac_comments::Indent;
@@ -16,6 +17,7 @@ pub(crate) struct Values<'a> {
     line_ends: [&'a str; 3],
     reports: [&'a str; 3],
     forms: [&'a str; 3],
+    package_forms: [&'a str; 2],
     indents: [&'a str; 17],
 }
 
@@ -26,6 +28,7 @@ impl<'a> Values<'a> {
             line_ends: ["auto", "lf", "crlf"],
             reports: ["human", "json", "github"],
             forms: ["text", "json", "dot"],
+            package_forms: ["wac", "json"],
             indents: [
                 "1", "2", "3", "4", "5", "6", "7", "8", "9", "10", "11", "12", "13", "14", "15",
                 "16", "tab",
@@ -48,6 +51,8 @@ pub(crate) enum Work {
     Format(FormatOptions),
     Check(Report),
     Graph(Form),
+    Package(PackageForm),
+    Targets(Report),
 }
 
 /// What the program has to do.
@@ -60,6 +65,10 @@ pub(crate) struct Task<'a> {
     pub(crate) paths: Vec<&'a str>,
     /// The name of standard input in messages.
     pub(crate) input_name: Option<&'a str>,
+    /// The key of a component's package.
+    pub(crate) key: Option<&'a str>,
+    /// The name of a document's world.
+    pub(crate) world: Option<&'a str>,
 }
 
 /// What the words ask for.
@@ -80,6 +89,14 @@ pub(crate) fn read_words<'a>(
     match matches.subcommand() {
         Some(("fmt", found)) => Ok(request_of(alloc, Work::Format(format_options(found)), found)?),
         Some(("graph", found)) => Ok(request_of(alloc, Work::Graph(form_of(found)), found)?),
+        Some(("package", found)) => Ok(request_of(
+            alloc,
+            Work::Package(package_form_of(found)),
+            found,
+        )?),
+        Some(("targets", found)) => {
+            Ok(request_of(alloc, Work::Targets(report_of(found)), found)?)
+        }
         Some((_, found)) => Ok(request_of(alloc, Work::Check(report_of(found)), found)?),
         None => Ok(Request::Misused("a command is missing")),
     }
@@ -95,8 +112,10 @@ fn request_of<'a>(
         work,
         color: color_of(found),
         quiet: found.get_flag("quiet"),
-        paths: all_of(alloc, found, "PATH")?,
+        paths: paths_of(alloc, found)?,
         input_name: found.get_str("stdin-filepath"),
+        key: found.get_str("name"),
+        world: found.get_str("WORLD-NAME"),
     };
     match misuse(&task) {
         Some(reason) => Ok(Request::Misused(reason)),
@@ -113,17 +132,36 @@ fn misuse(task: &Task<'_>) -> Option<&'static str> {
         Some("this command reads a file, and not standard input")
     } else if !is_input && task.input_name.is_some() {
         Some("--stdin-filepath is used with the path `-` alone")
+    } else if !is_key(task.key) {
+        Some("--name takes the key of a package, as a:b or a:b@1.0.0")
     } else {
         None
+    }
+}
+
+/// Whether a key, if it is given, is one.
+fn is_key(key: Option<&str>) -> bool {
+    match key {
+        Some(key) => is_package_key(key),
+        None => true,
     }
 }
 
 /// Whether a command reads files alone.
 fn reads_files_alone(work: Work) -> bool {
     match work {
-        Work::Graph(_) => true,
+        Work::Graph(_) | Work::Package(_) | Work::Targets(_) => true,
         Work::Format(_) | Work::Check(_) => false,
     }
+}
+
+/// The paths, and that of the document with a world behind them.
+fn paths_of<'a>(alloc: Global, found: &ArgMatches<'a>) -> Result<Vec<&'a str>, AllocError> {
+    let mut all = all_of(alloc, found, "PATH")?;
+    if let Some(path) = found.get_str("WORLD") {
+        all.push(path)?;
+    }
+    Ok(all)
 }
 
 /// All values of an argument.
@@ -144,6 +182,13 @@ fn form_of(found: &ArgMatches<'_>) -> Form {
         Some("json") => Form::Json,
         Some("dot") => Form::Dot,
         _ => Form::Text,
+    }
+}
+
+fn package_form_of(found: &ArgMatches<'_>) -> PackageForm {
+    match found.get_str("output") {
+        Some("json") => PackageForm::Json,
+        _ => PackageForm::Wac,
     }
 }
 
@@ -197,11 +242,13 @@ fn line_ends_of(found: &ArgMatches<'_>) -> LineEnds {
 fn definition<'a>(alloc: Global, values: &'a Values<'a>) -> Result<Command<'a>, AllocError> {
     Command::new(alloc, "wacx")
         .version(VERSION)
-        .about("Formats and checks WAC files")
+        .about("Formats and checks WAC files, and reads components")
         .subcommand_required(true)
         .subcommand(fmt_definition(alloc, values)?)?
         .subcommand(check_definition(alloc, values)?)?
-        .subcommand(graph_definition(alloc, values)?)
+        .subcommand(graph_definition(alloc, values)?)?
+        .subcommand(package_definition(alloc, values)?)?
+        .subcommand(targets_definition(alloc, values)?)
 }
 
 fn fmt_definition<'a>(alloc: Global, values: &'a Values<'a>) -> Result<Command<'a>, AllocError> {
@@ -267,7 +314,7 @@ fn graph_definition<'a>(alloc: Global, values: &'a Values<'a>) -> Result<Command
             "Status: 0 all is well, 1 a file has an error, 2 wrong use, 3 a file could not be read,\n\
             4 out of memory.",
         )
-        .arg(one_path(alloc))?
+        .arg(one_path(alloc, "PATH", "PATH", "The file"))?
         .arg(
             choice(alloc, "output", values.forms.as_slice(), "text")
                 .value_name("FORM")
@@ -276,12 +323,72 @@ fn graph_definition<'a>(alloc: Global, values: &'a Values<'a>) -> Result<Command
     common(alloc, values, command)
 }
 
-fn one_path<'a>(alloc: Global) -> Arg<'a> {
-    Arg::new(alloc, "PATH")
+fn package_definition<'a>(
+    alloc: Global,
+    values: &'a Values<'a>,
+) -> Result<Command<'a>, AllocError> {
+    let command = Command::new(alloc, "package")
+        .about("Shows the package of a component, as documents that declare it")
+        .after_help(
+            "What WAC can't say is a comment in its place, and a warning.\n\
+            Status: 0 all is well, 1 a file has an error or there is a warning, 2 wrong use,\n\
+            3 a file could not be read, 4 out of memory.",
+        )
+        .arg(one_path(alloc, "PATH", "FILE.wasm", "The component"))?
+        .arg(
+            Arg::new(alloc, "name")
+                .long("name")
+                .value_name("KEY")
+                .action(ArgAction::Set)
+                .help("The name of the package, as a:b or a:b@1.0.0"),
+        )?
+        .arg(
+            choice(alloc, "output", values.package_forms.as_slice(), "wac")
+                .value_name("FORM")
+                .help("Documents, or what is decoded as a JSON object"),
+        )?;
+    common(alloc, values, command)
+}
+
+fn targets_definition<'a>(
+    alloc: Global,
+    values: &'a Values<'a>,
+) -> Result<Command<'a>, AllocError> {
+    let command = Command::new(alloc, "targets")
+        .about("Tests whether a component fits a world")
+        .after_help(
+            "Nothing is written where it fits, and else the first place where it doesn't.\n\
+            Status: 0 it fits, 1 it doesn't or a file has an error, 2 wrong use, 3 a file could not be read,\n\
+            4 out of memory.",
+        )
+        .arg(one_path(alloc, "PATH", "FILE.wasm", "The component"))?
+        .arg(one_path(
+            alloc,
+            "WORLD",
+            "WORLD.wac",
+            "The document that declares the world",
+        ))?
+        .arg(
+            Arg::new(alloc, "WORLD-NAME")
+                .long("world")
+                .value_name("WORLD")
+                .action(ArgAction::Set)
+                .help("The world, where the document declares several"),
+        )?
+        .arg(
+            choice(alloc, "output", values.reports.as_slice(), "human")
+                .value_name("FORM")
+                .help("The form of errors"),
+        )?;
+    common(alloc, values, command)
+}
+
+fn one_path<'a>(alloc: Global, name: &'a str, shown: &'a str, help: &'a str) -> Arg<'a> {
+    Arg::new(alloc, name)
         .required(true)
         .action(ArgAction::Set)
-        .value_name("PATH")
-        .help("The file")
+        .value_name(shown)
+        .help(help)
 }
 
 /// Adds what all commands take.
