@@ -1,10 +1,11 @@
 // What is said of the packages of components, beside declared ones.
 use indexmap::IndexMap;
 use std::alloc::{AllocError, Global};
+use std::io::Write;
 use std::test::Fail;
 use wac_cli_console::{Console, Outcome, Report};
-use wac_component_packages::{Sought, Supplied, read_components, supply_components};
-use wac_declared_packages::declare_all;
+use wac_component_packages::{Components, Sought, Supplied, read_components, supply_components};
+use wac_declared_packages::{Declared, declare_all};
 use wac_files::MemoryFiles;
 
 /// `log: func(line: string)` is imported, and exported again as `run`.
@@ -149,38 +150,60 @@ fn good(outcomes: &[Outcome]) -> usize {
         .count()
 }
 
+/// How many packages are known where components are supplied beside a row's document, and how many components are well.
+fn beside<O: Write + Drop, E: Write + Drop>(
+    alloc: Global,
+    console: &mut Console<O, E>,
+    row: &Row,
+    components: Components,
+) -> Result<(usize, usize), AllocError> {
+    let mut names = Vec::new(alloc);
+    names.push(String::from_str(alloc, "a.wac")?)?;
+    let none = IndexMap::new(alloc);
+    let Declared {
+        mut packages,
+        mut texts,
+        faults: _,
+    } = declare_all(alloc, &[row.text], &none)?;
+    let outcomes = {
+        let mut known = Supplied {
+            packages: &mut packages,
+            files: &mut texts,
+            names: &mut names,
+            may_agree: row.may_agree,
+        };
+        supply_components(alloc, console, Report::Human, components, &mut known)?
+    };
+    Ok((packages.len(), good(outcomes.as_slice())))
+}
+
+/// The names of packages with the paths of their components, of a row.
+fn keyed(alloc: Global, row: &Row) -> Result<Vec<(&'static str, &'static str)>, AllocError> {
+    let mut keyed = Vec::new(alloc);
+    if let Some(pair) = row.keyed {
+        keyed.push(pair)?;
+    }
+    Ok(keyed)
+}
+
 /// How many packages are known, how many components are well, and the errors.
 fn supplied(alloc: Global, row: &Row) -> Result<(usize, usize, Vec<u8>), AllocError> {
     let mut files = tree(alloc)?;
     let mut output = Vec::new(alloc);
     let mut errors = Vec::new(alloc);
-    let mut names = Vec::new(alloc);
-    names.push(String::from_str(alloc, "a.wac")?)?;
-    let mut keyed = Vec::new(alloc);
-    if let Some(pair) = row.keyed {
-        keyed.push(pair)?;
-    }
-    let outcomes = {
-        let mut console = Console::new(&mut output, &mut errors, false, false);
-        let sought = Sought {
-            paths: &[row.paths],
-            named: keyed.as_slice(),
-            worlds: &[],
-            report: Report::Human,
-        };
-        let read = read_components(alloc, &mut files, &mut console, sought)?;
-        let none = IndexMap::new(alloc);
-        let mut declared = declare_all(alloc, &[row.text], &none)?;
-        let mut known = Supplied {
-            packages: &mut declared.packages,
-            files: &mut declared.texts,
-            names: &mut names,
-            may_agree: row.may_agree,
-        };
-        let outcomes = supply_components(alloc, &mut console, Report::Human, read, &mut known)?;
-        (declared.packages.len(), outcomes)
+    let keyed = keyed(alloc, row)?;
+    let sought = Sought {
+        paths: &[row.paths],
+        named: keyed.as_slice(),
+        worlds: &[],
+        report: Report::Human,
     };
-    Ok((outcomes.0, good(outcomes.1.as_slice()), errors))
+    let (known, well) = {
+        let mut console = Console::new(&mut output, &mut errors, false, false);
+        let components = read_components(alloc, &mut files, &mut console, sought)?;
+        beside(alloc, &mut console, row, components)?
+    };
+    Ok((known, well, errors))
 }
 
 /// What was found in place of what a row expects, or nothing.
