@@ -2,7 +2,7 @@
 
 use crate::fault::Fault;
 use crate::scope::Scope;
-use crate::writer::Writer;
+use crate::steps::Steps;
 use indexmap::IndexSet;
 use std::alloc::Global;
 use wac_components::Decoded;
@@ -62,10 +62,6 @@ impl Collection {
         Ok(scope)
     }
 
-    pub(crate) fn alloc(&self) -> Global {
-        self.alloc
-    }
-
     /// How many instances there are.
     pub(crate) fn source_count(&self) -> usize {
         self.sources.len()
@@ -77,74 +73,96 @@ impl Collection {
     }
 }
 
-impl<'d> Writer<'d> {
-    /// The interfaces that a decoded component mentions.
-    pub(crate) fn collection(&mut self, decoded: &Decoded) -> Result<Collection, Fault> {
-        let mut all = Collection::new(self.alloc);
-        if decoded.definitions.is_empty() {
-            self.collect_world(&mut all, decoded.component)?;
-        } else {
-            self.collect_defined(&mut all, decoded)?;
-            self.collect_worlds(&mut all, decoded)?;
-        }
-        Ok(all)
-    }
-
+impl Collection {
     /// Adds an item, if it is an instance of an interface that has a path.
-    fn collect(&mut self, all: &mut Collection, name: NameId, item: Item) -> Result<(), Fault> {
+    fn add_item(
+        &mut self,
+        steps: &mut Steps,
+        table: &Table,
+        name: NameId,
+        item: Item,
+    ) -> Result<(), Fault> {
         let Item::Instance(instance) = item else {
             return Ok(());
         };
-        let table = self.table;
         let text = table.name(name);
-        self.take(text.len() as u64)?;
+        steps.take(text.len() as u64)?;
         if path_of(text).is_some() {
-            all.add(name, instance)?;
+            self.add(name, instance)?;
         }
         Ok(())
     }
 
     /// Adds the interfaces that a package defines.
-    fn collect_defined(&mut self, all: &mut Collection, decoded: &Decoded) -> Result<(), Fault> {
+    fn add_defined(&mut self, steps: &mut Steps, decoded: &Decoded) -> Result<(), Fault> {
         for definition in &decoded.definitions {
-            self.collect(all, definition.path, definition.item)?;
+            self.add_item(steps, &decoded.table, definition.path, definition.item)?;
         }
         Ok(())
     }
 
     /// Adds the interfaces of the worlds that a package defines.
-    fn collect_worlds(&mut self, all: &mut Collection, decoded: &Decoded) -> Result<(), Fault> {
+    fn add_worlds(&mut self, steps: &mut Steps, decoded: &Decoded) -> Result<(), Fault> {
         for definition in &decoded.definitions {
             if let Item::Component(component) = definition.item {
-                self.collect_world(all, component)?;
+                self.add_world(steps, &decoded.table, component)?;
             }
         }
         Ok(())
     }
 
     /// Adds the interfaces of a world.
-    fn collect_world(&mut self, all: &mut Collection, component: ComponentId) -> Result<(), Fault> {
-        let table = self.table;
+    fn add_world(
+        &mut self,
+        steps: &mut Steps,
+        table: &Table,
+        component: ComponentId,
+    ) -> Result<(), Fault> {
         let Some(found) = table.component(component) else {
             return Ok(());
         };
         let (instance, imports) = (found.instance, found.imports.len());
-        self.collect_exports(all, instance)?;
+        self.add_exports(steps, table, instance)?;
         for place in 0..imports {
             if let Some((name, item)) = table.import_at(component, place) {
-                self.collect(all, name, item)?;
+                self.add_item(steps, table, name, item)?;
             }
         }
         Ok(())
     }
 
-    fn collect_exports(&mut self, all: &mut Collection, instance: InstanceId) -> Result<(), Fault> {
-        let table = self.table;
+    fn add_exports(
+        &mut self,
+        steps: &mut Steps,
+        table: &Table,
+        instance: InstanceId,
+    ) -> Result<(), Fault> {
         for place in 0..table.export_count(instance) {
             if let Some((name, item)) = table.export_at(instance, place) {
-                self.collect(all, name, item)?;
+                self.add_item(steps, table, name, item)?;
             }
         }
         Ok(())
+    }
+
+    fn add_all(&mut self, steps: &mut Steps, decoded: &Decoded) -> Result<(), Fault> {
+        if decoded.definitions.is_empty() {
+            return self.add_world(steps, &decoded.table, decoded.component);
+        }
+        self.add_defined(steps, decoded)?;
+        self.add_worlds(steps, decoded)
+    }
+}
+
+/// The interfaces that a decoded component mentions.
+pub(crate) fn collected(
+    alloc: Global,
+    steps: &mut Steps,
+    decoded: &Decoded,
+) -> Result<Collection, Fault> {
+    let mut all = Collection::new(alloc);
+    match all.add_all(steps, decoded) {
+        Ok(()) => Ok(all),
+        Err(fault) => Err(fault),
     }
 }

@@ -1,16 +1,17 @@
 //! Which types of its scope a type names.
 
 use crate::fault::Fault;
-use crate::resources::Members;
-use crate::scope::{Entry, Kind, Scope};
-use crate::writer::Writer;
+use crate::resources::{Member, Members};
+use crate::scope::{Kind, View};
+use crate::steps::Steps;
 use indexmap::IndexSet;
+use std::alloc::Global;
 use wac_components_names::origin_of;
 use wac_components_types::{NameId, Parts, Table, TypeDef, TypeId};
 
 /// The names that were met, and the types that are still to be looked at.
 pub(crate) struct Mentions {
-    pub names: IndexSet<NameId>,
+    names: IndexSet<NameId>,
     stack: Vec<TypeId>,
 }
 
@@ -68,94 +69,109 @@ impl Mentions {
     }
 }
 
-impl<'d> Writer<'d> {
-    /// Looks at a type in use: its name in the scope, or what its structure is made of.
-    fn look_at(
-        &mut self,
-        all: &mut Mentions,
-        ty: TypeId,
-        scope: &Scope,
-        names: usize,
-    ) -> Result<(), Fault> {
-        self.take(1)?;
-        let table = self.table;
-        if let Some(name) = scope.name_of(table, names, ty) {
-            all.names.insert(name)?;
-            return Ok(());
+impl Mentions {
+    fn new(alloc: Global) -> Self {
+        Mentions {
+            names: IndexSet::new(alloc),
+            stack: Vec::new(alloc),
         }
-        match (origin_of(table, ty, None), table.base_def(ty)) {
-            (None, Some(def)) => all.add_structure(table, def),
+    }
+
+    fn add_name(&mut self, name: NameId) -> Result<(), Fault> {
+        self.names.insert(name)?;
+        Ok(())
+    }
+
+    /// Looks at a type in use: its name in the scope, or what its structure is made of.
+    fn look_at(&mut self, ty: TypeId, view: View<'_>) -> Result<(), Fault> {
+        if let Some(name) = view.name_of(ty) {
+            return self.add_name(name);
+        }
+        match (origin_of(view.table, ty, None), view.table.base_def(ty)) {
+            (None, Some(def)) => self.add_structure(view.table, def),
             _ => Ok(()),
         }
     }
 
-    fn look_at_all(
-        &mut self,
-        all: &mut Mentions,
-        scope: &Scope,
-        names: usize,
-    ) -> Result<(), Fault> {
-        for _ in 0..self.steps() {
-            match all.stack.pop() {
+    /// Looks at all types that are still to be looked at.
+    fn look_at_all(&mut self, steps: &mut Steps, view: View<'_>) -> Result<(), Fault> {
+        for _ in 0..steps.left() {
+            steps.take(1)?;
+            match self.stack.pop() {
                 None => return Ok(()),
-                Some(ty) => self.look_at(all, ty, scope, names)?,
+                Some(ty) => self.look_at(ty, view)?,
             }
         }
         Err(Fault::TooLarge)
     }
 
-    fn mention_structure(
+    /// Adds what the structure of a type mentions.
+    fn add_type(&mut self, steps: &mut Steps, ty: TypeId, view: View<'_>) -> Result<(), Fault> {
+        if let Some(def) = view.table.base_def(ty) {
+            self.add_structure(view.table, def)?;
+        }
+        self.look_at_all(steps, view)
+    }
+
+    /// Adds what a function mentions, if it is one of that resource.
+    fn add_member(
         &mut self,
-        all: &mut Mentions,
-        ty: TypeId,
-        scope: &Scope,
-        names: usize,
+        steps: &mut Steps,
+        resource: NameId,
+        member: Member,
+        view: View<'_>,
     ) -> Result<(), Fault> {
-        let table = self.table;
-        if let Some(def) = table.base_def(ty) {
-            all.add_structure(table, def)?;
+        steps.take(1)?;
+        if member.resource != resource {
+            return Ok(());
         }
-        self.look_at_all(all, scope, names)
+        self.add_type(steps, member.ty, view.with(member.names))
     }
 
-    /// The names of other types that a type's declaration mentions, and those of a resource's functions.
-    pub(crate) fn mentions(
+    /// Adds what the functions of a resource mention.
+    fn add_members(
         &mut self,
-        name: NameId,
-        entry: Entry,
-        members: &Members,
-        scope: &Scope,
-    ) -> Result<IndexSet<NameId>, Fault> {
-        let mut all = Mentions {
-            names: IndexSet::new(self.alloc),
-            stack: Vec::new(self.alloc),
-        };
-        match entry.kind {
-            Kind::Alias(other) => {
-                all.names.insert(other)?;
-            }
-            Kind::Type(ty) => self.mention_structure(&mut all, ty, scope, entry.names)?,
-            Kind::Resource => self.mention_members(&mut all, name, members, scope)?,
-            _ => {}
-        }
-        Ok(all.into_names())
-    }
-
-    fn mention_members(
-        &mut self,
-        all: &mut Mentions,
+        steps: &mut Steps,
         resource: NameId,
         members: &Members,
-        scope: &Scope,
+        view: View<'_>,
     ) -> Result<(), Fault> {
         for place in 0..members.of_resources.len() {
-            self.take(1)?;
             if let Some(member) = members.of_resources.get(place).copied() {
-                if member.resource == resource {
-                    self.mention_structure(all, member.ty, scope, member.names)?;
-                }
+                self.add_member(steps, resource, member, view)?;
             }
         }
         Ok(())
+    }
+
+    /// Adds what the declaration of a type mentions.
+    fn add_declaration(
+        &mut self,
+        steps: &mut Steps,
+        declared: (NameId, Kind),
+        members: &Members,
+        view: View<'_>,
+    ) -> Result<(), Fault> {
+        let (name, kind) = declared;
+        match kind {
+            Kind::Alias(other) => self.add_name(other),
+            Kind::Type(ty) => self.add_type(steps, ty, view),
+            Kind::Resource => self.add_members(steps, name, members, view),
+            _ => Ok(()),
+        }
+    }
+}
+
+/// The names of other types that the declaration of a type mentions, and those of a resource's functions.
+pub(crate) fn mentioned_by(
+    steps: &mut Steps,
+    declared: (NameId, Kind),
+    members: &Members,
+    view: View<'_>,
+) -> Result<IndexSet<NameId>, Fault> {
+    let mut all = Mentions::new(view.scope.alloc);
+    match all.add_declaration(steps, declared, members, view) {
+        Ok(()) => Ok(all.into_names()),
+        Err(fault) => Err(fault),
     }
 }

@@ -1,10 +1,10 @@
 //! Types in use, and functions.
 
 use crate::fault::{Fault, Reason};
-use crate::scope::Scope;
-use crate::writer::Writer;
+use crate::line::Line;
+use crate::scope::View;
 use wac_components_names::origin_of;
-use wac_components_types::{Func, NameId, Part, Parts, TypeDef, TypeId};
+use wac_components_types::{Func, NameId, Part, Parts, Table, TypeDef, TypeId};
 use wac_graph_types::PrimitiveType;
 
 /// What is to be written of a type.
@@ -55,7 +55,86 @@ fn word_of(def: TypeDef) -> &'static str {
     }
 }
 
-impl<'d> Writer<'d> {
+/// How a type in use is written.
+#[derive(Clone, Copy)]
+enum Use {
+    Word(&'static str),
+    Name(NameId),
+    /// By its structure.
+    Structure(TypeDef),
+}
+
+/// The word of a primitive type, if a type is one.
+fn primitive_at(table: &Table, ty: TypeId) -> Option<&'static str> {
+    match table.ty(ty)?.def {
+        TypeDef::Primitive(primitive) => Some(primitive_name(primitive)),
+        _ => None,
+    }
+}
+
+/// How a type without a name is written.
+fn unnamed_use(table: &Table, ty: TypeId) -> Result<Use, Fault> {
+    match (origin_of(table, ty, None), table.base_def(ty)) {
+        (None, Some(def)) => Ok(Use::Structure(def)),
+        _ => Err(Fault::Reason(Reason::NoName)),
+    }
+}
+
+/// How a type in use is written: by its name, else by its structure.
+fn use_of(view: View<'_>, ty: TypeId) -> Result<Use, Fault> {
+    if let Some(word) = primitive_at(view.table, ty) {
+        return Ok(Use::Word(word));
+    }
+    match view.name_of(ty) {
+        Some(name) => match view.scope.test(name) {
+            Ok(()) => Ok(Use::Name(name)),
+            Err(fault) => Err(fault),
+        },
+        None => unnamed_use(view.table, ty),
+    }
+}
+
+/// The name of a resource that is written.
+fn handle_name(view: View<'_>, ty: TypeId) -> Result<NameId, Fault> {
+    match view.name_of(ty) {
+        None => Err(Fault::Reason(Reason::NoName)),
+        Some(name) => match view.scope.test(name) {
+            Ok(()) => Ok(name),
+            Err(fault) => Err(fault),
+        },
+    }
+}
+
+/// The part of a type at a place.
+pub(crate) fn part_at(table: &Table, parts: Parts, place: usize) -> Result<Part, Fault> {
+    match table.part(parts.first.saturating_add(place)) {
+        Some(part) => Ok(part),
+        None => Err(Fault::Reason(Reason::NoName)),
+    }
+}
+
+/// The name and the type of a part that has both.
+fn pair_at(table: &Table, parts: Parts, place: usize) -> Result<(NameId, TypeId), Fault> {
+    match table.part(parts.first.saturating_add(place)) {
+        Some(
+            Part {
+                name: Some(name),
+                ty: Some(ty),
+            },
+        ) => Ok((name, ty)),
+        _ => Err(Fault::Reason(Reason::NoName)),
+    }
+}
+
+/// The function of a type.
+pub(crate) fn func_of(table: &Table, ty: TypeId) -> Result<Func, Fault> {
+    match table.base_def(ty) {
+        Some(TypeDef::Func(func)) => Ok(func),
+        _ => Err(Fault::Reason(Reason::NoName)),
+    }
+}
+
+impl Line {
     /// Writes a text now, and these pieces next, in order.
     fn text_then(&mut self, text: &str, pieces: &[Piece]) -> Result<(), Fault> {
         self.push(text)?;
@@ -66,52 +145,42 @@ impl<'d> Writer<'d> {
     }
 
     /// Writes the pieces that are left.
-    fn write_pieces(&mut self, scope: &Scope, names: usize) -> Result<(), Fault> {
-        for _ in 0..self.steps() {
+    fn write_pieces(&mut self, view: View<'_>) -> Result<(), Fault> {
+        for _ in 0..self.steps.left() {
             match self.pieces.pop() {
                 None => return Ok(()),
-                Some(piece) => {
-                    self.take(1)?;
-                    self.piece(piece, scope, names)?;
-                }
+                Some(piece) => self.piece(piece, view)?,
             }
         }
         Err(Fault::TooLarge)
     }
 
-    fn piece(&mut self, piece: Piece, scope: &Scope, names: usize) -> Result<(), Fault> {
+    fn piece(&mut self, piece: Piece, view: View<'_>) -> Result<(), Fault> {
+        self.steps.take(1)?;
         match piece {
             Piece::Text(text) => self.push(text),
-            Piece::Use(ty) => self.use_of(ty, scope, names),
-            Piece::Handle(ty) => match scope.name_of(self.table, names, ty) {
-                Some(name) => self.known_name(name, scope),
-                None => Err(Fault::Reason(Reason::NoName)),
-            },
-            Piece::Types(parts, place) => self.types_of(parts, place),
-            Piece::Pairs(parts, place) => self.pairs_of(parts, place),
+            Piece::Use(ty) => self.used_type(ty, view),
+            Piece::Handle(ty) => self.handle(ty, view),
+            Piece::Types(parts, place) => self.types_of(view.table, parts, place),
+            Piece::Pairs(parts, place) => self.pairs_of(view.table, parts, place),
         }
     }
 
-    /// A name of a type that is written.
-    pub(crate) fn known_name(&mut self, name: NameId, scope: &Scope) -> Result<(), Fault> {
-        scope.test(name)?;
-        self.push_name(name)
+    /// A type in use.
+    fn used_type(&mut self, ty: TypeId, view: View<'_>) -> Result<(), Fault> {
+        match use_of(view, ty) {
+            Err(fault) => Err(fault),
+            Ok(Use::Word(word)) => self.push(word),
+            Ok(Use::Name(name)) => self.push_name(view.table, name),
+            Ok(Use::Structure(def)) => self.structure(def),
+        }
     }
 
-    /// A type in use: its name, else its structure.
-    fn use_of(&mut self, ty: TypeId, scope: &Scope, names: usize) -> Result<(), Fault> {
-        let table = self.table;
-        if let Some(entry) = table.ty(ty) {
-            if let TypeDef::Primitive(primitive) = entry.def {
-                return self.push(primitive_name(primitive));
-            }
-        }
-        if let Some(name) = scope.name_of(table, names, ty) {
-            return self.known_name(name, scope);
-        }
-        match (origin_of(table, ty, None), table.base_def(ty)) {
-            (None, Some(def)) => self.structure(def),
-            _ => Err(Fault::Reason(Reason::NoName)),
+    /// A resource, by its name.
+    fn handle(&mut self, ty: TypeId, view: View<'_>) -> Result<(), Fault> {
+        match handle_name(view, ty) {
+            Err(fault) => Err(fault),
+            Ok(name) => self.push_name(view.table, name),
         }
     }
 
@@ -163,28 +232,24 @@ impl<'d> Writer<'d> {
         }
     }
 
-    fn types_of(&mut self, parts: Parts, place: usize) -> Result<(), Fault> {
+    fn types_of(&mut self, table: &Table, parts: Parts, place: usize) -> Result<(), Fault> {
         if place >= parts.count {
             return Ok(());
         }
-        self.push(if place == 0 { "" } else { ", " })?;
         let next = Piece::Types(parts, place.saturating_add(1));
-        match self.part_at(parts, place)?.ty {
-            Some(ty) => self.text_then("", &[Piece::Use(ty), next]),
+        match part_at(table, parts, place)?.ty {
+            Some(ty) => self.text_then(if place == 0 { "" } else { ", " }, &[Piece::Use(ty), next]),
             None => Err(Fault::Reason(Reason::NoName)),
         }
     }
 
-    fn pairs_of(&mut self, parts: Parts, place: usize) -> Result<(), Fault> {
+    fn pairs_of(&mut self, table: &Table, parts: Parts, place: usize) -> Result<(), Fault> {
         if place >= parts.count {
             return Ok(());
         }
+        let (name, ty) = pair_at(table, parts, place)?;
+        self.push_name(table, name)?;
         let next = Piece::Pairs(parts, place.saturating_add(1));
-        let part = self.part_at(parts, place)?;
-        let (Some(name), Some(ty)) = (part.name, part.ty) else {
-            return Err(Fault::Reason(Reason::NoName));
-        };
-        self.push_name(name)?;
         let behind = if place.saturating_add(1) < parts.count {
             ", "
         } else {
@@ -193,34 +258,16 @@ impl<'d> Writer<'d> {
         self.text_then(": ", &[Piece::Use(ty), Piece::Text(behind), next])
     }
 
-    /// The part of a type at a place.
-    pub(crate) fn part_at(&self, parts: Parts, place: usize) -> Result<Part, Fault> {
-        match self.table.part(parts.first.saturating_add(place)) {
-            Some(part) => Ok(part),
-            None => Err(Fault::Reason(Reason::NoName)),
-        }
-    }
-
     /// Writes a type by its structure.
-    pub(crate) fn write_structure(
-        &mut self,
-        def: TypeDef,
-        scope: &Scope,
-        names: usize,
-    ) -> Result<(), Fault> {
+    pub(crate) fn write_structure(&mut self, def: TypeDef, view: View<'_>) -> Result<(), Fault> {
         self.structure(def)?;
-        self.write_pieces(scope, names)
+        self.write_pieces(view)
     }
 
     /// Writes a type in use.
-    pub(crate) fn write_type(
-        &mut self,
-        ty: TypeId,
-        scope: &Scope,
-        names: usize,
-    ) -> Result<(), Fault> {
+    pub(crate) fn write_type(&mut self, ty: TypeId, view: View<'_>) -> Result<(), Fault> {
         self.pieces.push(Piece::Use(ty))?;
-        self.write_pieces(scope, names)
+        self.write_pieces(view)
     }
 
     /// Writes the parameters from a place on, in parentheses.
@@ -228,12 +275,11 @@ impl<'d> Writer<'d> {
         &mut self,
         func: Func,
         first: usize,
-        scope: &Scope,
-        names: usize,
+        view: View<'_>,
     ) -> Result<(), Fault> {
         let params = Piece::Pairs(func.params, first);
         self.text_then("(", &[params, Piece::Text(")")])?;
-        self.write_pieces(scope, names)
+        self.write_pieces(view)
     }
 
     /// Writes the type of a function, whose parameters are those from a place on.
@@ -241,25 +287,16 @@ impl<'d> Writer<'d> {
         &mut self,
         func: Func,
         first: usize,
-        scope: &Scope,
-        names: usize,
+        view: View<'_>,
     ) -> Result<(), Fault> {
         self.push(if func.is_async { "async func" } else { "func" })?;
-        self.write_params(func, first, scope, names)?;
+        self.write_params(func, first, view)?;
         match func.result {
             Some(ty) => {
                 self.push(" -> ")?;
-                self.write_type(ty, scope, names)
+                self.write_type(ty, view)
             }
             None => Ok(()),
-        }
-    }
-
-    /// The function of a type.
-    pub(crate) fn func_of(&self, ty: TypeId) -> Result<Func, Fault> {
-        match self.table.base_def(ty) {
-            Some(TypeDef::Func(func)) => Ok(func),
-            _ => Err(Fault::Reason(Reason::NoName)),
         }
     }
 }

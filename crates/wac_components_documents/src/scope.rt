@@ -49,6 +49,33 @@ impl Drop for Scope {
     }
 }
 
+/// A scope, and the number of the names by which types are called in it.
+#[derive(Clone, Copy)]
+pub(crate) struct View<'s> {
+    pub table: &'s Table,
+    pub scope: &'s Scope,
+    pub names: usize,
+}
+
+impl<'s> View<'s> {
+    /// The same with the names of that number.
+    pub(crate) fn with(self, names: usize) -> Self {
+        View {
+            table: self.table,
+            scope: self.scope,
+            names,
+        }
+    }
+
+    /// The name by which a type is called.
+    pub(crate) fn name_of(self, ty: TypeId) -> Option<NameId> {
+        match self.scope.names.get(self.names) {
+            Some(all) => all.of(self.table, ty),
+            None => None,
+        }
+    }
+}
+
 /// What a type is as an item of an owner.
 fn kind_of_type(table: &Table, names: &Names, ty: TypeId, owner: Owner) -> Kind {
     let base = table.base(ty);
@@ -120,15 +147,37 @@ impl Scope {
         Ok(())
     }
 
+    /// Begins names, which are the last from now on.
+    fn begin_names(&mut self) -> Result<(), AllocError> {
+        self.names.reserve(1)?;
+        self.names.push_reserved(Names::new(self.alloc));
+        Ok(())
+    }
+
+    /// Adds the names of what an instance exports to the last names.
+    fn name_exports(&mut self, table: &Table, instance: InstanceId) -> Result<(), AllocError> {
+        match self.names.last_mut() {
+            Some(names) => names.add_exports(table, instance),
+            None => Ok(()),
+        }
+    }
+
+    /// Adds the names of what a component imports to the last names.
+    fn name_imports(&mut self, table: &Table, component: ComponentId) -> Result<(), AllocError> {
+        match self.names.last_mut() {
+            Some(names) => names.add_imports(table, component),
+            None => Ok(()),
+        }
+    }
+
     /// Adds what an instance exports.
     pub(crate) fn add_exports(
         &mut self,
         table: &Table,
         instance: InstanceId,
     ) -> Result<(), AllocError> {
-        let mut names = Names::new(self.alloc);
-        names.add_exports(table, instance)?;
-        self.names.push(names)?;
+        self.begin_names()?;
+        self.name_exports(table, instance)?;
         for place in 0..table.export_count(instance) {
             if let Some((name, item)) = table.export_at(instance, place) {
                 self.add(table, name, item, Owner::Instance(instance))?;
@@ -144,9 +193,8 @@ impl Scope {
         component: ComponentId,
         count: usize,
     ) -> Result<(), AllocError> {
-        let mut names = Names::new(self.alloc);
-        names.add_imports(table, component)?;
-        self.names.push(names)?;
+        self.begin_names()?;
+        self.name_imports(table, component)?;
         for place in 0..count {
             if let Some((name, item)) = table.import_at(component, place) {
                 self.add(table, name, item, Owner::Component(component))?;
@@ -163,25 +211,22 @@ impl Scope {
         instance: InstanceId,
     ) -> Result<usize, AllocError> {
         let number = self.names.len();
-        let mut names = Names::new(self.alloc);
-        names.add_exports(table, instance)?;
-        names.add_imports(table, component)?;
-        self.names.push(names)?;
+        self.begin_names()?;
+        self.name_exports(table, instance)?;
+        self.name_imports(table, component)?;
         Ok(number)
+    }
+
+    /// Notes that a type isn't written.
+    pub(crate) fn lose(&mut self, name: NameId) -> Result<(), AllocError> {
+        self.lost.insert(name)?;
+        Ok(())
     }
 
     /// The item at a place.
     pub(crate) fn entry(&self, place: usize) -> Option<(NameId, Entry)> {
         match self.entries.get_index(place) {
             Some((name, entry)) => Some((*name, *entry)),
-            None => None,
-        }
-    }
-
-    /// The name by which a type is called.
-    pub(crate) fn name_of(&self, table: &Table, names: usize, ty: TypeId) -> Option<NameId> {
-        match self.names.get(names) {
-            Some(all) => all.of(table, ty),
             None => None,
         }
     }

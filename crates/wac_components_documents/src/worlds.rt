@@ -2,17 +2,39 @@
 
 use crate::fault::{Fault, Reason};
 use crate::items::Home;
-use crate::scope::{Kind, Scope};
+use crate::line::Line;
+use crate::scope::{Kind, Scope, View};
 use crate::writer::Writer;
-use wac_components_types::{ComponentId, InstanceId, Item, NameId};
+use wac_components_types::{ComponentId, InstanceId, Item, NameId, Table};
 use wac_components_words::{identifier, path_of};
 
-/// What a world's exports are written with: the scope, and the number of the names.
-#[derive(Clone, Copy)]
-struct Exports<'s> {
-    scope: &'s Scope,
-    names: usize,
-    home: &'s Home,
+impl Line {
+    /// Writes the first line of a world of that name.
+    fn world_head(&mut self, name: &str) -> Result<(), Fault> {
+        self.push("world ")?;
+        if let Some(word) = identifier(self.alloc, name)? {
+            self.push(word.as_str())?;
+        }
+        self.push(" {")
+    }
+
+    fn named_interface(
+        &mut self,
+        table: &Table,
+        word: &str,
+        name: NameId,
+        package: &str,
+    ) -> Result<(), Fault> {
+        self.push(word)?;
+        self.push_path(table, name, package)?;
+        self.push(";")
+    }
+
+    fn inline_head(&mut self, table: &Table, word: &str, name: NameId) -> Result<(), Fault> {
+        self.push(word)?;
+        self.push_name(table, name)?;
+        self.push(": interface {")
+    }
 }
 
 impl<'d> Writer<'d> {
@@ -23,39 +45,52 @@ impl<'d> Writer<'d> {
         component: ComponentId,
         home: &Home,
     ) -> Result<(), Fault> {
+        if self.table.component(component).is_none() {
+            return Ok(());
+        }
+        self.line.world_head(name)?;
+        self.open()?;
+        self.world_items(component, home)?;
+        self.close("}")
+    }
+
+    /// Writes what a world imports and exports.
+    fn world_items(&mut self, component: ComponentId, home: &Home) -> Result<(), Fault> {
+        let mut scope = Scope::new(self.alloc());
+        self.items_in(&mut scope, component, home)
+    }
+
+    /// Writes what a world imports and exports, where that scope is still empty.
+    fn items_in(
+        &mut self,
+        scope: &mut Scope,
+        component: ComponentId,
+        home: &Home,
+    ) -> Result<(), Fault> {
         let table = self.table;
         let Some(found) = table.component(component) else {
             return Ok(());
         };
         let (instance, imports) = (found.instance, found.imports.len());
-        self.push("world ")?;
-        if let Some(word) = identifier(self.alloc, name)? {
-            self.push(word.as_str())?;
-        }
-        self.push(" {")?;
-        self.open()?;
-        let mut scope = Scope::new(self.alloc);
         scope.add_imports(table, component, imports)?;
         let names = scope.add_world_names(table, component, instance)?;
-        self.imports(&mut scope, home)?;
-        let exports = Exports {
-            scope: &scope,
-            names,
-            home,
-        };
-        self.exports(instance, exports)?;
-        self.close("}")
+        self.imports(scope, home)?;
+        self.exports(instance, names, scope, home)
     }
 
     /// Writes what a world imports: interfaces, then its types, then functions.
     fn imports(&mut self, scope: &mut Scope, home: &Home) -> Result<(), Fault> {
+        self.imported_interfaces(scope, home)?;
+        let members = scope.members(self.table, &mut self.line.steps)?;
+        self.items("import ", scope, &members, home)
+    }
+
+    /// Writes the imports that are no types and no functions.
+    fn imported_interfaces(&mut self, scope: &Scope, home: &Home) -> Result<(), Fault> {
         for place in 0..scope.entries.len() {
             self.import_at(scope, place, home)?;
         }
-        let members = self.members(scope)?;
-        self.uses(scope, home)?;
-        self.declarations(scope, &members)?;
-        self.functions("import ", scope, &members)
+        Ok(())
     }
 
     /// Writes an import that is no type and no function.
@@ -71,23 +106,37 @@ impl<'d> Writer<'d> {
     }
 
     /// Writes what a world exports.
-    fn exports(&mut self, instance: InstanceId, exports: Exports<'_>) -> Result<(), Fault> {
-        for place in 0..self.table.export_count(instance) {
-            if let Some((name, item)) = self.table.export_at(instance, place) {
-                self.export(name, item, exports)?;
+    fn exports(
+        &mut self,
+        instance: InstanceId,
+        names: usize,
+        scope: &Scope,
+        home: &Home,
+    ) -> Result<(), Fault> {
+        let table = self.table;
+        let view = View {
+            table,
+            scope,
+            names,
+        };
+        for place in 0..table.export_count(instance) {
+            if let Some((name, item)) = table.export_at(instance, place) {
+                self.export(name, item, view, home)?;
             }
         }
         Ok(())
     }
 
-    fn export(&mut self, name: NameId, item: Item, exports: Exports<'_>) -> Result<(), Fault> {
+    fn export(
+        &mut self,
+        name: NameId,
+        item: Item,
+        view: View<'_>,
+        home: &Home,
+    ) -> Result<(), Fault> {
         match item {
-            Item::Instance(instance) => self.interface_of("export ", name, instance, exports.home),
-            Item::Func(ty) => {
-                let written = self.function("export ", name, ty, exports.scope, exports.names);
-                self.settle(written, name)?;
-                Ok(())
-            }
+            Item::Instance(instance) => self.interface_of("export ", name, instance, home),
+            Item::Func(ty) => self.function("export ", name, ty, view),
             Item::Type(_) => self.refuse(name, Reason::Here("type")),
             Item::Module => self.refuse(name, Reason::Here("module")),
             Item::Component(_) | Item::Unevaluated(_) => {
@@ -104,32 +153,40 @@ impl<'d> Writer<'d> {
         instance: InstanceId,
         home: &Home,
     ) -> Result<(), Fault> {
-        let table = self.table;
-        if path_of(table.name(name)).is_some() {
-            let written = self.named_interface(word, name, home);
-            self.settle(written, name)?;
-            return Ok(());
+        if path_of(self.table.name(name)).is_none() {
+            return self.inline_interface(word, name, instance, home);
         }
-        let head = self.inline_head(word, name);
+        let package = home.package.as_str();
+        let written = self.line.named_interface(self.table, word, name, package);
+        match self.settle(written, name) {
+            Ok(_) => Ok(()),
+            Err(fault) => Err(fault),
+        }
+    }
+
+    /// Writes an instance with its items.
+    fn inline_interface(
+        &mut self,
+        word: &str,
+        name: NameId,
+        instance: InstanceId,
+        home: &Home,
+    ) -> Result<(), Fault> {
+        let head = self.line.inline_head(self.table, word, name);
         if !self.is_written(head, name)? {
             return Ok(());
         }
         self.open()?;
-        let mut scope = Scope::new(self.alloc);
-        scope.add_exports(table, instance)?;
-        self.body(&mut scope, home)?;
+        self.inline_items(instance, home)?;
         self.close("};")
     }
 
-    fn named_interface(&mut self, word: &str, name: NameId, home: &Home) -> Result<(), Fault> {
-        self.push(word)?;
-        self.push_path(name, home.package.as_str())?;
-        self.push(";")
-    }
-
-    fn inline_head(&mut self, word: &str, name: NameId) -> Result<(), Fault> {
-        self.push(word)?;
-        self.push_name(name)?;
-        self.push(": interface {")
+    /// Writes the items of an instance.
+    fn inline_items(&mut self, instance: InstanceId, home: &Home) -> Result<(), Fault> {
+        let mut scope = Scope::new(self.alloc());
+        match scope.add_exports(self.table, instance) {
+            Ok(()) => self.body(&mut scope, home),
+            Err(_) => Err(Fault::Memory),
+        }
     }
 }

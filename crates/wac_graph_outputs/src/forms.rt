@@ -1,0 +1,43 @@
+// The forms in which a graph is shown.
+use crate::drawing::dot;
+use crate::lines::text;
+use crate::objects::json;
+use crate::picture::Picture;
+use crate::places::bound_places;
+use std::alloc::{AllocError, Global};
+use wac_ast::internals::Statements;
+use wac_graph::CompositionGraph;
+
+/// The form in which a graph is shown.
+#[derive(Clone, Copy, Debug, PartialEq, Eq)]
+pub enum Form {
+    /// Lines, as those of `wac resolve`.
+    Text,
+    /// One JSON object, on a line.
+    Json,
+    /// A graph for Graphviz.
+    Dot,
+}
+
+/// The graph of a document with these statements, in a form. docs/GRAPH.md describes the three.
+pub fn drawn(
+    alloc: Global,
+    statements: Statements<'_, '_>,
+    graph: &CompositionGraph,
+    form: Form,
+) -> Result<Vec<u8>, AllocError> {
+    let places = bound_places(alloc, statements)?;
+    let picture = Picture::of(alloc, graph, &places)?;
+    match form {
+        Form::Text => text(alloc, graph, &picture),
+        Form::Json => json_line(alloc, &picture),
+        Form::Dot => Vec::from_slice(alloc, dot(alloc, &picture)?.as_bytes()),
+    }
+}
+
+/// A graph as JSON, with the end of the line.
+fn json_line(alloc: Global, picture: &Picture) -> Result<Vec<u8>, AllocError> {
+    let mut line = json(alloc, picture)?;
+    line.push('\n')?;
+    Vec::from_slice(alloc, line.as_bytes())
+}
