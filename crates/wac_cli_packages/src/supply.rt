@@ -11,7 +11,7 @@ use wac_component_packages::{Components, Sought, Supplied, read_components, supp
 use wac_files::{FileError, FileSystem, Found, find_files};
 use wac_graph::PackageKey;
 use wac_package_errors::{
-    DeclarationFault, Declared, KnownPackages, declaration_diagnostic, declare_all,
+    DeclarationFault, Declared, KnownPackages, declaration_diagnostic, declare_all_beside,
 };
 use wac_package_names::key_named;
 
@@ -80,7 +80,7 @@ fn supply_both<O: Write + Drop, E: Write + Drop>(
     sources: Sources,
     components: Components,
 ) -> Result<Supply, AllocError> {
-    match declare(alloc, &sources, given.worlds) {
+    match declare(alloc, &sources, given.worlds, &components) {
         Ok(declared) => add_both(alloc, console, given, (sources, declared), components),
         Err(_) => Err(AllocError),
     }
@@ -150,14 +150,15 @@ fn outcome_of(text: usize, faults: usize, well: usize) -> Outcome {
     }
 }
 
-/// The packages that documents declare.
+/// The packages that documents declare, which may mention those of components.
 fn declare(
     alloc: Global,
     sources: &Sources,
     worlds: &[(&str, &str)],
+    components: &Components,
 ) -> Result<Declared, AllocError> {
     let worlds = chosen(alloc, worlds)?;
-    declare_with(alloc, sources, &worlds)
+    declare_with(alloc, sources, &worlds, components)
 }
 
 /// The same with the chosen worlds.
@@ -165,9 +166,10 @@ fn declare_with(
     alloc: Global,
     sources: &Sources,
     worlds: &IndexMap<PackageKey, String>,
+    components: &Components,
 ) -> Result<Declared, AllocError> {
     let texts = sources.all(alloc)?;
-    declare_all(alloc, texts.as_slice(), worlds)
+    declare_all_beside(alloc, texts.as_slice(), worlds, &components.packages)
 }
 
 /// The chosen worlds, by their packages. Of two for one package the last is chosen.

@@ -48,28 +48,15 @@ fn add_namespace<F: FileSystem>(
 {
     let entries = entries_of(alloc, files, namespace.path.as_str())?;
     for entry in entries.as_slice() {
-        add_package(alloc, files, found, namespace, entry)?;
-    }
-    Ok(())
-}
-
-/// Adds the component that a file in a namespace is, or those that a folder in it holds.
-fn add_package<F: FileSystem>(
-    alloc: Global,
-    files: &mut F,
-    found: &mut Vec<ComponentFile>,
-    namespace: &Entry,
-    entry: &Entry,
-) -> Result<(), AllocError>
-    ensures { F.replaced files.new ≡ F.replaced files.old }
-{
-    match stem_of(entry.name.as_str()) {
-        None => add_versions(alloc, files, found, namespace, entry),
-        Some(name) => {
-            let key = key_of(alloc, namespace.name.as_str(), name, None)?;
-            add(alloc, files, found, entry, key)
+        match stem_of(entry.name.as_str()) {
+            Some(stem) => {
+                let key = key_of(alloc, namespace.name.as_str(), stem, None)?;
+                add(alloc, files, found, entry, key)?;
+            }
+            None => add_versions(alloc, files, found, (namespace, entry))?,
         }
     }
+    Ok(())
 }
 
 /// Adds the versions of a package, which a namespace and a folder in it name.
@@ -77,36 +64,20 @@ fn add_versions<F: FileSystem>(
     alloc: Global,
     files: &mut F,
     found: &mut Vec<ComponentFile>,
-    namespace: &Entry,
-    name: &Entry,
+    package: (&Entry, &Entry),
 ) -> Result<(), AllocError>
     ensures { F.replaced files.new ≡ F.replaced files.old }
 {
+    let (namespace, name) = package;
     let entries = entries_of(alloc, files, name.path.as_str())?;
-    let package = (namespace.name.as_str(), name.name.as_str());
     for entry in entries.as_slice() {
-        add_version(alloc, files, found, package, entry)?;
-    }
-    Ok(())
-}
-
-/// Adds the component that a file is, where its name is a version of the package of this namespace and name.
-fn add_version<F: FileSystem>(
-    alloc: Global,
-    files: &mut F,
-    found: &mut Vec<ComponentFile>,
-    package: (&str, &str),
-    entry: &Entry,
-) -> Result<(), AllocError>
-    ensures { F.replaced files.new ≡ F.replaced files.old }
-{
-    match stem_of(entry.name.as_str()) {
-        None => Ok(()),
-        version => {
-            let key = key_of(alloc, package.0, package.1, version)?;
-            add(alloc, files, found, entry, key)
+        if let Some(version) = stem_of(entry.name.as_str()) {
+            let (namespace, name) = (namespace.name.as_str(), name.name.as_str());
+            let key = key_of(alloc, namespace, name, Some(version))?;
+            add(alloc, files, found, entry, key)?;
         }
     }
+    Ok(())
 }
 
 /// Adds a file, if there is a key.

@@ -8,7 +8,8 @@ use Rattle.wac_graph.specs.contracts.package_key.PackageKeyPartialEq.TheImpl as 
 use Rattle.wac_graph.proofs.Keys.{keys_same, other_key}
 use Rattle.wac_graph_packages.specs.Packages.{IsCopy}
 use Rattle.wac_resolution_paths.proofs.Keys.{keyed_found}
-use Rattle.wac_declared_packages.specs.Together.{AreCopiesOf, HasMentioned, IsThere, Puts, Supplies, found, under}
+use Rattle.wac_declared_packages.specs.Together.{AreCopiesOf, AreFrom, HasMentioned, HasMentionedOf, IsThere, Puts, Supplies, SuppliesFrom, found, given_for, under}
+use Rattle.wac_declared_packages.specs.declared.sources.Sources.{Sources}
 
 some_where : {X : Type 0} (b : Bool) (x : X) → is_some (cond b (Some x) None) ≡ b
 some_where true x = refl
@@ -58,41 +59,70 @@ now_there old key copy q true same names = refl
 now_there old key copy q false same names = absurd (other_key key (key_of q) same (sym names))
 
 -- a copy was put under the key
-pub supplies_copy : (packages old new : List (PackageKey × PackageParts)) (key put_key : PackageKey) (copy : PackageParts) → key_of put_key ≡ key_of key → Puts (key_of put_key) copy old new
-    → Supplies key packages old new
-supplies_copy packages old new key put_key copy names put = λ q. (
+pub supplies_copy : (among : Key → Option PackageParts) (old new : List (PackageKey × PackageParts)) (key put_key : PackageKey) (copy : PackageParts) → key_of put_key ≡ key_of key → Puts (key_of put_key) copy old new
+    → SuppliesFrom key among old new
+supplies_copy among old new key put_key copy names put = λ q. (
   (λ there. ap (λ (o : Option PackageParts). is_some o) (put q) ∙ still_there old copy q (same_key (key_of put_key) (key_of q)) there),
   (λ same there. ap (λ (o : Option PackageParts). is_some o) (put q) ∙ now_there old (key_of put_key) copy q (same_key (key_of put_key) (key_of q)) refl (names ∙ same)),
 )
 
 -- there is no package of the key
-pub supplies_none : (packages old : List (PackageKey × PackageParts)) (key : PackageKey) → None ≡ found key packages → Supplies key packages old old
-supplies_none packages old key none = λ q. (
+pub supplies_none : (among : Key → Option PackageParts) (old : List (PackageKey × PackageParts)) (key : PackageKey) → None ≡ among (key_of key) → SuppliesFrom key among old old
+supplies_none among old key none = λ q. (
   (λ there. there),
-  (λ same there. let no : None ≡ found q packages = none ∙ ap (λ (k : Key). under k packages) same in absurd (cc)),
+  (λ same there. let no : None ≡ among (key_of q) = none ∙ ap among same in absurd (cc)),
 )
 
 -- what was supplied so far, where this is left of what is mentioned
+abbrev pub Pending : {X : Type 0} → List (PackageKey × X) → List (PackageKey × X) → (Key → Option PackageParts) → List (PackageKey × PackageParts) → Type 0
+Pending mentioned rest among copies = (q : PackageKey) → IsThere q mentioned → is_some (among (key_of q)) ≡ true → IsThere q copies ⊎ IsThere q rest
+
 pub record Supplying {X : Type 0} (mentioned rest : List (PackageKey × X)) (packages copies : List (PackageKey × PackageParts)) : Type 0 where
   pub are_copies : AreCopiesOf packages copies
-  pub pending : (q : PackageKey) → IsThere q mentioned → IsThere q packages → IsThere q copies ⊎ IsThere q rest
+  pub pending : Pending mentioned rest (λ k. under k packages) copies
 
 pub supplying_first : {X : Type 0} (mentioned : List (PackageKey × X)) (packages copies : List (PackageKey × PackageParts)) → copies ≡ [] → Supplying mentioned mentioned packages copies
 supplying_first mentioned packages copies is = record { are_copies = copies_none packages copies is; pending = λ q named there. inr named }
 
-pub supplying_next : {X : Type 0} (mentioned rest : List (PackageKey × X)) (key : PackageKey) (x : X) (packages old new : List (PackageKey × PackageParts)) → Supplying mentioned ((key, x) ∷ rest) packages old
-    → AreCopiesOf packages new → Supplies key packages old new → Supplying mentioned rest packages new
-supplying_next {X} mentioned rest key x packages old new so_far copies more = record { are_copies = copies; pending = λ q named there. go q there (so_far.pending q named there) (same_key (key_of q) (key_of key)) refl }
+pending_next : {X : Type 0} (mentioned rest : List (PackageKey × X)) (key : PackageKey) (x : X) (among : Key → Option PackageParts) (old new : List (PackageKey × PackageParts))
+    → Pending mentioned ((key, x) ∷ rest) among old → SuppliesFrom key among old new → Pending mentioned rest among new
+pending_next {X} mentioned rest key x among old new so_far more = λ q named there. go q there (so_far q named there) (same_key (key_of q) (key_of key)) refl
   where
-    go : (q : PackageKey) → IsThere q packages → IsThere q old ⊎ IsThere q ((key, x) ∷ rest) → (b : Bool) → same_key (key_of q) (key_of key) ≡ b → IsThere q new ⊎ IsThere q rest
+    go : (q : PackageKey) → is_some (among (key_of q)) ≡ true → IsThere q old ⊎ IsThere q ((key, x) ∷ rest) → (b : Bool) → same_key (key_of q) (key_of key) ≡ b → IsThere q new ⊎ IsThere q rest
     go q there (inl had) b same = inl ((more q).0 had)
     go q there (inr later) true same = inl ((more q).1 (sym (keys_same (key_of q) (key_of key) same)) there)
     go q there (inr later) false same = inr (ap (λ (b : Bool). is_some (cond b (Some x) (found q rest))) (sym same) ∙ later)
 
-pub supplying_last : {X : Type 0} (mentioned rest : List (PackageKey × X)) (packages copies : List (PackageKey × PackageParts)) → rest ≡ [] → Supplying mentioned rest packages copies
-    → HasMentioned mentioned packages copies
-supplying_last {X} mentioned rest packages copies is so_far = λ q named there. go q (so_far.pending q named there)
+pub supplying_next : {X : Type 0} (mentioned rest : List (PackageKey × X)) (key : PackageKey) (x : X) (packages old new : List (PackageKey × PackageParts)) → Supplying mentioned ((key, x) ∷ rest) packages old
+    → AreCopiesOf packages new → Supplies key packages old new → Supplying mentioned rest packages new
+supplying_next mentioned rest key x packages old new so_far copies more = record { are_copies = copies; pending = pending_next mentioned rest key x (λ k. under k packages) old new so_far.pending more }
+
+pending_last : {X : Type 0} (mentioned rest : List (PackageKey × X)) (among : Key → Option PackageParts) (copies : List (PackageKey × PackageParts)) → rest ≡ [] → Pending mentioned rest among copies
+    → HasMentionedOf mentioned among copies
+pending_last {X} mentioned rest among copies is so_far = λ q named there. go q (so_far q named there)
   where
     go : (q : PackageKey) → IsThere q copies ⊎ IsThere q rest → IsThere q copies
     go q (inl had) = had
     go q (inr later) = (let none : is_some (found q rest) ≡ is_some (found {X = X} q []) = ap (λ (l : List (PackageKey × X)). is_some (found q l)) is in absurd (cc))
+
+pub supplying_last : {X : Type 0} (mentioned rest : List (PackageKey × X)) (packages copies : List (PackageKey × PackageParts)) → rest ≡ [] → Supplying mentioned rest packages copies
+    → HasMentioned mentioned packages copies
+supplying_last mentioned rest packages copies is so_far = pending_last mentioned rest (λ k. under k packages) copies is so_far.pending
+
+-- ---- the given ones
+
+-- what was supplied of the given ones so far, where all is what the texts declare beside them
+pub record SupplyingGiven {X : Type 0} (s : Sources) (mentioned rest : List (PackageKey × X)) (copies : List (PackageKey × PackageParts)) : Type 0 where
+  pub are_from : AreFrom s copies
+  pub pending : Pending mentioned rest (λ k. given_for s k) copies
+
+pub given_first : {X : Type 0} (s : Sources) (mentioned : List (PackageKey × X)) (copies : List (PackageKey × PackageParts)) → AreFrom s copies → SupplyingGiven s mentioned mentioned copies
+given_first s mentioned copies all = record { are_from = all; pending = λ q named there. inr named }
+
+pub given_next : {X : Type 0} (s : Sources) (mentioned rest : List (PackageKey × X)) (key : PackageKey) (x : X) (old new : List (PackageKey × PackageParts)) → SupplyingGiven s mentioned ((key, x) ∷ rest) old
+    → AreFrom s new → SuppliesFrom key (λ k. given_for s k) old new → SupplyingGiven s mentioned rest new
+given_next s mentioned rest key x old new so_far all more = record { are_from = all; pending = pending_next mentioned rest key x (λ k. given_for s k) old new so_far.pending more }
+
+pub given_last : {X : Type 0} (s : Sources) (mentioned rest : List (PackageKey × X)) (copies : List (PackageKey × PackageParts)) → rest ≡ [] → SupplyingGiven s mentioned rest copies
+    → HasMentionedOf mentioned (λ k. given_for s k) copies
+given_last s mentioned rest copies is so_far = pending_last mentioned rest (λ k. given_for s k) copies is so_far.pending

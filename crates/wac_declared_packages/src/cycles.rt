@@ -2,6 +2,7 @@
 
 use crate::error::DeclarationError;
 use crate::outlines::{Outlines, first_missing};
+use crate::sources::Sources;
 use indexmap::IndexMap;
 use std::alloc::AllocError;
 use wac_graph::{Package, PackageKey};
@@ -11,14 +12,12 @@ use wac_lexer::SourceSpan;
 /// is none where one of the two texts is faulty.
 fn awaited(
     outlines: &Outlines,
+    sources: &Sources<'_>,
     made: &IndexMap<PackageKey, Package>,
     text: usize,
 ) -> Option<(usize, SourceSpan)> {
     let header = outlines.header(text)?;
-    let Some((key, place)) = first_missing(&header.mentioned, made) else {
-        return None;
-    };
-    let other = *outlines.texts.get(key)?;
+    let (other, place) = first_missing(&header.mentioned, sources, made)?;
     if outlines.header(other).is_some() {
         Some((other, place))
     } else {
@@ -29,12 +28,13 @@ fn awaited(
 /// The text that is reached from a text by as many mentions as there are texts: one of a cycle, if it leads to one.
 fn text_in_cycle(
     outlines: &Outlines,
+    sources: &Sources<'_>,
     made: &IndexMap<PackageKey, Package>,
     start: usize,
 ) -> Option<usize> {
     let mut text = start;
     for _ in 0..outlines.headers.len() {
-        let (other, _) = awaited(outlines, made, text)?;
+        let (other, _) = awaited(outlines, sources, made, text)?;
         text = other;
     }
     Some(text)
@@ -43,28 +43,30 @@ fn text_in_cycle(
 /// The first text of the cycle of a text, with the mention that goes on in the cycle.
 fn first_in_cycle(
     outlines: &Outlines,
+    sources: &Sources<'_>,
     made: &IndexMap<PackageKey, Package>,
     inside: usize,
 ) -> Option<(usize, SourceSpan)> {
     let mut text = inside;
     let mut first = inside;
     for _ in 0..outlines.headers.len() {
-        let (other, _) = awaited(outlines, made, text)?;
+        let (other, _) = awaited(outlines, sources, made, text)?;
         text = other;
         first = first.min(text);
     }
-    let (_, place) = awaited(outlines, made, first)?;
+    let (_, place) = awaited(outlines, sources, made, first)?;
     Some((first, place))
 }
 
 /// Rejects the first text of each cycle.
 pub(crate) fn reject_cycles(
     outlines: &mut Outlines,
+    sources: &Sources<'_>,
     made: &IndexMap<PackageKey, Package>,
 ) -> Result<(), AllocError> {
     for start in 0..outlines.headers.len() {
-        if let Some(inside) = text_in_cycle(outlines, made, start) {
-            if let Some((text, place)) = first_in_cycle(outlines, made, inside) {
+        if let Some(inside) = text_in_cycle(outlines, sources, made, start) {
+            if let Some((text, place)) = first_in_cycle(outlines, sources, made, inside) {
                 outlines.reject_text(text, DeclarationError::Cycle(place))?;
             }
         }

@@ -1,12 +1,13 @@
 //! Whether there is a package of each text.
-ghost use Rattle.std.specs.Prelude.{◌≡◌, IfOk, None, OnOk, is_some, true, vec_len};
+ghost use Rattle.std.specs.Prelude.{◌≡◌, IfOk, None, OnOk, true, vec_len};
 ghost use Rattle.wac_ast.specs.Statements.{document_of};
-ghost use Rattle.wac_declared_packages.specs.Together.{EachHasPackage, HasPackage, IsWhole, declared_key, now_of, under};
+ghost use Rattle.wac_graph.specs.Package.{key_of as key_in};
+ghost use Rattle.wac_declared_packages.specs.Together.{AllSettled, IsComplete, IsSettled, declared_key, is_there_under, now_of};
 
 use crate::error::DeclarationError;
 use crate::header::key_of;
 use crate::outlines::Outlines;
-use crate::sources::{Sources, text_at};
+use crate::sources::{Sources, listed, text_at};
 use crate::supplying::has;
 use indexmap::IndexMap;
 use std::alloc::{AllocError, Global};
@@ -14,28 +15,46 @@ use wac_ast::Document;
 use wac_graph::{Package, PackageKey};
 use wac_printer::Page;
 
-/// Whether the package that a document declares is there.
+/// Whether a text is listed under a key, and there is a package.
+#[tactic(auto, using(crate::proofs::Texts::there_unlisted, crate::proofs::Texts::there_listed))]
+fn is_under(
+    sources: &Sources<'_>,
+    packages: &IndexMap<PackageKey, Package>,
+    key: &PackageKey,
+) -> bool
+    ensures { result ≡ is_there_under (key_in key.now) sources.now.listed.now.entries packages.now.entries }
+{
+    match listed(sources, key) {
+        None => false,
+        Some(_) => has(packages, key),
+    }
+}
+
+/// Whether the package that a document declares is there, and a text is listed under its key.
 #[tactic(auto, using(crate::proofs::Texts::there_is))]
 fn is_there(
     page: Page<'_, '_>,
     alloc: Global,
+    sources: &Sources<'_>,
     packages: &IndexMap<PackageKey, Package>,
 ) -> Result<bool, AllocError>
-    ensures { IfOk result (λ there. there ≡ is_some (under (declared_key (document_of page.entry)) packages.now.entries)) }
+    ensures { IfOk result (λ there. there ≡ is_there_under (declared_key (document_of page.entry)) sources.now.listed.now.entries packages.now.entries) }
 {
     let Page { document } = page;
     let key = key_of(alloc, &document.directive.package)?;
-    Ok(has(packages, &key))
+    Ok(is_under(sources, packages, &key))
 }
 
-/// Whether the package that a text declares is there. The text is read anew, so nothing noted of it is trusted.
+/// Whether the package that a text declares is there, and the text is listed. The text is read anew, so nothing noted of
+/// it is trusted.
 #[tactic(auto, using(crate::proofs::Texts::package_there))]
 fn is_made(
     alloc: Global,
     text: &str,
+    sources: &Sources<'_>,
     packages: &IndexMap<PackageKey, Package>,
 ) -> Result<bool, AllocError>
-    ensures { IfOk result (λ made. made ≡ true → HasPackage packages.now.entries text.now) }
+    ensures { IfOk result (λ made. made ≡ true → IsSettled sources.now.listed.now.entries packages.now.entries text.now) }
 {
     match Document::parse(alloc, text) {
         Ok(document) => is_there(
@@ -43,6 +62,7 @@ fn is_made(
                 document: &document,
             },
             alloc,
+            sources,
             packages,
         ),
         Err(wac_ast::Error::Memory(refused)) => Err(refused),
@@ -57,26 +77,26 @@ fn first_unmade(
     sources: &Sources<'_>,
     packages: &IndexMap<PackageKey, Package>,
 ) -> Result<Option<usize>, AllocError>
-    ensures { IfOk result (λ unmade. unmade ≡ None → EachHasPackage (now_of sources.now.texts.now) packages.now.entries) }
+    ensures { IfOk result (λ unmade. unmade ≡ None → AllSettled (now_of sources.now.texts.now) sources.now.listed.now.entries packages.now.entries) }
 {
     for number in 0..sources.texts.len() {
         let Some(text) = text_at(sources, number) else {
             return Ok(Some(number));
         };
-        if !is_made(alloc, text, packages)? {
+        if !is_made(alloc, text, sources, packages)? {
             return Ok(Some(number));
         }
     }
     Ok(None)
 }
 
-/// The number of a text where there isn't just one package of each text; else none.
+/// The number of a text where there isn't just one package of each text, or one isn't listed; else none.
 fn first_lacking(
     alloc: Global,
     sources: &Sources<'_>,
     packages: &IndexMap<PackageKey, Package>,
 ) -> Result<Option<usize>, AllocError>
-    ensures { IfOk result (λ lacking. lacking ≡ None → IsWhole (now_of sources.now.texts.now) packages.now.entries) }
+    ensures { IfOk result (λ lacking. lacking ≡ None → IsComplete (now_of sources.now.texts.now) sources.now.listed.now.entries packages.now.entries) }
 {
     if packages.len() == sources.texts.len() {
         first_unmade(alloc, sources, packages)
@@ -93,7 +113,7 @@ pub(crate) fn reject_lacking(
     outlines: &mut Outlines,
     packages: &IndexMap<PackageKey, Package>,
 ) -> Result<(), AllocError>
-    ensures { OnOk result (vec_len outlines.new.faults ≡ 0 → IsWhole (now_of sources.now.texts.now) packages.now.entries) }
+    ensures { OnOk result (vec_len outlines.new.faults ≡ 0 → IsComplete (now_of sources.now.texts.now) sources.now.listed.now.entries packages.now.entries) }
 {
     if !outlines.faults.is_empty() {
         return Ok(());

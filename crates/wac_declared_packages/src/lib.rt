@@ -7,8 +7,8 @@
 //! ```
 //!
 //! [`declared_package`] makes the package that one document declares, and [`declared_packages`] those of many, in any
-//! order; [`declare_all`] goes on behind an error. `docs/PACKAGES.md` says what such documents are, and how to go from
-//! WIT to them.
+//! order; [`declare_all`] goes on behind an error, and [`declare_all_beside`] knows packages that are given too.
+//! `docs/PACKAGES.md` says what such documents are, and how to go from WIT to them.
 #![tactic(auto)]
 
 mod causes;
@@ -26,6 +26,6 @@ mod supplying;
 
 pub use declaration::declared_package;
 pub use error::{DeclarationError, DeclarationFault};
-pub use many::{Declared, declare_all, declared_packages};
+pub use many::{Declared, declare_all, declare_all_beside, declared_packages};
 pub use supplying::supplied_packages;
 pub use wac_graph_packages::copied_package;

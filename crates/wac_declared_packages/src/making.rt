@@ -11,7 +11,7 @@ use crate::error::DeclarationError;
 use crate::header::{Header, key_of};
 use crate::outlines::{Outlines, first_missing};
 use crate::sources::{Sources, text_at, world_of};
-use crate::supplying::{put, supplied_packages};
+use crate::supplying::{put, supplied_beside};
 use indexmap::IndexMap;
 use std::alloc::{AllocError, Global};
 use wac_ast::Document;
@@ -62,7 +62,7 @@ fn declared(
     }
 }
 
-/// The package that one of the texts declares, with those that it mentions.
+/// The package that one of the texts declares, with those that it mentions, made or given.
 fn made_of(
     alloc: Global,
     sources: &Sources<'_>,
@@ -74,26 +74,36 @@ fn made_of(
     requires all { AreFrom sources.now made.now.entries }
     ensures { IfOk result (λ p. IsFrom sources.now (key_in p.0) p.1) }
 {
-    match supplied_packages(alloc, &header.mentioned, made) {
+    match supplied_beside(alloc, sources, &header.mentioned, made) {
         Ok(packages) => declared(alloc, sources, packages, text),
         Err(error) => Err(of_parts(error)),
     }
 }
 
-/// Whether a text has a header and no package yet, and each package that it mentions is made.
-fn is_ready(outlines: &Outlines, text: usize, made: &IndexMap<PackageKey, Package>) -> bool {
+/// Whether a text has a header and no package yet, and each package that it mentions is made or given.
+fn is_ready(
+    outlines: &Outlines,
+    text: usize,
+    sources: &Sources<'_>,
+    made: &IndexMap<PackageKey, Package>,
+) -> bool {
     match outlines.header(text) {
         None => false,
         Some(header) => {
-            !made.contains_key(&header.key) && first_missing(&header.mentioned, made).is_none()
+            !made.contains_key(&header.key)
+                && first_missing(&header.mentioned, sources, made).is_none()
         }
     }
 }
 
 /// The first text that is ready.
-fn next(outlines: &Outlines, made: &IndexMap<PackageKey, Package>) -> Option<usize> {
+fn next(
+    outlines: &Outlines,
+    sources: &Sources<'_>,
+    made: &IndexMap<PackageKey, Package>,
+) -> Option<usize> {
     for text in 0..outlines.headers.len() {
-        if is_ready(outlines, text, made) {
+        if is_ready(outlines, text, sources, made) {
             return Some(text);
         }
     }
@@ -131,7 +141,7 @@ fn make(
     requires all { AreFrom sources.now made.old.entries }
     ensures { OnOk result (AreFrom sources.now made.new.entries) }
 {
-    let Some(number) = next(outlines, made) else {
+    let Some(number) = next(outlines, sources, made) else {
         return Ok(false);
     };
     let (Some(header), Some(text)) = (outlines.header(number), text_at(sources, number)) else {

@@ -1,6 +1,6 @@
 //! The packages that many texts declare.
 ghost use Rattle.std.specs.Prelude.{◌≡◌, IfOk, vec_len};
-ghost use Rattle.wac_declared_packages.specs.Together.{AreDeclared, AreFrom, IsWhole, now_of};
+ghost use Rattle.wac_declared_packages.specs.Together.{AreDeclared, AreDeclaredBeside, AreFrom, IsComplete, IsWhole, now_of};
 
 use crate::cycles::reject_cycles;
 use crate::ending::reject_lacking;
@@ -23,23 +23,58 @@ pub struct Declared {
     pub faults: Vec<DeclarationFault>,
 }
 
-/// The packages that texts declare, and what each text says of itself.
-#[derive(Drop)]
-struct Work {
-    packages: IndexMap<PackageKey, Package>,
-    outlines: Outlines,
+/// Makes the packages of texts, and rejects those that have none.
+fn declare(
+    alloc: Global,
+    sources: &Sources<'_>,
+    outlines: &mut Outlines,
+) -> Result<IndexMap<PackageKey, Package>, AllocError>
+    ensures declared { IfOk result (λ packages. AreFrom sources.now packages.entries) }
+    ensures all { IfOk result (λ packages. vec_len outlines.new.faults ≡ 0 → IsComplete (now_of sources.now.texts.now) sources.now.listed.now.entries packages.entries) }
+{
+    outlines.reject_unknown(sources)?;
+    let packages = make_all(alloc, outlines, sources)?;
+    reject_cycles(outlines, sources, &packages)?;
+    reject_lacking(alloc, sources, outlines, &packages)?;
+    Ok(packages)
 }
 
-/// Makes the packages of texts, and rejects those that have none.
-fn declare(alloc: Global, sources: &Sources<'_>) -> Result<Work, AllocError>
-    ensures declared { IfOk result (λ work. AreFrom sources.now work.packages.entries) }
-    ensures all { IfOk result (λ work. vec_len work.outlines.faults ≡ 0 → IsWhole (now_of sources.now.texts.now) work.packages.entries) }
+/// The packages that texts declare where they may mention given packages too, as those of components.
+///
+/// It is as [`declare_all`] has it, but that a package that no text declares may be a given one. A text that declares the
+/// package of a given one stands before it; whether that is an error is for the caller to say. The answer has the packages
+/// of the texts alone. What is given is copied where a text mentions it.
+///
+/// ```text
+/// let declared = declare_all_beside(alloc, &[application], &worlds, &components)?;
+/// ```
+pub fn declare_all_beside(
+    alloc: Global,
+    texts: &[&str],
+    worlds: &IndexMap<PackageKey, String>,
+    given: &IndexMap<PackageKey, Package>,
+) -> Result<Declared, AllocError>
+    // Each package is the one that a text's document declares, resolved with others of them and with given ones under whose
+    // keys no text is listed.
+    ensures declared { IfOk result (λ d. AreDeclaredBeside (now_of texts.now) worlds.now.entries given.now.entries d.texts.entries d.packages.entries) }
+    // There is one for each text, and no other, and each text is listed, unless there is a fault.
+    ensures all { IfOk result (λ d. vec_len d.faults ≡ 0 → IsComplete (now_of texts.now) d.texts.entries d.packages.entries) }
 {
-    let mut outlines = Outlines::of_texts(alloc, sources.texts)?;
-    let packages = make_all(alloc, &mut outlines, sources)?;
-    reject_cycles(&mut outlines, &packages)?;
-    reject_lacking(alloc, sources, &mut outlines, &packages)?;
-    Ok(Work { packages, outlines })
+    let mut listed = IndexMap::new(alloc);
+    let mut outlines = Outlines::of_texts(alloc, texts, &mut listed)?;
+    let sources = Sources {
+        texts,
+        worlds,
+        given,
+        listed: &listed,
+    };
+    let packages = declare(alloc, &sources, &mut outlines)?;
+    let Outlines { headers: _, faults } = outlines;
+    Ok(Declared {
+        packages,
+        texts: listed,
+        faults,
+    })
 }
 
 /// The packages that texts declare, in any order: each text is resolved after those that it mentions.
@@ -52,6 +87,7 @@ fn declare(alloc: Global, sources: &Sources<'_>) -> Result<Work, AllocError>
 /// ```text
 /// let declared = declare_all(alloc, &[cache, store], &worlds)?;
 /// ```
+#[tactic(auto, using(crate::proofs::Declares::declared_alone, crate::proofs::Declares::whole_alone))]
 pub fn declare_all(
     alloc: Global,
     texts: &[&str],
@@ -62,31 +98,20 @@ pub fn declare_all(
     // There is one for each text, and no other, unless there is a fault.
     ensures all { IfOk result (λ d. vec_len d.faults ≡ 0 → IsWhole (now_of texts.now) d.packages.entries) }
 {
-    let sources = Sources { texts, worlds };
-    let Work { packages, outlines } = declare(alloc, &sources)?;
-    let Outlines {
-        headers: _,
-        texts,
-        faults,
-    } = outlines;
-    Ok(Declared {
-        packages,
-        texts,
-        faults,
-    })
+    let given = IndexMap::new(alloc);
+    declare_all_beside(alloc, texts, worlds, &given)
 }
 
 /// The packages, where there is no fault; else the first fault.
-fn without_faults(work: Work) -> Result<IndexMap<PackageKey, Package>, DeclarationFault>
-    ensures same { IfOk result (λ packages. packages ≡ work.packages) }
-    ensures none { IfOk result (λ _. vec_len work.outlines.faults ≡ 0) }
+fn without_faults(declared: Declared) -> Result<IndexMap<PackageKey, Package>, DeclarationFault>
+    ensures same { IfOk result (λ packages. packages ≡ declared.packages) }
+    ensures none { IfOk result (λ _. vec_len declared.faults ≡ 0) }
 {
-    let Work { packages, outlines } = work;
-    let Outlines {
-        headers: _,
+    let Declared {
+        packages,
         texts: _,
         faults,
-    } = outlines;
+    } = declared;
     match faults.into_iter().next() {
         Some(fault) => Err(fault),
         None => Ok(packages),
@@ -104,9 +129,8 @@ pub fn declared_packages(
     // There is one for each text, and no other.
     ensures all { IfOk result (λ packages. IsWhole (now_of texts.now) packages.entries) }
 {
-    let sources = Sources { texts, worlds };
-    match declare(alloc, &sources) {
-        Ok(work) => without_faults(work),
+    match declare_all(alloc, texts, worlds) {
+        Ok(declared) => without_faults(declared),
         Err(refused) => Err(DeclarationFault {
             text: 0,
             error: DeclarationError::Memory(refused),

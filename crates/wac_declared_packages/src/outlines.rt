@@ -3,70 +3,93 @@ ghost use Rattle.std.specs.Prelude.{◌<◌, OnOk, vec_len};
 
 use crate::error::{DeclarationError, DeclarationFault};
 use crate::header::{Header, directive_key, read_header};
+use crate::sources::Sources;
 use crate::supplying::copied_key;
 use indexmap::IndexMap;
 use std::alloc::{AllocError, Global};
-use wac_graph::PackageKey;
+use wac_graph::{Package, PackageKey};
 use wac_lexer::SourceSpan;
 
 /// The headers of texts. A text that has a fault has none.
 #[derive(Drop)]
 pub(crate) struct Outlines {
     pub(crate) headers: Vec<Option<Header>>,
-    /// Which text declares a package, faulty ones too.
-    pub(crate) texts: IndexMap<PackageKey, usize>,
     pub(crate) faults: Vec<DeclarationFault>,
 }
 
+/// Lists a text under a key, unless an earlier one is. Returns whether an earlier one is.
+fn list(
+    listed: &mut IndexMap<PackageKey, usize>,
+    key: PackageKey,
+    text: usize,
+) -> Result<bool, AllocError> {
+    if listed.contains_key(&key) {
+        return Ok(true);
+    }
+    listed.insert(key, text)?;
+    Ok(false)
+}
+
 impl Outlines {
-    /// The headers of texts that no other text makes faulty.
-    pub(crate) fn of_texts(alloc: Global, texts: &[&str]) -> Result<Self, AllocError> {
+    /// The headers of texts, each of which is listed under the package that it declares, faulty ones too.
+    pub(crate) fn of_texts(
+        alloc: Global,
+        texts: &[&str],
+        listed: &mut IndexMap<PackageKey, usize>,
+    ) -> Result<Self, AllocError> {
         let mut outlines = Outlines {
             headers: Vec::with_capacity(alloc, texts.len())?,
-            texts: IndexMap::new(alloc),
             faults: Vec::new(alloc),
         };
         for text in 0..texts.len() {
-            outlines.add(alloc, text, texts[text])?;
+            outlines.add(alloc, listed, text, texts[text])?;
         }
-        outlines.reject_unknown()?;
         Ok(outlines)
     }
 
     /// Adds what a text says of itself.
-    fn add(&mut self, alloc: Global, text: usize, source: &str) -> Result<(), AllocError> {
+    fn add(
+        &mut self,
+        alloc: Global,
+        listed: &mut IndexMap<PackageKey, usize>,
+        text: usize,
+        source: &str,
+    ) -> Result<(), AllocError> {
         match read_header(alloc, source) {
-            Ok(header) => self.add_header(alloc, text, header),
+            Ok(header) => self.add_header(alloc, listed, text, header),
             Err(DeclarationError::Memory(refused)) => Err(refused),
             Err(error) => {
                 self.reject(text, error)?;
-                self.add_faulty(alloc, text, source)
+                self.add_faulty(alloc, listed, text, source)
             }
         }
     }
 
     /// Adds a text with a fault: only the package that it declares is noted.
-    fn add_faulty(&mut self, alloc: Global, text: usize, source: &str) -> Result<(), AllocError> {
+    fn add_faulty(
+        &mut self,
+        alloc: Global,
+        listed: &mut IndexMap<PackageKey, usize>,
+        text: usize,
+        source: &str,
+    ) -> Result<(), AllocError> {
         self.headers.push(None)?;
         if let Some(key) = directive_key(alloc, source)? {
-            self.note_key(key, text)?;
+            list(listed, key, text)?;
         }
         Ok(())
     }
 
-    /// Notes that a text declares a package, unless an earlier one does. Returns whether an earlier one does.
-    fn note_key(&mut self, key: PackageKey, text: usize) -> Result<bool, AllocError> {
-        if self.texts.contains_key(&key) {
-            return Ok(true);
-        }
-        self.texts.insert(key, text)?;
-        Ok(false)
-    }
-
     /// Adds a header, unless an earlier text declares its package.
-    fn add_header(&mut self, alloc: Global, text: usize, header: Header) -> Result<(), AllocError> {
+    fn add_header(
+        &mut self,
+        alloc: Global,
+        listed: &mut IndexMap<PackageKey, usize>,
+        text: usize,
+        header: Header,
+    ) -> Result<(), AllocError> {
         let key = copied_key(alloc, &header.key)?;
-        if self.note_key(key, text)? {
+        if list(listed, key, text)? {
             let place = header.place;
             self.headers.push(None)?;
             return self.reject(text, DeclarationError::DeclaredTwice(place));
@@ -103,19 +126,16 @@ impl Outlines {
         }
     }
 
-    /// Where a text first mentions a package that no text declares.
-    fn unknown(&self, text: usize) -> Option<SourceSpan> {
+    /// Where a text first mentions a package that no text declares and that isn't given.
+    fn unknown(&self, text: usize, sources: &Sources<'_>) -> Option<SourceSpan> {
         let header = self.header(text)?;
-        match first_missing(&header.mentioned, &self.texts) {
-            Some((_, place)) => Some(place),
-            None => None,
-        }
+        first_unknown(&header.mentioned, sources)
     }
 
-    /// Rejects each text that mentions a package that no text declares.
-    fn reject_unknown(&mut self) -> Result<(), AllocError> {
+    /// Rejects each text that mentions a package that no text declares and that isn't given.
+    pub(crate) fn reject_unknown(&mut self, sources: &Sources<'_>) -> Result<(), AllocError> {
         for text in 0..self.headers.len() {
-            if let Some(place) = self.unknown(text) {
+            if let Some(place) = self.unknown(text, sources) {
                 self.reject_text(text, DeclarationError::UnknownPackage(place))?;
             }
         }
@@ -123,14 +143,31 @@ impl Outlines {
     }
 }
 
-/// The first mentioned package that isn't among these, if there is one, with its place.
-pub(crate) fn first_missing<'m, V: Drop>(
-    mentioned: &'m IndexMap<PackageKey, SourceSpan>,
-    among: &IndexMap<PackageKey, V>,
-) -> Option<(&'m PackageKey, SourceSpan)> {
+/// The place of the first mentioned package that no text declares and that isn't given, if there is one.
+fn first_unknown(
+    mentioned: &IndexMap<PackageKey, SourceSpan>,
+    sources: &Sources<'_>,
+) -> Option<SourceSpan> {
     for (key, place) in mentioned.iter() {
-        if !among.contains_key(key) {
-            return Some((key, *place));
+        if !sources.listed.contains_key(key) && !sources.given.contains_key(key) {
+            return Some(*place);
+        }
+    }
+    None
+}
+
+/// The text that declares the first mentioned package that isn't made yet, if there is one, with the place of the
+/// mention. What no text declares is given.
+pub(crate) fn first_missing(
+    mentioned: &IndexMap<PackageKey, SourceSpan>,
+    sources: &Sources<'_>,
+    made: &IndexMap<PackageKey, Package>,
+) -> Option<(usize, SourceSpan)> {
+    for (key, place) in mentioned.iter() {
+        if let Some(text) = sources.listed.get(key).copied() {
+            if !made.contains_key(key) {
+                return Some((text, *place));
+            }
         }
     }
     None

@@ -1,8 +1,9 @@
 //! Packages by their keys, and copies of them: what resolving is given.
 ghost use Rattle.std.specs.Prelude.{◌≡◌, IfOk, OnOk, Some, is_some, option_map, string_bytes};
 ghost use Rattle.wac_graph.specs.Package.{key_of as key_in};
-ghost use Rattle.wac_declared_packages.specs.Together.{AreCopiesOf, HasMentioned, Puts, Supplies, found as found_under};
+ghost use Rattle.wac_declared_packages.specs.Together.{AreCopiesOf, AreFrom, HasMentioned, HasMentionedOf, Puts, Supplies, SuppliesFrom, found as found_under, given_for};
 
+use crate::sources::{Sources, given_under};
 use indexmap::IndexMap;
 use std::alloc::{AllocError, Global};
 use wac_graph::{Package, PackageError, PackageKey};
@@ -110,5 +111,76 @@ pub fn supplied_packages(
     for (key, _) in mentioned.iter() {
         supply(alloc, made, &mut supplied, key)?;
     }
+    Ok(supplied)
+}
+
+/// Adds a copy of a package, which is the given one of the key.
+#[tactic(auto, using(crate::proofs::Declares::put_given, crate::proofs::Copies::supplies_copy))]
+fn supply_given_copy(
+    alloc: Global,
+    sources: &Sources<'_>,
+    supplied: &mut IndexMap<PackageKey, Package>,
+    key: &PackageKey,
+    package: &Package,
+) -> Result<(), PackageError>
+    requires there { given_for sources.now (key_in key.now) ≡ Some «package».now }
+    requires all { AreFrom sources.now supplied.old.entries }
+    ensures all { OnOk result (AreFrom sources.now supplied.new.entries) }
+    ensures more { OnOk result (SuppliesFrom key.now (λ k. given_for sources.now k) supplied.old.entries supplied.new.entries) }
+{
+    let copy = copied_package(alloc, package)?;
+    let key = copied_key(alloc, key)?;
+    put(supplied, key, copy)?;
+    Ok(())
+}
+
+/// Adds a copy of the given package of a key, if there is one and no text is listed under the key.
+#[tactic(auto, using(crate::proofs::Copies::supplies_none))]
+fn supply_given(
+    alloc: Global,
+    sources: &Sources<'_>,
+    supplied: &mut IndexMap<PackageKey, Package>,
+    key: &PackageKey,
+) -> Result<(), PackageError>
+    requires all { AreFrom sources.now supplied.old.entries }
+    ensures all { OnOk result (AreFrom sources.now supplied.new.entries) }
+    ensures more { OnOk result (SuppliesFrom key.now (λ k. given_for sources.now k) supplied.old.entries supplied.new.entries) }
+{
+    match given_under(sources, key) {
+        None => Ok(()),
+        Some(package) => supply_given_copy(alloc, sources, supplied, key, package),
+    }
+}
+
+/// Adds copies of the given packages that are mentioned.
+fn supply_all_given(
+    alloc: Global,
+    sources: &Sources<'_>,
+    mentioned: &IndexMap<PackageKey, SourceSpan>,
+    supplied: &mut IndexMap<PackageKey, Package>,
+) -> Result<(), PackageError>
+    requires all { AreFrom sources.now supplied.old.entries }
+    ensures all { OnOk result (AreFrom sources.now supplied.new.entries) }
+    ensures given { OnOk result (HasMentionedOf mentioned.now.entries (λ k. given_for sources.now k) supplied.new.entries) }
+{
+    for (key, _) in mentioned.iter() {
+        supply_given(alloc, sources, supplied, key)?;
+    }
+    Ok(())
+}
+
+/// Copies of the packages that are mentioned, of those that are made and of the given ones: what a text is resolved with.
+pub(crate) fn supplied_beside(
+    alloc: Global,
+    sources: &Sources<'_>,
+    mentioned: &IndexMap<PackageKey, SourceSpan>,
+    made: &IndexMap<PackageKey, Package>,
+) -> Result<IndexMap<PackageKey, Package>, PackageError>
+    requires all { AreFrom sources.now made.now.entries }
+    ensures all { IfOk result (λ supplied. AreFrom sources.now supplied.entries) }
+    ensures given { IfOk result (λ supplied. HasMentionedOf mentioned.now.entries (λ k. given_for sources.now k) supplied.entries) }
+{
+    let mut supplied = supplied_packages(alloc, mentioned, made)?;
+    supply_all_given(alloc, sources, mentioned, &mut supplied)?;
     Ok(supplied)
 }

@@ -30,6 +30,6 @@ pub use first::{Composed, first_error_with};
 pub use wac_composition::flat_text;
 pub use wac_declaration_errors::{
     DeclarationFault, Declared, KnownPackages, declaration_diagnostic, declare_all,
-    syntax_diagnostic,
+    declare_all_beside, syntax_diagnostic,
 };
 pub use wac_resolution_mentions::packages;

@@ -4,7 +4,7 @@ use std::alloc::{AllocError, Global};
 use std::test::Fail;
 use wac_cli_console::{Console, Outcome, Report};
 use wac_component_packages::{Sought, Supplied, read_components, supply_components};
-use wac_declared_packages::declare_all;
+use wac_declared_packages::declare_all_beside;
 use wac_files::MemoryFiles;
 
 /// `log: func(line: string)` is imported, and exported again as `run`.
@@ -27,7 +27,7 @@ struct Row {
     errors: &'static str,
 }
 
-static ROWS: [Row; 10] = [
+static ROWS: [Row; 12] = [
     Row {
         paths: "deps",
         keyed: None,
@@ -113,6 +113,26 @@ static ROWS: [Row; 10] = [
         errors: "wit/shop/logging/0.3.0.wasm: error[wac::package-disagreement]: `shop:logging@0.3.0` isn't what a.wac declares: \
             at export `sink`, export `write`: expected parameter `line`, found parameter `level`\n",
     },
+    // A document may mention the package of a component.
+    Row {
+        paths: "wit",
+        keyed: None,
+        text: "package c:d;\nworld w { import shop:logging/sink@0.3.0; }\n",
+        may_agree: false,
+        known: 2,
+        well: 1,
+        errors: "",
+    },
+    // The package of a component defines its world as `root`.
+    Row {
+        paths: "deps/a/b.wasm",
+        keyed: None,
+        text: "package c:d;\nworld w { include a:b/root; }\n",
+        may_agree: false,
+        known: 2,
+        well: 1,
+        errors: "",
+    },
     Row {
         paths: "deps/a/b.wasm",
         keyed: None,
@@ -170,7 +190,7 @@ fn supplied(alloc: Global, row: &Row) -> Result<(usize, usize, Vec<u8>), AllocEr
         };
         let read = read_components(alloc, &mut files, &mut console, sought)?;
         let none = IndexMap::new(alloc);
-        let mut declared = declare_all(alloc, &[row.text], &none)?;
+        let mut declared = declare_all_beside(alloc, &[row.text], &none, &read.packages)?;
         let mut known = Supplied {
             packages: &mut declared.packages,
             files: &mut declared.texts,

@@ -4,6 +4,8 @@
 #[cfg(test)]
 mod all;
 #[cfg(test)]
+mod beside;
+#[cfg(test)]
 mod errors;
 #[cfg(test)]
 mod memory;

@@ -3,7 +3,8 @@
 use indexmap::IndexMap;
 use std::alloc::{AllocError, Global};
 use wac_declared_packages::{
-    DeclarationError, DeclarationFault, Declared, declare_all, declared_packages,
+    DeclarationError, DeclarationFault, Declared, declare_all, declare_all_beside,
+    declared_packages,
 };
 use wac_graph::PackageKey;
 use wac_graph_types::{ItemKind, Package};
@@ -174,6 +175,39 @@ pub fn all_declared(alloc: Global, texts: &[&str]) -> Result<String, AllocError>
         Ok(declared) => shown_declared(alloc, &declared),
         Err(refused) => Err(refused),
     }
+}
+
+/// The packages that texts declare, which have no fault.
+fn given_by(alloc: Global, texts: &[&str]) -> Result<IndexMap<PackageKey, Package>, AllocError> {
+    let worlds = IndexMap::new(alloc);
+    match declared_packages(alloc, texts, &worlds) {
+        Ok(packages) => Ok(packages),
+        Err(_) => Err(AllocError),
+    }
+}
+
+/// What texts declare beside the packages that the first texts declare, which are given: the keys of the packages, after a
+/// bar each fault, and behind another one what the last package has.
+pub fn declared_beside(
+    alloc: Global,
+    given: &[&str],
+    texts: &[&str],
+) -> Result<String, AllocError> {
+    let given = given_by(alloc, given)?;
+    let worlds = IndexMap::new(alloc);
+    match declare_all_beside(alloc, texts, &worlds, &given) {
+        Ok(declared) => shown_beside(alloc, &declared),
+        Err(refused) => Err(refused),
+    }
+}
+
+/// The keys of packages, after a bar each fault, and behind another one the last package.
+fn shown_beside(alloc: Global, declared: &Declared) -> Result<String, AllocError> {
+    let mut out = shown_declared(alloc, declared)?;
+    let last = shown_last(alloc, &declared.packages)?;
+    out.push_str(" | ")?;
+    out.push_str(last.as_str())?;
+    Ok(out)
 }
 
 /// The last of packages.

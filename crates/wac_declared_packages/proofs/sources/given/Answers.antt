@@ -1,0 +1,6 @@
+use Rattle.std.proofs.Common.{◌∙◌}
+use Rattle.wac_resolution_paths.proofs.Keys.{keyed_found}
+use Rattle.wac_declared_packages.proofs.sources.given.Goals as goal
+
+pub returns : goal.returns
+returns c = c.get.ensures.value ∙ keyed_found c.args.key.now c.args.sources.now.given.now.entries
