@@ -1,0 +1,11 @@
+//! Names of packages and of what they import and export, for those who write them: keys as texts, names of compatible
+//! versions, and the names that are nearest to one.
+#![tactic(auto)]
+
+mod keys;
+mod nearest;
+mod versions;
+
+pub use keys::{key_named, push_key};
+pub use nearest::{push_all, push_near};
+pub use versions::{are_compatible_names, compatible_name, same_but_version};
