@@ -47,6 +47,7 @@ pub(crate) enum Color {
 pub(crate) enum Work {
     Format(FormatOptions),
     Check(Report),
+    Packages,
     Graph(Form),
 }
 
@@ -58,6 +59,10 @@ pub(crate) struct Task<'a> {
     pub(crate) quiet: bool,
     /// The paths; it is `-` alone for standard input.
     pub(crate) paths: Vec<&'a str>,
+    /// Where packages are.
+    pub(crate) packages: Vec<&'a str>,
+    /// Names of packages, each with the world that is chosen.
+    pub(crate) worlds: Vec<(&'a str, &'a str)>,
     /// The name of standard input in messages.
     pub(crate) input_name: Option<&'a str>,
 }
@@ -79,6 +84,7 @@ pub(crate) fn read_words<'a>(
     let matches = definition(alloc, values)?.try_get_matches_from(words)?;
     match matches.subcommand() {
         Some(("fmt", found)) => Ok(request_of(alloc, Work::Format(format_options(found)), found)?),
+        Some(("packages", found)) => Ok(request_of(alloc, Work::Packages, found)?),
         Some(("graph", found)) => Ok(request_of(alloc, Work::Graph(form_of(found)), found)?),
         Some((_, found)) => Ok(request_of(alloc, Work::Check(report_of(found)), found)?),
         None => Ok(Request::Misused("a command is missing")),
@@ -91,11 +97,16 @@ fn request_of<'a>(
     work: Work,
     found: &ArgMatches<'a>,
 ) -> Result<Request<'a>, AllocError> {
+    let Some(worlds) = worlds_of(alloc, found)? else {
+        return Ok(Request::Misused("--world takes a package and a world, as in a:b@1.0.0=w"));
+    };
     let task = Task {
         work,
         color: color_of(found),
         quiet: found.get_flag("quiet"),
         paths: all_of(alloc, found, "PATH")?,
+        packages: all_of(alloc, found, "packages")?,
+        worlds,
         input_name: found.get_str("stdin-filepath"),
     };
     match misuse(&task) {
@@ -111,6 +122,10 @@ fn misuse(task: &Task<'_>) -> Option<&'static str> {
         Some("`-` can't be used with other paths")
     } else if is_input && reads_files_alone(task.work) {
         Some("this command reads a file, and not standard input")
+    } else if is_input && !task.packages.is_empty() {
+        Some("`-` can't be used with --packages")
+    } else if task.packages.is_empty() && !task.worlds.is_empty() {
+        Some("--world is used with --packages alone")
     } else if !is_input && task.input_name.is_some() {
         Some("--stdin-filepath is used with the path `-` alone")
     } else {
@@ -121,7 +136,7 @@ fn misuse(task: &Task<'_>) -> Option<&'static str> {
 /// Whether a command reads files alone.
 fn reads_files_alone(work: Work) -> bool {
     match work {
-        Work::Graph(_) => true,
+        Work::Packages | Work::Graph(_) => true,
         Work::Format(_) | Work::Check(_) => false,
     }
 }
@@ -137,6 +152,21 @@ fn all_of<'a>(
         all.extend_from_slice(given)?;
     }
     Ok(all)
+}
+
+/// The chosen worlds, unless one is not written as `KEY=NAME`.
+fn worlds_of<'a>(
+    alloc: Global,
+    found: &ArgMatches<'a>,
+) -> Result<Option<Vec<(&'a str, &'a str)>>, AllocError> {
+    let mut worlds = Vec::new(alloc);
+    for choice in all_of(alloc, found, "world")? {
+        match choice.split_once('=') {
+            Some(pair) => worlds.push(pair)?,
+            None => return Ok(None),
+        }
+    }
+    Ok(Some(worlds))
 }
 
 fn form_of(found: &ArgMatches<'_>) -> Form {
@@ -201,6 +231,7 @@ fn definition<'a>(alloc: Global, values: &'a Values<'a>) -> Result<Command<'a>, 
         .subcommand_required(true)
         .subcommand(fmt_definition(alloc, values)?)?
         .subcommand(check_definition(alloc, values)?)?
+        .subcommand(packages_definition(alloc, values)?)?
         .subcommand(graph_definition(alloc, values)?)
 }
 
@@ -244,7 +275,8 @@ fn check_definition<'a>(alloc: Global, values: &'a Values<'a>) -> Result<Command
     let command = Command::new(alloc, "check")
         .about("Reports the first error of each file")
         .after_help(
-            "Files are parsed, and resolved where they mention no foreign package.\n\
+            "Files are parsed, and resolved where they mention no foreign package, or where --packages says\n\
+            which documents declare packages.\n\
             Status: 0 all is well, 1 a file has an error, 2 wrong use, 3 a file could not be read,\n\
             4 out of memory.",
         )
@@ -257,7 +289,22 @@ fn check_definition<'a>(alloc: Global, values: &'a Values<'a>) -> Result<Command
                 .value_name("FORM")
                 .help("The form of errors"),
         )?;
-    of_many(alloc, values, command)
+    of_many(alloc, values, with_packages(alloc, command)?)
+}
+
+fn packages_definition<'a>(
+    alloc: Global,
+    values: &'a Values<'a>,
+) -> Result<Command<'a>, AllocError> {
+    let command = Command::new(alloc, "packages")
+        .about("Lists the packages that a file mentions, and which file declares each")
+        .after_help(
+            "A line KEY found FILE or KEY missing for each package.\n\
+            Status: 0 all are found, 1 one is missing or a file has an error, 2 wrong use, 3 a file could\n\
+            not be read, 4 out of memory.",
+        )
+        .arg(one_path(alloc))?;
+    common(alloc, values, with_packages(alloc, command)?)
 }
 
 fn graph_definition<'a>(alloc: Global, values: &'a Values<'a>) -> Result<Command<'a>, AllocError> {
@@ -273,7 +320,28 @@ fn graph_definition<'a>(alloc: Global, values: &'a Values<'a>) -> Result<Command
                 .value_name("FORM")
                 .help("The form of the graph; dot: for Graphviz"),
         )?;
-    common(alloc, values, command)
+    common(alloc, values, with_packages(alloc, command)?)
+}
+
+/// Adds where packages are, and their worlds.
+fn with_packages<'a>(alloc: Global, command: Command<'a>) -> Result<Command<'a>, AllocError> {
+    command
+        .arg(
+            Arg::new(alloc, "packages")
+                .long("packages")
+                .value_name("PATH")
+                .action(ArgAction::Append)
+                .help(
+                    "A file that declares a package, or a folder for all *.wac below; may be repeated",
+                ),
+        )?
+        .arg(
+            Arg::new(alloc, "world")
+                .long("world")
+                .value_name("KEY=NAME")
+                .action(ArgAction::Append)
+                .help("Chooses a world of a package that declares several, as a:b@1.0.0=w"),
+        )
 }
 
 fn one_path<'a>(alloc: Global) -> Arg<'a> {

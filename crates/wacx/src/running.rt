@@ -6,8 +6,9 @@ use std::io::{IsTerminal, Stderr, Stdout};
 use std::process::ExitCode;
 use std::{env, process};
 use wac_cli::{check_input, check_paths, format_input, format_paths};
-use wac_cli_console::{Console, Status};
+use wac_cli_console::{Console, Report, Status};
 use wac_cli_graph::show_graph;
+use wac_cli_packages::{Given, check_with_packages, list_packages, show_graph_with_packages};
 use wac_files::Disk;
 
 /// Does a task with the files and streams of the process.
@@ -37,7 +38,7 @@ fn perform_on_input(rt: &HostRuntime, task: &Task<'_>) -> Status {
         }
         Work::Check(report) => check_input(rt.alloc(), &mut input, &mut console, report, name),
         // The words of the command line allow no standard input here.
-        Work::Graph(_) => Status::Wrong,
+        Work::Packages | Work::Graph(_) => Status::Wrong,
     }
 }
 
@@ -50,10 +51,33 @@ fn perform_on_files(rt: &HostRuntime, task: &Task<'_>) -> Status {
         Work::Format(options) => {
             format_paths(rt.alloc(), &mut files, &mut console, options, paths)
         }
-        Work::Check(report) => check_paths(rt.alloc(), &mut files, &mut console, report, paths),
-        Work::Graph(form) => {
+        Work::Check(report) if task.packages.is_empty() => {
+            check_paths(rt.alloc(), &mut files, &mut console, report, paths)
+        }
+        Work::Check(report) => {
+            let given = given_of(task, report);
+            check_with_packages(rt.alloc(), &mut files, &mut console, given, paths)
+        }
+        Work::Packages => {
+            let given = given_of(task, Report::Human);
+            list_packages(rt.alloc(), &mut files, &mut console, given, first_of(paths))
+        }
+        Work::Graph(form) if task.packages.is_empty() => {
             show_graph(rt.alloc(), &mut files, &mut console, form, first_of(paths))
         }
+        Work::Graph(form) => {
+            let given = (given_of(task, Report::Human), form);
+            show_graph_with_packages(rt.alloc(), &mut files, &mut console, given, first_of(paths))
+        }
+    }
+}
+
+/// Where the packages of a task are.
+fn given_of<'t>(task: &'t Task<'_>, report: Report) -> Given<'t> {
+    Given {
+        packages: task.packages.as_slice(),
+        worlds: task.worlds.as_slice(),
+        report,
     }
 }
 

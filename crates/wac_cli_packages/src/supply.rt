@@ -1,0 +1,229 @@
+// The packages that files declare, and what is wrong with these files.
+ghost use Rattle.std.specs.Prelude.{◌≡◌};
+
+use crate::options::{Given, Setting};
+use crate::sources::{Sources, read_sources};
+use indexmap::IndexMap;
+use std::alloc::{AllocError, Global};
+use std::io::Write;
+use wac_cli_console::{Action, Console, Outcome, Status};
+use wac_declaration_errors::{KnownPackages, declaration_diagnostic};
+use wac_declared_packages::{DeclarationFault, Declared, declare_all};
+use wac_files::{FileError, FileSystem, Found, find_files};
+use wac_graph::PackageKey;
+use wac_package_names::key_named;
+
+/// The packages that files declare, with the files.
+#[derive(Drop)]
+pub(crate) struct Supply {
+    sources: Sources,
+    declared: Declared,
+}
+
+/// The packages of the files that are given, without those that are checked. What can't be read is reported.
+pub(crate) fn read_supply<F: FileSystem, O: Write + Drop, E: Write + Drop>(
+    alloc: Global,
+    files: &mut F,
+    console: &mut Console<O, E>,
+    given: Given<'_>,
+    checked: &[Found],
+) -> Result<Supply, AllocError>
+    ensures { F.replaced files.new ≡ F.replaced files.old }
+{
+    match read_sources(
+        alloc,
+        files,
+        console,
+        given.report,
+        (given.packages, checked),
+    ) {
+        Ok(sources) => declared_by(alloc, sources, given.worlds),
+        Err(_) => Err(AllocError),
+    }
+}
+
+/// The same, without the file at a path.
+pub(crate) fn supply_beside<F: FileSystem, O: Write + Drop, E: Write + Drop>(
+    alloc: Global,
+    files: &mut F,
+    console: &mut Console<O, E>,
+    given: Given<'_>,
+    path: &str,
+) -> Result<Supply, AllocError>
+    ensures { F.replaced files.new ≡ F.replaced files.old }
+{
+    let found = find_files(alloc, files, &[path])?;
+    read_supply(alloc, files, console, given, found.as_slice())
+}
+
+/// The packages of documents, with the documents.
+fn declared_by(
+    alloc: Global,
+    sources: Sources,
+    worlds: &[(&str, &str)],
+) -> Result<Supply, AllocError> {
+    match declare(alloc, &sources, worlds) {
+        Ok(declared) => Ok(Supply { sources, declared }),
+        Err(_) => Err(AllocError),
+    }
+}
+
+/// The packages that documents declare.
+fn declare(
+    alloc: Global,
+    sources: &Sources,
+    worlds: &[(&str, &str)],
+) -> Result<Declared, AllocError> {
+    let worlds = chosen(alloc, worlds)?;
+    declare_with(alloc, sources, &worlds)
+}
+
+/// The same with the chosen worlds.
+fn declare_with(
+    alloc: Global,
+    sources: &Sources,
+    worlds: &IndexMap<PackageKey, String>,
+) -> Result<Declared, AllocError> {
+    let texts = sources.all(alloc)?;
+    declare_all(alloc, texts.as_slice(), worlds)
+}
+
+/// The chosen worlds, by their packages. Of two for one package the last is chosen.
+fn chosen(
+    alloc: Global,
+    worlds: &[(&str, &str)],
+) -> Result<IndexMap<PackageKey, String>, AllocError> {
+    let mut all = IndexMap::new(alloc);
+    for (package, world) in worlds {
+        choose(alloc, &mut all, package, world)?;
+    }
+    Ok(all)
+}
+
+/// Adds the world of a package.
+fn choose(
+    alloc: Global,
+    all: &mut IndexMap<PackageKey, String>,
+    package: &str,
+    world: &str,
+) -> Result<(), AllocError> {
+    let world = String::from_str(alloc, world)?;
+    let key = key_named(alloc, package)?;
+    all.insert(key, world)?;
+    Ok(())
+}
+
+/// A text by its number.
+fn text_at(texts: &[String], number: usize) -> &str {
+    match texts.get(number) {
+        Some(text) => text.as_str(),
+        None => "",
+    }
+}
+
+impl Supply {
+    /// What is known with these packages.
+    pub(crate) fn setting(&self, alloc: Global, given: Given<'_>) -> Setting<'_> {
+        Setting {
+            alloc,
+            report: given.report,
+            known: KnownPackages {
+                declared: &self.declared,
+                names: self.sources.names.as_slice(),
+            },
+        }
+    }
+
+    /// The fault of a text, if it has one.
+    fn fault(&self, text: usize) -> Option<&DeclarationFault> {
+        for fault in self.declared.faults.as_slice() {
+            if fault.text == text {
+                return Some(fault);
+            }
+        }
+        None
+    }
+
+    /// Reports each fault, in the order of the texts. Returns the status that the files lead to.
+    pub(crate) fn report_all<O: Write + Drop, E: Write + Drop>(
+        &self,
+        console: &mut Console<O, E>,
+        setting: Setting<'_>,
+    ) -> Result<Status, AllocError> {
+        for text in 0..self.sources.texts.len() {
+            if let Some(fault) = self.fault(text) {
+                self.report(console, setting, fault)?;
+            }
+        }
+        self.status(setting.alloc)
+    }
+
+    /// Reports a fault.
+    fn report<O: Write + Drop, E: Write + Drop>(
+        &self,
+        console: &mut Console<O, E>,
+        setting: Setting<'_>,
+        fault: &DeclarationFault,
+    ) -> Result<(), AllocError> {
+        let name = text_at(self.sources.names.as_slice(), fault.text);
+        let text = text_at(self.sources.texts.as_slice(), fault.text);
+        let diagnostic = declaration_diagnostic(setting.alloc, text, &fault.error, setting.known)?;
+        console.report(
+            setting.alloc,
+            setting.report,
+            name,
+            text.as_bytes(),
+            &diagnostic,
+        )
+    }
+
+    /// Reports each fault, and that the file at a path can't be read.
+    pub(crate) fn fail<O: Write + Drop, E: Write + Drop>(
+        &self,
+        console: &mut Console<O, E>,
+        setting: Setting<'_>,
+        path: &str,
+        error: FileError,
+    ) -> Result<Status, AllocError> {
+        let before = self.report_all(console, setting)?;
+        let outcome = console.failed(setting.alloc, setting.report, path, error);
+        Ok(before.or(outcome.status(Action::Check)))
+    }
+
+    /// What became of a text: those with a fault are counted first, then those that declare a package.
+    fn outcome(&self, text: usize) -> Outcome {
+        let faults = self.declared.faults.len();
+        if text < faults {
+            Outcome::Rejected
+        } else if text < faults.saturating_add(self.declared.packages.len()) {
+            Outcome::Good
+        } else {
+            Outcome::Unresolved
+        }
+    }
+
+    /// What became of the files, in no order.
+    pub(crate) fn outcomes(&self, alloc: Global) -> Result<Vec<Outcome>, AllocError> {
+        let mut outcomes = Vec::with_capacity(alloc, self.sources.texts.len())?;
+        outcomes.extend_from_slice(self.sources.outcomes.as_slice())?;
+        for text in 0..self.sources.texts.len() {
+            outcomes.push(self.outcome(text))?;
+        }
+        Ok(outcomes)
+    }
+
+    /// The status that the files lead to.
+    fn status(&self, alloc: Global) -> Result<Status, AllocError> {
+        let outcomes = self.outcomes(alloc)?;
+        Ok(worst(outcomes.as_slice()))
+    }
+}
+
+/// The status that outcomes lead to.
+fn worst(outcomes: &[Outcome]) -> Status {
+    let mut status = Status::Well;
+    for outcome in outcomes {
+        status = status.or(outcome.status(Action::Check));
+    }
+    status
+}
