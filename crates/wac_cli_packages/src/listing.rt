@@ -8,17 +8,15 @@ use std::alloc::{AllocError, Global};
 use std::io::Write;
 use wac_ast::Document;
 use wac_cli_console::{Action, Console, Outcome, Status};
-use wac_composition::flat_text;
-use wac_declaration_errors::{KnownPackages, syntax_diagnostic};
 use wac_diagnostics::Diagnostic;
 use wac_error_diagnostics::Reading;
 use wac_excerpts::push_shown;
 use wac_files::{FileError, FileSystem};
 use wac_graph::PackageKey;
 use wac_lexer::SourceSpan;
+use wac_package_errors::{KnownPackages, flat_text, packages, syntax_diagnostic};
 use wac_package_names::push_key;
 use wac_printer::Page;
-use wac_resolution_mentions::packages;
 
 /// The lines of a document's packages, and whether all are there; or what is wrong with it.
 #[derive(Drop)]

@@ -1,7 +1,7 @@
 // What a command is given besides the files that it has to do.
 use std::alloc::Global;
 use wac_cli_console::Report;
-use wac_declaration_errors::KnownPackages;
+use wac_package_errors::KnownPackages;
 
 /// Where packages are, which worlds are chosen for them, and in which form errors are reported.
 #[derive(Clone, Copy)]

@@ -7,10 +7,11 @@ use indexmap::IndexMap;
 use std::alloc::{AllocError, Global};
 use std::io::Write;
 use wac_cli_console::{Action, Console, Outcome, Status};
-use wac_declaration_errors::{KnownPackages, declaration_diagnostic};
-use wac_declared_packages::{DeclarationFault, Declared, declare_all};
 use wac_files::{FileError, FileSystem, Found, find_files};
 use wac_graph::PackageKey;
+use wac_package_errors::{
+    DeclarationFault, Declared, KnownPackages, declaration_diagnostic, declare_all,
+};
 use wac_package_names::key_named;
 
 /// The packages that files declare, with the files.

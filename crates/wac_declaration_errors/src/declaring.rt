@@ -9,7 +9,7 @@ use wac_declared_packages::DeclarationError;
 use wac_diagnostics::Diagnostic;
 use wac_error_diagnostics::{parse_code, resolution_code, resolution_diagnostic};
 use wac_lexer::SourceSpan;
-use wac_resolution::Error;
+use wac_resolution_errors::Error;
 
 /// The code of an error of declaring a package.
 pub fn declaration_code(error: &DeclarationError) -> &'static str {

@@ -11,4 +11,5 @@ mod wit;
 pub use declaring::{declaration_code, declaration_diagnostic};
 pub use known::{KnownPackages, push_definitions};
 pub use texts::{end_of, text_at};
+pub use wac_declared_packages::{DeclarationFault, Declared, declare_all, supplied_packages};
 pub use wit::syntax_diagnostic;

@@ -3,8 +3,7 @@
 use indexmap::IndexMap;
 use std::alloc::{AllocError, Global};
 use wac_ast::PackageDirective;
-use wac_declaration_errors::{KnownPackages, end_of};
-use wac_declared_packages::supplied_packages;
+use wac_declaration_errors::{KnownPackages, end_of, supplied_packages};
 use wac_graph::{Package, PackageKey};
 use wac_instantiations::Instantiations;
 use wac_lexer::SourceSpan;

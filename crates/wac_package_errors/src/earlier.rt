@@ -9,7 +9,7 @@ use wac_declaration_errors::end_of;
 use wac_graph::CompositionGraph;
 use wac_lexer::SourceSpan;
 use wac_printer::Page;
-use wac_resolution::Error;
+use wac_resolution_errors::Error;
 
 /// What a text is.
 #[derive(Drop)]

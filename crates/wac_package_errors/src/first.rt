@@ -18,7 +18,7 @@ use wac_graph::{CompositionGraph, PackageKey};
 use wac_instantiations::find_instantiations;
 use wac_lexer::SourceSpan;
 use wac_printer::Page;
-use wac_resolution::Error;
+use wac_resolution_errors::Error;
 use wac_resolution_mentions::packages;
 
 /// What a text is.

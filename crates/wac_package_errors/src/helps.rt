@@ -8,7 +8,7 @@ use crate::spreads::spread_help;
 use crate::targets::{lacking_import_help, missing_export_help, target_help};
 use std::alloc::{AllocError, Global};
 use wac_declaration_errors::push_definitions;
-use wac_resolution::Error;
+use wac_resolution_errors::Error;
 
 /// What can be done about an error, where packages tell.
 pub(crate) fn help_with(

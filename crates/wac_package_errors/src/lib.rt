@@ -26,3 +26,10 @@ mod spreads;
 mod targets;
 
 pub use first::{Composed, first_error_with};
+// What a caller supplies, or asks first.
+pub use wac_composition::flat_text;
+pub use wac_declaration_errors::{
+    DeclarationFault, Declared, KnownPackages, declaration_diagnostic, declare_all,
+    syntax_diagnostic,
+};
+pub use wac_resolution_mentions::packages;
