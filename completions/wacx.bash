@@ -1,7 +1,7 @@
 # Completions of wacx, made by completions/generate from the help of the program.
 # shellcheck shell=bash
 _wacx() {
-    local word=$2 before=$3 command='' words='' files='' at
+    local word=$2 before=$3 command='' words='' files='' at suffix
     for ((at = 1; at < COMP_CWORD; at++)); do
         case ${COMP_WORDS[at]} in
         fmt | check | packages | graph | help)
@@ -13,7 +13,7 @@ _wacx() {
     case $command,$before in
     fmt,--indent) words='' ;;
     fmt,--line-end) words='auto lf crlf' ;;
-    fmt,--stdin-filepath) words='' files=yes ;;
+    fmt,--stdin-filepath) words='' files=wac ;;
     fmt,--color) words='auto always never' ;;
     check,--output) words='human json github' ;;
     check,--packages) words='' files=yes ;;
@@ -37,7 +37,12 @@ _wacx() {
     mapfile -t COMPREPLY < <(compgen -W "$words" -- "$word")
     if [[ -n $files && $word != -* ]]; then
         compopt -o filenames 2>/dev/null
-        mapfile -t COMPREPLY < <(compgen -d -- "$word"; compgen -f -X '!*.wac' -- "$word")
+        mapfile -t COMPREPLY < <(
+            compgen -d -- "$word"
+            for suffix in $files; do
+                compgen -f -X "!*.$suffix" -- "$word"
+            done
+        )
     fi
 }
 complete -F _wacx wacx

@@ -4,6 +4,8 @@ complete -c wacx -n __fish_use_subcommand -a fmt -d 'Writes files in the one lay
 complete -c wacx -n __fish_use_subcommand -a check -d 'Reports the first error of each file'
 complete -c wacx -n __fish_use_subcommand -a packages -d 'Lists the packages that a file mentions, and which file declares each'
 complete -c wacx -n __fish_use_subcommand -a graph -d 'Shows the graph of a file'
+complete -c wacx -n __fish_use_subcommand -a package -d 'Shows the package of a component, as documents that declare it'
+complete -c wacx -n __fish_use_subcommand -a targets -d 'Tests whether a component fits a world'
 complete -c wacx -n __fish_use_subcommand -a help -d 'Print this message or the help of the given subcommand(s)'
 complete -c wacx -n '__fish_use_subcommand' -s h -l help -d 'Print help'
 complete -c wacx -n '__fish_use_subcommand' -s V -l version -d 'Print version'

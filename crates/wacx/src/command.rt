@@ -2,6 +2,7 @@
 use clap::{Arg, ArgAction, ArgMatches, Command, Error};
 use std::alloc::{AllocError, Global};
 use wac_cli::{FormatOptions, LineEnds};
+use wac_cli_components::{PackageForm, is_package_key};
 use wac_cli_console::{Action, Report};
 use wac_cli_graph::Form;
 use wac_comments::Indent;
@@ -16,6 +17,7 @@ pub(crate) struct Values<'a> {
     line_ends: [&'a str; 3],
     reports: [&'a str; 3],
     forms: [&'a str; 3],
+    package_forms: [&'a str; 2],
     indents: [&'a str; 17],
 }
 
@@ -26,6 +28,7 @@ impl<'a> Values<'a> {
             line_ends: ["auto", "lf", "crlf"],
             reports: ["human", "json", "github"],
             forms: ["text", "json", "dot"],
+            package_forms: ["wac", "json"],
             indents: [
                 "1", "2", "3", "4", "5", "6", "7", "8", "9", "10", "11", "12", "13", "14", "15",
                 "16", "tab",
@@ -49,6 +52,8 @@ pub(crate) enum Work {
     Check(Report),
     Packages,
     Graph(Form),
+    Package(PackageForm),
+    Targets(Report),
 }
 
 /// What the program has to do.
@@ -65,6 +70,10 @@ pub(crate) struct Task<'a> {
     pub(crate) worlds: Vec<(&'a str, &'a str)>,
     /// The name of standard input in messages.
     pub(crate) input_name: Option<&'a str>,
+    /// The key of a component's package.
+    pub(crate) key: Option<&'a str>,
+    /// The name of a document's world.
+    pub(crate) world: Option<&'a str>,
 }
 
 /// What the words ask for.
@@ -86,6 +95,14 @@ pub(crate) fn read_words<'a>(
         Some(("fmt", found)) => Ok(request_of(alloc, Work::Format(format_options(found)), found)?),
         Some(("packages", found)) => Ok(request_of(alloc, Work::Packages, found)?),
         Some(("graph", found)) => Ok(request_of(alloc, Work::Graph(form_of(found)), found)?),
+        Some(("package", found)) => Ok(request_of(
+            alloc,
+            Work::Package(package_form_of(found)),
+            found,
+        )?),
+        Some(("targets", found)) => {
+            Ok(request_of(alloc, Work::Targets(report_of(found)), found)?)
+        }
         Some((_, found)) => Ok(request_of(alloc, Work::Check(report_of(found)), found)?),
         None => Ok(Request::Misused("a command is missing")),
     }
@@ -104,10 +121,12 @@ fn request_of<'a>(
         work,
         color: color_of(found),
         quiet: found.get_flag("quiet"),
-        paths: all_of(alloc, found, "PATH")?,
+        paths: paths_of(alloc, found)?,
         packages: all_of(alloc, found, "packages")?,
         worlds,
         input_name: found.get_str("stdin-filepath"),
+        key: found.get_str("name"),
+        world: found.get_str("WORLD-NAME"),
     };
     match misuse(&task) {
         Some(reason) => Ok(Request::Misused(reason)),
@@ -128,17 +147,36 @@ fn misuse(task: &Task<'_>) -> Option<&'static str> {
         Some("--world is used with --packages alone")
     } else if !is_input && task.input_name.is_some() {
         Some("--stdin-filepath is used with the path `-` alone")
+    } else if !is_key(task.key) {
+        Some("--name takes the key of a package, as a:b or a:b@1.0.0")
     } else {
         None
+    }
+}
+
+/// Whether a key, if it is given, is one.
+fn is_key(key: Option<&str>) -> bool {
+    match key {
+        Some(key) => is_package_key(key),
+        None => true,
     }
 }
 
 /// Whether a command reads files alone.
 fn reads_files_alone(work: Work) -> bool {
     match work {
-        Work::Packages | Work::Graph(_) => true,
+        Work::Packages | Work::Graph(_) | Work::Package(_) | Work::Targets(_) => true,
         Work::Format(_) | Work::Check(_) => false,
     }
+}
+
+/// The paths, and that of the document with a world behind them.
+fn paths_of<'a>(alloc: Global, found: &ArgMatches<'a>) -> Result<Vec<&'a str>, AllocError> {
+    let mut all = all_of(alloc, found, "PATH")?;
+    if let Some(path) = found.get_str("WORLD") {
+        all.push(path)?;
+    }
+    Ok(all)
 }
 
 /// All values of an argument.
@@ -174,6 +212,13 @@ fn form_of(found: &ArgMatches<'_>) -> Form {
         Some("json") => Form::Json,
         Some("dot") => Form::Dot,
         _ => Form::Text,
+    }
+}
+
+fn package_form_of(found: &ArgMatches<'_>) -> PackageForm {
+    match found.get_str("output") {
+        Some("json") => PackageForm::Json,
+        _ => PackageForm::Wac,
     }
 }
 
@@ -227,12 +272,14 @@ fn line_ends_of(found: &ArgMatches<'_>) -> LineEnds {
 fn definition<'a>(alloc: Global, values: &'a Values<'a>) -> Result<Command<'a>, AllocError> {
     Command::new(alloc, "wacx")
         .version(VERSION)
-        .about("Formats and checks WAC files")
+        .about("Formats and checks WAC files, and reads components")
         .subcommand_required(true)
         .subcommand(fmt_definition(alloc, values)?)?
         .subcommand(check_definition(alloc, values)?)?
         .subcommand(packages_definition(alloc, values)?)?
-        .subcommand(graph_definition(alloc, values)?)
+        .subcommand(graph_definition(alloc, values)?)?
+        .subcommand(package_definition(alloc, values)?)?
+        .subcommand(targets_definition(alloc, values)?)
 }
 
 fn fmt_definition<'a>(alloc: Global, values: &'a Values<'a>) -> Result<Command<'a>, AllocError> {
@@ -314,7 +361,7 @@ fn graph_definition<'a>(alloc: Global, values: &'a Values<'a>) -> Result<Command
             "Status: 0 all is well, 1 a file has an error, 2 wrong use, 3 a file could not be read,\n\
             4 out of memory.",
         )
-        .arg(one_path(alloc))?
+        .arg(one_path(alloc, "PATH", "PATH", "The file"))?
         .arg(
             choice(alloc, "output", values.forms.as_slice(), "text")
                 .value_name("FORM")
@@ -344,12 +391,72 @@ fn with_packages<'a>(alloc: Global, command: Command<'a>) -> Result<Command<'a>,
         )
 }
 
-fn one_path<'a>(alloc: Global) -> Arg<'a> {
-    Arg::new(alloc, "PATH")
+fn package_definition<'a>(
+    alloc: Global,
+    values: &'a Values<'a>,
+) -> Result<Command<'a>, AllocError> {
+    let command = Command::new(alloc, "package")
+        .about("Shows the package of a component, as documents that declare it")
+        .after_help(
+            "What WAC can't say is a comment in its place, and a warning.\n\
+            Status: 0 all is well, 1 a file has an error or there is a warning, 2 wrong use,\n\
+            3 a file could not be read, 4 out of memory.",
+        )
+        .arg(one_path(alloc, "PATH", "FILE.wasm", "The component"))?
+        .arg(
+            Arg::new(alloc, "name")
+                .long("name")
+                .value_name("KEY")
+                .action(ArgAction::Set)
+                .help("The name of the package, as a:b or a:b@1.0.0"),
+        )?
+        .arg(
+            choice(alloc, "output", values.package_forms.as_slice(), "wac")
+                .value_name("FORM")
+                .help("Documents, or what is decoded as a JSON object"),
+        )?;
+    common(alloc, values, command)
+}
+
+fn targets_definition<'a>(
+    alloc: Global,
+    values: &'a Values<'a>,
+) -> Result<Command<'a>, AllocError> {
+    let command = Command::new(alloc, "targets")
+        .about("Tests whether a component fits a world")
+        .after_help(
+            "Nothing is written where it fits, and else the first place where it doesn't.\n\
+            Status: 0 it fits, 1 it doesn't or a file has an error, 2 wrong use, 3 a file could not be read,\n\
+            4 out of memory.",
+        )
+        .arg(one_path(alloc, "PATH", "FILE.wasm", "The component"))?
+        .arg(one_path(
+            alloc,
+            "WORLD",
+            "WORLD.wac",
+            "The document that declares the world",
+        ))?
+        .arg(
+            Arg::new(alloc, "WORLD-NAME")
+                .long("world")
+                .value_name("WORLD")
+                .action(ArgAction::Set)
+                .help("The world, where the document declares several"),
+        )?
+        .arg(
+            choice(alloc, "output", values.reports.as_slice(), "human")
+                .value_name("FORM")
+                .help("The form of errors"),
+        )?;
+    common(alloc, values, command)
+}
+
+fn one_path<'a>(alloc: Global, name: &'a str, shown: &'a str, help: &'a str) -> Arg<'a> {
+    Arg::new(alloc, name)
         .required(true)
         .action(ArgAction::Set)
-        .value_name("PATH")
-        .help("The file")
+        .value_name(shown)
+        .help(help)
 }
 
 /// Adds what all commands take.

@@ -6,6 +6,7 @@ use std::io::{IsTerminal, Stderr, Stdout};
 use std::process::ExitCode;
 use std::{env, process};
 use wac_cli::{check_input, check_paths, format_input, format_paths};
+use wac_cli_components::{TargetOptions, check_target, show_package};
 use wac_cli_console::{Console, Report, Status};
 use wac_cli_graph::show_graph;
 use wac_cli_packages::{Given, check_with_packages, list_packages, show_graph_with_packages};
@@ -38,7 +39,7 @@ fn perform_on_input(rt: &HostRuntime, task: &Task<'_>) -> Status {
         }
         Work::Check(report) => check_input(rt.alloc(), &mut input, &mut console, report, name),
         // The words of the command line allow no standard input here.
-        Work::Packages | Work::Graph(_) => Status::Wrong,
+        Work::Packages | Work::Graph(_) | Work::Package(_) | Work::Targets(_) => Status::Wrong,
     }
 }
 
@@ -47,6 +48,7 @@ fn perform_on_files(rt: &HostRuntime, task: &Task<'_>) -> Status {
     let mut console = console_of(rt, task);
     let mut files = Disk::new(*rt, process::id(rt.process()));
     let paths = task.paths.as_slice();
+    let first = path_at(paths, 0);
     match task.work {
         Work::Format(options) => {
             format_paths(rt.alloc(), &mut files, &mut console, options, paths)
@@ -60,14 +62,24 @@ fn perform_on_files(rt: &HostRuntime, task: &Task<'_>) -> Status {
         }
         Work::Packages => {
             let given = given_of(task, Report::Human);
-            list_packages(rt.alloc(), &mut files, &mut console, given, first_of(paths))
+            list_packages(rt.alloc(), &mut files, &mut console, given, first)
         }
         Work::Graph(form) if task.packages.is_empty() => {
-            show_graph(rt.alloc(), &mut files, &mut console, form, first_of(paths))
+            show_graph(rt.alloc(), &mut files, &mut console, form, first)
         }
         Work::Graph(form) => {
             let given = (given_of(task, Report::Human), form);
-            show_graph_with_packages(rt.alloc(), &mut files, &mut console, given, first_of(paths))
+            show_graph_with_packages(rt.alloc(), &mut files, &mut console, given, first)
+        }
+        Work::Package(form) => {
+            let asked = (task.key, form);
+            show_package(rt.alloc(), &mut files, &mut console, asked, first)
+        }
+        Work::Targets(report) => {
+            let world = task.world;
+            let options = TargetOptions { world, report };
+            let paths = (first, path_at(paths, 1));
+            check_target(rt.alloc(), &mut files, &mut console, options, paths)
         }
     }
 }
@@ -81,8 +93,9 @@ fn given_of<'t>(task: &'t Task<'_>, report: Report) -> Given<'t> {
     }
 }
 
-fn first_of<'p>(paths: &[&'p str]) -> &'p str {
-    match paths.first() {
+/// The path at a place. A command has as many as its definition says.
+fn path_at<'p>(paths: &[&'p str], place: usize) -> &'p str {
+    match paths.get(place) {
         Some(path) => path,
         None => "",
     }

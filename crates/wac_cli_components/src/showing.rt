@@ -1,0 +1,156 @@
+// `wacx package`.
+ghost use Rattle.std.specs.Prelude.{◌≡◌};
+
+use crate::errors::{decode_diagnostic, documents_diagnostic, json_diagnostic, warning};
+use crate::forms::PackageForm;
+use crate::reading::STEPS;
+use std::alloc::{AllocError, Global};
+use std::io::Write;
+use wac_cli_console::{Action, Console, Outcome, Report, Status};
+use wac_components::{Decoded, Limits, decode};
+use wac_components_documents::{Documents, documents_of};
+use wac_components_json::to_json;
+use wac_diagnostics::Diagnostic;
+use wac_files::FileSystem;
+
+/// What is shown of a component: a text, with a warning for each thing that it can't say; or what is wrong.
+#[derive(Drop)]
+enum Shown {
+    Text(String, Vec<Diagnostic>),
+    Rejected(Diagnostic),
+}
+
+/// Writes the package of the component at a path to the output: the documents that declare it, or what is decoded, as
+/// JSON. What is wrong, and what the documents can't say, is written to the errors; then the status is 1.
+///
+/// `asked` is the key of the package, as `demo:cache@1.2.0`, and the form. Without a key it is that of the first
+/// definition, or `root:component` where nothing is defined.
+pub fn show_package<F: FileSystem, O: Write + Drop, E: Write + Drop>(
+    alloc: Global,
+    files: &mut F,
+    console: &mut Console<O, E>,
+    asked: (Option<&str>, PackageForm),
+    path: &str,
+) -> Status
+    // No file is replaced.
+    ensures { F.replaced files.new ≡ F.replaced files.old }
+{
+    let status = match files.read(alloc, path) {
+        Ok(bytes) => show_bytes(alloc, console, asked, path, bytes.as_slice()),
+        Err(error) => Ok(
+            console
+                .failed(alloc, Report::Human, path, error)
+                .status(Action::Check),
+        ),
+    };
+    match status {
+        Ok(status) => status.or(console.output_status()),
+        Err(AllocError) => console.out_of_memory(),
+    }
+}
+
+/// Writes the package of bytes, or what is wrong with them.
+fn show_bytes<O: Write + Drop, E: Write + Drop>(
+    alloc: Global,
+    console: &mut Console<O, E>,
+    asked: (Option<&str>, PackageForm),
+    path: &str,
+    bytes: &[u8],
+) -> Result<Status, AllocError> {
+    match shown_bytes(alloc, bytes, asked)? {
+        Shown::Text(text, warnings) => {
+            console.write(text.as_bytes());
+            warn(alloc, console, path, warnings.as_slice())
+        }
+        Shown::Rejected(diagnostic) => {
+            console.report(alloc, Report::Human, path, b"", &diagnostic)?;
+            Ok(Outcome::Rejected.status(Action::Check))
+        }
+    }
+}
+
+/// Writes warnings. The status is 1 where there are any.
+fn warn<O: Write + Drop, E: Write + Drop>(
+    alloc: Global,
+    console: &mut Console<O, E>,
+    path: &str,
+    warnings: &[Diagnostic],
+) -> Result<Status, AllocError> {
+    let mut status = Status::Well;
+    for diagnostic in warnings {
+        console.report(alloc, Report::Human, path, b"", diagnostic)?;
+        status = Status::Wrong;
+    }
+    Ok(status)
+}
+
+/// What is shown of bytes.
+fn shown_bytes(
+    alloc: Global,
+    bytes: &[u8],
+    asked: (Option<&str>, PackageForm),
+) -> Result<Shown, AllocError> {
+    match decode(alloc, bytes, Limits::for_length(bytes.len())) {
+        Ok(decoded) => shown_component(alloc, &decoded, asked),
+        Err(error) => Ok(Shown::Rejected(decode_diagnostic(alloc, error)?)),
+    }
+}
+
+/// What is shown of a decoded component.
+fn shown_component(
+    alloc: Global,
+    decoded: &Decoded,
+    asked: (Option<&str>, PackageForm),
+) -> Result<Shown, AllocError> {
+    match asked {
+        (name, PackageForm::Wac) => shown_documents(alloc, decoded, name),
+        (_, PackageForm::Json) => shown_json(alloc, decoded),
+    }
+}
+
+/// What is decoded, as JSON, with the end of the line.
+fn shown_json(alloc: Global, decoded: &Decoded) -> Result<Shown, AllocError> {
+    match to_json(alloc, decoded, STEPS) {
+        Ok(mut line) => {
+            line.push('\n')?;
+            Ok(Shown::Text(line, Vec::new(alloc)))
+        }
+        Err(error) => Ok(Shown::Rejected(json_diagnostic(alloc, error)?)),
+    }
+}
+
+/// The documents, with what they can't say.
+fn shown_documents(
+    alloc: Global,
+    decoded: &Decoded,
+    name: Option<&str>,
+) -> Result<Shown, AllocError> {
+    match documents_of(alloc, decoded, name, STEPS) {
+        Ok(documents) => {
+            let text = joined(alloc, &documents)?;
+            Ok(Shown::Text(text, warnings_of(alloc, &documents)?))
+        }
+        Err(error) => Ok(Shown::Rejected(documents_diagnostic(alloc, error)?)),
+    }
+}
+
+/// The texts of documents, with an empty line between two.
+fn joined(alloc: Global, documents: &Documents) -> Result<String, AllocError> {
+    let mut text = String::new(alloc);
+    for document in &documents.documents {
+        if !text.is_empty() {
+            text.push('\n')?;
+        }
+        text.push_str(document.text.as_str())?;
+    }
+    Ok(text)
+}
+
+/// A warning for each thing that documents can't say.
+fn warnings_of(alloc: Global, documents: &Documents) -> Result<Vec<Diagnostic>, AllocError> {
+    let mut warnings = Vec::with_capacity(alloc, documents.warnings.len())?;
+    for text in &documents.warnings {
+        warnings.push(warning(alloc, text.as_str())?)?;
+    }
+    Ok(warnings)
+}

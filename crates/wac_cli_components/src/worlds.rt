@@ -1,0 +1,136 @@
+// The world of a document.
+use indexmap::IndexMap;
+use std::alloc::{AllocError, Global};
+use wac_ast::Document;
+use wac_component_rules::ComponentRules;
+use wac_composition::{flat_text, graph_with};
+use wac_diagnostics::Diagnostic;
+use wac_error_diagnostics::{Reading, parse_diagnostic, resolution_diagnostic};
+use wac_graph::{CompositionGraph, ItemKind, Package, Type};
+use wac_graph_packages::{DefinitionsError, package_of};
+use wac_graph_types::PackageError;
+use wac_package_comparison::with_implied_imports;
+use wac_printer::Page;
+
+/// A package whose world a component is to fit, and the world's name; or what is wrong with its document.
+#[derive(Drop)]
+pub(crate) enum Wanted {
+    World(Package, String),
+    Rejected(Diagnostic),
+}
+
+/// The world of a document's bytes: the one of that name, or the only one. The document is resolved by the component
+/// model's rules and without packages, so each mention of a foreign one is an error.
+pub(crate) fn wanted_world(
+    alloc: Global,
+    bytes: &[u8],
+    world: Option<&str>,
+) -> Result<Wanted, AllocError> {
+    match flat_text(alloc, bytes)? {
+        Reading::Text(text) => wanted_of_text(alloc, text, world),
+        Reading::Rejected(diagnostic) => Ok(Wanted::Rejected(diagnostic)),
+    }
+}
+
+fn wanted_of_text(alloc: Global, text: &str, world: Option<&str>) -> Result<Wanted, AllocError> {
+    match Document::parse(alloc, text) {
+        Ok(document) => wanted_of_document(
+            Page {
+                document: &document,
+            },
+            alloc,
+            world,
+        ),
+        Err(error) => Ok(Wanted::Rejected(parse_diagnostic(alloc, &error)?)),
+    }
+}
+
+fn wanted_of_document(
+    page: Page<'_, '_>,
+    alloc: Global,
+    world: Option<&str>,
+) -> Result<Wanted, AllocError> {
+    let Page { document } = page;
+    let none = IndexMap::new(alloc);
+    match graph_with(Page { document }, alloc, none, &ComponentRules) {
+        Ok(graph) => wanted_of_graph(alloc, &graph, world),
+        Err(error) => Ok(Wanted::Rejected(resolution_diagnostic(alloc, &error)?)),
+    }
+}
+
+fn wanted_of_graph(
+    alloc: Global,
+    graph: &CompositionGraph,
+    world: Option<&str>,
+) -> Result<Wanted, AllocError> {
+    match package_of(alloc, graph, world) {
+        Ok(package) => wanted_of_package(alloc, &package, world),
+        Err(DefinitionsError::NoSuchWorld) => Ok(Wanted::Rejected(Diagnostic::without_place(
+            "wac::no-such-world",
+            String::from_str(alloc, "the document declares no such world")?,
+        ))),
+        Err(DefinitionsError::Parts(error)) => no_package(alloc, &error),
+    }
+}
+
+/// The world of a document's package, with the imports that it implies.
+fn wanted_of_package(
+    alloc: Global,
+    package: &Package,
+    world: Option<&str>,
+) -> Result<Wanted, AllocError> {
+    let Some(name) = chosen(package, world) else {
+        return Ok(Wanted::Rejected(no_world(alloc, package)?));
+    };
+    let name = String::from_str(alloc, name)?;
+    match with_implied_imports(alloc, package) {
+        Ok(package) => Ok(Wanted::World(package, name)),
+        Err(error) => no_package(alloc, &error),
+    }
+}
+
+/// That the parts of a document make no package.
+fn no_package(alloc: Global, error: &PackageError) -> Result<Wanted, AllocError> {
+    if let PackageError::Memory(_) = error {
+        return Err(AllocError);
+    }
+    let message = format!(in alloc; "{error}")?;
+    Ok(Wanted::Rejected(Diagnostic::without_place("wac::no-package", message)))
+}
+
+/// The name of the world that is asked for: the given one, or that of the only world of the definitions.
+fn chosen<'w>(package: &'w Package, world: Option<&'w str>) -> Option<&'w str> {
+    if let Some(name) = world {
+        return Some(name);
+    }
+    let mut found = None;
+    for (name, kind) in package.definitions().iter() {
+        if let ItemKind::Ty(Type::World(_)) = kind {
+            if found.is_some() {
+                return None;
+            }
+            found = Some(name.as_str());
+        }
+    }
+    found
+}
+
+/// That a document declares no world, or several.
+fn no_world(alloc: Global, package: &Package) -> Result<Diagnostic, AllocError> {
+    let mut worlds = String::new(alloc);
+    for (name, kind) in package.definitions().iter() {
+        if let ItemKind::Ty(Type::World(_)) = kind {
+            worlds.push_str(if worlds.is_empty() { "`" } else { ", `" })?;
+            worlds.push_str(name.as_str())?;
+            worlds.push('`')?;
+        }
+    }
+    if worlds.is_empty() {
+        let message = String::from_str(alloc, "the document declares no world")?;
+        return Ok(Diagnostic::without_place("wac::no-world", message));
+    }
+    let message = String::from_str(alloc, "the document declares several worlds")?;
+    let mut diagnostic = Diagnostic::without_place("wac::no-world", message);
+    diagnostic.help = Some(format!(in alloc; "choose one by --world: {worlds}")?);
+    Ok(diagnostic)
+}

@@ -1,0 +1,117 @@
+// Runs over files in memory.
+use crate::components::Component;
+use std::alloc::{AllocError, Global};
+use wac_cli_components::{PackageForm, TargetOptions, check_target, show_package};
+use wac_cli_console::{Console, Report};
+use wac_files::MemoryFiles;
+
+/// The status, the output and the errors of a run.
+pub(crate) type Ran = (u8, Vec<u8>, Vec<u8>);
+
+/// What the file `app.wasm` holds, what is asked of its package, and the status, the output and the errors that are
+/// expected.
+pub(crate) struct PackageRow {
+    pub(crate) component: Component,
+    pub(crate) name: Option<&'static str>,
+    pub(crate) form: PackageForm,
+    pub(crate) status: u8,
+    pub(crate) output: &'static str,
+    pub(crate) errors: &'static str,
+}
+
+/// What the files `app.wasm` and `world.wac` hold, the options, and the status, the output and the errors that are
+/// expected.
+pub(crate) struct TargetRow {
+    pub(crate) component: Component,
+    pub(crate) text: &'static str,
+    pub(crate) world: Option<&'static str>,
+    pub(crate) report: Report,
+    pub(crate) status: u8,
+    pub(crate) output: &'static str,
+    pub(crate) errors: &'static str,
+}
+
+/// A run of `package` on a path.
+pub(crate) fn run_package(
+    alloc: Global,
+    files: &mut MemoryFiles,
+    asked: (Option<&str>, PackageForm),
+    path: &str,
+) -> Ran {
+    let mut output = Vec::new(alloc);
+    let mut errors = Vec::new(alloc);
+    let status = {
+        let mut console = Console::new(&mut output, &mut errors, false, false);
+        show_package(alloc, files, &mut console, asked, path)
+    };
+    (status.code(), output, errors)
+}
+
+/// A run of `targets` on two paths.
+pub(crate) fn run_targets(
+    alloc: Global,
+    files: &mut MemoryFiles,
+    options: TargetOptions<'_>,
+    paths: (&str, &str),
+) -> Ran {
+    let mut output = Vec::new(alloc);
+    let mut errors = Vec::new(alloc);
+    let status = {
+        let mut console = Console::new(&mut output, &mut errors, false, false);
+        check_target(alloc, files, &mut console, options, paths)
+    };
+    (status.code(), output, errors)
+}
+
+/// What was found in place of what is expected, or nothing.
+fn difference(alloc: Global, ran: &Ran, expected: (u8, &str, &str)) -> Result<String, AllocError> {
+    let (status, output, errors) = ran;
+    let output = str::from_utf8(output.as_slice()).unwrap_or("?");
+    let errors = str::from_utf8(errors.as_slice()).unwrap_or("?");
+    if *status == expected.0 && output == expected.1 && errors == expected.2 {
+        return Ok(String::new(alloc));
+    }
+    format!(in alloc; "{status}\n{output}\n{errors}\n")
+}
+
+fn package_difference(alloc: Global, row: &PackageRow) -> Result<String, AllocError> {
+    let mut files = MemoryFiles::new(alloc);
+    files.file(alloc, "app.wasm", row.component.bytes())?;
+    let ran = run_package(alloc, &mut files, (row.name, row.form), "app.wasm");
+    difference(alloc, &ran, (row.status, row.output, row.errors))
+}
+
+fn target_difference(alloc: Global, row: &TargetRow) -> Result<String, AllocError> {
+    let mut files = MemoryFiles::new(alloc);
+    files.file(alloc, "app.wasm", row.component.bytes())?;
+    files.file(alloc, "world.wac", row.text.as_bytes())?;
+    let options = TargetOptions {
+        world: row.world,
+        report: row.report,
+    };
+    let ran = run_targets(alloc, &mut files, options, ("app.wasm", "world.wac"));
+    difference(alloc, &ran, (row.status, row.output, row.errors))
+}
+
+/// What was found in place of what rows expect.
+pub(crate) fn package_differences(
+    alloc: Global,
+    rows: &[PackageRow],
+) -> Result<String, AllocError> {
+    let mut all = String::new(alloc);
+    for row in rows {
+        let found = package_difference(alloc, row)?;
+        all.push_str(found.as_str())?;
+    }
+    Ok(all)
+}
+
+/// What was found in place of what rows expect.
+pub(crate) fn target_differences(alloc: Global, rows: &[TargetRow]) -> Result<String, AllocError> {
+    let mut all = String::new(alloc);
+    for row in rows {
+        let found = target_difference(alloc, row)?;
+        all.push_str(found.as_str())?;
+    }
+    Ok(all)
+}
