@@ -6,6 +6,7 @@ use std::alloc::{AllocError, Global};
 use std::collections::BTreeSet;
 use std::io::Write;
 use wac_cli_console::{Console, Outcome, Report};
+use wac_component_packages::is_component_file;
 use wac_files::{FileSystem, Found, find_files};
 
 /// The documents that were read, each with the name of its file, and what became of the files that weren't.
@@ -48,6 +49,17 @@ fn is_among<F: FileSystem>(
     }
 }
 
+/// The paths that aren't those of components' files.
+fn without_components<'p>(alloc: Global, paths: &[&'p str]) -> Result<Vec<&'p str>, AllocError> {
+    let mut documents = Vec::with_capacity(alloc, paths.len())?;
+    for path in paths {
+        if !is_component_file(path) {
+            documents.push(*path)?;
+        }
+    }
+    Ok(documents)
+}
+
 /// The documents that paths lead to, without the files that are checked.
 pub(crate) fn read_sources<F: FileSystem, O: Write + Drop, E: Write + Drop>(
     alloc: Global,
@@ -59,7 +71,8 @@ pub(crate) fn read_sources<F: FileSystem, O: Write + Drop, E: Write + Drop>(
     ensures { F.replaced files.new ≡ F.replaced files.old }
 {
     let checked = resolved(alloc, files, paths.1)?;
-    let found = find_files(alloc, files, paths.0)?;
+    let documents = without_components(alloc, paths.0)?;
+    let found = find_files(alloc, files, documents.as_slice())?;
     read_each(alloc, files, console, report, (found.as_slice(), &checked))
 }
 

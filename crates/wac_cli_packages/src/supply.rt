@@ -1,4 +1,4 @@
-// The packages that files declare, and what is wrong with these files.
+// The packages of files, declared by documents or read from components, and what is wrong with these files.
 ghost use Rattle.std.specs.Prelude.{◌≡◌};
 
 use crate::options::{Given, Setting};
@@ -7,6 +7,7 @@ use indexmap::IndexMap;
 use std::alloc::{AllocError, Global};
 use std::io::Write;
 use wac_cli_console::{Action, Console, Outcome, Status};
+use wac_component_packages::{Components, Supplied, read_components, supply_components};
 use wac_files::{FileError, FileSystem, Found, find_files};
 use wac_graph::PackageKey;
 use wac_package_errors::{
@@ -14,11 +15,12 @@ use wac_package_errors::{
 };
 use wac_package_names::key_named;
 
-/// The packages that files declare, with the files.
+/// The packages of files, with the documents among these, and what became of each file.
 #[derive(Drop)]
 pub(crate) struct Supply {
     sources: Sources,
     declared: Declared,
+    outcomes: Vec<Outcome>,
 }
 
 /// The packages of the files that are given, without those that are checked. What can't be read is reported.
@@ -38,7 +40,41 @@ pub(crate) fn read_supply<F: FileSystem, O: Write + Drop, E: Write + Drop>(
         given.report,
         (given.packages, checked),
     ) {
-        Ok(sources) => declared_by(alloc, sources, given.worlds),
+        Ok(sources) => read_beside(alloc, files, console, given, sources),
+        Err(_) => Err(AllocError),
+    }
+}
+
+/// The packages of documents, and behind them those of components. What is wrong with a component is reported.
+fn read_beside<F: FileSystem, O: Write + Drop, E: Write + Drop>(
+    alloc: Global,
+    files: &mut F,
+    console: &mut Console<O, E>,
+    given: Given<'_>,
+    sources: Sources,
+) -> Result<Supply, AllocError>
+    ensures { F.replaced files.new ≡ F.replaced files.old }
+{
+    let paths = (given.packages, given.components);
+    match read_components(alloc, files, console, given.report, paths) {
+        Ok(components) => supply_both(alloc, console, given, sources, components),
+        Err(_) => Err(AllocError),
+    }
+}
+
+/// The packages of documents, and behind them those of components that were read.
+fn supply_both<O: Write + Drop, E: Write + Drop>(
+    alloc: Global,
+    console: &mut Console<O, E>,
+    given: Given<'_>,
+    sources: Sources,
+    components: Components,
+) -> Result<Supply, AllocError> {
+    match declared_by(alloc, sources, given.worlds) {
+        Ok(mut supply) => {
+            supply.add_components(alloc, console, given, components)?;
+            Ok(supply)
+        }
         Err(_) => Err(AllocError),
     }
 }
@@ -64,8 +100,50 @@ fn declared_by(
     worlds: &[(&str, &str)],
 ) -> Result<Supply, AllocError> {
     match declare(alloc, &sources, worlds) {
-        Ok(declared) => Ok(Supply { sources, declared }),
+        Ok(declared) => with_outcomes(alloc, sources, declared),
         Err(_) => Err(AllocError),
+    }
+}
+
+/// The same, with what became of the files.
+fn with_outcomes(
+    alloc: Global,
+    sources: Sources,
+    declared: Declared,
+) -> Result<Supply, AllocError> {
+    match outcomes_of(alloc, &sources, &declared) {
+        Ok(outcomes) => Ok(Supply {
+            sources,
+            declared,
+            outcomes,
+        }),
+        Err(_) => Err(AllocError),
+    }
+}
+
+/// What became of the files, in no order.
+fn outcomes_of(
+    alloc: Global,
+    sources: &Sources,
+    declared: &Declared,
+) -> Result<Vec<Outcome>, AllocError> {
+    let mut outcomes = Vec::with_capacity(alloc, sources.texts.len())?;
+    outcomes.extend_from_slice(sources.outcomes.as_slice())?;
+    for text in 0..sources.texts.len() {
+        outcomes.push(outcome_of(declared, text))?;
+    }
+    Ok(outcomes)
+}
+
+/// What became of a text: those with a fault are counted first, then those that declare a package.
+fn outcome_of(declared: &Declared, text: usize) -> Outcome {
+    let faults = declared.faults.len();
+    if text < faults {
+        Outcome::Rejected
+    } else if text < faults.saturating_add(declared.packages.len()) {
+        Outcome::Good
+    } else {
+        Outcome::Unresolved
     }
 }
 
@@ -123,6 +201,24 @@ fn text_at(texts: &[String], number: usize) -> &str {
 }
 
 impl Supply {
+    /// Adds the packages of components. What is wrong with one is reported.
+    fn add_components<O: Write + Drop, E: Write + Drop>(
+        &mut self,
+        alloc: Global,
+        console: &mut Console<O, E>,
+        given: Given<'_>,
+        components: Components,
+    ) -> Result<(), AllocError> {
+        let mut supplied = Supplied {
+            declared: &mut self.declared,
+            names: &mut self.sources.names,
+            may_agree: given.may_agree,
+        };
+        let outcomes = supply_components(alloc, console, given.report, components, &mut supplied)?;
+        self.outcomes.extend_from_slice(outcomes.as_slice())?;
+        Ok(())
+    }
+
     /// What is known with these packages.
     pub(crate) fn setting(&self, alloc: Global, given: Given<'_>) -> Setting<'_> {
         Setting {
@@ -156,7 +252,7 @@ impl Supply {
                 self.report(console, setting, fault)?;
             }
         }
-        self.status(setting.alloc)
+        Ok(worst(self.outcomes.as_slice()))
     }
 
     /// Reports a fault.
@@ -191,32 +287,11 @@ impl Supply {
         Ok(before.or(outcome.status(Action::Check)))
     }
 
-    /// What became of a text: those with a fault are counted first, then those that declare a package.
-    fn outcome(&self, text: usize) -> Outcome {
-        let faults = self.declared.faults.len();
-        if text < faults {
-            Outcome::Rejected
-        } else if text < faults.saturating_add(self.declared.packages.len()) {
-            Outcome::Good
-        } else {
-            Outcome::Unresolved
-        }
-    }
-
     /// What became of the files, in no order.
     pub(crate) fn outcomes(&self, alloc: Global) -> Result<Vec<Outcome>, AllocError> {
-        let mut outcomes = Vec::with_capacity(alloc, self.sources.texts.len())?;
-        outcomes.extend_from_slice(self.sources.outcomes.as_slice())?;
-        for text in 0..self.sources.texts.len() {
-            outcomes.push(self.outcome(text))?;
-        }
+        let mut outcomes = Vec::with_capacity(alloc, self.outcomes.len())?;
+        outcomes.extend_from_slice(self.outcomes.as_slice())?;
         Ok(outcomes)
-    }
-
-    /// The status that the files lead to.
-    fn status(&self, alloc: Global) -> Result<Status, AllocError> {
-        let outcomes = self.outcomes(alloc)?;
-        Ok(worst(outcomes.as_slice()))
     }
 }
 

@@ -74,6 +74,8 @@ pub(crate) fn ran(
     let mut files = tree(alloc, files)?;
     let given = Given {
         packages: &["p"],
+        components: &[],
+        may_agree: false,
         worlds: &[],
         report: report_of(word),
     };
@@ -95,6 +97,8 @@ fn difference(alloc: Global, row: &Row) -> Result<String, AllocError> {
     let mut files = tree(alloc, row.files)?;
     let given = Given {
         packages: row.packages,
+        components: &[],
+        may_agree: false,
         worlds: row.worlds,
         report: report_of(row.word),
     };

@@ -56,6 +56,9 @@ pub(crate) enum Work {
     Targets(Report),
 }
 
+/// What is wrong with a component that isn't named as one.
+const NO_COMPONENT: &str = "--package takes a package and a file, as in a:b@1.0.0=b.wasm";
+
 /// What the program has to do.
 #[derive(Drop)]
 pub(crate) struct Task<'a> {
@@ -66,6 +69,10 @@ pub(crate) struct Task<'a> {
     pub(crate) paths: Vec<&'a str>,
     /// Where packages are.
     pub(crate) packages: Vec<&'a str>,
+    /// Names of packages, each with the path of its component.
+    pub(crate) components: Vec<(&'a str, &'a str)>,
+    /// Whether a package may be declared and have a component, if the two agree.
+    pub(crate) may_agree: bool,
     /// Names of packages, each with the world that is chosen.
     pub(crate) worlds: Vec<(&'a str, &'a str)>,
     /// The name of standard input in messages.
@@ -74,6 +81,13 @@ pub(crate) struct Task<'a> {
     pub(crate) key: Option<&'a str>,
     /// The name of a document's world.
     pub(crate) world: Option<&'a str>,
+}
+
+impl Task<'_> {
+    /// Whether packages are given, as documents or components.
+    pub(crate) fn has_packages(&self) -> bool {
+        !self.packages.is_empty() || !self.components.is_empty()
+    }
 }
 
 /// What the words ask for.
@@ -114,8 +128,11 @@ fn request_of<'a>(
     work: Work,
     found: &ArgMatches<'a>,
 ) -> Result<Request<'a>, AllocError> {
-    let Some(worlds) = worlds_of(alloc, found)? else {
+    let Some(worlds) = pairs_of(alloc, found, "world")? else {
         return Ok(Request::Misused("--world takes a package and a world, as in a:b@1.0.0=w"));
+    };
+    let Some(components) = pairs_of(alloc, found, "package")? else {
+        return Ok(Request::Misused(NO_COMPONENT));
     };
     let task = Task {
         work,
@@ -123,6 +140,8 @@ fn request_of<'a>(
         quiet: found.get_flag("quiet"),
         paths: paths_of(alloc, found)?,
         packages: all_of(alloc, found, "packages")?,
+        components,
+        may_agree: found.get_flag("agree"),
         worlds,
         input_name: found.get_str("stdin-filepath"),
         key: found.get_str("name"),
@@ -141,10 +160,14 @@ fn misuse(task: &Task<'_>) -> Option<&'static str> {
         Some("`-` can't be used with other paths")
     } else if is_input && reads_files_alone(task.work) {
         Some("this command reads a file, and not standard input")
-    } else if is_input && !task.packages.is_empty() {
-        Some("`-` can't be used with --packages")
-    } else if task.packages.is_empty() && !task.worlds.is_empty() {
+    } else if is_input && task.has_packages() {
+        Some("`-` can't be used with --packages and --package")
+    } else if !task.has_packages() && !task.worlds.is_empty() {
         Some("--world is used with --packages alone")
+    } else if !task.has_packages() && task.may_agree {
+        Some("--agree is used with --packages alone")
+    } else if !task.components.as_slice().iter().all(|(key, _)| is_package_key(key)) {
+        Some(NO_COMPONENT)
     } else if !is_input && task.input_name.is_some() {
         Some("--stdin-filepath is used with the path `-` alone")
     } else if !is_key(task.key) {
@@ -192,19 +215,20 @@ fn all_of<'a>(
     Ok(all)
 }
 
-/// The chosen worlds, unless one is not written as `KEY=NAME`.
-fn worlds_of<'a>(
+/// All values of an argument, in two parts, unless one is not written as `KEY=VALUE`.
+fn pairs_of<'a>(
     alloc: Global,
     found: &ArgMatches<'a>,
+    name: &str,
 ) -> Result<Option<Vec<(&'a str, &'a str)>>, AllocError> {
-    let mut worlds = Vec::new(alloc);
-    for choice in all_of(alloc, found, "world")? {
-        match choice.split_once('=') {
-            Some(pair) => worlds.push(pair)?,
+    let mut pairs = Vec::new(alloc);
+    for value in all_of(alloc, found, name)? {
+        match value.split_once('=') {
+            Some(pair) => pairs.push(pair)?,
             None => return Ok(None),
         }
     }
-    Ok(Some(worlds))
+    Ok(Some(pairs))
 }
 
 fn form_of(found: &ArgMatches<'_>) -> Form {
@@ -378,9 +402,20 @@ fn with_packages<'a>(alloc: Global, command: Command<'a>) -> Result<Command<'a>,
                 .long("packages")
                 .value_name("PATH")
                 .action(ArgAction::Append)
-                .help(
-                    "A file that declares a package, or a folder for all *.wac below; may be repeated",
-                ),
+                .help("A document, a component or a folder of packages; may be repeated"),
+        )?
+        .arg(
+            Arg::new(alloc, "package")
+                .long("package")
+                .value_name("KEY=FILE")
+                .action(ArgAction::Append)
+                .help("Names the package of a component, as a:b@1.0.0=b.wasm; may be repeated"),
+        )?
+        .arg(
+            Arg::new(alloc, "agree")
+                .long("agree")
+                .action(ArgAction::SetTrue)
+                .help("Compares packages that are declared and have a component"),
         )?
         .arg(
             Arg::new(alloc, "world")

@@ -53,7 +53,7 @@ fn perform_on_files(rt: &HostRuntime, task: &Task<'_>) -> Status {
         Work::Format(options) => {
             format_paths(rt.alloc(), &mut files, &mut console, options, paths)
         }
-        Work::Check(report) if task.packages.is_empty() => {
+        Work::Check(report) if !task.has_packages() => {
             check_paths(rt.alloc(), &mut files, &mut console, report, paths)
         }
         Work::Check(report) => {
@@ -64,7 +64,7 @@ fn perform_on_files(rt: &HostRuntime, task: &Task<'_>) -> Status {
             let given = given_of(task, Report::Human);
             list_packages(rt.alloc(), &mut files, &mut console, given, first)
         }
-        Work::Graph(form) if task.packages.is_empty() => {
+        Work::Graph(form) if !task.has_packages() => {
             show_graph(rt.alloc(), &mut files, &mut console, form, first)
         }
         Work::Graph(form) => {
@@ -88,6 +88,8 @@ fn perform_on_files(rt: &HostRuntime, task: &Task<'_>) -> Status {
 fn given_of<'t>(task: &'t Task<'_>, report: Report) -> Given<'t> {
     Given {
         packages: task.packages.as_slice(),
+        components: task.components.as_slice(),
+        may_agree: task.may_agree,
         worlds: task.worlds.as_slice(),
         report,
     }
