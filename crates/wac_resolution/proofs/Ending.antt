@@ -38,7 +38,7 @@ use Rattle.wac_resolution_expressions.specs.Growth.{given_in}
 use Rattle.wac_resolution_externs.specs.declared.externs.Externs.{Externs}
 use Rattle.wac_resolution_externs.specs.Externs.{imported_in, exported_in, places_in}
 use Rattle.wac_resolution_bindings.specs.Statements.{placed_in}
-use Rattle.wac_resolution_statements.specs.Sequences.{AllWent, BreaksAfter, OneBreaks}
+use Rattle.wac_resolution.specs.Sequences.{AllWent, BreaksAfter, OneBreaks}
 use Rattle.wac_resolution_target.specs.Outcome.{Meets, Unmeets}
 use Rattle.wac_resolution.specs.Resolved.{by_key}
 use Rattle.wac_resolution.specs.Steps.{MeetsIn, MissesIn, Composed, TargetLast, Breaks}

@@ -1,3 +1,8 @@
+pub mod DeclaredKinds
+pub mod Leading
+pub mod ImportTypes
+pub mod Imported
+pub mod Sequences
 pub mod Alike
 pub mod Starting
 pub mod Ending

@@ -1,3 +1,6 @@
+pub mod Definitions
+pub mod ImportTypes
+pub mod Sequences
 pub mod Layout
 pub mod Resolved
 pub mod Steps

@@ -21,7 +21,7 @@ use Rattle.wac_resolution_paths.specs.Setting.{packages_in}
 use Rattle.wac_resolution_expressions.specs.Growth.{given_in}
 use Rattle.wac_resolution_externs.specs.declared.externs.Externs.{Externs}
 use Rattle.wac_resolution_bindings.specs.Statements.{placed_in}
-use Rattle.wac_resolution_statements.specs.Sequences.{BreaksAfter}
+use Rattle.wac_resolution.specs.Sequences.{BreaksAfter}
 
 -- the target is met, if there is one, the composition is as before, and the graph's packages were supplied
 pub record MeetsIn (setting : Setting) (rules : Rules) (old new : Parts) (root : Root) (targets : Option PackagePath) : Type 0 where

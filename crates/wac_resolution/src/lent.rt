@@ -4,9 +4,10 @@ ghost use Rattle.wac_ast.specs.Statements.{statement_of};
 ghost use Rattle.wac_resolution_errors.specs.Error.{Reports};
 ghost use Rattle.wac_resolution_errors.specs.Told.{told};
 ghost use Rattle.wac_resolution_rules.specs.Given.{rules_by};
-ghost use Rattle.wac_resolution_statements.specs.Sequences.{AllWent, OneBreaks};
+ghost use Rattle.wac_resolution.specs.Sequences.{AllWent, OneBreaks};
 ghost use Rattle.wac_resolution_bindings.specs.Statements.{Stand};
 
+use crate::statements::compose;
 use wac_ast::internals::Statements;
 use wac_graph::Rules;
 use wac_resolution_errors::Error;
@@ -14,7 +15,6 @@ use wac_resolution_externs::Externs;
 use wac_resolution_nodes::Root;
 use wac_resolution_paths::Setting;
 use wac_resolution_state::State;
-use wac_resolution_statements::compose;
 
 /// Executes borrowed statements in order.
 pub(crate) fn carry_out<'a, R: Rules>(

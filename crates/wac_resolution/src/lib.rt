@@ -12,13 +12,17 @@
 //! memory failed.
 #![tactic(auto)]
 
+mod definitions;
 mod documents;
+mod import_kind;
+mod imports;
 mod keeping;
 mod laws;
 mod lent;
 mod resolution;
 mod resolver;
 mod setting;
+mod statements;
 mod steps;
 mod target;
 

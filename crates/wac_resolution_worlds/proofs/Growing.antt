@@ -20,7 +20,7 @@ use Rattle.wac_resolution_paths.specs.Expands.{HoldsHanded}
 use Rattle.wac_resolution_paths.proofs.Expanding.{expands_self, expands_on, grows_expands, handed_grown, scope_expanded}
 use Rattle.wac_resolution_bodies.specs.Lists.{Lists}
 use Rattle.wac_resolution_bodies.specs.Bodies.{body_in, IsBody, BodyGoes}
-use Rattle.wac_resolution_used.specs.Statements.{BodyExpands}
+use Rattle.wac_resolution_worlds.specs.UseStatements.{BodyExpands}
 
 -- how an item takes one body to the next, under a naming and with these names at root
 abbrev pub RootStep : Type 0 → Type 1

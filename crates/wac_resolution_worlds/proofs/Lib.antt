@@ -1,3 +1,6 @@
+pub mod UsedInterfaces
+pub mod UsedItems
+pub mod UseStatements
 pub mod Refer
 pub mod Ids
 pub mod Growing

@@ -41,7 +41,7 @@ use Rattle.wac_resolution_paths.proofs.Expanding.{expands_self, grows_expands, h
 use Rattle.wac_resolution_bodies.specs.Lists.{Lists, kinds_of, with_kind}
 use Rattle.wac_resolution_bodies.specs.Bodies.{body_in, IsBody}
 use Rattle.wac_resolution_bodies.proofs.Lists.{body_still, body_kept, body_with_kind, means_with_kind, extern_fresh}
-use Rattle.wac_resolution_used.specs.Statements.{BodyExpands}
+use Rattle.wac_resolution_worlds.specs.UseStatements.{BodyExpands}
 use Rattle.wac_resolution_worlds.specs.Instances.{IsInterfaceKind}
 use Rattle.wac_resolution_worlds.specs.Made.{InterfaceMade}
 use Rattle.wac_resolution_worlds.specs.Referred.{NewFunc, ExternNamed}

@@ -1,3 +1,5 @@
+pub mod Used
+pub mod UseStatements
 pub mod Referred
 pub mod Instances
 pub mod Made

@@ -25,7 +25,7 @@ use Rattle.wac_resolution_paths.specs.Expands.{Expands, HoldsHanded}
 use Rattle.wac_resolution_paths.specs.Setting.{packages_in, setting_of}
 use Rattle.wac_resolution_bodies.specs.Lists.{Lists}
 use Rattle.wac_resolution_bodies.specs.Bodies.{body_in, BodyGoes}
-use Rattle.wac_resolution_used.specs.Statements.{BodyExpands}
+use Rattle.wac_resolution_worlds.specs.UseStatements.{BodyExpands}
 
 -- the lists of an empty body
 abbrev pub no_lists : Lists

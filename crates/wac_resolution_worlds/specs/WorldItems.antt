@@ -29,7 +29,7 @@ use Rattle.wac_resolution_paths.specs.Expands.{Expands, HoldsHanded}
 use Rattle.wac_resolution_paths.specs.Setting.{packages_in, setting_of}
 use Rattle.wac_resolution_bodies.specs.Lists.{Lists}
 use Rattle.wac_resolution_bodies.specs.Bodies.{body_in, UsesNamed, BodyGoes}
-use Rattle.wac_resolution_used.specs.Statements.{BodyExpands}
+use Rattle.wac_resolution_worlds.specs.UseStatements.{BodyExpands}
 use Rattle.wac_resolution_worlds.specs.Made.{KindMade}
 
 -- ---- imports and exports

@@ -14,12 +14,12 @@ ghost use Rattle.wac_resolution_bodies.specs.Bodies.{body_of, IsBody};
 ghost use Rattle.wac_resolution_bodies.specs.Owners.{owner_of};
 ghost use Rattle.wac_resolution_worlds.specs.WorldItems.{InstanceGoes};
 
+use crate::used_interface::interface_of;
 use wac_graph::{CompositionGraph, ExternKind, InterfaceId, ItemKind};
 use wac_lexer::SourceSpan;
 use wac_resolution_bodies::{Body, Owner, check_extern};
 use wac_resolution_errors::Error;
 use wac_resolution_state::State;
-use wac_resolution_used::interface_of;
 
 /// A text, which is empty if it is left out.
 fn text_or_empty(text: &Option<String>) -> &str

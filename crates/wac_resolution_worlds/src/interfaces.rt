@@ -24,6 +24,7 @@ ghost use Rattle.wac_resolution_bodies.specs.Owners.{owner_of};
 ghost use Rattle.wac_resolution_worlds.specs.Made.{no_lists, ExportGoes, InterfaceItemGoes, InterfaceItemsGo, InterfaceOf, InterfaceMade};
 
 use crate::functions::func_ref;
+use crate::use_statements::use_statement;
 use std::alloc::AllocError;
 use wac_ast_worlds::{InterfaceExport, InterfaceItem};
 use wac_graph::{ExternKind, Interface, InterfaceId, ItemKind};
@@ -31,7 +32,6 @@ use wac_resolution_bodies::{Body, Owner, check_extern};
 use wac_resolution_errors::Error;
 use wac_resolution_paths::Setting;
 use wac_resolution_state::{Names, State};
-use wac_resolution_used::use_statement;
 
 /// Takes the export of a function.
 fn interface_export(

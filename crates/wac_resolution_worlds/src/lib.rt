@@ -1,4 +1,4 @@
-//! Part of `wac_resolution`: interfaces and worlds.
+//! Part of `wac_resolution`: interfaces and worlds, and the types that they use of other interfaces.
 #![tactic(auto)]
 
 mod declared;
@@ -8,6 +8,10 @@ mod functions;
 mod includes;
 mod instances;
 mod interfaces;
+mod use_statements;
+mod used_interface;
+mod used_item;
+mod used_items;
 mod world_items;
 mod worlds;
 

@@ -22,13 +22,13 @@ ghost use Rattle.wac_resolution_worlds.specs.Made.{no_lists};
 ghost use Rattle.wac_resolution_worlds.specs.WorldItems.{WorldItemGoes, WorldItemsGo};
 
 use crate::extern_items::extern_item;
+use crate::use_statements::use_statement;
 use wac_ast_worlds::WorldItem;
 use wac_graph::{ExternKind, ItemKind};
 use wac_resolution_bodies::{Body, Owner};
 use wac_resolution_errors::Error;
 use wac_resolution_paths::Setting;
 use wac_resolution_state::{Names, State};
-use wac_resolution_used::use_statement;
 
 /// Takes an item of a world. Includes come afterwards.
 fn world_item<'a>(

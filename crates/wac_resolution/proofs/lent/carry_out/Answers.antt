@@ -5,7 +5,7 @@ use Rattle.wac_ast.specs.Statements.{statement_of}
 use Rattle.wac_resolution_errors.specs.Error.{Reports}
 use Rattle.wac_resolution_errors.specs.Told.{told}
 use Rattle.wac_resolution_rules.specs.Given.{rules_by}
-use Rattle.wac_resolution_statements.specs.Sequences.{AllWent, OneBreaks}
+use Rattle.wac_resolution.specs.Sequences.{AllWent, OneBreaks}
 use Rattle.wac_resolution.proofs.lent.carry_out.Goals as goal
 
 pub returns-clause-ok : goal.returns-clause-ok

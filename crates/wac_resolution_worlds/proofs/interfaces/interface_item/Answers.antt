@@ -13,7 +13,7 @@ use Rattle.wac_resolution_state.specs.Bindings.{values_of}
 use Rattle.wac_resolution_state.specs.Named.{scope_of}
 use Rattle.wac_resolution_paths.specs.Setting.{setting_of}
 use Rattle.wac_resolution_bodies.specs.Bodies.{body_of}
-use Rattle.wac_resolution_used.specs.Statements.{StatementGoes}
+use Rattle.wac_resolution_worlds.specs.UseStatements.{StatementGoes}
 use Rattle.wac_resolution_bodies.specs.Lists.{lists_of}
 use Rattle.wac_resolution_bodies.specs.Owners.{owner_of}
 use Rattle.wac_resolution_errors.proofs.Reports.{if_reports}

@@ -1,0 +1,100 @@
+-- Kinds that type statements declare.
+use Rattle.std.proofs.Common.{◌≡◌, Some, Result, Ok, Err, sym, subst}
+use Rattle.std.specs.Prelude.{IfOk, IfErr}
+use Rattle.wac_ast_grammar.specs.Tree.{InterfaceDecl, WorldDecl, TypeDecl, TypeStatement}
+use Rattle.wac_graph_types.specs.declared.kind.ItemKind.{ItemKind}
+use Rattle.wac_graph_types.specs.Kind.{an_interface, a_world}
+use Rattle.wac_graph_types.specs.Meaning.{Meaning}
+use Rattle.wac_graph_types.specs.Scope.{Scope}
+use Rattle.wac_graph_types.specs.Shape.{kind_of}
+use Rattle.wac_ast.specs.Statements.{type_statement_of}
+use Rattle.wac_ast.specs.declared.type_statement.TypeStatement.{TypeStatement as CodeStatement}
+use Rattle.wac_graph.specs.Graph.{Parts}
+use Rattle.wac_graph.specs.Means.{means, declared_count}
+use Rattle.wac_graph.specs.Origin.{Naming}
+use Rattle.wac_resolution_errors.specs.Told.{told}
+use Rattle.wac_resolution_errors.specs.declared.error.Error.{Error as CodeError}
+use Rattle.wac_resolution_rules.specs.BrokenDeclarations.{TypeDeclBroken}
+use Rattle.wac_resolution_rules.specs.BrokenWorlds.{InterfaceBroken, WorldBroken, KindBroken}
+use Rattle.wac_resolution_rules.specs.Composition.{root_scope}
+use Rattle.wac_resolution_rules.specs.Declarations.{IsTypeDecl}
+use Rattle.wac_resolution_rules.specs.TypeStatements.{declared_id}
+use Rattle.wac_resolution_rules.specs.Worlds.{IsInterface, IsWorld}
+use Rattle.wac_resolution_state.specs.Bindings.{values_of}
+use Rattle.wac_resolution_types.specs.Declarations.{KindAdded}
+use Rattle.wac_resolution_state.specs.Named.{scope_of}
+use Rattle.wac_resolution_nodes.specs.declared.root.Root.{Root}
+use Rattle.wac_resolution_nodes.specs.Root.{composed, Agrees}
+use Rattle.wac_resolution_nodes.proofs.Roots.{scope_agrees}
+use Rattle.wac_resolution_paths.specs.declared.setting.Setting.{Setting}
+use Rattle.wac_resolution_paths.specs.Expands.{HoldsHanded}
+use Rattle.wac_resolution_paths.specs.Setting.{packages_in, setting_of}
+use Rattle.wac_resolution_paths.proofs.Expanding.{grows_expands, handed_grown}
+use Rattle.wac_resolution_worlds.specs.Declared.{InterfaceDeclared, WorldDeclared}
+use Rattle.wac_resolution.specs.Definitions.{KindDeclared}
+
+-- what holds in the scope of the kinds holds in the root scope of the composition
+in_root : (P : Scope → Type 0) (naming : Naming) (g : Parts) (root : Root) → Agrees g root → P (scope_of naming g (values_of root.kinds)) → P (root_scope (composed naming g root))
+in_root P naming g root h p = subst P (sym (scope_agrees naming g root h)) p
+
+-- ---- the kind
+
+pub interface_kind : (setting : Setting) (old new : Parts) (root : Root) (x : CodeStatement) (d : InterfaceDecl) (r : Result ItemKind CodeError) → type_statement_of x ≡ TypeStatement.interface d → Agrees old root
+    → IfOk r (InterfaceDeclared setting old new (values_of root.kinds) d) → IfOk r (KindDeclared setting old new root (type_statement_of x))
+interface_kind setting old new root x d (Err e) is agrees h = tt
+interface_kind setting old new root x d (Ok k) is agrees h = subst (λ (s : TypeStatement). KindDeclared setting old new root s k) (sym is) (record {
+  grows = h.grows;
+  handed = h.handed;
+  named = h.named;
+  is = λ naming.
+      in_root (λ scope. (entry : Meaning) × IsInterface (setting_of naming setting) scope (declared_count old) (declared_id (setting_of naming setting) d.id.string) d.items entry (declared_count new) × (means naming new k ≡ kind_of an_interface entry))
+      naming old root agrees (h.is naming);
+})
+
+pub world_kind : (setting : Setting) (old new : Parts) (root : Root) (x : CodeStatement) (d : WorldDecl) (r : Result ItemKind CodeError) → type_statement_of x ≡ TypeStatement.world d → Agrees old root
+    → IfOk r (WorldDeclared setting old new (values_of root.kinds) d.id.string d.items) → IfOk r (KindDeclared setting old new root (type_statement_of x))
+world_kind setting old new root x d (Err e) is agrees h = tt
+world_kind setting old new root x d (Ok k) is agrees h = subst (λ (s : TypeStatement). KindDeclared setting old new root s k) (sym is) (record {
+  grows = h.grows;
+  handed = h.handed;
+  named = h.named;
+  is = λ naming.
+      in_root (λ scope. (entry : Meaning) × IsWorld (setting_of naming setting) scope (declared_count old) (declared_id (setting_of naming setting) d.id.string) d.items entry (declared_count new) × (means naming new k ≡ kind_of a_world entry))
+      naming old root agrees (h.is naming);
+})
+
+pub type_kind : (setting : Setting) (old new : Parts) (root : Root) (x : CodeStatement) (d : TypeDecl) (r : Result ItemKind CodeError) → type_statement_of x ≡ TypeStatement.ty d → Agrees old root → HoldsHanded (packages_in setting) old
+    → IfOk r (KindAdded old new (λ naming m after. IsTypeDecl (scope_of naming old (values_of root.kinds)) (declared_count old) d m after)) → IfOk r (KindDeclared setting old new root (type_statement_of x))
+type_kind setting old new root x d (Err e) is agrees held h = tt
+type_kind setting old new root x d (Ok k) is agrees held h = subst (λ (s : TypeStatement). KindDeclared setting old new root s k) (sym is) (record {
+  grows = grows_expands old new h.grows;
+  handed = handed_grown (packages_in setting) old new h.grows held;
+  named = h.named;
+  is = λ naming. in_root (λ scope. IsTypeDecl scope (declared_count old) d (means naming new k) (declared_count new)) naming old root agrees (h.is naming);
+})
+
+-- ---- no kind
+
+pub interface_breaks : (setting : Setting) (g : Parts) (root : Root) (x : CodeStatement) (d : InterfaceDecl) (r : Result ItemKind CodeError) → type_statement_of x ≡ TypeStatement.interface d → Agrees g root
+    → IfErr r (λ e. (naming : Naming) → InterfaceBroken (setting_of naming setting) (scope_of naming g (values_of root.kinds)) (Some d.id.string) (declared_count g) d.items (told e))
+    → IfErr r (λ e. (naming : Naming) → KindBroken (setting_of naming setting) (composed naming g root) (type_statement_of x) (told e))
+interface_breaks setting g root x d (Ok k) is agrees h = tt
+interface_breaks setting g root x d (Err e) is agrees h = λ naming.
+    subst (λ (s : TypeStatement). KindBroken (setting_of naming setting) (composed naming g root) s (told e)) (sym is)
+    (in_root (λ scope. InterfaceBroken (setting_of naming setting) scope (Some d.id.string) (declared_count g) d.items (told e)) naming g root agrees (h naming))
+
+pub world_breaks : (setting : Setting) (g : Parts) (root : Root) (x : CodeStatement) (d : WorldDecl) (r : Result ItemKind CodeError) → type_statement_of x ≡ TypeStatement.world d → Agrees g root
+    → IfErr r (λ e. (naming : Naming) → WorldBroken (setting_of naming setting) (scope_of naming g (values_of root.kinds)) d.id.string (declared_count g) d.items (told e))
+    → IfErr r (λ e. (naming : Naming) → KindBroken (setting_of naming setting) (composed naming g root) (type_statement_of x) (told e))
+world_breaks setting g root x d (Ok k) is agrees h = tt
+world_breaks setting g root x d (Err e) is agrees h = λ naming.
+    subst (λ (s : TypeStatement). KindBroken (setting_of naming setting) (composed naming g root) s (told e)) (sym is)
+    (in_root (λ scope. WorldBroken (setting_of naming setting) scope d.id.string (declared_count g) d.items (told e)) naming g root agrees (h naming))
+
+pub type_breaks : (setting : Setting) (g : Parts) (root : Root) (x : CodeStatement) (d : TypeDecl) (r : Result ItemKind CodeError) → type_statement_of x ≡ TypeStatement.ty d → Agrees g root
+    → IfErr r (λ e. (naming : Naming) → TypeDeclBroken (scope_of naming g (values_of root.kinds)) (declared_count g) d (told e))
+    → IfErr r (λ e. (naming : Naming) → KindBroken (setting_of naming setting) (composed naming g root) (type_statement_of x) (told e))
+type_breaks setting g root x d (Ok k) is agrees h = tt
+type_breaks setting g root x d (Err e) is agrees h = λ naming.
+    subst (λ (s : TypeStatement). KindBroken (setting_of naming setting) (composed naming g root) s (told e)) (sym is)
+    (in_root (λ scope. TypeDeclBroken scope (declared_count g) d (told e)) naming g root agrees (h naming))

@@ -1,0 +1,133 @@
+-- Import statements that are executed, or broken.
+use Rattle.std.proofs.Common.{◌≡◌, ◌∙◌, ℕ, List, [], ◌∷◌, ◌++◌, Option, Some, None, inl, inr, refl, sym, ap, subst, length, append-nil}
+use Rattle.std.specs.Prelude.{slice_set, filter_map}
+use Rattle.std.proofs.lemmas.List.Elements.{filter_map-append}
+use Rattle.wac_lexer.specs.Span.{Span}
+use Rattle.wac_ast_grammar.specs.Tree.{ImportStatement, Statement}
+use Rattle.wac_graph_types.specs.declared.kind.ItemKind.{ItemKind}
+use Rattle.wac_graph_types.specs.declared.kind.ItemKind.TheVariants as kinds
+use Rattle.wac_graph_types.specs.declared.kind.«Type».TheVariants as types
+use Rattle.wac_graph_types.specs.declared.entry.Entry.{Entry}
+use Rattle.wac_graph_types.specs.Kind.{promoted}
+use Rattle.wac_graph_types.specs.Meaning.{Meaning}
+use Rattle.wac_graph_types.specs.Scope.{Named, look_up, IsFresh, with_named}
+use Rattle.wac_graph_types.specs.Shape as shapes
+use Rattle.wac_graph_types.specs.Table.{Names}
+use Rattle.wac_graph_types.proofs.Shapes.{promoted_is}
+use Rattle.wac_graph.specs.Graph.{Parts}
+use Rattle.wac_graph.specs.Means.{means, entry_means, declared_count}
+use Rattle.wac_graph.specs.Origin.{Naming}
+use Rattle.wac_graph.proofs.Lists.{get_last}
+use Rattle.wac_resolution_errors.specs.Error.{Error}
+use Rattle.wac_resolution_rules.specs.BrokenStatements.{ImportNameBroken}
+use Rattle.wac_resolution_rules.specs.Composition.{Composition, Node, imported, with_node, with_resources, named_at, first_name, binding}
+use Rattle.wac_resolution_rules.specs.Given.{Rules}
+use Rattle.wac_resolution_rules.specs.Nodes.{import_of, imports, next_of}
+use Rattle.wac_resolution_rules.specs.Places.{places_after}
+use Rattle.wac_resolution_rules.specs.Spans.{import_span}
+use Rattle.wac_resolution_rules.specs.Statements.{name_imported, Imports}
+use Rattle.wac_resolution_nodes.specs.declared.root.Root.{Root}
+use Rattle.wac_resolution_nodes.specs.Root.{numbers_of, composed, places}
+use Rattle.wac_resolution_paths.specs.declared.setting.Setting.{Setting}
+use Rattle.wac_resolution_paths.specs.Setting.{packages_in}
+use Rattle.wac_resolution_expressions.specs.Growth.{given_in}
+use Rattle.wac_resolution_externs.specs.declared.externs.Externs.{Externs}
+use Rattle.wac_resolution_externs.specs.Externs.{imported_in, exported_in, places_in, Under}
+use Rattle.wac_resolution_bindings.specs.Imports.{ImportsAs}
+use Rattle.wac_resolution.specs.ImportTypes.{ImportMade, ImportTypeBreaks}
+use Rattle.wac_resolution_bindings.specs.Statements.{Stand, Went, Breaks}
+use Rattle.wac_resolution_bindings.proofs.PlaceLaws.{one_more_at, no_more_at, same_places}
+use Rattle.wac_resolution_bindings.proofs.Standing.{placed_kept, composed_kept}
+use Rattle.wac_resolution_bindings.proofs.Importing.{placed_imported, handed_imported}
+
+-- ---- the imports of a composition with one more
+
+set_last : {X : Type 0} (xs : List X) (x y : X) → slice_set (xs ++ x ∷ []) (length xs) y ≡ xs ++ y ∷ []
+set_last [] x y = refl
+set_last {X} (z ∷ xs) x y = ap (λ (l : List X). z ∷ l) (set_last xs x y)
+
+-- the last node, which has no name, is named
+last_named : (ns : List Node) (n : Node) (name : List ℕ) → named_at (ns ++ n ∷ []) (length ns) name ≡ ns ++ record n { name = first_name n.name name } ∷ []
+last_named ns n name =
+    ap (λ (o : Option Node). elim o [ None ↦ ns ++ n ∷ [] | Some x ↦ slice_set (ns ++ n ∷ []) (length ns) (record x { name = first_name x.name name }) ]) (get_last ns n)
+    ∙ set_last ns n (record n { name = first_name n.name name })
+
+-- the composition has one more import
+pub one_more_import : (c : Composition) (name : List ℕ) (k : Meaning) (id : List ℕ) → imports (binding (with_node c (imported name) k) id (next_of c)) ≡ with_named (imports c) name k
+one_more_import c name k id =
+    let n : Node = record { form = imported name; kind = k; name = None; arguments = [] } in
+    ap (filter_map import_of) (last_named c.nodes n id) ∙ filter_map-append import_of c.nodes (record n { name = Some id } ∷ [])
+
+-- ---- the kind of an import
+
+pub promoted_named : (es : List Entry) (k : ItemKind) → Names es k → Names es (promoted k)
+promoted_named es (kinds.Ty (types.Resource id)) h = h
+promoted_named es (kinds.Ty (types.Func id)) h = h
+promoted_named es (kinds.Ty (types.Value v)) h = h
+promoted_named es (kinds.Ty (types.Interface id)) h = h
+promoted_named es (kinds.Ty (types.World id)) h = h
+promoted_named es (kinds.Ty (types.Module id)) h = h
+promoted_named es (kinds.Func id) h = h
+promoted_named es (kinds.Instance id) h = h
+promoted_named es (kinds.Component id) h = h
+promoted_named es (kinds.Module id) h = h
+promoted_named es (kinds.Value v) h = h
+
+-- ---- the statement
+
+module _ (setting : Setting) (rules : Rules) (old mid : Parts) (before : Root) (x : Externs) (s : ImportStatement) (name : List ℕ) (k : ItemKind)
+    (stand : Stand setting old before x) (made : ImportMade setting old mid before s.ty k) (meant : (naming : Naming) → name ≡ name_imported s (means naming mid k)) where
+  goes : (new : Parts) (after : Root) (y : Externs) → ImportsAs rules.named mid new before after x y s name (promoted k) → (naming : Naming)
+      → composed naming new after ≡ binding (with_node (with_resources (composed naming old before) (declared_count mid)) (imported name) (shapes.promoted (means naming mid k))) s.id.string (next_of (composed naming old before))
+  goes new after y i naming =
+      i.adds.is naming
+      ∙ ap (λ (c : Composition). binding (with_node c (imported name) (means naming mid (promoted k))) s.id.string (next_of c)) (composed_kept old mid before naming made.grows stand.agrees)
+      ∙ ap (λ (m : Meaning). binding (with_node (with_resources (composed naming old before) (declared_count mid)) (imported name) m) s.id.string (next_of (composed naming old before))) (sym (promoted_is (entry_means naming mid) k))
+
+  imports_judged : (new : Parts) (after : Root) (y : Externs) → ImportsAs rules.named mid new before after x y s name (promoted k) → (naming : Naming) → Imports (given_in naming setting rules) (composed naming old before) s (composed naming new after)
+  imports_judged new after y i naming = (
+    means naming mid k,
+    declared_count mid,
+    made.is naming rules,
+    subst (λ (l : List ℕ). IsFresh l (imports (composed naming old before))) (meant naming)
+        (sym (ap (λ (c : Composition). look_up name (imports c)) (composed_kept old mid before naming made.grows stand.agrees)) ∙ i.unimported.in_composition naming (numbers_of before.nodes)),
+    ap rules.named (sym (meant naming)) ∙ i.passes,
+    i.unbound,
+    goes new after y i naming
+        ∙ ap (λ (l : List ℕ). binding (with_node (with_resources (composed naming old before) (declared_count mid)) (imported l) (shapes.promoted (means naming mid k))) s.id.string (next_of (composed naming old before))) (meant naming),
+  )
+
+  places_moved : (new : Parts) (after : Root) (y : Externs) → ImportsAs rules.named mid new before after x y s name (promoted k) → (naming : Naming)
+      → places_in after y ≡ places_after (composed naming old before) (places_in before x) (Statement.import_statement s) (composed naming new after)
+  places_moved new after y i naming =
+      let c : Composition = composed naming old before in
+      let d : Composition = composed naming new after in
+      let is = goes new after y i naming in
+      let none : exported_in x ++ [] ≡ exported_in x = simp append-nil in
+      same_places (places_in after y) (places_after c (places_in before x) (Statement.import_statement s) d)
+      (i.adds.bound ∙ ap (λ (l : Named Span). places before ++ l) (sym (one_more_at s.id.span c.declared d.declared s.id.string (next_of c) (ap (λ (e : Composition). e.declared) is))))
+      (i.adds.imported_at ∙ ap (λ (l : Named Span). imported_in x ++ l)
+      (sym (one_more_at (import_span s) (imports c) (imports d) name (shapes.promoted (means naming mid k)) (ap (λ (e : Composition). imports e) is ∙ one_more_import (with_resources c (declared_count mid)) name (shapes.promoted (means naming mid k)) s.id.string))))
+      (i.adds.exported_at ∙ sym none ∙ ap (λ (l : Named Span). exported_in x ++ l) (sym (no_more_at (import_span s) c.exports d.exports (ap (λ (e : Composition). e.exports) is))))
+
+  pub statement_went : (new : Parts) (after : Root) (y : Externs) → ImportsAs rules.named mid new before after x y s name (promoted k) → Went setting rules old new before after x y (Statement.import_statement s)
+  statement_went new after y i = record {
+    stand = record {
+      agrees = i.adds.agrees;
+      placed = placed_imported mid new before after x y s.id name (import_span s) (promoted k) (placed_kept old mid x made.grows stand.placed) i.adds;
+      handed = handed_imported (packages_in setting) mid new new.nodes (with_named mid.imports name (length mid.nodes)) i.adds.same made.handed;
+    };
+    leads = λ naming one. (imports_judged new after y i naming, places_moved new after y i naming);
+  }
+
+  pub name_breaks : (e : Error) → ((naming : Naming) → Under rules.named (λ given. ImportNameBroken given (composed naming mid before) (places_in before x) e s name)) → Breaks setting rules old before x (Statement.import_statement s) e
+  name_breaks e h naming one = inr (
+    means naming mid k,
+    declared_count mid,
+    made.is naming rules,
+    subst (λ (l : List ℕ). ImportNameBroken (given_in naming setting rules) (composed naming old before) (places_in before x) e s l) (meant naming)
+        (subst (λ (c : Composition). ImportNameBroken (given_in naming setting rules) c (places_in before x) e s name) (composed_kept old mid before naming made.grows stand.agrees) (h naming (given_in naming setting rules) refl)),
+  )
+
+pub type_breaks : (setting : Setting) (rules : Rules) (old : Parts) (before : Root) (x : Externs) (s : ImportStatement) (e : Error) → ImportTypeBreaks setting old before s.ty e → Breaks setting rules old before x (Statement.import_statement s) e
+type_breaks setting rules old before x s e h naming one = inl (h naming rules)

@@ -1,0 +1,122 @@
+-- Type statements take one composition to the next.
+use Rattle.std.proofs.Common.{◌≡◌, ◌∙◌, ℕ, zero, suc, List, [], ◌∷◌, ◌++◌, Option, None, inl, inr, refl, sym, ap, subst, append-nil}
+use Rattle.std.specs.Prelude.{filter_map}
+use Rattle.std.specs.List.{cons_option}
+use Rattle.wac_lexer.specs.Span.{Span}
+use Rattle.wac_ast_grammar.specs.Tree.{TypeStatement, Statement}
+use Rattle.wac_graph_types.specs.declared.kind.ItemKind.{ItemKind}
+use Rattle.wac_graph_types.specs.Meaning.{Meaning}
+use Rattle.wac_graph_types.specs.Package.{PackageParts}
+use Rattle.wac_graph_types.specs.Scope.{Named, with_named}
+use Rattle.wac_graph.specs.Graph.{Parts}
+use Rattle.wac_graph.specs.Means.{means, declared_count}
+use Rattle.wac_graph.specs.Origin.{Naming}
+use Rattle.wac_graph.specs.Package.{Key}
+use Rattle.wac_graph.proofs.Lists.{all_implies}
+use Rattle.wac_resolution_errors.specs.Error.{Error}
+use Rattle.wac_resolution_rules.specs.BrokenWorlds.{DefinitionBroken, KindBroken, HasKind}
+use Rattle.wac_resolution_rules.specs.Composition.{Composition, Node, definition, named_at}
+use Rattle.wac_resolution_rules.specs.Given.{Rules}
+use Rattle.wac_resolution_rules.specs.Nodes.{import_of, imports, next_of}
+use Rattle.wac_resolution_rules.specs.Paths as rules
+use Rattle.wac_resolution_rules.specs.Places.{Places, more_at, places_after}
+use Rattle.wac_resolution_rules.specs.Spans.{identifier_of}
+use Rattle.wac_resolution_rules.specs.TypeStatements.{Defines, defining, Declares}
+use Rattle.wac_resolution_rules.proofs.Prefixes.{named_at_suc}
+use Rattle.wac_resolution_nodes.specs.declared.root.Root.{Root}
+use Rattle.wac_resolution_nodes.specs.Root.{composed}
+use Rattle.wac_resolution_paths.specs.declared.setting.Setting.{Setting}
+use Rattle.wac_resolution_paths.specs.Expands.{IsHandedAs, HoldsHanded}
+use Rattle.wac_resolution_paths.specs.Setting.{packages_in, setting_of}
+use Rattle.wac_resolution_externs.specs.declared.externs.Externs.{Externs}
+use Rattle.wac_resolution_externs.specs.Externs.{places_in}
+use Rattle.wac_resolution_externs.specs.Exports.{GrowsExports}
+use Rattle.wac_resolution_bindings.specs.Defined.{IsDefined}
+use Rattle.wac_resolution.specs.Definitions.{DeclaresKind, KindDeclared}
+use Rattle.wac_resolution_bindings.specs.Statements.{Stand, Went, Breaks}
+use Rattle.wac_resolution_bindings.proofs.Standing.{composed_kept}
+
+-- ---- the judgement
+
+declares : (setting : rules.Setting) (old new : Composition) (s : TypeStatement) (m : Meaning) (n : ℕ) → DeclaresKind setting old s m n → Defines old (identifier_of s).string m n new → Declares setting old s new
+declares setting old new (TypeStatement.interface d) m n k h = (k.0, n, k.1, subst (λ (x : Meaning). Defines old d.id.string x n new) k.2 h)
+declares setting old new (TypeStatement.world d) m n k h = (k.0, n, k.1, subst (λ (x : Meaning). Defines old d.id.string x n new) k.2 h)
+declares setting old new (TypeStatement.ty d) m n k h = (m, n, k, h)
+
+has_kind : (setting : rules.Setting) (old : Composition) (s : TypeStatement) (m : Meaning) (n : ℕ) → DeclaresKind setting old s m n → HasKind setting old s
+has_kind setting old (TypeStatement.interface d) m n k = (k.0, n, k.1)
+has_kind setting old (TypeStatement.world d) m n k = (k.0, n, k.1)
+has_kind setting old (TypeStatement.ty d) m n k = (m, n, k)
+
+-- ---- places
+
+more_one : {X : Type 0} (span : Span) (xs : Named X) (name : List ℕ) (x : X) → more_at span xs (with_named xs name x) ≡ (name, span) ∷ []
+more_one span [] name x = refl
+more_one span (y ∷ ys) name x = more_one span ys name x
+
+more_none : {X : Type 0} (span : Span) (xs : Named X) → more_at span xs xs ≡ []
+more_none span [] = refl
+more_none span (y ∷ ys) = more_none span ys
+
+imports_with : (ns : List Node) (n : Node) → import_of n ≡ None → filter_map import_of (ns ++ n ∷ []) ≡ filter_map import_of ns
+imports_with [] n e = ap (λ (o : Option (List ℕ × Meaning)). cons_option o []) e
+imports_with (m ∷ ms) n e = ap (cons_option (import_of m)) (imports_with ms n e)
+
+imports_named : (ns : List Node) (i : ℕ) (name : List ℕ) → filter_map import_of (named_at ns i name) ≡ filter_map import_of ns
+imports_named [] i name = refl
+imports_named (n ∷ ns) zero name = refl
+imports_named (n ∷ ns) (suc i) name = ap (filter_map import_of) (named_at_suc n ns i name) ∙ ap (cons_option (import_of n)) (imports_named ns i name)
+
+-- a definition imports nothing
+imports_defined : (c : Composition) (name : List ℕ) (m : Meaning) (n : ℕ) → imports (defining c name m n) ≡ imports c
+imports_defined c name m n = imports_named (c.nodes ++ record { form = definition; kind = m; name = None; arguments = [] } ∷ []) (next_of c) name ∙ imports_with c.nodes _ refl
+
+same_places : (p q : Places) → p.bound ≡ q.bound → p.imported ≡ q.imported → p.exported ≡ q.exported → p ≡ q
+same_places p q b i e =
+    ap (λ (l : Named Span). record { bound = l; imported = p.imported; exported = p.exported }) b
+    ∙ ap (λ (l : Named Span). record { bound = q.bound; imported = l; exported = p.exported }) i
+    ∙ ap (λ (l : Named Span). record { bound = q.bound; imported = q.imported; exported = l }) e
+
+places_defined : (old new : Composition) (p q : Places) (s : TypeStatement) (m : Meaning) (n : ℕ) → new ≡ defining old (identifier_of s).string m n
+    → q.bound ≡ with_named p.bound (identifier_of s).string (identifier_of s).span → q.imported ≡ p.imported → q.exported ≡ with_named p.exported (identifier_of s).string (identifier_of s).span
+    → q ≡ places_after old p (Statement.type_statement s) new
+places_defined old new p q s m n is bound imported exported =
+    let id = identifier_of s in
+    same_places q (places_after old p (Statement.type_statement s) new)
+    (bound ∙ ap (λ (l : Named Span). p.bound ++ l) (sym (ap (λ (c : Composition). more_at id.span old.declared c.declared) is ∙ more_one id.span old.declared id.string (next_of old))))
+    (imported ∙ sym (append-nil p.imported)
+    ∙ ap (λ (l : Named Span). p.imported ++ l) (sym (ap (λ (c : Composition). more_at id.span (imports old) (imports c)) is ∙ ap (more_at id.span (imports old)) (imports_defined old id.string m n) ∙ more_none id.span (imports old))))
+    (exported ∙ ap (λ (l : Named Span). p.exported ++ l) (sym (ap (λ (c : Composition). more_at id.span old.exports c.exports) is ∙ more_one id.span old.exports id.string (next_of old))))
+
+-- ---- what is kept beside the graph
+
+-- the packages are still held as they were supplied
+handed_exports : (packages : List (Key × PackageParts)) (old new : Parts) → GrowsExports old new → HoldsHanded packages old → HoldsHanded packages new
+handed_exports packages old new g h =
+    let more = record old { nodes = new.nodes; exports = new.exports } in
+    subst (HoldsHanded packages) (sym g.same) (all_implies (IsHandedAs packages old) (IsHandedAs packages more) (λ p held. record { there = held.there; contents = held.contents }) old.packages h)
+
+pub went : (setting : Setting) (old mid new : Parts) (before after : Root) (x y : Externs) (s : TypeStatement) (k : ItemKind) → Stand setting old before x → KindDeclared setting old mid before s k
+    → IsDefined mid new before after x y (identifier_of s) k → (rules : Rules) → Went setting rules old new before after x y (Statement.type_statement s)
+went setting old mid new before after x y s k stand kind h rules = record {
+  stand = record { agrees = h.agrees; placed = h.placed; handed = handed_exports (packages_in setting) mid new h.grows kind.handed };
+  leads = λ naming one.
+      let defines : Defines (composed naming old before) (identifier_of s).string (means naming mid k) (declared_count mid) (composed naming new after) =
+      subst (λ (c : Composition). Defines c (identifier_of s).string (means naming mid k) (declared_count mid) (composed naming new after)) (composed_kept old mid before naming kind.grows stand.agrees) (h.defines naming) in (
+        declares (setting_of naming setting) (composed naming old before) (composed naming new after) s (means naming mid k) (declared_count mid) (kind.is naming) defines,
+        places_defined (composed naming old before) (composed naming new after) (places_in before x) (places_in after y) s (means naming mid k) (declared_count mid) defines.2 h.bound h.imported h.exported,
+      );
+}
+
+-- ---- what is reported
+
+pub kind_breaks : (setting : Setting) (g : Parts) (root : Root) (x : Externs) (s : TypeStatement) (e : Error) → ((naming : Naming) → KindBroken (setting_of naming setting) (composed naming g root) s e)
+    → (rules : Rules) → Breaks setting rules g root x (Statement.type_statement s) e
+kind_breaks setting g root x s e h rules naming one = inl (h naming)
+
+pub definition_breaks : (setting : Setting) (old mid : Parts) (root : Root) (x : Externs) (s : TypeStatement) (k : ItemKind) (e : Error) → Stand setting old root x → KindDeclared setting old mid root s k
+    → ((naming : Naming) → DefinitionBroken (composed naming mid root) (places_in root x) (identifier_of s) e) → (rules : Rules) → Breaks setting rules old root x (Statement.type_statement s) e
+definition_breaks setting old mid root x s k e stand kind h rules naming one = inr (
+  has_kind (setting_of naming setting) (composed naming old root) s (means naming mid k) (declared_count mid) (kind.is naming),
+  subst (λ (c : Composition). DefinitionBroken c (places_in root x) (identifier_of s) e) (composed_kept old mid root naming kind.grows stand.agrees) (h naming),
+)

@@ -1,0 +1,42 @@
+use Rattle.std.proofs.Common.{subst}
+use Rattle.std.proofs.lemmas.Result.{err_from_is_err_and}
+use Rattle.wac_ast_grammar.specs.Tree.{Ident}
+use Rattle.wac_ast.specs.Statements.{type_statement_of}
+use Rattle.wac_graph.specs.Origin.{Naming}
+use Rattle.wac_resolution_errors.specs.Told.{told}
+use Rattle.wac_resolution_rules.specs.BrokenWorlds.{DefinitionBroken}
+use Rattle.wac_resolution_nodes.specs.Root.{composed}
+use Rattle.wac_resolution_externs.specs.Externs.{places_in}
+use Rattle.wac_resolution_bindings.specs.Defined.{IsDefined}
+use Rattle.wac_resolution_errors.proofs.Reports.{reports}
+use Rattle.wac_resolution_bindings.proofs.Standing.{agrees_kept, placed_kept}
+use Rattle.wac_resolution.proofs.Leading.{went, kind_breaks, definition_breaks}
+use Rattle.wac_resolution.proofs.definitions.type_statement.Goals as goal
+
+pub returns-in_err-kind-clause-err : goal.returns-in_err-kind-clause-err
+returns-in_err-kind-clause-err c =
+    let p = err_from_is_err_and c.from_residual.result c.from_residual.ensures.1 in
+    rw (p.1, p.2) (reports c.in_err-kind.ensures.err (kind_breaks c.args.setting.now c.args.state.now.graph c.args.root.now c.args.externs.now (type_statement_of c.args.statement.now) (told c.in_err-kind.field-0.0)))
+
+pub define-requires-clause-agrees : goal.define-requires-clause-agrees
+define-requires-clause-agrees c = agrees_kept c.args.state.now.graph c.declared_kind.new.state.graph c.args.root.now c.in_ok-kind.ensures.ok.grows c.requires.agrees
+
+pub define-requires-clause-placed : goal.define-requires-clause-placed
+define-requires-clause-placed c = placed_kept c.args.state.now.graph c.declared_kind.new.state.graph c.args.externs.now c.in_ok-kind.ensures.ok.grows c.requires.placed
+
+pub define-requires-clause-kind : goal.define-requires-clause-kind
+define-requires-clause-kind c = c.in_ok-kind.ensures.ok.named
+
+pub returns-in_err-define-clause-err : goal.returns-in_err-define-clause-err
+returns-in_err-define-clause-err c =
+    let p = err_from_is_err_and c.from_residual-in_err-define.result c.from_residual-in_err-define.ensures.1 in
+    rw (p.1, p.2)
+    (reports c.in_err-define.ensures.err
+    (λ err. definition_breaks c.args.setting.now c.args.state.now.graph c.declared_kind.new.state.graph c.args.root.now c.args.externs.now (type_statement_of c.args.statement.now) c.in_ok-kind.kind (told c.in_err-define.field-0.0) c.requires c.in_ok-kind.ensures.ok
+    (subst (λ (x : Ident). (naming : Naming) → DefinitionBroken (composed naming c.declared_kind.new.state.graph c.args.root.now) (places_in c.args.root.now c.args.externs.now) x (told c.in_err-define.field-0.0)) c.identifier.ensures err)))
+
+pub returns-clause-ok : goal.returns-clause-ok
+returns-clause-ok c =
+    went c.args.setting.now c.args.state.now.graph c.declared_kind.new.state.graph c.define.new.state.graph c.args.root.now c.define.new.root c.args.externs.now c.define.new.externs (type_statement_of c.args.statement.now) c.in_ok-kind.kind
+    c.requires c.in_ok-kind.ensures.ok
+    (subst (λ (x : Ident). IsDefined c.declared_kind.new.state.graph c.define.new.state.graph c.args.root.now c.define.new.root c.args.externs.now c.define.new.externs x c.in_ok-kind.kind) c.identifier.ensures c.in_ok-define.ensures.ok)

@@ -1,0 +1,44 @@
+//! What imports import.
+ghost use Rattle.std.specs.Prelude.{IfOk, IfErr};
+ghost use Rattle.wac_ast_worlds.specs.Worlds.{import_type_of};
+ghost use Rattle.wac_resolution_errors.specs.Error.{Reports};
+ghost use Rattle.wac_resolution_errors.specs.Told.{told};
+ghost use Rattle.wac_resolution_nodes.specs.Root.{Agrees};
+ghost use Rattle.wac_resolution_paths.specs.Expands.{HoldsHanded};
+ghost use Rattle.wac_resolution_paths.specs.Setting.{packages_in};
+ghost use Rattle.wac_resolution.specs.ImportTypes.{ImportMade, ImportTypeBreaks};
+
+use wac_ast_worlds::ImportType;
+use wac_graph::ItemKind;
+use wac_resolution_errors::Error;
+use wac_resolution_nodes::Root;
+use wac_resolution_paths::{Setting, path};
+use wac_resolution_state::{State, kind_of};
+use wac_resolution_worlds::{interface, new_func};
+
+/// The kind that the type of an import means, before it is promoted.
+pub(crate) fn import_kind(
+    state: &mut State,
+    setting: &Setting<'_>,
+    root: &Root<'_>,
+    ty: &ImportType<'_>,
+) -> Result<ItemKind, Error>
+    requires agrees { Agrees state.old.graph root.now }
+    requires handed { HoldsHanded (packages_in setting.now) state.old.graph }
+    ensures ok { IfOk result (λ k. ImportMade setting.now state.old.graph state.new.graph root.now (import_type_of ty.now) k) }
+    ensures err { IfErr result (λ e. Reports (told e) (ImportTypeBreaks setting.now state.old.graph root.now (import_type_of ty.now) (told e))) }
+{
+    match ty {
+        ImportType::Package(from) => Ok(path(state, setting, &root.kinds, from)?),
+        ImportType::Func(func) => Ok(ItemKind::Func(new_func(state, &root.kinds, func)?)),
+        ImportType::Interface(inline) => Ok(ItemKind::Instance(interface(
+            state,
+            setting,
+            &root.kinds,
+            None,
+            None,
+            &inline.items,
+        )?)),
+        ImportType::Ident(id) => Ok(kind_of(state.alloc, &root.kinds, id)?),
+    }
+}

@@ -1,0 +1,63 @@
+//! Statements, in order.
+ghost use Rattle.std.specs.Prelude.{OnOk, IfErr, map};
+ghost use Rattle.wac_ast.specs.Statements.{statement_of};
+ghost use Rattle.wac_resolution_errors.specs.Error.{Reports};
+ghost use Rattle.wac_resolution_errors.specs.Told.{told};
+ghost use Rattle.wac_resolution_rules.specs.Given.{rules_by};
+ghost use Rattle.wac_resolution_bindings.specs.Statements.{Stand, Went, Breaks};
+ghost use Rattle.wac_resolution.specs.Sequences.{AllWent, OneBreaks};
+
+use crate::definitions::type_statement;
+use crate::imports::import_statement;
+use wac_ast::Statement;
+use wac_graph::Rules;
+use wac_resolution_bindings::{export_statement, let_statement};
+use wac_resolution_errors::Error;
+use wac_resolution_externs::Externs;
+use wac_resolution_nodes::Root;
+use wac_resolution_paths::Setting;
+use wac_resolution_state::State;
+
+/// Executes a statement.
+fn statement<'a, R: Rules>(
+    state: &mut State,
+    setting: &Setting<'_>,
+    rules: &R,
+    root: &mut Root<'a>,
+    externs: &mut Externs,
+    statement: &Statement<'a>,
+) -> Result<(), Error>
+    requires { Stand setting.now state.old.graph root.old externs.old }
+    ensures ok { OnOk result (Went setting.now (rules_by (R.passes rules.now) (R.named rules.now)) state.old.graph state.new.graph root.old root.new externs.old externs.new (statement_of statement.now)) }
+    ensures err { IfErr result (λ e. Reports (told e) (Breaks setting.now (rules_by (R.passes rules.now) (R.named rules.now)) state.old.graph root.old externs.old (statement_of statement.now) (told e))) }
+{
+    match statement {
+        Statement::Import(import) => {
+            import_statement(state, setting, rules, root, externs, import)
+        }
+        Statement::Ty(declaration) => type_statement(state, setting, root, externs, declaration),
+        Statement::Let(binding) => let_statement(state, setting, rules, root, binding),
+        Statement::Export(export) => {
+            export_statement(state, setting, rules, root, externs, export)
+        }
+    }
+}
+
+/// Executes statements in order, up to the first that breaks a rule.
+pub(crate) fn compose<'a, R: Rules>(
+    state: &mut State,
+    setting: &Setting<'_>,
+    rules: &R,
+    root: &mut Root<'a>,
+    externs: &mut Externs,
+    statements: &[Statement<'a>],
+) -> Result<(), Error>
+    requires { Stand setting.now state.old.graph root.old externs.old }
+    ensures ok { OnOk result (AllWent setting.now (rules_by (R.passes rules.now) (R.named rules.now)) state.old.graph state.new.graph root.old root.new externs.old externs.new (map statement_of statements.now)) }
+    ensures err { IfErr result (λ e. Reports (told e) (OneBreaks setting.now (rules_by (R.passes rules.now) (R.named rules.now)) state.old.graph root.old externs.old (map statement_of statements.now) (told e))) }
+{
+    for next in statements {
+        statement(state, setting, rules, root, externs, next)?;
+    }
+    Ok(())
+}

@@ -1,3 +1,0 @@
-pub mod Interfaces
-pub mod Uses
-pub mod Statements

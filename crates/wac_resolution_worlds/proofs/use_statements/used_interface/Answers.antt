@@ -1,0 +1,36 @@
+use Rattle.std.proofs.Common.{ℕ, List, inl, inr, subst}
+use Rattle.std.proofs.lemmas.Result.{err_from_is_err_and}
+use Rattle.wac_graph_types.specs.declared.kind.ItemKind.{ItemKind}
+use Rattle.wac_ast_uses.specs.Uses.{use_path_of}
+use Rattle.wac_graph.specs.Means.{means}
+use Rattle.wac_lexer.specs.Span.{Span}
+use Rattle.wac_resolution_errors.specs.Told.{told}
+use Rattle.wac_resolution_rules.specs.BrokenBodies.{IsNoInterface}
+use Rattle.wac_resolution_rules.specs.Paths.{UseNames}
+use Rattle.wac_resolution_rules.specs.Spans.{use_path_name}
+use Rattle.wac_resolution_state.specs.Bindings.{values_of}
+use Rattle.wac_resolution_state.specs.Named.{scope_of}
+use Rattle.wac_resolution_paths.specs.Expands.{Found}
+use Rattle.wac_resolution_paths.specs.Setting.{packages_in, setting_of}
+use Rattle.wac_resolution_errors.proofs.Reports.{reports}
+use Rattle.wac_resolution_worlds.proofs.use_statements.used_interface.Goals as goal
+
+pub returns-in_err-kind-clause-err : goal.returns-in_err-kind-clause-err
+returns-in_err-kind-clause-err c =
+    let p = err_from_is_err_and c.from_residual.result c.from_residual.ensures.1 in
+    rw (p.1, p.2) (reports c.in_err-kind.ensures.err (λ err naming. inl (err naming)))
+
+pub returns-in_err-interface-clause-err : goal.returns-in_err-interface-clause-err
+returns-in_err-interface-clause-err c =
+    let p = err_from_is_err_and c.from_residual-in_err-interface.result c.from_residual-in_err-interface.ensures.1 in
+    rw (p.1, p.2) (reports c.in_err-interface.ensures.err (λ err naming. inr (
+      means naming c.use_path.new.state.graph c.in_ok-kind.kind,
+      c.in_ok-kind.ensures.ok.is naming,
+      subst (λ (at : Span). IsNoInterface (means naming c.use_path.new.state.graph c.in_ok-kind.kind) (use_path_name (use_path_of c.args.path.now)) at (told c.in_err-interface.field-0.0)) c.path_span.ensures
+          (subst (λ (name : List ℕ). IsNoInterface (means naming c.use_path.new.state.graph c.in_ok-kind.kind) name c.path_span.result (told c.in_err-interface.field-0.0)) c.path_name-name.ensures (err naming c.use_path.new.state.graph)),
+    )))
+
+pub returns-clause-ok : goal.returns-clause-ok
+returns-clause-ok c =
+    subst (λ (k : ItemKind). Found (packages_in c.args.setting.now) c.args.state.now.graph c.use_path.new.state.graph (λ naming m. UseNames (setting_of naming c.args.setting.now) (scope_of naming c.args.state.now.graph (values_of c.args.root.now)) (use_path_of c.args.path.now) m) k)
+    c.in_ok-interface.ensures.ok c.in_ok-kind.ensures.ok

@@ -1,0 +1,63 @@
+//! The types of an interface that is named.
+ghost use Rattle.std.specs.Prelude.{IfOk, IfErr, OnOk};
+ghost use Rattle.wac_graph_types.specs.Table.{ItemsNamed};
+ghost use Rattle.wac_ast_uses.specs.Uses.{use_of, use_path_of};
+ghost use Rattle.wac_graph.specs.Origin.{Naming};
+ghost use Rattle.wac_resolution_errors.specs.Error.{Reports};
+ghost use Rattle.wac_resolution_errors.specs.Told.{told};
+ghost use Rattle.wac_resolution_rules.specs.BrokenBodies.{UseBroken};
+ghost use Rattle.wac_resolution_state.specs.Bindings.{values_of};
+ghost use Rattle.wac_resolution_state.specs.Named.{scope_of};
+ghost use Rattle.wac_resolution_paths.specs.Expands.{HoldsHanded};
+ghost use Rattle.wac_resolution_paths.specs.Setting.{packages_in, setting_of};
+ghost use Rattle.wac_resolution_bodies.specs.Lists.{lists_of};
+ghost use Rattle.wac_resolution_bodies.specs.Bodies.{body_of, IsBody};
+ghost use Rattle.wac_resolution_worlds.specs.UseStatements.{IsInterface, IsNoneNamed, StatementGoes};
+
+use crate::used_interface::{interface_of, path_name, path_span};
+use crate::used_items::use_items;
+use wac_ast_uses::{Use, UsePath};
+use wac_graph::{ExternKind, InterfaceId, ItemKind};
+use wac_resolution_bodies::Body;
+use wac_resolution_errors::Error;
+use wac_resolution_paths::{Setting, use_path};
+use wac_resolution_state::{Names, State};
+
+/// The interface that a path or an identifier names.
+fn used_interface(
+    state: &mut State,
+    setting: &Setting<'_>,
+    root: &Names<'_, ItemKind>,
+    path: &UsePath<'_>,
+) -> Result<InterfaceId, Error>
+    requires root { ItemsNamed state.old.graph.types (values_of root.now) }
+    requires handed { HoldsHanded (packages_in setting.now) state.old.graph }
+    ensures ok { IfOk result (λ i. IsInterface setting.now state.old.graph state.new.graph (values_of root.now) (use_path_of path.now) i) }
+    ensures err { IfErr result (λ e. Reports (told e) ((naming : Naming) → IsNoneNamed (setting_of naming setting.now) (scope_of naming state.old.graph (values_of root.now)) (use_path_of path.now) (told e))) }
+{
+    let kind = use_path(state, setting, root, path)?;
+    let name = path_name(path);
+    let interface = interface_of(state.alloc, kind, name, path_span(path))?;
+    Ok(interface)
+}
+
+/// Takes the used types from an interface.
+pub(crate) fn use_statement<'a>(
+    state: &mut State,
+    setting: &Setting<'_>,
+    root: &Names<'_, ItemKind>,
+    body: &mut Body<'a>,
+    side: ExternKind,
+    statement: &Use<'a>,
+) -> Result<(), Error>
+    requires body { IsBody state.old.graph.types side (lists_of body.old) }
+    requires root { ItemsNamed state.old.graph.types (values_of root.now) }
+    requires handed { HoldsHanded (packages_in setting.now) state.old.graph }
+    ensures ok { OnOk result (StatementGoes setting.now side state.old.graph state.new.graph (values_of root.now) (lists_of body.old) (lists_of body.new) (use_of statement.now)) }
+    ensures err { IfErr result (λ e. Reports (told e) ((naming : Naming) → UseBroken (setting_of naming setting.now) (scope_of naming state.old.graph (values_of root.now)) side (body_of naming state.old.graph body.old) (use_of statement.now) (told e))) }
+{
+    let interface = used_interface(state, setting, root, &statement.path)?;
+    let path = path_name(&statement.path);
+    use_items(state, body, side, interface, path, &statement.items)?;
+    Ok(())
+}

@@ -1,0 +1,125 @@
+//! A used type, by its parts.
+ghost use Rattle.std.specs.Prelude.{◌≡◌, ◌⊎◌, IfOk, IfErr, OnOk, option_map, string_bytes};
+ghost use Rattle.wac_graph_types.specs.declared.kind.ItemKind.TheVariants as kinds;
+ghost use Rattle.wac_graph_types.specs.Scope.{IsFresh};
+ghost use Rattle.wac_graph_types.specs.Table.{Names as NamesEntry};
+ghost use Rattle.wac_ast_base.specs.Names.{ident_of};
+ghost use Rattle.wac_ast_uses.specs.Uses.{use_item_of};
+ghost use Rattle.wac_graph.specs.Graph.{Parts};
+ghost use Rattle.wac_graph.specs.Means.{means};
+ghost use Rattle.wac_graph.specs.Origin.{Naming};
+ghost use Rattle.wac_resolution_errors.specs.Error.{Reports};
+ghost use Rattle.wac_resolution_errors.specs.Told.{told};
+ghost use Rattle.wac_resolution_rules.specs.Bodies.{used_as as used_by, renamed_from};
+ghost use Rattle.wac_resolution_rules.specs.BrokenBodies.{help_of_use as help_for, IsNoTypeThere, IsNoUsableType, IsUseConflict};
+ghost use Rattle.wac_resolution_bodies.specs.Lists.{lists_of, kinds_of};
+ghost use Rattle.wac_resolution_bodies.specs.Bodies.{body_of};
+ghost use Rattle.wac_resolution_worlds.specs.Used.{IsThere, IsUsed};
+
+use std::alloc::{AllocError, Global};
+use wac_ast_base::Ident;
+use wac_ast_uses::UseItem;
+use wac_graph::{ExternKind, InterfaceId, ItemKind, Type};
+use wac_resolution_bodies::Body;
+use wac_resolution_errors::Error;
+use wac_resolution_state::State;
+
+/// The identifier that a used type has here.
+pub(crate) fn used_as<'x, 'a>(item: &'x UseItem<'a>) -> &'x Ident<'a>
+    ensures { ident_of result.now ≡ used_by (use_item_of item.now) }
+{
+    match &item.as_id {
+        Some(id) => id,
+        None => &item.id,
+    }
+}
+
+/// The name of a used type in its interface, where it is another one.
+pub(crate) fn renamed(alloc: Global, item: &UseItem<'_>) -> Result<Option<String>, AllocError>
+    ensures { IfOk result (λ n. option_map string_bytes n ≡ renamed_from (use_item_of item.now)) }
+{
+    match &item.as_id {
+        Some(_) => Ok(Some(String::from_str(alloc, item.id.string)?)),
+        None => Ok(None),
+    }
+}
+
+/// What can be done where the name is taken.
+fn help_of_use(item: &UseItem<'_>) -> Option<&'static str>
+    ensures { option_map (λ t. t.now) result ≡ help_for (use_item_of item.now).as_id }
+{
+    match &item.as_id {
+        Some(_) => None,
+        None => Some("consider using an `as` clause to use a different name"),
+    }
+}
+
+/// What an interface exports under the name of a used type.
+fn exported(
+    state: &State,
+    interface: InterfaceId,
+    path: &str,
+    item: &UseItem<'_>,
+) -> Result<ItemKind, Error>
+    requires { NamesEntry state.now.graph.types (kinds.Instance interface) }
+    ensures ok { IfOk result (λ k. IsThere state.now.graph interface (use_item_of item.now) k) }
+    ensures err { IfErr result (λ e. Reports (told e) ((naming : Naming) → IsNoTypeThere (means naming state.now.graph (kinds.Instance interface)) path.now (use_item_of item.now) (told e))) }
+{
+    match state
+        .graph
+        .export(ItemKind::Instance(interface), item.id.string)
+    {
+        Some(kind) => Ok(kind),
+        None => Err(Error::UndefinedInterfaceType {
+            name: String::from_str(state.alloc, item.id.string)?,
+            interface_name: String::from_str(state.alloc, path)?,
+            span: item.id.span,
+        }),
+    }
+}
+
+/// The resource or type of values that an interface exports under the name of a used type.
+#[tactic(auto, using(crate::proofs::UsedItems::kinds_used))]
+pub(crate) fn used_kind(
+    state: &State,
+    interface: InterfaceId,
+    path: &str,
+    item: &UseItem<'_>,
+) -> Result<ItemKind, Error>
+    requires { NamesEntry state.now.graph.types (kinds.Instance interface) }
+    ensures ok { IfOk result (λ k. IsUsed state.now.graph interface (use_item_of item.now) k) }
+    ensures err { IfErr result (λ e. Reports (told e) ((naming : Naming) → IsNoTypeThere (means naming state.now.graph (kinds.Instance interface)) path.now (use_item_of item.now) (told e) ⊎ IsNoUsableType (means naming state.now.graph (kinds.Instance interface)) path.now (use_item_of item.now) (told e))) }
+{
+    match exported(state, interface, path, item)? {
+        ItemKind::Ty(Type::Resource(resource)) => Ok(ItemKind::Ty(Type::Resource(resource))),
+        ItemKind::Ty(Type::Value(value)) => Ok(ItemKind::Ty(Type::Value(value))),
+        other => Err(Error::NotInterfaceValueType {
+            name: String::from_str(state.alloc, item.id.string)?,
+            kind: other.desc(),
+            interface_name: String::from_str(state.alloc, path)?,
+            span: item.id.span,
+        }),
+    }
+}
+
+/// Rejects a used type whose name here is imported, or exported, already.
+pub(crate) fn check_use(
+    alloc: Global,
+    body: &Body<'_>,
+    side: ExternKind,
+    item: &UseItem<'_>,
+) -> Result<(), Error>
+    ensures ok { OnOk result (IsFresh (used_by (use_item_of item.now)).string (kinds_of side (lists_of body.now))) }
+    ensures err { IfErr result (λ e. Reports (told e) ((naming : Naming) (g : Parts) → IsUseConflict side (body_of naming g body.now) (use_item_of item.now) (told e))) }
+{
+    let id = used_as(item);
+    match body.find(side, id.string) {
+        Some(_) => Err(Error::UseConflict {
+            kind: side,
+            name: String::from_str(alloc, id.string)?,
+            span: id.span,
+            help: help_of_use(item),
+        }),
+        None => Ok(()),
+    }
+}
