@@ -3,17 +3,13 @@
 //! [`show_package`] is `wacx package`, and [`check_target`] is `wacx targets`. `docs/COMPONENTS.md` says what they do.
 #![tactic(auto)]
 
-mod codes;
 mod errors;
 mod forms;
-mod reading;
 mod showing;
 mod targets;
 mod worlds;
 
-pub use errors::{conversion_diagnostic, decode_diagnostic};
 pub use forms::{PackageForm, TargetOptions};
-pub use reading::{Converted, component_package};
 pub use showing::show_package;
 pub use targets::check_target;
 pub use wac_components_words::is_key as is_package_key;

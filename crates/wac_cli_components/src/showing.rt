@@ -1,12 +1,12 @@
 // `wacx package`.
 ghost use Rattle.std.specs.Prelude.{◌≡◌};
 
-use crate::errors::{decode_diagnostic, documents_diagnostic, json_diagnostic, warning};
+use crate::errors::{documents_diagnostic, json_diagnostic, warning};
 use crate::forms::PackageForm;
-use crate::reading::STEPS;
 use std::alloc::{AllocError, Global};
 use std::io::Write;
 use wac_cli_console::{Action, Console, Outcome, Report, Status};
+use wac_component_reading::{STEPS, decode_diagnostic};
 use wac_components::{Decoded, Limits, decode};
 use wac_components_documents::{Documents, documents_of};
 use wac_components_json::to_json;

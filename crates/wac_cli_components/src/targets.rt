@@ -2,11 +2,11 @@
 ghost use Rattle.std.specs.Prelude.{◌≡◌};
 
 use crate::forms::TargetOptions;
-use crate::reading::{Converted, component_package};
 use crate::worlds::{Wanted, wanted_world};
 use std::alloc::{AllocError, Global};
 use std::io::Write;
 use wac_cli_console::{Action, Console, Outcome, Report, Status};
+use wac_component_reading::{Converted, component_package};
 use wac_diagnostics::Diagnostic;
 use wac_files::FileSystem;
 use wac_graph_types::Package;

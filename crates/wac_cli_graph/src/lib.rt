@@ -2,8 +2,7 @@
 //! package, as lines, as JSON or for Graphviz.
 #![tactic(auto)]
 
-mod forms;
 mod showing;
 
-pub use forms::{Form, drawn};
 pub use showing::show_graph;
+pub use wac_graph_outputs::Form;

@@ -1,5 +1,4 @@
 // `wacx graph` without packages.
-use crate::forms::{Form, drawn};
 use indexmap::IndexMap;
 use std::alloc::{AllocError, Global};
 use std::io::Write;
@@ -11,6 +10,7 @@ use wac_composition::{flat_text, graph_with};
 use wac_diagnostics::Diagnostic;
 use wac_error_diagnostics::{Reading, parse_diagnostic, resolution_diagnostic};
 use wac_files::FileSystem;
+use wac_graph_outputs::{Form, drawn};
 use wac_printer::Page;
 
 /// What is shown of a text: its graph, or what is wrong first.

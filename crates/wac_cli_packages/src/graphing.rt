@@ -8,9 +8,9 @@ use crate::verdicts::first_error_of;
 use std::alloc::{AllocError, Global};
 use std::io::Write;
 use wac_cli_console::{Action, Console, Outcome, Status};
-use wac_cli_graph::Form;
 use wac_files::{FileError, FileSystem};
 use wac_graph::CompositionGraph;
+use wac_graph_outputs::Form;
 use wac_package_errors::Composed;
 
 /// Writes the graph of the file at a path, which is resolved with the packages that other files declare; or reports its

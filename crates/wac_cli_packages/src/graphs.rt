@@ -3,11 +3,10 @@ use indexmap::IndexMap;
 use std::alloc::{AllocError, Global};
 use wac_ast::Document;
 use wac_ast::internals::Statements;
-use wac_cli_graph::{Form, drawn};
 use wac_composition_warnings::warnings;
 use wac_diagnostics::Diagnostic;
 use wac_graph::CompositionGraph;
-use wac_graph_outputs::bound_places;
+use wac_graph_outputs::{Form, bound_places, drawn};
 use wac_lexer::SourceSpan;
 use wac_printer::Page;
 

@@ -19,3 +19,4 @@ pub use checking::check_with_packages;
 pub use graphing::show_graph_with_packages;
 pub use listing::list_packages;
 pub use options::Given;
+pub use wac_graph_outputs::Form;

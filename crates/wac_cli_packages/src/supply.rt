@@ -210,7 +210,8 @@ impl Supply {
         components: Components,
     ) -> Result<(), AllocError> {
         let mut supplied = Supplied {
-            declared: &mut self.declared,
+            packages: &mut self.declared.packages,
+            files: &mut self.declared.texts,
             names: &mut self.sources.names,
             may_agree: given.may_agree,
         };

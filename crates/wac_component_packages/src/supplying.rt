@@ -2,21 +2,23 @@
 use crate::keys::package_key;
 use crate::reading::{Component, Components};
 use crate::root::with_root;
+use indexmap::IndexMap;
 use std::alloc::{AllocError, Global};
 use std::io::Write;
-use wac_cli_components::conversion_diagnostic;
 use wac_cli_console::{Console, Outcome, Report};
+use wac_component_reading::conversion_diagnostic;
 use wac_components_package::ConversionError;
-use wac_declared_packages::Declared;
 use wac_diagnostics::Diagnostic;
 use wac_graph::{Package, PackageError, PackageKey};
 use wac_package_comparison::difference;
 
-/// The packages that documents declare, with the names of the documents in the order of their texts. Behind them are the
-/// files of the components that are added.
+/// The packages that are supplied: those that documents declare, and behind them those of components that are added.
 #[derive(Drop)]
 pub struct Supplied<'s> {
-    pub declared: &'s mut Declared,
+    pub packages: &'s mut IndexMap<PackageKey, Package>,
+    /// The number of the file of a package, also of one whose document has an error.
+    pub files: &'s mut IndexMap<PackageKey, usize>,
+    /// The names of the files, first of the documents.
     pub names: &'s mut Vec<String>,
     /// Whether a package may be declared and decoded, if the two agree.
     pub may_agree: bool,
@@ -76,7 +78,7 @@ impl Supplied<'_> {
         texts: usize,
     ) -> Result<Option<Diagnostic>, AllocError> {
         let key = package_key(alloc, component.key.as_str())?;
-        let Some(number) = self.declared.texts.get(&key) else {
+        let Some(number) = self.files.get(&key) else {
             return Ok(None);
         };
         let name = match self.names.get(*number) {
@@ -98,7 +100,7 @@ impl Supplied<'_> {
         key: &PackageKey,
         name: &str,
     ) -> Result<Option<Diagnostic>, AllocError> {
-        let Some(declared) = self.declared.packages.get(key) else {
+        let Some(declared) = self.packages.get(key) else {
             return Ok(None);
         };
         let place = match difference(alloc, &component.package, declared) {
@@ -122,13 +124,13 @@ impl Supplied<'_> {
     ) -> Result<(), AllocError> {
         let number = self.names.len();
         let listed = package_key(alloc, key.as_str())?;
-        if self.declared.texts.contains_key(&listed) {
+        if self.files.contains_key(&listed) {
             return Ok(());
         }
-        self.declared.texts.insert(listed, number)?;
+        self.files.insert(listed, number)?;
         self.names.push(path)?;
         let key = package_key(alloc, key.as_str())?;
-        self.declared.packages.insert(key, package)?;
+        self.packages.insert(key, package)?;
         Ok(())
     }
 }

@@ -9,6 +9,7 @@
 #![tactic(auto)]
 
 mod drawing;
+mod forms;
 mod lines;
 mod objects;
 mod open;
@@ -17,6 +18,7 @@ mod places;
 mod rows;
 
 pub use drawing::dot;
+pub use forms::{Form, drawn};
 pub use lines::text;
 pub use objects::json;
 pub use open::{OpenImport, open_imports};

@@ -1,8 +1,7 @@
 // Runs of the commands over files in memory.
 use std::alloc::{AllocError, Global};
 use wac_cli_console::{Console, Report};
-use wac_cli_graph::Form;
-use wac_cli_packages::{Given, check_with_packages, list_packages, show_graph_with_packages};
+use wac_cli_packages::{Form, Given, check_with_packages, list_packages, show_graph_with_packages};
 use wac_files::MemoryFiles;
 
 /// A command.

@@ -166,7 +166,8 @@ fn supplied(alloc: Global, row: &Row) -> Result<(usize, usize, Vec<u8>), AllocEr
         let given: (&[&str], &[(&str, &str)]) = (&[row.paths], keyed.as_slice());
         let read = read_components(alloc, &mut files, &mut console, Report::Human, given)?;
         let mut known = Supplied {
-            declared: &mut declared,
+            packages: &mut declared.packages,
+            files: &mut declared.texts,
             names: &mut names,
             may_agree: row.may_agree,
         };

@@ -166,7 +166,12 @@ fn misuse(task: &Task<'_>) -> Option<&'static str> {
         Some("--world is used with --packages alone")
     } else if !task.has_packages() && task.may_agree {
         Some("--agree is used with --packages alone")
-    } else if !task.components.as_slice().iter().all(|(key, _)| is_package_key(key)) {
+    } else if !task
+        .components
+        .as_slice()
+        .iter()
+        .all(|(key, _)| is_package_key(key))
+    {
         Some(NO_COMPONENT)
     } else if !is_input && task.input_name.is_some() {
         Some("--stdin-filepath is used with the path `-` alone")

@@ -1,4 +1,4 @@
-// Reading components.
+// Reading components as packages.
 use crate::errors::{conversion_diagnostic, decode_diagnostic};
 use std::alloc::{AllocError, Global};
 use wac_components::{Decoded, Limits, decode};
@@ -8,7 +8,7 @@ use wac_graph_types::{Package, PackageError};
 use wac_package_comparison::with_defined_world;
 
 /// How many steps it may take to write or to convert what is decoded.
-pub(crate) const STEPS: u64 = 10_000_000;
+pub const STEPS: u64 = 10_000_000;
 
 /// The package of bytes, or what is wrong with them.
 #[derive(Drop)]

@@ -1,8 +1,12 @@
 // The forms in which a graph is shown.
+use crate::drawing::dot;
+use crate::lines::text;
+use crate::objects::json;
+use crate::picture::Picture;
+use crate::places::bound_places;
 use std::alloc::{AllocError, Global};
 use wac_ast::internals::Statements;
 use wac_graph::CompositionGraph;
-use wac_graph_outputs::{Picture, bound_places, dot, json, text};
 
 /// The form in which a graph is shown.
 #[derive(Clone, Copy, Debug, PartialEq, Eq)]
