@@ -1,0 +1,15 @@
+//! Part of `wac_calls`: what a call does with bytes alone. It tests how deep brackets are nested, reads a text and the
+//! frames of a buffer, and puts what fits into the room that its caller brings.
+#![tactic(auto)]
+
+mod feed;
+mod frames;
+mod nesting;
+mod packages;
+mod room;
+
+pub use feed::Text;
+pub use frames::{FrameError, HEAD, frames_of};
+pub use nesting::first_deeper;
+pub use packages::{PackagesError, package_texts, place_of_text};
+pub use room::put;
