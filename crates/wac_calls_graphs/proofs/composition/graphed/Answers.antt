@@ -1,0 +1,5 @@
+use Rattle.std.proofs.Common.{inr}
+use Rattle.wac_calls_graphs.proofs.composition.graphed.Goals as goal
+
+pub returns-in-Ok : goal.returns-in-Ok
+returns-in-Ok c = inr ((c.in-Ok.texts.items, c.in-Ok.ensures), c.graphed_with.ensures)
