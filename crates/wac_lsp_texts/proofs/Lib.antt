@@ -1,0 +1,2 @@
+pub mod Clamping
+pub mod Following
