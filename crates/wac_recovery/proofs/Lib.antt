@@ -1,0 +1,4 @@
+pub mod Faulting
+pub mod Rejecting
+pub mod Rounds
+pub mod Stepping
