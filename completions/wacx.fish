@@ -1,7 +1,7 @@
 # Completions of wacx, made by completions/generate from the help of the program.
 complete -c wacx -f
 complete -c wacx -n __fish_use_subcommand -a fmt -d 'Writes files in the one layout, with every comment in its place'
-complete -c wacx -n __fish_use_subcommand -a check -d 'Reports the first error of each file'
+complete -c wacx -n __fish_use_subcommand -a check -d 'Reports the errors of each file'
 complete -c wacx -n __fish_use_subcommand -a graph -d 'Shows the graph of a file'
 complete -c wacx -n __fish_use_subcommand -a help -d 'Print this message or the help of the given subcommand(s)'
 complete -c wacx -n '__fish_use_subcommand' -s h -l help -d 'Print help'
