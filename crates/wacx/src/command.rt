@@ -242,7 +242,7 @@ fn fmt_definition<'a>(alloc: Global, values: &'a Values<'a>) -> Result<Command<'
 
 fn check_definition<'a>(alloc: Global, values: &'a Values<'a>) -> Result<Command<'a>, AllocError> {
     let command = Command::new(alloc, "check")
-        .about("Reports the first error of each file")
+        .about("Reports the errors of each file")
         .after_help(
             "Files are parsed, and resolved where they mention no foreign package.\n\
             Status: 0 all is well, 1 a file has an error, 2 wrong use, 3 a file could not be read,\n\
