@@ -9,6 +9,11 @@ use wac_comments::Indent;
 /// The version of the program.
 const VERSION: &str = "0.11.0";
 
+/// The version of the program.
+pub(crate) fn version() -> &'static str {
+    VERSION
+}
+
 /// The values that options take. They live as long as the words, since a command has one lifetime for both.
 #[derive(Clone, Copy)]
 pub(crate) struct Values<'a> {
@@ -66,6 +71,8 @@ pub(crate) struct Task<'a> {
 #[derive(Drop)]
 pub(crate) enum Request<'a> {
     Run(Task<'a>),
+    /// To serve an editor.
+    Serve,
     /// Nothing that can be done, for a reason.
     Misused(&'static str),
 }
@@ -79,6 +86,7 @@ pub(crate) fn read_words<'a>(
     let matches = definition(alloc, values)?.try_get_matches_from(words)?;
     match matches.subcommand() {
         Some(("fmt", found)) => Ok(request_of(alloc, Work::Format(format_options(found)), found)?),
+        Some(("lsp", _)) => Ok(Request::Serve),
         Some(("graph", found)) => Ok(request_of(alloc, Work::Graph(form_of(found)), found)?),
         Some((_, found)) => Ok(request_of(alloc, Work::Check(report_of(found)), found)?),
         None => Ok(Request::Misused("a command is missing")),
@@ -201,7 +209,8 @@ fn definition<'a>(alloc: Global, values: &'a Values<'a>) -> Result<Command<'a>, 
         .subcommand_required(true)
         .subcommand(fmt_definition(alloc, values)?)?
         .subcommand(check_definition(alloc, values)?)?
-        .subcommand(graph_definition(alloc, values)?)
+        .subcommand(graph_definition(alloc, values)?)?
+        .subcommand(lsp_definition(alloc)?)
 }
 
 fn fmt_definition<'a>(alloc: Global, values: &'a Values<'a>) -> Result<Command<'a>, AllocError> {
@@ -274,6 +283,17 @@ fn graph_definition<'a>(alloc: Global, values: &'a Values<'a>) -> Result<Command
                 .help("The form of the graph; dot: for Graphviz"),
         )?;
     common(alloc, values, command)
+}
+
+fn lsp_definition<'a>(alloc: Global) -> Result<Command<'a>, AllocError> {
+    Command::new(alloc, "lsp")
+        .about("Serves an editor, as a language server on standard input and output")
+        .after_help("Status: 0 the editor ended it, 1 it ended otherwise, 3 input or output failed, 4 out of memory.")
+        .arg(flag(
+            alloc,
+            "stdio",
+            "Changes nothing; some editors add it",
+        ))
 }
 
 fn one_path<'a>(alloc: Global) -> Arg<'a> {
