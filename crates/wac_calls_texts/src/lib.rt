@@ -1,4 +1,4 @@
-//! Part of `wac_calls`: what a call does with bytes alone. It tests how deep brackets are nested, reads a text and the
+//! What a call over texts in memory does with bytes alone: it tests how deep brackets are nested, reads a text and the
 //! frames of a buffer, and puts what fits into the room that its caller brings.
 #![tactic(auto)]
 

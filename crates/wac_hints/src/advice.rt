@@ -14,7 +14,7 @@ use crate::symbols::symbol_hint;
 use crate::versions::{version_hint, version_mark_hint};
 use std::alloc::{AllocError, Global};
 use wac_ast_base::Error;
-use wac_lexer::SourceSpan;
+use wac_lexer::{SourceSpan, Token};
 
 /// What was probably meant where a text has this error first, if there is a guess.
 ///
@@ -80,6 +80,22 @@ fn hint_for(alloc: Global, source: &str, error: &Error) -> Found {
     }
 }
 
+/// That one of so many tokens was expected at a place, and something else was found there.
+fn clash_at(
+    expected: [Option<Token>; KEPT],
+    count: usize,
+    found: Option<Token>,
+    span: SourceSpan,
+) -> Clash {
+    Clash {
+        expected,
+        count,
+        found,
+        start: span.offset(),
+        end: span.offset().saturating_add(span.len()),
+    }
+}
+
 /// What an error expected and found.
 fn clash_of(error: &Error) -> Option<Clash> {
     let mut kept = [None; KEPT];
@@ -90,13 +106,7 @@ fn clash_of(error: &Error) -> Option<Clash> {
             span,
         } => {
             kept[0] = Some(*expected);
-            Some(Clash {
-                expected: kept,
-                count: 1,
-                found: *found,
-                start: span.offset(),
-                end: span.offset().saturating_add(span.len()),
-            })
+            Some(clash_at(kept, 1, *found, *span))
         }
         Error::ExpectedEither {
             first,
@@ -106,26 +116,14 @@ fn clash_of(error: &Error) -> Option<Clash> {
         } => {
             kept[0] = Some(*first);
             kept[1] = Some(*second);
-            Some(Clash {
-                expected: kept,
-                count: 2,
-                found: *found,
-                start: span.offset(),
-                end: span.offset().saturating_add(span.len()),
-            })
+            Some(clash_at(kept, 2, *found, *span))
         }
         Error::ExpectedMultiple {
             expected,
             count,
             found,
             span,
-        } => Some(Clash {
-            expected: *expected,
-            count: *count,
-            found: *found,
-            start: span.offset(),
-            end: span.offset().saturating_add(span.len()),
-        }),
+        } => Some(clash_at(*expected, *count, *found, *span)),
         _ => None,
     }
 }

@@ -5,7 +5,8 @@ use Rattle.wac_lsp_messages.specs.declared.notice.Range.{Range}
 use Rattle.wac_lsp_messages.specs.declared.notice.Change.{Change}
 use Rattle.wac_lsp_texts.specs.Clamped.{IsClamped}
 
--- the text with what is between two offsets replaced; nothing is, and the new text comes after the first, where they are in the other order
+-- the text with what is between two offsets replaced; nothing is, and the new text comes after the first, where they are
+-- in the other order
 abbrev pub spliced : List ℕ → ℕ → ℕ → List ℕ → List ℕ
 spliced text from to new = take from text ++ (new ++ drop (max from to) text)
 
@@ -13,10 +14,15 @@ spliced text from to new = take from text ++ (new ++ drop (max from to) text)
 abbrev pub Replaces : ColumnUnit → List ℕ → Option Range → List ℕ → List ℕ → Type 0
 Replaces unit text None new after = after ≡ new
 Replaces unit text (Some range) new after =
-    (from : ℕ) × (to : ℕ) × IsClamped text unit range.start from × IsClamped text unit range.end to × (after ≡ spliced text from to new)
+    (from : ℕ) × (to : ℕ) × IsClamped text unit range.start from × IsClamped text unit range.end to
+    × (after ≡ spliced text from to new)
+
+-- what a change leaves of a text
+abbrev pub ChangesOnce : ColumnUnit → List ℕ → Change → List ℕ → Type 0
+ChangesOnce unit text change after = Replaces unit text change.range (string_bytes change.text) after
 
 -- what changes leave of a text, one after another
 abbrev pub Changes : ColumnUnit → List ℕ → List Change → List ℕ → Type 0
 Changes unit text [] after = after ≡ text
 Changes unit text (change ∷ changes) after =
-    (next : List ℕ) × Replaces unit text change.range (string_bytes change.text) next × Changes unit next changes after
+    (next : List ℕ) × ChangesOnce unit text change next × Changes unit next changes after

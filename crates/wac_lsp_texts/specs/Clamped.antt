@@ -15,8 +15,10 @@ pub record IsClampedColumn (unit : ColumnUnit) (line : List ℕ) (column clamped
   pub before : clamped ≤ column
   pub last : (i : ℕ) → at < i → i ≤ length line → IsCharBoundary line i → column < units unit (take i line)
 
--- the offset of a place: in its line, with the column that the line has nearest; or the end of the text, where there is no such line
+-- the offset of a place: in its line, with the column that the line has nearest; or the end of the text, where there is
+-- no such line
 pub record IsClamped (text : List ℕ) (unit : ColumnUnit) (place : Place) (at : ℕ) : Type 0 where
   pub in_line : place.line < length (line_starts text)
-      → (column : ℕ) × IsClampedColumn unit (line text place.line) place.column column × Denotes text unit (record { line = place.line; column = column }) at
+      → (column : ℕ) × IsClampedColumn unit (line text place.line) place.column column
+      × Denotes text unit (record { line = place.line; column = column }) at
   pub behind : length (line_starts text) ≤ place.line → at ≡ length text

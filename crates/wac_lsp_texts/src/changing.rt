@@ -1,6 +1,6 @@
 //! A text after the changes of an editor.
 ghost use Rattle.std.specs.Prelude.{◌≡◌, IfOk, IfSome, Some, string_bytes};
-ghost use Rattle.wac_lsp_texts.specs.Changed.{Changes, Replaces, spliced};
+ghost use Rattle.wac_lsp_texts.specs.Changed.{Changes, ChangesOnce, Replaces, spliced};
 
 use crate::offsets::offset_at;
 use std::alloc::{AllocError, Global};
@@ -74,7 +74,7 @@ fn changed_once(
     change: &Change,
     unit: ColumnUnit,
 ) -> Result<String, ChangeError>
-    ensures { IfOk result (λ after. Replaces unit text.now change.now.range (string_bytes change.now.text) (string_bytes after)) }
+    ensures { IfOk result (λ after. ChangesOnce unit text.now change.now (string_bytes after)) }
 {
     match change.range {
         Some(range) => replaced(alloc, text, range, change.text.as_str(), unit),
