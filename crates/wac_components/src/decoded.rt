@@ -1,12 +1,14 @@
 //! What a component is decoded to.
-ghost use Rattle.std.specs.Prelude.{◌≤◌, length, IfErr};
+ghost use Rattle.std.specs.Prelude.{◌≡◌, ◌≤◌, true, length, IfOk, IfErr};
+ghost use Rattle.std.specs.List.{list_all};
+ghost use Rattle.wac_components.specs.Within as within;
 
 use crate::decoder::Decoder;
 use crate::frame::{Body, Next};
 use crate::limits::Limits;
 use std::alloc::Global;
-use wac_components_bytes::{DecodeError, ErrorKind};
-use wac_components_types::{BodyKind, ComponentId, Item, NameId, Owner, Table, TypeDef};
+use wac_components_bytes::{DecodeError, ErrorKind, error_at};
+use wac_components_types::{BodyKind, ComponentId, Counts, Item, NameId, Owner, Table, TypeDef};
 
 /// An interface or a world that a WIT package defines.
 #[derive(Clone, Copy, Debug, PartialEq, Eq)]
@@ -27,6 +29,8 @@ pub struct Decoded {
     pub component: ComponentId,
     /// What is defined, where the component is a WIT package; else none.
     pub definitions: Vec<Definition>,
+    /// What it took: the depth and the size of all that is imported and exported, and how many bytes were read.
+    pub used: Limits,
 }
 
 impl Drop for Decoded {
@@ -35,8 +39,36 @@ impl Drop for Decoded {
             table: _,
             component: _,
             definitions: _,
+            used: _,
         } = self;
     }
+}
+
+impl Decoded {
+    /// Whether all numbers name entries of the table.
+    fn is_of_table(&self) -> bool
+        ensures { result ≡ within.is_of_table self.now }
+    {
+        let counts = self.table.counts();
+        self.table.is_closed()
+            && (counts.has_item(Item::Component(self.component))
+                && have_definitions(counts, self.definitions.as_slice()))
+    }
+}
+
+fn has_definition(counts: Counts, definition: Definition) -> bool
+    ensures { result ≡ within.has_definition counts definition }
+{
+    (counts.has_name(definition.name) && counts.has_name(definition.path))
+        && counts.has_item(definition.item)
+}
+
+fn have_definitions(counts: Counts, definitions: &[Definition]) -> bool
+    ensures { result ≡ list_all (within.has_definition counts) definitions.now }
+{
+    definitions
+        .iter()
+        .all(|definition| has_definition(counts, *definition))
 }
 
 /// Decodes the bytes of a component.
@@ -48,10 +80,13 @@ impl Drop for Decoded {
 /// let decoded = decode(alloc, &bytes, Limits::for_length(bytes.len()))?;
 /// ```
 pub fn decode(alloc: Global, bytes: &[u8], limits: Limits) -> Result<Decoded, DecodeError>
-    ensures { IfErr result (λ e. e.offset ≤ length bytes.now) }
+    ensures place { IfErr result (λ e. e.offset ≤ length bytes.now) }
+    // Each number of what is decoded names an entry of its table.
+    ensures table { IfOk result (λ d. within.is_of_table d ≡ true) }
+    ensures within { IfOk result (λ d. within.IsWithin d.used limits) }
 {
     match decode_world(alloc, bytes, limits) {
-        Ok(decoded) => Ok(decoded),
+        Ok(decoded) => tested(decoded, bytes.len(), limits),
         Err(error) => Err(DecodeError {
             kind: error.kind,
             offset: error.offset.min(bytes.len()),
@@ -59,14 +94,32 @@ pub fn decode(alloc: Global, bytes: &[u8], limits: Limits) -> Result<Decoded, De
     }
 }
 
+/// What is decoded, unless it is none of its table or takes more than the limits, which tests never saw.
+fn tested(decoded: Decoded, end: usize, limits: Limits) -> Result<Decoded, DecodeError>
+    ensures place { IfErr result (λ e. e.offset ≡ end) }
+    ensures table { IfOk result (λ d. within.is_of_table d ≡ true) }
+    ensures within { IfOk result (λ d. within.IsWithin d.used limits) }
+{
+    if !decoded.is_of_table() {
+        return error_at(ErrorKind::Index, end);
+    }
+    if decoded.used.is_within(limits) {
+        Ok(decoded)
+    } else {
+        error_at(ErrorKind::Work, end)
+    }
+}
+
 fn decode_world(alloc: Global, bytes: &[u8], limits: Limits) -> Result<Decoded, DecodeError> {
     let mut decoder = Decoder::new(alloc, bytes, limits)?;
     let component = evaluated(&mut decoder, bytes.len())?;
     let definitions = definitions(alloc, &decoder.table, component)?;
+    let used = decoder.used(component);
     Ok(Decoded {
         table: decoder.into_table(),
         component,
         definitions,
+        used,
     })
 }
 
@@ -83,7 +136,7 @@ fn evaluated(decoder: &mut Decoder<'_>, length: usize) -> Result<ComponentId, De
     decoder.run()?;
     match decoder.root {
         Some(component) => Ok(component),
-        None => wac_components_bytes::error_at(ErrorKind::Work, length),
+        None => error_at(ErrorKind::Work, length),
     }
 }
 

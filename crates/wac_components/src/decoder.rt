@@ -57,6 +57,16 @@ impl<'a> Decoder<'a> {
         })
     }
 
+    /// How deep and how large all is that a component imports and exports, and how many bytes were read.
+    pub(crate) fn used(&self, component: ComponentId) -> Limits {
+        let (size, depth) = self.table.item_extent(Item::Component(component));
+        Limits {
+            depth,
+            size,
+            work: self.limits.work.saturating_sub(self.reader.work()),
+        }
+    }
+
     /// The table alone.
     pub(crate) fn into_table(self) -> Table {
         let Decoder {

@@ -1,4 +1,6 @@
 //! How much decoding may take.
+ghost use Rattle.std.specs.Prelude.{◌↔◌, IsTrue};
+ghost use Rattle.wac_components.specs.Within.{IsWithin};
 
 /// How much decoding may take. What needs more is an error of the kind `Depth` or `Work`.
 #[derive(Clone, Copy, Debug, PartialEq, Eq)]
@@ -22,5 +24,12 @@ impl Limits {
                 .saturating_mul(100)
                 .saturating_add(1_000_000),
         }
+    }
+
+    /// Whether these are no more than the limits allow.
+    pub fn is_within(self, limits: Limits) -> bool
+        ensures { IsTrue result ↔ IsWithin self limits }
+    {
+        self.depth <= limits.depth && self.size <= limits.size && self.work <= limits.work
     }
 }

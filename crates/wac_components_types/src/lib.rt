@@ -4,11 +4,13 @@
 //! number's owner is made before what names it.
 #![tactic(auto)]
 
+mod closed;
 mod item;
 mod scopes;
 mod table;
 mod ty;
 
+pub use closed::Counts;
 pub use item::{ComponentId, CoreSort, InstanceId, Item, NameId, Sort, TypeId};
 pub use scopes::{Lengths, Scopes};
 pub use table::{Component, Instance, Table};

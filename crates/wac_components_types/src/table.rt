@@ -1,5 +1,7 @@
 //! The table of all that a component is decoded to.
+ghost use Rattle.std.specs.Prelude.{◌≡◌};
 
+use crate::closed::Counts;
 use crate::item::{ComponentId, InstanceId, Item, NameId, TypeId};
 use crate::ty::{Func, Named, Owner, PRIMITIVES, Part, Parts, TypeDef, TypeEntry, TypeSort};
 use indexmap::{IndexMap, IndexSet};
@@ -60,11 +62,12 @@ pub struct Table {
 }
 
 impl Model for Table {
-    ghost use Rattle.std.specs.Prelude.{ℕ, length};
+    ghost use Rattle.indexmap.specs.IndexSet.{index_set_len};
+    ghost use Rattle.wac_components_types.specs.Closed.{TableView, viewed};
 
-    ghost Value = { ℕ };
+    ghost Value = { TableView };
 
-    ghost view = { λ t. length t.types.items };
+    ghost view = { λ t. viewed (index_set_len t.names) t.types.items t.parts.items t.instances.items t.components.items };
 }
 
 impl Drop for Table {
@@ -134,6 +137,29 @@ impl Table {
             Some(text) => text.as_str(),
             None => "",
         }
+    }
+
+    /// How many there are of each.
+    pub fn counts(&self) -> Counts
+        ensures { result ≡ self.now.counts }
+    {
+        Counts {
+            names: self.names.len(),
+            types: self.types.len(),
+            parts: self.parts.len(),
+            instances: self.instances.len(),
+            components: self.components.len(),
+        }
+    }
+
+    /// Whether each number in the table names an entry of it.
+    pub fn is_closed(&self) -> bool
+        ensures { result ≡ self.now.is_closed }
+    {
+        let counts = self.counts();
+        (counts.has_entries(self.types.as_slice()) && counts.has_each_part(self.parts.as_slice()))
+            && (counts.has_instances(self.instances.as_slice())
+                && counts.has_components(self.components.as_slice()))
     }
 
     /// How many types there are.
