@@ -1,0 +1,6 @@
+use Rattle.std.proofs.Common.{◌<◌, length}
+use Rattle.std.specs.List.{AllByRecursion}
+use Rattle.wac_package_errors.proofs.sources.source_of.Given as goal
+
+abbrev pub invariant-loop-id : goal.invariant-loop-id
+invariant-loop-id l = AllByRecursion (λ k. k < length l.graph.nodes) l.id-iterator
