@@ -50,10 +50,14 @@ pub(crate) enum Color {
 pub(crate) enum Work {
     Format(FormatOptions),
     Check(Report),
+    Packages,
     Graph(Form),
     Package(PackageForm),
     Targets(Report),
 }
+
+/// What is wrong with a component that isn't named as one.
+const NO_COMPONENT: &str = "--package takes a package and a file, as in a:b@1.0.0=b.wasm";
 
 /// What the program has to do.
 #[derive(Drop)]
@@ -63,12 +67,27 @@ pub(crate) struct Task<'a> {
     pub(crate) quiet: bool,
     /// The paths; it is `-` alone for standard input.
     pub(crate) paths: Vec<&'a str>,
+    /// Where packages are.
+    pub(crate) packages: Vec<&'a str>,
+    /// Names of packages, each with the path of its component.
+    pub(crate) components: Vec<(&'a str, &'a str)>,
+    /// Whether a package may be declared and have a component, if the two agree.
+    pub(crate) may_agree: bool,
+    /// Names of packages, each with the world that is chosen.
+    pub(crate) worlds: Vec<(&'a str, &'a str)>,
     /// The name of standard input in messages.
     pub(crate) input_name: Option<&'a str>,
     /// The key of a component's package.
     pub(crate) key: Option<&'a str>,
     /// The name of a document's world.
     pub(crate) world: Option<&'a str>,
+}
+
+impl Task<'_> {
+    /// Whether packages are given, as documents or components.
+    pub(crate) fn has_packages(&self) -> bool {
+        !self.packages.is_empty() || !self.components.is_empty()
+    }
 }
 
 /// What the words ask for.
@@ -88,6 +107,7 @@ pub(crate) fn read_words<'a>(
     let matches = definition(alloc, values)?.try_get_matches_from(words)?;
     match matches.subcommand() {
         Some(("fmt", found)) => Ok(request_of(alloc, Work::Format(format_options(found)), found)?),
+        Some(("packages", found)) => Ok(request_of(alloc, Work::Packages, found)?),
         Some(("graph", found)) => Ok(request_of(alloc, Work::Graph(form_of(found)), found)?),
         Some(("package", found)) => Ok(request_of(
             alloc,
@@ -108,11 +128,21 @@ fn request_of<'a>(
     work: Work,
     found: &ArgMatches<'a>,
 ) -> Result<Request<'a>, AllocError> {
+    let Some(worlds) = pairs_of(alloc, found, "world")? else {
+        return Ok(Request::Misused("--world takes a package and a world, as in a:b@1.0.0=w"));
+    };
+    let Some(components) = pairs_of(alloc, found, "package")? else {
+        return Ok(Request::Misused(NO_COMPONENT));
+    };
     let task = Task {
         work,
         color: color_of(found),
         quiet: found.get_flag("quiet"),
         paths: paths_of(alloc, found)?,
+        packages: all_of(alloc, found, "packages")?,
+        components,
+        may_agree: found.get_flag("agree"),
+        worlds,
         input_name: found.get_str("stdin-filepath"),
         key: found.get_str("name"),
         world: found.get_str("WORLD-NAME"),
@@ -130,6 +160,19 @@ fn misuse(task: &Task<'_>) -> Option<&'static str> {
         Some("`-` can't be used with other paths")
     } else if is_input && reads_files_alone(task.work) {
         Some("this command reads a file, and not standard input")
+    } else if is_input && task.has_packages() {
+        Some("`-` can't be used with --packages and --package")
+    } else if !task.has_packages() && !task.worlds.is_empty() {
+        Some("--world is used with --packages alone")
+    } else if !task.has_packages() && task.may_agree {
+        Some("--agree is used with --packages alone")
+    } else if !task
+        .components
+        .as_slice()
+        .iter()
+        .all(|(key, _)| is_package_key(key))
+    {
+        Some(NO_COMPONENT)
     } else if !is_input && task.input_name.is_some() {
         Some("--stdin-filepath is used with the path `-` alone")
     } else if !is_key(task.key) {
@@ -150,7 +193,7 @@ fn is_key(key: Option<&str>) -> bool {
 /// Whether a command reads files alone.
 fn reads_files_alone(work: Work) -> bool {
     match work {
-        Work::Graph(_) | Work::Package(_) | Work::Targets(_) => true,
+        Work::Packages | Work::Graph(_) | Work::Package(_) | Work::Targets(_) => true,
         Work::Format(_) | Work::Check(_) => false,
     }
 }
@@ -175,6 +218,22 @@ fn all_of<'a>(
         all.extend_from_slice(given)?;
     }
     Ok(all)
+}
+
+/// All values of an argument, in two parts, unless one is not written as `KEY=VALUE`.
+fn pairs_of<'a>(
+    alloc: Global,
+    found: &ArgMatches<'a>,
+    name: &str,
+) -> Result<Option<Vec<(&'a str, &'a str)>>, AllocError> {
+    let mut pairs = Vec::new(alloc);
+    for value in all_of(alloc, found, name)? {
+        match value.split_once('=') {
+            Some(pair) => pairs.push(pair)?,
+            None => return Ok(None),
+        }
+    }
+    Ok(Some(pairs))
 }
 
 fn form_of(found: &ArgMatches<'_>) -> Form {
@@ -246,6 +305,7 @@ fn definition<'a>(alloc: Global, values: &'a Values<'a>) -> Result<Command<'a>, 
         .subcommand_required(true)
         .subcommand(fmt_definition(alloc, values)?)?
         .subcommand(check_definition(alloc, values)?)?
+        .subcommand(packages_definition(alloc, values)?)?
         .subcommand(graph_definition(alloc, values)?)?
         .subcommand(package_definition(alloc, values)?)?
         .subcommand(targets_definition(alloc, values)?)
@@ -291,7 +351,8 @@ fn check_definition<'a>(alloc: Global, values: &'a Values<'a>) -> Result<Command
     let command = Command::new(alloc, "check")
         .about("Reports the first error of each file")
         .after_help(
-            "Files are parsed, and resolved where they mention no foreign package.\n\
+            "Files are parsed, and resolved where they mention no foreign package, or where --packages says\n\
+            which documents declare packages.\n\
             Status: 0 all is well, 1 a file has an error, 2 wrong use, 3 a file could not be read,\n\
             4 out of memory.",
         )
@@ -304,7 +365,22 @@ fn check_definition<'a>(alloc: Global, values: &'a Values<'a>) -> Result<Command
                 .value_name("FORM")
                 .help("The form of errors"),
         )?;
-    of_many(alloc, values, command)
+    of_many(alloc, values, with_packages(alloc, command)?)
+}
+
+fn packages_definition<'a>(
+    alloc: Global,
+    values: &'a Values<'a>,
+) -> Result<Command<'a>, AllocError> {
+    let command = Command::new(alloc, "packages")
+        .about("Lists the packages that a file mentions, and which file declares each")
+        .after_help(
+            "A line KEY found FILE or KEY missing for each package.\n\
+            Status: 0 all are found, 1 one is missing or a file has an error, 2 wrong use, 3 a file could\n\
+            not be read, 4 out of memory.",
+        )
+        .arg(one_path(alloc, "PATH", "PATH", "The file"))?;
+    common(alloc, values, with_packages(alloc, command)?)
 }
 
 fn graph_definition<'a>(alloc: Global, values: &'a Values<'a>) -> Result<Command<'a>, AllocError> {
@@ -320,7 +396,39 @@ fn graph_definition<'a>(alloc: Global, values: &'a Values<'a>) -> Result<Command
                 .value_name("FORM")
                 .help("The form of the graph; dot: for Graphviz"),
         )?;
-    common(alloc, values, command)
+    common(alloc, values, with_packages(alloc, command)?)
+}
+
+/// Adds where packages are, and their worlds.
+fn with_packages<'a>(alloc: Global, command: Command<'a>) -> Result<Command<'a>, AllocError> {
+    command
+        .arg(
+            Arg::new(alloc, "packages")
+                .long("packages")
+                .value_name("PATH")
+                .action(ArgAction::Append)
+                .help("A document, a component or a folder of packages; may be repeated"),
+        )?
+        .arg(
+            Arg::new(alloc, "package")
+                .long("package")
+                .value_name("KEY=FILE")
+                .action(ArgAction::Append)
+                .help("Names the package of a component, as a:b@1.0.0=b.wasm; may be repeated"),
+        )?
+        .arg(
+            Arg::new(alloc, "agree")
+                .long("agree")
+                .action(ArgAction::SetTrue)
+                .help("Compares packages that are declared and have a component"),
+        )?
+        .arg(
+            Arg::new(alloc, "world")
+                .long("world")
+                .value_name("KEY=NAME")
+                .action(ArgAction::Append)
+                .help("Chooses a world of a package that declares several, as a:b@1.0.0=w"),
+        )
 }
 
 fn package_definition<'a>(

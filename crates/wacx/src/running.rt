@@ -7,8 +7,9 @@ use std::process::ExitCode;
 use std::{env, process};
 use wac_cli::{check_input, check_paths, format_input, format_paths};
 use wac_cli_components::{TargetOptions, check_target, show_package};
-use wac_cli_console::{Console, Status};
+use wac_cli_console::{Console, Report, Status};
 use wac_cli_graph::show_graph;
+use wac_cli_packages::{Given, check_with_packages, list_packages, show_graph_with_packages};
 use wac_files::Disk;
 
 /// Does a task with the files and streams of the process.
@@ -38,7 +39,7 @@ fn perform_on_input(rt: &HostRuntime, task: &Task<'_>) -> Status {
         }
         Work::Check(report) => check_input(rt.alloc(), &mut input, &mut console, report, name),
         // The words of the command line allow no standard input here.
-        Work::Graph(_) | Work::Package(_) | Work::Targets(_) => Status::Wrong,
+        Work::Packages | Work::Graph(_) | Work::Package(_) | Work::Targets(_) => Status::Wrong,
     }
 }
 
@@ -52,8 +53,24 @@ fn perform_on_files(rt: &HostRuntime, task: &Task<'_>) -> Status {
         Work::Format(options) => {
             format_paths(rt.alloc(), &mut files, &mut console, options, paths)
         }
-        Work::Check(report) => check_paths(rt.alloc(), &mut files, &mut console, report, paths),
-        Work::Graph(form) => { show_graph(rt.alloc(), &mut files, &mut console, form, first) }
+        Work::Check(report) if !task.has_packages() => {
+            check_paths(rt.alloc(), &mut files, &mut console, report, paths)
+        }
+        Work::Check(report) => {
+            let given = given_of(task, report);
+            check_with_packages(rt.alloc(), &mut files, &mut console, given, paths)
+        }
+        Work::Packages => {
+            let given = given_of(task, Report::Human);
+            list_packages(rt.alloc(), &mut files, &mut console, given, first)
+        }
+        Work::Graph(form) if !task.has_packages() => {
+            show_graph(rt.alloc(), &mut files, &mut console, form, first)
+        }
+        Work::Graph(form) => {
+            let given = (given_of(task, Report::Human), form);
+            show_graph_with_packages(rt.alloc(), &mut files, &mut console, given, first)
+        }
         Work::Package(form) => {
             let asked = (task.key, form);
             show_package(rt.alloc(), &mut files, &mut console, asked, first)
@@ -64,6 +81,17 @@ fn perform_on_files(rt: &HostRuntime, task: &Task<'_>) -> Status {
             let paths = (first, path_at(paths, 1));
             check_target(rt.alloc(), &mut files, &mut console, options, paths)
         }
+    }
+}
+
+/// Where the packages of a task are.
+fn given_of<'t>(task: &'t Task<'_>, report: Report) -> Given<'t> {
+    Given {
+        packages: task.packages.as_slice(),
+        components: task.components.as_slice(),
+        may_agree: task.may_agree,
+        worlds: task.worlds.as_slice(),
+        report,
     }
 }
 

@@ -1,0 +1,193 @@
+// `wacx check --packages`.
+ghost use Rattle.std.specs.Prelude.{◌≡◌};
+
+use crate::graphs::warnings_of;
+use crate::options::{Given, Setting};
+use crate::supply::{Supply, read_supply};
+use crate::verdicts::first_error_of;
+use std::alloc::{AllocError, Global};
+use std::io::Write;
+use wac_cli_console::{Console, Outcome, Status, Task, finish};
+use wac_diagnostics::Diagnostic;
+use wac_files::{FileError, FileSystem, Found, find_files};
+use wac_graph::CompositionGraph;
+use wac_package_errors::Composed;
+
+/// Reports the first error of each file that paths lead to, which is resolved with the packages that other files
+/// declare, and the first error of each of these. A last line counts all files. A file that is checked is never read as
+/// that of a package.
+pub fn check_with_packages<F: FileSystem, O: Write + Drop, E: Write + Drop>(
+    alloc: Global,
+    files: &mut F,
+    console: &mut Console<O, E>,
+    given: Given<'_>,
+    paths: &[&str],
+) -> Status
+    // No file is replaced.
+    ensures { F.replaced files.new ≡ F.replaced files.old }
+{
+    match check_all(alloc, files, console, given, paths) {
+        Ok(outcomes) => finish(alloc, console, Task::Check, outcomes.as_slice()),
+        Err(AllocError) => console.out_of_memory(),
+    }
+}
+
+fn check_all<F: FileSystem, O: Write + Drop, E: Write + Drop>(
+    alloc: Global,
+    files: &mut F,
+    console: &mut Console<O, E>,
+    given: Given<'_>,
+    paths: &[&str],
+) -> Result<Vec<Outcome>, AllocError>
+    ensures { F.replaced files.new ≡ F.replaced files.old }
+{
+    let found = find_files(alloc, files, paths)?;
+    check_found_files(alloc, files, console, given, found.as_slice())
+}
+
+/// The outcomes of files that were found, behind those of the files of packages.
+fn check_found_files<F: FileSystem, O: Write + Drop, E: Write + Drop>(
+    alloc: Global,
+    files: &mut F,
+    console: &mut Console<O, E>,
+    given: Given<'_>,
+    found: &[Found],
+) -> Result<Vec<Outcome>, AllocError>
+    ensures { F.replaced files.new ≡ F.replaced files.old }
+{
+    let supply = read_supply(alloc, files, console, given, found)?;
+    check_supplied(files, console, &supply, supply.setting(alloc, given), found)
+}
+
+/// The same with the packages.
+fn check_supplied<F: FileSystem, O: Write + Drop, E: Write + Drop>(
+    files: &mut F,
+    console: &mut Console<O, E>,
+    supply: &Supply,
+    setting: Setting<'_>,
+    found: &[Found],
+) -> Result<Vec<Outcome>, AllocError>
+    ensures { F.replaced files.new ≡ F.replaced files.old }
+{
+    supply.report_all(console, setting)?;
+    let outcomes = supply.outcomes(setting.alloc)?;
+    check_each(files, console, setting, found, outcomes)
+}
+
+/// Adds the outcome of each file that was found.
+fn check_each<F: FileSystem, O: Write + Drop, E: Write + Drop>(
+    files: &mut F,
+    console: &mut Console<O, E>,
+    setting: Setting<'_>,
+    found: &[Found],
+    mut outcomes: Vec<Outcome>,
+) -> Result<Vec<Outcome>, AllocError>
+    ensures { F.replaced files.new ≡ F.replaced files.old }
+{
+    for one in found {
+        let outcome = check_found(files, console, setting, one);
+        outcomes.push(outcome)?;
+    }
+    Ok(outcomes)
+}
+
+/// Reports the first error of a file that was found. Returns what became of it.
+fn check_found<F: FileSystem, O: Write + Drop, E: Write + Drop>(
+    files: &mut F,
+    console: &mut Console<O, E>,
+    setting: Setting<'_>,
+    found: &Found,
+) -> Outcome
+    ensures { F.replaced files.new ≡ F.replaced files.old }
+{
+    let path = found.path.as_str();
+    match found.failure {
+        Some(error) => console.failed(setting.alloc, setting.report, path, error),
+        None => {
+            let read = files.read(setting.alloc, path);
+            checked(console, setting, path, read)
+        }
+    }
+}
+
+/// Reports the first error of what was read. Returns what became of it.
+fn checked<O: Write + Drop, E: Write + Drop>(
+    console: &mut Console<O, E>,
+    setting: Setting<'_>,
+    path: &str,
+    read: Result<Vec<u8>, FileError>,
+) -> Outcome {
+    match read {
+        Ok(bytes) => check_bytes(console, setting, path, bytes.as_slice()),
+        Err(error) => console.failed(setting.alloc, setting.report, path, error),
+    }
+}
+
+/// Reports the first error of bytes. Returns what became of them.
+fn check_bytes<O: Write + Drop, E: Write + Drop>(
+    console: &mut Console<O, E>,
+    setting: Setting<'_>,
+    path: &str,
+    bytes: &[u8],
+) -> Outcome {
+    match judge(console, setting, path, bytes) {
+        Ok(outcome) => outcome,
+        Err(AllocError) => {
+            console.failed(setting.alloc, setting.report, path, FileError::OutOfMemory)
+        }
+    }
+}
+
+/// Reports the first error of bytes, or what of their document may not be meant.
+fn judge<O: Write + Drop, E: Write + Drop>(
+    console: &mut Console<O, E>,
+    setting: Setting<'_>,
+    path: &str,
+    bytes: &[u8],
+) -> Result<Outcome, AllocError> {
+    match first_error_of(setting, bytes) {
+        Ok(Composed::Resolved(graph)) => warn(console, setting, path, bytes, &graph),
+        Ok(Composed::Unresolved) => Ok(Outcome::Unresolved),
+        Ok(Composed::Rejected(diagnostic)) => reject(console, setting, path, bytes, &diagnostic),
+        Err(_) => Err(AllocError),
+    }
+}
+
+/// Reports an error.
+fn reject<O: Write + Drop, E: Write + Drop>(
+    console: &mut Console<O, E>,
+    setting: Setting<'_>,
+    path: &str,
+    bytes: &[u8],
+    diagnostic: &Diagnostic,
+) -> Result<Outcome, AllocError> {
+    console.report(setting.alloc, setting.report, path, bytes, diagnostic)?;
+    Ok(Outcome::Rejected)
+}
+
+/// Reports what of a graph may not be meant.
+fn warn<O: Write + Drop, E: Write + Drop>(
+    console: &mut Console<O, E>,
+    setting: Setting<'_>,
+    path: &str,
+    bytes: &[u8],
+    graph: &CompositionGraph,
+) -> Result<Outcome, AllocError> {
+    let found = warnings_of(setting.alloc, bytes, graph)?;
+    report_each(console, setting, path, bytes, found.as_slice())?;
+    Ok(Outcome::Good)
+}
+
+/// Reports what is said of a file.
+fn report_each<O: Write + Drop, E: Write + Drop>(
+    console: &mut Console<O, E>,
+    setting: Setting<'_>,
+    path: &str,
+    bytes: &[u8],
+    found: &[Diagnostic],
+) -> Result<(), AllocError> {
+    for diagnostic in found {
+        console.report(setting.alloc, setting.report, path, bytes, diagnostic)?;
+    }
+    Ok(())
+}

@@ -1,0 +1,22 @@
+//! The commands of `wacx` that know packages, over any files and any writers.
+//!
+//! [`check_with_packages`] is `wacx check --packages`, [`list_packages`] is `wacx packages`, and
+//! [`show_graph_with_packages`] is `wacx graph --packages`. Packages are documents that declare them;
+//! `docs/PACKAGES.md` says how.
+#![tactic(auto)]
+
+mod checking;
+mod graphing;
+mod graphs;
+mod listing;
+mod options;
+mod reading;
+mod sources;
+mod supply;
+mod verdicts;
+
+pub use checking::check_with_packages;
+pub use graphing::show_graph_with_packages;
+pub use listing::list_packages;
+pub use options::Given;
+pub use wac_graph_outputs::Form;

@@ -1,0 +1,171 @@
+// `wacx packages`.
+ghost use Rattle.std.specs.Prelude.{◌≡◌};
+
+use crate::options::{Given, Setting};
+use crate::supply::{Supply, supply_beside};
+use indexmap::IndexMap;
+use std::alloc::{AllocError, Global};
+use std::io::Write;
+use wac_ast::Document;
+use wac_cli_console::{Action, Console, Outcome, Status};
+use wac_diagnostics::Diagnostic;
+use wac_error_diagnostics::Reading;
+use wac_excerpts::push_shown;
+use wac_files::{FileError, FileSystem};
+use wac_graph::PackageKey;
+use wac_lexer::SourceSpan;
+use wac_package_errors::{KnownPackages, flat_text, packages, syntax_diagnostic};
+use wac_package_names::push_key;
+use wac_printer::Page;
+
+/// The lines of a document's packages, and whether all are there; or what is wrong with it.
+#[derive(Drop)]
+enum Listed {
+    Lines(String, bool),
+    Rejected(Diagnostic),
+}
+
+/// Writes a line `KEY found FILE` or `KEY missing` for each foreign package that the file at a path mentions, in order.
+/// A status says whether one is missing.
+pub fn list_packages<F: FileSystem, O: Write + Drop, E: Write + Drop>(
+    alloc: Global,
+    files: &mut F,
+    console: &mut Console<O, E>,
+    given: Given<'_>,
+    path: &str,
+) -> Status
+    // No file is replaced.
+    ensures { F.replaced files.new ≡ F.replaced files.old }
+{
+    match list_all(alloc, files, console, given, path) {
+        Ok(status) => status.or(console.output_status()),
+        Err(AllocError) => console.out_of_memory(),
+    }
+}
+
+fn list_all<F: FileSystem, O: Write + Drop, E: Write + Drop>(
+    alloc: Global,
+    files: &mut F,
+    console: &mut Console<O, E>,
+    given: Given<'_>,
+    path: &str,
+) -> Result<Status, AllocError>
+    ensures { F.replaced files.new ≡ F.replaced files.old }
+{
+    let supply = supply_beside(alloc, files, console, given, path)?;
+    let read = files.read(alloc, path);
+    list_supplied(console, &supply, supply.setting(alloc, given), path, read)
+}
+
+/// The same of what was read, with the packages.
+fn list_supplied<O: Write + Drop, E: Write + Drop>(
+    console: &mut Console<O, E>,
+    supply: &Supply,
+    setting: Setting<'_>,
+    path: &str,
+    read: Result<Vec<u8>, FileError>,
+) -> Result<Status, AllocError> {
+    match read {
+        Ok(bytes) => list_read(console, supply, setting, path, bytes.as_slice()),
+        Err(error) => supply.fail(console, setting, path, error),
+    }
+}
+
+/// The same of bytes.
+fn list_read<O: Write + Drop, E: Write + Drop>(
+    console: &mut Console<O, E>,
+    supply: &Supply,
+    setting: Setting<'_>,
+    path: &str,
+    bytes: &[u8],
+) -> Result<Status, AllocError> {
+    let before = supply.report_all(console, setting)?;
+    let status = list_bytes(console, setting, path, bytes)?;
+    Ok(before.or(status))
+}
+
+/// Writes the lines of the document of bytes, or reports what is wrong with them.
+fn list_bytes<O: Write + Drop, E: Write + Drop>(
+    console: &mut Console<O, E>,
+    setting: Setting<'_>,
+    path: &str,
+    bytes: &[u8],
+) -> Result<Status, AllocError> {
+    match list_of(setting, bytes) {
+        Ok(Listed::Lines(lines, all_found)) => {
+            console.write(lines.as_bytes());
+            Ok(if all_found {
+                Status::Well
+            } else {
+                Status::Wrong
+            })
+        }
+        Ok(Listed::Rejected(diagnostic)) => {
+            console.report(setting.alloc, setting.report, path, bytes, &diagnostic)?;
+            Ok(Outcome::Rejected.status(Action::Check))
+        }
+        Err(_) => Err(AllocError),
+    }
+}
+
+fn list_of(setting: Setting<'_>, bytes: &[u8]) -> Result<Listed, AllocError> {
+    match flat_text(setting.alloc, bytes) {
+        Ok(Reading::Text(text)) => listed_text(setting, text),
+        Ok(Reading::Rejected(diagnostic)) => Ok(Listed::Rejected(diagnostic)),
+        Err(_) => Err(AllocError),
+    }
+}
+
+fn listed_text(setting: Setting<'_>, text: &str) -> Result<Listed, AllocError> {
+    match Document::parse(setting.alloc, text) {
+        Ok(document) => listed_document(
+            Page {
+                document: &document,
+            },
+            setting,
+        ),
+        Err(error) => Ok(Listed::Rejected(syntax_diagnostic(setting.alloc, text, &error)?)),
+    }
+}
+
+/// A line for each package that a document mentions.
+fn listed_document(page: Page<'_, '_>, setting: Setting<'_>) -> Result<Listed, AllocError> {
+    let Page { document } = page;
+    let mentioned = packages(setting.alloc, document)?;
+    lines_of(setting, &mentioned)
+}
+
+/// A line for each of these packages.
+fn lines_of(
+    setting: Setting<'_>,
+    mentioned: &IndexMap<PackageKey, SourceSpan>,
+) -> Result<Listed, AllocError> {
+    let mut lines = String::new(setting.alloc);
+    let mut all_found = true;
+    for (key, _) in mentioned.iter() {
+        let found = push_line(&mut lines, setting.known, key)?;
+        all_found = all_found && found;
+    }
+    Ok(Listed::Lines(lines, all_found))
+}
+
+/// Appends the line of a package. Returns whether a file declares it.
+fn push_line(
+    out: &mut String,
+    known: KnownPackages<'_>,
+    key: &PackageKey,
+) -> Result<bool, AllocError> {
+    push_key(out, key)?;
+    match known.document_of(key) {
+        Some(file) => {
+            out.push_str(" found ")?;
+            push_shown(out, file)?;
+            out.push('\n')?;
+            Ok(true)
+        }
+        None => {
+            out.push_str(" missing\n")?;
+            Ok(false)
+        }
+    }
+}

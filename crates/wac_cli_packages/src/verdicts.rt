@@ -1,0 +1,14 @@
+// What is said of the file that a command has to do.
+use crate::options::Setting;
+use std::alloc::AllocError;
+use wac_error_diagnostics::Reading;
+use wac_package_errors::{Composed, first_error_with, flat_text};
+
+/// The first error of bytes, which are resolved with known packages.
+pub(crate) fn first_error_of(setting: Setting<'_>, bytes: &[u8]) -> Result<Composed, AllocError> {
+    match flat_text(setting.alloc, bytes) {
+        Ok(Reading::Text(text)) => first_error_with(setting.alloc, text, setting.known),
+        Ok(Reading::Rejected(diagnostic)) => Ok(Composed::Rejected(diagnostic)),
+        Err(_) => Err(AllocError),
+    }
+}
