@@ -1,0 +1,6 @@
+pub mod Blanking
+pub mod Faulting
+pub mod Rejecting
+pub mod Rounds
+pub mod Stepping
+pub mod Trying

@@ -1,0 +1,5 @@
+pub mod Attempts
+pub mod Blanked
+pub mod Faults
+pub mod Recovered
+pub mod Statements
