@@ -1,0 +1,142 @@
+//! Names of documents.
+ghost use Rattle.std.specs.Prelude.{IfOk};
+ghost use Rattle.wac_names.specs.Places.{AreTied};
+
+use crate::declarations::type_decl;
+use crate::expressions::expression;
+use crate::finder::Finder;
+use crate::interfaces::{interface, interface_decl};
+use crate::names::{Kind, Names};
+use crate::paths::{at_root, path};
+use crate::place::{Denoted, ROOT};
+use crate::tied::tied_names;
+use crate::types::function;
+use crate::worlds::world_decl;
+use std::alloc::{AllocError, Global};
+use wac_ast::internals::Statements;
+use wac_ast::{PackageDirective, Statement, TypeStatement};
+use wac_ast_base::PackagePath;
+use wac_ast_statements::LetStatement;
+use wac_ast_worlds::{ImportStatement, ImportType};
+
+/// Notes the names of what is imported under the name of a number, and returns the scope behind it.
+fn import_type<'a>(
+    finder: &mut Finder<'a>,
+    owner: usize,
+    ty: &ImportType<'a>,
+) -> Result<Option<usize>, AllocError> {
+    match ty {
+        ImportType::Package(from) => path(finder, from),
+        ImportType::Func(func) => {
+            function(finder, ROOT, owner, func)?;
+            Ok(None)
+        }
+        ImportType::Interface(inline) => {
+            let inner = interface(finder, owner, &inline.items)?;
+            Ok(Some(inner))
+        }
+        ImportType::Ident(id) => at_root(finder, id),
+    }
+}
+
+/// Notes the names of an import. The name after `as` is one of the world outside.
+fn import<'a>(finder: &mut Finder<'a>, import: &ImportStatement<'a>) -> Result<(), AllocError> {
+    let binding = finder.declare(&import.id, Kind::Import, None)?;
+    let scope = import_type(finder, binding, &import.ty)?;
+    finder.bind_at_root(import.id.string, Denoted { binding, scope })
+}
+
+/// Notes the names of a `let`. Its own is bound after the expression, which can't name it.
+fn let_statement<'a>(
+    finder: &mut Finder<'a>,
+    statement: &LetStatement<'a>,
+) -> Result<(), AllocError> {
+    let binding = finder.declare(&statement.id, Kind::Let, None)?;
+    let scope = expression(finder, &statement.expr)?;
+    finder.bind_at_root(statement.id.string, Denoted { binding, scope })
+}
+
+/// Notes the names of a declaration.
+fn type_statement<'a>(
+    finder: &mut Finder<'a>,
+    statement: &TypeStatement<'a>,
+) -> Result<(), AllocError> {
+    match statement {
+        TypeStatement::Interface(decl) => interface_decl(finder, decl),
+        TypeStatement::World(decl) => world_decl(decl, finder),
+        TypeStatement::Ty(decl) => type_decl(finder, decl),
+    }
+}
+
+/// Notes the names of a statement. An export's name after `as` is one of the world outside.
+fn statement<'a>(finder: &mut Finder<'a>, statement: &Statement<'a>) -> Result<(), AllocError> {
+    match statement {
+        Statement::Import(part) => import(finder, part),
+        Statement::Ty(part) => type_statement(finder, part),
+        Statement::Let(part) => let_statement(finder, part),
+        Statement::Export(part) => {
+            expression(finder, &part.expr)?;
+            Ok(())
+        }
+    }
+}
+
+/// Notes the names of statements.
+fn statements<'a>(finder: &mut Finder<'a>, statements: &[Statement<'a>]) -> Result<(), AllocError> {
+    for next in statements {
+        statement(finder, next)?;
+    }
+    Ok(())
+}
+
+/// Notes the names of lent statements.
+fn all_statements<'a>(finder: &mut Finder<'a>, all: Statements<'_, 'a>) -> Result<(), AllocError> {
+    let all = all.all;
+    statements(finder, all)
+}
+
+/// Notes the names of the target, if there is one: what its first segment denotes after all statements.
+fn target<'a>(
+    finder: &mut Finder<'a>,
+    targets: &Option<PackagePath<'a>>,
+) -> Result<(), AllocError> {
+    match targets {
+        Some(target) => {
+            path(finder, target)?;
+            Ok(())
+        }
+        None => Ok(()),
+    }
+}
+
+/// Notes all names.
+fn all_names<'a>(
+    finder: &mut Finder<'a>,
+    directive: &PackageDirective<'a>,
+    statements: Statements<'_, 'a>,
+) -> Result<(), AllocError> {
+    finder.open()?;
+    all_statements(finder, statements)?;
+    target(finder, &directive.targets)
+}
+
+impl Names {
+    /// The names of the document of a text, which has this directive and these statements.
+    ///
+    /// What a name stands for is what resolving looks up there (docs/RESOLVING.md); a name that denotes nothing, or
+    /// something of another package, is no mention. Where a name is bound twice in a scope, others denote the first.
+    /// The error is that memory ran out.
+    pub fn of<'a>(
+        alloc: Global,
+        source: &str,
+        directive: &PackageDirective<'a>,
+        statements: Statements<'_, 'a>,
+    ) -> Result<Names, AllocError>
+        // Each mention stands for one of the names, and is spelled like it.
+        ensures { IfOk result (AreTied source.now) }
+    {
+        let mut finder = Finder::new(alloc, directive.package.name);
+        all_names(&mut finder, directive, statements)?;
+        tied_names(alloc, source, finder.into_names())
+    }
+}

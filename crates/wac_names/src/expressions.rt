@@ -1,0 +1,102 @@
+//! Names in expressions.
+
+use crate::finder::Finder;
+use crate::paths::at_root;
+use crate::place::{Part, behind};
+use std::alloc::AllocError;
+use wac_ast_base::{Ident, String};
+use wac_ast_expressions::{Expr, InstantiationArgument, PostfixExpr, PrimaryExpr};
+use wac_lexer::SourceSpan;
+
+/// Notes the names of an expression, and returns the scope behind it.
+#[cycle(expression)]
+pub(crate) fn expression<'a>(
+    finder: &mut Finder<'a>,
+    expr: &Expr<'a>,
+) -> Result<Option<usize>, AllocError> {
+    let scope = primary(finder, &expr.primary)?;
+    accesses(finder, scope, &expr.postfix)
+}
+
+/// Notes the names of the beginning of an expression, and returns the scope behind it. What a new instance exports is
+/// declared in another package.
+#[cycle(expression)]
+fn primary<'a>(
+    finder: &mut Finder<'a>,
+    expr: &PrimaryExpr<'a>,
+) -> Result<Option<usize>, AllocError> {
+    match expr {
+        PrimaryExpr::New(new) => {
+            arguments(finder, &new.arguments)?;
+            Ok(None)
+        }
+        PrimaryExpr::Nested(nested) => expression(finder, &nested.inner),
+        PrimaryExpr::Ident(id) => at_root(finder, id),
+    }
+}
+
+/// Notes the names of arguments.
+#[cycle(expression)]
+fn arguments<'a>(
+    finder: &mut Finder<'a>,
+    arguments: &[InstantiationArgument<'a>],
+) -> Result<(), AllocError> {
+    for one in arguments {
+        argument(finder, one)?;
+    }
+    Ok(())
+}
+
+/// Notes the names of an argument. What is before a colon is the name of another package's import.
+#[cycle(expression)]
+fn argument<'a>(
+    finder: &mut Finder<'a>,
+    argument: &InstantiationArgument<'a>,
+) -> Result<(), AllocError> {
+    match argument {
+        InstantiationArgument::Inferred(id) | InstantiationArgument::Spread(id) => {
+            at_root(finder, id)?;
+            Ok(())
+        }
+        InstantiationArgument::Named(named) => {
+            expression(finder, &named.expr)?;
+            Ok(())
+        }
+        InstantiationArgument::Fill(_) => Ok(()),
+    }
+}
+
+/// A text in quotes as an identifier: without them.
+fn unquoted<'a>(text: &String<'a>) -> Ident<'a> {
+    let start = text.span.offset().saturating_add(1);
+    Ident {
+        string: text.value,
+        span: SourceSpan::new(start, text.value.len()),
+    }
+}
+
+/// The name of the export that an access is to.
+fn accessed<'a>(access: &PostfixExpr<'a>) -> Ident<'a> {
+    match access {
+        PostfixExpr::Access(access) => Ident {
+            string: access.id.string,
+            span: access.id.span,
+        },
+        PostfixExpr::NamedAccess(access) => unquoted(&access.string),
+    }
+}
+
+/// Notes the names of accesses to what has this scope behind it, and returns the scope behind the last.
+fn accesses<'a>(
+    finder: &mut Finder<'a>,
+    scope: Option<usize>,
+    accesses: &[PostfixExpr<'a>],
+) -> Result<Option<usize>, AllocError> {
+    let mut scope = scope;
+    for access in accesses {
+        let id = accessed(access);
+        let found = finder.refer(scope, Part::Exports, &id)?;
+        scope = behind(found);
+    }
+    Ok(scope)
+}
