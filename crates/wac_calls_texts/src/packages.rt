@@ -44,7 +44,8 @@ impl fmt::Display for PackagesError {
     fn fmt<W: fmt::Write>(&self, f: &mut fmt::Formatter<W>) -> fmt::Result {
         f.write_str(match self {
             PackagesError::Cut(_) => "the frame of a package is cut",
-            PackagesError::Component(_) => "a component can't be handed over yet",
+            PackagesError::Component(_) =>
+                "a component has no package name: hand over a document that declares it",
             PackagesError::NotUtf8(_) => "a package is not UTF-8",
             PackagesError::NestedTooDeep(_) => {
                 "brackets of a package are nested deeper than the limit"

@@ -1,0 +1,5 @@
+pub mod Calls
+pub mod Commands
+pub mod Errors
+pub mod Numbers
+pub mod Tidying

@@ -1,0 +1,4 @@
+pub mod Answers
+pub mod Numbers
+pub mod Rejecting
+pub mod Told
