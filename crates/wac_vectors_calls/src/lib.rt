@@ -1,0 +1,11 @@
+//! Tests of `wac_calls`: each word with room of several sizes, texts that are rejected, and nesting.
+#![tactic(auto)]
+
+#[cfg(test)]
+mod calls;
+#[cfg(test)]
+mod nesting;
+#[cfg(test)]
+mod numbers;
+#[cfg(test)]
+mod rooms;
