@@ -1,5 +1,5 @@
 -- What a command of `wac` comes to.
-use Rattle.std.specs.Prelude.{◌≡◌, ℕ, List, IsUtf8, string_bytes}
+use Rattle.std.specs.Prelude.{ℕ, List, IsUtf8, string_bytes}
 use Rattle.wac_tool.specs.Running.{Refuses, Writes}
 use Rattle.wac_tool.specs.declared.command.Command.{Command}
 use Rattle.wac_tool.specs.declared.error.RunError.{RunError}

@@ -7,7 +7,7 @@ use Rattle.wac_error_diagnostics.specs.Reading.{IsNotUtf8, IsMarked}
 use Rattle.wac_first_error.specs.Findings.{IsOfText}
 use Rattle.wac_first_error.specs.Verdicts.{IsGood, IsUnresolved}
 use Rattle.wac_calls_answers.specs.declared.outcome.Outcome.{Outcome}
-use Rattle.wac_calls_answers.specs.declared.outcome.Outcome.TheVariants.{Written, Rejected, NotUtf8, OutOfMemory, NestedTooDeep, BadPackage}
+use Rattle.wac_calls_answers.specs.declared.outcome.Outcome.TheVariants.{Written, OutOfMemory}
 
 -- the bytes have no error that is asked for: they are a document that breaks no rule, or one that mentions foreign packages
 abbrev pub IsWell : List ℕ → Type 0
