@@ -1,5 +1,6 @@
 //! Requests of a client.
 use crate::fields::{count, field, uri};
+use crate::notice::{Range, read_range};
 use crate::refusal::{Code, Refusal};
 use serde_json::Value;
 use std::alloc::{AllocError, Global};
@@ -47,6 +48,18 @@ pub enum Call {
     SemanticTokens {
         /// Its name.
         uri: String,
+    },
+    /// Which parts of a document can be folded.
+    FoldingRange {
+        /// Its name.
+        uri: String,
+    },
+    /// What mends a part of a document.
+    CodeAction {
+        /// Its name.
+        uri: String,
+        /// The part.
+        range: Range,
     },
 }
 
@@ -123,6 +136,27 @@ fn read_formatting(alloc: Global, params: &Value) -> Result<CallResult, AllocErr
     }
 }
 
+/// What mends a part of a document.
+fn read_action(uri: String, params: &Value) -> CallResult {
+    match field(params, "range").and_then(read_range) {
+        Some(range) => Ok(Call::CodeAction { uri, range }),
+        None => Err(INVALID_PARAMS),
+    }
+}
+
+/// What a request about a document asks for, beside its name.
+fn read_about(alloc: Global, method: &str, params: &Value) -> Result<CallResult, AllocError> {
+    let Some(uri) = uri(alloc, params)? else {
+        return Ok(Err(INVALID_PARAMS));
+    };
+    match method {
+        "textDocument/documentSymbol" => Ok(Ok(Call::DocumentSymbol { uri })),
+        "textDocument/semanticTokens/full" => Ok(Ok(Call::SemanticTokens { uri })),
+        "textDocument/foldingRange" => Ok(Ok(Call::FoldingRange { uri })),
+        _ => Ok(read_action(uri, params)),
+    }
+}
+
 /// What a request of this method asks for.
 pub(crate) fn read_call(
     alloc: Global,
@@ -136,14 +170,10 @@ pub(crate) fn read_call(
         },
         "shutdown" => Ok(Ok(Call::Shutdown)),
         "textDocument/formatting" => read_formatting(alloc, params),
-        "textDocument/documentSymbol" => match uri(alloc, params)? {
-            Some(uri) => Ok(Ok(Call::DocumentSymbol { uri })),
-            None => Ok(Err(INVALID_PARAMS)),
-        },
-        "textDocument/semanticTokens/full" => match uri(alloc, params)? {
-            Some(uri) => Ok(Ok(Call::SemanticTokens { uri })),
-            None => Ok(Err(INVALID_PARAMS)),
-        },
+        "textDocument/documentSymbol"
+        | "textDocument/semanticTokens/full"
+        | "textDocument/foldingRange"
+        | "textDocument/codeAction" => read_about(alloc, method, params),
         _ => Ok(Err(NO_METHOD)),
     }
 }

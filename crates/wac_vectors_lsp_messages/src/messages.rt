@@ -46,7 +46,7 @@ static WRONG: [Row; 15] = [
 ];
 
 /// Requests, and those that are refused.
-static REQUESTS: [Row; 18] = [
+static REQUESTS: [Row; 21] = [
     (
         "{\"jsonrpc\":\"2.0\",\"id\":1,\"method\":\"shutdown\"}",
         "request 1 shutdown",
@@ -114,6 +114,18 @@ static REQUESTS: [Row; 18] = [
     (
         "{\"id\":5,\"method\":\"textDocument/documentSymbol\",\"params\":{\"textDocument\":\"x\"}}",
         "request 5 refused -32602",
+    ),
+    (
+        "{\"id\":7,\"method\":\"textDocument/foldingRange\",\"params\":{\"textDocument\":{\"uri\":\"x\"}}}",
+        "request 7 folds x",
+    ),
+    (
+        "{\"id\":8,\"method\":\"textDocument/codeAction\",\"params\":{\"textDocument\":{\"uri\":\"x\"},\"range\":{\"start\":{\"line\":1,\"character\":0},\"end\":{\"line\":2,\"character\":0}},\"context\":{\"diagnostics\":[]}}}",
+        "request 8 actions x 1 to 2",
+    ),
+    (
+        "{\"id\":8,\"method\":\"textDocument/codeAction\",\"params\":{\"textDocument\":{\"uri\":\"x\"}}}",
+        "request 8 refused -32602",
     ),
     (
         "{\"id\":6,\"method\":\"textDocument/semanticTokens/full\",\"params\":{\"textDocument\":{\"uri\":\"x\"}}}",
@@ -213,6 +225,12 @@ fn call_words(alloc: Global, call: &Call) -> Result<String, AllocError> {
         }
         Call::DocumentSymbol { uri } => format!(in alloc; "symbols {uri}"),
         Call::SemanticTokens { uri } => format!(in alloc; "tokens {uri}"),
+        Call::FoldingRange { uri } => format!(in alloc; "folds {uri}"),
+        Call::CodeAction { uri, range } => {
+            let line = range.start.line;
+            let end_line = range.end.line;
+            format!(in alloc; "actions {uri} {line} to {end_line}")
+        }
     }
 }
 

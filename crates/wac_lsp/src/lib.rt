@@ -1,0 +1,21 @@
+//! A language server: its state, what it answers to a message, and the loop over a reader and a writer.
+//!
+//! ```text
+//! let status = serve(alloc, &mut input, &mut output, VERSION)?;      // 0 after shutdown and exit
+//! ```
+#![tactic(auto)]
+
+mod actions;
+mod diagnostics;
+mod documents;
+mod folding;
+mod formatting;
+mod outline;
+mod places;
+mod server;
+mod serving;
+mod symbols;
+mod tokens;
+
+pub use server::{Outcome, Sent, Server, answer, step};
+pub use serving::{ServeError, serve};
