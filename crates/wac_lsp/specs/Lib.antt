@@ -1,0 +1,3 @@
+pub mod Formatting
+pub mod Opened
+pub mod Replies
