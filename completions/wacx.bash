@@ -4,7 +4,7 @@ _wacx() {
     local word=$2 before=$3 command='' words='' files='' at suffix
     for ((at = 1; at < COMP_CWORD; at++)); do
         case ${COMP_WORDS[at]} in
-        fmt | check | packages | graph | package | targets | help)
+        fmt | check | packages | graph | help)
             command=${COMP_WORDS[at]}
             break
             ;;
@@ -16,34 +16,23 @@ _wacx() {
     fmt,--stdin-filepath) words='' files=wac ;;
     fmt,--color) words='auto always never' ;;
     check,--output) words='human json github' ;;
-    check,--packages) words='' files=wac ;;
-    check,--package) words='' ;;
+    check,--packages) words='' files=yes ;;
     check,--world) words='' ;;
-    check,--stdin-filepath) words='' files=wac ;;
+    check,--stdin-filepath) words='' files=yes ;;
     check,--color) words='auto always never' ;;
-    packages,--packages) words='' files=wac ;;
-    packages,--package) words='' ;;
+    packages,--packages) words='' files=yes ;;
     packages,--world) words='' ;;
     packages,--color) words='auto always never' ;;
     graph,--output) words='text json dot' ;;
-    graph,--packages) words='' files=wac ;;
-    graph,--package) words='' ;;
+    graph,--packages) words='' files=yes ;;
     graph,--world) words='' ;;
     graph,--color) words='auto always never' ;;
-    package,--name) words='' ;;
-    package,--output) words='wac json' ;;
-    package,--color) words='auto always never' ;;
-    targets,--world) words='' ;;
-    targets,--output) words='human json github' ;;
-    targets,--color) words='auto always never' ;;
-    ,*) words='fmt check packages graph package targets help -h --help -V --version' ;;
-    fmt,*) words='--check --diff --indent --line-end --stdin-filepath --color --quiet -h --help' files='wac' ;;
-    check,*) words='--output --packages --package --agree --world --stdin-filepath --color --quiet -h --help' files='wac' ;;
-    packages,*) words='--packages --package --agree --world --color -h --help' files='wac' ;;
-    graph,*) words='--output --packages --package --agree --world --color -h --help' files='wac' ;;
-    package,*) words='--name --output --color -h --help' files='wasm' ;;
-    targets,*) words='--world --output --color -h --help' files='wac wasm' ;;
-    help,*) words='fmt check packages graph package targets' ;;
+    ,*) words='fmt check packages graph help -h --help -V --version' ;;
+    fmt,*) words='--check --diff --indent --line-end --stdin-filepath --color --quiet -h --help' files=yes ;;
+    check,*) words='--output --packages --world --stdin-filepath --color --quiet -h --help' files=yes ;;
+    packages,*) words='--packages --world --color -h --help' files=yes ;;
+    graph,*) words='--output --packages --world --color -h --help' files=yes ;;
+    help,*) words='fmt check packages graph' ;;
     esac
     mapfile -t COMPREPLY < <(compgen -W "$words" -- "$word")
     if [[ -n $files && $word != -* ]]; then

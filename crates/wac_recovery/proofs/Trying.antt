@@ -1,5 +1,5 @@
 -- One attempt after another.
-use Rattle.std.proofs.Common.{◌≡◌, ap, ap₂, ◌∙◌, subst, ℕ, List, ◌++◌, length, max, Some, None}
+use Rattle.std.proofs.Common.{◌≡◌, ap, ap₂, ◌∙◌, subst, ℕ, List, ◌++◌, length, max, Option, Some, None}
 use Rattle.std.specs.Prelude.{option_map}
 use Rattle.wac_lexer.specs.Span.{Span}
 use Rattle.wac_recovery.specs.Attempts.{Attempt, attempt_of, front, next, without, without_found}
@@ -7,6 +7,7 @@ use Rattle.wac_recovery.specs.Blanked.{blanked}
 use Rattle.wac_recovery.specs.Faults.{IsWrongWith, moved_back, place_of, wrong_of}
 use Rattle.wac_recovery.specs.Recovered.{IsRound}
 use Rattle.wac_recovery.specs.Statements.{part_at}
+use Rattle.wac_recovery.specs.declared.attempt.Attempt.{Attempt as CodeAttempt}
 use Rattle.wac_recovery.specs.declared.fault.Fault.{Fault}
 use Rattle.wac_recovery.specs.declared.recovery.Round.{Round}
 

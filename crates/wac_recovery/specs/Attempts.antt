@@ -1,5 +1,5 @@
 -- The texts that are tried, one after another.
-use Rattle.std.specs.Prelude.{◌≡◌, codes, ℕ, max, List, [], ◌++◌, ◌&&◌, nat_eq, length, drop, Option, Some, None, string_bytes, if◌then◌else◌}
+use Rattle.std.specs.Prelude.{◌≡◌, codes, ℕ, max, List, [], ◌++◌, Bool, ◌&&◌, nat_eq, length, drop, Option, Some, None, string_bytes, if◌then◌else◌}
 use Rattle.std.specs.Str.{IsCharBoundary}
 use Rattle.wac_lexer.specs.Span.{Span}
 use Rattle.wac_recovery.specs.Blanked.{blanked}

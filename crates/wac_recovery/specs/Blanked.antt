@@ -2,7 +2,7 @@
 use Rattle.std.specs.Prelude.{◌≡◌, refl, codes, ℕ, List, ◌++◌, Bool, ◌||◌, nat_eq, take, drop, map, if◌then◌else◌}
 use Rattle.wac_lexer.specs.Ascii.{carriage_return, line_feed}
 use Rattle.wac_lexer.specs.Reading.{slice}
-use Rattle.wac_lexer.specs.Span.{Span, span}
+use Rattle.wac_lexer.specs.Span.{Span, span, end_of}
 
 -- whether a byte belongs to the end of a line
 abbrev pub is_line_end : ℕ → Bool

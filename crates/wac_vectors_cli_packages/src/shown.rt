@@ -1,7 +1,6 @@
 // `wacx packages` and `wacx graph` over files in memory.
 use crate::runs::{File, Row, Word, differences};
 use std::test::Fail;
-use wac_cli_packages::Form;
 
 const CACHE: File = (
     "p/cache.wac",

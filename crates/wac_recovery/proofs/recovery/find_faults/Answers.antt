@@ -1,13 +1,13 @@
-use Rattle.std.proofs.Common.{◌≡◌, refl, subst, inl, inr, ◌-◌, arith}
+use Rattle.std.proofs.Common.{◌≡◌, refl, subst, inl, inr, ◌-◌, arith, Some}
 use Rattle.std.specs.Prelude.{MatchOption, map}
 use Rattle.wac_recovery.specs.Attempts.{attempt_of, whole}
 use Rattle.wac_recovery.specs.Faults.{IsFaultless, wrong_of}
 use Rattle.wac_recovery.specs.Recovered.{IsRound}
 use Rattle.wac_recovery.proofs.Rounds.{begins, ends, last_round, more_rounds, recovered}
 use Rattle.wac_recovery.proofs.recovery.find_faults.Goals as goal
-use Rattle.wac_recovery.proofs.recovery.find_faults.Goals.{In_ok-push}
+use Rattle.wac_recovery.proofs.recovery.find_faults.Goals.{After-in_ok-push}
 
-round : (c : In_ok-push) → IsRound (attempt_of c.loop-count.attempt) c.in-Some.round
+round : (c : After-in_ok-push) → IsRound (attempt_of c.loop-count.attempt) c.in-Some.round
 round c =
     let a = attempt_of c.loop-count.attempt in
     subst (λ o. MatchOption o (IsFaultless a.text) (λ r. IsRound a r)) c.in-Some.is c.in_ok-round.ensures
@@ -28,12 +28,12 @@ returns-in-None c =
     let a = attempt_of c.loop-count.attempt in
     recovered c.args.source.now c.args.limit c.recovery_of-in-None.result c.push.new.self.items a c.recovery_of-in-None.ensures.faults c.recovery_of-in-None.ensures.left
     (last_round c.args.limit c.loop-count._count (whole c.args.source.now) c.loop-count.faults.items c.push.new.self.items a c.in-Some.round c.loop-count.invariant c.loop-count-test.true
-    (round (goal.at.returns-in-None c).In_ok-push) c.in_ok-push.ensures.items c.in-None.is)
+    (round (goal.at.returns-in-None c).After-in_ok-push) c.in_ok-push.ensures.items c.in-None.is)
 
 pub loop-count-preserved : goal.loop-count-preserved
 loop-count-preserved c =
     more_rounds c.args.limit c.loop-count._count (whole c.args.source.now) c.loop-count.faults.items c.push.new.self.items (attempt_of c.loop-count.attempt) c.in-Some.round c.loop-count.invariant
-    c.loop-count-test.true (round (goal.at.loop-count-preserved c).In_ok-push) c.in_ok-push.ensures.items c.in-Some-next.next c.in-Some-next.is
+    c.loop-count-test.true (round (goal.at.loop-count-preserved c).After-in_ok-push) c.in_ok-push.ensures.items c.in-Some-next.next c.in-Some-next.is
 
 pub returns : goal.returns
 returns c =

@@ -1,4 +1,5 @@
-use Rattle.std.proofs.Common.{◌≡◌, ◌≤◌, ◌<◌, ◌+◌, ◌-◌, ◌∙◌, sym, ap, subst, length, arith, rules, Some}
+use Rattle.std.proofs.Common.{◌≡◌, ◌≤◌, ◌<◌, ◌+◌, ◌^◌, ◌∙◌, sym, ap, subst, length, arith, rules, Some, None}
+use Rattle.std.specs.Prelude.{IfSome}
 use Rattle.wac_lexer.specs.Item.{handed, behind_first}
 use Rattle.wac_lexer.specs.Reading.{left, Slices}
 use Rattle.wac_lexer.specs.Span.{Span, end_of}
@@ -36,11 +37,7 @@ tests : (c : After-ends) → c.ends.result ≡ ends c.with_item-statement.result
 tests c = c.ends.ensures
 
 moves : (c : After-ends) → c.loop-item.lexer.place < c.next.new.self.place
-moves c =
-    let goes = c.in-Some.ensures.goes.on tt in
-    let less : length c.next.new.self.source - c.next.new.self.place < length c.loop-item.lexer.source - c.loop-item.lexer.place = goes.2 in
-    let same : length c.next.new.self.source ≡ length c.loop-item.lexer.source = ap length c.in-Some.ensures.steps.source in
-    omega (arith, less, same)
+moves c = search rules
 
 within : (c : After-ends) → c.next.new.self.place ≤ length c.args.source.now
 within c =
