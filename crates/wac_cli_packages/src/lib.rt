@@ -1,8 +1,8 @@
 //! The commands of `wacx` that know packages, over any files and any writers.
 //!
-//! [`check_with_packages`] is `wacx check --packages`, [`list_packages`] is `wacx packages`, and
-//! [`show_graph_with_packages`] is `wacx graph --packages`. Packages are documents that declare them;
-//! `docs/PACKAGES.md` says how.
+//! [`check_with_packages`] is `wacx check --packages`, [`list_packages`] is `wacx packages`,
+//! [`show_graph_with_packages`] is `wacx graph --packages`, and [`check_target`] is `wacx targets`. Documents declare
+//! packages, or components have them; `docs/PACKAGES.md` says how.
 #![tactic(auto)]
 
 mod checking;
@@ -13,10 +13,13 @@ mod options;
 mod reading;
 mod sources;
 mod supply;
+mod targets;
 mod verdicts;
+mod worlds;
 
 pub use checking::check_with_packages;
 pub use graphing::show_graph_with_packages;
 pub use listing::list_packages;
 pub use options::Given;
+pub use targets::check_target;
 pub use wac_graph_outputs::Form;

@@ -12,7 +12,8 @@ pub struct Given<'g> {
     pub components: &'g [(&'g str, &'g str)],
     /// Whether a package may be declared and have a component, if the two agree.
     pub may_agree: bool,
-    /// Names of packages, with their versions, each with the world that is chosen. Of two worlds of a package the last is.
+    /// Names of packages, with their versions, each with the world that is chosen. Of two worlds of a package the last
+    /// is.
     pub worlds: &'g [(&'g str, &'g str)],
     /// The form of errors.
     pub report: Report,

@@ -38,6 +38,8 @@ pub struct Components {
     pub all: Vec<Component>,
     /// Their packages.
     pub packages: IndexMap<PackageKey, Package>,
+    /// The files that give no package, but whose packages' names are known.
+    pub rejected: Vec<Component>,
     /// What became of the files without a package.
     pub outcomes: Vec<Outcome>,
 }
@@ -55,6 +57,7 @@ pub fn read_components<F: FileSystem, O: Write + Drop, E: Write + Drop>(
     let mut components = Components {
         all: Vec::new(alloc),
         packages: IndexMap::new(alloc),
+        rejected: Vec::new(alloc),
         outcomes: Vec::new(alloc),
     };
     let found = all_files(alloc, files, sought)?;
@@ -138,7 +141,23 @@ impl Components {
             },
             Err(error) => console.failed(alloc, sought.report, path, error),
         };
+        self.reject(alloc, file, outcome)
+    }
+
+    /// Keeps what became of a file that gives no package.
+    fn reject(
+        &mut self,
+        alloc: Global,
+        file: &ComponentFile,
+        outcome: Outcome,
+    ) -> Result<(), AllocError> {
         self.outcomes.push(outcome)?;
+        if let Some(key) = &file.key {
+            self.rejected.push(Component {
+                path: String::from_str(alloc, file.path.as_str())?,
+                key: String::from_str(alloc, key.as_str())?,
+            })?;
+        }
         Ok(())
     }
 

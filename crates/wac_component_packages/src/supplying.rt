@@ -13,7 +13,7 @@ use wac_package_comparison::difference;
 #[derive(Drop)]
 pub struct Supplied<'s> {
     pub packages: &'s mut IndexMap<PackageKey, Package>,
-    /// The number of the file of a package, also where its document has an error.
+    /// The number of the file of a package, also where the file has an error.
     pub files: &'s mut IndexMap<PackageKey, usize>,
     /// The names of the files.
     pub names: &'s mut Vec<String>,
@@ -41,6 +41,7 @@ pub fn supply_components<O: Write + Drop, E: Write + Drop>(
     let Components {
         all,
         packages,
+        rejected,
         mut outcomes,
     } = components;
     let mut all = all.into_iter();
@@ -54,6 +55,7 @@ pub fn supply_components<O: Write + Drop, E: Write + Drop>(
             outcomes.push(supply(alloc, console, report, decoded, supplied)?)?;
         }
     }
+    supplied.name_all(alloc, rejected)?;
     Ok(outcomes)
 }
 
@@ -91,6 +93,18 @@ impl Supplied<'_> {
         self.files.insert(listed, self.names.len())?;
         self.names.push(component.path)?;
         self.packages.insert(key, package)?;
+        Ok(())
+    }
+
+    /// Adds the files that give no package, each under the name of its package, unless another file has that.
+    fn name_all(&mut self, alloc: Global, rejected: Vec<Component>) -> Result<(), AllocError> {
+        for component in rejected {
+            let key = package_key(alloc, component.key.as_str())?;
+            if !self.files.contains_key(&key) {
+                self.files.insert(key, self.names.len())?;
+                self.names.push(component.path)?;
+            }
+        }
         Ok(())
     }
 

@@ -15,7 +15,7 @@ pub struct KnownPackages<'k> {
 }
 
 impl<'k> KnownPackages<'k> {
-    /// Whether a mentioned package is declared by a text with an error, or by one that mentions such a text.
+    /// Whether a mentioned package has a file with an error, or a document that mentions such a package.
     pub fn has_faulty(self, mentioned: &IndexMap<PackageKey, SourceSpan>) -> bool {
         for (key, _) in mentioned.iter() {
             if self.declared.texts.contains_key(key) && !self.declared.packages.contains_key(key) {
@@ -46,7 +46,7 @@ impl<'k> KnownPackages<'k> {
             }
         }
         if help.is_empty() {
-            help.push_str("no document of --packages declares it")?;
+            help.push_str("no file of --packages has it")?;
         }
         Ok(help)
     }

@@ -15,12 +15,15 @@ struct Imports {
 }
 
 /// The package with a world that imports, too, what the package's world implies: each interface whose types its items
-/// use, and those whose types these use. It has no definitions.
+/// use, and those whose types these use. An export that uses types of another export uses what is exported, so that this
+/// implies no import. The package has no definitions.
 ///
 /// Tools give a component such imports, which a document need not name. What the world imports under such a name stays.
 ///
 /// ```text
-/// interface i { resource r; }  interface j { use i.{r}; }  world w { export j; }     it imports `a:b/i`
+/// interface i { resource r; }  interface j { use i.{r}; }
+/// world v { export j; }                 it imports `a:b/i`
+/// world w { export i; export j; }       it imports nothing
 /// ```
 pub fn with_implied_imports(alloc: Global, package: &Package) -> Result<Package, PackageError>
     ensures { IfOk result IsPackage }
@@ -76,8 +79,8 @@ impl Imports {
             pending: Vec::new(alloc),
         };
         imports.look_at(&world.imports)?;
-        imports.look_at(&world.exports)?;
         imports.add_used(alloc, types, &world.uses)?;
+        imports.add_used_by_exports(alloc, types, &world.exports)?;
         Ok(imports)
     }
 
@@ -106,6 +109,39 @@ impl Imports {
         Ok(())
     }
 
+    /// Adds the interfaces whose types exports use.
+    fn add_used_by_exports(
+        &mut self,
+        alloc: Global,
+        types: &Types,
+        exports: &IndexMap<String, ItemKind>,
+    ) -> Result<(), AllocError> {
+        for (_, kind) in exports.iter() {
+            if let Some(uses) = uses_of(types, *kind) {
+                self.add_used_but(alloc, types, uses, exports)?;
+            }
+        }
+        Ok(())
+    }
+
+    /// Adds the interfaces whose types are used, but those that are exported.
+    fn add_used_but(
+        &mut self,
+        alloc: Global,
+        types: &Types,
+        uses: &IndexMap<String, UsedType>,
+        exports: &IndexMap<String, ItemKind>,
+    ) -> Result<(), AllocError> {
+        for (_, used) in uses.iter() {
+            if let Some(interface) = types.interface(used.interface) {
+                if !is_named_in(interface, exports) {
+                    self.add(alloc, used.interface, interface)?;
+                }
+            }
+        }
+        Ok(())
+    }
+
     /// Adds an interface, unless something is imported under its id, or it has none.
     fn add(
         &mut self,
@@ -122,5 +158,24 @@ impl Imports {
             self.pending.push(id)?;
         }
         Ok(())
+    }
+}
+
+/// The types that an instance uses; nothing of another kind.
+fn uses_of(types: &Types, kind: ItemKind) -> Option<&IndexMap<String, UsedType>> {
+    match kind {
+        ItemKind::Instance(id) => match types.interface(id) {
+            Some(interface) => Some(&interface.uses),
+            None => None,
+        },
+        _ => None,
+    }
+}
+
+/// Whether items have the id of an interface as a name.
+fn is_named_in(interface: &Interface, items: &IndexMap<String, ItemKind>) -> bool {
+    match &interface.id {
+        Some(name) => items.contains_key(name.as_str()),
+        None => false,
     }
 }

@@ -1,15 +1,15 @@
 // What `wacx targets` says. Lines, columns and paths are counted by hand.
 use crate::components::Component;
-use crate::runs::{TargetRow, run_targets, target_differences};
+use crate::runs::{TargetRow, given_of, run_targets, target_differences};
 use std::test::Fail;
-use wac_cli_components::TargetOptions;
 use wac_cli_console::Report;
 use wac_files::MemoryFiles;
 
-static FITTING: [TargetRow; 4] = [
+static FITTING: [TargetRow; 5] = [
     TargetRow {
         component: Component::Plain,
         text: "package a:b;\nworld w { import log: func(line: string); export run: func(line: string); }\n",
+        packages: &[],
         world: None,
         report: Report::Human,
         status: 0,
@@ -20,6 +20,7 @@ static FITTING: [TargetRow; 4] = [
     TargetRow {
         component: Component::Plain,
         text: "package a:b;\nworld w { import log: func(line: string); import now: func() -> u64; }\n",
+        packages: &[],
         world: None,
         report: Report::Human,
         status: 0,
@@ -29,7 +30,19 @@ static FITTING: [TargetRow; 4] = [
     TargetRow {
         component: Component::Plain,
         text: "package a:b;\nworld v { }\nworld w { import log: func(line: string); }\n",
+        packages: &[],
         world: Some("w"),
+        report: Report::Human,
+        status: 0,
+        output: "",
+        errors: "",
+    },
+    // The types of the world are those of another package.
+    TargetRow {
+        component: Component::Plain,
+        text: "package a:b;\nworld w { use c:d/e.{line}; import log: func(line: line); export run: func(line: line); }\n",
+        packages: &["deps.wac"],
+        world: None,
         report: Report::Human,
         status: 0,
         output: "",
@@ -44,6 +57,7 @@ static FITTING: [TargetRow; 4] = [
             interface x2 { use x.{ r }; f: func() -> r; }\n\
             interface z { use y.{ r as r2 }; f2: func() -> r2; }\n\
             world w { export z; export x2; }\n",
+        packages: &[],
         world: None,
         report: Report::Human,
         status: 0,
@@ -56,6 +70,7 @@ static MISFITS: [TargetRow; 4] = [
     TargetRow {
         component: Component::Plain,
         text: "package a:b;\nworld w { export run: func(line: string); }\n",
+        packages: &[],
         world: None,
         report: Report::Human,
         status: 1,
@@ -65,6 +80,7 @@ static MISFITS: [TargetRow; 4] = [
     TargetRow {
         component: Component::Plain,
         text: "package a:b;\nworld w { import log: func(line: u8); }\n",
+        packages: &[],
         world: None,
         report: Report::Human,
         status: 1,
@@ -74,6 +90,7 @@ static MISFITS: [TargetRow; 4] = [
     TargetRow {
         component: Component::Plain,
         text: "package a:b;\nworld w { import log: func(line: string); export stop: func(); }\n",
+        packages: &[],
         world: None,
         report: Report::Human,
         status: 1,
@@ -83,6 +100,7 @@ static MISFITS: [TargetRow; 4] = [
     TargetRow {
         component: Component::Plain,
         text: "package a:b;\nworld w { import log: func(line: string); export run: func(line: string) -> u8; }\n",
+        packages: &[],
         world: None,
         report: Report::Json,
         status: 1,
@@ -94,10 +112,11 @@ static MISFITS: [TargetRow; 4] = [
     },
 ];
 
-static WRONG: [TargetRow; 5] = [
+static WRONG: [TargetRow; 6] = [
     TargetRow {
         component: Component::Plain,
         text: "package a:b;\ninterface i { }\n",
+        packages: &[],
         world: None,
         report: Report::Human,
         status: 1,
@@ -107,6 +126,7 @@ static WRONG: [TargetRow; 5] = [
     TargetRow {
         component: Component::Plain,
         text: "package a:b;\nworld v { }\nworld w { }\n",
+        packages: &[],
         world: None,
         report: Report::Human,
         status: 1,
@@ -117,6 +137,7 @@ static WRONG: [TargetRow; 5] = [
     TargetRow {
         component: Component::Plain,
         text: "package a:b;\nworld v { }\n",
+        packages: &[],
         world: Some("w"),
         report: Report::Human,
         status: 1,
@@ -126,18 +147,34 @@ static WRONG: [TargetRow; 5] = [
     TargetRow {
         component: Component::Plain,
         text: "package a:b;\nworld w { import c:d/e; }\n",
+        packages: &[],
         world: None,
         report: Report::Human,
         status: 1,
         output: "",
         errors: "world.wac:2:18: error[wac::unknown-package]: unknown package `c:d`\n\
             2 | world w { import c:d/e; }\n\
-            \x20 |                  ^^^\n",
+            \x20 |                  ^^^\n\
+            help: no file of --packages has it\n",
+    },
+    TargetRow {
+        component: Component::Plain,
+        text: "package a:b;\nworld w { import c:d/f; }\n",
+        packages: &["deps.wac"],
+        world: None,
+        report: Report::Human,
+        status: 1,
+        output: "",
+        errors: "world.wac:2:22: error[wac::package-missing-export]: package `c:d` has no export named `f`\n\
+            2 | world w { import c:d/f; }\n\
+            \x20 |                      ^\n\
+            help: `c:d` has `e`\n",
     },
     // Both files are wrong.
     TargetRow {
         component: Component::FixedList,
         text: "package a:b;\nworld w = v;\n",
+        packages: &[],
         world: None,
         report: Report::Human,
         status: 1,
@@ -174,12 +211,9 @@ fn what_is_wrong_with_the_files_is_reported(rt: HostRuntime) -> Result<(), Fail>
 fn a_world_that_is_missing_is_reported(rt: HostRuntime) -> Result<(), Fail> {
     let mut files = MemoryFiles::new(rt.alloc());
     files.file(rt.alloc(), "app.wasm", Component::Plain.bytes())?;
-    let options = TargetOptions {
-        world: None,
-        report: Report::Human,
-    };
+    let given = (given_of(&[], Report::Human), None);
     let paths = ("app.wasm", "none.wac");
-    let (status, output, errors) = run_targets(rt.alloc(), &mut files, options, paths);
+    let (status, output, errors) = run_targets(rt.alloc(), &mut files, given, paths);
     assert!(rt; status == 3 && output.is_empty(), "{status}");
     let errors = str::from_utf8(errors.as_slice()).unwrap_or("?");
     let wanted = "none.wac: error[wac::not-found]: no such file or folder\n";

@@ -1,4 +1,4 @@
-//! Tests of `wac_cli_components`: what `wacx package` and `wacx targets` write, and which status they return.
+//! Tests of the commands on components: what `wacx package` and `wacx targets` write, and which status they return.
 #![tactic(auto)]
 
 #[cfg(test)]

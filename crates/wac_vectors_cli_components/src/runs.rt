@@ -1,8 +1,9 @@
 // Runs over files in memory.
 use crate::components::Component;
 use std::alloc::{AllocError, Global};
-use wac_cli_components::{PackageForm, TargetOptions, check_target, show_package};
+use wac_cli_components::{PackageForm, show_package};
 use wac_cli_console::{Console, Report};
+use wac_cli_packages::{Given, check_target};
 use wac_files::MemoryFiles;
 
 /// The status, the output and the errors of a run.
@@ -19,17 +20,21 @@ pub(crate) struct PackageRow {
     pub(crate) errors: &'static str,
 }
 
-/// What the files `app.wasm` and `world.wac` hold, the options, and the status, the output and the errors that are
-/// expected.
+/// What the files `app.wasm` and `world.wac` hold, the files of packages, of which `deps.wac` declares `c:d`, the
+/// options, and the status, the output and the errors that are expected.
 pub(crate) struct TargetRow {
     pub(crate) component: Component,
     pub(crate) text: &'static str,
+    pub(crate) packages: &'static [&'static str],
     pub(crate) world: Option<&'static str>,
     pub(crate) report: Report,
     pub(crate) status: u8,
     pub(crate) output: &'static str,
     pub(crate) errors: &'static str,
 }
+
+/// What the file of packages holds.
+const DEPENDENCIES: &str = "package c:d;\ninterface e { type line = string; }\n";
 
 /// A run of `package` on a path.
 pub(crate) fn run_package(
@@ -51,14 +56,14 @@ pub(crate) fn run_package(
 pub(crate) fn run_targets(
     alloc: Global,
     files: &mut MemoryFiles,
-    options: TargetOptions<'_>,
+    given: (Given<'_>, Option<&str>),
     paths: (&str, &str),
 ) -> Ran {
     let mut output = Vec::new(alloc);
     let mut errors = Vec::new(alloc);
     let status = {
         let mut console = Console::new(&mut output, &mut errors, false, false);
-        check_target(alloc, files, &mut console, options, paths)
+        check_target(alloc, files, &mut console, given, paths)
     };
     (status.code(), output, errors)
 }
@@ -81,15 +86,24 @@ fn package_difference(alloc: Global, row: &PackageRow) -> Result<String, AllocEr
     difference(alloc, &ran, (row.status, row.output, row.errors))
 }
 
+/// Packages, and the form of errors.
+pub(crate) fn given_of<'g>(packages: &'g [&'g str], report: Report) -> Given<'g> {
+    Given {
+        packages,
+        components: &[],
+        may_agree: false,
+        worlds: &[],
+        report,
+    }
+}
+
 fn target_difference(alloc: Global, row: &TargetRow) -> Result<String, AllocError> {
     let mut files = MemoryFiles::new(alloc);
     files.file(alloc, "app.wasm", row.component.bytes())?;
     files.file(alloc, "world.wac", row.text.as_bytes())?;
-    let options = TargetOptions {
-        world: row.world,
-        report: row.report,
-    };
-    let ran = run_targets(alloc, &mut files, options, ("app.wasm", "world.wac"));
+    files.file(alloc, "deps.wac", DEPENDENCIES.as_bytes())?;
+    let given = (given_of(row.packages, row.report), row.world);
+    let ran = run_targets(alloc, &mut files, given, ("app.wasm", "world.wac"));
     difference(alloc, &ran, (row.status, row.output, row.errors))
 }
 

@@ -12,7 +12,7 @@ const WORLDS: File = (
     "package d:two;\nworld v { export f: func(); }\nworld w { export g: func(); }\n",
 );
 
-static WELL: [Row; 3] = [
+static WELL: [Row; 4] = [
     Row {
         files: &[
             (
@@ -58,6 +58,21 @@ static WELL: [Row; 3] = [
         errors: "p/bad.wac:2:8: error[wac::other-statement]: a document that declares a package has type statements alone\n\
             2 | import f: func();\n  |        ^\n\
             help: a file of --packages has interfaces, worlds and types; check compositions as APP.wac\n\
+            2 files, 1 with errors, 1 not resolved\n",
+    },
+    // Nor has what mentions a package whose component has an error.
+    Row {
+        files: &[
+            ("app.wac", "package a:b;\nlet c = new c:bad { };\n"),
+            ("p/c/bad.wasm", "no component\n"),
+        ],
+        word: Word::Check,
+        packages: &["p/c/bad.wasm"],
+        worlds: &[],
+        status: 1,
+        output: "",
+        errors: "p/c/bad.wasm: error[wac::component-magic]: at byte 0: not a WebAssembly binary\n\
+            help: this command reads the binary form of components, and no text\n\
             2 files, 1 with errors, 1 not resolved\n",
     },
 ];

@@ -229,8 +229,8 @@ fn pairs_of<'a>(
     let mut pairs = Vec::new(alloc);
     for value in all_of(alloc, found, name)? {
         match value.split_once('=') {
+            None | Some((_, "")) => return Ok(None),
             Some(pair) => pairs.push(pair)?,
-            None => return Ok(None),
         }
     }
     Ok(Some(pairs))
@@ -401,6 +401,17 @@ fn graph_definition<'a>(alloc: Global, values: &'a Values<'a>) -> Result<Command
 
 /// Adds where packages are, and their worlds.
 fn with_packages<'a>(alloc: Global, command: Command<'a>) -> Result<Command<'a>, AllocError> {
+    with_supply(alloc, command)?.arg(
+        Arg::new(alloc, "world")
+            .long("world")
+            .value_name("KEY=NAME")
+            .action(ArgAction::Append)
+            .help("Chooses a world of a package that declares several, as a:b@1.0.0=w"),
+    )
+}
+
+/// Adds where packages are.
+fn with_supply<'a>(alloc: Global, command: Command<'a>) -> Result<Command<'a>, AllocError> {
     command
         .arg(
             Arg::new(alloc, "packages")
@@ -421,13 +432,6 @@ fn with_packages<'a>(alloc: Global, command: Command<'a>) -> Result<Command<'a>,
                 .long("agree")
                 .action(ArgAction::SetTrue)
                 .help("Compares packages that are declared and have a component"),
-        )?
-        .arg(
-            Arg::new(alloc, "world")
-                .long("world")
-                .value_name("KEY=NAME")
-                .action(ArgAction::Append)
-                .help("Chooses a world of a package that declares several, as a:b@1.0.0=w"),
         )
 }
 
@@ -488,7 +492,7 @@ fn targets_definition<'a>(
                 .value_name("FORM")
                 .help("The form of errors"),
         )?;
-    common(alloc, values, command)
+    common(alloc, values, with_supply(alloc, command)?)
 }
 
 fn one_path<'a>(alloc: Global, name: &'a str, shown: &'a str, help: &'a str) -> Arg<'a> {

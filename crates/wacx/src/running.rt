@@ -6,10 +6,12 @@ use std::io::{IsTerminal, Stderr, Stdout};
 use std::process::ExitCode;
 use std::{env, process};
 use wac_cli::{check_input, check_paths, format_input, format_paths};
-use wac_cli_components::{TargetOptions, check_target, show_package};
+use wac_cli_components::show_package;
 use wac_cli_console::{Console, Report, Status};
 use wac_cli_graph::show_graph;
-use wac_cli_packages::{Given, check_with_packages, list_packages, show_graph_with_packages};
+use wac_cli_packages::{
+    Given, check_target, check_with_packages, list_packages, show_graph_with_packages,
+};
 use wac_files::Disk;
 
 /// Does a task with the files and streams of the process.
@@ -76,10 +78,9 @@ fn perform_on_files(rt: &HostRuntime, task: &Task<'_>) -> Status {
             show_package(rt.alloc(), &mut files, &mut console, asked, first)
         }
         Work::Targets(report) => {
-            let world = task.world;
-            let options = TargetOptions { world, report };
+            let given = (given_of(task, report), task.world);
             let paths = (first, path_at(paths, 1));
-            check_target(rt.alloc(), &mut files, &mut console, options, paths)
+            check_target(rt.alloc(), &mut files, &mut console, given, paths)
         }
     }
 }

@@ -1,60 +1,34 @@
-// The world of a document.
-use indexmap::IndexMap;
+// The world of the document that a component is to fit.
+use crate::options::Setting;
+use crate::verdicts::first_error_of;
 use std::alloc::{AllocError, Global};
-use wac_ast::Document;
-use wac_component_rules::ComponentRules;
-use wac_composition::{flat_text, graph_with};
 use wac_diagnostics::Diagnostic;
-use wac_error_diagnostics::{Reading, parse_diagnostic, resolution_diagnostic};
-use wac_graph::{CompositionGraph, ItemKind, Package, Type};
+use wac_graph::{CompositionGraph, ItemKind, Package, PackageError, Type};
 use wac_graph_packages::{DefinitionsError, package_of};
-use wac_graph_types::PackageError;
 use wac_package_comparison::with_implied_imports;
-use wac_printer::Page;
+use wac_package_errors::Composed;
 
 /// A package whose world a component is to fit, and the world's name; or what is wrong with its document.
 #[derive(Drop)]
 pub(crate) enum Wanted {
     World(Package, String),
     Rejected(Diagnostic),
+    /// The document mentions a package that has an error, which is reported elsewhere.
+    Unresolved,
 }
 
 /// The world of a document's bytes: the one of that name, or the only one. The document is resolved by the component
-/// model's rules and without packages, so each mention of a foreign one is an error.
+/// model's rules, with known packages.
 pub(crate) fn wanted_world(
-    alloc: Global,
+    setting: Setting<'_>,
     bytes: &[u8],
     world: Option<&str>,
 ) -> Result<Wanted, AllocError> {
-    match flat_text(alloc, bytes)? {
-        Reading::Text(text) => wanted_of_text(alloc, text, world),
-        Reading::Rejected(diagnostic) => Ok(Wanted::Rejected(diagnostic)),
-    }
-}
-
-fn wanted_of_text(alloc: Global, text: &str, world: Option<&str>) -> Result<Wanted, AllocError> {
-    match Document::parse(alloc, text) {
-        Ok(document) => wanted_of_document(
-            Page {
-                document: &document,
-            },
-            alloc,
-            world,
-        ),
-        Err(error) => Ok(Wanted::Rejected(parse_diagnostic(alloc, &error)?)),
-    }
-}
-
-fn wanted_of_document(
-    page: Page<'_, '_>,
-    alloc: Global,
-    world: Option<&str>,
-) -> Result<Wanted, AllocError> {
-    let Page { document } = page;
-    let none = IndexMap::new(alloc);
-    match graph_with(Page { document }, alloc, none, &ComponentRules) {
-        Ok(graph) => wanted_of_graph(alloc, &graph, world),
-        Err(error) => Ok(Wanted::Rejected(resolution_diagnostic(alloc, &error)?)),
+    match first_error_of(setting, bytes) {
+        Ok(Composed::Resolved(graph)) => wanted_of_graph(setting.alloc, &graph, world),
+        Ok(Composed::Rejected(diagnostic)) => Ok(Wanted::Rejected(diagnostic)),
+        Ok(Composed::Unresolved) => Ok(Wanted::Unresolved),
+        Err(_) => Err(AllocError),
     }
 }
 
