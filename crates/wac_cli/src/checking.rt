@@ -4,14 +4,18 @@ ghost use Rattle.wac_cli.specs.Checked.{AreChecks, IsCheckOf, IsFoundCheck, IsRe
 
 use std::alloc::{AllocError, Global};
 use std::io::{Read, Write};
+use wac_all_errors::all_errors;
 use wac_cli_console::{
     Console, Outcome, Report, STDIN, Status, Task, finish, finish_input, read_all,
 };
 use wac_files::{FileError, FileSystem, Found, find_files};
 use wac_first_error::{Verdict, first_error};
 
-/// Reports the first error of each file that paths lead to: of parsing, or, where no foreign package is mentioned, of
-/// resolving. A last line counts the files.
+/// How many errors of a file are told.
+const MOST: usize = 100;
+
+/// Reports the errors of each file that paths lead to, at most a hundred of each: all those of parsing, and where no
+/// foreign package is mentioned, the first of resolving. A last line counts the files.
 pub fn check_paths<F: FileSystem, O: Write + Drop, E: Write + Drop>(
     alloc: Global,
     files: &mut F,
@@ -41,7 +45,7 @@ fn check_all<F: FileSystem, O: Write + Drop, E: Write + Drop>(
     check_each(alloc, files, console, report, found.as_slice())
 }
 
-/// Reports the first error of each of the files that were found. Returns what became of them: an outcome for each, in
+/// Reports the errors of each of the files that were found. Returns what became of them: an outcome for each, in
 /// order, whatever became of those before. None is `Untidy`.
 ///
 /// The error is that memory ran out: then files were checked up to one of them.
@@ -90,7 +94,7 @@ fn check_found<F: FileSystem, O: Write + Drop, E: Write + Drop>(
     }
 }
 
-/// Reports the first error of what was read. Returns what became of it.
+/// Reports the errors of what was read. Returns what became of it.
 fn checked<O: Write + Drop, E: Write + Drop>(
     alloc: Global,
     console: &mut Console<O, E>,
@@ -106,7 +110,7 @@ fn checked<O: Write + Drop, E: Write + Drop>(
     }
 }
 
-/// Reports the first error of bytes. Returns what became of them.
+/// Reports the errors of bytes. Returns what became of them.
 fn check_bytes<O: Write + Drop, E: Write + Drop>(
     alloc: Global,
     console: &mut Console<O, E>,
@@ -122,7 +126,7 @@ fn check_bytes<O: Write + Drop, E: Write + Drop>(
     }
 }
 
-/// Writes the first error of bytes. Returns what they are.
+/// Writes the errors of bytes. Returns what they are.
 fn judge<O: Write + Drop, E: Write + Drop>(
     alloc: Global,
     console: &mut Console<O, E>,
@@ -135,15 +139,30 @@ fn judge<O: Write + Drop, E: Write + Drop>(
     match first_error(alloc, bytes, true) {
         Ok(Verdict::Document(_)) => Ok(Outcome::Good),
         Ok(Verdict::Unresolved(_)) => Ok(Outcome::Unresolved),
-        Ok(Verdict::Rejected(diagnostic)) => {
-            console.report(alloc, report, path, bytes, &diagnostic)?;
+        Ok(Verdict::Rejected(_diagnostic)) => {
+            report_all(alloc, console, report, path, bytes)?;
             Ok(Outcome::Rejected)
         }
         Err(error) => Err(error),
     }
 }
 
-/// Reports the first error of a reader's text. Its name in messages is `name`, or else `<stdin>`. Nothing is written
+/// Writes the errors of bytes.
+fn report_all<O: Write + Drop, E: Write + Drop>(
+    alloc: Global,
+    console: &mut Console<O, E>,
+    report: Report,
+    path: &str,
+    bytes: &[u8],
+) -> Result<(), AllocError> {
+    let found = all_errors(alloc, bytes, true, MOST)?;
+    for finding in found.as_slice() {
+        console.report(alloc, report, path, bytes, &finding.diagnostic)?;
+    }
+    Ok(())
+}
+
+/// Reports the errors of a reader's text. Its name in messages is `name`, or else `<stdin>`. Nothing is written
 /// where all is well.
 pub fn check_input<I: Read, O: Write + Drop, E: Write + Drop>(
     alloc: Global,

@@ -31,6 +31,18 @@ fn people_read_errors(rt: HostRuntime) -> Result<(), Fail> {
 }
 
 #[test]
+fn all_errors_of_a_file_are_written(rt: HostRuntime) -> Result<(), Fail> {
+    let mut files = MemoryFiles::new(rt.alloc());
+    let text = b"package a:b;\nlet = y;\nlte x = y;\nimport cache: func();\nlet z = cahce;\n";
+    files.folder(rt.alloc(), ".")?;
+    files.file(rt.alloc(), "many.wac", text)?;
+    let run = check(rt.alloc(), &mut files, Report::Human, &["many.wac"]);
+    let said =
+        "many.wac:2:5: error[wac::expected]: expected identifier, found `=`\n2 | let = y;\n  |     ^\nmany.wac:3:1: error[wac::expected-multiple]: expected either `import` keyword, `let` keyword, `export` keyword, `interface` keyword, `world` keyword, `variant` keyword, `record` keyword, `flags` keyword, `enum` keyword, or `type` keyword, found identifier\n3 | lte x = y;\n  | ^^^\nhelp: did you mean `let`?\nmany.wac:5:9: error[wac::undefined-name]: undefined name `cahce`\n5 | let z = cahce;\n  |         ^^^^^\nhelp: did you mean `cache`?\n1 file, 1 with errors\n";
+    expect(&rt, &run, 1, "", said)
+}
+
+#[test]
 fn programs_read_objects(rt: HostRuntime) -> Result<(), Fail> {
     let mut files = tree(rt.alloc())?;
     let run = check(
