@@ -4,7 +4,7 @@ _wacx() {
     local word=$2 before=$3 command='' words='' files='' at suffix
     for ((at = 1; at < COMP_CWORD; at++)); do
         case ${COMP_WORDS[at]} in
-        fmt | check | packages | graph | package | targets | help)
+        fmt | check | packages | graph | package | targets | lsp | help)
             command=${COMP_WORDS[at]}
             break
             ;;
@@ -35,15 +35,18 @@ _wacx() {
     package,--color) words='auto always never' ;;
     targets,--world) words='' ;;
     targets,--output) words='human json github' ;;
+    targets,--packages) words='' files=wac ;;
+    targets,--package) words='' ;;
     targets,--color) words='auto always never' ;;
-    ,*) words='fmt check packages graph package targets help -h --help -V --version' ;;
+    ,*) words='fmt check packages graph package targets lsp help -h --help -V --version' ;;
     fmt,*) words='--check --diff --indent --line-end --stdin-filepath --color --quiet -h --help' files='wac' ;;
     check,*) words='--output --packages --package --agree --world --stdin-filepath --color --quiet -h --help' files='wac' ;;
     packages,*) words='--packages --package --agree --world --color -h --help' files='wac' ;;
     graph,*) words='--output --packages --package --agree --world --color -h --help' files='wac' ;;
     package,*) words='--name --output --color -h --help' files='wasm' ;;
-    targets,*) words='--world --output --color -h --help' files='wac wasm' ;;
-    help,*) words='fmt check packages graph package targets' ;;
+    targets,*) words='--world --output --packages --package --agree --color -h --help' files='wac wasm' ;;
+    lsp,*) words='--stdio -h --help' ;;
+    help,*) words='fmt check packages graph package targets lsp' ;;
     esac
     mapfile -t COMPREPLY < <(compgen -W "$words" -- "$word")
     if [[ -n $files && $word != -* ]]; then

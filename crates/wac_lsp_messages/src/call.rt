@@ -1,8 +1,10 @@
 //! Requests of a client.
 use crate::fields::{count, field, uri};
+use crate::notice::{Range, read_place, read_range};
 use crate::refusal::{Code, Refusal};
 use serde_json::Value;
 use std::alloc::{AllocError, Global};
+use wac_positions::Place;
 
 /// What a client says of itself.
 #[derive(Clone, Copy, Debug, PartialEq, Eq)]
@@ -27,8 +29,8 @@ pub struct FormattingOptions {
 /// What a client asks for.
 #[derive(Debug, Drop)]
 pub enum Call {
-    /// To begin.
-    Initialize(Initialize),
+    /// To begin, with what the client says of itself: `None` where the parameters lack its capabilities.
+    Initialize(Option<Initialize>),
     /// To prepare for the end.
     Shutdown,
     /// The edits that lay out a document.
@@ -47,6 +49,25 @@ pub enum Call {
     SemanticTokens {
         /// Its name.
         uri: String,
+    },
+    /// Which parts of a document can be folded.
+    FoldingRange {
+        /// Its name.
+        uri: String,
+    },
+    /// What is around places of a document.
+    SelectionRange {
+        /// Its name.
+        uri: String,
+        /// The places.
+        places: Vec<Place>,
+    },
+    /// What mends a part of a document.
+    CodeAction {
+        /// Its name.
+        uri: String,
+        /// The part.
+        range: Range,
     },
 }
 
@@ -123,6 +144,53 @@ fn read_formatting(alloc: Global, params: &Value) -> Result<CallResult, AllocErr
     }
 }
 
+/// What mends a part of a document.
+fn read_action(uri: String, params: &Value) -> CallResult {
+    match field(params, "range").and_then(read_range) {
+        Some(range) => Ok(Call::CodeAction { uri, range }),
+        None => Err(INVALID_PARAMS),
+    }
+}
+
+/// The places of a request, if each value is one.
+fn read_places(alloc: Global, params: &Value) -> Result<Option<Vec<Place>>, AllocError> {
+    let Some(Value::Array(values)) = field(params, "positions") else {
+        return Ok(None);
+    };
+    let mut all = Vec::new(alloc);
+    for value in values {
+        match read_place(value) {
+            Some(place) => all.push(place)?,
+            None => return Ok(None),
+        }
+    }
+    Ok(Some(all))
+}
+
+/// What is around places of a document.
+fn read_selection(alloc: Global, params: &Value) -> Result<CallResult, AllocError> {
+    let Some(places) = read_places(alloc, params)? else {
+        return Ok(Err(INVALID_PARAMS));
+    };
+    match uri(alloc, params)? {
+        Some(uri) => Ok(Ok(Call::SelectionRange { uri, places })),
+        None => Ok(Err(INVALID_PARAMS)),
+    }
+}
+
+/// What a request about a document asks for, beside its name.
+fn read_about(alloc: Global, method: &str, params: &Value) -> Result<CallResult, AllocError> {
+    let Some(uri) = uri(alloc, params)? else {
+        return Ok(Err(INVALID_PARAMS));
+    };
+    match method {
+        "textDocument/documentSymbol" => Ok(Ok(Call::DocumentSymbol { uri })),
+        "textDocument/semanticTokens/full" => Ok(Ok(Call::SemanticTokens { uri })),
+        "textDocument/foldingRange" => Ok(Ok(Call::FoldingRange { uri })),
+        _ => Ok(read_action(uri, params)),
+    }
+}
+
 /// What a request of this method asks for.
 pub(crate) fn read_call(
     alloc: Global,
@@ -130,20 +198,14 @@ pub(crate) fn read_call(
     params: &Value,
 ) -> Result<CallResult, AllocError> {
     match method {
-        "initialize" => match read_initialize(params) {
-            Some(found) => Ok(Ok(Call::Initialize(found))),
-            None => Ok(Err(INVALID_PARAMS)),
-        },
+        "initialize" => Ok(Ok(Call::Initialize(read_initialize(params)))),
         "shutdown" => Ok(Ok(Call::Shutdown)),
         "textDocument/formatting" => read_formatting(alloc, params),
-        "textDocument/documentSymbol" => match uri(alloc, params)? {
-            Some(uri) => Ok(Ok(Call::DocumentSymbol { uri })),
-            None => Ok(Err(INVALID_PARAMS)),
-        },
-        "textDocument/semanticTokens/full" => match uri(alloc, params)? {
-            Some(uri) => Ok(Ok(Call::SemanticTokens { uri })),
-            None => Ok(Err(INVALID_PARAMS)),
-        },
+        "textDocument/selectionRange" => read_selection(alloc, params),
+        "textDocument/documentSymbol"
+        | "textDocument/semanticTokens/full"
+        | "textDocument/foldingRange"
+        | "textDocument/codeAction" => read_about(alloc, method, params),
         _ => Ok(Err(NO_METHOD)),
     }
 }

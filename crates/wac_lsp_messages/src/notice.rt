@@ -57,7 +57,7 @@ pub enum Notice {
 }
 
 /// The place that a value is.
-fn read_place(value: &Value) -> Option<Place> {
+pub(crate) fn read_place(value: &Value) -> Option<Place> {
     Some(Place {
         line: count(value, "line")?,
         column: count(value, "character")?,

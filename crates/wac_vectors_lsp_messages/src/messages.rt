@@ -46,7 +46,7 @@ static WRONG: [Row; 15] = [
 ];
 
 /// Requests, and those that are refused.
-static REQUESTS: [Row; 18] = [
+static REQUESTS: [Row; 25] = [
     (
         "{\"jsonrpc\":\"2.0\",\"id\":1,\"method\":\"shutdown\"}",
         "request 1 shutdown",
@@ -85,11 +85,11 @@ static REQUESTS: [Row; 18] = [
     ),
     (
         "{\"id\":1,\"method\":\"initialize\"}",
-        "request 1 refused -32602",
+        "request 1 initialize ?",
     ),
     (
         "{\"id\":1,\"method\":\"initialize\",\"params\":{\"capabilities\":3}}",
-        "request 1 refused -32602",
+        "request 1 initialize ?",
     ),
     (
         "{\"id\":4,\"method\":\"textDocument/formatting\",\"params\":{\"textDocument\":{\"uri\":\"file:///a%20b.wac\"},\"options\":{\"tabSize\":4,\"insertSpaces\":true}}}",
@@ -114,6 +114,34 @@ static REQUESTS: [Row; 18] = [
     (
         "{\"id\":5,\"method\":\"textDocument/documentSymbol\",\"params\":{\"textDocument\":\"x\"}}",
         "request 5 refused -32602",
+    ),
+    (
+        "{\"id\":7,\"method\":\"textDocument/foldingRange\",\"params\":{\"textDocument\":{\"uri\":\"x\"}}}",
+        "request 7 folds x",
+    ),
+    (
+        "{\"id\":8,\"method\":\"textDocument/codeAction\",\"params\":{\"textDocument\":{\"uri\":\"x\"},\"range\":{\"start\":{\"line\":1,\"character\":0},\"end\":{\"line\":2,\"character\":0}},\"context\":{\"diagnostics\":[]}}}",
+        "request 8 actions x 1 to 2",
+    ),
+    (
+        "{\"id\":8,\"method\":\"textDocument/codeAction\",\"params\":{\"textDocument\":{\"uri\":\"x\"}}}",
+        "request 8 refused -32602",
+    ),
+    (
+        "{\"id\":9,\"method\":\"textDocument/selectionRange\",\"params\":{\"textDocument\":{\"uri\":\"x\"},\"positions\":[{\"line\":1,\"character\":0},{\"line\":0,\"character\":3}]}}",
+        "request 9 selections x 2",
+    ),
+    (
+        "{\"id\":9,\"method\":\"textDocument/selectionRange\",\"params\":{\"textDocument\":{\"uri\":\"x\"},\"positions\":[]}}",
+        "request 9 selections x 0",
+    ),
+    (
+        "{\"id\":9,\"method\":\"textDocument/selectionRange\",\"params\":{\"textDocument\":{\"uri\":\"x\"},\"positions\":[{\"line\":1,\"character\":-1}]}}",
+        "request 9 refused -32602",
+    ),
+    (
+        "{\"id\":9,\"method\":\"textDocument/selectionRange\",\"params\":{\"positions\":[]}}",
+        "request 9 refused -32602",
     ),
     (
         "{\"id\":6,\"method\":\"textDocument/semanticTokens/full\",\"params\":{\"textDocument\":{\"uri\":\"x\"}}}",
@@ -200,7 +228,8 @@ fn initialize_words(alloc: Global, found: &Initialize) -> Result<String, AllocEr
 /// A request in words.
 fn call_words(alloc: Global, call: &Call) -> Result<String, AllocError> {
     match call {
-        Call::Initialize(found) => initialize_words(alloc, found),
+        Call::Initialize(Some(found)) => initialize_words(alloc, found),
+        Call::Initialize(None) => String::from_str(alloc, "initialize ?"),
         Call::Shutdown => String::from_str(alloc, "shutdown"),
         Call::Formatting { uri, options } => {
             let size = options.tab_size;
@@ -213,6 +242,16 @@ fn call_words(alloc: Global, call: &Call) -> Result<String, AllocError> {
         }
         Call::DocumentSymbol { uri } => format!(in alloc; "symbols {uri}"),
         Call::SemanticTokens { uri } => format!(in alloc; "tokens {uri}"),
+        Call::FoldingRange { uri } => format!(in alloc; "folds {uri}"),
+        Call::SelectionRange { uri, places } => {
+            let count = places.len();
+            format!(in alloc; "selections {uri} {count}")
+        }
+        Call::CodeAction { uri, range } => {
+            let line = range.start.line;
+            let end_line = range.end.line;
+            format!(in alloc; "actions {uri} {line} to {end_line}")
+        }
     }
 }
 

@@ -10,6 +10,11 @@ use wac_comments::Indent;
 /// The version of the program.
 const VERSION: &str = "0.11.0";
 
+/// The version of the program.
+pub(crate) fn version() -> &'static str {
+    VERSION
+}
+
 /// The values that options take. They live as long as the words, since a command has one lifetime for both.
 #[derive(Clone, Copy)]
 pub(crate) struct Values<'a> {
@@ -94,6 +99,8 @@ impl Task<'_> {
 #[derive(Drop)]
 pub(crate) enum Request<'a> {
     Run(Task<'a>),
+    /// To serve an editor.
+    Serve,
     /// Nothing that can be done, for a reason.
     Misused(&'static str),
 }
@@ -108,6 +115,7 @@ pub(crate) fn read_words<'a>(
     match matches.subcommand() {
         Some(("fmt", found)) => Ok(request_of(alloc, Work::Format(format_options(found)), found)?),
         Some(("packages", found)) => Ok(request_of(alloc, Work::Packages, found)?),
+        Some(("lsp", _)) => Ok(Request::Serve),
         Some(("graph", found)) => Ok(request_of(alloc, Work::Graph(form_of(found)), found)?),
         Some(("package", found)) => Ok(request_of(
             alloc,
@@ -308,7 +316,8 @@ fn definition<'a>(alloc: Global, values: &'a Values<'a>) -> Result<Command<'a>, 
         .subcommand(packages_definition(alloc, values)?)?
         .subcommand(graph_definition(alloc, values)?)?
         .subcommand(package_definition(alloc, values)?)?
-        .subcommand(targets_definition(alloc, values)?)
+        .subcommand(targets_definition(alloc, values)?)?
+        .subcommand(lsp_definition(alloc)?)
 }
 
 fn fmt_definition<'a>(alloc: Global, values: &'a Values<'a>) -> Result<Command<'a>, AllocError> {
@@ -349,10 +358,10 @@ fn fmt_definition<'a>(alloc: Global, values: &'a Values<'a>) -> Result<Command<'
 
 fn check_definition<'a>(alloc: Global, values: &'a Values<'a>) -> Result<Command<'a>, AllocError> {
     let command = Command::new(alloc, "check")
-        .about("Reports the first error of each file")
+        .about("Reports the errors of each file")
         .after_help(
             "Files are parsed, and resolved where they mention no foreign package, or where --packages says\n\
-            which documents declare packages.\n\
+            which documents declare packages. With --packages only the first error of a file is reported.\n\
             Status: 0 all is well, 1 a file has an error, 2 wrong use, 3 a file could not be read,\n\
             4 out of memory.",
         )
@@ -493,6 +502,15 @@ fn targets_definition<'a>(
                 .help("The form of errors"),
         )?;
     common(alloc, values, with_supply(alloc, command)?)
+}
+
+fn lsp_definition<'a>(alloc: Global) -> Result<Command<'a>, AllocError> {
+    Command::new(alloc, "lsp")
+        .about("Serves an editor, as a language server on standard input and output")
+        .after_help(
+            "Status: 0 the editor ended it, 1 it ended otherwise, 3 input or output failed, 4 out of memory.",
+        )
+        .arg(flag(alloc, "stdio", "Changes nothing; some editors add it"))
 }
 
 fn one_path<'a>(alloc: Global, name: &'a str, shown: &'a str, help: &'a str) -> Arg<'a> {

@@ -1,0 +1,13 @@
+use Rattle.std.proofs.Common.{subst, [], ◌∷◌}
+use Rattle.std.specs.Prelude.{string_bytes}
+use Rattle.wac_lsp_texts.specs.Changed.{Changes}
+use Rattle.wac_lsp.proofs.formatting.change_to_tidy.Goals as goal
+
+pub returns-in-Ok-Some : goal.returns-in-Ok-Some
+returns-in-Ok-Some c =
+    let makes = rw c.in-Ok-Some.field-0-is at c.in-Ok-Some.ensures in (
+      string_bytes c.in-Ok.after,
+      subst (λ after. Changes c.args.unit c.args.text.now (c.in-Ok-Some.change ∷ []) after) c.as_str.ensures.value makes,
+      c.in-Ok.ensures.kept,
+      c.in-Ok.ensures.formatted,
+    )

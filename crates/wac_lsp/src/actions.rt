@@ -1,0 +1,103 @@
+//! What mends a part of a document.
+use crate::diagnostics::{diagnostic_value, errors};
+use crate::places::{Part, View};
+use serde_json::{Value, json};
+use std::alloc::{AllocError, Global};
+use wac_all_errors::Finding;
+use wac_lexer::SourceSpan;
+use wac_lsp_messages::Range;
+use wac_lsp_texts::offset_at;
+use wac_positions::{ColumnUnit, Lines};
+
+/// Whether a part has a place in common with a span.
+fn touches(part: Part, span: SourceSpan) -> bool {
+    let end = span.offset().saturating_add(span.len());
+    span.offset() <= part.end && part.start <= end
+}
+
+/// Whether what is wrong has a place in a part.
+fn is_in(finding: &Finding, part: Part) -> bool {
+    match finding.diagnostic.span {
+        Some(span) => touches(part, span),
+        None => false,
+    }
+}
+
+/// An edit of one document, as a value.
+fn edit_value(
+    alloc: Global,
+    view: &View<'_, '_>,
+    uri: &str,
+    span: SourceSpan,
+    text: &str,
+) -> Result<Value, AllocError> {
+    let range = view.span(alloc, span)?;
+    json!(in alloc; {"changes": {(uri): [{"range": range, "newText": text}]}})
+}
+
+/// The change that mends what was found, as an action.
+fn action_value(
+    alloc: Global,
+    view: &View<'_, '_>,
+    uri: &str,
+    finding: &Finding,
+) -> Result<Option<Value>, AllocError> {
+    let Some(change) = &finding.edit else {
+        return Ok(None);
+    };
+    let Some(title) = &finding.diagnostic.help else {
+        return Ok(None);
+    };
+    let edit = edit_value(alloc, view, uri, change.span, change.text.as_str())?;
+    let diagnostic = diagnostic_value(alloc, view, uri, &finding.diagnostic)?;
+    let action = json!(in alloc; {
+        "title": title,
+        "kind": "quickfix",
+        "diagnostics": [diagnostic],
+        "edit": edit
+    })?;
+    Ok(Some(action))
+}
+
+/// The actions for what was found in a part of a text.
+fn actions_value(
+    alloc: Global,
+    view: &View<'_, '_>,
+    uri: &str,
+    part: Part,
+    found: &[Finding],
+) -> Result<Value, AllocError> {
+    let mut actions = Vec::new(alloc);
+    for finding in found {
+        if is_in(finding, part) {
+            if let Some(action) = action_value(alloc, view, uri, finding)? {
+                actions.push(action)?;
+            }
+        }
+    }
+    Ok(Value::Array(actions))
+}
+
+/// The changes that mend what is wrong in a part of a text.
+pub(crate) fn actions(
+    alloc: Global,
+    uri: &str,
+    text: &str,
+    range: Range,
+    unit: ColumnUnit,
+) -> Result<Value, AllocError> {
+    let found = match errors(alloc, text) {
+        Ok(found) => found,
+        Err(_) => return Err(AllocError),
+    };
+    let lines = Lines::new(alloc, text)?;
+    let start = offset_at(&lines, text.len(), range.start, unit).unwrap_or(0);
+    let end = offset_at(&lines, text.len(), range.end, unit).unwrap_or(0);
+    let part = Part { start, end };
+    let view = View {
+        lines: &lines,
+        len: text.len(),
+        unit,
+    };
+    actions_value(alloc, &view, uri, part, found.as_slice())
+}

@@ -1,0 +1,31 @@
+//! What the server can do.
+use crate::tokens::legend;
+use serde_json::{Value, json};
+use std::alloc::{AllocError, Global};
+
+/// The number of the way in which a client tells changes: by ranges.
+const INCREMENTAL: u8 = 2;
+
+/// What the server can do, with columns in bytes or in units of UTF-16.
+pub(crate) fn capabilities(alloc: Global, counts_bytes: bool) -> Result<Value, AllocError> {
+    let encoding = if counts_bytes { "utf-8" } else { "utf-16" };
+    let sync = json!(in alloc; {"openClose": true, "change": INCREMENTAL})?;
+    let actions = json!(in alloc; {"codeActionKinds": ["quickfix"]})?;
+    let tokens = tokens_provider(alloc)?;
+    json!(in alloc; {
+        "positionEncoding": encoding,
+        "textDocumentSync": sync,
+        "documentFormattingProvider": true,
+        "documentSymbolProvider": true,
+        "foldingRangeProvider": true,
+        "selectionRangeProvider": true,
+        "codeActionProvider": actions,
+        "semanticTokensProvider": tokens
+    })
+}
+
+/// How the kinds of tokens are told: of a whole document at once.
+fn tokens_provider(alloc: Global) -> Result<Value, AllocError> {
+    let legend = legend(alloc)?;
+    json!(in alloc; {"legend": legend, "full": true})
+}

@@ -1,0 +1,26 @@
+// Serving an editor.
+use crate::command::version;
+use std::process::ExitCode;
+use wac_lsp::{ServeError, serve};
+
+/// Answers the messages on standard input until the editor ends it.
+pub(crate) fn serve_editor(rt: &HostRuntime) -> ExitCode {
+    let mut input = rt.stdin();
+    let mut output = rt.stdout();
+    match serve(rt.alloc(), &mut input, &mut output, version()) {
+        Ok(status) => ExitCode::from(status),
+        Err(error) => {
+            let _ = eprintln!(rt; "error: {error}");
+            ExitCode::from(status_of(&error))
+        }
+    }
+}
+
+/// The status after an error.
+fn status_of(error: &ServeError) -> u8 {
+    match error {
+        ServeError::Ended => 1,
+        ServeError::Receive(_) | ServeError::Output => 3,
+        ServeError::Memory(_) => 4,
+    }
+}
