@@ -11,5 +11,5 @@ mod room;
 pub use feed::Text;
 pub use frames::{FrameError, HEAD, frames_of};
 pub use nesting::first_deeper;
-pub use packages::{PackagesError, package_texts, place_of_text};
+pub use packages::{PackagesError, is_component, package_frames};
 pub use room::put;

@@ -1,7 +1,7 @@
-// The texts of packages in one buffer.
-ghost use Rattle.std.specs.Prelude.{IfOk};
+// The packages in one buffer.
+ghost use Rattle.std.specs.Prelude.{IfOk, IsTrue};
 ghost use Rattle.wac_calls_texts.specs.Frames.{framed};
-ghost use Rattle.wac_calls_texts.specs.Packages.{AreTexts, IsTextOf};
+ghost use Rattle.wac_calls_texts.specs.Packages.{ArePackages, IsComponent, IsTested};
 
 use crate::frames::{FrameError, HEAD, frames_of};
 use crate::nesting::first_deeper;
@@ -9,16 +9,11 @@ use std::alloc::{AllocFailed, Global};
 use std::fmt;
 use wac_lexer::SourceSpan;
 
-/// What the bytes of a component begin with.
-const MAGIC: &[u8] = b"\0asm";
-
-/// Why a buffer has no texts of packages. Places are in bytes of the buffer.
+/// Why a buffer has no packages. Places are in bytes of the buffer.
 #[derive(Clone, Copy, Debug, PartialEq, Eq)]
 pub enum PackagesError {
     /// A frame has no whole length, or fewer bytes than that.
     Cut(SourceSpan),
-    /// A frame has a component, and not a document that declares a package.
-    Component(SourceSpan),
     /// A frame has bytes that are no text.
     NotUtf8(SourceSpan),
     /// A bracket of a text is nested deeper than the limit.
@@ -32,7 +27,6 @@ impl PackagesError {
     pub fn span(&self) -> Option<SourceSpan> {
         match self {
             PackagesError::Cut(span)
-            | PackagesError::Component(span)
             | PackagesError::NotUtf8(span)
             | PackagesError::NestedTooDeep(span) => Some(*span),
             PackagesError::Memory => None,
@@ -44,8 +38,6 @@ impl fmt::Display for PackagesError {
     fn fmt<W: fmt::Write>(&self, f: &mut fmt::Formatter<W>) -> fmt::Result {
         f.write_str(match self {
             PackagesError::Cut(_) => "the frame of a package is cut",
-            PackagesError::Component(_) =>
-                "a component has no package name: hand over a document that declares it",
             PackagesError::NotUtf8(_) => "a package is not UTF-8",
             PackagesError::NestedTooDeep(_) => {
                 "brackets of a package are nested deeper than the limit"
@@ -66,12 +58,16 @@ impl<T: Drop> From<AllocFailed<T>> for PackagesError {
     }
 }
 
-/// The texts in the frames of a buffer. Their brackets are nested no deeper than the limit.
-pub fn package_texts(alloc: Global, buffer: &[u8], limit: usize) -> Result<Vec<&str>, PackagesError>
-    ensures { IfOk result (λ texts. AreTexts limit buffer.now texts.items) }
+/// The frames of a buffer. Each is a component, or a text whose brackets are nested no deeper than the limit.
+pub fn package_frames(
+    alloc: Global,
+    buffer: &[u8],
+    limit: usize,
+) -> Result<Vec<&[u8]>, PackagesError>
+    ensures { IfOk result (λ frames. ArePackages limit buffer.now frames.items) }
 {
     match frames_of(alloc, buffer) {
-        Ok(frames) => texts_of(alloc, frames.as_slice(), limit),
+        Ok(frames) => tested(alloc, frames.as_slice(), limit),
         Err(FrameError::Cut { offset }) => {
             let length = buffer.len().saturating_sub(offset);
             Err(PackagesError::Cut(SourceSpan::new(offset, length)))
@@ -80,30 +76,30 @@ pub fn package_texts(alloc: Global, buffer: &[u8], limit: usize) -> Result<Vec<&
     }
 }
 
-/// The texts of frames that follow one another from the first byte of a buffer on.
-fn texts_of<'b>(
+/// These frames, which follow one another from the first byte of a buffer on, if each may be that of a package.
+fn tested<'b>(
     alloc: Global,
     frames: &[&'b [u8]],
     limit: usize,
-) -> Result<Vec<&'b str>, PackagesError>
-    ensures { IfOk result (λ texts. AreTexts limit (framed frames.now) texts.items) }
+) -> Result<Vec<&'b [u8]>, PackagesError>
+    ensures { IfOk result (λ found. ArePackages limit (framed frames.now) found.items) }
 {
-    let mut texts = Vec::new(alloc);
+    let mut found = Vec::new(alloc);
     let mut start = 0usize;
     for frame in frames {
         start = start.saturating_add(HEAD);
-        texts.push(text_of(frame, start, limit)?)?;
+        found.push(tested_frame(frame, start, limit)?)?;
         start = start.saturating_add(frame.len());
     }
-    Ok(texts)
+    Ok(found)
 }
 
-/// The text of a frame whose bytes begin at an offset of the buffer.
-fn text_of(frame: &[u8], start: usize, limit: usize) -> Result<&str, PackagesError>
-    ensures { IfOk result (λ text. IsTextOf limit frame.now text) }
+/// A frame whose bytes begin at an offset of the buffer, if it may be that of a package.
+fn tested_frame(frame: &[u8], start: usize, limit: usize) -> Result<&[u8], PackagesError>
+    ensures { IfOk result (λ same. IsTested limit frame.now same) }
 {
-    if frame.starts_with(MAGIC) {
-        return Err(PackagesError::Component(SourceSpan::new(start, frame.len())));
+    if is_component(frame) {
+        return Ok(frame);
     }
     let text = match str::from_utf8(frame) {
         Ok(text) => text,
@@ -113,7 +109,7 @@ fn text_of(frame: &[u8], start: usize, limit: usize) -> Result<&str, PackagesErr
         }
     };
     match first_deeper(text, limit) {
-        None => Ok(text),
+        None => Ok(frame),
         Some(span) => {
             let offset = start.saturating_add(span.offset());
             Err(PackagesError::NestedTooDeep(SourceSpan::new(offset, span.len())))
@@ -121,15 +117,12 @@ fn text_of(frame: &[u8], start: usize, limit: usize) -> Result<&str, PackagesErr
     }
 }
 
-/// Where the text of a number lies in the buffer that has the frames of these texts.
-pub fn place_of_text(texts: &[&str], number: usize) -> SourceSpan {
-    let mut start = HEAD;
-    for text in texts.iter().take(number) {
-        start = start.saturating_add(text.len()).saturating_add(HEAD);
+/// Whether bytes begin as those of a component.
+pub fn is_component(bytes: &[u8]) -> bool
+    ensures { IsTrue result → IsComponent bytes.now }
+{
+    match bytes.split_first_chunk::<4>() {
+        Some((head, _)) => *head == *b"\0asm",
+        None => false,
     }
-    let len = match texts.get(number) {
-        Some(text) => text.len(),
-        None => 0,
-    };
-    SourceSpan::new(start, len)
 }
