@@ -11,6 +11,7 @@ pub(crate) fn capabilities(alloc: Global, counts_bytes: bool) -> Result<Value, A
     let encoding = if counts_bytes { "utf-8" } else { "utf-16" };
     let sync = json!(in alloc; {"openClose": true, "change": INCREMENTAL})?;
     let actions = json!(in alloc; {"codeActionKinds": ["quickfix"]})?;
+    let rename = json!(in alloc; {"prepareProvider": true})?;
     let tokens = tokens_provider(alloc)?;
     json!(in alloc; {
         "positionEncoding": encoding,
@@ -19,6 +20,12 @@ pub(crate) fn capabilities(alloc: Global, counts_bytes: bool) -> Result<Value, A
         "documentSymbolProvider": true,
         "foldingRangeProvider": true,
         "selectionRangeProvider": true,
+        "definitionProvider": true,
+        "referencesProvider": true,
+        "documentHighlightProvider": true,
+        "hoverProvider": true,
+        "renameProvider": rename,
+        "workspaceSymbolProvider": true,
         "codeActionProvider": actions,
         "semanticTokensProvider": tokens
     })

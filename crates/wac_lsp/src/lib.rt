@@ -11,6 +11,7 @@ mod diagnostics;
 mod documents;
 mod folding;
 mod formatting;
+mod names;
 mod outline;
 mod pieces;
 mod places;

@@ -8,16 +8,18 @@ use crate::diagnostics::{published, withdrawn};
 use crate::documents::{Document, close, put, text_of};
 use crate::folding::folds;
 use crate::formatting::formatted;
+use crate::names::{about_name, renamed};
 use crate::selecting::selections;
-use crate::symbols::symbols;
+use crate::symbols::{symbols, workspace_symbols};
 use crate::tokens::tokens;
 use serde_json::{Value, json};
 use std::alloc::{AllocError, Global};
 use wac_lsp_messages::{
     Call, Change, Code, Id, Initialize, Message, Notice, Refusal, read_message, refused, reply,
 };
+use wac_lsp_names::Spot;
 use wac_lsp_texts::{ChangeError, changed};
-use wac_positions::ColumnUnit;
+use wac_positions::{ColumnUnit, Place};
 
 /// How far a server has come.
 #[derive(Clone, Copy, Debug, PartialEq, Eq)]
@@ -112,6 +114,9 @@ fn name_of(call: &Call) -> &str {
         Call::FoldingRange { uri } => uri.as_str(),
         Call::SelectionRange { uri, .. } => uri.as_str(),
         Call::CodeAction { uri, .. } => uri.as_str(),
+        Call::AboutName { uri, .. } => uri.as_str(),
+        Call::Rename { uri, .. } => uri.as_str(),
+        Call::WorkspaceSymbol { .. } => "",
         Call::Initialize(_) => "",
         Call::Shutdown => "",
     }
@@ -165,7 +170,51 @@ impl Server {
                 selections(alloc, text, places.as_slice(), self.unit)
             }
             Call::CodeAction { range, .. } => actions(alloc, uri, text, *range, self.unit),
-            Call::Initialize(_) | Call::Shutdown => Ok(Value::Null),
+            Call::AboutName { place, asked, .. } => {
+                about_name(alloc, &self.spot(uri, text, *place), *asked)
+            }
+            _ => Ok(Value::Null),
+        }
+    }
+
+    /// A place of a document.
+    fn spot<'t>(&self, uri: &'t str, text: &'t str, at: Place) -> Spot<'t> {
+        let unit = self.unit;
+        Spot {
+            uri,
+            text,
+            at,
+            unit,
+        }
+    }
+
+    /// What a request about a document with this text gets, which may be refused.
+    fn answer_with(
+        &self,
+        alloc: Global,
+        uri: &str,
+        text: &str,
+        call: &Call,
+    ) -> Result<Answered, AllocError> {
+        if let Call::Rename {
+            place,
+            new_name,
+            ..
+        } = call
+        {
+            return renamed(alloc, &self.spot(uri, text, *place), new_name.as_str());
+        }
+        match self.about(alloc, uri, text, call) {
+            Ok(value) => Ok(Ok(value)),
+            Err(_) => Err(AllocError),
+        }
+    }
+
+    /// What open documents declare.
+    fn declared(&self, alloc: Global, query: &str) -> Result<Answered, AllocError> {
+        match workspace_symbols(alloc, self.documents.as_slice(), query, self.unit) {
+            Ok(value) => Ok(Ok(value)),
+            Err(_) => Err(AllocError),
         }
     }
 
@@ -173,10 +222,7 @@ impl Server {
     fn answer_about(&self, alloc: Global, call: &Call) -> Result<Answered, AllocError> {
         let uri = name_of(call);
         match text_of(self.documents.as_slice(), uri) {
-            Some(text) => match self.about(alloc, uri, text, call) {
-                Ok(value) => Ok(Ok(value)),
-                Err(_) => Err(AllocError),
-            },
+            Some(text) => self.answer_with(alloc, uri, text, call),
             None => Ok(Err(NOT_OPEN)),
         }
     }
@@ -201,6 +247,7 @@ impl Server {
                 self.phase = Phase::ShutDown;
                 Ok(Ok(Value::Null))
             }
+            Call::WorkspaceSymbol { query } => self.declared(alloc, query.as_str()),
             _ => self.answer_about(alloc, call),
         }
     }

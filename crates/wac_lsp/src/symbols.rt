@@ -1,4 +1,5 @@
 //! What a document declares, as values of the protocol.
+use crate::documents::Document;
 use crate::outline::{Declared, outline};
 use crate::places::View;
 use serde_json::{Value, json};
@@ -127,5 +128,46 @@ pub(crate) fn symbols(
     } else {
         all_flat(alloc, &view, uri, text, all.as_slice())?
     };
+    Ok(Value::Array(values))
+}
+
+/// Adds those of declarations whose names have a text in them.
+fn push_found(
+    alloc: Global,
+    view: &View<'_, '_>,
+    document: &Document,
+    query: &str,
+    values: &mut Vec<Value>,
+) -> Result<(), AllocError> {
+    let uri = document.uri.as_str();
+    let text = document.text.as_str();
+    for declared in &outline(alloc, text)? {
+        if text_of(text, declared.name).contains(query) {
+            let value = flat(alloc, view, uri, text, declared)?;
+            if values.push(value).is_err() {
+                return Err(AllocError);
+            }
+        }
+    }
+    Ok(())
+}
+
+/// What documents declare under names that have a text in them.
+pub(crate) fn workspace_symbols(
+    alloc: Global,
+    documents: &[Document],
+    query: &str,
+    unit: ColumnUnit,
+) -> Result<Value, AllocError> {
+    let mut values = Vec::new(alloc);
+    for document in documents {
+        let lines = Lines::new(alloc, document.text.as_str())?;
+        let view = View {
+            lines: &lines,
+            len: document.text.len(),
+            unit,
+        };
+        push_found(alloc, &view, document, query, &mut values)?;
+    }
     Ok(Value::Array(values))
 }

@@ -1,5 +1,5 @@
 //! Requests of a client.
-use crate::fields::{count, field, uri};
+use crate::fields::{count, field, owned_text, uri};
 use crate::notice::{Range, read_place, read_range};
 use crate::refusal::{Code, Refusal};
 use serde_json::Value;
@@ -24,6 +24,24 @@ pub struct FormattingOptions {
     pub tab_size: usize,
     /// Whether lines begin with blanks, and not with tabs.
     pub insert_spaces: bool,
+}
+
+/// What is asked about the name at a place.
+#[derive(Clone, Copy, Debug, PartialEq, Eq)]
+pub enum Asked {
+    /// Where it is bound.
+    Definition,
+    /// Where it is used, perhaps with where it is bound.
+    References {
+        /// Whether where it is bound is among that.
+        includes_declaration: bool,
+    },
+    /// Where it is bound and used, to be marked.
+    Highlights,
+    /// What can be renamed there.
+    PrepareRename,
+    /// What is said of it.
+    Hover,
 }
 
 /// What a client asks for.
@@ -68,6 +86,29 @@ pub enum Call {
         uri: String,
         /// The part.
         range: Range,
+    },
+    /// Something about the name at a place.
+    AboutName {
+        /// The document's name.
+        uri: String,
+        /// The place.
+        place: Place,
+        /// What.
+        asked: Asked,
+    },
+    /// The edits that give the name at a place another one.
+    Rename {
+        /// The document's name.
+        uri: String,
+        /// The place.
+        place: Place,
+        /// The other name.
+        new_name: String,
+    },
+    /// What open documents declare under names that have a text in them.
+    WorkspaceSymbol {
+        /// The text.
+        query: String,
     },
 }
 
@@ -178,6 +219,63 @@ fn read_selection(alloc: Global, params: &Value) -> Result<CallResult, AllocErro
     }
 }
 
+/// What a request of this method asks about the name at a place.
+fn read_asked(method: &str, params: &Value) -> Option<Asked> {
+    match method {
+        "textDocument/definition" => Some(Asked::Definition),
+        "textDocument/documentHighlight" => Some(Asked::Highlights),
+        "textDocument/prepareRename" => Some(Asked::PrepareRename),
+        "textDocument/hover" => Some(Asked::Hover),
+        _ => {
+            let context = field(params, "context")?;
+            let includes_declaration = field(context, "includeDeclaration")?.as_bool()?;
+            Some(Asked::References {
+                includes_declaration,
+            })
+        }
+    }
+}
+
+/// Something about the name at a place.
+fn read_about_name(alloc: Global, method: &str, params: &Value) -> Result<CallResult, AllocError> {
+    let Some(asked) = read_asked(method, params) else {
+        return Ok(Err(INVALID_PARAMS));
+    };
+    let Some(place) = field(params, "position").and_then(read_place) else {
+        return Ok(Err(INVALID_PARAMS));
+    };
+    match uri(alloc, params)? {
+        Some(uri) => Ok(Ok(Call::AboutName { uri, place, asked })),
+        None => Ok(Err(INVALID_PARAMS)),
+    }
+}
+
+/// The edits that give a name another one.
+fn read_rename(alloc: Global, params: &Value) -> Result<CallResult, AllocError> {
+    let Some(place) = field(params, "position").and_then(read_place) else {
+        return Ok(Err(INVALID_PARAMS));
+    };
+    let Some(new_name) = owned_text(alloc, params, "newName")? else {
+        return Ok(Err(INVALID_PARAMS));
+    };
+    match uri(alloc, params)? {
+        Some(uri) => Ok(Ok(Call::Rename {
+            uri,
+            place,
+            new_name,
+        })),
+        None => Ok(Err(INVALID_PARAMS)),
+    }
+}
+
+/// What open documents declare.
+fn read_workspace_symbol(alloc: Global, params: &Value) -> Result<CallResult, AllocError> {
+    match owned_text(alloc, params, "query")? {
+        Some(query) => Ok(Ok(Call::WorkspaceSymbol { query })),
+        None => Ok(Err(INVALID_PARAMS)),
+    }
+}
+
 /// What a request about a document asks for, beside its name.
 fn read_about(alloc: Global, method: &str, params: &Value) -> Result<CallResult, AllocError> {
     let Some(uri) = uri(alloc, params)? else {
@@ -202,6 +300,13 @@ pub(crate) fn read_call(
         "shutdown" => Ok(Ok(Call::Shutdown)),
         "textDocument/formatting" => read_formatting(alloc, params),
         "textDocument/selectionRange" => read_selection(alloc, params),
+        "textDocument/definition"
+        | "textDocument/references"
+        | "textDocument/documentHighlight"
+        | "textDocument/prepareRename"
+        | "textDocument/hover" => read_about_name(alloc, method, params),
+        "textDocument/rename" => read_rename(alloc, params),
+        "workspace/symbol" => read_workspace_symbol(alloc, params),
         "textDocument/documentSymbol"
         | "textDocument/semanticTokens/full"
         | "textDocument/foldingRange"

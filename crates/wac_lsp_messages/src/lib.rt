@@ -23,7 +23,7 @@ mod refusal;
 mod replies;
 mod surrogates;
 
-pub use call::{Call, FormattingOptions, Initialize};
+pub use call::{Asked, Call, FormattingOptions, Initialize};
 pub use frame::{Frame, frame_in};
 pub use header::HeaderError;
 pub use id::Id;

@@ -36,7 +36,7 @@ static BEGINNING: [Row; 15] = [
     ),
     (
         "{\"id\":4,\"jsonrpc\":\"2.0\",\"method\":\"initialize\",\"params\":{\"capabilities\":{\"textDocument\":{\"documentSymbol\":{\"hierarchicalDocumentSymbolSupport\":true}}},\"processId\":null}}",
-        "{\"id\":4,\"jsonrpc\":\"2.0\",\"result\":{\"capabilities\":{\"codeActionProvider\":{\"codeActionKinds\":[\"quickfix\"]},\"documentFormattingProvider\":true,\"documentSymbolProvider\":true,\"foldingRangeProvider\":true,\"positionEncoding\":\"utf-16\",\"selectionRangeProvider\":true,\"semanticTokensProvider\":{\"full\":true,\"legend\":{\"tokenModifiers\":[],\"tokenTypes\":[\"keyword\",\"type\",\"string\",\"comment\",\"operator\",\"variable\",\"namespace\"]}},\"textDocumentSync\":{\"change\":2,\"openClose\":true}},\"serverInfo\":{\"name\":\"wacx\",\"version\":\"1.2.3\"}}}",
+        "{\"id\":4,\"jsonrpc\":\"2.0\",\"result\":{\"capabilities\":{\"codeActionProvider\":{\"codeActionKinds\":[\"quickfix\"]},\"definitionProvider\":true,\"documentFormattingProvider\":true,\"documentHighlightProvider\":true,\"documentSymbolProvider\":true,\"foldingRangeProvider\":true,\"hoverProvider\":true,\"positionEncoding\":\"utf-16\",\"referencesProvider\":true,\"renameProvider\":{\"prepareProvider\":true},\"selectionRangeProvider\":true,\"semanticTokensProvider\":{\"full\":true,\"legend\":{\"tokenModifiers\":[],\"tokenTypes\":[\"keyword\",\"type\",\"string\",\"comment\",\"operator\",\"variable\",\"namespace\"]}},\"textDocumentSync\":{\"change\":2,\"openClose\":true},\"workspaceSymbolProvider\":true},\"serverInfo\":{\"name\":\"wacx\",\"version\":\"1.2.3\"}}}",
     ),
     (
         "{\"id\":5,\"jsonrpc\":\"2.0\",\"method\":\"initialize\",\"params\":{\"capabilities\":{\"textDocument\":{\"documentSymbol\":{\"hierarchicalDocumentSymbolSupport\":true}}},\"processId\":null}}",
@@ -73,7 +73,7 @@ static BEGINNING: [Row; 15] = [
 static DOCUMENT: [Row; 19] = [
     (
         "{\"id\":1,\"jsonrpc\":\"2.0\",\"method\":\"initialize\",\"params\":{\"capabilities\":{\"textDocument\":{\"documentSymbol\":{\"hierarchicalDocumentSymbolSupport\":true}}},\"processId\":null}}",
-        "{\"id\":1,\"jsonrpc\":\"2.0\",\"result\":{\"capabilities\":{\"codeActionProvider\":{\"codeActionKinds\":[\"quickfix\"]},\"documentFormattingProvider\":true,\"documentSymbolProvider\":true,\"foldingRangeProvider\":true,\"positionEncoding\":\"utf-16\",\"selectionRangeProvider\":true,\"semanticTokensProvider\":{\"full\":true,\"legend\":{\"tokenModifiers\":[],\"tokenTypes\":[\"keyword\",\"type\",\"string\",\"comment\",\"operator\",\"variable\",\"namespace\"]}},\"textDocumentSync\":{\"change\":2,\"openClose\":true}},\"serverInfo\":{\"name\":\"wacx\",\"version\":\"1.2.3\"}}}",
+        "{\"id\":1,\"jsonrpc\":\"2.0\",\"result\":{\"capabilities\":{\"codeActionProvider\":{\"codeActionKinds\":[\"quickfix\"]},\"definitionProvider\":true,\"documentFormattingProvider\":true,\"documentHighlightProvider\":true,\"documentSymbolProvider\":true,\"foldingRangeProvider\":true,\"hoverProvider\":true,\"positionEncoding\":\"utf-16\",\"referencesProvider\":true,\"renameProvider\":{\"prepareProvider\":true},\"selectionRangeProvider\":true,\"semanticTokensProvider\":{\"full\":true,\"legend\":{\"tokenModifiers\":[],\"tokenTypes\":[\"keyword\",\"type\",\"string\",\"comment\",\"operator\",\"variable\",\"namespace\"]}},\"textDocumentSync\":{\"change\":2,\"openClose\":true},\"workspaceSymbolProvider\":true},\"serverInfo\":{\"name\":\"wacx\",\"version\":\"1.2.3\"}}}",
     ),
     (
         "{\"jsonrpc\":\"2.0\",\"method\":\"textDocument/didOpen\",\"params\":{\"textDocument\":{\"languageId\":\"wac\",\"text\":\"package a:b;\\nlte x = y;\\n\",\"uri\":\"file:///tmp/a%20b.wac\",\"version\":1}}}",
@@ -150,7 +150,7 @@ static DOCUMENT: [Row; 19] = [
 static BYTES: [Row; 9] = [
     (
         "{\"id\":1,\"jsonrpc\":\"2.0\",\"method\":\"initialize\",\"params\":{\"capabilities\":{\"general\":{\"positionEncodings\":[\"utf-8\",\"utf-16\"]}},\"processId\":null}}",
-        "{\"id\":1,\"jsonrpc\":\"2.0\",\"result\":{\"capabilities\":{\"codeActionProvider\":{\"codeActionKinds\":[\"quickfix\"]},\"documentFormattingProvider\":true,\"documentSymbolProvider\":true,\"foldingRangeProvider\":true,\"positionEncoding\":\"utf-8\",\"selectionRangeProvider\":true,\"semanticTokensProvider\":{\"full\":true,\"legend\":{\"tokenModifiers\":[],\"tokenTypes\":[\"keyword\",\"type\",\"string\",\"comment\",\"operator\",\"variable\",\"namespace\"]}},\"textDocumentSync\":{\"change\":2,\"openClose\":true}},\"serverInfo\":{\"name\":\"wacx\",\"version\":\"1.2.3\"}}}",
+        "{\"id\":1,\"jsonrpc\":\"2.0\",\"result\":{\"capabilities\":{\"codeActionProvider\":{\"codeActionKinds\":[\"quickfix\"]},\"definitionProvider\":true,\"documentFormattingProvider\":true,\"documentHighlightProvider\":true,\"documentSymbolProvider\":true,\"foldingRangeProvider\":true,\"hoverProvider\":true,\"positionEncoding\":\"utf-8\",\"referencesProvider\":true,\"renameProvider\":{\"prepareProvider\":true},\"selectionRangeProvider\":true,\"semanticTokensProvider\":{\"full\":true,\"legend\":{\"tokenModifiers\":[],\"tokenTypes\":[\"keyword\",\"type\",\"string\",\"comment\",\"operator\",\"variable\",\"namespace\"]}},\"textDocumentSync\":{\"change\":2,\"openClose\":true},\"workspaceSymbolProvider\":true},\"serverInfo\":{\"name\":\"wacx\",\"version\":\"1.2.3\"}}}",
     ),
     (
         "{\"jsonrpc\":\"2.0\",\"method\":\"textDocument/didOpen\",\"params\":{\"textDocument\":{\"languageId\":\"wac\",\"text\":\"package a:b;\\n/* \u{e9} */ let x = y;\\n\",\"uri\":\"file:///tmp/a%20b.wac\",\"version\":7}}}",
@@ -180,6 +180,62 @@ static BYTES: [Row; 9] = [
     (
         "{\"jsonrpc\":\"2.0\",\"method\":\"exit\",\"params\":{}}",
         "status 0",
+    ),
+];
+
+/// What is asked about names.
+static NAMES: [Row; 13] = [
+    (
+        "{\"id\":1,\"jsonrpc\":\"2.0\",\"method\":\"initialize\",\"params\":{\"capabilities\":{\"textDocument\":{\"documentSymbol\":{\"hierarchicalDocumentSymbolSupport\":true}}},\"processId\":null}}",
+        "{\"id\":1,\"jsonrpc\":\"2.0\",\"result\":{\"capabilities\":{\"codeActionProvider\":{\"codeActionKinds\":[\"quickfix\"]},\"definitionProvider\":true,\"documentFormattingProvider\":true,\"documentHighlightProvider\":true,\"documentSymbolProvider\":true,\"foldingRangeProvider\":true,\"hoverProvider\":true,\"positionEncoding\":\"utf-16\",\"referencesProvider\":true,\"renameProvider\":{\"prepareProvider\":true},\"selectionRangeProvider\":true,\"semanticTokensProvider\":{\"full\":true,\"legend\":{\"tokenModifiers\":[],\"tokenTypes\":[\"keyword\",\"type\",\"string\",\"comment\",\"operator\",\"variable\",\"namespace\"]}},\"textDocumentSync\":{\"change\":2,\"openClose\":true},\"workspaceSymbolProvider\":true},\"serverInfo\":{\"name\":\"wacx\",\"version\":\"1.2.3\"}}}",
+    ),
+    (
+        "{\"jsonrpc\":\"2.0\",\"method\":\"textDocument/didOpen\",\"params\":{\"textDocument\":{\"languageId\":\"wac\",\"text\":\"package a:b;\\nimport log: func();\\nexport log;\\n\",\"uri\":\"file:///tmp/a%20b.wac\",\"version\":1}}}",
+        "{\"jsonrpc\":\"2.0\",\"method\":\"textDocument/publishDiagnostics\",\"params\":{\"diagnostics\":[],\"uri\":\"file:///tmp/a%20b.wac\",\"version\":1}}",
+    ),
+    (
+        "{\"id\":2,\"jsonrpc\":\"2.0\",\"method\":\"textDocument/definition\",\"params\":{\"position\":{\"character\":8,\"line\":2},\"textDocument\":{\"uri\":\"file:///tmp/a%20b.wac\"}}}",
+        "{\"id\":2,\"jsonrpc\":\"2.0\",\"result\":{\"range\":{\"end\":{\"character\":10,\"line\":1},\"start\":{\"character\":7,\"line\":1}},\"uri\":\"file:///tmp/a%20b.wac\"}}",
+    ),
+    (
+        "{\"id\":3,\"jsonrpc\":\"2.0\",\"method\":\"textDocument/references\",\"params\":{\"context\":{\"includeDeclaration\":true},\"position\":{\"character\":8,\"line\":2},\"textDocument\":{\"uri\":\"file:///tmp/a%20b.wac\"}}}",
+        "{\"id\":3,\"jsonrpc\":\"2.0\",\"result\":[{\"range\":{\"end\":{\"character\":10,\"line\":1},\"start\":{\"character\":7,\"line\":1}},\"uri\":\"file:///tmp/a%20b.wac\"},{\"range\":{\"end\":{\"character\":10,\"line\":2},\"start\":{\"character\":7,\"line\":2}},\"uri\":\"file:///tmp/a%20b.wac\"}]}",
+    ),
+    (
+        "{\"id\":4,\"jsonrpc\":\"2.0\",\"method\":\"textDocument/references\",\"params\":{\"context\":{\"includeDeclaration\":false},\"position\":{\"character\":8,\"line\":2},\"textDocument\":{\"uri\":\"file:///tmp/a%20b.wac\"}}}",
+        "{\"id\":4,\"jsonrpc\":\"2.0\",\"result\":[{\"range\":{\"end\":{\"character\":10,\"line\":2},\"start\":{\"character\":7,\"line\":2}},\"uri\":\"file:///tmp/a%20b.wac\"}]}",
+    ),
+    (
+        "{\"id\":5,\"jsonrpc\":\"2.0\",\"method\":\"textDocument/documentHighlight\",\"params\":{\"position\":{\"character\":8,\"line\":2},\"textDocument\":{\"uri\":\"file:///tmp/a%20b.wac\"}}}",
+        "{\"id\":5,\"jsonrpc\":\"2.0\",\"result\":[{\"kind\":3,\"range\":{\"end\":{\"character\":10,\"line\":1},\"start\":{\"character\":7,\"line\":1}}},{\"kind\":2,\"range\":{\"end\":{\"character\":10,\"line\":2},\"start\":{\"character\":7,\"line\":2}}}]}",
+    ),
+    (
+        "{\"id\":6,\"jsonrpc\":\"2.0\",\"method\":\"textDocument/prepareRename\",\"params\":{\"position\":{\"character\":8,\"line\":2},\"textDocument\":{\"uri\":\"file:///tmp/a%20b.wac\"}}}",
+        "{\"id\":6,\"jsonrpc\":\"2.0\",\"result\":{\"placeholder\":\"log\",\"range\":{\"end\":{\"character\":10,\"line\":2},\"start\":{\"character\":7,\"line\":2}}}}",
+    ),
+    (
+        "{\"id\":7,\"jsonrpc\":\"2.0\",\"method\":\"textDocument/rename\",\"params\":{\"newName\":\"write\",\"position\":{\"character\":8,\"line\":2},\"textDocument\":{\"uri\":\"file:///tmp/a%20b.wac\"}}}",
+        "{\"id\":7,\"jsonrpc\":\"2.0\",\"result\":{\"changes\":{\"file:///tmp/a%20b.wac\":[{\"newText\":\"write as log\",\"range\":{\"end\":{\"character\":10,\"line\":1},\"start\":{\"character\":7,\"line\":1}}},{\"newText\":\"write\",\"range\":{\"end\":{\"character\":10,\"line\":2},\"start\":{\"character\":7,\"line\":2}}}]}}}",
+    ),
+    (
+        "{\"id\":8,\"jsonrpc\":\"2.0\",\"method\":\"textDocument/rename\",\"params\":{\"newName\":\"a_b\",\"position\":{\"character\":8,\"line\":2},\"textDocument\":{\"uri\":\"file:///tmp/a%20b.wac\"}}}",
+        "{\"error\":{\"code\":-32803,\"message\":\"a name has no other characters than letters, digits and `-`\"},\"id\":8,\"jsonrpc\":\"2.0\"}",
+    ),
+    (
+        "{\"id\":9,\"jsonrpc\":\"2.0\",\"method\":\"textDocument/hover\",\"params\":{\"position\":{\"character\":8,\"line\":2},\"textDocument\":{\"uri\":\"file:///tmp/a%20b.wac\"}}}",
+        "{\"id\":9,\"jsonrpc\":\"2.0\",\"result\":{\"contents\":{\"kind\":\"markdown\",\"value\":\"```wac\\nimport log: func();\\n```\"},\"range\":{\"end\":{\"character\":10,\"line\":2},\"start\":{\"character\":7,\"line\":2}}}}",
+    ),
+    (
+        "{\"id\":10,\"jsonrpc\":\"2.0\",\"method\":\"workspace/symbol\",\"params\":{\"query\":\"lo\"}}",
+        "{\"id\":10,\"jsonrpc\":\"2.0\",\"result\":[{\"kind\":13,\"location\":{\"range\":{\"end\":{\"character\":19,\"line\":1},\"start\":{\"character\":0,\"line\":1}},\"uri\":\"file:///tmp/a%20b.wac\"},\"name\":\"log\"}]}",
+    ),
+    (
+        "{\"id\":11,\"jsonrpc\":\"2.0\",\"method\":\"workspace/symbol\",\"params\":{\"query\":\"x\"}}",
+        "{\"id\":11,\"jsonrpc\":\"2.0\",\"result\":[]}",
+    ),
+    (
+        "{\"id\":12,\"jsonrpc\":\"2.0\",\"method\":\"textDocument/rename\",\"params\":{\"newName\":\"x\",\"position\":{\"character\":8,\"line\":2},\"textDocument\":{\"uri\":\"other\"}}}",
+        "{\"error\":{\"code\":-32602,\"message\":\"the document is not open\"},\"id\":12,\"jsonrpc\":\"2.0\"}",
     ),
 ];
 
@@ -225,6 +281,11 @@ fn documents_are_followed(rt: HostRuntime) -> Result<(), Fail> {
 #[test]
 fn columns_are_counted_in_bytes(rt: HostRuntime) -> Result<(), Fail> {
     is_session(&rt, rt.alloc(), &BYTES)
+}
+
+#[test]
+fn names_are_asked_about(rt: HostRuntime) -> Result<(), Fail> {
+    is_session(&rt, rt.alloc(), &NAMES)
 }
 
 #[test]

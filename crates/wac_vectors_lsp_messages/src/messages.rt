@@ -3,7 +3,7 @@
 use std::alloc::{AllocError, Global};
 use std::process::Abort;
 use std::test::Fail;
-use wac_lsp_messages::{Call, Change, Id, Initialize, Message, Notice, read_message};
+use wac_lsp_messages::{Asked, Call, Change, Id, Initialize, Message, Notice, read_message};
 
 /// A body, and the message in words.
 type Row = (&'static str, &'static str);
@@ -46,7 +46,51 @@ static WRONG: [Row; 15] = [
 ];
 
 /// Requests, and those that are refused.
-static REQUESTS: [Row; 25] = [
+static REQUESTS: [Row; 36] = [
+    (
+        "{\"id\":8,\"method\":\"textDocument/definition\",\"params\":{\"textDocument\":{\"uri\":\"x\"},\"position\":{\"line\":2,\"character\":7}}}",
+        "request 8 definition x 2 7",
+    ),
+    (
+        "{\"id\":8,\"method\":\"textDocument/documentHighlight\",\"params\":{\"textDocument\":{\"uri\":\"x\"},\"position\":{\"line\":2,\"character\":7}}}",
+        "request 8 highlights x 2 7",
+    ),
+    (
+        "{\"id\":8,\"method\":\"textDocument/prepareRename\",\"params\":{\"textDocument\":{\"uri\":\"x\"},\"position\":{\"line\":2,\"character\":7}}}",
+        "request 8 prepare x 2 7",
+    ),
+    (
+        "{\"id\":8,\"method\":\"textDocument/hover\",\"params\":{\"textDocument\":{\"uri\":\"x\"},\"position\":{\"line\":2,\"character\":7}}}",
+        "request 8 hover x 2 7",
+    ),
+    (
+        "{\"id\":8,\"method\":\"textDocument/references\",\"params\":{\"textDocument\":{\"uri\":\"x\"},\"position\":{\"line\":2,\"character\":7},\"context\":{\"includeDeclaration\":true}}}",
+        "request 8 references and declaration x 2 7",
+    ),
+    (
+        "{\"id\":8,\"method\":\"textDocument/references\",\"params\":{\"textDocument\":{\"uri\":\"x\"},\"position\":{\"line\":2,\"character\":7},\"context\":{\"includeDeclaration\":false}}}",
+        "request 8 references x 2 7",
+    ),
+    (
+        "{\"id\":8,\"method\":\"textDocument/references\",\"params\":{\"textDocument\":{\"uri\":\"x\"},\"position\":{\"line\":2,\"character\":7}}}",
+        "request 8 refused -32602",
+    ),
+    (
+        "{\"id\":8,\"method\":\"textDocument/hover\",\"params\":{\"textDocument\":{\"uri\":\"x\"},\"position\":{\"line\":-1,\"character\":7}}}",
+        "request 8 refused -32602",
+    ),
+    (
+        "{\"id\":8,\"method\":\"textDocument/rename\",\"params\":{\"textDocument\":{\"uri\":\"x\"},\"position\":{\"line\":2,\"character\":7},\"newName\":\"y\"}}",
+        "request 8 rename x 2 7 y",
+    ),
+    (
+        "{\"id\":8,\"method\":\"textDocument/rename\",\"params\":{\"textDocument\":{\"uri\":\"x\"},\"position\":{\"line\":2,\"character\":7}}}",
+        "request 8 refused -32602",
+    ),
+    (
+        "{\"id\":8,\"method\":\"workspace/symbol\",\"params\":{\"query\":\"y\"}}",
+        "request 8 all symbols y",
+    ),
     (
         "{\"jsonrpc\":\"2.0\",\"id\":1,\"method\":\"shutdown\"}",
         "request 1 shutdown",
@@ -207,6 +251,22 @@ fn id_words(alloc: Global, id: &Id) -> Result<String, AllocError> {
     }
 }
 
+/// What is asked about a name, in words.
+fn asked_words(asked: Asked) -> &'static str {
+    match asked {
+        Asked::Definition => "definition",
+        Asked::References {
+            includes_declaration: true,
+        } => "references and declaration",
+        Asked::References {
+            includes_declaration: false,
+        } => "references",
+        Asked::Highlights => "highlights",
+        Asked::PrepareRename => "prepare",
+        Asked::Hover => "hover",
+    }
+}
+
 /// What a client says of itself, in words.
 fn initialize_words(alloc: Global, found: &Initialize) -> Result<String, AllocError> {
     let encoding = if found.counts_bytes {
@@ -247,6 +307,22 @@ fn call_words(alloc: Global, call: &Call) -> Result<String, AllocError> {
             let count = places.len();
             format!(in alloc; "selections {uri} {count}")
         }
+        Call::AboutName { uri, place, asked } => {
+            let line = place.line;
+            let column = place.column;
+            let words = asked_words(*asked);
+            format!(in alloc; "{words} {uri} {line} {column}")
+        }
+        Call::Rename {
+            uri,
+            place,
+            new_name,
+        } => {
+            let line = place.line;
+            let column = place.column;
+            format!(in alloc; "rename {uri} {line} {column} {new_name}")
+        }
+        Call::WorkspaceSymbol { query } => format!(in alloc; "all symbols {query}"),
         Call::CodeAction { uri, range } => {
             let line = range.start.line;
             let end_line = range.end.line;
