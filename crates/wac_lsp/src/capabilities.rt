@@ -16,6 +16,7 @@ pub(crate) fn capabilities(alloc: Global, counts_bytes: bool) -> Result<Value, A
         "positionEncoding": encoding,
         "textDocumentSync": sync,
         "documentFormattingProvider": true,
+        "documentRangeFormattingProvider": true,
         "documentSymbolProvider": true,
         "foldingRangeProvider": true,
         "selectionRangeProvider": true,

@@ -39,6 +39,14 @@ fn line_end_of(text: &str) -> LineEnd {
     LineEnd::Lf
 }
 
+/// How a text is laid out.
+pub(crate) fn layout_of(given: FormattingOptions, text: &str) -> Options {
+    Options {
+        indent: indent_of(given),
+        line_end: line_end_of(text),
+    }
+}
+
 /// How many bytes two texts have the same at their beginning, up to the end of a line.
 fn same_front(first: &[u8], second: &[u8]) -> usize {
     let mut count = 0usize;
@@ -172,7 +180,7 @@ fn change_to_tidy(
 }
 
 /// A change of a range as a value.
-fn edit_value(alloc: Global, range: Range, text: &str) -> Result<Value, AllocError> {
+pub(crate) fn edit_value(alloc: Global, range: Range, text: &str) -> Result<Value, AllocError> {
     let range = range_value(alloc, range.start, range.end)?;
     json!(in alloc; {"range": range, "newText": text})
 }
@@ -184,12 +192,8 @@ pub(crate) fn formatted(
     given: FormattingOptions,
     unit: ColumnUnit,
 ) -> Result<Value, AllocError> {
-    let options = Options {
-        indent: indent_of(given),
-        line_end: line_end_of(text),
-    };
     let mut edits = Vec::new(alloc);
-    if let Some(change) = change_to_tidy(alloc, text, options, unit)? {
+    if let Some(change) = change_to_tidy(alloc, text, layout_of(given, text), unit)? {
         if let Some(range) = change.range {
             edits.push(edit_value(alloc, range, change.text.as_str())?)?;
         }

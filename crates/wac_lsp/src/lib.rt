@@ -14,9 +14,11 @@ mod formatting;
 mod outline;
 mod pieces;
 mod places;
+mod ranging;
 mod selecting;
 mod server;
 mod serving;
+mod statements;
 mod symbols;
 mod tokens;
 

@@ -1,6 +1,9 @@
 //! The state of a server, and what it answers.
-ghost use Rattle.std.specs.Prelude.{◌≡◌, [], ◌∷◌, IfOk};
-ghost use Rattle.wac_lsp.specs.Replies.{replied_to, replies};
+ghost use Rattle.std.specs.Prelude.{◌≡◌, [], ◌∷◌, IfOk, Some, string_bytes};
+ghost use Rattle.wac_lsp_messages.specs.Replying.{IsReplyTo};
+ghost use Rattle.wac_lsp.specs.Opened.{Holds, Keeps};
+ghost use Rattle.wac_lsp.specs.Replies.{AreReplies, replied_to, replies};
+ghost use Rattle.wac_lsp.specs.declared.server.Sent.TheVariants as sent;
 
 use crate::actions::actions;
 use crate::capabilities::capabilities;
@@ -8,6 +11,7 @@ use crate::diagnostics::{published, withdrawn};
 use crate::documents::{Document, close, put, text_of};
 use crate::folding::folds;
 use crate::formatting::formatted;
+use crate::ranging::formatted_range;
 use crate::selecting::selections;
 use crate::symbols::symbols;
 use crate::tokens::tokens;
@@ -107,6 +111,7 @@ type Answered = Result<Value, Refusal>;
 fn name_of(call: &Call) -> &str {
     match call {
         Call::Formatting { uri, .. } => uri.as_str(),
+        Call::RangeFormatting { uri, .. } => uri.as_str(),
         Call::DocumentSymbol { uri } => uri.as_str(),
         Call::SemanticTokens { uri } => uri.as_str(),
         Call::FoldingRange { uri } => uri.as_str(),
@@ -118,6 +123,10 @@ fn name_of(call: &Call) -> &str {
 }
 
 impl Server {
+    ghost use Rattle.std.specs.Prelude.{◌≡◌, IfOk, IfSome, MatchOption, OnOk, string_bytes};
+    ghost use Rattle.wac_lsp_texts.specs.Changed.{Changes};
+    ghost use Rattle.wac_lsp.specs.Opened.{Follows, Makes, Puts, Tells};
+
     /// A server that wasn't initialized, of a program of this version.
     pub fn new(alloc: Global, version: &'static str) -> Server {
         Server {
@@ -130,7 +139,9 @@ impl Server {
     }
 
     /// Takes what the client says of itself, and tells what the server can do.
-    fn initialize(&mut self, alloc: Global, client: Initialize) -> Result<Value, AllocError> {
+    fn initialize(&mut self, alloc: Global, client: Initialize) -> Result<Value, AllocError>
+        ensures { self.new.documents.items ≡ self.old.documents.items }
+    {
         self.phase = Phase::Running;
         self.nests_symbols = client.nests_symbols;
         self.unit = if client.counts_bytes {
@@ -156,6 +167,9 @@ impl Server {
     ) -> Result<Value, AllocError> {
         match call {
             Call::Formatting { options, .. } => formatted(alloc, text, *options, self.unit),
+            Call::RangeFormatting { range, options, .. } => {
+                formatted_range(alloc, text, *range, *options, self.unit)
+            }
             Call::DocumentSymbol { .. } => {
                 symbols(alloc, uri, text, self.unit, self.nests_symbols)
             }
@@ -182,7 +196,9 @@ impl Server {
     }
 
     /// What a request gets before initialize.
-    fn answer_new(&mut self, alloc: Global, call: &Call) -> Result<Answered, AllocError> {
+    fn answer_new(&mut self, alloc: Global, call: &Call) -> Result<Answered, AllocError>
+        ensures { self.new.documents.items ≡ self.old.documents.items }
+    {
         match call {
             Call::Initialize(Some(client)) => match self.initialize(alloc, *client) {
                 Ok(value) => Ok(Ok(value)),
@@ -194,7 +210,9 @@ impl Server {
     }
 
     /// What a request gets between initialize and shutdown.
-    fn answer_running(&mut self, alloc: Global, call: &Call) -> Result<Answered, AllocError> {
+    fn answer_running(&mut self, alloc: Global, call: &Call) -> Result<Answered, AllocError>
+        ensures { self.new.documents.items ≡ self.old.documents.items }
+    {
         match call {
             Call::Initialize(_) => Ok(Err(NOT_NOW)),
             Call::Shutdown => {
@@ -206,7 +224,9 @@ impl Server {
     }
 
     /// What a request gets.
-    fn answer(&mut self, alloc: Global, call: &Call) -> Result<Answered, AllocError> {
+    fn answer(&mut self, alloc: Global, call: &Call) -> Result<Answered, AllocError>
+        ensures { self.new.documents.items ≡ self.old.documents.items }
+    {
         let phase = self.phase;
         match phase {
             Phase::New => self.answer_new(alloc, call),
@@ -230,7 +250,10 @@ impl Server {
         alloc: Global,
         id: &Id,
         call: Result<Call, Refusal>,
-    ) -> Result<String, AllocError> {
+    ) -> Result<String, AllocError>
+        ensures written { IfOk result (λ body. IsReplyTo (Some id.now) (string_bytes body)) }
+        ensures keeps { self.new.documents.items ≡ self.old.documents.items }
+    {
         let answer = match call {
             Ok(call) => self.answer(alloc, &call)?,
             Err(why) => Err(self.refusal(why)),
@@ -248,7 +271,11 @@ impl Server {
         uri: String,
         version: i64,
         text: String,
-    ) -> Result<String, AllocError> {
+    ) -> Result<String, AllocError>
+        ensures unit { self.new.unit ≡ self.old.unit }
+        ensures puts { OnOk result
+            (Puts (string_bytes uri) (string_bytes text) self.old.documents.items self.new.documents.items) }
+    {
         let told = published(alloc, uri.as_str(), version, text.as_str(), self.unit)?;
         put(&mut self.documents, Document { uri, text })?;
         Ok(told)
@@ -260,7 +287,10 @@ impl Server {
         alloc: Global,
         uri: &str,
         changes: &[Change],
-    ) -> Result<Option<String>, AllocError> {
+    ) -> Result<Option<String>, AllocError>
+        ensures { IfOk result (λ found. IfSome found (λ text.
+            Makes self.now.unit uri.now changes.now self.now.documents.items (string_bytes text))) }
+    {
         match text_of(self.documents.as_slice(), uri) {
             Some(text) => match changed(alloc, text, changes, self.unit) {
                 Ok(text) => Ok(Some(text)),
@@ -278,7 +308,11 @@ impl Server {
         uri: String,
         version: i64,
         changes: &[Change],
-    ) -> Result<Option<String>, AllocError> {
+    ) -> Result<Option<String>, AllocError>
+        // The text of the document is what the changes make of it; nothing is told where nothing was changed.
+        ensures { IfOk result (λ told. MatchOption told (self.new.documents.items ≡ self.old.documents.items)
+            (λ _. Follows self.old.unit (string_bytes uri) changes.now self.old.documents.items self.new.documents.items)) }
+    {
         match self.text_after(alloc, uri.as_str(), changes)? {
             Some(text) => Ok(Some(self.opened(alloc, uri, version, text)?)),
             None => Ok(None),
@@ -286,7 +320,10 @@ impl Server {
     }
 
     /// What is sent after a notification, if something is.
-    fn noticed(&mut self, alloc: Global, notice: Notice) -> Result<Option<String>, AllocError> {
+    fn noticed(&mut self, alloc: Global, notice: Notice) -> Result<Option<String>, AllocError>
+        ensures { IfOk result (λ told. MatchOption told (self.new.documents.items ≡ self.old.documents.items)
+            (λ _. Tells self.old.unit notice.entry self.old.documents.items self.new.documents.items)) }
+    {
         match notice {
             Notice::Opened { uri, version, text } => {
                 Ok(Some(self.opened(alloc, uri, version, text)?))
@@ -315,7 +352,9 @@ impl Server {
 
 /// An outcome in which a reply is sent, and the server goes on.
 fn sends_reply(alloc: Global, id: Option<Id>, body: String) -> Result<Outcome, AllocError>
-    ensures { IfOk result (λ outcome. replies outcome.messages.items ≡ id ∷ []) }
+    requires { IsReplyTo id (string_bytes body) }
+    ensures ids { IfOk result (λ outcome. replies outcome.messages.items ≡ id ∷ []) }
+    ensures written { IfOk result (λ outcome. AreReplies outcome.messages.items) }
 {
     let mut messages = Vec::new(alloc);
     messages.push(Sent::Reply { id, body })?;
@@ -327,7 +366,9 @@ fn sends_reply(alloc: Global, id: Option<Id>, body: String) -> Result<Outcome, A
 
 /// An outcome in which a notification is sent, and the server goes on.
 fn sends_notification(alloc: Global, body: String) -> Result<Outcome, AllocError>
-    ensures { IfOk result (λ outcome. replies outcome.messages.items ≡ []) }
+    ensures ids { IfOk result (λ outcome. replies outcome.messages.items ≡ []) }
+    ensures is { IfOk result (λ outcome. outcome.messages.items ≡ sent.Notification body ∷ []) }
+    ensures written { IfOk result (λ outcome. AreReplies outcome.messages.items) }
 {
     let mut messages = Vec::new(alloc);
     messages.push(Sent::Notification { body })?;
@@ -339,7 +380,9 @@ fn sends_notification(alloc: Global, body: String) -> Result<Outcome, AllocError
 
 /// An outcome in which no message is sent.
 fn sends_nothing(alloc: Global, status: Option<u8>) -> Outcome
-    ensures { replies result.messages.items ≡ [] }
+    ensures ids { replies result.messages.items ≡ [] }
+    ensures is { result.messages.items ≡ [] }
+    ensures written { AreReplies result.messages.items }
 {
     Outcome {
         messages: Vec::new(alloc),
@@ -354,7 +397,10 @@ fn is_exit(notice: &Notice) -> bool {
 
 /// What a server does after a notification.
 fn answer_notice(alloc: Global, server: &mut Server, notice: Notice) -> Result<Outcome, AllocError>
-    ensures { IfOk result (λ outcome. replies outcome.messages.items ≡ []) }
+    ensures ids { IfOk result (λ outcome. replies outcome.messages.items ≡ []) }
+    ensures written { IfOk result (λ outcome. AreReplies outcome.messages.items) }
+    ensures keeps { IfOk result (λ outcome. Keeps server.old.unit notice.entry outcome.messages.items
+        server.old.documents.items server.new.documents.items) }
 {
     if is_exit(&notice) {
         return Ok(sends_nothing(alloc, Some(server.status())));
@@ -371,7 +417,12 @@ fn answer_notice(alloc: Global, server: &mut Server, notice: Notice) -> Result<O
 /// What a server does after a message. The error is that memory ran out.
 pub fn answer(alloc: Global, server: &mut Server, message: Message) -> Result<Outcome, AllocError>
     // A request gets one reply, with its id; what is no message gets one without; all else gets none.
-    ensures { IfOk result (λ outcome. replies outcome.messages.items ≡ replied_to message) }
+    ensures ids { IfOk result (λ outcome. replies outcome.messages.items ≡ replied_to message.entry) }
+    // The text of each reply has its id.
+    ensures written { IfOk result (λ outcome. AreReplies outcome.messages.items) }
+    // The text of a document is that with which it was opened, after all changes that came since.
+    ensures holds { IfOk result (λ outcome. Holds server.old.unit message.entry outcome.messages.items
+        server.old.documents.items server.new.documents.items) }
 {
     match message {
         Message::Request { id, call } => {

@@ -40,6 +40,15 @@ pub enum Call {
         /// How.
         options: FormattingOptions,
     },
+    /// The edits that lay out a part of a document.
+    RangeFormatting {
+        /// Its name.
+        uri: String,
+        /// The part.
+        range: Range,
+        /// How.
+        options: FormattingOptions,
+    },
     /// What a document declares.
     DocumentSymbol {
         /// Its name.
@@ -144,6 +153,24 @@ fn read_formatting(alloc: Global, params: &Value) -> Result<CallResult, AllocErr
     }
 }
 
+/// The edits that lay out a part of a document.
+fn read_range_formatting(alloc: Global, params: &Value) -> Result<CallResult, AllocError> {
+    let Some(options) = read_options(params) else {
+        return Ok(Err(INVALID_PARAMS));
+    };
+    let Some(range) = field(params, "range").and_then(read_range) else {
+        return Ok(Err(INVALID_PARAMS));
+    };
+    match uri(alloc, params)? {
+        Some(uri) => Ok(Ok(Call::RangeFormatting {
+            uri,
+            range,
+            options,
+        })),
+        None => Ok(Err(INVALID_PARAMS)),
+    }
+}
+
 /// What mends a part of a document.
 fn read_action(uri: String, params: &Value) -> CallResult {
     match field(params, "range").and_then(read_range) {
@@ -201,6 +228,7 @@ pub(crate) fn read_call(
         "initialize" => Ok(Ok(Call::Initialize(read_initialize(params)))),
         "shutdown" => Ok(Ok(Call::Shutdown)),
         "textDocument/formatting" => read_formatting(alloc, params),
+        "textDocument/rangeFormatting" => read_range_formatting(alloc, params),
         "textDocument/selectionRange" => read_selection(alloc, params),
         "textDocument/documentSymbol"
         | "textDocument/semanticTokens/full"

@@ -46,7 +46,7 @@ static WRONG: [Row; 15] = [
 ];
 
 /// Requests, and those that are refused.
-static REQUESTS: [Row; 25] = [
+static REQUESTS: [Row; 27] = [
     (
         "{\"jsonrpc\":\"2.0\",\"id\":1,\"method\":\"shutdown\"}",
         "request 1 shutdown",
@@ -105,6 +105,14 @@ static REQUESTS: [Row; 25] = [
     ),
     (
         "{\"id\":4,\"method\":\"textDocument/formatting\",\"params\":{\"options\":{\"tabSize\":4,\"insertSpaces\":false}}}",
+        "request 4 refused -32602",
+    ),
+    (
+        "{\"id\":4,\"method\":\"textDocument/rangeFormatting\",\"params\":{\"textDocument\":{\"uri\":\"x\"},\"range\":{\"start\":{\"line\":1,\"character\":0},\"end\":{\"line\":2,\"character\":0}},\"options\":{\"tabSize\":8,\"insertSpaces\":true}}}",
+        "request 4 formatting x 1 to 2 8",
+    ),
+    (
+        "{\"id\":4,\"method\":\"textDocument/rangeFormatting\",\"params\":{\"textDocument\":{\"uri\":\"x\"},\"options\":{\"tabSize\":8,\"insertSpaces\":true}}}",
         "request 4 refused -32602",
     ),
     (
@@ -239,6 +247,16 @@ fn call_words(alloc: Global, call: &Call) -> Result<String, AllocError> {
                 "tabs"
             };
             format!(in alloc; "formatting {uri} {size} {kind}")
+        }
+        Call::RangeFormatting {
+            uri,
+            range,
+            options,
+        } => {
+            let line = range.start.line;
+            let end_line = range.end.line;
+            let size = options.tab_size;
+            format!(in alloc; "formatting {uri} {line} to {end_line} {size}")
         }
         Call::DocumentSymbol { uri } => format!(in alloc; "symbols {uri}"),
         Call::SemanticTokens { uri } => format!(in alloc; "tokens {uri}"),
