@@ -19,7 +19,7 @@ static BEGINNING: [Row; 15] = [
         "{\"error\":{\"code\":-32002,\"message\":\"the server is not initialized\"},\"id\":2,\"jsonrpc\":\"2.0\"}",
     ),
     (
-        "{\"jsonrpc\":\"2.0\",\"method\":\"textDocument/didOpen\",\"params\":{\"textDocument\":{\"languageId\":\"wac\",\"text\":\"x\",\"uri\":\"file:///tmp/a%20b.wac\",\"version\":1}}}",
+        "{\"jsonrpc\":\"2.0\",\"method\":\"textDocument/didOpen\",\"params\":{\"textDocument\":{\"languageId\":\"wac\",\"text\":\"x\",\"uri\":\"file:///project/a%20b.wac\",\"version\":1}}}",
         "",
     ),
     (
@@ -76,71 +76,71 @@ static DOCUMENT: [Row; 19] = [
         "{\"id\":1,\"jsonrpc\":\"2.0\",\"result\":{\"capabilities\":{\"codeActionProvider\":{\"codeActionKinds\":[\"quickfix\"]},\"documentFormattingProvider\":true,\"documentSymbolProvider\":true,\"foldingRangeProvider\":true,\"positionEncoding\":\"utf-16\",\"selectionRangeProvider\":true,\"semanticTokensProvider\":{\"full\":true,\"legend\":{\"tokenModifiers\":[],\"tokenTypes\":[\"keyword\",\"type\",\"string\",\"comment\",\"operator\",\"variable\",\"namespace\"]}},\"textDocumentSync\":{\"change\":2,\"openClose\":true}},\"serverInfo\":{\"name\":\"wacx\",\"version\":\"1.2.3\"}}}",
     ),
     (
-        "{\"jsonrpc\":\"2.0\",\"method\":\"textDocument/didOpen\",\"params\":{\"textDocument\":{\"languageId\":\"wac\",\"text\":\"package a:b;\\nlte x = y;\\n\",\"uri\":\"file:///tmp/a%20b.wac\",\"version\":1}}}",
-        "{\"jsonrpc\":\"2.0\",\"method\":\"textDocument/publishDiagnostics\",\"params\":{\"diagnostics\":[{\"code\":\"wac::expected-multiple\",\"message\":\"expected either `import` keyword, `let` keyword, `export` keyword, `interface` keyword, `world` keyword, `variant` keyword, `record` keyword, `flags` keyword, `enum` keyword, or `type` keyword, found identifier\\ndid you mean `let`?\",\"range\":{\"end\":{\"character\":3,\"line\":1},\"start\":{\"character\":0,\"line\":1}},\"relatedInformation\":[],\"severity\":1,\"source\":\"wac\"}],\"uri\":\"file:///tmp/a%20b.wac\",\"version\":1}}",
+        "{\"jsonrpc\":\"2.0\",\"method\":\"textDocument/didOpen\",\"params\":{\"textDocument\":{\"languageId\":\"wac\",\"text\":\"package a:b;\\nlte x = y;\\n\",\"uri\":\"file:///project/a%20b.wac\",\"version\":1}}}",
+        "{\"jsonrpc\":\"2.0\",\"method\":\"textDocument/publishDiagnostics\",\"params\":{\"diagnostics\":[{\"code\":\"wac::expected-multiple\",\"message\":\"expected either `import` keyword, `let` keyword, `export` keyword, `interface` keyword, `world` keyword, `variant` keyword, `record` keyword, `flags` keyword, `enum` keyword, or `type` keyword, found identifier\\ndid you mean `let`?\",\"range\":{\"end\":{\"character\":3,\"line\":1},\"start\":{\"character\":0,\"line\":1}},\"relatedInformation\":[],\"severity\":1,\"source\":\"wac\"}],\"uri\":\"file:///project/a%20b.wac\",\"version\":1}}",
     ),
     (
-        "{\"id\":20,\"jsonrpc\":\"2.0\",\"method\":\"textDocument/codeAction\",\"params\":{\"context\":{\"diagnostics\":[]},\"range\":{\"end\":{\"character\":1,\"line\":1},\"start\":{\"character\":1,\"line\":1}},\"textDocument\":{\"uri\":\"file:///tmp/a%20b.wac\"}}}",
-        "{\"id\":20,\"jsonrpc\":\"2.0\",\"result\":[{\"diagnostics\":[{\"code\":\"wac::expected-multiple\",\"message\":\"expected either `import` keyword, `let` keyword, `export` keyword, `interface` keyword, `world` keyword, `variant` keyword, `record` keyword, `flags` keyword, `enum` keyword, or `type` keyword, found identifier\\ndid you mean `let`?\",\"range\":{\"end\":{\"character\":3,\"line\":1},\"start\":{\"character\":0,\"line\":1}},\"relatedInformation\":[],\"severity\":1,\"source\":\"wac\"}],\"edit\":{\"changes\":{\"file:///tmp/a%20b.wac\":[{\"newText\":\"let\",\"range\":{\"end\":{\"character\":3,\"line\":1},\"start\":{\"character\":0,\"line\":1}}}]}},\"kind\":\"quickfix\",\"title\":\"did you mean `let`?\"}]}",
+        "{\"id\":20,\"jsonrpc\":\"2.0\",\"method\":\"textDocument/codeAction\",\"params\":{\"context\":{\"diagnostics\":[]},\"range\":{\"end\":{\"character\":1,\"line\":1},\"start\":{\"character\":1,\"line\":1}},\"textDocument\":{\"uri\":\"file:///project/a%20b.wac\"}}}",
+        "{\"id\":20,\"jsonrpc\":\"2.0\",\"result\":[{\"diagnostics\":[{\"code\":\"wac::expected-multiple\",\"message\":\"expected either `import` keyword, `let` keyword, `export` keyword, `interface` keyword, `world` keyword, `variant` keyword, `record` keyword, `flags` keyword, `enum` keyword, or `type` keyword, found identifier\\ndid you mean `let`?\",\"range\":{\"end\":{\"character\":3,\"line\":1},\"start\":{\"character\":0,\"line\":1}},\"relatedInformation\":[],\"severity\":1,\"source\":\"wac\"}],\"edit\":{\"changes\":{\"file:///project/a%20b.wac\":[{\"newText\":\"let\",\"range\":{\"end\":{\"character\":3,\"line\":1},\"start\":{\"character\":0,\"line\":1}}}]}},\"kind\":\"quickfix\",\"title\":\"did you mean `let`?\"}]}",
     ),
     (
-        "{\"id\":21,\"jsonrpc\":\"2.0\",\"method\":\"textDocument/codeAction\",\"params\":{\"context\":{\"diagnostics\":[]},\"range\":{\"end\":{\"character\":12,\"line\":0},\"start\":{\"character\":0,\"line\":0}},\"textDocument\":{\"uri\":\"file:///tmp/a%20b.wac\"}}}",
+        "{\"id\":21,\"jsonrpc\":\"2.0\",\"method\":\"textDocument/codeAction\",\"params\":{\"context\":{\"diagnostics\":[]},\"range\":{\"end\":{\"character\":12,\"line\":0},\"start\":{\"character\":0,\"line\":0}},\"textDocument\":{\"uri\":\"file:///project/a%20b.wac\"}}}",
         "{\"id\":21,\"jsonrpc\":\"2.0\",\"result\":[]}",
     ),
     (
-        "{\"id\":24,\"jsonrpc\":\"2.0\",\"method\":\"textDocument/formatting\",\"params\":{\"options\":{\"insertSpaces\":true,\"tabSize\":4},\"textDocument\":{\"uri\":\"file:///tmp/a%20b.wac\"}}}",
+        "{\"id\":24,\"jsonrpc\":\"2.0\",\"method\":\"textDocument/formatting\",\"params\":{\"options\":{\"insertSpaces\":true,\"tabSize\":4},\"textDocument\":{\"uri\":\"file:///project/a%20b.wac\"}}}",
         "{\"id\":24,\"jsonrpc\":\"2.0\",\"result\":[]}",
     ),
     (
-        "{\"jsonrpc\":\"2.0\",\"method\":\"textDocument/didChange\",\"params\":{\"contentChanges\":[{\"range\":{\"end\":{\"character\":3,\"line\":1},\"start\":{\"character\":0,\"line\":1}},\"text\":\"let\"}],\"textDocument\":{\"uri\":\"file:///tmp/a%20b.wac\",\"version\":2}}}",
-        "{\"jsonrpc\":\"2.0\",\"method\":\"textDocument/publishDiagnostics\",\"params\":{\"diagnostics\":[{\"code\":\"wac::undefined-name\",\"message\":\"undefined name `y`\",\"range\":{\"end\":{\"character\":9,\"line\":1},\"start\":{\"character\":8,\"line\":1}},\"relatedInformation\":[],\"severity\":1,\"source\":\"wac\"}],\"uri\":\"file:///tmp/a%20b.wac\",\"version\":2}}",
+        "{\"jsonrpc\":\"2.0\",\"method\":\"textDocument/didChange\",\"params\":{\"contentChanges\":[{\"range\":{\"end\":{\"character\":3,\"line\":1},\"start\":{\"character\":0,\"line\":1}},\"text\":\"let\"}],\"textDocument\":{\"uri\":\"file:///project/a%20b.wac\",\"version\":2}}}",
+        "{\"jsonrpc\":\"2.0\",\"method\":\"textDocument/publishDiagnostics\",\"params\":{\"diagnostics\":[{\"code\":\"wac::undefined-name\",\"message\":\"undefined name `y`\",\"range\":{\"end\":{\"character\":9,\"line\":1},\"start\":{\"character\":8,\"line\":1}},\"relatedInformation\":[],\"severity\":1,\"source\":\"wac\"}],\"uri\":\"file:///project/a%20b.wac\",\"version\":2}}",
     ),
     (
-        "{\"jsonrpc\":\"2.0\",\"method\":\"textDocument/didChange\",\"params\":{\"contentChanges\":[{\"range\":{\"end\":{\"character\":0,\"line\":2},\"start\":{\"character\":0,\"line\":1}},\"text\":\"/* \u{e9} */ import y:  func();\\n\"},{\"range\":{\"end\":{\"character\":0,\"line\":2},\"start\":{\"character\":0,\"line\":2}},\"text\":\"let x = y;\"}],\"textDocument\":{\"uri\":\"file:///tmp/a%20b.wac\",\"version\":3}}}",
-        "{\"jsonrpc\":\"2.0\",\"method\":\"textDocument/publishDiagnostics\",\"params\":{\"diagnostics\":[],\"uri\":\"file:///tmp/a%20b.wac\",\"version\":3}}",
+        "{\"jsonrpc\":\"2.0\",\"method\":\"textDocument/didChange\",\"params\":{\"contentChanges\":[{\"range\":{\"end\":{\"character\":0,\"line\":2},\"start\":{\"character\":0,\"line\":1}},\"text\":\"/* \u{e9} */ import y:  func();\\n\"},{\"range\":{\"end\":{\"character\":0,\"line\":2},\"start\":{\"character\":0,\"line\":2}},\"text\":\"let x = y;\"}],\"textDocument\":{\"uri\":\"file:///project/a%20b.wac\",\"version\":3}}}",
+        "{\"jsonrpc\":\"2.0\",\"method\":\"textDocument/publishDiagnostics\",\"params\":{\"diagnostics\":[],\"uri\":\"file:///project/a%20b.wac\",\"version\":3}}",
     ),
     (
-        "{\"id\":2,\"jsonrpc\":\"2.0\",\"method\":\"textDocument/formatting\",\"params\":{\"options\":{\"insertSpaces\":true,\"tabSize\":4},\"textDocument\":{\"uri\":\"file:///tmp/a%20b.wac\"}}}",
+        "{\"id\":2,\"jsonrpc\":\"2.0\",\"method\":\"textDocument/formatting\",\"params\":{\"options\":{\"insertSpaces\":true,\"tabSize\":4},\"textDocument\":{\"uri\":\"file:///project/a%20b.wac\"}}}",
         "{\"id\":2,\"jsonrpc\":\"2.0\",\"result\":[{\"newText\":\"\\n/* \u{e9} */ import y: func();\\n\\nlet x = y;\\n\",\"range\":{\"end\":{\"character\":10,\"line\":2},\"start\":{\"character\":0,\"line\":1}}}]}",
     ),
     (
-        "{\"id\":3,\"jsonrpc\":\"2.0\",\"method\":\"textDocument/documentSymbol\",\"params\":{\"textDocument\":{\"uri\":\"file:///tmp/a%20b.wac\"}}}",
+        "{\"id\":3,\"jsonrpc\":\"2.0\",\"method\":\"textDocument/documentSymbol\",\"params\":{\"textDocument\":{\"uri\":\"file:///project/a%20b.wac\"}}}",
         "{\"id\":3,\"jsonrpc\":\"2.0\",\"result\":[{\"children\":[],\"kind\":13,\"name\":\"y\",\"range\":{\"end\":{\"character\":26,\"line\":1},\"start\":{\"character\":8,\"line\":1}},\"selectionRange\":{\"end\":{\"character\":16,\"line\":1},\"start\":{\"character\":15,\"line\":1}}},{\"children\":[],\"kind\":13,\"name\":\"x\",\"range\":{\"end\":{\"character\":10,\"line\":2},\"start\":{\"character\":0,\"line\":2}},\"selectionRange\":{\"end\":{\"character\":5,\"line\":2},\"start\":{\"character\":4,\"line\":2}}}]}",
     ),
     (
-        "{\"id\":4,\"jsonrpc\":\"2.0\",\"method\":\"textDocument/semanticTokens/full\",\"params\":{\"textDocument\":{\"uri\":\"file:///tmp/a%20b.wac\"}}}",
+        "{\"id\":4,\"jsonrpc\":\"2.0\",\"method\":\"textDocument/semanticTokens/full\",\"params\":{\"textDocument\":{\"uri\":\"file:///project/a%20b.wac\"}}}",
         "{\"id\":4,\"jsonrpc\":\"2.0\",\"result\":{\"data\":[0,0,7,0,0,0,8,3,6,0,0,3,1,4,0,1,0,7,3,0,0,8,6,0,0,0,7,1,5,0,0,1,1,4,0,0,3,4,0,0,0,4,1,4,0,0,1,1,4,0,0,1,1,4,0,1,0,3,0,0,0,4,1,5,0,0,2,1,4,0,0,2,1,5,0,0,1,1,4,0]}}",
     ),
     (
-        "{\"jsonrpc\":\"2.0\",\"method\":\"textDocument/didChange\",\"params\":{\"contentChanges\":[{\"text\":\"package a:b;\\ninterface i {\\n  record r { a: u8 }\\n  f: func();\\n}\\n\"}],\"textDocument\":{\"uri\":\"file:///tmp/a%20b.wac\",\"version\":4}}}",
-        "{\"jsonrpc\":\"2.0\",\"method\":\"textDocument/publishDiagnostics\",\"params\":{\"diagnostics\":[],\"uri\":\"file:///tmp/a%20b.wac\",\"version\":4}}",
+        "{\"jsonrpc\":\"2.0\",\"method\":\"textDocument/didChange\",\"params\":{\"contentChanges\":[{\"text\":\"package a:b;\\ninterface i {\\n  record r { a: u8 }\\n  f: func();\\n}\\n\"}],\"textDocument\":{\"uri\":\"file:///project/a%20b.wac\",\"version\":4}}}",
+        "{\"jsonrpc\":\"2.0\",\"method\":\"textDocument/publishDiagnostics\",\"params\":{\"diagnostics\":[],\"uri\":\"file:///project/a%20b.wac\",\"version\":4}}",
     ),
     (
-        "{\"id\":5,\"jsonrpc\":\"2.0\",\"method\":\"textDocument/documentSymbol\",\"params\":{\"textDocument\":{\"uri\":\"file:///tmp/a%20b.wac\"}}}",
+        "{\"id\":5,\"jsonrpc\":\"2.0\",\"method\":\"textDocument/documentSymbol\",\"params\":{\"textDocument\":{\"uri\":\"file:///project/a%20b.wac\"}}}",
         "{\"id\":5,\"jsonrpc\":\"2.0\",\"result\":[{\"children\":[{\"children\":[],\"kind\":23,\"name\":\"r\",\"range\":{\"end\":{\"character\":20,\"line\":2},\"start\":{\"character\":2,\"line\":2}},\"selectionRange\":{\"end\":{\"character\":10,\"line\":2},\"start\":{\"character\":9,\"line\":2}}},{\"children\":[],\"kind\":12,\"name\":\"f\",\"range\":{\"end\":{\"character\":12,\"line\":3},\"start\":{\"character\":2,\"line\":3}},\"selectionRange\":{\"end\":{\"character\":3,\"line\":3},\"start\":{\"character\":2,\"line\":3}}}],\"kind\":11,\"name\":\"i\",\"range\":{\"end\":{\"character\":1,\"line\":4},\"start\":{\"character\":0,\"line\":1}},\"selectionRange\":{\"end\":{\"character\":11,\"line\":1},\"start\":{\"character\":10,\"line\":1}}}]}",
     ),
     (
-        "{\"id\":22,\"jsonrpc\":\"2.0\",\"method\":\"textDocument/foldingRange\",\"params\":{\"textDocument\":{\"uri\":\"file:///tmp/a%20b.wac\"}}}",
+        "{\"id\":22,\"jsonrpc\":\"2.0\",\"method\":\"textDocument/foldingRange\",\"params\":{\"textDocument\":{\"uri\":\"file:///project/a%20b.wac\"}}}",
         "{\"id\":22,\"jsonrpc\":\"2.0\",\"result\":[{\"endLine\":4,\"startLine\":1}]}",
     ),
     (
-        "{\"id\":23,\"jsonrpc\":\"2.0\",\"method\":\"textDocument/selectionRange\",\"params\":{\"positions\":[{\"character\":13,\"line\":2}],\"textDocument\":{\"uri\":\"file:///tmp/a%20b.wac\"}}}",
+        "{\"id\":23,\"jsonrpc\":\"2.0\",\"method\":\"textDocument/selectionRange\",\"params\":{\"positions\":[{\"character\":13,\"line\":2}],\"textDocument\":{\"uri\":\"file:///project/a%20b.wac\"}}}",
         "{\"id\":23,\"jsonrpc\":\"2.0\",\"result\":[{\"parent\":{\"parent\":{\"parent\":{\"range\":{\"end\":{\"character\":0,\"line\":5},\"start\":{\"character\":0,\"line\":0}}},\"range\":{\"end\":{\"character\":1,\"line\":4},\"start\":{\"character\":12,\"line\":1}}},\"range\":{\"end\":{\"character\":20,\"line\":2},\"start\":{\"character\":11,\"line\":2}}},\"range\":{\"end\":{\"character\":14,\"line\":2},\"start\":{\"character\":13,\"line\":2}}}]}",
     ),
     (
-        "{\"jsonrpc\":\"2.0\",\"method\":\"textDocument/didChange\",\"params\":{\"contentChanges\":[],\"textDocument\":{\"uri\":\"file:///tmp/a%20b.wac\",\"version\":5}}}",
-        "{\"jsonrpc\":\"2.0\",\"method\":\"textDocument/publishDiagnostics\",\"params\":{\"diagnostics\":[],\"uri\":\"file:///tmp/a%20b.wac\",\"version\":5}}",
+        "{\"jsonrpc\":\"2.0\",\"method\":\"textDocument/didChange\",\"params\":{\"contentChanges\":[],\"textDocument\":{\"uri\":\"file:///project/a%20b.wac\",\"version\":5}}}",
+        "{\"jsonrpc\":\"2.0\",\"method\":\"textDocument/publishDiagnostics\",\"params\":{\"diagnostics\":[],\"uri\":\"file:///project/a%20b.wac\",\"version\":5}}",
     ),
     (
         "{\"jsonrpc\":\"2.0\",\"method\":\"textDocument/didChange\",\"params\":{\"contentChanges\":[{\"text\":\"\"}],\"textDocument\":{\"uri\":\"other\",\"version\":5}}}",
         "",
     ),
     (
-        "{\"jsonrpc\":\"2.0\",\"method\":\"textDocument/didClose\",\"params\":{\"textDocument\":{\"uri\":\"file:///tmp/a%20b.wac\"}}}",
-        "{\"jsonrpc\":\"2.0\",\"method\":\"textDocument/publishDiagnostics\",\"params\":{\"diagnostics\":[],\"uri\":\"file:///tmp/a%20b.wac\"}}",
+        "{\"jsonrpc\":\"2.0\",\"method\":\"textDocument/didClose\",\"params\":{\"textDocument\":{\"uri\":\"file:///project/a%20b.wac\"}}}",
+        "{\"jsonrpc\":\"2.0\",\"method\":\"textDocument/publishDiagnostics\",\"params\":{\"diagnostics\":[],\"uri\":\"file:///project/a%20b.wac\"}}",
     ),
     (
-        "{\"id\":6,\"jsonrpc\":\"2.0\",\"method\":\"textDocument/formatting\",\"params\":{\"options\":{\"insertSpaces\":true,\"tabSize\":4},\"textDocument\":{\"uri\":\"file:///tmp/a%20b.wac\"}}}",
+        "{\"id\":6,\"jsonrpc\":\"2.0\",\"method\":\"textDocument/formatting\",\"params\":{\"options\":{\"insertSpaces\":true,\"tabSize\":4},\"textDocument\":{\"uri\":\"file:///project/a%20b.wac\"}}}",
         "{\"error\":{\"code\":-32602,\"message\":\"the document is not open\"},\"id\":6,\"jsonrpc\":\"2.0\"}",
     ),
     ("{\"jsonrpc\":\"2.0\",\"method\":\"exit\"}", "status 1"),
@@ -153,24 +153,24 @@ static BYTES: [Row; 9] = [
         "{\"id\":1,\"jsonrpc\":\"2.0\",\"result\":{\"capabilities\":{\"codeActionProvider\":{\"codeActionKinds\":[\"quickfix\"]},\"documentFormattingProvider\":true,\"documentSymbolProvider\":true,\"foldingRangeProvider\":true,\"positionEncoding\":\"utf-8\",\"selectionRangeProvider\":true,\"semanticTokensProvider\":{\"full\":true,\"legend\":{\"tokenModifiers\":[],\"tokenTypes\":[\"keyword\",\"type\",\"string\",\"comment\",\"operator\",\"variable\",\"namespace\"]}},\"textDocumentSync\":{\"change\":2,\"openClose\":true}},\"serverInfo\":{\"name\":\"wacx\",\"version\":\"1.2.3\"}}}",
     ),
     (
-        "{\"jsonrpc\":\"2.0\",\"method\":\"textDocument/didOpen\",\"params\":{\"textDocument\":{\"languageId\":\"wac\",\"text\":\"package a:b;\\n/* \u{e9} */ let x = y;\\n\",\"uri\":\"file:///tmp/a%20b.wac\",\"version\":7}}}",
-        "{\"jsonrpc\":\"2.0\",\"method\":\"textDocument/publishDiagnostics\",\"params\":{\"diagnostics\":[{\"code\":\"wac::undefined-name\",\"message\":\"undefined name `y`\",\"range\":{\"end\":{\"character\":18,\"line\":1},\"start\":{\"character\":17,\"line\":1}},\"relatedInformation\":[],\"severity\":1,\"source\":\"wac\"}],\"uri\":\"file:///tmp/a%20b.wac\",\"version\":7}}",
+        "{\"jsonrpc\":\"2.0\",\"method\":\"textDocument/didOpen\",\"params\":{\"textDocument\":{\"languageId\":\"wac\",\"text\":\"package a:b;\\n/* \u{e9} */ let x = y;\\n\",\"uri\":\"file:///project/a%20b.wac\",\"version\":7}}}",
+        "{\"jsonrpc\":\"2.0\",\"method\":\"textDocument/publishDiagnostics\",\"params\":{\"diagnostics\":[{\"code\":\"wac::undefined-name\",\"message\":\"undefined name `y`\",\"range\":{\"end\":{\"character\":18,\"line\":1},\"start\":{\"character\":17,\"line\":1}},\"relatedInformation\":[],\"severity\":1,\"source\":\"wac\"}],\"uri\":\"file:///project/a%20b.wac\",\"version\":7}}",
     ),
     (
-        "{\"id\":2,\"jsonrpc\":\"2.0\",\"method\":\"textDocument/documentSymbol\",\"params\":{\"textDocument\":{\"uri\":\"file:///tmp/a%20b.wac\"}}}",
-        "{\"id\":2,\"jsonrpc\":\"2.0\",\"result\":[{\"kind\":13,\"location\":{\"range\":{\"end\":{\"character\":19,\"line\":1},\"start\":{\"character\":9,\"line\":1}},\"uri\":\"file:///tmp/a%20b.wac\"},\"name\":\"x\"}]}",
+        "{\"id\":2,\"jsonrpc\":\"2.0\",\"method\":\"textDocument/documentSymbol\",\"params\":{\"textDocument\":{\"uri\":\"file:///project/a%20b.wac\"}}}",
+        "{\"id\":2,\"jsonrpc\":\"2.0\",\"result\":[{\"kind\":13,\"location\":{\"range\":{\"end\":{\"character\":19,\"line\":1},\"start\":{\"character\":9,\"line\":1}},\"uri\":\"file:///project/a%20b.wac\"},\"name\":\"x\"}]}",
     ),
     ("{\"id\":2,\"jsonrpc\":\"2.0\",\"result\":null}", ""),
     (
-        "{\"jsonrpc\":\"2.0\",\"method\":\"textDocument/didChange\",\"params\":{\"contentChanges\":[{\"text\":\"package a:b;\\n\\ninterface i {\\n\\tf: func();\\n}\\n\"}],\"textDocument\":{\"uri\":\"file:///tmp/a%20b.wac\",\"version\":8}}}",
-        "{\"jsonrpc\":\"2.0\",\"method\":\"textDocument/publishDiagnostics\",\"params\":{\"diagnostics\":[],\"uri\":\"file:///tmp/a%20b.wac\",\"version\":8}}",
+        "{\"jsonrpc\":\"2.0\",\"method\":\"textDocument/didChange\",\"params\":{\"contentChanges\":[{\"text\":\"package a:b;\\n\\ninterface i {\\n\\tf: func();\\n}\\n\"}],\"textDocument\":{\"uri\":\"file:///project/a%20b.wac\",\"version\":8}}}",
+        "{\"jsonrpc\":\"2.0\",\"method\":\"textDocument/publishDiagnostics\",\"params\":{\"diagnostics\":[],\"uri\":\"file:///project/a%20b.wac\",\"version\":8}}",
     ),
     (
-        "{\"id\":3,\"jsonrpc\":\"2.0\",\"method\":\"textDocument/formatting\",\"params\":{\"options\":{\"insertSpaces\":false,\"tabSize\":8},\"textDocument\":{\"uri\":\"file:///tmp/a%20b.wac\"}}}",
+        "{\"id\":3,\"jsonrpc\":\"2.0\",\"method\":\"textDocument/formatting\",\"params\":{\"options\":{\"insertSpaces\":false,\"tabSize\":8},\"textDocument\":{\"uri\":\"file:///project/a%20b.wac\"}}}",
         "{\"id\":3,\"jsonrpc\":\"2.0\",\"result\":[]}",
     ),
     (
-        "{\"id\":4,\"jsonrpc\":\"2.0\",\"method\":\"textDocument/formatting\",\"params\":{\"options\":{\"insertSpaces\":true,\"tabSize\":2},\"textDocument\":{\"uri\":\"file:///tmp/a%20b.wac\"}}}",
+        "{\"id\":4,\"jsonrpc\":\"2.0\",\"method\":\"textDocument/formatting\",\"params\":{\"options\":{\"insertSpaces\":true,\"tabSize\":2},\"textDocument\":{\"uri\":\"file:///project/a%20b.wac\"}}}",
         "{\"id\":4,\"jsonrpc\":\"2.0\",\"result\":[{\"newText\":\"  f: func();\\n\",\"range\":{\"end\":{\"character\":0,\"line\":4},\"start\":{\"character\":0,\"line\":3}}}]}",
     ),
     (
