@@ -32,6 +32,8 @@ use wac_resolution_nodes::Root;
 use wac_resolution_state::State;
 
 /// What is reported of an argument that doesn't fit. Without a reason it is for no import.
+#[cold]
+#[inline(never)]
 fn misfitting(
     alloc: Global,
     package: &PackageName<'_>,
@@ -102,6 +104,7 @@ fn check_arguments<R: Rules>(
 }
 
 /// Gives what spreads give, and makes the instance if each argument is right.
+#[inline(never)]
 pub fn complete<R: Rules>(
     state: &mut State,
     rules: &R,

@@ -54,6 +54,7 @@ fn give(
 }
 
 /// Gives a node for the import that an argument's name means.
+#[inline(never)]
 pub fn give_named(
     state: &State,
     world: WorldId,
@@ -71,6 +72,7 @@ pub fn give_named(
 
 /// Gives the node of an identifier for the import that is inferred.
 #[tactic(auto, using(wac_resolution_state::proofs::Scopes::memory_told))]
+#[inline(never)]
 pub fn give_inferred(
     state: &State,
     root: &Root<'_>,
@@ -90,6 +92,7 @@ pub fn give_inferred(
 }
 
 /// Rejects `...` before other arguments.
+#[inline(never)]
 pub fn check_last(is_last: bool, span: SourceSpan) -> Result<(), Error>
     ensures ok { OnOk result ((rest : Arguments) → is_none rest ≡ is_last → IsEmpty rest) }
     ensures err { IfErr result (λ e. (rest : Arguments) → is_none rest ≡ is_last → IsFillNotLast rest span (told e)) }
