@@ -27,6 +27,7 @@ impl Found {
     }
 
     /// Notes an instantiation of the package of a name.
+    #[inline(never)]
     fn instantiation(
         &mut self,
         package: &PackageName<'_>,
@@ -140,6 +141,7 @@ fn place_of(postfix: &PostfixExpr<'_>) -> SourceSpan {
 }
 
 /// Notes accesses of an expression that begins at an offset.
+#[inline(never)]
 fn accesses(
     found: &mut Found,
     start: usize,

@@ -9,27 +9,31 @@ ghost use Rattle.wac_resolution_errors.specs.Error.{Reports};
 ghost use Rattle.wac_resolution_errors.specs.Told.{told};
 ghost use Rattle.wac_resolution_rules.specs.Given.{rules_by};
 ghost use Rattle.wac_resolution_nodes.specs.Root.{numbers_of, Agrees};
-ghost use Rattle.wac_resolution_arguments.specs.Fits.{AllFit};
-ghost use Rattle.wac_resolution_arguments.specs.Spreads.{GivenThere};
+ghost use Rattle.wac_resolution_expressions.specs.Fits.{AllFit};
+ghost use Rattle.wac_resolution_expressions.specs.Spreads.{GivenThere};
 ghost use Rattle.wac_resolution_expressions.specs.Completing.{misfit_of, AreRight, AreWrong, Completes, FailsToComplete};
 ghost use Rattle.wac_resolution_expressions.specs.Loaded.{IsThere};
 ghost use Rattle.wac_resolution_expressions.specs.Places.{StandThemselves, StandSomewhere};
 
+use crate::fits::misfit;
 use crate::instance::instantiate;
+use crate::left_out::check_complete;
 use crate::packages::Loaded;
 use crate::places::place;
+use crate::spread_arguments::spreads;
 use indexmap::IndexMap;
 use std::alloc::{AllocError, Global};
 use wac_ast_base::PackageName;
 use wac_ast_expressions::NewExpr;
 use wac_graph::{ItemKind, NodeId, Reason, Rules, WorldId};
 use wac_lexer::SourceSpan;
-use wac_resolution_arguments::{check_complete, misfit, spreads};
 use wac_resolution_errors::Error;
 use wac_resolution_nodes::Root;
 use wac_resolution_state::State;
 
 /// What is reported of an argument that doesn't fit. Without a reason it is for no import.
+#[cold]
+#[inline(never)]
 fn misfitting(
     alloc: Global,
     package: &PackageName<'_>,
@@ -100,6 +104,7 @@ fn check_arguments<R: Rules>(
 }
 
 /// Gives what spreads give, and makes the instance if each argument is right.
+#[inline(never)]
 pub fn complete<R: Rules>(
     state: &mut State,
     rules: &R,

@@ -15,10 +15,11 @@ ghost use Rattle.wac_resolution_rules.specs.BrokenExpressions.{ArgumentBroken, I
 ghost use Rattle.wac_resolution_rules.specs.Expressions.{GivesOne, IsEmpty, name_meant};
 ghost use Rattle.wac_resolution_rules.specs.Given.{Given};
 ghost use Rattle.wac_resolution_nodes.specs.Root.{numbers_of, Agrees};
-ghost use Rattle.wac_resolution_arguments.specs.Giving.{Gave};
-ghost use Rattle.wac_resolution_arguments.specs.Spreads.{giving_of, imports_at, GivenThere};
+ghost use Rattle.wac_resolution_expressions.specs.GivenByNodes.{Gave};
+ghost use Rattle.wac_resolution_expressions.specs.Spreads.{giving_of, imports_at, GivenThere};
 ghost use Rattle.wac_resolution_expressions.specs.Giving.{is_none, GivesNode, IsGiven, GivesFor, IsGivenFor};
 
+use crate::meant::{inferred_name, written_name};
 use indexmap::IndexMap;
 use std::alloc::Global;
 use wac_ast_base::Ident;
@@ -26,7 +27,6 @@ use wac_ast_expressions::InstantiationArgumentName;
 use wac_graph::names::{find, push};
 use wac_graph::{ItemKind, NodeId, WorldId};
 use wac_lexer::SourceSpan;
-use wac_resolution_arguments::{inferred_name, written_name};
 use wac_resolution_errors::Error;
 use wac_resolution_nodes::Root;
 use wac_resolution_state::State;
@@ -54,6 +54,7 @@ fn give(
 }
 
 /// Gives a node for the import that an argument's name means.
+#[inline(never)]
 pub fn give_named(
     state: &State,
     world: WorldId,
@@ -71,6 +72,7 @@ pub fn give_named(
 
 /// Gives the node of an identifier for the import that is inferred.
 #[tactic(auto, using(wac_resolution_state::proofs::Scopes::memory_told))]
+#[inline(never)]
 pub fn give_inferred(
     state: &State,
     root: &Root<'_>,
@@ -90,6 +92,7 @@ pub fn give_inferred(
 }
 
 /// Rejects `...` before other arguments.
+#[inline(never)]
 pub fn check_last(is_last: bool, span: SourceSpan) -> Result<(), Error>
     ensures ok { OnOk result ((rest : Arguments) → is_none rest ≡ is_last → IsEmpty rest) }
     ensures err { IfErr result (λ e. (rest : Arguments) → is_none rest ≡ is_last → IsFillNotLast rest span (told e)) }

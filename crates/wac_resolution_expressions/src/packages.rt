@@ -37,6 +37,8 @@ fn is_own(setting: &Setting<'_>, package: &PackageName<'_>) -> bool
 }
 
 /// What is reported of a package that was not supplied, or is the document's own.
+#[cold]
+#[inline(never)]
 fn unknown(alloc: Global, package: &PackageName<'_>) -> Result<Error, AllocError>
     ensures { IfOk result (λ e. told e ≡ unknown_package «package».now.name.now «package».now.span) }
 {
@@ -60,6 +62,7 @@ fn load(
 }
 
 /// The package that is instantiated under a name. It must be supplied, and not be the document's own.
+#[inline(never)]
 pub fn instantiable(
     state: &mut State,
     setting: &Setting<'_>,

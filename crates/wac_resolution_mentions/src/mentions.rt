@@ -72,6 +72,7 @@ impl<'s> Mentions<'s> {
     }
 
     /// Notes the package of a name.
+    #[inline(never)]
     pub(crate) fn name(&mut self, name: &PackageName<'_>) -> Result<(), AllocError>
         ensures { OnOk result (Notes self.old self.new (name_mentions self.old.own (package_name_of name.now))) }
     {

@@ -88,6 +88,7 @@ pub fn access(
 }
 
 /// The node that accesses denote, in order. The span is that of what comes before them.
+#[inline(never)]
 pub fn accesses(
     state: &mut State,
     node: NodeId,

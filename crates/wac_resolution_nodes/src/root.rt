@@ -41,6 +41,7 @@ impl<'a> Root<'a> {
 
     /// The node that an identifier denotes.
     #[tactic(auto, using(crate::proofs::Roots::nodes_found))]
+    #[inline(never)]
     pub fn node(&self, alloc: Global, id: &Ident<'_>) -> Result<NodeId, Error>
         ensures ok { IfOk result (λ n. NodeIs self.now (ident_of id.now) n) }
         ensures err { IfErr result (λ e. Reports (told e) (IsUndefined (numbers_of self.now.nodes) (ident_of id.now) (told e))) }
