@@ -13,12 +13,18 @@ use Rattle.wac_ast_grammar.specs.Tokens.{is_token}
 use Rattle.wac_ast_grammar.specs.Tree.{without_percent}
 use Rattle.wac_diagnostics.specs.declared.diagnostic.Diagnostic.{Diagnostic}
 
--- a name right behind this item is declared there: behind a keyword of a declaration, or another name, as a misspelled keyword is one
+-- a name right behind this item is declared there: behind a keyword of a declaration, or another name, as a misspelled
+-- keyword is one
 abbrev pub declares_next : Result Token Error → Bool
 declares_next x =
     is_token t.Ident x
-    || (is_token t.ImportKeyword x || (is_token t.LetKeyword x || (is_token t.InterfaceKeyword x || (is_token t.WorldKeyword x
-    || (is_token t.TypeKeyword x || (is_token t.VariantKeyword x || (is_token t.RecordKeyword x || (is_token t.FlagsKeyword x || is_token t.EnumKeyword x))))))))
+    || (is_token t.ImportKeyword x
+    || (is_token t.LetKeyword x
+    || (is_token t.InterfaceKeyword x
+    || (is_token t.WorldKeyword x
+    || (is_token t.TypeKeyword x
+    || (is_token t.VariantKeyword x
+    || (is_token t.RecordKeyword x || (is_token t.FlagsKeyword x || is_token t.EnumKeyword x))))))))
 
 -- a byte of a text is a blank
 abbrev pub is_blank_at : List ℕ → ℕ → Bool
@@ -28,11 +34,13 @@ is_blank_at text at = nat_lt at (length text) && nat_eq (slice_index text at) 32
 abbrev pub same_name : List ℕ → List ℕ → Bool
 same_name a b = bytes_eq (without_percent a) (without_percent b)
 
--- One of items declares the name, and is blanked in what is left. They come behind an item that declares what follows, or doesn't.
+-- One of items declares the name, and is blanked in what is left. They come behind an item that declares what follows,
+-- or doesn't.
 abbrev pub declared_among : List ℕ → List ℕ → Bool → List Item → Bool
 declared_among left name behind [] = false
 declared_among left name behind (x ∷ xs) =
-    (behind && (is_blank_at left x.span.offset && same_name x.text name)) || declared_among left name (declares_next x.token) xs
+    (behind && (is_blank_at left x.span.offset && same_name x.text name))
+    || declared_among left name (declares_next x.token) xs
 
 -- of a source with this rejected character first, or none: in one with a rejected character any name may be declared
 abbrev pub declared_beside : List ℕ → List ℕ → List ℕ → Option (Error × Span) → Bool
@@ -46,7 +54,8 @@ declares source left name = declared_beside source left name (refused source)
 -- what the diagnostic says of what is left isn't that a name is unknown which a blanked statement declares
 abbrev pub IsUndeclared : List ℕ → List ℕ → Diagnostic → Type 0
 IsUndeclared source left d =
-    d.code.now ≡ codes "wac::undefined-name" → (at : Span) → d.span ≡ Some at → Slices left at → declares source left (slice left at) ≡ false
+    d.code.now ≡ codes "wac::undefined-name" → (at : Span) → d.span ≡ Some at → Slices left at
+    → declares source left (slice left at) ≡ false
 
 -- examples: `x` is blanked in the first, and stands in the second
 blanked_name : declared_among (codes "      = y; z") (codes "x") false (items (codes "let x = y; z")) ≡ true

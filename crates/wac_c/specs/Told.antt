@@ -52,8 +52,8 @@ RunsWord number limit source told out out' message message' =
 abbrev pub IsNoWord : ℕ → Type 0
 IsNoWord number = (word : Word) → number ≢ word_number word
 
--- What a call leaves in the answer, in the room for what is written and in that for a message: what the word of the number comes to, or,
--- where no word has it, all room as it was.
+-- What a call leaves in the answer, in the room for what is written and in that for a message: what the word of the
+-- number comes to, or, where no word has it, all room as it was.
 abbrev pub Runs : ℕ → ℕ → List ℕ → WacAnswer → List ℕ → List ℕ → List ℕ → List ℕ → Type 0
 Runs number limit source told out out' message message' =
     RunsWord number limit source told out out' message message'
@@ -62,4 +62,5 @@ Runs number limit source told out out' message message' =
 -- what a call of a graph leaves there
 abbrev pub Graphs : ℕ → List ℕ → List ℕ → WacAnswer → List ℕ → List ℕ → List ℕ → List ℕ → Type 0
 Graphs limit source packages told out out' message message' =
-    (answer : Answer) × Told (ComesToGraph (limit_of limit) source packages) answer out out' message message' × Tells answer told
+    (answer : Answer) × Told (ComesToGraph (limit_of limit) source packages) answer out out' message message'
+    × Tells answer told

@@ -26,4 +26,5 @@ Fails command source (errors.Memory e) = Unit {0}
 
 -- whatever the command and the source: where the command fails so, this is what it comes to
 abbrev pub SaysFailed : RunError → Outcome → Type 0
-SaysFailed error outcome = (command : Command) (source : List ℕ) → Fails command source error → SaysCommand command source outcome
+SaysFailed error outcome =
+    (command : Command) (source : List ℕ) → Fails command source error → SaysCommand command source outcome

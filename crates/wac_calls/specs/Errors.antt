@@ -9,7 +9,8 @@ use Rattle.wac_first_error.specs.Verdicts.{IsGood, IsUnresolved}
 use Rattle.wac_calls_answers.specs.declared.outcome.Outcome.{Outcome}
 use Rattle.wac_calls_answers.specs.declared.outcome.Outcome.TheVariants.{Written, Rejected, NotUtf8, OutOfMemory, NestedTooDeep, BadPackage}
 
--- the bytes have no error that is asked for: they are a document that breaks no rule, or one that mentions foreign packages
+-- the bytes have no error that is asked for: they are a document that breaks no rule, or one that mentions foreign
+-- packages
 abbrev pub IsWell : List ℕ → Type 0
 IsWell bytes = IsGood bytes true ⊎ IsUnresolved bytes true
 

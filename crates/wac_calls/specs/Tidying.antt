@@ -17,8 +17,8 @@ use Rattle.wac_calls_answers.specs.declared.outcome.Outcome.TheVariants.{Written
 abbrev pub layout : Options
 layout = record { indent = Blanks 4; line_end = Lf }
 
--- The text is the same document with the same comments, each before the same printed token, and with the same docs. Without comments it
--- is what the document is formatted to.
+-- The text is the same document with the same comments, each before the same printed token, and with the same docs.
+-- Without comments it is what the document is formatted to.
 pub record IsTidied (source : List ℕ) (text : List ℕ) : Type 0 where
   pub comments : comment_texts text ≡ comment_texts source
   pub kept : Kept source text
@@ -38,7 +38,8 @@ IsNotKept outcome = ⊥
 -- tidying writes this of the source, or rejects it so
 abbrev pub SaysTidy : List ℕ → Outcome → Type 0
 SaysTidy source (Written text) = IsTidied source text.items
-SaysTidy source (Rejected place message) = IsFaultOf source place (string_bytes message) ⊎ SaysNotKept place (string_bytes message)
+SaysTidy source (Rejected place message) =
+    IsFaultOf source place (string_bytes message) ⊎ SaysNotKept place (string_bytes message)
 SaysTidy source NotUtf8 = ⊥
 SaysTidy source OutOfMemory = Unit {0}
 SaysTidy source (NestedTooDeep at) = too_deep source ≡ Some at

@@ -23,8 +23,8 @@ IsOfPackage (BadPackage at message) = Unit {0}
 IsOfPackage OutOfMemory = Unit {0}
 IsOfPackage outcome = ⊥
 
--- A graph is written of documents alone, and a text that is none is rejected for its first fault, unless the packages are. Which graph is
--- written, and for which rule a document is rejected, is tested.
+-- A graph is written of documents alone, and a text that is none is rejected for its first fault, unless the packages
+-- are. Which graph is written, and for which rule a document is rejected, is tested.
 abbrev pub SaysGraph : List ℕ → Outcome → Type 0
 SaysGraph source (Written text) = IsDocument source
 SaysGraph source (Rejected place message) = IsFaultOf source place (string_bytes message) ⊎ IsDocument source
@@ -41,9 +41,11 @@ SaysUngraphed error outcome = (source : List ℕ) → IsErrorOf source error →
 abbrev pub HasPackages : ℕ → List ℕ → Type 0
 HasPackages limit packages = (frames : List (Bor (List ℕ))) × ArePackages limit packages frames
 
--- What the graph of a text comes to with the packages of a buffer. Without such frames the buffer is rejected, unless memory ran out.
+-- What the graph of a text comes to with the packages of a buffer. Without such frames the buffer is rejected, unless
+-- memory ran out.
 abbrev pub SaysGraphWith : ℕ → List ℕ → List ℕ → Outcome → Type 0
-SaysGraphWith limit source packages outcome = IsOfPackage outcome ⊎ (HasPackages limit packages × SaysGraph source outcome)
+SaysGraphWith limit source packages outcome =
+    IsOfPackage outcome ⊎ (HasPackages limit packages × SaysGraph source outcome)
 
 -- what the graph of bytes comes to, with the packages of a buffer
 abbrev pub ComesToGraph : ℕ → List ℕ → List ℕ → Outcome → Type 0
@@ -53,4 +55,5 @@ ComesToGraph limit source packages outcome =
 
 -- what a call returned of a composition, and what the room for the graph and the room for a message then hold
 abbrev pub AnsweredGraph : ℕ → Composition → Answer → List ℕ → List ℕ → List ℕ → List ℕ → Type 0
-AnsweredGraph limit c answer out out' said said' = Told (ComesToGraph limit c.text.now c.packages.now) answer out out' said said'
+AnsweredGraph limit c answer out out' said said' =
+    Told (ComesToGraph limit c.text.now c.packages.now) answer out out' said said'

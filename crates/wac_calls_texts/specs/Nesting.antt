@@ -18,7 +18,8 @@ abbrev pub first_beyond : ℕ → ℕ → List Item → Option Span
 first_beyond limit depth [] = None
 first_beyond limit depth (item ∷ items) =
     if is_opening item.text
-    then (if nat_lt (limit - depth) (levels item.text) then Some item.span else first_beyond limit (depth + levels item.text) items)
+    then (if nat_lt (limit - depth) (levels item.text) then Some item.span
+    else first_beyond limit (depth + levels item.text) items)
     else first_beyond limit (if is_closing item.text then depth - levels item.text else depth) items
 
 -- The first bracket of a text that is nested deeper than a limit. Brackets in strings and comments are no items. A text

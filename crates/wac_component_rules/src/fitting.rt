@@ -39,10 +39,12 @@ pub fn kind_fits(
             plain_fits(entries, found, first, second)
         }
         (None, Some(b)) => {
+            // Its contract says what the kind is seen as.
             let _second = plain_kind(entries, b);
             false
         }
         (Some(a), None) => {
+            // Its contract says what the kind is seen as.
             let _first = plain_kind(entries, a);
             false
         }

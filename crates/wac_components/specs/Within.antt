@@ -13,7 +13,10 @@ has_definition n d = (has_name n d.name && has_name n d.path) && has_item n d.it
 
 -- the component and the definitions name entries of a table, in which each number does
 abbrev pub is_of_table : Decoded → Bool
-is_of_table d = d.table.is_closed && (has_item d.table.counts (items.Component d.component) && list_all (has_definition d.table.counts) d.definitions.items)
+is_of_table d =
+    d.table.is_closed
+    && (has_item d.table.counts (items.Component d.component)
+    && list_all (has_definition d.table.counts) d.definitions.items)
 
 -- no more than the limits allow
 pub record IsWithin (used limits : Limits) : Type 0 where

@@ -112,11 +112,18 @@ pub record TableView : Type 0 where
 
 abbrev pub is_closed : Counts → List TypeEntry → List Part → List Instance → List Component → Bool
 is_closed n types parts instances components =
-    (list_all (has_entry n) types && list_all (has_part n) parts) && (list_all (has_instance n) instances && list_all (has_component n) components)
+    (list_all (has_entry n) types && list_all (has_part n) parts)
+    && (list_all (has_instance n) instances && list_all (has_component n) components)
 
 abbrev pub counts_of : ℕ → List TypeEntry → List Part → List Instance → List Component → Counts
 counts_of names types parts instances components =
-    record { names = names; types = length types; parts = length parts; instances = length instances; components = length components }
+    record {
+      names = names;
+      types = length types;
+      parts = length parts;
+      instances = length instances;
+      components = length components;
+    }
 
 -- what a contract sees of these entries, with so many names
 abbrev pub viewed : ℕ → List TypeEntry → List Part → List Instance → List Component → TableView

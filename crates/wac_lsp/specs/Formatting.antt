@@ -7,4 +7,5 @@ use Rattle.wac_lsp_texts.specs.Changed.{Changes}
 
 -- the change makes a text of this one that has the same comments, each before the same token, and the same tree
 abbrev pub MakesTidy : ColumnUnit → List ℕ → Change → Type 0
-MakesTidy unit text change = (after : List ℕ) × Changes unit text (change ∷ []) after × Kept text after × SameTree text after
+MakesTidy unit text change =
+    (after : List ℕ) × Changes unit text (change ∷ []) after × Kept text after × SameTree text after

@@ -12,7 +12,8 @@ replies [] = []
 replies (sent.Reply id body ∷ more) = id ∷ replies more
 replies (sent.Notification body ∷ more) = replies more
 
--- what is replied to a message: to a request once, with its id; to what is no message once, without one; to all else nothing
+-- what is replied to a message: to a request once, with its id; to what is no message once, without one; to all else
+-- nothing
 abbrev pub replied_to : Message → List (Option Id)
 replied_to (messages.Request id call) = Some id ∷ []
 replied_to (messages.Notification notice) = []

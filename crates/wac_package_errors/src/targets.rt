@@ -30,7 +30,7 @@ pub(crate) fn target_help(
 }
 
 /// A kind as what a type is of, which names what the kind names.
-#[tactic(auto, using(crate::proofs::EntriesNamed::promoted_named))]
+#[tactic(auto, using(wac_resolution_errors::proofs::Promoted::promoted_named))]
 fn promoted(graph: &CompositionGraph, kind: ItemKind) -> ItemKind
     requires { Names graph.now.types kind }
     ensures { Names graph.now.types result }

@@ -16,26 +16,32 @@ use Rattle.wac_recovery.specs.declared.statements.Sort.TheVariants.{Plain, Decla
 
 -- the item begins a statement that `;` alone ends
 abbrev pub begins_plain : Result Token Error → Bool
-begins_plain x = is_token t.PackageKeyword x || (is_token t.ImportKeyword x || (is_token t.LetKeyword x || (is_token t.ExportKeyword x || is_token t.TypeKeyword x)))
+begins_plain x =
+    is_token t.PackageKeyword x
+    || (is_token t.ImportKeyword x
+    || (is_token t.LetKeyword x || (is_token t.ExportKeyword x || is_token t.TypeKeyword x)))
 
 -- the item begins a declaration, which its braces end
 abbrev pub begins_declaration : Result Token Error → Bool
 begins_declaration x =
-    is_token t.InterfaceKeyword x || (is_token t.WorldKeyword x || (is_token t.VariantKeyword x || (is_token t.RecordKeyword x || (is_token t.FlagsKeyword x || is_token t.EnumKeyword x))))
+    is_token t.InterfaceKeyword x
+    || (is_token t.WorldKeyword x
+    || (is_token t.VariantKeyword x
+    || (is_token t.RecordKeyword x || (is_token t.FlagsKeyword x || is_token t.EnumKeyword x))))
 
 -- the sort of statement that begins with an item
 abbrev pub sort_of : Result Token Error → Sort
 sort_of x = if begins_plain x then Plain else (if begins_declaration x then Declaration else Unknown)
 
--- Whether a brace may end such a statement, before the next item. Where it isn't known which statement was meant, it does
--- where no `;` follows.
+-- Whether a brace may end such a statement, before the next item. Where it isn't known which statement was meant, it
+-- does where no `;` follows.
 abbrev pub ends_with_brace : Sort → Handed → Bool
 ends_with_brace Plain next = false
 ends_with_brace Declaration next = true
 ends_with_brace Unknown next = not (is_next t.Semicolon next)
 
--- Whether an item ends a statement, before the next one: `;` does outside braces, and a closing brace after which none is
--- open, where one may.
+-- Whether an item ends a statement, before the next one: `;` does outside braces, and a closing brace after which none
+-- is open, where one may.
 abbrev pub ends : Begun → Result Token Error → Handed → Bool
 ends b x next =
     if is_token t.Semicolon x then nat_eq b.depth 0
@@ -52,7 +58,9 @@ with_item (Some b) x start = b
 
 -- how many braces are open after an item
 abbrev pub depth_after : ℕ → Result Token Error → ℕ
-depth_after depth x = if is_token t.OpenBrace x then depth + 1 else (if is_token t.CloseBrace x then depth - 1 else depth)
+depth_after depth x =
+    if is_token t.OpenBrace x then depth + 1
+    else (if is_token t.CloseBrace x then depth - 1 else depth)
 
 -- the statement after an item that doesn't end it
 abbrev pub after_item : Begun → Result Token Error → Begun
@@ -68,7 +76,8 @@ abbrev pub statement_among : ℕ → ℕ → Option Begun → List Item → Opti
 statement_among end place begun [] = option_map (up_to end) begun
 statement_among end place begun (x ∷ xs) =
     let b = with_item begun x.token x.span.offset in
-    if ends b x.token (handed xs) then (if nat_lt place (end_of x.span) then Some (up_to (end_of x.span) b) else statement_among end place None xs)
+    if ends b x.token (handed xs)
+    then (if nat_lt place (end_of x.span) then Some (up_to (end_of x.span) b) else statement_among end place None xs)
     else statement_among end place (Some (after_item b x.token)) xs
 
 -- the first statement of a text that ends after a place
@@ -98,10 +107,12 @@ abbrev pub leads : List ℕ → Span → Bool
 leads text part = leads_beside text part (refused text)
 
 -- examples
-second_statement : statement_among 40 13 None (items (codes "package a:b; let x = new y:z { ... }; z;")) ≡ Some (span 13 24)
+second_statement :
+    statement_among 40 13 None (items (codes "package a:b; let x = new y:z { ... }; z;")) ≡ Some (span 13 24)
 unfolding items_from
 second_statement = refl
 
-braces_end_declarations : statement_among 32 1 None (items (codes "world w { import a: u8; } let x;")) ≡ Some (span 0 25)
+braces_end_declarations :
+    statement_among 32 1 None (items (codes "world w { import a: u8; } let x;")) ≡ Some (span 0 25)
 unfolding items_from
 braces_end_declarations = refl

@@ -5,14 +5,10 @@ use Rattle.std.proofs.lemmas.List.Elements.{filter_map-append}
 use Rattle.wac_lexer.specs.Span.{Span}
 use Rattle.wac_ast_grammar.specs.Tree.{ImportStatement, Statement}
 use Rattle.wac_graph_types.specs.declared.kind.ItemKind.{ItemKind}
-use Rattle.wac_graph_types.specs.declared.kind.ItemKind.TheVariants as kinds
-use Rattle.wac_graph_types.specs.declared.kind.«Type».TheVariants as types
-use Rattle.wac_graph_types.specs.declared.entry.Entry.{Entry}
 use Rattle.wac_graph_types.specs.Kind.{promoted}
 use Rattle.wac_graph_types.specs.Meaning.{Meaning}
 use Rattle.wac_graph_types.specs.Scope.{Named, look_up, IsFresh, with_named}
 use Rattle.wac_graph_types.specs.Shape as shapes
-use Rattle.wac_graph_types.specs.Table.{Names}
 use Rattle.wac_graph_types.proofs.Shapes.{promoted_is}
 use Rattle.wac_graph.specs.Graph.{Parts}
 use Rattle.wac_graph.specs.Means.{means, entry_means, declared_count}
@@ -57,21 +53,6 @@ pub one_more_import : (c : Composition) (name : List ℕ) (k : Meaning) (id : Li
 one_more_import c name k id =
     let n : Node = record { form = imported name; kind = k; name = None; arguments = [] } in
     ap (filter_map import_of) (last_named c.nodes n id) ∙ filter_map-append import_of c.nodes (record n { name = Some id } ∷ [])
-
--- ---- the kind of an import
-
-pub promoted_named : (es : List Entry) (k : ItemKind) → Names es k → Names es (promoted k)
-promoted_named es (kinds.Ty (types.Resource id)) h = h
-promoted_named es (kinds.Ty (types.Func id)) h = h
-promoted_named es (kinds.Ty (types.Value v)) h = h
-promoted_named es (kinds.Ty (types.Interface id)) h = h
-promoted_named es (kinds.Ty (types.World id)) h = h
-promoted_named es (kinds.Ty (types.Module id)) h = h
-promoted_named es (kinds.Func id) h = h
-promoted_named es (kinds.Instance id) h = h
-promoted_named es (kinds.Component id) h = h
-promoted_named es (kinds.Module id) h = h
-promoted_named es (kinds.Value v) h = h
 
 -- ---- the statement
 

@@ -29,10 +29,12 @@ pub fn export_statement<R: Rules>(
     ensures ok { OnOk result (Went setting.now (rules_by (R.passes rules.now) (R.named rules.now)) state.old.graph state.new.graph root.now root.now externs.old externs.new (Statement.export_statement (export_statement_of statement.now))) }
     ensures err { IfErr result (λ e. Reports (told e) (Breaks setting.now (rules_by (R.passes rules.now) (R.named rules.now)) state.old.graph root.now externs.old (Statement.export_statement (export_statement_of statement.now)) (told e))) }
 {
+    // Its contract says that the graph is sound.
     let _before = state.graph.nodes();
     let node = expression(state, setting, rules, root, &statement.expr)?;
     let span = statement.expr.span;
     export_node(state, rules, root, externs, node, span, &statement.options)?;
+    // It still is.
     let _after = state.graph.nodes();
     Ok(())
 }

@@ -27,6 +27,7 @@ pub(crate) fn check_unimported(
     ensures ok { OnOk result (IsUnimported state.now.graph name.now.text.now) }
     ensures err { IfErr result (λ e. Reports (told e) ((naming : Naming) (declared : Named ℕ) (all : Places) → all.imported ≡ imported_in externs.now → IsImportedAlready (composition_of naming state.now.graph declared) all name.now.text.now name.now.span (help_of name.now) (told e))) }
 {
+    // Its contract says that the graph is sound.
     let _nodes = state.graph.nodes();
     match find(&externs.imported, name.text) {
         Some(previous) => Err(Error::DuplicateExternName {

@@ -50,6 +50,7 @@ fn item_id(state: &State, kind: ItemKind) -> Option<&str>
     requires { Names state.now.graph.types kind }
     ensures { (naming : Naming) → option_map (λ s. s.now) result ≡ rules.item_id (means naming state.now.graph kind) }
 {
+    // Its contract says that the table is sound, and what its entries mean.
     let _types = state.graph.types();
     match kind {
         ItemKind::Instance(interface) => interface_id(state, interface),

@@ -35,10 +35,12 @@ pub fn let_statement<'a, R: Rules>(
     ensures ok { OnOk result ((x : Externs) → ArePlaced state.old.graph x → Went setting.now (rules_by (R.passes rules.now) (R.named rules.now)) state.old.graph state.new.graph root.old root.new x x (Statement.let_statement (let_statement_of statement.now))) }
     ensures err { IfErr result (λ e. Reports (told e) ((x : Externs) → Breaks setting.now (rules_by (R.passes rules.now) (R.named rules.now)) state.old.graph root.old x (Statement.let_statement (let_statement_of statement.now)) (told e))) }
 {
+    // Its contract says that the graph is sound.
     let _before = state.graph.nodes();
     let node = expression(state, setting, rules, root, &statement.expr)?;
     check_unbound(state.alloc, root, &statement.id)?;
     root.bind(state, &statement.id, node)?;
+    // It still is.
     let _after = state.graph.nodes();
     Ok(())
 }

@@ -42,6 +42,7 @@ fn add_import<'a>(
     ensures err { IfErr result (λ e. Reports (told e) ((naming : Naming) (all : Places) → all.bound ≡ places root.old → IsBound (composed naming state.old.graph root.old) all (ident_of id.now) (told e))) }
 {
     let node = state.graph.add_import(name.text, kind)?;
+    // Its contract says that the graph is sound.
     let _nodes = state.graph.nodes();
     root.bind(state, id, node)?;
     externs.add_import(state.alloc, name.text, name.span)?;

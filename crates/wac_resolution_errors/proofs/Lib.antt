@@ -1,1 +1,2 @@
+pub mod Promoted
 pub mod Reports

@@ -59,6 +59,7 @@ fn fits<R: Rules>(
     ensures ok { OnOk result (IsFit (rules_by (R.passes rules.now) (R.named rules.now)) state.now.graph world name.now node.0) }
     ensures err { IfErr result (λ r. IsAgainst (rules_by (R.passes rules.now) (R.named rules.now)) state.now.graph world name.now node.0 r) }
 {
+    // Its contract says that the table is sound, and what its entries mean.
     let _types = state.graph.types();
     match import_kind(state, world, name) {
         Some(wanted) => match may_stand(state, rules, node, wanted) {

@@ -22,11 +22,13 @@ pub fn instantiate(
     requires imports { AllByRecursion (λ e. IsSome (import_kind state.old.graph «package».0 e.0)) (by_name given.now.entries) }
     ensures { IfOk result (λ n. MakesInstance state.old.graph state.new.graph «package».0 (by_name given.now.entries) n.0) }
 {
+    // Its contract says that no name is given twice.
     let _count = given.len();
     let node = state.graph.add_instantiation(package)?;
     for (name, value) in given.iter() {
         state.graph.set_argument(node, name.as_str(), *value)?;
     }
+    // Its contract says that the graph is sound.
     let _nodes = state.graph.nodes();
     Ok(node)
 }

@@ -28,6 +28,7 @@ fn if_exported(state: &State, node: NodeId, name: &str, span: SourceSpan) -> Opt
     requires { node.0 < length state.now.graph.nodes }
     ensures { (naming : Naming) (declared : Named ℕ) → look_up name.now (exports_at span (instance_at (composition_of naming state.now.graph declared) node.0)) ≡ result }
 {
+    // Its contract says that the table is sound, and what its entries mean.
     let _types = state.graph.types();
     match state.graph.kind(node) {
         ItemKind::Instance(_) => match state.graph.export_kind(node, name) {

@@ -88,6 +88,7 @@ pub(crate) fn spread_from(
     requires world { Names state.old.graph.types (ItemKind.Component world) }
     ensures { OnOk result (NodeSpread state.old.graph state.new.graph (by_name given.old.entries) (by_name given.new.entries) node.0 world) }
 {
+    // Its contract says that the table is sound, and what its entries mean.
     let _types = state.graph.types();
     let names = import_names(state, world)?;
     spread_names(state, node, &names, given)?;

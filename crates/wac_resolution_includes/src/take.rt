@@ -118,6 +118,7 @@ impl<'x, 'a> Inclusion<'x, 'a> {
         ensures err { IfErr result (λ e. Reports (told e) ((naming : Naming) (b : Body) → TakingBroken (tree_of self.now) self.now.world.now (entries_of (by_name entries.entry.entries)) (entry_means naming graph.now world.0) (with_both naming graph.now b (by_name imports.old.entries) (by_name exports.old.entries)) (told e))) }
     {
         let mut left = entries;
+        // Its contract says that the table is sound, and what its entries mean.
         let _types = graph.types();
         self.take_imports(graph, world, &mut left, imports)?;
         self.take_exports(graph, world, &mut left, exports)?;

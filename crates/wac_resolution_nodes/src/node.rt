@@ -23,11 +23,13 @@ pub fn name_node(state: &mut State, node: NodeId, name: &str) -> Result<(), Allo
     requires { node.0 < length state.old.graph.nodes }
     ensures { OnOk result (IsNamed state.old.graph state.new.graph node.0 name.now) }
 {
+    // Its contract says that the graph is sound.
     let _nodes = state.graph.nodes();
     if state.graph.name(node).is_some() {
         return Ok(());
     }
     state.graph.set_name(node, name)?;
+    // It still is.
     let _named = state.graph.nodes();
     Ok(())
 }
@@ -43,6 +45,7 @@ pub fn instance(
     ensures ok { IfOk result (λ i. IsInstance state.now.graph node.0 i) }
     ensures err { IfErr result (λ e. (naming : Naming) (declared : Named ℕ) → IsNotInstance (composition_of naming state.now.graph declared) node.0 (operation_of operation) span (told e)) }
 {
+    // Its contract says that the table is sound, and what its entries mean.
     let _types = state.graph.types();
     match state.graph.kind(node) {
         ItemKind::Instance(id) => Ok(id),
@@ -70,6 +73,7 @@ pub fn instance_id(state: &State, node: NodeId) -> Option<&str>
     requires { node.0 < length state.now.graph.nodes }
     ensures { (naming : Naming) (declared : Named ℕ) → option_and_then id_of_instance (node_at (composition_of naming state.now.graph declared) node.0) ≡ option_map (λ s. s.now) result }
 {
+    // Its contract says that the table is sound, and what its entries mean.
     let _types = state.graph.types();
     match state.graph.kind(node) {
         ItemKind::Instance(interface) => interface_id(state, interface),

@@ -32,6 +32,7 @@ pub fn alias(state: &mut State, node: NodeId, export: &str) -> Result<NodeId, Al
     ensures { IfOk result (λ n. IfSome (export_kind state.old.graph node.0 export.now) (λ k. AliasGoes state.old.graph state.new.graph node.0 export.now k n.0)) }
 {
     let alias = state.graph.add_alias(node, export)?;
+    // Its contract says that the graph is sound.
     let _nodes = state.graph.nodes();
     Ok(alias)
 }

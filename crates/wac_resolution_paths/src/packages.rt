@@ -32,6 +32,7 @@ pub fn package(
     match handed(setting, key) {
         Some(package) => {
             let id = state.graph.add_package(key, package)?;
+            // Its contract says what the graph holds of the package.
             let _held = state.graph.package(id);
             Ok(Some(id))
         }

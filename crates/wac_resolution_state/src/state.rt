@@ -88,6 +88,7 @@ impl State {
         ensures means { (naming : Naming) → of_child (entry_means naming self.now.graph) (option_map (λ i. ItemKind.Instance i) result) ≡ owner_meant (entry_means naming self.now.graph resource.0) }
         ensures named { IfSome (option_map (λ i. ItemKind.Instance i) result) (Names self.now.graph.types) }
     {
+        // Its contract says that the table is sound, and what its entries mean.
         let _types = self.graph.types();
         self.written_owner(resource)
     }

@@ -2,14 +2,10 @@
 use Rattle.std.proofs.Common.{◌≡◌, ℕ, List, Option, Result, subst}
 use Rattle.wac_graph_types.specs.declared.rules.Reason.{Reason}
 use Rattle.wac_graph_types.specs.declared.kind.ItemKind.{ItemKind}
-use Rattle.wac_graph_types.specs.declared.kind.ItemKind.TheVariants as kinds
-use Rattle.wac_graph_types.specs.declared.kind.«Type».TheVariants as types
 use Rattle.wac_graph_types.specs.declared.entry.Entry.{Entry}
-use Rattle.wac_graph_types.specs.Kind.{promoted}
 use Rattle.wac_graph_types.specs.Meaning.{Meaning, meaning}
 use Rattle.wac_graph_types.specs.Meaning as tables
 use Rattle.wac_graph_types.specs.Rules.{Answers}
-use Rattle.wac_graph_types.specs.Table.{Names}
 use Rattle.wac_graph.specs.Graph.{Parts}
 use Rattle.wac_graph.specs.Means.{means, origin_at, entry_means_in, OriginsApart}
 use Rattle.wac_graph.specs.Origin.{Naming, IsOneToOne}
@@ -20,16 +16,3 @@ pub compared : (g : Parts) (passes : Meaning → Meaning → Option Reason) (es 
 unfolding entry_means_in
 compared g passes es r a b same apart h naming one =
     subst (λ (ts : List Entry). (origins : ℕ → ℕ) → tables.IsOneToOne ts origins → Answers r (passes (meaning origins ts a) (meaning origins ts b))) same h (λ n. naming (origin_at g n)) (apart naming one)
-
-pub promoted_named : (es : List Entry) (k : ItemKind) → Names es k → Names es (promoted k)
-promoted_named es (kinds.Ty (types.Resource id)) h = h
-promoted_named es (kinds.Ty (types.Func id)) h = h
-promoted_named es (kinds.Ty (types.Value v)) h = h
-promoted_named es (kinds.Ty (types.Interface id)) h = h
-promoted_named es (kinds.Ty (types.World id)) h = h
-promoted_named es (kinds.Ty (types.Module id)) h = h
-promoted_named es (kinds.Func id) h = h
-promoted_named es (kinds.Instance id) h = h
-promoted_named es (kinds.Component id) h = h
-promoted_named es (kinds.Module id) h = h
-promoted_named es (kinds.Value v) h = h

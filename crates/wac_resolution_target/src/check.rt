@@ -59,6 +59,7 @@ pub fn check_target<R: Rules>(
 {
     let kind = path(state, setting, &root.kinds, target)?;
     let world = world_of(state.alloc, kind, target)?;
+    // Their contracts say that the graph is sound, and what the entries of its table mean.
     let _nodes = state.graph.nodes();
     let _types = state.graph.types();
     let target = Target {

@@ -55,7 +55,7 @@ fn node_named(graph: &CompositionGraph, name: &str) -> Option<NodeId>
 }
 
 /// What is compared of a node.
-#[tactic(auto, using(crate::proofs::Promoted::promoted_named))]
+#[tactic(auto, using(wac_resolution_errors::proofs::Promoted::promoted_named))]
 fn kind_of(graph: &CompositionGraph, node: NodeId, of: Of) -> ItemKind
     requires { node.0 < length graph.now.nodes }
     ensures { Names graph.now.types result }
