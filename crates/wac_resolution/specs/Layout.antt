@@ -18,7 +18,8 @@ pub record SameBareTree (document other : Document) : Type 0 where
   pub other_keep : Keep
   pub bare : bare_document keep source document ≡ bare_document other_keep text other
 
--- what is returned is described, and what is described is returned, unless memory ran out: after any other error nothing is described
+-- what is returned is described, and what is described is returned, unless memory ran out: after any other error
+-- nothing is described
 abbrev pub DescribedClause : Given → Document → Result Composition Error → Type 0
 DescribedClause s doc r = GraphClause s doc r × OnlyClause s doc r
 

@@ -34,13 +34,16 @@ returned naming declared (Ok r) = Ok (composition_of naming r.graph declared)
 returned naming declared (Err e) = Err (told e)
 
 -- this clause holds of what is returned for the document, under every naming of origins that is one to one
-abbrev pub Promised : (Given → Document → Result Composition told_errors.Error → Type 0) → List (PackageKey × PackageParts) → Rules → Document → Named ℕ → Result Resolved Error → Type 0
-Promised Clause packages rules document declared result = EveryNaming (λ naming. Clause (given_to naming (by_key packages) rules document) document (returned naming declared result))
+abbrev pub Promised : (Given → Document → Result Composition told_errors.Error → Type 0)
+    → List (PackageKey × PackageParts) → Rules → Document → Named ℕ → Result Resolved Error → Type 0
+Promised Clause packages rules document declared result = EveryNaming
+    (λ naming. Clause (given_to naming (by_key packages) rules document) document (returned naming declared result))
 
 -- each package that the graph holds is mentioned
 abbrev pub HoldsMentioned : List Mention → Parts → Type 0
 HoldsMentioned ms g = AllByRecursion (λ (p : HeldPackage). IsMentioned ms p.key) g.packages
 
--- each package that the graph holds was supplied under its key, and its world, its instance and its definitions mean in the graph what they meant there
+-- each package that the graph holds was supplied under its key, and its world, its instance and its definitions mean in
+-- the graph what they meant there
 abbrev pub HoldsSupplied : List (PackageKey × PackageParts) → Parts → Type 0
 HoldsSupplied packages g = HoldsHanded (by_key packages) g
