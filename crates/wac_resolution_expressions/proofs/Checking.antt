@@ -29,11 +29,11 @@ use Rattle.wac_resolution_rules.specs.Nodes.{next_of, with_instance}
 use Rattle.wac_resolution_nodes.specs.Growth.{GrowsNodes}
 use Rattle.wac_resolution_nodes.specs.Nodes.{composition_of}
 use Rattle.wac_resolution_nodes.proofs.Composed.{grows_on}
-use Rattle.wac_resolution_arguments.specs.Arguments.{given_nodes}
-use Rattle.wac_resolution_arguments.specs.Complete.{IsIncomplete}
-use Rattle.wac_resolution_arguments.specs.Fits.{IsImport, AllFit, IsFirstMisfit}
-use Rattle.wac_resolution_arguments.specs.Giving.{Gave}
-use Rattle.wac_resolution_arguments.specs.Spreads.{giving_of, imports_at}
+use Rattle.wac_resolution_expressions.specs.Arguments.{given_nodes}
+use Rattle.wac_resolution_expressions.specs.Incomplete.{IsIncomplete}
+use Rattle.wac_resolution_expressions.specs.Fits.{IsImport, AllFit, IsFirstMisfit}
+use Rattle.wac_resolution_expressions.specs.GivenByNodes.{Gave}
+use Rattle.wac_resolution_expressions.specs.Spreads.{giving_of, imports_at}
 use Rattle.wac_resolution_expressions.specs.declared.packages.Loaded.{Loaded}
 use Rattle.wac_resolution_expressions.specs.Completing.{misfit_of, AreRight, AreWrong, Completes, FailsToComplete}
 use Rattle.wac_resolution_expressions.specs.Instances.{MakesInstance}

@@ -25,7 +25,7 @@ use Rattle.wac_resolution_nodes.specs.Root.{Agrees}
 use Rattle.wac_resolution_nodes.proofs.Composed.{composition_expands, still_stand, still_there}
 use Rattle.wac_resolution_nodes.proofs.Roots.{agrees_expands, agrees_nodes}
 use Rattle.wac_resolution_paths.specs.Expands.{Expands, HoldsHanded, IsHandedAs}
-use Rattle.wac_resolution_arguments.specs.Spreads.{GivenThere, imports_at}
+use Rattle.wac_resolution_expressions.specs.Spreads.{GivenThere, imports_at}
 use Rattle.wac_resolution_expressions.specs.Growth.{Extends}
 
 pub extends_self : (packages : List (Key × PackageParts)) (g : Parts) → NodesStand g → HoldsHanded packages g → Extends packages g g

@@ -25,9 +25,9 @@ use Rattle.wac_resolution_nodes.specs.Root.{numbers_of, Agrees, NodeIs}
 use Rattle.wac_resolution_nodes.proofs.Composed.{grows_none}
 use Rattle.wac_resolution_nodes.proofs.Roots.{fresh_read}
 use Rattle.wac_resolution_state.proofs.Bound.{read_found}
-use Rattle.wac_resolution_arguments.specs.Arguments.{given_nodes}
-use Rattle.wac_resolution_arguments.specs.Giving.{Gave}
-use Rattle.wac_resolution_arguments.specs.Spreads.{giving_of, imports_at, GivenThere}
+use Rattle.wac_resolution_expressions.specs.Arguments.{given_nodes}
+use Rattle.wac_resolution_expressions.specs.GivenByNodes.{Gave}
+use Rattle.wac_resolution_expressions.specs.Spreads.{giving_of, imports_at, GivenThere}
 use Rattle.wac_resolution_expressions.specs.Giving.{GivesNode, IsGiven, IsGivenFor}
 
 pub given_already : (before : Named NodeId) (name : List ℕ) (span : Span) (e : Error) (r : Option NodeId) → r ≡ look_up name before → is_some r ≡ true → e ≡ duplicate_instantiation_arg name span → IsGiven before name span e

@@ -1,3 +1,10 @@
+pub mod Imports
+pub mod Spreading
+pub mod SpreadSteps
+pub mod Fitting
+pub mod LeavingOut
+pub mod ArgumentPlaces
+pub mod OwnPlaces
 pub mod Making
 pub mod Extending
 pub mod Placing

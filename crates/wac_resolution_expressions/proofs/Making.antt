@@ -25,8 +25,8 @@ use Rattle.wac_resolution_rules.specs.Nodes.{with_instance}
 use Rattle.wac_resolution_nodes.specs.Nodes.{composition_of}
 use Rattle.wac_resolution_nodes.proofs.Composed.{sound_stands, grows_more, next_is, instance_with, instance_given, composition_instance}
 use Rattle.wac_resolution_nodes.proofs.Roots.{fresh_read}
-use Rattle.wac_resolution_arguments.specs.Arguments.{given_nodes}
-use Rattle.wac_resolution_arguments.specs.Spreads.{GivenThere}
+use Rattle.wac_resolution_expressions.specs.Arguments.{given_nodes}
+use Rattle.wac_resolution_expressions.specs.Spreads.{GivenThere}
 use Rattle.wac_resolution_expressions.specs.Instances.{MakesInstance}
 
 abbrev Entry : Type 0

@@ -35,9 +35,9 @@ use Rattle.wac_resolution_nodes.specs.Root.{numbers_of, Agrees, NodeIs}
 use Rattle.wac_resolution_paths.specs.declared.setting.Setting.{Setting}
 use Rattle.wac_resolution_paths.specs.Expands.{HoldsHanded}
 use Rattle.wac_resolution_paths.specs.Setting.{packages_in, setting_of}
-use Rattle.wac_resolution_arguments.specs.Arguments.{given_nodes}
-use Rattle.wac_resolution_arguments.specs.Giving.{Gave}
-use Rattle.wac_resolution_arguments.specs.Spreads.{giving_of, imports_at, GivenThere}
+use Rattle.wac_resolution_expressions.specs.Arguments.{given_nodes}
+use Rattle.wac_resolution_expressions.specs.GivenByNodes.{Gave}
+use Rattle.wac_resolution_expressions.specs.Spreads.{giving_of, imports_at, GivenThere}
 use Rattle.wac_resolution_nodes.proofs.Roots.{fresh_read}
 use Rattle.wac_resolution_expressions.specs.declared.packages.Loaded.{Loaded}
 use Rattle.wac_resolution_expressions.specs.Completing.{Completes, FailsToComplete}

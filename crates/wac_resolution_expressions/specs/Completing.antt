@@ -18,9 +18,9 @@ use Rattle.wac_resolution_rules.specs.Given.{Rules, imports_in}
 use Rattle.wac_resolution_rules.specs.Paths.{Setting}
 use Rattle.wac_resolution_nodes.specs.Growth.{GrowsNodes}
 use Rattle.wac_resolution_nodes.specs.Nodes.{composition_of}
-use Rattle.wac_resolution_arguments.specs.Arguments.{given_nodes}
-use Rattle.wac_resolution_arguments.specs.Fits.{AllFit}
-use Rattle.wac_resolution_arguments.specs.Spreads.{giving_of, imports_at}
+use Rattle.wac_resolution_expressions.specs.Arguments.{given_nodes}
+use Rattle.wac_resolution_expressions.specs.Fits.{AllFit}
+use Rattle.wac_resolution_expressions.specs.Spreads.{giving_of, imports_at}
 use Rattle.wac_resolution_expressions.specs.declared.packages.Loaded.{Loaded}
 use Rattle.wac_resolution_expressions.specs.Loaded.{IsLoaded}
 

@@ -15,8 +15,8 @@ use Rattle.wac_resolution_rules.specs.Expressions.{Giving, Gives, GivesOne}
 use Rattle.wac_resolution_rules.specs.Given.{Rules}
 use Rattle.wac_resolution_paths.specs.declared.setting.Setting.{Setting}
 use Rattle.wac_resolution_paths.specs.Setting.{packages_in}
-use Rattle.wac_resolution_arguments.specs.Arguments.{given_nodes}
-use Rattle.wac_resolution_arguments.specs.Spreads.{giving_of, imports_at, GivenThere}
+use Rattle.wac_resolution_expressions.specs.Arguments.{given_nodes}
+use Rattle.wac_resolution_expressions.specs.Spreads.{giving_of, imports_at, GivenThere}
 use Rattle.wac_resolution_expressions.specs.Growth.{Extends, given_in}
 
 -- whether no argument is left

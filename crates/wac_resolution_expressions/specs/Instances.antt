@@ -11,7 +11,7 @@ use Rattle.wac_resolution_rules.specs.Expressions.{at}
 use Rattle.wac_resolution_rules.specs.Nodes.{next_of, with_instance}
 use Rattle.wac_resolution_nodes.specs.Growth.{GrowsNodes}
 use Rattle.wac_resolution_nodes.specs.Nodes.{composition_of}
-use Rattle.wac_resolution_arguments.specs.Arguments.{given_nodes}
+use Rattle.wac_resolution_expressions.specs.Arguments.{given_nodes}
 
 -- the node is the instance of the package with these arguments, which was made
 pub record MakesInstance (old new : Parts) (p : ℕ) (given : Named NodeId) (n : ℕ) : Type 0 where

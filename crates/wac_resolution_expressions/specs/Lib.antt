@@ -1,3 +1,9 @@
+pub mod Arguments
+pub mod Spreads
+pub mod GivenByNodes
+pub mod Fits
+pub mod Incomplete
+pub mod AtMostOne
 pub mod Growth
 pub mod Instances
 pub mod Loaded

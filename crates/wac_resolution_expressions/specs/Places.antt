@@ -12,8 +12,8 @@ use Rattle.wac_graph.specs.Graph.{Parts}
 use Rattle.wac_graph.specs.Origin.{Naming, IsOneToOne}
 use Rattle.wac_resolution_rules.specs.BrokenExpressions.{own_places, argument_places}
 use Rattle.wac_resolution_nodes.specs.Nodes.{composition_of}
-use Rattle.wac_resolution_arguments.specs.Arguments.{given_nodes}
-use Rattle.wac_resolution_arguments.specs.Spreads.{imports_at}
+use Rattle.wac_resolution_expressions.specs.Arguments.{given_nodes}
+use Rattle.wac_resolution_expressions.specs.Spreads.{imports_at}
 
 -- what an instance exports, all at one span
 abbrev pub exports_at : Span → Option Meaning → Named Span

@@ -10,7 +10,7 @@ ghost use Rattle.wac_resolution_rules.specs.Given.{rules_by};
 ghost use Rattle.wac_resolution_nodes.specs.Root.{numbers_of, Agrees};
 ghost use Rattle.wac_resolution_paths.specs.Expands.{HoldsHanded};
 ghost use Rattle.wac_resolution_paths.specs.Setting.{packages_in};
-ghost use Rattle.wac_resolution_arguments.specs.Spreads.{GivenThere};
+ghost use Rattle.wac_resolution_expressions.specs.Spreads.{GivenThere};
 ghost use Rattle.wac_resolution_expressions.specs.Giving.{ArgumentGoes, ArgumentBreaks, ArgumentsGo, ArgumentsBreak};
 ghost use Rattle.wac_resolution_expressions.specs.Growth.{ExprGoes, ExprBreaks};
 ghost use Rattle.wac_resolution_expressions.specs.Primaries.{PrimaryGoes, PrimaryBreaks};

@@ -15,10 +15,11 @@ ghost use Rattle.wac_resolution_rules.specs.BrokenExpressions.{ArgumentBroken, I
 ghost use Rattle.wac_resolution_rules.specs.Expressions.{GivesOne, IsEmpty, name_meant};
 ghost use Rattle.wac_resolution_rules.specs.Given.{Given};
 ghost use Rattle.wac_resolution_nodes.specs.Root.{numbers_of, Agrees};
-ghost use Rattle.wac_resolution_arguments.specs.Giving.{Gave};
-ghost use Rattle.wac_resolution_arguments.specs.Spreads.{giving_of, imports_at, GivenThere};
+ghost use Rattle.wac_resolution_expressions.specs.GivenByNodes.{Gave};
+ghost use Rattle.wac_resolution_expressions.specs.Spreads.{giving_of, imports_at, GivenThere};
 ghost use Rattle.wac_resolution_expressions.specs.Giving.{is_none, GivesNode, IsGiven, GivesFor, IsGivenFor};
 
+use crate::meant::{inferred_name, written_name};
 use indexmap::IndexMap;
 use std::alloc::Global;
 use wac_ast_base::Ident;
@@ -26,7 +27,6 @@ use wac_ast_expressions::InstantiationArgumentName;
 use wac_graph::names::{find, push};
 use wac_graph::{ItemKind, NodeId, WorldId};
 use wac_lexer::SourceSpan;
-use wac_resolution_arguments::{inferred_name, written_name};
 use wac_resolution_errors::Error;
 use wac_resolution_nodes::Root;
 use wac_resolution_state::State;

@@ -3,7 +3,7 @@ ghost use Rattle.std.specs.Prelude.{◌<◌, IfOk, IsSome, length};
 ghost use Rattle.std.specs.List.{AllByRecursion};
 ghost use Rattle.wac_graph_types.specs.Names.{by_name};
 ghost use Rattle.wac_graph.specs.Graph.{import_kind};
-ghost use Rattle.wac_resolution_arguments.specs.Spreads.{GivenThere};
+ghost use Rattle.wac_resolution_expressions.specs.Spreads.{GivenThere};
 ghost use Rattle.wac_resolution_expressions.specs.Instances.{MakesInstance};
 
 use indexmap::IndexMap;

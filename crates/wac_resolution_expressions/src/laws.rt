@@ -16,7 +16,7 @@ ghost use Rattle.wac_resolution_nodes.specs.Growth.{GrowsNodes};
 ghost use Rattle.wac_resolution_nodes.specs.Nodes.{composition_of, NodesStand};
 ghost use Rattle.wac_resolution_nodes.specs.Root.{Agrees};
 ghost use Rattle.wac_resolution_paths.specs.Expands.{Expands, HoldsHanded};
-ghost use Rattle.wac_resolution_arguments.specs.Spreads.{GivenThere, imports_at};
+ghost use Rattle.wac_resolution_expressions.specs.Spreads.{GivenThere, imports_at};
 ghost use Rattle.wac_resolution_expressions.specs.Growth.{Extends};
 
 /// A graph that gets nothing is extended, and so is one that gets types and packages, or nodes, and one that is extended twice.

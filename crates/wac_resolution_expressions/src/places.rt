@@ -12,14 +12,14 @@ ghost use Rattle.wac_resolution_rules.specs.Expressions.{spread_of, spreads_of};
 ghost use Rattle.wac_resolution_rules.specs.Nodes.{instance_at};
 ghost use Rattle.wac_resolution_nodes.specs.Nodes.{composition_of};
 ghost use Rattle.wac_resolution_nodes.specs.Root.{composed, Agrees};
-ghost use Rattle.wac_resolution_arguments.specs.Spreads.{imports_at};
+ghost use Rattle.wac_resolution_expressions.specs.Spreads.{imports_at};
 ghost use Rattle.wac_resolution_expressions.specs.Places.{exports_at};
 
+use crate::named_place::own_places;
 use wac_ast_base::Ident;
 use wac_ast_expressions::InstantiationArgument;
 use wac_graph::{ItemKind, NodeId, WorldId};
 use wac_lexer::SourceSpan;
-use wac_resolution_arguments::own_places;
 use wac_resolution_nodes::Root;
 use wac_resolution_state::State;
 

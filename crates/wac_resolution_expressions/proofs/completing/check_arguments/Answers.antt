@@ -10,8 +10,8 @@ use Rattle.wac_resolution_errors.specs.Error.{Reports}
 use Rattle.wac_resolution_errors.specs.Told.{told}
 use Rattle.wac_resolution_rules.specs.Given.{rules_by}
 use Rattle.wac_resolution_nodes.specs.Root.{numbers_of}
-use Rattle.wac_resolution_arguments.specs.Arguments.{given_nodes}
-use Rattle.wac_resolution_arguments.specs.Complete.{IsIncomplete}
+use Rattle.wac_resolution_expressions.specs.Arguments.{given_nodes}
+use Rattle.wac_resolution_expressions.specs.Incomplete.{IsIncomplete}
 use Rattle.wac_resolution_expressions.specs.Completing.{AreWrong}
 use Rattle.wac_resolution_errors.proofs.Reports.{reports}
 use Rattle.wac_resolution_expressions.proofs.Checking.{left_wrong}

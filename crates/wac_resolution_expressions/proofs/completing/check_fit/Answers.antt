@@ -10,7 +10,7 @@ use Rattle.wac_resolution_errors.specs.Told.{told}
 use Rattle.wac_resolution_rules.specs.BrokenExpressions.{argument_places}
 use Rattle.wac_resolution_rules.specs.Given.{rules_by}
 use Rattle.wac_resolution_nodes.specs.Root.{numbers_of, composed}
-use Rattle.wac_resolution_arguments.specs.Spreads.{imports_at}
+use Rattle.wac_resolution_expressions.specs.Spreads.{imports_at}
 use Rattle.wac_resolution_expressions.proofs.Checking.{misfit_wrong}
 use Rattle.wac_resolution_expressions.proofs.completing.check_fit.Goals as goal
 

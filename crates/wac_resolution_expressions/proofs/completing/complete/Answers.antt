@@ -9,7 +9,7 @@ use Rattle.wac_graph_types.specs.Steps.{Fails}
 use Rattle.wac_graph.specs.Origin.{Naming}
 use Rattle.wac_resolution_rules.specs.Expressions.{Spreads, spreads_of}
 use Rattle.wac_resolution_rules.specs.BrokenExpressions.{SpreadBroken}
-use Rattle.wac_resolution_arguments.specs.Spreads.{giving_of, imports_at}
+use Rattle.wac_resolution_expressions.specs.Spreads.{giving_of, imports_at}
 use Rattle.wac_resolution_errors.specs.Told.{told}
 use Rattle.wac_resolution_rules.specs.Given.{rules_by}
 use Rattle.wac_resolution_nodes.specs.Root.{numbers_of}

@@ -21,7 +21,7 @@ use Rattle.wac_resolution_state.proofs.Sizes.{most_at}
 use Rattle.wac_resolution_nodes.specs.Accesses.{AccessesGo}
 use Rattle.wac_resolution_nodes.specs.Root.{numbers_of, NodeIs}
 use Rattle.wac_resolution_paths.specs.Setting.{packages_in}
-use Rattle.wac_resolution_arguments.specs.Spreads.{GivenThere}
+use Rattle.wac_resolution_expressions.specs.Spreads.{GivenThere}
 use Rattle.wac_resolution_expressions.specs.Completing.{Completes, FailsToComplete}
 use Rattle.wac_resolution_expressions.specs.Giving.{ArgumentGoes, ArgumentBreaks, ArgumentsGo, ArgumentsBreak}
 use Rattle.wac_resolution_expressions.specs.Growth.{ExprGoes, ExprBreaks}

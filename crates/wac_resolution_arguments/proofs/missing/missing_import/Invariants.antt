@@ -1,7 +1,0 @@
-use Rattle.wac_graph_types.specs.Names.{by_name}
-use Rattle.wac_resolution_arguments.specs.Arguments.{given_nodes}
-use Rattle.wac_resolution_arguments.proofs.Imports.{Skipping}
-use Rattle.wac_resolution_arguments.proofs.missing.missing_import.Given as goal
-
-abbrev pub invariant-loop-name : goal.invariant-loop-name
-invariant-loop-name l = Skipping (given_nodes (by_name l.given.entries)) (by_name l.imports.entries) (by_name l.name-iterator)

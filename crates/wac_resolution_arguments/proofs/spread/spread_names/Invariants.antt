@@ -1,8 +1,0 @@
-use Rattle.std.proofs.Common.{map, take}
-use Rattle.std.specs.Prelude.{string_bytes}
-use Rattle.wac_graph_types.specs.Names.{by_name}
-use Rattle.wac_resolution_arguments.specs.Spreads.{NamesSpread}
-use Rattle.wac_resolution_arguments.proofs.spread.spread_names.Given as goal
-
-abbrev pub invariant-loop-name : goal.invariant-loop-name
-invariant-loop-name l = NamesSpread l.fn.state.graph l.state.graph (by_name l.fn.given.entries) (by_name l.given.entries) l.node.0 (take l.name-index (map string_bytes l.names))

@@ -1,0 +1,25 @@
+use Rattle.std.proofs.Common.{◌≡◌, None, List, map, subst, arith}
+use Rattle.std.proofs.lemmas.List.{take_all, length-map}
+use Rattle.wac_ast_grammar.specs.Tree.{InstantiationArgument, arguments_from}
+use Rattle.wac_graph_types.specs.Scope.{look_up}
+use Rattle.wac_ast_expressions.specs.Expressions.{argument_of}
+use Rattle.wac_resolution_rules.specs.BrokenExpressions.{own_places}
+use Rattle.wac_resolution_nodes.specs.Root.{composed}
+use Rattle.wac_resolution_expressions.specs.Spreads.{imports_at}
+use Rattle.wac_resolution_expressions.proofs.OwnPlaces.{open_next, found_here}
+use Rattle.wac_resolution_expressions.proofs.named_place.own_places.Goals as goal
+
+pub returns-in-Some : goal.returns-in-Some
+returns-in-Some c naming =
+    found_here (composed naming c.args.state.now.graph c.args.root.now) (imports_at naming c.args.state.now.graph c.args.world) c.args.name.now c.args.arguments.now c.loop-argument.argument-index c.argument-item.result c.loop-argument-test.true c.argument-item.is c.in-Some.span
+    (c.loop-argument.invariant naming) (c.in-Some.ensures naming)
+
+pub loop-argument-preserved : goal.loop-argument-preserved
+loop-argument-preserved c naming =
+    open_next (composed naming c.args.state.now.graph c.args.root.now) (imports_at naming c.args.state.now.graph c.args.world) c.args.name.now c.args.arguments.now c.loop-argument.argument-index c.argument-item.result c.loop-argument-test.true c.argument-item.is
+    (c.loop-argument.invariant naming) (c.in-None.ensures naming)
+
+pub returns : goal.returns
+returns c naming =
+    subst (λ (l : List InstantiationArgument). look_up c.args.name.now (own_places (composed naming c.args.state.now.graph c.args.root.now) (imports_at naming c.args.state.now.graph c.args.world) (arguments_from l)) ≡ None)
+    (take_all c.loop-argument.argument-index (map argument_of c.args.arguments.now) (omega (arith, length-map c.args.arguments.now argument_of))) (c.loop-argument.invariant naming)

@@ -1,0 +1,9 @@
+use Rattle.std.proofs.Common.{◌∙◌, ap}
+use Rattle.wac_graph_types.specs.Scope.{look_up}
+use Rattle.wac_resolution_expressions.proofs.named_place.place_named.Goals as goal
+
+pub returns-in-Some : goal.returns-in-Some
+returns-in-Some c naming = ap (look_up c.args.name.now) (c.in-Some.ensures naming) ∙ c.if_named.ensures
+
+pub returns-in-None : goal.returns-in-None
+returns-in-None c naming = ap (look_up c.args.name.now) (c.in-None.ensures naming)

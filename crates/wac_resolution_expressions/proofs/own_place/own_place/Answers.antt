@@ -1,0 +1,12 @@
+use Rattle.std.proofs.Common.{◌∙◌, ap}
+use Rattle.wac_ast_expressions.specs.Expressions.{argument_of}
+use Rattle.wac_ast_expressions.specs.declared.expr.InstantiationArgument.{InstantiationArgument}
+use Rattle.wac_resolution_rules.specs.BrokenExpressions.{argument_place}
+use Rattle.wac_resolution_nodes.specs.Root.{composed}
+use Rattle.wac_resolution_expressions.specs.Spreads.{imports_at}
+use Rattle.wac_resolution_expressions.proofs.own_place.own_place.Goals as goal
+
+pub returns-in-Inferred : goal.returns-in-Inferred
+returns-in-Inferred c naming =
+    ap (λ (a : InstantiationArgument). argument_place (composed naming c.args.state.now.graph c.args.root.now) (imports_at naming c.args.state.now.graph c.args.world) (argument_of a)) c.in-Inferred.is
+    ∙ c.inferred_place.ensures naming

@@ -1,0 +1,10 @@
+use Rattle.std.proofs.Common.{◌∙◌, map, ap}
+use Rattle.std.specs.Prelude.{string_bytes}
+use Rattle.wac_graph_types.specs.Names.{by_name}
+use Rattle.wac_resolution_expressions.proofs.Spreading.{spread_over}
+use Rattle.wac_resolution_expressions.proofs.spread.spread_from.Goals as goal
+
+pub returns : goal.returns
+returns c =
+    spread_over c.args.state.now.graph c.spread_names.new.state.graph (by_name c.args.given.now.entries) (by_name c.spread_names.new.given.entries) c.args.node.0 c.args.world (map string_bytes c.deref.result.now)
+    c.types-types.ensures.means c.requires.world (ap (map string_bytes) c.deref.ensures.value ∙ c.in_ok-names.ensures) c.in_ok-spread_names.ensures
