@@ -11,7 +11,7 @@ ghost use Rattle.wac_resolution_errors.specs.declared.error.Error.{Error};
 ghost use Rattle.wac_resolution_rules.specs.Given.{Rules};
 ghost use Rattle.wac_resolution_rules.specs.ResolvedDocument.{DescribeAlike, EveryNaming};
 ghost use Rattle.wac_resolution.specs.Layout.{DescribedClause, ReturnedAlike, SameBareTree};
-ghost use Rattle.wac_resolution.specs.Resolved.{Promised, Resolved, returned};
+ghost use Rattle.wac_resolution.specs.Resolved.{Promised, Resolved, returned, call};
 
 use wac_ast_grammar::trees_stand_in_their_text;
 
@@ -23,8 +23,8 @@ pub fn formatting_changes_no_graph()
     ensures described { (document other : Document) → SameBareTree document other → DescribeAlike document other }
     ensures returned { (packages : List (PackageKey × PackageParts)) (rules : Rules) (document other : Document)
         (declared other_declared : Named ℕ) (r s : Result Resolved Error) → SameBareTree document other
-        → Promised DescribedClause packages rules document declared r
-        → Promised DescribedClause packages rules other other_declared s
+        → Promised DescribedClause (call packages rules document r) declared
+        → Promised DescribedClause (call packages rules other s) other_declared
         → EveryNaming (λ naming. ReturnedAlike (returned naming declared r) (returned naming other_declared s)) }
 {
     trees_stand_in_their_text();
