@@ -28,7 +28,8 @@ DescribedClause s doc r = GraphClause s doc r × OnlyClause s doc r
 -- what the call returns is equally right for each document with the same bare tree
 abbrev pub IgnoresLayout : Call → Type 0
 IgnoresLayout c = (declared : Named ℕ)
-    × ((other : Document) → SameBareTree c.document other → Promised DescribedClause (record c { document = other }) declared)
+    × ((other : Document) → SameBareTree c.document other
+    → Promised DescribedClause (record c { document = other }) declared)
 
 -- two compositions that are the same, or two errors, unless memory ran out
 abbrev pub ReturnedAlike : Result Composition Error → Result Composition Error → Type 0

@@ -41,13 +41,15 @@ pub record Call : Type 0 where
   pub result : Result Resolved Error
 
 abbrev pub call : List (PackageKey × PackageParts) → Rules → Document → Result Resolved Error → Call
-call packages rules document result = record { packages = packages; rules = rules; document = document; result = result }
+call packages rules document result =
+    record { packages = packages; rules = rules; document = document; result = result }
 
--- this clause holds of what the call returns, under every naming of origins that is one to one, where the document binds
--- these names
+-- this clause holds of what the call returns, under every naming of origins that is one to one, where the document
+-- binds these names
 abbrev pub Promised : (Given → Document → Result Composition told_errors.Error → Type 0) → Call → Named ℕ → Type 0
 Promised Clause c declared = EveryNaming
-    (λ naming. Clause (given_to naming (by_key c.packages) c.rules c.document) c.document (returned naming declared c.result))
+    (λ naming. Clause (given_to naming (by_key c.packages) c.rules c.document) c.document
+    (returned naming declared c.result))
 
 -- the graph that is returned is described, with the names that the document binds
 abbrev pub IsDescribed : Call → Type 0

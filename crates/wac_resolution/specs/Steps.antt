@@ -37,7 +37,8 @@ pub record MissesIn (setting : Setting) (rules : Rules) (g : Parts) (root : Root
   pub target : PackagePath
   pub has : targets ≡ Some target
   pub broken : (naming : Naming) → IsOneToOne naming
-      → TargetBroken (given_in naming setting rules) (composed naming g root) (placed_in naming g root x).places e target
+      → TargetBroken (given_in naming setting rules) (composed naming g root)
+      (placed_in naming g root x).places e target
 
 -- the statements compose what the graph denotes with these names at root, the target is met, and the graph holds
 -- packages that were supplied

@@ -26,8 +26,8 @@ pub(crate) fn import_kind(
     requires handed { HoldsHanded (packages_in setting.now) state.old.graph }
     ensures ok { IfOk result (λ k. ImportMade setting.now state.old.graph state.new.graph root.now
         (import_type_of ty.now) k) }
-    ensures err { ErrorSays result (λ e. ImportTypeBreaks setting.now state.old.graph root.now (import_type_of ty.now)
-        e) }
+    ensures err { ErrorSays result (λ e. ImportTypeBreaks setting.now state.old.graph root.now
+        (import_type_of ty.now) e) }
 {
     match ty {
         ImportType::Package(from) => Ok(path(state, setting, &root.kinds, from)?),

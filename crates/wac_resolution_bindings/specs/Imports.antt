@@ -35,7 +35,8 @@ pub record AddsImport (old new : Parts) (before after : Root) (x y : Externs) (i
   pub same : new ≡ record old { nodes = new.nodes; imports = with_named old.imports name (length old.nodes) }
   pub agrees : Agrees new after
   pub is : (naming : Naming)
-      → composed naming new after ≡ binding (with_node (composed naming old before) (imported name) (means naming old k))
+      → composed naming new after
+      ≡ binding (with_node (composed naming old before) (imported name) (means naming old k))
       id.string (next_of (composed naming old before))
   pub bound : places after ≡ with_named (places before) id.string id.span
   pub imported_at : imported_in y ≡ with_named (imported_in x) name span

@@ -54,8 +54,8 @@ pub fn define<'a>(
     ensures ok { OnOk result (IsDefined state.old.graph state.new.graph root.old root.new externs.old externs.new
         (ident_of id.now) kind) }
     ensures err { ErrorSays result (λ e. (naming : Naming)
-        → DefinitionBroken (composed naming state.old.graph root.old) (places_in root.old externs.old) (ident_of id.now)
-        e) }
+        → DefinitionBroken (composed naming state.old.graph root.old)
+        (places_in root.old externs.old) (ident_of id.now) e) }
 {
     check_unexported(state, externs, id)?;
     check_unbound(state.alloc, root, id)?;

@@ -103,8 +103,8 @@ pub fn declare<'a>(
 ) -> Result<(), Error>
     ensures ok { OnOk result (IsDeclared side (lists_of body.old) (lists_of body.new) (ident_of id.now) kind) }
     ensures err { ErrorSays result (λ e. (naming : Naming) (g : Parts)
-        → NameBroken (owner_of owner.now) side (places_of body.old.names) (body_of naming g body.old) (ident_of id.now)
-        e) }
+        → NameBroken (owner_of owner.now) side (places_of body.old.names)
+        (body_of naming g body.old) (ident_of id.now) e) }
 {
     check_name(alloc, &body.names, id)?;
     check_extern(alloc, body, owner, side, id.string, id.span)?;

@@ -34,8 +34,8 @@ fn declare_resource<'a>(
     ensures ok { IfOk result (λ r. ResourceGoes side state.old.graph state.new.graph (lists_of body.old)
         (lists_of body.new) (ident_of id.now) r) }
     ensures err { ErrorSays result (λ e. (naming : Naming) (g : Parts)
-        → NameBroken (owner_of owner.now) side (places_of body.old.names) (body_of naming g body.old) (ident_of id.now)
-        e) }
+        → NameBroken (owner_of owner.now) side (places_of body.old.names)
+        (body_of naming g body.old) (ident_of id.now) e) }
 {
     check_name(state.alloc, &body.names, id)?;
     check_extern(state.alloc, body, owner, side, id.string, id.span)?;

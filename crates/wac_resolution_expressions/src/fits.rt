@@ -81,8 +81,8 @@ pub fn misfit<'x, R: Rules>(
     requires world { Names state.now.graph.types (ItemKind.Component world) }
     requires there { GivenThere state.now.graph (by_name given.now.entries) }
     ensures { MatchOption result (AllFit (rules_of R.Rules rules.now) state.now.graph world (by_name given.now.entries))
-        (λ m. IsFirstMisfit (rules_of R.Rules rules.now) state.now.graph world (by_name given.now.entries) m.0.now
-        m.1) }
+        (λ m. IsFirstMisfit (rules_of R.Rules rules.now) state.now.graph world
+        (by_name given.now.entries) m.0.now m.1) }
 {
     for (name, node) in given.iter() {
         let text = name.as_str();

@@ -87,8 +87,8 @@ pub fn give_inferred(
     ensures ok { OnOk result (Gave state.now.graph state.now.graph (by_name given.old.entries)
         (by_name given.new.entries) (numbers_of root.now.nodes)
         (λ naming old new. (s : Given) (rest : Arguments)
-        → GivesOne s (imports_at naming state.now.graph world) rest old (ArgumentTree.inferred (ident_of id.now))
-        new)) }
+        → GivesOne s (imports_at naming state.now.graph world) rest old
+        (ArgumentTree.inferred (ident_of id.now)) new)) }
     ensures err { ErrorSays result (λ e. (naming : Naming) (s : Given) (rest : Arguments)
         → ArgumentBroken s (imports_at naming state.now.graph world) rest
         (giving_of naming state.now.graph (numbers_of root.now.nodes) (by_name given.old.entries)) e

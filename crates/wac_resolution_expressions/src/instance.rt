@@ -21,8 +21,8 @@ pub fn instantiate(
     requires there { GivenThere state.old.graph (by_name given.now.entries) }
     requires imports { AllByRecursion (λ e. IsSome (import_kind state.old.graph «package».0 e.0))
         (by_name given.now.entries) }
-    ensures { IfOk result (λ n. MakesInstance state.old.graph state.new.graph «package».0 (by_name given.now.entries)
-        n.0) }
+    ensures { IfOk result (λ n. MakesInstance state.old.graph state.new.graph «package».0
+        (by_name given.now.entries) n.0) }
 {
     let _count = given.len();
     let node = state.graph.add_instantiation(package)?;

@@ -50,8 +50,8 @@ fn left_out<'x>(
 ) -> Option<&'x str>
     requires { Names state.now.graph.types (ItemKind.Component world) }
     ensures { (naming : Naming)
-        → option_map (λ s. s.now) result ≡ first_name
-        (left_among (imports_at naming state.now.graph world) (given_nodes (by_name given.now.entries))) }
+        → option_map (λ s. s.now) result
+        ≡ first_name (left_among (imports_at naming state.now.graph world) (given_nodes (by_name given.now.entries))) }
 {
     let types = state.graph.types();
     match types.imports(world) {

@@ -75,8 +75,8 @@ pub fn written_name(
 #[tactic(auto, using(crate::proofs::Imports::imported_names))]
 fn imported<'x>(imports: &IndexMap<String, ItemKind>, name: Option<&'x str>) -> Option<&'x str>
     ensures { (f : ℕ → Meaning)
-        → option_map (λ s. s.now) result ≡ if_imported (items_mean f (by_name imports.now.entries))
-        (option_map (λ s. s.now) name.entry) }
+        → option_map (λ s. s.now) result
+        ≡ if_imported (items_mean f (by_name imports.now.entries)) (option_map (λ s. s.now) name.entry) }
 {
     let name = name?;
     match find(imports, name) {
@@ -92,8 +92,8 @@ fn known<'x>(
     own: Option<&'x str>,
 ) -> Option<&'x str>
     ensures { (f : ℕ → Meaning)
-        → option_map (λ s. s.now) result ≡ option_or
-        (if_imported (items_mean f (by_name imports.now.entries)) (option_map (λ s. s.now) id.entry))
+        → option_map (λ s. s.now) result
+        ≡ option_or (if_imported (items_mean f (by_name imports.now.entries)) (option_map (λ s. s.now) id.entry))
         (if_imported (items_mean f (by_name imports.now.entries)) (option_map (λ s. s.now) own.entry)) }
 {
     match imported(imports, id) {

@@ -16,8 +16,8 @@ pub fn missing_import<'x>(
     given: &IndexMap<String, NodeId>,
 ) -> Option<&'x str>
     ensures { (f : ℕ → Meaning)
-        → option_map (λ s. s.now) result ≡ first_name
-        (left_out (items_mean f (by_name imports.now.entries)) (given_nodes (by_name given.now.entries))) }
+        → option_map (λ s. s.now) result
+        ≡ first_name (left_out (items_mean f (by_name imports.now.entries)) (given_nodes (by_name given.now.entries))) }
 {
     for (name, _) in imports.iter() {
         if find(given, name.as_str()).is_none() {

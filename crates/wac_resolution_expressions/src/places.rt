@@ -27,8 +27,8 @@ use wac_resolution_state::State;
 fn if_exported(state: &State, node: NodeId, name: &str, span: SourceSpan) -> Option<SourceSpan>
     requires { node.0 < length state.now.graph.nodes }
     ensures { (naming : Naming) (declared : Named ℕ)
-        → look_up name.now (exports_at span (instance_at (composition_of naming state.now.graph declared) node.0))
-        ≡ result }
+        → look_up name.now (exports_at span
+        (instance_at (composition_of naming state.now.graph declared) node.0)) ≡ result }
 {
     let _types = state.graph.types();
     match state.graph.kind(node) {

@@ -28,8 +28,8 @@ fn copied_names(alloc: Global, all: &IndexMap<String, ItemKind>) -> Result<Vec<S
 
 /// The names of what a world imports, copied.
 fn import_names(state: &State, world: WorldId) -> Result<Vec<String>, AllocError>
-    ensures { IfOk result (λ names. map string_bytes names.items ≡ names_of
-        (world_imports state.now.graph.types world.0)) }
+    ensures { IfOk result (λ names. map string_bytes names.items
+        ≡ names_of (world_imports state.now.graph.types world.0)) }
 {
     let types = state.graph.types();
     match types.imports(world) {

@@ -60,8 +60,8 @@ fn spread(
         (λ naming old new. Spreads (imports_at naming state.old.graph world) old (ident_of id.now) new)) }
     ensures err { ErrorSays result (λ e. (naming : Naming) (before : List IdentTree)
         → SpreadBroken (imports_at naming state.old.graph world) e
-        (giving_of naming state.old.graph (numbers_of root.now.nodes) (by_name given.old.entries)) before
-        (ident_of id.now)) }
+        (giving_of naming state.old.graph (numbers_of root.now.nodes) (by_name given.old.entries))
+        before (ident_of id.now)) }
 {
     let node = root.node(state.alloc, id)?;
     instance(state, node, InstanceOperation::Spread, id.span)?;

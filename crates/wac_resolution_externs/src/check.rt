@@ -26,8 +26,8 @@ use wac_resolution_state::State;
 fn definition(state: &State, root: &Root<'_>, name: &str) -> Option<(ItemKind, SourceSpan)>
     requires { Agrees state.now.graph root.now }
     ensures kind { (naming : Naming)
-        → option_map (λ d. means naming state.now.graph d.0) result ≡ definition_bound
-        (composed naming state.now.graph root.now) name.now }
+        → option_map (λ d. means naming state.now.graph d.0) result
+        ≡ definition_bound (composed naming state.now.graph root.now) name.now }
     ensures place { IfSome result (λ d. StandsFor (places root.now) name.now d.1) }
 {
     let node = root.nodes.find(name)?;

@@ -30,8 +30,8 @@ use wac_resolution_state::State;
 fn unnamed(state: &State, node: NodeId) -> Option<&str>
     requires { node.0 < length state.now.graph.nodes }
     ensures { (naming : Naming) (declared : Named ℕ)
-        → option_and_then unnamed_export (node_at (composition_of naming state.now.graph declared) node.0) ≡ option_map
-        (λ s. s.now) result }
+        → option_and_then unnamed_export (node_at (composition_of naming state.now.graph declared) node.0)
+        ≡ option_map (λ s. s.now) result }
 {
     match instance_id(state, node) {
         Some(id) => Some(id),
@@ -44,8 +44,8 @@ fn unnamed(state: &State, node: NodeId) -> Option<&str>
 fn unnamed_name(state: &State, node: NodeId, span: SourceSpan) -> Result<String, Error>
     requires { node.0 < length state.now.graph.nodes }
     ensures ok { IfOk result (λ s. (naming : Naming) (declared : Named ℕ)
-        → option_and_then unnamed_export (node_at (composition_of naming state.now.graph declared) node.0) ≡ Some
-        (string_bytes s)) }
+        → option_and_then unnamed_export (node_at (composition_of naming state.now.graph declared) node.0)
+        ≡ Some (string_bytes s)) }
     ensures err { ErrorSays result (λ e. (naming : Naming) (declared : Named ℕ)
         → IsUnnamed (at (composition_of naming state.now.graph declared) node.0) span e) }
 {

@@ -44,8 +44,8 @@ fn entry<'x, 'a>(
     item: &'x WorldIncludeItem<'a>,
 ) -> Result<(), Error>
     ensures ok { OnOk result (IsFresh item.now.from.string.now (by_name all.old.entries)) }
-    ensures added { OnOk result (by_name all.new.entries ≡ with_named (by_name all.old.entries) item.now.from.string.now
-        item.entry) }
+    ensures added { OnOk result (by_name all.new.entries
+        ≡ with_named (by_name all.old.entries) item.now.from.string.now item.entry) }
     ensures err { ErrorSays result (λ e. (before : List Item)
         → IsSecondEntry e (entries_of (by_name all.old.entries)) before (world_include_item_of item.now)) }
 {

@@ -99,8 +99,8 @@ impl<'x, 'a> Inclusion<'x, 'a> {
     ) -> Result<(), Error>
         requires { AreOf (clause_of self.now) (by_name entries.now.entries) }
         ensures ok { OnOk result (by_name entries.now.entries ≡ []) }
-        ensures err { ErrorSays result (λ e. IsLeftOver (tree_of self.now) (entries_of (by_name entries.now.entries))
-            e) }
+        ensures err { ErrorSays result (λ e. IsLeftOver (tree_of self.now)
+            (entries_of (by_name entries.now.entries)) e) }
     {
         match entries.get_index(0) {
             Some((name, item)) => Err(Error::MissingWorldInclude {

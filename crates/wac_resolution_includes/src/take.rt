@@ -37,8 +37,8 @@ impl<'x, 'a> Inclusion<'x, 'a> {
     ) -> Result<(), Error>
         requires { AreOf (clause_of self.now) (by_name entries.old.entries) }
         ensures ok { OnOk result (NameTaken (clause_of self.now) (by_name entries.old.entries)
-            (by_name entries.new.entries) (by_name there.old.entries) (by_name there.new.entries)
-            (name.now, kind)) }
+            (by_name entries.new.entries) (by_name there.old.entries)
+            (by_name there.new.entries) (name.now, kind)) }
         ensures err { ErrorSays result (λ e. (naming : Naming) (g : Parts) (before : List (List ℕ × Meaning))
             → IsIncludeConflict (tree_of self.now) self.now.world.now side e
             (taking_of naming g (by_name entries.old.entries) (by_name there.old.entries)) before

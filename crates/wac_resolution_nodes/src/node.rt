@@ -42,8 +42,8 @@ pub fn instance(
     requires { node.0 < length state.now.graph.nodes }
     ensures ok { IfOk result (λ i. IsInstance state.now.graph node.0 i) }
     ensures err { IfErr result (λ e. (naming : Naming) (declared : Named ℕ)
-        → IsNotInstance (composition_of naming state.now.graph declared) node.0 (operation_of operation) span
-        (told e)) }
+        → IsNotInstance (composition_of naming state.now.graph declared) node.0
+        (operation_of operation) span (told e)) }
 {
     let _types = state.graph.types();
     match state.graph.kind(node) {
@@ -71,8 +71,8 @@ fn interface_id(state: &State, interface: InterfaceId) -> Option<&str>
 pub fn instance_id(state: &State, node: NodeId) -> Option<&str>
     requires { node.0 < length state.now.graph.nodes }
     ensures { (naming : Naming) (declared : Named ℕ)
-        → option_and_then id_of_instance (node_at (composition_of naming state.now.graph declared) node.0) ≡ option_map
-        (λ s. s.now) result }
+        → option_and_then id_of_instance (node_at (composition_of naming state.now.graph declared) node.0)
+        ≡ option_map (λ s. s.now) result }
 {
     let _types = state.graph.types();
     match state.graph.kind(node) {
@@ -85,8 +85,8 @@ pub fn instance_id(state: &State, node: NodeId) -> Option<&str>
 pub fn own_name(state: &State, node: NodeId) -> Option<&str>
     requires { node.0 < length state.now.graph.nodes }
     ensures { (naming : Naming) (declared : Named ℕ)
-        → option_and_then name_of_node (node_at (composition_of naming state.now.graph declared) node.0) ≡ option_map
-        (λ s. s.now) result }
+        → option_and_then name_of_node (node_at (composition_of naming state.now.graph declared) node.0)
+        ≡ option_map (λ s. s.now) result }
 {
     if let Some(name) = state.graph.import_name(node) {
         return Some(name);

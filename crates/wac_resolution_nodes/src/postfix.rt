@@ -103,8 +103,8 @@ pub fn accesses(
 ) -> Result<NodeId, Error>
     requires agrees { NodesStand state.old.graph }
     requires there { node.0 < length state.old.graph.nodes }
-    ensures ok { IfOk result (λ n. AccessesGo state.old.graph state.new.graph node.0 (map postfix_expr_of accesses.now)
-        n.0) }
+    ensures ok { IfOk result (λ n. AccessesGo state.old.graph state.new.graph node.0
+        (map postfix_expr_of accesses.now) n.0) }
     ensures err { ErrorSays result (λ e. (naming : Naming) (declared : Named ℕ)
         → Fails Accesses (AccessBroken span e) (at (composition_of naming state.old.graph declared) node.0)
         (map postfix_expr_of accesses.now)) }

@@ -69,8 +69,8 @@ fn segments_before(
     path: &PackagePath<'_>,
     count: usize,
 ) -> Result<String, AllocError>
-    ensures { IfOk result (λ s. string_bytes s ≡ join_with_byte slash
-        (take (suc count) (segments_of (package_path_of path.now)))) }
+    ensures { IfOk result (λ s. string_bytes s
+        ≡ join_with_byte slash (take (suc count) (segments_of (package_path_of path.now)))) }
 {
     let mut rest = path.segment_spans();
     let Some((first, _)) = rest.next() else {
@@ -81,8 +81,8 @@ fn segments_before(
 
 /// What is reported of a package that was not supplied.
 fn unknown(alloc: Global, path: &PackagePath<'_>) -> Result<Error, AllocError>
-    ensures { IfOk result (λ e. told e ≡ unknown_package path.now.name.now
-        (package_name_span (package_path_of path.now))) }
+    ensures { IfOk result (λ e. told e
+        ≡ unknown_package path.now.name.now (package_name_span (package_path_of path.now))) }
 {
     Ok(Error::UnknownPackage {
         name: String::from_str(alloc, path.name)?,

@@ -30,8 +30,9 @@ fn missing(
     name: &str,
     kind: ItemKind,
 ) -> Result<Error, AllocError>
-    ensures { IfOk result (λ e. told e ≡ missing_target_export name.now (package_path_of target.now.path.now).string
-        (described kind) (package_path_of target.now.path.now).span) }
+    ensures { IfOk result (λ e. told e
+        ≡ missing_target_export name.now (package_path_of target.now.path.now).string (described kind)
+        (package_path_of target.now.path.now).span) }
 {
     Ok(Error::MissingTargetExport {
         name: String::from_str(alloc, name)?,

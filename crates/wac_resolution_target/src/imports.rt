@@ -28,8 +28,8 @@ fn not_in_target(
     name: &str,
     span: Option<SourceSpan>,
 ) -> Result<Error, AllocError>
-    ensures { IfOk result (λ e. told e ≡ import_not_in_target name.now (package_path_of target.now.path.now).string
-        span) }
+    ensures { IfOk result (λ e. told e
+        ≡ import_not_in_target name.now (package_path_of target.now.path.now).string span) }
 {
     Ok(Error::ImportNotInTarget {
         name: String::from_str(alloc, name)?,
@@ -47,8 +47,8 @@ pub(crate) fn mismatch(
     source: Reason,
     span: Option<SourceSpan>,
 ) -> Result<Error, AllocError>
-    ensures { IfOk result (λ e. told e ≡ target_mismatch kind name.now (package_path_of target.now.path.now).string
-        source span) }
+    ensures { IfOk result (λ e. told e
+        ≡ target_mismatch kind name.now (package_path_of target.now.path.now).string source span) }
 {
     Ok(Error::TargetMismatch {
         kind,

@@ -31,8 +31,8 @@ fn check_open_import<R: Rules>(
     ensures ok { OnOk result (AllAllowed (testing state.now.graph (rules_of R.Rules rules.now) target.now)
         (of_kind state.now.graph) (left_open (arguments_of state.now.graph node.0) ((name.now, kind) ∷ []))) }
     ensures err { ErrorSays result (λ e. SomeDenied (testing state.now.graph (rules_of R.Rules rules.now) target.now)
-        (of_kind state.now.graph) nowhere (left_open (arguments_of state.now.graph node.0) ((name.now, kind) ∷ []))
-        e) }
+        (of_kind state.now.graph) nowhere
+        (left_open (arguments_of state.now.graph node.0) ((name.now, kind) ∷ [])) e) }
 {
     match state.graph.argument(node, name) {
         Some(_) => Ok(()),

@@ -78,8 +78,8 @@ fn last_used_by_imports(
     before: Option<InterfaceId>,
 ) -> Option<InterfaceId>
     ensures { result ≡ option_or
-        (last_of types.now id.now (flat_map (λ e. import_uses types.now e.1) (by_name imports.now.entries)))
-        before }
+        (last_of types.now id.now
+        (flat_map (λ e. import_uses types.now e.1) (by_name imports.now.entries))) before }
 {
     let mut last = before;
     for (_, import) in imports.iter() {

@@ -35,8 +35,8 @@ fn check_flag(
     id: &Ident<'_>,
 ) -> Result<(), Error>
     ensures ok { OnOk result (list_any (bytes_eq id.now.string.now) (map string_bytes all.now.keys) ≡ false) }
-    ensures err { ErrorSays result (λ e. IsRepeatedFlag (ident_of declared.now) (names_alone all.now.keys)
-        (ident_of id.now) e) }
+    ensures err { ErrorSays result (λ e. IsRepeatedFlag (ident_of declared.now)
+        (names_alone all.now.keys) (ident_of id.now) e) }
 {
     if has_name(all, id.string) {
         return Err(Error::DuplicateFlag {
@@ -57,8 +57,8 @@ fn check_enum_case(
     id: &Ident<'_>,
 ) -> Result<(), Error>
     ensures ok { OnOk result (list_any (bytes_eq id.now.string.now) (map string_bytes all.now.keys) ≡ false) }
-    ensures err { ErrorSays result (λ e. IsRepeatedEnumCase (ident_of declared.now) (names_alone all.now.keys)
-        (ident_of id.now) e) }
+    ensures err { ErrorSays result (λ e. IsRepeatedEnumCase (ident_of declared.now)
+        (names_alone all.now.keys) (ident_of id.now) e) }
 {
     if has_name(all, id.string) {
         return Err(Error::DuplicateEnumCase {

@@ -37,8 +37,8 @@ fn check_field(
 ) -> Result<(), Error>
     ensures ok { OnOk result (IsFresh id.now.string.now (by_name all.now.entries)) }
     ensures err { ErrorSays result (λ e. (naming : Naming) (g : Parts)
-        → IsRepeatedField (ident_of declared.now) (types_named naming g (by_name all.now.entries)) (ident_of id.now)
-        e) }
+        → IsRepeatedField (ident_of declared.now)
+        (types_named naming g (by_name all.now.entries)) (ident_of id.now) e) }
 {
     match find(all, id.string) {
         Some(_) => Err(Error::DuplicateRecordField {
@@ -103,8 +103,8 @@ pub fn record(
 ) -> Result<ValueType, Error>
     requires { ItemsNamed state.old.graph.types (values_of names.now) }
     ensures ok { IfOk result (λ v. ValueAdded state.old.graph state.new.graph
-        (λ naming m. IsRecord (scope_of naming state.old.graph (values_of names.now)) (record_decl_of decl.now) m)
-        v) }
+        (λ naming m. IsRecord (scope_of naming state.old.graph (values_of names.now))
+        (record_decl_of decl.now) m) v) }
     ensures err { ErrorSays result (λ e. (naming : Naming)
         → RecordBroken (scope_of naming state.old.graph (values_of names.now)) (record_decl_of decl.now) e) }
 {

@@ -77,8 +77,8 @@ fn result_type(
     ty: &Type<'_>,
 ) -> Result<ValueType, Error>
     requires { ItemsNamed state.old.graph.types (values_of names.now) }
-    ensures ok { IfOk result (λ v. ResultTypeIs state.old.graph state.new.graph (values_of names.now) (ty_of ty.now)
-        v) }
+    ensures ok { IfOk result (λ v. ResultTypeIs state.old.graph state.new.graph
+        (values_of names.now) (ty_of ty.now) v) }
     ensures err { ErrorSays result (λ e. (naming : Naming)
         → ResultTypeBroken (scope_of naming state.old.graph (values_of names.now)) (ty_of ty.now) e) }
 {

@@ -80,8 +80,8 @@ fn optional(
     ty: &Option<Box<Type<'_>>>,
 ) -> Result<Option<ValueType>, Error>
     requires { ItemsNamed state.old.graph.types (values_of names.now) }
-    ensures ok { IfOk result (λ v. OptionalIs state.old.graph state.new.graph (values_of names.now) (optional_of ty.now)
-        v) }
+    ensures ok { IfOk result (λ v. OptionalIs state.old.graph state.new.graph (values_of names.now)
+        (optional_of ty.now) v) }
     ensures err { ErrorSays result (λ e. (naming : Naming)
         → OptionalBroken (scope_of naming state.old.graph (values_of names.now)) (optional_of ty.now) e) }
 {

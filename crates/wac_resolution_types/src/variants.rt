@@ -121,8 +121,8 @@ pub fn variant(
 ) -> Result<ValueType, Error>
     requires { ItemsNamed state.old.graph.types (values_of names.now) }
     ensures ok { IfOk result (λ v. ValueAdded state.old.graph state.new.graph
-        (λ naming m. IsVariant (scope_of naming state.old.graph (values_of names.now)) (variant_decl_of decl.now) m)
-        v) }
+        (λ naming m. IsVariant (scope_of naming state.old.graph (values_of names.now))
+        (variant_decl_of decl.now) m) v) }
     ensures err { ErrorSays result (λ e. (naming : Naming)
         → VariantBroken (scope_of naming state.old.graph (values_of names.now)) (variant_decl_of decl.now) e) }
 {

@@ -48,5 +48,6 @@ IsNoExternKind k x e = (naming : Naming) (g : Parts)
 -- whatever the graph is
 pub record ExternNamed (ks root : Named ItemKind) (x : Ident) (k : ItemKind) : Type 0 where
   pub is : (naming : Naming) (g : Parts) (setting : Setting) (n : ℕ)
-      → HasExternType setting (scope_of naming g root) (scope_of naming g ks) n (ExternType.ident x) (means naming g k) n
+      → HasExternType setting (scope_of naming g root) (scope_of naming g ks) n
+      (ExternType.ident x) (means naming g k) n
   pub named : (es : List Entry) → ItemsNamed es ks → ItemsNamed es root → Names es k

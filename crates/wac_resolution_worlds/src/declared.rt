@@ -24,8 +24,8 @@ use wac_resolution_state::{Names, State};
 
 /// Adds a version after `@`, if there is one.
 fn push_version(text: &mut String, version: Option<&str>) -> Result<(), AllocError>
-    ensures { OnOk result (string_bytes text.new ≡ string_bytes text.old ++ version_part
-        (option_map (λ v. v.now) version.entry)) }
+    ensures { OnOk result (string_bytes text.new
+        ≡ string_bytes text.old ++ version_part (option_map (λ v. v.now) version.entry)) }
 {
     match version {
         Some(version) => {

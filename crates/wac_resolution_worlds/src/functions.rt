@@ -51,8 +51,8 @@ pub fn new_func(
     func: &FuncType<'_>,
 ) -> Result<FuncTypeId, Error>
     requires { ItemsNamed state.old.graph.types (values_of names.now) }
-    ensures ok { IfOk result (λ f. NewFunc state.old.graph state.new.graph (values_of names.now) (func_type_of func.now)
-        f) }
+    ensures ok { IfOk result (λ f. NewFunc state.old.graph state.new.graph (values_of names.now)
+        (func_type_of func.now) f) }
     ensures err { ErrorSays result (λ e. (naming : Naming)
         → FuncBroken funcs.Free (scope_of naming state.old.graph (values_of names.now)) [] (func_type_of func.now) e) }
 {
