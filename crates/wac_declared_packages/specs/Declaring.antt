@@ -24,10 +24,13 @@ no_rules = record { passes = λ _ _. None; named = λ _. None }
 
 -- with these packages the document has the graph's composition, whatever the naming of origins
 abbrev pub IsGraphOf : List (PackageKey × PackageParts) → Document → Parts → Type 0
-IsGraphOf packages d g = (declared : Named ℕ) × EveryNaming (λ naming. Describes (given_to naming (by_key packages) no_rules d) d (composition_of naming g declared))
+IsGraphOf packages d g = (declared : Named ℕ)
+    × EveryNaming (λ naming. Describes (given_to naming (by_key packages) no_rules d) d
+    (composition_of naming g declared))
 
 -- the package has what the document's graph exports, and its world is the one of that name, or the only one
-pub record IsDeclaredBy (packages : List (PackageKey × PackageParts)) (d : Document) (world : Option (List ℕ)) (p : PackageParts) : Type 0 where
+pub record IsDeclaredBy (packages : List (PackageKey × PackageParts)) (d : Document) (world : Option (List ℕ))
+    (p : PackageParts) : Type 0 where
   pub graph : Parts
   pub of_document : IsGraphOf packages d graph
   pub definitions : AreExported graph p.definitions
@@ -38,12 +41,15 @@ pub record IsDeclaredBy (packages : List (PackageKey × PackageParts)) (d : Docu
 
 -- the first of the document's statements that fails with these packages breaks the rule, whatever the naming of origins
 abbrev pub Breaks : List (PackageKey × PackageParts) → Document → ResolutionError → Type 0
-Breaks packages d cause = EveryNaming (λ naming. Reports (told cause) (FirstFailing (given_to naming (by_key packages) no_rules d) d (told cause)))
+Breaks packages d cause = EveryNaming
+    (λ naming. Reports (told cause) (FirstFailing (given_to naming (by_key packages) no_rules d) d (told cause)))
 
 -- the error has the rule that the document breaks, unless memory ran out
 abbrev pub IsUnresolved : List (PackageKey × PackageParts) → Document → DeclarationError → Type 0
-IsUnresolved packages d e = ((cause : ResolutionError) × (e ≡ errors.Resolution cause) × Breaks packages d cause) ⊎ IsMemory e
+IsUnresolved packages d e = ((cause : ResolutionError) × (e ≡ errors.Resolution cause) × Breaks packages d cause)
+    ⊎ IsMemory e
 
 -- the document is no declaration, as the error says; or it is one that can't be resolved, or that makes no package
 abbrev pub IsRefused : List (PackageKey × PackageParts) → Document → DeclarationError → Type 0
-IsRefused packages d e = Unfit d e ⊎ (IsDeclaration d × (IsUnresolved packages d e ⊎ IsUnmade d.directive.package_name.span e))
+IsRefused packages d e = Unfit d e
+    ⊎ (IsDeclaration d × (IsUnresolved packages d e ⊎ IsUnmade d.directive.package_name.span e))

@@ -34,7 +34,8 @@ pub record IsDeclaration (d : Document) : Type 0 where
 -- the error names the target, or else the first statement of another sort, with the place
 abbrev pub Unfit : Document → DeclarationError → Type 0
 Unfit d e = ((place : Span) × (e ≡ errors.Targets place) × (target_place d ≡ Some place))
-    ⊎ ((place : Span) × (e ≡ errors.OtherStatement place) × (target_place d ≡ None) × (first_other d.statements ≡ Some place))
+    ⊎ ((place : Span) × (e ≡ errors.OtherStatement place) × (target_place d ≡ None)
+    × (first_other d.statements ≡ Some place))
 
 -- ---- errors for which a declaration makes no package
 

@@ -36,18 +36,23 @@ world_chosen key worlds = option_map string_bytes (under key worlds)
 abbrev pub declared_key : Document → Key
 declared_key d = key_named d.directive.package_name
 
--- what the texts declare: the package of the document of one of them, which is resolved with what the texts declare, and copies of it
-pub data IsDeclared (texts : List (List ℕ)) (worlds : List (PackageKey × String Global)) : Key → PackageParts → Type 0 where
+-- what the texts declare: the package of the document of one of them, which is resolved with what the texts declare,
+-- and copies of it
+pub data IsDeclared (texts : List (List ℕ)) (worlds : List (PackageKey × String Global)) : Key → PackageParts
+    → Type 0 where
   by_text : (text : List ℕ) (document : Document) (supplied : List (PackageKey × PackageParts)) (parts : PackageParts)
       → IsOneOf texts text → IsTreeOf text document → IsDeclaration document
-      → ((key : PackageKey) (other : PackageParts) → found key supplied ≡ Some other → IsDeclared texts worlds (key_of key) other)
+      → ((key : PackageKey) (other : PackageParts) → found key supplied ≡ Some other
+      → IsDeclared texts worlds (key_of key) other)
       → IsDeclaredBy supplied document (world_chosen (declared_key document) worlds) parts
       → IsDeclared texts worlds (declared_key document) parts
-  by_copy : (key : Key) (parts copy : PackageParts) → IsDeclared texts worlds key parts → IsCopy parts copy → IsDeclared texts worlds key copy
+  by_copy : (key : Key) (parts copy : PackageParts) → IsDeclared texts worlds key parts → IsCopy parts copy
+      → IsDeclared texts worlds key copy
 
 -- each of these packages is what the texts declare under its key
 abbrev pub AreDeclared : List (List ℕ) → List (PackageKey × String Global) → List (PackageKey × PackageParts) → Type 0
-AreDeclared texts worlds packages = (key : PackageKey) (parts : PackageParts) → found key packages ≡ Some parts → IsDeclared texts worlds (key_of key) parts
+AreDeclared texts worlds packages = (key : PackageKey) (parts : PackageParts) → found key packages ≡ Some parts
+    → IsDeclared texts worlds (key_of key) parts
 
 abbrev pub IsFrom : Sources → Key → PackageParts → Type 0
 IsFrom s key parts = IsDeclared (now_of s.texts.now) s.worlds.now.entries key parts
@@ -63,25 +68,31 @@ Puts key parts old new = (q : PackageKey) → found q new ≡ cond (same_key key
 
 -- each of the second packages is a copy of the first one under its key
 abbrev pub AreCopiesOf : List (PackageKey × PackageParts) → List (PackageKey × PackageParts) → Type 0
-AreCopiesOf packages copies = (key : PackageKey) (copy : PackageParts) → found key copies ≡ Some copy → (parts : PackageParts) × (found key packages ≡ Some parts) × IsCopy parts copy
+AreCopiesOf packages copies = (key : PackageKey) (copy : PackageParts) → found key copies ≡ Some copy
+    → (parts : PackageParts) × (found key packages ≡ Some parts) × IsCopy parts copy
 
 -- there is one under the key
 abbrev pub IsThere : {X : Type 0} → PackageKey → List (PackageKey × X) → Type 0
 IsThere key es = is_some (found key es) ≡ true
 
 -- the new copies have what the old ones have, and the package of the key, if there is one
-abbrev pub Supplies : PackageKey → List (PackageKey × PackageParts) → List (PackageKey × PackageParts) → List (PackageKey × PackageParts) → Type 0
-Supplies key packages old new = (q : PackageKey) → (IsThere q old → IsThere q new) × (key_of key ≡ key_of q → IsThere q packages → IsThere q new)
+abbrev pub Supplies : PackageKey → List (PackageKey × PackageParts) → List (PackageKey × PackageParts)
+    → List (PackageKey × PackageParts) → Type 0
+Supplies key packages old new = (q : PackageKey)
+    → (IsThere q old → IsThere q new) × (key_of key ≡ key_of q → IsThere q packages → IsThere q new)
 
 -- each package that is mentioned and there has a copy
-abbrev pub HasMentioned : {X : Type 0} → List (PackageKey × X) → List (PackageKey × PackageParts) → List (PackageKey × PackageParts) → Type 0
-HasMentioned mentioned packages copies = (key : PackageKey) → IsThere key mentioned → IsThere key packages → IsThere key copies
+abbrev pub HasMentioned : {X : Type 0} → List (PackageKey × X) → List (PackageKey × PackageParts)
+    → List (PackageKey × PackageParts) → Type 0
+HasMentioned mentioned packages copies = (key : PackageKey) → IsThere key mentioned → IsThere key packages
+    → IsThere key copies
 
 -- ---- texts, one by one
 
 -- the package that the text declares is there
 abbrev pub HasPackage : List (PackageKey × PackageParts) → List ℕ → Type 0
-HasPackage packages text = (document : Document) × IsTreeOf text document × (is_some (under (declared_key document) packages) ≡ true)
+HasPackage packages text = (document : Document) × IsTreeOf text document
+    × (is_some (under (declared_key document) packages) ≡ true)
 
 abbrev pub EachHasPackage : List (List ℕ) → List (PackageKey × PackageParts) → Type 0
 EachHasPackage texts packages = (text : List ℕ) → IsOneOf texts text → HasPackage packages text

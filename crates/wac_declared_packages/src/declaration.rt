@@ -81,7 +81,8 @@ pub fn declared_package(
     // The key is the directive's.
     ensures key { IfOk result (λ p. key_in p.0 ≡ declared_key (document_of page.entry)) }
     // It has what the document's graph exports, with the meanings there, and the chosen world.
-    ensures is { IfOk result (λ p. IsDeclaredBy packages.entries (document_of page.entry) (option_map (λ s. s.now) world.entry) p.1) }
+    ensures is { IfOk result (λ p. IsDeclaredBy packages.entries (document_of page.entry)
+        (option_map (λ s. s.now) world.entry) p.1) }
     // The document has no target, and type statements alone.
     ensures fits { IfOk result (λ _. IsDeclaration (document_of page.entry)) }
     // The error says what in the document is no declaration, or what in a declaration makes no package.

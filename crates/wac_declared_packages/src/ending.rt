@@ -21,7 +21,8 @@ fn is_there(
     alloc: Global,
     packages: &IndexMap<PackageKey, Package>,
 ) -> Result<bool, AllocError>
-    ensures { IfOk result (λ there. there ≡ is_some (under (declared_key (document_of page.entry)) packages.now.entries)) }
+    ensures { IfOk result (λ there. there ≡ is_some
+        (under (declared_key (document_of page.entry)) packages.now.entries)) }
 {
     let Page { document } = page;
     let key = key_of(alloc, &document.directive.package)?;
@@ -57,7 +58,8 @@ fn first_unmade(
     sources: &Sources<'_>,
     packages: &IndexMap<PackageKey, Package>,
 ) -> Result<Option<usize>, AllocError>
-    ensures { IfOk result (λ unmade. unmade ≡ None → EachHasPackage (now_of sources.now.texts.now) packages.now.entries) }
+    ensures { IfOk result (λ unmade. unmade ≡ None
+        → EachHasPackage (now_of sources.now.texts.now) packages.now.entries) }
 {
     for number in 0..sources.texts.len() {
         let Some(text) = text_at(sources, number) else {
@@ -93,7 +95,8 @@ pub(crate) fn reject_lacking(
     outlines: &mut Outlines,
     packages: &IndexMap<PackageKey, Package>,
 ) -> Result<(), AllocError>
-    ensures { OnOk result (vec_len outlines.new.faults ≡ 0 → IsWhole (now_of sources.now.texts.now) packages.now.entries) }
+    ensures { OnOk result (vec_len outlines.new.faults ≡ 0
+        → IsWhole (now_of sources.now.texts.now) packages.now.entries) }
 {
     if !outlines.faults.is_empty() {
         return Ok(());

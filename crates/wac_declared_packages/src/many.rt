@@ -33,7 +33,8 @@ struct Work {
 /// Makes the packages of texts, and rejects those that have none.
 fn declare(alloc: Global, sources: &Sources<'_>) -> Result<Work, AllocError>
     ensures declared { IfOk result (λ work. AreFrom sources.now work.packages.entries) }
-    ensures all { IfOk result (λ work. vec_len work.outlines.faults ≡ 0 → IsWhole (now_of sources.now.texts.now) work.packages.entries) }
+    ensures all { IfOk result (λ work. vec_len work.outlines.faults ≡ 0
+        → IsWhole (now_of sources.now.texts.now) work.packages.entries) }
 {
     let mut outlines = Outlines::of_texts(alloc, sources.texts)?;
     let packages = make_all(alloc, &mut outlines, sources)?;

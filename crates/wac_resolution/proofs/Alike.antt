@@ -22,7 +22,7 @@ use Rattle.wac_resolution_rules.proofs.Alike.{bare_alike}
 use Rattle.wac_resolution_rules.proofs.FirstFailing.{describes_once}
 use Rattle.wac_resolution_nodes.specs.Nodes.{composition_of}
 use Rattle.wac_resolution.specs.Layout.{SameBareTree, DescribedClause, ReturnedAlike}
-use Rattle.wac_resolution.specs.Resolved.{Resolved, by_key, Promised}
+use Rattle.wac_resolution.specs.Resolved.{Resolved, by_key, Promised, call}
 use Rattle.wac_resolution.proofs.Ending.{Described}
 
 pub same_alike : (document other : Document) → SameBareTree document other → DescribeAlike document other
@@ -38,7 +38,7 @@ described_alike naming packages rules document other (Err e) alike h = (tt, λ c
 
 -- with some names at root, what is returned is right for each document with the same bare tree
 abbrev pub RightForSame : List (PackageKey × PackageParts) → Rules → Document → Result Resolved CodeError → Type 0
-RightForSame packages rules document result = (declared : Named ℕ) × ((other : Document) → SameBareTree document other → Promised DescribedClause packages rules other declared result)
+RightForSame packages rules document result = (declared : Named ℕ) × ((other : Document) → SameBareTree document other → Promised DescribedClause (call packages rules other result) declared)
 
 graph_is_right : (packages : List (PackageKey × PackageParts)) (rules : Rules) (document : Document) (r : Resolved) → Described packages rules document r.graph → RightForSame packages rules document (Ok r)
 graph_is_right packages rules document r h =
@@ -53,8 +53,8 @@ error_is_right packages rules document e h =
     ([], λ other same naming one. described_alike naming (by_key packages) rules document other (Err (told e)) (same_alike document other same) (tt, h naming one))
 
 -- a result is right for these documents where it is described, and where what is described is returned
-pub result_is_right : (packages : List (PackageKey × PackageParts)) (rules : Rules) (document : Document) (result : Result Resolved CodeError) (declared : Named ℕ) → Promised GraphClause packages rules document declared result
-    → ((names : Named ℕ) → Promised OnlyClause packages rules document names result) → RightForSame packages rules document result
+pub result_is_right : (packages : List (PackageKey × PackageParts)) (rules : Rules) (document : Document) (result : Result Resolved CodeError) (declared : Named ℕ) → Promised GraphClause (call packages rules document result) declared
+    → ((names : Named ℕ) → Promised OnlyClause (call packages rules document result) names) → RightForSame packages rules document result
 result_is_right packages rules document (Ok r) declared graph only = graph_is_right packages rules document r (declared, graph)
 result_is_right packages rules document (Err e) declared graph only = error_is_right packages rules document e (only [])
 

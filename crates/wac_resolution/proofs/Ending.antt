@@ -1,8 +1,6 @@
 -- What resolving yields.
 use Rattle.std.proofs.Common.{◌≡◌, ◌∙◌, ◌⊎◌, ℕ, List, map, Option, Some, None, inl, inr, refl, sym, ap, subst}
 use Rattle.std.specs.Prelude.{option_map}
-use Rattle.wac_graph_types.specs.declared.rules.Reason.{Reason}
-use Rattle.wac_graph_types.specs.Meaning.{Meaning}
 use Rattle.wac_graph_types.specs.Package.{PackageParts}
 use Rattle.wac_graph_types.specs.Scope.{Named}
 use Rattle.wac_graph_types.specs.Steps.{Steps, Fails}
@@ -20,7 +18,7 @@ use Rattle.wac_graph.specs.Package.{Key}
 use Rattle.wac_graph.specs.Packages.{handed}
 use Rattle.wac_resolution_errors.specs.Error.{Error, Reports, memory}
 use Rattle.wac_resolution_rules.specs.Composition.{Composition, start, with_resources}
-use Rattle.wac_resolution_rules.specs.Given.{Given, Rules, rules_by}
+use Rattle.wac_resolution_rules.specs.Given.{Given, Rules}
 use Rattle.wac_resolution_rules.specs.Places.{Placed, Leads, placed_start}
 use Rattle.wac_resolution_rules.specs.ResolvedDocument.{given_to, Describes, FirstFailing}
 use Rattle.wac_resolution_rules.specs.Statements.{Composes}
@@ -46,9 +44,9 @@ use Rattle.wac_resolution.proofs.Starting.{IsStart, start_placed}
 
 -- ---- the target
 
-pub target_met : (setting : Setting) (passes : Meaning → Meaning → Option Reason) (named : List ℕ → Option Reason) (old new : Parts) (root : Root) (path : PackagePath) → Agrees old root → Meets setting passes named old new root path
-    → MeetsIn setting (rules_by passes named) old new root (Some path)
-target_met setting passes named old new root path agrees m = record {
+pub target_met : (setting : Setting) (rules : Rules) (old new : Parts) (root : Root) (path : PackagePath) → Agrees old root → Meets setting rules old new root path
+    → MeetsIn setting rules old new root (Some path)
+target_met setting rules old new root path agrees m = record {
   handed = m.handed;
   kept = λ naming. composition_expands old new (numbers_of root.nodes) naming m.grows.same m.grows.held (m.grows.kinds naming) agrees.nodes ∙ ap (with_resources (composed naming old root)) m.count;
   met = λ naming one. m.is naming one;
@@ -57,9 +55,9 @@ target_met setting passes named old new root path agrees m = record {
 pub no_target : (setting : Setting) (rules : Rules) (g : Parts) (root : Root) → HoldsHanded (packages_in setting) g → MeetsIn setting rules g g root None
 no_target setting rules g root handed = record { handed = handed; kept = λ naming. refl; met = λ naming one. tt }
 
-pub target_missed : (setting : Setting) (passes : Meaning → Meaning → Option Reason) (named : List ℕ → Option Reason) (g : Parts) (root : Root) (x : Externs) (path : PackagePath) (e : Error) → Unmeets setting passes named g root path (imported_in x) (exported_in x) e
-    → MissesIn setting (rules_by passes named) g root x (Some path) e
-target_missed setting passes named g root x path e u = record { target = path; has = refl; broken = λ naming one. u naming (places_in root x) one refl refl }
+pub target_missed : (setting : Setting) (rules : Rules) (g : Parts) (root : Root) (x : Externs) (path : PackagePath) (e : Error) → Unmeets setting rules g root path (imported_in x) (exported_in x) e
+    → MissesIn setting rules g root x (Some path) e
+target_missed setting rules g root x path e u = record { target = path; has = refl; broken = λ naming one. u naming (places_in root x) one refl refl }
 
 -- ---- the statements, then the target
 

@@ -21,7 +21,7 @@ use Rattle.wac_resolution_rules.specs.Mentions.{IsMentioned, Mention, given_over
 use Rattle.wac_resolution_rules.specs.ResolvedDocument.{Describes, FirstClause, FirstFailing, GraphClause, OnlyClause, given_to}
 use Rattle.wac_resolution_paths.specs.Expands.{HoldsHanded, IsHandedAs}
 use Rattle.wac_resolution_mentions.specs.Packages.{AreFirst, OnlyTheseMatter}
-use Rattle.wac_resolution.specs.Resolved.{HoldsMentioned, HoldsSupplied, Promised, Resolved, by_key, returned}
+use Rattle.wac_resolution.specs.Resolved.{HoldsMentioned, HoldsSupplied, Promised, Resolved, by_key, returned, call}
 
 -- ---- what is kept
 
@@ -146,18 +146,18 @@ first_with_all doc these only naming ps rules (Err e) (inl m) = inl m
 first_with_all doc these only naming ps rules (Err e) (inr f) = inr ((fails_with_all doc these only naming ps rules e).0 f)
 
 promised_with_all : (Clause : Clauses) (doc : Document) → WithAll Clause doc → (packages others : List (PackageKey × PackageParts)) → IsKept doc packages others → (rules : Rules) (declared : Named ℕ) (result : Result Resolved CodeError)
-    → Promised Clause others rules doc declared result → Promised Clause packages rules doc declared result
+    → Promised Clause (call others rules doc result) declared → Promised Clause (call packages rules doc result) declared
 promised_with_all Clause doc step packages others k rules declared result h = λ naming one.
     step k.these k.matter naming (by_key packages) rules (returned naming declared result) (subst (λ (l : List (Key × PackageParts)). Clause (given_to naming l rules doc) doc (returned naming declared result)) k.are (h naming one))
 
 pub promised_graph : (doc : Document) (packages others : List (PackageKey × PackageParts)) → IsKept doc packages others → (rules : Rules) (declared : Named ℕ) (result : Result Resolved CodeError)
-    → Promised GraphClause others rules doc declared result → Promised GraphClause packages rules doc declared result
+    → Promised GraphClause (call others rules doc result) declared → Promised GraphClause (call packages rules doc result) declared
 promised_graph doc packages others k rules declared result h = promised_with_all GraphClause doc (graph_with_all doc) packages others k rules declared result h
 
 pub promised_only : (doc : Document) (packages others : List (PackageKey × PackageParts)) → IsKept doc packages others → (rules : Rules) (declared : Named ℕ) (result : Result Resolved CodeError)
-    → Promised OnlyClause others rules doc declared result → Promised OnlyClause packages rules doc declared result
+    → Promised OnlyClause (call others rules doc result) declared → Promised OnlyClause (call packages rules doc result) declared
 promised_only doc packages others k rules declared result h = promised_with_all OnlyClause doc (only_with_all doc) packages others k rules declared result h
 
 pub promised_first : (doc : Document) (packages others : List (PackageKey × PackageParts)) → IsKept doc packages others → (rules : Rules) (declared : Named ℕ) (result : Result Resolved CodeError)
-    → Promised FirstClause others rules doc declared result → Promised FirstClause packages rules doc declared result
+    → Promised FirstClause (call others rules doc result) declared → Promised FirstClause (call packages rules doc result) declared
 promised_first doc packages others k rules declared result h = promised_with_all FirstClause doc (first_with_all doc) packages others k rules declared result h

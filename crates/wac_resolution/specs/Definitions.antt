@@ -20,11 +20,14 @@ use Rattle.wac_resolution_worlds.specs.Made.{KindMade}
 -- the kind that a type statement declares, and how many resources are declared then
 abbrev pub DeclaresKind : rules.Setting → Composition → TypeStatement → Meaning → ℕ → Type 0
 DeclaresKind setting old (TypeStatement.interface d) m n =
-    (entry : Meaning) × IsInterface setting (root_scope old) old.resources (declared_id setting d.id.string) d.items entry n × (m ≡ kind_of an_interface entry)
+    (entry : Meaning) × IsInterface setting (root_scope old) old.resources (declared_id setting d.id.string) d.items
+    entry n × (m ≡ kind_of an_interface entry)
 DeclaresKind setting old (TypeStatement.world d) m n =
-    (entry : Meaning) × IsWorld setting (root_scope old) old.resources (declared_id setting d.id.string) d.items entry n × (m ≡ kind_of a_world entry)
+    (entry : Meaning) × IsWorld setting (root_scope old) old.resources (declared_id setting d.id.string) d.items entry n
+    × (m ≡ kind_of a_world entry)
 DeclaresKind setting old (TypeStatement.ty d) m n = IsTypeDecl (root_scope old) old.resources d m n
 
 -- the kind is the one that a type statement declares
 abbrev pub KindDeclared : Setting → Parts → Parts → Root → TypeStatement → ItemKind → Type 0
-KindDeclared setting old new root s k = KindMade (packages_in setting) old new (λ naming m after. DeclaresKind (setting_of naming setting) (composed naming old root) s m after) k
+KindDeclared setting old new root s k = KindMade (packages_in setting) old new
+    (λ naming m after. DeclaresKind (setting_of naming setting) (composed naming old root) s m after) k

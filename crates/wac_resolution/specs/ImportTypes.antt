@@ -16,8 +16,11 @@ use Rattle.wac_resolution_expressions.specs.Growth.{given_in}
 
 -- a kind was made that the type of an import means, whatever the rules
 abbrev pub ImportMade : Setting → Parts → Parts → Root → ImportType → ItemKind → Type 0
-ImportMade setting old new root x k = KindMade (packages_in setting) old new (λ naming m after. (rules : Rules) → ImportsKind (given_in naming setting rules) (composed naming old root) x m after) k
+ImportMade setting old new root x k = KindMade (packages_in setting) old new
+    (λ naming m after. (rules : Rules)
+    → ImportsKind (given_in naming setting rules) (composed naming old root) x m after) k
 
 -- the error names a rule that the type of an import breaks
 abbrev pub ImportTypeBreaks : Setting → Parts → Root → ImportType → Error → Type 0
-ImportTypeBreaks setting g root x e = (naming : Naming) (rules : Rules) → ImportKindBroken (given_in naming setting rules) (composed naming g root) e x
+ImportTypeBreaks setting g root x e = (naming : Naming) (rules : Rules)
+    → ImportKindBroken (given_in naming setting rules) (composed naming g root) e x

@@ -15,7 +15,7 @@ use Rattle.wac_resolution_errors.specs.Told.{told}
 use Rattle.wac_resolution_rules.specs.Composition.{Composition}
 use Rattle.wac_resolution_rules.specs.Given.{Given, Rules}
 use Rattle.wac_resolution_rules.specs.Mentions.{IsMentioned, Mention}
-use Rattle.wac_resolution_rules.specs.ResolvedDocument.{given_to, EveryNaming}
+use Rattle.wac_resolution_rules.specs.ResolvedDocument.{given_to, EveryNaming, GraphClause, OnlyClause, FirstClause}
 use Rattle.wac_resolution_nodes.specs.Nodes.{composition_of}
 use Rattle.wac_resolution_paths.specs.Expands.{HoldsHanded}
 
@@ -33,14 +33,41 @@ abbrev pub returned : Naming → Named ℕ → Result Resolved Error → Result 
 returned naming declared (Ok r) = Ok (composition_of naming r.graph declared)
 returned naming declared (Err e) = Err (told e)
 
--- this clause holds of what is returned for the document, under every naming of origins that is one to one
-abbrev pub Promised : (Given → Document → Result Composition told_errors.Error → Type 0) → List (PackageKey × PackageParts) → Rules → Document → Named ℕ → Result Resolved Error → Type 0
-Promised Clause packages rules document declared result = EveryNaming (λ naming. Clause (given_to naming (by_key packages) rules document) document (returned naming declared result))
+-- a call that resolves: what it is given, and what it returns
+pub record Call : Type 0 where
+  pub packages : List (PackageKey × PackageParts)
+  pub rules : Rules
+  pub document : Document
+  pub result : Result Resolved Error
+
+abbrev pub call : List (PackageKey × PackageParts) → Rules → Document → Result Resolved Error → Call
+call packages rules document result =
+    record { packages = packages; rules = rules; document = document; result = result }
+
+-- this clause holds of what the call returns, under every naming of origins that is one to one, where the document
+-- binds these names
+abbrev pub Promised : (Given → Document → Result Composition told_errors.Error → Type 0) → Call → Named ℕ → Type 0
+Promised Clause c declared = EveryNaming
+    (λ naming. Clause (given_to naming (by_key c.packages) c.rules c.document) c.document
+    (returned naming declared c.result))
+
+-- the graph that is returned is described, with the names that the document binds
+abbrev pub IsDescribed : Call → Type 0
+IsDescribed c = (declared : Named ℕ) × Promised GraphClause c declared
+
+-- what is described is returned, unless memory runs out
+abbrev pub IsReturned : Call → Type 0
+IsReturned c = (declared : Named ℕ) → Promised OnlyClause c declared
+
+-- an error names a rule that the first failing statement breaks, unless memory runs out
+abbrev pub IsFirstFault : Call → Type 0
+IsFirstFault c = (declared : Named ℕ) → Promised FirstClause c declared
 
 -- each package that the graph holds is mentioned
 abbrev pub HoldsMentioned : List Mention → Parts → Type 0
 HoldsMentioned ms g = AllByRecursion (λ (p : HeldPackage). IsMentioned ms p.key) g.packages
 
--- each package that the graph holds was supplied under its key, and its world, its instance and its definitions mean in the graph what they meant there
+-- each package that the graph holds was supplied under its key, and its world, its instance and its definitions mean in
+-- the graph what they meant there
 abbrev pub HoldsSupplied : List (PackageKey × PackageParts) → Parts → Type 0
 HoldsSupplied packages g = HoldsHanded (by_key packages) g

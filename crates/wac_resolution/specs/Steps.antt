@@ -24,34 +24,45 @@ use Rattle.wac_resolution_bindings.specs.Statements.{placed_in}
 use Rattle.wac_resolution.specs.Sequences.{BreaksAfter}
 
 -- the target is met, if there is one, the composition is as before, and the graph's packages were supplied
-pub record MeetsIn (setting : Setting) (rules : Rules) (old new : Parts) (root : Root) (targets : Option PackagePath) : Type 0 where
+pub record MeetsIn (setting : Setting) (rules : Rules) (old new : Parts) (root : Root)
+    (targets : Option PackagePath) : Type 0 where
   pub handed : HoldsHanded (packages_in setting) new
   pub kept : (naming : Naming) → composed naming new root ≡ composed naming old root
-  pub met : (naming : Naming) → IsOneToOne naming → MeetsTarget (given_in naming setting rules) (composed naming old root) targets
+  pub met : (naming : Naming) → IsOneToOne naming
+      → MeetsTarget (given_in naming setting rules) (composed naming old root) targets
 
 -- the error says how the target is not met
-pub record MissesIn (setting : Setting) (rules : Rules) (g : Parts) (root : Root) (x : Externs) (targets : Option PackagePath) (e : Error) : Type 0 where
+pub record MissesIn (setting : Setting) (rules : Rules) (g : Parts) (root : Root) (x : Externs)
+    (targets : Option PackagePath) (e : Error) : Type 0 where
   pub target : PackagePath
   pub has : targets ≡ Some target
-  pub broken : (naming : Naming) → IsOneToOne naming → TargetBroken (given_in naming setting rules) (composed naming g root) (placed_in naming g root x).places e target
+  pub broken : (naming : Naming) → IsOneToOne naming
+      → TargetBroken (given_in naming setting rules) (composed naming g root)
+      (placed_in naming g root x).places e target
 
 -- the statements compose what the graph denotes with these names at root, the target is met, and the graph holds
 -- packages that were supplied
-pub record Composed (setting : Setting) (rules : Rules) (statements : List Statement) (targets : Option PackagePath) (g : Parts) : Type 0 where
+pub record Composed (setting : Setting) (rules : Rules) (statements : List Statement) (targets : Option PackagePath)
+    (g : Parts) : Type 0 where
   pub declared : Named ℕ
   pub handed : HoldsHanded (packages_in setting) g
-  pub composes : (naming : Naming) → IsOneToOne naming → Composes (given_in naming setting rules) start statements (composition_of naming g declared)
-  pub met : (naming : Naming) → IsOneToOne naming → MeetsTarget (given_in naming setting rules) (composition_of naming g declared) targets
+  pub composes : (naming : Naming) → IsOneToOne naming
+      → Composes (given_in naming setting rules) start statements (composition_of naming g declared)
+  pub met : (naming : Naming) → IsOneToOne naming
+      → MeetsTarget (given_in naming setting rules) (composition_of naming g declared) targets
 
 -- all statements compose, and the target breaks the rule that the error names
-pub record TargetLast (s : Given) (statements : List Statement) (targets : Option PackagePath) (e : Error) : Type 0 where
+pub record TargetLast (s : Given) (statements : List Statement) (targets : Option PackagePath) (e : Error) : Type
+    0 where
   pub target : PackagePath
   pub has : targets ≡ Some target
   pub whole : Placed
   pub leads : Steps (Leads s) (placed_start start) statements whole
   pub broken : TargetBroken s whole.composition whole.places e target
 
--- a statement breaks the rule that the error names, after those before it composed; or the target does, after all of them
+-- a statement breaks the rule that the error names, after those before it composed; or the target does, after all of
+-- them
 abbrev pub Breaks : Setting → Rules → List Statement → Option PackagePath → Error → Type 0
 Breaks setting rules statements targets e = (naming : Naming) → IsOneToOne naming
-    → Fails (Leads (given_in naming setting rules)) (BreaksAfter (given_in naming setting rules) e) (placed_start start) statements ⊎ TargetLast (given_in naming setting rules) statements targets e
+    → Fails (Leads (given_in naming setting rules)) (BreaksAfter (given_in naming setting rules) e) (placed_start start)
+    statements ⊎ TargetLast (given_in naming setting rules) statements targets e

@@ -1,12 +1,11 @@
 //! Type statements.
-ghost use Rattle.std.specs.Prelude.{◌≡◌, OnOk, IfOk, IfErr};
+ghost use Rattle.std.specs.Prelude.{◌≡◌, OnOk, IfOk};
 ghost use Rattle.wac_ast_grammar.specs.Tree.{Statement};
 ghost use Rattle.wac_ast_base.specs.Names.{ident_of};
 ghost use Rattle.wac_ast.specs.Statements.{type_statement_of};
 ghost use Rattle.wac_graph.specs.Origin.{Naming};
-ghost use Rattle.wac_resolution_errors.specs.Error.{Reports};
-ghost use Rattle.wac_resolution_errors.specs.Told.{told};
 ghost use Rattle.wac_resolution_rules.specs.BrokenWorlds.{KindBroken};
+ghost use Rattle.wac_resolution_rules.specs.Errors.{ErrorSays};
 ghost use Rattle.wac_resolution_rules.specs.Given.{Rules};
 ghost use Rattle.wac_resolution_rules.specs.Spans.{identifier_of};
 ghost use Rattle.wac_resolution_nodes.specs.Root.{composed, Agrees};
@@ -46,8 +45,11 @@ fn declared_kind(
 ) -> Result<ItemKind, Error>
     requires agrees { Agrees state.old.graph root.now }
     requires handed { HoldsHanded (packages_in setting.now) state.old.graph }
-    ensures ok { IfOk result (λ k. KindDeclared setting.now state.old.graph state.new.graph root.now (type_statement_of statement.now) k) }
-    ensures err { IfErr result (λ e. Reports (told e) ((naming : Naming) → KindBroken (setting_of naming setting.now) (composed naming state.old.graph root.now) (type_statement_of statement.now) (told e))) }
+    ensures ok { IfOk result (λ k. KindDeclared setting.now state.old.graph state.new.graph root.now
+        (type_statement_of statement.now) k) }
+    ensures err { ErrorSays result (λ e. (naming : Naming)
+        → KindBroken (setting_of naming setting.now) (composed naming state.old.graph root.now)
+        (type_statement_of statement.now) e) }
 {
     match statement {
         TypeStatement::Interface(decl) => interface_decl(state, setting, &root.kinds, decl),
@@ -65,8 +67,12 @@ pub(crate) fn type_statement<'a>(
     statement: &TypeStatement<'a>,
 ) -> Result<(), Error>
     requires { Stand setting.now state.old.graph root.old externs.old }
-    ensures ok { OnOk result ((rules : Rules) → Went setting.now rules state.old.graph state.new.graph root.old root.new externs.old externs.new (Statement.type_statement (type_statement_of statement.now))) }
-    ensures err { IfErr result (λ e. Reports (told e) ((rules : Rules) → Breaks setting.now rules state.old.graph root.old externs.old (Statement.type_statement (type_statement_of statement.now)) (told e))) }
+    ensures ok { OnOk result ((rules : Rules)
+        → Went setting.now rules state.old.graph state.new.graph root.old root.new externs.old externs.new
+        (Statement.type_statement (type_statement_of statement.now))) }
+    ensures err { ErrorSays result (λ e. (rules : Rules)
+        → Breaks setting.now rules state.old.graph root.old externs.old
+        (Statement.type_statement (type_statement_of statement.now)) e) }
 {
     let kind = declared_kind(state, setting, root, statement)?;
     define(state, root, externs, identifier(statement), kind)?;

@@ -1,8 +1,7 @@
 //! What imports import.
-ghost use Rattle.std.specs.Prelude.{IfOk, IfErr};
+ghost use Rattle.std.specs.Prelude.{IfOk};
 ghost use Rattle.wac_ast_worlds.specs.Worlds.{import_type_of};
-ghost use Rattle.wac_resolution_errors.specs.Error.{Reports};
-ghost use Rattle.wac_resolution_errors.specs.Told.{told};
+ghost use Rattle.wac_resolution_rules.specs.Errors.{ErrorSays};
 ghost use Rattle.wac_resolution_nodes.specs.Root.{Agrees};
 ghost use Rattle.wac_resolution_paths.specs.Expands.{HoldsHanded};
 ghost use Rattle.wac_resolution_paths.specs.Setting.{packages_in};
@@ -25,8 +24,10 @@ pub(crate) fn import_kind(
 ) -> Result<ItemKind, Error>
     requires agrees { Agrees state.old.graph root.now }
     requires handed { HoldsHanded (packages_in setting.now) state.old.graph }
-    ensures ok { IfOk result (λ k. ImportMade setting.now state.old.graph state.new.graph root.now (import_type_of ty.now) k) }
-    ensures err { IfErr result (λ e. Reports (told e) (ImportTypeBreaks setting.now state.old.graph root.now (import_type_of ty.now) (told e))) }
+    ensures ok { IfOk result (λ k. ImportMade setting.now state.old.graph state.new.graph root.now
+        (import_type_of ty.now) k) }
+    ensures err { ErrorSays result (λ e. ImportTypeBreaks setting.now state.old.graph root.now
+        (import_type_of ty.now) e) }
 {
     match ty {
         ImportType::Package(from) => Ok(path(state, setting, &root.kinds, from)?),

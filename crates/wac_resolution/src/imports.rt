@@ -1,10 +1,9 @@
 //! Import statements.
-ghost use Rattle.std.specs.Prelude.{OnOk, IfErr};
+ghost use Rattle.std.specs.Prelude.{OnOk};
 ghost use Rattle.wac_ast_grammar.specs.Tree.{Statement as StatementTree};
 ghost use Rattle.wac_ast_worlds.specs.Worlds.{import_statement_of};
-ghost use Rattle.wac_resolution_errors.specs.Error.{Reports};
-ghost use Rattle.wac_resolution_errors.specs.Told.{told};
-ghost use Rattle.wac_resolution_rules.specs.Given.{rules_by};
+ghost use Rattle.wac_resolution_rules.specs.Errors.{ErrorSays};
+ghost use Rattle.wac_resolution_rules.specs.Given.{rules_of};
 ghost use Rattle.wac_resolution_bindings.specs.Statements.{Stand, Went, Breaks};
 
 use crate::import_kind::import_kind;
@@ -27,8 +26,10 @@ pub(crate) fn import_statement<'a, R: Rules>(
     statement: &ImportStatement<'a>,
 ) -> Result<(), Error>
     requires { Stand setting.now state.old.graph root.old externs.old }
-    ensures ok { OnOk result (Went setting.now (rules_by (R.passes rules.now) (R.named rules.now)) state.old.graph state.new.graph root.old root.new externs.old externs.new (StatementTree.import_statement (import_statement_of statement.now))) }
-    ensures err { IfErr result (λ e. Reports (told e) (Breaks setting.now (rules_by (R.passes rules.now) (R.named rules.now)) state.old.graph root.old externs.old (StatementTree.import_statement (import_statement_of statement.now)) (told e))) }
+    ensures ok { OnOk result (Went setting.now (rules_of R.Rules rules.now) state.old.graph state.new.graph root.old
+        root.new externs.old externs.new (StatementTree.import_statement (import_statement_of statement.now))) }
+    ensures err { ErrorSays result (λ e. Breaks setting.now (rules_of R.Rules rules.now) state.old.graph root.old
+        externs.old (StatementTree.import_statement (import_statement_of statement.now)) e) }
 {
     let kind = import_kind(state, setting, root, &statement.ty)?;
     let item = kind.promote();

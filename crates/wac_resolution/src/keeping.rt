@@ -18,7 +18,8 @@ pub(crate) fn keep_mentioned(
 {
     packages.retain(
         |key: &PackageKey, _package: &mut Package| -> bool
-            ensures { (result ≡ is_mentioned (mentions_in mentioned.entry.now.entries) (key_of key.now)) × (_package.new ≡ _package.old) }
+            ensures { (result ≡ is_mentioned (mentions_in mentioned.entry.now.entries) (key_of key.now))
+                × (_package.new ≡ _package.old) }
         { mentioned.contains_key(key) },
     );
     packages

@@ -1,9 +1,8 @@
 //! Borrowed statements.
-ghost use Rattle.std.specs.Prelude.{OnOk, IfErr, map};
+ghost use Rattle.std.specs.Prelude.{OnOk, map};
 ghost use Rattle.wac_ast.specs.Statements.{statement_of};
-ghost use Rattle.wac_resolution_errors.specs.Error.{Reports};
-ghost use Rattle.wac_resolution_errors.specs.Told.{told};
-ghost use Rattle.wac_resolution_rules.specs.Given.{rules_by};
+ghost use Rattle.wac_resolution_rules.specs.Errors.{ErrorSays};
+ghost use Rattle.wac_resolution_rules.specs.Given.{rules_of};
 ghost use Rattle.wac_resolution.specs.Sequences.{AllWent, OneBreaks};
 ghost use Rattle.wac_resolution_bindings.specs.Statements.{Stand};
 
@@ -26,8 +25,10 @@ pub(crate) fn carry_out<'a, R: Rules>(
     statements: Statements<'_, 'a>,
 ) -> Result<(), Error>
     requires { Stand setting.now state.old.graph root.old externs.old }
-    ensures ok { OnOk result (AllWent setting.now (rules_by (R.passes rules.now) (R.named rules.now)) state.old.graph state.new.graph root.old root.new externs.old externs.new (map statement_of statements.entry)) }
-    ensures err { IfErr result (λ e. Reports (told e) (OneBreaks setting.now (rules_by (R.passes rules.now) (R.named rules.now)) state.old.graph root.old externs.old (map statement_of statements.entry) (told e))) }
+    ensures ok { OnOk result (AllWent setting.now (rules_of R.Rules rules.now) state.old.graph state.new.graph root.old
+        root.new externs.old externs.new (map statement_of statements.entry)) }
+    ensures err { ErrorSays result (λ e. OneBreaks setting.now (rules_of R.Rules rules.now) state.old.graph root.old
+        externs.old (map statement_of statements.entry) e) }
 {
     let all = statements.all;
     compose(state, setting, rules, root, externs, all)

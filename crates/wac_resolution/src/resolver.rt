@@ -1,15 +1,12 @@
 //! The resolver of a document.
-ghost use Rattle.std.specs.Prelude.{◌≡◌, ℕ, IfOk};
+ghost use Rattle.std.specs.Prelude.{◌≡◌, IfOk};
 ghost use Rattle.wac_ast.specs.Statements.{document_of};
-ghost use Rattle.wac_ast_grammar.specs.Tree.{Document as Tree};
-ghost use Rattle.wac_graph_types.specs.Scope.{Named};
 ghost use Rattle.wac_resolution_mentions.specs.Noted.{mentions_in};
 ghost use Rattle.wac_resolution_mentions.specs.Packages.{AreFirst, OnlyTheseMatter};
-ghost use Rattle.wac_resolution_rules.specs.Given.{rules_by};
+ghost use Rattle.wac_resolution_rules.specs.Given.{rules_of};
 ghost use Rattle.wac_resolution_rules.specs.Mentions.{mentions};
-ghost use Rattle.wac_resolution_rules.specs.ResolvedDocument.{GraphClause, OnlyClause, FirstClause};
-ghost use Rattle.wac_resolution.specs.Layout.{DescribedClause, SameBareTree};
-ghost use Rattle.wac_resolution.specs.Resolved.{HoldsMentioned, HoldsSupplied, Promised};
+ghost use Rattle.wac_resolution.specs.Layout.{IgnoresLayout};
+ghost use Rattle.wac_resolution.specs.Resolved.{HoldsMentioned, HoldsSupplied, IsDescribed, IsFirstFault, IsReturned, call};
 
 use crate::keeping::keep_mentioned;
 use crate::resolution::{Resolution, ResolutionResult};
@@ -73,9 +70,11 @@ impl<'d, 'a> AstResolver<'d, 'a> {
     ) -> ResolutionResult<Resolution<'d, 'a>>
         ensures document { IfOk result (λ r. r.document ≡ self.entry) }
         ensures supplied { IfOk result (λ r. HoldsSupplied packages.entries r.graph) }
-        ensures graph { (declared : Named ℕ) × Promised GraphClause packages.entries (rules_by (R.passes rules.now) (R.named rules.now)) (document_of self.entry) declared result }
-        ensures only { (declared : Named ℕ) → Promised OnlyClause packages.entries (rules_by (R.passes rules.now) (R.named rules.now)) (document_of self.entry) declared result }
-        ensures first { (declared : Named ℕ) → Promised FirstClause packages.entries (rules_by (R.passes rules.now) (R.named rules.now)) (document_of self.entry) declared result }
+        ensures graph { IsDescribed
+            (call packages.entries (rules_of R.Rules rules.now) (document_of self.entry) result) }
+        ensures only { IsReturned (call packages.entries (rules_of R.Rules rules.now) (document_of self.entry) result) }
+        ensures first { IsFirstFault
+            (call packages.entries (rules_of R.Rules rules.now) (document_of self.entry) result) }
     {
         let document = self.document;
         let directive = &document.directive;
@@ -104,13 +103,16 @@ impl<'d, 'a> AstResolver<'d, 'a> {
         // Each package that the graph holds has there the world, the instance and the definitions that were supplied under its key.
         ensures supplied { IfOk result (λ r. HoldsSupplied packages.entries r.graph) }
         // The graph that is returned is described, with the names that the document binds.
-        ensures graph { (declared : Named ℕ) × Promised GraphClause packages.entries (rules_by (R.passes rules.now) (R.named rules.now)) (document_of self.entry) declared result }
+        ensures graph { IsDescribed
+            (call packages.entries (rules_of R.Rules rules.now) (document_of self.entry) result) }
         // What is described is returned, unless memory runs out.
-        ensures only { (declared : Named ℕ) → Promised OnlyClause packages.entries (rules_by (R.passes rules.now) (R.named rules.now)) (document_of self.entry) declared result }
+        ensures only { IsReturned (call packages.entries (rules_of R.Rules rules.now) (document_of self.entry) result) }
         // An error names a rule that the first failing statement breaks, unless memory runs out.
-        ensures first { (declared : Named ℕ) → Promised FirstClause packages.entries (rules_by (R.passes rules.now) (R.named rules.now)) (document_of self.entry) declared result }
+        ensures first { IsFirstFault
+            (call packages.entries (rules_of R.Rules rules.now) (document_of self.entry) result) }
         // It is equally right for each document with the same bare tree: layout carries no meaning.
-        ensures layout { (declared : Named ℕ) × ((other : Tree) → SameBareTree (document_of self.entry) other → Promised DescribedClause packages.entries (rules_by (R.passes rules.now) (R.named rules.now)) other declared result) }
+        ensures layout { IgnoresLayout
+            (call packages.entries (rules_of R.Rules rules.now) (document_of self.entry) result) }
     {
         let mentioned = AstResolver::new(self.document).first_mentions(alloc)?;
         let kept = keep_mentioned(packages, &mentioned);

@@ -24,7 +24,8 @@ pub(crate) fn setting<'s>(
     packages: &'s IndexMap<PackageKey, Package>,
 ) -> Setting<'s>
     ensures own { result.own.now ≡ (directive_of directive.now).package_name.name }
-    ensures version { option_map (λ v. v.now) result.version ≡ version_text (directive_of directive.now).package_name.string }
+    ensures version { option_map (λ v. v.now) result.version
+        ≡ version_text (directive_of directive.now).package_name.string }
     ensures packages { packages_in result ≡ by_key packages.now.entries }
 {
     Setting {

@@ -1,9 +1,8 @@
 //! Statements, in order.
-ghost use Rattle.std.specs.Prelude.{OnOk, IfErr, map};
+ghost use Rattle.std.specs.Prelude.{OnOk, map};
 ghost use Rattle.wac_ast.specs.Statements.{statement_of};
-ghost use Rattle.wac_resolution_errors.specs.Error.{Reports};
-ghost use Rattle.wac_resolution_errors.specs.Told.{told};
-ghost use Rattle.wac_resolution_rules.specs.Given.{rules_by};
+ghost use Rattle.wac_resolution_rules.specs.Errors.{ErrorSays};
+ghost use Rattle.wac_resolution_rules.specs.Given.{rules_of};
 ghost use Rattle.wac_resolution_bindings.specs.Statements.{Stand, Went, Breaks};
 ghost use Rattle.wac_resolution.specs.Sequences.{AllWent, OneBreaks};
 
@@ -28,8 +27,10 @@ fn statement<'a, R: Rules>(
     statement: &Statement<'a>,
 ) -> Result<(), Error>
     requires { Stand setting.now state.old.graph root.old externs.old }
-    ensures ok { OnOk result (Went setting.now (rules_by (R.passes rules.now) (R.named rules.now)) state.old.graph state.new.graph root.old root.new externs.old externs.new (statement_of statement.now)) }
-    ensures err { IfErr result (λ e. Reports (told e) (Breaks setting.now (rules_by (R.passes rules.now) (R.named rules.now)) state.old.graph root.old externs.old (statement_of statement.now) (told e))) }
+    ensures ok { OnOk result (Went setting.now (rules_of R.Rules rules.now) state.old.graph state.new.graph root.old
+        root.new externs.old externs.new (statement_of statement.now)) }
+    ensures err { ErrorSays result (λ e. Breaks setting.now (rules_of R.Rules rules.now) state.old.graph root.old
+        externs.old (statement_of statement.now) e) }
 {
     match statement {
         Statement::Import(import) => {
@@ -53,8 +54,10 @@ pub(crate) fn compose<'a, R: Rules>(
     statements: &[Statement<'a>],
 ) -> Result<(), Error>
     requires { Stand setting.now state.old.graph root.old externs.old }
-    ensures ok { OnOk result (AllWent setting.now (rules_by (R.passes rules.now) (R.named rules.now)) state.old.graph state.new.graph root.old root.new externs.old externs.new (map statement_of statements.now)) }
-    ensures err { IfErr result (λ e. Reports (told e) (OneBreaks setting.now (rules_by (R.passes rules.now) (R.named rules.now)) state.old.graph root.old externs.old (map statement_of statements.now) (told e))) }
+    ensures ok { OnOk result (AllWent setting.now (rules_of R.Rules rules.now) state.old.graph state.new.graph root.old
+        root.new externs.old externs.new (map statement_of statements.now)) }
+    ensures err { ErrorSays result (λ e. OneBreaks setting.now (rules_of R.Rules rules.now) state.old.graph root.old
+        externs.old (map statement_of statements.now) e) }
 {
     for next in statements {
         statement(state, setting, rules, root, externs, next)?;

@@ -1,10 +1,9 @@
 //! Resolving, step by step: the statements, then the target.
-ghost use Rattle.std.specs.Prelude.{IfOk, IfErr, map, option_map};
+ghost use Rattle.std.specs.Prelude.{IfOk, map, option_map};
 ghost use Rattle.wac_ast.specs.Statements.{statement_of};
 ghost use Rattle.wac_ast_base.specs.Names.{package_path_of};
-ghost use Rattle.wac_resolution_errors.specs.Error.{Reports};
-ghost use Rattle.wac_resolution_errors.specs.Told.{told};
-ghost use Rattle.wac_resolution_rules.specs.Given.{rules_by};
+ghost use Rattle.wac_resolution_rules.specs.Errors.{ErrorSays};
+ghost use Rattle.wac_resolution_rules.specs.Given.{rules_of};
 ghost use Rattle.wac_resolution.specs.Steps.{Composed, Breaks};
 
 use crate::lent::carry_out;
@@ -27,8 +26,10 @@ pub(crate) fn composed<'a, R: Rules>(
     statements: Statements<'_, 'a>,
     targets: &Option<PackagePath<'_>>,
 ) -> Result<CompositionGraph, Error>
-    ensures ok { IfOk result (λ g. Composed setting.now (rules_by (R.passes rules.now) (R.named rules.now)) (map statement_of statements.entry) (option_map package_path_of targets.now) g) }
-    ensures err { IfErr result (λ e. Reports (told e) (Breaks setting.now (rules_by (R.passes rules.now) (R.named rules.now)) (map statement_of statements.entry) (option_map package_path_of targets.now) (told e))) }
+    ensures ok { IfOk result (λ g. Composed setting.now (rules_of R.Rules rules.now) (map statement_of statements.entry)
+        (option_map package_path_of targets.now) g) }
+    ensures err { ErrorSays result (λ e. Breaks setting.now (rules_of R.Rules rules.now)
+        (map statement_of statements.entry) (option_map package_path_of targets.now) e) }
 {
     let graph = CompositionGraph::new(alloc);
     let mut state = State { alloc, graph };

@@ -1,9 +1,8 @@
 //! The target of a document.
-ghost use Rattle.std.specs.Prelude.{OnOk, IfErr, option_map};
+ghost use Rattle.std.specs.Prelude.{OnOk, option_map};
 ghost use Rattle.wac_ast_base.specs.Names.{package_path_of};
-ghost use Rattle.wac_resolution_errors.specs.Error.{Reports};
-ghost use Rattle.wac_resolution_errors.specs.Told.{told};
-ghost use Rattle.wac_resolution_rules.specs.Given.{rules_by};
+ghost use Rattle.wac_resolution_rules.specs.Errors.{ErrorSays};
+ghost use Rattle.wac_resolution_rules.specs.Given.{rules_of};
 ghost use Rattle.wac_resolution_bindings.specs.Statements.{Stand};
 ghost use Rattle.wac_resolution.specs.Steps.{MeetsIn, MissesIn};
 
@@ -26,8 +25,10 @@ pub(crate) fn check_targets<R: Rules>(
     targets: &Option<PackagePath<'_>>,
 ) -> Result<(), Error>
     requires { Stand setting.now state.old.graph root.now externs.now }
-    ensures ok { OnOk result (MeetsIn setting.now (rules_by (R.passes rules.now) (R.named rules.now)) state.old.graph state.new.graph root.now (option_map package_path_of targets.now)) }
-    ensures err { IfErr result (λ e. Reports (told e) (MissesIn setting.now (rules_by (R.passes rules.now) (R.named rules.now)) state.old.graph root.now externs.now (option_map package_path_of targets.now) (told e))) }
+    ensures ok { OnOk result (MeetsIn setting.now (rules_of R.Rules rules.now) state.old.graph state.new.graph root.now
+        (option_map package_path_of targets.now)) }
+    ensures err { ErrorSays result (λ e. MissesIn setting.now (rules_of R.Rules rules.now) state.old.graph root.now
+        externs.now (option_map package_path_of targets.now) e) }
 {
     match targets {
         Some(target) => check_target(state, setting, rules, root, externs, target),

@@ -18,7 +18,9 @@ pub record IsDefined (old new : Parts) (before after : Root) (x y : Externs) (id
   pub grows : GrowsExports old new
   pub agrees : Agrees new after
   pub placed : ArePlaced new y
-  pub defines : (naming : Naming) → Defines (composed naming old before) id.string (means naming old k) (declared_count old) (composed naming new after)
+  pub defines : (naming : Naming)
+      → Defines (composed naming old before) id.string (means naming old k) (declared_count old)
+      (composed naming new after)
   pub bound : places after ≡ with_named (places before) id.string id.span
   pub imported : imported_in y ≡ imported_in x
   pub exported : exported_in y ≡ with_named (exported_in x) id.string id.span

@@ -26,19 +26,25 @@ written_world_id es i = option_and_then (λ x. option_map string_bytes x.id) (op
 -- nothing is imported under the name: neither in the graph nor in the composition
 pub record IsUnimported (g : Parts) (name : List ℕ) : Type 0 where
   pub in_graph : IsFresh name g.imports
-  pub in_composition : (naming : Naming) (declared : Named ℕ) → IsFresh name (imports (composition_of naming g declared))
+  pub in_composition : (naming : Naming) (declared : Named ℕ)
+      → IsFresh name (imports (composition_of naming g declared))
 
 -- an import of this name, place and kind was added, and an identifier was bound to it
-pub record AddsImport (old new : Parts) (before after : Root) (x y : Externs) (id : Ident) (name : List ℕ) (span : Span) (k : ItemKind) : Type 0 where
+pub record AddsImport (old new : Parts) (before after : Root) (x y : Externs) (id : Ident) (name : List ℕ) (span : Span)
+    (k : ItemKind) : Type 0 where
   pub same : new ≡ record old { nodes = new.nodes; imports = with_named old.imports name (length old.nodes) }
   pub agrees : Agrees new after
-  pub is : (naming : Naming) → composed naming new after ≡ binding (with_node (composed naming old before) (imported name) (means naming old k)) id.string (next_of (composed naming old before))
+  pub is : (naming : Naming)
+      → composed naming new after
+      ≡ binding (with_node (composed naming old before) (imported name) (means naming old k))
+      id.string (next_of (composed naming old before))
   pub bound : places after ≡ with_named (places before) id.string id.span
   pub imported_at : imported_in y ≡ with_named (imported_in x) name span
   pub exported_at : exported_in y ≡ exported_in x
 
 -- an import of this name and kind was added for a statement: the name may be an import's, and the identifier is new
-pub record ImportsAs (named : List ℕ → Option Reason) (old new : Parts) (before after : Root) (x y : Externs) (s : ImportStatement) (name : List ℕ) (k : ItemKind) : Type 0 where
+pub record ImportsAs (named : List ℕ → Option Reason) (old new : Parts) (before after : Root) (x y : Externs)
+    (s : ImportStatement) (name : List ℕ) (k : ItemKind) : Type 0 where
   pub unimported : IsUnimported old name
   pub passes : named name ≡ None
   pub unbound : IsFresh s.id.string (numbers_of before.nodes)

@@ -26,10 +26,13 @@ abbrev pub placed_in : Naming → Parts → Root → Externs → Placed
 placed_in naming g root x = record { composition = composed naming g root; places = places_in root x }
 
 -- the statement was executed: it takes the old composition and places to the new ones, under every one-to-one naming
-pub record Went (setting : Setting) (rules : Rules) (old new : Parts) (before after : Root) (x y : Externs) (s : Statement) : Type 0 where
+pub record Went (setting : Setting) (rules : Rules) (old new : Parts) (before after : Root) (x y : Externs)
+    (s : Statement) : Type 0 where
   pub stand : Stand setting new after y
-  pub leads : (naming : Naming) → IsOneToOne naming → Leads (given_in naming setting rules) (placed_in naming old before x) s (placed_in naming new after y)
+  pub leads : (naming : Naming) → IsOneToOne naming
+      → Leads (given_in naming setting rules) (placed_in naming old before x) s (placed_in naming new after y)
 
 -- the error names a rule that the statement breaks
 abbrev pub Breaks : Setting → Rules → Parts → Root → Externs → Statement → Error → Type 0
-Breaks setting rules g root x s e = (naming : Naming) → IsOneToOne naming → StatementBroken (given_in naming setting rules) (composed naming g root) (places_in root x) e s
+Breaks setting rules g root x s e = (naming : Naming) → IsOneToOne naming
+    → StatementBroken (given_in naming setting rules) (composed naming g root) (places_in root x) e s

@@ -1,12 +1,11 @@
 //! Definitions at root.
-ghost use Rattle.std.specs.Prelude.{◌≡◌, ℕ, OnOk, IfErr};
+ghost use Rattle.std.specs.Prelude.{◌≡◌, ℕ, OnOk};
 ghost use Rattle.wac_graph_types.specs.Scope.{Named, IsFresh};
 ghost use Rattle.wac_graph_types.specs.Table.{Names as NamesEntry};
 ghost use Rattle.wac_ast_base.specs.Names.{ident_of};
 ghost use Rattle.wac_graph.specs.Origin.{Naming};
-ghost use Rattle.wac_resolution_errors.specs.Error.{Reports};
-ghost use Rattle.wac_resolution_errors.specs.Told.{told};
 ghost use Rattle.wac_resolution_rules.specs.BrokenWorlds.{IsExported, DefinitionBroken};
+ghost use Rattle.wac_resolution_rules.specs.Errors.{ErrorSays};
 ghost use Rattle.wac_resolution_rules.specs.Places.{Places};
 ghost use Rattle.wac_resolution_nodes.specs.Nodes.{composition_of};
 ghost use Rattle.wac_resolution_nodes.specs.Root.{composed, Agrees};
@@ -27,7 +26,9 @@ use wac_resolution_state::State;
 fn check_unexported(state: &State, externs: &Externs, id: &Ident<'_>) -> Result<(), Error>
     requires { ArePlaced state.now.graph externs.now }
     ensures ok { OnOk result (IsFresh id.now.string.now state.now.graph.exports) }
-    ensures err { IfErr result (λ e. Reports (told e) ((naming : Naming) (declared : Named ℕ) (all : Places) → all.exported ≡ exported_in externs.now → IsExported (composition_of naming state.now.graph declared) all (ident_of id.now) (told e))) }
+    ensures err { ErrorSays result (λ e. (naming : Naming) (declared : Named ℕ) (all : Places)
+        → all.exported ≡ exported_in externs.now
+        → IsExported (composition_of naming state.now.graph declared) all (ident_of id.now) e) }
 {
     match find(&externs.exported, id.string) {
         Some(export) => Err(Error::DeclarationConflict {
@@ -50,8 +51,11 @@ pub fn define<'a>(
     requires agrees { Agrees state.old.graph root.old }
     requires placed { ArePlaced state.old.graph externs.old }
     requires kind { NamesEntry state.old.graph.types kind }
-    ensures ok { OnOk result (IsDefined state.old.graph state.new.graph root.old root.new externs.old externs.new (ident_of id.now) kind) }
-    ensures err { IfErr result (λ e. Reports (told e) ((naming : Naming) → DefinitionBroken (composed naming state.old.graph root.old) (places_in root.old externs.old) (ident_of id.now) (told e))) }
+    ensures ok { OnOk result (IsDefined state.old.graph state.new.graph root.old root.new externs.old externs.new
+        (ident_of id.now) kind) }
+    ensures err { ErrorSays result (λ e. (naming : Naming)
+        → DefinitionBroken (composed naming state.old.graph root.old)
+        (places_in root.old externs.old) (ident_of id.now) e) }
 {
     check_unexported(state, externs, id)?;
     check_unbound(state.alloc, root, id)?;

@@ -1,10 +1,9 @@
 //! Export statements.
-ghost use Rattle.std.specs.Prelude.{OnOk, IfErr};
+ghost use Rattle.std.specs.Prelude.{OnOk};
 ghost use Rattle.wac_ast_statements.specs.Statements.{export_statement_of};
 ghost use Rattle.wac_ast_grammar.specs.Tree.{Statement};
-ghost use Rattle.wac_resolution_errors.specs.Error.{Reports};
-ghost use Rattle.wac_resolution_errors.specs.Told.{told};
-ghost use Rattle.wac_resolution_rules.specs.Given.{rules_by};
+ghost use Rattle.wac_resolution_rules.specs.Errors.{ErrorSays};
+ghost use Rattle.wac_resolution_rules.specs.Given.{rules_of};
 ghost use Rattle.wac_resolution_bindings.specs.Statements.{Stand, Went, Breaks};
 
 use wac_ast_statements::ExportStatement;
@@ -26,8 +25,10 @@ pub fn export_statement<R: Rules>(
     statement: &ExportStatement<'_>,
 ) -> Result<(), Error>
     requires { Stand setting.now state.old.graph root.now externs.old }
-    ensures ok { OnOk result (Went setting.now (rules_by (R.passes rules.now) (R.named rules.now)) state.old.graph state.new.graph root.now root.now externs.old externs.new (Statement.export_statement (export_statement_of statement.now))) }
-    ensures err { IfErr result (λ e. Reports (told e) (Breaks setting.now (rules_by (R.passes rules.now) (R.named rules.now)) state.old.graph root.now externs.old (Statement.export_statement (export_statement_of statement.now)) (told e))) }
+    ensures ok { OnOk result (Went setting.now (rules_of R.Rules rules.now) state.old.graph state.new.graph root.now
+        root.now externs.old externs.new (Statement.export_statement (export_statement_of statement.now))) }
+    ensures err { ErrorSays result (λ e. Breaks setting.now (rules_of R.Rules rules.now) state.old.graph root.now
+        externs.old (Statement.export_statement (export_statement_of statement.now)) e) }
 {
     // Its contract says that the graph is sound.
     let _before = state.graph.nodes();

@@ -1,10 +1,9 @@
 //! Tests of imports.
-ghost use Rattle.std.specs.Prelude.{◌≡◌, ℕ, OnOk, IfErr};
+ghost use Rattle.std.specs.Prelude.{◌≡◌, ℕ, OnOk};
 ghost use Rattle.wac_graph_types.specs.Scope.{Named, IsFresh};
 ghost use Rattle.wac_graph.specs.Origin.{Naming};
-ghost use Rattle.wac_resolution_errors.specs.Error.{Reports};
-ghost use Rattle.wac_resolution_errors.specs.Told.{told};
 ghost use Rattle.wac_resolution_rules.specs.BrokenStatements.{IsImportedAlready};
+ghost use Rattle.wac_resolution_rules.specs.Errors.{ErrorSays};
 ghost use Rattle.wac_resolution_rules.specs.Places.{Places};
 ghost use Rattle.wac_resolution_nodes.specs.Nodes.{composition_of};
 ghost use Rattle.wac_resolution_externs.specs.Externs.{imported_in, help_of, ArePlaced};
@@ -25,7 +24,10 @@ pub(crate) fn check_unimported(
 ) -> Result<(), Error>
     requires { ArePlaced state.now.graph externs.now }
     ensures ok { OnOk result (IsUnimported state.now.graph name.now.text.now) }
-    ensures err { IfErr result (λ e. Reports (told e) ((naming : Naming) (declared : Named ℕ) (all : Places) → all.imported ≡ imported_in externs.now → IsImportedAlready (composition_of naming state.now.graph declared) all name.now.text.now name.now.span (help_of name.now) (told e))) }
+    ensures err { ErrorSays result (λ e. (naming : Naming) (declared : Named ℕ) (all : Places)
+        → all.imported ≡ imported_in externs.now
+        → IsImportedAlready (composition_of naming state.now.graph declared) all name.now.text.now name.now.span
+        (help_of name.now) e) }
 {
     // Its contract says that the graph is sound.
     let _nodes = state.graph.nodes();

@@ -77,7 +77,9 @@ fn unnamed_import<'x>(
     kind: ItemKind,
 ) -> &'x str
     requires { Names state.now.graph.types kind }
-    ensures { (naming : Naming) → result.now ≡ rules.unnamed_import (ident_of statement.now.id) (import_type_of statement.now.ty) (means naming state.now.graph kind) }
+    ensures { (naming : Naming)
+        → result.now ≡ rules.unnamed_import (ident_of statement.now.id) (import_type_of statement.now.ty)
+        (means naming state.now.graph kind) }
 {
     match &statement.ty {
         ImportType::Package(path) => path.string,
@@ -93,7 +95,8 @@ fn name_imported<'x>(
     kind: ItemKind,
 ) -> &'x str
     requires { Names state.now.graph.types kind }
-    ensures { (naming : Naming) → result.now ≡ rules.name_imported (import_statement_of statement.now) (means naming state.now.graph kind) }
+    ensures { (naming : Naming)
+        → result.now ≡ rules.name_imported (import_statement_of statement.now) (means naming state.now.graph kind) }
 {
     match &statement.name {
         Some(name) => name.as_str(),
@@ -108,7 +111,9 @@ pub fn import_name(
     kind: ItemKind,
 ) -> Result<String, AllocError>
     requires { Names state.now.graph.types kind }
-    ensures { IfOk result (λ s. (naming : Naming) → string_bytes s ≡ rules.name_imported (import_statement_of statement.now) (means naming state.now.graph kind)) }
+    ensures { IfOk result (λ s. (naming : Naming)
+        → string_bytes s ≡ rules.name_imported (import_statement_of statement.now)
+        (means naming state.now.graph kind)) }
 {
     String::from_str(state.alloc, name_imported(state, statement, kind))
 }

@@ -1,10 +1,9 @@
 //! `let` statements.
-ghost use Rattle.std.specs.Prelude.{OnOk, IfErr};
+ghost use Rattle.std.specs.Prelude.{OnOk};
 ghost use Rattle.wac_ast_statements.specs.Statements.{let_statement_of};
 ghost use Rattle.wac_ast_grammar.specs.Tree.{Statement};
-ghost use Rattle.wac_resolution_errors.specs.Error.{Reports};
-ghost use Rattle.wac_resolution_errors.specs.Told.{told};
-ghost use Rattle.wac_resolution_rules.specs.Given.{rules_by};
+ghost use Rattle.wac_resolution_rules.specs.Errors.{ErrorSays};
+ghost use Rattle.wac_resolution_rules.specs.Given.{rules_of};
 ghost use Rattle.wac_resolution_nodes.specs.Root.{Agrees};
 ghost use Rattle.wac_resolution_paths.specs.Expands.{HoldsHanded};
 ghost use Rattle.wac_resolution_paths.specs.Setting.{packages_in};
@@ -32,8 +31,12 @@ pub fn let_statement<'a, R: Rules>(
 ) -> Result<(), Error>
     requires agrees { Agrees state.old.graph root.old }
     requires handed { HoldsHanded (packages_in setting.now) state.old.graph }
-    ensures ok { OnOk result ((x : Externs) → ArePlaced state.old.graph x → Went setting.now (rules_by (R.passes rules.now) (R.named rules.now)) state.old.graph state.new.graph root.old root.new x x (Statement.let_statement (let_statement_of statement.now))) }
-    ensures err { IfErr result (λ e. Reports (told e) ((x : Externs) → Breaks setting.now (rules_by (R.passes rules.now) (R.named rules.now)) state.old.graph root.old x (Statement.let_statement (let_statement_of statement.now)) (told e))) }
+    ensures ok { OnOk result ((x : Externs) → ArePlaced state.old.graph x
+        → Went setting.now (rules_of R.Rules rules.now) state.old.graph state.new.graph root.old root.new x x
+        (Statement.let_statement (let_statement_of statement.now))) }
+    ensures err { ErrorSays result (λ e. (x : Externs)
+        → Breaks setting.now (rules_of R.Rules rules.now) state.old.graph root.old x
+        (Statement.let_statement (let_statement_of statement.now)) e) }
 {
     // Its contract says that the graph is sound.
     let _before = state.graph.nodes();

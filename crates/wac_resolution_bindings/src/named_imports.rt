@@ -1,14 +1,13 @@
 //! Imports of what is resolved.
-ghost use Rattle.std.specs.Prelude.{◌≡◌, OnOk, IfErr};
+ghost use Rattle.std.specs.Prelude.{◌≡◌, OnOk};
 ghost use Rattle.wac_graph_types.specs.Scope.{IsFresh};
 ghost use Rattle.wac_graph_types.specs.Table.{Names};
 ghost use Rattle.wac_ast_base.specs.Names.{ident_of};
 ghost use Rattle.wac_ast_worlds.specs.Worlds.{import_statement_of};
 ghost use Rattle.wac_graph.specs.Origin.{Naming};
-ghost use Rattle.wac_resolution_errors.specs.Error.{Reports};
-ghost use Rattle.wac_resolution_errors.specs.Told.{told};
 ghost use Rattle.wac_resolution_rules.specs.BrokenStatements.{ImportNameBroken};
 ghost use Rattle.wac_resolution_rules.specs.BrokenWorlds.{IsBound};
+ghost use Rattle.wac_resolution_rules.specs.Errors.{ErrorSays};
 ghost use Rattle.wac_resolution_rules.specs.Places.{Places};
 ghost use Rattle.wac_resolution_nodes.specs.Root.{composed, places, Agrees};
 ghost use Rattle.wac_resolution_externs.specs.Externs.{places_in, ArePlaced, Under};
@@ -38,8 +37,10 @@ fn add_import<'a>(
     requires placed { ArePlaced state.old.graph externs.old }
     requires new { IsFresh name.now.text.now state.old.graph.imports }
     requires kind { Names state.old.graph.types kind }
-    ensures ok { OnOk result (AddsImport state.old.graph state.new.graph root.old root.new externs.old externs.new (ident_of id.now) name.now.text.now name.now.span kind) }
-    ensures err { IfErr result (λ e. Reports (told e) ((naming : Naming) (all : Places) → all.bound ≡ places root.old → IsBound (composed naming state.old.graph root.old) all (ident_of id.now) (told e))) }
+    ensures ok { OnOk result (AddsImport state.old.graph state.new.graph root.old root.new externs.old externs.new
+        (ident_of id.now) name.now.text.now name.now.span kind) }
+    ensures err { ErrorSays result (λ e. (naming : Naming) (all : Places)
+        → all.bound ≡ places root.old → IsBound (composed naming state.old.graph root.old) all (ident_of id.now) e) }
 {
     let node = state.graph.add_import(name.text, kind)?;
     // Its contract says that the graph is sound.
@@ -62,8 +63,12 @@ pub fn import_as<'a, R: Rules>(
     requires agrees { Agrees state.old.graph root.old }
     requires placed { ArePlaced state.old.graph externs.old }
     requires kind { Names state.old.graph.types kind }
-    ensures ok { OnOk result (ImportsAs (R.named rules.now) state.old.graph state.new.graph root.old root.new externs.old externs.new (import_statement_of statement.now) text.now kind) }
-    ensures err { IfErr result (λ e. Reports (told e) ((naming : Naming) → Under (R.named rules.now) (λ s. ImportNameBroken s (composed naming state.old.graph root.old) (places_in root.old externs.old) (told e) (import_statement_of statement.now) text.now))) }
+    ensures ok { OnOk result (ImportsAs (R.named rules.now) state.old.graph state.new.graph root.old root.new
+        externs.old externs.new (import_statement_of statement.now) text.now kind) }
+    ensures err { ErrorSays result (λ e. (naming : Naming)
+        → Under (R.named rules.now)
+        (λ s. ImportNameBroken s (composed naming state.old.graph root.old) (places_in root.old externs.old) e
+        (import_statement_of statement.now) text.now)) }
 {
     let name = new_name(statement, text);
     check_unimported(state, externs, &name)?;

@@ -1,12 +1,11 @@
 //! Identifiers that are new at root.
-ghost use Rattle.std.specs.Prelude.{◌≡◌, OnOk, IfErr};
+ghost use Rattle.std.specs.Prelude.{◌≡◌, OnOk};
 ghost use Rattle.wac_graph_types.specs.Scope.{IsFresh};
 ghost use Rattle.wac_ast_base.specs.Names.{ident_of};
 ghost use Rattle.wac_graph.specs.Graph.{Parts};
 ghost use Rattle.wac_graph.specs.Origin.{Naming};
-ghost use Rattle.wac_resolution_errors.specs.Error.{Reports};
-ghost use Rattle.wac_resolution_errors.specs.Told.{told};
 ghost use Rattle.wac_resolution_rules.specs.BrokenWorlds.{IsBound};
+ghost use Rattle.wac_resolution_rules.specs.Errors.{ErrorSays};
 ghost use Rattle.wac_resolution_rules.specs.Places.{Places};
 ghost use Rattle.wac_resolution_nodes.specs.Root.{numbers_of, composed, places};
 
@@ -19,7 +18,8 @@ use wac_resolution_nodes::Root;
 #[tactic(auto, using(wac_resolution_state::proofs::Scopes::memory_told))]
 pub(crate) fn check_unbound(alloc: Global, root: &Root<'_>, id: &Ident<'_>) -> Result<(), Error>
     ensures ok { OnOk result (IsFresh id.now.string.now (numbers_of root.now.nodes)) }
-    ensures err { IfErr result (λ e. Reports (told e) ((naming : Naming) (g : Parts) (all : Places) → all.bound ≡ places root.now → IsBound (composed naming g root.now) all (ident_of id.now) (told e))) }
+    ensures err { ErrorSays result (λ e. (naming : Naming) (g : Parts) (all : Places)
+        → all.bound ≡ places root.now → IsBound (composed naming g root.now) all (ident_of id.now) e) }
 {
     match root.nodes.place(id.string) {
         Some(previous) => Err(Error::DuplicateName {

@@ -18,7 +18,12 @@ pub record Lists : Type 0 where
   pub exports : Named ItemKind
 
 abbrev pub lists_of : Body → Lists
-lists_of b = record { names = b.names; uses = by_name b.uses.entries; imports = by_name b.imports.entries; exports = by_name b.exports.entries }
+lists_of b = record {
+  names = b.names;
+  uses = by_name b.uses.entries;
+  imports = by_name b.imports.entries;
+  exports = by_name b.exports.entries;
+}
 
 -- the imports or the exports
 abbrev pub kinds_of : ExternKind → Lists → Named ItemKind

@@ -75,7 +75,8 @@ impl<'a> Body<'a> {
     ) -> Result<(), AllocError>
         requires bound { IsFresh id.now.string.now (values_of self.old.names) }
         requires fresh { IsFresh id.now.string.now (kinds_of side (lists_of self.old)) }
-        ensures { OnOk result (lists_of self.new ≡ with_bound side (lists_of self.old) id.now.string.now id.now.span kind) }
+        ensures { OnOk result (lists_of self.new
+            ≡ with_bound side (lists_of self.old) id.now.string.now id.now.span kind) }
     {
         self.names.bind(id, kind)?;
         self.add(alloc, side, id.string, kind)?;

@@ -1,11 +1,10 @@
 //! Declarations of types in a body.
-ghost use Rattle.std.specs.Prelude.{IfErr, OnOk};
+ghost use Rattle.std.specs.Prelude.{OnOk};
 ghost use Rattle.wac_ast_grammar.specs.Tree.{ItemTypeDecl as ItemTree};
 ghost use Rattle.wac_ast_types.specs.Declarations.{variant_decl_of, record_decl_of, flags_decl_of, enum_decl_of, type_alias_of, item_type_decl_of};
 ghost use Rattle.wac_graph.specs.Origin.{Naming};
-ghost use Rattle.wac_resolution_errors.specs.Error.{Reports};
-ghost use Rattle.wac_resolution_errors.specs.Told.{told};
 ghost use Rattle.wac_resolution_rules.specs.BrokenBodies.{ItemBroken};
+ghost use Rattle.wac_resolution_rules.specs.Errors.{ErrorSays};
 ghost use Rattle.wac_resolution_state.specs.Bindings.{places_of};
 ghost use Rattle.wac_resolution_bodies.specs.Lists.{lists_of};
 ghost use Rattle.wac_resolution_bodies.specs.Bodies.{body_of, IsBody, ItemGoes};
@@ -30,8 +29,11 @@ fn variant<'a>(
     decl: &VariantDecl<'a>,
 ) -> Result<(), Error>
     requires { IsBody state.old.graph.types side (lists_of body.old) }
-    ensures ok { OnOk result (ItemGoes side state.old.graph state.new.graph (lists_of body.old) (lists_of body.new) (ItemTree.variant (variant_decl_of decl.now))) }
-    ensures err { IfErr result (λ e. Reports (told e) ((naming : Naming) → ItemBroken naming (owner_of owner.now) side (places_of body.old.names) (body_of naming state.old.graph body.old) (ItemTree.variant (variant_decl_of decl.now)) (told e))) }
+    ensures ok { OnOk result (ItemGoes side state.old.graph state.new.graph (lists_of body.old) (lists_of body.new)
+        (ItemTree.variant (variant_decl_of decl.now))) }
+    ensures err { ErrorSays result (λ e. (naming : Naming)
+        → ItemBroken naming (owner_of owner.now) side (places_of body.old.names)
+        (body_of naming state.old.graph body.old) (ItemTree.variant (variant_decl_of decl.now)) e) }
 {
     let value = wac_resolution_types::variant(state, &body.names, decl)?;
     let kind = ItemKind::Ty(Type::Value(value));
@@ -48,8 +50,11 @@ fn record<'a>(
     decl: &RecordDecl<'a>,
 ) -> Result<(), Error>
     requires { IsBody state.old.graph.types side (lists_of body.old) }
-    ensures ok { OnOk result (ItemGoes side state.old.graph state.new.graph (lists_of body.old) (lists_of body.new) (ItemTree.record_decl (record_decl_of decl.now))) }
-    ensures err { IfErr result (λ e. Reports (told e) ((naming : Naming) → ItemBroken naming (owner_of owner.now) side (places_of body.old.names) (body_of naming state.old.graph body.old) (ItemTree.record_decl (record_decl_of decl.now)) (told e))) }
+    ensures ok { OnOk result (ItemGoes side state.old.graph state.new.graph (lists_of body.old) (lists_of body.new)
+        (ItemTree.record_decl (record_decl_of decl.now))) }
+    ensures err { ErrorSays result (λ e. (naming : Naming)
+        → ItemBroken naming (owner_of owner.now) side (places_of body.old.names)
+        (body_of naming state.old.graph body.old) (ItemTree.record_decl (record_decl_of decl.now)) e) }
 {
     let value = wac_resolution_types::record(state, &body.names, decl)?;
     let kind = ItemKind::Ty(Type::Value(value));
@@ -66,8 +71,11 @@ fn flags<'a>(
     decl: &FlagsDecl<'a>,
 ) -> Result<(), Error>
     requires { IsBody state.old.graph.types side (lists_of body.old) }
-    ensures ok { OnOk result (ItemGoes side state.old.graph state.new.graph (lists_of body.old) (lists_of body.new) (ItemTree.flags (flags_decl_of decl.now))) }
-    ensures err { IfErr result (λ e. Reports (told e) ((naming : Naming) → ItemBroken naming (owner_of owner.now) side (places_of body.old.names) (body_of naming state.old.graph body.old) (ItemTree.flags (flags_decl_of decl.now)) (told e))) }
+    ensures ok { OnOk result (ItemGoes side state.old.graph state.new.graph (lists_of body.old) (lists_of body.new)
+        (ItemTree.flags (flags_decl_of decl.now))) }
+    ensures err { ErrorSays result (λ e. (naming : Naming)
+        → ItemBroken naming (owner_of owner.now) side (places_of body.old.names)
+        (body_of naming state.old.graph body.old) (ItemTree.flags (flags_decl_of decl.now)) e) }
 {
     let value = wac_resolution_types::flags(state, decl)?;
     let kind = ItemKind::Ty(Type::Value(value));
@@ -84,8 +92,11 @@ fn enumeration<'a>(
     decl: &EnumDecl<'a>,
 ) -> Result<(), Error>
     requires { IsBody state.old.graph.types side (lists_of body.old) }
-    ensures ok { OnOk result (ItemGoes side state.old.graph state.new.graph (lists_of body.old) (lists_of body.new) (ItemTree.enum (enum_decl_of decl.now))) }
-    ensures err { IfErr result (λ e. Reports (told e) ((naming : Naming) → ItemBroken naming (owner_of owner.now) side (places_of body.old.names) (body_of naming state.old.graph body.old) (ItemTree.enum (enum_decl_of decl.now)) (told e))) }
+    ensures ok { OnOk result (ItemGoes side state.old.graph state.new.graph (lists_of body.old) (lists_of body.new)
+        (ItemTree.enum (enum_decl_of decl.now))) }
+    ensures err { ErrorSays result (λ e. (naming : Naming)
+        → ItemBroken naming (owner_of owner.now) side (places_of body.old.names)
+        (body_of naming state.old.graph body.old) (ItemTree.enum (enum_decl_of decl.now)) e) }
 {
     let value = wac_resolution_types::enumeration(state, decl)?;
     let kind = ItemKind::Ty(Type::Value(value));
@@ -102,8 +113,11 @@ fn alias<'a>(
     decl: &TypeAlias<'a>,
 ) -> Result<(), Error>
     requires { IsBody state.old.graph.types side (lists_of body.old) }
-    ensures ok { OnOk result (ItemGoes side state.old.graph state.new.graph (lists_of body.old) (lists_of body.new) (ItemTree.alias (type_alias_of decl.now))) }
-    ensures err { IfErr result (λ e. Reports (told e) ((naming : Naming) → ItemBroken naming (owner_of owner.now) side (places_of body.old.names) (body_of naming state.old.graph body.old) (ItemTree.alias (type_alias_of decl.now)) (told e))) }
+    ensures ok { OnOk result (ItemGoes side state.old.graph state.new.graph (lists_of body.old) (lists_of body.new)
+        (ItemTree.alias (type_alias_of decl.now))) }
+    ensures err { ErrorSays result (λ e. (naming : Naming)
+        → ItemBroken naming (owner_of owner.now) side (places_of body.old.names)
+        (body_of naming state.old.graph body.old) (ItemTree.alias (type_alias_of decl.now)) e) }
 {
     let kind = wac_resolution_types::alias(
         state,
@@ -125,8 +139,11 @@ pub fn item<'a>(
     decl: &ItemTypeDecl<'a>,
 ) -> Result<(), Error>
     requires { IsBody state.old.graph.types side (lists_of body.old) }
-    ensures ok { OnOk result (ItemGoes side state.old.graph state.new.graph (lists_of body.old) (lists_of body.new) (item_type_decl_of decl.now)) }
-    ensures err { IfErr result (λ e. Reports (told e) ((naming : Naming) → ItemBroken naming (owner_of owner.now) side (places_of body.old.names) (body_of naming state.old.graph body.old) (item_type_decl_of decl.now) (told e))) }
+    ensures ok { OnOk result (ItemGoes side state.old.graph state.new.graph (lists_of body.old) (lists_of body.new)
+        (item_type_decl_of decl.now)) }
+    ensures err { ErrorSays result (λ e. (naming : Naming)
+        → ItemBroken naming (owner_of owner.now) side (places_of body.old.names)
+        (body_of naming state.old.graph body.old) (item_type_decl_of decl.now) e) }
 {
     match decl {
         ItemTypeDecl::Resource(decl) => resource(state, body, side, owner, decl),

@@ -1,5 +1,5 @@
 //! Constructors and methods of resources.
-ghost use Rattle.std.specs.Prelude.{◌≡◌, List, IfOk, IfErr, OnOk, map, string_bytes};
+ghost use Rattle.std.specs.Prelude.{◌≡◌, List, IfOk, OnOk, map, string_bytes};
 ghost use Rattle.wac_ast_grammar.specs.Tree.{ResourceMethod as MethodTree};
 ghost use Rattle.wac_graph_types.specs.declared.kind.ItemKind.TheVariants as kinds;
 ghost use Rattle.wac_graph_types.specs.declared.kind.«Type».TheVariants as types;
@@ -11,10 +11,10 @@ ghost use Rattle.wac_ast_types.specs.Declarations.{constructor_of, method_of, re
 ghost use Rattle.wac_graph.specs.Graph.{Parts};
 ghost use Rattle.wac_graph.specs.Means.{entry_means};
 ghost use Rattle.wac_graph.specs.Origin.{Naming};
-ghost use Rattle.wac_resolution_errors.specs.Error.{Reports, duplicate_resource_method};
-ghost use Rattle.wac_resolution_errors.specs.Told.{told};
+ghost use Rattle.wac_resolution_errors.specs.Error.{duplicate_resource_method};
 ghost use Rattle.wac_resolution_rules.specs.Bodies.{constructor_name as named_constructor, method_name as named_method, static_name as named_static, name_of_method, HasMethod};
 ghost use Rattle.wac_resolution_rules.specs.BrokenBodies.{IsSecondConstructor, IsSecondMethod, MethodBroken};
+ghost use Rattle.wac_resolution_rules.specs.Errors.{ErrorSays};
 ghost use Rattle.wac_resolution_bodies.specs.Lists.{lists_of, kinds_of};
 ghost use Rattle.wac_resolution_bodies.specs.Bodies.{body_of, IsBody, IsTaken, MethodGoes, MethodsGo};
 
@@ -38,7 +38,8 @@ fn new_constructor_name(
 ) -> Result<String, Error>
     ensures name { IfOk result (λ n. string_bytes n ≡ named_constructor resource.now) }
     ensures ok { IfOk result (λ n. IsFresh (named_constructor resource.now) (kinds_of side (lists_of body.now))) }
-    ensures err { IfErr result (λ e. Reports (told e) ((naming : Naming) (g : Parts) → IsSecondConstructor side resource.now (body_of naming g body.now) span (told e))) }
+    ensures err { ErrorSays result (λ e. (naming : Naming) (g : Parts)
+        → IsSecondConstructor side resource.now (body_of naming g body.now) span e) }
 {
     let name = constructor_name(alloc, resource)?;
     match body.find(side, &name) {
@@ -60,7 +61,9 @@ fn check_method(
     full: &str,
 ) -> Result<(), Error>
     ensures ok { OnOk result (IsFresh full.now (kinds_of side (lists_of body.now))) }
-    ensures err { IfErr result (λ e. Reports (told e) ((naming : Naming) (g : Parts) → IsTaken side (body_of naming g body.now) full.now (duplicate_resource_method id.now.string.now resource.now id.now.span) (told e))) }
+    ensures err { ErrorSays result (λ e. (naming : Naming) (g : Parts)
+        → IsTaken side (body_of naming g body.now) full.now
+        (duplicate_resource_method id.now.string.now resource.now id.now.span) e) }
 {
     match body.find(side, full) {
         Some(_) => Err(Error::DuplicateResourceMethod {
@@ -82,9 +85,12 @@ fn new_method_name(
     id: &Ident<'_>,
 ) -> Result<String, Error>
     ensures name { IfOk result (λ n. string_bytes n ≡ name_of_method is_static resource.now id.now.string.now) }
-    ensures method { IfOk result (λ n. IsFresh (named_method resource.now id.now.string.now) (kinds_of side (lists_of body.now))) }
-    ensures fixed { IfOk result (λ n. IsFresh (named_static resource.now id.now.string.now) (kinds_of side (lists_of body.now))) }
-    ensures err { IfErr result (λ e. Reports (told e) ((naming : Naming) (g : Parts) → IsSecondMethod side resource.now (body_of naming g body.now) (ident_of id.now) (told e))) }
+    ensures method { IfOk result (λ n. IsFresh (named_method resource.now id.now.string.now)
+        (kinds_of side (lists_of body.now))) }
+    ensures fixed { IfOk result (λ n. IsFresh (named_static resource.now id.now.string.now)
+        (kinds_of side (lists_of body.now))) }
+    ensures err { ErrorSays result (λ e. (naming : Naming) (g : Parts)
+        → IsSecondMethod side resource.now (body_of naming g body.now) (ident_of id.now) e) }
 {
     let method = method_name(alloc, resource, id.string)?;
     check_method(alloc, body, side, resource, id, &method)?;
@@ -104,8 +110,12 @@ fn add_constructor(
 ) -> Result<(), Error>
     requires body { IsBody state.old.graph.types side (lists_of body.old) }
     requires resource { NamesEntry state.old.graph.types (kinds.Ty (types.Resource resource)) }
-    ensures ok { OnOk result (MethodGoes side state.old.graph state.new.graph name.now resource (lists_of body.old) (lists_of body.new) (MethodTree.constructor (constructor_of constructor.now))) }
-    ensures err { IfErr result (λ e. Reports (told e) ((naming : Naming) (before : List MethodTree) → MethodBroken side name.now (entry_means naming state.old.graph resource.0) (told e) (body_of naming state.old.graph body.old) before (MethodTree.constructor (constructor_of constructor.now)))) }
+    ensures ok { OnOk result (MethodGoes side state.old.graph state.new.graph name.now resource (lists_of body.old)
+        (lists_of body.new) (MethodTree.constructor (constructor_of constructor.now))) }
+    ensures err { ErrorSays result (λ e. (naming : Naming) (before : List MethodTree)
+        → MethodBroken side name.now (entry_means naming state.old.graph resource.0) e
+        (body_of naming state.old.graph body.old) before
+        (MethodTree.constructor (constructor_of constructor.now))) }
 {
     let full = new_constructor_name(state.alloc, body, side, name, constructor.span)?;
     let func = wac_resolution_types::constructor(
@@ -129,8 +139,11 @@ fn add_method(
 ) -> Result<(), Error>
     requires body { IsBody state.old.graph.types side (lists_of body.old) }
     requires resource { NamesEntry state.old.graph.types (kinds.Ty (types.Resource resource)) }
-    ensures ok { OnOk result (MethodGoes side state.old.graph state.new.graph name.now resource (lists_of body.old) (lists_of body.new) (MethodTree.method (method_of method.now))) }
-    ensures err { IfErr result (λ e. Reports (told e) ((naming : Naming) (before : List MethodTree) → MethodBroken side name.now (entry_means naming state.old.graph resource.0) (told e) (body_of naming state.old.graph body.old) before (MethodTree.method (method_of method.now)))) }
+    ensures ok { OnOk result (MethodGoes side state.old.graph state.new.graph name.now resource (lists_of body.old)
+        (lists_of body.new) (MethodTree.method (method_of method.now))) }
+    ensures err { ErrorSays result (λ e. (naming : Naming) (before : List MethodTree)
+        → MethodBroken side name.now (entry_means naming state.old.graph resource.0) e
+        (body_of naming state.old.graph body.old) before (MethodTree.method (method_of method.now))) }
 {
     let full = new_method_name(state.alloc, body, side, name, method.is_static, &method.id)?;
     let func = wac_resolution_types::method(
@@ -155,8 +168,11 @@ fn add_either(
 ) -> Result<(), Error>
     requires body { IsBody state.old.graph.types side (lists_of body.old) }
     requires resource { NamesEntry state.old.graph.types (kinds.Ty (types.Resource resource)) }
-    ensures ok { OnOk result (MethodGoes side state.old.graph state.new.graph name.now resource (lists_of body.old) (lists_of body.new) (resource_method_of method.now)) }
-    ensures err { IfErr result (λ e. Reports (told e) ((naming : Naming) (before : List MethodTree) → MethodBroken side name.now (entry_means naming state.old.graph resource.0) (told e) (body_of naming state.old.graph body.old) before (resource_method_of method.now))) }
+    ensures ok { OnOk result (MethodGoes side state.old.graph state.new.graph name.now resource (lists_of body.old)
+        (lists_of body.new) (resource_method_of method.now)) }
+    ensures err { ErrorSays result (λ e. (naming : Naming) (before : List MethodTree)
+        → MethodBroken side name.now (entry_means naming state.old.graph resource.0) e
+        (body_of naming state.old.graph body.old) before (resource_method_of method.now)) }
 {
     match method {
         ResourceMethod::Constructor(constructor) => {
@@ -177,8 +193,12 @@ pub fn add_methods(
 ) -> Result<(), Error>
     requires body { IsBody state.old.graph.types side (lists_of body.old) }
     requires resource { NamesEntry state.old.graph.types (kinds.Ty (types.Resource resource)) }
-    ensures ok { OnOk result (MethodsGo side state.old.graph state.new.graph name.now resource (lists_of body.old) (lists_of body.new) (map resource_method_of methods.now)) }
-    ensures err { IfErr result (λ e. Reports (told e) ((naming : Naming) → Fails (HasMethod side name.now (entry_means naming state.old.graph resource.0)) (MethodBroken side name.now (entry_means naming state.old.graph resource.0) (told e)) (body_of naming state.old.graph body.old) (map resource_method_of methods.now))) }
+    ensures ok { OnOk result (MethodsGo side state.old.graph state.new.graph name.now resource (lists_of body.old)
+        (lists_of body.new) (map resource_method_of methods.now)) }
+    ensures err { ErrorSays result (λ e. (naming : Naming)
+        → Fails (HasMethod side name.now (entry_means naming state.old.graph resource.0))
+        (MethodBroken side name.now (entry_means naming state.old.graph resource.0) e)
+        (body_of naming state.old.graph body.old) (map resource_method_of methods.now)) }
 {
     for method in methods {
         add_either(state, body, side, name, resource, method)?;

@@ -1,12 +1,12 @@
 //! Whether a name of a body is new.
-ghost use Rattle.std.specs.Prelude.{◌≡◌, IfOk, IfErr, OnOk, option_map, string_bytes};
+ghost use Rattle.std.specs.Prelude.{◌≡◌, IfOk, OnOk, option_map, string_bytes};
 ghost use Rattle.wac_graph_types.specs.Scope.{IsFresh};
 ghost use Rattle.wac_ast_base.specs.Names.{ident_of};
 ghost use Rattle.wac_graph.specs.Graph.{Parts};
 ghost use Rattle.wac_graph.specs.Origin.{Naming};
-ghost use Rattle.wac_resolution_errors.specs.Error.{Reports};
 ghost use Rattle.wac_resolution_errors.specs.Told.{told};
 ghost use Rattle.wac_resolution_rules.specs.BrokenBodies.{IsBoundInBody, IsConflict, NameBroken, conflict as conflict_of};
+ghost use Rattle.wac_resolution_rules.specs.Errors.{ErrorSays};
 ghost use Rattle.wac_resolution_state.specs.Bindings.{values_of, places_of};
 ghost use Rattle.wac_resolution_state.specs.Named.{scope_of};
 ghost use Rattle.wac_resolution_bodies.specs.Lists.{lists_of, kinds_of};
@@ -25,7 +25,8 @@ use wac_resolution_state::Names;
 /// Rejects an identifier that is bound already.
 pub fn check_name(alloc: Global, names: &Names<'_, ItemKind>, id: &Ident<'_>) -> Result<(), Error>
     ensures ok { OnOk result (IsFresh id.now.string.now (values_of names.now)) }
-    ensures err { IfErr result (λ e. Reports (told e) ((naming : Naming) (g : Parts) → IsBoundInBody (places_of names.now) (scope_of naming g (values_of names.now)) (ident_of id.now) (told e))) }
+    ensures err { ErrorSays result (λ e. (naming : Naming) (g : Parts)
+        → IsBoundInBody (places_of names.now) (scope_of naming g (values_of names.now)) (ident_of id.now) e) }
 {
     match names.place(id.string) {
         Some(previous) => Err(Error::DuplicateName {
@@ -82,7 +83,8 @@ pub fn check_extern(
     span: SourceSpan,
 ) -> Result<(), Error>
     ensures ok { OnOk result (IsFresh name.now (kinds_of side (lists_of body.now))) }
-    ensures err { IfErr result (λ e. Reports (told e) ((naming : Naming) (g : Parts) → IsConflict (owner_of owner.now) side (body_of naming g body.now) name.now span (told e))) }
+    ensures err { ErrorSays result (λ e. (naming : Naming) (g : Parts)
+        → IsConflict (owner_of owner.now) side (body_of naming g body.now) name.now span e) }
 {
     match body.find(side, name) {
         Some(_) => Err(conflict(alloc, owner, side, name, span)?),
@@ -100,7 +102,9 @@ pub fn declare<'a>(
     kind: ItemKind,
 ) -> Result<(), Error>
     ensures ok { OnOk result (IsDeclared side (lists_of body.old) (lists_of body.new) (ident_of id.now) kind) }
-    ensures err { IfErr result (λ e. Reports (told e) ((naming : Naming) (g : Parts) → NameBroken (owner_of owner.now) side (places_of body.old.names) (body_of naming g body.old) (ident_of id.now) (told e))) }
+    ensures err { ErrorSays result (λ e. (naming : Naming) (g : Parts)
+        → NameBroken (owner_of owner.now) side (places_of body.old.names)
+        (body_of naming g body.old) (ident_of id.now) e) }
 {
     check_name(alloc, &body.names, id)?;
     check_extern(alloc, body, owner, side, id.string, id.span)?;

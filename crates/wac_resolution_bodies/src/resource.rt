@@ -1,13 +1,12 @@
 //! Resources.
-ghost use Rattle.std.specs.Prelude.{◌≡◌, IfOk, IfErr, OnOk};
+ghost use Rattle.std.specs.Prelude.{◌≡◌, IfOk, OnOk};
 ghost use Rattle.wac_ast_grammar.specs.Tree.{ItemTypeDecl as ItemTree};
 ghost use Rattle.wac_ast_base.specs.Names.{ident_of};
 ghost use Rattle.wac_ast_types.specs.Declarations.{resource_decl_of};
 ghost use Rattle.wac_graph.specs.Graph.{Parts};
 ghost use Rattle.wac_graph.specs.Origin.{Naming};
-ghost use Rattle.wac_resolution_errors.specs.Error.{Reports};
-ghost use Rattle.wac_resolution_errors.specs.Told.{told};
 ghost use Rattle.wac_resolution_rules.specs.BrokenBodies.{NameBroken, ItemBroken};
+ghost use Rattle.wac_resolution_rules.specs.Errors.{ErrorSays};
 ghost use Rattle.wac_resolution_state.specs.Bindings.{places_of};
 ghost use Rattle.wac_resolution_bodies.specs.Lists.{lists_of};
 ghost use Rattle.wac_resolution_bodies.specs.Bodies.{body_of, IsBody, ResourceGoes, ItemGoes};
@@ -32,8 +31,11 @@ fn declare_resource<'a>(
     id: &Ident<'a>,
 ) -> Result<ResourceId, Error>
     requires { IsBody state.old.graph.types side (lists_of body.old) }
-    ensures ok { IfOk result (λ r. ResourceGoes side state.old.graph state.new.graph (lists_of body.old) (lists_of body.new) (ident_of id.now) r) }
-    ensures err { IfErr result (λ e. Reports (told e) ((naming : Naming) (g : Parts) → NameBroken (owner_of owner.now) side (places_of body.old.names) (body_of naming g body.old) (ident_of id.now) (told e))) }
+    ensures ok { IfOk result (λ r. ResourceGoes side state.old.graph state.new.graph (lists_of body.old)
+        (lists_of body.new) (ident_of id.now) r) }
+    ensures err { ErrorSays result (λ e. (naming : Naming) (g : Parts)
+        → NameBroken (owner_of owner.now) side (places_of body.old.names)
+        (body_of naming g body.old) (ident_of id.now) e) }
 {
     check_name(state.alloc, &body.names, id)?;
     check_extern(state.alloc, body, owner, side, id.string, id.span)?;
@@ -56,8 +58,11 @@ pub fn resource<'a>(
     decl: &ResourceDecl<'a>,
 ) -> Result<(), Error>
     requires { IsBody state.old.graph.types side (lists_of body.old) }
-    ensures ok { OnOk result (ItemGoes side state.old.graph state.new.graph (lists_of body.old) (lists_of body.new) (ItemTree.resource (resource_decl_of decl.now))) }
-    ensures err { IfErr result (λ e. Reports (told e) ((naming : Naming) → ItemBroken naming (owner_of owner.now) side (places_of body.old.names) (body_of naming state.old.graph body.old) (ItemTree.resource (resource_decl_of decl.now)) (told e))) }
+    ensures ok { OnOk result (ItemGoes side state.old.graph state.new.graph (lists_of body.old) (lists_of body.new)
+        (ItemTree.resource (resource_decl_of decl.now))) }
+    ensures err { ErrorSays result (λ e. (naming : Naming)
+        → ItemBroken naming (owner_of owner.now) side (places_of body.old.names)
+        (body_of naming state.old.graph body.old) (ItemTree.resource (resource_decl_of decl.now)) e) }
 {
     let resource = declare_resource(state, body, side, owner, &decl.id)?;
     add_methods(state, body, side, decl.id.string, resource, &decl.methods)?;

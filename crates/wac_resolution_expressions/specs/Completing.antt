@@ -36,20 +36,29 @@ pub record AreRight (rules : Rules) (g : Parts) (w : WorldId) (args : Arguments)
 
 -- an argument doesn't fit, or one is left out: of each package that imports what the world does
 abbrev pub AreWrong : Rules → Parts → Named ℕ → WorldId → PackageName → Arguments → Named NodeId → Error → Type 0
-AreWrong rules g declared w x args given e = (naming : Naming) (setting : Setting) (p : Contents) → IsOneToOne naming → imports_in p ≡ imports_at naming g w
+AreWrong rules g declared w x args given e = (naming : Naming) (setting : Setting) (p : Contents) → IsOneToOne naming
+    → imports_in p ≡ imports_at naming g w
     → InstantiationBroken (record { setting = setting; rules = rules }) p x args (giving_of naming g declared given) e
 
 -- after spreads the instance was made
-pub record Completes (rules : Rules) (old new : Parts) (declared : Named ℕ) (p : Loaded) (args : Arguments) (given : Named NodeId) (n : ℕ) : Type 0 where
+pub record Completes (rules : Rules) (old new : Parts) (declared : Named ℕ) (p : Loaded) (args : Arguments)
+    (given : Named NodeId) (n : ℕ) : Type 0 where
   pub grows : GrowsNodes old new
   pub there : n < length new.nodes
   pub mid : Parts
   pub all : Named NodeId
-  pub spread : (naming : Naming) → Steps (Spreads (imports_at naming old p.world)) (giving_of naming old declared given) (spreads_of args) (giving_of naming mid declared all)
-  pub made : (held : HeldPackage) → IsLoaded old p held → (naming : Naming) → IsOneToOne naming → Instantiates rules (contents_in naming old held) held.key (has_fill args) (giving_of naming mid declared all) (at (composition_of naming new declared) n)
+  pub spread : (naming : Naming)
+      → Steps (Spreads (imports_at naming old p.world)) (giving_of naming old declared given) (spreads_of args)
+      (giving_of naming mid declared all)
+  pub made : (held : HeldPackage) → IsLoaded old p held → (naming : Naming) → IsOneToOne naming
+      → Instantiates rules (contents_in naming old held) held.key (has_fill args) (giving_of naming mid declared all)
+      (at (composition_of naming new declared) n)
 
 -- a spread is broken, or after the spreads the arguments are wrong
 abbrev pub FailsToComplete : Rules → Parts → Named ℕ → WorldId → PackageName → Arguments → Named NodeId → Error → Type 0
-FailsToComplete rules g declared w x args given e = (naming : Naming) (setting : Setting) (p : Contents) → IsOneToOne naming → imports_in p ≡ imports_at naming g w
-    → Fails (Spreads (imports_in p)) (SpreadBroken (imports_in p) e) (giving_of naming g declared given) (spreads_of args)
-    ⊎ ((all : Giving) × Steps (Spreads (imports_in p)) (giving_of naming g declared given) (spreads_of args) all × InstantiationBroken (record { setting = setting; rules = rules }) p x args all e)
+FailsToComplete rules g declared w x args given e = (naming : Naming) (setting : Setting) (p : Contents)
+    → IsOneToOne naming → imports_in p ≡ imports_at naming g w
+    → Fails (Spreads (imports_in p)) (SpreadBroken (imports_in p) e) (giving_of naming g declared given)
+    (spreads_of args)
+    ⊎ ((all : Giving) × Steps (Spreads (imports_in p)) (giving_of naming g declared given) (spreads_of args) all
+    × InstantiationBroken (record { setting = setting; rules = rules }) p x args all e)

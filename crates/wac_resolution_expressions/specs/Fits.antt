@@ -23,7 +23,8 @@ IsImport g w a = IsSome (look_up a.0 (world_imports g.types w.0))
 -- the argument is for an import of the world, and its node fits it
 pub record IsFit (rules : Rules) (g : Parts) (w : WorldId) (name : List ℕ) (node : ℕ) : Type 0 where
   pub import : IsImport g w (name, node)
-  pub is : (naming : Naming) (declared : Named ℕ) → IsOneToOne naming → Fits rules (imports_at naming g w) (composition_of naming g declared).nodes (name, node)
+  pub is : (naming : Naming) (declared : Named ℕ) → IsOneToOne naming
+      → Fits rules (imports_at naming g w) (composition_of naming g declared).nodes (name, node)
 
 -- the world has no such import
 pub record IsForNone (g : Parts) (w : WorldId) (name : List ℕ) : Type 0 where
@@ -32,7 +33,8 @@ pub record IsForNone (g : Parts) (w : WorldId) (name : List ℕ) : Type 0 where
 -- the argument is for an import, but its node does not fit it, for this reason
 pub record IsUnfit (rules : Rules) (g : Parts) (w : WorldId) (name : List ℕ) (node : ℕ) (r : Reason) : Type 0 where
   pub is : (naming : Naming) (declared : Named ℕ) → IsOneToOne naming
-      → (wants : Meaning) × StandsFor (imports_at naming g w) name wants × (rules.passes (kind_at (composition_of naming g declared).nodes node) wants ≡ Some r)
+      → (wants : Meaning) × StandsFor (imports_at naming g w) name wants
+      × (rules.passes (kind_at (composition_of naming g declared).nodes node) wants ≡ Some r)
 
 -- it doesn't fit; without a reason it is for no import
 abbrev pub IsAgainst : Rules → Parts → WorldId → List ℕ → ℕ → Option Reason → Type 0
@@ -40,7 +42,8 @@ IsAgainst rules g w name node r = MatchOption r (IsForNone g w name) (λ x. IsUn
 
 -- these arguments fit
 abbrev pub FitAll : Rules → Parts → WorldId → Named ℕ → Type 0
-FitAll rules g w all = (naming : Naming) (declared : Named ℕ) → IsOneToOne naming → AllByRecursion (Fits rules (imports_at naming g w) (composition_of naming g declared).nodes) all
+FitAll rules g w all = (naming : Naming) (declared : Named ℕ) → IsOneToOne naming
+    → AllByRecursion (Fits rules (imports_at naming g w) (composition_of naming g declared).nodes) all
 
 -- each argument fits
 pub record AllFit (rules : Rules) (g : Parts) (w : WorldId) (all : Named NodeId) : Type 0 where
@@ -48,7 +51,8 @@ pub record AllFit (rules : Rules) (g : Parts) (w : WorldId) (all : Named NodeId)
   pub is : FitAll rules g w (given_nodes all)
 
 -- the argument of this name doesn't fit, and each before it does
-pub record IsFirstMisfit (rules : Rules) (g : Parts) (w : WorldId) (all : Named NodeId) (name : List ℕ) (r : Option Reason) : Type 0 where
+pub record IsFirstMisfit (rules : Rules) (g : Parts) (w : WorldId) (all : Named NodeId) (name : List ℕ)
+    (r : Option Reason) : Type 0 where
   pub before : Named ℕ
   pub node : ℕ
   pub after : Named ℕ

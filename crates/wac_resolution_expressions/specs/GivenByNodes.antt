@@ -9,7 +9,8 @@ use Rattle.wac_resolution_nodes.specs.Growth.{GrowsNodes}
 use Rattle.wac_resolution_expressions.specs.Spreads.{giving_of, GivenThere}
 
 -- nodes were added and given, and this holds of what was given before and after
-pub record Gave (old new : Parts) (before after : Named NodeId) (declared : Named ℕ) (holds : Naming → Giving → Giving → Type 0) : Type 0 where
+pub record Gave (old new : Parts) (before after : Named NodeId) (declared : Named ℕ)
+    (holds : Naming → Giving → Giving → Type 0) : Type 0 where
   pub grows : GrowsNodes old new
   pub there : GivenThere new after
   pub is : (naming : Naming) → holds naming (giving_of naming old declared before) (giving_of naming new declared after)

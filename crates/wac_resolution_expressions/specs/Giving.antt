@@ -31,7 +31,8 @@ pub record GivesNode (before after : Named NodeId) (name : List ℕ) (node : Nod
 
 -- one is given for it already
 abbrev pub IsGiven : Named NodeId → List ℕ → Span → Error → Type 0
-IsGiven before name span e = (n : ℕ) × StandsFor (given_nodes before) name n × (e ≡ duplicate_instantiation_arg name span)
+IsGiven before name span e = (n : ℕ) × StandsFor (given_nodes before) name n
+    × (e ≡ duplicate_instantiation_arg name span)
 
 -- the same of a name that is meant
 pub record GivesFor (before after : Named NodeId) (meant : Naming → List ℕ) (node : NodeId) : Type 0 where
@@ -41,23 +42,35 @@ abbrev pub IsGivenFor : Named NodeId → (Naming → List ℕ) → Span → Erro
 IsGivenFor before meant span e = (naming : Naming) → IsGiven before (meant naming) span e
 
 -- nodes were given while the graph was extended, and this holds of what was given before and after
-pub record GivesOn (packages : List (Key × PackageParts)) (old new : Parts) (before after : Named NodeId) (declared : Named ℕ) (holds : Naming → Giving → Giving → Type 0) : Type 0 where
+pub record GivesOn (packages : List (Key × PackageParts)) (old new : Parts) (before after : Named NodeId)
+    (declared : Named ℕ) (holds : Naming → Giving → Giving → Type 0) : Type 0 where
   pub extends : Extends packages old new
   pub there : GivenThere new after
-  pub is : (naming : Naming) → IsOneToOne naming → holds naming (giving_of naming old declared before) (giving_of naming new declared after)
+  pub is : (naming : Naming) → IsOneToOne naming
+      → holds naming (giving_of naming old declared before) (giving_of naming new declared after)
 
 -- an argument is given, the last one or one before others
-abbrev pub ArgumentGoes : Setting → Rules → Parts → Parts → Named NodeId → Named NodeId → Named ℕ → WorldId → Bool → InstantiationArgument → Type 0
-ArgumentGoes setting rules old new before after declared w is_last x = GivesOn (packages_in setting) old new before after declared
-    (λ naming a b. (rest : Arguments) → is_none rest ≡ is_last → GivesOne (given_in naming setting rules) (imports_at naming old w) rest a x b)
+abbrev pub ArgumentGoes : Setting → Rules → Parts → Parts → Named NodeId → Named NodeId → Named ℕ → WorldId → Bool
+    → InstantiationArgument → Type 0
+ArgumentGoes setting rules old new before after declared w is_last x =
+    GivesOn (packages_in setting) old new before after declared
+    (λ naming a b. (rest : Arguments) → is_none rest ≡ is_last
+    → GivesOne (given_in naming setting rules) (imports_at naming old w) rest a x b)
 
-abbrev pub ArgumentBreaks : Setting → Rules → Parts → Named NodeId → Named ℕ → WorldId → Bool → InstantiationArgument → Error → Type 0
-ArgumentBreaks setting rules g before declared w is_last x e = (naming : Naming) (rest : Arguments) → IsOneToOne naming → is_none rest ≡ is_last
-    → ArgumentBroken (given_in naming setting rules) (imports_at naming g w) rest (giving_of naming g declared before) e x
+abbrev pub ArgumentBreaks : Setting → Rules → Parts → Named NodeId → Named ℕ → WorldId → Bool → InstantiationArgument
+    → Error → Type 0
+ArgumentBreaks setting rules g before declared w is_last x e = (naming : Naming) (rest : Arguments) → IsOneToOne naming
+    → is_none rest ≡ is_last
+    → ArgumentBroken (given_in naming setting rules) (imports_at naming g w) rest (giving_of naming g declared before) e
+    x
 
 -- the arguments that aren't spreads are given in order
-abbrev pub ArgumentsGo : Setting → Rules → Parts → Parts → Named NodeId → Named NodeId → Named ℕ → WorldId → Arguments → Type 0
-ArgumentsGo setting rules old new before after declared w args = GivesOn (packages_in setting) old new before after declared (λ naming a b. Gives (given_in naming setting rules) (imports_at naming old w) a args b)
+abbrev pub ArgumentsGo : Setting → Rules → Parts → Parts → Named NodeId → Named NodeId → Named ℕ → WorldId → Arguments
+    → Type 0
+ArgumentsGo setting rules old new before after declared w args = GivesOn (packages_in setting) old new before after
+    declared (λ naming a b. Gives (given_in naming setting rules) (imports_at naming old w) a args b)
 
 abbrev pub ArgumentsBreak : Setting → Rules → Parts → Named NodeId → Named ℕ → WorldId → Arguments → Error → Type 0
-ArgumentsBreak setting rules g before declared w args e = (naming : Naming) → IsOneToOne naming → ArgumentsBroken (given_in naming setting rules) (imports_at naming g w) (giving_of naming g declared before) e args
+ArgumentsBreak setting rules g before declared w args e = (naming : Naming) → IsOneToOne naming
+    → ArgumentsBroken (given_in naming setting rules) (imports_at naming g w) (giving_of naming g declared before) e
+    args

@@ -35,11 +35,15 @@ abbrev pub given_in : Naming → Setting → Rules → Given
 given_in naming setting rules = record { setting = setting_of naming setting; rules = rules }
 
 -- the expression denotes this node of the new graph
-pub record ExprGoes (setting : Setting) (rules : Rules) (old new : Parts) (declared : Named ℕ) (x : Expr) (n : ℕ) : Type 0 where
+pub record ExprGoes (setting : Setting) (rules : Rules) (old new : Parts) (declared : Named ℕ) (x : Expr) (n : ℕ) : Type
+    0 where
   pub extends : Extends (packages_in setting) old new
   pub there : n < length new.nodes
-  pub stands : (naming : Naming) → IsOneToOne naming → Stands (given_in naming setting rules) (composition_of naming old declared) x (at (composition_of naming new declared) n)
+  pub stands : (naming : Naming) → IsOneToOne naming
+      → Stands (given_in naming setting rules) (composition_of naming old declared) x
+      (at (composition_of naming new declared) n)
 
 -- the error names a rule that the expression breaks
 abbrev pub ExprBreaks : Setting → Rules → Parts → Named ℕ → Expr → Error → Type 0
-ExprBreaks setting rules g declared x e = (naming : Naming) → IsOneToOne naming → ExprBroken (given_in naming setting rules) (composition_of naming g declared) e x
+ExprBreaks setting rules g declared x e = (naming : Naming) → IsOneToOne naming
+    → ExprBroken (given_in naming setting rules) (composition_of naming g declared) e x

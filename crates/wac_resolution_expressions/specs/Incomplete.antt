@@ -12,5 +12,6 @@ use Rattle.wac_resolution_expressions.specs.Spreads.{imports_at}
 
 -- nothing is given for an import of the world, and there is no fill
 abbrev pub IsIncomplete : Parts → WorldId → PackageName → Arguments → Named ℕ → Error → Type 0
-IsIncomplete g w x args given e = (has_fill args ≡ false) × ((naming : Naming) → (i : List ℕ × Meaning) × (others : Named Meaning)
+IsIncomplete g w x args given e = (has_fill args ≡ false)
+    × ((naming : Naming) → (i : List ℕ × Meaning) × (others : Named Meaning)
     × (left_out (imports_at naming g w) given ≡ i ∷ others) × (e ≡ missing_instantiation_arg i.0 x.string x.span))

@@ -19,4 +19,6 @@ pub record MakesInstance (old new : Parts) (p : ℕ) (given : Named NodeId) (n :
   pub there : n < length new.nodes
   pub is : (held : HeldPackage) → slice_get old.packages p ≡ Some held → (naming : Naming) (declared : Named ℕ)
       → at (composition_of naming new declared) n
-      ≡ at (with_instance (composition_of naming old declared) held.key (means naming old (kinds.Instance held.instance)) (given_nodes given)) (next_of (composition_of naming old declared))
+      ≡ at (with_instance (composition_of naming old declared) held.key
+      (means naming old (kinds.Instance held.instance)) (given_nodes given))
+      (next_of (composition_of naming old declared))

@@ -28,8 +28,10 @@ IsThere g p = (held : HeldPackage) × IsLoaded g p held
 -- the package of the name may be instantiated, and the new graph holds it
 pub record IsInstantiable (setting : Setting) (old new : Parts) (x : PackageName) (p : Loaded) : Type 0 where
   pub extends : Extends (packages_in setting) old new
-  pub composition : (naming : Naming) (declared : Named ℕ) → composition_of naming new declared ≡ composition_of naming old declared
+  pub composition : (naming : Naming) (declared : Named ℕ)
+      → composition_of naming new declared ≡ composition_of naming old declared
   pub held : HeldPackage
   pub loaded : IsLoaded new p held
   pub key : held.key ≡ key_named x
-  pub is : (naming : Naming) (rules : Rules) → instantiable (given_in naming setting rules) x ≡ Some (contents_in naming new held)
+  pub is : (naming : Naming) (rules : Rules)
+      → instantiable (given_in naming setting rules) x ≡ Some (contents_in naming new held)

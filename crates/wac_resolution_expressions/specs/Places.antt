@@ -22,8 +22,13 @@ exports_at span (Some i) = map (λ x. (x.0, span)) (exports_of i)
 
 -- each argument that is given is among those that aren't spreads
 abbrev pub StandThemselves : Parts → Named ℕ → WorldId → Arguments → Named NodeId → Type 0
-StandThemselves g declared w args given = (naming : Naming) → IsOneToOne naming → AllByRecursion (λ a. IsSome (look_up a.0 (own_places (composition_of naming g declared) (imports_at naming g w) args))) (given_nodes given)
+StandThemselves g declared w args given = (naming : Naming) → IsOneToOne naming
+    → AllByRecursion (λ a. IsSome
+    (look_up a.0 (own_places (composition_of naming g declared) (imports_at naming g w) args))) (given_nodes given)
 
 -- each is among them, or a spread gives it
 abbrev pub StandSomewhere : Parts → Named ℕ → WorldId → Arguments → Named NodeId → Type 0
-StandSomewhere g declared w args given = (naming : Naming) → IsOneToOne naming → AllByRecursion (λ a. IsSome (look_up a.0 (argument_places (composition_of naming g declared) (imports_at naming g w) args))) (given_nodes given)
+StandSomewhere g declared w args given = (naming : Naming) → IsOneToOne naming
+    → AllByRecursion (λ a. IsSome
+    (look_up a.0 (argument_places (composition_of naming g declared) (imports_at naming g w) args)))
+    (given_nodes given)

@@ -30,18 +30,21 @@ imports_at naming g w = imports_of (entry_means naming g w.0)
 
 -- a name for which nothing is given yet: where the node exports it, its alias is given
 abbrev pub name_spread : ℕ → Named Meaning → Giving → List ℕ → Giving
-name_spread node exports g name = if is_some (look_up name g.arguments) then g else elim (look_up name exports) [ None ↦ g | Some k ↦ given_too g name (alias_at (at g.composition node) name k) ]
+name_spread node exports g name = if is_some (look_up name g.arguments) then g else elim (look_up name exports)
+    [ None ↦ g | Some k ↦ given_too g name (alias_at (at g.composition node) name k) ]
 
 -- that was done for each of these names
 pub record NamesSpread (old new : Parts) (before after : Named NodeId) (node : ℕ) (names : List (List ℕ)) : Type 0 where
   pub grows : GrowsNodes old new
   pub there : GivenThere new after
   pub is : (i : InterfaceId) → IsInstance old node i → (naming : Naming) (declared : Named ℕ)
-      → giving_of naming new declared after ≡ fold (name_spread node (exports_of (entry_means naming old i.0))) (giving_of naming old declared before) names
+      → giving_of naming new declared after ≡ fold (name_spread node (exports_of (entry_means naming old i.0)))
+      (giving_of naming old declared before) names
 
 -- a node was spread over what a world imports
 pub record NodeSpread (old new : Parts) (before after : Named NodeId) (node : ℕ) (world : WorldId) : Type 0 where
   pub grows : GrowsNodes old new
   pub there : GivenThere new after
   pub is : (i : InterfaceId) → IsInstance old node i → (naming : Naming) (declared : Named ℕ)
-      → giving_of naming new declared after ≡ spread_from (imports_at naming old world) node (exports_of (entry_means naming old i.0)) (giving_of naming old declared before)
+      → giving_of naming new declared after ≡ spread_from (imports_at naming old world) node
+      (exports_of (entry_means naming old i.0)) (giving_of naming old declared before)

@@ -1,13 +1,13 @@
 //! The rest of an instantiation, after the arguments that aren't spreads were given.
-ghost use Rattle.std.specs.Prelude.{◌≡◌, IfOk, IfErr, OnOk, map};
+ghost use Rattle.std.specs.Prelude.{◌≡◌, IfOk, OnOk, map};
 ghost use Rattle.wac_ast_grammar.specs.Tree.{arguments_from};
 ghost use Rattle.wac_graph_types.specs.Names.{by_name};
 ghost use Rattle.wac_graph_types.specs.Table.{Names};
 ghost use Rattle.wac_ast_base.specs.Names.{package_name_of};
 ghost use Rattle.wac_ast_expressions.specs.Expressions.{argument_of};
-ghost use Rattle.wac_resolution_errors.specs.Error.{Reports};
 ghost use Rattle.wac_resolution_errors.specs.Told.{told};
-ghost use Rattle.wac_resolution_rules.specs.Given.{rules_by};
+ghost use Rattle.wac_resolution_rules.specs.Errors.{ErrorSays};
+ghost use Rattle.wac_resolution_rules.specs.Given.{rules_of};
 ghost use Rattle.wac_resolution_nodes.specs.Root.{numbers_of, Agrees};
 ghost use Rattle.wac_resolution_expressions.specs.Fits.{AllFit};
 ghost use Rattle.wac_resolution_expressions.specs.Spreads.{GivenThere};
@@ -69,9 +69,12 @@ fn check_fit<R: Rules>(
     requires agrees { Agrees state.now.graph root.now }
     requires there { GivenThere state.now.graph (by_name given.now.entries) }
     requires world { Names state.now.graph.types (ItemKind.Component world) }
-    requires stand { StandSomewhere state.now.graph (numbers_of root.now.nodes) world (arguments_from (map argument_of new.now.arguments.items)) (by_name given.now.entries) }
-    ensures ok { OnOk result (AllFit (rules_by (R.passes rules.now) (R.named rules.now)) state.now.graph world (by_name given.now.entries)) }
-    ensures err { IfErr result (λ e. Reports (told e) (AreWrong (rules_by (R.passes rules.now) (R.named rules.now)) state.now.graph (numbers_of root.now.nodes) world (package_name_of new.now.«package») (arguments_from (map argument_of new.now.arguments.items)) (by_name given.now.entries) (told e))) }
+    requires stand { StandSomewhere state.now.graph (numbers_of root.now.nodes) world
+        (arguments_from (map argument_of new.now.arguments.items)) (by_name given.now.entries) }
+    ensures ok { OnOk result (AllFit (rules_of R.Rules rules.now) state.now.graph world (by_name given.now.entries)) }
+    ensures err { ErrorSays result (λ e. AreWrong (rules_of R.Rules rules.now) state.now.graph
+        (numbers_of root.now.nodes) world (package_name_of new.now.«package»)
+        (arguments_from (map argument_of new.now.arguments.items)) (by_name given.now.entries) e) }
 {
     match misfit(state, rules, world, given) {
         Some((name, reason)) => {
@@ -95,9 +98,13 @@ fn check_arguments<R: Rules>(
     requires agrees { Agrees state.now.graph root.now }
     requires there { GivenThere state.now.graph (by_name given.now.entries) }
     requires world { Names state.now.graph.types (ItemKind.Component world) }
-    requires stand { StandSomewhere state.now.graph (numbers_of root.now.nodes) world (arguments_from (map argument_of new.now.arguments.items)) (by_name given.now.entries) }
-    ensures ok { OnOk result (AreRight (rules_by (R.passes rules.now) (R.named rules.now)) state.now.graph world (arguments_from (map argument_of new.now.arguments.items)) (by_name given.now.entries)) }
-    ensures err { IfErr result (λ e. Reports (told e) (AreWrong (rules_by (R.passes rules.now) (R.named rules.now)) state.now.graph (numbers_of root.now.nodes) world (package_name_of new.now.«package») (arguments_from (map argument_of new.now.arguments.items)) (by_name given.now.entries) (told e))) }
+    requires stand { StandSomewhere state.now.graph (numbers_of root.now.nodes) world
+        (arguments_from (map argument_of new.now.arguments.items)) (by_name given.now.entries) }
+    ensures ok { OnOk result (AreRight (rules_of R.Rules rules.now) state.now.graph world
+        (arguments_from (map argument_of new.now.arguments.items)) (by_name given.now.entries)) }
+    ensures err { ErrorSays result (λ e. AreWrong (rules_of R.Rules rules.now) state.now.graph
+        (numbers_of root.now.nodes) world (package_name_of new.now.«package»)
+        (arguments_from (map argument_of new.now.arguments.items)) (by_name given.now.entries) e) }
 {
     check_fit(state, rules, root, world, new, given)?;
     check_complete(state, &new.package, world, &new.arguments, given)
@@ -116,9 +123,14 @@ pub fn complete<R: Rules>(
     requires agrees { Agrees state.old.graph root.now }
     requires loaded { IsThere state.old.graph of }
     requires there { GivenThere state.old.graph (by_name given.old.entries) }
-    requires stand { StandThemselves state.old.graph (numbers_of root.now.nodes) of.world (arguments_from (map argument_of new.now.arguments.items)) (by_name given.old.entries) }
-    ensures ok { IfOk result (λ n. Completes (rules_by (R.passes rules.now) (R.named rules.now)) state.old.graph state.new.graph (numbers_of root.now.nodes) of (arguments_from (map argument_of new.now.arguments.items)) (by_name given.old.entries) n.0) }
-    ensures err { IfErr result (λ e. Reports (told e) (FailsToComplete (rules_by (R.passes rules.now) (R.named rules.now)) state.old.graph (numbers_of root.now.nodes) of.world (package_name_of new.now.«package») (arguments_from (map argument_of new.now.arguments.items)) (by_name given.old.entries) (told e))) }
+    requires stand { StandThemselves state.old.graph (numbers_of root.now.nodes) of.world
+        (arguments_from (map argument_of new.now.arguments.items)) (by_name given.old.entries) }
+    ensures ok { IfOk result (λ n. Completes (rules_of R.Rules rules.now) state.old.graph state.new.graph
+        (numbers_of root.now.nodes) of (arguments_from (map argument_of new.now.arguments.items))
+        (by_name given.old.entries) n.0) }
+    ensures err { ErrorSays result (λ e. FailsToComplete (rules_of R.Rules rules.now) state.old.graph
+        (numbers_of root.now.nodes) of.world (package_name_of new.now.«package»)
+        (arguments_from (map argument_of new.now.arguments.items)) (by_name given.old.entries) e) }
 {
     spreads(state, root, of.world, &new.arguments, given)?;
     check_arguments(state, rules, root, of.world, new, given)?;

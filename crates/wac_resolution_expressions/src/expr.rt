@@ -1,12 +1,11 @@
 //! Expressions.
-ghost use Rattle.std.specs.Prelude.{[], IfOk, IfErr, OnOk, map};
+ghost use Rattle.std.specs.Prelude.{[], IfOk, OnOk, map};
 ghost use Rattle.wac_ast_grammar.specs.Tree.{arguments_from};
 ghost use Rattle.wac_graph_types.specs.Names.{by_name};
 ghost use Rattle.wac_graph_types.specs.Table.{Names};
 ghost use Rattle.wac_ast_expressions.specs.Expressions.{argument_of, expr_of, new_expr_of, primary_expr_of};
-ghost use Rattle.wac_resolution_errors.specs.Error.{Reports};
-ghost use Rattle.wac_resolution_errors.specs.Told.{told};
-ghost use Rattle.wac_resolution_rules.specs.Given.{rules_by};
+ghost use Rattle.wac_resolution_rules.specs.Errors.{ErrorSays};
+ghost use Rattle.wac_resolution_rules.specs.Given.{rules_of};
 ghost use Rattle.wac_resolution_nodes.specs.Root.{numbers_of, Agrees};
 ghost use Rattle.wac_resolution_paths.specs.Expands.{HoldsHanded};
 ghost use Rattle.wac_resolution_paths.specs.Setting.{packages_in};
@@ -37,8 +36,10 @@ pub fn expression<R: Rules>(
 ) -> Result<NodeId, Error>
     requires agrees { Agrees state.old.graph root.now }
     requires handed { HoldsHanded (packages_in setting.now) state.old.graph }
-    ensures ok { IfOk result (λ n. ExprGoes setting.now (rules_by (R.passes rules.now) (R.named rules.now)) state.old.graph state.new.graph (numbers_of root.now.nodes) (expr_of expr.now) n.0) }
-    ensures err { IfErr result (λ e. Reports (told e) (ExprBreaks setting.now (rules_by (R.passes rules.now) (R.named rules.now)) state.old.graph (numbers_of root.now.nodes) (expr_of expr.now) (told e))) }
+    ensures ok { IfOk result (λ n. ExprGoes setting.now (rules_of R.Rules rules.now) state.old.graph state.new.graph
+        (numbers_of root.now.nodes) (expr_of expr.now) n.0) }
+    ensures err { ErrorSays result (λ e. ExprBreaks setting.now (rules_of R.Rules rules.now) state.old.graph
+        (numbers_of root.now.nodes) (expr_of expr.now) e) }
 {
     let node = primary(state, setting, rules, root, &expr.primary)?;
     accesses(state, node, expr.primary.span(), &expr.postfix)
@@ -55,8 +56,10 @@ fn primary<R: Rules>(
 ) -> Result<NodeId, Error>
     requires agrees { Agrees state.old.graph root.now }
     requires handed { HoldsHanded (packages_in setting.now) state.old.graph }
-    ensures ok { IfOk result (λ n. PrimaryGoes setting.now (rules_by (R.passes rules.now) (R.named rules.now)) state.old.graph state.new.graph (numbers_of root.now.nodes) (primary_expr_of expr.now) n.0) }
-    ensures err { IfErr result (λ e. Reports (told e) (PrimaryBreaks setting.now (rules_by (R.passes rules.now) (R.named rules.now)) state.old.graph (numbers_of root.now.nodes) (primary_expr_of expr.now) (told e))) }
+    ensures ok { IfOk result (λ n. PrimaryGoes setting.now (rules_of R.Rules rules.now) state.old.graph state.new.graph
+        (numbers_of root.now.nodes) (primary_expr_of expr.now) n.0) }
+    ensures err { ErrorSays result (λ e. PrimaryBreaks setting.now (rules_of R.Rules rules.now) state.old.graph
+        (numbers_of root.now.nodes) (primary_expr_of expr.now) e) }
 {
     match expr {
         PrimaryExpr::New(part) => instantiation(state, setting, rules, root, part),
@@ -65,9 +68,8 @@ fn primary<R: Rules>(
     }
 }
 
-/// A new instance of a package. It has a frame of its own, so that parentheses don't take its stack.
+/// A new instance of a package.
 #[cycle(expression)]
-#[inline(never)]
 fn instantiation<R: Rules>(
     state: &mut State,
     setting: &Setting<'_>,
@@ -77,8 +79,10 @@ fn instantiation<R: Rules>(
 ) -> Result<NodeId, Error>
     requires agrees { Agrees state.old.graph root.now }
     requires handed { HoldsHanded (packages_in setting.now) state.old.graph }
-    ensures ok { IfOk result (λ n. PrimaryGoes setting.now (rules_by (R.passes rules.now) (R.named rules.now)) state.old.graph state.new.graph (numbers_of root.now.nodes) (new_expr_of new.now) n.0) }
-    ensures err { IfErr result (λ e. Reports (told e) (PrimaryBreaks setting.now (rules_by (R.passes rules.now) (R.named rules.now)) state.old.graph (numbers_of root.now.nodes) (new_expr_of new.now) (told e))) }
+    ensures ok { IfOk result (λ n. PrimaryGoes setting.now (rules_of R.Rules rules.now) state.old.graph state.new.graph
+        (numbers_of root.now.nodes) (new_expr_of new.now) n.0) }
+    ensures err { ErrorSays result (λ e. PrimaryBreaks setting.now (rules_of R.Rules rules.now) state.old.graph
+        (numbers_of root.now.nodes) (new_expr_of new.now) e) }
 {
     let of = instantiable(state, setting, &new.package)?;
     let mut given = IndexMap::new(state.alloc);
@@ -109,8 +113,12 @@ fn arguments<R: Rules>(
     requires handed { HoldsHanded (packages_in setting.now) state.old.graph }
     requires world { Names state.old.graph.types (ItemKind.Component world) }
     requires there { GivenThere state.old.graph (by_name given.old.entries) }
-    ensures ok { OnOk result (ArgumentsGo setting.now (rules_by (R.passes rules.now) (R.named rules.now)) state.old.graph state.new.graph (by_name given.old.entries) (by_name given.new.entries) (numbers_of root.now.nodes) world (arguments_from (map argument_of arguments.now))) }
-    ensures err { IfErr result (λ e. Reports (told e) (ArgumentsBreak setting.now (rules_by (R.passes rules.now) (R.named rules.now)) state.old.graph (by_name given.old.entries) (numbers_of root.now.nodes) world (arguments_from (map argument_of arguments.now)) (told e))) }
+    ensures ok { OnOk result (ArgumentsGo setting.now (rules_of R.Rules rules.now) state.old.graph state.new.graph
+        (by_name given.old.entries) (by_name given.new.entries) (numbers_of root.now.nodes) world
+        (arguments_from (map argument_of arguments.now))) }
+    ensures err { ErrorSays result (λ e. ArgumentsBreak setting.now (rules_of R.Rules rules.now) state.old.graph
+        (by_name given.old.entries) (numbers_of root.now.nodes) world
+        (arguments_from (map argument_of arguments.now)) e) }
 {
     let mut left = arguments.len();
     for one in arguments {
@@ -136,8 +144,11 @@ fn argument<R: Rules>(
     requires handed { HoldsHanded (packages_in setting.now) state.old.graph }
     requires world { Names state.old.graph.types (ItemKind.Component world) }
     requires there { GivenThere state.old.graph (by_name given.old.entries) }
-    ensures ok { OnOk result (ArgumentGoes setting.now (rules_by (R.passes rules.now) (R.named rules.now)) state.old.graph state.new.graph (by_name given.old.entries) (by_name given.new.entries) (numbers_of root.now.nodes) world is_last (argument_of argument.now)) }
-    ensures err { IfErr result (λ e. Reports (told e) (ArgumentBreaks setting.now (rules_by (R.passes rules.now) (R.named rules.now)) state.old.graph (by_name given.old.entries) (numbers_of root.now.nodes) world is_last (argument_of argument.now) (told e))) }
+    ensures ok { OnOk result (ArgumentGoes setting.now (rules_of R.Rules rules.now) state.old.graph state.new.graph
+        (by_name given.old.entries) (by_name given.new.entries) (numbers_of root.now.nodes) world is_last
+        (argument_of argument.now)) }
+    ensures err { ErrorSays result (λ e. ArgumentBreaks setting.now (rules_of R.Rules rules.now) state.old.graph
+        (by_name given.old.entries) (numbers_of root.now.nodes) world is_last (argument_of argument.now) e) }
 {
     match argument {
         InstantiationArgument::Inferred(id) => give_inferred(state, root, world, id, given),

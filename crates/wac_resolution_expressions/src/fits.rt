@@ -9,7 +9,7 @@ ghost use Rattle.wac_graph.specs.Means.{means};
 ghost use Rattle.wac_graph.specs.Origin.{Naming, IsOneToOne};
 ghost use Rattle.wac_resolution_rules.specs.Composition.{kind_at};
 ghost use Rattle.wac_resolution_nodes.specs.Nodes.{composition_of};
-ghost use Rattle.wac_resolution_rules.specs.Given.{rules_by};
+ghost use Rattle.wac_resolution_rules.specs.Given.{rules_of};
 ghost use Rattle.wac_resolution_expressions.specs.Fits.{IsFit, IsAgainst, AllFit, IsFirstMisfit};
 ghost use Rattle.wac_resolution_expressions.specs.Spreads.{GivenThere};
 
@@ -38,7 +38,9 @@ fn may_stand<R: Rules>(
 ) -> Result<(), Reason>
     requires wanted { Names state.now.graph.types wanted }
     requires there { node.0 < length state.now.graph.nodes }
-    ensures { (naming : Naming) (declared : Named ℕ) → IsOneToOne naming → Answers result (R.passes rules.now (kind_at (composition_of naming state.now.graph declared).nodes node.0) (means naming state.now.graph wanted)) }
+    ensures { (naming : Naming) (declared : Named ℕ) → IsOneToOne naming
+        → Answers result (R.passes rules.now (kind_at (composition_of naming state.now.graph declared).nodes node.0)
+        (means naming state.now.graph wanted)) }
 {
     let types = state.graph.types();
     let kind = state.graph.kind(node);
@@ -56,8 +58,8 @@ fn fits<R: Rules>(
 ) -> Result<(), Option<Reason>>
     requires world { Names state.now.graph.types (ItemKind.Component world) }
     requires there { node.0 < length state.now.graph.nodes }
-    ensures ok { OnOk result (IsFit (rules_by (R.passes rules.now) (R.named rules.now)) state.now.graph world name.now node.0) }
-    ensures err { IfErr result (λ r. IsAgainst (rules_by (R.passes rules.now) (R.named rules.now)) state.now.graph world name.now node.0 r) }
+    ensures ok { OnOk result (IsFit (rules_of R.Rules rules.now) state.now.graph world name.now node.0) }
+    ensures err { IfErr result (λ r. IsAgainst (rules_of R.Rules rules.now) state.now.graph world name.now node.0 r) }
 {
     // Its contract says that the table is sound, and what its entries mean.
     let _types = state.graph.types();
@@ -79,7 +81,9 @@ pub fn misfit<'x, R: Rules>(
 ) -> Option<(&'x str, Option<Reason>)>
     requires world { Names state.now.graph.types (ItemKind.Component world) }
     requires there { GivenThere state.now.graph (by_name given.now.entries) }
-    ensures { MatchOption result (AllFit (rules_by (R.passes rules.now) (R.named rules.now)) state.now.graph world (by_name given.now.entries)) (λ m. IsFirstMisfit (rules_by (R.passes rules.now) (R.named rules.now)) state.now.graph world (by_name given.now.entries) m.0.now m.1) }
+    ensures { MatchOption result (AllFit (rules_of R.Rules rules.now) state.now.graph world (by_name given.now.entries))
+        (λ m. IsFirstMisfit (rules_of R.Rules rules.now) state.now.graph world
+        (by_name given.now.entries) m.0.now m.1) }
 {
     for (name, node) in given.iter() {
         let text = name.as_str();

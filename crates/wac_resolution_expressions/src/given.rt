@@ -9,9 +9,9 @@ ghost use Rattle.wac_graph_types.specs.Table.{Names};
 ghost use Rattle.wac_ast_base.specs.Names.{ident_of};
 ghost use Rattle.wac_ast_expressions.specs.Expressions.{argument_name_of};
 ghost use Rattle.wac_graph.specs.Origin.{Naming};
-ghost use Rattle.wac_resolution_errors.specs.Error.{Reports};
 ghost use Rattle.wac_resolution_errors.specs.Told.{told};
 ghost use Rattle.wac_resolution_rules.specs.BrokenExpressions.{ArgumentBroken, IsFillNotLast};
+ghost use Rattle.wac_resolution_rules.specs.Errors.{ErrorSays};
 ghost use Rattle.wac_resolution_rules.specs.Expressions.{GivesOne, IsEmpty, name_meant};
 ghost use Rattle.wac_resolution_rules.specs.Given.{Given};
 ghost use Rattle.wac_resolution_nodes.specs.Root.{numbers_of, Agrees};
@@ -41,7 +41,7 @@ fn give(
     node: NodeId,
 ) -> Result<(), Error>
     ensures ok { OnOk result (GivesNode (by_name given.old.entries) (by_name given.new.entries) name.now node) }
-    ensures err { IfErr result (λ e. Reports (told e) (IsGiven (by_name given.old.entries) name.now span (told e))) }
+    ensures err { ErrorSays result (λ e. IsGiven (by_name given.old.entries) name.now span e) }
 {
     if find(given, name).is_some() {
         return Err(Error::DuplicateInstantiationArg {
@@ -63,8 +63,11 @@ pub fn give_named(
     given: &mut IndexMap<String, NodeId>,
 ) -> Result<(), Error>
     requires { Names state.now.graph.types (ItemKind.Component world) }
-    ensures ok { OnOk result (GivesFor (by_name given.old.entries) (by_name given.new.entries) (λ naming. name_meant (argument_name_of name.now) (imports_at naming state.now.graph world)) node) }
-    ensures err { IfErr result (λ e. Reports (told e) (IsGivenFor (by_name given.old.entries) (λ naming. name_meant (argument_name_of name.now) (imports_at naming state.now.graph world)) (argument_name_span (argument_name_of name.now)) (told e))) }
+    ensures ok { OnOk result (GivesFor (by_name given.old.entries) (by_name given.new.entries)
+        (λ naming. name_meant (argument_name_of name.now) (imports_at naming state.now.graph world)) node) }
+    ensures err { ErrorSays result (λ e. IsGivenFor (by_name given.old.entries)
+        (λ naming. name_meant (argument_name_of name.now) (imports_at naming state.now.graph world))
+        (argument_name_span (argument_name_of name.now)) e) }
 {
     let import = written_name(state, world, name)?;
     give(state.alloc, given, import.as_str(), name.span(), node)
@@ -83,8 +86,15 @@ pub fn give_inferred(
     requires agrees { Agrees state.now.graph root.now }
     requires world { Names state.now.graph.types (ItemKind.Component world) }
     requires there { GivenThere state.now.graph (by_name given.old.entries) }
-    ensures ok { OnOk result (Gave state.now.graph state.now.graph (by_name given.old.entries) (by_name given.new.entries) (numbers_of root.now.nodes) (λ naming old new. (s : Given) (rest : Arguments) → GivesOne s (imports_at naming state.now.graph world) rest old (ArgumentTree.inferred (ident_of id.now)) new)) }
-    ensures err { IfErr result (λ e. Reports (told e) ((naming : Naming) (s : Given) (rest : Arguments) → ArgumentBroken s (imports_at naming state.now.graph world) rest (giving_of naming state.now.graph (numbers_of root.now.nodes) (by_name given.old.entries)) (told e) (ArgumentTree.inferred (ident_of id.now)))) }
+    ensures ok { OnOk result (Gave state.now.graph state.now.graph (by_name given.old.entries)
+        (by_name given.new.entries) (numbers_of root.now.nodes)
+        (λ naming old new. (s : Given) (rest : Arguments)
+        → GivesOne s (imports_at naming state.now.graph world) rest old
+        (ArgumentTree.inferred (ident_of id.now)) new)) }
+    ensures err { ErrorSays result (λ e. (naming : Naming) (s : Given) (rest : Arguments)
+        → ArgumentBroken s (imports_at naming state.now.graph world) rest
+        (giving_of naming state.now.graph (numbers_of root.now.nodes) (by_name given.old.entries)) e
+        (ArgumentTree.inferred (ident_of id.now))) }
 {
     let node = root.node(state.alloc, id)?;
     let import = inferred_name(state, world, id.string, node)?;

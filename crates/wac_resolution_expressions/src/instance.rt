@@ -19,8 +19,10 @@ pub fn instantiate(
 ) -> Result<NodeId, AllocError>
     requires held { «package».0 < length state.old.graph.packages }
     requires there { GivenThere state.old.graph (by_name given.now.entries) }
-    requires imports { AllByRecursion (λ e. IsSome (import_kind state.old.graph «package».0 e.0)) (by_name given.now.entries) }
-    ensures { IfOk result (λ n. MakesInstance state.old.graph state.new.graph «package».0 (by_name given.now.entries) n.0) }
+    requires imports { AllByRecursion (λ e. IsSome (import_kind state.old.graph «package».0 e.0))
+        (by_name given.now.entries) }
+    ensures { IfOk result (λ n. MakesInstance state.old.graph state.new.graph «package».0
+        (by_name given.now.entries) n.0) }
 {
     // Its contract says that no name is given twice.
     let _count = given.len();

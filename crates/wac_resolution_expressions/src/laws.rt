@@ -21,18 +21,30 @@ ghost use Rattle.wac_resolution_expressions.specs.Growth.{Extends};
 
 /// A graph that gets nothing is extended, and so is one that gets types and packages, or nodes, and one that is extended twice.
 pub fn graphs_extend()
-    ensures nothing { (packages : List (Key × PackageParts)) (g : Parts) → NodesStand g → HoldsHanded packages g → Extends packages g g }
-    ensures expands { (packages : List (Key × PackageParts)) (old new : Parts) → Expands old new → NodesStand old → HoldsHanded packages new → declared_count new ≡ declared_count old → Extends packages old new }
-    ensures nodes { (packages : List (Key × PackageParts)) (old new : Parts) → GrowsNodes old new → HoldsHanded packages old → Extends packages old new }
-    ensures twice { (packages : List (Key × PackageParts)) (a b c : Parts) → Extends packages a b → Extends packages b c → Extends packages a c }
+    ensures nothing { (packages : List (Key × PackageParts)) (g : Parts)
+        → NodesStand g → HoldsHanded packages g → Extends packages g g }
+    ensures expands { (packages : List (Key × PackageParts)) (old new : Parts) → Expands old new → NodesStand old
+        → HoldsHanded packages new → declared_count new ≡ declared_count old → Extends packages old new }
+    ensures nodes { (packages : List (Key × PackageParts)) (old new : Parts)
+        → GrowsNodes old new → HoldsHanded packages old → Extends packages old new }
+    ensures twice { (packages : List (Key × PackageParts)) (a b c : Parts)
+        → Extends packages a b → Extends packages b c → Extends packages a c }
 {}
 
 /// Names at root still agree with the graph, given nodes still exist, and worlds and packages mean what they meant. The
 /// composition stays the same where no node is added.
 pub fn extending_keeps()
-    ensures agrees { (packages : List (Key × PackageParts)) (old new : Parts) → Extends packages old new → (root : Root) → Agrees old root → Agrees new root }
-    ensures given { (packages : List (Key × PackageParts)) (old new : Parts) → Extends packages old new → (all : Named NodeId) → GivenThere old all → GivenThere new all }
-    ensures imports { (packages : List (Key × PackageParts)) (old new : Parts) → Extends packages old new → (w : WorldId) → Names old.types (kinds.Component w) → (naming : Naming) → imports_at naming new w ≡ imports_at naming old w }
-    ensures contents { (packages : List (Key × PackageParts)) (old new : Parts) → Extends packages old new → HoldsHanded packages old → (i : ℕ) (p : HeldPackage) → slice_get old.packages i ≡ Some p → (naming : Naming) → contents_in naming new p ≡ contents_in naming old p }
-    ensures composition { (old new : Parts) → Expands old new → NodesStand old → declared_count new ≡ declared_count old → (naming : Naming) (declared : Named ℕ) → composition_of naming new declared ≡ composition_of naming old declared }
+    ensures agrees { (packages : List (Key × PackageParts)) (old new : Parts)
+        → Extends packages old new → (root : Root) → Agrees old root → Agrees new root }
+    ensures given { (packages : List (Key × PackageParts)) (old new : Parts)
+        → Extends packages old new → (all : Named NodeId) → GivenThere old all → GivenThere new all }
+    ensures imports { (packages : List (Key × PackageParts)) (old new : Parts) → Extends packages old new
+        → (w : WorldId) → Names old.types (kinds.Component w) → (naming : Naming)
+        → imports_at naming new w ≡ imports_at naming old w }
+    ensures contents { (packages : List (Key × PackageParts)) (old new : Parts) → Extends packages old new
+        → HoldsHanded packages old → (i : ℕ) (p : HeldPackage) → slice_get old.packages i ≡ Some p → (naming : Naming)
+        → contents_in naming new p ≡ contents_in naming old p }
+    ensures composition { (old new : Parts) → Expands old new → NodesStand old → declared_count new ≡ declared_count old
+        → (naming : Naming) (declared : Named ℕ)
+        → composition_of naming new declared ≡ composition_of naming old declared }
 {}

@@ -1,13 +1,12 @@
 //! Imports that are left out.
-ghost use Rattle.std.specs.Prelude.{◌≡◌, IfErr, OnOk, map, option_map};
+ghost use Rattle.std.specs.Prelude.{◌≡◌, OnOk, map, option_map};
 ghost use Rattle.wac_ast_grammar.specs.Tree.{arguments_from};
 ghost use Rattle.wac_graph_types.specs.Names.{by_name};
 ghost use Rattle.wac_graph_types.specs.Table.{Names};
 ghost use Rattle.wac_ast_base.specs.Names.{package_name_of};
 ghost use Rattle.wac_ast_expressions.specs.Expressions.{argument_of};
 ghost use Rattle.wac_graph.specs.Origin.{Naming};
-ghost use Rattle.wac_resolution_errors.specs.Error.{Reports};
-ghost use Rattle.wac_resolution_errors.specs.Told.{told};
+ghost use Rattle.wac_resolution_rules.specs.Errors.{ErrorSays};
 ghost use Rattle.wac_resolution_rules.specs.Expressions.{is_fill as fills, has_fill as fill_among, left_out as left_among, IsComplete};
 ghost use Rattle.wac_resolution_expressions.specs.Arguments.{given_nodes, first_name};
 ghost use Rattle.wac_resolution_expressions.specs.Incomplete.{IsIncomplete};
@@ -50,7 +49,9 @@ fn left_out<'x>(
     given: &IndexMap<String, NodeId>,
 ) -> Option<&'x str>
     requires { Names state.now.graph.types (ItemKind.Component world) }
-    ensures { (naming : Naming) → option_map (λ s. s.now) result ≡ first_name (left_among (imports_at naming state.now.graph world) (given_nodes (by_name given.now.entries))) }
+    ensures { (naming : Naming)
+        → option_map (λ s. s.now) result
+        ≡ first_name (left_among (imports_at naming state.now.graph world) (given_nodes (by_name given.now.entries))) }
 {
     let types = state.graph.types();
     match types.imports(world) {
@@ -68,8 +69,11 @@ pub fn check_complete(
     given: &IndexMap<String, NodeId>,
 ) -> Result<(), Error>
     requires world { Names state.now.graph.types (ItemKind.Component world) }
-    ensures ok { OnOk result ((naming : Naming) → IsComplete (imports_at naming state.now.graph world) (fill_among (arguments_from (map argument_of arguments.now))) (given_nodes (by_name given.now.entries))) }
-    ensures err { IfErr result (λ e. Reports (told e) (IsIncomplete state.now.graph world (package_name_of «package».now) (arguments_from (map argument_of arguments.now)) (given_nodes (by_name given.now.entries)) (told e))) }
+    ensures ok { OnOk result ((naming : Naming)
+        → IsComplete (imports_at naming state.now.graph world)
+        (fill_among (arguments_from (map argument_of arguments.now))) (given_nodes (by_name given.now.entries))) }
+    ensures err { ErrorSays result (λ e. IsIncomplete state.now.graph world (package_name_of «package».now)
+        (arguments_from (map argument_of arguments.now)) (given_nodes (by_name given.now.entries)) e) }
 {
     if has_fill(arguments) {
         return Ok(());

@@ -28,7 +28,9 @@ fn meant<'x>(
     name: &'x InstantiationArgumentName<'_>,
     imports: Option<&'x IndexMap<String, ItemKind>>,
 ) -> &'x str
-    ensures { (f : ℕ → Meaning) → result.now ≡ name_meant (argument_name_of name.now) (items_mean f (unwrap_or (option_map (λ m. by_name m.now.entries) imports.entry) [])) }
+    ensures { (f : ℕ → Meaning)
+        → result.now ≡ name_meant (argument_name_of name.now)
+        (items_mean f (unwrap_or (option_map (λ m. by_name m.now.entries) imports.entry) [])) }
 {
     match name {
         InstantiationArgumentName::Ident(id) => match imports {
@@ -46,7 +48,9 @@ pub(crate) fn written_import<'x>(
     name: &'x InstantiationArgumentName<'_>,
 ) -> &'x str
     requires { Names state.now.graph.types (ItemKind.Component world) }
-    ensures { (naming : Naming) → result.now ≡ name_meant (argument_name_of name.now) (imports_of (entry_means naming state.now.graph world.0)) }
+    ensures { (naming : Naming)
+        → result.now ≡ name_meant (argument_name_of name.now)
+        (imports_of (entry_means naming state.now.graph world.0)) }
 {
     let types = state.graph.types();
     let imports = types.imports(world);
@@ -60,7 +64,9 @@ pub fn written_name(
     name: &InstantiationArgumentName<'_>,
 ) -> Result<String, AllocError>
     requires { Names state.now.graph.types (ItemKind.Component world) }
-    ensures { IfOk result (λ s. (naming : Naming) → string_bytes s ≡ name_meant (argument_name_of name.now) (imports_of (entry_means naming state.now.graph world.0))) }
+    ensures { IfOk result (λ s. (naming : Naming)
+        → string_bytes s ≡ name_meant (argument_name_of name.now)
+        (imports_of (entry_means naming state.now.graph world.0))) }
 {
     String::from_str(state.alloc, written_import(state, world, name))
 }
@@ -68,7 +74,9 @@ pub fn written_name(
 /// The name, where it is among the imports.
 #[tactic(auto, using(crate::proofs::Imports::imported_names))]
 fn imported<'x>(imports: &IndexMap<String, ItemKind>, name: Option<&'x str>) -> Option<&'x str>
-    ensures { (f : ℕ → Meaning) → option_map (λ s. s.now) result ≡ if_imported (items_mean f (by_name imports.now.entries)) (option_map (λ s. s.now) name.entry) }
+    ensures { (f : ℕ → Meaning)
+        → option_map (λ s. s.now) result
+        ≡ if_imported (items_mean f (by_name imports.now.entries)) (option_map (λ s. s.now) name.entry) }
 {
     let name = name?;
     match find(imports, name) {
@@ -83,7 +91,10 @@ fn known<'x>(
     id: Option<&'x str>,
     own: Option<&'x str>,
 ) -> Option<&'x str>
-    ensures { (f : ℕ → Meaning) → option_map (λ s. s.now) result ≡ option_or (if_imported (items_mean f (by_name imports.now.entries)) (option_map (λ s. s.now) id.entry)) (if_imported (items_mean f (by_name imports.now.entries)) (option_map (λ s. s.now) own.entry)) }
+    ensures { (f : ℕ → Meaning)
+        → option_map (λ s. s.now) result
+        ≡ option_or (if_imported (items_mean f (by_name imports.now.entries)) (option_map (λ s. s.now) id.entry))
+        (if_imported (items_mean f (by_name imports.now.entries)) (option_map (λ s. s.now) own.entry)) }
 {
     match imported(imports, id) {
         Some(found) => Some(found),
@@ -98,7 +109,11 @@ fn inferred<'x>(
     id: Option<&'x str>,
     own: Option<&'x str>,
 ) -> &'x str
-    ensures { (f : ℕ → Meaning) → result.now ≡ unwrap_or (option_or (if_imported (items_mean f (by_name imports.now.entries)) (option_map (λ s. s.now) id.entry)) (if_imported (items_mean f (by_name imports.now.entries)) (option_map (λ s. s.now) own.entry))) (found_name name.now (items_mean f (by_name imports.now.entries))) }
+    ensures { (f : ℕ → Meaning)
+        → result.now ≡ unwrap_or
+        (option_or (if_imported (items_mean f (by_name imports.now.entries)) (option_map (λ s. s.now) id.entry))
+        (if_imported (items_mean f (by_name imports.now.entries)) (option_map (λ s. s.now) own.entry)))
+        (found_name name.now (items_mean f (by_name imports.now.entries))) }
 {
     match known(imports, id, own) {
         Some(found) => found,
@@ -115,7 +130,9 @@ pub(crate) fn inferred_import<'x>(
 ) -> &'x str
     requires named { Names state.now.graph.types (ItemKind.Component world) }
     requires there { node.0 < length state.now.graph.nodes }
-    ensures { (naming : Naming) (declared : Named ℕ) → option_map (name_inferred (imports_of (entry_means naming state.now.graph world.0)) name.now) (node_at (composition_of naming state.now.graph declared) node.0) ≡ Some result.now }
+    ensures { (naming : Naming) (declared : Named ℕ)
+        → option_map (name_inferred (imports_of (entry_means naming state.now.graph world.0)) name.now)
+        (node_at (composition_of naming state.now.graph declared) node.0) ≡ Some result.now }
 {
     let types = state.graph.types();
     match types.imports(world) {
@@ -137,7 +154,9 @@ pub fn inferred_name(
 ) -> Result<String, AllocError>
     requires named { Names state.now.graph.types (ItemKind.Component world) }
     requires there { node.0 < length state.now.graph.nodes }
-    ensures { IfOk result (λ s. (naming : Naming) (declared : Named ℕ) → option_map (name_inferred (imports_of (entry_means naming state.now.graph world.0)) name.now) (node_at (composition_of naming state.now.graph declared) node.0) ≡ Some (string_bytes s)) }
+    ensures { IfOk result (λ s. (naming : Naming) (declared : Named ℕ)
+        → option_map (name_inferred (imports_of (entry_means naming state.now.graph world.0)) name.now)
+        (node_at (composition_of naming state.now.graph declared) node.0) ≡ Some (string_bytes s)) }
 {
     let import = inferred_import(state, world, name, node);
     let copy = String::from_str(state.alloc, import)?;

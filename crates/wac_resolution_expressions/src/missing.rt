@@ -15,7 +15,9 @@ pub fn missing_import<'x>(
     imports: &'x IndexMap<String, ItemKind>,
     given: &IndexMap<String, NodeId>,
 ) -> Option<&'x str>
-    ensures { (f : ℕ → Meaning) → option_map (λ s. s.now) result ≡ first_name (left_out (items_mean f (by_name imports.now.entries)) (given_nodes (by_name given.now.entries))) }
+    ensures { (f : ℕ → Meaning)
+        → option_map (λ s. s.now) result
+        ≡ first_name (left_out (items_mean f (by_name imports.now.entries)) (given_nodes (by_name given.now.entries))) }
 {
     for (name, _) in imports.iter() {
         if find(given, name.as_str()).is_none() {

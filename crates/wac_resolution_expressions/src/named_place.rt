@@ -33,7 +33,9 @@ fn place_named<'x>(
 ) -> Option<SourceSpan>
     requires agrees { Agrees state.now.graph root.now }
     requires world { Names state.now.graph.types (ItemKind.Component world) }
-    ensures { (naming : Naming) → look_up name.now (argument_place (composed naming state.now.graph root.now) (imports_at naming state.now.graph world) (argument_of argument.now)) ≡ result }
+    ensures { (naming : Naming)
+        → look_up name.now (argument_place (composed naming state.now.graph root.now)
+        (imports_at naming state.now.graph world) (argument_of argument.now)) ≡ result }
 {
     match own_place(state, root, world, argument) {
         Some(place) => if_named(place.0, place.1, name),
@@ -51,7 +53,9 @@ pub fn own_places<'x>(
 ) -> Option<SourceSpan>
     requires agrees { Agrees state.now.graph root.now }
     requires world { Names state.now.graph.types (ItemKind.Component world) }
-    ensures { (naming : Naming) → look_up name.now (places_of_own (composed naming state.now.graph root.now) (imports_at naming state.now.graph world) (arguments_from (map argument_of arguments.now))) ≡ result }
+    ensures { (naming : Naming)
+        → look_up name.now (places_of_own (composed naming state.now.graph root.now)
+        (imports_at naming state.now.graph world) (arguments_from (map argument_of arguments.now))) ≡ result }
 {
     for argument in arguments {
         match place_named(state, root, world, argument, name) {

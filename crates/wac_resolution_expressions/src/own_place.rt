@@ -27,7 +27,9 @@ fn inferred_place<'x>(
 ) -> Option<(&'x str, SourceSpan)>
     requires agrees { Agrees state.now.graph root.now }
     requires world { Names state.now.graph.types (ItemKind.Component world) }
-    ensures { (naming : Naming) → argument_place (composed naming state.now.graph root.now) (imports_at naming state.now.graph world) (ArgumentTree.inferred (ident_of id.now)) ≡ at_most_one (option_map (λ p. (p.0.now, p.1)) result) }
+    ensures { (naming : Naming)
+        → argument_place (composed naming state.now.graph root.now) (imports_at naming state.now.graph world)
+        (ArgumentTree.inferred (ident_of id.now)) ≡ at_most_one (option_map (λ p. (p.0.now, p.1)) result) }
 {
     match root.nodes.find(id.string) {
         Some(node) => {
@@ -47,7 +49,9 @@ pub fn own_place<'x>(
 ) -> Option<(&'x str, SourceSpan)>
     requires agrees { Agrees state.now.graph root.now }
     requires world { Names state.now.graph.types (ItemKind.Component world) }
-    ensures { (naming : Naming) → argument_place (composed naming state.now.graph root.now) (imports_at naming state.now.graph world) (argument_of argument.now) ≡ at_most_one (option_map (λ p. (p.0.now, p.1)) result) }
+    ensures { (naming : Naming)
+        → argument_place (composed naming state.now.graph root.now) (imports_at naming state.now.graph world)
+        (argument_of argument.now) ≡ at_most_one (option_map (λ p. (p.0.now, p.1)) result) }
 {
     match argument {
         InstantiationArgument::Inferred(id) => inferred_place(state, root, world, id),

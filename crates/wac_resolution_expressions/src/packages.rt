@@ -1,11 +1,12 @@
 //! Packages that are instantiated.
-ghost use Rattle.std.specs.Prelude.{◌≡◌, IfOk, IfErr, MatchOption};
+ghost use Rattle.std.specs.Prelude.{◌≡◌, IfOk, MatchOption};
 ghost use Rattle.std.specs.Str.{bytes_eq};
 ghost use Rattle.wac_ast_base.specs.Names.{package_name_of};
 ghost use Rattle.wac_graph.specs.Origin.{Naming};
-ghost use Rattle.wac_resolution_errors.specs.Error.{Reports, unknown_package};
+ghost use Rattle.wac_resolution_errors.specs.Error.{unknown_package};
 ghost use Rattle.wac_resolution_errors.specs.Told.{told};
 ghost use Rattle.wac_resolution_rules.specs.BrokenExpressions.{IsUnknownPackage};
+ghost use Rattle.wac_resolution_rules.specs.Errors.{ErrorSays};
 ghost use Rattle.wac_resolution_rules.specs.Given.{Rules, key_named};
 ghost use Rattle.wac_resolution_nodes.specs.Nodes.{NodesStand};
 ghost use Rattle.wac_resolution_paths.specs.Expands.{HoldsHanded, Loads, IsNotHanded};
@@ -55,7 +56,10 @@ fn load(
     package: &PackageName<'_>,
 ) -> Result<Option<PackageId>, AllocError>
     requires { HoldsHanded (packages_in setting.now) state.old.graph }
-    ensures { IfOk result (λ o. MatchOption o (IsNotHanded (packages_in setting.now) (key_named (package_name_of «package».now))) (λ id. Loads (packages_in setting.now) state.old.graph state.new.graph (key_named (package_name_of «package».now)) id.0)) }
+    ensures { IfOk result (λ o. MatchOption o
+        (IsNotHanded (packages_in setting.now) (key_named (package_name_of «package».now)))
+        (λ id. Loads (packages_in setting.now) state.old.graph state.new.graph
+        (key_named (package_name_of «package».now)) id.0)) }
 {
     let key = package_key(state.alloc, package.name, package.string)?;
     load_package(state, setting, &key)
@@ -70,8 +74,10 @@ pub fn instantiable(
 ) -> Result<Loaded, Error>
     requires stand { NodesStand state.old.graph }
     requires handed { HoldsHanded (packages_in setting.now) state.old.graph }
-    ensures ok { IfOk result (λ p. IsInstantiable setting.now state.old.graph state.new.graph (package_name_of «package».now) p) }
-    ensures err { IfErr result (λ e. Reports (told e) ((naming : Naming) (rules : Rules) → IsUnknownPackage (given_in naming setting.now rules) (package_name_of «package».now) (told e))) }
+    ensures ok { IfOk result (λ p. IsInstantiable setting.now state.old.graph state.new.graph
+        (package_name_of «package».now) p) }
+    ensures err { ErrorSays result (λ e. (naming : Naming) (rules : Rules)
+        → IsUnknownPackage (given_in naming setting.now rules) (package_name_of «package».now) e) }
 {
     if is_own(setting, package) {
         return Err(unknown(state.alloc, package)?);

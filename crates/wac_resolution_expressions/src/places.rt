@@ -26,7 +26,9 @@ use wac_resolution_state::State;
 /// The span, if the node is an instance that exports the name.
 fn if_exported(state: &State, node: NodeId, name: &str, span: SourceSpan) -> Option<SourceSpan>
     requires { node.0 < length state.now.graph.nodes }
-    ensures { (naming : Naming) (declared : Named ℕ) → look_up name.now (exports_at span (instance_at (composition_of naming state.now.graph declared) node.0)) ≡ result }
+    ensures { (naming : Naming) (declared : Named ℕ)
+        → look_up name.now (exports_at span
+        (instance_at (composition_of naming state.now.graph declared) node.0)) ≡ result }
 {
     // Its contract says that the table is sound, and what its entries mean.
     let _types = state.graph.types();
@@ -42,7 +44,8 @@ fn if_exported(state: &State, node: NodeId, name: &str, span: SourceSpan) -> Opt
 /// The place of a spread, if it is of an instance that exports the name.
 fn spread_place(state: &State, root: &Root<'_>, id: &Ident<'_>, name: &str) -> Option<SourceSpan>
     requires { Agrees state.now.graph root.now }
-    ensures { (naming : Naming) → look_up name.now (places_of_spread (composed naming state.now.graph root.now) (ident_of id.now)) ≡ result }
+    ensures { (naming : Naming)
+        → look_up name.now (places_of_spread (composed naming state.now.graph root.now) (ident_of id.now)) ≡ result }
 {
     match root.nodes.find(id.string) {
         Some(node) => if_exported(state, node, name, id.span),
@@ -58,7 +61,9 @@ fn if_spread(
     name: &str,
 ) -> Option<SourceSpan>
     requires { Agrees state.now.graph root.now }
-    ensures { (naming : Naming) → look_up name.now (flat_map (places_of_spread (composed naming state.now.graph root.now)) (spread_of (argument_of argument.now))) ≡ result }
+    ensures { (naming : Naming)
+        → look_up name.now (flat_map (places_of_spread (composed naming state.now.graph root.now))
+        (spread_of (argument_of argument.now))) ≡ result }
 {
     match argument {
         InstantiationArgument::Spread(id) => spread_place(state, root, id, name),
@@ -74,7 +79,9 @@ fn spread_places(
     name: &str,
 ) -> Option<SourceSpan>
     requires { Agrees state.now.graph root.now }
-    ensures { (naming : Naming) → look_up name.now (flat_map (places_of_spread (composed naming state.now.graph root.now)) (spreads_of (arguments_from (map argument_of arguments.now)))) ≡ result }
+    ensures { (naming : Naming)
+        → look_up name.now (flat_map (places_of_spread (composed naming state.now.graph root.now))
+        (spreads_of (arguments_from (map argument_of arguments.now)))) ≡ result }
 {
     for argument in arguments {
         match if_spread(state, root, argument, name) {
@@ -95,7 +102,9 @@ pub fn place(
 ) -> Option<SourceSpan>
     requires agrees { Agrees state.now.graph root.now }
     requires world { Names state.now.graph.types (ItemKind.Component world) }
-    ensures { (naming : Naming) → look_up name.now (argument_places (composed naming state.now.graph root.now) (imports_at naming state.now.graph world) (arguments_from (map argument_of arguments.now))) ≡ result }
+    ensures { (naming : Naming)
+        → look_up name.now (argument_places (composed naming state.now.graph root.now)
+        (imports_at naming state.now.graph world) (arguments_from (map argument_of arguments.now))) ≡ result }
 {
     match own_places(state, root, world, arguments, name) {
         Some(span) => Some(span),

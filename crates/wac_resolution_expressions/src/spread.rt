@@ -28,7 +28,8 @@ fn copied_names(alloc: Global, all: &IndexMap<String, ItemKind>) -> Result<Vec<S
 
 /// The names of what a world imports, copied.
 fn import_names(state: &State, world: WorldId) -> Result<Vec<String>, AllocError>
-    ensures { IfOk result (λ names. map string_bytes names.items ≡ names_of (world_imports state.now.graph.types world.0)) }
+    ensures { IfOk result (λ names. map string_bytes names.items
+        ≡ names_of (world_imports state.now.graph.types world.0)) }
 {
     let types = state.graph.types();
     match types.imports(world) {
@@ -46,7 +47,8 @@ fn spread_name(
 ) -> Result<(), AllocError>
     requires agrees { NodesStand state.old.graph }
     requires there { GivenThere state.old.graph (by_name given.old.entries) }
-    ensures { OnOk result (NamesSpread state.old.graph state.new.graph (by_name given.old.entries) (by_name given.new.entries) node.0 (name.now ∷ [])) }
+    ensures { OnOk result (NamesSpread state.old.graph state.new.graph (by_name given.old.entries)
+        (by_name given.new.entries) node.0 (name.now ∷ [])) }
 {
     if find(given, name).is_some() {
         return Ok(());
@@ -68,7 +70,8 @@ fn spread_names(
 ) -> Result<(), AllocError>
     requires agrees { NodesStand state.old.graph }
     requires there { GivenThere state.old.graph (by_name given.old.entries) }
-    ensures { OnOk result (NamesSpread state.old.graph state.new.graph (by_name given.old.entries) (by_name given.new.entries) node.0 (map string_bytes names.now)) }
+    ensures { OnOk result (NamesSpread state.old.graph state.new.graph (by_name given.old.entries)
+        (by_name given.new.entries) node.0 (map string_bytes names.now)) }
 {
     for name in names {
         spread_name(state, node, name.as_str(), given)?;
@@ -86,7 +89,8 @@ pub(crate) fn spread_from(
     requires agrees { NodesStand state.old.graph }
     requires there { GivenThere state.old.graph (by_name given.old.entries) }
     requires world { Names state.old.graph.types (ItemKind.Component world) }
-    ensures { OnOk result (NodeSpread state.old.graph state.new.graph (by_name given.old.entries) (by_name given.new.entries) node.0 world) }
+    ensures { OnOk result (NodeSpread state.old.graph state.new.graph (by_name given.old.entries)
+        (by_name given.new.entries) node.0 world) }
 {
     // Its contract says that the table is sound, and what its entries mean.
     let _types = state.graph.types();

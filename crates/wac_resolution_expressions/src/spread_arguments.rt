@@ -8,10 +8,11 @@ ghost use Rattle.wac_ast_grammar.specs.Tree.{arguments_from};
 ghost use Rattle.wac_ast_base.specs.Names.{ident_of};
 ghost use Rattle.wac_ast_expressions.specs.Expressions.{argument_of};
 ghost use Rattle.wac_graph.specs.Origin.{Naming};
-ghost use Rattle.wac_resolution_errors.specs.Error.{Reports, spread_instantiation_no_match};
+ghost use Rattle.wac_resolution_errors.specs.Error.{spread_instantiation_no_match};
 ghost use Rattle.wac_resolution_errors.specs.Told.{told};
 ghost use Rattle.wac_resolution_rules.specs.Expressions.{Spreads, spread_of, spreads_of};
 ghost use Rattle.wac_resolution_rules.specs.BrokenExpressions.{SpreadBroken};
+ghost use Rattle.wac_resolution_rules.specs.Errors.{ErrorSays};
 ghost use Rattle.wac_resolution_nodes.specs.Root.{numbers_of, Agrees};
 ghost use Rattle.wac_resolution_expressions.specs.GivenByNodes.{Gave};
 ghost use Rattle.wac_resolution_expressions.specs.Spreads.{giving_of, imports_at, GivenThere};
@@ -54,8 +55,13 @@ fn spread(
     requires agrees { Agrees state.old.graph root.now }
     requires there { GivenThere state.old.graph (by_name given.old.entries) }
     requires world { Names state.old.graph.types (ItemKind.Component world) }
-    ensures ok { OnOk result (Gave state.old.graph state.new.graph (by_name given.old.entries) (by_name given.new.entries) (numbers_of root.now.nodes) (λ naming old new. Spreads (imports_at naming state.old.graph world) old (ident_of id.now) new)) }
-    ensures err { IfErr result (λ e. Reports (told e) ((naming : Naming) (before : List IdentTree) → SpreadBroken (imports_at naming state.old.graph world) (told e) (giving_of naming state.old.graph (numbers_of root.now.nodes) (by_name given.old.entries)) before (ident_of id.now))) }
+    ensures ok { OnOk result (Gave state.old.graph state.new.graph (by_name given.old.entries)
+        (by_name given.new.entries) (numbers_of root.now.nodes)
+        (λ naming old new. Spreads (imports_at naming state.old.graph world) old (ident_of id.now) new)) }
+    ensures err { ErrorSays result (λ e. (naming : Naming) (before : List IdentTree)
+        → SpreadBroken (imports_at naming state.old.graph world) e
+        (giving_of naming state.old.graph (numbers_of root.now.nodes) (by_name given.old.entries))
+        before (ident_of id.now)) }
 {
     let node = root.node(state.alloc, id)?;
     instance(state, node, InstanceOperation::Spread, id.span)?;
@@ -76,8 +82,15 @@ fn spread_argument(
     requires agrees { Agrees state.old.graph root.now }
     requires there { GivenThere state.old.graph (by_name given.old.entries) }
     requires world { Names state.old.graph.types (ItemKind.Component world) }
-    ensures ok { OnOk result (Gave state.old.graph state.new.graph (by_name given.old.entries) (by_name given.new.entries) (numbers_of root.now.nodes) (λ naming old new. Steps (Spreads (imports_at naming state.old.graph world)) old (spread_of (argument_of argument.now)) new)) }
-    ensures err { IfErr result (λ e. Reports (told e) ((naming : Naming) → Fails (Spreads (imports_at naming state.old.graph world)) (SpreadBroken (imports_at naming state.old.graph world) (told e)) (giving_of naming state.old.graph (numbers_of root.now.nodes) (by_name given.old.entries)) (spread_of (argument_of argument.now)))) }
+    ensures ok { OnOk result (Gave state.old.graph state.new.graph (by_name given.old.entries)
+        (by_name given.new.entries) (numbers_of root.now.nodes)
+        (λ naming old new. Steps (Spreads (imports_at naming state.old.graph world)) old
+        (spread_of (argument_of argument.now)) new)) }
+    ensures err { ErrorSays result (λ e. (naming : Naming)
+        → Fails (Spreads (imports_at naming state.old.graph world))
+        (SpreadBroken (imports_at naming state.old.graph world) e)
+        (giving_of naming state.old.graph (numbers_of root.now.nodes) (by_name given.old.entries))
+        (spread_of (argument_of argument.now))) }
 {
     match argument {
         InstantiationArgument::Spread(id) => {
@@ -99,8 +112,15 @@ pub fn spreads(
     requires agrees { Agrees state.old.graph root.now }
     requires there { GivenThere state.old.graph (by_name given.old.entries) }
     requires world { Names state.old.graph.types (ItemKind.Component world) }
-    ensures ok { OnOk result (Gave state.old.graph state.new.graph (by_name given.old.entries) (by_name given.new.entries) (numbers_of root.now.nodes) (λ naming old new. Steps (Spreads (imports_at naming state.old.graph world)) old (spreads_of (arguments_from (map argument_of arguments.now))) new)) }
-    ensures err { IfErr result (λ e. Reports (told e) ((naming : Naming) → Fails (Spreads (imports_at naming state.old.graph world)) (SpreadBroken (imports_at naming state.old.graph world) (told e)) (giving_of naming state.old.graph (numbers_of root.now.nodes) (by_name given.old.entries)) (spreads_of (arguments_from (map argument_of arguments.now))))) }
+    ensures ok { OnOk result (Gave state.old.graph state.new.graph (by_name given.old.entries)
+        (by_name given.new.entries) (numbers_of root.now.nodes)
+        (λ naming old new. Steps (Spreads (imports_at naming state.old.graph world)) old
+        (spreads_of (arguments_from (map argument_of arguments.now))) new)) }
+    ensures err { ErrorSays result (λ e. (naming : Naming)
+        → Fails (Spreads (imports_at naming state.old.graph world))
+        (SpreadBroken (imports_at naming state.old.graph world) e)
+        (giving_of naming state.old.graph (numbers_of root.now.nodes) (by_name given.old.entries))
+        (spreads_of (arguments_from (map argument_of arguments.now)))) }
 {
     for argument in arguments {
         spread_argument(state, root, world, argument, given)?;

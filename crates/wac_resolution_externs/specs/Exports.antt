@@ -37,7 +37,8 @@ abbrev pub all_at : Span → List (List ℕ) → Named Span
 all_at span names = map (λ name. (name, span)) names
 
 -- these names were exported, each at this place
-pub record ExportsGo (span : Span) (old new : Parts) (root : Root) (before after : Externs) (names : List (List ℕ)) (leads : Leading) : Type 0 where
+pub record ExportsGo (span : Span) (old new : Parts) (root : Root) (before after : Externs) (names : List (List ℕ))
+    (leads : Leading) : Type 0 where
   pub grows : GrowsExports old new
   pub exports : names_of new.exports ≡ names_of old.exports ++ names
   pub imported : imported_in after ≡ imported_in before
@@ -45,7 +46,8 @@ pub record ExportsGo (span : Span) (old new : Parts) (root : Root) (before after
   pub goes : (naming : Naming) → leads naming (composed naming old root) (composed naming new root)
 
 -- something was exported, each name at this place
-pub record Exported (span : Span) (old new : Parts) (root : Root) (before after : Externs) (leads : Leading) : Type 0 where
+pub record Exported (span : Span) (old new : Parts) (root : Root) (before after : Externs) (leads : Leading) : Type
+    0 where
   pub grows : GrowsExports old new
   pub placed : ArePlaced new after
   pub imported : imported_in after ≡ imported_in before

@@ -1,11 +1,10 @@
 //! Tests of the names of imports and exports.
-ghost use Rattle.std.specs.Prelude.{◌≡◌, ℕ, None, OnOk, IfErr, IfSome, option_map};
+ghost use Rattle.std.specs.Prelude.{◌≡◌, ℕ, None, OnOk, IfSome, option_map};
 ghost use Rattle.wac_graph_types.specs.Scope.{Named, IsFresh, StandsFor};
 ghost use Rattle.wac_graph.specs.Means.{means};
 ghost use Rattle.wac_graph.specs.Origin.{Naming};
-ghost use Rattle.wac_resolution_errors.specs.Error.{Reports};
-ghost use Rattle.wac_resolution_errors.specs.Told.{told};
 ghost use Rattle.wac_resolution_rules.specs.BrokenStatements.{IsExportConflict, IsExportedAlready, IsInvalidName, ExportAsBroken};
+ghost use Rattle.wac_resolution_rules.specs.Errors.{ErrorSays};
 ghost use Rattle.wac_resolution_rules.specs.Places.{Places};
 ghost use Rattle.wac_resolution_rules.specs.Statements.{definition_bound};
 ghost use Rattle.wac_resolution_nodes.specs.Nodes.{composition_of};
@@ -26,7 +25,9 @@ use wac_resolution_state::State;
 /// The kind of the definition to which a name is bound at root, and where.
 fn definition(state: &State, root: &Root<'_>, name: &str) -> Option<(ItemKind, SourceSpan)>
     requires { Agrees state.now.graph root.now }
-    ensures kind { (naming : Naming) → option_map (λ d. means naming state.now.graph d.0) result ≡ definition_bound (composed naming state.now.graph root.now) name.now }
+    ensures kind { (naming : Naming)
+        → option_map (λ d. means naming state.now.graph d.0) result
+        ≡ definition_bound (composed naming state.now.graph root.now) name.now }
     ensures place { IfSome result (λ d. StandsFor (places root.now) name.now d.1) }
 {
     let node = root.nodes.find(name)?;
@@ -41,8 +42,11 @@ fn definition(state: &State, root: &Root<'_>, name: &str) -> Option<(ItemKind, S
 #[tactic(auto, using(wac_resolution_state::proofs::Scopes::memory_told))]
 fn check_undefined(state: &State, root: &Root<'_>, name: &NewName<'_>) -> Result<(), Error>
     requires { Agrees state.now.graph root.now }
-    ensures ok { OnOk result ((naming : Naming) → definition_bound (composed naming state.now.graph root.now) name.now.text.now ≡ None) }
-    ensures err { IfErr result (λ e. Reports (told e) ((naming : Naming) (all : Places) → all.bound ≡ places root.now → IsExportConflict (composed naming state.now.graph root.now) all name.now.text.now name.now.span (help_of name.now) (told e))) }
+    ensures ok { OnOk result ((naming : Naming)
+        → definition_bound (composed naming state.now.graph root.now) name.now.text.now ≡ None) }
+    ensures err { ErrorSays result (λ e. (naming : Naming) (all : Places) → all.bound ≡ places root.now
+        → IsExportConflict (composed naming state.now.graph root.now) all name.now.text.now name.now.span
+        (help_of name.now) e) }
 {
     match definition(state, root, name.text) {
         Some((kind, definition)) => Err(Error::ExportConflict {
@@ -61,7 +65,10 @@ fn check_undefined(state: &State, root: &Root<'_>, name: &NewName<'_>) -> Result
 fn check_unexported(state: &State, externs: &Externs, name: &NewName<'_>) -> Result<(), Error>
     requires { ArePlaced state.now.graph externs.now }
     ensures ok { OnOk result (IsFresh name.now.text.now state.now.graph.exports) }
-    ensures err { IfErr result (λ e. Reports (told e) ((naming : Naming) (declared : Named ℕ) (all : Places) → all.exported ≡ exported_in externs.now → IsExportedAlready (composition_of naming state.now.graph declared) all name.now.text.now name.now.span (help_of name.now) (told e))) }
+    ensures err { ErrorSays result (λ e. (naming : Naming) (declared : Named ℕ) (all : Places)
+        → all.exported ≡ exported_in externs.now
+        → IsExportedAlready (composition_of naming state.now.graph declared) all name.now.text.now name.now.span
+        (help_of name.now) e) }
 {
     match find(&externs.exported, name.text) {
         Some(previous) => Err(Error::DuplicateExternName {
@@ -84,7 +91,8 @@ pub fn check_name<R: Rules>(
     name: &NewName<'_>,
 ) -> Result<(), Error>
     ensures ok { OnOk result (R.named rules.now name.now.text.now ≡ None) }
-    ensures err { IfErr result (λ e. Reports (told e) (Under (R.named rules.now) (λ s. IsInvalidName s name.now.text.now kind name.now.span (told e)))) }
+    ensures err { ErrorSays result (λ e. Under (R.named rules.now)
+        (λ s. IsInvalidName s name.now.text.now kind name.now.span e)) }
 {
     match rules.extern_name(name.text) {
         Ok(()) => Ok(()),
@@ -108,7 +116,10 @@ pub(crate) fn check_export<R: Rules>(
     requires agrees { Agrees state.now.graph root.now }
     requires placed { ArePlaced state.now.graph externs.now }
     ensures ok { OnOk result (MayExport (R.named rules.now) state.now.graph root.now name.now.text.now) }
-    ensures err { IfErr result (λ e. Reports (told e) ((naming : Naming) → Under (R.named rules.now) (λ s. ExportAsBroken s (composed naming state.now.graph root.now) (places_in root.now externs.now) name.now.text.now name.now.span (help_of name.now) (told e)))) }
+    ensures err { ErrorSays result (λ e. (naming : Naming)
+        → Under (R.named rules.now)
+        (λ s. ExportAsBroken s (composed naming state.now.graph root.now) (places_in root.now externs.now)
+        name.now.text.now name.now.span (help_of name.now) e)) }
 {
     check_undefined(state, root, name)?;
     check_unexported(state, externs, name)?;

@@ -1,11 +1,10 @@
 //! Exports.
-ghost use Rattle.std.specs.Prelude.{◌≡◌, ◌<◌, [], ◌∷◌, OnOk, IfErr, IfSome, IsSome, length};
+ghost use Rattle.std.specs.Prelude.{◌≡◌, ◌<◌, [], ◌∷◌, OnOk, IfSome, IsSome, length};
 ghost use Rattle.wac_graph.specs.Graph.{export_kind};
 ghost use Rattle.wac_graph.specs.Means.{means};
 ghost use Rattle.wac_graph.specs.Origin.{Naming};
-ghost use Rattle.wac_resolution_errors.specs.Error.{Reports};
-ghost use Rattle.wac_resolution_errors.specs.Told.{told};
 ghost use Rattle.wac_resolution_rules.specs.BrokenStatements.{ExportAsBroken};
+ghost use Rattle.wac_resolution_rules.specs.Errors.{ErrorSays};
 ghost use Rattle.wac_resolution_rules.specs.Expressions.{at, alias_at};
 ghost use Rattle.wac_resolution_rules.specs.Statements.{ExportsAs, ExportsOne};
 ghost use Rattle.wac_resolution_nodes.specs.Root.{composed, Agrees};
@@ -32,8 +31,13 @@ pub fn export_as<R: Rules>(
     requires agrees { Agrees state.old.graph root.now }
     requires placed { ArePlaced state.old.graph externs.old }
     requires there { node.0 < length state.old.graph.nodes }
-    ensures ok { OnOk result (ExportsGo name.now.span state.old.graph state.new.graph root.now externs.old externs.new (name.now.text.now ∷ []) (λ naming c d. Under (R.named rules.now) (λ s. ExportsAs s c name.now.text.now node.0 d))) }
-    ensures err { IfErr result (λ e. Reports (told e) ((naming : Naming) → Under (R.named rules.now) (λ s. ExportAsBroken s (composed naming state.old.graph root.now) (places_in root.now externs.old) name.now.text.now name.now.span (help_of name.now) (told e)))) }
+    ensures ok { OnOk result (ExportsGo name.now.span state.old.graph state.new.graph root.now externs.old externs.new
+        (name.now.text.now ∷ [])
+        (λ naming c d. Under (R.named rules.now) (λ s. ExportsAs s c name.now.text.now node.0 d))) }
+    ensures err { ErrorSays result (λ e. (naming : Naming)
+        → Under (R.named rules.now)
+        (λ s. ExportAsBroken s (composed naming state.old.graph root.now) (places_in root.now externs.old)
+        name.now.text.now name.now.span (help_of name.now) e)) }
 {
     check_export(state, rules, root, externs, name)?;
     state.graph.add_export(name.text, node)?;
@@ -53,8 +57,16 @@ pub fn export_alias<R: Rules>(
     requires agrees { Agrees state.old.graph root.now }
     requires placed { ArePlaced state.old.graph externs.old }
     requires exported { IsSome (export_kind state.old.graph node.0 name.now.text.now) }
-    ensures ok { OnOk result (IfSome (export_kind state.old.graph node.0 name.now.text.now) (λ k. ExportsGo name.now.span state.old.graph state.new.graph root.now externs.old externs.new (name.now.text.now ∷ []) (λ naming c d. Under (R.named rules.now) (λ s. ExportsOne s node.0 c (name.now.text.now, means naming state.old.graph k) d)))) }
-    ensures err { IfErr result (λ e. Reports (told e) (IfSome (export_kind state.old.graph node.0 name.now.text.now) (λ k. (naming : Naming) → Under (R.named rules.now) (λ s. ExportAsBroken s (alias_at (at (composed naming state.old.graph root.now) node.0) name.now.text.now (means naming state.old.graph k)).composition (places_in root.now externs.old) name.now.text.now name.now.span (help_of name.now) (told e))))) }
+    ensures ok { OnOk result (IfSome (export_kind state.old.graph node.0 name.now.text.now)
+        (λ k. ExportsGo name.now.span state.old.graph state.new.graph root.now externs.old externs.new
+        (name.now.text.now ∷ [])
+        (λ naming c d. Under (R.named rules.now)
+        (λ s. ExportsOne s node.0 c (name.now.text.now, means naming state.old.graph k) d)))) }
+    ensures err { ErrorSays result (λ e. IfSome (export_kind state.old.graph node.0 name.now.text.now)
+        (λ k. (naming : Naming) → Under (R.named rules.now)
+        (λ s. ExportAsBroken s (alias_at (at (composed naming state.old.graph root.now) node.0) name.now.text.now
+        (means naming state.old.graph k)).composition (places_in root.now externs.old) name.now.text.now
+        name.now.span (help_of name.now) e))) }
 {
     let alias = alias(state, node, name.text)?;
     export_as(state, rules, root, externs, name, alias)?;

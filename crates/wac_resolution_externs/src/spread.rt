@@ -1,13 +1,12 @@
 //! Exports of an instance that are exported under their own names.
-ghost use Rattle.std.specs.Prelude.{◌≡◌, ◌<◌, ℕ, OnOk, IfOk, IfErr, length, map, string_bytes};
+ghost use Rattle.std.specs.Prelude.{◌≡◌, ◌<◌, ℕ, OnOk, IfOk, length, map, string_bytes};
 ghost use Rattle.wac_ast_grammar.specs.Tree.{Expr, ExportOptions as Options};
 ghost use Rattle.wac_graph_types.specs.Names.{by_name};
 ghost use Rattle.wac_graph_types.specs.Readings.{interface_exports};
 ghost use Rattle.wac_graph_types.specs.Steps.{Steps, Fails};
 ghost use Rattle.wac_graph.specs.Origin.{Naming};
-ghost use Rattle.wac_resolution_errors.specs.Error.{Reports};
-ghost use Rattle.wac_resolution_errors.specs.Told.{told};
 ghost use Rattle.wac_resolution_rules.specs.BrokenStatements.{ExportOneBroken, ExportOptionsBroken};
+ghost use Rattle.wac_resolution_rules.specs.Errors.{ErrorSays};
 ghost use Rattle.wac_resolution_rules.specs.Expressions.{at};
 ghost use Rattle.wac_resolution_rules.specs.Spans.{expr_span};
 ghost use Rattle.wac_resolution_rules.specs.Statements.{ExportsBy, ExportsOne};
@@ -33,7 +32,8 @@ fn unexported_names(
     graph: &CompositionGraph,
     all: &IndexMap<String, ItemKind>,
 ) -> Result<Vec<String>, AllocError>
-    ensures { IfOk result (λ names. AreUnexported graph.now.exports (by_name all.now.entries) (map string_bytes names.items)) }
+    ensures { IfOk result (λ names. AreUnexported graph.now.exports (by_name all.now.entries)
+        (map string_bytes names.items)) }
 {
     let mut names = Vec::with_capacity(alloc, all.len())?;
     for (name, _) in all.iter() {
@@ -47,7 +47,8 @@ fn unexported_names(
 
 /// The names of the exports of an interface that the graph doesn't export yet.
 fn unexported(state: &State, interface: InterfaceId) -> Result<Vec<String>, AllocError>
-    ensures { IfOk result (λ names. AreUnexported state.now.graph.exports (interface_exports state.now.graph.types interface.0) (map string_bytes names.items)) }
+    ensures { IfOk result (λ names. AreUnexported state.now.graph.exports
+        (interface_exports state.now.graph.types interface.0) (map string_bytes names.items)) }
 {
     let types = state.graph.types();
     match types.exports(ItemKind::Instance(interface)) {
@@ -69,8 +70,14 @@ fn export_each<R: Rules>(
     requires agrees { Agrees state.old.graph root.now }
     requires placed { ArePlaced state.old.graph externs.old }
     requires exported { EachExported state.old.graph node.0 (map string_bytes names.now) }
-    ensures ok { OnOk result (ExportsGo span state.old.graph state.new.graph root.now externs.old externs.new (map string_bytes names.now) (λ naming c d. Under (R.named rules.now) (λ s. Steps (ExportsOne s node.0) c (map (exported_item naming state.old.graph node.0) names.now) d))) }
-    ensures err { IfErr result (λ e. Reports (told e) ((naming : Naming) → Under (R.named rules.now) (λ s. Fails (ExportsOne s node.0) (ExportOneBroken s (places_in root.now externs.old) span (told e) node.0) (composed naming state.old.graph root.now) (map (exported_item naming state.old.graph node.0) names.now)))) }
+    ensures ok { OnOk result (ExportsGo span state.old.graph state.new.graph root.now externs.old externs.new
+        (map string_bytes names.now)
+        (λ naming c d. Under (R.named rules.now)
+        (λ s. Steps (ExportsOne s node.0) c (map (exported_item naming state.old.graph node.0) names.now) d))) }
+    ensures err { ErrorSays result (λ e. (naming : Naming)
+        → Under (R.named rules.now)
+        (λ s. Fails (ExportsOne s node.0) (ExportOneBroken s (places_in root.now externs.old) span e node.0)
+        (composed naming state.old.graph root.now) (map (exported_item naming state.old.graph node.0) names.now))) }
 {
     for text in names {
         let name = NewName {
@@ -97,8 +104,12 @@ pub fn export_spread<R: Rules>(
     requires agrees { Agrees state.old.graph root.now }
     requires placed { ArePlaced state.old.graph externs.old }
     requires there { node.0 < length state.old.graph.nodes }
-    ensures ok { OnOk result (Exported dots state.old.graph state.new.graph root.now externs.old externs.new (λ naming c d. Under (R.named rules.now) (λ s. ExportsBy s (at c node.0) (Options.spread dots) d))) }
-    ensures err { IfErr result (λ e. Reports (told e) ((naming : Naming) (x : Expr) → expr_span x ≡ span → Under (R.named rules.now) (λ s. ExportOptionsBroken s (at (composed naming state.old.graph root.now) node.0) (places_in root.now externs.old) (told e) x (Options.spread dots)))) }
+    ensures ok { OnOk result (Exported dots state.old.graph state.new.graph root.now externs.old externs.new
+        (λ naming c d. Under (R.named rules.now) (λ s. ExportsBy s (at c node.0) (Options.spread dots) d))) }
+    ensures err { ErrorSays result (λ e. (naming : Naming) (x : Expr) → expr_span x ≡ span
+        → Under (R.named rules.now)
+        (λ s. ExportOptionsBroken s (at (composed naming state.old.graph root.now) node.0)
+        (places_in root.now externs.old) e x (Options.spread dots))) }
 {
     let interface = instance(state, node, InstanceOperation::Spread, span)?;
     let names = unexported(state, interface)?;

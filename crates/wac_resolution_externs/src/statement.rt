@@ -1,11 +1,10 @@
 //! Export statements.
-ghost use Rattle.std.specs.Prelude.{◌≡◌, ◌<◌, OnOk, IfErr, length};
+ghost use Rattle.std.specs.Prelude.{◌≡◌, ◌<◌, OnOk, length};
 ghost use Rattle.wac_ast_grammar.specs.Tree.{Expr};
 ghost use Rattle.wac_ast_statements.specs.Statements.{export_options_of};
 ghost use Rattle.wac_graph.specs.Origin.{Naming};
-ghost use Rattle.wac_resolution_errors.specs.Error.{Reports};
-ghost use Rattle.wac_resolution_errors.specs.Told.{told};
 ghost use Rattle.wac_resolution_rules.specs.BrokenStatements.{ExportOptionsBroken};
+ghost use Rattle.wac_resolution_rules.specs.Errors.{ErrorSays};
 ghost use Rattle.wac_resolution_rules.specs.Expressions.{at};
 ghost use Rattle.wac_resolution_rules.specs.Spans.{expr_span, options_span};
 ghost use Rattle.wac_resolution_rules.specs.Statements.{ExportsBy};
@@ -36,8 +35,14 @@ pub fn export_node<R: Rules>(
     requires agrees { Agrees state.old.graph root.now }
     requires placed { ArePlaced state.old.graph externs.old }
     requires there { node.0 < length state.old.graph.nodes }
-    ensures ok { OnOk result ((x : Expr) → expr_span x ≡ span → Exported (options_span x (export_options_of options.now)) state.old.graph state.new.graph root.now externs.old externs.new (λ naming c d. Under (R.named rules.now) (λ s. ExportsBy s (at c node.0) (export_options_of options.now) d))) }
-    ensures err { IfErr result (λ e. Reports (told e) ((naming : Naming) (x : Expr) → expr_span x ≡ span → Under (R.named rules.now) (λ s. ExportOptionsBroken s (at (composed naming state.old.graph root.now) node.0) (places_in root.now externs.old) (told e) x (export_options_of options.now)))) }
+    ensures ok { OnOk result ((x : Expr) → expr_span x ≡ span
+        → Exported (options_span x (export_options_of options.now)) state.old.graph state.new.graph root.now externs.old
+        externs.new (λ naming c d. Under (R.named rules.now)
+        (λ s. ExportsBy s (at c node.0) (export_options_of options.now) d))) }
+    ensures err { ErrorSays result (λ e. (naming : Naming) (x : Expr) → expr_span x ≡ span
+        → Under (R.named rules.now)
+        (λ s. ExportOptionsBroken s (at (composed naming state.old.graph root.now) node.0)
+        (places_in root.now externs.old) e x (export_options_of options.now))) }
 {
     match options {
         ExportOptions::None => export_unnamed(state, rules, root, externs, node, span),

@@ -35,15 +35,18 @@ abbrev pub taking_of : Naming → Parts → Renamings → Named ItemKind → Tak
 taking_of naming g es ks = record { entries = entries_of es; there = items_mean (entry_means naming g) ks }
 
 -- a name of an included world takes the old entries and names to the new ones, whatever the graph is
-pub record NameTaken (items : List WorldIncludeItem) (es fs : Renamings) (ks ls : Named ItemKind) (x : List ℕ × ItemKind) : Type 0 where
+pub record NameTaken (items : List WorldIncludeItem) (es fs : Renamings) (ks ls : Named ItemKind)
+    (x : List ℕ × ItemKind) : Type 0 where
   pub of_clause : AreOf items fs
-  pub takes : (naming : Naming) (g : Parts) → Takes (taking_of naming g es ks) (x.0, means naming g x.1) (taking_of naming g fs ls)
+  pub takes : (naming : Naming) (g : Parts)
+      → Takes (taking_of naming g es ks) (x.0, means naming g x.1) (taking_of naming g fs ls)
   pub named : (ts : List Entry) → ItemsNamed ts ks → Names ts x.1 → ItemsNamed ts ls
 
 -- so do names in order
 pub record NamesTaken (items : List WorldIncludeItem) (es fs : Renamings) (ks ls xs : Named ItemKind) : Type 0 where
   pub of_clause : AreOf items fs
-  pub take : (naming : Naming) (g : Parts) → Steps Takes (taking_of naming g es ks) (items_mean (entry_means naming g) xs) (taking_of naming g fs ls)
+  pub take : (naming : Naming) (g : Parts)
+      → Steps Takes (taking_of naming g es ks) (items_mean (entry_means naming g) xs) (taking_of naming g fs ls)
   pub named : (ts : List Entry) → ItemsNamed ts ks → ItemsNamed ts xs → ItemsNamed ts ls
 
 -- ---- worlds
@@ -56,17 +59,20 @@ pub record IsWorldKind (k : ItemKind) (w : WorldId) : Type 0 where
 
 -- a body with these imports and exports
 abbrev pub with_both : Naming → Parts → Body → Named ItemKind → Named ItemKind → Body
-with_both naming g b is es = record b { imports = items_mean (entry_means naming g) is; exports = items_mean (entry_means naming g) es }
+with_both naming g b is es =
+    record b { imports = items_mean (entry_means naming g) is; exports = items_mean (entry_means naming g) es }
 
 -- what is taken of a world of the graph
 pub record WorldTaken (g : Parts) (entries : Entries) (w : WorldId) (is es js fs : Named ItemKind) : Type 0 where
-  pub included : (naming : Naming) (b : Body) → Included entries (entry_means naming g w.0) (with_both naming g b is es) (with_both naming g b js fs)
+  pub included : (naming : Naming) (b : Body)
+      → Included entries (entry_means naming g w.0) (with_both naming g b is es) (with_both naming g b js fs)
   pub imports : ItemsNamed g.types is → ItemsNamed g.types js
   pub exports : ItemsNamed g.types es → ItemsNamed g.types fs
 
 -- what a kind of the graph, which is a world or component, adds to imports and exports
 pub record IsIncluded (g : Parts) (entries : Entries) (k : ItemKind) (is es js fs : Named ItemKind) : Type 0 where
   pub is_world : (naming : Naming) → IsA is_world_form (means naming g k)
-  pub included : (naming : Naming) (b : Body) → Included entries (entry_of (means naming g k)) (with_both naming g b is es) (with_both naming g b js fs)
+  pub included : (naming : Naming) (b : Body)
+      → Included entries (entry_of (means naming g k)) (with_both naming g b is es) (with_both naming g b js fs)
   pub imports : ItemsNamed g.types is → ItemsNamed g.types js
   pub exports : ItemsNamed g.types es → ItemsNamed g.types fs

@@ -1,14 +1,13 @@
 //! The entries of a `with` clause.
-ghost use Rattle.std.specs.Prelude.{◌≡◌, [], List, IfOk, IfErr, OnOk, map};
+ghost use Rattle.std.specs.Prelude.{◌≡◌, [], List, IfOk, OnOk, map};
 ghost use Rattle.wac_ast_grammar.specs.Tree.{WorldIncludeItem as Item};
 ghost use Rattle.wac_graph_types.specs.Names.{by_name};
 ghost use Rattle.wac_graph_types.specs.Scope.{with_named, IsFresh};
 ghost use Rattle.wac_graph_types.specs.Steps.{Fails};
 ghost use Rattle.wac_ast_uses.specs.Uses.{world_include_item_of};
-ghost use Rattle.wac_resolution_errors.specs.Error.{Reports};
-ghost use Rattle.wac_resolution_errors.specs.Told.{told};
 ghost use Rattle.wac_resolution_rules.specs.Includes.{HasEntry};
 ghost use Rattle.wac_resolution_rules.specs.BrokenWorlds.{IsSecondEntry};
+ghost use Rattle.wac_resolution_rules.specs.Errors.{ErrorSays};
 ghost use Rattle.wac_resolution_includes.specs.Entries.{entries_of, AreAll};
 
 use indexmap::IndexMap;
@@ -25,7 +24,8 @@ fn check_entry(
     item: &WorldIncludeItem<'_>,
 ) -> Result<(), Error>
     ensures ok { OnOk result (IsFresh item.now.from.string.now (by_name all.now.entries)) }
-    ensures err { IfErr result (λ e. Reports (told e) ((before : List Item) → IsSecondEntry (told e) (entries_of (by_name all.now.entries)) before (world_include_item_of item.now))) }
+    ensures err { ErrorSays result (λ e. (before : List Item)
+        → IsSecondEntry e (entries_of (by_name all.now.entries)) before (world_include_item_of item.now)) }
 {
     match find(all, item.from.string) {
         Some(_) => Err(Error::DuplicateWorldIncludeName {
@@ -44,8 +44,10 @@ fn entry<'x, 'a>(
     item: &'x WorldIncludeItem<'a>,
 ) -> Result<(), Error>
     ensures ok { OnOk result (IsFresh item.now.from.string.now (by_name all.old.entries)) }
-    ensures added { OnOk result (by_name all.new.entries ≡ with_named (by_name all.old.entries) item.now.from.string.now item.entry) }
-    ensures err { IfErr result (λ e. Reports (told e) ((before : List Item) → IsSecondEntry (told e) (entries_of (by_name all.old.entries)) before (world_include_item_of item.now))) }
+    ensures added { OnOk result (by_name all.new.entries
+        ≡ with_named (by_name all.old.entries) item.now.from.string.now item.entry) }
+    ensures err { ErrorSays result (λ e. (before : List Item)
+        → IsSecondEntry e (entries_of (by_name all.old.entries)) before (world_include_item_of item.now)) }
 {
     check_entry(alloc, all, item)?;
     push(alloc, all, item.from.string, item)?;
@@ -58,7 +60,7 @@ pub fn entries<'x, 'a>(
     items: &'x [WorldIncludeItem<'a>],
 ) -> Result<IndexMap<String, &'x WorldIncludeItem<'a>>, Error>
     ensures ok { IfOk result (λ all. AreAll (map world_include_item_of items.now) (by_name all.entries)) }
-    ensures err { IfErr result (λ e. Reports (told e) (Fails HasEntry (IsSecondEntry (told e)) [] (map world_include_item_of items.now))) }
+    ensures err { ErrorSays result (λ e. Fails HasEntry (IsSecondEntry e) [] (map world_include_item_of items.now)) }
 {
     let mut all = IndexMap::new(alloc);
     for item in items {

@@ -1,15 +1,14 @@
 //! An include, and what its errors say.
-ghost use Rattle.std.specs.Prelude.{◌≡◌, ℕ, [], List, false, IfOk, IfErr, OnOk, option_map};
+ghost use Rattle.std.specs.Prelude.{◌≡◌, ℕ, [], List, false, IfOk, OnOk, option_map};
 ghost use Rattle.wac_graph_types.specs.Meaning.{Meaning};
 ghost use Rattle.wac_graph_types.specs.Names.{by_name};
 ghost use Rattle.wac_graph_types.specs.Scope.{IsFresh};
 ghost use Rattle.wac_graph.specs.Graph.{Parts};
 ghost use Rattle.wac_graph.specs.Means.{means};
 ghost use Rattle.wac_graph.specs.Origin.{Naming};
-ghost use Rattle.wac_resolution_errors.specs.Error.{Reports};
-ghost use Rattle.wac_resolution_errors.specs.Told.{told};
 ghost use Rattle.wac_resolution_rules.specs.Includes.{has_colon, name_taken as taken_name};
 ghost use Rattle.wac_resolution_rules.specs.BrokenWorlds.{span_taken as taken_span, help_of_include, IsIncludeConflict, IsLeftOver, IsNoWorld};
+ghost use Rattle.wac_resolution_rules.specs.Errors.{ErrorSays};
 ghost use Rattle.wac_resolution_includes.specs.Entries.{entries_of, AreOf};
 ghost use Rattle.wac_resolution_includes.specs.Taking.{tree_of, clause_of, taking_of, IsWorldKind};
 
@@ -72,8 +71,11 @@ impl<'x, 'a> Inclusion<'x, 'a> {
     ) -> Result<(), Error>
         requires of_clause { AreOf (clause_of self.now) (by_name entries.now.entries) }
         requires plain { has_colon name.now ≡ false }
-        ensures ok { OnOk result (IsFresh (taken_name (entries_of (by_name entries.now.entries)) name.now) (by_name there.now.entries)) }
-        ensures err { IfErr result (λ e. Reports (told e) ((naming : Naming) (g : Parts) (before : List (List ℕ × Meaning)) (m : Meaning) → IsIncludeConflict (tree_of self.now) self.now.world.now side (told e) (taking_of naming g (by_name entries.now.entries) (by_name there.now.entries)) before (name.now, m))) }
+        ensures ok { OnOk result (IsFresh (taken_name (entries_of (by_name entries.now.entries)) name.now)
+            (by_name there.now.entries)) }
+        ensures err { ErrorSays result (λ e. (naming : Naming) (g : Parts) (before : List (List ℕ × Meaning))
+            (m : Meaning) → IsIncludeConflict (tree_of self.now) self.now.world.now side e
+            (taking_of naming g (by_name entries.now.entries) (by_name there.now.entries)) before (name.now, m)) }
     {
         let taken = name_taken(entries, name);
         match find(there, taken) {
@@ -97,7 +99,8 @@ impl<'x, 'a> Inclusion<'x, 'a> {
     ) -> Result<(), Error>
         requires { AreOf (clause_of self.now) (by_name entries.now.entries) }
         ensures ok { OnOk result (by_name entries.now.entries ≡ []) }
-        ensures err { IfErr result (λ e. Reports (told e) (IsLeftOver (tree_of self.now) (entries_of (by_name entries.now.entries)) (told e))) }
+        ensures err { ErrorSays result (λ e. IsLeftOver (tree_of self.now)
+            (entries_of (by_name entries.now.entries)) e) }
     {
         match entries.get_index(0) {
             Some((name, item)) => Err(Error::MissingWorldInclude {
@@ -113,7 +116,8 @@ impl<'x, 'a> Inclusion<'x, 'a> {
     #[tactic(auto, using(crate::proofs::Worlds::worlds_told))]
     pub(crate) fn world_of(&self, kind: ItemKind) -> Result<WorldId, Error>
         ensures ok { IfOk result (λ w. IsWorldKind kind w) }
-        ensures err { IfErr result (λ e. Reports (told e) ((naming : Naming) (g : Parts) → IsNoWorld (means naming g kind) (tree_of self.now).world (told e))) }
+        ensures err { ErrorSays result (λ e. (naming : Naming) (g : Parts)
+            → IsNoWorld (means naming g kind) (tree_of self.now).world e) }
     {
         match kind {
             ItemKind::Ty(Type::World(world)) => Ok(world),

@@ -72,7 +72,9 @@ pub(crate) fn add_renamed(
 ) -> Result<(), AllocError>
     requires { IsFresh (taken_name (entries_of (by_name entries.old.entries)) name.now) (by_name there.old.entries) }
     ensures left { OnOk result (by_name entries.new.entries ≡ without_first name.now (by_name entries.old.entries)) }
-    ensures there { OnOk result (by_name there.new.entries ≡ with_named (by_name there.old.entries) (taken_name (entries_of (by_name entries.old.entries)) name.now) kind) }
+    ensures there { OnOk result (by_name there.new.entries
+        ≡ with_named (by_name there.old.entries)
+        (taken_name (entries_of (by_name entries.old.entries)) name.now) kind) }
 {
     let taken = use_up(entries, name);
     push(alloc, there, taken, kind)?;

@@ -1,5 +1,5 @@
 //! What is taken of an included world.
-ghost use Rattle.std.specs.Prelude.{◌⊎◌, ℕ, List, IfErr, OnOk};
+ghost use Rattle.std.specs.Prelude.{◌⊎◌, ℕ, List, OnOk};
 ghost use Rattle.wac_graph_types.specs.declared.kind.ItemKind.TheVariants as kinds;
 ghost use Rattle.wac_graph_types.specs.declared.kind.ExternKind.TheVariants as sides;
 ghost use Rattle.wac_graph_types.specs.Meaning.{Meaning};
@@ -11,11 +11,10 @@ ghost use Rattle.wac_graph_types.specs.Table.{Names};
 ghost use Rattle.wac_graph.specs.Graph.{Parts};
 ghost use Rattle.wac_graph.specs.Means.{means, entry_means};
 ghost use Rattle.wac_graph.specs.Origin.{Naming};
-ghost use Rattle.wac_resolution_errors.specs.Error.{Reports};
-ghost use Rattle.wac_resolution_errors.specs.Told.{told};
 ghost use Rattle.wac_resolution_rules.specs.Bodies.{Body};
 ghost use Rattle.wac_resolution_rules.specs.Includes.{Takes};
 ghost use Rattle.wac_resolution_rules.specs.BrokenWorlds.{IsIncludeConflict, IsNoWorld, TakingBroken};
+ghost use Rattle.wac_resolution_rules.specs.Errors.{ErrorSays};
 ghost use Rattle.wac_resolution_includes.specs.Entries.{entries_of, AreOf};
 ghost use Rattle.wac_resolution_includes.specs.Taking.{tree_of, clause_of, taking_of, NameTaken, NamesTaken, with_both, WorldTaken, IsIncluded};
 
@@ -37,8 +36,13 @@ impl<'x, 'a> Inclusion<'x, 'a> {
         kind: ItemKind,
     ) -> Result<(), Error>
         requires { AreOf (clause_of self.now) (by_name entries.old.entries) }
-        ensures ok { OnOk result (NameTaken (clause_of self.now) (by_name entries.old.entries) (by_name entries.new.entries) (by_name there.old.entries) (by_name there.new.entries) (name.now, kind)) }
-        ensures err { IfErr result (λ e. Reports (told e) ((naming : Naming) (g : Parts) (before : List (List ℕ × Meaning)) → IsIncludeConflict (tree_of self.now) self.now.world.now side (told e) (taking_of naming g (by_name entries.old.entries) (by_name there.old.entries)) before (name.now, means naming g kind))) }
+        ensures ok { OnOk result (NameTaken (clause_of self.now) (by_name entries.old.entries)
+            (by_name entries.new.entries) (by_name there.old.entries)
+            (by_name there.new.entries) (name.now, kind)) }
+        ensures err { ErrorSays result (λ e. (naming : Naming) (g : Parts) (before : List (List ℕ × Meaning))
+            → IsIncludeConflict (tree_of self.now) self.now.world.now side e
+            (taking_of naming g (by_name entries.old.entries) (by_name there.old.entries)) before
+            (name.now, means naming g kind)) }
     {
         if has_colon(name) {
             add_missing(self.alloc, there, name, kind)?;
@@ -58,8 +62,13 @@ impl<'x, 'a> Inclusion<'x, 'a> {
         names: &IndexMap<String, ItemKind>,
     ) -> Result<(), Error>
         requires { AreOf (clause_of self.now) (by_name entries.old.entries) }
-        ensures ok { OnOk result (NamesTaken (clause_of self.now) (by_name entries.old.entries) (by_name entries.new.entries) (by_name there.old.entries) (by_name there.new.entries) (by_name names.now.entries)) }
-        ensures err { IfErr result (λ e. Reports (told e) ((naming : Naming) (g : Parts) → Fails Takes (IsIncludeConflict (tree_of self.now) self.now.world.now side (told e)) (taking_of naming g (by_name entries.old.entries) (by_name there.old.entries)) (items_mean (entry_means naming g) (by_name names.now.entries)))) }
+        ensures ok { OnOk result (NamesTaken (clause_of self.now) (by_name entries.old.entries)
+            (by_name entries.new.entries) (by_name there.old.entries) (by_name there.new.entries)
+            (by_name names.now.entries)) }
+        ensures err { ErrorSays result (λ e. (naming : Naming) (g : Parts)
+            → Fails Takes (IsIncludeConflict (tree_of self.now) self.now.world.now side e)
+            (taking_of naming g (by_name entries.old.entries) (by_name there.old.entries))
+            (items_mean (entry_means naming g) (by_name names.now.entries))) }
     {
         for (name, kind) in names.iter() {
             self.take_name(side, entries, there, name.as_str(), *kind)?;
@@ -76,8 +85,13 @@ impl<'x, 'a> Inclusion<'x, 'a> {
         imports: &mut IndexMap<String, ItemKind>,
     ) -> Result<(), Error>
         requires { AreOf (clause_of self.now) (by_name entries.old.entries) }
-        ensures ok { OnOk result (NamesTaken (clause_of self.now) (by_name entries.old.entries) (by_name entries.new.entries) (by_name imports.old.entries) (by_name imports.new.entries) (world_imports graph.now.types world.0)) }
-        ensures err { IfErr result (λ e. Reports (told e) ((naming : Naming) (g : Parts) → Fails Takes (IsIncludeConflict (tree_of self.now) self.now.world.now sides.Import (told e)) (taking_of naming g (by_name entries.old.entries) (by_name imports.old.entries)) (items_mean (entry_means naming g) (world_imports graph.now.types world.0)))) }
+        ensures ok { OnOk result (NamesTaken (clause_of self.now) (by_name entries.old.entries)
+            (by_name entries.new.entries) (by_name imports.old.entries) (by_name imports.new.entries)
+            (world_imports graph.now.types world.0)) }
+        ensures err { ErrorSays result (λ e. (naming : Naming) (g : Parts)
+            → Fails Takes (IsIncludeConflict (tree_of self.now) self.now.world.now sides.Import e)
+            (taking_of naming g (by_name entries.old.entries) (by_name imports.old.entries))
+            (items_mean (entry_means naming g) (world_imports graph.now.types world.0))) }
     {
         match graph.types().imports(world) {
             Some(names) => self.take_names(ExternKind::Import, entries, imports, names),
@@ -94,8 +108,13 @@ impl<'x, 'a> Inclusion<'x, 'a> {
         exports: &mut IndexMap<String, ItemKind>,
     ) -> Result<(), Error>
         requires { AreOf (clause_of self.now) (by_name entries.old.entries) }
-        ensures ok { OnOk result (NamesTaken (clause_of self.now) (by_name entries.old.entries) (by_name entries.new.entries) (by_name exports.old.entries) (by_name exports.new.entries) (world_exports graph.now.types world.0)) }
-        ensures err { IfErr result (λ e. Reports (told e) ((naming : Naming) (g : Parts) → Fails Takes (IsIncludeConflict (tree_of self.now) self.now.world.now sides.Export (told e)) (taking_of naming g (by_name entries.old.entries) (by_name exports.old.entries)) (items_mean (entry_means naming g) (world_exports graph.now.types world.0)))) }
+        ensures ok { OnOk result (NamesTaken (clause_of self.now) (by_name entries.old.entries)
+            (by_name entries.new.entries) (by_name exports.old.entries) (by_name exports.new.entries)
+            (world_exports graph.now.types world.0)) }
+        ensures err { ErrorSays result (λ e. (naming : Naming) (g : Parts)
+            → Fails Takes (IsIncludeConflict (tree_of self.now) self.now.world.now sides.Export e)
+            (taking_of naming g (by_name entries.old.entries) (by_name exports.old.entries))
+            (items_mean (entry_means naming g) (world_exports graph.now.types world.0))) }
     {
         match graph.types().exports(ItemKind::Component(world)) {
             Some(names) => self.take_names(ExternKind::Export, entries, exports, names),
@@ -114,8 +133,13 @@ impl<'x, 'a> Inclusion<'x, 'a> {
     ) -> Result<(), Error>
         requires world { Names graph.now.types (kinds.Component world) }
         requires of_clause { AreOf (clause_of self.now) (by_name entries.entries) }
-        ensures ok { OnOk result (WorldTaken graph.now (entries_of (by_name entries.entry.entries)) world (by_name imports.old.entries) (by_name exports.old.entries) (by_name imports.new.entries) (by_name exports.new.entries)) }
-        ensures err { IfErr result (λ e. Reports (told e) ((naming : Naming) (b : Body) → TakingBroken (tree_of self.now) self.now.world.now (entries_of (by_name entries.entry.entries)) (entry_means naming graph.now world.0) (with_both naming graph.now b (by_name imports.old.entries) (by_name exports.old.entries)) (told e))) }
+        ensures ok { OnOk result (WorldTaken graph.now (entries_of (by_name entries.entry.entries)) world
+            (by_name imports.old.entries) (by_name exports.old.entries) (by_name imports.new.entries)
+            (by_name exports.new.entries)) }
+        ensures err { ErrorSays result (λ e. (naming : Naming) (b : Body)
+            → TakingBroken (tree_of self.now) self.now.world.now (entries_of (by_name entries.entry.entries))
+            (entry_means naming graph.now world.0)
+            (with_both naming graph.now b (by_name imports.old.entries) (by_name exports.old.entries)) e) }
     {
         let mut left = entries;
         // Its contract says that the table is sound, and what its entries mean.
@@ -137,8 +161,15 @@ impl<'x, 'a> Inclusion<'x, 'a> {
     ) -> Result<(), Error>
         requires kind { Names graph.now.types kind }
         requires of_clause { AreOf (clause_of self.now) (by_name entries.entries) }
-        ensures ok { OnOk result (IsIncluded graph.now (entries_of (by_name entries.entry.entries)) kind (by_name imports.old.entries) (by_name exports.old.entries) (by_name imports.new.entries) (by_name exports.new.entries)) }
-        ensures err { IfErr result (λ e. Reports (told e) ((naming : Naming) (b : Body) → IsNoWorld (means naming graph.now kind) (tree_of self.now).world (told e) ⊎ (IsA is_world_form (means naming graph.now kind) × TakingBroken (tree_of self.now) self.now.world.now (entries_of (by_name entries.entry.entries)) (entry_of (means naming graph.now kind)) (with_both naming graph.now b (by_name imports.old.entries) (by_name exports.old.entries)) (told e)))) }
+        ensures ok { OnOk result (IsIncluded graph.now (entries_of (by_name entries.entry.entries)) kind
+            (by_name imports.old.entries) (by_name exports.old.entries) (by_name imports.new.entries)
+            (by_name exports.new.entries)) }
+        ensures err { ErrorSays result (λ e. (naming : Naming) (b : Body)
+            → IsNoWorld (means naming graph.now kind) (tree_of self.now).world e
+            ⊎ (IsA is_world_form (means naming graph.now kind)
+            × TakingBroken (tree_of self.now) self.now.world.now (entries_of (by_name entries.entry.entries))
+            (entry_of (means naming graph.now kind))
+            (with_both naming graph.now b (by_name imports.old.entries) (by_name exports.old.entries)) e)) }
     {
         let world = self.world_of(kind)?;
         self.take_world(graph, world, entries, imports, exports)?;

@@ -17,5 +17,7 @@ plain_key = (codes "c:d", None)
 abbrev versioned_key : Key
 versioned_key = (codes "c:d", Some (codes "1.0.0"))
 
-each_key_once : first_mentions ((plain_key, span 1 3) ∷ (versioned_key, span 5 9) ∷ (plain_key, span 20 3) ∷ []) ≡ (plain_key, span 1 3) ∷ (versioned_key, span 5 9) ∷ []
+each_key_once : first_mentions
+    ((plain_key, span 1 3) ∷ (versioned_key, span 5 9) ∷ (plain_key, span 20 3) ∷ []) ≡ (plain_key, span 1 3)
+    ∷ (versioned_key, span 5 9) ∷ []
 each_key_once = refl

@@ -13,14 +13,16 @@ mentions_in es = map (λ e. (key_of e.0, e.1)) es
 
 -- what a directive and statements mention, in their order
 abbrev pub mentioned_by : PackageDirective → List Statement → List Mention
-mentioned_by directive statements = target_mentions directive.package_name.name directive.targets ++ flat_map (statement_mentions directive.package_name.name) statements
+mentioned_by directive statements = target_mentions directive.package_name.name directive.targets ++ flat_map
+    (statement_mentions directive.package_name.name) statements
 
 -- the name of the document's own package, and the first mentions of foreign ones
 pub record Noted : Type 0 where
   pub own : List ℕ
   pub first : List Mention
 
--- A part's mentions were noted: of whatever mentions the first ones were there before, now the first ones of these and the part's are.
+-- A part's mentions were noted: of whatever mentions the first ones were there before, now the first ones of these and
+-- the part's are.
 pub record Notes (old new : Noted) (part : List Mention) : Type 0 where
   pub own : new.own ≡ old.own
   pub first : (ms : List Mention) → old.first ≡ first_mentions ms → new.first ≡ first_mentions (ms ++ part)

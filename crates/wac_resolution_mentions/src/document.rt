@@ -24,7 +24,8 @@ fn mentioned(
     directive: &PackageDirective<'_>,
     statements: Statements<'_, '_>,
 ) -> Result<IndexMap<PackageKey, SourceSpan>, AllocError>
-    ensures { IfOk result (λ m. mentions_in m.entries ≡ first_mentions (mentioned_by (directive_of directive.now) (map statement_of statements.entry))) }
+    ensures { IfOk result (λ m. mentions_in m.entries ≡ first_mentions
+        (mentioned_by (directive_of directive.now) (map statement_of statements.entry))) }
 {
     let mut mentions = Mentions::new(alloc, directive.package.name);
     target(&mut mentions, &directive.targets)?;

@@ -20,7 +20,8 @@ pub(crate) fn expression(mentions: &mut Mentions<'_>, expr: &Expr<'_>) -> Result
 /// Notes what the beginning of an expression mentions.
 #[cycle(expression)]
 fn primary(mentions: &mut Mentions<'_>, expr: &PrimaryExpr<'_>) -> Result<(), AllocError>
-    ensures { OnOk result (Notes mentions.old mentions.new (primary_mentions mentions.old.own (primary_expr_of expr.now))) }
+    ensures { OnOk result (Notes mentions.old mentions.new
+        (primary_mentions mentions.old.own (primary_expr_of expr.now))) }
 {
     match expr {
         PrimaryExpr::New(new) => instantiation(mentions, new),
@@ -44,7 +45,8 @@ fn arguments(
     mentions: &mut Mentions<'_>,
     arguments: &[InstantiationArgument<'_>],
 ) -> Result<(), AllocError>
-    ensures { OnOk result (Notes mentions.old mentions.new (arguments_mentions mentions.old.own (arguments_from (map argument_of arguments.now)))) }
+    ensures { OnOk result (Notes mentions.old mentions.new
+        (arguments_mentions mentions.old.own (arguments_from (map argument_of arguments.now)))) }
 {
     for one in arguments {
         argument(mentions, one)?;
@@ -58,7 +60,8 @@ fn argument(
     mentions: &mut Mentions<'_>,
     argument: &InstantiationArgument<'_>,
 ) -> Result<(), AllocError>
-    ensures { OnOk result (Notes mentions.old mentions.new (argument_mentions mentions.old.own (argument_of argument.now))) }
+    ensures { OnOk result (Notes mentions.old mentions.new
+        (argument_mentions mentions.old.own (argument_of argument.now))) }
 {
     match argument {
         InstantiationArgument::Named(named) => expression(mentions, &named.expr),

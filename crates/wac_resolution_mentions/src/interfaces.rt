@@ -12,7 +12,8 @@ use wac_ast_worlds::InterfaceItem;
 
 /// Notes what the path of a `use` mentions.
 pub(crate) fn use_path(mentions: &mut Mentions<'_>, path: &UsePath<'_>) -> Result<(), AllocError>
-    ensures { OnOk result (Notes mentions.old mentions.new (use_path_mentions mentions.old.own (use_path_of path.now))) }
+    ensures { OnOk result (Notes mentions.old mentions.new
+        (use_path_mentions mentions.old.own (use_path_of path.now))) }
 {
     match path {
         UsePath::Package(path) => mentions.path(path),
@@ -22,7 +23,8 @@ pub(crate) fn use_path(mentions: &mut Mentions<'_>, path: &UsePath<'_>) -> Resul
 
 /// Notes what an item mentions.
 fn interface_item(mentions: &mut Mentions<'_>, item: &InterfaceItem<'_>) -> Result<(), AllocError>
-    ensures { OnOk result (Notes mentions.old mentions.new (interface_item_mentions mentions.old.own (interface_item_of item.now))) }
+    ensures { OnOk result (Notes mentions.old mentions.new
+        (interface_item_mentions mentions.old.own (interface_item_of item.now))) }
 {
     match item {
         InterfaceItem::Use(used) => use_path(mentions, &used.path),
@@ -35,7 +37,8 @@ pub(crate) fn interface_items(
     mentions: &mut Mentions<'_>,
     items: &[InterfaceItem<'_>],
 ) -> Result<(), AllocError>
-    ensures { OnOk result (Notes mentions.old mentions.new (interface_mentions mentions.old.own (map interface_item_of items.now))) }
+    ensures { OnOk result (Notes mentions.old mentions.new
+        (interface_mentions mentions.old.own (map interface_item_of items.now))) }
 {
     for item in items {
         interface_item(mentions, item)?;

@@ -21,7 +21,8 @@ pub(crate) fn target(
     mentions: &mut Mentions<'_>,
     targets: &Option<PackagePath<'_>>,
 ) -> Result<(), AllocError>
-    ensures { OnOk result (Notes mentions.old mentions.new (target_mentions mentions.old.own (option_map package_path_of targets.now))) }
+    ensures { OnOk result (Notes mentions.old mentions.new
+        (target_mentions mentions.old.own (option_map package_path_of targets.now))) }
 {
     match targets {
         Some(path) => mentions.path(path),
@@ -31,7 +32,8 @@ pub(crate) fn target(
 
 /// Notes what the type of an import mentions.
 fn import_type(mentions: &mut Mentions<'_>, ty: &ImportType<'_>) -> Result<(), AllocError>
-    ensures { OnOk result (Notes mentions.old mentions.new (import_type_mentions mentions.old.own (import_type_of ty.now))) }
+    ensures { OnOk result (Notes mentions.old mentions.new
+        (import_type_mentions mentions.old.own (import_type_of ty.now))) }
 {
     match ty {
         ImportType::Package(path) => mentions.path(path),
@@ -45,7 +47,8 @@ fn type_statement(
     mentions: &mut Mentions<'_>,
     declaration: &TypeStatement<'_>,
 ) -> Result<(), AllocError>
-    ensures { OnOk result (Notes mentions.old mentions.new (type_mentions mentions.old.own (type_statement_of declaration.now))) }
+    ensures { OnOk result (Notes mentions.old mentions.new
+        (type_mentions mentions.old.own (type_statement_of declaration.now))) }
 {
     match declaration {
         TypeStatement::Interface(interface) => interface_items(mentions, &interface.items),
@@ -56,7 +59,8 @@ fn type_statement(
 
 /// Notes what a statement mentions.
 fn statement(mentions: &mut Mentions<'_>, statement: &Statement<'_>) -> Result<(), AllocError>
-    ensures { OnOk result (Notes mentions.old mentions.new (statement_mentions mentions.old.own (statement_of statement.now))) }
+    ensures { OnOk result (Notes mentions.old mentions.new
+        (statement_mentions mentions.old.own (statement_of statement.now))) }
 {
     match statement {
         Statement::Import(import) => import_type(mentions, &import.ty),
@@ -68,7 +72,8 @@ fn statement(mentions: &mut Mentions<'_>, statement: &Statement<'_>) -> Result<(
 
 /// Notes what statements mention.
 fn statements(mentions: &mut Mentions<'_>, statements: &[Statement<'_>]) -> Result<(), AllocError>
-    ensures { OnOk result (Notes mentions.old mentions.new (flat_map (statement_mentions mentions.old.own) (map statement_of statements.now))) }
+    ensures { OnOk result (Notes mentions.old mentions.new
+        (flat_map (statement_mentions mentions.old.own) (map statement_of statements.now))) }
 {
     for next in statements {
         statement(mentions, next)?;
@@ -81,7 +86,8 @@ pub(crate) fn all_statements(
     mentions: &mut Mentions<'_>,
     all: Statements<'_, '_>,
 ) -> Result<(), AllocError>
-    ensures { OnOk result (Notes mentions.old mentions.new (flat_map (statement_mentions mentions.old.own) (map statement_of all.entry))) }
+    ensures { OnOk result (Notes mentions.old mentions.new
+        (flat_map (statement_mentions mentions.old.own) (map statement_of all.entry))) }
 {
     let all = all.all;
     statements(mentions, all)

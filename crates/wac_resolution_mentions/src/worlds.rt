@@ -13,7 +13,8 @@ use wac_ast_worlds::{ExternType, WorldDecl, WorldItem, WorldItemPath};
 
 /// Notes what the type of a named item mentions.
 fn extern_type(mentions: &mut Mentions<'_>, ty: &ExternType<'_>) -> Result<(), AllocError>
-    ensures { OnOk result (Notes mentions.old mentions.new (extern_type_mentions mentions.old.own (extern_type_of ty.now))) }
+    ensures { OnOk result (Notes mentions.old mentions.new
+        (extern_type_mentions mentions.old.own (extern_type_of ty.now))) }
 {
     match ty {
         ExternType::Interface(interface) => interface_items(mentions, &interface.items),
@@ -23,7 +24,8 @@ fn extern_type(mentions: &mut Mentions<'_>, ty: &ExternType<'_>) -> Result<(), A
 
 /// Notes what an import or export of a world mentions.
 fn world_item_path(mentions: &mut Mentions<'_>, path: &WorldItemPath<'_>) -> Result<(), AllocError>
-    ensures { OnOk result (Notes mentions.old mentions.new (extern_mentions mentions.old.own (world_item_path_of path.now))) }
+    ensures { OnOk result (Notes mentions.old mentions.new
+        (extern_mentions mentions.old.own (world_item_path_of path.now))) }
 {
     match path {
         WorldItemPath::Package(path) => mentions.path(path),
@@ -34,7 +36,8 @@ fn world_item_path(mentions: &mut Mentions<'_>, path: &WorldItemPath<'_>) -> Res
 
 /// Notes what the world of an `include` mentions.
 fn world_ref(mentions: &mut Mentions<'_>, world: &WorldRef<'_>) -> Result<(), AllocError>
-    ensures { OnOk result (Notes mentions.old mentions.new (world_ref_mentions mentions.old.own (world_ref_of world.now))) }
+    ensures { OnOk result (Notes mentions.old mentions.new
+        (world_ref_mentions mentions.old.own (world_ref_of world.now))) }
 {
     match world {
         WorldRef::Package(path) => mentions.path(path),
@@ -44,7 +47,8 @@ fn world_ref(mentions: &mut Mentions<'_>, world: &WorldRef<'_>) -> Result<(), Al
 
 /// Notes what an item mentions.
 fn world_item(mentions: &mut Mentions<'_>, item: &WorldItem<'_>) -> Result<(), AllocError>
-    ensures { OnOk result (Notes mentions.old mentions.new (world_item_mentions mentions.old.own (world_item_of item.now))) }
+    ensures { OnOk result (Notes mentions.old mentions.new
+        (world_item_mentions mentions.old.own (world_item_of item.now))) }
 {
     match item {
         WorldItem::Use(used) => use_path(mentions, &used.path),
@@ -57,7 +61,8 @@ fn world_item(mentions: &mut Mentions<'_>, item: &WorldItem<'_>) -> Result<(), A
 
 /// Notes what the items of a world mention.
 fn world_items(mentions: &mut Mentions<'_>, items: &[WorldItem<'_>]) -> Result<(), AllocError>
-    ensures { OnOk result (Notes mentions.old mentions.new (flat_map (world_item_mentions mentions.old.own) (map world_item_of items.now))) }
+    ensures { OnOk result (Notes mentions.old mentions.new
+        (flat_map (world_item_mentions mentions.old.own) (map world_item_of items.now))) }
 {
     for item in items {
         world_item(mentions, item)?;
@@ -74,7 +79,8 @@ fn items_of<'x, 'a>(world: &'x WorldDecl<'a>) -> &'x [WorldItem<'a>]
 
 /// Notes what a declared world mentions. The world comes first: the prover's work grows with the number of lifetimes before its own.
 pub(crate) fn world(world: &WorldDecl<'_>, mentions: &mut Mentions<'_>) -> Result<(), AllocError>
-    ensures { OnOk result (Notes mentions.old mentions.new (flat_map (world_item_mentions mentions.old.own) (world_decl_of world.now).items)) }
+    ensures { OnOk result (Notes mentions.old mentions.new
+        (flat_map (world_item_mentions mentions.old.own) (world_decl_of world.now).items)) }
 {
     world_items(mentions, items_of(world))
 }

@@ -15,16 +15,20 @@ use Rattle.wac_resolution_nodes.specs.Growth.{GrowsNodes}
 pub record AliasGoes (old new : Parts) (node : ℕ) (name : List ℕ) (k : ItemKind) (n : ℕ) : Type 0 where
   pub grows : GrowsNodes old new
   pub there : n < length new.nodes
-  pub is : (naming : Naming) (declared : Named ℕ) → at (composition_of naming new declared) n ≡ alias_at (at (composition_of naming old declared) node) name (means naming old k)
+  pub is : (naming : Naming) (declared : Named ℕ)
+      → at (composition_of naming new declared) n ≡ alias_at (at (composition_of naming old declared) node) name
+      (means naming old k)
 
 -- applied to the old graph's node, the access denotes the new one's
 pub record AccessGoes (old new : Parts) (node : ℕ) (p : PostfixExpr) (n : ℕ) : Type 0 where
   pub grows : GrowsNodes old new
   pub there : n < length new.nodes
-  pub goes : (naming : Naming) (declared : Named ℕ) → Accesses (at (composition_of naming old declared) node) p (at (composition_of naming new declared) n)
+  pub goes : (naming : Naming) (declared : Named ℕ)
+      → Accesses (at (composition_of naming old declared) node) p (at (composition_of naming new declared) n)
 
 -- accesses, in order
 pub record AccessesGo (old new : Parts) (node : ℕ) (ps : List PostfixExpr) (n : ℕ) : Type 0 where
   pub grows : GrowsNodes old new
   pub there : n < length new.nodes
-  pub go : (naming : Naming) (declared : Named ℕ) → Steps Accesses (at (composition_of naming old declared) node) ps (at (composition_of naming new declared) n)
+  pub go : (naming : Naming) (declared : Named ℕ)
+      → Steps Accesses (at (composition_of naming old declared) node) ps (at (composition_of naming new declared) n)

@@ -16,4 +16,6 @@ pub record GrowsNodes (old new : Parts) : Type 0 where
 -- the node has this name, where it had none
 pub record IsNamed (old new : Parts) (node : ℕ) (name : List ℕ) : Type 0 where
   pub grows : GrowsNodes old new
-  pub is : (naming : Naming) (declared : Named ℕ) → composition_of naming new declared ≡ record (composition_of naming old declared) { nodes = named_at (composition_of naming old declared).nodes node name }
+  pub is : (naming : Naming) (declared : Named ℕ)
+      → composition_of naming new declared ≡ record (composition_of naming old declared)
+      { nodes = named_at (composition_of naming old declared).nodes node name }

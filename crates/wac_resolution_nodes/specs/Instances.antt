@@ -17,8 +17,10 @@ use Rattle.wac_resolution_nodes.specs.Nodes.{composition_of, kind_in}
 pub record IsInstance (g : Parts) (node : ℕ) (i : InterfaceId) : Type 0 where
   pub kind : kind_in g.nodes node ≡ Some (kinds.Instance i)
   pub named : Names g.types (kinds.Instance i)
-  pub is : (naming : Naming) (declared : Named ℕ) → instance_at (composition_of naming g declared) node ≡ Some (entry_means naming g i.0)
-  pub exports : (naming : Naming) → exports_of (entry_means naming g i.0) ≡ items_mean (entry_means naming g) (interface_exports g.types i.0)
+  pub is : (naming : Naming) (declared : Named ℕ)
+      → instance_at (composition_of naming g declared) node ≡ Some (entry_means naming g i.0)
+  pub exports : (naming : Naming)
+      → exports_of (entry_means naming g i.0) ≡ items_mean (entry_means naming g) (interface_exports g.types i.0)
 
 -- the id in the entry of an interface
 abbrev pub written_id : List Entry → ℕ → Option (List ℕ)

@@ -25,11 +25,21 @@ form_in ps (instantiation p arguments) = instance_form (slice_get ps p)
 
 -- a node, whose kind is what its kind means
 abbrev pub node_of : Naming → Parts → GraphNode → Node
-node_of naming g n = record { form = form_in g.packages n.form; kind = means naming g n.kind; name = n.name; arguments = arguments_in n.form }
+node_of naming g n = record {
+  form = form_in g.packages n.form;
+  kind = means naming g n.kind;
+  name = n.name;
+  arguments = arguments_in n.form;
+}
 
 -- the composition, where these identifiers are bound to nodes at root
 abbrev pub composition_of : Naming → Parts → Named ℕ → Composition
-composition_of naming g declared = record { nodes = map (node_of naming g) g.nodes; exports = g.exports; declared = declared; resources = declared_count g }
+composition_of naming g declared = record {
+  nodes = map (node_of naming g) g.nodes;
+  exports = g.exports;
+  declared = declared;
+  resources = declared_count g;
+}
 
 -- the kind of the node of a number, if there is one
 abbrev pub kind_in : List GraphNode → ℕ → Option ItemKind

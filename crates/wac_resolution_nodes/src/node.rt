@@ -43,7 +43,9 @@ pub fn instance(
 ) -> Result<InterfaceId, Error>
     requires { node.0 < length state.now.graph.nodes }
     ensures ok { IfOk result (λ i. IsInstance state.now.graph node.0 i) }
-    ensures err { IfErr result (λ e. (naming : Naming) (declared : Named ℕ) → IsNotInstance (composition_of naming state.now.graph declared) node.0 (operation_of operation) span (told e)) }
+    ensures err { IfErr result (λ e. (naming : Naming) (declared : Named ℕ)
+        → IsNotInstance (composition_of naming state.now.graph declared) node.0
+        (operation_of operation) span (told e)) }
 {
     // Its contract says that the table is sound, and what its entries mean.
     let _types = state.graph.types();
@@ -71,7 +73,9 @@ fn interface_id(state: &State, interface: InterfaceId) -> Option<&str>
 /// The id of the instance that a node is, where it has one.
 pub fn instance_id(state: &State, node: NodeId) -> Option<&str>
     requires { node.0 < length state.now.graph.nodes }
-    ensures { (naming : Naming) (declared : Named ℕ) → option_and_then id_of_instance (node_at (composition_of naming state.now.graph declared) node.0) ≡ option_map (λ s. s.now) result }
+    ensures { (naming : Naming) (declared : Named ℕ)
+        → option_and_then id_of_instance (node_at (composition_of naming state.now.graph declared) node.0)
+        ≡ option_map (λ s. s.now) result }
 {
     // Its contract says that the table is sound, and what its entries mean.
     let _types = state.graph.types();
@@ -84,7 +88,9 @@ pub fn instance_id(state: &State, node: NodeId) -> Option<&str>
 /// The name under which a node is imported, or else the name of the export whose alias it is.
 pub fn own_name(state: &State, node: NodeId) -> Option<&str>
     requires { node.0 < length state.now.graph.nodes }
-    ensures { (naming : Naming) (declared : Named ℕ) → option_and_then name_of_node (node_at (composition_of naming state.now.graph declared) node.0) ≡ option_map (λ s. s.now) result }
+    ensures { (naming : Naming) (declared : Named ℕ)
+        → option_and_then name_of_node (node_at (composition_of naming state.now.graph declared) node.0)
+        ≡ option_map (λ s. s.now) result }
 {
     if let Some(name) = state.graph.import_name(node) {
         return Some(name);

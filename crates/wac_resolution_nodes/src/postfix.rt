@@ -1,5 +1,5 @@
 //! Accesses to the exports of instances.
-ghost use Rattle.std.specs.Prelude.{◌≡◌, ◌<◌, ◌⊎◌, ℕ, [], IfOk, IfErr, IfSome, IsSome, length, map, option_map, unwrap_or, string_bytes};
+ghost use Rattle.std.specs.Prelude.{◌≡◌, ◌<◌, ◌⊎◌, ℕ, [], IfOk, IfSome, IsSome, length, map, option_map, unwrap_or, string_bytes};
 ghost use Rattle.wac_graph_types.specs.Meaning.{Meaning};
 ghost use Rattle.wac_graph_types.specs.Names.{by_name};
 ghost use Rattle.wac_graph_types.specs.Readings.{interface_exports};
@@ -9,10 +9,10 @@ ghost use Rattle.wac_graph_types.specs.Steps.{Fails};
 ghost use Rattle.wac_ast_expressions.specs.Expressions.{postfix_expr_of};
 ghost use Rattle.wac_graph.specs.Graph.{export_kind};
 ghost use Rattle.wac_graph.specs.Origin.{Naming};
-ghost use Rattle.wac_resolution_errors.specs.Error.{Operation, Reports};
-ghost use Rattle.wac_resolution_errors.specs.Told.{told};
+ghost use Rattle.wac_resolution_errors.specs.Error.{Operation};
 ghost use Rattle.wac_resolution_rules.specs.Expressions.{at, accessed as accessed_name, Accesses};
 ghost use Rattle.wac_resolution_rules.specs.BrokenExpressions.{IsNotInstance, IsNotExported, AccessBroken};
+ghost use Rattle.wac_resolution_rules.specs.Errors.{ErrorSays};
 ghost use Rattle.wac_resolution_nodes.specs.Nodes.{composition_of, NodesStand};
 ghost use Rattle.wac_resolution_nodes.specs.Accesses.{AliasGoes, AccessGoes, AccessesGo};
 
@@ -29,7 +29,8 @@ use wac_resolution_state::State;
 /// The node that is the alias of an export of an instance: the existing one, else a new one.
 pub fn alias(state: &mut State, node: NodeId, export: &str) -> Result<NodeId, AllocError>
     requires { IsSome (export_kind state.old.graph node.0 export.now) }
-    ensures { IfOk result (λ n. IfSome (export_kind state.old.graph node.0 export.now) (λ k. AliasGoes state.old.graph state.new.graph node.0 export.now k n.0)) }
+    ensures { IfOk result (λ n. IfSome (export_kind state.old.graph node.0 export.now)
+        (λ k. AliasGoes state.old.graph state.new.graph node.0 export.now k n.0)) }
 {
     let alias = state.graph.add_alias(node, export)?;
     // Its contract says that the graph is sound.
@@ -43,7 +44,9 @@ fn accessed<'x>(
     access: &'x PostfixExpr<'_>,
     exports: Option<&'x IndexMap<String, ItemKind>>,
 ) -> &'x str
-    ensures { (f : ℕ → Meaning) → result.now ≡ accessed_name (postfix_expr_of access.now) (items_mean f (unwrap_or (option_map (λ m. by_name m.now.entries) exports.entry) [])) }
+    ensures { (f : ℕ → Meaning)
+        → result.now ≡ accessed_name (postfix_expr_of access.now)
+        (items_mean f (unwrap_or (option_map (λ m. by_name m.now.entries) exports.entry) [])) }
 {
     match access {
         PostfixExpr::Access(access) => match exports {
@@ -60,7 +63,9 @@ fn accessed_export(
     interface: InterfaceId,
     access: &PostfixExpr<'_>,
 ) -> Result<String, AllocError>
-    ensures { IfOk result (λ s. (f : ℕ → Meaning) → string_bytes s ≡ accessed_name (postfix_expr_of access.now) (items_mean f (interface_exports state.now.graph.types interface.0))) }
+    ensures { IfOk result (λ s. (f : ℕ → Meaning)
+        → string_bytes s ≡ accessed_name (postfix_expr_of access.now)
+        (items_mean f (interface_exports state.now.graph.types interface.0))) }
 {
     let exports = state.graph.types().exports(ItemKind::Instance(interface));
     String::from_str(state.alloc, accessed(access, exports))
@@ -75,7 +80,9 @@ pub fn access(
 ) -> Result<NodeId, Error>
     requires { node.0 < length state.old.graph.nodes }
     ensures ok { IfOk result (λ n. AccessGoes state.old.graph state.new.graph node.0 (postfix_expr_of access.now) n.0) }
-    ensures err { IfErr result (λ e. Reports (told e) ((naming : Naming) (declared : Named ℕ) → IsNotInstance (composition_of naming state.old.graph declared) node.0 Operation.access span (told e) ⊎ IsNotExported (at (composition_of naming state.old.graph declared) node.0) (postfix_expr_of access.now) (told e))) }
+    ensures err { ErrorSays result (λ e. (naming : Naming) (declared : Named ℕ)
+        → IsNotInstance (composition_of naming state.old.graph declared) node.0 Operation.access span e
+        ⊎ IsNotExported (at (composition_of naming state.old.graph declared) node.0) (postfix_expr_of access.now) e) }
 {
     let interface = instance(state, node, InstanceOperation::Access, span)?;
     let name = accessed_export(state, interface, access)?;
@@ -98,8 +105,11 @@ pub fn accesses(
 ) -> Result<NodeId, Error>
     requires agrees { NodesStand state.old.graph }
     requires there { node.0 < length state.old.graph.nodes }
-    ensures ok { IfOk result (λ n. AccessesGo state.old.graph state.new.graph node.0 (map postfix_expr_of accesses.now) n.0) }
-    ensures err { IfErr result (λ e. Reports (told e) ((naming : Naming) (declared : Named ℕ) → Fails Accesses (AccessBroken span (told e)) (at (composition_of naming state.old.graph declared) node.0) (map postfix_expr_of accesses.now))) }
+    ensures ok { IfOk result (λ n. AccessesGo state.old.graph state.new.graph node.0
+        (map postfix_expr_of accesses.now) n.0) }
+    ensures err { ErrorSays result (λ e. (naming : Naming) (declared : Named ℕ)
+        → Fails Accesses (AccessBroken span e) (at (composition_of naming state.old.graph declared) node.0)
+        (map postfix_expr_of accesses.now)) }
 {
     let mut node = node;
     let mut span = span;

@@ -29,7 +29,8 @@ abbrev pub HoldsHanded : List (Key × PackageParts) → Parts → Type 0
 HoldsHanded packages g = AllByRecursion (IsHandedAs packages g) g.packages
 
 -- a kind was found for which this holds; no resource was declared
-pub record Found (packages : List (Key × PackageParts)) (old new : Parts) (holds : Naming → Meaning → Type 0) (k : ItemKind) : Type 0 where
+pub record Found (packages : List (Key × PackageParts)) (old new : Parts) (holds : Naming → Meaning → Type 0)
+    (k : ItemKind) : Type 0 where
   pub grows : Expands old new
   pub handed : HoldsHanded packages new
   pub count : declared_count new ≡ declared_count old

@@ -26,7 +26,8 @@ texts all = map (λ s. s.0) all
 
 -- a path that begins in the document's own package, or in a supplied one, resolves to a kind
 abbrev pub LeadsAs : Bool → Setting → Scope → PackagePath → Meaning → Type 0
-LeadsAs own setting root p m = (from : Scope) × (beginning_of own root setting.packages (key_of_path p) ≡ Some from) × LeadsFrom from (segments_of p) m
+LeadsAs own setting root p m = (from : Scope) × (beginning_of own root setting.packages (key_of_path p) ≡ Some from)
+    × LeadsFrom from (segments_of p) m
 
 -- among these named kinds the segments of a path resolve to a kind
 pub record SegmentsLead (g : Parts) (ks : Named ItemKind) (p : PackagePath) (k : ItemKind) : Type 0 where

@@ -13,4 +13,9 @@ packages_in s = map (λ e. (key_of e.0, e.1)) s.packages.now.entries
 
 -- the setting that the rules speak of
 abbrev pub setting_of : Naming → Setting → rules.Setting
-setting_of naming s = record { naming = naming; own = s.own.now; version = option_map (λ v. v.now) s.version; packages = handed naming (packages_in s) }
+setting_of naming s = record {
+  naming = naming;
+  own = s.own.now;
+  version = option_map (λ v. v.now) s.version;
+  packages = handed naming (packages_in s);
+}

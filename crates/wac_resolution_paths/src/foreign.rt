@@ -1,5 +1,5 @@
 //! Paths of other packages.
-ghost use Rattle.std.specs.Prelude.{◌≡◌, ◌∷◌, ◌++◌, [], suc, OnOk, Some, None, false, IfOk, IfErr, MatchOption, take, string_bytes};
+ghost use Rattle.std.specs.Prelude.{◌≡◌, ◌∷◌, ◌++◌, [], suc, OnOk, Some, None, false, IfOk, MatchOption, take, string_bytes};
 ghost use Rattle.std.specs.List.{join_with_byte};
 ghost use Rattle.wac_lexer.specs.Ascii.{slash};
 ghost use Rattle.wac_graph_types.specs.Names.{by_name};
@@ -11,9 +11,10 @@ ghost use Rattle.wac_ast_grammar.specs.Segments.{package_name_span};
 ghost use Rattle.wac_graph.specs.Graph.{Parts};
 ghost use Rattle.wac_graph.specs.Means.{means};
 ghost use Rattle.wac_graph.specs.Origin.{Naming};
-ghost use Rattle.wac_resolution_errors.specs.Error.{Reports, package_missing_export, unknown_package};
+ghost use Rattle.wac_resolution_errors.specs.Error.{package_missing_export, unknown_package};
 ghost use Rattle.wac_resolution_errors.specs.Told.{told};
 ghost use Rattle.wac_resolution_rules.specs.BrokenBodies.{ForeignPathBroken, path_broken};
+ghost use Rattle.wac_resolution_rules.specs.Errors.{ErrorSays};
 ghost use Rattle.wac_resolution_rules.specs.Paths.{key_of_path, segments_of};
 ghost use Rattle.wac_resolution_state.specs.Named.{scope_of};
 ghost use Rattle.wac_resolution_paths.specs.Expands.{HoldsHanded, Found, Loads, IsNotHanded};
@@ -68,7 +69,8 @@ fn segments_before(
     path: &PackagePath<'_>,
     count: usize,
 ) -> Result<String, AllocError>
-    ensures { IfOk result (λ s. string_bytes s ≡ join_with_byte slash (take (suc count) (segments_of (package_path_of path.now)))) }
+    ensures { IfOk result (λ s. string_bytes s
+        ≡ join_with_byte slash (take (suc count) (segments_of (package_path_of path.now)))) }
 {
     let mut rest = path.segment_spans();
     let Some((first, _)) = rest.next() else {
@@ -79,7 +81,8 @@ fn segments_before(
 
 /// What is reported of a package that was not supplied.
 fn unknown(alloc: Global, path: &PackagePath<'_>) -> Result<Error, AllocError>
-    ensures { IfOk result (λ e. told e ≡ unknown_package path.now.name.now (package_name_span (package_path_of path.now))) }
+    ensures { IfOk result (λ e. told e
+        ≡ unknown_package path.now.name.now (package_name_span (package_path_of path.now))) }
 {
     Ok(Error::UnknownPackage {
         name: String::from_str(alloc, path.name)?,
@@ -112,7 +115,9 @@ fn not_exported(
     before: String,
     missing: Missing<'_>,
 ) -> Result<Error, AllocError>
-    ensures { IfOk result (λ e. (naming : Naming) (g : Parts) → told e ≡ package_missing_export (Some (described (means naming g missing.entry.kind))) (string_bytes before) path.now.name.now missing.entry.segment.now missing.entry.span) }
+    ensures { IfOk result (λ e. (naming : Naming) (g : Parts)
+        → told e ≡ package_missing_export (Some (described (means naming g missing.entry.kind))) (string_bytes before)
+        path.now.name.now missing.entry.segment.now missing.entry.span) }
 {
     Ok(Error::PackageMissingExport {
         package: String::from_str(alloc, path.name)?,
@@ -132,7 +137,8 @@ fn defined(
     span: SourceSpan,
 ) -> Result<ItemKind, Error>
     ensures ok { IfOk result (λ k. look_up first.now (by_name definitions.now.entries) ≡ Some k) }
-    ensures err { IfErr result (λ e. Reports (told e) ((look_up first.now (by_name definitions.now.entries) ≡ None) × (told e ≡ package_missing_export None [] path.now.name.now first.now span))) }
+    ensures err { ErrorSays result (λ e. (look_up first.now (by_name definitions.now.entries) ≡ None)
+        × (e ≡ package_missing_export None [] path.now.name.now first.now span)) }
 {
     match find(definitions, first) {
         Some(kind) => Ok(kind),
@@ -147,8 +153,11 @@ fn defined_path(
     path: &PackagePath<'_>,
 ) -> Result<ItemKind, Error>
     requires { ItemsNamed state.now.graph.types (by_name definitions.now.entries) }
-    ensures ok { IfOk result (λ k. SegmentsLead state.now.graph (by_name definitions.now.entries) (package_path_of path.now) k) }
-    ensures err { IfErr result (λ e. Reports (told e) ((naming : Naming) → ForeignPathBroken (scope_of naming state.now.graph (by_name definitions.now.entries)) (package_path_of path.now) (segments_of (package_path_of path.now)) (told e))) }
+    ensures ok { IfOk result (λ k. SegmentsLead state.now.graph (by_name definitions.now.entries)
+        (package_path_of path.now) k) }
+    ensures err { ErrorSays result (λ e. (naming : Naming)
+        → ForeignPathBroken (scope_of naming state.now.graph (by_name definitions.now.entries))
+        (package_path_of path.now) (segments_of (package_path_of path.now)) e) }
 {
     let mut rest = path.segment_spans();
     let Some((first, span)) = rest.next() else {
@@ -171,7 +180,10 @@ fn load(
     path: &PackagePath<'_>,
 ) -> Result<Option<PackageId>, AllocError>
     requires { HoldsHanded (packages_in setting.now) state.old.graph }
-    ensures { IfOk result (λ o. MatchOption o (IsNotHanded (packages_in setting.now) (key_of_path (package_path_of path.now))) (λ id. Loads (packages_in setting.now) state.old.graph state.new.graph (key_of_path (package_path_of path.now)) id.0)) }
+    ensures { IfOk result (λ o. MatchOption o
+        (IsNotHanded (packages_in setting.now) (key_of_path (package_path_of path.now)))
+        (λ id. Loads (packages_in setting.now) state.old.graph state.new.graph
+        (key_of_path (package_path_of path.now)) id.0)) }
 {
     let key = package_key(state.alloc, path.name, path.string)?;
     package(state, setting, &key)
@@ -184,8 +196,10 @@ pub fn foreign_path(
     path: &PackagePath<'_>,
 ) -> Result<ItemKind, Error>
     requires { HoldsHanded (packages_in setting.now) state.old.graph }
-    ensures ok { IfOk result (λ k. Found (packages_in setting.now) state.old.graph state.new.graph (λ naming m. LeadsAs false (setting_of naming setting.now) [] (package_path_of path.now) m) k) }
-    ensures err { IfErr result (λ e. Reports (told e) ((naming : Naming) → path_broken false (setting_of naming setting.now) [] (package_path_of path.now) (told e))) }
+    ensures ok { IfOk result (λ k. Found (packages_in setting.now) state.old.graph state.new.graph
+        (λ naming m. LeadsAs false (setting_of naming setting.now) [] (package_path_of path.now) m) k) }
+    ensures err { ErrorSays result (λ e. (naming : Naming)
+        → path_broken false (setting_of naming setting.now) [] (package_path_of path.now) e) }
 {
     let loaded = load(state, setting, path)?;
     match loaded {

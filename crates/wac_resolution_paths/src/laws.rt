@@ -20,12 +20,16 @@ pub fn expanding_goes_on()
 /// A graph that gets more types alone expands, and still holds packages as they were supplied.
 pub fn growing_expands()
     ensures expands { (old new : Parts) → Grows old new → Expands old new }
-    ensures handed { (packages : List (Key × PackageParts)) (old new : Parts) → Grows old new → HoldsHanded packages old → HoldsHanded packages new }
-    ensures kept { (packages : List (Key × PackageParts)) (old new : Parts) → Expands old new → new.packages ≡ old.packages → HoldsHanded packages old → HoldsHanded packages new }
+    ensures handed { (packages : List (Key × PackageParts)) (old new : Parts)
+        → Grows old new → HoldsHanded packages old → HoldsHanded packages new }
+    ensures kept { (packages : List (Key × PackageParts)) (old new : Parts)
+        → Expands old new → new.packages ≡ old.packages → HoldsHanded packages old → HoldsHanded packages new }
 {}
 
 /// Named kinds still name types, and mean what they meant.
 pub fn scopes_are_kept()
-    ensures named { (old new : Parts) (ks : Named ItemKind) → Expands old new → ItemsNamed old.types ks → ItemsNamed new.types ks }
-    ensures means { (old new : Parts) (ks : Named ItemKind) (naming : Naming) → Expands old new → ItemsNamed old.types ks → scope_of naming new ks ≡ scope_of naming old ks }
+    ensures named { (old new : Parts) (ks : Named ItemKind)
+        → Expands old new → ItemsNamed old.types ks → ItemsNamed new.types ks }
+    ensures means { (old new : Parts) (ks : Named ItemKind) (naming : Naming)
+        → Expands old new → ItemsNamed old.types ks → scope_of naming new ks ≡ scope_of naming old ks }
 {}

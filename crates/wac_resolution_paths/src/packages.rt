@@ -24,7 +24,8 @@ pub fn package(
     key: &PackageKey,
 ) -> Result<Option<PackageId>, AllocError>
     requires { HoldsHanded (packages_in setting.now) state.old.graph }
-    ensures { IfOk result (λ o. MatchOption o (IsNotHanded (packages_in setting.now) (key_of key.now)) (λ id. Loads (packages_in setting.now) state.old.graph state.new.graph (key_of key.now) id.0)) }
+    ensures { IfOk result (λ o. MatchOption o (IsNotHanded (packages_in setting.now) (key_of key.now))
+        (λ id. Loads (packages_in setting.now) state.old.graph state.new.graph (key_of key.now) id.0)) }
 {
     if let Some(id) = state.graph.get_package(key) {
         return Ok(Some(id));

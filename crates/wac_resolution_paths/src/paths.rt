@@ -1,14 +1,13 @@
 //! What paths and references resolve to.
-ghost use Rattle.std.specs.Prelude.{◌≡◌, IfOk, IfErr};
+ghost use Rattle.std.specs.Prelude.{◌≡◌, IfOk};
 ghost use Rattle.std.specs.Str.{bytes_eq};
 ghost use Rattle.wac_graph_types.specs.Table.{ItemsNamed};
 ghost use Rattle.wac_ast_base.specs.Names.{package_path_of};
 ghost use Rattle.wac_ast_uses.specs.Uses.{use_path_of, world_ref_of};
 ghost use Rattle.wac_graph.specs.Origin.{Naming};
-ghost use Rattle.wac_resolution_errors.specs.Error.{Reports};
-ghost use Rattle.wac_resolution_errors.specs.Told.{told};
 ghost use Rattle.wac_resolution_rules.specs.BrokenBodies.{PathBroken, UsePathBroken};
 ghost use Rattle.wac_resolution_rules.specs.BrokenWorlds.{WorldRefBroken};
+ghost use Rattle.wac_resolution_rules.specs.Errors.{ErrorSays};
 ghost use Rattle.wac_resolution_rules.specs.Paths.{LeadsTo, UseNames, WorldNames};
 ghost use Rattle.wac_resolution_state.specs.Bindings.{values_of};
 ghost use Rattle.wac_resolution_state.specs.Named.{scope_of};
@@ -40,8 +39,12 @@ pub fn path(
 ) -> Result<ItemKind, Error>
     requires root { ItemsNamed state.old.graph.types (values_of root.now) }
     requires handed { HoldsHanded (packages_in setting.now) state.old.graph }
-    ensures ok { IfOk result (λ k. Found (packages_in setting.now) state.old.graph state.new.graph (λ naming m. LeadsTo (setting_of naming setting.now) (scope_of naming state.old.graph (values_of root.now)) (package_path_of path.now) m) k) }
-    ensures err { IfErr result (λ e. Reports (told e) ((naming : Naming) → PathBroken (setting_of naming setting.now) (scope_of naming state.old.graph (values_of root.now)) (package_path_of path.now) (told e))) }
+    ensures ok { IfOk result (λ k. Found (packages_in setting.now) state.old.graph state.new.graph
+        (λ naming m. LeadsTo (setting_of naming setting.now) (scope_of naming state.old.graph (values_of root.now))
+        (package_path_of path.now) m) k) }
+    ensures err { ErrorSays result (λ e. (naming : Naming)
+        → PathBroken (setting_of naming setting.now) (scope_of naming state.old.graph (values_of root.now))
+        (package_path_of path.now) e) }
 {
     if is_own(setting, path) {
         return own_path(state, root, path);
@@ -58,8 +61,12 @@ pub fn use_path(
 ) -> Result<ItemKind, Error>
     requires root { ItemsNamed state.old.graph.types (values_of root.now) }
     requires handed { HoldsHanded (packages_in setting.now) state.old.graph }
-    ensures ok { IfOk result (λ k. Found (packages_in setting.now) state.old.graph state.new.graph (λ naming m. UseNames (setting_of naming setting.now) (scope_of naming state.old.graph (values_of root.now)) (use_path_of path.now) m) k) }
-    ensures err { IfErr result (λ e. Reports (told e) ((naming : Naming) → UsePathBroken (setting_of naming setting.now) (scope_of naming state.old.graph (values_of root.now)) (use_path_of path.now) (told e))) }
+    ensures ok { IfOk result (λ k. Found (packages_in setting.now) state.old.graph state.new.graph
+        (λ naming m. UseNames (setting_of naming setting.now) (scope_of naming state.old.graph (values_of root.now))
+        (use_path_of path.now) m) k) }
+    ensures err { ErrorSays result (λ e. (naming : Naming)
+        → UsePathBroken (setting_of naming setting.now) (scope_of naming state.old.graph (values_of root.now))
+        (use_path_of path.now) e) }
 {
     match path {
         UsePath::Package(package) => crate::paths::path(state, setting, root, package),
@@ -76,8 +83,12 @@ pub fn world_ref(
 ) -> Result<ItemKind, Error>
     requires root { ItemsNamed state.old.graph.types (values_of root.now) }
     requires handed { HoldsHanded (packages_in setting.now) state.old.graph }
-    ensures ok { IfOk result (λ k. Found (packages_in setting.now) state.old.graph state.new.graph (λ naming m. WorldNames (setting_of naming setting.now) (scope_of naming state.old.graph (values_of root.now)) (world_ref_of world.now) m) k) }
-    ensures err { IfErr result (λ e. Reports (told e) ((naming : Naming) → WorldRefBroken (setting_of naming setting.now) (scope_of naming state.old.graph (values_of root.now)) (world_ref_of world.now) (told e))) }
+    ensures ok { IfOk result (λ k. Found (packages_in setting.now) state.old.graph state.new.graph
+        (λ naming m. WorldNames (setting_of naming setting.now)
+        (scope_of naming state.old.graph (values_of root.now)) (world_ref_of world.now) m) k) }
+    ensures err { ErrorSays result (λ e. (naming : Naming)
+        → WorldRefBroken (setting_of naming setting.now) (scope_of naming state.old.graph (values_of root.now))
+        (world_ref_of world.now) e) }
 {
     match world {
         WorldRef::Package(package) => path(state, setting, root, package),

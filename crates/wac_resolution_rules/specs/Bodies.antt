@@ -79,7 +79,8 @@ HasMethod side resource entry old (ResourceMethod.method x) new =
 
 -- a resource that a body declares, before its methods
 abbrev pub with_resource : Naming → ExternKind → Body → List ℕ → Body
-with_resource naming side b name = with_type side (with_count b (suc b.resources)) name (kind_of a_resource (resource_entry naming b.resources name))
+with_resource naming side b name =
+    with_type side (with_count b (suc b.resources)) name (kind_of a_resource (resource_entry naming b.resources name))
 
 -- ---- declarations of types in a body
 
@@ -89,13 +90,20 @@ DeclaresIn side old id m n new = IsNew side old id.string × (new ≡ with_type 
 
 abbrev pub HasItem : Naming → ExternKind → Body → ItemTypeDecl → Body → Type 0
 HasItem naming side old (ItemTypeDecl.resource d) new =
-    IsNew side old d.id.string × Steps (HasMethod side d.id.string (resource_entry naming old.resources d.id.string)) (with_resource naming side old d.id.string) d.methods new
-HasItem naming side old (ItemTypeDecl.variant d) new = (m : Meaning) × IsVariant old.scope d m × DeclaresIn side old d.id m old.resources new
-HasItem naming side old (ItemTypeDecl.record_decl d) new = (m : Meaning) × IsRecord old.scope d m × DeclaresIn side old d.id m old.resources new
-HasItem naming side old (ItemTypeDecl.flags d) new = (m : Meaning) × IsFlags d m × DeclaresIn side old d.id m old.resources new
-HasItem naming side old (ItemTypeDecl.enum d) new = (m : Meaning) × IsEnum d m × DeclaresIn side old d.id m old.resources new
+    IsNew side old d.id.string
+    × Steps (HasMethod side d.id.string (resource_entry naming old.resources d.id.string))
+    (with_resource naming side old d.id.string) d.methods new
+HasItem naming side old (ItemTypeDecl.variant d) new = (m : Meaning) × IsVariant old.scope d m
+    × DeclaresIn side old d.id m old.resources new
+HasItem naming side old (ItemTypeDecl.record_decl d) new = (m : Meaning) × IsRecord old.scope d m
+    × DeclaresIn side old d.id m old.resources new
+HasItem naming side old (ItemTypeDecl.flags d) new = (m : Meaning) × IsFlags d m
+    × DeclaresIn side old d.id m old.resources new
+HasItem naming side old (ItemTypeDecl.enum d) new = (m : Meaning) × IsEnum d m
+    × DeclaresIn side old d.id m old.resources new
 HasItem naming side old (ItemTypeDecl.alias d) new =
-    (m : Meaning) × (n : ℕ) × IsAlias (in_body naming) old.scope old.resources d.id.string d.kind m n × DeclaresIn side old d.id m n new
+    (m : Meaning) × (n : ℕ) × IsAlias (in_body naming) old.scope old.resources d.id.string d.kind m n
+    × DeclaresIn side old d.id m n new
 
 -- ---- use
 
@@ -107,12 +115,14 @@ used_as x = unwrap_or x.as_id x.id
 abbrev pub renamed_from : UseItem → Option (List ℕ)
 renamed_from x = option_map (λ (_ : Ident). x.id.string) x.as_id
 
--- one used type: the interface exports a resource or a type of values under the name, and the name here is not among the externs
+-- one used type: the interface exports a resource or a type of values under the name, and the name here is not among
+-- the externs
 abbrev pub UsesItem : ExternKind → Meaning → Body → UseItem → Body → Type 0
 UsesItem side interface old x new =
     (m : Meaning) × (export_of interface x.id.string ≡ Some m) × IsA is_resource_or_value_form m
     × IsFresh (used_as x).string (externs side old)
-    × (new ≡ with_type side (record old { uses = old.uses ++ (((used_as x).string, renamed_from x), interface) ∷ [] }) (used_as x).string m)
+    × (new ≡ with_type side (record old { uses = old.uses ++ (((used_as x).string, renamed_from x), interface) ∷ [] })
+    (used_as x).string m)
 
 -- the types of an interface
 abbrev pub HasUse : Setting → Scope → ExternKind → Body → Use → Body → Type 0

@@ -28,7 +28,8 @@ use Rattle.wac_resolution_rules.specs.Spans.{use_path_name, use_path_span}
 
 -- the package of a path is not given
 abbrev pub IsUnknownPathPackage : Setting → PackagePath → Error → Type 0
-IsUnknownPathPackage setting p e = (package_of (key_of_path p) setting.packages ≡ None) × (e ≡ unknown_package p.name (package_name_span p))
+IsUnknownPathPackage setting p e = (package_of (key_of_path p) setting.packages ≡ None)
+    × (e ≡ unknown_package p.name (package_name_span p))
 
 -- segment number n, and its span
 abbrev pub StandsAt : PackagePath → ℕ → List ℕ → Span → Type 0
@@ -36,11 +37,13 @@ StandsAt p n segment at = slice_get (segment_spans p) n ≡ Some (segment, at)
 
 -- the first segment of a path of the document's own package is undefined
 abbrev pub IsUndefinedSegment : Scope → PackagePath → List ℕ → Error → Type 0
-IsUndefinedSegment root p first e = (at : Span) × IsFresh first root × StandsAt p 0 first at × (e ≡ undefined_name first at)
+IsUndefinedSegment root p first e = (at : Span) × IsFresh first root × StandsAt p 0 first at
+    × (e ≡ undefined_name first at)
 
 -- the package does not define the first segment
 abbrev pub IsNoDefinition : Named Meaning → PackagePath → List ℕ → Error → Type 0
-IsNoDefinition definitions p first e = (at : Span) × IsFresh first definitions × StandsAt p 0 first at × (e ≡ package_missing_export None [] p.name first at)
+IsNoDefinition definitions p first e = (at : Span) × IsFresh first definitions × StandsAt p 0 first at
+    × (e ≡ package_missing_export None [] p.name first at)
 
 -- the last of some names
 abbrev pub last_of : List ℕ → List (List ℕ) → List ℕ
@@ -49,23 +52,31 @@ last_of first (x ∷ xs) = last_of x xs
 
 -- what the segments before it resolve to does not export the segment: in a path of the document's own package
 abbrev pub IsNoExport : PackagePath → List ℕ → Error → Meaning → List (List ℕ) → List ℕ → Type 0
-IsNoExport p first e k before segment = (at : Span) × (export_of k segment ≡ None) × StandsAt p (suc (length before)) segment at × (e ≡ package_path_missing_export (last_of first before) (described k) segment at)
+IsNoExport p first e k before segment = (at : Span) × (export_of k segment ≡ None)
+    × StandsAt p (suc (length before)) segment at
+    × (e ≡ package_path_missing_export (last_of first before) (described k) segment at)
 
 -- the same in a path of another package
 abbrev pub IsNoPackageExport : PackagePath → List ℕ → Error → Meaning → List (List ℕ) → List ℕ → Type 0
-IsNoPackageExport p first e k before segment = (at : Span) × (export_of k segment ≡ None) × StandsAt p (suc (length before)) segment at × (e ≡ package_missing_export (Some (described k)) (join_with_byte slash (first ∷ before)) p.name segment at)
+IsNoPackageExport p first e k before segment = (at : Span) × (export_of k segment ≡ None)
+    × StandsAt p (suc (length before)) segment at
+    × (e ≡ package_missing_export (Some (described k)) (join_with_byte slash (first ∷ before)) p.name segment at)
 
 abbrev pub OwnPathBroken : Scope → PackagePath → List (List ℕ) → Error → Type 0
 OwnPathBroken root p [] e = ⊥
-OwnPathBroken root p (first ∷ rest) e = IsUndefinedSegment root p first e ⊎ ((k : Meaning) × StandsFor root first k × Fails IsMember (IsNoExport p first e) k rest)
+OwnPathBroken root p (first ∷ rest) e = IsUndefinedSegment root p first e
+    ⊎ ((k : Meaning) × StandsFor root first k × Fails IsMember (IsNoExport p first e) k rest)
 
 abbrev pub ForeignPathBroken : Named Meaning → PackagePath → List (List ℕ) → Error → Type 0
 ForeignPathBroken definitions p [] e = ⊥
-ForeignPathBroken definitions p (first ∷ rest) e = IsNoDefinition definitions p first e ⊎ ((k : Meaning) × StandsFor definitions first k × Fails IsMember (IsNoPackageExport p first e) k rest)
+ForeignPathBroken definitions p (first ∷ rest) e = IsNoDefinition definitions p first e
+    ⊎ ((k : Meaning) × StandsFor definitions first k × Fails IsMember (IsNoPackageExport p first e) k rest)
 
 abbrev pub path_broken : Bool → Setting → Scope → PackagePath → Error → Type 0
 path_broken true setting root p e = OwnPathBroken root p (segments_of p) e
-path_broken false setting root p e = IsUnknownPathPackage setting p e ⊎ ((c : Contents) × (package_of (key_of_path p) setting.packages ≡ Some c) × ForeignPathBroken c.definitions p (segments_of p) e)
+path_broken false setting root p e = IsUnknownPathPackage setting p e
+    ⊎ ((c : Contents) × (package_of (key_of_path p) setting.packages ≡ Some c)
+    × ForeignPathBroken c.definitions p (segments_of p) e)
 
 abbrev pub PathBroken : Setting → Scope → PackagePath → Error → Type 0
 PathBroken setting root p e = path_broken (is_own setting p) setting root p e
@@ -79,7 +90,8 @@ pub data Owner : Type 0 where
 
 -- the identifier is bound in the body already
 abbrev pub IsBoundInBody : Named Span → Scope → Ident → Error → Type 0
-IsBoundInBody places scope x e = (m : Meaning) × (previous : Span) × StandsFor scope x.string m × StandsFor places x.string previous × (e ≡ duplicate_name x.string x.span previous)
+IsBoundInBody places scope x e = (m : Meaning) × (previous : Span) × StandsFor scope x.string m
+    × StandsFor places x.string previous × (e ≡ duplicate_name x.string x.span previous)
 
 abbrev pub conflict : Owner → ExternKind → List ℕ → Span → Error
 conflict (of_interface name) side x at = duplicate_interface_export x name at
@@ -91,18 +103,22 @@ IsConflict of side old x at e = (m : Meaning) × StandsFor (externs side old) x 
 
 -- the identifier is bound already, or its name is among the externs
 abbrev pub NameBroken : Owner → ExternKind → Named Span → Body → Ident → Error → Type 0
-NameBroken of side places old x e = IsBoundInBody places old.scope x e ⊎ (IsFresh x.string old.scope × IsConflict of side old x.string x.span e)
+NameBroken of side places old x e = IsBoundInBody places old.scope x e
+    ⊎ (IsFresh x.string old.scope × IsConflict of side old x.string x.span e)
 
 -- ---- resources
 
 -- the resource has a constructor already
 abbrev pub IsSecondConstructor : ExternKind → List ℕ → Body → Span → Error → Type 0
-IsSecondConstructor side resource old at e = (m : Meaning) × StandsFor (externs side old) (constructor_name resource) m × (e ≡ duplicate_resource_constructor resource at)
+IsSecondConstructor side resource old at e = (m : Meaning) × StandsFor (externs side old) (constructor_name resource) m
+    × (e ≡ duplicate_resource_constructor resource at)
 
 -- the resource has a method of that name already
 abbrev pub IsSecondMethod : ExternKind → List ℕ → Body → Ident → Error → Type 0
 IsSecondMethod side resource old x e =
-    (m : Meaning) × (StandsFor (externs side old) (method_name resource x.string) m ⊎ StandsFor (externs side old) (static_name resource x.string) m) × (e ≡ duplicate_resource_method x.string resource x.span)
+    (m : Meaning) × (StandsFor (externs side old) (method_name resource x.string) m
+    ⊎ StandsFor (externs side old) (static_name resource x.string) m)
+    × (e ≡ duplicate_resource_method x.string resource x.span)
 
 abbrev pub method_kind : Bool → FuncKind
 method_kind true = funcs.Static
@@ -110,10 +126,12 @@ method_kind false = funcs.Method
 
 abbrev pub MethodBroken : ExternKind → List ℕ → Meaning → Error → Body → List ResourceMethod → ResourceMethod → Type 0
 MethodBroken side resource entry e old before (ResourceMethod.constructor c) =
-    IsSecondConstructor side resource old c.span e ⊎ (IsFresh (constructor_name resource) (externs side old) × ParamsBroken funcs.Constructor old.scope [] c.params e)
+    IsSecondConstructor side resource old c.span e
+    ⊎ (IsFresh (constructor_name resource) (externs side old) × ParamsBroken funcs.Constructor old.scope [] c.params e)
 MethodBroken side resource entry e old before (ResourceMethod.method x) =
     IsSecondMethod side resource old x.id e
-    ⊎ (IsFresh (method_name resource x.id.string) (externs side old) × IsFresh (static_name resource x.id.string) (externs side old)
+    ⊎ (IsFresh (method_name resource x.id.string) (externs side old)
+    × IsFresh (static_name resource x.id.string) (externs side old)
     × FuncBroken (method_kind x.is_static) old.scope (first_params x.is_static entry) x.ty e)
 
 -- ---- declarations of types in a body
@@ -122,14 +140,21 @@ abbrev pub ItemBroken : Naming → Owner → ExternKind → Named Span → Body 
 ItemBroken naming of side places old (ItemTypeDecl.resource d) e =
     NameBroken of side places old d.id e
     ⊎ (IsFresh d.id.string old.scope × IsFresh d.id.string (externs side old)
-    × Fails (HasMethod side d.id.string (resource_entry naming old.resources d.id.string)) (MethodBroken side d.id.string (resource_entry naming old.resources d.id.string) e) (with_resource naming side old d.id.string) d.methods)
-ItemBroken naming of side places old (ItemTypeDecl.variant d) e = VariantBroken old.scope d e ⊎ ((m : Meaning) × IsVariant old.scope d m × NameBroken of side places old d.id e)
-ItemBroken naming of side places old (ItemTypeDecl.record_decl d) e = RecordBroken old.scope d e ⊎ ((m : Meaning) × IsRecord old.scope d m × NameBroken of side places old d.id e)
-ItemBroken naming of side places old (ItemTypeDecl.flags d) e = FlagsBroken d e ⊎ ((m : Meaning) × IsFlags d m × NameBroken of side places old d.id e)
-ItemBroken naming of side places old (ItemTypeDecl.enum d) e = EnumBroken d e ⊎ ((m : Meaning) × IsEnum d m × NameBroken of side places old d.id e)
+    × Fails (HasMethod side d.id.string (resource_entry naming old.resources d.id.string))
+    (MethodBroken side d.id.string (resource_entry naming old.resources d.id.string) e)
+    (with_resource naming side old d.id.string) d.methods)
+ItemBroken naming of side places old (ItemTypeDecl.variant d) e = VariantBroken old.scope d e
+    ⊎ ((m : Meaning) × IsVariant old.scope d m × NameBroken of side places old d.id e)
+ItemBroken naming of side places old (ItemTypeDecl.record_decl d) e = RecordBroken old.scope d e
+    ⊎ ((m : Meaning) × IsRecord old.scope d m × NameBroken of side places old d.id e)
+ItemBroken naming of side places old (ItemTypeDecl.flags d) e = FlagsBroken d e
+    ⊎ ((m : Meaning) × IsFlags d m × NameBroken of side places old d.id e)
+ItemBroken naming of side places old (ItemTypeDecl.enum d) e = EnumBroken d e
+    ⊎ ((m : Meaning) × IsEnum d m × NameBroken of side places old d.id e)
 ItemBroken naming of side places old (ItemTypeDecl.alias d) e =
     AliasBroken (in_body naming) old.scope old.resources d.id.string d.kind e
-    ⊎ ((m : Meaning) × (n : ℕ) × IsAlias (in_body naming) old.scope old.resources d.id.string d.kind m n × NameBroken of side places old d.id e)
+    ⊎ ((m : Meaning) × (n : ℕ) × IsAlias (in_body naming) old.scope old.resources d.id.string d.kind m n
+    × NameBroken of side places old d.id e)
 
 -- ---- use
 
@@ -143,11 +168,13 @@ IsNoInterface k name at e = IsNoneOf is_interface_form k × (e ≡ not_interface
 
 -- the interface exports nothing under the name
 abbrev pub IsNoTypeThere : Meaning → List ℕ → UseItem → Error → Type 0
-IsNoTypeThere interface path x e = (export_of interface x.id.string ≡ None) × (e ≡ undefined_interface_type x.id.string path x.id.span)
+IsNoTypeThere interface path x e = (export_of interface x.id.string ≡ None)
+    × (e ≡ undefined_interface_type x.id.string path x.id.span)
 
 -- what it exports is neither a resource nor a type of values
 abbrev pub IsNoUsableType : Meaning → List ℕ → UseItem → Error → Type 0
-IsNoUsableType interface path x e = (m : Meaning) × (export_of interface x.id.string ≡ Some m) × IsNoneOf is_resource_or_value_form m × (e ≡ not_interface_value_type x.id.string (described m) path x.id.span)
+IsNoUsableType interface path x e = (m : Meaning) × (export_of interface x.id.string ≡ Some m)
+    × IsNoneOf is_resource_or_value_form m × (e ≡ not_interface_value_type x.id.string (described m) path x.id.span)
 
 -- it exports a resource or a type of values
 abbrev pub IsUsable : Meaning → UseItem → Type 0
@@ -162,13 +189,16 @@ help_of_use (Some x) = None
 
 -- the name here is among the externs already
 abbrev pub IsUseConflict : ExternKind → Body → UseItem → Error → Type 0
-IsUseConflict side old x e = (m : Meaning) × StandsFor (externs side old) (used_as x).string m × (e ≡ use_conflict side (used_as x).string (used_as x).span (help_of_use x.as_id))
+IsUseConflict side old x e = (m : Meaning) × StandsFor (externs side old) (used_as x).string m
+    × (e ≡ use_conflict side (used_as x).string (used_as x).span (help_of_use x.as_id))
 
 abbrev pub UseItemBroken : ExternKind → Meaning → List ℕ → Error → Body → List UseItem → UseItem → Type 0
-UseItemBroken side interface path e old before x = IsNoTypeThere interface path x e ⊎ (IsNoUsableType interface path x e ⊎ (IsUsable interface x × IsUseConflict side old x e))
+UseItemBroken side interface path e old before x = IsNoTypeThere interface path x e
+    ⊎ (IsNoUsableType interface path x e ⊎ (IsUsable interface x × IsUseConflict side old x e))
 
 abbrev pub UseBroken : Setting → Scope → ExternKind → Body → Use → Error → Type 0
 UseBroken setting root side old u e =
     UsePathBroken setting root u.path e
     ⊎ ((k : Meaning) × UseNames setting root u.path k × (IsNoInterface k (use_path_name u.path) (use_path_span u.path) e
-    ⊎ (IsA is_interface_form k × Fails (UsesItem side (promoted k)) (UseItemBroken side (promoted k) (use_path_name u.path) e) old u.items)))
+    ⊎ (IsA is_interface_form k
+    × Fails (UsesItem side (promoted k)) (UseItemBroken side (promoted k) (use_path_name u.path) e) old u.items)))

@@ -13,26 +13,32 @@ use Rattle.wac_resolution_rules.specs.BrokenTypes.{IsUndefined, TypeBroken, Func
 
 -- an earlier case, field or flag has the name
 abbrev pub IsRepeatedCase : Ident → Named Meaning → Ident → Error → Type 0
-IsRepeatedCase declared old x e = (v : Meaning) × StandsFor old x.string v × (e ≡ duplicate_variant_case x.string declared.string x.span)
+IsRepeatedCase declared old x e = (v : Meaning) × StandsFor old x.string v
+    × (e ≡ duplicate_variant_case x.string declared.string x.span)
 
 abbrev pub IsRepeatedField : Ident → Named Meaning → Ident → Error → Type 0
-IsRepeatedField declared old x e = (v : Meaning) × StandsFor old x.string v × (e ≡ duplicate_record_field x.string declared.string x.span)
+IsRepeatedField declared old x e = (v : Meaning) × StandsFor old x.string v
+    × (e ≡ duplicate_record_field x.string declared.string x.span)
 
 abbrev pub IsRepeatedEnumCase : Ident → Named Meaning → Ident → Error → Type 0
-IsRepeatedEnumCase declared old x e = (v : Meaning) × StandsFor old x.string v × (e ≡ duplicate_enum_case x.string declared.string x.span)
+IsRepeatedEnumCase declared old x e = (v : Meaning) × StandsFor old x.string v
+    × (e ≡ duplicate_enum_case x.string declared.string x.span)
 
 abbrev pub IsRepeatedFlag : Ident → Named Meaning → Ident → Error → Type 0
-IsRepeatedFlag declared old x e = (v : Meaning) × StandsFor old x.string v × (e ≡ duplicate_flag x.string declared.string x.span)
+IsRepeatedFlag declared old x e = (v : Meaning) × StandsFor old x.string v
+    × (e ≡ duplicate_flag x.string declared.string x.span)
 
 abbrev pub OptionBroken : Scope → Option Ty → Error → Type 0
 OptionBroken scope None e = ⊥
 OptionBroken scope (Some t) e = TypeBroken scope t e
 
 abbrev pub CaseBroken : Scope → Ident → Error → Named Meaning → List VariantCase → VariantCase → Type 0
-CaseBroken scope declared e old before c = OptionBroken scope c.ty e ⊎ ((v : Meaning) × HasOption scope c.ty v × IsRepeatedCase declared old c.id e)
+CaseBroken scope declared e old before c = OptionBroken scope c.ty e
+    ⊎ ((v : Meaning) × HasOption scope c.ty v × IsRepeatedCase declared old c.id e)
 
 abbrev pub FieldBroken : Scope → Ident → Error → Named Meaning → List Field → Field → Type 0
-FieldBroken scope declared e old before f = TypeBroken scope f.ty e ⊎ ((v : Meaning) × HasType scope f.ty v × IsRepeatedField declared old f.id e)
+FieldBroken scope declared e old before f = TypeBroken scope f.ty e
+    ⊎ ((v : Meaning) × HasType scope f.ty v × IsRepeatedField declared old f.id e)
 
 abbrev pub VariantBroken : Scope → VariantDecl → Error → Type 0
 VariantBroken scope d e = Fails (HasCase scope) (CaseBroken scope d.id e) [] d.cases
@@ -48,7 +54,8 @@ EnumBroken d e = Fails HasEnumCase (λ old before x. IsRepeatedEnumCase d.id old
 
 -- what the identifier denotes can't be aliased there
 abbrev pub IsNoAlias : Aliasing → Scope → ℕ → List ℕ → Ident → Error → Type 0
-IsNoAlias aliasing scope n name x e = (k : Meaning) × StandsFor scope x.string k × (aliasing n name k ≡ None) × (e ≡ invalid_alias_type x.string (described k) x.span)
+IsNoAlias aliasing scope n name x e = (k : Meaning) × StandsFor scope x.string k × (aliasing n name k ≡ None)
+    × (e ≡ invalid_alias_type x.string (described k) x.span)
 
 abbrev pub TypeAliasBroken : Aliasing → Scope → ℕ → List ℕ → Option Ident → Ty → Error → Type 0
 TypeAliasBroken aliasing scope n name None t e = TypeBroken scope t e

@@ -26,11 +26,13 @@ ReachedAt {X} P xs x = (before : List X) × (after : List X) × (xs ≡ before +
 
 -- the node isn't an instance
 abbrev pub IsNotInstance : Composition → ℕ → Operation → Span → Error → Type 0
-IsNotInstance c node operation span e = (instance_at c node ≡ None) × (e ≡ not_an_instance (described (kind_at c.nodes node)) operation span)
+IsNotInstance c node operation span e = (instance_at c node ≡ None)
+    × (e ≡ not_an_instance (described (kind_at c.nodes node)) operation span)
 
 -- the instance has no such export
 abbrev pub IsNotExported : At → PostfixExpr → Error → Type 0
-IsNotExported a p e = (i : Meaning) × (instance_at a.composition a.node ≡ Some i) × IsFresh (accessed p (exports_of i)) (exports_of i)
+IsNotExported a p e = (i : Meaning) × (instance_at a.composition a.node ≡ Some i)
+    × IsFresh (accessed p (exports_of i)) (exports_of i)
     × (e ≡ missing_instance_export (accessed p (exports_of i)) (postfix_span p))
 
 -- the package isn't given, or is the document's own
@@ -43,52 +45,64 @@ IsFillNotLast rest span e = (IsEmpty rest → ⊥) × (e ≡ fill_argument_not_l
 
 -- an earlier argument has the name
 abbrev pub IsGivenAlready : Giving → List ℕ → Span → Error → Type 0
-IsGivenAlready g name span e = (node : ℕ) × StandsFor g.arguments name node × (e ≡ duplicate_instantiation_arg name span)
+IsGivenAlready g name span e = (node : ℕ) × StandsFor g.arguments name node
+    × (e ≡ duplicate_instantiation_arg name span)
 
 -- the instance exports no import for which nothing is given yet
 abbrev pub IsNoMatch : Named Meaning → Giving → ℕ → Span → Error → Type 0
-IsNoMatch imports g node span e = (i : Meaning) × (instance_at g.composition node ≡ Some i) × ((spread_from imports node (exports_of i) g).arguments ≡ g.arguments) × (e ≡ spread_instantiation_no_match span)
+IsNoMatch imports g node span e = (i : Meaning) × (instance_at g.composition node ≡ Some i)
+    × ((spread_from imports node (exports_of i) g).arguments ≡ g.arguments) × (e ≡ spread_instantiation_no_match span)
 
 -- where the argument for a name is: the argument itself, else the first spread whose instance exports the name
 abbrev pub argument_place : Composition → Named Meaning → InstantiationArgument → Named Span
 argument_place c imports (InstantiationArgument.fill span) = []
 argument_place c imports (InstantiationArgument.spread id) = []
 argument_place c imports (InstantiationArgument.named name x) = (name_meant name imports, argument_name_span name) ∷ []
-argument_place c imports (InstantiationArgument.inferred id) = elim (option_and_then (node_at c) (look_up id.string c.declared)) [ None ↦ [] | Some n ↦ (name_inferred imports id.string n, id.span) ∷ [] ]
+argument_place c imports
+    (InstantiationArgument.inferred id) = elim (option_and_then (node_at c) (look_up id.string c.declared))
+    [ None ↦ [] | Some n ↦ (name_inferred imports id.string n, id.span) ∷ [] ]
 
 abbrev pub own_places : Composition → Named Meaning → Arguments → Named Span
 own_places c imports Arguments.none = []
 own_places c imports (Arguments.more a rest) = argument_place c imports a ++ own_places c imports rest
 
 abbrev pub spread_places : Composition → Ident → Named Span
-spread_places c id = elim (option_and_then (instance_at c) (look_up id.string c.declared)) [ None ↦ [] | Some i ↦ map (λ x. (x.0, id.span)) (exports_of i) ]
+spread_places c id = elim (option_and_then (instance_at c) (look_up id.string c.declared))
+    [ None ↦ [] | Some i ↦ map (λ x. (x.0, id.span)) (exports_of i) ]
 
 abbrev pub argument_places : Composition → Named Meaning → Arguments → Named Span
 argument_places c imports args = own_places c imports args ++ flat_map (spread_places c) (spreads_of args)
 
 -- the package has no such import
 abbrev pub IsNoImport : Given → Contents → PackageName → Arguments → Giving → Error → Type 0
-IsNoImport s p x args g e = (a : List ℕ × ℕ) × (span : Span) × ReachedAt (Fits s.rules (imports_in p) g.composition.nodes) g.arguments a × StandsFor (argument_places g.composition (imports_in p) args) a.0 span
+IsNoImport s p x args g e = (a : List ℕ × ℕ) × (span : Span)
+    × ReachedAt (Fits s.rules (imports_in p) g.composition.nodes) g.arguments a
+    × StandsFor (argument_places g.composition (imports_in p) args) a.0 span
     × IsFresh a.0 (imports_in p) × (e ≡ missing_component_import x.name a.0 span)
 
 -- the argument does not fit the import
 abbrev pub IsMismatched : Given → Contents → Arguments → Giving → Error → Type 0
-IsMismatched s p args g e = (a : List ℕ × ℕ) × (span : Span) × (wants : Meaning) × (r : Reason) × ReachedAt (Fits s.rules (imports_in p) g.composition.nodes) g.arguments a
-    × StandsFor (argument_places g.composition (imports_in p) args) a.0 span × StandsFor (imports_in p) a.0 wants × (s.rules.passes (kind_at g.composition.nodes a.1) wants ≡ Some r) × (e ≡ mismatched_instantiation_arg a.0 r span)
+IsMismatched s p args g e = (a : List ℕ × ℕ) × (span : Span) × (wants : Meaning) × (r : Reason)
+    × ReachedAt (Fits s.rules (imports_in p) g.composition.nodes) g.arguments a
+    × StandsFor (argument_places g.composition (imports_in p) args) a.0 span × StandsFor (imports_in p) a.0 wants
+    × (s.rules.passes (kind_at g.composition.nodes a.1) wants ≡ Some r) × (e ≡ mismatched_instantiation_arg a.0 r span)
 
 -- nothing is given for an import, and there is no fill
 abbrev pub IsLeftOut : Given → Contents → PackageName → Arguments → Giving → Error → Type 0
-IsLeftOut s p x args g e = (i : List ℕ × Meaning) × (others : Named Meaning) × AllByRecursion (Fits s.rules (imports_in p) g.composition.nodes) g.arguments × (has_fill args ≡ false)
+IsLeftOut s p x args g e = (i : List ℕ × Meaning) × (others : Named Meaning)
+    × AllByRecursion (Fits s.rules (imports_in p) g.composition.nodes) g.arguments × (has_fill args ≡ false)
     × (left_out (imports_in p) g.arguments ≡ i ∷ others) × (e ≡ missing_instantiation_arg i.0 x.string x.span)
 
 -- ---- where they are tested
 
 abbrev pub AccessBroken : Span → Error → At → List PostfixExpr → PostfixExpr → Type 0
-AccessBroken span e a before p = IsNotInstance a.composition a.node Operation.access (last_span span before) e ⊎ IsNotExported a p e
+AccessBroken span e a before p = IsNotInstance a.composition a.node Operation.access (last_span span before) e
+    ⊎ IsNotExported a p e
 
 abbrev pub SpreadBroken : Named Meaning → Error → Giving → List Ident → Ident → Type 0
 SpreadBroken imports e g before id = IsUndefined g.composition.declared id e
-    ⊎ ((node : ℕ) × StandsFor g.composition.declared id.string node × (IsNotInstance g.composition node Operation.spread id.span e ⊎ IsNoMatch imports g node id.span e))
+    ⊎ ((node : ℕ) × StandsFor g.composition.declared id.string node
+    × (IsNotInstance g.composition node Operation.spread id.span e ⊎ IsNoMatch imports g node id.span e))
 
 abbrev pub InstantiationBroken : Given → Contents → PackageName → Arguments → Giving → Error → Type 0
 InstantiationBroken s p x args g e = IsNoImport s p x args g e ⊎ IsMismatched s p args g e ⊎ IsLeftOut s p x args g e
@@ -101,20 +115,26 @@ abbrev mutual
   pub PrimaryBroken : Given → Composition → Error → PrimaryExpr → Type 0
   PrimaryBroken s old e (PrimaryExpr.new span x args) = IsUnknownPackage s x e
       ⊎ ((p : Contents) × (instantiable s x ≡ Some p) × ArgumentsBroken s (imports_in p) (nothing_given old) e args)
-      ⊎ ((p : Contents) × (given : Giving) × (instantiable s x ≡ Some p) × Gives s (imports_in p) (nothing_given old) args given × Fails (Spreads (imports_in p)) (SpreadBroken (imports_in p) e) given (spreads_of args))
-      ⊎ ((p : Contents) × (given : Giving) × (all : Giving) × (instantiable s x ≡ Some p) × Gives s (imports_in p) (nothing_given old) args given
+      ⊎ ((p : Contents) × (given : Giving) × (instantiable s x ≡ Some p)
+      × Gives s (imports_in p) (nothing_given old) args given
+      × Fails (Spreads (imports_in p)) (SpreadBroken (imports_in p) e) given (spreads_of args))
+      ⊎ ((p : Contents) × (given : Giving) × (all : Giving) × (instantiable s x ≡ Some p)
+      × Gives s (imports_in p) (nothing_given old) args given
       × Steps (Spreads (imports_in p)) given (spreads_of args) all × InstantiationBroken s p x args all e)
   PrimaryBroken s old e (PrimaryExpr.nested span x) = ExprBroken s old e x
   PrimaryBroken s old e (PrimaryExpr.ident id) = IsUndefined old.declared id e
 
   pub ArgumentsBroken : Given → Named Meaning → Giving → Error → Arguments → Type 0
   ArgumentsBroken s imports old e Arguments.none = ⊥
-  ArgumentsBroken s imports old e (Arguments.more a rest) = ArgumentBroken s imports rest old e a ⊎ ((mid : Giving) × GivesOne s imports rest old a mid × ArgumentsBroken s imports mid e rest)
+  ArgumentsBroken s imports old e (Arguments.more a rest) = ArgumentBroken s imports rest old e a
+      ⊎ ((mid : Giving) × GivesOne s imports rest old a mid × ArgumentsBroken s imports mid e rest)
 
   pub ArgumentBroken : Given → Named Meaning → Arguments → Giving → Error → InstantiationArgument → Type 0
   ArgumentBroken s imports rest old e (InstantiationArgument.fill span) = IsFillNotLast rest span e
   ArgumentBroken s imports rest old e (InstantiationArgument.spread id) = ⊥
   ArgumentBroken s imports rest old e (InstantiationArgument.named name x) = ExprBroken s old.composition e x
-      ⊎ ((a : At) × Stands s old.composition x a × IsGivenAlready old (name_meant name imports) (argument_name_span name) e)
+      ⊎ ((a : At) × Stands s old.composition x a
+      × IsGivenAlready old (name_meant name imports) (argument_name_span name) e)
   ArgumentBroken s imports rest old e (InstantiationArgument.inferred id) = IsUndefined old.composition.declared id e
-      ⊎ ((node : ℕ) × (n : Node) × StandsFor old.composition.declared id.string node × (node_at old.composition node ≡ Some n) × IsGivenAlready old (name_inferred imports id.string n) id.span e)
+      ⊎ ((node : ℕ) × (n : Node) × StandsFor old.composition.declared id.string node
+      × (node_at old.composition node ≡ Some n) × IsGivenAlready old (name_inferred imports id.string n) id.span e)

@@ -33,30 +33,36 @@ use Rattle.wac_resolution_rules.specs.Places.{Places, names_at}
 
 -- the name is imported already
 abbrev pub IsImportedAlready : Composition → Places → List ℕ → Span → Option (List ℕ) → Error → Type 0
-IsImportedAlready c p name span help e = (k : Meaning) × (previous : Span) × StandsFor (imports c) name k × StandsFor p.imported name previous
+IsImportedAlready c p name span help e = (k : Meaning) × (previous : Span) × StandsFor (imports c) name k
+    × StandsFor p.imported name previous
     × (e ≡ duplicate_extern_name externs.Import name span previous help)
 
 -- the name is exported already
 abbrev pub IsExportedAlready : Composition → Places → List ℕ → Span → Option (List ℕ) → Error → Type 0
-IsExportedAlready c p name span help e = (node : ℕ) × (previous : Span) × StandsFor c.exports name node × StandsFor p.exported name previous
+IsExportedAlready c p name span help e = (node : ℕ) × (previous : Span) × StandsFor c.exports name node
+    × StandsFor p.exported name previous
     × (e ≡ duplicate_extern_name externs.Export name span previous help)
 
 -- no import or export may have the name
 abbrev pub IsInvalidName : Given → List ℕ → ExternKind → Span → Error → Type 0
-IsInvalidName s name kind span e = (r : Reason) × (s.rules.named name ≡ Some r) × (e ≡ invalid_extern_name name kind r span)
+IsInvalidName s name kind span e = (r : Reason) × (s.rules.named name ≡ Some r)
+    × (e ≡ invalid_extern_name name kind r span)
 
 -- the name is bound at root to a definition
 abbrev pub IsExportConflict : Composition → Places → List ℕ → Span → Option (List ℕ) → Error → Type 0
-IsExportConflict c p name span help e = (k : Meaning) × (definition : Span) × (definition_bound c name ≡ Some k) × StandsFor p.bound name definition
+IsExportConflict c p name span help e = (k : Meaning) × (definition : Span) × (definition_bound c name ≡ Some k)
+    × StandsFor p.bound name definition
     × (e ≡ export_conflict name (described k) span definition help)
 
 -- the node has no name of its own
 abbrev pub IsUnnamed : At → Span → Error → Type 0
-IsUnnamed a span e = (n : Node) × (node_at a.composition a.node ≡ Some n) × (unnamed_export n ≡ None) × (e ≡ export_requires_as span)
+IsUnnamed a span e = (n : Node) × (node_at a.composition a.node ≡ Some n) × (unnamed_export n ≡ None)
+    × (e ≡ export_requires_as span)
 
 -- all exports of the instance are exported already
 abbrev pub IsNoEffect : At → Span → Error → Type 0
-IsNoEffect a span e = (i : Meaning) × (instance_at a.composition a.node ≡ Some i) × (unexported a.composition.exports (exports_of i) ≡ []) × (e ≡ spread_export_no_effect span)
+IsNoEffect a span e = (i : Meaning) × (instance_at a.composition a.node ≡ Some i)
+    × (unexported a.composition.exports (exports_of i) ≡ []) × (e ≡ spread_export_no_effect span)
 
 -- the target isn't a world type
 abbrev pub IsNotWorld : PackagePath → Meaning → Error → Type 0
@@ -64,34 +70,42 @@ IsNotWorld p k e = (world_of k ≡ None) × (e ≡ not_world p.string (described
 
 -- what a composition imports, with places: an import node has that of its name, what an instance leaves open has none
 abbrev pub placed_imports : Given → Composition → Places → List ((List ℕ × Meaning) × Option Span)
-placed_imports s c p = map (λ x. (x, look_up x.0 p.imported)) (imports c) ++ map (λ x. (x, None)) (flat_map (open_imports s) c.nodes)
+placed_imports s c p =
+    map (λ x. (x, look_up x.0 p.imported)) (imports c) ++ map (λ x. (x, None)) (flat_map (open_imports s) c.nodes)
 
 -- the target allows no import of that name
 abbrev pub IsNotInTarget : Given → Composition → Places → PackagePath → Meaning → Error → Type 0
-IsNotInTarget s c p path w e = (x : (List ℕ × Meaning) × Option Span) × ReachedAt (λ y. ImportAllowed s w y.0) (placed_imports s c p) x
+IsNotInTarget s c p path w e = (x : (List ℕ × Meaning) × Option Span)
+    × ReachedAt (λ y. ImportAllowed s w y.0) (placed_imports s c p) x
     × (allowed w x.0.0 ≡ None) × (e ≡ import_not_in_target x.0.0 path.string x.1)
 
 -- what the target allows does not fit the import
 abbrev pub IsImportMismatch : Given → Composition → Places → PackagePath → Meaning → Error → Type 0
-IsImportMismatch s c p path w e = (x : (List ℕ × Meaning) × Option Span) × (k : Meaning) × (r : Reason) × ReachedAt (λ y. ImportAllowed s w y.0) (placed_imports s c p) x
-    × (allowed w x.0.0 ≡ Some k) × (s.rules.passes (promoted k) x.0.1 ≡ Some r) × (e ≡ target_mismatch externs.Import x.0.0 path.string r x.1)
+IsImportMismatch s c p path w e = (x : (List ℕ × Meaning) × Option Span) × (k : Meaning) × (r : Reason)
+    × ReachedAt (λ y. ImportAllowed s w y.0) (placed_imports s c p) x
+    × (allowed w x.0.0 ≡ Some k) × (s.rules.passes (promoted k) x.0.1 ≡ Some r)
+    × (e ≡ target_mismatch externs.Import x.0.0 path.string r x.1)
 
 -- nothing is exported under the name of an export of the target
 abbrev pub IsMissingExport : Given → Composition → PackagePath → Meaning → Error → Type 0
-IsMissingExport s c path w e = (x : List ℕ × Meaning) × AllByRecursion (ImportAllowed s w) (all_imports s c) × ReachedAt (ExportMet s c) (exports_of w) x
+IsMissingExport s c path w e = (x : List ℕ × Meaning) × AllByRecursion (ImportAllowed s w) (all_imports s c)
+    × ReachedAt (ExportMet s c) (exports_of w) x
     × IsFresh x.0 c.exports × (e ≡ missing_target_export x.0 path.string (described x.1) path.span)
 
 -- what is exported does not fit the export of the target
 abbrev pub IsExportMismatch : Given → Composition → Places → PackagePath → Meaning → Error → Type 0
-IsExportMismatch s c p path w e = (x : List ℕ × Meaning) × (node : ℕ) × (r : Reason) × (span : Span) × AllByRecursion (ImportAllowed s w) (all_imports s c)
-    × ReachedAt (ExportMet s c) (exports_of w) x × StandsFor c.exports x.0 node × (s.rules.passes (kind_at c.nodes node) (promoted x.1) ≡ Some r)
+IsExportMismatch s c p path w e = (x : List ℕ × Meaning) × (node : ℕ) × (r : Reason) × (span : Span)
+    × AllByRecursion (ImportAllowed s w) (all_imports s c)
+    × ReachedAt (ExportMet s c) (exports_of w) x × StandsFor c.exports x.0 node
+    × (s.rules.passes (kind_at c.nodes node) (promoted x.1) ≡ Some r)
     × StandsFor p.exported x.0 span × (e ≡ target_mismatch externs.Export x.0 path.string r (Some span))
 
 -- ---- where they are tested
 
 abbrev pub ImportKindBroken : Given → Composition → Error → ImportType → Type 0
 ImportKindBroken s old e (ImportType.func x) = FuncBroken funcs.Free (root_scope old) [] x e
-ImportKindBroken s old e (ImportType.interface x) = InterfaceBroken s.setting (root_scope old) None old.resources x.items e
+ImportKindBroken s old e (ImportType.interface x) =
+    InterfaceBroken s.setting (root_scope old) None old.resources x.items e
 ImportKindBroken s old e (ImportType.path x) = PathBroken s.setting (root_scope old) x e
 ImportKindBroken s old e (ImportType.ident x) = IsUndefined (root_scope old) x e
 
@@ -121,17 +135,24 @@ ExportAsBroken s c p name span help e = IsExportConflict c p name span help e
 
 -- the exports before this one were exported at the same place
 abbrev pub ExportOneBroken : Given → Places → Span → Error → ℕ → Composition → Named Meaning → List ℕ × Meaning → Type 0
-ExportOneBroken s p span e node c before x = ExportAsBroken s (alias_at (at c node) x.0 x.1).composition (record p { exported = p.exported ++ names_at span before }) x.0 span None e
+ExportOneBroken s p span e node c before x = ExportAsBroken s (alias_at (at c node) x.0 x.1).composition
+    (record p { exported = p.exported ++ names_at span before }) x.0 span None e
 
 abbrev pub ExportOptionsBroken : Given → At → Places → Error → Expr → ExportOptions → Type 0
-ExportOptionsBroken s a p e x (ExportOptions.spread span) = IsNotInstance a.composition a.node Operation.spread (expr_span x) e ⊎ IsNoEffect a (expr_span x) e
-    ⊎ ((i : Meaning) × (instance_at a.composition a.node ≡ Some i) × Fails (ExportsOne s a.node) (ExportOneBroken s p span e a.node) a.composition (unexported a.composition.exports (exports_of i)))
-ExportOptionsBroken s a p e x (ExportOptions.rename name) = ExportAsBroken s a.composition p (extern_name_text name) (extern_name_span name) None e
+ExportOptionsBroken s a p e x (ExportOptions.spread span) =
+    IsNotInstance a.composition a.node Operation.spread (expr_span x) e ⊎ IsNoEffect a (expr_span x) e
+    ⊎ ((i : Meaning) × (instance_at a.composition a.node ≡ Some i)
+    × Fails (ExportsOne s a.node) (ExportOneBroken s p span e a.node) a.composition
+    (unexported a.composition.exports (exports_of i)))
+ExportOptionsBroken s a p e x (ExportOptions.rename name) =
+    ExportAsBroken s a.composition p (extern_name_text name) (extern_name_span name) None e
 ExportOptionsBroken s a p e x ExportOptions.none = IsUnnamed a (expr_span x) e
-    ⊎ ((n : Node) × (name : List ℕ) × (node_at a.composition a.node ≡ Some n) × (unnamed_export n ≡ Some name) × ExportAsBroken s a.composition p name (expr_span x) (Some as_clause) e)
+    ⊎ ((n : Node) × (name : List ℕ) × (node_at a.composition a.node ≡ Some n) × (unnamed_export n ≡ Some name)
+    × ExportAsBroken s a.composition p name (expr_span x) (Some as_clause) e)
 
 abbrev pub ExportBroken : Given → Composition → Places → Error → ExportStatement → Type 0
-ExportBroken s old p e x = ExprBroken s old e x.expr ⊎ ((a : At) × Stands s old x.expr a × ExportOptionsBroken s a p e x.expr x.options)
+ExportBroken s old p e x = ExprBroken s old e x.expr
+    ⊎ ((a : At) × Stands s old x.expr a × ExportOptionsBroken s a p e x.expr x.options)
 
 -- the statement breaks the rule that the error names
 abbrev pub StatementBroken : Given → Composition → Places → Error → Statement → Type 0
@@ -141,9 +162,11 @@ StatementBroken s old p e (Statement.export_statement x) = ExportBroken s old p 
 StatementBroken s old p e (Statement.type_statement x) = DeclarationBroken s.setting old p x e
 
 abbrev pub TargetWorldBroken : Given → Composition → Places → Error → PackagePath → Meaning → Type 0
-TargetWorldBroken s c p e path w = IsNotInTarget s c p path w e ⊎ IsImportMismatch s c p path w e ⊎ IsMissingExport s c path w e ⊎ IsExportMismatch s c p path w e
+TargetWorldBroken s c p e path w = IsNotInTarget s c p path w e ⊎ IsImportMismatch s c p path w e
+    ⊎ IsMissingExport s c path w e ⊎ IsExportMismatch s c p path w e
 
 -- the target breaks the rule that the error names
 abbrev pub TargetBroken : Given → Composition → Places → Error → PackagePath → Type 0
 TargetBroken s c p e path = PathBroken s.setting (root_scope c) path e
-    ⊎ ((k : Meaning) × LeadsTo s.setting (root_scope c) path k × (IsNotWorld path k e ⊎ ((w : Meaning) × (world_of k ≡ Some w) × TargetWorldBroken s c p e path w)))
+    ⊎ ((k : Meaning) × LeadsTo s.setting (root_scope c) path k
+    × (IsNotWorld path k e ⊎ ((w : Meaning) × (world_of k ≡ Some w) × TargetWorldBroken s c p e path w)))

@@ -1,4 +1,5 @@
--- Which rule of types an error says is broken. `Is..` is one rule; `..Broken` says where rules are tested, each after the tests before it passed.
+-- Which rule of types an error says is broken. `Is..` is one rule; `..Broken` says where rules are tested, each after
+-- the tests before it passed.
 use Rattle.std.specs.Prelude.{◌≡◌, ◌⊎◌, List, [], true}
 use Rattle.wac_graph_types.specs.declared.kind.FuncKind.{FuncKind}
 use Rattle.wac_graph_types.specs.Meaning.{Meaning}
@@ -16,11 +17,13 @@ IsUndefined all x e = IsFresh x.string all × (e ≡ undefined_name x.string x.s
 
 -- what the identifier denotes is not a resource type
 abbrev pub IsNoResource : Scope → Ident → Error → Type 0
-IsNoResource scope x e = (k : Meaning) × StandsFor scope x.string k × IsNoneOf is_resource_form k × (e ≡ not_resource_type x.string (described k) x.span)
+IsNoResource scope x e = (k : Meaning) × StandsFor scope x.string k × IsNoneOf is_resource_form k
+    × (e ≡ not_resource_type x.string (described k) x.span)
 
 -- what the identifier denotes is neither a resource type nor a type of values
 abbrev pub IsNoValue : Scope → Ident → Error → Type 0
-IsNoValue scope x e = (k : Meaning) × StandsFor scope x.string k × IsNoneOf is_resource_or_value_form k × (e ≡ not_value_type x.string (described k) x.span)
+IsNoValue scope x e = (k : Meaning) × StandsFor scope x.string k × IsNoneOf is_resource_or_value_form k
+    × (e ≡ not_value_type x.string (described k) x.span)
 
 abbrev mutual
   -- the first part of a type that has no meaning
@@ -28,7 +31,8 @@ abbrev mutual
   TypeBroken scope (Ty.tuple ts s) e = TypesBroken scope ts e
   TypeBroken scope (Ty.list t s) e = TypeBroken scope t e
   TypeBroken scope (Ty.option t s) e = TypeBroken scope t e
-  TypeBroken scope (Ty.result o r s) e = OptionalBroken scope o e ⊎ ((v : Meaning) × HasOptional scope o v × OptionalBroken scope r e)
+  TypeBroken scope (Ty.result o r s) e = OptionalBroken scope o e
+      ⊎ ((v : Meaning) × HasOptional scope o v × OptionalBroken scope r e)
   TypeBroken scope (Ty.borrow x s) e = IsUndefined scope x e ⊎ IsNoResource scope x e
   TypeBroken scope (Ty.stream t s) e = OptionalBroken scope t e
   TypeBroken scope (Ty.future t s) e = OptionalBroken scope t e
@@ -41,23 +45,27 @@ abbrev mutual
 
   pub TypesBroken : Scope → Types → Error → Type 0
   TypesBroken scope Types.none e = ⊥
-  TypesBroken scope (Types.more t ts) e = TypeBroken scope t e ⊎ ((v : Meaning) × HasType scope t v × TypesBroken scope ts e)
+  TypesBroken scope (Types.more t ts) e = TypeBroken scope t e
+      ⊎ ((v : Meaning) × HasType scope t v × TypesBroken scope ts e)
 
 -- ---- function types
 
 -- an earlier parameter has the name, or it is a method's own
 abbrev pub IsRepeatedParameter : FuncKind → Named Meaning → Ident → Error → Type 0
-IsRepeatedParameter kind old x e = (v : Meaning) × StandsFor old x.string v × (e ≡ duplicate_parameter kind x.string x.span)
+IsRepeatedParameter kind old x e = (v : Meaning) × StandsFor old x.string v
+    × (e ≡ duplicate_parameter kind x.string x.span)
 
 abbrev pub ParamBroken : FuncKind → Scope → Error → Named Meaning → List NamedType → NamedType → Type 0
-ParamBroken kind scope e old before p = TypeBroken scope p.ty e ⊎ ((v : Meaning) × HasType scope p.ty v × IsRepeatedParameter kind old p.id e)
+ParamBroken kind scope e old before p = TypeBroken scope p.ty e
+    ⊎ ((v : Meaning) × HasType scope p.ty v × IsRepeatedParameter kind old p.id e)
 
 abbrev pub ParamsBroken : FuncKind → Scope → Named Meaning → List NamedType → Error → Type 0
 ParamsBroken kind scope first ps e = Fails (HasParam scope) (ParamBroken kind scope e) first ps
 
 -- the result contains a borrow
 abbrev pub IsBorrowInResult : Scope → Ty → Error → Type 0
-IsBorrowInResult scope t e = (v : Meaning) × HasType scope t v × (contains_borrow v ≡ true) × (e ≡ borrow_in_result (ty_span t))
+IsBorrowInResult scope t e = (v : Meaning) × HasType scope t v × (contains_borrow v ≡ true)
+    × (e ≡ borrow_in_result (ty_span t))
 
 -- an earlier result has the name
 abbrev pub IsRepeatedResult : FuncKind → Named Meaning → Ident → Error → Type 0
@@ -67,7 +75,8 @@ abbrev pub ResultTypeBroken : Scope → Ty → Error → Type 0
 ResultTypeBroken scope t e = TypeBroken scope t e ⊎ IsBorrowInResult scope t e
 
 abbrev pub ResultBroken : FuncKind → Scope → Error → Named Meaning → List NamedType → NamedType → Type 0
-ResultBroken kind scope e old before r = ResultTypeBroken scope r.ty e ⊎ ((v : Meaning) × HasResultType scope r.ty v × IsRepeatedResult kind old r.id e)
+ResultBroken kind scope e old before r = ResultTypeBroken scope r.ty e
+    ⊎ ((v : Meaning) × HasResultType scope r.ty v × IsRepeatedResult kind old r.id e)
 
 abbrev pub ResultsBroken : FuncKind → Scope → ResultList → Error → Type 0
 ResultsBroken kind scope ResultList.empty e = ⊥
@@ -77,4 +86,5 @@ ResultsBroken kind scope (ResultList.named xs) e = Fails (HasResult scope) (Resu
 -- a function type, where these parameters come first
 abbrev pub FuncBroken : FuncKind → Scope → Named Meaning → FuncType → Error → Type 0
 FuncBroken kind scope first f e =
-    ParamsBroken kind scope first f.params e ⊎ ((ps : Named Meaning) × Steps (HasParam scope) first f.params ps × ResultsBroken kind scope f.results e)
+    ParamsBroken kind scope first f.params e
+    ⊎ ((ps : Named Meaning) × Steps (HasParam scope) first f.params ps × ResultsBroken kind scope f.results e)

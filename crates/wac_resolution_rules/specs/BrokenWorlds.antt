@@ -29,53 +29,68 @@ use Rattle.wac_resolution_rules.specs.Places.{Places, bound_in_interface, bound_
 
 -- what the identifier denotes is neither a function nor a function type
 abbrev pub IsNoFunc : Scope → Ident → Error → Type 0
-IsNoFunc scope x e = (k : Meaning) × StandsFor scope x.string k × IsNoneOf is_func_form k × (e ≡ not_func_type x.string (described k) x.span)
+IsNoFunc scope x e = (k : Meaning) × StandsFor scope x.string k × IsNoneOf is_func_form k
+    × (e ≡ not_func_type x.string (described k) x.span)
 
 abbrev pub FuncRefBroken : Scope → FuncTypeRef → Error → Type 0
 FuncRefBroken scope (FuncTypeRef.func f) e = FuncBroken funcs.Free scope [] f e
 FuncRefBroken scope (FuncTypeRef.ident x) e = IsUndefined scope x e ⊎ IsNoFunc scope x e
 
 abbrev pub InterfaceItemBroken : Setting → Scope → Owner → Error → Body → List InterfaceItem → InterfaceItem → Type 0
-InterfaceItemBroken setting root of e old before (InterfaceItem.use_statement u) = UseBroken setting root sides.Export old u e
-InterfaceItemBroken setting root of e old before (InterfaceItem.ty d) = ItemBroken setting.naming of sides.Export (bound_in_interface before) old d e
+InterfaceItemBroken setting root of e old before (InterfaceItem.use_statement u) =
+    UseBroken setting root sides.Export old u e
+InterfaceItemBroken setting root of e old before (InterfaceItem.ty d) =
+    ItemBroken setting.naming of sides.Export (bound_in_interface before) old d e
 InterfaceItemBroken setting root of e old before (InterfaceItem.interface_export x) =
-    FuncRefBroken old.scope x.ty e ⊎ ((f : Meaning) × IsFuncRef old.scope x.ty f × IsConflict of sides.Export old x.id.string x.id.span e)
+    FuncRefBroken old.scope x.ty e
+    ⊎ ((f : Meaning) × IsFuncRef old.scope x.ty f × IsConflict of sides.Export old x.id.string x.id.span e)
 
 abbrev pub InterfaceBroken : Setting → Scope → Option (List ℕ) → ℕ → List InterfaceItem → Error → Type 0
-InterfaceBroken setting root name n items e = Fails (HasInterfaceItem setting root) (InterfaceItemBroken setting root (of_interface name) e) (empty_body n) items
+InterfaceBroken setting root name n items e =
+    Fails (HasInterfaceItem setting root) (InterfaceItemBroken setting root (of_interface name) e) (empty_body n) items
 
 -- ---- items of worlds
 
 -- what the identifier denotes is neither a function type nor an interface
 abbrev pub IsNoFuncOrInterface : Scope → Ident → Error → Type 0
-IsNoFuncOrInterface scope x e = (k : Meaning) × StandsFor scope x.string k × IsNoneOf is_func_or_interface_form k × (e ≡ not_func_or_interface x.string (described k) x.span)
+IsNoFuncOrInterface scope x e = (k : Meaning) × StandsFor scope x.string k × IsNoneOf is_func_or_interface_form k
+    × (e ≡ not_func_or_interface x.string (described k) x.span)
 
 abbrev pub ExternTypeBroken : Setting → Scope → Scope → ℕ → ExternType → Error → Type 0
-ExternTypeBroken setting root scope n (ExternType.ident x) e = IsUndefined (scope ++ root) x e ⊎ IsNoFuncOrInterface (scope ++ root) x e
+ExternTypeBroken setting root scope n (ExternType.ident x) e = IsUndefined (scope ++ root) x e
+    ⊎ IsNoFuncOrInterface (scope ++ root) x e
 ExternTypeBroken setting root scope n (ExternType.func f) e = FuncBroken funcs.Free scope [] f e
 ExternTypeBroken setting root scope n (ExternType.interface i) e = InterfaceBroken setting root None n i.items e
 
 abbrev pub InstanceBroken : Owner → ExternKind → Body → Meaning → List ℕ → Span → Error → Type 0
-InstanceBroken of side old k name at e = IsNoInterface k name at e ⊎ (IsA is_interface_form k × IsConflict of side old (id_or_empty k) at e)
+InstanceBroken of side old k name at e = IsNoInterface k name at e
+    ⊎ (IsA is_interface_form k × IsConflict of side old (id_or_empty k) at e)
 
 abbrev pub ExternBroken : Setting → Scope → Owner → ExternKind → Body → WorldItemPath → Error → Type 0
 ExternBroken setting root of side old (WorldItemPath.named x) e =
-    IsConflict of side old x.id.string x.id.span e ⊎ (IsFresh x.id.string (externs side old) × ExternTypeBroken setting root old.scope old.resources x.ty e)
-ExternBroken setting root of side old (WorldItemPath.path p) e = PathBroken setting root p e ⊎ ((k : Meaning) × LeadsTo setting root p k × InstanceBroken of side old k p.string p.span e)
-ExternBroken setting root of side old (WorldItemPath.ident x) e = IsUndefined root x e ⊎ ((k : Meaning) × StandsFor root x.string k × InstanceBroken of side old k x.string x.span e)
+    IsConflict of side old x.id.string x.id.span e
+    ⊎ (IsFresh x.id.string (externs side old) × ExternTypeBroken setting root old.scope old.resources x.ty e)
+ExternBroken setting root of side old (WorldItemPath.path p) e = PathBroken setting root p e
+    ⊎ ((k : Meaning) × LeadsTo setting root p k × InstanceBroken of side old k p.string p.span e)
+ExternBroken setting root of side old (WorldItemPath.ident x) e = IsUndefined root x e
+    ⊎ ((k : Meaning) × StandsFor root x.string k × InstanceBroken of side old k x.string x.span e)
 
 abbrev pub WorldItemBroken : Setting → Scope → Owner → Error → Body → List WorldItem → WorldItem → Type 0
 WorldItemBroken setting root of e old before (WorldItem.use_statement u) = UseBroken setting root sides.Import old u e
-WorldItemBroken setting root of e old before (WorldItem.world_import x) = ExternBroken setting root of sides.Import old x.path e
-WorldItemBroken setting root of e old before (WorldItem.world_export x) = ExternBroken setting root of sides.Export old x.path e
+WorldItemBroken setting root of e old before (WorldItem.world_import x) =
+    ExternBroken setting root of sides.Import old x.path e
+WorldItemBroken setting root of e old before (WorldItem.world_export x) =
+    ExternBroken setting root of sides.Export old x.path e
 WorldItemBroken setting root of e old before (WorldItem.world_include x) = ⊥
-WorldItemBroken setting root of e old before (WorldItem.ty d) = ItemBroken setting.naming of sides.Import (bound_in_world before) old d e
+WorldItemBroken setting root of e old before (WorldItem.ty d) =
+    ItemBroken setting.naming of sides.Import (bound_in_world before) old d e
 
 -- ---- include
 
 -- an earlier entry renames the same name
 abbrev pub IsSecondEntry : Error → Entries → List WorldIncludeItem → WorldIncludeItem → Type 0
-IsSecondEntry e old before x = (to : List ℕ) × StandsFor old x.from.string to × (e ≡ duplicate_world_include_name x.from.string x.from.span)
+IsSecondEntry e old before x = (to : List ℕ) × StandsFor old x.from.string to
+    × (e ≡ duplicate_world_include_name x.from.string x.from.span)
 
 abbrev pub WorldRefBroken : Setting → Scope → WorldRef → Error → Type 0
 WorldRefBroken setting root (WorldRef.path p) e = PathBroken setting root p e
@@ -95,7 +110,8 @@ span_of_entry (Some i) at = i.to.span
 
 -- where a name comes from: the entry that renames it, else the included world
 abbrev pub span_taken : WorldInclude → Entries → List ℕ → Span
-span_taken x entries name = elim (look_up name entries) [ None ↦ world_ref_span x.world | Some to ↦ span_of_entry (entry_named name x.items) (world_ref_span x.world) ]
+span_taken x entries name = elim (look_up name entries)
+    [ None ↦ world_ref_span x.world | Some to ↦ span_of_entry (entry_named name x.items) (world_ref_span x.world) ]
 
 abbrev pub with_clause : List ℕ
 with_clause = codes "consider using a `with` clause to use a different name"
@@ -105,23 +121,29 @@ help_of_include [] = Some with_clause
 help_of_include (i ∷ is) = None
 
 -- a name without a colon, after renaming, exists already
-abbrev pub IsIncludeConflict : WorldInclude → List ℕ → ExternKind → Error → Taking → List (List ℕ × Meaning) → List ℕ × Meaning → Type 0
+abbrev pub IsIncludeConflict : WorldInclude → List ℕ → ExternKind → Error → Taking → List (List ℕ × Meaning)
+    → List ℕ × Meaning → Type 0
 IsIncludeConflict x world side e old before n =
     (m : Meaning) × (has_colon n.0 ≡ false) × StandsFor old.there (name_taken old.entries n.0) m
-    × (e ≡ world_include_conflict side (name_taken old.entries n.0) (world_ref_name x.world) world (span_taken x old.entries n.0) (help_of_include x.items))
+    × (e ≡ world_include_conflict side (name_taken old.entries n.0) (world_ref_name x.world) world
+    (span_taken x old.entries n.0) (help_of_include x.items))
 
 -- an entry is left over: the first
 abbrev pub IsLeftOver : WorldInclude → Entries → Error → Type 0
 IsLeftOver x [] e = ⊥
-IsLeftOver x (left ∷ more) e = (i : WorldIncludeItem) × (entry_named left.0 x.items ≡ Some i) × (e ≡ missing_world_include (world_ref_name x.world) left.0 i.from.span)
+IsLeftOver x (left ∷ more) e = (i : WorldIncludeItem) × (entry_named left.0 x.items ≡ Some i)
+    × (e ≡ missing_world_include (world_ref_name x.world) left.0 i.from.span)
 
 -- taking over the names of a world
 abbrev pub TakingBroken : WorldInclude → List ℕ → Entries → Meaning → Body → Error → Type 0
 TakingBroken x world entries entry old e =
-    Fails Takes (IsIncludeConflict x world sides.Import e) (record { entries = entries; there = old.imports }) (imports_of entry)
+    Fails Takes (IsIncludeConflict x world sides.Import e) (record { entries = entries; there = old.imports })
+    (imports_of entry)
     ⊎ ((a : Taking) × Steps Takes (record { entries = entries; there = old.imports }) (imports_of entry) a
-    × (Fails Takes (IsIncludeConflict x world sides.Export e) (record { entries = a.entries; there = old.exports }) (exports_of entry)
-    ⊎ ((b : Taking) × Steps Takes (record { entries = a.entries; there = old.exports }) (exports_of entry) b × IsLeftOver x b.entries e)))
+    × (Fails Takes (IsIncludeConflict x world sides.Export e) (record { entries = a.entries; there = old.exports })
+    (exports_of entry)
+    ⊎ ((b : Taking) × Steps Takes (record { entries = a.entries; there = old.exports }) (exports_of entry) b
+    × IsLeftOver x b.entries e)))
 
 abbrev pub IncludeBroken : Setting → Scope → List ℕ → Error → Body → List WorldInclude → WorldInclude → Type 0
 IncludeBroken setting root world e old before x =
@@ -142,27 +164,34 @@ WorldBroken setting root name n items e =
 
 -- the name was exported
 abbrev pub IsExported : Composition → Places → Ident → Error → Type 0
-IsExported old places x e = (n : ℕ) × (at : Span) × StandsFor old.exports x.string n × StandsFor places.exported x.string at × (e ≡ declaration_conflict x.string x.span at)
+IsExported old places x e = (n : ℕ) × (at : Span) × StandsFor old.exports x.string n
+    × StandsFor places.exported x.string at × (e ≡ declaration_conflict x.string x.span at)
 
 -- the identifier is bound at root already
 abbrev pub IsBound : Composition → Places → Ident → Error → Type 0
-IsBound old places x e = (n : ℕ) × (previous : Span) × StandsFor old.declared x.string n × StandsFor places.bound x.string previous × (e ≡ duplicate_name x.string x.span previous)
+IsBound old places x e = (n : ℕ) × (previous : Span) × StandsFor old.declared x.string n
+    × StandsFor places.bound x.string previous × (e ≡ duplicate_name x.string x.span previous)
 
 abbrev pub DefinitionBroken : Composition → Places → Ident → Error → Type 0
 DefinitionBroken old places x e = IsExported old places x e ⊎ (IsFresh x.string old.exports × IsBound old places x e)
 
 -- the declared type has no meaning
 abbrev pub KindBroken : Setting → Composition → TypeStatement → Error → Type 0
-KindBroken setting old (TypeStatement.interface d) e = InterfaceBroken setting (root_scope old) (Some d.id.string) old.resources d.items e
-KindBroken setting old (TypeStatement.world d) e = WorldBroken setting (root_scope old) d.id.string old.resources d.items e
+KindBroken setting old (TypeStatement.interface d) e =
+    InterfaceBroken setting (root_scope old) (Some d.id.string) old.resources d.items e
+KindBroken setting old (TypeStatement.world d) e =
+    WorldBroken setting (root_scope old) d.id.string old.resources d.items e
 KindBroken setting old (TypeStatement.ty d) e = TypeDeclBroken (root_scope old) old.resources d e
 
 -- the declared type has a meaning
 abbrev pub HasKind : Setting → Composition → TypeStatement → Type 0
-HasKind setting old (TypeStatement.interface d) = (entry : Meaning) × (n : ℕ) × IsInterface setting (root_scope old) old.resources (declared_id setting d.id.string) d.items entry n
-HasKind setting old (TypeStatement.world d) = (entry : Meaning) × (n : ℕ) × IsWorld setting (root_scope old) old.resources (declared_id setting d.id.string) d.items entry n
+HasKind setting old (TypeStatement.interface d) = (entry : Meaning) × (n : ℕ)
+    × IsInterface setting (root_scope old) old.resources (declared_id setting d.id.string) d.items entry n
+HasKind setting old (TypeStatement.world d) = (entry : Meaning) × (n : ℕ)
+    × IsWorld setting (root_scope old) old.resources (declared_id setting d.id.string) d.items entry n
 HasKind setting old (TypeStatement.ty d) = (m : Meaning) × (n : ℕ) × IsTypeDecl (root_scope old) old.resources d m n
 
 -- a type statement breaks the rule that the error names
 abbrev pub DeclarationBroken : Setting → Composition → Places → TypeStatement → Error → Type 0
-DeclarationBroken setting old places s e = KindBroken setting old s e ⊎ (HasKind setting old s × DefinitionBroken old places (identifier_of s) e)
+DeclarationBroken setting old places s e = KindBroken setting old s e
+    ⊎ (HasKind setting old s × DefinitionBroken old places (identifier_of s) e)

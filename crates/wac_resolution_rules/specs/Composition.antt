@@ -39,7 +39,8 @@ root_scope c = map (λ d. (d.0, kind_at c.nodes d.1)) c.declared
 
 -- one more node
 abbrev pub with_node : Composition → NodeForm → Meaning → Composition
-with_node c form kind = record c { nodes = c.nodes ++ record { form = form; kind = kind; name = None; arguments = [] } ∷ [] }
+with_node c form kind =
+    record c { nodes = c.nodes ++ record { form = form; kind = kind; name = None; arguments = [] } ∷ [] }
 
 abbrev pub with_export : Composition → List ℕ → ℕ → Composition
 with_export c name n = record c { exports = with_named c.exports name n }
@@ -53,7 +54,8 @@ first_name None name = Some name
 first_name (Some old) name = Some old
 
 abbrev pub named_at : List Node → ℕ → List ℕ → List Node
-named_at ns n name = elim (slice_get ns n) [ None ↦ ns | Some x ↦ slice_set ns n (record x { name = first_name x.name name }) ]
+named_at ns n name =
+    elim (slice_get ns n) [ None ↦ ns | Some x ↦ slice_set ns n (record x { name = first_name x.name name }) ]
 
 -- an identifier is bound to a node, and names it where it has no name
 abbrev pub binding : Composition → List ℕ → ℕ → Composition

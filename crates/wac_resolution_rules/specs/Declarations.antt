@@ -17,11 +17,13 @@ HasOption scope (Some t) v = HasType scope t v
 
 -- a case perhaps has a type, and no earlier one has its name
 abbrev pub HasCase : Scope → Named Meaning → VariantCase → Named Meaning → Type 0
-HasCase scope old c new = (v : Meaning) × HasOption scope c.ty v × IsFresh c.id.string old × (new ≡ with_named old c.id.string v)
+HasCase scope old c new = (v : Meaning) × HasOption scope c.ty v × IsFresh c.id.string old
+    × (new ≡ with_named old c.id.string v)
 
 -- a field has a type, and no earlier one has its name
 abbrev pub HasField : Scope → Named Meaning → Field → Named Meaning → Type 0
-HasField scope old f new = (v : Meaning) × HasType scope f.ty v × IsFresh f.id.string old × (new ≡ with_named old f.id.string v)
+HasField scope old f new = (v : Meaning) × HasType scope f.ty v × IsFresh f.id.string old
+    × (new ≡ with_named old f.id.string v)
 
 -- no earlier flag has the name
 abbrev pub HasFlag : Named Meaning → Flag → Named Meaning → Type 0
@@ -32,10 +34,12 @@ abbrev pub HasEnumCase : Named Meaning → EnumCase → Named Meaning → Type 0
 HasEnumCase old c new = IsFresh c.id.string old × (new ≡ with_named old c.id.string nothing)
 
 abbrev pub IsVariant : Scope → VariantDecl → Meaning → Type 0
-IsVariant scope d m = (all : Named Meaning) × Steps (HasCase scope) [] d.cases all × (m ≡ defined_type Plain.variant (naming_each all))
+IsVariant scope d m = (all : Named Meaning) × Steps (HasCase scope) [] d.cases all
+    × (m ≡ defined_type Plain.variant (naming_each all))
 
 abbrev pub IsRecord : Scope → RecordDecl → Meaning → Type 0
-IsRecord scope d m = (all : Named Meaning) × Steps (HasField scope) [] d.fields all × (m ≡ defined_type Plain.fields (naming_each all))
+IsRecord scope d m = (all : Named Meaning) × Steps (HasField scope) [] d.fields all
+    × (m ≡ defined_type Plain.fields (naming_each all))
 
 abbrev pub IsFlags : FlagsDecl → Meaning → Type 0
 IsFlags d m = (all : Named Meaning) × Steps HasFlag [] d.flags all × (m ≡ defined_type Plain.flags (naming_each all))
@@ -69,7 +73,8 @@ abbrev pub at_root : Aliasing
 at_root n name k = option_map (λ m. (m, n)) (alias_of k)
 
 abbrev pub in_body_of_form : Naming → Option Form → Aliasing
-in_body_of_form naming (Some a_resource) n name k = Some (kind_of a_resource (alias_entry naming n name (entry_of k)), suc n)
+in_body_of_form naming (Some a_resource) n name k =
+    Some (kind_of a_resource (alias_entry naming n name (entry_of k)), suc n)
 in_body_of_form naming _ n name k = at_root n name k
 
 -- in a body a resource may be aliased too: that is a new resource
@@ -84,11 +89,13 @@ alone _ = None
 -- an alias of what an identifier denotes, or of a type expression
 abbrev pub IsTypeAlias : Aliasing → Scope → ℕ → List ℕ → Option Ident → Ty → Meaning → ℕ → Type 0
 IsTypeAlias aliasing scope n name None t m after = (v : Meaning) × HasType scope t v × (m ≡ alias_type v) × (after ≡ n)
-IsTypeAlias aliasing scope n name (Some x) t m after = (k : Meaning) × StandsFor scope x.string k × (aliasing n name k ≡ Some (m, after))
+IsTypeAlias aliasing scope n name (Some x) t m after = (k : Meaning) × StandsFor scope x.string k
+    × (aliasing n name k ≡ Some (m, after))
 
 -- an alias of this name
 abbrev pub IsAlias : Aliasing → Scope → ℕ → List ℕ → TypeAliasKind → Meaning → ℕ → Type 0
-IsAlias aliasing scope n name (TypeAliasKind.func f) m after = (entry : Meaning) × IsFunc scope f entry × (m ≡ kind_of a_func entry) × (after ≡ n)
+IsAlias aliasing scope n name (TypeAliasKind.func f) m after = (entry : Meaning) × IsFunc scope f entry
+    × (m ≡ kind_of a_func entry) × (after ≡ n)
 IsAlias aliasing scope n name (TypeAliasKind.ty t) m after = IsTypeAlias aliasing scope n name (alone t) t m after
 
 -- what a declaration at root declares, and the count of declared resources after it

@@ -36,7 +36,8 @@ accessed (PostfixExpr.named_access x) exports = x.string.value
 
 -- the node is an instance with the export that is named, and the access denotes its alias
 abbrev pub Accesses : At → PostfixExpr → At → Type 0
-Accesses old p new = (i : Meaning) × (k : Meaning) × (instance_at old.composition old.node ≡ Some i) × StandsFor (exports_of i) (accessed p (exports_of i)) k × (new ≡ alias_at old (accessed p (exports_of i)) k)
+Accesses old p new = (i : Meaning) × (k : Meaning) × (instance_at old.composition old.node ≡ Some i)
+    × StandsFor (exports_of i) (accessed p (exports_of i)) k × (new ≡ alias_at old (accessed p (exports_of i)) k)
 
 -- ---- arguments
 
@@ -72,11 +73,13 @@ if_imported imports (Some name) = if is_some (look_up name imports) then Some na
 
 -- the import for which a node is given by its identifier alone
 abbrev pub name_inferred : Named Meaning → List ℕ → Node → List ℕ
-name_inferred imports name n = unwrap_or (option_or (if_imported imports (instance_id n)) (if_imported imports (own_name n))) (find_name name imports)
+name_inferred imports name n = unwrap_or
+    (option_or (if_imported imports (instance_id n)) (if_imported imports (own_name n))) (find_name name imports)
 
 -- an import for which nothing is given yet: where the node exports that name, its alias is given
 abbrev pub spread_step : ℕ → Named Meaning → Giving → List ℕ × Meaning → Giving
-spread_step node exports g x = if is_some (look_up x.0 g.arguments) then g else elim (look_up x.0 exports) [ None ↦ g | Some k ↦ given_too g x.0 (alias_at (at g.composition node) x.0 k) ]
+spread_step node exports g x = if is_some (look_up x.0 g.arguments) then g else elim (look_up x.0 exports)
+    [ None ↦ g | Some k ↦ given_too g x.0 (alias_at (at g.composition node) x.0 k) ]
 
 -- that for each import, in the order of the imports
 abbrev pub spread_from : Named Meaning → ℕ → Named Meaning → Giving → Giving
@@ -84,7 +87,8 @@ spread_from imports node exports old = fold (spread_step node exports) old impor
 
 -- a spread is of an instance, and gives something
 abbrev pub Spreads : Named Meaning → Giving → Ident → Giving → Type 0
-Spreads imports old id new = (node : ℕ) × (i : Meaning) × StandsFor old.composition.declared id.string node × (instance_at old.composition node ≡ Some i)
+Spreads imports old id new = (node : ℕ) × (i : Meaning) × StandsFor old.composition.declared id.string node
+    × (instance_at old.composition node ≡ Some i)
     × (new ≡ spread_from imports node (exports_of i) old) × (new.arguments ≢ old.arguments)
 
 -- the spreads among the arguments, in order
@@ -126,7 +130,8 @@ abbrev pub IsComplete : Named Meaning → Bool → Named ℕ → Type 0
 IsComplete imports filled arguments = IsTrue filled ⊎ (left_out imports arguments ≡ [])
 
 -- with its arguments given, an instance of the package is made: the next node
-pub record Instantiates (rules : Rules) (p : Contents) (key : Key) (filled : Bool) (given : Giving) (new : At) : Type 0 where
+pub record Instantiates (rules : Rules) (p : Contents) (key : Key) (filled : Bool) (given : Giving) (new : At) : Type
+    0 where
   pub fit : AllByRecursion (Fits rules (imports_in p) given.composition.nodes) given.arguments
   pub complete : IsComplete (imports_in p) filled given.arguments
   pub made : new ≡ at (with_instance given.composition key p.instance given.arguments) (next_of given.composition)
@@ -136,19 +141,25 @@ pub record Instantiates (rules : Rules) (p : Contents) (key : Key) (filled : Boo
 abbrev mutual
   -- in the old composition the expression denotes a node of a new one
   pub Stands : Given → Composition → Expr → At → Type 0
-  Stands s old (Expr.expr span first others) new = (mid : At) × PrimaryStands s old first mid × Steps Accesses mid others new
+  Stands s old (Expr.expr span first others) new = (mid : At) × PrimaryStands s old first mid
+      × Steps Accesses mid others new
 
   pub PrimaryStands : Given → Composition → PrimaryExpr → At → Type 0
   -- the package is known; its arguments are given in order, then those of the spreads; then the instance is made
-  PrimaryStands s old (PrimaryExpr.new span name args) new = (p : Contents) × (given : Giving) × (all : Giving) × (instantiable s name ≡ Some p)
-      × Gives s (imports_in p) (nothing_given old) args given × Steps (Spreads (imports_in p)) given (spreads_of args) all × Instantiates s.rules p (key_named name) (has_fill args) all new
+  PrimaryStands s old (PrimaryExpr.new span name args) new = (p : Contents) × (given : Giving) × (all : Giving)
+      × (instantiable s name ≡ Some p)
+      × Gives s (imports_in p) (nothing_given old) args given
+      × Steps (Spreads (imports_in p)) given (spreads_of args) all
+      × Instantiates s.rules p (key_named name) (has_fill args) all new
   PrimaryStands s old (PrimaryExpr.nested span e) new = Stands s old e new
-  PrimaryStands s old (PrimaryExpr.ident id) new = (node : ℕ) × StandsFor old.declared id.string node × (new ≡ at old node)
+  PrimaryStands s old (PrimaryExpr.ident id) new = (node : ℕ) × StandsFor old.declared id.string node
+      × (new ≡ at old node)
 
   -- the arguments that aren't spreads, in order
   pub Gives : Given → Named Meaning → Giving → Arguments → Giving → Type 0
   Gives s imports old Arguments.none new = new ≡ old
-  Gives s imports old (Arguments.more a rest) new = (mid : Giving) × GivesOne s imports rest old a mid × Gives s imports mid rest new
+  Gives s imports old (Arguments.more a rest) new = (mid : Giving) × GivesOne s imports rest old a mid
+      × Gives s imports mid rest new
 
   -- an argument before the rest: a fill is the last; a node is given for a name that has none yet
   pub GivesOne : Given → Named Meaning → Arguments → Giving → InstantiationArgument → Giving → Type 0
@@ -156,5 +167,7 @@ abbrev mutual
   GivesOne s imports rest old (InstantiationArgument.spread id) new = new ≡ old
   GivesOne s imports rest old (InstantiationArgument.named name e) new = (a : At) × Stands s old.composition e a
       × IsFresh (name_meant name imports) old.arguments × (new ≡ given_too old (name_meant name imports) a)
-  GivesOne s imports rest old (InstantiationArgument.inferred id) new = (node : ℕ) × (n : Node) × StandsFor old.composition.declared id.string node × (node_at old.composition node ≡ Some n)
-      × IsFresh (name_inferred imports id.string n) old.arguments × (new ≡ given_too old (name_inferred imports id.string n) (at old.composition node))
+  GivesOne s imports rest old (InstantiationArgument.inferred id) new = (node : ℕ) × (n : Node)
+      × StandsFor old.composition.declared id.string node × (node_at old.composition node ≡ Some n)
+      × IsFresh (name_inferred imports id.string n) old.arguments
+      × (new ≡ given_too old (name_inferred imports id.string n) (at old.composition node))

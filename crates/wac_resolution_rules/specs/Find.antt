@@ -28,4 +28,5 @@ names_of all = map (λ e. e.0) all
 
 -- a name among the externs denotes itself; else the only extern that it is short for; else itself
 abbrev pub find_name : {X : Type 0} → List ℕ → Named X → List ℕ
-find_name name externs = if is_some (look_up name externs) then name else unwrap_or (only_one (long_names name (names_of externs))) name
+find_name name externs =
+    if is_some (look_up name externs) then name else unwrap_or (only_one (long_names name (names_of externs))) name

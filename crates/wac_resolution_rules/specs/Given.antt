@@ -2,6 +2,7 @@
 use Rattle.std.specs.Prelude.{ℕ, List, Option, None, if◌then◌else◌}
 use Rattle.std.specs.Str.{bytes_eq}
 use Rattle.wac_graph_types.specs.declared.rules.Reason.{Reason}
+use Rattle.wac_graph_types.specs.declared.rules.Rules as trait
 use Rattle.wac_graph_types.specs.Meaning.{Meaning}
 use Rattle.wac_graph_types.specs.Scope.{Named}
 use Rattle.wac_graph_types.specs.Shape.{entry_of, imports_of}
@@ -17,6 +18,10 @@ pub record Rules : Type 0 where
   pub passes : Meaning → Meaning → Option Reason
   -- may this be the name of an import or export
   pub named : List ℕ → Option Reason
+
+-- the rules that a value of a type with the trait supplies
+abbrev pub rules_of : {X : Type 0} → trait.Ghosts X → X → Rules
+rules_of members x = record { passes = members.passes x; named = members.named x }
 
 -- rules that test by these two
 abbrev pub rules_by : (Meaning → Meaning → Option Reason) → (List ℕ → Option Reason) → Rules

@@ -39,7 +39,11 @@ abbrev pub TakesNamed : Bool → Taking → List ℕ × Meaning → Taking → T
 TakesNamed true old x new = new ≡ record { entries = old.entries; there = with_missing old.there x.0 x.1 }
 TakesNamed false old x new =
     IsFresh (name_taken old.entries x.0) old.there
-    × (new ≡ record { entries = without_first x.0 old.entries; there = with_named old.there (name_taken old.entries x.0) x.1 })
+    × (new ≡ record {
+      entries = without_first x.0 old.entries;
+      there = with_named old.there (name_taken old.entries x.0)
+          x.1;
+    })
 
 -- A name with a colon is taken as it is, unless it exists already. Another name is renamed by the first entry for it,
 -- which is then used up; the new name may not exist yet.

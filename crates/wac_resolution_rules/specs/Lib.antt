@@ -24,3 +24,4 @@ pub mod BrokenStatements
 pub mod ResolvedDocument
 pub mod Sound
 pub mod Mentions
+pub mod Errors

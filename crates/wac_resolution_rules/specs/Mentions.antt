@@ -104,7 +104,8 @@ target_mentions own (Some p) = path_mentions own p
 
 -- the target's, then those of the statements in order
 abbrev pub mentions : Document → List Mention
-mentions doc = target_mentions doc.directive.package_name.name doc.directive.targets ++ flat_map (statement_mentions doc.directive.package_name.name) doc.statements
+mentions doc = target_mentions doc.directive.package_name.name doc.directive.targets ++ flat_map
+    (statement_mentions doc.directive.package_name.name) doc.statements
 
 -- a key is among the mentioned ones
 abbrev pub is_mentioned : List Mention → Key → Bool

@@ -76,4 +76,5 @@ with_alias c node name k = elim (alias_in c node name) [ None ↦ with_node c (a
 
 -- an instance of a package with its arguments
 abbrev pub with_instance : Composition → Key → Meaning → Named ℕ → Composition
-with_instance c key k arguments = record c { nodes = c.nodes ++ record { form = instantiated key; kind = k; name = None; arguments = arguments } ∷ [] }
+with_instance c key k arguments = record c
+    { nodes = c.nodes ++ record { form = instantiated key; kind = k; name = None; arguments = arguments } ∷ [] }

@@ -95,7 +95,8 @@ placed_start c = record { composition = c; places = nowhere_yet }
 
 -- a statement turns one composition into the next, and changes the places
 abbrev pub Leads : Given → Placed → Statement → Placed → Type 0
-Leads s old x new = Goes s old.composition x new.composition × (new.places ≡ places_after old.composition old.places x new.composition)
+Leads s old x new = Goes s old.composition x new.composition
+    × (new.places ≡ places_after old.composition old.places x new.composition)
 
 -- the names that have places are those that were bound, imported and exported, in order
 pub record HavePlaces (c : Composition) (p : Places) : Type 0 where

@@ -1,4 +1,5 @@
--- What resolving returns: exactly the composition that a document describes, or a rule that the first failing statement breaks.
+-- What resolving returns: exactly the composition that a document describes, or a rule that the first failing statement
+-- breaks.
 use Rattle.std.specs.Prelude.{◌≡◌, ◌↔◌, List, ◌∷◌, ◌++◌, Some, Result, Ok, Err, ◌⊎◌}
 use Rattle.wac_graph_types.specs.Steps.{Steps}
 use Rattle.wac_graph_types.specs.Package.{PackageParts}
@@ -18,7 +19,13 @@ use Rattle.wac_resolution_rules.specs.Places.{Leads, Placed, placed_start}
 -- what a document is resolved with: the given packages, by what they mean, and the rules
 abbrev pub given_to : Naming → List (Key × PackageParts) → Rules → Document → Given
 given_to naming packages rules doc = record {
-  setting = record { naming = naming; own = doc.directive.package_name.name; version = version_text doc.directive.package_name.string; packages = handed naming packages };
+  setting = record {
+    naming = naming;
+    own = doc.directive.package_name.name;
+    version = version_text
+        doc.directive.package_name.string;
+    packages = handed naming packages;
+  };
   rules = rules;
 }
 
@@ -28,7 +35,8 @@ Describes s doc c = Composes s start doc.statements c × MeetsTarget s c doc.dir
 
 -- the two documents describe the same, whatever the packages and the rules are
 abbrev pub DescribeAlike : Document → Document → Type 0
-DescribeAlike a b = (naming : Naming) (packages : List (Key × PackageParts)) (rules : Rules) (c : Composition) → Describes (given_to naming packages rules a) a c ↔ Describes (given_to naming packages rules b) b c
+DescribeAlike a b = (naming : Naming) (packages : List (Key × PackageParts)) (rules : Rules) (c : Composition)
+    → Describes (given_to naming packages rules a) a c ↔ Describes (given_to naming packages rules b) b c
 
 -- the statements before it have a composition; with it there is none, for it breaks a rule
 pub record StatementFails (s : Given) (doc : Document) (e : Error) : Type 0 where

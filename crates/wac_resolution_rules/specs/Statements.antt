@@ -22,8 +22,10 @@ use Rattle.wac_resolution_rules.specs.Expressions.{At, at, alias_at, instance_id
 
 -- the kind that an import's type means before it is promoted, and how many resources are declared then
 abbrev pub ImportsKind : Given → Composition → ImportType → Meaning → ℕ → Type 0
-ImportsKind s old (ImportType.func x) k after = (entry : Meaning) × IsFunc (root_scope old) x entry × (k ≡ kind_of func entry) × (after ≡ old.resources)
-ImportsKind s old (ImportType.interface x) k after = (entry : Meaning) × IsInterface s.setting (root_scope old) old.resources None x.items entry after × (k ≡ kind_of instance entry)
+ImportsKind s old (ImportType.func x) k after = (entry : Meaning) × IsFunc (root_scope old) x entry
+    × (k ≡ kind_of func entry) × (after ≡ old.resources)
+ImportsKind s old (ImportType.interface x) k after = (entry : Meaning)
+    × IsInterface s.setting (root_scope old) old.resources None x.items entry after × (k ≡ kind_of instance entry)
 ImportsKind s old (ImportType.path x) k after = LeadsTo s.setting (root_scope old) x k × (after ≡ old.resources)
 ImportsKind s old (ImportType.ident x) k after = StandsFor (root_scope old) x.string k × (after ≡ old.resources)
 
@@ -46,14 +48,17 @@ name_imported x k = elim x.name [ None ↦ unnamed_import x.id x.ty k | Some nam
 -- an import has a kind, and a name that is new and that the rules allow; its identifier is new
 abbrev pub Imports : Given → Composition → ImportStatement → Composition → Type 0
 Imports s old x new = (k : Meaning) × (n : ℕ) × ImportsKind s old x.ty k n
-    × IsFresh (name_imported x k) (imports old) × (s.rules.named (name_imported x k) ≡ None) × IsFresh x.id.string old.declared
-    × (new ≡ binding (with_node (with_resources old n) (imported (name_imported x k)) (promoted k)) x.id.string (next_of old))
+    × IsFresh (name_imported x k) (imports old) × (s.rules.named (name_imported x k) ≡ None)
+    × IsFresh x.id.string old.declared
+    × (new ≡ binding (with_node (with_resources old n) (imported (name_imported x k)) (promoted k)) x.id.string
+    (next_of old))
 
 -- ---- let
 
 -- the identifier is bound to the node of the expression
 abbrev pub Lets : Given → Composition → LetStatement → Composition → Type 0
-Lets s old x new = (a : At) × Stands s old x.expr a × IsFresh x.id.string a.composition.declared × (new ≡ binding a.composition x.id.string a.node)
+Lets s old x new = (a : At) × Stands s old x.expr a × IsFresh x.id.string a.composition.declared
+    × (new ≡ binding a.composition x.id.string a.node)
 
 -- ---- export
 
@@ -66,7 +71,8 @@ definition_bound c name = option_and_then if_definition (option_and_then (node_a
 
 -- the node is exported under a name that is not bound to a definition, is new, and that the rules allow
 abbrev pub ExportsAs : Given → Composition → List ℕ → ℕ → Composition → Type 0
-ExportsAs s old name node new = (definition_bound old name ≡ None) × IsFresh name old.exports × (s.rules.named name ≡ None) × (new ≡ with_export old name node)
+ExportsAs s old name node new = (definition_bound old name ≡ None) × IsFresh name old.exports
+    × (s.rules.named name ≡ None) × (new ≡ with_export old name node)
 
 -- the name under which a node is exported without `as`: its instance's id, else its import name, else its alias name
 abbrev pub unnamed_export : Node → Option (List ℕ)
@@ -78,14 +84,17 @@ unexported done exports = filter (λ x. is_none (look_up x.0 done)) exports
 
 -- one export of a node: its alias is exported under its name
 abbrev pub ExportsOne : Given → ℕ → Composition → List ℕ × Meaning → Composition → Type 0
-ExportsOne s node old x new = ExportsAs s (alias_at (at old node) x.0 x.1).composition x.0 (alias_at (at old node) x.0 x.1).node new
+ExportsOne s node old x new =
+    ExportsAs s (alias_at (at old node) x.0 x.1).composition x.0 (alias_at (at old node) x.0 x.1).node new
 
 -- each export of an instance that isn't exported yet; or the node, under the name that is written or under its own
 abbrev pub ExportsBy : Given → At → ExportOptions → Composition → Type 0
 ExportsBy s a (ExportOptions.spread span) new = (i : Meaning) × (instance_at a.composition a.node ≡ Some i)
-    × (unexported a.composition.exports (exports_of i) ≢ []) × Steps (ExportsOne s a.node) a.composition (unexported a.composition.exports (exports_of i)) new
+    × (unexported a.composition.exports (exports_of i) ≢ [])
+    × Steps (ExportsOne s a.node) a.composition (unexported a.composition.exports (exports_of i)) new
 ExportsBy s a (ExportOptions.rename name) new = ExportsAs s a.composition (extern_name_text name) a.node new
-ExportsBy s a ExportOptions.none new = (n : Node) × (name : List ℕ) × (node_at a.composition a.node ≡ Some n) × (unnamed_export n ≡ Some name) × ExportsAs s a.composition name a.node new
+ExportsBy s a ExportOptions.none new = (n : Node) × (name : List ℕ) × (node_at a.composition a.node ≡ Some n)
+    × (unnamed_export n ≡ Some name) × ExportsAs s a.composition name a.node new
 
 abbrev pub Exports : Given → Composition → ExportStatement → Composition → Type 0
 Exports s old x new = (a : At) × Stands s old x.expr a × ExportsBy s a x.options new

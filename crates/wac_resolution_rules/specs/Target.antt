@@ -44,7 +44,8 @@ allowed w name = option_or (used_under w name) (look_up name (imports_of w))
 
 -- the imports of a node's package for which the node has no argument
 abbrev pub open_imports : Given → Node → Named Meaning
-open_imports s n = elim (option_and_then (λ key. package_of key s.setting.packages) (key_of_node n.form)) [ None ↦ [] | Some p ↦ left_out (imports_in p) n.arguments ]
+open_imports s n = elim (option_and_then (λ key. package_of key s.setting.packages) (key_of_node n.form))
+    [ None ↦ [] | Some p ↦ left_out (imports_in p) n.arguments ]
 
 -- what a composition imports: its import nodes in order, then what each instance of a package leaves open
 abbrev pub all_imports : Given → Composition → Named Meaning
@@ -58,7 +59,8 @@ ImportAllowed s w x = (k : Meaning) × (allowed w x.0 ≡ Some k) × (s.rules.pa
 
 -- an export of the world is exported, and what is exported fits it
 abbrev pub ExportMet : Given → Composition → List ℕ × Meaning → Type 0
-ExportMet s c x = (node : ℕ) × StandsFor c.exports x.0 node × (s.rules.passes (kind_at c.nodes node) (promoted x.1) ≡ None)
+ExportMet s c x = (node : ℕ) × StandsFor c.exports x.0 node
+    × (s.rules.passes (kind_at c.nodes node) (promoted x.1) ≡ None)
 
 -- the target world allows each import, and its exports are met
 abbrev pub IsAllowed : Given → Composition → Meaning → Type 0
@@ -66,7 +68,8 @@ IsAllowed s c w = AllByRecursion (ImportAllowed s w) (all_imports s c) × AllByR
 
 -- the path resolves to a world type, which allows the composition
 abbrev pub MeetsPath : Given → Composition → PackagePath → Type 0
-MeetsPath s c p = (k : Meaning) × (w : Meaning) × LeadsTo s.setting (root_scope c) p k × (world_of k ≡ Some w) × IsAllowed s c w
+MeetsPath s c p = (k : Meaning) × (w : Meaning) × LeadsTo s.setting (root_scope c) p k × (world_of k ≡ Some w)
+    × IsAllowed s c w
 
 -- the target is met, if there is one
 abbrev pub MeetsTarget : Given → Composition → Option PackagePath → Type 0

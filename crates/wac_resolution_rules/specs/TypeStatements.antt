@@ -28,7 +28,8 @@ declared_as (TypeDecl.alias d) = d.id
 
 -- a definition of this name and kind, exported under the name and bound to it
 abbrev pub defining : Composition → List ℕ → Meaning → ℕ → Composition
-defining c name m n = binding (with_export (with_node (with_resources c n) definition m) name (length c.nodes)) name (length c.nodes)
+defining c name m n =
+    binding (with_export (with_node (with_resources c n) definition m) name (length c.nodes)) name (length c.nodes)
 
 -- the name is neither exported nor bound at root
 abbrev pub Defines : Composition → List ℕ → Meaning → ℕ → Composition → Type 0
@@ -37,10 +38,13 @@ Defines old name m n new = IsFresh name old.exports × IsFresh name old.declared
 -- a type statement turns the old composition into the new one
 abbrev pub Declares : Setting → Composition → TypeStatement → Composition → Type 0
 Declares setting old (TypeStatement.interface d) new =
-    (entry : Meaning) × (n : ℕ) × IsInterface setting (root_scope old) old.resources (declared_id setting d.id.string) d.items entry n
+    (entry : Meaning) × (n : ℕ)
+    × IsInterface setting (root_scope old) old.resources (declared_id setting d.id.string) d.items entry n
     × Defines old d.id.string (kind_of an_interface entry) n new
 Declares setting old (TypeStatement.world d) new =
-    (entry : Meaning) × (n : ℕ) × IsWorld setting (root_scope old) old.resources (declared_id setting d.id.string) d.items entry n
+    (entry : Meaning) × (n : ℕ)
+    × IsWorld setting (root_scope old) old.resources (declared_id setting d.id.string) d.items entry n
     × Defines old d.id.string (kind_of a_world entry) n new
 Declares setting old (TypeStatement.ty d) new =
-    (m : Meaning) × (n : ℕ) × IsTypeDecl (root_scope old) old.resources d m n × Defines old (declared_as d).string m n new
+    (m : Meaning) × (n : ℕ) × IsTypeDecl (root_scope old) old.resources d m n
+    × Defines old (declared_as d).string m n new

@@ -19,7 +19,8 @@ use Rattle.wac_resolution_rules.specs.Includes.{HasInclude}
 -- the entry of a function type, or of what an identifier of a function or function type denotes
 abbrev pub IsFuncRef : Scope → FuncTypeRef → Meaning → Type 0
 IsFuncRef scope (FuncTypeRef.func f) entry = IsFunc scope f entry
-IsFuncRef scope (FuncTypeRef.ident x) entry = (k : Meaning) × StandsFor scope x.string k × IsA is_func_form k × (entry ≡ entry_of k)
+IsFuncRef scope (FuncTypeRef.ident x) entry = (k : Meaning) × StandsFor scope x.string k × IsA is_func_form k
+    × (entry ≡ entry_of k)
 
 -- an item of an interface turns the old body into the new one
 abbrev pub HasInterfaceItem : Setting → Scope → Body → InterfaceItem → Body → Type 0
@@ -40,8 +41,10 @@ IsInterface setting root n id items entry after =
 -- the kind of an import or export that is given a name: an identifier is looked up in the body, then at root
 abbrev pub HasExternType : Setting → Scope → Scope → ℕ → ExternType → Meaning → ℕ → Type 0
 HasExternType setting root scope n (ExternType.ident x) m after =
-    (k : Meaning) × StandsFor (scope ++ root) x.string k × IsA is_func_or_interface_form k × (m ≡ promoted k) × (after ≡ n)
-HasExternType setting root scope n (ExternType.func f) m after = (entry : Meaning) × IsFunc scope f entry × (m ≡ kind_of func entry) × (after ≡ n)
+    (k : Meaning) × StandsFor (scope ++ root) x.string k × IsA is_func_or_interface_form k × (m ≡ promoted k)
+    × (after ≡ n)
+HasExternType setting root scope n (ExternType.func f) m after = (entry : Meaning) × IsFunc scope f entry
+    × (m ≡ kind_of func entry) × (after ≡ n)
 HasExternType setting root scope n (ExternType.interface i) m after =
     (entry : Meaning) × IsInterface setting root n None i.items entry after × (m ≡ kind_of instance entry)
 
@@ -51,7 +54,8 @@ id_or_empty k = unwrap_or (id_of (entry_of k)) []
 
 -- an interface, as an instance under its id
 abbrev pub HasInstance : ExternKind → Body → Meaning → Body → Type 0
-HasInstance side old k new = IsA is_interface_form k × IsFresh (id_or_empty k) (externs side old) × (new ≡ with_extern side old (id_or_empty k) (promoted k))
+HasInstance side old k new = IsA is_interface_form k × IsFresh (id_or_empty k) (externs side old)
+    × (new ≡ with_extern side old (id_or_empty k) (promoted k))
 
 -- an import or export
 abbrev pub HasExtern : Setting → Scope → ExternKind → Body → WorldItemPath → Body → Type 0
@@ -59,8 +63,10 @@ HasExtern setting root side old (WorldItemPath.named x) new =
     IsFresh x.id.string (externs side old)
     × ((m : Meaning) × (n : ℕ) × HasExternType setting root old.scope old.resources x.ty m n
     × (new ≡ with_extern side (with_count old n) x.id.string m))
-HasExtern setting root side old (WorldItemPath.path p) new = (k : Meaning) × LeadsTo setting root p k × HasInstance side old k new
-HasExtern setting root side old (WorldItemPath.ident x) new = (k : Meaning) × StandsFor root x.string k × HasInstance side old k new
+HasExtern setting root side old (WorldItemPath.path p) new = (k : Meaning) × LeadsTo setting root p k
+    × HasInstance side old k new
+HasExtern setting root side old (WorldItemPath.ident x) new = (k : Meaning) × StandsFor root x.string k
+    × HasInstance side old k new
 
 -- an item of a world turns the old body into the new one; includes come afterwards
 abbrev pub HasWorldItem : Setting → Scope → Body → WorldItem → Body → Type 0
@@ -81,5 +87,6 @@ includes_of items = filter_map include_in items
 -- the entry of a world, and the count of declared resources after it
 abbrev pub IsWorld : Setting → Scope → ℕ → Option (List ℕ) → List WorldItem → Meaning → ℕ → Type 0
 IsWorld setting root n id items entry after =
-    (mid : Body) × (b : Body) × Steps (HasWorldItem setting root) (empty_body n) items mid × Steps (HasInclude setting root) mid (includes_of items) b
+    (mid : Body) × (b : Body) × Steps (HasWorldItem setting root) (empty_body n) items mid
+    × Steps (HasInclude setting root) mid (includes_of items) b
     × (entry ≡ world_entry id b.uses b.imports b.exports) × (after ≡ b.resources)

@@ -33,7 +33,8 @@ pub record GrowsPlainly (old new : Parts) : Type 0 where
 pub record AddsDefined (old new : Parts) (d : DefinedType) (v : ValueType) : Type 0 where
   pub grows : GrowsPlainly old new
   pub named : Names new.types (kinds.Value v)
-  pub is : (naming : Naming) → means naming new (kinds.Value v) ≡ defined_value (defined_label d) (defined_parts (entry_means naming old) d)
+  pub is : (naming : Naming)
+      → means naming new (kinds.Value v) ≡ defined_value (defined_label d) (defined_parts (entry_means naming old) d)
 
 -- one more function type, of this entry
 pub record AddsFunc (old new : Parts) (entry : Naming → Meaning) (f : FuncTypeId) : Type 0 where

@@ -1,13 +1,12 @@
 //! What identifiers denote.
-ghost use Rattle.std.specs.Prelude.{IfOk, IfErr};
+ghost use Rattle.std.specs.Prelude.{IfOk};
 ghost use Rattle.wac_lexer.specs.Span.{Span};
 ghost use Rattle.wac_ast_grammar.specs.Tree.{Ty};
 ghost use Rattle.wac_ast_base.specs.Names.{ident_of};
 ghost use Rattle.wac_graph.specs.Graph.{Parts};
 ghost use Rattle.wac_graph.specs.Origin.{Naming};
-ghost use Rattle.wac_resolution_errors.specs.Error.{Reports};
-ghost use Rattle.wac_resolution_errors.specs.Told.{told};
 ghost use Rattle.wac_resolution_rules.specs.BrokenTypes.{IsUndefined, TypeBroken};
+ghost use Rattle.wac_resolution_rules.specs.Errors.{ErrorSays};
 ghost use Rattle.wac_resolution_state.specs.Bindings.{values_of};
 ghost use Rattle.wac_resolution_state.specs.Named.{scope_of, KindIs, ValueIs};
 
@@ -25,7 +24,8 @@ pub fn kind_of(
     id: &Ident<'_>,
 ) -> Result<ItemKind, Error>
     ensures ok { IfOk result (λ k. KindIs (values_of names.now) (ident_of id.now) k) }
-    ensures err { IfErr result (λ e. Reports (told e) ((naming : Naming) (g : Parts) → IsUndefined (scope_of naming g (values_of names.now)) (ident_of id.now) (told e))) }
+    ensures err { ErrorSays result (λ e. (naming : Naming) (g : Parts)
+        → IsUndefined (scope_of naming g (values_of names.now)) (ident_of id.now) e) }
 {
     match names.find(id.string) {
         Some(kind) => Ok(kind),
@@ -44,7 +44,8 @@ pub fn named_type(
     id: &Ident<'_>,
 ) -> Result<ValueType, Error>
     ensures ok { IfOk result (λ v. ValueIs (values_of names.now) (Ty.ident (ident_of id.now)) v) }
-    ensures err { IfErr result (λ e. Reports (told e) ((naming : Naming) (g : Parts) → TypeBroken (scope_of naming g (values_of names.now)) (Ty.ident (ident_of id.now)) (told e))) }
+    ensures err { ErrorSays result (λ e. (naming : Naming) (g : Parts)
+        → TypeBroken (scope_of naming g (values_of names.now)) (Ty.ident (ident_of id.now)) e) }
 {
     match kind_of(alloc, names, id)? {
         ItemKind::Ty(Type::Resource(resource)) => Ok(ValueType::Own(resource)),
@@ -64,8 +65,10 @@ pub fn named_resource(
     names: &Names<'_, ItemKind>,
     id: &Ident<'_>,
 ) -> Result<ResourceId, Error>
-    ensures ok { IfOk result (λ r. (s : Span) → ValueIs (values_of names.now) (Ty.borrow (ident_of id.now) s) (ValueType.Borrow r)) }
-    ensures err { IfErr result (λ e. Reports (told e) ((naming : Naming) (g : Parts) (s : Span) → TypeBroken (scope_of naming g (values_of names.now)) (Ty.borrow (ident_of id.now) s) (told e))) }
+    ensures ok { IfOk result (λ r. (s : Span)
+        → ValueIs (values_of names.now) (Ty.borrow (ident_of id.now) s) (ValueType.Borrow r)) }
+    ensures err { ErrorSays result (λ e. (naming : Naming) (g : Parts) (s : Span)
+        → TypeBroken (scope_of naming g (values_of names.now)) (Ty.borrow (ident_of id.now) s) e) }
 {
     match kind_of(alloc, names, id)? {
         ItemKind::Ty(Type::Resource(resource)) => Ok(resource),

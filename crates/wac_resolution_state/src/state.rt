@@ -39,7 +39,9 @@ impl State {
     /// Adds a function type.
     pub fn add_func(&mut self, func: FuncType) -> Result<FuncTypeId, AllocError>
         requires { EachKind (Names self.old.graph.types) (children (entries.Func func)) }
-        ensures { IfOk result (λ f. AddsFunc self.old.graph self.new.graph (λ naming. func_entry func.is_async (results_mean (entry_means naming self.old.graph) func.results) (values_mean (entry_means naming self.old.graph) (by_name func.params.entries))) f) }
+        ensures { IfOk result (λ f. AddsFunc self.old.graph self.new.graph
+            (λ naming. func_entry func.is_async (results_mean (entry_means naming self.old.graph) func.results)
+            (values_mean (entry_means naming self.old.graph) (by_name func.params.entries))) f) }
     {
         Ok(self.graph.add_func_type(func)?)
     }
@@ -47,7 +49,10 @@ impl State {
     /// Adds an interface.
     pub fn add_interface(&mut self, interface: Interface) -> Result<InterfaceId, AllocError>
         requires { EachKind (Names self.old.graph.types) (children (entries.Interface interface)) }
-        ensures { IfOk result (λ i. AddsInterface self.old.graph self.new.graph (λ naming. interface_entry (option_map string_bytes interface.id) (uses_mean (entry_means naming self.old.graph) (by_name interface.uses.entries)) (items_mean (entry_means naming self.old.graph) (by_name interface.exports.entries))) i) }
+        ensures { IfOk result (λ i. AddsInterface self.old.graph self.new.graph
+            (λ naming. interface_entry (option_map string_bytes interface.id)
+            (uses_mean (entry_means naming self.old.graph) (by_name interface.uses.entries))
+            (items_mean (entry_means naming self.old.graph) (by_name interface.exports.entries))) i) }
     {
         Ok(self.graph.add_interface(interface)?)
     }
@@ -55,14 +60,19 @@ impl State {
     /// Adds a world.
     pub fn add_world(&mut self, world: World) -> Result<WorldId, AllocError>
         requires { EachKind (Names self.old.graph.types) (children (entries.World world)) }
-        ensures { IfOk result (λ w. AddsWorld self.old.graph self.new.graph (λ naming. world_entry (option_map string_bytes world.id) (uses_mean (entry_means naming self.old.graph) (by_name world.uses.entries)) (items_mean (entry_means naming self.old.graph) (by_name world.imports.entries)) (items_mean (entry_means naming self.old.graph) (by_name world.exports.entries))) w) }
+        ensures { IfOk result (λ w. AddsWorld self.old.graph self.new.graph
+            (λ naming. world_entry (option_map string_bytes world.id)
+            (uses_mean (entry_means naming self.old.graph) (by_name world.uses.entries))
+            (items_mean (entry_means naming self.old.graph) (by_name world.imports.entries))
+            (items_mean (entry_means naming self.old.graph) (by_name world.exports.entries))) w) }
     {
         Ok(self.graph.add_world(world)?)
     }
 
     /// Adds a new resource.
     pub fn add_resource(&mut self, name: &str) -> Result<ResourceId, AllocError>
-        ensures { IfOk result (λ r. AddsResource self.old.graph self.new.graph (λ naming. resource_entry naming (declared_count self.old.graph) name.now) r) }
+        ensures { IfOk result (λ r. AddsResource self.old.graph self.new.graph
+            (λ naming. resource_entry naming (declared_count self.old.graph) name.now) r) }
     {
         let name = String::from_str(self.alloc, name)?;
         Ok(self.graph.add_resource(Resource { name, alias: None })?)
@@ -71,7 +81,9 @@ impl State {
     /// Adds a new resource that is an alias of another: it has that one's owner.
     pub fn add_alias(&mut self, name: &str, from: ResourceId) -> Result<ResourceId, AllocError>
         requires { Names self.old.graph.types (ItemKind.Ty (Type.Resource from)) }
-        ensures { IfOk result (λ r. AddsResource self.old.graph self.new.graph (λ naming. alias_entry naming (declared_count self.old.graph) name.now (entry_means naming self.old.graph from.0)) r) }
+        ensures { IfOk result (λ r. AddsResource self.old.graph self.new.graph
+            (λ naming. alias_entry naming (declared_count self.old.graph) name.now
+            (entry_means naming self.old.graph from.0)) r) }
     {
         let owner = self.owner(from);
         let name = String::from_str(self.alloc, name)?;
@@ -85,7 +97,9 @@ impl State {
     /// The interface that owns the source of a resource that is an alias.
     fn owner(&self, resource: ResourceId) -> Option<InterfaceId>
         requires { Names self.now.graph.types (ItemKind.Ty (Type.Resource resource)) }
-        ensures means { (naming : Naming) → of_child (entry_means naming self.now.graph) (option_map (λ i. ItemKind.Instance i) result) ≡ owner_meant (entry_means naming self.now.graph resource.0) }
+        ensures means { (naming : Naming)
+            → of_child (entry_means naming self.now.graph) (option_map (λ i. ItemKind.Instance i) result) ≡ owner_meant
+            (entry_means naming self.now.graph resource.0) }
         ensures named { IfSome (option_map (λ i. ItemKind.Instance i) result) (Names self.now.graph.types) }
     {
         // Its contract says that the table is sound, and what its entries mean.
@@ -95,7 +109,9 @@ impl State {
 
     /// The owner in the entry of a resource.
     fn written_owner(&self, resource: ResourceId) -> Option<InterfaceId>
-        ensures { result ≡ option_and_then (λ a. a.owner) (option_and_then (λ r. r.alias) (option_and_then as_resource (slice_get self.now.graph.types resource.0))) }
+        ensures { result ≡ option_and_then (λ a. a.owner)
+            (option_and_then (λ r. r.alias)
+            (option_and_then as_resource (slice_get self.now.graph.types resource.0))) }
     {
         let resource = self.graph.types().resource(resource)?;
         let alias = resource.alias?;

@@ -1,13 +1,11 @@
 -- A composition and the path of its target.
-use Rattle.std.proofs.Common.{◌≡◌, ◌∙◌, inl, inr, ℕ, zero, suc, List, [], ◌∷◌, Option, Some, sym, ap, subst}
+use Rattle.std.proofs.Common.{◌≡◌, ◌∙◌, inl, inr, ℕ, zero, suc, List, [], ◌∷◌, Some, sym, ap, subst}
 use Rattle.std.specs.Prelude.{slice_get}
 use Rattle.std.specs.List.{AllByRecursion}
 use Rattle.wac_lexer.specs.Span.{Span}
-use Rattle.wac_graph_types.specs.declared.rules.Reason.{Reason}
 use Rattle.wac_graph_types.specs.declared.kind.ItemKind.{ItemKind}
 use Rattle.wac_graph_types.specs.declared.kind.ItemKind.TheVariants as kinds
 use Rattle.wac_graph_types.specs.declared.kind.«Type».TheVariants as types
-use Rattle.wac_graph_types.specs.Meaning.{Meaning}
 use Rattle.wac_graph_types.specs.Scope.{Named, Scope, look_up}
 use Rattle.wac_graph_types.specs.Table.{Names}
 use Rattle.wac_ast_base.specs.Names.{package_path_of}
@@ -27,6 +25,7 @@ use Rattle.wac_resolution_paths.specs.Setting.{packages_in, setting_of}
 use Rattle.wac_resolution_rules.specs.BrokenBodies.{PathBroken}
 use Rattle.wac_resolution_rules.specs.BrokenStatements.{IsNotWorld, TargetWorldBroken}
 use Rattle.wac_resolution_rules.specs.Composition.{Composition, root_scope, with_resources}
+use Rattle.wac_resolution_rules.specs.Given.{Rules}
 use Rattle.wac_resolution_rules.specs.Kinds.{world_of}
 use Rattle.wac_resolution_rules.specs.Paths.{LeadsTo}
 use Rattle.wac_resolution_rules.specs.Target.{IsAllowed}
@@ -47,9 +46,9 @@ all_at {X} P (y ∷ xs) (suc i) x h is = all_at P xs i x h.1 is
 pub holds_handed : (setting : Setting) (g : Parts) (naming : Naming) → HoldsHanded (packages_in setting) g → Holds g naming (setting_of naming setting)
 holds_handed setting g naming h i p is = (all_at (IsHandedAs (packages_in setting) g) g.packages i p h is).contents naming
 
-module _ (setting : Setting) (passes : Meaning → Meaning → Option Reason) (named : List ℕ → Option Reason) (old : Parts) (root : Root) (target : Target) (agrees : Agrees old root) where
+module _ (setting : Setting) (rules : Rules) (old : Parts) (root : Root) (target : Target) (agrees : Agrees old root) where
   pub path_broken : (imported exported : Named Span) (e : Error) → ((naming : Naming) → PathBroken (setting_of naming setting) (scope_of naming old (values_of root.kinds)) (package_path_of target.path.now) e)
-      → Unmeets setting passes named old root (package_path_of target.path.now) imported exported e
+      → Unmeets setting rules old root (package_path_of target.path.now) imported exported e
   path_broken imported exported e h naming p one im ex =
       inl (subst (λ (sc : Scope). PathBroken (setting_of naming setting) sc (package_path_of target.path.now) e) (sym (scope_agrees naming old root agrees)) (h naming))
 
@@ -60,7 +59,7 @@ module _ (setting : Setting) (passes : Meaning → Meaning → Option Reason) (n
   leads new k f naming = subst (λ (sc : Scope). LeadsTo (setting_of naming setting) sc (package_path_of target.path.now) (means naming new k)) (sym (scope_agrees naming old root agrees)) (f.is naming)
 
   pub no_world : (new : Parts) (k : ItemKind) (imported exported : Named Span) (e : Error) → IsFound new k → ((naming : Naming) (g : Parts) → IsNotWorld (package_path_of target.path.now) (means naming g k) e)
-      → Unmeets setting passes named old root (package_path_of target.path.now) imported exported e
+      → Unmeets setting rules old root (package_path_of target.path.now) imported exported e
   no_world new k imported exported e f h naming p one im ex = inr (means naming new k, leads new k f naming, inl (h naming new))
 
   module _ (new : Parts) (k : ItemKind) (f : IsFound new k) (is : k ≡ kinds.Ty (types.World target.world)) (sound : IsSound new) (law : EntriesMean new) where
@@ -73,7 +72,7 @@ module _ (setting : Setting) (passes : Meaning → Meaning → Option Reason) (n
     is_world : (naming : Naming) → world_of (means naming new k) ≡ Some (entry_means naming new target.world.0)
     is_world naming = ap (λ (x : ItemKind). world_of (means naming new x)) is
 
-    pub target_met : WorldMet (testing new passes named target) → Meets setting passes named old new root (package_path_of target.path.now)
+    pub target_met : WorldMet (testing new rules target) → Meets setting rules old new root (package_path_of target.path.now)
     target_met m = record {
       grows = f.grows;
       handed = f.handed;
@@ -83,12 +82,12 @@ module _ (setting : Setting) (passes : Meaning → Meaning → Option Reason) (n
         entry_means naming new target.world.0,
         leads new k f naming,
         is_world naming,
-        subst (λ (c : Composition). IsAllowed (given_by passes named (setting_of naming setting)) c (entry_means naming new target.world.0)) (same_composition naming)
-            (whole_allowed new passes named target naming one (setting_of naming setting) (numbers_of root.nodes) sound law (holds_handed setting new naming f.handed) world_there m.nodes m.opens m.exports),
+        subst (λ (c : Composition). IsAllowed (given_by rules (setting_of naming setting)) c (entry_means naming new target.world.0)) (same_composition naming)
+            (whole_allowed new rules target naming one (setting_of naming setting) (numbers_of root.nodes) sound law (holds_handed setting new naming f.handed) world_there m.nodes m.opens m.exports),
       );
     }
 
-    pub target_unmet : (imported exported : Named Span) (e : Error) → WorldUnmet (testing new passes named target) imported exported e → Unmeets setting passes named old root (package_path_of target.path.now) imported exported e
+    pub target_unmet : (imported exported : Named Span) (e : Error) → WorldUnmet (testing new rules target) imported exported e → Unmeets setting rules old root (package_path_of target.path.now) imported exported e
     target_unmet imported exported e u naming p one im ex =
         inr (
           means naming new k,
@@ -96,16 +95,16 @@ module _ (setting : Setting) (passes : Meaning → Meaning → Option Reason) (n
           inr (
             entry_means naming new target.world.0,
             is_world naming,
-            subst (λ (c : Composition). TargetWorldBroken (given_by passes named (setting_of naming setting)) c p e (package_path_of target.path.now) (entry_means naming new target.world.0)) (same_composition naming) (go u),
+            subst (λ (c : Composition). TargetWorldBroken (given_by rules (setting_of naming setting)) c p e (package_path_of target.path.now) (entry_means naming new target.world.0)) (same_composition naming) (go u),
           ),
         )
       where
-        go : WorldUnmet (testing new passes named target) imported exported e
-            → TargetWorldBroken (given_by passes named (setting_of naming setting)) (composition_of naming new (numbers_of root.nodes)) p e (package_path_of target.path.now) (entry_means naming new target.world.0)
+        go : WorldUnmet (testing new rules target) imported exported e
+            → TargetWorldBroken (given_by rules (setting_of naming setting)) (composition_of naming new (numbers_of root.nodes)) p e (package_path_of target.path.now) (entry_means naming new target.world.0)
         go (inl d) =
-            import_denied new passes named target naming one (setting_of naming setting) (numbers_of root.nodes) sound law (holds_handed setting new naming f.handed) world_there p e
-            (subst (λ (l : Named Span). SomeDenied (testing new passes named target) (of_node new) (λ x. look_up x.0 l) new.imports e) (sym im) d)
-        go (inr (inl (n, d))) = open_denied new passes named target naming one (setting_of naming setting) (numbers_of root.nodes) sound law (holds_handed setting new naming f.handed) world_there p e n d
+            import_denied new rules target naming one (setting_of naming setting) (numbers_of root.nodes) sound law (holds_handed setting new naming f.handed) world_there p e
+            (subst (λ (l : Named Span). SomeDenied (testing new rules target) (of_node new) (λ x. look_up x.0 l) new.imports e) (sym im) d)
+        go (inr (inl (n, d))) = open_denied new rules target naming one (setting_of naming setting) (numbers_of root.nodes) sound law (holds_handed setting new naming f.handed) world_there p e n d
         go (inr (inr (n, o, d))) =
-            export_unmet new passes named target naming one (setting_of naming setting) (numbers_of root.nodes) sound law (holds_handed setting new naming f.handed) world_there p e n o
-            (subst (λ (l : Named Span). SomeUnmet (testing new passes named target) l (of_kind new) (Rattle.wac_graph_types.specs.Readings.world_exports new.types target.world.0) e) (sym ex) d)
+            export_unmet new rules target naming one (setting_of naming setting) (numbers_of root.nodes) sound law (holds_handed setting new naming f.handed) world_there p e n o
+            (subst (λ (l : Named Span). SomeUnmet (testing new rules target) l (of_kind new) (Rattle.wac_graph_types.specs.Readings.world_exports new.types target.world.0) e) (sym ex) d)

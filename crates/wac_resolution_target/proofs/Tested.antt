@@ -20,25 +20,26 @@ use Rattle.wac_resolution_errors.specs.Error.{Error, import_not_in_target, missi
 use Rattle.wac_resolution_nodes.specs.Nodes.{kind_in}
 use Rattle.wac_resolution_nodes.proofs.Roots.{kind_means}
 use Rattle.wac_resolution_rules.specs.Find.{names_of}
+use Rattle.wac_resolution_rules.specs.Given.{Rules}
 use Rattle.wac_resolution_rules.specs.Target.{allowed as allowed_by}
 use Rattle.wac_resolution_target.specs.declared.target.Target.{Target}
 use Rattle.wac_resolution_target.specs.Imported.{of_node, of_kind}
 use Rattle.wac_resolution_target.specs.Testing.{Testing, testing, Allowed, Denied, Met, Unmet}
 
-module _ (g : Parts) (passes : Meaning → Meaning → Option Reason) (named : List ℕ → Option Reason) (target : Target) where
+module _ (g : Parts) (rules : Rules) (target : Target) where
   abbrev t : Testing
-  t = testing g passes named target
+  t = testing g rules target
 
   abbrev Allows : List ℕ → Option ItemKind → Type 0
   Allows name o = (naming : Naming) → option_map (means naming g) o ≡ allowed_by (entry_means naming g target.world.0) name
 
   -- what rules say of two kinds
   abbrev Says : ItemKind → ItemKind → Option Reason → Type 0
-  Says a b r = (naming : Naming) → IsOneToOne naming → passes (means naming g a) (means naming g b) ≡ r
+  Says a b r = (naming : Naming) → IsOneToOne naming → rules.passes (means naming g a) (means naming g b) ≡ r
 
   pub import_allowed : (name : List ℕ) (k wanted : ItemKind) → Allows name (Some wanted) → Says (promoted wanted) k None → Allowed t (of_kind g (name, k))
   import_allowed name k wanted law ok naming setting one =
-      (means naming g wanted, sym (law naming), ap (λ (m : Meaning). passes m (means naming g k)) (promoted_is (entry_means naming g) wanted) ∙ ok naming one)
+      (means naming g wanted, sym (law naming), ap (λ (m : Meaning). rules.passes m (means naming g k)) (promoted_is (entry_means naming g) wanted) ∙ ok naming one)
 
   pub import_missing : (name : List ℕ) (k : ItemKind) (span : Option Span) (e : Error) → Allows name None → e ≡ import_not_in_target name (package_path_of target.path.now).string span → Denied t (of_kind g (name, k)) span e
   import_missing name k span e law is naming setting one = inl (sym (law naming), is)
@@ -46,18 +47,18 @@ module _ (g : Parts) (passes : Meaning → Meaning → Option Reason) (named : L
   pub import_mismatched : (name : List ℕ) (k wanted : ItemKind) (span : Option Span) (r : Reason) (e : Error) → Allows name (Some wanted) → Says (promoted wanted) k (Some r)
       → e ≡ target_mismatch externs.Import name (package_path_of target.path.now).string r span → Denied t (of_kind g (name, k)) span e
   import_mismatched name k wanted span r e law says is naming setting one =
-      inr (means naming g wanted, r, sym (law naming), ap (λ (m : Meaning). passes m (means naming g k)) (promoted_is (entry_means naming g) wanted) ∙ says naming one, is)
+      inr (means naming g wanted, r, sym (law naming), ap (λ (m : Meaning). rules.passes m (means naming g k)) (promoted_is (entry_means naming g) wanted) ∙ says naming one, is)
 
   -- by the node that is imported
   pub node_allowed : (name : List ℕ) (n : ℕ) (k : ItemKind) → kind_in g.nodes n ≡ Some k → Allowed t (of_kind g (name, k)) → Allowed t (of_node g (name, n))
   node_allowed name n k is h naming setting one =
       let a = h naming setting one in
-      (a.0, a.1, ap (passes (shapes.promoted a.0)) (kind_means naming g n k is) ∙ a.2)
+      (a.0, a.1, ap (rules.passes (shapes.promoted a.0)) (kind_means naming g n k is) ∙ a.2)
 
   pub node_denied : (name : List ℕ) (n : ℕ) (k : ItemKind) (span : Option Span) (e : Error) → kind_in g.nodes n ≡ Some k → Denied t (of_kind g (name, k)) span e → Denied t (of_node g (name, n)) span e
   node_denied name n k span e is h naming setting one = elim (h naming setting one) [
     | inl a ↦ inl a
-    | inr b ↦ inr (b.0, b.1, b.2, ap (passes (shapes.promoted b.0)) (kind_means naming g n k is) ∙ b.3, b.4)
+    | inr b ↦ inr (b.0, b.1, b.2, ap (rules.passes (shapes.promoted b.0)) (kind_means naming g n k is) ∙ b.3, b.4)
   ]
 
   pub node_fails : (name : List ℕ) (n : ℕ) (k : ItemKind) (span place : Option Span) (e : Error) → kind_in g.nodes n ≡ Some k → span ≡ place → Denied t (of_kind g (name, k)) span e → Denied t (of_node g (name, n)) place e
@@ -69,8 +70,8 @@ module _ (g : Parts) (passes : Meaning → Meaning → Option Reason) (named : L
   export_met name k exported n at is ok naming setting declared one = (
     n,
     at,
-    ap (λ (m : Meaning). passes m (shapes.promoted (means naming g k))) (kind_means naming g n exported is)
-        ∙ ap (passes (means naming g exported)) (promoted_is (entry_means naming g) k) ∙ ok naming one,
+    ap (λ (m : Meaning). rules.passes m (shapes.promoted (means naming g k))) (kind_means naming g n exported is)
+        ∙ ap (rules.passes (means naming g exported)) (promoted_is (entry_means naming g) k) ∙ ok naming one,
   )
 
   pub export_missing : (name : List ℕ) (k : ItemKind) (places : Named Span) (e : Error) → look_up name g.exports ≡ None
@@ -100,8 +101,8 @@ module _ (g : Parts) (passes : Meaning → Meaning → Option Reason) (named : L
         r,
         span.0,
         at,
-        ap (λ (m : Meaning). passes m (shapes.promoted (means naming g k))) (kind_means naming g n exported is)
-            ∙ ap (passes (means naming g exported)) (promoted_is (entry_means naming g) k) ∙ says naming one,
+        ap (λ (m : Meaning). rules.passes m (shapes.promoted (means naming g k))) (kind_means naming g n exported is)
+            ∙ ap (rules.passes (means naming g exported)) (promoted_is (entry_means naming g) k) ∙ says naming one,
         span.1,
         told ∙ ap (target_mismatch externs.Export name (package_path_of target.path.now).string r) span.1,
       )

@@ -4,7 +4,6 @@ use Rattle.std.specs.Prelude.{filter_map, filter, flat_map, option_and_then, sli
 use Rattle.std.specs.List.{AllByRecursion}
 use Rattle.std.proofs.lemmas.List.{append_assoc, map-append}
 use Rattle.wac_lexer.specs.Span.{Span}
-use Rattle.wac_graph_types.specs.declared.rules.Reason.{Reason}
 use Rattle.wac_graph_types.specs.declared.kind.ItemKind.{ItemKind}
 use Rattle.wac_graph_types.specs.declared.kind.ItemKind.TheVariants as kinds
 use Rattle.wac_graph_types.specs.Meaning.{Meaning}
@@ -26,7 +25,7 @@ use Rattle.wac_resolution_nodes.specs.Nodes.{composition_of, node_of, instance_f
 use Rattle.wac_resolution_rules.specs.BrokenExpressions.{ReachedAt}
 use Rattle.wac_resolution_rules.specs.BrokenStatements.{placed_imports, TargetWorldBroken}
 use Rattle.wac_resolution_rules.specs.Composition.{Composition, kind_at}
-use Rattle.wac_resolution_rules.specs.Given.{Given}
+use Rattle.wac_resolution_rules.specs.Given.{Given, Rules}
 use Rattle.wac_resolution_rules.specs.Nodes.{import_of, imports}
 use Rattle.wac_resolution_rules.specs.Paths.{Setting}
 use Rattle.wac_resolution_rules.specs.Places.{Places}
@@ -158,10 +157,10 @@ module _ (g : Parts) (naming : Naming) where
 
 -- ---- the whole
 
-module _ (g : Parts) (passes : Meaning → Meaning → Option Reason) (named : List ℕ → Option Reason) (target : Target) (naming : Naming) (one : IsOneToOne naming) (setting : Setting) (declared : Named ℕ)
+module _ (g : Parts) (rules : Rules) (target : Target) (naming : Naming) (one : IsOneToOne naming) (setting : Setting) (declared : Named ℕ)
     (sound : IsSound g) (law : EntriesMean g) (holds : Holds g naming setting) (there : Names g.types (kinds.Component target.world)) where
   abbrev t : Testing
-  t = testing g passes named target
+  t = testing g rules target
 
   abbrev s : Given
   s = given_in t setting

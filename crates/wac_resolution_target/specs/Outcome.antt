@@ -1,9 +1,7 @@
 -- The result of testing a whole composition.
-use Rattle.std.specs.Prelude.{◌≡◌, ◌⊎◌, ℕ, List, Option, length, flat_map}
+use Rattle.std.specs.Prelude.{◌≡◌, ◌⊎◌, length, flat_map}
 use Rattle.wac_lexer.specs.Span.{Span}
 use Rattle.wac_graph_types.specs.declared.kind.ItemKind.{ItemKind}
-use Rattle.wac_graph_types.specs.declared.rules.Reason.{Reason}
-use Rattle.wac_graph_types.specs.Meaning.{Meaning}
 use Rattle.wac_graph_types.specs.Readings.{world_exports}
 use Rattle.wac_graph_types.specs.Scope.{Named, look_up}
 use Rattle.wac_ast_grammar.specs.Tree.{PackagePath}
@@ -18,6 +16,7 @@ use Rattle.wac_resolution_paths.specs.declared.setting.Setting.{Setting}
 use Rattle.wac_resolution_paths.specs.Expands.{Expands, HoldsHanded}
 use Rattle.wac_resolution_paths.specs.Setting.{packages_in, setting_of}
 use Rattle.wac_resolution_rules.specs.BrokenStatements.{TargetBroken}
+use Rattle.wac_resolution_rules.specs.Given.{Rules}
 use Rattle.wac_resolution_rules.specs.Places.{Places}
 use Rattle.wac_resolution_rules.specs.Target.{MeetsPath}
 use Rattle.wac_resolution_target.specs.Imported.{of_node, of_kind, open_at}
@@ -37,16 +36,19 @@ pub record WorldMet (t : Testing) : Type 0 where
 abbrev pub WorldUnmet : Testing → Named Span → Named Span → Error → Type 0
 WorldUnmet t imported exported e = SomeDenied t (of_node t.graph) (λ x. look_up x.0 imported) t.graph.imports e
     ⊎ ((AllAllowed t (of_node t.graph) t.graph.imports × SomeDenied t (of_kind t.graph) nowhere (opens_of t.graph) e)
-    ⊎ (AllAllowed t (of_node t.graph) t.graph.imports × AllAllowed t (of_kind t.graph) (opens_of t.graph) × SomeUnmet t exported (of_kind t.graph) (world_exports t.graph.types t.world) e))
+    ⊎ (AllAllowed t (of_node t.graph) t.graph.imports × AllAllowed t (of_kind t.graph) (opens_of t.graph)
+    × SomeUnmet t exported (of_kind t.graph) (world_exports t.graph.types t.world) e))
 
 -- the path resolves to a world that allows the composition, under every naming that is one to one
-pub record Meets (setting : Setting) (passes : Meaning → Meaning → Option Reason) (named : List ℕ → Option Reason) (old new : Parts) (root : Root) (path : PackagePath) : Type 0 where
+pub record Meets (setting : Setting) (rules : Rules) (old new : Parts) (root : Root) (path : PackagePath) : Type 0 where
   pub grows : Expands old new
   pub handed : HoldsHanded (packages_in setting) new
   pub count : declared_count new ≡ declared_count old
-  pub is : (naming : Naming) → IsOneToOne naming → MeetsPath (given_by passes named (setting_of naming setting)) (composed naming old root) path
+  pub is : (naming : Naming) → IsOneToOne naming
+      → MeetsPath (given_by rules (setting_of naming setting)) (composed naming old root) path
 
 -- the error says why not
-abbrev pub Unmeets : Setting → (Meaning → Meaning → Option Reason) → (List ℕ → Option Reason) → Parts → Root → PackagePath → Named Span → Named Span → Error → Type 0
-Unmeets setting passes named old root path imported exported e = (naming : Naming) (p : Places) → IsOneToOne naming → p.imported ≡ imported → p.exported ≡ exported
-    → TargetBroken (given_by passes named (setting_of naming setting)) (composed naming old root) p e path
+abbrev pub Unmeets : Setting → Rules → Parts → Root → PackagePath → Named Span → Named Span → Error → Type 0
+Unmeets setting rules old root path imported exported e = (naming : Naming) (p : Places) → IsOneToOne naming
+    → p.imported ≡ imported → p.exported ≡ exported
+    → TargetBroken (given_by rules (setting_of naming setting)) (composed naming old root) p e path

@@ -16,28 +16,28 @@ use Rattle.wac_resolution_errors.specs.Error.{Error, import_not_in_target, missi
 use Rattle.wac_resolution_nodes.specs.Nodes.{composition_of}
 use Rattle.wac_resolution_rules.specs.BrokenExpressions.{ReachedAt}
 use Rattle.wac_resolution_rules.specs.Composition.{Composition, kind_at}
-use Rattle.wac_resolution_rules.specs.Given.{Given, rules_by}
+use Rattle.wac_resolution_rules.specs.Given.{Given, Rules}
 use Rattle.wac_resolution_rules.specs.Paths.{Setting}
 use Rattle.wac_resolution_rules.specs.Target.{allowed, ImportAllowed, ExportMet}
 use Rattle.wac_resolution_target.specs.declared.target.Target.{Target}
 
--- what is given, where rules test by these two
-abbrev pub given_by : (Meaning → Meaning → Option Reason) → (List ℕ → Option Reason) → Setting → Given
-given_by passes named setting = record { setting = setting; rules = rules_by passes named }
+-- what is given: the setting, and rules
+abbrev pub given_by : Rules → Setting → Given
+given_by rules setting = record { setting = setting; rules = rules }
 
--- a graph, the tests of rules, and a target: its path and the number of its world
+-- a graph, rules, and a target: its path and the number of its world
 pub record Testing : Type 0 where
   pub graph : Parts
-  pub passes : Meaning → Meaning → Option Reason
-  pub named : List ℕ → Option Reason
+  pub rules : Rules
   pub path : PackagePath
   pub world : ℕ
 
-abbrev pub testing : Parts → (Meaning → Meaning → Option Reason) → (List ℕ → Option Reason) → Target → Testing
-testing g passes named target = record { graph = g; passes = passes; named = named; path = package_path_of target.path.now; world = target.world.0 }
+abbrev pub testing : Parts → Rules → Target → Testing
+testing g rules target =
+    record { graph = g; rules = rules; path = package_path_of target.path.now; world = target.world.0 }
 
 abbrev pub given_in : Testing → Setting → Given
-given_in t setting = given_by t.passes t.named setting
+given_in t setting = given_by t.rules setting
 
 abbrev pub world_in : Testing → Naming → Meaning
 world_in t naming = entry_means naming t.graph t.world
@@ -53,30 +53,37 @@ abbrev pub Import : Type 0
 Import = Naming → List ℕ × Meaning
 
 abbrev pub Allowed : Testing → Import → Type 0
-Allowed t x = (naming : Naming) (setting : Setting) → IsOneToOne naming → ImportAllowed (given_in t setting) (world_in t naming) (x naming)
+Allowed t x = (naming : Naming) (setting : Setting) → IsOneToOne naming
+    → ImportAllowed (given_in t setting) (world_in t naming) (x naming)
 
 -- the error says why an import at a place is not allowed
 abbrev pub IsDenied : Given → PackagePath → Meaning → (List ℕ × Meaning) × Option Span → Error → Type 0
 IsDenied s path w x e = ((allowed w x.0.0 ≡ None) × (e ≡ import_not_in_target x.0.0 path.string x.1))
-    ⊎ ((k : Meaning) × (r : Reason) × (allowed w x.0.0 ≡ Some k) × (s.rules.passes (promoted k) x.0.1 ≡ Some r) × (e ≡ target_mismatch externs.Import x.0.0 path.string r x.1))
+    ⊎ ((k : Meaning) × (r : Reason) × (allowed w x.0.0 ≡ Some k) × (s.rules.passes (promoted k) x.0.1 ≡ Some r)
+    × (e ≡ target_mismatch externs.Import x.0.0 path.string r x.1))
 
 abbrev pub Denied : Testing → Import → Option Span → Error → Type 0
-Denied t x span e = (naming : Naming) (setting : Setting) → IsOneToOne naming → IsDenied (given_in t setting) t.path (world_in t naming) (x naming, span) e
+Denied t x span e = (naming : Naming) (setting : Setting) → IsOneToOne naming
+    → IsDenied (given_in t setting) t.path (world_in t naming) (x naming, span) e
 
 -- ---- exports
 
 -- a name, and what is exported under it
 abbrev pub Met : Testing → Import → Type 0
-Met t x = (naming : Naming) (setting : Setting) (declared : Named ℕ) → IsOneToOne naming → ExportMet (given_in t setting) (composition_of naming t.graph declared) (x naming)
+Met t x = (naming : Naming) (setting : Setting) (declared : Named ℕ) → IsOneToOne naming
+    → ExportMet (given_in t setting) (composition_of naming t.graph declared) (x naming)
 
 -- the error says how an export of the target is not met
 abbrev pub IsUnmet : Given → Composition → Named Span → PackagePath → List ℕ × Meaning → Error → Type 0
-IsUnmet s c places path x e = (IsFresh x.0 c.exports × (e ≡ missing_target_export x.0 path.string (described x.1) path.span))
-    ⊎ ((node : ℕ) × (r : Reason) × (span : Span) × StandsFor c.exports x.0 node × (s.rules.passes (kind_at c.nodes node) (promoted x.1) ≡ Some r)
+IsUnmet s c places path x e =
+    (IsFresh x.0 c.exports × (e ≡ missing_target_export x.0 path.string (described x.1) path.span))
+    ⊎ ((node : ℕ) × (r : Reason) × (span : Span) × StandsFor c.exports x.0 node
+    × (s.rules.passes (kind_at c.nodes node) (promoted x.1) ≡ Some r)
     × StandsFor places x.0 span × (e ≡ target_mismatch externs.Export x.0 path.string r (Some span)))
 
 abbrev pub Unmet : Testing → Named Span → Import → Error → Type 0
-Unmet t places x e = (naming : Naming) (setting : Setting) (declared : Named ℕ) → IsOneToOne naming → IsUnmet (given_in t setting) (composition_of naming t.graph declared) places t.path (x naming) e
+Unmet t places x e = (naming : Naming) (setting : Setting) (declared : Named ℕ) → IsOneToOne naming
+    → IsUnmet (given_in t setting) (composition_of naming t.graph declared) places t.path (x naming) e
 
 -- ---- all of a list
 

@@ -17,7 +17,8 @@ abbrev pub world_uses : List Entry → ℕ → Named UsedType
 world_uses es n = elim (option_and_then as_world (slice_get es n)) [ None ↦ [] | Some w ↦ by_name w.uses.entries ]
 
 abbrev pub interface_uses : List Entry → ℕ → Named UsedType
-interface_uses es n = elim (option_and_then as_interface (slice_get es n)) [ None ↦ [] | Some i ↦ by_name i.uses.entries ]
+interface_uses es n =
+    elim (option_and_then as_interface (slice_get es n)) [ None ↦ [] | Some i ↦ by_name i.uses.entries ]
 
 -- the interfaces that are used
 abbrev pub interfaces_in : Named UsedType → List InterfaceId
@@ -49,4 +50,5 @@ last_of es id all = look_up id (reverse (filter_map (with_id es) all))
 
 -- what a world allows under a name
 abbrev pub allowed_kind : List Entry → ℕ → List ℕ → Option ItemKind
-allowed_kind es w name = option_or (option_map (λ i. kinds.Instance i) (last_of es name (used_in es w))) (look_up name (world_imports es w))
+allowed_kind es w name =
+    option_or (option_map (λ i. kinds.Instance i) (last_of es name (used_in es w))) (look_up name (world_imports es w))

@@ -23,7 +23,9 @@ fn written(types: &Types, world: WorldId, name: &str) -> Option<ItemKind>
 /// What a world allows to be imported under a name.
 pub(crate) fn allowed(state: &State, world: WorldId, name: &str) -> Option<ItemKind>
     requires { Names state.now.graph.types (ItemKind.Component world) }
-    ensures means { (naming : Naming) → option_map (means naming state.now.graph) result ≡ allowed_by (entry_means naming state.now.graph world.0) name.now }
+    ensures means { (naming : Naming)
+        → option_map (means naming state.now.graph) result
+        ≡ allowed_by (entry_means naming state.now.graph world.0) name.now }
     ensures named { IfSome result (Names state.now.graph.types) }
 {
     let types = state.graph.types();

@@ -1,10 +1,10 @@
 //! Whether a composition is what its target requires.
-ghost use Rattle.std.specs.Prelude.{◌≡◌, OnOk, IfErr};
+ghost use Rattle.std.specs.Prelude.{◌≡◌, OnOk};
 ghost use Rattle.wac_graph_types.specs.Table.{Names};
 ghost use Rattle.wac_ast_base.specs.Names.{package_path_of};
-ghost use Rattle.wac_resolution_errors.specs.Error.{Reports};
-ghost use Rattle.wac_resolution_errors.specs.Told.{told};
+ghost use Rattle.wac_resolution_rules.specs.Errors.{ErrorSays};
 ghost use Rattle.wac_resolution_rules.specs.Find.{names_of};
+ghost use Rattle.wac_resolution_rules.specs.Given.{rules_of};
 ghost use Rattle.wac_resolution_nodes.specs.Root.{Agrees};
 ghost use Rattle.wac_resolution_paths.specs.Expands.{HoldsHanded};
 ghost use Rattle.wac_resolution_paths.specs.Setting.{packages_in};
@@ -34,8 +34,9 @@ fn check_world<R: Rules>(
 ) -> Result<(), Error>
     requires world { Names state.now.graph.types (ItemKind.Component target.now.world) }
     requires placed { names_of (exported_in externs.now) ≡ names_of state.now.graph.exports }
-    ensures ok { OnOk result (WorldMet (testing state.now.graph (R.passes rules.now) (R.named rules.now) target.now)) }
-    ensures err { IfErr result (λ e. Reports (told e) (WorldUnmet (testing state.now.graph (R.passes rules.now) (R.named rules.now) target.now) (imported_in externs.now) (exported_in externs.now) (told e))) }
+    ensures ok { OnOk result (WorldMet (testing state.now.graph (rules_of R.Rules rules.now) target.now)) }
+    ensures err { ErrorSays result (λ e. WorldUnmet (testing state.now.graph (rules_of R.Rules rules.now) target.now)
+        (imported_in externs.now) (exported_in externs.now) e) }
 {
     check_imports(state, rules, target, &externs.imported)?;
     check_open_imports(state, rules, target)?;
@@ -54,8 +55,10 @@ pub fn check_target<R: Rules>(
     requires agrees { Agrees state.old.graph root.now }
     requires handed { HoldsHanded (packages_in setting.now) state.old.graph }
     requires placed { names_of (exported_in externs.now) ≡ names_of state.old.graph.exports }
-    ensures ok { OnOk result (Meets setting.now (R.passes rules.now) (R.named rules.now) state.old.graph state.new.graph root.now (package_path_of target.now)) }
-    ensures err { IfErr result (λ e. Reports (told e) (Unmeets setting.now (R.passes rules.now) (R.named rules.now) state.old.graph root.now (package_path_of target.now) (imported_in externs.now) (exported_in externs.now) (told e))) }
+    ensures ok { OnOk result (Meets setting.now (rules_of R.Rules rules.now) state.old.graph state.new.graph root.now
+        (package_path_of target.now)) }
+    ensures err { ErrorSays result (λ e. Unmeets setting.now (rules_of R.Rules rules.now) state.old.graph root.now
+        (package_path_of target.now) (imported_in externs.now) (exported_in externs.now) e) }
 {
     let kind = path(state, setting, &root.kinds, target)?;
     let world = world_of(state.alloc, kind, target)?;

@@ -1,13 +1,15 @@
 //! Exports that a target requires.
-ghost use Rattle.std.specs.Prelude.{◌≡◌, OnOk, IfOk, IfErr};
+ghost use Rattle.std.specs.Prelude.{◌≡◌, OnOk, IfOk};
 ghost use Rattle.wac_graph_types.specs.Names.{by_name};
 ghost use Rattle.wac_graph_types.specs.Readings.{world_exports};
 ghost use Rattle.wac_graph_types.specs.Table.{Names, ItemsNamed};
 ghost use Rattle.wac_graph_types.specs.Words.{described};
 ghost use Rattle.wac_ast_base.specs.Names.{package_path_of};
-ghost use Rattle.wac_resolution_errors.specs.Error.{Reports, missing_target_export};
+ghost use Rattle.wac_resolution_errors.specs.Error.{missing_target_export};
 ghost use Rattle.wac_resolution_errors.specs.Told.{told};
+ghost use Rattle.wac_resolution_rules.specs.Errors.{ErrorSays};
 ghost use Rattle.wac_resolution_rules.specs.Find.{names_of};
+ghost use Rattle.wac_resolution_rules.specs.Given.{rules_of};
 ghost use Rattle.wac_resolution_target.specs.Imported.{of_kind};
 ghost use Rattle.wac_resolution_target.specs.Testing.{testing, Met, Unmet, AllMet, SomeUnmet};
 
@@ -28,7 +30,9 @@ fn missing(
     name: &str,
     kind: ItemKind,
 ) -> Result<Error, AllocError>
-    ensures { IfOk result (λ e. told e ≡ missing_target_export name.now (package_path_of target.now.path.now).string (described kind) (package_path_of target.now.path.now).span) }
+    ensures { IfOk result (λ e. told e
+        ≡ missing_target_export name.now (package_path_of target.now.path.now).string (described kind)
+        (package_path_of target.now.path.now).span) }
 {
     Ok(Error::MissingTargetExport {
         name: String::from_str(alloc, name)?,
@@ -49,8 +53,10 @@ fn check_export<R: Rules>(
 ) -> Result<(), Error>
     requires named { Names state.now.graph.types kind }
     requires placed { names_of (by_name places.now.entries) ≡ names_of state.now.graph.exports }
-    ensures ok { OnOk result (Met (testing state.now.graph (R.passes rules.now) (R.named rules.now) target.now) (of_kind state.now.graph (name.now, kind))) }
-    ensures err { IfErr result (λ e. Reports (told e) (Unmet (testing state.now.graph (R.passes rules.now) (R.named rules.now) target.now) (by_name places.now.entries) (of_kind state.now.graph (name.now, kind)) (told e))) }
+    ensures ok { OnOk result (Met (testing state.now.graph (rules_of R.Rules rules.now) target.now)
+        (of_kind state.now.graph (name.now, kind))) }
+    ensures err { ErrorSays result (λ e. Unmet (testing state.now.graph (rules_of R.Rules rules.now) target.now)
+        (by_name places.now.entries) (of_kind state.now.graph (name.now, kind)) e) }
 {
     let Some(node) = state.graph.get_export(name) else {
         return Err(missing(state.alloc, target, name, kind)?);
@@ -79,8 +85,10 @@ fn check_each<R: Rules>(
 ) -> Result<(), Error>
     requires named { ItemsNamed state.now.graph.types (by_name exports.now.entries) }
     requires placed { names_of (by_name places.now.entries) ≡ names_of state.now.graph.exports }
-    ensures ok { OnOk result (AllMet (testing state.now.graph (R.passes rules.now) (R.named rules.now) target.now) (of_kind state.now.graph) (by_name exports.now.entries)) }
-    ensures err { IfErr result (λ e. Reports (told e) (SomeUnmet (testing state.now.graph (R.passes rules.now) (R.named rules.now) target.now) (by_name places.now.entries) (of_kind state.now.graph) (by_name exports.now.entries) (told e))) }
+    ensures ok { OnOk result (AllMet (testing state.now.graph (rules_of R.Rules rules.now) target.now)
+        (of_kind state.now.graph) (by_name exports.now.entries)) }
+    ensures err { ErrorSays result (λ e. SomeUnmet (testing state.now.graph (rules_of R.Rules rules.now) target.now)
+        (by_name places.now.entries) (of_kind state.now.graph) (by_name exports.now.entries) e) }
 {
     for (name, kind) in exports.iter() {
         check_export(state, rules, target, places, name.as_str(), *kind)?;
@@ -96,8 +104,11 @@ pub(crate) fn check_exports<R: Rules>(
     places: &IndexMap<String, SourceSpan>,
 ) -> Result<(), Error>
     requires { names_of (by_name places.now.entries) ≡ names_of state.now.graph.exports }
-    ensures ok { OnOk result (AllMet (testing state.now.graph (R.passes rules.now) (R.named rules.now) target.now) (of_kind state.now.graph) (world_exports state.now.graph.types target.now.world.0)) }
-    ensures err { IfErr result (λ e. Reports (told e) (SomeUnmet (testing state.now.graph (R.passes rules.now) (R.named rules.now) target.now) (by_name places.now.entries) (of_kind state.now.graph) (world_exports state.now.graph.types target.now.world.0) (told e))) }
+    ensures ok { OnOk result (AllMet (testing state.now.graph (rules_of R.Rules rules.now) target.now)
+        (of_kind state.now.graph) (world_exports state.now.graph.types target.now.world.0)) }
+    ensures err { ErrorSays result (λ e. SomeUnmet (testing state.now.graph (rules_of R.Rules rules.now) target.now)
+        (by_name places.now.entries) (of_kind state.now.graph)
+        (world_exports state.now.graph.types target.now.world.0) e) }
 {
     let types = state.graph.types();
     match types.exports(ItemKind::Component(target.world)) {

@@ -1,11 +1,13 @@
 //! Imports of a composition, each of which its target allows.
-ghost use Rattle.std.specs.Prelude.{◌≡◌, OnOk, IfOk, IfErr};
+ghost use Rattle.std.specs.Prelude.{◌≡◌, OnOk, IfOk};
 ghost use Rattle.wac_graph_types.specs.Names.{by_name};
 ghost use Rattle.wac_graph_types.specs.Scope.{look_up};
 ghost use Rattle.wac_graph_types.specs.Table.{Names};
 ghost use Rattle.wac_ast_base.specs.Names.{package_path_of};
-ghost use Rattle.wac_resolution_errors.specs.Error.{Reports, import_not_in_target, target_mismatch};
+ghost use Rattle.wac_resolution_errors.specs.Error.{import_not_in_target, target_mismatch};
 ghost use Rattle.wac_resolution_errors.specs.Told.{told};
+ghost use Rattle.wac_resolution_rules.specs.Errors.{ErrorSays};
+ghost use Rattle.wac_resolution_rules.specs.Given.{rules_of};
 ghost use Rattle.wac_resolution_target.specs.Imported.{of_node, of_kind};
 ghost use Rattle.wac_resolution_target.specs.Testing.{testing, Allowed, Denied, AllAllowed, SomeDenied};
 
@@ -26,7 +28,8 @@ fn not_in_target(
     name: &str,
     span: Option<SourceSpan>,
 ) -> Result<Error, AllocError>
-    ensures { IfOk result (λ e. told e ≡ import_not_in_target name.now (package_path_of target.now.path.now).string span) }
+    ensures { IfOk result (λ e. told e
+        ≡ import_not_in_target name.now (package_path_of target.now.path.now).string span) }
 {
     Ok(Error::ImportNotInTarget {
         name: String::from_str(alloc, name)?,
@@ -44,7 +47,8 @@ pub(crate) fn mismatch(
     source: Reason,
     span: Option<SourceSpan>,
 ) -> Result<Error, AllocError>
-    ensures { IfOk result (λ e. told e ≡ target_mismatch kind name.now (package_path_of target.now.path.now).string source span) }
+    ensures { IfOk result (λ e. told e
+        ≡ target_mismatch kind name.now (package_path_of target.now.path.now).string source span) }
 {
     Ok(Error::TargetMismatch {
         kind,
@@ -66,8 +70,10 @@ pub(crate) fn check_import<R: Rules>(
 ) -> Result<(), Error>
     requires world { Names state.now.graph.types (ItemKind.Component target.now.world) }
     requires named { Names state.now.graph.types kind }
-    ensures ok { OnOk result (Allowed (testing state.now.graph (R.passes rules.now) (R.named rules.now) target.now) (of_kind state.now.graph (name.now, kind))) }
-    ensures err { IfErr result (λ e. Reports (told e) (Denied (testing state.now.graph (R.passes rules.now) (R.named rules.now) target.now) (of_kind state.now.graph (name.now, kind)) span (told e))) }
+    ensures ok { OnOk result (Allowed (testing state.now.graph (rules_of R.Rules rules.now) target.now)
+        (of_kind state.now.graph (name.now, kind))) }
+    ensures err { ErrorSays result (λ e. Denied (testing state.now.graph (rules_of R.Rules rules.now) target.now)
+        (of_kind state.now.graph (name.now, kind)) span e) }
 {
     let Some(wanted) = allowed(state, target.world, name) else {
         return Err(not_in_target(state.alloc, target, name, span)?);
@@ -86,8 +92,10 @@ pub(crate) fn check_imports<R: Rules>(
     places: &IndexMap<String, SourceSpan>,
 ) -> Result<(), Error>
     requires { Names state.now.graph.types (ItemKind.Component target.now.world) }
-    ensures ok { OnOk result (AllAllowed (testing state.now.graph (R.passes rules.now) (R.named rules.now) target.now) (of_node state.now.graph) state.now.graph.imports) }
-    ensures err { IfErr result (λ e. Reports (told e) (SomeDenied (testing state.now.graph (R.passes rules.now) (R.named rules.now) target.now) (of_node state.now.graph) (λ x. look_up x.0 (by_name places.now.entries)) state.now.graph.imports (told e))) }
+    ensures ok { OnOk result (AllAllowed (testing state.now.graph (rules_of R.Rules rules.now) target.now)
+        (of_node state.now.graph) state.now.graph.imports) }
+    ensures err { ErrorSays result (λ e. SomeDenied (testing state.now.graph (rules_of R.Rules rules.now) target.now)
+        (of_node state.now.graph) (λ x. look_up x.0 (by_name places.now.entries)) state.now.graph.imports e) }
 {
     for (name, node) in state.graph.imports() {
         let kind = state.graph.kind(node);

@@ -1,11 +1,11 @@
 //! Imports that instances of packages leave open, each of which the target allows.
-ghost use Rattle.std.specs.Prelude.{◌<◌, [], ◌∷◌, OnOk, IfErr, length, flat_map};
+ghost use Rattle.std.specs.Prelude.{◌<◌, [], ◌∷◌, OnOk, length, flat_map};
 ghost use Rattle.wac_graph_types.specs.Names.{by_name};
 ghost use Rattle.wac_graph_types.specs.Table.{Names, ItemsNamed};
 ghost use Rattle.wac_graph.specs.Graph.{arguments_of};
 ghost use Rattle.wac_graph.specs.Numbers.{numbers};
-ghost use Rattle.wac_resolution_errors.specs.Error.{Reports};
-ghost use Rattle.wac_resolution_errors.specs.Told.{told};
+ghost use Rattle.wac_resolution_rules.specs.Errors.{ErrorSays};
+ghost use Rattle.wac_resolution_rules.specs.Given.{rules_of};
 ghost use Rattle.wac_resolution_target.specs.Imported.{of_kind, left_open, package_imports, open_at};
 ghost use Rattle.wac_resolution_target.specs.Testing.{testing, AllAllowed, SomeDenied, nowhere};
 
@@ -28,8 +28,11 @@ fn check_open_import<R: Rules>(
     requires world { Names state.now.graph.types (ItemKind.Component target.now.world) }
     requires named { Names state.now.graph.types kind }
     requires there { node.0 < length state.now.graph.nodes }
-    ensures ok { OnOk result (AllAllowed (testing state.now.graph (R.passes rules.now) (R.named rules.now) target.now) (of_kind state.now.graph) (left_open (arguments_of state.now.graph node.0) ((name.now, kind) ∷ []))) }
-    ensures err { IfErr result (λ e. Reports (told e) (SomeDenied (testing state.now.graph (R.passes rules.now) (R.named rules.now) target.now) (of_kind state.now.graph) nowhere (left_open (arguments_of state.now.graph node.0) ((name.now, kind) ∷ [])) (told e))) }
+    ensures ok { OnOk result (AllAllowed (testing state.now.graph (rules_of R.Rules rules.now) target.now)
+        (of_kind state.now.graph) (left_open (arguments_of state.now.graph node.0) ((name.now, kind) ∷ []))) }
+    ensures err { ErrorSays result (λ e. SomeDenied (testing state.now.graph (rules_of R.Rules rules.now) target.now)
+        (of_kind state.now.graph) nowhere
+        (left_open (arguments_of state.now.graph node.0) ((name.now, kind) ∷ [])) e) }
 {
     match state.graph.argument(node, name) {
         Some(_) => Ok(()),
@@ -48,8 +51,11 @@ fn check_left_open<R: Rules>(
     requires world { Names state.now.graph.types (ItemKind.Component target.now.world) }
     requires named { ItemsNamed state.now.graph.types (by_name imports.now.entries) }
     requires there { node.0 < length state.now.graph.nodes }
-    ensures ok { OnOk result (AllAllowed (testing state.now.graph (R.passes rules.now) (R.named rules.now) target.now) (of_kind state.now.graph) (left_open (arguments_of state.now.graph node.0) (by_name imports.now.entries))) }
-    ensures err { IfErr result (λ e. Reports (told e) (SomeDenied (testing state.now.graph (R.passes rules.now) (R.named rules.now) target.now) (of_kind state.now.graph) nowhere (left_open (arguments_of state.now.graph node.0) (by_name imports.now.entries)) (told e))) }
+    ensures ok { OnOk result (AllAllowed (testing state.now.graph (rules_of R.Rules rules.now) target.now)
+        (of_kind state.now.graph) (left_open (arguments_of state.now.graph node.0) (by_name imports.now.entries))) }
+    ensures err { ErrorSays result (λ e. SomeDenied (testing state.now.graph (rules_of R.Rules rules.now) target.now)
+        (of_kind state.now.graph) nowhere
+        (left_open (arguments_of state.now.graph node.0) (by_name imports.now.entries)) e) }
 {
     for (name, kind) in imports.iter() {
         check_open_import(state, rules, target, node, name.as_str(), *kind)?;
@@ -68,8 +74,12 @@ fn check_instance<R: Rules>(
     requires world { Names state.now.graph.types (ItemKind.Component target.now.world) }
     requires there { node.0 < length state.now.graph.nodes }
     requires held { «package».0 < length state.now.graph.packages }
-    ensures ok { OnOk result (AllAllowed (testing state.now.graph (R.passes rules.now) (R.named rules.now) target.now) (of_kind state.now.graph) (left_open (arguments_of state.now.graph node.0) (package_imports state.now.graph «package».0))) }
-    ensures err { IfErr result (λ e. Reports (told e) (SomeDenied (testing state.now.graph (R.passes rules.now) (R.named rules.now) target.now) (of_kind state.now.graph) nowhere (left_open (arguments_of state.now.graph node.0) (package_imports state.now.graph «package».0)) (told e))) }
+    ensures ok { OnOk result (AllAllowed (testing state.now.graph (rules_of R.Rules rules.now) target.now)
+        (of_kind state.now.graph)
+        (left_open (arguments_of state.now.graph node.0) (package_imports state.now.graph «package».0))) }
+    ensures err { ErrorSays result (λ e. SomeDenied (testing state.now.graph (rules_of R.Rules rules.now) target.now)
+        (of_kind state.now.graph) nowhere
+        (left_open (arguments_of state.now.graph node.0) (package_imports state.now.graph «package».0)) e) }
 {
     let held = state.graph.package(package);
     let types = state.graph.types();
@@ -88,8 +98,10 @@ fn check_node<R: Rules>(
 ) -> Result<(), Error>
     requires world { Names state.now.graph.types (ItemKind.Component target.now.world) }
     requires there { node.0 < length state.now.graph.nodes }
-    ensures ok { OnOk result (AllAllowed (testing state.now.graph (R.passes rules.now) (R.named rules.now) target.now) (of_kind state.now.graph) (open_at state.now.graph node.0)) }
-    ensures err { IfErr result (λ e. Reports (told e) (SomeDenied (testing state.now.graph (R.passes rules.now) (R.named rules.now) target.now) (of_kind state.now.graph) nowhere (open_at state.now.graph node.0) (told e))) }
+    ensures ok { OnOk result (AllAllowed (testing state.now.graph (rules_of R.Rules rules.now) target.now)
+        (of_kind state.now.graph) (open_at state.now.graph node.0)) }
+    ensures err { ErrorSays result (λ e. SomeDenied (testing state.now.graph (rules_of R.Rules rules.now) target.now)
+        (of_kind state.now.graph) nowhere (open_at state.now.graph node.0) e) }
 {
     match state.graph.instance_of(node) {
         Some(package) => check_instance(state, rules, target, node, package),
@@ -104,8 +116,11 @@ pub(crate) fn check_open_imports<R: Rules>(
     target: &Target<'_, '_>,
 ) -> Result<(), Error>
     requires { Names state.now.graph.types (ItemKind.Component target.now.world) }
-    ensures ok { OnOk result (AllAllowed (testing state.now.graph (R.passes rules.now) (R.named rules.now) target.now) (of_kind state.now.graph) (flat_map (open_at state.now.graph) (numbers 0 (length state.now.graph.nodes)))) }
-    ensures err { IfErr result (λ e. Reports (told e) (SomeDenied (testing state.now.graph (R.passes rules.now) (R.named rules.now) target.now) (of_kind state.now.graph) nowhere (flat_map (open_at state.now.graph) (numbers 0 (length state.now.graph.nodes))) (told e))) }
+    ensures ok { OnOk result (AllAllowed (testing state.now.graph (rules_of R.Rules rules.now) target.now)
+        (of_kind state.now.graph) (flat_map (open_at state.now.graph) (numbers 0 (length state.now.graph.nodes)))) }
+    ensures err { ErrorSays result (λ e. SomeDenied (testing state.now.graph (rules_of R.Rules rules.now) target.now)
+        (of_kind state.now.graph) nowhere
+        (flat_map (open_at state.now.graph) (numbers 0 (length state.now.graph.nodes))) e) }
 {
     for node in state.graph.nodes() {
         check_node(state, rules, target, node)?;

@@ -26,7 +26,8 @@ pub(crate) fn passes<R: Rules>(
 ) -> Result<(), Reason>
     requires first { Names state.now.graph.types a }
     requires second { Names state.now.graph.types b }
-    ensures { (naming : Naming) → IsOneToOne naming → Answers result (R.passes rules.now (means naming state.now.graph a) (means naming state.now.graph b)) }
+    ensures { (naming : Naming) → IsOneToOne naming
+        → Answers result (R.passes rules.now (means naming state.now.graph a) (means naming state.now.graph b)) }
 {
     let types = state.graph.types();
     rules.subtype(types, a, b)

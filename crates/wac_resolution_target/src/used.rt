@@ -77,7 +77,9 @@ fn last_used_by_imports(
     id: &str,
     before: Option<InterfaceId>,
 ) -> Option<InterfaceId>
-    ensures { result ≡ option_or (last_of types.now id.now (flat_map (λ e. import_uses types.now e.1) (by_name imports.now.entries))) before }
+    ensures { result ≡ option_or
+        (last_of types.now id.now
+        (flat_map (λ e. import_uses types.now e.1) (by_name imports.now.entries))) before }
 {
     let mut last = before;
     for (_, import) in imports.iter() {

@@ -1,12 +1,11 @@
 //! The world of a target.
-ghost use Rattle.std.specs.Prelude.{◌≡◌, IfOk, IfErr};
+ghost use Rattle.std.specs.Prelude.{◌≡◌, IfOk};
 ghost use Rattle.wac_ast_base.specs.Names.{package_path_of};
 ghost use Rattle.wac_graph.specs.Graph.{Parts};
 ghost use Rattle.wac_graph.specs.Means.{means};
 ghost use Rattle.wac_graph.specs.Origin.{Naming};
-ghost use Rattle.wac_resolution_errors.specs.Error.{Reports};
-ghost use Rattle.wac_resolution_errors.specs.Told.{told};
 ghost use Rattle.wac_resolution_rules.specs.BrokenStatements.{IsNotWorld};
+ghost use Rattle.wac_resolution_rules.specs.Errors.{ErrorSays};
 
 use std::alloc::Global;
 use wac_ast_base::PackagePath;
@@ -21,7 +20,8 @@ pub(crate) fn world_of(
     path: &PackagePath<'_>,
 ) -> Result<WorldId, Error>
     ensures ok { IfOk result (λ w. kind ≡ ItemKind.Ty (Type.World w)) }
-    ensures err { IfErr result (λ e. Reports (told e) ((naming : Naming) (g : Parts) → IsNotWorld (package_path_of path.now) (means naming g kind) (told e))) }
+    ensures err { ErrorSays result (λ e. (naming : Naming) (g : Parts)
+        → IsNotWorld (package_path_of path.now) (means naming g kind) e) }
 {
     match kind {
         ItemKind::Ty(Type::World(world)) => Ok(world),

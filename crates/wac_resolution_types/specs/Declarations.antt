@@ -30,10 +30,12 @@ perhaps v = v
 abbrev pub cases_named : Naming → Parts → Named (Option ValueType) → Named Meaning
 cases_named naming g all = parts_mean perhaps naming g all
 
-abbrev pub CaseGoes : Parts → Parts → Named ItemKind → Named (Option ValueType) → Named (Option ValueType) → VariantCase → Type 0
+abbrev pub CaseGoes : Parts → Parts → Named ItemKind → Named (Option ValueType) → Named (Option ValueType) → VariantCase
+    → Type 0
 CaseGoes old new ks ps qs x = PartGoes perhaps HasCase old new ks ps qs x
 
-abbrev pub CasesGo : Parts → Parts → Named ItemKind → Named (Option ValueType) → Named (Option ValueType) → List VariantCase → Type 0
+abbrev pub CasesGo : Parts → Parts → Named ItemKind → Named (Option ValueType) → Named (Option ValueType)
+    → List VariantCase → Type 0
 CasesGo old new ks ps qs xs = PartsGo perhaps HasCase old new ks ps qs xs
 
 abbrev pub FieldGoes : Parts → Parts → Named ItemKind → Named ValueType → Named ValueType → Field → Type 0

@@ -59,18 +59,21 @@ pub record ResultsAre (old new : Parts) (ks : Named ItemKind) (r : ResultList) (
   pub are : (naming : Naming) → HasResults (scope_of naming old ks) r (results_mean (entry_means naming new) rs)
 
 -- a function type was added, and this holds of its entry in the scope
-pub record FuncAdded (old new : Parts) (ks : Named ItemKind) (holds : Naming → Scope → Meaning → Type 0) (f : FuncTypeId) : Type 0 where
+pub record FuncAdded (old new : Parts) (ks : Named ItemKind) (holds : Naming → Scope → Meaning → Type 0)
+    (f : FuncTypeId) : Type 0 where
   pub grows : GrowsPlainly old new
   pub named : Names new.types (kinds.Func f)
   pub is : (naming : Naming) → holds naming (scope_of naming old ks) (entry_means naming new f.0)
 
 -- a function type, where these parameters come first
 abbrev pub FuncIs : Parts → Parts → Named ItemKind → Named ValueType → FuncType → FuncTypeId → Type 0
-FuncIs old new ks first f id = FuncAdded old new ks (λ naming scope entry. IsFuncWith scope (types_named naming old first) f entry) id
+FuncIs old new ks first f id =
+    FuncAdded old new ks (λ naming scope entry. IsFuncWith scope (types_named naming old first) f entry) id
 
 -- the function type of a constructor
 abbrev pub ConstructorIs : Parts → Parts → Named ItemKind → ResourceId → List NamedType → FuncTypeId → Type 0
-ConstructorIs old new ks resource params id = FuncAdded old new ks (λ naming scope entry. IsConstructor scope (entry_means naming old resource.0) params entry) id
+ConstructorIs old new ks resource params id =
+    FuncAdded old new ks (λ naming scope entry. IsConstructor scope (entry_means naming old resource.0) params entry) id
 
 -- what comes before the parameters of a method
 abbrev pub own_params : Bool → ResourceId → Named ValueType

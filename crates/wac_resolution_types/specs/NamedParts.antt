@@ -31,16 +31,21 @@ PartStep X = Scope → Named Meaning → X → Named Meaning → Type 0
 
 -- a part has a meaning, and no earlier one has its name
 abbrev pub HasPart : {X : Type 0} → (Scope → X → Meaning → Type 0) → (X → Ident) → PartStep X
-HasPart has id scope old x new = (v : Meaning) × has scope x v × IsFresh (id x).string old × (new ≡ with_named old (id x).string v)
+HasPart has id scope old x new = (v : Meaning) × has scope x v × IsFresh (id x).string old
+    × (new ≡ with_named old (id x).string v)
 
 -- a part takes the old graph and parts to the new ones
-pub record PartGoes {V X : Type 0} (read : V → Option ValueType) (step : PartStep X) (old new : Parts) (ks : Named ItemKind) (ps qs : Named V) (x : X) : Type 0 where
+pub record PartGoes {V X : Type 0} (read : V → Option ValueType) (step : PartStep X) (old new : Parts)
+    (ks : Named ItemKind) (ps qs : Named V) (x : X) : Type 0 where
   pub grows : GrowsPlainly old new
   pub named : PartsNamed read new.types qs
-  pub goes : (naming : Naming) → step (scope_of naming old ks) (parts_mean read naming old ps) x (parts_mean read naming new qs)
+  pub goes : (naming : Naming)
+      → step (scope_of naming old ks) (parts_mean read naming old ps) x (parts_mean read naming new qs)
 
 -- so do parts in order
-pub record PartsGo {V X : Type 0} (read : V → Option ValueType) (step : PartStep X) (old new : Parts) (ks : Named ItemKind) (ps qs : Named V) (xs : List X) : Type 0 where
+pub record PartsGo {V X : Type 0} (read : V → Option ValueType) (step : PartStep X) (old new : Parts)
+    (ks : Named ItemKind) (ps qs : Named V) (xs : List X) : Type 0 where
   pub grows : GrowsPlainly old new
   pub named : PartsNamed read new.types qs
-  pub go : (naming : Naming) → Steps (step (scope_of naming old ks)) (parts_mean read naming old ps) xs (parts_mean read naming new qs)
+  pub go : (naming : Naming)
+      → Steps (step (scope_of naming old ks)) (parts_mean read naming old ps) xs (parts_mean read naming new qs)

@@ -1,5 +1,5 @@
 //! Aliases of types.
-ghost use Rattle.std.specs.Prelude.{◌≡◌, IfOk, IfErr, MatchOption, option_map};
+ghost use Rattle.std.specs.Prelude.{◌≡◌, IfOk, MatchOption, option_map};
 ghost use Rattle.wac_graph_types.specs.declared.kind.ItemKind.TheVariants as kinds;
 ghost use Rattle.wac_graph_types.specs.declared.kind.«Type».TheVariants as types;
 ghost use Rattle.wac_ast_grammar.specs.Tree.{Ty};
@@ -11,12 +11,11 @@ ghost use Rattle.wac_ast_types.specs.Types.{ty_of};
 ghost use Rattle.wac_ast_types.specs.Declarations.{type_alias_kind_of};
 ghost use Rattle.wac_graph.specs.Means.{declared_count};
 ghost use Rattle.wac_graph.specs.Origin.{Naming};
-ghost use Rattle.wac_resolution_errors.specs.Error.{Reports};
-ghost use Rattle.wac_resolution_errors.specs.Told.{told};
 ghost use Rattle.wac_resolution_rules.specs.Types.{HasType};
 ghost use Rattle.wac_resolution_rules.specs.Declarations.{alone, at_root, in_body, IsTypeAlias, IsAlias};
 ghost use Rattle.wac_resolution_rules.specs.BrokenTypes.{TypeBroken, IsUndefined};
 ghost use Rattle.wac_resolution_rules.specs.BrokenDeclarations.{TypeAliasBroken, AliasBroken};
+ghost use Rattle.wac_resolution_rules.specs.Errors.{ErrorSays};
 ghost use Rattle.wac_resolution_state.specs.Bindings.{values_of};
 ghost use Rattle.wac_resolution_types.specs.Declarations.{aliasing_at, made_at_root, made_in_body, made_at, IsAliased, IsNotAliased, ValueAdded, KindAdded};
 ghost use Rattle.wac_resolution_state.specs.Named.{scope_of};
@@ -46,7 +45,8 @@ fn identifier<'x, 'a>(ty: &'x TypeTree<'a>) -> Option<&'x Ident<'a>>
 /// Makes another name of a kind, if it can be aliased at root.
 fn aliased_at_root(state: &mut State, kind: ItemKind) -> Result<Option<ItemKind>, AllocError>
     requires { NamesEntry state.old.graph.types kind }
-    ensures { IfOk result (λ o. MatchOption o (IsNotAliased state.old.graph (made_at_root state.old.graph) kind) (λ made. IsAliased state.old.graph state.new.graph (made_at_root state.old.graph) kind made)) }
+    ensures { IfOk result (λ o. MatchOption o (IsNotAliased state.old.graph (made_at_root state.old.graph) kind)
+        (λ made. IsAliased state.old.graph state.new.graph (made_at_root state.old.graph) kind made)) }
 {
     match kind {
         ItemKind::Ty(Type::Value(value)) => {
@@ -66,7 +66,9 @@ fn aliased_in_body(
     kind: ItemKind,
 ) -> Result<Option<ItemKind>, AllocError>
     requires { NamesEntry state.old.graph.types kind }
-    ensures { IfOk result (λ o. MatchOption o (IsNotAliased state.old.graph (made_in_body state.old.graph name.now) kind) (λ made. IsAliased state.old.graph state.new.graph (made_in_body state.old.graph name.now) kind made)) }
+    ensures { IfOk result (λ o. MatchOption o
+        (IsNotAliased state.old.graph (made_in_body state.old.graph name.now) kind)
+        (λ made. IsAliased state.old.graph state.new.graph (made_in_body state.old.graph name.now) kind made)) }
 {
     match kind {
         ItemKind::Ty(Type::Resource(resource)) => {
@@ -85,7 +87,9 @@ fn aliased(
     kind: ItemKind,
 ) -> Result<Option<ItemKind>, AllocError>
     requires { NamesEntry state.old.graph.types kind }
-    ensures { IfOk result (λ o. MatchOption o (IsNotAliased state.old.graph (made_at place state.old.graph name.now) kind) (λ made. IsAliased state.old.graph state.new.graph (made_at place state.old.graph name.now) kind made)) }
+    ensures { IfOk result (λ o. MatchOption o
+        (IsNotAliased state.old.graph (made_at place state.old.graph name.now) kind)
+        (λ made. IsAliased state.old.graph state.new.graph (made_at place state.old.graph name.now) kind made)) }
 {
     match place {
         Place::Root => aliased_at_root(state, kind),
@@ -102,8 +106,13 @@ fn alias_of_name(
     id: &Ident<'_>,
 ) -> Result<ItemKind, Error>
     requires { ItemsNamed state.old.graph.types (values_of names.now) }
-    ensures ok { IfOk result (λ k. KindAdded state.old.graph state.new.graph (λ naming m after. IsTypeAlias (aliasing_at place naming) (scope_of naming state.old.graph (values_of names.now)) (declared_count state.old.graph) name.now (Some (ident_of id.now)) (Ty.ident (ident_of id.now)) m after) k) }
-    ensures err { IfErr result (λ e. Reports (told e) ((naming : Naming) → TypeAliasBroken (aliasing_at place naming) (scope_of naming state.old.graph (values_of names.now)) (declared_count state.old.graph) name.now (Some (ident_of id.now)) (Ty.ident (ident_of id.now)) (told e))) }
+    ensures ok { IfOk result (λ k. KindAdded state.old.graph state.new.graph
+        (λ naming m after. IsTypeAlias (aliasing_at place naming)
+        (scope_of naming state.old.graph (values_of names.now)) (declared_count state.old.graph) name.now
+        (Some (ident_of id.now)) (Ty.ident (ident_of id.now)) m after) k) }
+    ensures err { ErrorSays result (λ e. (naming : Naming)
+        → TypeAliasBroken (aliasing_at place naming) (scope_of naming state.old.graph (values_of names.now))
+        (declared_count state.old.graph) name.now (Some (ident_of id.now)) (Ty.ident (ident_of id.now)) e) }
 {
     let kind = kind_of(state.alloc, names, id)?;
     match aliased(state, place, name, kind)? {
@@ -123,8 +132,12 @@ fn alias_of_expression(
     ty: &TypeTree<'_>,
 ) -> Result<ValueType, Error>
     requires { ItemsNamed state.old.graph.types (values_of names.now) }
-    ensures ok { IfOk result (λ v. ValueAdded state.old.graph state.new.graph (λ naming m. (inner : Meaning) × HasType (scope_of naming state.old.graph (values_of names.now)) (ty_of ty.now) inner × (m ≡ alias_type inner)) v) }
-    ensures err { IfErr result (λ e. Reports (told e) ((naming : Naming) → TypeBroken (scope_of naming state.old.graph (values_of names.now)) (ty_of ty.now) (told e))) }
+    ensures ok { IfOk result (λ v. ValueAdded state.old.graph state.new.graph
+        (λ naming m. (inner : Meaning)
+        × HasType (scope_of naming state.old.graph (values_of names.now)) (ty_of ty.now) inner
+        × (m ≡ alias_type inner)) v) }
+    ensures err { ErrorSays result (λ e. (naming : Naming)
+        → TypeBroken (scope_of naming state.old.graph (values_of names.now)) (ty_of ty.now) e) }
 {
     let value = value_type(state, names, ty)?;
     Ok(state.add_defined(DefinedType::Alias(value))?)
@@ -139,8 +152,13 @@ fn alias_of_type(
     ty: &TypeTree<'_>,
 ) -> Result<ItemKind, Error>
     requires { ItemsNamed state.old.graph.types (values_of names.now) }
-    ensures ok { IfOk result (λ k. KindAdded state.old.graph state.new.graph (λ naming m after. IsTypeAlias (aliasing_at place naming) (scope_of naming state.old.graph (values_of names.now)) (declared_count state.old.graph) name.now (alone (ty_of ty.now)) (ty_of ty.now) m after) k) }
-    ensures err { IfErr result (λ e. Reports (told e) ((naming : Naming) → TypeAliasBroken (aliasing_at place naming) (scope_of naming state.old.graph (values_of names.now)) (declared_count state.old.graph) name.now (alone (ty_of ty.now)) (ty_of ty.now) (told e))) }
+    ensures ok { IfOk result (λ k. KindAdded state.old.graph state.new.graph
+        (λ naming m after. IsTypeAlias (aliasing_at place naming)
+        (scope_of naming state.old.graph (values_of names.now)) (declared_count state.old.graph) name.now
+        (alone (ty_of ty.now)) (ty_of ty.now) m after) k) }
+    ensures err { ErrorSays result (λ e. (naming : Naming)
+        → TypeAliasBroken (aliasing_at place naming) (scope_of naming state.old.graph (values_of names.now))
+        (declared_count state.old.graph) name.now (alone (ty_of ty.now)) (ty_of ty.now) e) }
 {
     match identifier(ty) {
         Some(id) => Ok(alias_of_name(state, names, place, name, id)?),
@@ -160,8 +178,13 @@ pub fn alias(
     kind: &TypeAliasKind<'_>,
 ) -> Result<ItemKind, Error>
     requires { ItemsNamed state.old.graph.types (values_of names.now) }
-    ensures ok { IfOk result (λ k. KindAdded state.old.graph state.new.graph (λ naming m after. IsAlias (aliasing_at place naming) (scope_of naming state.old.graph (values_of names.now)) (declared_count state.old.graph) name.now (type_alias_kind_of kind.now) m after) k) }
-    ensures err { IfErr result (λ e. Reports (told e) ((naming : Naming) → AliasBroken (aliasing_at place naming) (scope_of naming state.old.graph (values_of names.now)) (declared_count state.old.graph) name.now (type_alias_kind_of kind.now) (told e))) }
+    ensures ok { IfOk result (λ k. KindAdded state.old.graph state.new.graph
+        (λ naming m after. IsAlias (aliasing_at place naming)
+        (scope_of naming state.old.graph (values_of names.now)) (declared_count state.old.graph) name.now
+        (type_alias_kind_of kind.now) m after) k) }
+    ensures err { ErrorSays result (λ e. (naming : Naming)
+        → AliasBroken (aliasing_at place naming) (scope_of naming state.old.graph (values_of names.now))
+        (declared_count state.old.graph) name.now (type_alias_kind_of kind.now) e) }
 {
     match kind {
         TypeAliasKind::Func(func) => {

@@ -1,13 +1,12 @@
 //! Declarations of types at root.
-ghost use Rattle.std.specs.Prelude.{IfOk, IfErr};
+ghost use Rattle.std.specs.Prelude.{IfOk};
 ghost use Rattle.wac_graph_types.specs.Table.{ItemsNamed};
 ghost use Rattle.wac_ast_types.specs.Declarations.{type_decl_of};
 ghost use Rattle.wac_graph.specs.Means.{declared_count};
 ghost use Rattle.wac_graph.specs.Origin.{Naming};
-ghost use Rattle.wac_resolution_errors.specs.Error.{Reports};
-ghost use Rattle.wac_resolution_errors.specs.Told.{told};
 ghost use Rattle.wac_resolution_rules.specs.Declarations.{IsTypeDecl};
 ghost use Rattle.wac_resolution_rules.specs.BrokenDeclarations.{TypeDeclBroken};
+ghost use Rattle.wac_resolution_rules.specs.Errors.{ErrorSays};
 ghost use Rattle.wac_resolution_state.specs.Bindings.{values_of};
 ghost use Rattle.wac_resolution_types.specs.Declarations.{KindAdded};
 ghost use Rattle.wac_resolution_state.specs.Named.{scope_of};
@@ -29,8 +28,12 @@ pub fn type_decl(
     decl: &TypeDecl<'_>,
 ) -> Result<ItemKind, Error>
     requires { ItemsNamed state.old.graph.types (values_of names.now) }
-    ensures ok { IfOk result (λ k. KindAdded state.old.graph state.new.graph (λ naming m after. IsTypeDecl (scope_of naming state.old.graph (values_of names.now)) (declared_count state.old.graph) (type_decl_of decl.now) m after) k) }
-    ensures err { IfErr result (λ e. Reports (told e) ((naming : Naming) → TypeDeclBroken (scope_of naming state.old.graph (values_of names.now)) (declared_count state.old.graph) (type_decl_of decl.now) (told e))) }
+    ensures ok { IfOk result (λ k. KindAdded state.old.graph state.new.graph
+        (λ naming m after. IsTypeDecl (scope_of naming state.old.graph (values_of names.now))
+        (declared_count state.old.graph) (type_decl_of decl.now) m after) k) }
+    ensures err { ErrorSays result (λ e. (naming : Naming)
+        → TypeDeclBroken (scope_of naming state.old.graph (values_of names.now)) (declared_count state.old.graph)
+        (type_decl_of decl.now) e) }
 {
     match decl {
         TypeDecl::Variant(decl) => Ok(ItemKind::Ty(Type::Value(variant(state, names, decl)?))),

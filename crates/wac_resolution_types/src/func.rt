@@ -1,5 +1,5 @@
 //! Function types.
-ghost use Rattle.std.specs.Prelude.{◌≡◌, [], List, IfOk, IfErr, OnOk, map};
+ghost use Rattle.std.specs.Prelude.{◌≡◌, [], List, IfOk, OnOk, map};
 ghost use Rattle.wac_ast_grammar.specs.Tree.{NamedType as ParamTree};
 ghost use Rattle.wac_graph_types.specs.declared.kind.FuncKind.TheVariants as funcs;
 ghost use Rattle.wac_graph_types.specs.declared.kind.ItemKind.TheVariants as kinds;
@@ -12,11 +12,10 @@ ghost use Rattle.wac_ast_types.specs.Declarations.{named_type_of, func_type_of};
 ghost use Rattle.wac_graph.specs.Graph.{Parts};
 ghost use Rattle.wac_graph.specs.Means.{entry_means};
 ghost use Rattle.wac_graph.specs.Origin.{Naming};
-ghost use Rattle.wac_resolution_errors.specs.Error.{Reports};
-ghost use Rattle.wac_resolution_errors.specs.Told.{told};
 ghost use Rattle.wac_resolution_rules.specs.Types.{first_params};
 ghost use Rattle.wac_resolution_rules.specs.BrokenTypes.{IsRepeatedParameter, ParamBroken, ParamsBroken, FuncBroken};
 ghost use Rattle.wac_resolution_rules.specs.BrokenBodies.{method_kind};
+ghost use Rattle.wac_resolution_rules.specs.Errors.{ErrorSays};
 ghost use Rattle.wac_resolution_state.specs.Bindings.{values_of};
 ghost use Rattle.wac_resolution_types.specs.Funcs.{types_named, TypesNamed, ParamGoes, ParamsGo, FuncAdded, FuncIs, ConstructorIs, own_params};
 ghost use Rattle.wac_resolution_state.specs.Named.{scope_of};
@@ -42,7 +41,8 @@ fn check_param(
     id: &Ident<'_>,
 ) -> Result<(), Error>
     ensures ok { OnOk result (IsFresh id.now.string.now (by_name all.now.entries)) }
-    ensures err { IfErr result (λ e. Reports (told e) ((naming : Naming) (g : Parts) → IsRepeatedParameter kind (types_named naming g (by_name all.now.entries)) (ident_of id.now) (told e))) }
+    ensures err { ErrorSays result (λ e. (naming : Naming) (g : Parts)
+        → IsRepeatedParameter kind (types_named naming g (by_name all.now.entries)) (ident_of id.now) e) }
 {
     match find(all, id.string) {
         Some(_) => Err(Error::DuplicateParameter {
@@ -89,8 +89,11 @@ fn take_param(
 ) -> Result<(), Error>
     requires scope { ItemsNamed state.old.graph.types (values_of names.now) }
     requires parts { TypesNamed state.old.graph.types (by_name all.old.entries) }
-    ensures ok { OnOk result (ParamGoes state.old.graph state.new.graph (values_of names.now) (by_name all.old.entries) (by_name all.new.entries) (named_type_of param.now)) }
-    ensures err { IfErr result (λ e. Reports (told e) ((naming : Naming) (before : List ParamTree) → ParamBroken kind (scope_of naming state.old.graph (values_of names.now)) (told e) (types_named naming state.old.graph (by_name all.old.entries)) before (named_type_of param.now))) }
+    ensures ok { OnOk result (ParamGoes state.old.graph state.new.graph (values_of names.now) (by_name all.old.entries)
+        (by_name all.new.entries) (named_type_of param.now)) }
+    ensures err { ErrorSays result (λ e. (naming : Naming) (before : List ParamTree)
+        → ParamBroken kind (scope_of naming state.old.graph (values_of names.now)) e
+        (types_named naming state.old.graph (by_name all.old.entries)) before (named_type_of param.now)) }
 {
     let value = value_type(state, names, &param.ty)?;
     check_param(state.alloc, kind, all, &param.id)?;
@@ -108,8 +111,11 @@ fn take_params(
 ) -> Result<(), Error>
     requires scope { ItemsNamed state.old.graph.types (values_of names.now) }
     requires parts { TypesNamed state.old.graph.types (by_name all.old.entries) }
-    ensures ok { OnOk result (ParamsGo state.old.graph state.new.graph (values_of names.now) (by_name all.old.entries) (by_name all.new.entries) (map named_type_of params.now)) }
-    ensures err { IfErr result (λ e. Reports (told e) ((naming : Naming) → ParamsBroken kind (scope_of naming state.old.graph (values_of names.now)) (types_named naming state.old.graph (by_name all.old.entries)) (map named_type_of params.now) (told e))) }
+    ensures ok { OnOk result (ParamsGo state.old.graph state.new.graph (values_of names.now) (by_name all.old.entries)
+        (by_name all.new.entries) (map named_type_of params.now)) }
+    ensures err { ErrorSays result (λ e. (naming : Naming)
+        → ParamsBroken kind (scope_of naming state.old.graph (values_of names.now))
+        (types_named naming state.old.graph (by_name all.old.entries)) (map named_type_of params.now) e) }
 {
     for param in params {
         take_param(state, names, kind, all, param)?;
@@ -127,8 +133,11 @@ pub fn function(
 ) -> Result<FuncTypeId, Error>
     requires scope { ItemsNamed state.old.graph.types (values_of names.now) }
     requires parts { TypesNamed state.old.graph.types (by_name first.entries) }
-    ensures ok { IfOk result (λ f. FuncIs state.old.graph state.new.graph (values_of names.now) (by_name first.entries) (func_type_of func.now) f) }
-    ensures err { IfErr result (λ e. Reports (told e) ((naming : Naming) → FuncBroken kind (scope_of naming state.old.graph (values_of names.now)) (types_named naming state.old.graph (by_name first.entries)) (func_type_of func.now) (told e))) }
+    ensures ok { IfOk result (λ f. FuncIs state.old.graph state.new.graph (values_of names.now) (by_name first.entries)
+        (func_type_of func.now) f) }
+    ensures err { ErrorSays result (λ e. (naming : Naming)
+        → FuncBroken kind (scope_of naming state.old.graph (values_of names.now))
+        (types_named naming state.old.graph (by_name first.entries)) (func_type_of func.now) e) }
 {
     let mut params = first;
     take_params(state, names, kind, &mut params, &func.params)?;
@@ -150,8 +159,11 @@ pub fn constructor(
 ) -> Result<FuncTypeId, Error>
     requires scope { ItemsNamed state.old.graph.types (values_of names.now) }
     requires resource { NamesEntry state.old.graph.types (kinds.Ty (types.Resource resource)) }
-    ensures ok { IfOk result (λ f. ConstructorIs state.old.graph state.new.graph (values_of names.now) resource (map named_type_of params.now) f) }
-    ensures err { IfErr result (λ e. Reports (told e) ((naming : Naming) → ParamsBroken funcs.Constructor (scope_of naming state.old.graph (values_of names.now)) [] (map named_type_of params.now) (told e))) }
+    ensures ok { IfOk result (λ f. ConstructorIs state.old.graph state.new.graph (values_of names.now) resource
+        (map named_type_of params.now) f) }
+    ensures err { ErrorSays result (λ e. (naming : Naming)
+        → ParamsBroken funcs.Constructor (scope_of naming state.old.graph (values_of names.now)) []
+        (map named_type_of params.now) e) }
 {
     let mut all = IndexMap::new(state.alloc);
     take_params(state, names, FuncKind::Constructor, &mut all, params)?;
@@ -172,8 +184,12 @@ pub fn method(
 ) -> Result<FuncTypeId, Error>
     requires scope { ItemsNamed state.old.graph.types (values_of names.now) }
     requires resource { NamesEntry state.old.graph.types (kinds.Ty (types.Resource resource)) }
-    ensures ok { IfOk result (λ f. FuncAdded state.old.graph state.new.graph (values_of names.now) (λ naming scope entry. IsFuncWith scope (first_params is_static (entry_means naming state.old.graph resource.0)) (func_type_of func.now) entry) f) }
-    ensures err { IfErr result (λ e. Reports (told e) ((naming : Naming) → FuncBroken (method_kind is_static) (scope_of naming state.old.graph (values_of names.now)) (first_params is_static (entry_means naming state.old.graph resource.0)) (func_type_of func.now) (told e))) }
+    ensures ok { IfOk result (λ f. FuncAdded state.old.graph state.new.graph (values_of names.now)
+        (λ naming scope entry. IsFuncWith scope
+        (first_params is_static (entry_means naming state.old.graph resource.0)) (func_type_of func.now) entry) f) }
+    ensures err { ErrorSays result (λ e. (naming : Naming)
+        → FuncBroken (method_kind is_static) (scope_of naming state.old.graph (values_of names.now))
+        (first_params is_static (entry_means naming state.old.graph resource.0)) (func_type_of func.now) e) }
 {
     let first = method_params(state.alloc, is_static, resource)?;
     function(state, names, kind_of_method(is_static), first, func)

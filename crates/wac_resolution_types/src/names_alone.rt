@@ -1,14 +1,13 @@
 //! Flags and enums: types of names alone.
-ghost use Rattle.std.specs.Prelude.{◌≡◌, false, IfOk, IfErr, OnOk, map, string_bytes};
+ghost use Rattle.std.specs.Prelude.{◌≡◌, false, IfOk, OnOk, map, string_bytes};
 ghost use Rattle.std.specs.List.{list_any};
 ghost use Rattle.std.specs.Str.{bytes_eq};
 ghost use Rattle.wac_graph_types.specs.Steps.{Steps, Fails};
 ghost use Rattle.wac_ast_base.specs.Names.{ident_of};
 ghost use Rattle.wac_ast_types.specs.Declarations.{flag_of, flags_decl_of, enum_case_of, enum_decl_of};
-ghost use Rattle.wac_resolution_errors.specs.Error.{Reports};
-ghost use Rattle.wac_resolution_errors.specs.Told.{told};
 ghost use Rattle.wac_resolution_rules.specs.Declarations.{HasFlag, HasEnumCase, IsFlags, IsEnum};
 ghost use Rattle.wac_resolution_rules.specs.BrokenDeclarations.{IsRepeatedFlag, IsRepeatedEnumCase, FlagsBroken, EnumBroken};
+ghost use Rattle.wac_resolution_rules.specs.Errors.{ErrorSays};
 ghost use Rattle.wac_resolution_types.specs.Declarations.{names_alone, ValueAdded};
 
 use indexmap::IndexSet;
@@ -36,7 +35,8 @@ fn check_flag(
     id: &Ident<'_>,
 ) -> Result<(), Error>
     ensures ok { OnOk result (list_any (bytes_eq id.now.string.now) (map string_bytes all.now.keys) ≡ false) }
-    ensures err { IfErr result (λ e. Reports (told e) (IsRepeatedFlag (ident_of declared.now) (names_alone all.now.keys) (ident_of id.now) (told e))) }
+    ensures err { ErrorSays result (λ e. IsRepeatedFlag (ident_of declared.now)
+        (names_alone all.now.keys) (ident_of id.now) e) }
 {
     if has_name(all, id.string) {
         return Err(Error::DuplicateFlag {
@@ -57,7 +57,8 @@ fn check_enum_case(
     id: &Ident<'_>,
 ) -> Result<(), Error>
     ensures ok { OnOk result (list_any (bytes_eq id.now.string.now) (map string_bytes all.now.keys) ≡ false) }
-    ensures err { IfErr result (λ e. Reports (told e) (IsRepeatedEnumCase (ident_of declared.now) (names_alone all.now.keys) (ident_of id.now) (told e))) }
+    ensures err { ErrorSays result (λ e. IsRepeatedEnumCase (ident_of declared.now)
+        (names_alone all.now.keys) (ident_of id.now) e) }
 {
     if has_name(all, id.string) {
         return Err(Error::DuplicateEnumCase {
@@ -78,7 +79,8 @@ fn flag(
     flag: &Flag<'_>,
 ) -> Result<(), Error>
     ensures ok { OnOk result (HasFlag (names_alone all.old.keys) (flag_of flag.now) (names_alone all.new.keys)) }
-    ensures err { IfErr result (λ e. Reports (told e) (IsRepeatedFlag (ident_of declared.now) (names_alone all.old.keys) (ident_of flag.now.id) (told e))) }
+    ensures err { ErrorSays result (λ e. IsRepeatedFlag (ident_of declared.now) (names_alone all.old.keys)
+        (ident_of flag.now.id) e) }
 {
     check_flag(alloc, declared, all, &flag.id)?;
     push_name(alloc, all, flag.id.string)?;
@@ -93,8 +95,10 @@ fn enum_case(
     all: &mut IndexSet<String>,
     case: &EnumCase<'_>,
 ) -> Result<(), Error>
-    ensures ok { OnOk result (HasEnumCase (names_alone all.old.keys) (enum_case_of case.now) (names_alone all.new.keys)) }
-    ensures err { IfErr result (λ e. Reports (told e) (IsRepeatedEnumCase (ident_of declared.now) (names_alone all.old.keys) (ident_of case.now.id) (told e))) }
+    ensures ok { OnOk result (HasEnumCase (names_alone all.old.keys) (enum_case_of case.now)
+        (names_alone all.new.keys)) }
+    ensures err { ErrorSays result (λ e. IsRepeatedEnumCase (ident_of declared.now) (names_alone all.old.keys)
+        (ident_of case.now.id) e) }
 {
     check_enum_case(alloc, declared, all, &case.id)?;
     push_name(alloc, all, case.id.string)?;
@@ -108,8 +112,11 @@ fn each_flag(
     all: &mut IndexSet<String>,
     flags: &[Flag<'_>],
 ) -> Result<(), Error>
-    ensures ok { OnOk result (Steps HasFlag (names_alone all.old.keys) (map flag_of flags.now) (names_alone all.new.keys)) }
-    ensures err { IfErr result (λ e. Reports (told e) (Fails HasFlag (λ old before x. IsRepeatedFlag (ident_of declared.now) old x.id (told e)) (names_alone all.old.keys) (map flag_of flags.now))) }
+    ensures ok { OnOk result (Steps HasFlag (names_alone all.old.keys) (map flag_of flags.now)
+        (names_alone all.new.keys)) }
+    ensures err { ErrorSays result (λ e. Fails HasFlag
+        (λ old before x. IsRepeatedFlag (ident_of declared.now) old x.id e) (names_alone all.old.keys)
+        (map flag_of flags.now)) }
 {
     for item in flags {
         flag(alloc, declared, all, item)?;
@@ -124,8 +131,11 @@ fn enum_cases(
     all: &mut IndexSet<String>,
     cases: &[EnumCase<'_>],
 ) -> Result<(), Error>
-    ensures ok { OnOk result (Steps HasEnumCase (names_alone all.old.keys) (map enum_case_of cases.now) (names_alone all.new.keys)) }
-    ensures err { IfErr result (λ e. Reports (told e) (Fails HasEnumCase (λ old before x. IsRepeatedEnumCase (ident_of declared.now) old x.id (told e)) (names_alone all.old.keys) (map enum_case_of cases.now))) }
+    ensures ok { OnOk result (Steps HasEnumCase (names_alone all.old.keys) (map enum_case_of cases.now)
+        (names_alone all.new.keys)) }
+    ensures err { ErrorSays result (λ e. Fails HasEnumCase
+        (λ old before x. IsRepeatedEnumCase (ident_of declared.now) old x.id e) (names_alone all.old.keys)
+        (map enum_case_of cases.now)) }
 {
     for item in cases {
         enum_case(alloc, declared, all, item)?;
@@ -135,8 +145,9 @@ fn enum_cases(
 
 /// Adds a type of flags.
 pub fn flags(state: &mut State, decl: &FlagsDecl<'_>) -> Result<ValueType, Error>
-    ensures ok { IfOk result (λ v. ValueAdded state.old.graph state.new.graph (λ naming m. IsFlags (flags_decl_of decl.now) m) v) }
-    ensures err { IfErr result (λ e. Reports (told e) (FlagsBroken (flags_decl_of decl.now) (told e))) }
+    ensures ok { IfOk result (λ v. ValueAdded state.old.graph state.new.graph
+        (λ naming m. IsFlags (flags_decl_of decl.now) m) v) }
+    ensures err { ErrorSays result (λ e. FlagsBroken (flags_decl_of decl.now) e) }
 {
     let mut all = IndexSet::new(state.alloc);
     each_flag(state.alloc, &decl.id, &mut all, &decl.flags)?;
@@ -145,8 +156,9 @@ pub fn flags(state: &mut State, decl: &FlagsDecl<'_>) -> Result<ValueType, Error
 
 /// Adds an enum.
 pub fn enumeration(state: &mut State, decl: &EnumDecl<'_>) -> Result<ValueType, Error>
-    ensures ok { IfOk result (λ v. ValueAdded state.old.graph state.new.graph (λ naming m. IsEnum (enum_decl_of decl.now) m) v) }
-    ensures err { IfErr result (λ e. Reports (told e) (EnumBroken (enum_decl_of decl.now) (told e))) }
+    ensures ok { IfOk result (λ v. ValueAdded state.old.graph state.new.graph
+        (λ naming m. IsEnum (enum_decl_of decl.now) m) v) }
+    ensures err { ErrorSays result (λ e. EnumBroken (enum_decl_of decl.now) e) }
 {
     let mut all = IndexSet::new(state.alloc);
     enum_cases(state.alloc, &decl.id, &mut all, &decl.cases)?;

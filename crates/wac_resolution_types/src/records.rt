@@ -1,5 +1,5 @@
 //! Records.
-ghost use Rattle.std.specs.Prelude.{◌≡◌, List, IfOk, IfErr, OnOk, map};
+ghost use Rattle.std.specs.Prelude.{◌≡◌, List, IfOk, OnOk, map};
 ghost use Rattle.wac_ast_grammar.specs.Tree.{Field as FieldTree};
 ghost use Rattle.wac_graph_types.specs.Names.{by_name};
 ghost use Rattle.wac_graph_types.specs.Scope.{IsFresh};
@@ -9,10 +9,9 @@ ghost use Rattle.wac_ast_base.specs.Names.{ident_of};
 ghost use Rattle.wac_ast_types.specs.Declarations.{field_of, record_decl_of};
 ghost use Rattle.wac_graph.specs.Graph.{Parts};
 ghost use Rattle.wac_graph.specs.Origin.{Naming};
-ghost use Rattle.wac_resolution_errors.specs.Error.{Reports};
-ghost use Rattle.wac_resolution_errors.specs.Told.{told};
 ghost use Rattle.wac_resolution_rules.specs.Declarations.{HasField, IsRecord};
 ghost use Rattle.wac_resolution_rules.specs.BrokenDeclarations.{IsRepeatedField, FieldBroken, RecordBroken};
+ghost use Rattle.wac_resolution_rules.specs.Errors.{ErrorSays};
 ghost use Rattle.wac_resolution_state.specs.Bindings.{values_of};
 ghost use Rattle.wac_resolution_types.specs.Declarations.{FieldGoes, FieldsGo, ValueAdded};
 ghost use Rattle.wac_resolution_types.specs.Funcs.{types_named, TypesNamed};
@@ -37,7 +36,9 @@ fn check_field(
     id: &Ident<'_>,
 ) -> Result<(), Error>
     ensures ok { OnOk result (IsFresh id.now.string.now (by_name all.now.entries)) }
-    ensures err { IfErr result (λ e. Reports (told e) ((naming : Naming) (g : Parts) → IsRepeatedField (ident_of declared.now) (types_named naming g (by_name all.now.entries)) (ident_of id.now) (told e))) }
+    ensures err { ErrorSays result (λ e. (naming : Naming) (g : Parts)
+        → IsRepeatedField (ident_of declared.now)
+        (types_named naming g (by_name all.now.entries)) (ident_of id.now) e) }
 {
     match find(all, id.string) {
         Some(_) => Err(Error::DuplicateRecordField {
@@ -59,8 +60,11 @@ fn take_field(
 ) -> Result<(), Error>
     requires scope { ItemsNamed state.old.graph.types (values_of names.now) }
     requires parts { TypesNamed state.old.graph.types (by_name all.old.entries) }
-    ensures ok { OnOk result (FieldGoes state.old.graph state.new.graph (values_of names.now) (by_name all.old.entries) (by_name all.new.entries) (field_of field.now)) }
-    ensures err { IfErr result (λ e. Reports (told e) ((naming : Naming) (before : List FieldTree) → FieldBroken (scope_of naming state.old.graph (values_of names.now)) (ident_of declared.now) (told e) (types_named naming state.old.graph (by_name all.old.entries)) before (field_of field.now))) }
+    ensures ok { OnOk result (FieldGoes state.old.graph state.new.graph (values_of names.now) (by_name all.old.entries)
+        (by_name all.new.entries) (field_of field.now)) }
+    ensures err { ErrorSays result (λ e. (naming : Naming) (before : List FieldTree)
+        → FieldBroken (scope_of naming state.old.graph (values_of names.now)) (ident_of declared.now) e
+        (types_named naming state.old.graph (by_name all.old.entries)) before (field_of field.now)) }
 {
     let value = value_type(state, names, &field.ty)?;
     check_field(state.alloc, declared, all, &field.id)?;
@@ -78,8 +82,12 @@ fn take_fields(
 ) -> Result<(), Error>
     requires scope { ItemsNamed state.old.graph.types (values_of names.now) }
     requires parts { TypesNamed state.old.graph.types (by_name all.old.entries) }
-    ensures ok { OnOk result (FieldsGo state.old.graph state.new.graph (values_of names.now) (by_name all.old.entries) (by_name all.new.entries) (map field_of fields.now)) }
-    ensures err { IfErr result (λ e. Reports (told e) ((naming : Naming) → Fails (HasField (scope_of naming state.old.graph (values_of names.now))) (FieldBroken (scope_of naming state.old.graph (values_of names.now)) (ident_of declared.now) (told e)) (types_named naming state.old.graph (by_name all.old.entries)) (map field_of fields.now))) }
+    ensures ok { OnOk result (FieldsGo state.old.graph state.new.graph (values_of names.now) (by_name all.old.entries)
+        (by_name all.new.entries) (map field_of fields.now)) }
+    ensures err { ErrorSays result (λ e. (naming : Naming)
+        → Fails (HasField (scope_of naming state.old.graph (values_of names.now)))
+        (FieldBroken (scope_of naming state.old.graph (values_of names.now)) (ident_of declared.now) e)
+        (types_named naming state.old.graph (by_name all.old.entries)) (map field_of fields.now)) }
 {
     for field in fields {
         take_field(state, names, declared, all, field)?;
@@ -94,8 +102,11 @@ pub fn record(
     decl: &RecordDecl<'_>,
 ) -> Result<ValueType, Error>
     requires { ItemsNamed state.old.graph.types (values_of names.now) }
-    ensures ok { IfOk result (λ v. ValueAdded state.old.graph state.new.graph (λ naming m. IsRecord (scope_of naming state.old.graph (values_of names.now)) (record_decl_of decl.now) m) v) }
-    ensures err { IfErr result (λ e. Reports (told e) ((naming : Naming) → RecordBroken (scope_of naming state.old.graph (values_of names.now)) (record_decl_of decl.now) (told e))) }
+    ensures ok { IfOk result (λ v. ValueAdded state.old.graph state.new.graph
+        (λ naming m. IsRecord (scope_of naming state.old.graph (values_of names.now))
+        (record_decl_of decl.now) m) v) }
+    ensures err { ErrorSays result (λ e. (naming : Naming)
+        → RecordBroken (scope_of naming state.old.graph (values_of names.now)) (record_decl_of decl.now) e) }
 {
     let mut fields = IndexMap::new(state.alloc);
     take_fields(state, names, &decl.id, &mut fields, &decl.fields)?;

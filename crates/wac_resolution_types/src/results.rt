@@ -14,10 +14,11 @@ ghost use Rattle.wac_ast_types.specs.Declarations.{named_type_of, result_list_of
 ghost use Rattle.wac_graph.specs.Graph.{Parts};
 ghost use Rattle.wac_graph.specs.Means.{means};
 ghost use Rattle.wac_graph.specs.Origin.{Naming};
-ghost use Rattle.wac_resolution_errors.specs.Error.{Reports, borrow_in_result};
+ghost use Rattle.wac_resolution_errors.specs.Error.{borrow_in_result};
 ghost use Rattle.wac_resolution_errors.specs.Told.{told};
 ghost use Rattle.wac_resolution_rules.specs.Types.{HasResult};
 ghost use Rattle.wac_resolution_rules.specs.BrokenTypes.{IsRepeatedResult, ResultTypeBroken, ResultBroken, ResultsBroken};
+ghost use Rattle.wac_resolution_rules.specs.Errors.{ErrorSays};
 ghost use Rattle.wac_resolution_state.specs.Bindings.{values_of};
 ghost use Rattle.wac_resolution_types.specs.Funcs.{types_named, TypesNamed, ResultTypeIs, ResultGoes, ResultsGo, ResultsAre};
 ghost use Rattle.wac_resolution_state.specs.Named.{scope_of};
@@ -41,7 +42,8 @@ fn check_result_name(
     id: &Ident<'_>,
 ) -> Result<(), Error>
     ensures ok { OnOk result (IsFresh id.now.string.now (by_name all.now.entries)) }
-    ensures err { IfErr result (λ e. Reports (told e) ((naming : Naming) (g : Parts) → IsRepeatedResult kind (types_named naming g (by_name all.now.entries)) (ident_of id.now) (told e))) }
+    ensures err { ErrorSays result (λ e. (naming : Naming) (g : Parts)
+        → IsRepeatedResult kind (types_named naming g (by_name all.now.entries)) (ident_of id.now) e) }
 {
     match find(all, id.string) {
         Some(_) => Err(Error::DuplicateResult {
@@ -56,8 +58,10 @@ fn check_result_name(
 /// Rejects a result that contains a borrow.
 fn check_result(state: &State, ty: &Type<'_>, value: ValueType) -> Result<(), Error>
     requires { NamesEntry state.now.graph.types (kinds.Value value) }
-    ensures ok { OnOk result ((naming : Naming) → has_borrow (means naming state.now.graph (kinds.Value value)) ≡ false) }
-    ensures borrow { IfErr result (λ e. (naming : Naming) → has_borrow (means naming state.now.graph (kinds.Value value)) ≡ true) }
+    ensures ok { OnOk result ((naming : Naming)
+        → has_borrow (means naming state.now.graph (kinds.Value value)) ≡ false) }
+    ensures borrow { IfErr result (λ e. (naming : Naming)
+        → has_borrow (means naming state.now.graph (kinds.Value value)) ≡ true) }
     ensures err { IfErr result (λ e. told e ≡ borrow_in_result (ty_span (ty_of ty.now))) }
 {
     if state.graph.types().contains_borrow(value) {
@@ -73,8 +77,10 @@ fn result_type(
     ty: &Type<'_>,
 ) -> Result<ValueType, Error>
     requires { ItemsNamed state.old.graph.types (values_of names.now) }
-    ensures ok { IfOk result (λ v. ResultTypeIs state.old.graph state.new.graph (values_of names.now) (ty_of ty.now) v) }
-    ensures err { IfErr result (λ e. Reports (told e) ((naming : Naming) → ResultTypeBroken (scope_of naming state.old.graph (values_of names.now)) (ty_of ty.now) (told e))) }
+    ensures ok { IfOk result (λ v. ResultTypeIs state.old.graph state.new.graph
+        (values_of names.now) (ty_of ty.now) v) }
+    ensures err { ErrorSays result (λ e. (naming : Naming)
+        → ResultTypeBroken (scope_of naming state.old.graph (values_of names.now)) (ty_of ty.now) e) }
 {
     let value = value_type(state, names, ty)?;
     check_result(state, ty, value)?;
@@ -91,8 +97,11 @@ fn named_result(
 ) -> Result<(), Error>
     requires scope { ItemsNamed state.old.graph.types (values_of names.now) }
     requires parts { TypesNamed state.old.graph.types (by_name all.old.entries) }
-    ensures ok { OnOk result (ResultGoes state.old.graph state.new.graph (values_of names.now) (by_name all.old.entries) (by_name all.new.entries) (named_type_of named.now)) }
-    ensures err { IfErr result (λ e. Reports (told e) ((naming : Naming) (before : List ResultTree) → ResultBroken kind (scope_of naming state.old.graph (values_of names.now)) (told e) (types_named naming state.old.graph (by_name all.old.entries)) before (named_type_of named.now))) }
+    ensures ok { OnOk result (ResultGoes state.old.graph state.new.graph (values_of names.now) (by_name all.old.entries)
+        (by_name all.new.entries) (named_type_of named.now)) }
+    ensures err { ErrorSays result (λ e. (naming : Naming) (before : List ResultTree)
+        → ResultBroken kind (scope_of naming state.old.graph (values_of names.now)) e
+        (types_named naming state.old.graph (by_name all.old.entries)) before (named_type_of named.now)) }
 {
     let value = result_type(state, names, &named.ty)?;
     check_result_name(state.alloc, kind, all, &named.id)?;
@@ -108,8 +117,11 @@ fn named_results(
     named: &[NamedType<'_>],
 ) -> Result<IndexMap<String, ValueType>, Error>
     requires { ItemsNamed state.old.graph.types (values_of names.now) }
-    ensures ok { IfOk result (λ all. ResultsGo state.old.graph state.new.graph (values_of names.now) [] (by_name all.entries) (map named_type_of named.now)) }
-    ensures err { IfErr result (λ e. Reports (told e) ((naming : Naming) → let scope = scope_of naming state.old.graph (values_of names.now) in Fails (HasResult scope) (ResultBroken kind scope (told e)) [] (map named_type_of named.now))) }
+    ensures ok { IfOk result (λ all. ResultsGo state.old.graph state.new.graph (values_of names.now) []
+        (by_name all.entries) (map named_type_of named.now)) }
+    ensures err { ErrorSays result (λ e. (naming : Naming)
+        → let scope = scope_of naming state.old.graph (values_of names.now) in Fails (HasResult scope)
+        (ResultBroken kind scope e) [] (map named_type_of named.now)) }
 {
     let mut all = IndexMap::new(state.alloc);
     for result in named {
@@ -126,8 +138,10 @@ pub(crate) fn results(
     results: &ResultList<'_>,
 ) -> Result<FuncResults, Error>
     requires { ItemsNamed state.old.graph.types (values_of names.now) }
-    ensures ok { IfOk result (λ rs. ResultsAre state.old.graph state.new.graph (values_of names.now) (result_list_of results.now) rs) }
-    ensures err { IfErr result (λ e. Reports (told e) ((naming : Naming) → ResultsBroken kind (scope_of naming state.old.graph (values_of names.now)) (result_list_of results.now) (told e))) }
+    ensures ok { IfOk result (λ rs. ResultsAre state.old.graph state.new.graph (values_of names.now)
+        (result_list_of results.now) rs) }
+    ensures err { ErrorSays result (λ e. (naming : Naming)
+        → ResultsBroken kind (scope_of naming state.old.graph (values_of names.now)) (result_list_of results.now) e) }
 {
     match results {
         ResultList::Empty => Ok(FuncResults::None),

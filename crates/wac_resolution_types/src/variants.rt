@@ -1,5 +1,5 @@
 //! Variants.
-ghost use Rattle.std.specs.Prelude.{◌≡◌, List, IfOk, IfErr, OnOk, map, option_map};
+ghost use Rattle.std.specs.Prelude.{◌≡◌, List, IfOk, OnOk, map, option_map};
 ghost use Rattle.wac_ast_grammar.specs.Tree.{VariantCase as CaseTree};
 ghost use Rattle.wac_graph_types.specs.Names.{by_name};
 ghost use Rattle.wac_graph_types.specs.Scope.{IsFresh};
@@ -9,10 +9,9 @@ ghost use Rattle.wac_ast_types.specs.Types.{ty_of};
 ghost use Rattle.wac_ast_types.specs.Declarations.{variant_case_of, variant_decl_of};
 ghost use Rattle.wac_graph.specs.Graph.{Parts};
 ghost use Rattle.wac_graph.specs.Origin.{Naming};
-ghost use Rattle.wac_resolution_errors.specs.Error.{Reports};
-ghost use Rattle.wac_resolution_errors.specs.Told.{told};
 ghost use Rattle.wac_resolution_rules.specs.Declarations.{HasCase, IsVariant};
 ghost use Rattle.wac_resolution_rules.specs.BrokenDeclarations.{IsRepeatedCase, OptionBroken, CaseBroken, VariantBroken};
+ghost use Rattle.wac_resolution_rules.specs.Errors.{ErrorSays};
 ghost use Rattle.wac_resolution_state.specs.Bindings.{values_of};
 ghost use Rattle.wac_resolution_types.specs.Declarations.{perhaps, cases_named, CaseTypeIs, CaseGoes, CasesGo, ValueAdded};
 ghost use Rattle.wac_resolution_state.specs.Named.{scope_of};
@@ -38,7 +37,8 @@ fn check_case(
     id: &Ident<'_>,
 ) -> Result<(), Error>
     ensures ok { OnOk result (IsFresh id.now.string.now (by_name all.now.entries)) }
-    ensures err { IfErr result (λ e. Reports (told e) ((naming : Naming) (g : Parts) → IsRepeatedCase (ident_of declared.now) (cases_named naming g (by_name all.now.entries)) (ident_of id.now) (told e))) }
+    ensures err { ErrorSays result (λ e. (naming : Naming) (g : Parts)
+        → IsRepeatedCase (ident_of declared.now) (cases_named naming g (by_name all.now.entries)) (ident_of id.now) e) }
 {
     match find(all, id.string) {
         Some(_) => Err(Error::DuplicateVariantCase {
@@ -57,8 +57,10 @@ fn case_type(
     ty: &Option<Type<'_>>,
 ) -> Result<Option<ValueType>, Error>
     requires { ItemsNamed state.old.graph.types (values_of names.now) }
-    ensures ok { IfOk result (λ v. CaseTypeIs state.old.graph state.new.graph (values_of names.now) (option_map ty_of ty.now) v) }
-    ensures err { IfErr result (λ e. Reports (told e) ((naming : Naming) → OptionBroken (scope_of naming state.old.graph (values_of names.now)) (option_map ty_of ty.now) (told e))) }
+    ensures ok { IfOk result (λ v. CaseTypeIs state.old.graph state.new.graph (values_of names.now)
+        (option_map ty_of ty.now) v) }
+    ensures err { ErrorSays result (λ e. (naming : Naming)
+        → OptionBroken (scope_of naming state.old.graph (values_of names.now)) (option_map ty_of ty.now) e) }
 {
     match ty {
         Some(ty) => Ok(Some(value_type(state, names, ty)?)),
@@ -76,8 +78,11 @@ fn take_case(
 ) -> Result<(), Error>
     requires scope { ItemsNamed state.old.graph.types (values_of names.now) }
     requires parts { PartsNamed perhaps state.old.graph.types (by_name all.old.entries) }
-    ensures ok { OnOk result (CaseGoes state.old.graph state.new.graph (values_of names.now) (by_name all.old.entries) (by_name all.new.entries) (variant_case_of case.now)) }
-    ensures err { IfErr result (λ e. Reports (told e) ((naming : Naming) (before : List CaseTree) → CaseBroken (scope_of naming state.old.graph (values_of names.now)) (ident_of declared.now) (told e) (cases_named naming state.old.graph (by_name all.old.entries)) before (variant_case_of case.now))) }
+    ensures ok { OnOk result (CaseGoes state.old.graph state.new.graph (values_of names.now) (by_name all.old.entries)
+        (by_name all.new.entries) (variant_case_of case.now)) }
+    ensures err { ErrorSays result (λ e. (naming : Naming) (before : List CaseTree)
+        → CaseBroken (scope_of naming state.old.graph (values_of names.now)) (ident_of declared.now) e
+        (cases_named naming state.old.graph (by_name all.old.entries)) before (variant_case_of case.now)) }
 {
     let value = case_type(state, names, &case.ty)?;
     check_case(state.alloc, declared, all, &case.id)?;
@@ -95,8 +100,12 @@ fn take_cases(
 ) -> Result<(), Error>
     requires scope { ItemsNamed state.old.graph.types (values_of names.now) }
     requires parts { PartsNamed perhaps state.old.graph.types (by_name all.old.entries) }
-    ensures ok { OnOk result (CasesGo state.old.graph state.new.graph (values_of names.now) (by_name all.old.entries) (by_name all.new.entries) (map variant_case_of cases.now)) }
-    ensures err { IfErr result (λ e. Reports (told e) ((naming : Naming) → Fails (HasCase (scope_of naming state.old.graph (values_of names.now))) (CaseBroken (scope_of naming state.old.graph (values_of names.now)) (ident_of declared.now) (told e)) (cases_named naming state.old.graph (by_name all.old.entries)) (map variant_case_of cases.now))) }
+    ensures ok { OnOk result (CasesGo state.old.graph state.new.graph (values_of names.now) (by_name all.old.entries)
+        (by_name all.new.entries) (map variant_case_of cases.now)) }
+    ensures err { ErrorSays result (λ e. (naming : Naming)
+        → Fails (HasCase (scope_of naming state.old.graph (values_of names.now)))
+        (CaseBroken (scope_of naming state.old.graph (values_of names.now)) (ident_of declared.now) e)
+        (cases_named naming state.old.graph (by_name all.old.entries)) (map variant_case_of cases.now)) }
 {
     for case in cases {
         take_case(state, names, declared, all, case)?;
@@ -111,8 +120,11 @@ pub fn variant(
     decl: &VariantDecl<'_>,
 ) -> Result<ValueType, Error>
     requires { ItemsNamed state.old.graph.types (values_of names.now) }
-    ensures ok { IfOk result (λ v. ValueAdded state.old.graph state.new.graph (λ naming m. IsVariant (scope_of naming state.old.graph (values_of names.now)) (variant_decl_of decl.now) m) v) }
-    ensures err { IfErr result (λ e. Reports (told e) ((naming : Naming) → VariantBroken (scope_of naming state.old.graph (values_of names.now)) (variant_decl_of decl.now) (told e))) }
+    ensures ok { IfOk result (λ v. ValueAdded state.old.graph state.new.graph
+        (λ naming m. IsVariant (scope_of naming state.old.graph (values_of names.now))
+        (variant_decl_of decl.now) m) v) }
+    ensures err { ErrorSays result (λ e. (naming : Naming)
+        → VariantBroken (scope_of naming state.old.graph (values_of names.now)) (variant_decl_of decl.now) e) }
 {
     let mut cases = IndexMap::new(state.alloc);
     take_cases(state, names, &decl.id, &mut cases, &decl.cases)?;

@@ -23,12 +23,14 @@ id_text setting name = setting.own.now ++ codes "/" ++ name ++ version_part (opt
 abbrev pub InterfaceDeclared : Setting → Parts → Parts → Named ItemKind → InterfaceDecl → ItemKind → Type 0
 InterfaceDeclared setting old new root d k =
     KindMade (packages_in setting) old new (λ naming m after. (entry : Meaning)
-    × IsInterface (setting_of naming setting) (scope_of naming old root) (declared_count old) (declared_id (setting_of naming setting) d.id.string) d.items entry after
+    × IsInterface (setting_of naming setting) (scope_of naming old root) (declared_count old)
+    (declared_id (setting_of naming setting) d.id.string) d.items entry after
     × (m ≡ kind_of an_interface entry)) k
 
 -- the kind is a declared world of this name and these items
 abbrev pub WorldDeclared : Setting → Parts → Parts → Named ItemKind → List ℕ → List WorldItem → ItemKind → Type 0
 WorldDeclared setting old new root name items k =
     KindMade (packages_in setting) old new (λ naming m after. (entry : Meaning)
-    × IsWorld (setting_of naming setting) (scope_of naming old root) (declared_count old) (declared_id (setting_of naming setting) name) items entry after
+    × IsWorld (setting_of naming setting) (scope_of naming old root) (declared_count old)
+    (declared_id (setting_of naming setting) name) items entry after
     × (m ≡ kind_of a_world entry)) k

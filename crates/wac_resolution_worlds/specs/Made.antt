@@ -32,7 +32,8 @@ abbrev pub no_lists : Lists
 no_lists = record { names = []; uses = []; imports = []; exports = [] }
 
 -- a kind was made, and this holds of it and of how many resources are declared then
-pub record KindMade (packages : List (Key × PackageParts)) (old new : Parts) (holds : Naming → Meaning → ℕ → Type 0) (k : ItemKind) : Type 0 where
+pub record KindMade (packages : List (Key × PackageParts)) (old new : Parts) (holds : Naming → Meaning → ℕ → Type 0)
+    (k : ItemKind) : Type 0 where
   pub grows : Expands old new
   pub handed : HoldsHanded packages new
   pub named : Names new.types k
@@ -40,23 +41,32 @@ pub record KindMade (packages : List (Key × PackageParts)) (old new : Parts) (h
 
 -- what the export of a function resolves to, whatever the setting
 abbrev pub ExportGoes : Parts → Parts → Lists → Lists → InterfaceExport → Type 0
-ExportGoes old new b c x = BodyGoes sides.Export old new b c [] (λ naming before after. (setting : rules.Setting) (root : Scope) → HasInterfaceItem setting root before (InterfaceItem.interface_export x) after)
+ExportGoes old new b c x = BodyGoes sides.Export old new b c []
+    (λ naming before after. (setting : rules.Setting) (root : Scope)
+    → HasInterfaceItem setting root before (InterfaceItem.interface_export x) after)
 
 -- what an item of an interface resolves to
 abbrev pub InterfaceItemGoes : Setting → Parts → Parts → Named ItemKind → Lists → Lists → InterfaceItem → Type 0
 InterfaceItemGoes setting old new root b c x =
-    BodyExpands (packages_in setting) sides.Export old new b c (bound_in_interface_item x) (λ naming before after. HasInterfaceItem (setting_of naming setting) (scope_of naming old root) before x after)
+    BodyExpands (packages_in setting) sides.Export old new b c (bound_in_interface_item x)
+    (λ naming before after. HasInterfaceItem (setting_of naming setting) (scope_of naming old root) before x after)
 
 -- items in order
 abbrev pub InterfaceItemsGo : Setting → Parts → Parts → Named ItemKind → Lists → Lists → List InterfaceItem → Type 0
 InterfaceItemsGo setting old new root b c xs =
-    BodyExpands (packages_in setting) sides.Export old new b c (bound_in_interface xs) (λ naming before after. Steps (HasInterfaceItem (setting_of naming setting) (scope_of naming old root)) before xs after)
+    BodyExpands (packages_in setting) sides.Export old new b c (bound_in_interface xs)
+    (λ naming before after. Steps (HasInterfaceItem (setting_of naming setting) (scope_of naming old root)) before
+    xs after)
 
 -- an interface of items
-abbrev pub InterfaceMade : Setting → Parts → Parts → Named ItemKind → Option (List ℕ) → List InterfaceItem → InterfaceId → Type 0
+abbrev pub InterfaceMade : Setting → Parts → Parts → Named ItemKind → Option (List ℕ) → List InterfaceItem → InterfaceId
+    → Type 0
 InterfaceMade setting old new root id items i =
-    KindMade (packages_in setting) old new (λ naming m after. IsInterface (setting_of naming setting) (scope_of naming old root) (declared_count old) id items (entry_of m) after) (kinds.Instance i)
+    KindMade (packages_in setting) old new
+    (λ naming m after. IsInterface (setting_of naming setting) (scope_of naming old root) (declared_count old) id
+    items (entry_of m) after) (kinds.Instance i)
 
 -- an interface of this id, with the uses and exports of a body, was added
 abbrev pub InterfaceOf : Parts → Parts → Option (List ℕ) → Lists → InterfaceId → Type 0
-InterfaceOf old new id b i = AddsInterface old new (λ naming. interface_entry id (body_in naming old b).uses (body_in naming old b).exports) i
+InterfaceOf old new id b i =
+    AddsInterface old new (λ naming. interface_entry id (body_in naming old b).uses (body_in naming old b).exports) i

@@ -20,7 +20,8 @@ use Rattle.wac_resolution_state.specs.Named.{scope_of}
 
 -- the identifier denotes a function or function type, of this entry, whatever the graph is
 pub record FuncNamed (ks : Named ItemKind) (x : Ident) (f : FuncTypeId) : Type 0 where
-  pub is : (naming : Naming) (g : Parts) → IsFuncRef (scope_of naming g ks) (FuncTypeRef.ident x) (entry_means naming g f.0)
+  pub is : (naming : Naming) (g : Parts)
+      → IsFuncRef (scope_of naming g ks) (FuncTypeRef.ident x) (entry_means naming g f.0)
   pub named : (es : List Entry) → ItemsNamed es ks → Names es (kinds.Func f)
 
 -- the function type has this entry
@@ -39,10 +40,14 @@ pub record IsExternKind (k item : ItemKind) : Type 0 where
 
 -- the kind of an identifier is neither, and this is its error
 abbrev pub IsNoExternKind : ItemKind → Ident → Error → Type 0
-IsNoExternKind k x e = (naming : Naming) (g : Parts) → IsNoneOf is_func_or_interface_form (means naming g k) × (e ≡ not_func_or_interface x.string (described (means naming g k)) x.span)
+IsNoExternKind k x e = (naming : Naming) (g : Parts)
+    → IsNoneOf is_func_or_interface_form (means naming g k)
+    × (e ≡ not_func_or_interface x.string (described (means naming g k)) x.span)
 
 -- in a body, else at root, the identifier denotes a function type or an interface, whose items are of this kind,
 -- whatever the graph is
 pub record ExternNamed (ks root : Named ItemKind) (x : Ident) (k : ItemKind) : Type 0 where
-  pub is : (naming : Naming) (g : Parts) (setting : Setting) (n : ℕ) → HasExternType setting (scope_of naming g root) (scope_of naming g ks) n (ExternType.ident x) (means naming g k) n
+  pub is : (naming : Naming) (g : Parts) (setting : Setting) (n : ℕ)
+      → HasExternType setting (scope_of naming g root) (scope_of naming g ks) n
+      (ExternType.ident x) (means naming g k) n
   pub named : (es : List Entry) → ItemsNamed es ks → ItemsNamed es root → Names es k

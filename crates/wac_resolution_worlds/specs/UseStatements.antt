@@ -29,15 +29,19 @@ use Rattle.wac_resolution_bodies.specs.Bodies.{body_in, IsBody}
 
 -- the path or identifier names this interface
 abbrev pub IsInterface : Setting → Parts → Parts → Named ItemKind → UsePath → InterfaceId → Type 0
-IsInterface setting old new root used i = Found (packages_in setting) old new (λ naming m. rules.UseNames (setting_of naming setting) (scope_of naming old root) used m) (kinds.Ty (types.Interface i))
+IsInterface setting old new root used i = Found (packages_in setting) old new
+    (λ naming m. rules.UseNames (setting_of naming setting) (scope_of naming old root) used m)
+    (kinds.Ty (types.Interface i))
 
 -- it names none
 abbrev pub IsNoneNamed : rules.Setting → Scope → UsePath → Error → Type 0
-IsNoneNamed setting root used e = UsePathBroken setting root used e ⊎ ((k : Meaning) × rules.UseNames setting root used k × IsNoInterface k (use_path_name used) (use_path_span used) e)
+IsNoneNamed setting root used e = UsePathBroken setting root used e
+    ⊎ ((k : Meaning) × rules.UseNames setting root used k × IsNoInterface k (use_path_name used) (use_path_span used) e)
 
 -- the graph got more types and perhaps more packages, and the body is another one: these names were bound, and this
 -- holds of what both bodies mean
-pub record BodyExpands (packages : List (Key × PackageParts)) (side : ExternKind) (old new : Parts) (b c : Lists) (bound : Named Span) (holds : Naming → Body → Body → Type 0) : Type 0 where
+pub record BodyExpands (packages : List (Key × PackageParts)) (side : ExternKind) (old new : Parts) (b c : Lists)
+    (bound : Named Span) (holds : Naming → Body → Body → Type 0) : Type 0 where
   pub grows : Expands old new
   pub handed : HoldsHanded packages new
   pub body : IsBody new.types side c
@@ -47,4 +51,5 @@ pub record BodyExpands (packages : List (Key × PackageParts)) (side : ExternKin
 -- what a use resolves to
 abbrev pub StatementGoes : Setting → ExternKind → Parts → Parts → Named ItemKind → Lists → Lists → Use → Type 0
 StatementGoes setting side old new root b c u =
-    BodyExpands (packages_in setting) side old new b c (used_at u.items) (λ naming before after. HasUse (setting_of naming setting) (scope_of naming old root) side before u after)
+    BodyExpands (packages_in setting) side old new b c (used_at u.items)
+    (λ naming before after. HasUse (setting_of naming setting) (scope_of naming old root) side before u after)

@@ -28,8 +28,10 @@ pub record IsUsed (g : Parts) (i : InterfaceId) (x : UseItem) (k : ItemKind) : T
 
 -- one used type: the graph stays
 abbrev pub UseGoes : ExternKind → Parts → InterfaceId → Lists → Lists → UseItem → Type 0
-UseGoes side g i b c x = BodyGoes side g g b c (at_ident (used_as x) ∷ []) (λ naming before after. UsesItem side (means naming g (kinds.Instance i)) before x after)
+UseGoes side g i b c x = BodyGoes side g g b c (at_ident (used_as x) ∷ [])
+    (λ naming before after. UsesItem side (means naming g (kinds.Instance i)) before x after)
 
 -- used types in order
 abbrev pub UsesGo : ExternKind → Parts → InterfaceId → Lists → Lists → List UseItem → Type 0
-UsesGo side g i b c xs = BodyGoes side g g b c (used_at xs) (λ naming before after. Steps (UsesItem side (means naming g (kinds.Instance i))) before xs after)
+UsesGo side g i b c xs = BodyGoes side g g b c (used_at xs)
+    (λ naming before after. Steps (UsesItem side (means naming g (kinds.Instance i))) before xs after)

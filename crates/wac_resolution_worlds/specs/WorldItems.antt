@@ -36,33 +36,42 @@ use Rattle.wac_resolution_worlds.specs.Made.{KindMade}
 
 -- an interface, as an instance under its id
 abbrev pub InstanceGoes : Parts → ExternKind → ItemKind → Lists → Lists → Type 0
-InstanceGoes g side k b c = BodyGoes sides.Import g g b c [] (λ naming before after. HasInstance side before (means naming g k) after)
+InstanceGoes g side k b c =
+    BodyGoes sides.Import g g b c [] (λ naming before after. HasInstance side before (means naming g k) after)
 
 -- the kind of an import or export that is given a name
 abbrev pub ExternMade : Setting → Parts → Parts → Named ItemKind → Named ItemKind → ExternType → ItemKind → Type 0
 ExternMade setting old new root names x k =
-    KindMade (packages_in setting) old new (λ naming m after. HasExternType (setting_of naming setting) (scope_of naming old root) (scope_of naming old names) (declared_count old) x m after) k
+    KindMade (packages_in setting) old new
+    (λ naming m after. HasExternType (setting_of naming setting) (scope_of naming old root)
+    (scope_of naming old names) (declared_count old) x m after) k
 
 -- what an import or export of what an identifier denotes resolves to, whatever the setting
 abbrev pub IdentGoes : ExternKind → Parts → Named ItemKind → Lists → Lists → Ident → Type 0
-IdentGoes side g root b c x = BodyGoes sides.Import g g b c [] (λ naming before after. (setting : rules.Setting) → HasExtern setting (scope_of naming g root) side before (WorldItemPath.ident x) after)
+IdentGoes side g root b c x = BodyGoes sides.Import g g b c []
+    (λ naming before after. (setting : rules.Setting)
+    → HasExtern setting (scope_of naming g root) side before (WorldItemPath.ident x) after)
 
 -- what an import or export resolves to
 abbrev pub ExternGoes : Setting → ExternKind → Parts → Parts → Named ItemKind → Lists → Lists → WorldItemPath → Type 0
 ExternGoes setting side old new root b c x =
-    BodyExpands (packages_in setting) sides.Import old new b c [] (λ naming before after. HasExtern (setting_of naming setting) (scope_of naming old root) side before x after)
+    BodyExpands (packages_in setting) sides.Import old new b c []
+    (λ naming before after. HasExtern (setting_of naming setting) (scope_of naming old root) side before x after)
 
 -- ---- items
 
 -- what an item of a world resolves to
 abbrev pub WorldItemGoes : Setting → Parts → Parts → Named ItemKind → Lists → Lists → WorldItem → Type 0
 WorldItemGoes setting old new root b c x =
-    BodyExpands (packages_in setting) sides.Import old new b c (bound_in_world_item x) (λ naming before after. HasWorldItem (setting_of naming setting) (scope_of naming old root) before x after)
+    BodyExpands (packages_in setting) sides.Import old new b c (bound_in_world_item x)
+    (λ naming before after. HasWorldItem (setting_of naming setting) (scope_of naming old root) before x after)
 
 -- items in order
 abbrev pub WorldItemsGo : Setting → Parts → Parts → Named ItemKind → Lists → Lists → List WorldItem → Type 0
 WorldItemsGo setting old new root b c xs =
-    BodyExpands (packages_in setting) sides.Import old new b c (bound_in_world xs) (λ naming before after. Steps (HasWorldItem (setting_of naming setting) (scope_of naming old root)) before xs after)
+    BodyExpands (packages_in setting) sides.Import old new b c (bound_in_world xs)
+    (λ naming before after. Steps (HasWorldItem (setting_of naming setting) (scope_of naming old root)) before xs
+    after)
 
 -- ---- includes
 
@@ -74,7 +83,8 @@ pub record AreNamed (es : List Entry) (b : Lists) : Type 0 where
   pub exports : ItemsNamed es b.exports
 
 -- the graph may have got packages, and the body is another one: this holds of what both bodies mean
-pub record BodyIncludes (packages : List (Key × PackageParts)) (old new : Parts) (b c : Lists) (holds : Naming → Body → Body → Type 0) : Type 0 where
+pub record BodyIncludes (packages : List (Key × PackageParts)) (old new : Parts) (b c : Lists)
+    (holds : Naming → Body → Body → Type 0) : Type 0 where
   pub grows : Expands old new
   pub handed : HoldsHanded packages new
   pub named : AreNamed new.types c
@@ -82,19 +92,25 @@ pub record BodyIncludes (packages : List (Key × PackageParts)) (old new : Parts
 
 -- what includes resolve to, in order
 abbrev pub IncludesGo : Setting → Parts → Parts → Named ItemKind → Lists → Lists → List WorldInclude → Type 0
-IncludesGo setting old new root b c xs = BodyIncludes (packages_in setting) old new b c (λ naming before after. Steps (HasInclude (setting_of naming setting) (scope_of naming old root)) before xs after)
+IncludesGo setting old new root b c xs = BodyIncludes (packages_in setting) old new b c
+    (λ naming before after. Steps (HasInclude (setting_of naming setting) (scope_of naming old root)) before xs after)
 
 -- what an include resolves to
 abbrev pub IncludeGoes : Setting → Parts → Parts → Named ItemKind → Lists → Lists → WorldInclude → Type 0
-IncludeGoes setting old new root b c x = BodyIncludes (packages_in setting) old new b c (λ naming before after. HasInclude (setting_of naming setting) (scope_of naming old root) before x after)
+IncludeGoes setting old new root b c x = BodyIncludes (packages_in setting) old new b c
+    (λ naming before after. HasInclude (setting_of naming setting) (scope_of naming old root) before x after)
 
 -- ---- worlds
 
 -- a world of this id, with the uses, imports and exports of a body, was added
 abbrev pub WorldOf : Parts → Parts → Option (List ℕ) → Lists → WorldId → Type 0
-WorldOf old new id b w = AddsWorld old new (λ naming. world_entry id (body_in naming old b).uses (body_in naming old b).imports (body_in naming old b).exports) w
+WorldOf old new id b w = AddsWorld old new
+    (λ naming. world_entry id (body_in naming old b).uses (body_in naming old b).imports (body_in naming old b).exports)
+    w
 
 -- a world of items
 abbrev pub WorldMade : Setting → Parts → Parts → Named ItemKind → Option (List ℕ) → List WorldItem → WorldId → Type 0
 WorldMade setting old new root id items w =
-    KindMade (packages_in setting) old new (λ naming m after. IsWorld (setting_of naming setting) (scope_of naming old root) (declared_count old) id items (entry_of m) after) (kinds.Component w)
+    KindMade (packages_in setting) old new
+    (λ naming m after. IsWorld (setting_of naming setting) (scope_of naming old root) (declared_count old) id items
+    (entry_of m) after) (kinds.Component w)

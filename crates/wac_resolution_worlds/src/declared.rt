@@ -1,12 +1,11 @@
 //! Interfaces and worlds that the document declares.
-ghost use Rattle.std.specs.Prelude.{◌≡◌, ◌++◌, Some, IfOk, IfErr, OnOk, map, option_map, string_bytes};
+ghost use Rattle.std.specs.Prelude.{◌≡◌, ◌++◌, Some, IfOk, OnOk, map, option_map, string_bytes};
 ghost use Rattle.wac_graph_types.specs.Table.{ItemsNamed};
 ghost use Rattle.wac_ast_worlds.specs.Worlds.{world_item_of, interface_decl_of, world_decl_of};
 ghost use Rattle.wac_graph.specs.Means.{declared_count};
 ghost use Rattle.wac_graph.specs.Origin.{Naming};
-ghost use Rattle.wac_resolution_errors.specs.Error.{Reports};
-ghost use Rattle.wac_resolution_errors.specs.Told.{told};
 ghost use Rattle.wac_resolution_rules.specs.BrokenWorlds.{InterfaceBroken, WorldBroken};
+ghost use Rattle.wac_resolution_rules.specs.Errors.{ErrorSays};
 ghost use Rattle.wac_resolution_rules.specs.TypeStatements.{version_part};
 ghost use Rattle.wac_resolution_state.specs.Bindings.{values_of};
 ghost use Rattle.wac_resolution_state.specs.Named.{scope_of};
@@ -25,7 +24,8 @@ use wac_resolution_state::{Names, State};
 
 /// Adds a version after `@`, if there is one.
 fn push_version(text: &mut String, version: Option<&str>) -> Result<(), AllocError>
-    ensures { OnOk result (string_bytes text.new ≡ string_bytes text.old ++ version_part (option_map (λ v. v.now) version.entry)) }
+    ensures { OnOk result (string_bytes text.new
+        ≡ string_bytes text.old ++ version_part (option_map (λ v. v.now) version.entry)) }
 {
     match version {
         Some(version) => {
@@ -57,8 +57,11 @@ pub fn interface_decl(
 ) -> Result<ItemKind, Error>
     requires root { ItemsNamed state.old.graph.types (values_of root.now) }
     requires handed { HoldsHanded (packages_in setting.now) state.old.graph }
-    ensures ok { IfOk result (λ k. InterfaceDeclared setting.now state.old.graph state.new.graph (values_of root.now) (interface_decl_of decl.now) k) }
-    ensures err { IfErr result (λ e. Reports (told e) ((naming : Naming) → InterfaceBroken (setting_of naming setting.now) (scope_of naming state.old.graph (values_of root.now)) (Some decl.now.id.string.now) (declared_count state.old.graph) (interface_decl_of decl.now).items (told e))) }
+    ensures ok { IfOk result (λ k. InterfaceDeclared setting.now state.old.graph state.new.graph (values_of root.now)
+        (interface_decl_of decl.now) k) }
+    ensures err { ErrorSays result (λ e. (naming : Naming)
+        → InterfaceBroken (setting_of naming setting.now) (scope_of naming state.old.graph (values_of root.now))
+        (Some decl.now.id.string.now) (declared_count state.old.graph) (interface_decl_of decl.now).items e) }
 {
     let id = declared_id(state.alloc, setting, decl.id.string)?;
     let name = Some(decl.id.string);
@@ -83,8 +86,11 @@ fn world_of(
 ) -> Result<ItemKind, Error>
     requires root { ItemsNamed state.old.graph.types (values_of root.now) }
     requires handed { HoldsHanded (packages_in setting.now) state.old.graph }
-    ensures ok { IfOk result (λ k. WorldDeclared setting.now state.old.graph state.new.graph (values_of root.now) name.now (map world_item_of items.now) k) }
-    ensures err { IfErr result (λ e. Reports (told e) ((naming : Naming) → WorldBroken (setting_of naming setting.now) (scope_of naming state.old.graph (values_of root.now)) name.now (declared_count state.old.graph) (map world_item_of items.now) (told e))) }
+    ensures ok { IfOk result (λ k. WorldDeclared setting.now state.old.graph state.new.graph (values_of root.now)
+        name.now (map world_item_of items.now) k) }
+    ensures err { ErrorSays result (λ e. (naming : Naming)
+        → WorldBroken (setting_of naming setting.now) (scope_of naming state.old.graph (values_of root.now)) name.now
+        (declared_count state.old.graph) (map world_item_of items.now) e) }
 {
     let id = declared_id(state.alloc, setting, name)?;
     let declared = world(state, setting, root, Some(id), name, items)?;
@@ -100,8 +106,11 @@ pub fn world_decl(
 ) -> Result<ItemKind, Error>
     requires root { ItemsNamed state.old.graph.types (values_of root.now) }
     requires handed { HoldsHanded (packages_in setting.now) state.old.graph }
-    ensures ok { IfOk result (λ k. WorldDeclared setting.now state.old.graph state.new.graph (values_of root.now) decl.now.id.string.now (world_decl_of decl.now).items k) }
-    ensures err { IfErr result (λ e. Reports (told e) ((naming : Naming) → WorldBroken (setting_of naming setting.now) (scope_of naming state.old.graph (values_of root.now)) decl.now.id.string.now (declared_count state.old.graph) (world_decl_of decl.now).items (told e))) }
+    ensures ok { IfOk result (λ k. WorldDeclared setting.now state.old.graph state.new.graph (values_of root.now)
+        decl.now.id.string.now (world_decl_of decl.now).items k) }
+    ensures err { ErrorSays result (λ e. (naming : Naming)
+        → WorldBroken (setting_of naming setting.now) (scope_of naming state.old.graph (values_of root.now))
+        decl.now.id.string.now (declared_count state.old.graph) (world_decl_of decl.now).items e) }
 {
     world_of(state, setting, root, decl.id.string, items_of(decl))
 }

@@ -1,5 +1,5 @@
 //! Imports and exports of worlds.
-ghost use Rattle.std.specs.Prelude.{IfOk, IfErr, OnOk};
+ghost use Rattle.std.specs.Prelude.{IfOk, OnOk};
 ghost use Rattle.wac_ast_grammar.specs.Tree.{WorldItemPath as PathTree};
 ghost use Rattle.wac_graph_types.specs.declared.kind.ExternKind.TheVariants as sides;
 ghost use Rattle.wac_graph_types.specs.Table.{ItemsNamed};
@@ -7,9 +7,8 @@ ghost use Rattle.wac_ast_base.specs.Names.{ident_of, package_path_of};
 ghost use Rattle.wac_ast_worlds.specs.Worlds.{extern_type_of, named_world_item_of, world_item_path_of};
 ghost use Rattle.wac_graph.specs.Means.{declared_count};
 ghost use Rattle.wac_graph.specs.Origin.{Naming};
-ghost use Rattle.wac_resolution_errors.specs.Error.{Reports};
-ghost use Rattle.wac_resolution_errors.specs.Told.{told};
 ghost use Rattle.wac_resolution_rules.specs.BrokenWorlds.{ExternTypeBroken, ExternBroken};
+ghost use Rattle.wac_resolution_rules.specs.Errors.{ErrorSays};
 ghost use Rattle.wac_resolution_rules.specs.Paths as rules;
 ghost use Rattle.wac_resolution_state.specs.Bindings.{values_of};
 ghost use Rattle.wac_resolution_state.specs.Named.{scope_of};
@@ -43,8 +42,12 @@ fn extern_type(
     requires names { ItemsNamed state.old.graph.types (values_of names.now) }
     requires root { ItemsNamed state.old.graph.types (values_of root.now) }
     requires handed { HoldsHanded (packages_in setting.now) state.old.graph }
-    ensures ok { IfOk result (λ k. ExternMade setting.now state.old.graph state.new.graph (values_of root.now) (values_of names.now) (extern_type_of ty.now) k) }
-    ensures err { IfErr result (λ e. Reports (told e) ((naming : Naming) → ExternTypeBroken (setting_of naming setting.now) (scope_of naming state.old.graph (values_of root.now)) (scope_of naming state.old.graph (values_of names.now)) (declared_count state.old.graph) (extern_type_of ty.now) (told e))) }
+    ensures ok { IfOk result (λ k. ExternMade setting.now state.old.graph state.new.graph (values_of root.now)
+        (values_of names.now) (extern_type_of ty.now) k) }
+    ensures err { ErrorSays result (λ e. (naming : Naming)
+        → ExternTypeBroken (setting_of naming setting.now) (scope_of naming state.old.graph (values_of root.now))
+        (scope_of naming state.old.graph (values_of names.now)) (declared_count state.old.graph)
+        (extern_type_of ty.now) e) }
 {
     match ty {
         ExternType::Ident(id) => Ok(named_extern(state.alloc, names, root, id)?),
@@ -73,8 +76,12 @@ fn named_item(
     requires body { IsBody state.old.graph.types sides.Import (lists_of body.old) }
     requires root { ItemsNamed state.old.graph.types (values_of root.now) }
     requires handed { HoldsHanded (packages_in setting.now) state.old.graph }
-    ensures ok { OnOk result (ExternGoes setting.now side state.old.graph state.new.graph (values_of root.now) (lists_of body.old) (lists_of body.new) (PathTree.named (named_world_item_of item.now))) }
-    ensures err { IfErr result (λ e. Reports (told e) ((naming : Naming) → ExternBroken (setting_of naming setting.now) (scope_of naming state.old.graph (values_of root.now)) (owner_of owner.now) side (body_of naming state.old.graph body.old) (PathTree.named (named_world_item_of item.now)) (told e))) }
+    ensures ok { OnOk result (ExternGoes setting.now side state.old.graph state.new.graph (values_of root.now)
+        (lists_of body.old) (lists_of body.new) (PathTree.named (named_world_item_of item.now))) }
+    ensures err { ErrorSays result (λ e. (naming : Naming)
+        → ExternBroken (setting_of naming setting.now) (scope_of naming state.old.graph (values_of root.now))
+        (owner_of owner.now) side (body_of naming state.old.graph body.old)
+        (PathTree.named (named_world_item_of item.now)) e) }
 {
     let id = &item.id;
     check_extern(state.alloc, body, owner, side, id.string, id.span)?;
@@ -96,8 +103,12 @@ fn path_item(
     requires body { IsBody state.old.graph.types sides.Import (lists_of body.old) }
     requires root { ItemsNamed state.old.graph.types (values_of root.now) }
     requires handed { HoldsHanded (packages_in setting.now) state.old.graph }
-    ensures ok { OnOk result (ExternGoes setting.now side state.old.graph state.new.graph (values_of root.now) (lists_of body.old) (lists_of body.new) (PathTree.path (package_path_of from.now))) }
-    ensures err { IfErr result (λ e. Reports (told e) ((naming : Naming) → ExternBroken (setting_of naming setting.now) (scope_of naming state.old.graph (values_of root.now)) (owner_of owner.now) side (body_of naming state.old.graph body.old) (PathTree.path (package_path_of from.now)) (told e))) }
+    ensures ok { OnOk result (ExternGoes setting.now side state.old.graph state.new.graph (values_of root.now)
+        (lists_of body.old) (lists_of body.new) (PathTree.path (package_path_of from.now))) }
+    ensures err { ErrorSays result (λ e. (naming : Naming)
+        → ExternBroken (setting_of naming setting.now) (scope_of naming state.old.graph (values_of root.now))
+        (owner_of owner.now) side (body_of naming state.old.graph body.old)
+        (PathTree.path (package_path_of from.now)) e) }
 {
     let kind = path(state, setting, root, from)?;
     instance(state, body, owner, side, kind, from.string, from.span)?;
@@ -115,8 +126,11 @@ fn ident_item(
 ) -> Result<(), Error>
     requires body { IsBody state.now.graph.types sides.Import (lists_of body.old) }
     requires root { ItemsNamed state.now.graph.types (values_of root.now) }
-    ensures ok { OnOk result (IdentGoes side state.now.graph (values_of root.now) (lists_of body.old) (lists_of body.new) (ident_of id.now)) }
-    ensures err { IfErr result (λ e. Reports (told e) ((naming : Naming) (setting : rules.Setting) → ExternBroken setting (scope_of naming state.now.graph (values_of root.now)) (owner_of owner.now) side (body_of naming state.now.graph body.old) (PathTree.ident (ident_of id.now)) (told e))) }
+    ensures ok { OnOk result (IdentGoes side state.now.graph (values_of root.now) (lists_of body.old)
+        (lists_of body.new) (ident_of id.now)) }
+    ensures err { ErrorSays result (λ e. (naming : Naming) (setting : rules.Setting)
+        → ExternBroken setting (scope_of naming state.now.graph (values_of root.now)) (owner_of owner.now) side
+        (body_of naming state.now.graph body.old) (PathTree.ident (ident_of id.now)) e) }
 {
     let kind = kind_of(state.alloc, root, id)?;
     instance(state, body, owner, side, kind, id.string, id.span)?;
@@ -136,8 +150,11 @@ pub fn extern_item(
     requires body { IsBody state.old.graph.types sides.Import (lists_of body.old) }
     requires root { ItemsNamed state.old.graph.types (values_of root.now) }
     requires handed { HoldsHanded (packages_in setting.now) state.old.graph }
-    ensures ok { OnOk result (ExternGoes setting.now side state.old.graph state.new.graph (values_of root.now) (lists_of body.old) (lists_of body.new) (world_item_path_of item.now)) }
-    ensures err { IfErr result (λ e. Reports (told e) ((naming : Naming) → ExternBroken (setting_of naming setting.now) (scope_of naming state.old.graph (values_of root.now)) (owner_of owner.now) side (body_of naming state.old.graph body.old) (world_item_path_of item.now) (told e))) }
+    ensures ok { OnOk result (ExternGoes setting.now side state.old.graph state.new.graph (values_of root.now)
+        (lists_of body.old) (lists_of body.new) (world_item_path_of item.now)) }
+    ensures err { ErrorSays result (λ e. (naming : Naming)
+        → ExternBroken (setting_of naming setting.now) (scope_of naming state.old.graph (values_of root.now))
+        (owner_of owner.now) side (body_of naming state.old.graph body.old) (world_item_path_of item.now) e) }
 {
     match item {
         WorldItemPath::Named(item) => named_item(state, setting, root, body, owner, side, item),

@@ -1,14 +1,13 @@
 //! Kinds of imports and exports that are given names.
-ghost use Rattle.std.specs.Prelude.{◌≡◌, ◌++◌, ℕ, IfOk, IfErr};
+ghost use Rattle.std.specs.Prelude.{◌≡◌, ◌++◌, ℕ, IfOk};
 ghost use Rattle.wac_ast_grammar.specs.Tree.{ExternType as ExternTree};
 ghost use Rattle.wac_graph_types.specs.Scope.{look_up};
 ghost use Rattle.wac_ast_base.specs.Names.{ident_of};
 ghost use Rattle.wac_graph.specs.Graph.{Parts};
 ghost use Rattle.wac_graph.specs.Origin.{Naming};
-ghost use Rattle.wac_resolution_errors.specs.Error.{Reports};
-ghost use Rattle.wac_resolution_errors.specs.Told.{told};
 ghost use Rattle.wac_resolution_rules.specs.Paths.{Setting};
 ghost use Rattle.wac_resolution_rules.specs.BrokenWorlds.{ExternTypeBroken};
+ghost use Rattle.wac_resolution_rules.specs.Errors.{ErrorSays};
 ghost use Rattle.wac_resolution_state.specs.Bindings.{values_of};
 ghost use Rattle.wac_resolution_state.specs.Named.{scope_of};
 ghost use Rattle.wac_resolution_worlds.specs.Referred.{IsExternKind, IsNoExternKind, ExternNamed};
@@ -38,7 +37,7 @@ fn find_in_either(
 #[tactic(auto, using(crate::proofs::Refer::items_told))]
 fn item_of(alloc: Global, kind: ItemKind, id: &Ident<'_>) -> Result<ItemKind, Error>
     ensures ok { IfOk result (λ item. IsExternKind kind item) }
-    ensures err { IfErr result (λ e. Reports (told e) (IsNoExternKind kind (ident_of id.now) (told e))) }
+    ensures err { ErrorSays result (λ e. IsNoExternKind kind (ident_of id.now) e) }
 {
     match kind {
         ItemKind::Ty(Type::Func(func)) => Ok(ItemKind::Func(func)),
@@ -60,7 +59,9 @@ pub fn named_extern(
     id: &Ident<'_>,
 ) -> Result<ItemKind, Error>
     ensures ok { IfOk result (λ k. ExternNamed (values_of names.now) (values_of root.now) (ident_of id.now) k) }
-    ensures err { IfErr result (λ e. Reports (told e) ((naming : Naming) (g : Parts) (setting : Setting) (n : ℕ) → ExternTypeBroken setting (scope_of naming g (values_of root.now)) (scope_of naming g (values_of names.now)) n (ExternTree.ident (ident_of id.now)) (told e))) }
+    ensures err { ErrorSays result (λ e. (naming : Naming) (g : Parts) (setting : Setting) (n : ℕ)
+        → ExternTypeBroken setting (scope_of naming g (values_of root.now)) (scope_of naming g (values_of names.now)) n
+        (ExternTree.ident (ident_of id.now)) e) }
 {
     match find_in_either(names, root, id.string) {
         Some(kind) => Ok(item_of(alloc, kind, id)?),

@@ -1,5 +1,5 @@
 //! References to function types.
-ghost use Rattle.std.specs.Prelude.{[], IfOk, IfErr};
+ghost use Rattle.std.specs.Prelude.{[], IfOk};
 ghost use Rattle.wac_ast_grammar.specs.Tree.{FuncTypeRef as RefTree};
 ghost use Rattle.wac_graph_types.specs.declared.kind.FuncKind.TheVariants as funcs;
 ghost use Rattle.wac_graph_types.specs.Table.{ItemsNamed};
@@ -7,10 +7,9 @@ ghost use Rattle.wac_ast_base.specs.Names.{ident_of};
 ghost use Rattle.wac_ast_types.specs.Declarations.{func_type_of, func_type_ref_of};
 ghost use Rattle.wac_graph.specs.Graph.{Parts};
 ghost use Rattle.wac_graph.specs.Origin.{Naming};
-ghost use Rattle.wac_resolution_errors.specs.Error.{Reports};
-ghost use Rattle.wac_resolution_errors.specs.Told.{told};
 ghost use Rattle.wac_resolution_rules.specs.BrokenTypes.{FuncBroken};
 ghost use Rattle.wac_resolution_rules.specs.BrokenWorlds.{FuncRefBroken};
+ghost use Rattle.wac_resolution_rules.specs.Errors.{ErrorSays};
 ghost use Rattle.wac_resolution_state.specs.Bindings.{values_of};
 ghost use Rattle.wac_resolution_state.specs.Named.{scope_of};
 ghost use Rattle.wac_resolution_worlds.specs.Referred.{FuncNamed, NewFunc, FuncRefIs};
@@ -31,7 +30,8 @@ fn named_func(
     id: &Ident<'_>,
 ) -> Result<FuncTypeId, Error>
     ensures ok { IfOk result (λ f. FuncNamed (values_of names.now) (ident_of id.now) f) }
-    ensures err { IfErr result (λ e. Reports (told e) ((naming : Naming) (g : Parts) → FuncRefBroken (scope_of naming g (values_of names.now)) (RefTree.ident (ident_of id.now)) (told e))) }
+    ensures err { ErrorSays result (λ e. (naming : Naming) (g : Parts)
+        → FuncRefBroken (scope_of naming g (values_of names.now)) (RefTree.ident (ident_of id.now)) e) }
 {
     match kind_of(alloc, names, id)? {
         ItemKind::Ty(Type::Func(func)) => Ok(func),
@@ -51,8 +51,10 @@ pub fn new_func(
     func: &FuncType<'_>,
 ) -> Result<FuncTypeId, Error>
     requires { ItemsNamed state.old.graph.types (values_of names.now) }
-    ensures ok { IfOk result (λ f. NewFunc state.old.graph state.new.graph (values_of names.now) (func_type_of func.now) f) }
-    ensures err { IfErr result (λ e. Reports (told e) ((naming : Naming) → FuncBroken funcs.Free (scope_of naming state.old.graph (values_of names.now)) [] (func_type_of func.now) (told e))) }
+    ensures ok { IfOk result (λ f. NewFunc state.old.graph state.new.graph (values_of names.now)
+        (func_type_of func.now) f) }
+    ensures err { ErrorSays result (λ e. (naming : Naming)
+        → FuncBroken funcs.Free (scope_of naming state.old.graph (values_of names.now)) [] (func_type_of func.now) e) }
 {
     let first = IndexMap::new(state.alloc);
     Ok(wac_resolution_types::function(state, names, FuncKind::Free, first, func)?)
@@ -65,8 +67,10 @@ pub fn func_ref(
     reference: &FuncTypeRef<'_>,
 ) -> Result<FuncTypeId, Error>
     requires { ItemsNamed state.old.graph.types (values_of names.now) }
-    ensures ok { IfOk result (λ f. FuncRefIs state.old.graph state.new.graph (values_of names.now) (func_type_ref_of reference.now) f) }
-    ensures err { IfErr result (λ e. Reports (told e) ((naming : Naming) → FuncRefBroken (scope_of naming state.old.graph (values_of names.now)) (func_type_ref_of reference.now) (told e))) }
+    ensures ok { IfOk result (λ f. FuncRefIs state.old.graph state.new.graph (values_of names.now)
+        (func_type_ref_of reference.now) f) }
+    ensures err { ErrorSays result (λ e. (naming : Naming)
+        → FuncRefBroken (scope_of naming state.old.graph (values_of names.now)) (func_type_ref_of reference.now) e) }
 {
     match reference {
         FuncTypeRef::Func(func) => Ok(new_func(state, names, func)?),

@@ -1,14 +1,13 @@
 //! Includes of a world.
-ghost use Rattle.std.specs.Prelude.{◌≡◌, ◌∷◌, [], List, Some, IfErr, OnOk, map, option_map};
+ghost use Rattle.std.specs.Prelude.{◌≡◌, ◌∷◌, [], List, Some, OnOk, map, option_map};
 ghost use Rattle.wac_ast_grammar.specs.Tree.{WorldInclude as IncludeTree};
 ghost use Rattle.wac_graph_types.specs.Steps.{Fails};
 ghost use Rattle.wac_graph_types.specs.Table.{ItemsNamed};
 ghost use Rattle.wac_ast_worlds.specs.Worlds.{world_item_of};
 ghost use Rattle.wac_ast_uses.specs.Uses.{world_include_of};
 ghost use Rattle.wac_graph.specs.Origin.{Naming};
-ghost use Rattle.wac_resolution_errors.specs.Error.{Reports};
-ghost use Rattle.wac_resolution_errors.specs.Told.{told};
 ghost use Rattle.wac_resolution_rules.specs.BrokenWorlds.{IncludeBroken};
+ghost use Rattle.wac_resolution_rules.specs.Errors.{ErrorSays};
 ghost use Rattle.wac_resolution_rules.specs.Includes.{HasInclude};
 ghost use Rattle.wac_resolution_rules.specs.Worlds.{includes_of, include_in as include_of};
 ghost use Rattle.wac_resolution_state.specs.Bindings.{values_of};
@@ -40,8 +39,11 @@ fn include(
     requires body { AreNamed state.old.graph.types (lists_of body.old) }
     requires root { ItemsNamed state.old.graph.types (values_of root.now) }
     requires handed { HoldsHanded (packages_in setting.now) state.old.graph }
-    ensures ok { OnOk result (IncludeGoes setting.now state.old.graph state.new.graph (values_of root.now) (lists_of body.old) (lists_of body.new) (world_include_of include.now)) }
-    ensures err { IfErr result (λ e. Reports (told e) ((naming : Naming) (before : List IncludeTree) → IncludeBroken (setting_of naming setting.now) (scope_of naming state.old.graph (values_of root.now)) world.now (told e) (body_of naming state.old.graph body.old) before (world_include_of include.now))) }
+    ensures ok { OnOk result (IncludeGoes setting.now state.old.graph state.new.graph (values_of root.now)
+        (lists_of body.old) (lists_of body.new) (world_include_of include.now)) }
+    ensures err { ErrorSays result (λ e. (naming : Naming) (before : List IncludeTree)
+        → IncludeBroken (setting_of naming setting.now) (scope_of naming state.old.graph (values_of root.now)) world.now
+        e (body_of naming state.old.graph body.old) before (world_include_of include.now)) }
 {
     let renamed = entries(state.alloc, &include.with)?;
     let kind = world_ref(state, setting, root, &include.world)?;
@@ -82,8 +84,12 @@ fn include_item(
     requires body { AreNamed state.old.graph.types (lists_of body.old) }
     requires root { ItemsNamed state.old.graph.types (values_of root.now) }
     requires handed { HoldsHanded (packages_in setting.now) state.old.graph }
-    ensures ok { OnOk result (IncludesGo setting.now state.old.graph state.new.graph (values_of root.now) (lists_of body.old) (lists_of body.new) (includes_of (world_item_of item.now ∷ []))) }
-    ensures err { IfErr result (λ e. Reports (told e) ((naming : Naming) (before : List IncludeTree) → (x : IncludeTree) × (include_of (world_item_of item.now) ≡ Some x) × IncludeBroken (setting_of naming setting.now) (scope_of naming state.old.graph (values_of root.now)) world.now (told e) (body_of naming state.old.graph body.old) before x)) }
+    ensures ok { OnOk result (IncludesGo setting.now state.old.graph state.new.graph (values_of root.now)
+        (lists_of body.old) (lists_of body.new) (includes_of (world_item_of item.now ∷ []))) }
+    ensures err { ErrorSays result (λ e. (naming : Naming) (before : List IncludeTree)
+        → (x : IncludeTree) × (include_of (world_item_of item.now) ≡ Some x)
+        × IncludeBroken (setting_of naming setting.now) (scope_of naming state.old.graph (values_of root.now)) world.now
+        e (body_of naming state.old.graph body.old) before x) }
 {
     match include_in(item) {
         Some(clause) => {
@@ -106,8 +112,12 @@ pub fn includes(
     requires body { AreNamed state.old.graph.types (lists_of body.old) }
     requires root { ItemsNamed state.old.graph.types (values_of root.now) }
     requires handed { HoldsHanded (packages_in setting.now) state.old.graph }
-    ensures ok { OnOk result (IncludesGo setting.now state.old.graph state.new.graph (values_of root.now) (lists_of body.old) (lists_of body.new) (includes_of (map world_item_of items.now))) }
-    ensures err { IfErr result (λ e. Reports (told e) ((naming : Naming) → Fails (HasInclude (setting_of naming setting.now) (scope_of naming state.old.graph (values_of root.now))) (IncludeBroken (setting_of naming setting.now) (scope_of naming state.old.graph (values_of root.now)) world.now (told e)) (body_of naming state.old.graph body.old) (includes_of (map world_item_of items.now)))) }
+    ensures ok { OnOk result (IncludesGo setting.now state.old.graph state.new.graph (values_of root.now)
+        (lists_of body.old) (lists_of body.new) (includes_of (map world_item_of items.now))) }
+    ensures err { ErrorSays result (λ e. (naming : Naming)
+        → Fails (HasInclude (setting_of naming setting.now) (scope_of naming state.old.graph (values_of root.now)))
+        (IncludeBroken (setting_of naming setting.now) (scope_of naming state.old.graph (values_of root.now))
+        world.now e) (body_of naming state.old.graph body.old) (includes_of (map world_item_of items.now))) }
 {
     for item in items {
         include_item(state, setting, root, body, world, item)?;

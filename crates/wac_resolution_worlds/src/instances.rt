@@ -1,14 +1,13 @@
 //! Interfaces that are imported or exported under their ids.
-ghost use Rattle.std.specs.Prelude.{◌≡◌, [], IfErr, OnOk, option_map, unwrap_or, string_bytes};
+ghost use Rattle.std.specs.Prelude.{◌≡◌, [], OnOk, option_map, unwrap_or, string_bytes};
 ghost use Rattle.wac_graph_types.specs.declared.kind.ExternKind.TheVariants as sides;
 ghost use Rattle.wac_graph_types.specs.declared.kind.ItemKind.TheVariants as kinds;
 ghost use Rattle.wac_graph_types.specs.Shape.{id_of};
 ghost use Rattle.wac_graph_types.specs.Table.{Names};
 ghost use Rattle.wac_graph.specs.Means.{means, entry_means};
 ghost use Rattle.wac_graph.specs.Origin.{Naming};
-ghost use Rattle.wac_resolution_errors.specs.Error.{Reports};
-ghost use Rattle.wac_resolution_errors.specs.Told.{told};
 ghost use Rattle.wac_resolution_rules.specs.BrokenWorlds.{InstanceBroken};
+ghost use Rattle.wac_resolution_rules.specs.Errors.{ErrorSays};
 ghost use Rattle.wac_resolution_bodies.specs.Lists.{lists_of};
 ghost use Rattle.wac_resolution_bodies.specs.Bodies.{body_of, IsBody};
 ghost use Rattle.wac_resolution_bodies.specs.Owners.{owner_of};
@@ -55,7 +54,9 @@ pub fn instance(
     requires body { IsBody state.now.graph.types sides.Import (lists_of body.old) }
     requires kind { Names state.now.graph.types kind }
     ensures ok { OnOk result (InstanceGoes state.now.graph side kind (lists_of body.old) (lists_of body.new)) }
-    ensures err { IfErr result (λ e. Reports (told e) ((naming : Naming) → InstanceBroken (owner_of owner.now) side (body_of naming state.now.graph body.old) (means naming state.now.graph kind) name.now span (told e))) }
+    ensures err { ErrorSays result (λ e. (naming : Naming)
+        → InstanceBroken (owner_of owner.now) side (body_of naming state.now.graph body.old)
+        (means naming state.now.graph kind) name.now span e) }
 {
     let interface = interface_of(state.alloc, kind, name, span)?;
     let id = instance_id(&state.graph, interface);

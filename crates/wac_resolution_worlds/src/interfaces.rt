@@ -1,5 +1,5 @@
 //! Interfaces.
-ghost use Rattle.std.specs.Prelude.{◌≡◌, List, IfOk, IfErr, OnOk, map, option_map, string_bytes};
+ghost use Rattle.std.specs.Prelude.{◌≡◌, List, IfOk, OnOk, map, option_map, string_bytes};
 ghost use Rattle.wac_ast_grammar.specs.Tree.{InterfaceItem as ItemTree};
 ghost use Rattle.wac_graph_types.specs.declared.kind.ExternKind.TheVariants as sides;
 ghost use Rattle.wac_graph_types.specs.Scope.{Scope};
@@ -8,9 +8,8 @@ ghost use Rattle.wac_graph_types.specs.Table.{ItemsNamed};
 ghost use Rattle.wac_ast_worlds.specs.Worlds.{interface_export_of, interface_item_of};
 ghost use Rattle.wac_graph.specs.Means.{declared_count};
 ghost use Rattle.wac_graph.specs.Origin.{Naming};
-ghost use Rattle.wac_resolution_errors.specs.Error.{Reports};
-ghost use Rattle.wac_resolution_errors.specs.Told.{told};
 ghost use Rattle.wac_resolution_rules.specs.BrokenWorlds.{InterfaceItemBroken, InterfaceBroken};
+ghost use Rattle.wac_resolution_rules.specs.Errors.{ErrorSays};
 ghost use Rattle.wac_resolution_rules.specs.Paths as rules;
 ghost use Rattle.wac_resolution_rules.specs.Places.{bound_in_interface};
 ghost use Rattle.wac_resolution_rules.specs.Worlds.{HasInterfaceItem};
@@ -41,8 +40,12 @@ fn interface_export(
     export: &InterfaceExport<'_>,
 ) -> Result<(), Error>
     requires { IsBody state.old.graph.types sides.Export (lists_of body.old) }
-    ensures ok { OnOk result (ExportGoes state.old.graph state.new.graph (lists_of body.old) (lists_of body.new) (interface_export_of export.now)) }
-    ensures err { IfErr result (λ e. Reports (told e) ((naming : Naming) (setting : rules.Setting) (root : Scope) (before : List ItemTree) → InterfaceItemBroken setting root (owner_of owner.now) (told e) (body_of naming state.old.graph body.old) before (ItemTree.interface_export (interface_export_of export.now)))) }
+    ensures ok { OnOk result (ExportGoes state.old.graph state.new.graph (lists_of body.old) (lists_of body.new)
+        (interface_export_of export.now)) }
+    ensures err { ErrorSays result (λ e. (naming : Naming) (setting : rules.Setting) (root : Scope)
+        (before : List ItemTree)
+        → InterfaceItemBroken setting root (owner_of owner.now) e (body_of naming state.old.graph body.old) before
+        (ItemTree.interface_export (interface_export_of export.now))) }
 {
     let func = func_ref(state, &body.names, &export.ty)?;
     let id = &export.id;
@@ -75,8 +78,12 @@ fn interface_item<'a>(
     requires body { IsBody state.old.graph.types sides.Export (lists_of body.old) }
     requires root { ItemsNamed state.old.graph.types (values_of root.now) }
     requires handed { HoldsHanded (packages_in setting.now) state.old.graph }
-    ensures ok { OnOk result (InterfaceItemGoes setting.now state.old.graph state.new.graph (values_of root.now) (lists_of body.old) (lists_of body.new) (interface_item_of item.now)) }
-    ensures err { IfErr result (λ e. Reports (told e) ((naming : Naming) (before : List ItemTree) → places_of body.old.names ≡ bound_in_interface before → InterfaceItemBroken (setting_of naming setting.now) (scope_of naming state.old.graph (values_of root.now)) (owner_of owner.now) (told e) (body_of naming state.old.graph body.old) before (interface_item_of item.now))) }
+    ensures ok { OnOk result (InterfaceItemGoes setting.now state.old.graph state.new.graph (values_of root.now)
+        (lists_of body.old) (lists_of body.new) (interface_item_of item.now)) }
+    ensures err { ErrorSays result (λ e. (naming : Naming) (before : List ItemTree)
+        → places_of body.old.names ≡ bound_in_interface before
+        → InterfaceItemBroken (setting_of naming setting.now) (scope_of naming state.old.graph (values_of root.now))
+        (owner_of owner.now) e (body_of naming state.old.graph body.old) before (interface_item_of item.now)) }
 {
     match item {
         InterfaceItem::Use(used) => {
@@ -101,8 +108,13 @@ fn interface_items<'a>(
     requires empty { lists_of body.old ≡ no_lists }
     requires root { ItemsNamed state.old.graph.types (values_of root.now) }
     requires handed { HoldsHanded (packages_in setting.now) state.old.graph }
-    ensures ok { OnOk result (InterfaceItemsGo setting.now state.old.graph state.new.graph (values_of root.now) (lists_of body.old) (lists_of body.new) (map interface_item_of items.now)) }
-    ensures err { IfErr result (λ e. Reports (told e) ((naming : Naming) → Fails (HasInterfaceItem (setting_of naming setting.now) (scope_of naming state.old.graph (values_of root.now))) (InterfaceItemBroken (setting_of naming setting.now) (scope_of naming state.old.graph (values_of root.now)) (owner_of owner.now) (told e)) (body_of naming state.old.graph body.old) (map interface_item_of items.now))) }
+    ensures ok { OnOk result (InterfaceItemsGo setting.now state.old.graph state.new.graph (values_of root.now)
+        (lists_of body.old) (lists_of body.new) (map interface_item_of items.now)) }
+    ensures err { ErrorSays result (λ e. (naming : Naming)
+        → Fails (HasInterfaceItem (setting_of naming setting.now)
+        (scope_of naming state.old.graph (values_of root.now)))
+        (InterfaceItemBroken (setting_of naming setting.now) (scope_of naming state.old.graph (values_of root.now))
+        (owner_of owner.now) e) (body_of naming state.old.graph body.old) (map interface_item_of items.now)) }
 {
     for item in items {
         interface_item(state, setting, root, body, owner, item)?;
@@ -117,7 +129,8 @@ fn finish_interface(
     body: Body<'_>,
 ) -> Result<InterfaceId, AllocError>
     requires { IsBody state.old.graph.types sides.Export (lists_of body) }
-    ensures { IfOk result (λ i. InterfaceOf state.old.graph state.new.graph (option_map string_bytes id) (lists_of body.entry) i) }
+    ensures { IfOk result (λ i. InterfaceOf state.old.graph state.new.graph (option_map string_bytes id)
+        (lists_of body.entry) i) }
 {
     let Body { uses, exports, .. } = body;
     state.add_interface(Interface { id, uses, exports })
@@ -134,8 +147,11 @@ pub fn interface(
 ) -> Result<InterfaceId, Error>
     requires root { ItemsNamed state.old.graph.types (values_of root.now) }
     requires handed { HoldsHanded (packages_in setting.now) state.old.graph }
-    ensures ok { IfOk result (λ i. InterfaceMade setting.now state.old.graph state.new.graph (values_of root.now) (option_map string_bytes id) (map interface_item_of items.now) i) }
-    ensures err { IfErr result (λ e. Reports (told e) ((naming : Naming) → InterfaceBroken (setting_of naming setting.now) (scope_of naming state.old.graph (values_of root.now)) (option_map (λ n. n.now) name.entry) (declared_count state.old.graph) (map interface_item_of items.now) (told e))) }
+    ensures ok { IfOk result (λ i. InterfaceMade setting.now state.old.graph state.new.graph (values_of root.now)
+        (option_map string_bytes id) (map interface_item_of items.now) i) }
+    ensures err { ErrorSays result (λ e. (naming : Naming)
+        → InterfaceBroken (setting_of naming setting.now) (scope_of naming state.old.graph (values_of root.now))
+        (option_map (λ n. n.now) name.entry) (declared_count state.old.graph) (map interface_item_of items.now) e) }
 {
     let mut body = Body::new(state.alloc);
     let owner = Owner::Interface(name);

@@ -1,11 +1,10 @@
 //! The types of an interface that is named.
-ghost use Rattle.std.specs.Prelude.{IfOk, IfErr, OnOk};
+ghost use Rattle.std.specs.Prelude.{IfOk, OnOk};
 ghost use Rattle.wac_graph_types.specs.Table.{ItemsNamed};
 ghost use Rattle.wac_ast_uses.specs.Uses.{use_of, use_path_of};
 ghost use Rattle.wac_graph.specs.Origin.{Naming};
-ghost use Rattle.wac_resolution_errors.specs.Error.{Reports};
-ghost use Rattle.wac_resolution_errors.specs.Told.{told};
 ghost use Rattle.wac_resolution_rules.specs.BrokenBodies.{UseBroken};
+ghost use Rattle.wac_resolution_rules.specs.Errors.{ErrorSays};
 ghost use Rattle.wac_resolution_state.specs.Bindings.{values_of};
 ghost use Rattle.wac_resolution_state.specs.Named.{scope_of};
 ghost use Rattle.wac_resolution_paths.specs.Expands.{HoldsHanded};
@@ -32,8 +31,11 @@ fn used_interface(
 ) -> Result<InterfaceId, Error>
     requires root { ItemsNamed state.old.graph.types (values_of root.now) }
     requires handed { HoldsHanded (packages_in setting.now) state.old.graph }
-    ensures ok { IfOk result (λ i. IsInterface setting.now state.old.graph state.new.graph (values_of root.now) (use_path_of path.now) i) }
-    ensures err { IfErr result (λ e. Reports (told e) ((naming : Naming) → IsNoneNamed (setting_of naming setting.now) (scope_of naming state.old.graph (values_of root.now)) (use_path_of path.now) (told e))) }
+    ensures ok { IfOk result (λ i. IsInterface setting.now state.old.graph state.new.graph (values_of root.now)
+        (use_path_of path.now) i) }
+    ensures err { ErrorSays result (λ e. (naming : Naming)
+        → IsNoneNamed (setting_of naming setting.now) (scope_of naming state.old.graph (values_of root.now))
+        (use_path_of path.now) e) }
 {
     let kind = use_path(state, setting, root, path)?;
     let name = path_name(path);
@@ -53,8 +55,11 @@ pub(crate) fn use_statement<'a>(
     requires body { IsBody state.old.graph.types side (lists_of body.old) }
     requires root { ItemsNamed state.old.graph.types (values_of root.now) }
     requires handed { HoldsHanded (packages_in setting.now) state.old.graph }
-    ensures ok { OnOk result (StatementGoes setting.now side state.old.graph state.new.graph (values_of root.now) (lists_of body.old) (lists_of body.new) (use_of statement.now)) }
-    ensures err { IfErr result (λ e. Reports (told e) ((naming : Naming) → UseBroken (setting_of naming setting.now) (scope_of naming state.old.graph (values_of root.now)) side (body_of naming state.old.graph body.old) (use_of statement.now) (told e))) }
+    ensures ok { OnOk result (StatementGoes setting.now side state.old.graph state.new.graph (values_of root.now)
+        (lists_of body.old) (lists_of body.new) (use_of statement.now)) }
+    ensures err { ErrorSays result (λ e. (naming : Naming)
+        → UseBroken (setting_of naming setting.now) (scope_of naming state.old.graph (values_of root.now)) side
+        (body_of naming state.old.graph body.old) (use_of statement.now) e) }
 {
     let interface = used_interface(state, setting, root, &statement.path)?;
     let path = path_name(&statement.path);

@@ -1,5 +1,5 @@
 //! A used type, by its parts.
-ghost use Rattle.std.specs.Prelude.{◌≡◌, ◌⊎◌, IfOk, IfErr, OnOk, option_map, string_bytes};
+ghost use Rattle.std.specs.Prelude.{◌≡◌, ◌⊎◌, IfOk, OnOk, option_map, string_bytes};
 ghost use Rattle.wac_graph_types.specs.declared.kind.ItemKind.TheVariants as kinds;
 ghost use Rattle.wac_graph_types.specs.Scope.{IsFresh};
 ghost use Rattle.wac_graph_types.specs.Table.{Names as NamesEntry};
@@ -8,10 +8,9 @@ ghost use Rattle.wac_ast_uses.specs.Uses.{use_item_of};
 ghost use Rattle.wac_graph.specs.Graph.{Parts};
 ghost use Rattle.wac_graph.specs.Means.{means};
 ghost use Rattle.wac_graph.specs.Origin.{Naming};
-ghost use Rattle.wac_resolution_errors.specs.Error.{Reports};
-ghost use Rattle.wac_resolution_errors.specs.Told.{told};
 ghost use Rattle.wac_resolution_rules.specs.Bodies.{used_as as used_by, renamed_from};
 ghost use Rattle.wac_resolution_rules.specs.BrokenBodies.{help_of_use as help_for, IsNoTypeThere, IsNoUsableType, IsUseConflict};
+ghost use Rattle.wac_resolution_rules.specs.Errors.{ErrorSays};
 ghost use Rattle.wac_resolution_bodies.specs.Lists.{lists_of, kinds_of};
 ghost use Rattle.wac_resolution_bodies.specs.Bodies.{body_of};
 ghost use Rattle.wac_resolution_worlds.specs.Used.{IsThere, IsUsed};
@@ -63,7 +62,8 @@ fn exported(
 ) -> Result<ItemKind, Error>
     requires { NamesEntry state.now.graph.types (kinds.Instance interface) }
     ensures ok { IfOk result (λ k. IsThere state.now.graph interface (use_item_of item.now) k) }
-    ensures err { IfErr result (λ e. Reports (told e) ((naming : Naming) → IsNoTypeThere (means naming state.now.graph (kinds.Instance interface)) path.now (use_item_of item.now) (told e))) }
+    ensures err { ErrorSays result (λ e. (naming : Naming)
+        → IsNoTypeThere (means naming state.now.graph (kinds.Instance interface)) path.now (use_item_of item.now) e) }
 {
     match state
         .graph
@@ -88,7 +88,9 @@ pub(crate) fn used_kind(
 ) -> Result<ItemKind, Error>
     requires { NamesEntry state.now.graph.types (kinds.Instance interface) }
     ensures ok { IfOk result (λ k. IsUsed state.now.graph interface (use_item_of item.now) k) }
-    ensures err { IfErr result (λ e. Reports (told e) ((naming : Naming) → IsNoTypeThere (means naming state.now.graph (kinds.Instance interface)) path.now (use_item_of item.now) (told e) ⊎ IsNoUsableType (means naming state.now.graph (kinds.Instance interface)) path.now (use_item_of item.now) (told e))) }
+    ensures err { ErrorSays result (λ e. (naming : Naming)
+        → IsNoTypeThere (means naming state.now.graph (kinds.Instance interface)) path.now (use_item_of item.now) e
+        ⊎ IsNoUsableType (means naming state.now.graph (kinds.Instance interface)) path.now (use_item_of item.now) e) }
 {
     match exported(state, interface, path, item)? {
         ItemKind::Ty(Type::Resource(resource)) => Ok(ItemKind::Ty(Type::Resource(resource))),
@@ -110,7 +112,8 @@ pub(crate) fn check_use(
     item: &UseItem<'_>,
 ) -> Result<(), Error>
     ensures ok { OnOk result (IsFresh (used_by (use_item_of item.now)).string (kinds_of side (lists_of body.now))) }
-    ensures err { IfErr result (λ e. Reports (told e) ((naming : Naming) (g : Parts) → IsUseConflict side (body_of naming g body.now) (use_item_of item.now) (told e))) }
+    ensures err { ErrorSays result (λ e. (naming : Naming) (g : Parts)
+        → IsUseConflict side (body_of naming g body.now) (use_item_of item.now) e) }
 {
     let id = used_as(item);
     match body.find(side, id.string) {

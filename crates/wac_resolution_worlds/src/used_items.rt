@@ -1,5 +1,5 @@
 //! Used types of an interface.
-ghost use Rattle.std.specs.Prelude.{List, IfErr, OnOk, map};
+ghost use Rattle.std.specs.Prelude.{List, OnOk, map};
 ghost use Rattle.wac_ast_grammar.specs.Tree.{UseItem as ItemTree};
 ghost use Rattle.wac_graph_types.specs.declared.kind.ItemKind.TheVariants as kinds;
 ghost use Rattle.wac_graph_types.specs.Steps.{Fails};
@@ -7,10 +7,9 @@ ghost use Rattle.wac_graph_types.specs.Table.{Names as NamesEntry};
 ghost use Rattle.wac_ast_uses.specs.Uses.{use_item_of};
 ghost use Rattle.wac_graph.specs.Means.{means};
 ghost use Rattle.wac_graph.specs.Origin.{Naming};
-ghost use Rattle.wac_resolution_errors.specs.Error.{Reports};
-ghost use Rattle.wac_resolution_errors.specs.Told.{told};
 ghost use Rattle.wac_resolution_rules.specs.Bodies.{UsesItem};
 ghost use Rattle.wac_resolution_rules.specs.BrokenBodies.{UseItemBroken};
+ghost use Rattle.wac_resolution_rules.specs.Errors.{ErrorSays};
 ghost use Rattle.wac_resolution_bodies.specs.Lists.{lists_of};
 ghost use Rattle.wac_resolution_bodies.specs.Bodies.{body_of, IsBody};
 ghost use Rattle.wac_resolution_worlds.specs.Used.{UseGoes, UsesGo};
@@ -33,8 +32,11 @@ fn use_item<'a>(
 ) -> Result<(), Error>
     requires body { IsBody state.now.graph.types side (lists_of body.old) }
     requires interface { NamesEntry state.now.graph.types (kinds.Instance interface) }
-    ensures ok { OnOk result (UseGoes side state.now.graph interface (lists_of body.old) (lists_of body.new) (use_item_of item.now)) }
-    ensures err { IfErr result (λ e. Reports (told e) ((naming : Naming) (before : List ItemTree) → UseItemBroken side (means naming state.now.graph (kinds.Instance interface)) path.now (told e) (body_of naming state.now.graph body.old) before (use_item_of item.now))) }
+    ensures ok { OnOk result (UseGoes side state.now.graph interface (lists_of body.old) (lists_of body.new)
+        (use_item_of item.now)) }
+    ensures err { ErrorSays result (λ e. (naming : Naming) (before : List ItemTree)
+        → UseItemBroken side (means naming state.now.graph (kinds.Instance interface)) path.now e
+        (body_of naming state.now.graph body.old) before (use_item_of item.now)) }
 {
     let kind = used_kind(state, interface, path, item)?;
     check_use(state.alloc, body, side, item)?;
@@ -56,8 +58,12 @@ pub(crate) fn use_items<'a>(
 ) -> Result<(), Error>
     requires body { IsBody state.now.graph.types side (lists_of body.old) }
     requires interface { NamesEntry state.now.graph.types (kinds.Instance interface) }
-    ensures ok { OnOk result (UsesGo side state.now.graph interface (lists_of body.old) (lists_of body.new) (map use_item_of items.now)) }
-    ensures err { IfErr result (λ e. Reports (told e) ((naming : Naming) → Fails (UsesItem side (means naming state.now.graph (kinds.Instance interface))) (UseItemBroken side (means naming state.now.graph (kinds.Instance interface)) path.now (told e)) (body_of naming state.now.graph body.old) (map use_item_of items.now))) }
+    ensures ok { OnOk result (UsesGo side state.now.graph interface (lists_of body.old) (lists_of body.new)
+        (map use_item_of items.now)) }
+    ensures err { ErrorSays result (λ e. (naming : Naming)
+        → Fails (UsesItem side (means naming state.now.graph (kinds.Instance interface)))
+        (UseItemBroken side (means naming state.now.graph (kinds.Instance interface)) path.now e)
+        (body_of naming state.now.graph body.old) (map use_item_of items.now)) }
 {
     for item in items {
         use_item(state, body, side, interface, path, item)?;

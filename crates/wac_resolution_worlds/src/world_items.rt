@@ -1,14 +1,13 @@
 //! Items of worlds.
-ghost use Rattle.std.specs.Prelude.{◌≡◌, List, IfErr, OnOk, map};
+ghost use Rattle.std.specs.Prelude.{◌≡◌, List, OnOk, map};
 ghost use Rattle.wac_ast_grammar.specs.Tree.{WorldItem as ItemTree};
 ghost use Rattle.wac_graph_types.specs.declared.kind.ExternKind.TheVariants as sides;
 ghost use Rattle.wac_graph_types.specs.Steps.{Fails};
 ghost use Rattle.wac_graph_types.specs.Table.{ItemsNamed};
 ghost use Rattle.wac_ast_worlds.specs.Worlds.{world_item_of};
 ghost use Rattle.wac_graph.specs.Origin.{Naming};
-ghost use Rattle.wac_resolution_errors.specs.Error.{Reports};
-ghost use Rattle.wac_resolution_errors.specs.Told.{told};
 ghost use Rattle.wac_resolution_rules.specs.BrokenWorlds.{WorldItemBroken};
+ghost use Rattle.wac_resolution_rules.specs.Errors.{ErrorSays};
 ghost use Rattle.wac_resolution_rules.specs.Places.{bound_in_world};
 ghost use Rattle.wac_resolution_rules.specs.Worlds.{HasWorldItem};
 ghost use Rattle.wac_resolution_state.specs.Bindings.{values_of, places_of};
@@ -42,8 +41,12 @@ fn world_item<'a>(
     requires body { IsBody state.old.graph.types sides.Import (lists_of body.old) }
     requires root { ItemsNamed state.old.graph.types (values_of root.now) }
     requires handed { HoldsHanded (packages_in setting.now) state.old.graph }
-    ensures ok { OnOk result (WorldItemGoes setting.now state.old.graph state.new.graph (values_of root.now) (lists_of body.old) (lists_of body.new) (world_item_of item.now)) }
-    ensures err { IfErr result (λ e. Reports (told e) ((naming : Naming) (before : List ItemTree) → places_of body.old.names ≡ bound_in_world before → WorldItemBroken (setting_of naming setting.now) (scope_of naming state.old.graph (values_of root.now)) (owner_of owner.now) (told e) (body_of naming state.old.graph body.old) before (world_item_of item.now))) }
+    ensures ok { OnOk result (WorldItemGoes setting.now state.old.graph state.new.graph (values_of root.now)
+        (lists_of body.old) (lists_of body.new) (world_item_of item.now)) }
+    ensures err { ErrorSays result (λ e. (naming : Naming) (before : List ItemTree)
+        → places_of body.old.names ≡ bound_in_world before
+        → WorldItemBroken (setting_of naming setting.now) (scope_of naming state.old.graph (values_of root.now))
+        (owner_of owner.now) e (body_of naming state.old.graph body.old) before (world_item_of item.now)) }
 {
     match item {
         WorldItem::Use(used) => use_statement(state, setting, root, body, ExternKind::Import, used),
@@ -88,8 +91,12 @@ pub fn world_items<'a>(
     requires empty { lists_of body.old ≡ no_lists }
     requires root { ItemsNamed state.old.graph.types (values_of root.now) }
     requires handed { HoldsHanded (packages_in setting.now) state.old.graph }
-    ensures ok { OnOk result (WorldItemsGo setting.now state.old.graph state.new.graph (values_of root.now) (lists_of body.old) (lists_of body.new) (map world_item_of items.now)) }
-    ensures err { IfErr result (λ e. Reports (told e) ((naming : Naming) → Fails (HasWorldItem (setting_of naming setting.now) (scope_of naming state.old.graph (values_of root.now))) (WorldItemBroken (setting_of naming setting.now) (scope_of naming state.old.graph (values_of root.now)) (owner_of owner.now) (told e)) (body_of naming state.old.graph body.old) (map world_item_of items.now))) }
+    ensures ok { OnOk result (WorldItemsGo setting.now state.old.graph state.new.graph (values_of root.now)
+        (lists_of body.old) (lists_of body.new) (map world_item_of items.now)) }
+    ensures err { ErrorSays result (λ e. (naming : Naming)
+        → Fails (HasWorldItem (setting_of naming setting.now) (scope_of naming state.old.graph (values_of root.now)))
+        (WorldItemBroken (setting_of naming setting.now) (scope_of naming state.old.graph (values_of root.now))
+        (owner_of owner.now) e) (body_of naming state.old.graph body.old) (map world_item_of items.now)) }
 {
     for item in items {
         world_item(state, setting, root, body, owner, item)?;

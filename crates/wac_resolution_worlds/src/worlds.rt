@@ -1,12 +1,11 @@
 //! Worlds.
-ghost use Rattle.std.specs.Prelude.{IfOk, IfErr, map, option_map, string_bytes};
+ghost use Rattle.std.specs.Prelude.{IfOk, map, option_map, string_bytes};
 ghost use Rattle.wac_graph_types.specs.Table.{ItemsNamed};
 ghost use Rattle.wac_ast_worlds.specs.Worlds.{world_item_of};
 ghost use Rattle.wac_graph.specs.Means.{declared_count};
 ghost use Rattle.wac_graph.specs.Origin.{Naming};
-ghost use Rattle.wac_resolution_errors.specs.Error.{Reports};
-ghost use Rattle.wac_resolution_errors.specs.Told.{told};
 ghost use Rattle.wac_resolution_rules.specs.BrokenWorlds.{WorldBroken};
+ghost use Rattle.wac_resolution_rules.specs.Errors.{ErrorSays};
 ghost use Rattle.wac_resolution_state.specs.Bindings.{values_of};
 ghost use Rattle.wac_resolution_state.specs.Named.{scope_of};
 ghost use Rattle.wac_resolution_paths.specs.Expands.{HoldsHanded};
@@ -31,7 +30,8 @@ fn finish_world(
     body: Body<'_>,
 ) -> Result<WorldId, AllocError>
     requires { AreNamed state.old.graph.types (lists_of body) }
-    ensures { IfOk result (λ w. WorldOf state.old.graph state.new.graph (option_map string_bytes id) (lists_of body.entry) w) }
+    ensures { IfOk result (λ w. WorldOf state.old.graph state.new.graph (option_map string_bytes id)
+        (lists_of body.entry) w) }
 {
     let Body {
         uses,
@@ -58,8 +58,11 @@ pub fn world(
 ) -> Result<WorldId, Error>
     requires root { ItemsNamed state.old.graph.types (values_of root.now) }
     requires handed { HoldsHanded (packages_in setting.now) state.old.graph }
-    ensures ok { IfOk result (λ w. WorldMade setting.now state.old.graph state.new.graph (values_of root.now) (option_map string_bytes id) (map world_item_of items.now) w) }
-    ensures err { IfErr result (λ e. Reports (told e) ((naming : Naming) → WorldBroken (setting_of naming setting.now) (scope_of naming state.old.graph (values_of root.now)) name.now (declared_count state.old.graph) (map world_item_of items.now) (told e))) }
+    ensures ok { IfOk result (λ w. WorldMade setting.now state.old.graph state.new.graph (values_of root.now)
+        (option_map string_bytes id) (map world_item_of items.now) w) }
+    ensures err { ErrorSays result (λ e. (naming : Naming)
+        → WorldBroken (setting_of naming setting.now) (scope_of naming state.old.graph (values_of root.now)) name.now
+        (declared_count state.old.graph) (map world_item_of items.now) e) }
 {
     let mut body = Body::new(state.alloc);
     let owner = Owner::World(name);

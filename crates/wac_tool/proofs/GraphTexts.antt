@@ -11,7 +11,7 @@ use Rattle.wac_graph.specs.Origin.{Naming}
 use Rattle.wac_graph.specs.declared.package_key.PackageKey.{PackageKey}
 use Rattle.wac_graph_types.specs.Package.{PackageParts}
 use Rattle.wac_graph_types.specs.Scope.{Named}
-use Rattle.wac_resolution.specs.Resolved.{Resolved, Promised}
+use Rattle.wac_resolution.specs.Resolved.{Resolved, Promised, call}
 use Rattle.wac_resolution_errors.specs.Error.{memory}
 use Rattle.wac_resolution_errors.specs.Told.{told}
 use Rattle.wac_resolution_errors.specs.declared.error.Error.{Error}
@@ -64,15 +64,15 @@ is_error document e NotUtf8 first is = absurd is
 
 -- The graph is the document's.
 pub is_graph : (packages : List (PackageKey × PackageParts)) (document : Document) (r : Resolved) (g : Parts) → packages ≡ [] → g ≡ r.graph
-    → ((declared : Named ℕ) × Promised GraphClause packages same_rules document declared (Ok r)) → IsGraphOf document g
+    → ((declared : Named ℕ) × Promised GraphClause (call packages same_rules document (Ok r)) declared) → IsGraphOf document g
 is_graph packages document r g none same has =
-    subst (λ x. IsGraphOf document x) (sym same) (subst (λ ps. (declared : Named ℕ) × Promised GraphClause ps same_rules document declared (Ok r)) none has)
+    subst (λ x. IsGraphOf document x) (sym same) (subst (λ ps. (declared : Named ℕ) × Promised GraphClause (call ps same_rules document (Ok r)) declared) none has)
 
 -- The error names a rule that the document breaks.
 pub is_rejected : (packages : List (PackageKey × PackageParts)) (document : Document) (e : Error) (answer : RunError) → packages ≡ []
-    → ((declared : Named ℕ) → Promised FirstClause packages same_rules document declared (Err e)) → IsRejection e answer → IsErrorOf document answer
+    → ((declared : Named ℕ) → Promised FirstClause (call packages same_rules document (Err e)) declared) → IsRejection e answer → IsErrorOf document answer
 is_rejected packages document e answer none first is =
-    is_error document e answer (subst (λ ps. (declared : Named ℕ) → Promised FirstClause ps same_rules document declared (Err e)) none first []) is
+    is_error document e answer (subst (λ ps. (declared : Named ℕ) → Promised FirstClause (call ps same_rules document (Err e)) declared) none first []) is
 
 -- ---- of a source that has a document
 

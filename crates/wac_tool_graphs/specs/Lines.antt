@@ -27,7 +27,8 @@ id_words (Some name) = codes " [" ++ (name ++ codes "]")
 
 -- N FORM: KIND [ID]
 abbrev pub node_line : ℕ → Node → List ℕ
-node_line n x = decimal n ++ (codes " " ++ (form_words x.form ++ (codes ": " ++ (described x.kind ++ (id_words x.name ++ codes "\n")))))
+node_line n x = decimal n
+    ++ (codes " " ++ (form_words x.form ++ (codes ": " ++ (described x.kind ++ (id_words x.name ++ codes "\n")))))
 
 -- a name and its node's number, after some words
 abbrev pub name_line : List ℕ → List ℕ × ℕ → List ℕ

@@ -17,7 +17,9 @@ use wac_lexer::Sink;
 /// Writes a line for each node of a graph, with a line for each of its arguments under it, and then a line for each export.
 /// It takes no memory.
 pub fn write_graph<S: Sink>(graph: &CompositionGraph, out: &mut S) -> Result<(), OutputFailed>
-    ensures { (naming : Naming) (declared : Named ℕ) → Puts result (S.bytes out.old) (S.failures out.old) (S.bytes out.new) (S.failures out.new) (graph_lines (composition_of naming graph.now declared)) }
+    ensures { (naming : Naming) (declared : Named ℕ)
+        → Puts result (S.bytes out.old) (S.failures out.old) (S.bytes out.new) (S.failures out.new)
+        (graph_lines (composition_of naming graph.now declared)) }
 {
     write_nodes(graph, out)?;
     write_names("export ", graph.exports(), out)
@@ -25,7 +27,9 @@ pub fn write_graph<S: Sink>(graph: &CompositionGraph, out: &mut S) -> Result<(),
 
 /// Writes the lines of all nodes.
 fn write_nodes<S: Sink>(graph: &CompositionGraph, out: &mut S) -> Result<(), OutputFailed>
-    ensures { (naming : Naming) → Puts result (S.bytes out.old) (S.failures out.old) (S.bytes out.new) (S.failures out.new) (node_lines 0 (map (node_of naming graph.now) graph.now.nodes)) }
+    ensures { (naming : Naming)
+        → Puts result (S.bytes out.old) (S.failures out.old) (S.bytes out.new) (S.failures out.new)
+        (node_lines 0 (map (node_of naming graph.now) graph.now.nodes)) }
 {
     for id in graph.nodes() {
         write_node(graph, id, out)?;
@@ -40,7 +44,9 @@ fn write_node<S: Sink>(
     out: &mut S,
 ) -> Result<(), OutputFailed>
     requires { id.0 < length graph.now.nodes }
-    ensures { (naming : Naming) (n : Node) → slice_get graph.now.nodes id.0 ≡ Some n → Puts result (S.bytes out.old) (S.failures out.old) (S.bytes out.new) (S.failures out.new) (node_line id.0 (node_of naming graph.now n) ++ argument_lines (arguments_in n.form)) }
+    ensures { (naming : Naming) (n : Node) → slice_get graph.now.nodes id.0 ≡ Some n
+        → Puts result (S.bytes out.old) (S.failures out.old) (S.bytes out.new) (S.failures out.new)
+        (node_line id.0 (node_of naming graph.now n) ++ argument_lines (arguments_in n.form)) }
 {
     write_form(graph, id, out)?;
     write_kind(graph.kind(id).desc(), graph.name(id), out)?;
@@ -54,7 +60,9 @@ fn write_form<S: Sink>(
     out: &mut S,
 ) -> Result<(), OutputFailed>
     requires { id.0 < length graph.now.nodes }
-    ensures { (n : Node) → slice_get graph.now.nodes id.0 ≡ Some n → Puts result (S.bytes out.old) (S.failures out.old) (S.bytes out.new) (S.failures out.new) (decimal id.0 ++ (codes " " ++ form_words (form_in graph.now.packages n.form))) }
+    ensures { (n : Node) → slice_get graph.now.nodes id.0 ≡ Some n
+        → Puts result (S.bytes out.old) (S.failures out.old) (S.bytes out.new) (S.failures out.new)
+        (decimal id.0 ++ (codes " " ++ form_words (form_in graph.now.packages n.form))) }
 {
     let mut digits = Buffer::new();
     let number = digits.format(id.0);
@@ -78,7 +86,8 @@ fn write_alias<S: Sink>(
     export: &str,
     out: &mut S,
 ) -> Result<(), OutputFailed>
-    ensures { Puts result (S.bytes out.old) (S.failures out.old) (S.bytes out.new) (S.failures out.new) (number.now ++ (codes " " ++ form_words (aliased node.0 export.now))) }
+    ensures { Puts result (S.bytes out.old) (S.failures out.old) (S.bytes out.new) (S.failures out.new)
+        (number.now ++ (codes " " ++ form_words (aliased node.0 export.now))) }
 {
     let mut digits = Buffer::new();
     put_each(
@@ -89,7 +98,8 @@ fn write_alias<S: Sink>(
 
 /// Writes the number of an instance, and the name and the version of its package.
 fn write_instance<S: Sink>(number: &str, key: &PackageKey, out: &mut S) -> Result<(), OutputFailed>
-    ensures { Puts result (S.bytes out.old) (S.failures out.old) (S.bytes out.new) (S.failures out.new) (number.now ++ (codes " " ++ form_words (instantiated (key_of key.now)))) }
+    ensures { Puts result (S.bytes out.old) (S.failures out.old) (S.bytes out.new) (S.failures out.new)
+        (number.now ++ (codes " " ++ form_words (instantiated (key_of key.now)))) }
 {
     let name = key.name.as_str();
     match &key.version {
@@ -100,7 +110,8 @@ fn write_instance<S: Sink>(number: &str, key: &PackageKey, out: &mut S) -> Resul
 
 /// Writes the words for a node's kind, and its name, and ends the line.
 fn write_kind<S: Sink>(kind: &str, name: Option<&str>, out: &mut S) -> Result<(), OutputFailed>
-    ensures { Puts result (S.bytes out.old) (S.failures out.old) (S.bytes out.new) (S.failures out.new) (codes ": " ++ (kind.now ++ (id_words (option_map (λ s. s.now) name.entry) ++ codes "\n"))) }
+    ensures { Puts result (S.bytes out.old) (S.failures out.old) (S.bytes out.new) (S.failures out.new)
+        (codes ": " ++ (kind.now ++ (id_words (option_map (λ s. s.now) name.entry) ++ codes "\n"))) }
 {
     match name {
         None => put_each(&[": ", kind, "\n"], out),

@@ -13,7 +13,8 @@ pub struct OutputFailed;
 
 /// Puts parts of a text in order, until the sink fails.
 pub(crate) fn put_each<S: Sink>(parts: &[&str], out: &mut S) -> Result<(), OutputFailed>
-    ensures { Puts result (S.bytes out.old) (S.failures out.old) (S.bytes out.new) (S.failures out.new) (flat_map (λ part. part.now) parts.now) }
+    ensures { Puts result (S.bytes out.old) (S.failures out.old) (S.bytes out.new) (S.failures out.new)
+        (flat_map (λ part. part.now) parts.now) }
 {
     for part in parts {
         if !put_all(out, part.as_bytes()) {
@@ -29,7 +30,8 @@ pub(crate) fn write_names<S: Sink>(
     names: Names<'_>,
     out: &mut S,
 ) -> Result<(), OutputFailed>
-    ensures { Puts result (S.bytes out.old) (S.failures out.old) (S.bytes out.new) (S.failures out.new) (flat_map (name_line before.now) names.entry) }
+    ensures { Puts result (S.bytes out.old) (S.failures out.old) (S.bytes out.new) (S.failures out.new)
+        (flat_map (name_line before.now) names.entry) }
 {
     for (name, node) in names {
         let mut number = Buffer::new();

@@ -4,10 +4,10 @@ use Rattle.wac_ast.specs.Statements.{document_of}
 use Rattle.wac_ast.specs.declared.document.Document.{Document as CodeDocument}
 use Rattle.wac_ast_grammar.specs.Tree.{Document as Tree}
 use Rattle.wac_graph_types.specs.Scope.{Named}
-use Rattle.wac_resolution_rules.specs.Given.{rules_by}
+use Rattle.wac_resolution_rules.specs.Given.{rules_of}
 use Rattle.wac_resolution_rules.specs.Mentions.{mentions}
 use Rattle.wac_resolution.specs.Layout.{DescribedClause, SameBareTree}
-use Rattle.wac_resolution.specs.Resolved.{HoldsMentioned, Promised}
+use Rattle.wac_resolution.specs.Resolved.{HoldsMentioned, Promised, call}
 use Rattle.wac_resolution.proofs.documents.resolve.Goals as goal
 
 pub returns-clause-held : goal.returns-clause-held
@@ -15,4 +15,4 @@ returns-clause-held g c = subst (λ (d : CodeDocument). IfOk c.resolve.result (�
 
 pub returns-clause-layout : goal.returns-clause-layout
 returns-clause-layout g c =
-    subst (λ (d : CodeDocument). (declared : Named ℕ) × ((other : Tree) → SameBareTree (document_of d) other → Promised DescribedClause c.args.packages.entries (rules_by (g.R.Rules.passes c.args.rules.now) (g.R.Rules.named c.args.rules.now)) other declared c.resolve.result)) c.new.ensures c.resolve.ensures.layout
+    subst (λ (d : CodeDocument). (declared : Named ℕ) × ((other : Tree) → SameBareTree (document_of d) other → Promised DescribedClause (call c.args.packages.entries (rules_of g.R.Rules c.args.rules.now) other c.resolve.result) declared)) c.new.ensures c.resolve.ensures.layout

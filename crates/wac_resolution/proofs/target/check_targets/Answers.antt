@@ -2,19 +2,19 @@ use Rattle.wac_ast_base.specs.Names.{package_path_of}
 use Rattle.wac_resolution_errors.specs.Told.{told}
 use Rattle.wac_resolution_errors.proofs.Reports.{reports}
 use Rattle.wac_resolution_externs.proofs.Results.{on_ok, if_err}
-use Rattle.wac_resolution_rules.specs.Given.{rules_by}
+use Rattle.wac_resolution_rules.specs.Given.{rules_of}
 use Rattle.wac_resolution.proofs.Ending.{target_met, no_target, target_missed}
 use Rattle.wac_resolution.proofs.target.check_targets.Goals as goal
 
 pub returns-in-Some-clause-ok : goal.returns-in-Some-clause-ok
 returns-in-Some-clause-ok g c =
     rw c.in-Some.is
-    (on_ok _ _ c.check_target.result (target_met c.args.setting.now (g.R.Rules.passes c.args.rules.now) (g.R.Rules.named c.args.rules.now) c.args.state.now.graph c.check_target.new.state.graph c.args.root.now (package_path_of c.in-Some.target) c.requires.agrees) c.check_target.ensures.ok)
+    (on_ok _ _ c.check_target.result (target_met c.args.setting.now (rules_of g.R.Rules c.args.rules.now) c.args.state.now.graph c.check_target.new.state.graph c.args.root.now (package_path_of c.in-Some.target) c.requires.agrees) c.check_target.ensures.ok)
 
 pub returns-in-Some-clause-err : goal.returns-in-Some-clause-err
 returns-in-Some-clause-err g c =
     rw c.in-Some.is
-    (if_err _ _ c.check_target.result (λ e u. reports u (target_missed c.args.setting.now (g.R.Rules.passes c.args.rules.now) (g.R.Rules.named c.args.rules.now) c.args.state.now.graph c.args.root.now c.args.externs.now (package_path_of c.in-Some.target) (told e))) c.check_target.ensures.err)
+    (if_err _ _ c.check_target.result (λ e u. reports u (target_missed c.args.setting.now (rules_of g.R.Rules c.args.rules.now) c.args.state.now.graph c.args.root.now c.args.externs.now (package_path_of c.in-Some.target) (told e))) c.check_target.ensures.err)
 
 pub returns-in-None-clause-ok : goal.returns-in-None-clause-ok
-returns-in-None-clause-ok g c = rw c.in-None.is (no_target c.args.setting.now (rules_by (g.R.Rules.passes c.args.rules.now) (g.R.Rules.named c.args.rules.now)) c.args.state.now.graph c.args.root.now c.requires.handed)
+returns-in-None-clause-ok g c = rw c.in-None.is (no_target c.args.setting.now (rules_of g.R.Rules c.args.rules.now) c.args.state.now.graph c.args.root.now c.requires.handed)

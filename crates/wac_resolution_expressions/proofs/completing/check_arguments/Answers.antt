@@ -8,7 +8,7 @@ use Rattle.wac_ast_expressions.specs.Expressions.{argument_of}
 use Rattle.wac_ast_expressions.specs.declared.expr.InstantiationArgument.{InstantiationArgument}
 use Rattle.wac_resolution_errors.specs.Error.{Reports}
 use Rattle.wac_resolution_errors.specs.Told.{told}
-use Rattle.wac_resolution_rules.specs.Given.{rules_by}
+use Rattle.wac_resolution_rules.specs.Given.{rules_of}
 use Rattle.wac_resolution_nodes.specs.Root.{numbers_of}
 use Rattle.wac_resolution_expressions.specs.Arguments.{given_nodes}
 use Rattle.wac_resolution_expressions.specs.Incomplete.{IsIncomplete}
@@ -21,7 +21,7 @@ pub returns-clause-err : goal.returns-clause-err
 returns-clause-err g c =
     let given = by_name c.args.given.now.entries in
     let args = arguments_from (map argument_of c.args.new.now.arguments.items) in
-    let rules = rules_by (g.R.Rules.passes c.args.rules.now) (g.R.Rules.named c.args.rules.now) in
+    let rules = rules_of g.R.Rules c.args.rules.now in
     let err = subst (λ (l : List InstantiationArgument). IfErr c.check_complete.result (λ e. Reports (told e) (IsIncomplete c.args.state.now.graph c.args.world (package_name_of c.args.new.now.«package») (arguments_from (map argument_of l)) (given_nodes (by_name c.args.given.now.entries)) (told e))))
     c.deref.ensures.value c.check_complete.ensures.err in
     IfErr-weaker c.check_complete.result (λ e. Reports (told e) (IsIncomplete c.args.state.now.graph c.args.world (package_name_of c.args.new.now.«package») args (given_nodes given) (told e)))

@@ -11,7 +11,7 @@ use Rattle.wac_resolution_rules.specs.Expressions.{Spreads, spreads_of}
 use Rattle.wac_resolution_rules.specs.BrokenExpressions.{SpreadBroken}
 use Rattle.wac_resolution_expressions.specs.Spreads.{giving_of, imports_at}
 use Rattle.wac_resolution_errors.specs.Told.{told}
-use Rattle.wac_resolution_rules.specs.Given.{rules_by}
+use Rattle.wac_resolution_rules.specs.Given.{rules_of}
 use Rattle.wac_resolution_nodes.specs.Root.{numbers_of}
 use Rattle.wac_resolution_errors.proofs.Reports.{reports}
 use Rattle.wac_resolution_nodes.proofs.Roots.{agrees_nodes}
@@ -33,7 +33,7 @@ returns-in_err-spreads-clause-err g c =
     let e = told c.in_err-spreads.field-0.0 in
     let p = err_from_is_err_and c.from_residual.result c.from_residual.ensures.1 in
     rw (p.1, p.2) (reports c.in_err-spreads.ensures.err (λ err.
-    spreads_fail (rules_by (g.R.Rules.passes c.args.rules.now) (g.R.Rules.named c.args.rules.now)) c.args.state.now.graph (numbers_of c.args.root.now.nodes) c.args.of.world (package_name_of c.args.new.now.«package») (arguments_from (map argument_of c.args.new.now.arguments.items)) (by_name c.args.given.now.entries) e
+    spreads_fail (rules_of g.R.Rules c.args.rules.now) c.args.state.now.graph (numbers_of c.args.root.now.nodes) c.args.of.world (package_name_of c.args.new.now.«package») (arguments_from (map argument_of c.args.new.now.arguments.items)) (by_name c.args.given.now.entries) e
     (subst (λ (l : List InstantiationArgument). (naming : Naming) → Fails (Spreads (imports_at naming c.args.state.now.graph c.args.of.world)) (SpreadBroken (imports_at naming c.args.state.now.graph c.args.of.world) e) (giving_of naming c.args.state.now.graph (numbers_of c.args.root.now.nodes) (by_name c.args.given.now.entries)) (spreads_of (arguments_from (map argument_of l)))) c.deref.ensures.value err)))
 
 pub returns-in_err-check_arguments-clause-err : goal.returns-in_err-check_arguments-clause-err
@@ -42,7 +42,7 @@ returns-in_err-check_arguments-clause-err g c =
     c.deref.ensures.value c.in_ok-spreads.ensures.ok in
     let p = err_from_is_err_and c.from_residual-in_err-check_arguments.result c.from_residual-in_err-check_arguments.ensures.1 in
     rw (p.1, p.2) (reports c.in_err-check_arguments.ensures.err (wrong_after c.args.state.now.graph c.spreads.new.state.graph (by_name c.args.given.now.entries) (by_name c.spreads.new.given.entries) (numbers_of c.args.root.now.nodes) c.args.of.world (arguments_from (map argument_of c.args.new.now.arguments.items)) gave
-    (rules_by (g.R.Rules.passes c.args.rules.now) (g.R.Rules.named c.args.rules.now)) (package_name_of c.args.new.now.«package») (told c.in_err-check_arguments.field-0.0)))
+    (rules_of g.R.Rules c.args.rules.now) (package_name_of c.args.new.now.«package») (told c.in_err-check_arguments.field-0.0)))
 
 pub instantiate-requires-clause-held : goal.instantiate-requires-clause-held
 instantiate-requires-clause-held g c =
@@ -50,11 +50,11 @@ instantiate-requires-clause-held g c =
 
 pub instantiate-requires-clause-imports : goal.instantiate-requires-clause-imports
 instantiate-requires-clause-imports g c =
-    imports_named (rules_by (g.R.Rules.passes c.args.rules.now) (g.R.Rules.named c.args.rules.now)) c.args.state.now.graph c.spreads.new.state.graph c.args.of (by_name c.spreads.new.given.entries) c.in_ok-spreads.ensures.ok.grows c.requires.loaded c.in_ok-check_arguments.ensures.ok.fit
+    imports_named (rules_of g.R.Rules c.args.rules.now) c.args.state.now.graph c.spreads.new.state.graph c.args.of (by_name c.spreads.new.given.entries) c.in_ok-spreads.ensures.ok.grows c.requires.loaded c.in_ok-check_arguments.ensures.ok.fit
 
 pub returns-clause-ok : goal.returns-clause-ok
 returns-clause-ok g c =
     let gave = subst (λ (l : List InstantiationArgument). SpreadsGive c.args.state.now.graph c.spreads.new.state.graph (by_name c.args.given.now.entries) (by_name c.spreads.new.given.entries) (numbers_of c.args.root.now.nodes) c.args.of.world (arguments_from (map argument_of l)))
     c.deref.ensures.value c.in_ok-spreads.ensures.ok in
-    completes (rules_by (g.R.Rules.passes c.args.rules.now) (g.R.Rules.named c.args.rules.now)) c.args.state.now.graph c.spreads.new.state.graph c.instantiate.new.state.graph (by_name c.args.given.now.entries) (by_name c.spreads.new.given.entries)
+    completes (rules_of g.R.Rules c.args.rules.now) c.args.state.now.graph c.spreads.new.state.graph c.instantiate.new.state.graph (by_name c.args.given.now.entries) (by_name c.spreads.new.given.entries)
     (numbers_of c.args.root.now.nodes) c.args.of (arguments_from (map argument_of c.args.new.now.arguments.items)) c.in_ok-instantiate.field-0.0 gave c.in_ok-check_arguments.ensures.ok c.in_ok-instantiate.ensures

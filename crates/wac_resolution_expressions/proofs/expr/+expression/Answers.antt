@@ -15,7 +15,7 @@ use Rattle.wac_ast_expressions.proofs.ExprViews.{nested_out, new_is}
 use Rattle.wac_resolution_errors.specs.Error.{Reports}
 use Rattle.wac_resolution_errors.specs.Told.{told}
 use Rattle.wac_resolution_rules.specs.BrokenTypes.{IsUndefined}
-use Rattle.wac_resolution_rules.specs.Given.{rules_by}
+use Rattle.wac_resolution_rules.specs.Given.{rules_of}
 use Rattle.wac_resolution_errors.proofs.Reports.{reports, if_reports}
 use Rattle.wac_resolution_state.proofs.Sizes.{most_at}
 use Rattle.wac_resolution_nodes.specs.Accesses.{AccessesGo}
@@ -35,7 +35,7 @@ use Rattle.wac_resolution_expressions.proofs.expr.+expression.Goals as goal
 pub expression-returns-in_err-node-clause-err : goal.expression-returns-in_err-node-clause-err
 expression-returns-in_err-node-clause-err g t c =
     let p = err_from_is_err_and c.from_residual.result c.from_residual.ensures.1 in
-    rw (p.1, p.2) (reports c.in_err-node.ensures.err (stand.expr_breaks_first c.args.setting.now (rules_by (g.R.Rules.passes c.args.rules.now) (g.R.Rules.named c.args.rules.now)) c.args.state.now.graph (numbers_of c.args.root.now.nodes) c.args.expr.now.span
+    rw (p.1, p.2) (reports c.in_err-node.ensures.err (stand.expr_breaks_first c.args.setting.now (rules_of g.R.Rules c.args.rules.now) c.args.state.now.graph (numbers_of c.args.root.now.nodes) c.args.expr.now.span
     (primary_expr_of c.args.expr.now.primary) (map postfix_expr_of c.args.expr.now.postfix.items) (told c.in_err-node.field-0.0)))
 
 pub expression-accesses-requires-clause-agrees : goal.expression-accesses-requires-clause-agrees
@@ -47,7 +47,7 @@ expression-accesses-requires-clause-there g t c = c.in_ok-node.ensures.ok.there
 pub expression-returns-clause-ok : goal.expression-returns-clause-ok
 expression-returns-clause-ok g t c =
     let s = c.args.setting.now in
-    let rules = rules_by (g.R.Rules.passes c.args.rules.now) (g.R.Rules.named c.args.rules.now) in
+    let rules = rules_of g.R.Rules c.args.rules.now in
     let declared = numbers_of c.args.root.now.nodes in
     let go = subst (λ (l : List CodePostfixExpr). IfOk c.accesses.result (λ m. AccessesGo c.primary.new.state.graph c.accesses.new.state.graph c.in_ok-node.node.0 (map postfix_expr_of l) m.0)) c.deref.ensures.value c.accesses.ensures.ok in
     IfOk-weaker c.accesses.result (λ m. AccessesGo c.primary.new.state.graph c.accesses.new.state.graph c.in_ok-node.node.0 (map postfix_expr_of c.args.expr.now.postfix.items) m.0)
@@ -57,7 +57,7 @@ expression-returns-clause-ok g t c =
 pub expression-returns-clause-err : goal.expression-returns-clause-err
 expression-returns-clause-err g t c =
     let s = c.args.setting.now in
-    let rules = rules_by (g.R.Rules.passes c.args.rules.now) (g.R.Rules.named c.args.rules.now) in
+    let rules = rules_of g.R.Rules c.args.rules.now in
     let there = subst (λ (l : List CodePostfixExpr). IfErr c.accesses.result (λ e. Reports (told e) (stand.AccessesBreak s rules c.primary.new.state.graph c.span.result c.in_ok-node.node.0 (map postfix_expr_of l) (told e)))) c.deref.ensures.value c.accesses.ensures.err in
     let spanned = subst (λ (x : Span). IfErr c.accesses.result (λ e. Reports (told e) (stand.AccessesBreak s rules c.primary.new.state.graph x c.in_ok-node.node.0 (map postfix_expr_of c.args.expr.now.postfix.items) (told e)))) c.span.ensures there in
     if_reports _ _
@@ -68,18 +68,18 @@ expression-returns-clause-err g t c =
 
 pub primary-returns-in-New-clause-ok : goal.primary-returns-in-New-clause-ok
 primary-returns-in-New-clause-ok g t c =
-    subst (λ (x : PrimaryExpr). IfOk c.instantiation.result (λ n. PrimaryGoes c.args.setting.now (rules_by (g.R.Rules.passes c.args.rules.now) (g.R.Rules.named c.args.rules.now)) c.args.state.now.graph c.instantiation.new.state.graph (numbers_of c.args.root.now.nodes) x n.0))
+    subst (λ (x : PrimaryExpr). IfOk c.instantiation.result (λ n. PrimaryGoes c.args.setting.now (rules_of g.R.Rules c.args.rules.now) c.args.state.now.graph c.instantiation.new.state.graph (numbers_of c.args.root.now.nodes) x n.0))
     (sym (ap primary_expr_of c.in-New.is ∙ new_is c.in-New.part)) c.instantiation.ensures.ok
 
 pub primary-returns-in-New-clause-err : goal.primary-returns-in-New-clause-err
 primary-returns-in-New-clause-err g t c =
-    subst (λ (x : PrimaryExpr). IfErr c.instantiation.result (λ e. Reports (told e) (PrimaryBreaks c.args.setting.now (rules_by (g.R.Rules.passes c.args.rules.now) (g.R.Rules.named c.args.rules.now)) c.args.state.now.graph (numbers_of c.args.root.now.nodes) x (told e))))
+    subst (λ (x : PrimaryExpr). IfErr c.instantiation.result (λ e. Reports (told e) (PrimaryBreaks c.args.setting.now (rules_of g.R.Rules c.args.rules.now) c.args.state.now.graph (numbers_of c.args.root.now.nodes) x (told e))))
     (sym (ap primary_expr_of c.in-New.is ∙ new_is c.in-New.part)) c.instantiation.ensures.err
 
 pub primary-returns-in-Ident-clause-ok : goal.primary-returns-in-Ident-clause-ok
 primary-returns-in-Ident-clause-ok g t c =
     let s = c.args.setting.now in
-    let rules = rules_by (g.R.Rules.passes c.args.rules.now) (g.R.Rules.named c.args.rules.now) in
+    let rules = rules_of g.R.Rules c.args.rules.now in
     let graph = c.args.state.now.graph in
     subst (λ (x : PrimaryExpr). IfOk c.node.result (λ n. PrimaryGoes s rules graph graph (numbers_of c.args.root.now.nodes) x n.0)) (sym (ap primary_expr_of c.in-Ident.is))
     (IfOk-weaker c.node.result (λ n. NodeIs c.args.root.now (ident_of c.in-Ident.id) n) (λ n. PrimaryGoes s rules graph graph (numbers_of c.args.root.now.nodes) (PrimaryExpr.ident (ident_of c.in-Ident.id)) n.0)
@@ -88,7 +88,7 @@ primary-returns-in-Ident-clause-ok g t c =
 pub primary-returns-in-Ident-clause-err : goal.primary-returns-in-Ident-clause-err
 primary-returns-in-Ident-clause-err g t c =
     let s = c.args.setting.now in
-    let rules = rules_by (g.R.Rules.passes c.args.rules.now) (g.R.Rules.named c.args.rules.now) in
+    let rules = rules_of g.R.Rules c.args.rules.now in
     let graph = c.args.state.now.graph in
     subst (λ (x : PrimaryExpr). IfErr c.node.result (λ e. Reports (told e) (PrimaryBreaks s rules graph (numbers_of c.args.root.now.nodes) x (told e)))) (sym (ap primary_expr_of c.in-Ident.is))
     (IfErr-weaker c.node.result (λ e. Reports (told e) (IsUndefined (numbers_of c.args.root.now.nodes) (ident_of c.in-Ident.id) (told e))) (λ e. Reports (told e) (PrimaryBreaks s rules graph (numbers_of c.args.root.now.nodes) (PrimaryExpr.ident (ident_of c.in-Ident.id)) (told e)))
@@ -97,7 +97,7 @@ primary-returns-in-Ident-clause-err g t c =
 pub primary-returns-in-Nested-clause-ok : goal.primary-returns-in-Nested-clause-ok
 primary-returns-in-Nested-clause-ok g t c =
     let s = c.args.setting.now in
-    let rules = rules_by (g.R.Rules.passes c.args.rules.now) (g.R.Rules.named c.args.rules.now) in
+    let rules = rules_of g.R.Rules c.args.rules.now in
     let old = c.args.state.now.graph in
     let new = c.expression.new.state.graph in
     let declared = numbers_of c.args.root.now.nodes in
@@ -111,7 +111,7 @@ primary-returns-in-Nested-clause-ok g t c =
 pub primary-returns-in-Nested-clause-err : goal.primary-returns-in-Nested-clause-err
 primary-returns-in-Nested-clause-err g t c =
     let s = c.args.setting.now in
-    let rules = rules_by (g.R.Rules.passes c.args.rules.now) (g.R.Rules.named c.args.rules.now) in
+    let rules = rules_of g.R.Rules c.args.rules.now in
     let old = c.args.state.now.graph in
     let declared = numbers_of c.args.root.now.nodes in
     let span = (out-NestedExpr c.in-Nested.nested).span in
@@ -125,13 +125,13 @@ primary-returns-in-Nested-clause-err g t c =
 pub instantiation-returns-in_err-of-clause-err : goal.instantiation-returns-in_err-of-clause-err
 instantiation-returns-in_err-of-clause-err g t c =
     let p = err_from_is_err_and c.from_residual.result c.from_residual.ensures.1 in
-    rw (p.1, p.2) (reports c.in_err-of.ensures.err (stand.unknown_breaks c.args.setting.now (rules_by (g.R.Rules.passes c.args.rules.now) (g.R.Rules.named c.args.rules.now)) c.args.state.now.graph (numbers_of c.args.root.now.nodes) c.args.new.now.span (package_name_of c.args.new.now.«package»)
+    rw (p.1, p.2) (reports c.in_err-of.ensures.err (stand.unknown_breaks c.args.setting.now (rules_of g.R.Rules c.args.rules.now) c.args.state.now.graph (numbers_of c.args.root.now.nodes) c.args.new.now.span (package_name_of c.args.new.now.«package»)
     (arguments_from (map argument_of c.args.new.now.arguments.items)) (told c.in_err-of.field-0.0)))
 
 pub instantiation-returns-in_err-arguments-clause-err : goal.instantiation-returns-in_err-arguments-clause-err
 instantiation-returns-in_err-arguments-clause-err g t c =
     let s = c.args.setting.now in
-    let rules = rules_by (g.R.Rules.passes c.args.rules.now) (g.R.Rules.named c.args.rules.now) in
+    let rules = rules_of g.R.Rules c.args.rules.now in
     let declared = numbers_of c.args.root.now.nodes in
     let loaded = c.instantiable.new.state.graph in
     let e = told c.in_err-arguments.field-0.0 in
@@ -150,12 +150,12 @@ instantiation-complete-requires-clause-agrees g t c =
 pub instantiation-complete-requires-clause-loaded : goal.instantiation-complete-requires-clause-loaded
 instantiation-complete-requires-clause-loaded g t c =
     let l = c.in_ok-of.ensures.ok in
-    (l.held, stand.loaded_still c.args.setting.now (rules_by (g.R.Rules.passes c.args.rules.now) (g.R.Rules.named c.args.rules.now)) c.instantiable.new.state.graph c.arguments.new.state.graph c.in_ok-of.of l.held c.in_ok-arguments.ensures.ok.extends l.loaded)
+    (l.held, stand.loaded_still c.args.setting.now (rules_of g.R.Rules c.args.rules.now) c.instantiable.new.state.graph c.arguments.new.state.graph c.in_ok-of.of l.held c.in_ok-arguments.ensures.ok.extends l.loaded)
 
 pub instantiation-complete-requires-clause-stand : goal.instantiation-complete-requires-clause-stand
 instantiation-complete-requires-clause-stand g t c =
     let s = c.args.setting.now in
-    let rules = rules_by (g.R.Rules.passes c.args.rules.now) (g.R.Rules.named c.args.rules.now) in
+    let rules = rules_of g.R.Rules c.args.rules.now in
     let declared = numbers_of c.args.root.now.nodes in
     let loaded = c.instantiable.new.state.graph in
     let gave = subst (λ (l : List CodeArgument). ArgumentsGo s rules loaded c.arguments.new.state.graph (by_name c.new-given.result.entries) (by_name c.arguments.new.given.entries) declared c.in_ok-of.of.world (arguments_from (map argument_of l))) c.deref.ensures.value c.in_ok-arguments.ensures.ok in
@@ -165,7 +165,7 @@ instantiation-complete-requires-clause-stand g t c =
 pub instantiation-returns-clause-ok : goal.instantiation-returns-clause-ok
 instantiation-returns-clause-ok g t c =
     let s = c.args.setting.now in
-    let rules = rules_by (g.R.Rules.passes c.args.rules.now) (g.R.Rules.named c.args.rules.now) in
+    let rules = rules_of g.R.Rules c.args.rules.now in
     let declared = numbers_of c.args.root.now.nodes in
     let old = c.args.state.now.graph in
     let loaded = c.instantiable.new.state.graph in
@@ -180,7 +180,7 @@ instantiation-returns-clause-ok g t c =
 pub instantiation-returns-clause-err : goal.instantiation-returns-clause-err
 instantiation-returns-clause-err g t c =
     let s = c.args.setting.now in
-    let rules = rules_by (g.R.Rules.passes c.args.rules.now) (g.R.Rules.named c.args.rules.now) in
+    let rules = rules_of g.R.Rules c.args.rules.now in
     let declared = numbers_of c.args.root.now.nodes in
     let old = c.args.state.now.graph in
     let loaded = c.instantiable.new.state.graph in
@@ -209,7 +209,7 @@ instantiation-arguments-requires g t c κs within =
 
 pub arguments-loop-one-init : goal.arguments-loop-one-init
 arguments-loop-one-init g t c = record {
-  so_far = stand.none_yet c.args.setting.now (rules_by (g.R.Rules.passes c.args.rules.now) (g.R.Rules.named c.args.rules.now)) c.args.state.now.graph (by_name c.args.given.now.entries) (numbers_of c.args.root.now.nodes) c.args.world c.args.arguments.now
+  so_far = stand.none_yet c.args.setting.now (rules_of g.R.Rules c.args.rules.now) c.args.state.now.graph (by_name c.args.given.now.entries) (numbers_of c.args.root.now.nodes) c.args.world c.args.arguments.now
       c.requires.agrees.nodes c.requires.handed c.requires.there;
   left = omega arith;
 }
@@ -231,7 +231,7 @@ pub arguments-returns-in_err-argument-clause-err : goal.arguments-returns-in_err
 arguments-returns-in_err-argument-clause-err g t c =
     let p = err_from_is_err_and c.from_residual.result c.from_residual.ensures.1 in
     let last : c.loop-one.left - 1 ≡ length c.args.arguments.now - suc c.loop-one.one-index = omega (arith, c.loop-one.invariant.left) in
-    rw (p.1, p.2) (reports c.in_err-argument.ensures.err (stand.argument_breaks c.args.setting.now (rules_by (g.R.Rules.passes c.args.rules.now) (g.R.Rules.named c.args.rules.now)) c.args.state.now.graph (by_name c.args.given.now.entries) (numbers_of c.args.root.now.nodes) c.args.world
+    rw (p.1, p.2) (reports c.in_err-argument.ensures.err (stand.argument_breaks c.args.setting.now (rules_of g.R.Rules c.args.rules.now) c.args.state.now.graph (by_name c.args.given.now.entries) (numbers_of c.args.root.now.nodes) c.args.world
     c.loop-one.state.graph (by_name c.loop-one.given.entries) c.args.arguments.now c.loop-one.one-index c.one-item.result c.loop-one-test.true c.one-item.is c.requires.world c.loop-one.invariant.so_far
     (nat_eq (c.loop-one.left - 1) 0) (told c.in_err-argument.field-0.0) (ap (λ k. nat_eq k 0) last)))
 
@@ -239,7 +239,7 @@ pub arguments-loop-one-preserved : goal.arguments-loop-one-preserved
 arguments-loop-one-preserved g t c =
     let last : c.loop-one.left - 1 ≡ length c.args.arguments.now - suc c.loop-one.one-index = omega (arith, c.loop-one.invariant.left) in
     record {
-      so_far = stand.arguments_next c.args.setting.now (rules_by (g.R.Rules.passes c.args.rules.now) (g.R.Rules.named c.args.rules.now)) c.args.state.now.graph (by_name c.args.given.now.entries) (numbers_of c.args.root.now.nodes) c.args.world
+      so_far = stand.arguments_next c.args.setting.now (rules_of g.R.Rules c.args.rules.now) c.args.state.now.graph (by_name c.args.given.now.entries) (numbers_of c.args.root.now.nodes) c.args.world
           c.loop-one.state.graph (by_name c.loop-one.given.entries) c.args.arguments.now c.loop-one.one-index c.one-item.result c.loop-one-test.true c.one-item.is c.requires.world c.loop-one.invariant.so_far
           c.argument.new.state.graph (by_name c.argument.new.given.entries) (nat_eq (c.loop-one.left - 1) 0) (ap (λ k. nat_eq k 0) last) c.in_ok-argument.ensures.ok;
       left = omega (arith, c.loop-one.invariant.left);
@@ -247,7 +247,7 @@ arguments-loop-one-preserved g t c =
 
 pub arguments-returns-clause-ok : goal.arguments-returns-clause-ok
 arguments-returns-clause-ok g t c =
-    stand.arguments_end c.args.setting.now (rules_by (g.R.Rules.passes c.args.rules.now) (g.R.Rules.named c.args.rules.now)) c.args.state.now.graph (by_name c.args.given.now.entries) (numbers_of c.args.root.now.nodes) c.args.world
+    stand.arguments_end c.args.setting.now (rules_of g.R.Rules c.args.rules.now) c.args.state.now.graph (by_name c.args.given.now.entries) (numbers_of c.args.root.now.nodes) c.args.world
     c.loop-one.state.graph (by_name c.loop-one.given.entries) c.args.arguments.now c.loop-one.one-index (omega arith) c.loop-one.invariant.so_far
 
 -- ---- an argument
@@ -255,7 +255,7 @@ arguments-returns-clause-ok g t c =
 pub argument-returns-in-Spread-clause-ok : goal.argument-returns-in-Spread-clause-ok
 argument-returns-in-Spread-clause-ok g t c =
     let s = c.args.setting.now in
-    let rules = rules_by (g.R.Rules.passes c.args.rules.now) (g.R.Rules.named c.args.rules.now) in
+    let rules = rules_of g.R.Rules c.args.rules.now in
     let graph = c.args.state.now.graph in
     let given = by_name c.args.given.now.entries in
     subst (λ (x : CodeArgument). ArgumentGoes s rules graph graph given given (numbers_of c.args.root.now.nodes) c.args.world c.args.is_last (argument_of x)) (sym c.in-Spread.is)
@@ -264,7 +264,7 @@ argument-returns-in-Spread-clause-ok g t c =
 pub argument-returns-in-Fill-clause-ok : goal.argument-returns-in-Fill-clause-ok
 argument-returns-in-Fill-clause-ok g t c =
     let s = c.args.setting.now in
-    let rules = rules_by (g.R.Rules.passes c.args.rules.now) (g.R.Rules.named c.args.rules.now) in
+    let rules = rules_of g.R.Rules c.args.rules.now in
     let graph = c.args.state.now.graph in
     let given = by_name c.args.given.now.entries in
     let declared = numbers_of c.args.root.now.nodes in
@@ -274,7 +274,7 @@ argument-returns-in-Fill-clause-ok g t c =
 pub argument-returns-in-Fill-clause-err : goal.argument-returns-in-Fill-clause-err
 argument-returns-in-Fill-clause-err g t c =
     let s = c.args.setting.now in
-    let rules = rules_by (g.R.Rules.passes c.args.rules.now) (g.R.Rules.named c.args.rules.now) in
+    let rules = rules_of g.R.Rules c.args.rules.now in
     let graph = c.args.state.now.graph in
     let given = by_name c.args.given.now.entries in
     let declared = numbers_of c.args.root.now.nodes in
@@ -285,7 +285,7 @@ argument-returns-in-Fill-clause-err g t c =
 pub argument-returns-in-Inferred-clause-ok : goal.argument-returns-in-Inferred-clause-ok
 argument-returns-in-Inferred-clause-ok g t c =
     let s = c.args.setting.now in
-    let rules = rules_by (g.R.Rules.passes c.args.rules.now) (g.R.Rules.named c.args.rules.now) in
+    let rules = rules_of g.R.Rules c.args.rules.now in
     let graph = c.args.state.now.graph in
     let before = by_name c.args.given.now.entries in
     let after = by_name c.give_inferred.new.given.entries in
@@ -296,7 +296,7 @@ argument-returns-in-Inferred-clause-ok g t c =
 pub argument-returns-in-Inferred-clause-err : goal.argument-returns-in-Inferred-clause-err
 argument-returns-in-Inferred-clause-err g t c =
     let s = c.args.setting.now in
-    let rules = rules_by (g.R.Rules.passes c.args.rules.now) (g.R.Rules.named c.args.rules.now) in
+    let rules = rules_of g.R.Rules c.args.rules.now in
     let graph = c.args.state.now.graph in
     let before = by_name c.args.given.now.entries in
     let declared = numbers_of c.args.root.now.nodes in
@@ -306,7 +306,7 @@ argument-returns-in-Inferred-clause-err g t c =
 pub argument-returns-in_err-node-in-Named-clause-err : goal.argument-returns-in_err-node-in-Named-clause-err
 argument-returns-in_err-node-in-Named-clause-err g t c =
     let s = c.args.setting.now in
-    let rules = rules_by (g.R.Rules.passes c.args.rules.now) (g.R.Rules.named c.args.rules.now) in
+    let rules = rules_of g.R.Rules c.args.rules.now in
     let graph = c.args.state.now.graph in
     let before = by_name c.args.given.now.entries in
     let declared = numbers_of c.args.root.now.nodes in
@@ -321,7 +321,7 @@ argument-give_named-requires g t c = world_extended (packages_in c.args.setting.
 pub argument-returns-in_ok-node-in-Named-clause-ok : goal.argument-returns-in_ok-node-in-Named-clause-ok
 argument-returns-in_ok-node-in-Named-clause-ok g t c =
     let s = c.args.setting.now in
-    let rules = rules_by (g.R.Rules.passes c.args.rules.now) (g.R.Rules.named c.args.rules.now) in
+    let rules = rules_of g.R.Rules c.args.rules.now in
     let graph = c.args.state.now.graph in
     let mid = c.expression.new.state.graph in
     let before = by_name c.args.given.now.entries in
@@ -333,7 +333,7 @@ argument-returns-in_ok-node-in-Named-clause-ok g t c =
 pub argument-returns-in_ok-node-in-Named-clause-err : goal.argument-returns-in_ok-node-in-Named-clause-err
 argument-returns-in_ok-node-in-Named-clause-err g t c =
     let s = c.args.setting.now in
-    let rules = rules_by (g.R.Rules.passes c.args.rules.now) (g.R.Rules.named c.args.rules.now) in
+    let rules = rules_of g.R.Rules c.args.rules.now in
     let graph = c.args.state.now.graph in
     let mid = c.expression.new.state.graph in
     let before = by_name c.args.given.now.entries in

@@ -5,13 +5,13 @@ use Rattle.wac_ast_expressions.specs.declared.expr.Expr.{size-Expr}
 use Rattle.wac_ast_expressions.specs.declared.expr.InstantiationArgument.{size-InstantiationArgument}
 use Rattle.wac_ast_expressions.specs.declared.expr.NewExpr.{size-NewExpr}
 use Rattle.wac_ast_expressions.specs.declared.expr.PrimaryExpr.{size-PrimaryExpr}
-use Rattle.wac_resolution_rules.specs.Given.{rules_by}
+use Rattle.wac_resolution_rules.specs.Given.{rules_of}
 use Rattle.wac_resolution_nodes.specs.Root.{numbers_of}
 use Rattle.wac_resolution_expressions.proofs.Standing.{InLoop}
 use Rattle.wac_resolution_expressions.proofs.expr.+expression.Given as goal
 
 abbrev pub invariant-arguments-loop-one : goal.invariant-arguments-loop-one
-invariant-arguments-loop-one g l = InLoop l.setting (rules_by (g.R.Rules.passes l.rules) (g.R.Rules.named l.rules)) l.fn.state.graph (by_name l.fn.given.entries) (numbers_of l.root.nodes) l.world l.state.graph (by_name l.given.entries) l.arguments l.one-index l.left
+invariant-arguments-loop-one g l = InLoop l.setting (rules_of g.R.Rules l.rules) l.fn.state.graph (by_name l.fn.given.entries) (numbers_of l.root.nodes) l.world l.state.graph (by_name l.given.entries) l.arguments l.one-index l.left
 
 abbrev pub decreases-expression : goal.decreases-expression
 decreases-expression g l = 8 * size-Expr l.expr.now + 0

@@ -1,7 +1,7 @@
 use Rattle.std.proofs.Common.{List, ap, subst, ℕ}
 use Rattle.std.specs.Prelude.{string_bytes}
 use Rattle.wac_graph_types.specs.Names.{by_name}
-use Rattle.wac_resolution_rules.specs.Given.{rules_by}
+use Rattle.wac_resolution_rules.specs.Given.{rules_of}
 use Rattle.wac_resolution_expressions.specs.Fits.{IsFit}
 use Rattle.wac_resolution_expressions.proofs.Fitting.{none_fit, next_there, fit_next, fit_end, misfit_first}
 use Rattle.wac_resolution_expressions.proofs.fits.misfit.Goals as goal
@@ -9,7 +9,7 @@ use Rattle.wac_resolution_expressions.proofs.fits.misfit.Goals as goal
 pub loop-name-init : goal.loop-name-init
 loop-name-init g c =
     rw (c.into_iter-name-iterator.ensures.into_iter_gives, c.iter-name-items.ensures.rest)
-    (none_fit (rules_by (g.R.Rules.passes c.args.rules.now) (g.R.Rules.named c.args.rules.now)) c.args.state.now.graph c.args.world (by_name c.args.given.now.entries) c.requires.there)
+    (none_fit (rules_of g.R.Rules c.args.rules.now) c.args.state.now.graph c.args.world (by_name c.args.given.now.entries) c.requires.there)
 
 pub fits-requires-clause-there : goal.fits-requires-clause-there
 fits-requires-clause-there g c =
@@ -17,15 +17,15 @@ fits-requires-clause-there g c =
 
 pub loop-name-preserved : goal.loop-name-preserved
 loop-name-preserved g c =
-    fit_next (rules_by (g.R.Rules.passes c.args.rules.now) (g.R.Rules.named c.args.rules.now)) c.args.state.now.graph c.args.world (by_name c.args.given.now.entries) (by_name c.loop-name.name-iterator) (by_name c.next.new.self) (string_bytes c.in-Some.name.now, c.in-Some.node.now)
+    fit_next (rules_of g.R.Rules c.args.rules.now) c.args.state.now.graph c.args.world (by_name c.args.given.now.entries) (by_name c.loop-name.name-iterator) (by_name c.next.new.self) (string_bytes c.in-Some.name.now, c.in-Some.node.now)
     (ap by_name c.in-Some.ensures.steps) c.loop-name.invariant
-    (subst (λ (n : List ℕ). IsFit (rules_by (g.R.Rules.passes c.args.rules.now) (g.R.Rules.named c.args.rules.now)) c.args.state.now.graph c.args.world n c.in-Some.node.now.0) c.as_str-text.ensures.value c.in-Ok.ensures.ok)
+    (subst (λ (n : List ℕ). IsFit (rules_of g.R.Rules c.args.rules.now) c.args.state.now.graph c.args.world n c.in-Some.node.now.0) c.as_str-text.ensures.value c.in-Ok.ensures.ok)
 
 pub returns-in-Err : goal.returns-in-Err
 returns-in-Err g c =
-    misfit_first (rules_by (g.R.Rules.passes c.args.rules.now) (g.R.Rules.named c.args.rules.now)) c.args.state.now.graph c.args.world (by_name c.args.given.now.entries) (by_name c.loop-name.name-iterator) (by_name c.next.new.self) (string_bytes c.in-Some.name.now, c.in-Some.node.now) c.as_str-text.result.now c.in-Err.reason
+    misfit_first (rules_of g.R.Rules c.args.rules.now) c.args.state.now.graph c.args.world (by_name c.args.given.now.entries) (by_name c.loop-name.name-iterator) (by_name c.next.new.self) (string_bytes c.in-Some.name.now, c.in-Some.node.now) c.as_str-text.result.now c.in-Err.reason
     (ap by_name c.in-Some.ensures.steps) c.as_str-text.ensures.value c.loop-name.invariant c.in-Err.ensures.err
 
 pub returns : goal.returns
 returns g c =
-    fit_end (rules_by (g.R.Rules.passes c.args.rules.now) (g.R.Rules.named c.args.rules.now)) c.args.state.now.graph c.args.world (by_name c.args.given.now.entries) (by_name c.loop-name.name-iterator) (ap by_name c.in-None.ensures.steps.0) c.loop-name.invariant
+    fit_end (rules_of g.R.Rules c.args.rules.now) c.args.state.now.graph c.args.world (by_name c.args.given.now.entries) (by_name c.loop-name.name-iterator) (ap by_name c.in-None.ensures.steps.0) c.loop-name.invariant

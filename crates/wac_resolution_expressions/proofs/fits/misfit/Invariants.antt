@@ -1,7 +1,7 @@
 use Rattle.wac_graph_types.specs.Names.{by_name}
-use Rattle.wac_resolution_rules.specs.Given.{rules_by}
+use Rattle.wac_resolution_rules.specs.Given.{rules_of}
 use Rattle.wac_resolution_expressions.proofs.Fitting.{FitSoFar}
 use Rattle.wac_resolution_expressions.proofs.fits.misfit.Given as goal
 
 abbrev pub invariant-loop-name : goal.invariant-loop-name
-invariant-loop-name g l = FitSoFar (rules_by (g.R.Rules.passes l.rules) (g.R.Rules.named l.rules)) l.state.graph l.world (by_name l.given.entries) (by_name l.name-iterator)
+invariant-loop-name g l = FitSoFar (rules_of g.R.Rules l.rules) l.state.graph l.world (by_name l.given.entries) (by_name l.name-iterator)

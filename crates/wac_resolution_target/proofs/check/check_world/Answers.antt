@@ -10,6 +10,7 @@ use Rattle.wac_resolution_target.specs.Testing.{testing, AllMet, SomeUnmet}
 use Rattle.wac_resolution_errors.proofs.Reports.{reports}
 use Rattle.wac_resolution_target.proofs.Firsts.{as_ok, as_err}
 use Rattle.wac_resolution_target.proofs.check.check_world.Goals as goal
+use Rattle.wac_resolution_rules.specs.Given.{rules_of}
 
 pub returns-in_err-check_imports-clause-err : goal.returns-in_err-check_imports-clause-err
 returns-in_err-check_imports-clause-err g c =
@@ -23,8 +24,8 @@ returns-in_err-check_open_imports-clause-err g c =
 
 pub returns-clause-ok : goal.returns-clause-ok
 returns-clause-ok g c =
-    as_ok c.check_exports.result (AllMet (testing c.args.state.now.graph (g.R.Rules.passes c.args.rules.now) (g.R.Rules.named c.args.rules.now) c.args.target.now) (of_kind c.args.state.now.graph) (world_exports c.args.state.now.graph.types c.args.target.now.world.0)) (WorldMet (testing c.args.state.now.graph (g.R.Rules.passes c.args.rules.now) (g.R.Rules.named c.args.rules.now) c.args.target.now)) (λ m. record { nodes = c.in_ok-check_imports.ensures.ok; opens = c.in_ok-check_open_imports.ensures.ok; exports = m }) c.check_exports.ensures.ok
+    as_ok c.check_exports.result (AllMet (testing c.args.state.now.graph (rules_of g.R.Rules c.args.rules.now) c.args.target.now) (of_kind c.args.state.now.graph) (world_exports c.args.state.now.graph.types c.args.target.now.world.0)) (WorldMet (testing c.args.state.now.graph (rules_of g.R.Rules c.args.rules.now) c.args.target.now)) (λ m. record { nodes = c.in_ok-check_imports.ensures.ok; opens = c.in_ok-check_open_imports.ensures.ok; exports = m }) c.check_exports.ensures.ok
 
 pub returns-clause-err : goal.returns-clause-err
 returns-clause-err g c =
-    as_err c.check_exports.result (λ e. Reports (told e) (SomeUnmet (testing c.args.state.now.graph (g.R.Rules.passes c.args.rules.now) (g.R.Rules.named c.args.rules.now) c.args.target.now) (by_name c.args.externs.now.exported.entries) (of_kind c.args.state.now.graph) (world_exports c.args.state.now.graph.types c.args.target.now.world.0) (told e))) (λ e. Reports (told e) (WorldUnmet (testing c.args.state.now.graph (g.R.Rules.passes c.args.rules.now) (g.R.Rules.named c.args.rules.now) c.args.target.now) (by_name c.args.externs.now.imported.entries) (by_name c.args.externs.now.exported.entries) (told e))) (λ e d. reports d (λ u. inr (inr (c.in_ok-check_imports.ensures.ok, c.in_ok-check_open_imports.ensures.ok, u)))) c.check_exports.ensures.err
+    as_err c.check_exports.result (λ e. Reports (told e) (SomeUnmet (testing c.args.state.now.graph (rules_of g.R.Rules c.args.rules.now) c.args.target.now) (by_name c.args.externs.now.exported.entries) (of_kind c.args.state.now.graph) (world_exports c.args.state.now.graph.types c.args.target.now.world.0) (told e))) (λ e. Reports (told e) (WorldUnmet (testing c.args.state.now.graph (rules_of g.R.Rules c.args.rules.now) c.args.target.now) (by_name c.args.externs.now.imported.entries) (by_name c.args.externs.now.exported.entries) (told e))) (λ e d. reports d (λ u. inr (inr (c.in_ok-check_imports.ensures.ok, c.in_ok-check_open_imports.ensures.ok, u)))) c.check_exports.ensures.err

@@ -4,10 +4,11 @@ use Rattle.wac_resolution_target.specs.Imported.{of_kind}
 use Rattle.wac_resolution_target.specs.Testing.{testing, Met}
 use Rattle.wac_resolution_target.proofs.Firsts.{Through}
 use Rattle.wac_resolution_target.proofs.exports.check_each.Given as goal
+use Rattle.wac_resolution_rules.specs.Given.{rules_of}
 
 abbrev pub invariant-loop-name : goal.invariant-loop-name
 invariant-loop-name g l =
     record {
       named : ItemsNamed l.state.graph.types (by_name l.name-iterator);
-      through : Through (λ x. Met (testing l.state.graph (g.R.Rules.passes l.rules) (g.R.Rules.named l.rules) l.target) (of_kind l.state.graph x)) (by_name l.exports.entries) (by_name l.name-iterator);
+      through : Through (λ x. Met (testing l.state.graph (rules_of g.R.Rules l.rules) l.target) (of_kind l.state.graph x)) (by_name l.exports.entries) (by_name l.name-iterator);
     }

@@ -12,6 +12,7 @@ use Rattle.wac_resolution_errors.specs.Told.{told}
 use Rattle.wac_resolution_target.specs.Imported.{of_kind}
 use Rattle.wac_resolution_target.specs.Testing.{testing, AllMet, SomeUnmet}
 use Rattle.wac_resolution_target.proofs.exports.check_exports.Goals as goal
+use Rattle.wac_resolution_rules.specs.Given.{rules_of}
 
 pub check_each-requires-clause-named : goal.check_each-requires-clause-named
 check_each-requires-clause-named g c =
@@ -19,12 +20,12 @@ check_each-requires-clause-named g c =
 
 pub returns-in-Some-clause-ok : goal.returns-in-Some-clause-ok
 returns-in-Some-clause-ok g c =
-    subst (λ (l : Named ItemKind). OnOk c.check_each.result (AllMet (testing c.args.state.now.graph (g.R.Rules.passes c.args.rules.now) (g.R.Rules.named c.args.rules.now) c.args.target.now) (of_kind c.args.state.now.graph) l)) (c.in-Some.ensures ∙ ap (λ (es : List Entry). world_exports es c.args.target.now.world.0) c.types-types.ensures.types) c.check_each.ensures.ok
+    subst (λ (l : Named ItemKind). OnOk c.check_each.result (AllMet (testing c.args.state.now.graph (rules_of g.R.Rules c.args.rules.now) c.args.target.now) (of_kind c.args.state.now.graph) l)) (c.in-Some.ensures ∙ ap (λ (es : List Entry). world_exports es c.args.target.now.world.0) c.types-types.ensures.types) c.check_each.ensures.ok
 
 pub returns-in-Some-clause-err : goal.returns-in-Some-clause-err
 returns-in-Some-clause-err g c =
-    subst (λ (l : Named ItemKind). IfErr c.check_each.result (λ e. Reports (told e) (SomeUnmet (testing c.args.state.now.graph (g.R.Rules.passes c.args.rules.now) (g.R.Rules.named c.args.rules.now) c.args.target.now) (by_name c.args.places.now.entries) (of_kind c.args.state.now.graph) l (told e)))) (c.in-Some.ensures ∙ ap (λ (es : List Entry). world_exports es c.args.target.now.world.0) c.types-types.ensures.types)
+    subst (λ (l : Named ItemKind). IfErr c.check_each.result (λ e. Reports (told e) (SomeUnmet (testing c.args.state.now.graph (rules_of g.R.Rules c.args.rules.now) c.args.target.now) (by_name c.args.places.now.entries) (of_kind c.args.state.now.graph) l (told e)))) (c.in-Some.ensures ∙ ap (λ (es : List Entry). world_exports es c.args.target.now.world.0) c.types-types.ensures.types)
     c.check_each.ensures.err
 
 pub returns-in-None-clause-ok : goal.returns-in-None-clause-ok
-returns-in-None-clause-ok g c = subst (AllMet (testing c.args.state.now.graph (g.R.Rules.passes c.args.rules.now) (g.R.Rules.named c.args.rules.now) c.args.target.now) (of_kind c.args.state.now.graph)) (c.in-None.ensures ∙ ap (λ (es : List Entry). world_exports es c.args.target.now.world.0) c.types-types.ensures.types) tt
+returns-in-None-clause-ok g c = subst (AllMet (testing c.args.state.now.graph (rules_of g.R.Rules c.args.rules.now) c.args.target.now) (of_kind c.args.state.now.graph)) (c.in-None.ensures ∙ ap (λ (es : List Entry). world_exports es c.args.target.now.world.0) c.types-types.ensures.types) tt

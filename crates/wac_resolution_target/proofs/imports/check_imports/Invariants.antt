@@ -4,6 +4,7 @@ use Rattle.wac_resolution_target.specs.Imported.{of_node}
 use Rattle.wac_resolution_target.specs.Testing.{testing, Allowed}
 use Rattle.wac_resolution_target.proofs.Firsts.{Through}
 use Rattle.wac_resolution_target.proofs.imports.check_imports.Given as goal
+use Rattle.wac_resolution_rules.specs.Given.{rules_of}
 
 abbrev pub invariant-loop-name : goal.invariant-loop-name
 invariant-loop-name g l =
@@ -11,5 +12,5 @@ invariant-loop-name g l =
       can : (goal.iterator-loop-name g).can_next l.name-iterator;
       finite : (goal.iterator-loop-name g).is_finite l.name-iterator;
       there : NamesNodes (length l.state.graph.nodes) l.name-iterator;
-      through : Through (λ x. Allowed (testing l.state.graph (g.R.Rules.passes l.rules) (g.R.Rules.named l.rules) l.target) (of_node l.state.graph x)) l.state.graph.imports l.name-iterator;
+      through : Through (λ x. Allowed (testing l.state.graph (rules_of g.R.Rules l.rules) l.target) (of_node l.state.graph x)) l.state.graph.imports l.name-iterator;
     }

@@ -5,10 +5,11 @@ use Rattle.wac_resolution_target.specs.Imported.{of_kind, left_open}
 use Rattle.wac_resolution_target.specs.Testing.{testing, Allowed}
 use Rattle.wac_resolution_target.proofs.Firsts.{Through}
 use Rattle.wac_resolution_target.proofs.open.check_left_open.Given as goal
+use Rattle.wac_resolution_rules.specs.Given.{rules_of}
 
 abbrev pub invariant-loop-name : goal.invariant-loop-name
 invariant-loop-name g l =
     record {
       named : ItemsNamed l.state.graph.types (by_name l.name-iterator);
-      through : Through (λ x. Allowed (testing l.state.graph (g.R.Rules.passes l.rules) (g.R.Rules.named l.rules) l.target) (of_kind l.state.graph x)) (left_open (arguments_of l.state.graph l.node.0) (by_name l.imports.entries)) (left_open (arguments_of l.state.graph l.node.0) (by_name l.name-iterator));
+      through : Through (λ x. Allowed (testing l.state.graph (rules_of g.R.Rules l.rules) l.target) (of_kind l.state.graph x)) (left_open (arguments_of l.state.graph l.node.0) (by_name l.imports.entries)) (left_open (arguments_of l.state.graph l.node.0) (by_name l.name-iterator));
     }

@@ -6,6 +6,7 @@ use Rattle.wac_resolution_target.specs.Imported.{of_kind, open_at}
 use Rattle.wac_resolution_target.specs.Testing.{testing, Allowed}
 use Rattle.wac_resolution_target.proofs.Firsts.{Through}
 use Rattle.wac_resolution_target.proofs.open.check_open_imports.Given as goal
+use Rattle.wac_resolution_rules.specs.Given.{rules_of}
 
 abbrev pub invariant-loop-node : goal.invariant-loop-node
 invariant-loop-node g l =
@@ -13,5 +14,5 @@ invariant-loop-node g l =
       can : (goal.iterator-loop-node g).can_next l.node-iterator;
       finite : (goal.iterator-loop-node g).is_finite l.node-iterator;
       there : AllByRecursion (λ i. i < length l.state.graph.nodes) l.node-iterator;
-      through : Through (λ x. Allowed (testing l.state.graph (g.R.Rules.passes l.rules) (g.R.Rules.named l.rules) l.target) (of_kind l.state.graph x)) (flat_map (open_at l.state.graph) (numbers 0 (length l.state.graph.nodes))) (flat_map (open_at l.state.graph) l.node-iterator);
+      through : Through (λ x. Allowed (testing l.state.graph (rules_of g.R.Rules l.rules) l.target) (of_kind l.state.graph x)) (flat_map (open_at l.state.graph) (numbers 0 (length l.state.graph.nodes))) (flat_map (open_at l.state.graph) l.node-iterator);
     }

@@ -2,7 +2,7 @@ use Rattle.std.proofs.Common.{◌∙◌, inl}
 use Rattle.std.proofs.lemmas.Result.{IfOk-weaker, err_from_is_err_and}
 use Rattle.wac_ast.specs.Statements.{document_of}
 use Rattle.wac_resolution_mentions.specs.Noted.{mentions_in}
-use Rattle.wac_resolution_rules.specs.Given.{rules_by}
+use Rattle.wac_resolution_rules.specs.Given.{rules_of}
 use Rattle.wac_resolution_rules.specs.Mentions.{mentions}
 use Rattle.wac_resolution_state.proofs.Scopes.{memory_told}
 use Rattle.wac_resolution.specs.Resolved.{HoldsMentioned, HoldsSupplied}
@@ -23,7 +23,7 @@ returns-in_err-mentioned-clause-first g c =
 pub returns-in_err-mentioned-clause-layout : goal.returns-in_err-mentioned-clause-layout
 returns-in_err-mentioned-clause-layout g c =
     let p = err_from_is_err_and c.from_residual.result c.from_residual.ensures.1 in
-    rw p.1 (error_is_right c.args.packages.entries (rules_by (g.R.Rules.passes c.args.rules.now) (g.R.Rules.named c.args.rules.now)) (document_of c.args.self) p.0 (λ naming one composition described. memory_told p.0 p.2))
+    rw p.1 (error_is_right c.args.packages.entries (rules_of g.R.Rules c.args.rules.now) (document_of c.args.self) p.0 (λ naming one composition described. memory_told p.0 p.2))
 
 pub returns-clause-held : goal.returns-clause-held
 returns-clause-held g c =
@@ -37,18 +37,18 @@ returns-clause-supplied g c =
 
 pub returns-clause-graph : goal.returns-clause-graph
 returns-clause-graph g c =
-    (c.resolve_with.ensures.graph.0, promised_graph (document_of c.args.self) c.args.packages.entries c.keep_mentioned-kept.result.entries (kept_for c.new.result c.args.self c.args.packages.entries c.keep_mentioned-kept.result.entries (mentions_in c.in_ok-mentioned.mentioned.entries) (c.new.ensures ∙ c.self.view_is) c.in_ok-mentioned.ensures.first c.in_ok-mentioned.ensures.matter c.keep_mentioned-kept.ensures) (rules_by (g.R.Rules.passes c.args.rules.now) (g.R.Rules.named c.args.rules.now)) c.resolve_with.ensures.graph.0 c.resolve_with.result c.resolve_with.ensures.graph.1)
+    (c.resolve_with.ensures.graph.0, promised_graph (document_of c.args.self) c.args.packages.entries c.keep_mentioned-kept.result.entries (kept_for c.new.result c.args.self c.args.packages.entries c.keep_mentioned-kept.result.entries (mentions_in c.in_ok-mentioned.mentioned.entries) (c.new.ensures ∙ c.self.view_is) c.in_ok-mentioned.ensures.first c.in_ok-mentioned.ensures.matter c.keep_mentioned-kept.ensures) (rules_of g.R.Rules c.args.rules.now) c.resolve_with.ensures.graph.0 c.resolve_with.result c.resolve_with.ensures.graph.1)
 
 pub returns-clause-only : goal.returns-clause-only
 returns-clause-only g c =
-    λ declared. promised_only (document_of c.args.self) c.args.packages.entries c.keep_mentioned-kept.result.entries (kept_for c.new.result c.args.self c.args.packages.entries c.keep_mentioned-kept.result.entries (mentions_in c.in_ok-mentioned.mentioned.entries) (c.new.ensures ∙ c.self.view_is) c.in_ok-mentioned.ensures.first c.in_ok-mentioned.ensures.matter c.keep_mentioned-kept.ensures) (rules_by (g.R.Rules.passes c.args.rules.now) (g.R.Rules.named c.args.rules.now)) declared c.resolve_with.result (c.resolve_with.ensures.only declared)
+    λ declared. promised_only (document_of c.args.self) c.args.packages.entries c.keep_mentioned-kept.result.entries (kept_for c.new.result c.args.self c.args.packages.entries c.keep_mentioned-kept.result.entries (mentions_in c.in_ok-mentioned.mentioned.entries) (c.new.ensures ∙ c.self.view_is) c.in_ok-mentioned.ensures.first c.in_ok-mentioned.ensures.matter c.keep_mentioned-kept.ensures) (rules_of g.R.Rules c.args.rules.now) declared c.resolve_with.result (c.resolve_with.ensures.only declared)
 
 pub returns-clause-first : goal.returns-clause-first
 returns-clause-first g c =
-    λ declared. promised_first (document_of c.args.self) c.args.packages.entries c.keep_mentioned-kept.result.entries (kept_for c.new.result c.args.self c.args.packages.entries c.keep_mentioned-kept.result.entries (mentions_in c.in_ok-mentioned.mentioned.entries) (c.new.ensures ∙ c.self.view_is) c.in_ok-mentioned.ensures.first c.in_ok-mentioned.ensures.matter c.keep_mentioned-kept.ensures) (rules_by (g.R.Rules.passes c.args.rules.now) (g.R.Rules.named c.args.rules.now)) declared c.resolve_with.result (c.resolve_with.ensures.first declared)
+    λ declared. promised_first (document_of c.args.self) c.args.packages.entries c.keep_mentioned-kept.result.entries (kept_for c.new.result c.args.self c.args.packages.entries c.keep_mentioned-kept.result.entries (mentions_in c.in_ok-mentioned.mentioned.entries) (c.new.ensures ∙ c.self.view_is) c.in_ok-mentioned.ensures.first c.in_ok-mentioned.ensures.matter c.keep_mentioned-kept.ensures) (rules_of g.R.Rules c.args.rules.now) declared c.resolve_with.result (c.resolve_with.ensures.first declared)
 
 pub returns-clause-layout : goal.returns-clause-layout
 returns-clause-layout g c =
-    result_is_right c.args.packages.entries (rules_by (g.R.Rules.passes c.args.rules.now) (g.R.Rules.named c.args.rules.now)) (document_of c.args.self) c.resolve_with.result c.resolve_with.ensures.graph.0
-    (promised_graph (document_of c.args.self) c.args.packages.entries c.keep_mentioned-kept.result.entries (kept_for c.new.result c.args.self c.args.packages.entries c.keep_mentioned-kept.result.entries (mentions_in c.in_ok-mentioned.mentioned.entries) (c.new.ensures ∙ c.self.view_is) c.in_ok-mentioned.ensures.first c.in_ok-mentioned.ensures.matter c.keep_mentioned-kept.ensures) (rules_by (g.R.Rules.passes c.args.rules.now) (g.R.Rules.named c.args.rules.now)) c.resolve_with.ensures.graph.0 c.resolve_with.result c.resolve_with.ensures.graph.1)
-    (λ declared. promised_only (document_of c.args.self) c.args.packages.entries c.keep_mentioned-kept.result.entries (kept_for c.new.result c.args.self c.args.packages.entries c.keep_mentioned-kept.result.entries (mentions_in c.in_ok-mentioned.mentioned.entries) (c.new.ensures ∙ c.self.view_is) c.in_ok-mentioned.ensures.first c.in_ok-mentioned.ensures.matter c.keep_mentioned-kept.ensures) (rules_by (g.R.Rules.passes c.args.rules.now) (g.R.Rules.named c.args.rules.now)) declared c.resolve_with.result (c.resolve_with.ensures.only declared))
+    result_is_right c.args.packages.entries (rules_of g.R.Rules c.args.rules.now) (document_of c.args.self) c.resolve_with.result c.resolve_with.ensures.graph.0
+    (promised_graph (document_of c.args.self) c.args.packages.entries c.keep_mentioned-kept.result.entries (kept_for c.new.result c.args.self c.args.packages.entries c.keep_mentioned-kept.result.entries (mentions_in c.in_ok-mentioned.mentioned.entries) (c.new.ensures ∙ c.self.view_is) c.in_ok-mentioned.ensures.first c.in_ok-mentioned.ensures.matter c.keep_mentioned-kept.ensures) (rules_of g.R.Rules c.args.rules.now) c.resolve_with.ensures.graph.0 c.resolve_with.result c.resolve_with.ensures.graph.1)
+    (λ declared. promised_only (document_of c.args.self) c.args.packages.entries c.keep_mentioned-kept.result.entries (kept_for c.new.result c.args.self c.args.packages.entries c.keep_mentioned-kept.result.entries (mentions_in c.in_ok-mentioned.mentioned.entries) (c.new.ensures ∙ c.self.view_is) c.in_ok-mentioned.ensures.first c.in_ok-mentioned.ensures.matter c.keep_mentioned-kept.ensures) (rules_of g.R.Rules c.args.rules.now) declared c.resolve_with.result (c.resolve_with.ensures.only declared))
