@@ -26,9 +26,9 @@ use Rattle.wac_resolution_state.specs.Named.{scope_of}
 use Rattle.wac_resolution_nodes.specs.declared.root.Root.{Root}
 use Rattle.wac_resolution_nodes.specs.Root.{composed, Agrees}
 use Rattle.wac_resolution_nodes.proofs.Roots.{scope_agrees}
-use Rattle.wac_resolution_paths.specs.declared.setting.Setting.{Setting}
-use Rattle.wac_resolution_paths.specs.Expands.{HoldsHanded}
-use Rattle.wac_resolution_paths.specs.Setting.{packages_in, setting_of}
+use Rattle.wac_resolution_paths.specs.declared.context.Context.{Context}
+use Rattle.wac_resolution_paths.specs.Expands.{AllSupplied}
+use Rattle.wac_resolution_paths.specs.Context.{packages_in, context_of}
 use Rattle.wac_resolution_paths.proofs.Expanding.{grows_expands, handed_grown}
 use Rattle.wac_resolution_worlds.specs.Declared.{InterfaceDeclared, WorldDeclared}
 use Rattle.wac_resolution.specs.Definitions.{KindDeclared}
@@ -39,62 +39,62 @@ in_root P naming g root h p = subst P (sym (scope_agrees naming g root h)) p
 
 -- ---- the kind
 
-pub interface_kind : (setting : Setting) (old new : Parts) (root : Root) (x : CodeStatement) (d : InterfaceDecl) (r : Result ItemKind CodeError) → type_statement_of x ≡ TypeStatement.interface d → Agrees old root
-    → IfOk r (InterfaceDeclared setting old new (values_of root.kinds) d) → IfOk r (KindDeclared setting old new root (type_statement_of x))
-interface_kind setting old new root x d (Err e) is agrees h = tt
-interface_kind setting old new root x d (Ok k) is agrees h = subst (λ (s : TypeStatement). KindDeclared setting old new root s k) (sym is) (record {
+pub interface_kind : (context : Context) (old new : Parts) (root : Root) (x : CodeStatement) (d : InterfaceDecl) (r : Result ItemKind CodeError) → type_statement_of x ≡ TypeStatement.interface d → Agrees old root
+    → IfOk r (InterfaceDeclared context old new (values_of root.kinds) d) → IfOk r (KindDeclared context old new root (type_statement_of x))
+interface_kind context old new root x d (Err e) is agrees h = tt
+interface_kind context old new root x d (Ok k) is agrees h = subst (λ (s : TypeStatement). KindDeclared context old new root s k) (sym is) (record {
   grows = h.grows;
-  handed = h.handed;
+  supplied = h.supplied;
   named = h.named;
   is = λ naming.
-      in_root (λ scope. (entry : Meaning) × IsInterface (setting_of naming setting) scope (declared_count old) (declared_id (setting_of naming setting) d.id.string) d.items entry (declared_count new) × (means naming new k ≡ kind_of an_interface entry))
+      in_root (λ scope. (entry : Meaning) × IsInterface (context_of naming context) scope (declared_count old) (declared_id (context_of naming context) d.id.string) d.items entry (declared_count new) × (means naming new k ≡ kind_of an_interface entry))
       naming old root agrees (h.is naming);
 })
 
-pub world_kind : (setting : Setting) (old new : Parts) (root : Root) (x : CodeStatement) (d : WorldDecl) (r : Result ItemKind CodeError) → type_statement_of x ≡ TypeStatement.world d → Agrees old root
-    → IfOk r (WorldDeclared setting old new (values_of root.kinds) d.id.string d.items) → IfOk r (KindDeclared setting old new root (type_statement_of x))
-world_kind setting old new root x d (Err e) is agrees h = tt
-world_kind setting old new root x d (Ok k) is agrees h = subst (λ (s : TypeStatement). KindDeclared setting old new root s k) (sym is) (record {
+pub world_kind : (context : Context) (old new : Parts) (root : Root) (x : CodeStatement) (d : WorldDecl) (r : Result ItemKind CodeError) → type_statement_of x ≡ TypeStatement.world d → Agrees old root
+    → IfOk r (WorldDeclared context old new (values_of root.kinds) d.id.string d.items) → IfOk r (KindDeclared context old new root (type_statement_of x))
+world_kind context old new root x d (Err e) is agrees h = tt
+world_kind context old new root x d (Ok k) is agrees h = subst (λ (s : TypeStatement). KindDeclared context old new root s k) (sym is) (record {
   grows = h.grows;
-  handed = h.handed;
+  supplied = h.supplied;
   named = h.named;
   is = λ naming.
-      in_root (λ scope. (entry : Meaning) × IsWorld (setting_of naming setting) scope (declared_count old) (declared_id (setting_of naming setting) d.id.string) d.items entry (declared_count new) × (means naming new k ≡ kind_of a_world entry))
+      in_root (λ scope. (entry : Meaning) × IsWorld (context_of naming context) scope (declared_count old) (declared_id (context_of naming context) d.id.string) d.items entry (declared_count new) × (means naming new k ≡ kind_of a_world entry))
       naming old root agrees (h.is naming);
 })
 
-pub type_kind : (setting : Setting) (old new : Parts) (root : Root) (x : CodeStatement) (d : TypeDecl) (r : Result ItemKind CodeError) → type_statement_of x ≡ TypeStatement.ty d → Agrees old root → HoldsHanded (packages_in setting) old
-    → IfOk r (KindAdded old new (λ naming m after. IsTypeDecl (scope_of naming old (values_of root.kinds)) (declared_count old) d m after)) → IfOk r (KindDeclared setting old new root (type_statement_of x))
-type_kind setting old new root x d (Err e) is agrees held h = tt
-type_kind setting old new root x d (Ok k) is agrees held h = subst (λ (s : TypeStatement). KindDeclared setting old new root s k) (sym is) (record {
+pub type_kind : (context : Context) (old new : Parts) (root : Root) (x : CodeStatement) (d : TypeDecl) (r : Result ItemKind CodeError) → type_statement_of x ≡ TypeStatement.ty d → Agrees old root → AllSupplied (packages_in context) old
+    → IfOk r (KindAdded old new (λ naming m after. IsTypeDecl (scope_of naming old (values_of root.kinds)) (declared_count old) d m after)) → IfOk r (KindDeclared context old new root (type_statement_of x))
+type_kind context old new root x d (Err e) is agrees held h = tt
+type_kind context old new root x d (Ok k) is agrees held h = subst (λ (s : TypeStatement). KindDeclared context old new root s k) (sym is) (record {
   grows = grows_expands old new h.grows;
-  handed = handed_grown (packages_in setting) old new h.grows held;
+  supplied = handed_grown (packages_in context) old new h.grows held;
   named = h.named;
   is = λ naming. in_root (λ scope. IsTypeDecl scope (declared_count old) d (means naming new k) (declared_count new)) naming old root agrees (h.is naming);
 })
 
 -- ---- no kind
 
-pub interface_breaks : (setting : Setting) (g : Parts) (root : Root) (x : CodeStatement) (d : InterfaceDecl) (r : Result ItemKind CodeError) → type_statement_of x ≡ TypeStatement.interface d → Agrees g root
-    → IfErr r (λ e. (naming : Naming) → InterfaceBroken (setting_of naming setting) (scope_of naming g (values_of root.kinds)) (Some d.id.string) (declared_count g) d.items (told e))
-    → IfErr r (λ e. (naming : Naming) → KindBroken (setting_of naming setting) (composed naming g root) (type_statement_of x) (told e))
-interface_breaks setting g root x d (Ok k) is agrees h = tt
-interface_breaks setting g root x d (Err e) is agrees h = λ naming.
-    subst (λ (s : TypeStatement). KindBroken (setting_of naming setting) (composed naming g root) s (told e)) (sym is)
-    (in_root (λ scope. InterfaceBroken (setting_of naming setting) scope (Some d.id.string) (declared_count g) d.items (told e)) naming g root agrees (h naming))
+pub interface_breaks : (context : Context) (g : Parts) (root : Root) (x : CodeStatement) (d : InterfaceDecl) (r : Result ItemKind CodeError) → type_statement_of x ≡ TypeStatement.interface d → Agrees g root
+    → IfErr r (λ e. (naming : Naming) → InterfaceBroken (context_of naming context) (scope_of naming g (values_of root.kinds)) (Some d.id.string) (declared_count g) d.items (told e))
+    → IfErr r (λ e. (naming : Naming) → KindBroken (context_of naming context) (composed naming g root) (type_statement_of x) (told e))
+interface_breaks context g root x d (Ok k) is agrees h = tt
+interface_breaks context g root x d (Err e) is agrees h = λ naming.
+    subst (λ (s : TypeStatement). KindBroken (context_of naming context) (composed naming g root) s (told e)) (sym is)
+    (in_root (λ scope. InterfaceBroken (context_of naming context) scope (Some d.id.string) (declared_count g) d.items (told e)) naming g root agrees (h naming))
 
-pub world_breaks : (setting : Setting) (g : Parts) (root : Root) (x : CodeStatement) (d : WorldDecl) (r : Result ItemKind CodeError) → type_statement_of x ≡ TypeStatement.world d → Agrees g root
-    → IfErr r (λ e. (naming : Naming) → WorldBroken (setting_of naming setting) (scope_of naming g (values_of root.kinds)) d.id.string (declared_count g) d.items (told e))
-    → IfErr r (λ e. (naming : Naming) → KindBroken (setting_of naming setting) (composed naming g root) (type_statement_of x) (told e))
-world_breaks setting g root x d (Ok k) is agrees h = tt
-world_breaks setting g root x d (Err e) is agrees h = λ naming.
-    subst (λ (s : TypeStatement). KindBroken (setting_of naming setting) (composed naming g root) s (told e)) (sym is)
-    (in_root (λ scope. WorldBroken (setting_of naming setting) scope d.id.string (declared_count g) d.items (told e)) naming g root agrees (h naming))
+pub world_breaks : (context : Context) (g : Parts) (root : Root) (x : CodeStatement) (d : WorldDecl) (r : Result ItemKind CodeError) → type_statement_of x ≡ TypeStatement.world d → Agrees g root
+    → IfErr r (λ e. (naming : Naming) → WorldBroken (context_of naming context) (scope_of naming g (values_of root.kinds)) d.id.string (declared_count g) d.items (told e))
+    → IfErr r (λ e. (naming : Naming) → KindBroken (context_of naming context) (composed naming g root) (type_statement_of x) (told e))
+world_breaks context g root x d (Ok k) is agrees h = tt
+world_breaks context g root x d (Err e) is agrees h = λ naming.
+    subst (λ (s : TypeStatement). KindBroken (context_of naming context) (composed naming g root) s (told e)) (sym is)
+    (in_root (λ scope. WorldBroken (context_of naming context) scope d.id.string (declared_count g) d.items (told e)) naming g root agrees (h naming))
 
-pub type_breaks : (setting : Setting) (g : Parts) (root : Root) (x : CodeStatement) (d : TypeDecl) (r : Result ItemKind CodeError) → type_statement_of x ≡ TypeStatement.ty d → Agrees g root
+pub type_breaks : (context : Context) (g : Parts) (root : Root) (x : CodeStatement) (d : TypeDecl) (r : Result ItemKind CodeError) → type_statement_of x ≡ TypeStatement.ty d → Agrees g root
     → IfErr r (λ e. (naming : Naming) → TypeDeclBroken (scope_of naming g (values_of root.kinds)) (declared_count g) d (told e))
-    → IfErr r (λ e. (naming : Naming) → KindBroken (setting_of naming setting) (composed naming g root) (type_statement_of x) (told e))
-type_breaks setting g root x d (Ok k) is agrees h = tt
-type_breaks setting g root x d (Err e) is agrees h = λ naming.
-    subst (λ (s : TypeStatement). KindBroken (setting_of naming setting) (composed naming g root) s (told e)) (sym is)
+    → IfErr r (λ e. (naming : Naming) → KindBroken (context_of naming context) (composed naming g root) (type_statement_of x) (told e))
+type_breaks context g root x d (Ok k) is agrees h = tt
+type_breaks context g root x d (Err e) is agrees h = λ naming.
+    subst (λ (s : TypeStatement). KindBroken (context_of naming context) (composed naming g root) s (told e)) (sym is)
     (in_root (λ scope. TypeDeclBroken scope (declared_count g) d (told e)) naming g root agrees (h naming))

@@ -29,14 +29,14 @@ use Rattle.wac_resolution_nodes.specs.declared.root.Root.{Root}
 use Rattle.wac_resolution_nodes.specs.Nodes.{composition_of}
 use Rattle.wac_resolution_nodes.specs.Root.{numbers_of, composed, Agrees}
 use Rattle.wac_resolution_nodes.proofs.Composed.{composition_expands}
-use Rattle.wac_resolution_paths.specs.declared.setting.Setting.{Setting}
-use Rattle.wac_resolution_paths.specs.Expands.{HoldsHanded}
-use Rattle.wac_resolution_paths.specs.Setting.{packages_in}
+use Rattle.wac_resolution_paths.specs.declared.context.Context.{Context}
+use Rattle.wac_resolution_paths.specs.Expands.{AllSupplied}
+use Rattle.wac_resolution_paths.specs.Context.{packages_in}
 use Rattle.wac_resolution_expressions.specs.Growth.{given_in}
 use Rattle.wac_resolution_externs.specs.declared.externs.Externs.{Externs}
 use Rattle.wac_resolution_externs.specs.Externs.{imported_in, exported_in, places_in}
 use Rattle.wac_resolution_bindings.specs.Statements.{placed_in}
-use Rattle.wac_resolution.specs.Sequences.{AllWent, BreaksAfter, OneBreaks}
+use Rattle.wac_resolution.specs.Sequences.{StatementsRun, BreaksAfter, OneBreaks}
 use Rattle.wac_resolution_target.specs.Outcome.{Meets, Unmeets}
 use Rattle.wac_resolution.specs.Resolved.{by_key}
 use Rattle.wac_resolution.specs.Steps.{MeetsIn, MissesIn, Composed, TargetLast, Breaks}
@@ -44,86 +44,86 @@ use Rattle.wac_resolution.proofs.Starting.{IsStart, start_placed}
 
 -- ---- the target
 
-pub target_met : (setting : Setting) (rules : Rules) (old new : Parts) (root : Root) (path : PackagePath) → Agrees old root → Meets setting rules old new root path
-    → MeetsIn setting rules old new root (Some path)
-target_met setting rules old new root path agrees m = record {
-  handed = m.handed;
+pub target_met : (context : Context) (rules : Rules) (old new : Parts) (root : Root) (path : PackagePath) → Agrees old root → Meets context rules old new root path
+    → MeetsIn context rules old new root (Some path)
+target_met context rules old new root path agrees m = record {
+  supplied = m.supplied;
   kept = λ naming. composition_expands old new (numbers_of root.nodes) naming m.grows.same m.grows.held (m.grows.kinds naming) agrees.nodes ∙ ap (with_resources (composed naming old root)) m.count;
   met = λ naming one. m.is naming one;
 }
 
-pub no_target : (setting : Setting) (rules : Rules) (g : Parts) (root : Root) → HoldsHanded (packages_in setting) g → MeetsIn setting rules g g root None
-no_target setting rules g root handed = record { handed = handed; kept = λ naming. refl; met = λ naming one. tt }
+pub no_target : (context : Context) (rules : Rules) (g : Parts) (root : Root) → AllSupplied (packages_in context) g → MeetsIn context rules g g root None
+no_target context rules g root supplied = record { supplied = supplied; kept = λ naming. refl; met = λ naming one. tt }
 
-pub target_missed : (setting : Setting) (rules : Rules) (g : Parts) (root : Root) (x : Externs) (path : PackagePath) (e : Error) → Unmeets setting rules g root path (imported_in x) (exported_in x) e
-    → MissesIn setting rules g root x (Some path) e
-target_missed setting rules g root x path e u = record { target = path; has = refl; broken = λ naming one. u naming (places_in root x) one refl refl }
+pub target_missed : (context : Context) (rules : Rules) (g : Parts) (root : Root) (x : Externs) (path : PackagePath) (e : Error) → Unmeets context rules g root path (imported_in x) (exported_in x) e
+    → MissesIn context rules g root x (Some path) e
+target_missed context rules g root x path e u = record { target = path; has = refl; broken = λ naming one. u naming (places_in root x) one refl refl }
 
 -- ---- the statements, then the target
 
 -- all statements take the empty composition to the whole one
-all_lead : (setting : Setting) (rules : Rules) (g mid : Parts) (first root : Root) (x y : Externs) (statements : List Statement) → IsStart g first x → AllWent setting rules g mid first root x y statements
-    → (naming : Naming) → IsOneToOne naming → Steps (Leads (given_in naming setting rules)) (placed_start start) statements (placed_in naming mid root y)
-all_lead setting rules g mid first root x y statements h w naming one =
-    subst (λ (p : Placed). Steps (Leads (given_in naming setting rules)) p statements (placed_in naming mid root y)) (start_placed naming g first x h) (w.leads naming one)
+all_lead : (context : Context) (rules : Rules) (g mid : Parts) (first root : Root) (x y : Externs) (statements : List Statement) → IsStart g first x → StatementsRun context rules g mid first root x y statements
+    → (naming : Naming) → IsOneToOne naming → Steps (Leads (given_in naming context rules)) (placed_start start) statements (placed_in naming mid root y)
+all_lead context rules g mid first root x y statements h w naming one =
+    subst (λ (p : Placed). Steps (Leads (given_in naming context rules)) p statements (placed_in naming mid root y)) (start_placed naming g first x h) (w.leads naming one)
 
-pub all_composed : (setting : Setting) (rules : Rules) (g mid new : Parts) (first root : Root) (x y : Externs) (statements : List Statement) (targets : Option PackagePath) → IsStart g first x → AllWent setting rules g mid first root x y statements
-    → MeetsIn setting rules mid new root targets → Composed setting rules statements targets new
-all_composed setting rules g mid new first root x y statements targets h w m = record {
+pub all_composed : (context : Context) (rules : Rules) (g mid new : Parts) (first root : Root) (x y : Externs) (statements : List Statement) (targets : Option PackagePath) → IsStart g first x → StatementsRun context rules g mid first root x y statements
+    → MeetsIn context rules mid new root targets → Composed context rules statements targets new
+all_composed context rules g mid new first root x y statements targets h w m = record {
   declared = numbers_of root.nodes;
-  handed = m.handed;
+  supplied = m.supplied;
   composes = λ naming one.
-      subst (λ (c : Composition). Composes (given_in naming setting rules) start statements c) (sym (m.kept naming))
-      (leads_composes (given_in naming setting rules) statements (placed_start start) (placed_in naming mid root y) (all_lead setting rules g mid first root x y statements h w naming one));
-  met = λ naming one. subst (λ (c : Composition). MeetsTarget (given_in naming setting rules) c targets) (sym (m.kept naming)) (m.met naming one);
+      subst (λ (c : Composition). Composes (given_in naming context rules) start statements c) (sym (m.kept naming))
+      (leads_composes (given_in naming context rules) statements (placed_start start) (placed_in naming mid root y) (all_lead context rules g mid first root x y statements h w naming one));
+  met = λ naming one. subst (λ (c : Composition). MeetsTarget (given_in naming context rules) c targets) (sym (m.kept naming)) (m.met naming one);
 }
 
-pub statement_breaks : (setting : Setting) (rules : Rules) (g : Parts) (first : Root) (x : Externs) (statements : List Statement) (targets : Option PackagePath) (e : Error) → IsStart g first x → OneBreaks setting rules g first x statements e → Breaks setting rules statements targets e
-statement_breaks setting rules g first x statements targets e h broken naming one =
-    inl (subst (λ (p : Placed). Fails (Leads (given_in naming setting rules)) (BreaksAfter (given_in naming setting rules) e) p statements) (start_placed naming g first x h) (broken naming one))
+pub statement_breaks : (context : Context) (rules : Rules) (g : Parts) (first : Root) (x : Externs) (statements : List Statement) (targets : Option PackagePath) (e : Error) → IsStart g first x → OneBreaks context rules g first x statements e → Breaks context rules statements targets e
+statement_breaks context rules g first x statements targets e h broken naming one =
+    inl (subst (λ (p : Placed). Fails (Leads (given_in naming context rules)) (BreaksAfter (given_in naming context rules) e) p statements) (start_placed naming g first x h) (broken naming one))
 
-pub target_breaks : (setting : Setting) (rules : Rules) (g mid : Parts) (first root : Root) (x y : Externs) (statements : List Statement) (targets : Option PackagePath) (e : Error) → IsStart g first x → AllWent setting rules g mid first root x y statements
-    → MissesIn setting rules mid root y targets e → Breaks setting rules statements targets e
-target_breaks setting rules g mid first root x y statements targets e h w m naming one = inr (record {
+pub target_breaks : (context : Context) (rules : Rules) (g mid : Parts) (first root : Root) (x y : Externs) (statements : List Statement) (targets : Option PackagePath) (e : Error) → IsStart g first x → StatementsRun context rules g mid first root x y statements
+    → MissesIn context rules mid root y targets e → Breaks context rules statements targets e
+target_breaks context rules g mid first root x y statements targets e h w m naming one = inr (record {
   target = m.target;
   has = m.has;
   whole = placed_in naming mid root y;
-  leads = all_lead setting rules g mid first root x y statements h w naming one;
+  leads = all_lead context rules g mid first root x y statements h w naming one;
   broken = m.broken naming one;
 })
 
 -- ---- a document
 
--- the setting is made of the document and its packages
-pub record IsSettingOf (setting : Setting) (packages : List (Key × PackageParts)) (doc : Document) : Type 0 where
-  pub own : setting.own.now ≡ doc.directive.package_name.name
-  pub version : option_map (λ v. v.now) setting.version ≡ version_text doc.directive.package_name.string
-  pub packages_are : packages_in setting ≡ packages
+-- the context is made of the document and its packages
+pub record IsSettingOf (context : Context) (packages : List (Key × PackageParts)) (doc : Document) : Type 0 where
+  pub own : context.own.now ≡ doc.directive.package_name.name
+  pub version : option_map (λ v. v.now) context.version ≡ version_text doc.directive.package_name.string
+  pub packages_are : packages_in context ≡ packages
 
-given_same : (naming : Naming) (setting : Setting) (rules : Rules) (packages : List (Key × PackageParts)) (doc : Document) → IsSettingOf setting packages doc → given_in naming setting rules ≡ given_to naming packages rules doc
-given_same naming setting rules packages doc h = λ i. record { setting = record { naming = naming; own = h.own i; version = h.version i; packages = handed naming (h.packages_are i) }; rules = rules }
+given_same : (naming : Naming) (context : Context) (rules : Rules) (packages : List (Key × PackageParts)) (doc : Document) → IsSettingOf context packages doc → given_in naming context rules ≡ given_to naming packages rules doc
+given_same naming context rules packages doc h = λ i. record { context = record { naming = naming; own = h.own i; version = h.version i; packages = handed naming (h.packages_are i) }; rules = rules }
 
-pub describes : (setting : Setting) (rules : Rules) (packages : List (Key × PackageParts)) (doc : Document) (g : Parts) → IsSettingOf setting packages doc → (c : Composed setting rules doc.statements doc.directive.targets g)
+pub describes : (context : Context) (rules : Rules) (packages : List (Key × PackageParts)) (doc : Document) (g : Parts) → IsSettingOf context packages doc → (c : Composed context rules doc.statements doc.directive.targets g)
     → (naming : Naming) → IsOneToOne naming → Describes (given_to naming packages rules doc) doc (composition_of naming g c.declared)
-describes setting rules packages doc g h c naming one =
-    subst (λ (s : Given). Describes s doc (composition_of naming g c.declared)) (given_same naming setting rules packages doc h) (c.composes naming one, c.met naming one)
+describes context rules packages doc g h c naming one =
+    subst (λ (s : Given). Describes s doc (composition_of naming g c.declared)) (given_same naming context rules packages doc h) (c.composes naming one, c.met naming one)
 
 failing : (s : Given) (doc : Document) (e : Error) → Fails (Leads s) (BreaksAfter s e) (placed_start start) doc.statements ⊎ TargetLast s doc.statements doc.directive.targets e → FirstFailing s doc e
 failing s doc e (inl f) = fails_at s doc e f.before f.failing f.after f.split f.reached f.leads f.breaks
 failing s doc e (inr t) = fails_at_target s doc e t.target t.has t.whole t.leads t.broken
 
 -- what fails first
-pub fails_first : (setting : Setting) (rules : Rules) (packages : List (Key × PackageParts)) (doc : Document) (e : Error) → IsSettingOf setting packages doc → Breaks setting rules doc.statements doc.directive.targets e
+pub fails_first : (context : Context) (rules : Rules) (packages : List (Key × PackageParts)) (doc : Document) (e : Error) → IsSettingOf context packages doc → Breaks context rules doc.statements doc.directive.targets e
     → (naming : Naming) → IsOneToOne naming → FirstFailing (given_to naming packages rules doc) doc e
-fails_first setting rules packages doc e h broken naming one =
-    subst (λ (s : Given). FirstFailing s doc e) (given_same naming setting rules packages doc h) (failing (given_in naming setting rules) doc e (broken naming one))
+fails_first context rules packages doc e h broken naming one =
+    subst (λ (s : Given). FirstFailing s doc e) (given_same naming context rules packages doc h) (failing (given_in naming context rules) doc e (broken naming one))
 
 -- what is described is rejected only where memory ran out
-pub only_memory : (setting : Setting) (rules : Rules) (packages : List (Key × PackageParts)) (doc : Document) (e : Error) → IsSettingOf setting packages doc → Reports e (Breaks setting rules doc.statements doc.directive.targets e)
+pub only_memory : (context : Context) (rules : Rules) (packages : List (Key × PackageParts)) (doc : Document) (e : Error) → IsSettingOf context packages doc → Reports e (Breaks context rules doc.statements doc.directive.targets e)
     → (naming : Naming) → IsOneToOne naming → (c : Composition) → Describes (given_to naming packages rules doc) doc c → e ≡ memory
-only_memory setting rules packages doc e h (inl ran_out) naming one c described = ran_out
-only_memory setting rules packages doc e h (inr broken) naming one c described =
-    absurd (first_has_none (given_to naming packages rules doc) doc e c (fails_first setting rules packages doc e h broken naming one) described)
+only_memory context rules packages doc e h (inl ran_out) naming one c described = ran_out
+only_memory context rules packages doc e h (inr broken) naming one c described =
+    absurd (first_has_none (given_to naming packages rules doc) doc e c (fails_first context rules packages doc e h broken naming one) described)
 
 -- ---- a borrowed document
 
@@ -131,16 +131,16 @@ only_memory setting rules packages doc e h (inr broken) naming one c described =
 abbrev pub Described : List (PackageKey × PackageParts) → Rules → Document → Parts → Type 0
 Described packages rules doc g = (declared : Named ℕ) × ((naming : Naming) → IsOneToOne naming → Describes (given_to naming (by_key packages) rules doc) doc (composition_of naming g declared))
 
--- the parts of a borrowed document, and its setting
-pub record IsLent (setting : Setting) (packages : List (PackageKey × PackageParts)) (lent doc : CodeDocument) (statements : List CodeStatement) : Type 0 where
+-- the parts of a borrowed document, and its context
+pub record IsLent (context : Context) (packages : List (PackageKey × PackageParts)) (lent doc : CodeDocument) (statements : List CodeStatement) : Type 0 where
   pub same : lent ≡ doc
-  pub own : setting.own.now ≡ (directive_of lent.directive).package_name.name
-  pub version : option_map (λ v. v.now) setting.version ≡ version_text (directive_of lent.directive).package_name.string
-  pub packages_are : packages_in setting ≡ by_key packages
+  pub own : context.own.now ≡ (directive_of lent.directive).package_name.name
+  pub version : option_map (λ v. v.now) context.version ≡ version_text (directive_of lent.directive).package_name.string
+  pub packages_are : packages_in context ≡ by_key packages
   pub statements_are : statements ≡ lent.statements.items
 
-lent_setting : (setting : Setting) (packages : List (PackageKey × PackageParts)) (lent doc : CodeDocument) (statements : List CodeStatement) → IsLent setting packages lent doc statements → IsSettingOf setting (by_key packages) (document_of doc)
-lent_setting setting packages lent doc statements h = record {
+lent_setting : (context : Context) (packages : List (PackageKey × PackageParts)) (lent doc : CodeDocument) (statements : List CodeStatement) → IsLent context packages lent doc statements → IsSettingOf context (by_key packages) (document_of doc)
+lent_setting context packages lent doc statements h = record {
   own = h.own ∙ ap (λ (d : CodeDocument). (directive_of d.directive).package_name.name) h.same;
   version = h.version ∙ ap (λ (d : CodeDocument). version_text (directive_of d.directive).package_name.string) h.same;
   packages_are = h.packages_are;
@@ -150,29 +150,29 @@ lent_setting setting packages lent doc statements h = record {
 abbrev pub OfParts : Type 1
 OfParts = List Statement → Option PackagePath → Type 0
 
-of_document : (P : OfParts) (setting : Setting) (packages : List (PackageKey × PackageParts)) (lent doc : CodeDocument) (statements : List CodeStatement) → IsLent setting packages lent doc statements
+of_document : (P : OfParts) (context : Context) (packages : List (PackageKey × PackageParts)) (lent doc : CodeDocument) (statements : List CodeStatement) → IsLent context packages lent doc statements
     → P (map statement_of statements) (option_map package_path_of lent.directive.targets) → P (document_of doc).statements (document_of doc).directive.targets
-of_document P setting packages lent doc statements h p =
+of_document P context packages lent doc statements h p =
     subst (λ (d : CodeDocument). P (map statement_of d.statements.items) (option_map package_path_of d.directive.targets)) h.same
     (subst (λ (l : List CodeStatement). P (map statement_of l) (option_map package_path_of lent.directive.targets)) h.statements_are p)
 
-pub lent_described : (setting : Setting) (rules : Rules) (packages : List (PackageKey × PackageParts)) (lent doc : CodeDocument) (statements : List CodeStatement) (g : Parts) → IsLent setting packages lent doc statements
-    → Composed setting rules (map statement_of statements) (option_map package_path_of lent.directive.targets) g → Described packages rules (document_of doc) g
-lent_described setting rules packages lent doc statements g h c =
-    let whole : Composed setting rules (document_of doc).statements (document_of doc).directive.targets g = of_document (λ all targets. Composed setting rules all targets g) setting packages lent doc statements h c in
-    (whole.declared, describes setting rules (by_key packages) (document_of doc) g (lent_setting setting packages lent doc statements h) whole)
+pub lent_described : (context : Context) (rules : Rules) (packages : List (PackageKey × PackageParts)) (lent doc : CodeDocument) (statements : List CodeStatement) (g : Parts) → IsLent context packages lent doc statements
+    → Composed context rules (map statement_of statements) (option_map package_path_of lent.directive.targets) g → Described packages rules (document_of doc) g
+lent_described context rules packages lent doc statements g h c =
+    let whole : Composed context rules (document_of doc).statements (document_of doc).directive.targets g = of_document (λ all targets. Composed context rules all targets g) context packages lent doc statements h c in
+    (whole.declared, describes context rules (by_key packages) (document_of doc) g (lent_setting context packages lent doc statements h) whole)
 
 -- the packages that the graph holds were supplied
-pub lent_handed : (setting : Setting) (rules : Rules) (packages : List (PackageKey × PackageParts)) (lent doc : CodeDocument) (statements : List CodeStatement) (g : Parts) → IsLent setting packages lent doc statements
-    → Composed setting rules (map statement_of statements) (option_map package_path_of lent.directive.targets) g → HoldsHanded (by_key packages) g
-lent_handed setting rules packages lent doc statements g h c = subst (λ (l : List (Key × PackageParts)). HoldsHanded l g) h.packages_are c.handed
+pub lent_handed : (context : Context) (rules : Rules) (packages : List (PackageKey × PackageParts)) (lent doc : CodeDocument) (statements : List CodeStatement) (g : Parts) → IsLent context packages lent doc statements
+    → Composed context rules (map statement_of statements) (option_map package_path_of lent.directive.targets) g → AllSupplied (by_key packages) g
+lent_handed context rules packages lent doc statements g h c = subst (λ (l : List (Key × PackageParts)). AllSupplied l g) h.packages_are c.supplied
 
-pub lent_fails : (setting : Setting) (rules : Rules) (packages : List (PackageKey × PackageParts)) (lent doc : CodeDocument) (statements : List CodeStatement) (e : Error) → IsLent setting packages lent doc statements
-    → Reports e (Breaks setting rules (map statement_of statements) (option_map package_path_of lent.directive.targets) e) → (naming : Naming) → IsOneToOne naming → Reports e (FirstFailing (given_to naming (by_key packages) rules (document_of doc)) (document_of doc) e)
-lent_fails setting rules packages lent doc statements e h said naming one =
-    reports said (λ broken. fails_first setting rules (by_key packages) (document_of doc) e (lent_setting setting packages lent doc statements h) (of_document (λ all targets. Breaks setting rules all targets e) setting packages lent doc statements h broken) naming one)
+pub lent_fails : (context : Context) (rules : Rules) (packages : List (PackageKey × PackageParts)) (lent doc : CodeDocument) (statements : List CodeStatement) (e : Error) → IsLent context packages lent doc statements
+    → Reports e (Breaks context rules (map statement_of statements) (option_map package_path_of lent.directive.targets) e) → (naming : Naming) → IsOneToOne naming → Reports e (FirstFailing (given_to naming (by_key packages) rules (document_of doc)) (document_of doc) e)
+lent_fails context rules packages lent doc statements e h said naming one =
+    reports said (λ broken. fails_first context rules (by_key packages) (document_of doc) e (lent_setting context packages lent doc statements h) (of_document (λ all targets. Breaks context rules all targets e) context packages lent doc statements h broken) naming one)
 
-pub lent_only : (setting : Setting) (rules : Rules) (packages : List (PackageKey × PackageParts)) (lent doc : CodeDocument) (statements : List CodeStatement) (e : Error) → IsLent setting packages lent doc statements
-    → Reports e (Breaks setting rules (map statement_of statements) (option_map package_path_of lent.directive.targets) e) → (naming : Naming) → IsOneToOne naming → (c : Composition) → Describes (given_to naming (by_key packages) rules (document_of doc)) (document_of doc) c → e ≡ memory
-lent_only setting rules packages lent doc statements e h said =
-    only_memory setting rules (by_key packages) (document_of doc) e (lent_setting setting packages lent doc statements h) (reports said (of_document (λ all targets. Breaks setting rules all targets e) setting packages lent doc statements h))
+pub lent_only : (context : Context) (rules : Rules) (packages : List (PackageKey × PackageParts)) (lent doc : CodeDocument) (statements : List CodeStatement) (e : Error) → IsLent context packages lent doc statements
+    → Reports e (Breaks context rules (map statement_of statements) (option_map package_path_of lent.directive.targets) e) → (naming : Naming) → IsOneToOne naming → (c : Composition) → Describes (given_to naming (by_key packages) rules (document_of doc)) (document_of doc) c → e ≡ memory
+lent_only context rules packages lent doc statements e h said =
+    only_memory context rules (by_key packages) (document_of doc) e (lent_setting context packages lent doc statements h) (reports said (of_document (λ all targets. Breaks context rules all targets e) context packages lent doc statements h))

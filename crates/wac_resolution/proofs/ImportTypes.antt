@@ -24,71 +24,71 @@ use Rattle.wac_resolution_state.specs.Named.{scope_of, KindIs}
 use Rattle.wac_resolution_nodes.specs.declared.root.Root.{Root}
 use Rattle.wac_resolution_nodes.specs.Root.{composed, Agrees}
 use Rattle.wac_resolution_nodes.proofs.Roots.{scope_agrees, items_named}
-use Rattle.wac_resolution_paths.specs.declared.setting.Setting.{Setting}
-use Rattle.wac_resolution_paths.specs.Expands.{HoldsHanded, Found}
-use Rattle.wac_resolution_paths.specs.Setting.{packages_in, setting_of}
+use Rattle.wac_resolution_paths.specs.declared.context.Context.{Context}
+use Rattle.wac_resolution_paths.specs.Expands.{AllSupplied, Found}
+use Rattle.wac_resolution_paths.specs.Context.{packages_in, context_of}
 use Rattle.wac_resolution_paths.proofs.Expanding.{expands_self, grows_expands, handed_grown}
 use Rattle.wac_resolution_worlds.specs.Made.{InterfaceMade}
 use Rattle.wac_resolution_worlds.specs.Referred.{NewFunc}
 use Rattle.wac_resolution.specs.ImportTypes.{ImportMade, ImportTypeBreaks}
 
-module _ (setting : Setting) (old : Parts) (root : Root) (agrees : Agrees old root) where
+module _ (context : Context) (old : Parts) (root : Root) (agrees : Agrees old root) where
   -- what holds in the scope of the code holds at root
   at_root : (naming : Naming) (P : Scope → Type 0) → P (scope_of naming old (values_of root.kinds)) → P (root_scope (composed naming old root))
   at_root naming P h = subst P (sym (scope_agrees naming old root agrees)) h
 
   -- ---- kinds
 
-  pub func_imported : (new : Parts) (x : ImportType) (f : FuncType) (id : FuncTypeId) → x ≡ ImportType.func f → HoldsHanded (packages_in setting) old → NewFunc old new (values_of root.kinds) f id → ImportMade setting old new root x (kinds.Func id)
-  func_imported new x f id is held h = subst (λ (y : ImportType). ImportMade setting old new root y (kinds.Func id)) (sym is) (record {
+  pub func_imported : (new : Parts) (x : ImportType) (f : FuncType) (id : FuncTypeId) → x ≡ ImportType.func f → AllSupplied (packages_in context) old → NewFunc old new (values_of root.kinds) f id → ImportMade context old new root x (kinds.Func id)
+  func_imported new x f id is held h = subst (λ (y : ImportType). ImportMade context old new root y (kinds.Func id)) (sym is) (record {
     grows = grows_expands old new h.grows.grows;
-    handed = handed_grown (packages_in setting) old new h.grows.grows held;
+    supplied = handed_grown (packages_in context) old new h.grows.grows held;
     named = h.named;
     is = λ naming rules. (entry_means naming new id.0, at_root naming (λ (s : Scope). IsFunc s f (entry_means naming new id.0)) (h.is naming), refl, h.grows.count);
   })
 
   -- an interface that is written in place
-  pub inline_imported : (new : Parts) (x : ImportType) (i : InlineInterface) (id : InterfaceId) → x ≡ ImportType.interface i → InterfaceMade setting old new (values_of root.kinds) None i.items id → ImportMade setting old new root x (kinds.Instance id)
-  inline_imported new x i id is h = subst (λ (y : ImportType). ImportMade setting old new root y (kinds.Instance id)) (sym is) (record {
+  pub inline_imported : (new : Parts) (x : ImportType) (i : InlineInterface) (id : InterfaceId) → x ≡ ImportType.interface i → InterfaceMade context old new (values_of root.kinds) None i.items id → ImportMade context old new root x (kinds.Instance id)
+  inline_imported new x i id is h = subst (λ (y : ImportType). ImportMade context old new root y (kinds.Instance id)) (sym is) (record {
     grows = h.grows;
-    handed = h.handed;
+    supplied = h.supplied;
     named = h.named;
     is = λ naming rules. (
       entry_of (means naming new (kinds.Instance id)),
-      at_root naming (λ (s : Scope). IsInterface (setting_of naming setting) s (declared_count old) None i.items (entry_of (means naming new (kinds.Instance id))) (declared_count new)) (h.is naming),
+      at_root naming (λ (s : Scope). IsInterface (context_of naming context) s (declared_count old) None i.items (entry_of (means naming new (kinds.Instance id))) (declared_count new)) (h.is naming),
       refl,
     );
   })
 
   pub path_imported : (new : Parts) (x : ImportType) (p : PackagePath) (k : ItemKind) → x ≡ ImportType.path p
-      → Found (packages_in setting) old new (λ naming m. LeadsTo (setting_of naming setting) (scope_of naming old (values_of root.kinds)) p m) k → ImportMade setting old new root x k
-  path_imported new x p k is h = subst (λ (y : ImportType). ImportMade setting old new root y k) (sym is) (record {
+      → Found (packages_in context) old new (λ naming m. LeadsTo (context_of naming context) (scope_of naming old (values_of root.kinds)) p m) k → ImportMade context old new root x k
+  path_imported new x p k is h = subst (λ (y : ImportType). ImportMade context old new root y k) (sym is) (record {
     grows = h.grows;
-    handed = h.handed;
+    supplied = h.supplied;
     named = h.named;
-    is = λ naming rules. (at_root naming (λ (s : Scope). LeadsTo (setting_of naming setting) s p (means naming new k)) (h.is naming), h.count);
+    is = λ naming rules. (at_root naming (λ (s : Scope). LeadsTo (context_of naming context) s p (means naming new k)) (h.is naming), h.count);
   })
 
-  pub ident_imported : (x : ImportType) (id : Ident) (k : ItemKind) → x ≡ ImportType.ident id → HoldsHanded (packages_in setting) old → KindIs (values_of root.kinds) id k → ImportMade setting old old root x k
-  ident_imported x id k is held h = subst (λ (y : ImportType). ImportMade setting old old root y k) (sym is) (record {
+  pub ident_imported : (x : ImportType) (id : Ident) (k : ItemKind) → x ≡ ImportType.ident id → AllSupplied (packages_in context) old → KindIs (values_of root.kinds) id k → ImportMade context old old root x k
+  ident_imported x id k is held h = subst (λ (y : ImportType). ImportMade context old old root y k) (sym is) (record {
     grows = expands_self old;
-    handed = held;
+    supplied = held;
     named = h.named old.types (items_named old root agrees);
     is = λ naming rules. (at_root naming (λ (s : Scope). StandsFor s id.string (means naming old k)) (h.is naming old), refl);
   })
 
   -- ---- errors
 
-  pub func_breaks : (x : ImportType) (f : FuncType) (e : Error) → x ≡ ImportType.func f → ((naming : Naming) → FuncBroken funcs.Free (scope_of naming old (values_of root.kinds)) [] f e) → ImportTypeBreaks setting old root x e
-  func_breaks x f e is h = subst (λ (y : ImportType). ImportTypeBreaks setting old root y e) (sym is) (λ naming rules. at_root naming (λ (s : Scope). FuncBroken funcs.Free s [] f e) (h naming))
+  pub func_breaks : (x : ImportType) (f : FuncType) (e : Error) → x ≡ ImportType.func f → ((naming : Naming) → FuncBroken funcs.Free (scope_of naming old (values_of root.kinds)) [] f e) → ImportTypeBreaks context old root x e
+  func_breaks x f e is h = subst (λ (y : ImportType). ImportTypeBreaks context old root y e) (sym is) (λ naming rules. at_root naming (λ (s : Scope). FuncBroken funcs.Free s [] f e) (h naming))
 
   pub inline_breaks : (x : ImportType) (i : InlineInterface) (e : Error) → x ≡ ImportType.interface i
-      → ((naming : Naming) → InterfaceBroken (setting_of naming setting) (scope_of naming old (values_of root.kinds)) None (declared_count old) i.items e) → ImportTypeBreaks setting old root x e
+      → ((naming : Naming) → InterfaceBroken (context_of naming context) (scope_of naming old (values_of root.kinds)) None (declared_count old) i.items e) → ImportTypeBreaks context old root x e
   inline_breaks x i e is h =
-      subst (λ (y : ImportType). ImportTypeBreaks setting old root y e) (sym is) (λ naming rules. at_root naming (λ (s : Scope). InterfaceBroken (setting_of naming setting) s None (declared_count old) i.items e) (h naming))
+      subst (λ (y : ImportType). ImportTypeBreaks context old root y e) (sym is) (λ naming rules. at_root naming (λ (s : Scope). InterfaceBroken (context_of naming context) s None (declared_count old) i.items e) (h naming))
 
-  pub path_breaks : (x : ImportType) (p : PackagePath) (e : Error) → x ≡ ImportType.path p → ((naming : Naming) → PathBroken (setting_of naming setting) (scope_of naming old (values_of root.kinds)) p e) → ImportTypeBreaks setting old root x e
-  path_breaks x p e is h = subst (λ (y : ImportType). ImportTypeBreaks setting old root y e) (sym is) (λ naming rules. at_root naming (λ (s : Scope). PathBroken (setting_of naming setting) s p e) (h naming))
+  pub path_breaks : (x : ImportType) (p : PackagePath) (e : Error) → x ≡ ImportType.path p → ((naming : Naming) → PathBroken (context_of naming context) (scope_of naming old (values_of root.kinds)) p e) → ImportTypeBreaks context old root x e
+  path_breaks x p e is h = subst (λ (y : ImportType). ImportTypeBreaks context old root y e) (sym is) (λ naming rules. at_root naming (λ (s : Scope). PathBroken (context_of naming context) s p e) (h naming))
 
-  pub ident_breaks : (x : ImportType) (id : Ident) (e : Error) → x ≡ ImportType.ident id → ((naming : Naming) (g : Parts) → IsUndefined (scope_of naming g (values_of root.kinds)) id e) → ImportTypeBreaks setting old root x e
-  ident_breaks x id e is h = subst (λ (y : ImportType). ImportTypeBreaks setting old root y e) (sym is) (λ naming rules. at_root naming (λ (s : Scope). IsUndefined s id e) (h naming old))
+  pub ident_breaks : (x : ImportType) (id : Ident) (e : Error) → x ≡ ImportType.ident id → ((naming : Naming) (g : Parts) → IsUndefined (scope_of naming g (values_of root.kinds)) id e) → ImportTypeBreaks context old root x e
+  ident_breaks x id e is h = subst (λ (y : ImportType). ImportTypeBreaks context old root y e) (sym is) (λ naming rules. at_root naming (λ (s : Scope). IsUndefined s id e) (h naming old))

@@ -24,14 +24,14 @@ use Rattle.wac_resolution_rules.specs.Spans.{import_span}
 use Rattle.wac_resolution_rules.specs.Statements.{name_imported, Imports}
 use Rattle.wac_resolution_nodes.specs.declared.root.Root.{Root}
 use Rattle.wac_resolution_nodes.specs.Root.{numbers_of, composed, places}
-use Rattle.wac_resolution_paths.specs.declared.setting.Setting.{Setting}
-use Rattle.wac_resolution_paths.specs.Setting.{packages_in}
+use Rattle.wac_resolution_paths.specs.declared.context.Context.{Context}
+use Rattle.wac_resolution_paths.specs.Context.{packages_in}
 use Rattle.wac_resolution_expressions.specs.Growth.{given_in}
 use Rattle.wac_resolution_externs.specs.declared.externs.Externs.{Externs}
 use Rattle.wac_resolution_externs.specs.Externs.{imported_in, exported_in, places_in, Under}
 use Rattle.wac_resolution_bindings.specs.Imports.{ImportsAs}
 use Rattle.wac_resolution.specs.ImportTypes.{ImportMade, ImportTypeBreaks}
-use Rattle.wac_resolution_bindings.specs.Statements.{Stand, Went, Breaks}
+use Rattle.wac_resolution_bindings.specs.Statements.{Stand, StatementRun, Breaks}
 use Rattle.wac_resolution_bindings.proofs.PlaceLaws.{one_more_at, no_more_at, same_places}
 use Rattle.wac_resolution_bindings.proofs.Standing.{placed_kept, composed_kept}
 use Rattle.wac_resolution_bindings.proofs.Importing.{placed_imported, handed_imported}
@@ -56,8 +56,8 @@ one_more_import c name k id =
 
 -- ---- the statement
 
-module _ (setting : Setting) (rules : Rules) (old mid : Parts) (before : Root) (x : Externs) (s : ImportStatement) (name : List ℕ) (k : ItemKind)
-    (stand : Stand setting old before x) (made : ImportMade setting old mid before s.ty k) (meant : (naming : Naming) → name ≡ name_imported s (means naming mid k)) where
+module _ (context : Context) (rules : Rules) (old mid : Parts) (before : Root) (x : Externs) (s : ImportStatement) (name : List ℕ) (k : ItemKind)
+    (stand : Stand context old before x) (made : ImportMade context old mid before s.ty k) (meant : (naming : Naming) → name ≡ name_imported s (means naming mid k)) where
   goes : (new : Parts) (after : Root) (y : Externs) → ImportsAs rules.named mid new before after x y s name (promoted k) → (naming : Naming)
       → composed naming new after ≡ binding (with_node (with_resources (composed naming old before) (declared_count mid)) (imported name) (shapes.promoted (means naming mid k))) s.id.string (next_of (composed naming old before))
   goes new after y i naming =
@@ -65,7 +65,7 @@ module _ (setting : Setting) (rules : Rules) (old mid : Parts) (before : Root) (
       ∙ ap (λ (c : Composition). binding (with_node c (imported name) (means naming mid (promoted k))) s.id.string (next_of c)) (composed_kept old mid before naming made.grows stand.agrees)
       ∙ ap (λ (m : Meaning). binding (with_node (with_resources (composed naming old before) (declared_count mid)) (imported name) m) s.id.string (next_of (composed naming old before))) (sym (promoted_is (entry_means naming mid) k))
 
-  imports_judged : (new : Parts) (after : Root) (y : Externs) → ImportsAs rules.named mid new before after x y s name (promoted k) → (naming : Naming) → Imports (given_in naming setting rules) (composed naming old before) s (composed naming new after)
+  imports_judged : (new : Parts) (after : Root) (y : Externs) → ImportsAs rules.named mid new before after x y s name (promoted k) → (naming : Naming) → Imports (given_in naming context rules) (composed naming old before) s (composed naming new after)
   imports_judged new after y i naming = (
     means naming mid k,
     declared_count mid,
@@ -91,24 +91,24 @@ module _ (setting : Setting) (rules : Rules) (old mid : Parts) (before : Root) (
       (sym (one_more_at (import_span s) (imports c) (imports d) name (shapes.promoted (means naming mid k)) (ap (λ (e : Composition). imports e) is ∙ one_more_import (with_resources c (declared_count mid)) name (shapes.promoted (means naming mid k)) s.id.string))))
       (i.adds.exported_at ∙ sym none ∙ ap (λ (l : Named Span). exported_in x ++ l) (sym (no_more_at (import_span s) c.exports d.exports (ap (λ (e : Composition). e.exports) is))))
 
-  pub statement_went : (new : Parts) (after : Root) (y : Externs) → ImportsAs rules.named mid new before after x y s name (promoted k) → Went setting rules old new before after x y (Statement.import_statement s)
+  pub statement_went : (new : Parts) (after : Root) (y : Externs) → ImportsAs rules.named mid new before after x y s name (promoted k) → StatementRun context rules old new before after x y (Statement.import_statement s)
   statement_went new after y i = record {
     stand = record {
       agrees = i.adds.agrees;
       placed = placed_imported mid new before after x y s.id name (import_span s) (promoted k) (placed_kept old mid x made.grows stand.placed) i.adds;
-      handed = handed_imported (packages_in setting) mid new new.nodes (with_named mid.imports name (length mid.nodes)) i.adds.same made.handed;
+      supplied = handed_imported (packages_in context) mid new new.nodes (with_named mid.imports name (length mid.nodes)) i.adds.same made.supplied;
     };
     leads = λ naming one. (imports_judged new after y i naming, places_moved new after y i naming);
   }
 
-  pub name_breaks : (e : Error) → ((naming : Naming) → Under rules.named (λ given. ImportNameBroken given (composed naming mid before) (places_in before x) e s name)) → Breaks setting rules old before x (Statement.import_statement s) e
+  pub name_breaks : (e : Error) → ((naming : Naming) → Under rules.named (λ given. ImportNameBroken given (composed naming mid before) (places_in before x) e s name)) → Breaks context rules old before x (Statement.import_statement s) e
   name_breaks e h naming one = inr (
     means naming mid k,
     declared_count mid,
     made.is naming rules,
-    subst (λ (l : List ℕ). ImportNameBroken (given_in naming setting rules) (composed naming old before) (places_in before x) e s l) (meant naming)
-        (subst (λ (c : Composition). ImportNameBroken (given_in naming setting rules) c (places_in before x) e s name) (composed_kept old mid before naming made.grows stand.agrees) (h naming (given_in naming setting rules) refl)),
+    subst (λ (l : List ℕ). ImportNameBroken (given_in naming context rules) (composed naming old before) (places_in before x) e s l) (meant naming)
+        (subst (λ (c : Composition). ImportNameBroken (given_in naming context rules) c (places_in before x) e s name) (composed_kept old mid before naming made.grows stand.agrees) (h naming (given_in naming context rules) refl)),
   )
 
-pub type_breaks : (setting : Setting) (rules : Rules) (old : Parts) (before : Root) (x : Externs) (s : ImportStatement) (e : Error) → ImportTypeBreaks setting old before s.ty e → Breaks setting rules old before x (Statement.import_statement s) e
-type_breaks setting rules old before x s e h naming one = inl (h naming rules)
+pub type_breaks : (context : Context) (rules : Rules) (old : Parts) (before : Root) (x : Externs) (s : ImportStatement) (e : Error) → ImportTypeBreaks context old before s.ty e → Breaks context rules old before x (Statement.import_statement s) e
+type_breaks context rules old before x s e h naming one = inl (h naming rules)

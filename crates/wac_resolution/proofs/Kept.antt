@@ -19,7 +19,7 @@ use Rattle.wac_resolution_rules.specs.Composition.{Composition}
 use Rattle.wac_resolution_rules.specs.Given.{Given, Rules}
 use Rattle.wac_resolution_rules.specs.Mentions.{IsMentioned, Mention, given_over, is_mentioned, kept, mentions}
 use Rattle.wac_resolution_rules.specs.ResolvedDocument.{Describes, FirstClause, FirstFailing, GraphClause, OnlyClause, given_to}
-use Rattle.wac_resolution_paths.specs.Expands.{HoldsHanded, IsHandedAs}
+use Rattle.wac_resolution_paths.specs.Expands.{AllSupplied, IsSuppliedAs}
 use Rattle.wac_resolution_mentions.specs.Packages.{AreFirst, OnlyTheseMatter}
 use Rattle.wac_resolution.specs.Resolved.{HoldsMentioned, HoldsSupplied, Promised, Resolved, by_key, returned, call}
 
@@ -84,10 +84,10 @@ kept_for lent doc packages others these same first matter are = subst (λ (d : C
 some_naming : Naming
 some_naming origin = 0
 
-pub holds_mentioned : (doc : Document) (packages others : List (PackageKey × PackageParts)) (g : Parts) → IsKept doc packages others → HoldsHanded (by_key others) g → HoldsMentioned (mentions doc) g
-holds_mentioned doc packages others g k h = each g.packages (subst (λ (l : List (Key × PackageParts)). HoldsHanded l g) k.are h)
+pub holds_mentioned : (doc : Document) (packages others : List (PackageKey × PackageParts)) (g : Parts) → IsKept doc packages others → AllSupplied (by_key others) g → HoldsMentioned (mentions doc) g
+holds_mentioned doc packages others g k h = each g.packages (subst (λ (l : List (Key × PackageParts)). AllSupplied l g) k.are h)
   where
-    each : (held : List HeldPackage) → AllByRecursion (IsHandedAs (kept k.these (by_key packages)) g) held → AllByRecursion (λ (p : HeldPackage). IsMentioned (mentions doc) p.key) held
+    each : (held : List HeldPackage) → AllByRecursion (IsSuppliedAs (kept k.these (by_key packages)) g) held → AllByRecursion (λ (p : HeldPackage). IsMentioned (mentions doc) p.key) held
     each [] all = tt
     each (p ∷ held) all =
         let contents : Contents = contents_in some_naming g p in
@@ -95,20 +95,20 @@ holds_mentioned doc packages others g k h = each g.packages (subst (λ (l : List
         ((k.first.keys p.key).0 (found_mentioned k.these p.key (handed some_naming (by_key packages)) contents found), each held all.1)
 
 pub holds_supplied : (doc : Document) (packages others : List (PackageKey × PackageParts)) (g : Parts) → IsKept doc packages others → HoldsSupplied others g → HoldsSupplied packages g
-holds_supplied doc packages others g k h = each g.packages (subst (λ (l : List (Key × PackageParts)). HoldsHanded l g) k.are h)
+holds_supplied doc packages others g k h = each g.packages (subst (λ (l : List (Key × PackageParts)). AllSupplied l g) k.are h)
   where
-    found : (naming : Naming) (p : HeldPackage) → IsHandedAs (kept k.these (by_key packages)) g p → package_of p.key (handed naming (by_key packages)) ≡ Some (contents_in naming g p)
+    found : (naming : Naming) (p : HeldPackage) → IsSuppliedAs (kept k.these (by_key packages)) g p → package_of p.key (handed naming (by_key packages)) ≡ Some (contents_in naming g p)
     found naming p is =
         found_in_all k.these p.key (handed naming (by_key packages)) (contents_in naming g p)
         (subst (λ (ps : Packages). package_of p.key ps ≡ Some (contents_in naming g p)) (handed_kept naming k.these (by_key packages)) (is.contents naming))
 
-    each : (held : List HeldPackage) → AllByRecursion (IsHandedAs (kept k.these (by_key packages)) g) held → AllByRecursion (IsHandedAs (by_key packages) g) held
+    each : (held : List HeldPackage) → AllByRecursion (IsSuppliedAs (kept k.these (by_key packages)) g) held → AllByRecursion (IsSuppliedAs (by_key packages) g) held
     each [] all = tt
     each (p ∷ held) all = (record { there = all.0.there; contents = λ naming. found naming p all.0 }, each held all.1)
 
 given_kept : (naming : Naming) (ms : List Mention) (ps : List (Key × PackageParts)) (rules : Rules) (doc : Document) → given_to naming (kept ms ps) rules doc ≡ given_over (given_to naming ps rules doc) (kept ms (handed naming ps))
 given_kept naming ms ps rules doc = λ i. record {
-  setting = record { naming = naming; own = doc.directive.package_name.name; version = version_text doc.directive.package_name.string; packages = handed_kept naming ms ps i };
+  context = record { naming = naming; own = doc.directive.package_name.name; version = version_text doc.directive.package_name.string; packages = handed_kept naming ms ps i };
   rules = rules;
 }
 

@@ -25,28 +25,28 @@ use Rattle.wac_resolution_rules.specs.TypeStatements.{Defines, defining, Declare
 use Rattle.wac_resolution_rules.proofs.Prefixes.{named_at_suc}
 use Rattle.wac_resolution_nodes.specs.declared.root.Root.{Root}
 use Rattle.wac_resolution_nodes.specs.Root.{composed}
-use Rattle.wac_resolution_paths.specs.declared.setting.Setting.{Setting}
-use Rattle.wac_resolution_paths.specs.Expands.{IsHandedAs, HoldsHanded}
-use Rattle.wac_resolution_paths.specs.Setting.{packages_in, setting_of}
+use Rattle.wac_resolution_paths.specs.declared.context.Context.{Context}
+use Rattle.wac_resolution_paths.specs.Expands.{IsSuppliedAs, AllSupplied}
+use Rattle.wac_resolution_paths.specs.Context.{packages_in, context_of}
 use Rattle.wac_resolution_externs.specs.declared.externs.Externs.{Externs}
 use Rattle.wac_resolution_externs.specs.Externs.{places_in}
 use Rattle.wac_resolution_externs.specs.Exports.{GrowsExports}
 use Rattle.wac_resolution_bindings.specs.Defined.{IsDefined}
 use Rattle.wac_resolution.specs.Definitions.{DeclaresKind, KindDeclared}
-use Rattle.wac_resolution_bindings.specs.Statements.{Stand, Went, Breaks}
+use Rattle.wac_resolution_bindings.specs.Statements.{Stand, StatementRun, Breaks}
 use Rattle.wac_resolution_bindings.proofs.Standing.{composed_kept}
 
 -- ---- the judgement
 
-declares : (setting : rules.Setting) (old new : Composition) (s : TypeStatement) (m : Meaning) (n : ℕ) → DeclaresKind setting old s m n → Defines old (identifier_of s).string m n new → Declares setting old s new
-declares setting old new (TypeStatement.interface d) m n k h = (k.0, n, k.1, subst (λ (x : Meaning). Defines old d.id.string x n new) k.2 h)
-declares setting old new (TypeStatement.world d) m n k h = (k.0, n, k.1, subst (λ (x : Meaning). Defines old d.id.string x n new) k.2 h)
-declares setting old new (TypeStatement.ty d) m n k h = (m, n, k, h)
+declares : (context : rules.Context) (old new : Composition) (s : TypeStatement) (m : Meaning) (n : ℕ) → DeclaresKind context old s m n → Defines old (identifier_of s).string m n new → Declares context old s new
+declares context old new (TypeStatement.interface d) m n k h = (k.0, n, k.1, subst (λ (x : Meaning). Defines old d.id.string x n new) k.2 h)
+declares context old new (TypeStatement.world d) m n k h = (k.0, n, k.1, subst (λ (x : Meaning). Defines old d.id.string x n new) k.2 h)
+declares context old new (TypeStatement.ty d) m n k h = (m, n, k, h)
 
-has_kind : (setting : rules.Setting) (old : Composition) (s : TypeStatement) (m : Meaning) (n : ℕ) → DeclaresKind setting old s m n → HasKind setting old s
-has_kind setting old (TypeStatement.interface d) m n k = (k.0, n, k.1)
-has_kind setting old (TypeStatement.world d) m n k = (k.0, n, k.1)
-has_kind setting old (TypeStatement.ty d) m n k = (m, n, k)
+has_kind : (context : rules.Context) (old : Composition) (s : TypeStatement) (m : Meaning) (n : ℕ) → DeclaresKind context old s m n → HasKind context old s
+has_kind context old (TypeStatement.interface d) m n k = (k.0, n, k.1)
+has_kind context old (TypeStatement.world d) m n k = (k.0, n, k.1)
+has_kind context old (TypeStatement.ty d) m n k = (m, n, k)
 
 -- ---- places
 
@@ -91,32 +91,32 @@ places_defined old new p q s m n is bound imported exported =
 -- ---- what is kept beside the graph
 
 -- the packages are still held as they were supplied
-handed_exports : (packages : List (Key × PackageParts)) (old new : Parts) → GrowsExports old new → HoldsHanded packages old → HoldsHanded packages new
+handed_exports : (packages : List (Key × PackageParts)) (old new : Parts) → GrowsExports old new → AllSupplied packages old → AllSupplied packages new
 handed_exports packages old new g h =
     let more = record old { nodes = new.nodes; exports = new.exports } in
-    subst (HoldsHanded packages) (sym g.same) (all_implies (IsHandedAs packages old) (IsHandedAs packages more) (λ p held. record { there = held.there; contents = held.contents }) old.packages h)
+    subst (AllSupplied packages) (sym g.same) (all_implies (IsSuppliedAs packages old) (IsSuppliedAs packages more) (λ p held. record { there = held.there; contents = held.contents }) old.packages h)
 
-pub went : (setting : Setting) (old mid new : Parts) (before after : Root) (x y : Externs) (s : TypeStatement) (k : ItemKind) → Stand setting old before x → KindDeclared setting old mid before s k
-    → IsDefined mid new before after x y (identifier_of s) k → (rules : Rules) → Went setting rules old new before after x y (Statement.type_statement s)
-went setting old mid new before after x y s k stand kind h rules = record {
-  stand = record { agrees = h.agrees; placed = h.placed; handed = handed_exports (packages_in setting) mid new h.grows kind.handed };
+pub went : (context : Context) (old mid new : Parts) (before after : Root) (x y : Externs) (s : TypeStatement) (k : ItemKind) → Stand context old before x → KindDeclared context old mid before s k
+    → IsDefined mid new before after x y (identifier_of s) k → (rules : Rules) → StatementRun context rules old new before after x y (Statement.type_statement s)
+went context old mid new before after x y s k stand kind h rules = record {
+  stand = record { agrees = h.agrees; placed = h.placed; supplied = handed_exports (packages_in context) mid new h.grows kind.supplied };
   leads = λ naming one.
       let defines : Defines (composed naming old before) (identifier_of s).string (means naming mid k) (declared_count mid) (composed naming new after) =
       subst (λ (c : Composition). Defines c (identifier_of s).string (means naming mid k) (declared_count mid) (composed naming new after)) (composed_kept old mid before naming kind.grows stand.agrees) (h.defines naming) in (
-        declares (setting_of naming setting) (composed naming old before) (composed naming new after) s (means naming mid k) (declared_count mid) (kind.is naming) defines,
+        declares (context_of naming context) (composed naming old before) (composed naming new after) s (means naming mid k) (declared_count mid) (kind.is naming) defines,
         places_defined (composed naming old before) (composed naming new after) (places_in before x) (places_in after y) s (means naming mid k) (declared_count mid) defines.2 h.bound h.imported h.exported,
       );
 }
 
 -- ---- what is reported
 
-pub kind_breaks : (setting : Setting) (g : Parts) (root : Root) (x : Externs) (s : TypeStatement) (e : Error) → ((naming : Naming) → KindBroken (setting_of naming setting) (composed naming g root) s e)
-    → (rules : Rules) → Breaks setting rules g root x (Statement.type_statement s) e
-kind_breaks setting g root x s e h rules naming one = inl (h naming)
+pub kind_breaks : (context : Context) (g : Parts) (root : Root) (x : Externs) (s : TypeStatement) (e : Error) → ((naming : Naming) → KindBroken (context_of naming context) (composed naming g root) s e)
+    → (rules : Rules) → Breaks context rules g root x (Statement.type_statement s) e
+kind_breaks context g root x s e h rules naming one = inl (h naming)
 
-pub definition_breaks : (setting : Setting) (old mid : Parts) (root : Root) (x : Externs) (s : TypeStatement) (k : ItemKind) (e : Error) → Stand setting old root x → KindDeclared setting old mid root s k
-    → ((naming : Naming) → DefinitionBroken (composed naming mid root) (places_in root x) (identifier_of s) e) → (rules : Rules) → Breaks setting rules old root x (Statement.type_statement s) e
-definition_breaks setting old mid root x s k e stand kind h rules naming one = inr (
-  has_kind (setting_of naming setting) (composed naming old root) s (means naming mid k) (declared_count mid) (kind.is naming),
+pub definition_breaks : (context : Context) (old mid : Parts) (root : Root) (x : Externs) (s : TypeStatement) (k : ItemKind) (e : Error) → Stand context old root x → KindDeclared context old mid root s k
+    → ((naming : Naming) → DefinitionBroken (composed naming mid root) (places_in root x) (identifier_of s) e) → (rules : Rules) → Breaks context rules old root x (Statement.type_statement s) e
+definition_breaks context old mid root x s k e stand kind h rules naming one = inr (
+  has_kind (context_of naming context) (composed naming old root) s (means naming mid k) (declared_count mid) (kind.is naming),
   subst (λ (c : Composition). DefinitionBroken c (places_in root x) (identifier_of s) e) (composed_kept old mid root naming kind.grows stand.agrees) (h naming),
 )

@@ -10,27 +10,27 @@ use Rattle.wac_resolution_rules.specs.Places.{Leads}
 use Rattle.wac_resolution_rules.proofs.StepLaws.{steps_on_map, fails_at_map}
 use Rattle.wac_resolution_nodes.specs.declared.root.Root.{Root}
 use Rattle.wac_resolution_nodes.specs.Root.{composed}
-use Rattle.wac_resolution_paths.specs.declared.setting.Setting.{Setting}
+use Rattle.wac_resolution_paths.specs.declared.context.Context.{Context}
 use Rattle.wac_resolution_expressions.specs.Growth.{given_in}
 use Rattle.wac_resolution_externs.specs.declared.externs.Externs.{Externs}
 use Rattle.wac_resolution_externs.specs.Externs.{places_in}
-use Rattle.wac_resolution_bindings.specs.Statements.{Stand, placed_in, Went, Breaks}
-use Rattle.wac_resolution.specs.Sequences.{AllWent, BreaksAfter, OneBreaks}
+use Rattle.wac_resolution_bindings.specs.Statements.{Stand, placed_in, StatementRun, Breaks}
+use Rattle.wac_resolution.specs.Sequences.{StatementsRun, BreaksAfter, OneBreaks}
 
-pub none_went : (setting : Setting) (rules : Rules) (g : Parts) (root : Root) (x : Externs) → Stand setting g root x → AllWent setting rules g g root root x x []
-none_went setting rules g root x h = record { stand = h; leads = λ naming one. refl }
+pub none_went : (context : Context) (rules : Rules) (g : Parts) (root : Root) (x : Externs) → Stand context g root x → StatementsRun context rules g g root root x x []
+none_went context rules g root x h = record { stand = h; leads = λ naming one. refl }
 
-pub next_went : (setting : Setting) (rules : Rules) (old mid new : Parts) (before mid_root after : Root) (x y z : Externs) (all : List CodeStatement) (i : ℕ) (s : CodeStatement) → i < length all → s ≡ get_or all i s → AllWent setting rules old mid before mid_root x y (take i (map statement_of all))
-    → Went setting rules mid new mid_root after y z (statement_of s) → AllWent setting rules old new before after x z (take (i + 1) (map statement_of all))
-next_went setting rules old mid new before mid_root after x y z all i s within is p step = record {
+pub next_went : (context : Context) (rules : Rules) (old mid new : Parts) (before mid_root after : Root) (x y z : Externs) (all : List CodeStatement) (i : ℕ) (s : CodeStatement) → i < length all → s ≡ get_or all i s → StatementsRun context rules old mid before mid_root x y (take i (map statement_of all))
+    → StatementRun context rules mid new mid_root after y z (statement_of s) → StatementsRun context rules old new before after x z (take (i + 1) (map statement_of all))
+next_went context rules old mid new before mid_root after x y z all i s within is p step = record {
   stand = step.stand;
   leads = λ naming one.
-      steps_on_map (Leads (given_in naming setting rules)) statement_of (placed_in naming old before x) all i s (placed_in naming mid mid_root y) (placed_in naming new after z) within (p.leads naming one)
-      (subst (λ (t : CodeStatement). Leads (given_in naming setting rules) (placed_in naming mid mid_root y) (statement_of t) (placed_in naming new after z)) is (step.leads naming one));
+      steps_on_map (Leads (given_in naming context rules)) statement_of (placed_in naming old before x) all i s (placed_in naming mid mid_root y) (placed_in naming new after z) within (p.leads naming one)
+      (subst (λ (t : CodeStatement). Leads (given_in naming context rules) (placed_in naming mid mid_root y) (statement_of t) (placed_in naming new after z)) is (step.leads naming one));
 }
 
-pub next_breaks : (setting : Setting) (rules : Rules) (old mid : Parts) (before mid_root : Root) (x y : Externs) (all : List CodeStatement) (i : ℕ) (s : CodeStatement) (e : Error) → i < length all → s ≡ get_or all i s → AllWent setting rules old mid before mid_root x y (take i (map statement_of all))
-    → Breaks setting rules mid mid_root y (statement_of s) e → OneBreaks setting rules old before x (map statement_of all) e
-next_breaks setting rules old mid before mid_root x y all i s e within is p broken naming one =
-    fails_at_map (Leads (given_in naming setting rules)) (BreaksAfter (given_in naming setting rules) e) statement_of (placed_in naming old before x) all i s (placed_in naming mid mid_root y) within (p.leads naming one)
-    (subst (λ (t : CodeStatement). StatementBroken (given_in naming setting rules) (composed naming mid mid_root) (places_in mid_root y) e (statement_of t)) is (broken naming one))
+pub next_breaks : (context : Context) (rules : Rules) (old mid : Parts) (before mid_root : Root) (x y : Externs) (all : List CodeStatement) (i : ℕ) (s : CodeStatement) (e : Error) → i < length all → s ≡ get_or all i s → StatementsRun context rules old mid before mid_root x y (take i (map statement_of all))
+    → Breaks context rules mid mid_root y (statement_of s) e → OneBreaks context rules old before x (map statement_of all) e
+next_breaks context rules old mid before mid_root x y all i s e within is p broken naming one =
+    fails_at_map (Leads (given_in naming context rules)) (BreaksAfter (given_in naming context rules) e) statement_of (placed_in naming old before x) all i s (placed_in naming mid mid_root y) within (p.leads naming one)
+    (subst (λ (t : CodeStatement). StatementBroken (given_in naming context rules) (composed naming mid mid_root) (places_in mid_root y) e (statement_of t)) is (broken naming one))

@@ -13,9 +13,9 @@ use Rattle.wac_resolution_state.specs.Bindings.{Bindings, places_of}
 use Rattle.wac_resolution_nodes.specs.declared.root.Root.{Root}
 use Rattle.wac_resolution_nodes.specs.Nodes.{composition_of}
 use Rattle.wac_resolution_nodes.specs.Root.{numbers_of, composed, Agrees}
-use Rattle.wac_resolution_paths.specs.declared.setting.Setting.{Setting}
-use Rattle.wac_resolution_paths.specs.Expands.{HoldsHanded}
-use Rattle.wac_resolution_paths.specs.Setting.{packages_in}
+use Rattle.wac_resolution_paths.specs.declared.context.Context.{Context}
+use Rattle.wac_resolution_paths.specs.Expands.{AllSupplied}
+use Rattle.wac_resolution_paths.specs.Context.{packages_in}
 use Rattle.wac_resolution_externs.specs.declared.externs.Externs.{Externs}
 use Rattle.wac_resolution_externs.specs.Externs.{imported_in, exported_in}
 use Rattle.wac_resolution_bindings.specs.Statements.{Stand, placed_in}
@@ -34,14 +34,14 @@ root_is root nodes kinds = λ i. record { nodes = nodes i; kinds = kinds i }
 start_agrees : (root : Root) → root.nodes ≡ [] → root.kinds ≡ [] → Agrees empty root
 start_agrees root nodes kinds = subst (λ (r : Root). Agrees empty r) (sym (root_is root nodes kinds)) (record { nodes = tt; names = tt })
 
-pub start_stands : (setting : Setting) (g : Parts) (root : Root) (x : Externs) → IsStart g root x → Stand setting g root x
-start_stands setting g root x h = record {
+pub start_stands : (context : Context) (g : Parts) (root : Root) (x : Externs) → IsStart g root x → Stand context g root x
+start_stands context g root x h = record {
   agrees = subst (λ (p : Parts). Agrees p root) (sym h.graph) (start_agrees root h.nodes h.kinds);
   placed = record {
     imported = ap (λ (l : Named Span). names_of l) h.imported ∙ ap (λ (p : Parts). names_of p.imports) (sym h.graph);
     exported = ap (λ (l : Named Span). names_of l) h.exported ∙ ap (λ (p : Parts). names_of p.exports) (sym h.graph);
   };
-  handed = subst (λ (p : Parts). HoldsHanded (packages_in setting) p) (sym h.graph) tt;
+  supplied = subst (λ (p : Parts). AllSupplied (packages_in context) p) (sym h.graph) tt;
 }
 
 none_declared : declared_count empty ≡ 0

@@ -13,21 +13,21 @@ use Rattle.wac_resolution_rules.specs.TypeStatements.{declared_id}
 use Rattle.wac_resolution_rules.specs.Worlds.{IsInterface, IsWorld}
 use Rattle.wac_resolution_nodes.specs.declared.root.Root.{Root}
 use Rattle.wac_resolution_nodes.specs.Root.{composed}
-use Rattle.wac_resolution_paths.specs.declared.setting.Setting.{Setting}
-use Rattle.wac_resolution_paths.specs.Setting.{packages_in, setting_of}
+use Rattle.wac_resolution_paths.specs.declared.context.Context.{Context}
+use Rattle.wac_resolution_paths.specs.Context.{packages_in, context_of}
 use Rattle.wac_resolution_worlds.specs.Made.{KindMade}
 
 -- the kind that a type statement declares, and how many resources are declared then
-abbrev pub DeclaresKind : rules.Setting → Composition → TypeStatement → Meaning → ℕ → Type 0
-DeclaresKind setting old (TypeStatement.interface d) m n =
-    (entry : Meaning) × IsInterface setting (root_scope old) old.resources (declared_id setting d.id.string) d.items
+abbrev pub DeclaresKind : rules.Context → Composition → TypeStatement → Meaning → ℕ → Type 0
+DeclaresKind context old (TypeStatement.interface d) m n =
+    (entry : Meaning) × IsInterface context (root_scope old) old.resources (declared_id context d.id.string) d.items
     entry n × (m ≡ kind_of an_interface entry)
-DeclaresKind setting old (TypeStatement.world d) m n =
-    (entry : Meaning) × IsWorld setting (root_scope old) old.resources (declared_id setting d.id.string) d.items entry n
+DeclaresKind context old (TypeStatement.world d) m n =
+    (entry : Meaning) × IsWorld context (root_scope old) old.resources (declared_id context d.id.string) d.items entry n
     × (m ≡ kind_of a_world entry)
-DeclaresKind setting old (TypeStatement.ty d) m n = IsTypeDecl (root_scope old) old.resources d m n
+DeclaresKind context old (TypeStatement.ty d) m n = IsTypeDecl (root_scope old) old.resources d m n
 
 -- the kind is the one that a type statement declares
-abbrev pub KindDeclared : Setting → Parts → Parts → Root → TypeStatement → ItemKind → Type 0
-KindDeclared setting old new root s k = KindMade (packages_in setting) old new
-    (λ naming m after. DeclaresKind (setting_of naming setting) (composed naming old root) s m after) k
+abbrev pub KindDeclared : Context → Parts → Parts → Root → TypeStatement → ItemKind → Type 0
+KindDeclared context old new root s k = KindMade (packages_in context) old new
+    (λ naming m after. DeclaresKind (context_of naming context) (composed naming old root) s m after) k

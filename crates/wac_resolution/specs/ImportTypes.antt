@@ -9,18 +9,18 @@ use Rattle.wac_resolution_rules.specs.Given.{Rules}
 use Rattle.wac_resolution_rules.specs.Statements.{ImportsKind}
 use Rattle.wac_resolution_nodes.specs.declared.root.Root.{Root}
 use Rattle.wac_resolution_nodes.specs.Root.{composed}
-use Rattle.wac_resolution_paths.specs.declared.setting.Setting.{Setting}
-use Rattle.wac_resolution_paths.specs.Setting.{packages_in}
+use Rattle.wac_resolution_paths.specs.declared.context.Context.{Context}
+use Rattle.wac_resolution_paths.specs.Context.{packages_in}
 use Rattle.wac_resolution_worlds.specs.Made.{KindMade}
 use Rattle.wac_resolution_expressions.specs.Growth.{given_in}
 
 -- a kind was made that the type of an import means, whatever the rules
-abbrev pub ImportMade : Setting → Parts → Parts → Root → ImportType → ItemKind → Type 0
-ImportMade setting old new root x k = KindMade (packages_in setting) old new
+abbrev pub ImportMade : Context → Parts → Parts → Root → ImportType → ItemKind → Type 0
+ImportMade context old new root x k = KindMade (packages_in context) old new
     (λ naming m after. (rules : Rules)
-    → ImportsKind (given_in naming setting rules) (composed naming old root) x m after) k
+    → ImportsKind (given_in naming context rules) (composed naming old root) x m after) k
 
 -- the error names a rule that the type of an import breaks
-abbrev pub ImportTypeBreaks : Setting → Parts → Root → ImportType → Error → Type 0
-ImportTypeBreaks setting g root x e = (naming : Naming) (rules : Rules)
-    → ImportKindBroken (given_in naming setting rules) (composed naming g root) e x
+abbrev pub ImportTypeBreaks : Context → Parts → Root → ImportType → Error → Type 0
+ImportTypeBreaks context g root x e = (naming : Naming) (rules : Rules)
+    → ImportKindBroken (given_in naming context rules) (composed naming g root) e x

@@ -17,7 +17,7 @@ use Rattle.wac_resolution_rules.specs.Given.{Given, Rules}
 use Rattle.wac_resolution_rules.specs.Mentions.{IsMentioned, Mention}
 use Rattle.wac_resolution_rules.specs.ResolvedDocument.{given_to, EveryNaming, GraphClause, OnlyClause, FirstClause}
 use Rattle.wac_resolution_nodes.specs.Nodes.{composition_of}
-use Rattle.wac_resolution_paths.specs.Expands.{HoldsHanded}
+use Rattle.wac_resolution_paths.specs.Expands.{AllSupplied}
 
 -- a document, and a graph
 pub record Resolved : Type 0 where
@@ -70,4 +70,4 @@ HoldsMentioned ms g = AllByRecursion (λ (p : HeldPackage). IsMentioned ms p.key
 -- each package that the graph holds was supplied under its key, and its world, its instance and its definitions mean in
 -- the graph what they meant there
 abbrev pub HoldsSupplied : List (PackageKey × PackageParts) → Parts → Type 0
-HoldsSupplied packages g = HoldsHanded (by_key packages) g
+HoldsSupplied packages g = AllSupplied (by_key packages) g

@@ -9,24 +9,24 @@ use Rattle.wac_resolution_rules.specs.BrokenStatements.{StatementBroken}
 use Rattle.wac_resolution_rules.specs.Given.{Given, Rules}
 use Rattle.wac_resolution_rules.specs.Places.{Placed, Leads}
 use Rattle.wac_resolution_nodes.specs.declared.root.Root.{Root}
-use Rattle.wac_resolution_paths.specs.declared.setting.Setting.{Setting}
+use Rattle.wac_resolution_paths.specs.declared.context.Context.{Context}
 use Rattle.wac_resolution_expressions.specs.Growth.{given_in}
 use Rattle.wac_resolution_externs.specs.declared.externs.Externs.{Externs}
 use Rattle.wac_resolution_bindings.specs.Statements.{Stand, placed_in}
 
 -- all were executed: they take the old composition and places to the new ones, under every one-to-one naming
-pub record AllWent (setting : Setting) (rules : Rules) (old new : Parts) (before after : Root) (x y : Externs)
+pub record StatementsRun (context : Context) (rules : Rules) (old new : Parts) (before after : Root) (x y : Externs)
     (all : List Statement) : Type 0 where
-  pub stand : Stand setting new after y
+  pub stand : Stand context new after y
   pub leads : (naming : Naming) → IsOneToOne naming
-      → Steps (Leads (given_in naming setting rules)) (placed_in naming old before x) all (placed_in naming new after y)
+      → Steps (Leads (given_in naming context rules)) (placed_in naming old before x) all (placed_in naming new after y)
 
 -- after others a statement breaks the rule that the error names
 abbrev pub BreaksAfter : Given → Error → Placed → List Statement → Statement → Type 0
 BreaksAfter s e p before x = StatementBroken s p.composition p.places e x
 
 -- those before one were executed, and the error names a rule that this one breaks
-abbrev pub OneBreaks : Setting → Rules → Parts → Root → Externs → List Statement → Error → Type 0
-OneBreaks setting rules g root x all e = (naming : Naming) → IsOneToOne naming
-    → Fails (Leads (given_in naming setting rules)) (BreaksAfter (given_in naming setting rules) e)
+abbrev pub OneBreaks : Context → Rules → Parts → Root → Externs → List Statement → Error → Type 0
+OneBreaks context rules g root x all e = (naming : Naming) → IsOneToOne naming
+    → Fails (Leads (given_in naming context rules)) (BreaksAfter (given_in naming context rules) e)
     (placed_in naming g root x) all

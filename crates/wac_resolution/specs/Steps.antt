@@ -15,41 +15,41 @@ use Rattle.wac_resolution_rules.specs.Target.{MeetsTarget}
 use Rattle.wac_resolution_nodes.specs.declared.root.Root.{Root}
 use Rattle.wac_resolution_nodes.specs.Nodes.{composition_of}
 use Rattle.wac_resolution_nodes.specs.Root.{composed}
-use Rattle.wac_resolution_paths.specs.declared.setting.Setting.{Setting}
-use Rattle.wac_resolution_paths.specs.Expands.{HoldsHanded}
-use Rattle.wac_resolution_paths.specs.Setting.{packages_in}
+use Rattle.wac_resolution_paths.specs.declared.context.Context.{Context}
+use Rattle.wac_resolution_paths.specs.Expands.{AllSupplied}
+use Rattle.wac_resolution_paths.specs.Context.{packages_in}
 use Rattle.wac_resolution_expressions.specs.Growth.{given_in}
 use Rattle.wac_resolution_externs.specs.declared.externs.Externs.{Externs}
 use Rattle.wac_resolution_bindings.specs.Statements.{placed_in}
 use Rattle.wac_resolution.specs.Sequences.{BreaksAfter}
 
 -- the target is met, if there is one, the composition is as before, and the graph's packages were supplied
-pub record MeetsIn (setting : Setting) (rules : Rules) (old new : Parts) (root : Root)
+pub record MeetsIn (context : Context) (rules : Rules) (old new : Parts) (root : Root)
     (targets : Option PackagePath) : Type 0 where
-  pub handed : HoldsHanded (packages_in setting) new
+  pub supplied : AllSupplied (packages_in context) new
   pub kept : (naming : Naming) → composed naming new root ≡ composed naming old root
   pub met : (naming : Naming) → IsOneToOne naming
-      → MeetsTarget (given_in naming setting rules) (composed naming old root) targets
+      → MeetsTarget (given_in naming context rules) (composed naming old root) targets
 
 -- the error says how the target is not met
-pub record MissesIn (setting : Setting) (rules : Rules) (g : Parts) (root : Root) (x : Externs)
+pub record MissesIn (context : Context) (rules : Rules) (g : Parts) (root : Root) (x : Externs)
     (targets : Option PackagePath) (e : Error) : Type 0 where
   pub target : PackagePath
   pub has : targets ≡ Some target
   pub broken : (naming : Naming) → IsOneToOne naming
-      → TargetBroken (given_in naming setting rules) (composed naming g root)
+      → TargetBroken (given_in naming context rules) (composed naming g root)
       (placed_in naming g root x).places e target
 
 -- the statements compose what the graph denotes with these names at root, the target is met, and the graph holds
 -- packages that were supplied
-pub record Composed (setting : Setting) (rules : Rules) (statements : List Statement) (targets : Option PackagePath)
+pub record Composed (context : Context) (rules : Rules) (statements : List Statement) (targets : Option PackagePath)
     (g : Parts) : Type 0 where
   pub declared : Named ℕ
-  pub handed : HoldsHanded (packages_in setting) g
+  pub supplied : AllSupplied (packages_in context) g
   pub composes : (naming : Naming) → IsOneToOne naming
-      → Composes (given_in naming setting rules) start statements (composition_of naming g declared)
+      → Composes (given_in naming context rules) start statements (composition_of naming g declared)
   pub met : (naming : Naming) → IsOneToOne naming
-      → MeetsTarget (given_in naming setting rules) (composition_of naming g declared) targets
+      → MeetsTarget (given_in naming context rules) (composition_of naming g declared) targets
 
 -- all statements compose, and the target breaks the rule that the error names
 pub record TargetLast (s : Given) (statements : List Statement) (targets : Option PackagePath) (e : Error) : Type
@@ -62,7 +62,7 @@ pub record TargetLast (s : Given) (statements : List Statement) (targets : Optio
 
 -- a statement breaks the rule that the error names, after those before it composed; or the target does, after all of
 -- them
-abbrev pub Breaks : Setting → Rules → List Statement → Option PackagePath → Error → Type 0
-Breaks setting rules statements targets e = (naming : Naming) → IsOneToOne naming
-    → Fails (Leads (given_in naming setting rules)) (BreaksAfter (given_in naming setting rules) e) (placed_start start)
-    statements ⊎ TargetLast (given_in naming setting rules) statements targets e
+abbrev pub Breaks : Context → Rules → List Statement → Option PackagePath → Error → Type 0
+Breaks context rules statements targets e = (naming : Naming) → IsOneToOne naming
+    → Fails (Leads (given_in naming context rules)) (BreaksAfter (given_in naming context rules) e) (placed_start start)
+    statements ⊎ TargetLast (given_in naming context rules) statements targets e

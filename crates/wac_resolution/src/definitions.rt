@@ -9,10 +9,10 @@ ghost use Rattle.wac_resolution_rules.specs.Errors.{ErrorSays};
 ghost use Rattle.wac_resolution_rules.specs.Given.{Rules};
 ghost use Rattle.wac_resolution_rules.specs.Spans.{identifier_of};
 ghost use Rattle.wac_resolution_nodes.specs.Root.{composed, Agrees};
-ghost use Rattle.wac_resolution_paths.specs.Expands.{HoldsHanded};
-ghost use Rattle.wac_resolution_paths.specs.Setting.{packages_in, setting_of};
+ghost use Rattle.wac_resolution_paths.specs.Expands.{AllSupplied};
+ghost use Rattle.wac_resolution_paths.specs.Context.{packages_in, context_of};
 ghost use Rattle.wac_resolution.specs.Definitions.{KindDeclared};
-ghost use Rattle.wac_resolution_bindings.specs.Statements.{Stand, Went, Breaks};
+ghost use Rattle.wac_resolution_bindings.specs.Statements.{Stand, StatementRun, Breaks};
 
 use wac_ast::TypeStatement;
 use wac_ast_base::Ident;
@@ -21,7 +21,7 @@ use wac_resolution_bindings::define;
 use wac_resolution_errors::Error;
 use wac_resolution_externs::Externs;
 use wac_resolution_nodes::Root;
-use wac_resolution_paths::Setting;
+use wac_resolution_paths::Context;
 use wac_resolution_state::State;
 use wac_resolution_worlds::{interface_decl, world_decl};
 
@@ -39,21 +39,21 @@ fn identifier<'x, 'a>(statement: &'x TypeStatement<'a>) -> &'x Ident<'a>
 /// The kind that a type statement declares.
 fn declared_kind(
     state: &mut State,
-    setting: &Setting<'_>,
+    context: &Context<'_>,
     root: &Root<'_>,
     statement: &TypeStatement<'_>,
 ) -> Result<ItemKind, Error>
     requires agrees { Agrees state.old.graph root.now }
-    requires handed { HoldsHanded (packages_in setting.now) state.old.graph }
-    ensures ok { IfOk result (λ k. KindDeclared setting.now state.old.graph state.new.graph root.now
+    requires supplied { AllSupplied (packages_in context.now) state.old.graph }
+    ensures ok { IfOk result (λ k. KindDeclared context.now state.old.graph state.new.graph root.now
         (type_statement_of statement.now) k) }
     ensures err { ErrorSays result (λ e. (naming : Naming)
-        → KindBroken (setting_of naming setting.now) (composed naming state.old.graph root.now)
+        → KindBroken (context_of naming context.now) (composed naming state.old.graph root.now)
         (type_statement_of statement.now) e) }
 {
     match statement {
-        TypeStatement::Interface(decl) => interface_decl(state, setting, &root.kinds, decl),
-        TypeStatement::World(decl) => world_decl(decl, state, setting, &root.kinds),
+        TypeStatement::Interface(decl) => interface_decl(state, context, &root.kinds, decl),
+        TypeStatement::World(decl) => world_decl(decl, state, context, &root.kinds),
         TypeStatement::Ty(decl) => wac_resolution_types::type_decl(state, &root.kinds, decl),
     }
 }
@@ -61,20 +61,20 @@ fn declared_kind(
 /// Executes a type statement: a definition of the kind that it declares.
 pub(crate) fn type_statement<'a>(
     state: &mut State,
-    setting: &Setting<'_>,
+    context: &Context<'_>,
     root: &mut Root<'a>,
     externs: &mut Externs,
     statement: &TypeStatement<'a>,
 ) -> Result<(), Error>
-    requires { Stand setting.now state.old.graph root.old externs.old }
+    requires { Stand context.now state.old.graph root.old externs.old }
     ensures ok { OnOk result ((rules : Rules)
-        → Went setting.now rules state.old.graph state.new.graph root.old root.new externs.old externs.new
+        → StatementRun context.now rules state.old.graph state.new.graph root.old root.new externs.old externs.new
         (Statement.type_statement (type_statement_of statement.now))) }
     ensures err { ErrorSays result (λ e. (rules : Rules)
-        → Breaks setting.now rules state.old.graph root.old externs.old
+        → Breaks context.now rules state.old.graph root.old externs.old
         (Statement.type_statement (type_statement_of statement.now)) e) }
 {
-    let kind = declared_kind(state, setting, root, statement)?;
+    let kind = declared_kind(state, context, root, statement)?;
     define(state, root, externs, identifier(statement), kind)?;
     Ok(())
 }

@@ -4,7 +4,7 @@ ghost use Rattle.wac_ast_grammar.specs.Tree.{Statement as StatementTree};
 ghost use Rattle.wac_ast_worlds.specs.Worlds.{import_statement_of};
 ghost use Rattle.wac_resolution_rules.specs.Errors.{ErrorSays};
 ghost use Rattle.wac_resolution_rules.specs.Given.{rules_of};
-ghost use Rattle.wac_resolution_bindings.specs.Statements.{Stand, Went, Breaks};
+ghost use Rattle.wac_resolution_bindings.specs.Statements.{Stand, StatementRun, Breaks};
 
 use crate::import_kind::import_kind;
 use wac_ast_worlds::ImportStatement;
@@ -13,25 +13,25 @@ use wac_resolution_bindings::{import_as, import_name};
 use wac_resolution_errors::Error;
 use wac_resolution_externs::Externs;
 use wac_resolution_nodes::Root;
-use wac_resolution_paths::Setting;
+use wac_resolution_paths::Context;
 use wac_resolution_state::State;
 
 /// Executes an import statement.
 pub(crate) fn import_statement<'a, R: Rules>(
     state: &mut State,
-    setting: &Setting<'_>,
+    context: &Context<'_>,
     rules: &R,
     root: &mut Root<'a>,
     externs: &mut Externs,
     statement: &ImportStatement<'a>,
 ) -> Result<(), Error>
-    requires { Stand setting.now state.old.graph root.old externs.old }
-    ensures ok { OnOk result (Went setting.now (rules_of R.Rules rules.now) state.old.graph state.new.graph root.old
+    requires { Stand context.now state.old.graph root.old externs.old }
+    ensures ok { OnOk result (StatementRun context.now (rules_of R.Rules rules.now) state.old.graph state.new.graph root.old
         root.new externs.old externs.new (StatementTree.import_statement (import_statement_of statement.now))) }
-    ensures err { ErrorSays result (λ e. Breaks setting.now (rules_of R.Rules rules.now) state.old.graph root.old
+    ensures err { ErrorSays result (λ e. Breaks context.now (rules_of R.Rules rules.now) state.old.graph root.old
         externs.old (StatementTree.import_statement (import_statement_of statement.now)) e) }
 {
-    let kind = import_kind(state, setting, root, &statement.ty)?;
+    let kind = import_kind(state, context, root, &statement.ty)?;
     let item = kind.promote();
     let text = import_name(state, statement, kind)?;
     import_as(state, rules, root, externs, statement, text.as_str(), item)

@@ -3,7 +3,7 @@ ghost use Rattle.std.specs.Prelude.{OnOk, map};
 ghost use Rattle.wac_ast.specs.Statements.{statement_of};
 ghost use Rattle.wac_resolution_rules.specs.Errors.{ErrorSays};
 ghost use Rattle.wac_resolution_rules.specs.Given.{rules_of};
-ghost use Rattle.wac_resolution.specs.Sequences.{AllWent, OneBreaks};
+ghost use Rattle.wac_resolution.specs.Sequences.{StatementsRun, OneBreaks};
 ghost use Rattle.wac_resolution_bindings.specs.Statements.{Stand};
 
 use crate::statements::compose;
@@ -12,24 +12,24 @@ use wac_graph::Rules;
 use wac_resolution_errors::Error;
 use wac_resolution_externs::Externs;
 use wac_resolution_nodes::Root;
-use wac_resolution_paths::Setting;
+use wac_resolution_paths::Context;
 use wac_resolution_state::State;
 
 /// Executes borrowed statements in order.
 pub(crate) fn carry_out<'a, R: Rules>(
     state: &mut State,
-    setting: &Setting<'_>,
+    context: &Context<'_>,
     rules: &R,
     root: &mut Root<'a>,
     externs: &mut Externs,
     statements: Statements<'_, 'a>,
 ) -> Result<(), Error>
-    requires { Stand setting.now state.old.graph root.old externs.old }
-    ensures ok { OnOk result (AllWent setting.now (rules_of R.Rules rules.now) state.old.graph state.new.graph root.old
+    requires { Stand context.now state.old.graph root.old externs.old }
+    ensures ok { OnOk result (StatementsRun context.now (rules_of R.Rules rules.now) state.old.graph state.new.graph root.old
         root.new externs.old externs.new (map statement_of statements.entry)) }
-    ensures err { ErrorSays result (λ e. OneBreaks setting.now (rules_of R.Rules rules.now) state.old.graph root.old
+    ensures err { ErrorSays result (λ e. OneBreaks context.now (rules_of R.Rules rules.now) state.old.graph root.old
         externs.old (map statement_of statements.entry) e) }
 {
     let all = statements.all;
-    compose(state, setting, rules, root, externs, all)
+    compose(state, context, rules, root, externs, all)
 }

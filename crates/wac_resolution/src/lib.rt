@@ -12,6 +12,7 @@
 //! memory failed.
 #![tactic(auto)]
 
+mod context;
 mod definitions;
 mod documents;
 mod import_kind;
@@ -21,7 +22,6 @@ mod laws;
 mod lent;
 mod resolution;
 mod resolver;
-mod setting;
 mod statements;
 mod steps;
 mod target;

@@ -8,9 +8,9 @@ ghost use Rattle.wac_resolution_rules.specs.Mentions.{mentions};
 ghost use Rattle.wac_resolution.specs.Layout.{IgnoresLayout};
 ghost use Rattle.wac_resolution.specs.Resolved.{HoldsMentioned, HoldsSupplied, IsDescribed, IsFirstFault, IsReturned, call};
 
+use crate::context::context;
 use crate::keeping::keep_mentioned;
 use crate::resolution::{Resolution, ResolutionResult};
-use crate::setting::setting;
 use crate::steps::composed;
 use indexmap::IndexMap;
 use std::alloc::{AllocError, Global};
@@ -78,11 +78,11 @@ impl<'d, 'a> AstResolver<'d, 'a> {
     {
         let document = self.document;
         let directive = &document.directive;
-        let setting = setting(directive, &packages);
+        let context = context(directive, &packages);
         let statements = Statements {
             all: &document.statements,
         };
-        let graph = composed(alloc, &setting, rules, statements, &directive.targets)?;
+        let graph = composed(alloc, &context, rules, statements, &directive.targets)?;
         Ok(Resolution::new(document, graph))
     }
 

@@ -3,8 +3,8 @@ ghost use Rattle.std.specs.Prelude.{OnOk, map};
 ghost use Rattle.wac_ast.specs.Statements.{statement_of};
 ghost use Rattle.wac_resolution_rules.specs.Errors.{ErrorSays};
 ghost use Rattle.wac_resolution_rules.specs.Given.{rules_of};
-ghost use Rattle.wac_resolution_bindings.specs.Statements.{Stand, Went, Breaks};
-ghost use Rattle.wac_resolution.specs.Sequences.{AllWent, OneBreaks};
+ghost use Rattle.wac_resolution_bindings.specs.Statements.{Stand, StatementRun, Breaks};
+ghost use Rattle.wac_resolution.specs.Sequences.{StatementsRun, OneBreaks};
 
 use crate::definitions::type_statement;
 use crate::imports::import_statement;
@@ -14,32 +14,32 @@ use wac_resolution_bindings::{export_statement, let_statement};
 use wac_resolution_errors::Error;
 use wac_resolution_externs::Externs;
 use wac_resolution_nodes::Root;
-use wac_resolution_paths::Setting;
+use wac_resolution_paths::Context;
 use wac_resolution_state::State;
 
 /// Executes a statement.
 fn statement<'a, R: Rules>(
     state: &mut State,
-    setting: &Setting<'_>,
+    context: &Context<'_>,
     rules: &R,
     root: &mut Root<'a>,
     externs: &mut Externs,
     statement: &Statement<'a>,
 ) -> Result<(), Error>
-    requires { Stand setting.now state.old.graph root.old externs.old }
-    ensures ok { OnOk result (Went setting.now (rules_of R.Rules rules.now) state.old.graph state.new.graph root.old
+    requires { Stand context.now state.old.graph root.old externs.old }
+    ensures ok { OnOk result (StatementRun context.now (rules_of R.Rules rules.now) state.old.graph state.new.graph root.old
         root.new externs.old externs.new (statement_of statement.now)) }
-    ensures err { ErrorSays result (λ e. Breaks setting.now (rules_of R.Rules rules.now) state.old.graph root.old
+    ensures err { ErrorSays result (λ e. Breaks context.now (rules_of R.Rules rules.now) state.old.graph root.old
         externs.old (statement_of statement.now) e) }
 {
     match statement {
         Statement::Import(import) => {
-            import_statement(state, setting, rules, root, externs, import)
+            import_statement(state, context, rules, root, externs, import)
         }
-        Statement::Ty(declaration) => type_statement(state, setting, root, externs, declaration),
-        Statement::Let(binding) => let_statement(state, setting, rules, root, binding),
+        Statement::Ty(declaration) => type_statement(state, context, root, externs, declaration),
+        Statement::Let(binding) => let_statement(state, context, rules, root, binding),
         Statement::Export(export) => {
-            export_statement(state, setting, rules, root, externs, export)
+            export_statement(state, context, rules, root, externs, export)
         }
     }
 }
@@ -47,20 +47,20 @@ fn statement<'a, R: Rules>(
 /// Executes statements in order, up to the first that breaks a rule.
 pub(crate) fn compose<'a, R: Rules>(
     state: &mut State,
-    setting: &Setting<'_>,
+    context: &Context<'_>,
     rules: &R,
     root: &mut Root<'a>,
     externs: &mut Externs,
     statements: &[Statement<'a>],
 ) -> Result<(), Error>
-    requires { Stand setting.now state.old.graph root.old externs.old }
-    ensures ok { OnOk result (AllWent setting.now (rules_of R.Rules rules.now) state.old.graph state.new.graph root.old
+    requires { Stand context.now state.old.graph root.old externs.old }
+    ensures ok { OnOk result (StatementsRun context.now (rules_of R.Rules rules.now) state.old.graph state.new.graph root.old
         root.new externs.old externs.new (map statement_of statements.now)) }
-    ensures err { ErrorSays result (λ e. OneBreaks setting.now (rules_of R.Rules rules.now) state.old.graph root.old
+    ensures err { ErrorSays result (λ e. OneBreaks context.now (rules_of R.Rules rules.now) state.old.graph root.old
         externs.old (map statement_of statements.now) e) }
 {
     for next in statements {
-        statement(state, setting, rules, root, externs, next)?;
+        statement(state, context, rules, root, externs, next)?;
     }
     Ok(())
 }

@@ -15,20 +15,20 @@ use wac_graph::{CompositionGraph, Rules};
 use wac_resolution_errors::Error;
 use wac_resolution_externs::Externs;
 use wac_resolution_nodes::Root;
-use wac_resolution_paths::Setting;
+use wac_resolution_paths::Context;
 use wac_resolution_state::State;
 
 /// The graph of statements, which the target allows if there is one.
 pub(crate) fn composed<'a, R: Rules>(
     alloc: Global,
-    setting: &Setting<'_>,
+    context: &Context<'_>,
     rules: &R,
     statements: Statements<'_, 'a>,
     targets: &Option<PackagePath<'_>>,
 ) -> Result<CompositionGraph, Error>
-    ensures ok { IfOk result (λ g. Composed setting.now (rules_of R.Rules rules.now) (map statement_of statements.entry)
+    ensures ok { IfOk result (λ g. Composed context.now (rules_of R.Rules rules.now) (map statement_of statements.entry)
         (option_map package_path_of targets.now) g) }
-    ensures err { ErrorSays result (λ e. Breaks setting.now (rules_of R.Rules rules.now)
+    ensures err { ErrorSays result (λ e. Breaks context.now (rules_of R.Rules rules.now)
         (map statement_of statements.entry) (option_map package_path_of targets.now) e) }
 {
     let graph = CompositionGraph::new(alloc);
@@ -37,12 +37,12 @@ pub(crate) fn composed<'a, R: Rules>(
     let mut externs = Externs::new(alloc);
     carry_out(
         &mut state,
-        setting,
+        context,
         rules,
         &mut root,
         &mut externs,
         statements,
     )?;
-    check_targets(&mut state, setting, rules, &root, &externs, targets)?;
+    check_targets(&mut state, context, rules, &root, &externs, targets)?;
     Ok(state.graph)
 }

@@ -16,13 +16,13 @@ use Rattle.wac_resolution_rules.specs.Spans.{expr_span, export_span}
 use Rattle.wac_resolution_rules.specs.Statements.{ExportsBy}
 use Rattle.wac_resolution_nodes.specs.declared.root.Root.{Root}
 use Rattle.wac_resolution_nodes.specs.Root.{numbers_of, composed, places, Agrees}
-use Rattle.wac_resolution_paths.specs.declared.setting.Setting.{Setting}
-use Rattle.wac_resolution_paths.specs.Setting.{packages_in}
-use Rattle.wac_resolution_expressions.specs.Growth.{given_in, ExprGoes, ExprBreaks}
+use Rattle.wac_resolution_paths.specs.declared.context.Context.{Context}
+use Rattle.wac_resolution_paths.specs.Context.{packages_in}
+use Rattle.wac_resolution_expressions.specs.Growth.{given_in, ExprStep, ExprBreaks}
 use Rattle.wac_resolution_externs.specs.declared.externs.Externs.{Externs}
 use Rattle.wac_resolution_externs.specs.Externs.{imported_in, exported_in, places_in, ArePlaced, Under}
 use Rattle.wac_resolution_externs.specs.Exports.{Exported}
-use Rattle.wac_resolution_bindings.specs.Statements.{Went, Breaks}
+use Rattle.wac_resolution_bindings.specs.Statements.{StatementRun, Breaks}
 use Rattle.wac_resolution_bindings.proofs.Grown.{agrees_still, agrees_extends, placed_still, handed_still}
 use Rattle.wac_resolution_bindings.proofs.ImportedNames.{imported_same, none_more}
 
@@ -41,30 +41,30 @@ export_places naming rules old mid new root x y s node p q imports_same exports_
     e.exported ∙ ap (λ (l : Named ℕ). exported_in x ++ more_at (export_span s) l new.exports) exports_same in
     λ i. record { bound = bound i; imported = imported i; exported = exported i }
 
-pub export_went : (setting : Setting) (rules : Rules) (old mid new : Parts) (root : Root) (x y : Externs) (s : ExportStatement) (node : ℕ) → IsSound old → IsSound new → Agrees old root → ExprGoes setting rules old mid (numbers_of root.nodes) s.expr node
-    → ExportsOf rules mid new root x y s node → Went setting rules old new root root x y (Statement.export_statement s)
-export_went setting rules old mid new root x y s node p q agrees g e =
+pub export_went : (context : Context) (rules : Rules) (old mid new : Parts) (root : Root) (x y : Externs) (s : ExportStatement) (node : ℕ) → IsSound old → IsSound new → Agrees old root → ExprStep context rules old mid (numbers_of root.nodes) s.expr node
+    → ExportsOf rules mid new root x y s node → StatementRun context rules old new root root x y (Statement.export_statement s)
+export_went context rules old mid new root x y s node p q agrees g e =
     let imports_same : new.imports ≡ old.imports = ap (λ (p : Parts). p.imports) e.grows.same ∙ ap (λ (p : Parts). p.imports) g.extends.same in
     let exports_same : mid.exports ≡ old.exports = ap (λ (p : Parts). p.exports) g.extends.same in
     record {
       stand = record {
-        agrees = agrees_still mid new root e.grows.stand e.grows.kinds (agrees_extends (packages_in setting) old mid root g.extends agrees);
+        agrees = agrees_still mid new root e.grows.stand e.grows.kinds (agrees_extends (packages_in context) old mid root g.extends agrees);
         placed = e.placed;
-        handed = handed_still (packages_in setting) mid new e.grows.same g.extends.handed;
+        supplied = handed_still (packages_in context) mid new e.grows.same g.extends.supplied;
       };
       leads = λ naming one. (
-        (at (composed naming mid root) node, g.stands naming one, e.goes naming (given_in naming setting rules) refl),
+        (at (composed naming mid root) node, g.stands naming one, e.goes naming (given_in naming context rules) refl),
         export_places naming rules old mid new root x y s node p q imports_same exports_same e,
       );
     }
 
 -- the graph of an expression has the imports and exports that have places
-pub export_placed : (setting : Setting) (rules : Rules) (old mid : Parts) (declared : Named ℕ) (x : Externs) (t : Expr) (node : ℕ) → ExprGoes setting rules old mid declared t node → ArePlaced old x → ArePlaced mid x
-export_placed setting rules old mid declared x t node g h = placed_still old mid x (ap (λ (p : Parts). p.imports) g.extends.same) (ap (λ (p : Parts). p.exports) g.extends.same) h
+pub export_placed : (context : Context) (rules : Rules) (old mid : Parts) (declared : Named ℕ) (x : Externs) (t : Expr) (node : ℕ) → ExprStep context rules old mid declared t node → ArePlaced old x → ArePlaced mid x
+export_placed context rules old mid declared x t node g h = placed_still old mid x (ap (λ (p : Parts). p.imports) g.extends.same) (ap (λ (p : Parts). p.exports) g.extends.same) h
 
-pub export_expr_breaks : (setting : Setting) (rules : Rules) (g : Parts) (root : Root) (x : Externs) (s : ExportStatement) (e : Error) → ExprBreaks setting rules g (numbers_of root.nodes) s.expr e → Breaks setting rules g root x (Statement.export_statement s) e
-export_expr_breaks setting rules g root x s e broken naming one = inl (broken naming one)
+pub export_expr_breaks : (context : Context) (rules : Rules) (g : Parts) (root : Root) (x : Externs) (s : ExportStatement) (e : Error) → ExprBreaks context rules g (numbers_of root.nodes) s.expr e → Breaks context rules g root x (Statement.export_statement s) e
+export_expr_breaks context rules g root x s e broken naming one = inl (broken naming one)
 
-pub export_breaks : (setting : Setting) (rules : Rules) (old mid : Parts) (root : Root) (x : Externs) (s : ExportStatement) (node : ℕ) (e : Error) → ExprGoes setting rules old mid (numbers_of root.nodes) s.expr node
-    → ((naming : Naming) (t : Expr) → expr_span t ≡ expr_span s.expr → Under rules.named (λ r. ExportOptionsBroken r (at (composed naming mid root) node) (places_in root x) e t s.options)) → Breaks setting rules old root x (Statement.export_statement s) e
-export_breaks setting rules old mid root x s node e g broken naming one = inr (at (composed naming mid root) node, g.stands naming one, broken naming s.expr refl (given_in naming setting rules) refl)
+pub export_breaks : (context : Context) (rules : Rules) (old mid : Parts) (root : Root) (x : Externs) (s : ExportStatement) (node : ℕ) (e : Error) → ExprStep context rules old mid (numbers_of root.nodes) s.expr node
+    → ((naming : Naming) (t : Expr) → expr_span t ≡ expr_span s.expr → Under rules.named (λ r. ExportOptionsBroken r (at (composed naming mid root) node) (places_in root x) e t s.options)) → Breaks context rules old root x (Statement.export_statement s) e
+export_breaks context rules old mid root x s node e g broken naming one = inr (at (composed naming mid root) node, g.stands naming one, broken naming s.expr refl (given_in naming context rules) refl)

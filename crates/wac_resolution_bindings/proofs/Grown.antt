@@ -13,7 +13,7 @@ use Rattle.wac_resolution_state.specs.Bindings.{Bindings}
 use Rattle.wac_resolution_nodes.specs.declared.root.Root.{Root}
 use Rattle.wac_resolution_nodes.specs.Nodes.{kind_in, NodesStand}
 use Rattle.wac_resolution_nodes.specs.Root.{EachAgrees, Agrees}
-use Rattle.wac_resolution_paths.specs.Expands.{IsHandedAs, HoldsHanded}
+use Rattle.wac_resolution_paths.specs.Expands.{IsSuppliedAs, AllSupplied}
 use Rattle.wac_resolution_expressions.specs.Growth.{Extends}
 use Rattle.wac_resolution_externs.specs.declared.externs.Externs.{Externs}
 use Rattle.wac_resolution_externs.specs.Externs.{ArePlaced}
@@ -38,11 +38,11 @@ placed_still old new x imports exports h = record {
   exported = h.exported ∙ ap (λ (l : Named ℕ). names_of l) (sym exports);
 }
 
-each_handed : (packages : List (Key × PackageParts)) (old : Parts) (nodes : List GraphNode) (exports : Named ℕ) (ps : List HeldPackage) → AllByRecursion (IsHandedAs packages old) ps
-    → AllByRecursion (IsHandedAs packages (record old { nodes = nodes; exports = exports })) ps
+each_handed : (packages : List (Key × PackageParts)) (old : Parts) (nodes : List GraphNode) (exports : Named ℕ) (ps : List HeldPackage) → AllByRecursion (IsSuppliedAs packages old) ps
+    → AllByRecursion (IsSuppliedAs packages (record old { nodes = nodes; exports = exports })) ps
 each_handed packages old nodes exports [] h = tt
 each_handed packages old nodes exports (p ∷ ps) h = (record { there = h.0.there; contents = h.0.contents }, each_handed packages old nodes exports ps h.1)
 
 -- each package is still held as it was supplied
-pub handed_still : (packages : List (Key × PackageParts)) (old new : Parts) → new ≡ record old { nodes = new.nodes; exports = new.exports } → HoldsHanded packages old → HoldsHanded packages new
-handed_still packages old new same h = subst (λ (g : Parts). HoldsHanded packages g) (sym same) (each_handed packages old new.nodes new.exports old.packages h)
+pub handed_still : (packages : List (Key × PackageParts)) (old new : Parts) → new ≡ record old { nodes = new.nodes; exports = new.exports } → AllSupplied packages old → AllSupplied packages new
+handed_still packages old new same h = subst (λ (g : Parts). AllSupplied packages g) (sym same) (each_handed packages old new.nodes new.exports old.packages h)

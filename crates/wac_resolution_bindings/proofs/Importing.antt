@@ -20,7 +20,7 @@ use Rattle.wac_resolution_nodes.specs.declared.root.Root.{Root}
 use Rattle.wac_resolution_nodes.specs.Nodes.{kind_in}
 use Rattle.wac_resolution_nodes.specs.Root.{numbers_of, composed, EachAgrees, Agrees, Binds}
 use Rattle.wac_resolution_nodes.proofs.Composed.{sound_stands, grows_more, next_is, composition_imports}
-use Rattle.wac_resolution_paths.specs.Expands.{IsHandedAs, HoldsHanded}
+use Rattle.wac_resolution_paths.specs.Expands.{IsSuppliedAs, AllSupplied}
 use Rattle.wac_resolution_externs.specs.declared.externs.Externs.{Externs}
 use Rattle.wac_resolution_externs.specs.Externs.{imported_in, exported_in, ArePlaced}
 use Rattle.wac_resolution_bindings.specs.Imports.{AddsImport}
@@ -76,7 +76,7 @@ placed_imported old new before after x y id name span k h a = record {
 }
 
 -- packages are still held as they were supplied
-pub handed_imported : (packages : List (Key × PackageParts)) (old new : Parts) (nodes : List GraphNode) (imports : Named ℕ) → new ≡ record old { nodes = nodes; imports = imports } → HoldsHanded packages old → HoldsHanded packages new
+pub handed_imported : (packages : List (Key × PackageParts)) (old new : Parts) (nodes : List GraphNode) (imports : Named ℕ) → new ≡ record old { nodes = nodes; imports = imports } → AllSupplied packages old → AllSupplied packages new
 handed_imported packages old new nodes imports is h =
-    subst (HoldsHanded packages) (sym is)
-    (all_implies (IsHandedAs packages old) (IsHandedAs packages (record old { nodes = nodes; imports = imports })) (λ p same. record { there = same.there; contents = same.contents }) old.packages h)
+    subst (AllSupplied packages) (sym is)
+    (all_implies (IsSuppliedAs packages old) (IsSuppliedAs packages (record old { nodes = nodes; imports = imports })) (λ p same. record { there = same.there; contents = same.contents }) old.packages h)

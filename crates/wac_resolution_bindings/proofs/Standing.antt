@@ -9,9 +9,9 @@ use Rattle.wac_resolution_nodes.specs.declared.root.Root.{Root}
 use Rattle.wac_resolution_nodes.specs.Root.{numbers_of, composed, Agrees}
 use Rattle.wac_resolution_nodes.proofs.Composed.{composition_expands}
 use Rattle.wac_resolution_nodes.proofs.Roots.{agrees_expands}
-use Rattle.wac_resolution_paths.specs.declared.setting.Setting.{Setting}
-use Rattle.wac_resolution_paths.specs.Expands.{Expands, HoldsHanded}
-use Rattle.wac_resolution_paths.specs.Setting.{packages_in}
+use Rattle.wac_resolution_paths.specs.declared.context.Context.{Context}
+use Rattle.wac_resolution_paths.specs.Expands.{Expands, AllSupplied}
+use Rattle.wac_resolution_paths.specs.Context.{packages_in}
 use Rattle.wac_resolution_externs.specs.declared.externs.Externs.{Externs}
 use Rattle.wac_resolution_externs.specs.Externs.{ArePlaced}
 use Rattle.wac_resolution_bindings.specs.Statements.{Stand}
@@ -27,8 +27,8 @@ placed_kept old new x e h = record {
   exported = h.exported ∙ sym (ap (λ (g : Parts). names_of g.exports) e.same);
 }
 
-pub stand_kept : (setting : Setting) (old new : Parts) (root : Root) (x : Externs) → Stand setting old root x → Expands old new → HoldsHanded (packages_in setting) new → Stand setting new root x
-stand_kept setting old new root x h e handed = record { agrees = agrees_kept old new root e h.agrees; placed = placed_kept old new x e h.placed; handed = handed }
+pub stand_kept : (context : Context) (old new : Parts) (root : Root) (x : Externs) → Stand context old root x → Expands old new → AllSupplied (packages_in context) new → Stand context new root x
+stand_kept context old new root x h e supplied = record { agrees = agrees_kept old new root e h.agrees; placed = placed_kept old new x e h.placed; supplied = supplied }
 
 -- the composition has at most more resources
 pub composed_kept : (old new : Parts) (root : Root) (naming : Naming) → Expands old new → Agrees old root → composed naming new root ≡ with_resources (composed naming old root) (declared_count new)

@@ -8,31 +8,31 @@ use Rattle.wac_resolution_rules.specs.Given.{Rules}
 use Rattle.wac_resolution_rules.specs.Places.{Placed, Leads}
 use Rattle.wac_resolution_nodes.specs.declared.root.Root.{Root}
 use Rattle.wac_resolution_nodes.specs.Root.{composed, Agrees}
-use Rattle.wac_resolution_paths.specs.declared.setting.Setting.{Setting}
-use Rattle.wac_resolution_paths.specs.Expands.{HoldsHanded}
-use Rattle.wac_resolution_paths.specs.Setting.{packages_in}
+use Rattle.wac_resolution_paths.specs.declared.context.Context.{Context}
+use Rattle.wac_resolution_paths.specs.Expands.{AllSupplied}
+use Rattle.wac_resolution_paths.specs.Context.{packages_in}
 use Rattle.wac_resolution_expressions.specs.Growth.{given_in}
 use Rattle.wac_resolution_externs.specs.declared.externs.Externs.{Externs}
 use Rattle.wac_resolution_externs.specs.Externs.{places_in, ArePlaced}
 
 -- the names at root, the places of imports and exports, and the packages are those of the graph
-pub record Stand (setting : Setting) (g : Parts) (root : Root) (x : Externs) : Type 0 where
+pub record Stand (context : Context) (g : Parts) (root : Root) (x : Externs) : Type 0 where
   pub agrees : Agrees g root
   pub placed : ArePlaced g x
-  pub handed : HoldsHanded (packages_in setting) g
+  pub supplied : AllSupplied (packages_in context) g
 
 -- the composition, and where names were bound, imported and exported
 abbrev pub placed_in : Naming → Parts → Root → Externs → Placed
 placed_in naming g root x = record { composition = composed naming g root; places = places_in root x }
 
 -- the statement was executed: it takes the old composition and places to the new ones, under every one-to-one naming
-pub record Went (setting : Setting) (rules : Rules) (old new : Parts) (before after : Root) (x y : Externs)
+pub record StatementRun (context : Context) (rules : Rules) (old new : Parts) (before after : Root) (x y : Externs)
     (s : Statement) : Type 0 where
-  pub stand : Stand setting new after y
+  pub stand : Stand context new after y
   pub leads : (naming : Naming) → IsOneToOne naming
-      → Leads (given_in naming setting rules) (placed_in naming old before x) s (placed_in naming new after y)
+      → Leads (given_in naming context rules) (placed_in naming old before x) s (placed_in naming new after y)
 
 -- the error names a rule that the statement breaks
-abbrev pub Breaks : Setting → Rules → Parts → Root → Externs → Statement → Error → Type 0
-Breaks setting rules g root x s e = (naming : Naming) → IsOneToOne naming
-    → StatementBroken (given_in naming setting rules) (composed naming g root) (places_in root x) e s
+abbrev pub Breaks : Context → Rules → Parts → Root → Externs → Statement → Error → Type 0
+Breaks context rules g root x s e = (naming : Naming) → IsOneToOne naming
+    → StatementBroken (given_in naming context rules) (composed naming g root) (places_in root x) e s

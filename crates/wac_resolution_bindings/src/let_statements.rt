@@ -5,11 +5,11 @@ ghost use Rattle.wac_ast_grammar.specs.Tree.{Statement};
 ghost use Rattle.wac_resolution_rules.specs.Errors.{ErrorSays};
 ghost use Rattle.wac_resolution_rules.specs.Given.{rules_of};
 ghost use Rattle.wac_resolution_nodes.specs.Root.{Agrees};
-ghost use Rattle.wac_resolution_paths.specs.Expands.{HoldsHanded};
-ghost use Rattle.wac_resolution_paths.specs.Setting.{packages_in};
+ghost use Rattle.wac_resolution_paths.specs.Expands.{AllSupplied};
+ghost use Rattle.wac_resolution_paths.specs.Context.{packages_in};
 ghost use Rattle.wac_resolution_externs.specs.declared.externs.Externs.{Externs};
 ghost use Rattle.wac_resolution_externs.specs.Externs.{ArePlaced};
-ghost use Rattle.wac_resolution_bindings.specs.Statements.{Went, Breaks};
+ghost use Rattle.wac_resolution_bindings.specs.Statements.{StatementRun, Breaks};
 
 use crate::unbound::check_unbound;
 use wac_ast_statements::LetStatement;
@@ -17,30 +17,30 @@ use wac_graph::Rules;
 use wac_resolution_errors::Error;
 use wac_resolution_expressions::expression;
 use wac_resolution_nodes::Root;
-use wac_resolution_paths::Setting;
+use wac_resolution_paths::Context;
 use wac_resolution_state::State;
 
 /// Binds the identifier of a `let` to the node of its expression. Nothing is imported or exported, so it needs no
 /// places of imports and exports; its contract says that they stay those of the graph.
 pub fn let_statement<'a, R: Rules>(
     state: &mut State,
-    setting: &Setting<'_>,
+    context: &Context<'_>,
     rules: &R,
     root: &mut Root<'a>,
     statement: &LetStatement<'a>,
 ) -> Result<(), Error>
     requires agrees { Agrees state.old.graph root.old }
-    requires handed { HoldsHanded (packages_in setting.now) state.old.graph }
+    requires supplied { AllSupplied (packages_in context.now) state.old.graph }
     ensures ok { OnOk result ((x : Externs) → ArePlaced state.old.graph x
-        → Went setting.now (rules_of R.Rules rules.now) state.old.graph state.new.graph root.old root.new x x
+        → StatementRun context.now (rules_of R.Rules rules.now) state.old.graph state.new.graph root.old root.new x x
         (Statement.let_statement (let_statement_of statement.now))) }
     ensures err { ErrorSays result (λ e. (x : Externs)
-        → Breaks setting.now (rules_of R.Rules rules.now) state.old.graph root.old x
+        → Breaks context.now (rules_of R.Rules rules.now) state.old.graph root.old x
         (Statement.let_statement (let_statement_of statement.now)) e) }
 {
     // Its contract says that the graph is sound.
     let _before = state.graph.nodes();
-    let node = expression(state, setting, rules, root, &statement.expr)?;
+    let node = expression(state, context, rules, root, &statement.expr)?;
     check_unbound(state.alloc, root, &statement.id)?;
     root.bind(state, &statement.id, node)?;
     // It still is.

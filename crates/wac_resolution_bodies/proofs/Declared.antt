@@ -29,7 +29,7 @@ use Rattle.wac_resolution_types.specs.Declarations.{ValueAdded, KindAdded}
 use Rattle.wac_resolution_state.specs.Growth.{Grows, AddsResource}
 use Rattle.wac_resolution_state.proofs.Grown.{grows_on}
 use Rattle.wac_resolution_bodies.specs.Lists.{Lists, kinds_of, with_bound}
-use Rattle.wac_resolution_bodies.specs.Bodies.{body_in, IsBody, BodyGoes, MethodsGo, ResourceGoes, IsDeclared, ItemGoes}
+use Rattle.wac_resolution_bodies.specs.Bodies.{body_in, IsBody, BodyStep, MethodSteps, ResourceStep, IsDeclared, DeclarationStep}
 use Rattle.wac_resolution_bodies.proofs.Lists.{body_still, body_kept, body_with_bound, means_with_bound, extern_fresh, bound_fresh, places_append}
 
 -- ---- a name that is declared
@@ -42,7 +42,7 @@ bound_places sides.Export b id k = places_append b.names id.string id.span k
 pub kind_declared : (side : ExternKind) (old new : Parts) (b c : Lists) (id : Ident) (k : ItemKind) (rule : Naming → Body → Body → Type 0)
     → IsBody old.types side b → Grows old new → Names new.types k → c ≡ with_bound side b id.string id.span k
     → ((naming : Naming) (after : Body) → after ≡ with_type side (with_count (body_in naming old b) (declared_count new)) id.string (means naming new k) → rule naming (body_in naming old b) after)
-    → BodyGoes side old new b c (at_ident id ∷ []) rule
+    → BodyStep side old new b c (at_ident id ∷ []) rule
 kind_declared side old new b c id k rule body grows named is follows =
     let still = body_still old.types new.types side b grows.named body in
     record {
@@ -60,7 +60,7 @@ kind_declared side old new b c id k rule body grows named is follows =
 pub value_declared : (side : ExternKind) (old new : Parts) (b c : Lists) (x : ItemTypeDecl) (holds : Naming → Meaning → Type 0) (v : ValueType)
     → IsBody old.types side b → ValueAdded old new holds v → IsDeclared side b c (item_identifier x) (kinds.Ty (types.Value v))
     → ((naming : Naming) (m : Meaning) (after : Body) → holds naming m → DeclaresIn side (body_in naming old b) (item_identifier x) m (declared_count old) after → HasItem naming side (body_in naming old b) x after)
-    → ItemGoes side old new b c x
+    → DeclarationStep side old new b c x
 value_declared side old new b c x holds v body added declared follows =
     kind_declared side old new b c (item_identifier x) (kinds.Ty (types.Value v)) (λ naming before after. HasItem naming side before x after) body added.grows.grows added.named declared.is
     (λ naming after made. follows naming (means naming new (kinds.Ty (types.Value v))) after (added.is naming) (
@@ -73,7 +73,7 @@ value_declared side old new b c x holds v body added declared follows =
 pub alias_declared : (side : ExternKind) (old new : Parts) (b c : Lists) (x : ItemTypeDecl) (holds : Naming → Meaning → ℕ → Type 0) (k : ItemKind)
     → IsBody old.types side b → KindAdded old new holds k → IsDeclared side b c (item_identifier x) k
     → ((naming : Naming) (m : Meaning) (n : ℕ) (after : Body) → holds naming m n → DeclaresIn side (body_in naming old b) (item_identifier x) m n after → HasItem naming side (body_in naming old b) x after)
-    → ItemGoes side old new b c x
+    → DeclarationStep side old new b c x
 alias_declared side old new b c x holds k body added declared follows =
     kind_declared side old new b c (item_identifier x) k (λ naming before after. HasItem naming side before x after) body added.grows added.named declared.is
     (λ naming after made. follows naming (means naming new k) (declared_count new) after (added.is naming) (
@@ -84,7 +84,7 @@ alias_declared side old new b c x holds k body added declared follows =
 -- ---- resources
 
 pub resource_goes : (side : ExternKind) (old new : Parts) (b c : Lists) (id : Ident) (r : ResourceId)
-    → IsFresh id.string (values_of b.names) → IsFresh id.string (kinds_of side b) → IsBody old.types side b → AddsResource old new (λ naming. resource_entry naming (declared_count old) id.string) r → c ≡ with_bound side b id.string id.span (kinds.Ty (types.Resource r)) → ResourceGoes side old new b c id r
+    → IsFresh id.string (values_of b.names) → IsFresh id.string (kinds_of side b) → IsBody old.types side b → AddsResource old new (λ naming. resource_entry naming (declared_count old) id.string) r → c ≡ with_bound side b id.string id.span (kinds.Ty (types.Resource r)) → ResourceStep side old new b c id r
 resource_goes side old new b c id r bound fresh body added is = record {
   bound = bound;
   fresh = fresh;
@@ -99,7 +99,7 @@ resource_goes side old new b c id r bound fresh body added is = record {
 }
 
 pub resource_item : (side : ExternKind) (old mid new : Parts) (b c d : Lists) (x : ResourceDecl) (r : ResourceId)
-    → ResourceGoes side old mid b c x.id r → MethodsGo side mid new x.id.string r c d x.methods → ItemGoes side old new b d (ItemTypeDecl.resource x)
+    → ResourceStep side old mid b c x.id r → MethodSteps side mid new x.id.string r c d x.methods → DeclarationStep side old new b d (ItemTypeDecl.resource x)
 resource_item side old mid new b c d x r p q = record {
   grows = grows_on old mid new p.body.grows q.grows;
   body = q.body;
@@ -113,7 +113,7 @@ resource_item side old mid new b c d x r p q = record {
 
 -- its methods are broken
 pub methods_broken : (of : Owner) (side : ExternKind) (old mid : Parts) (b c : Lists) (places : Named Span) (x : ResourceDecl) (r : ResourceId) (e : Error)
-    → ResourceGoes side old mid b c x.id r
+    → ResourceStep side old mid b c x.id r
     → ((naming : Naming) → Fails (HasMethod side x.id.string (entry_means naming mid r.0)) (MethodBroken side x.id.string (entry_means naming mid r.0) e) (body_in naming mid c) x.methods)
     → (naming : Naming) → ItemBroken naming of side places (body_in naming old b) (ItemTypeDecl.resource x) e
 methods_broken of side old mid b c places x r e p h naming = inr (

@@ -11,7 +11,7 @@ use Rattle.wac_resolution_rules.proofs.StepLaws.{steps_on_map, fails_at_map}
 use Rattle.wac_resolution_state.specs.Bindings.{places_of}
 use Rattle.wac_resolution_state.proofs.Grown.{grows_self, grows_on}
 use Rattle.wac_resolution_bodies.specs.Lists.{Lists}
-use Rattle.wac_resolution_bodies.specs.Bodies.{body_in, IsBody, BodyGoes}
+use Rattle.wac_resolution_bodies.specs.Bodies.{body_in, IsBody, BodyStep}
 
 -- how an item takes one body to the next, under a naming
 abbrev pub ItemStep : Type 0 → Type 1
@@ -21,15 +21,15 @@ no_more : {X : Type 0} (xs : List X) → xs ≡ xs ++ []
 no_more xs = (let nil : xs ++ [] ≡ xs = simp append-nil in sym nil)
 
 -- nothing was taken yet
-pub none_go : {X : Type 0} (step : ItemStep X) (side : ExternKind) (g : Parts) (b : Lists) → IsBody g.types side b → BodyGoes side g g b b [] (λ naming before after. Steps (step naming) before [] after)
+pub none_go : {X : Type 0} (step : ItemStep X) (side : ExternKind) (g : Parts) (b : Lists) → IsBody g.types side b → BodyStep side g g b b [] (λ naming before after. Steps (step naming) before [] after)
 none_go step side g b h = record { grows = (grows_self g).grows; body = h; places = no_more (places_of b.names); goes = λ naming. refl }
 
 -- the items up to the next one
 pub items_step : {X Y : Type 0} (step : ItemStep X) (f : Y → X) (side : ExternKind) (old mid new : Parts) (b c d : Lists) (places more all : Named Span) (ys : List Y) (i : ℕ) (y : Y)
     → i < length ys → y ≡ get_or ys i y → all ≡ places ++ more
-    → BodyGoes side old mid b c places (λ naming before after. Steps (step naming) before (take i (map f ys)) after)
-    → BodyGoes side mid new c d more (λ naming before after. step naming before (f y) after)
-    → BodyGoes side old new b d all (λ naming before after. Steps (step naming) before (take (i + 1) (map f ys)) after)
+    → BodyStep side old mid b c places (λ naming before after. Steps (step naming) before (take i (map f ys)) after)
+    → BodyStep side mid new c d more (λ naming before after. step naming before (f y) after)
+    → BodyStep side old new b d all (λ naming before after. Steps (step naming) before (take (i + 1) (map f ys)) after)
 items_step {X} {Y} step f side old mid new b c d places more all ys i y within at together p q = record {
   grows = grows_on old mid new p.grows q.grows;
   body = q.body;
@@ -41,13 +41,13 @@ items_step {X} {Y} step f side old mid new b c d places more all ys i y within a
 
 -- all items
 pub items_all : {X : Type 0} (step : ItemStep X) (side : ExternKind) (old new : Parts) (b c : Lists) (places : Named Span) (xs ys : List X) → xs ≡ ys
-    → BodyGoes side old new b c places (λ naming before after. Steps (step naming) before xs after) → BodyGoes side old new b c places (λ naming before after. Steps (step naming) before ys after)
-items_all {X} step side old new b c places xs ys is h = subst (λ (l : List X). BodyGoes side old new b c places (λ naming before after. Steps (step naming) before l after)) is h
+    → BodyStep side old new b c places (λ naming before after. Steps (step naming) before xs after) → BodyStep side old new b c places (λ naming before after. Steps (step naming) before ys after)
+items_all {X} step side old new b c places xs ys is h = subst (λ (l : List X). BodyStep side old new b c places (λ naming before after. Steps (step naming) before l after)) is h
 
 -- the next item is broken
 pub items_break : {X Y : Type 0} (step : ItemStep X) (broken : Naming → Body → List X → X → Type 0) (f : Y → X) (side : ExternKind) (old mid : Parts) (b c : Lists) (places : Named Span) (ys : List Y) (i : ℕ) (y : Y)
     → i < length ys → y ≡ get_or ys i y
-    → BodyGoes side old mid b c places (λ naming before after. Steps (step naming) before (take i (map f ys)) after)
+    → BodyStep side old mid b c places (λ naming before after. Steps (step naming) before (take i (map f ys)) after)
     → ((naming : Naming) (before : List X) → broken naming (body_in naming mid c) before (f y))
     → (naming : Naming) → Fails (step naming) (broken naming) (body_in naming old b) (map f ys)
 items_break {X} {Y} step broken f side old mid b c places ys i y within at p breaks naming =

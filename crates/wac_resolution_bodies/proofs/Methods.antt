@@ -27,7 +27,7 @@ use Rattle.wac_resolution_state.specs.Bindings.{values_of, places_of}
 use Rattle.wac_resolution_types.specs.Funcs.{FuncAdded}
 use Rattle.wac_resolution_state.specs.Growth.{Grows}
 use Rattle.wac_resolution_bodies.specs.Lists.{Lists, kinds_of, with_kind}
-use Rattle.wac_resolution_bodies.specs.Bodies.{body_in, IsBody, BodyGoes, IsTaken, MethodGoes, MethodsGo}
+use Rattle.wac_resolution_bodies.specs.Bodies.{body_in, IsBody, BodyStep, IsTaken, MethodStep, MethodSteps}
 use Rattle.wac_resolution_bodies.proofs.Lists.{body_still, body_kept, body_with_kind, means_with_kind, extern_fresh}
 use Rattle.wac_resolution_bodies.proofs.Going.{items_step, items_break}
 
@@ -41,7 +41,7 @@ same_names sides.Export b name k = (let nil : places_of b.names ++ [] ≡ places
 pub func_goes : (side : ExternKind) (old new : Parts) (b c : Lists) (holds : Naming → Scope → Meaning → Type 0) (f : FuncTypeId) (name full : List ℕ) (rule : Naming → Body → Body → Type 0)
     → IsBody old.types side b → FuncAdded old new (values_of b.names) holds f → full ≡ name → c ≡ with_kind side b full (kinds.Func f)
     → ((naming : Naming) (entry : Meaning) (after : Body) → holds naming (body_in naming old b).scope entry → after ≡ with_extern side (body_in naming old b) name (kind_of func entry) → rule naming (body_in naming old b) after)
-    → BodyGoes side old new b c [] rule
+    → BodyStep side old new b c [] rule
 func_goes side old new b c holds f name full rule body added named is follows =
     let made : c ≡ with_kind side b name (kinds.Func f) = is ∙ ap (λ (n : List ℕ). with_kind side b n (kinds.Func f)) named in
     let still = body_still old.types new.types side b added.grows.grows.named body in
@@ -60,7 +60,7 @@ func_goes side old new b c holds f name full rule body added named is follows =
 pub constructor_goes : (side : ExternKind) (old new : Parts) (b c : Lists) (name full : List ℕ) (r : ResourceId) (x : Constructor) (f : FuncTypeId)
     → IsBody old.types side b → IsFresh (constructor_name name) (kinds_of side b) → full ≡ constructor_name name
     → FuncAdded old new (values_of b.names) (λ naming scope entry. IsConstructor scope (entry_means naming old r.0) x.params entry) f
-    → c ≡ with_kind side b full (kinds.Func f) → MethodGoes side old new name r b c (ResourceMethod.constructor x)
+    → c ≡ with_kind side b full (kinds.Func f) → MethodStep side old new name r b c (ResourceMethod.constructor x)
 constructor_goes side old new b c name full r x f body fresh named added is =
     func_goes side old new b c (λ naming scope entry. IsConstructor scope (entry_means naming old r.0) x.params entry) f (constructor_name name) full
     (λ naming before after. HasMethod side name (entry_means naming old r.0) before (ResourceMethod.constructor x) after) body added named is
@@ -69,7 +69,7 @@ constructor_goes side old new b c name full r x f body fresh named added is =
 pub method_goes : (side : ExternKind) (old new : Parts) (b c : Lists) (name full : List ℕ) (r : ResourceId) (x : Method) (f : FuncTypeId)
     → IsBody old.types side b → IsFresh (method_name name x.id.string) (kinds_of side b) → IsFresh (static_name name x.id.string) (kinds_of side b) → full ≡ name_of_method x.is_static name x.id.string
     → FuncAdded old new (values_of b.names) (λ naming scope entry. IsFuncWith scope (first_params x.is_static (entry_means naming old r.0)) x.ty entry) f
-    → c ≡ with_kind side b full (kinds.Func f) → MethodGoes side old new name r b c (ResourceMethod.method x)
+    → c ≡ with_kind side b full (kinds.Func f) → MethodStep side old new name r b c (ResourceMethod.method x)
 method_goes side old new b c name full r x f body fresh free named added is =
     func_goes side old new b c (λ naming scope entry. IsFuncWith scope (first_params x.is_static (entry_means naming old r.0)) x.ty entry) f (name_of_method x.is_static name x.id.string) full
     (λ naming before after. HasMethod side name (entry_means naming old r.0) before (ResourceMethod.method x) after) body added named is
@@ -101,7 +101,7 @@ pub resource_kept : (naming : Naming) (old new : Parts) (r : ResourceId) → Gro
 resource_kept naming old new r g there = ap entry_of (g.kinds naming (kinds.Ty (types.Resource r)) there)
 
 pub methods_step : {Y : Type 0} (f : Y → ResourceMethod) (side : ExternKind) (old mid new : Parts) (b c d : Lists) (name : List ℕ) (r : ResourceId) (ys : List Y) (i : ℕ) (y : Y)
-    → i < length ys → y ≡ get_or ys i y → Names old.types (kinds.Ty (types.Resource r)) → MethodsGo side old mid name r b c (take i (map f ys)) → MethodGoes side mid new name r c d (f y) → MethodsGo side old new name r b d (take (i + 1) (map f ys))
+    → i < length ys → y ≡ get_or ys i y → Names old.types (kinds.Ty (types.Resource r)) → MethodSteps side old mid name r b c (take i (map f ys)) → MethodStep side mid new name r c d (f y) → MethodSteps side old new name r b d (take (i + 1) (map f ys))
 methods_step f side old mid new b c d name r ys i y within at there p q =
     items_step (λ naming. HasMethod side name (entry_means naming old r.0)) f side old mid new b c d [] [] [] ys i y within at refl p (record {
       grows = q.grows;
@@ -111,7 +111,7 @@ methods_step f side old mid new b c d name r ys i y within at there p q =
     })
 
 pub methods_break : {Y : Type 0} (f : Y → ResourceMethod) (side : ExternKind) (old mid : Parts) (b c : Lists) (name : List ℕ) (r : ResourceId) (ys : List Y) (i : ℕ) (y : Y) (e : Error)
-    → i < length ys → y ≡ get_or ys i y → Names old.types (kinds.Ty (types.Resource r)) → MethodsGo side old mid name r b c (take i (map f ys))
+    → i < length ys → y ≡ get_or ys i y → Names old.types (kinds.Ty (types.Resource r)) → MethodSteps side old mid name r b c (take i (map f ys))
     → ((naming : Naming) (before : List ResourceMethod) → MethodBroken side name (entry_means naming mid r.0) e (body_in naming mid c) before (f y))
     → (naming : Naming) → Fails (HasMethod side name (entry_means naming old r.0)) (MethodBroken side name (entry_means naming old r.0) e) (body_in naming old b) (map f ys)
 methods_break f side old mid b c name r ys i y e within at there p h =

@@ -64,7 +64,7 @@ pub record IsBody (es : List Entry) (side : ExternKind) (b : Lists) : Type 0 whe
   pub used : Covers side b b.uses
 
 -- the graph got more types, and the body is another one: these names were bound, and this holds of what both mean
-pub record BodyGoes (side : ExternKind) (old new : Parts) (b c : Lists) (bound : Named Span)
+pub record BodyStep (side : ExternKind) (old new : Parts) (b c : Lists) (bound : Named Span)
     (holds : Naming → Body → Body → Type 0) : Type 0 where
   pub grows : Grows old new
   pub body : IsBody new.types side c
@@ -78,20 +78,20 @@ abbrev pub IsTaken : ExternKind → Body → List ℕ → Error → Error → Ty
 IsTaken side b name repeated e = (m : Meaning) × StandsFor (externs side b) name m × (e ≡ repeated)
 
 -- a method of a resource
-abbrev pub MethodGoes : ExternKind → Parts → Parts → List ℕ → ResourceId → Lists → Lists → ResourceMethod → Type 0
-MethodGoes side old new name r b c x = BodyGoes side old new b c []
+abbrev pub MethodStep : ExternKind → Parts → Parts → List ℕ → ResourceId → Lists → Lists → ResourceMethod → Type 0
+MethodStep side old new name r b c x = BodyStep side old new b c []
     (λ naming before after. HasMethod side name (entry_means naming old r.0) before x after)
 
 -- methods in order
-abbrev pub MethodsGo : ExternKind → Parts → Parts → List ℕ → ResourceId → Lists → Lists → List ResourceMethod → Type 0
-MethodsGo side old new name r b c xs = BodyGoes side old new b c []
+abbrev pub MethodSteps : ExternKind → Parts → Parts → List ℕ → ResourceId → Lists → Lists → List ResourceMethod → Type 0
+MethodSteps side old new name r b c xs = BodyStep side old new b c []
     (λ naming before after. Steps (HasMethod side name (entry_means naming old r.0)) before xs after)
 
 -- a resource without its methods
-pub record ResourceGoes (side : ExternKind) (old new : Parts) (b c : Lists) (id : Ident) (r : ResourceId) : Type 0 where
+pub record ResourceStep (side : ExternKind) (old new : Parts) (b c : Lists) (id : Ident) (r : ResourceId) : Type 0 where
   pub bound : IsFresh id.string (values_of b.names)
   pub fresh : IsFresh id.string (kinds_of side b)
-  pub body : BodyGoes side old new b c (at_ident id ∷ [])
+  pub body : BodyStep side old new b c (at_ident id ∷ [])
       (λ naming before after. after ≡ with_resource naming side before id.string)
   pub there : Names new.types (kinds.Ty (types.Resource r))
   pub is : (naming : Naming) → entry_means naming new r.0 ≡ resource_entry naming (declared_count old) id.string
@@ -105,6 +105,6 @@ pub record IsDeclared (side : ExternKind) (b c : Lists) (id : Ident) (k : ItemKi
   pub is : c ≡ with_bound side b id.string id.span k
 
 -- what an item declares
-abbrev pub ItemGoes : ExternKind → Parts → Parts → Lists → Lists → ItemTypeDecl → Type 0
-ItemGoes side old new b c x = BodyGoes side old new b c (at_ident (item_identifier x) ∷ [])
+abbrev pub DeclarationStep : ExternKind → Parts → Parts → Lists → Lists → ItemTypeDecl → Type 0
+DeclarationStep side old new b c x = BodyStep side old new b c (at_ident (item_identifier x) ∷ [])
     (λ naming before after. HasItem naming side before x after)

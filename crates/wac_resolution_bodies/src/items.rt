@@ -7,7 +7,7 @@ ghost use Rattle.wac_resolution_rules.specs.BrokenBodies.{ItemBroken};
 ghost use Rattle.wac_resolution_rules.specs.Errors.{ErrorSays};
 ghost use Rattle.wac_resolution_state.specs.Bindings.{places_of};
 ghost use Rattle.wac_resolution_bodies.specs.Lists.{lists_of};
-ghost use Rattle.wac_resolution_bodies.specs.Bodies.{body_of, IsBody, ItemGoes};
+ghost use Rattle.wac_resolution_bodies.specs.Bodies.{body_of, IsBody, DeclarationStep};
 ghost use Rattle.wac_resolution_bodies.specs.Owners.{owner_of};
 
 use crate::body::Body;
@@ -29,7 +29,7 @@ fn variant<'a>(
     decl: &VariantDecl<'a>,
 ) -> Result<(), Error>
     requires { IsBody state.old.graph.types side (lists_of body.old) }
-    ensures ok { OnOk result (ItemGoes side state.old.graph state.new.graph (lists_of body.old) (lists_of body.new)
+    ensures ok { OnOk result (DeclarationStep side state.old.graph state.new.graph (lists_of body.old) (lists_of body.new)
         (ItemTree.variant (variant_decl_of decl.now))) }
     ensures err { ErrorSays result (λ e. (naming : Naming)
         → ItemBroken naming (owner_of owner.now) side (places_of body.old.names)
@@ -50,7 +50,7 @@ fn record<'a>(
     decl: &RecordDecl<'a>,
 ) -> Result<(), Error>
     requires { IsBody state.old.graph.types side (lists_of body.old) }
-    ensures ok { OnOk result (ItemGoes side state.old.graph state.new.graph (lists_of body.old) (lists_of body.new)
+    ensures ok { OnOk result (DeclarationStep side state.old.graph state.new.graph (lists_of body.old) (lists_of body.new)
         (ItemTree.record_decl (record_decl_of decl.now))) }
     ensures err { ErrorSays result (λ e. (naming : Naming)
         → ItemBroken naming (owner_of owner.now) side (places_of body.old.names)
@@ -71,7 +71,7 @@ fn flags<'a>(
     decl: &FlagsDecl<'a>,
 ) -> Result<(), Error>
     requires { IsBody state.old.graph.types side (lists_of body.old) }
-    ensures ok { OnOk result (ItemGoes side state.old.graph state.new.graph (lists_of body.old) (lists_of body.new)
+    ensures ok { OnOk result (DeclarationStep side state.old.graph state.new.graph (lists_of body.old) (lists_of body.new)
         (ItemTree.flags (flags_decl_of decl.now))) }
     ensures err { ErrorSays result (λ e. (naming : Naming)
         → ItemBroken naming (owner_of owner.now) side (places_of body.old.names)
@@ -92,7 +92,7 @@ fn enumeration<'a>(
     decl: &EnumDecl<'a>,
 ) -> Result<(), Error>
     requires { IsBody state.old.graph.types side (lists_of body.old) }
-    ensures ok { OnOk result (ItemGoes side state.old.graph state.new.graph (lists_of body.old) (lists_of body.new)
+    ensures ok { OnOk result (DeclarationStep side state.old.graph state.new.graph (lists_of body.old) (lists_of body.new)
         (ItemTree.enum (enum_decl_of decl.now))) }
     ensures err { ErrorSays result (λ e. (naming : Naming)
         → ItemBroken naming (owner_of owner.now) side (places_of body.old.names)
@@ -113,7 +113,7 @@ fn alias<'a>(
     decl: &TypeAlias<'a>,
 ) -> Result<(), Error>
     requires { IsBody state.old.graph.types side (lists_of body.old) }
-    ensures ok { OnOk result (ItemGoes side state.old.graph state.new.graph (lists_of body.old) (lists_of body.new)
+    ensures ok { OnOk result (DeclarationStep side state.old.graph state.new.graph (lists_of body.old) (lists_of body.new)
         (ItemTree.alias (type_alias_of decl.now))) }
     ensures err { ErrorSays result (λ e. (naming : Naming)
         → ItemBroken naming (owner_of owner.now) side (places_of body.old.names)
@@ -139,7 +139,7 @@ pub fn item<'a>(
     decl: &ItemTypeDecl<'a>,
 ) -> Result<(), Error>
     requires { IsBody state.old.graph.types side (lists_of body.old) }
-    ensures ok { OnOk result (ItemGoes side state.old.graph state.new.graph (lists_of body.old) (lists_of body.new)
+    ensures ok { OnOk result (DeclarationStep side state.old.graph state.new.graph (lists_of body.old) (lists_of body.new)
         (item_type_decl_of decl.now)) }
     ensures err { ErrorSays result (λ e. (naming : Naming)
         → ItemBroken naming (owner_of owner.now) side (places_of body.old.names)

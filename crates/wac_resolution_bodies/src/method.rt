@@ -16,7 +16,7 @@ ghost use Rattle.wac_resolution_rules.specs.Bodies.{constructor_name as named_co
 ghost use Rattle.wac_resolution_rules.specs.BrokenBodies.{IsSecondConstructor, IsSecondMethod, MethodBroken};
 ghost use Rattle.wac_resolution_rules.specs.Errors.{ErrorSays};
 ghost use Rattle.wac_resolution_bodies.specs.Lists.{lists_of, kinds_of};
-ghost use Rattle.wac_resolution_bodies.specs.Bodies.{body_of, IsBody, IsTaken, MethodGoes, MethodsGo};
+ghost use Rattle.wac_resolution_bodies.specs.Bodies.{body_of, IsBody, IsTaken, MethodStep, MethodSteps};
 
 use crate::body::Body;
 use crate::method_names::{constructor_name, method_name, static_name};
@@ -110,7 +110,7 @@ fn add_constructor(
 ) -> Result<(), Error>
     requires body { IsBody state.old.graph.types side (lists_of body.old) }
     requires resource { NamesEntry state.old.graph.types (kinds.Ty (types.Resource resource)) }
-    ensures ok { OnOk result (MethodGoes side state.old.graph state.new.graph name.now resource (lists_of body.old)
+    ensures ok { OnOk result (MethodStep side state.old.graph state.new.graph name.now resource (lists_of body.old)
         (lists_of body.new) (MethodTree.constructor (constructor_of constructor.now))) }
     ensures err { ErrorSays result (λ e. (naming : Naming) (before : List MethodTree)
         → MethodBroken side name.now (entry_means naming state.old.graph resource.0) e
@@ -139,7 +139,7 @@ fn add_method(
 ) -> Result<(), Error>
     requires body { IsBody state.old.graph.types side (lists_of body.old) }
     requires resource { NamesEntry state.old.graph.types (kinds.Ty (types.Resource resource)) }
-    ensures ok { OnOk result (MethodGoes side state.old.graph state.new.graph name.now resource (lists_of body.old)
+    ensures ok { OnOk result (MethodStep side state.old.graph state.new.graph name.now resource (lists_of body.old)
         (lists_of body.new) (MethodTree.method (method_of method.now))) }
     ensures err { ErrorSays result (λ e. (naming : Naming) (before : List MethodTree)
         → MethodBroken side name.now (entry_means naming state.old.graph resource.0) e
@@ -168,7 +168,7 @@ fn add_either(
 ) -> Result<(), Error>
     requires body { IsBody state.old.graph.types side (lists_of body.old) }
     requires resource { NamesEntry state.old.graph.types (kinds.Ty (types.Resource resource)) }
-    ensures ok { OnOk result (MethodGoes side state.old.graph state.new.graph name.now resource (lists_of body.old)
+    ensures ok { OnOk result (MethodStep side state.old.graph state.new.graph name.now resource (lists_of body.old)
         (lists_of body.new) (resource_method_of method.now)) }
     ensures err { ErrorSays result (λ e. (naming : Naming) (before : List MethodTree)
         → MethodBroken side name.now (entry_means naming state.old.graph resource.0) e
@@ -193,7 +193,7 @@ pub fn add_methods(
 ) -> Result<(), Error>
     requires body { IsBody state.old.graph.types side (lists_of body.old) }
     requires resource { NamesEntry state.old.graph.types (kinds.Ty (types.Resource resource)) }
-    ensures ok { OnOk result (MethodsGo side state.old.graph state.new.graph name.now resource (lists_of body.old)
+    ensures ok { OnOk result (MethodSteps side state.old.graph state.new.graph name.now resource (lists_of body.old)
         (lists_of body.new) (map resource_method_of methods.now)) }
     ensures err { ErrorSays result (λ e. (naming : Naming)
         → Fails (HasMethod side name.now (entry_means naming state.old.graph resource.0))

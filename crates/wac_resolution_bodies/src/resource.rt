@@ -9,7 +9,7 @@ ghost use Rattle.wac_resolution_rules.specs.BrokenBodies.{NameBroken, ItemBroken
 ghost use Rattle.wac_resolution_rules.specs.Errors.{ErrorSays};
 ghost use Rattle.wac_resolution_state.specs.Bindings.{places_of};
 ghost use Rattle.wac_resolution_bodies.specs.Lists.{lists_of};
-ghost use Rattle.wac_resolution_bodies.specs.Bodies.{body_of, IsBody, ResourceGoes, ItemGoes};
+ghost use Rattle.wac_resolution_bodies.specs.Bodies.{body_of, IsBody, ResourceStep, DeclarationStep};
 ghost use Rattle.wac_resolution_bodies.specs.Owners.{owner_of};
 
 use crate::body::Body;
@@ -31,7 +31,7 @@ fn declare_resource<'a>(
     id: &Ident<'a>,
 ) -> Result<ResourceId, Error>
     requires { IsBody state.old.graph.types side (lists_of body.old) }
-    ensures ok { IfOk result (λ r. ResourceGoes side state.old.graph state.new.graph (lists_of body.old)
+    ensures ok { IfOk result (λ r. ResourceStep side state.old.graph state.new.graph (lists_of body.old)
         (lists_of body.new) (ident_of id.now) r) }
     ensures err { ErrorSays result (λ e. (naming : Naming) (g : Parts)
         → NameBroken (owner_of owner.now) side (places_of body.old.names)
@@ -58,7 +58,7 @@ pub fn resource<'a>(
     decl: &ResourceDecl<'a>,
 ) -> Result<(), Error>
     requires { IsBody state.old.graph.types side (lists_of body.old) }
-    ensures ok { OnOk result (ItemGoes side state.old.graph state.new.graph (lists_of body.old) (lists_of body.new)
+    ensures ok { OnOk result (DeclarationStep side state.old.graph state.new.graph (lists_of body.old) (lists_of body.new)
         (ItemTree.resource (resource_decl_of decl.now))) }
     ensures err { ErrorSays result (λ e. (naming : Naming)
         → ItemBroken naming (owner_of owner.now) side (places_of body.old.names)

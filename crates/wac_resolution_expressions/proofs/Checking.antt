@@ -64,7 +64,7 @@ module _ (rules : Rules) (g : Parts) (declared : Named ℕ) (w : WorldId) (x : P
   reached r m naming one = (m.before, m.after, m.split, m.fit naming declared one)
 
   pub misfit_wrong : (r : Option Reason) → IsFirstMisfit rules g w given name r → e ≡ misfit_of x.name name r span → AreWrong rules g declared w x args given e
-  misfit_wrong None m told naming setting p one same =
+  misfit_wrong None m told naming context p one same =
       let c : Composition = composition_of naming g declared in
       inl (
         (name, m.node),
@@ -74,7 +74,7 @@ module _ (rules : Rules) (g : Parts) (declared : Named ℕ) (w : WorldId) (x : P
         subst (λ (l : Named Meaning). IsFresh name l) (sym same) (m.against.is naming),
         told,
       )
-  misfit_wrong (Some r) m told naming setting p one same =
+  misfit_wrong (Some r) m told naming context p one same =
       let c : Composition = composition_of naming g declared in
       let u = m.against.is naming declared one in
       inr (inl (
@@ -91,7 +91,7 @@ module _ (rules : Rules) (g : Parts) (declared : Named ℕ) (w : WorldId) (x : P
 
 -- an import is left out
 pub left_wrong : (rules : Rules) (g : Parts) (declared : Named ℕ) (w : WorldId) (x : PackageName) (args : Arguments) (given : Named NodeId) (e : Error) → AllFit rules g w given → IsIncomplete g w x args (given_nodes given) e → AreWrong rules g declared w x args given e
-left_wrong rules g declared w x args given e fit h naming setting p one same =
+left_wrong rules g declared w x args given e fit h naming context p one same =
     let c : Composition = composition_of naming g declared in
     let l = h.1 naming in
     inr (inr (
@@ -121,15 +121,15 @@ module _ (old mid : Parts) (before between : Named NodeId) (declared : Named ℕ
       subst (λ (l : Named Meaning). AllByRecursion (λ (a : List ℕ × ℕ). IsSome (look_up a.0 (argument_places (composition_of naming mid declared) l args))) (given_nodes between)) (sym (imports_kept old mid w s.grows naming)) all
 
   pub wrong_after : (rules : Rules) (x : PackageName) (e : Error) → AreWrong rules mid declared w x args between e → FailsToComplete rules old declared w x args before e
-  wrong_after rules x e h naming setting p one same = inr (
+  wrong_after rules x e h naming context p one same = inr (
     giving_of naming mid declared between,
     subst (λ (l : Named Meaning). Steps (Spreads l) (giving_of naming old declared before) (spreads_of args) (giving_of naming mid declared between)) (sym same) (s.is naming),
-    h naming setting p one (same ∙ sym (imports_kept old mid w s.grows naming)),
+    h naming context p one (same ∙ sym (imports_kept old mid w s.grows naming)),
   )
 
 pub spreads_fail : (rules : Rules) (old : Parts) (declared : Named ℕ) (w : WorldId) (x : PackageName) (args : Arguments) (before : Named NodeId) (e : Error)
     → ((naming : Naming) → Fails (Spreads (imports_at naming old w)) (SpreadBroken (imports_at naming old w) e) (giving_of naming old declared before) (spreads_of args)) → FailsToComplete rules old declared w x args before e
-spreads_fail rules old declared w x args before e h naming setting p one same =
+spreads_fail rules old declared w x args before e h naming context p one same =
     inl (subst (λ (l : Named Meaning). Fails (Spreads l) (SpreadBroken l e) (giving_of naming old declared before) (spreads_of args)) (sym same) (h naming))
 
 -- ---- the instance

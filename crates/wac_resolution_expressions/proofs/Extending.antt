@@ -24,12 +24,12 @@ use Rattle.wac_resolution_nodes.specs.Nodes.{composition_of, kind_in, NodesStand
 use Rattle.wac_resolution_nodes.specs.Root.{Agrees}
 use Rattle.wac_resolution_nodes.proofs.Composed.{composition_expands, still_stand, still_there}
 use Rattle.wac_resolution_nodes.proofs.Roots.{agrees_expands, agrees_nodes}
-use Rattle.wac_resolution_paths.specs.Expands.{Expands, HoldsHanded, IsHandedAs}
+use Rattle.wac_resolution_paths.specs.Expands.{Expands, AllSupplied, IsSuppliedAs}
 use Rattle.wac_resolution_expressions.specs.Spreads.{GivenThere, imports_at}
 use Rattle.wac_resolution_expressions.specs.Growth.{Extends}
 
-pub extends_self : (packages : List (Key × PackageParts)) (g : Parts) → NodesStand g → HoldsHanded packages g → Extends packages g g
-extends_self packages g stand h = record { same = refl; held = λ i p is. is; named = λ k is. is; kinds = λ naming k is. refl; nodes = λ n k is. is; stand = stand; handed = h; count = refl }
+pub extends_self : (packages : List (Key × PackageParts)) (g : Parts) → NodesStand g → AllSupplied packages g → Extends packages g g
+extends_self packages g stand h = record { same = refl; held = λ i p is. is; named = λ k is. is; kinds = λ naming k is. refl; nodes = λ n k is. is; stand = stand; supplied = h; count = refl }
 
 pub extends_on : (packages : List (Key × PackageParts)) (a b c : Parts) → Extends packages a b → Extends packages b c → Extends packages a c
 extends_on packages a b c p q = record {
@@ -39,12 +39,12 @@ extends_on packages a b c p q = record {
   kinds = λ naming k is. q.kinds naming k (p.named k is) ∙ p.kinds naming k is;
   nodes = λ n k is. q.nodes n k (p.nodes n k is);
   stand = q.stand;
-  handed = q.handed;
+  supplied = q.supplied;
   count = q.count ∙ p.count;
 }
 
 -- more types and packages
-pub expands_extends : (packages : List (Key × PackageParts)) (old new : Parts) → Expands old new → NodesStand old → HoldsHanded packages new → declared_count new ≡ declared_count old → Extends packages old new
+pub expands_extends : (packages : List (Key × PackageParts)) (old new : Parts) → Expands old new → NodesStand old → AllSupplied packages new → declared_count new ≡ declared_count old → Extends packages old new
 expands_extends packages old new e stand h count =
     let nodes : new.nodes ≡ old.nodes = ap (λ (g : Parts). g.nodes) e.same in record {
       same = e.same ∙ ap (λ (ns : List GraphNode). record old { types = new.types; packages = new.packages; nodes = ns }) (sym nodes);
@@ -53,7 +53,7 @@ expands_extends packages old new e stand h count =
       kinds = e.kinds;
       nodes = λ n k is. ap (λ (ns : List GraphNode). kind_in ns n) nodes ∙ is;
       stand = still_stand old new e.same e.held e.named stand;
-      handed = h;
+      supplied = h;
       count = count;
     }
 
@@ -63,14 +63,14 @@ composition_same old new e stand count naming declared =
     composition_expands old new declared naming e.same e.held (e.kinds naming) stand ∙ ap (λ (n : ℕ). record (composition_of naming old declared) { resources = n }) count
 
 -- a package is held as it was supplied, in a graph with other nodes
-handed_nodes : (packages : List (Key × PackageParts)) (old new : Parts) → new ≡ record old { nodes = new.nodes } → (p : HeldPackage) → IsHandedAs packages old p → IsHandedAs packages new p
+handed_nodes : (packages : List (Key × PackageParts)) (old new : Parts) → new ≡ record old { nodes = new.nodes } → (p : HeldPackage) → IsSuppliedAs packages old p → IsSuppliedAs packages new p
 handed_nodes packages old new same p h = record {
   there = subst (λ (es : List Entry). IsHeld es p) (sym (ap (λ (g : Parts). g.types) same)) h.there;
   contents = λ naming. h.contents naming ∙ ap (λ (g : Parts). Some (contents_in naming g p)) (sym same);
 }
 
 -- more nodes
-pub nodes_extend : (packages : List (Key × PackageParts)) (old new : Parts) → GrowsNodes old new → HoldsHanded packages old → Extends packages old new
+pub nodes_extend : (packages : List (Key × PackageParts)) (old new : Parts) → GrowsNodes old new → AllSupplied packages old → Extends packages old new
 nodes_extend packages old new g h =
     let types : new.types ≡ old.types = ap (λ (p : Parts). p.types) g.same in
     let held : new.packages ≡ old.packages = ap (λ (p : Parts). p.packages) g.same in record {
@@ -80,7 +80,7 @@ nodes_extend packages old new g h =
       kinds = λ naming k is. ap (λ (p : Parts). means naming p k) g.same;
       nodes = g.kinds;
       stand = g.stand;
-      handed = subst (AllByRecursion (IsHandedAs packages new)) (sym held) (all_implies (IsHandedAs packages old) (IsHandedAs packages new) (handed_nodes packages old new g.same) old.packages h);
+      supplied = subst (AllByRecursion (IsSuppliedAs packages new)) (sym held) (all_implies (IsSuppliedAs packages old) (IsSuppliedAs packages new) (handed_nodes packages old new g.same) old.packages h);
       count = ap declared_count g.same;
     }
 
@@ -90,8 +90,8 @@ each_at {X} P (y ∷ xs) zero x h is = (let same : y ≡ x = cc in subst P same 
 each_at {X} P (y ∷ xs) (suc i) x h is = each_at P xs i x h.1 is
 
 -- what a package that a graph holds was supplied with
-pub held_contents : (packages : List (Key × PackageParts)) (g : Parts) (i : ℕ) (p : HeldPackage) → HoldsHanded packages g → slice_get g.packages i ≡ Some p → (naming : Naming) → package_of p.key (handed naming packages) ≡ Some (contents_in naming g p)
-held_contents packages g i p h is naming = (each_at (IsHandedAs packages g) g.packages i p h is).contents naming
+pub held_contents : (packages : List (Key × PackageParts)) (g : Parts) (i : ℕ) (p : HeldPackage) → AllSupplied packages g → slice_get g.packages i ≡ Some p → (naming : Naming) → package_of p.key (handed naming packages) ≡ Some (contents_in naming g p)
+held_contents packages g i p h is naming = (each_at (IsSuppliedAs packages g) g.packages i p h is).contents naming
 
 -- ---- what is kept
 
@@ -124,8 +124,8 @@ module _ (packages : List (Key × PackageParts)) (old new : Parts) (e : Extends 
   imports_extended w h naming = ap (λ (m : Meaning). imports_of (entry_of m)) (e.kinds naming (kinds.Component w) h)
 
   -- what a package holds
-  pub contents_extended : HoldsHanded packages old → (i : ℕ) (p : HeldPackage) → slice_get old.packages i ≡ Some p → (naming : Naming) → contents_in naming new p ≡ contents_in naming old p
+  pub contents_extended : AllSupplied packages old → (i : ℕ) (p : HeldPackage) → slice_get old.packages i ≡ Some p → (naming : Naming) → contents_in naming new p ≡ contents_in naming old p
   contents_extended h i p is naming =
       let before : package_of p.key (handed naming packages) ≡ Some (contents_in naming old p) = held_contents packages old i p h is naming in
-      let after : package_of p.key (handed naming packages) ≡ Some (contents_in naming new p) = held_contents packages new i p e.handed (e.held i p is) naming in
+      let after : package_of p.key (handed naming packages) ≡ Some (contents_in naming new p) = held_contents packages new i p e.supplied (e.held i p is) naming in
       cc

@@ -9,23 +9,23 @@ use Rattle.wac_graph.specs.Package.{Key, HeldPackage, IsHeld}
 use Rattle.wac_graph.specs.Packages.{contents_in, handed, package_of}
 use Rattle.wac_resolution_rules.specs.Given.{key_named}
 use Rattle.wac_resolution_nodes.specs.Nodes.{NodesStand}
-use Rattle.wac_resolution_paths.specs.declared.setting.Setting.{Setting}
+use Rattle.wac_resolution_paths.specs.declared.context.Context.{Context}
 use Rattle.wac_resolution_paths.specs.Expands.{Loads}
-use Rattle.wac_resolution_paths.specs.Setting.{packages_in}
+use Rattle.wac_resolution_paths.specs.Context.{packages_in}
 use Rattle.wac_resolution_expressions.specs.Loaded.{IsInstantiable}
 use Rattle.wac_resolution_expressions.proofs.Extending.{expands_extends, composition_same, held_contents}
 
-pub instantiable_is : (s : Setting) (old new : Parts) (x : PackageName) (id : PackageId) (held : HeldPackage) → bytes_eq x.name s.own.now ≡ false → NodesStand old → Loads (packages_in s) old new (key_named x) id.0
+pub instantiable_is : (s : Context) (old new : Parts) (x : PackageName) (id : PackageId) (held : HeldPackage) → bytes_eq x.name s.own.now ≡ false → NodesStand old → Loads (packages_in s) old new (key_named x) id.0
     → slice_get new.packages id.0 ≡ Some held → IsHeld new.types held → IsInstantiable s old new x (record { id = id; world = held.world })
 instantiable_is s old new x id held other stand l found there = record {
-  extends = expands_extends (packages_in s) old new l.grows stand l.handed l.count;
+  extends = expands_extends (packages_in s) old new l.grows stand l.supplied l.count;
   composition = composition_same old new l.grows stand l.count;
   held = held;
   loaded = record { found = found; world = refl; named = there.of_world };
   key = key;
   is = λ naming rules.
       ap (λ (b : Bool). cond b None (package_of (key_named x) (handed naming (packages_in s)))) other
-      ∙ subst (λ (k : Key). package_of k (handed naming (packages_in s)) ≡ Some (contents_in naming new held)) key (held_contents (packages_in s) new id.0 held l.handed found naming);
+      ∙ subst (λ (k : Key). package_of k (handed naming (packages_in s)) ≡ Some (contents_in naming new held)) key (held_contents (packages_in s) new id.0 held l.supplied found naming);
 }
   where
     key : held.key ≡ key_named x

@@ -22,7 +22,7 @@ use Rattle.wac_resolution_rules.specs.Expressions.{At, Giving, at, alias_at, giv
 use Rattle.wac_resolution_rules.specs.Find.{names_of}
 use Rattle.wac_resolution_rules.specs.Kinds.{instance_of}
 use Rattle.wac_resolution_state.proofs.Bound.{read_found}
-use Rattle.wac_resolution_nodes.specs.Accesses.{AliasGoes}
+use Rattle.wac_resolution_nodes.specs.Accesses.{AliasStep}
 use Rattle.wac_resolution_nodes.specs.Growth.{GrowsNodes}
 use Rattle.wac_resolution_nodes.specs.Instances.{IsInstance}
 use Rattle.wac_resolution_nodes.specs.Nodes.{composition_of, kind_in, NodesStand}
@@ -104,7 +104,7 @@ name_missing g all node name stand there is none = record {
 }
 
 name_aliased : (old new : Parts) (before after : Named NodeId) (node : ℕ) (name : List ℕ) (n : NodeId) (k : ItemKind) → GivenThere old before → is_some (look_up name before) ≡ false → export_kind old node name ≡ Some k
-    → AliasGoes old new node name k n.0 → after ≡ with_named before name n → NamesSpread old new before after node (name ∷ [])
+    → AliasStep old new node name k n.0 → after ≡ with_named before name n → NamesSpread old new before after node (name ∷ [])
 name_aliased old new before after node name n k there is exported goes pushed = record {
   grows = goes.grows;
   there = subst (GivenThere new) (sym pushed) (given_more new before name n (given_kept old new before goes.grows there) goes.there);
@@ -115,10 +115,10 @@ name_aliased old new before after node name n k there is exported goes pushed = 
 }
 
 pub name_exported : (old new : Parts) (before after : Named NodeId) (node : ℕ) (name : List ℕ) (n : NodeId) → GivenThere old before → is_some (look_up name before) ≡ false → is_none (export_kind old node name) ≡ false
-    → IfSome (export_kind old node name) (λ k. AliasGoes old new node name k n.0) → after ≡ with_named before name n → NamesSpread old new before after node (name ∷ [])
+    → IfSome (export_kind old node name) (λ k. AliasStep old new node name k n.0) → after ≡ with_named before name n → NamesSpread old new before after node (name ∷ [])
 name_exported old new before after node name n there is some goes pushed = go (export_kind old node name) refl some goes
   where
-    go : (o : Option ItemKind) → export_kind old node name ≡ o → is_none o ≡ false → IfSome o (λ k. AliasGoes old new node name k n.0) → NamesSpread old new before after node (name ∷ [])
+    go : (o : Option ItemKind) → export_kind old node name ≡ o → is_none o ≡ false → IfSome o (λ k. AliasStep old new node name k n.0) → NamesSpread old new before after node (name ∷ [])
     go None at s a = absurd (cc)
     go (Some k) at s a = name_aliased old new before after node name n k there is at a pushed
 

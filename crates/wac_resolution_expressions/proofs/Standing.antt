@@ -29,23 +29,23 @@ use Rattle.wac_resolution_rules.specs.Composition.{Composition}
 use Rattle.wac_resolution_rules.specs.Expressions.{at, Accesses, nothing_given, given_too, Gives, GivesOne, name_meant, has_fill, Instantiates, IsEmpty, Spreads, spreads_of}
 use Rattle.wac_resolution_rules.specs.Given.{Given, Rules, imports_in}
 use Rattle.wac_resolution_nodes.specs.declared.root.Root.{Root}
-use Rattle.wac_resolution_nodes.specs.Accesses.{AccessesGo}
+use Rattle.wac_resolution_nodes.specs.Accesses.{AccessSteps}
 use Rattle.wac_resolution_nodes.specs.Nodes.{composition_of, NodesStand}
 use Rattle.wac_resolution_nodes.specs.Root.{numbers_of, Agrees, NodeIs}
-use Rattle.wac_resolution_paths.specs.declared.setting.Setting.{Setting}
-use Rattle.wac_resolution_paths.specs.Expands.{HoldsHanded}
-use Rattle.wac_resolution_paths.specs.Setting.{packages_in, setting_of}
+use Rattle.wac_resolution_paths.specs.declared.context.Context.{Context}
+use Rattle.wac_resolution_paths.specs.Expands.{AllSupplied}
+use Rattle.wac_resolution_paths.specs.Context.{packages_in, context_of}
 use Rattle.wac_resolution_expressions.specs.Arguments.{given_nodes}
 use Rattle.wac_resolution_expressions.specs.GivenByNodes.{Gave}
 use Rattle.wac_resolution_expressions.specs.Spreads.{giving_of, imports_at, GivenThere}
 use Rattle.wac_resolution_nodes.proofs.Roots.{fresh_read}
 use Rattle.wac_resolution_expressions.specs.declared.packages.Loaded.{Loaded}
 use Rattle.wac_resolution_expressions.specs.Completing.{Completes, FailsToComplete}
-use Rattle.wac_resolution_expressions.specs.Giving.{is_none, GivesFor, IsGivenFor, GivesOn, ArgumentGoes, ArgumentBreaks, ArgumentsGo, ArgumentsBreak}
-use Rattle.wac_resolution_expressions.specs.Growth.{Extends, given_in, ExprGoes, ExprBreaks}
+use Rattle.wac_resolution_expressions.specs.Giving.{is_none, GivesFor, IsGivenFor, GivesOn, ArgumentStep, ArgumentBreaks, ArgumentSteps, ArgumentsBreak}
+use Rattle.wac_resolution_expressions.specs.Growth.{Extends, given_in, ExprStep, ExprBreaks}
 use Rattle.wac_resolution_expressions.specs.Loaded.{IsLoaded, IsInstantiable}
 use Rattle.wac_resolution_expressions.specs.Places.{StandThemselves}
-use Rattle.wac_resolution_expressions.specs.Primaries.{PrimaryGoes, PrimaryBreaks}
+use Rattle.wac_resolution_expressions.specs.Primaries.{PrimaryStep, PrimaryBreaks}
 use Rattle.wac_resolution_expressions.proofs.Extending.{extends_self, extends_on, nodes_extend, given_extended, imports_extended, contents_extended}
 use Rattle.wac_resolution_expressions.proofs.GivingInOrder.{GivesFirst, gives_next, gives_breaks, gives_end}
 use Rattle.wac_resolution_expressions.proofs.GivingNodes.{after_more, there_more}
@@ -60,13 +60,13 @@ none_left (y ∷ l) = (let some : nat_eq (length (y ∷ l)) 0 ≡ false = search
 all_zero : Naming
 all_zero = λ o. 0
 
-module _ (s : Setting) (rules : Rules) where
+module _ (s : Context) (rules : Rules) where
   -- ---- accesses
 
-  pub expr_goes : (old mid new : Parts) (declared : Named ℕ) (span : Span) (first : PrimaryExpr) (others : List PostfixExpr) (n m : ℕ) → PrimaryGoes s rules old mid declared first n → AccessesGo mid new n others m
-      → ExprGoes s rules old new declared (Expr.expr span first others) m
+  pub expr_goes : (old mid new : Parts) (declared : Named ℕ) (span : Span) (first : PrimaryExpr) (others : List PostfixExpr) (n m : ℕ) → PrimaryStep s rules old mid declared first n → AccessSteps mid new n others m
+      → ExprStep s rules old new declared (Expr.expr span first others) m
   expr_goes old mid new declared span first others n m p a = record {
-    extends = extends_on (packages_in s) old mid new p.extends (nodes_extend (packages_in s) mid new a.grows p.extends.handed);
+    extends = extends_on (packages_in s) old mid new p.extends (nodes_extend (packages_in s) mid new a.grows p.extends.supplied);
     there = a.there;
     stands = λ naming one. (at (composition_of naming mid declared) n, p.stands naming one, a.go naming declared);
   }
@@ -78,7 +78,7 @@ module _ (s : Setting) (rules : Rules) where
   abbrev pub AccessesBreak : Parts → Span → ℕ → List PostfixExpr → Error → Type 0
   AccessesBreak g span n others e = (naming : Naming) (declared : Named ℕ) → Fails Accesses (AccessBroken span e) (at (composition_of naming g declared) n) others
 
-  pub expr_breaks_later : (old mid : Parts) (declared : Named ℕ) (span : Span) (first : PrimaryExpr) (others : List PostfixExpr) (n : ℕ) (r : Result NodeId CodeError) → PrimaryGoes s rules old mid declared first n
+  pub expr_breaks_later : (old mid : Parts) (declared : Named ℕ) (span : Span) (first : PrimaryExpr) (others : List PostfixExpr) (n : ℕ) (r : Result NodeId CodeError) → PrimaryStep s rules old mid declared first n
       → IfErr r (λ e. AccessesBreak mid (primary_span first) n others (told e)) → IfErr r (λ e. ExprBreaks s rules old declared (Expr.expr span first others) (told e))
   expr_breaks_later old mid declared span first others n r p h =
       IfErr-weaker r (λ e. AccessesBreak mid (primary_span first) n others (told e)) (λ e. ExprBreaks s rules old declared (Expr.expr span first others) (told e))
@@ -86,14 +86,14 @@ module _ (s : Setting) (rules : Rules) where
 
   -- ---- what comes first
 
-  pub ident_goes : (g : Parts) (root : Root) (x : Ident) (node : NodeId) → Agrees g root → HoldsHanded (packages_in s) g → NodeIs root x node → PrimaryGoes s rules g g (numbers_of root.nodes) (PrimaryExpr.ident x) node.0
-  ident_goes g root x node agrees handed is = record {
-    extends = extends_self (packages_in s) g agrees.nodes handed;
+  pub ident_goes : (g : Parts) (root : Root) (x : Ident) (node : NodeId) → Agrees g root → AllSupplied (packages_in s) g → NodeIs root x node → PrimaryStep s rules g g (numbers_of root.nodes) (PrimaryExpr.ident x) node.0
+  ident_goes g root x node agrees supplied is = record {
+    extends = extends_self (packages_in s) g agrees.nodes supplied;
     there = is.there g agrees;
     stands = λ naming one. (node.0, is.is, refl);
   }
 
-  pub nested_goes : (old new : Parts) (declared : Named ℕ) (span : Span) (x : Expr) (n : ℕ) → ExprGoes s rules old new declared x n → PrimaryGoes s rules old new declared (PrimaryExpr.nested span x) n
+  pub nested_goes : (old new : Parts) (declared : Named ℕ) (span : Span) (x : Expr) (n : ℕ) → ExprStep s rules old new declared x n → PrimaryStep s rules old new declared (PrimaryExpr.nested span x) n
   nested_goes old new declared span x n p = record { extends = p.extends; there = p.there; stands = p.stands }
 
   -- ---- an instance
@@ -102,7 +102,7 @@ module _ (s : Setting) (rules : Rules) where
   pub loaded_still : (old new : Parts) (p : Loaded) (held : HeldPackage) → Extends (packages_in s) old new → IsLoaded old p held → IsLoaded new p held
   loaded_still old new p held e l = record { found = e.held p.id.0 held l.found; world = l.world; named = e.named (kinds.Component p.world) l.named }
 
-  module _ (old loaded mid : Parts) (declared : Named ℕ) (span : Span) (x : PackageName) (args : Arguments) (p : Loaded) (given : Named NodeId) (l : IsInstantiable s old loaded x p) (a : ArgumentsGo s rules loaded mid [] given declared p.world args) where
+  module _ (old loaded mid : Parts) (declared : Named ℕ) (span : Span) (x : PackageName) (args : Arguments) (p : Loaded) (given : Named NodeId) (l : IsInstantiable s old loaded x p) (a : ArgumentSteps s rules loaded mid [] given declared p.world args) where
     -- what it imports is what its world imports
     same_imports : (naming : Naming) → imports_in (contents_in naming loaded l.held) ≡ imports_at naming loaded p.world
     same_imports naming = ap (λ (v : WorldId). imports_at naming loaded v) l.loaded.world
@@ -121,14 +121,14 @@ module _ (s : Setting) (rules : Rules) where
         AllOwn i = AllByRecursion (λ (y : List ℕ × ℕ). IsSome (look_up y.0 (own_places (composition_of naming mid declared) i args))) (given_nodes given)
 
     contents_same : (naming : Naming) → contents_in naming mid l.held ≡ contents_in naming loaded l.held
-    contents_same naming = contents_extended (packages_in s) loaded mid a.extends l.extends.handed p.id.0 l.held l.loaded.found naming
+    contents_same naming = contents_extended (packages_in s) loaded mid a.extends l.extends.supplied p.id.0 l.held l.loaded.found naming
 
     imports_same : (naming : Naming) → imports_in (contents_in naming loaded l.held) ≡ imports_at naming mid p.world
     imports_same naming = same_imports naming ∙ sym (imports_extended (packages_in s) loaded mid a.extends p.world l.loaded.named naming)
 
-    pub new_goes : (new : Parts) (n : ℕ) → Completes rules mid new declared p args given n → PrimaryGoes s rules old new declared (PrimaryExpr.new span x args) n
+    pub new_goes : (new : Parts) (n : ℕ) → Completes rules mid new declared p args given n → PrimaryStep s rules old new declared (PrimaryExpr.new span x args) n
     new_goes new n c = record {
-      extends = extends_on (packages_in s) old loaded new l.extends (extends_on (packages_in s) loaded mid new a.extends (nodes_extend (packages_in s) mid new c.grows a.extends.handed));
+      extends = extends_on (packages_in s) old loaded new l.extends (extends_on (packages_in s) loaded mid new a.extends (nodes_extend (packages_in s) mid new c.grows a.extends.supplied));
       there = c.there;
       stands = λ naming one. (
         contents_in naming loaded l.held,
@@ -144,7 +144,7 @@ module _ (s : Setting) (rules : Rules) where
 
     pub completing_breaks : (e : Error) → FailsToComplete rules mid declared p.world x args given e → PrimaryBreaks s rules old declared (PrimaryExpr.new span x args) e
     completing_breaks e f naming one =
-        elim (f naming (setting_of naming s) (contents_in naming loaded l.held) one (imports_same naming)) [
+        elim (f naming (context_of naming s) (contents_in naming loaded l.held) one (imports_same naming)) [
           | inl spread ↦ inr (inr (inl (contents_in naming loaded l.held, giving_of naming mid declared given, l.is naming rules, gives naming one, spread)))
           | inr b ↦ inr (inr (inr (contents_in naming loaded l.held, giving_of naming mid declared given, b.0, l.is naming rules, gives naming one, b.1, b.2)))
         ]
@@ -174,8 +174,8 @@ module _ (s : Setting) (rules : Rules) where
       pub so_far : SoFar now given xs i
       pub left : count + i ≡ length xs
 
-    pub none_yet : (xs : List CodeArgument) → NodesStand old → HoldsHanded (packages_in s) old → GivenThere old before → SoFar old before xs 0
-    none_yet xs stand handed there = record { extends = extends_self (packages_in s) old stand handed; there = there; is = λ naming one. refl }
+    pub none_yet : (xs : List CodeArgument) → NodesStand old → AllSupplied (packages_in s) old → GivenThere old before → SoFar old before xs 0
+    none_yet xs stand supplied there = record { extends = extends_self (packages_in s) old stand supplied; there = there; is = λ naming one. refl }
 
     module _ (mid : Parts) (between : Named NodeId) (xs : List CodeArgument) (i : ℕ) (x : CodeArgument) (within : i < length xs) (is : x ≡ get_or xs i x) (named : Names old.types (kinds.Component w)) (f : SoFar mid between xs i) where
       inside : i < length (map argument_of xs)
@@ -188,7 +188,7 @@ module _ (s : Setting) (rules : Rules) where
       last_is : (last : Bool) → last ≡ nat_eq (length xs - suc i) 0 → is_none (arguments_from (drop (suc i) (map argument_of xs))) ≡ last
       last_is last h = none_left (drop (suc i) (map argument_of xs)) ∙ ap (λ (k : ℕ). nat_eq k 0) (length-drop (suc i) (map argument_of xs) ∙ ap (λ (k : ℕ). k - suc i) (length-map xs argument_of)) ∙ sym h
 
-      pub arguments_next : (new : Parts) (after : Named NodeId) (last : Bool) → last ≡ nat_eq (length xs - suc i) 0 → ArgumentGoes s rules mid new between after declared w last (argument_of x) → SoFar new after xs (i + 1)
+      pub arguments_next : (new : Parts) (after : Named NodeId) (last : Bool) → last ≡ nat_eq (length xs - suc i) 0 → ArgumentStep s rules mid new between after declared w last (argument_of x) → SoFar new after xs (i + 1)
       arguments_next new after last h g = record {
         extends = extends_on (packages_in s) old mid new f.extends g.extends;
         there = g.there;
@@ -206,7 +206,7 @@ module _ (s : Setting) (rules : Rules) where
           gives_breaks (given_in naming s rules) (imports_at naming old w) (map argument_of xs) i (argument_of x) inside here e (giving_of naming old declared before) (giving_of naming mid declared between) (f.is naming one)
           (subst (λ (l : Named Meaning). ArgumentBroken (given_in naming s rules) l rest (giving_of naming mid declared between) e (argument_of x)) (imports_extended (packages_in s) old mid f.extends w named naming) (b naming rest one (last_is last h)))
 
-    pub arguments_end : (new : Parts) (after : Named NodeId) (xs : List CodeArgument) (i : ℕ) → length xs ≤ i → SoFar new after xs i → ArgumentsGo s rules old new before after declared w (arguments_from (map argument_of xs))
+    pub arguments_end : (new : Parts) (after : Named NodeId) (xs : List CodeArgument) (i : ℕ) → length xs ≤ i → SoFar new after xs i → ArgumentSteps s rules old new before after declared w (arguments_from (map argument_of xs))
     arguments_end new after xs i past f = record {
       extends = f.extends;
       there = f.there;
@@ -215,14 +215,14 @@ module _ (s : Setting) (rules : Rules) where
 
     -- ---- an argument
 
-    pub spread_goes : (last : Bool) (x : Ident) → NodesStand old → HoldsHanded (packages_in s) old → GivenThere old before → ArgumentGoes s rules old old before before declared w last (InstantiationArgument.spread x)
-    spread_goes last x stand handed there = record { extends = extends_self (packages_in s) old stand handed; there = there; is = λ naming one rest h. refl }
+    pub spread_goes : (last : Bool) (x : Ident) → NodesStand old → AllSupplied (packages_in s) old → GivenThere old before → ArgumentStep s rules old old before before declared w last (InstantiationArgument.spread x)
+    spread_goes last x stand supplied there = record { extends = extends_self (packages_in s) old stand supplied; there = there; is = λ naming one rest h. refl }
 
-    pub fill_goes : (last : Bool) (span : Span) → NodesStand old → HoldsHanded (packages_in s) old → GivenThere old before → ((rest : Arguments) → is_none rest ≡ last → IsEmpty rest) → ArgumentGoes s rules old old before before declared w last (InstantiationArgument.fill span)
-    fill_goes last span stand handed there h = record { extends = extends_self (packages_in s) old stand handed; there = there; is = λ naming one rest is. (h rest is, refl) }
+    pub fill_goes : (last : Bool) (span : Span) → NodesStand old → AllSupplied (packages_in s) old → GivenThere old before → ((rest : Arguments) → is_none rest ≡ last → IsEmpty rest) → ArgumentStep s rules old old before before declared w last (InstantiationArgument.fill span)
+    fill_goes last span stand supplied there h = record { extends = extends_self (packages_in s) old stand supplied; there = there; is = λ naming one rest is. (h rest is, refl) }
 
-    pub named_goes : (mid : Parts) (after : Named NodeId) (last : Bool) (name : InstantiationArgumentName) (x : Expr) (node : NodeId) → Names old.types (kinds.Component w) → GivenThere old before → ExprGoes s rules old mid declared x node.0
-        → GivesFor before after (λ naming. name_meant name (imports_at naming mid w)) node → ArgumentGoes s rules old mid before after declared w last (InstantiationArgument.named name x)
+    pub named_goes : (mid : Parts) (after : Named NodeId) (last : Bool) (name : InstantiationArgumentName) (x : Expr) (node : NodeId) → Names old.types (kinds.Component w) → GivenThere old before → ExprStep s rules old mid declared x node.0
+        → GivesFor before after (λ naming. name_meant name (imports_at naming mid w)) node → ArgumentStep s rules old mid before after declared w last (InstantiationArgument.named name x)
     named_goes mid after last name x node named there e g = record {
       extends = e.extends;
       there = there_more mid before after (name_meant name (imports_at all_zero mid w)) node (g.is all_zero).is (given_extended (packages_in s) old mid e.extends before there) e.there;
@@ -241,7 +241,7 @@ module _ (s : Setting) (rules : Rules) where
     pub named_breaks_first : (last : Bool) (name : InstantiationArgumentName) (x : Expr) (e : Error) → ExprBreaks s rules old declared x e → ArgumentBreaks s rules old before declared w last (InstantiationArgument.named name x) e
     named_breaks_first last name x e h naming rest one is = inl (h naming one)
 
-    pub named_breaks_later : (mid : Parts) (last : Bool) (name : InstantiationArgumentName) (x : Expr) (node : ℕ) (r : Result (Unit {0}) CodeError) → Names old.types (kinds.Component w) → ExprGoes s rules old mid declared x node
+    pub named_breaks_later : (mid : Parts) (last : Bool) (name : InstantiationArgumentName) (x : Expr) (node : ℕ) (r : Result (Unit {0}) CodeError) → Names old.types (kinds.Component w) → ExprStep s rules old mid declared x node
         → IfErr r (λ e. IsGivenFor before (λ naming. name_meant name (imports_at naming mid w)) (argument_name_span name) (told e)) → IfErr r (λ e. ArgumentBreaks s rules old before declared w last (InstantiationArgument.named name x) (told e))
     named_breaks_later mid last name x node r named p h =
         IfErr-weaker r (λ e. IsGivenFor before (λ naming. name_meant name (imports_at naming mid w)) (argument_name_span name) (told e)) (λ e. ArgumentBreaks s rules old before declared w last (InstantiationArgument.named name x) (told e))
@@ -258,9 +258,9 @@ module _ (s : Setting) (rules : Rules) where
         IfErr-weaker r (λ e. (rest : Arguments) → is_none rest ≡ last → IsFillNotLast rest span (told e)) (λ e. ArgumentBreaks s rules old before declared w last (InstantiationArgument.fill span) (told e)) (λ e b naming rest one is. b rest is) h
 
     -- an identifier alone, whose node was given in the same graph
-    pub inferred_goes_on : (after : Named NodeId) (last : Bool) (x : Ident) → HoldsHanded (packages_in s) old → Gave old old before after declared (λ naming a b. (t : Given) (rest : Arguments) → GivesOne t (imports_at naming old w) rest a (InstantiationArgument.inferred x) b)
-        → ArgumentGoes s rules old old before after declared w last (InstantiationArgument.inferred x)
-    inferred_goes_on after last x handed g = record { extends = extends_self (packages_in s) old g.grows.stand handed; there = g.there; is = λ naming one rest is. g.is naming (given_in naming s rules) rest }
+    pub inferred_goes_on : (after : Named NodeId) (last : Bool) (x : Ident) → AllSupplied (packages_in s) old → Gave old old before after declared (λ naming a b. (t : Given) (rest : Arguments) → GivesOne t (imports_at naming old w) rest a (InstantiationArgument.inferred x) b)
+        → ArgumentStep s rules old old before after declared w last (InstantiationArgument.inferred x)
+    inferred_goes_on after last x supplied g = record { extends = extends_self (packages_in s) old g.grows.stand supplied; there = g.there; is = λ naming one rest is. g.is naming (given_in naming s rules) rest }
 
     pub inferred_breaks_on : (last : Bool) (x : Ident) (r : Result (Unit {0}) CodeError)
         → IfErr r (λ e. (naming : Naming) (t : Given) (rest : Arguments) → ArgumentBroken t (imports_at naming old w) rest (giving_of naming old declared before) (told e) (InstantiationArgument.inferred x))

@@ -15,7 +15,7 @@ use Rattle.wac_resolution_errors.specs.Error.{Error, missing_component_import, m
 use Rattle.wac_resolution_rules.specs.BrokenExpressions.{SpreadBroken, InstantiationBroken}
 use Rattle.wac_resolution_rules.specs.Expressions.{Giving, at, has_fill, spreads_of, IsComplete, Spreads, Instantiates}
 use Rattle.wac_resolution_rules.specs.Given.{Rules, imports_in}
-use Rattle.wac_resolution_rules.specs.Paths.{Setting}
+use Rattle.wac_resolution_rules.specs.Paths.{Context}
 use Rattle.wac_resolution_nodes.specs.Growth.{GrowsNodes}
 use Rattle.wac_resolution_nodes.specs.Nodes.{composition_of}
 use Rattle.wac_resolution_expressions.specs.Arguments.{given_nodes}
@@ -36,9 +36,9 @@ pub record AreRight (rules : Rules) (g : Parts) (w : WorldId) (args : Arguments)
 
 -- an argument doesn't fit, or one is left out: of each package that imports what the world does
 abbrev pub AreWrong : Rules → Parts → Named ℕ → WorldId → PackageName → Arguments → Named NodeId → Error → Type 0
-AreWrong rules g declared w x args given e = (naming : Naming) (setting : Setting) (p : Contents) → IsOneToOne naming
+AreWrong rules g declared w x args given e = (naming : Naming) (context : Context) (p : Contents) → IsOneToOne naming
     → imports_in p ≡ imports_at naming g w
-    → InstantiationBroken (record { setting = setting; rules = rules }) p x args (giving_of naming g declared given) e
+    → InstantiationBroken (record { context = context; rules = rules }) p x args (giving_of naming g declared given) e
 
 -- after spreads the instance was made
 pub record Completes (rules : Rules) (old new : Parts) (declared : Named ℕ) (p : Loaded) (args : Arguments)
@@ -56,9 +56,9 @@ pub record Completes (rules : Rules) (old new : Parts) (declared : Named ℕ) (p
 
 -- a spread is broken, or after the spreads the arguments are wrong
 abbrev pub FailsToComplete : Rules → Parts → Named ℕ → WorldId → PackageName → Arguments → Named NodeId → Error → Type 0
-FailsToComplete rules g declared w x args given e = (naming : Naming) (setting : Setting) (p : Contents)
+FailsToComplete rules g declared w x args given e = (naming : Naming) (context : Context) (p : Contents)
     → IsOneToOne naming → imports_in p ≡ imports_at naming g w
     → Fails (Spreads (imports_in p)) (SpreadBroken (imports_in p) e) (giving_of naming g declared given)
     (spreads_of args)
     ⊎ ((all : Giving) × Steps (Spreads (imports_in p)) (giving_of naming g declared given) (spreads_of args) all
-    × InstantiationBroken (record { setting = setting; rules = rules }) p x args all e)
+    × InstantiationBroken (record { context = context; rules = rules }) p x args all e)

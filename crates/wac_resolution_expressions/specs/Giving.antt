@@ -13,8 +13,8 @@ use Rattle.wac_resolution_errors.specs.Error.{Error, duplicate_instantiation_arg
 use Rattle.wac_resolution_rules.specs.BrokenExpressions.{ArgumentBroken, ArgumentsBroken}
 use Rattle.wac_resolution_rules.specs.Expressions.{Giving, Gives, GivesOne}
 use Rattle.wac_resolution_rules.specs.Given.{Rules}
-use Rattle.wac_resolution_paths.specs.declared.setting.Setting.{Setting}
-use Rattle.wac_resolution_paths.specs.Setting.{packages_in}
+use Rattle.wac_resolution_paths.specs.declared.context.Context.{Context}
+use Rattle.wac_resolution_paths.specs.Context.{packages_in}
 use Rattle.wac_resolution_expressions.specs.Arguments.{given_nodes}
 use Rattle.wac_resolution_expressions.specs.Spreads.{giving_of, imports_at, GivenThere}
 use Rattle.wac_resolution_expressions.specs.Growth.{Extends, given_in}
@@ -50,27 +50,27 @@ pub record GivesOn (packages : List (Key × PackageParts)) (old new : Parts) (be
       → holds naming (giving_of naming old declared before) (giving_of naming new declared after)
 
 -- an argument is given, the last one or one before others
-abbrev pub ArgumentGoes : Setting → Rules → Parts → Parts → Named NodeId → Named NodeId → Named ℕ → WorldId → Bool
+abbrev pub ArgumentStep : Context → Rules → Parts → Parts → Named NodeId → Named NodeId → Named ℕ → WorldId → Bool
     → InstantiationArgument → Type 0
-ArgumentGoes setting rules old new before after declared w is_last x =
-    GivesOn (packages_in setting) old new before after declared
+ArgumentStep context rules old new before after declared w is_last x =
+    GivesOn (packages_in context) old new before after declared
     (λ naming a b. (rest : Arguments) → is_none rest ≡ is_last
-    → GivesOne (given_in naming setting rules) (imports_at naming old w) rest a x b)
+    → GivesOne (given_in naming context rules) (imports_at naming old w) rest a x b)
 
-abbrev pub ArgumentBreaks : Setting → Rules → Parts → Named NodeId → Named ℕ → WorldId → Bool → InstantiationArgument
+abbrev pub ArgumentBreaks : Context → Rules → Parts → Named NodeId → Named ℕ → WorldId → Bool → InstantiationArgument
     → Error → Type 0
-ArgumentBreaks setting rules g before declared w is_last x e = (naming : Naming) (rest : Arguments) → IsOneToOne naming
+ArgumentBreaks context rules g before declared w is_last x e = (naming : Naming) (rest : Arguments) → IsOneToOne naming
     → is_none rest ≡ is_last
-    → ArgumentBroken (given_in naming setting rules) (imports_at naming g w) rest (giving_of naming g declared before) e
+    → ArgumentBroken (given_in naming context rules) (imports_at naming g w) rest (giving_of naming g declared before) e
     x
 
 -- the arguments that aren't spreads are given in order
-abbrev pub ArgumentsGo : Setting → Rules → Parts → Parts → Named NodeId → Named NodeId → Named ℕ → WorldId → Arguments
+abbrev pub ArgumentSteps : Context → Rules → Parts → Parts → Named NodeId → Named NodeId → Named ℕ → WorldId → Arguments
     → Type 0
-ArgumentsGo setting rules old new before after declared w args = GivesOn (packages_in setting) old new before after
-    declared (λ naming a b. Gives (given_in naming setting rules) (imports_at naming old w) a args b)
+ArgumentSteps context rules old new before after declared w args = GivesOn (packages_in context) old new before after
+    declared (λ naming a b. Gives (given_in naming context rules) (imports_at naming old w) a args b)
 
-abbrev pub ArgumentsBreak : Setting → Rules → Parts → Named NodeId → Named ℕ → WorldId → Arguments → Error → Type 0
-ArgumentsBreak setting rules g before declared w args e = (naming : Naming) → IsOneToOne naming
-    → ArgumentsBroken (given_in naming setting rules) (imports_at naming g w) (giving_of naming g declared before) e
+abbrev pub ArgumentsBreak : Context → Rules → Parts → Named NodeId → Named ℕ → WorldId → Arguments → Error → Type 0
+ArgumentsBreak context rules g before declared w args e = (naming : Naming) → IsOneToOne naming
+    → ArgumentsBroken (given_in naming context rules) (imports_at naming g w) (giving_of naming g declared before) e
     args

@@ -15,9 +15,9 @@ use Rattle.wac_resolution_rules.specs.BrokenExpressions.{ExprBroken}
 use Rattle.wac_resolution_rules.specs.Expressions.{at, Stands}
 use Rattle.wac_resolution_rules.specs.Given.{Given, Rules}
 use Rattle.wac_resolution_nodes.specs.Nodes.{composition_of, kind_in, NodesStand}
-use Rattle.wac_resolution_paths.specs.declared.setting.Setting.{Setting}
-use Rattle.wac_resolution_paths.specs.Expands.{HoldsHanded}
-use Rattle.wac_resolution_paths.specs.Setting.{packages_in, setting_of}
+use Rattle.wac_resolution_paths.specs.declared.context.Context.{Context}
+use Rattle.wac_resolution_paths.specs.Expands.{AllSupplied}
+use Rattle.wac_resolution_paths.specs.Context.{packages_in, context_of}
 
 -- no resource was declared, each package and each node stays, and each kind means what it meant
 pub record Extends (packages : List (Key × PackageParts)) (old new : Parts) : Type 0 where
@@ -27,23 +27,23 @@ pub record Extends (packages : List (Key × PackageParts)) (old new : Parts) : T
   pub kinds : (naming : Naming) (k : ItemKind) → Names old.types k → means naming new k ≡ means naming old k
   pub nodes : (n : ℕ) (k : ItemKind) → kind_in old.nodes n ≡ Some k → kind_in new.nodes n ≡ Some k
   pub stand : NodesStand new
-  pub handed : HoldsHanded packages new
+  pub supplied : AllSupplied packages new
   pub count : declared_count new ≡ declared_count old
 
 -- what a document is resolved with
-abbrev pub given_in : Naming → Setting → Rules → Given
-given_in naming setting rules = record { setting = setting_of naming setting; rules = rules }
+abbrev pub given_in : Naming → Context → Rules → Given
+given_in naming context rules = record { context = context_of naming context; rules = rules }
 
 -- the expression denotes this node of the new graph
-pub record ExprGoes (setting : Setting) (rules : Rules) (old new : Parts) (declared : Named ℕ) (x : Expr) (n : ℕ) : Type
+pub record ExprStep (context : Context) (rules : Rules) (old new : Parts) (declared : Named ℕ) (x : Expr) (n : ℕ) : Type
     0 where
-  pub extends : Extends (packages_in setting) old new
+  pub extends : Extends (packages_in context) old new
   pub there : n < length new.nodes
   pub stands : (naming : Naming) → IsOneToOne naming
-      → Stands (given_in naming setting rules) (composition_of naming old declared) x
+      → Stands (given_in naming context rules) (composition_of naming old declared) x
       (at (composition_of naming new declared) n)
 
 -- the error names a rule that the expression breaks
-abbrev pub ExprBreaks : Setting → Rules → Parts → Named ℕ → Expr → Error → Type 0
-ExprBreaks setting rules g declared x e = (naming : Naming) → IsOneToOne naming
-    → ExprBroken (given_in naming setting rules) (composition_of naming g declared) e x
+abbrev pub ExprBreaks : Context → Rules → Parts → Named ℕ → Expr → Error → Type 0
+ExprBreaks context rules g declared x e = (naming : Naming) → IsOneToOne naming
+    → ExprBroken (given_in naming context rules) (composition_of naming g declared) e x

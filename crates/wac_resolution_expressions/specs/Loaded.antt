@@ -10,8 +10,8 @@ use Rattle.wac_graph.specs.Package.{HeldPackage}
 use Rattle.wac_graph.specs.Packages.{contents_in}
 use Rattle.wac_resolution_rules.specs.Given.{Rules, instantiable, key_named}
 use Rattle.wac_resolution_nodes.specs.Nodes.{composition_of}
-use Rattle.wac_resolution_paths.specs.declared.setting.Setting.{Setting}
-use Rattle.wac_resolution_paths.specs.Setting.{packages_in}
+use Rattle.wac_resolution_paths.specs.declared.context.Context.{Context}
+use Rattle.wac_resolution_paths.specs.Context.{packages_in}
 use Rattle.wac_resolution_expressions.specs.declared.packages.Loaded.{Loaded}
 use Rattle.wac_resolution_expressions.specs.Growth.{Extends, given_in}
 
@@ -26,12 +26,12 @@ abbrev pub IsThere : Parts → Loaded → Type 0
 IsThere g p = (held : HeldPackage) × IsLoaded g p held
 
 -- the package of the name may be instantiated, and the new graph holds it
-pub record IsInstantiable (setting : Setting) (old new : Parts) (x : PackageName) (p : Loaded) : Type 0 where
-  pub extends : Extends (packages_in setting) old new
+pub record IsInstantiable (context : Context) (old new : Parts) (x : PackageName) (p : Loaded) : Type 0 where
+  pub extends : Extends (packages_in context) old new
   pub composition : (naming : Naming) (declared : Named ℕ)
       → composition_of naming new declared ≡ composition_of naming old declared
   pub held : HeldPackage
   pub loaded : IsLoaded new p held
   pub key : held.key ≡ key_named x
   pub is : (naming : Naming) (rules : Rules)
-      → instantiable (given_in naming setting rules) x ≡ Some (contents_in naming new held)
+      → instantiable (given_in naming context rules) x ≡ Some (contents_in naming new held)

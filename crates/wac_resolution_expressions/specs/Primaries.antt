@@ -9,20 +9,20 @@ use Rattle.wac_resolution_rules.specs.BrokenExpressions.{PrimaryBroken}
 use Rattle.wac_resolution_rules.specs.Expressions.{at, PrimaryStands}
 use Rattle.wac_resolution_rules.specs.Given.{Rules}
 use Rattle.wac_resolution_nodes.specs.Nodes.{composition_of}
-use Rattle.wac_resolution_paths.specs.declared.setting.Setting.{Setting}
-use Rattle.wac_resolution_paths.specs.Setting.{packages_in}
+use Rattle.wac_resolution_paths.specs.declared.context.Context.{Context}
+use Rattle.wac_resolution_paths.specs.Context.{packages_in}
 use Rattle.wac_resolution_expressions.specs.Growth.{Extends, given_in}
 
 -- it denotes this node of the new graph
-pub record PrimaryGoes (setting : Setting) (rules : Rules) (old new : Parts) (declared : Named ℕ) (x : PrimaryExpr)
+pub record PrimaryStep (context : Context) (rules : Rules) (old new : Parts) (declared : Named ℕ) (x : PrimaryExpr)
     (n : ℕ) : Type 0 where
-  pub extends : Extends (packages_in setting) old new
+  pub extends : Extends (packages_in context) old new
   pub there : n < length new.nodes
   pub stands : (naming : Naming) → IsOneToOne naming
-      → PrimaryStands (given_in naming setting rules) (composition_of naming old declared) x
+      → PrimaryStands (given_in naming context rules) (composition_of naming old declared) x
       (at (composition_of naming new declared) n)
 
 -- the error names a rule that it breaks
-abbrev pub PrimaryBreaks : Setting → Rules → Parts → Named ℕ → PrimaryExpr → Error → Type 0
-PrimaryBreaks setting rules g declared x e = (naming : Naming) → IsOneToOne naming
-    → PrimaryBroken (given_in naming setting rules) (composition_of naming g declared) e x
+abbrev pub PrimaryBreaks : Context → Rules → Parts → Named ℕ → PrimaryExpr → Error → Type 0
+PrimaryBreaks context rules g declared x e = (naming : Naming) → IsOneToOne naming
+    → PrimaryBroken (given_in naming context rules) (composition_of naming g declared) e x

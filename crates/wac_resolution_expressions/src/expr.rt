@@ -7,12 +7,12 @@ ghost use Rattle.wac_ast_expressions.specs.Expressions.{argument_of, expr_of, ne
 ghost use Rattle.wac_resolution_rules.specs.Errors.{ErrorSays};
 ghost use Rattle.wac_resolution_rules.specs.Given.{rules_of};
 ghost use Rattle.wac_resolution_nodes.specs.Root.{numbers_of, Agrees};
-ghost use Rattle.wac_resolution_paths.specs.Expands.{HoldsHanded};
-ghost use Rattle.wac_resolution_paths.specs.Setting.{packages_in};
+ghost use Rattle.wac_resolution_paths.specs.Expands.{AllSupplied};
+ghost use Rattle.wac_resolution_paths.specs.Context.{packages_in};
 ghost use Rattle.wac_resolution_expressions.specs.Spreads.{GivenThere};
-ghost use Rattle.wac_resolution_expressions.specs.Giving.{ArgumentGoes, ArgumentBreaks, ArgumentsGo, ArgumentsBreak};
-ghost use Rattle.wac_resolution_expressions.specs.Growth.{ExprGoes, ExprBreaks};
-ghost use Rattle.wac_resolution_expressions.specs.Primaries.{PrimaryGoes, PrimaryBreaks};
+ghost use Rattle.wac_resolution_expressions.specs.Giving.{ArgumentStep, ArgumentBreaks, ArgumentSteps, ArgumentsBreak};
+ghost use Rattle.wac_resolution_expressions.specs.Growth.{ExprStep, ExprBreaks};
+ghost use Rattle.wac_resolution_expressions.specs.Primaries.{PrimaryStep, PrimaryBreaks};
 
 use crate::completing::complete;
 use crate::given::{check_last, give_inferred, give_named};
@@ -22,26 +22,26 @@ use wac_ast_expressions::{Expr, InstantiationArgument, NewExpr, PrimaryExpr};
 use wac_graph::{ItemKind, NodeId, Rules, WorldId};
 use wac_resolution_errors::Error;
 use wac_resolution_nodes::{Root, accesses};
-use wac_resolution_paths::Setting;
+use wac_resolution_paths::Context;
 use wac_resolution_state::State;
 
 /// The node that an expression denotes.
 #[cycle(expression)]
 pub fn expression<R: Rules>(
     state: &mut State,
-    setting: &Setting<'_>,
+    context: &Context<'_>,
     rules: &R,
     root: &Root<'_>,
     expr: &Expr<'_>,
 ) -> Result<NodeId, Error>
     requires agrees { Agrees state.old.graph root.now }
-    requires handed { HoldsHanded (packages_in setting.now) state.old.graph }
-    ensures ok { IfOk result (λ n. ExprGoes setting.now (rules_of R.Rules rules.now) state.old.graph state.new.graph
+    requires supplied { AllSupplied (packages_in context.now) state.old.graph }
+    ensures ok { IfOk result (λ n. ExprStep context.now (rules_of R.Rules rules.now) state.old.graph state.new.graph
         (numbers_of root.now.nodes) (expr_of expr.now) n.0) }
-    ensures err { ErrorSays result (λ e. ExprBreaks setting.now (rules_of R.Rules rules.now) state.old.graph
+    ensures err { ErrorSays result (λ e. ExprBreaks context.now (rules_of R.Rules rules.now) state.old.graph
         (numbers_of root.now.nodes) (expr_of expr.now) e) }
 {
-    let node = primary(state, setting, rules, root, &expr.primary)?;
+    let node = primary(state, context, rules, root, &expr.primary)?;
     accesses(state, node, expr.primary.span(), &expr.postfix)
 }
 
@@ -49,21 +49,21 @@ pub fn expression<R: Rules>(
 #[cycle(expression)]
 fn primary<R: Rules>(
     state: &mut State,
-    setting: &Setting<'_>,
+    context: &Context<'_>,
     rules: &R,
     root: &Root<'_>,
     expr: &PrimaryExpr<'_>,
 ) -> Result<NodeId, Error>
     requires agrees { Agrees state.old.graph root.now }
-    requires handed { HoldsHanded (packages_in setting.now) state.old.graph }
-    ensures ok { IfOk result (λ n. PrimaryGoes setting.now (rules_of R.Rules rules.now) state.old.graph state.new.graph
+    requires supplied { AllSupplied (packages_in context.now) state.old.graph }
+    ensures ok { IfOk result (λ n. PrimaryStep context.now (rules_of R.Rules rules.now) state.old.graph state.new.graph
         (numbers_of root.now.nodes) (primary_expr_of expr.now) n.0) }
-    ensures err { ErrorSays result (λ e. PrimaryBreaks setting.now (rules_of R.Rules rules.now) state.old.graph
+    ensures err { ErrorSays result (λ e. PrimaryBreaks context.now (rules_of R.Rules rules.now) state.old.graph
         (numbers_of root.now.nodes) (primary_expr_of expr.now) e) }
 {
     match expr {
-        PrimaryExpr::New(part) => instantiation(state, setting, rules, root, part),
-        PrimaryExpr::Nested(nested) => expression(state, setting, rules, root, &nested.inner),
+        PrimaryExpr::New(part) => instantiation(state, context, rules, root, part),
+        PrimaryExpr::Nested(nested) => expression(state, context, rules, root, &nested.inner),
         PrimaryExpr::Ident(id) => root.node(state.alloc, id),
     }
 }
@@ -72,23 +72,23 @@ fn primary<R: Rules>(
 #[cycle(expression)]
 fn instantiation<R: Rules>(
     state: &mut State,
-    setting: &Setting<'_>,
+    context: &Context<'_>,
     rules: &R,
     root: &Root<'_>,
     new: &NewExpr<'_>,
 ) -> Result<NodeId, Error>
     requires agrees { Agrees state.old.graph root.now }
-    requires handed { HoldsHanded (packages_in setting.now) state.old.graph }
-    ensures ok { IfOk result (λ n. PrimaryGoes setting.now (rules_of R.Rules rules.now) state.old.graph state.new.graph
+    requires supplied { AllSupplied (packages_in context.now) state.old.graph }
+    ensures ok { IfOk result (λ n. PrimaryStep context.now (rules_of R.Rules rules.now) state.old.graph state.new.graph
         (numbers_of root.now.nodes) (new_expr_of new.now) n.0) }
-    ensures err { ErrorSays result (λ e. PrimaryBreaks setting.now (rules_of R.Rules rules.now) state.old.graph
+    ensures err { ErrorSays result (λ e. PrimaryBreaks context.now (rules_of R.Rules rules.now) state.old.graph
         (numbers_of root.now.nodes) (new_expr_of new.now) e) }
 {
-    let of = instantiable(state, setting, &new.package)?;
+    let of = instantiable(state, context, &new.package)?;
     let mut given = IndexMap::new(state.alloc);
     arguments(
         state,
-        setting,
+        context,
         rules,
         root,
         of.world,
@@ -102,7 +102,7 @@ fn instantiation<R: Rules>(
 #[cycle(expression)]
 fn arguments<R: Rules>(
     state: &mut State,
-    setting: &Setting<'_>,
+    context: &Context<'_>,
     rules: &R,
     root: &Root<'_>,
     world: WorldId,
@@ -110,20 +110,20 @@ fn arguments<R: Rules>(
     given: &mut IndexMap<String, NodeId>,
 ) -> Result<(), Error>
     requires agrees { Agrees state.old.graph root.now }
-    requires handed { HoldsHanded (packages_in setting.now) state.old.graph }
+    requires supplied { AllSupplied (packages_in context.now) state.old.graph }
     requires world { Names state.old.graph.types (ItemKind.Component world) }
     requires there { GivenThere state.old.graph (by_name given.old.entries) }
-    ensures ok { OnOk result (ArgumentsGo setting.now (rules_of R.Rules rules.now) state.old.graph state.new.graph
+    ensures ok { OnOk result (ArgumentSteps context.now (rules_of R.Rules rules.now) state.old.graph state.new.graph
         (by_name given.old.entries) (by_name given.new.entries) (numbers_of root.now.nodes) world
         (arguments_from (map argument_of arguments.now))) }
-    ensures err { ErrorSays result (λ e. ArgumentsBreak setting.now (rules_of R.Rules rules.now) state.old.graph
+    ensures err { ErrorSays result (λ e. ArgumentsBreak context.now (rules_of R.Rules rules.now) state.old.graph
         (by_name given.old.entries) (numbers_of root.now.nodes) world
         (arguments_from (map argument_of arguments.now)) e) }
 {
     let mut left = arguments.len();
     for one in arguments {
         left -= 1;
-        argument(state, setting, rules, root, world, one, left == 0, given)?;
+        argument(state, context, rules, root, world, one, left == 0, given)?;
     }
     Ok(())
 }
@@ -132,7 +132,7 @@ fn arguments<R: Rules>(
 #[cycle(expression)]
 fn argument<R: Rules>(
     state: &mut State,
-    setting: &Setting<'_>,
+    context: &Context<'_>,
     rules: &R,
     root: &Root<'_>,
     world: WorldId,
@@ -141,20 +141,20 @@ fn argument<R: Rules>(
     given: &mut IndexMap<String, NodeId>,
 ) -> Result<(), Error>
     requires agrees { Agrees state.old.graph root.now }
-    requires handed { HoldsHanded (packages_in setting.now) state.old.graph }
+    requires supplied { AllSupplied (packages_in context.now) state.old.graph }
     requires world { Names state.old.graph.types (ItemKind.Component world) }
     requires there { GivenThere state.old.graph (by_name given.old.entries) }
-    ensures ok { OnOk result (ArgumentGoes setting.now (rules_of R.Rules rules.now) state.old.graph state.new.graph
+    ensures ok { OnOk result (ArgumentStep context.now (rules_of R.Rules rules.now) state.old.graph state.new.graph
         (by_name given.old.entries) (by_name given.new.entries) (numbers_of root.now.nodes) world is_last
         (argument_of argument.now)) }
-    ensures err { ErrorSays result (λ e. ArgumentBreaks setting.now (rules_of R.Rules rules.now) state.old.graph
+    ensures err { ErrorSays result (λ e. ArgumentBreaks context.now (rules_of R.Rules rules.now) state.old.graph
         (by_name given.old.entries) (numbers_of root.now.nodes) world is_last (argument_of argument.now) e) }
 {
     match argument {
         InstantiationArgument::Inferred(id) => give_inferred(state, root, world, id, given),
         InstantiationArgument::Spread(_) => Ok(()),
         InstantiationArgument::Named(named) => {
-            let node = expression(state, setting, rules, root, &named.expr)?;
+            let node = expression(state, context, rules, root, &named.expr)?;
             give_named(state, world, &named.name, node, given)
         }
         InstantiationArgument::Fill(span) => check_last(is_last, *span),

@@ -15,18 +15,18 @@ ghost use Rattle.wac_resolution_nodes.specs.declared.root.Root.{Root};
 ghost use Rattle.wac_resolution_nodes.specs.Growth.{GrowsNodes};
 ghost use Rattle.wac_resolution_nodes.specs.Nodes.{composition_of, NodesStand};
 ghost use Rattle.wac_resolution_nodes.specs.Root.{Agrees};
-ghost use Rattle.wac_resolution_paths.specs.Expands.{Expands, HoldsHanded};
+ghost use Rattle.wac_resolution_paths.specs.Expands.{Expands, AllSupplied};
 ghost use Rattle.wac_resolution_expressions.specs.Spreads.{GivenThere, imports_at};
 ghost use Rattle.wac_resolution_expressions.specs.Growth.{Extends};
 
 /// A graph that gets nothing is extended, and so is one that gets types and packages, or nodes, and one that is extended twice.
 pub fn graphs_extend()
     ensures nothing { (packages : List (Key × PackageParts)) (g : Parts)
-        → NodesStand g → HoldsHanded packages g → Extends packages g g }
+        → NodesStand g → AllSupplied packages g → Extends packages g g }
     ensures expands { (packages : List (Key × PackageParts)) (old new : Parts) → Expands old new → NodesStand old
-        → HoldsHanded packages new → declared_count new ≡ declared_count old → Extends packages old new }
+        → AllSupplied packages new → declared_count new ≡ declared_count old → Extends packages old new }
     ensures nodes { (packages : List (Key × PackageParts)) (old new : Parts)
-        → GrowsNodes old new → HoldsHanded packages old → Extends packages old new }
+        → GrowsNodes old new → AllSupplied packages old → Extends packages old new }
     ensures twice { (packages : List (Key × PackageParts)) (a b c : Parts)
         → Extends packages a b → Extends packages b c → Extends packages a c }
 {}
@@ -42,7 +42,7 @@ pub fn extending_keeps()
         → (w : WorldId) → Names old.types (kinds.Component w) → (naming : Naming)
         → imports_at naming new w ≡ imports_at naming old w }
     ensures contents { (packages : List (Key × PackageParts)) (old new : Parts) → Extends packages old new
-        → HoldsHanded packages old → (i : ℕ) (p : HeldPackage) → slice_get old.packages i ≡ Some p → (naming : Naming)
+        → AllSupplied packages old → (i : ℕ) (p : HeldPackage) → slice_get old.packages i ≡ Some p → (naming : Naming)
         → contents_in naming new p ≡ contents_in naming old p }
     ensures composition { (old new : Parts) → Expands old new → NodesStand old → declared_count new ≡ declared_count old
         → (naming : Naming) (declared : Named ℕ)

@@ -9,8 +9,8 @@ ghost use Rattle.wac_resolution_rules.specs.BrokenExpressions.{IsUnknownPackage}
 ghost use Rattle.wac_resolution_rules.specs.Errors.{ErrorSays};
 ghost use Rattle.wac_resolution_rules.specs.Given.{Rules, key_named};
 ghost use Rattle.wac_resolution_nodes.specs.Nodes.{NodesStand};
-ghost use Rattle.wac_resolution_paths.specs.Expands.{HoldsHanded, Loads, IsNotHanded};
-ghost use Rattle.wac_resolution_paths.specs.Setting.{packages_in};
+ghost use Rattle.wac_resolution_paths.specs.Expands.{AllSupplied, Loads, IsNotSupplied};
+ghost use Rattle.wac_resolution_paths.specs.Context.{packages_in};
 ghost use Rattle.wac_resolution_expressions.specs.Growth.{given_in};
 ghost use Rattle.wac_resolution_expressions.specs.Loaded.{IsInstantiable};
 
@@ -18,7 +18,7 @@ use std::alloc::{AllocError, Global};
 use wac_ast_base::PackageName;
 use wac_graph::{PackageId, WorldId};
 use wac_resolution_errors::Error;
-use wac_resolution_paths::{Setting, package as load_package, package_key};
+use wac_resolution_paths::{Context, package as load_package, package_key};
 use wac_resolution_state::State;
 
 /// A package that the graph holds.
@@ -31,10 +31,10 @@ pub struct Loaded {
 }
 
 /// Whether a package is the document's own.
-fn is_own(setting: &Setting<'_>, package: &PackageName<'_>) -> bool
-    ensures { result ≡ bytes_eq «package».now.name.now setting.now.own.now }
+fn is_own(context: &Context<'_>, package: &PackageName<'_>) -> bool
+    ensures { result ≡ bytes_eq «package».now.name.now context.now.own.now }
 {
-    package.name == setting.own
+    package.name == context.own
 }
 
 /// What is reported of a package that was not supplied, or is the document's own.
@@ -52,37 +52,37 @@ fn unknown(alloc: Global, package: &PackageName<'_>) -> Result<Error, AllocError
 /// The package of a name.
 fn load(
     state: &mut State,
-    setting: &Setting<'_>,
+    context: &Context<'_>,
     package: &PackageName<'_>,
 ) -> Result<Option<PackageId>, AllocError>
-    requires { HoldsHanded (packages_in setting.now) state.old.graph }
+    requires { AllSupplied (packages_in context.now) state.old.graph }
     ensures { IfOk result (λ o. MatchOption o
-        (IsNotHanded (packages_in setting.now) (key_named (package_name_of «package».now)))
-        (λ id. Loads (packages_in setting.now) state.old.graph state.new.graph
+        (IsNotSupplied (packages_in context.now) (key_named (package_name_of «package».now)))
+        (λ id. Loads (packages_in context.now) state.old.graph state.new.graph
         (key_named (package_name_of «package».now)) id.0)) }
 {
     let key = package_key(state.alloc, package.name, package.string)?;
-    load_package(state, setting, &key)
+    load_package(state, context, &key)
 }
 
 /// The package that is instantiated under a name. It must be supplied, and not be the document's own.
 #[inline(never)]
 pub fn instantiable(
     state: &mut State,
-    setting: &Setting<'_>,
+    context: &Context<'_>,
     package: &PackageName<'_>,
 ) -> Result<Loaded, Error>
     requires stand { NodesStand state.old.graph }
-    requires handed { HoldsHanded (packages_in setting.now) state.old.graph }
-    ensures ok { IfOk result (λ p. IsInstantiable setting.now state.old.graph state.new.graph
+    requires supplied { AllSupplied (packages_in context.now) state.old.graph }
+    ensures ok { IfOk result (λ p. IsInstantiable context.now state.old.graph state.new.graph
         (package_name_of «package».now) p) }
     ensures err { ErrorSays result (λ e. (naming : Naming) (rules : Rules)
-        → IsUnknownPackage (given_in naming setting.now rules) (package_name_of «package».now) e) }
+        → IsUnknownPackage (given_in naming context.now rules) (package_name_of «package».now) e) }
 {
-    if is_own(setting, package) {
+    if is_own(context, package) {
         return Err(unknown(state.alloc, package)?);
     }
-    let loaded = load(state, setting, package)?;
+    let loaded = load(state, context, package)?;
     match loaded {
         Some(id) => {
             let held = state.graph.package(id);

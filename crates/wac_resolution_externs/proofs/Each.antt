@@ -35,7 +35,7 @@ use Rattle.wac_resolution_nodes.specs.Nodes.{composition_of}
 use Rattle.wac_resolution_nodes.specs.Root.{numbers_of, composed, places, Agrees, EachAgrees}
 use Rattle.wac_resolution_externs.specs.declared.externs.Externs.{Externs}
 use Rattle.wac_resolution_externs.specs.Externs.{imported_in, exported_in, places_in, ArePlaced, Under}
-use Rattle.wac_resolution_externs.specs.Exports.{GrowsExports, all_at, ExportsGo, Exported}
+use Rattle.wac_resolution_externs.specs.Exports.{GrowsExports, all_at, ExportSteps, Exported}
 use Rattle.wac_resolution_externs.specs.Spreads.{AreUnexported, EachExported, meaning_exported, exported_item}
 use Rattle.wac_resolution_externs.proofs.Exporting.{OneBroken, exported_all}
 use Rattle.wac_resolution_externs.proofs.Spreading.{open_items}
@@ -63,7 +63,7 @@ export_kept old new node name k g is = go (slice_get old.nodes node) refl is
 
 -- the exports of the first names were exported
 abbrev pub SoFar : Span → (List ℕ → Option Reason) → Parts → Parts → Root → Externs → Externs → ℕ → List (String Global) → ℕ → Type 0
-SoFar span named old mid root before after node ys i = ExportsGo span old mid root before after (take i (map string_bytes ys)) (λ naming c d. Under named (λ s. Steps (ExportsOne s node) c (take i (map (exported_item naming old node) ys)) d))
+SoFar span named old mid root before after node ys i = ExportSteps span old mid root before after (take i (map string_bytes ys)) (λ naming c d. Under named (λ s. Steps (ExportsOne s node) c (take i (map (exported_item naming old node) ys)) d))
 
 nil : {X : Type 0} (xs : List X) → xs ++ [] ≡ xs
 nil [] = refl
@@ -104,12 +104,12 @@ names_more ys i y text within is is_text =
 
 pub each_next : (span : Span) (named : List ℕ → Option Reason) (old mid new : Parts) (root : Root) (before x1 x2 : Externs) (node : ℕ) (ys : List (String Global)) (i : ℕ) (y : String Global) (text : List ℕ) → i < length ys → y ≡ get_or ys i y → text ≡ string_bytes y
     → EachExported old node (map string_bytes ys) → SoFar span named old mid root before x1 node ys i
-    → IfSome (export_kind mid node text) (λ k. ExportsGo span mid new root x1 x2 (text ∷ []) (λ naming c d. Under named (λ s. ExportsOne s node c (text, means naming mid k) d))) → SoFar span named old new root before x2 node ys (i + 1)
+    → IfSome (export_kind mid node text) (λ k. ExportSteps span mid new root x1 x2 (text ∷ []) (λ naming c d. Under named (λ s. ExportsOne s node c (text, means naming mid k) d))) → SoFar span named old new root before x2 node ys (i + 1)
 each_next span named old mid new root before x1 x2 node ys i y text within is is_text all p step =
     let there : IsSome (export_kind old node text) = subst (λ (t : List ℕ). IsSome (export_kind old node t)) (sym (is_text ∙ ap string_bytes is)) (each_at (λ name. IsSome (export_kind old node name)) ys i y within all) in
     let k = some_kind (export_kind old node text) there in
-    let e : ExportsGo span mid new root x1 x2 (text ∷ []) (λ naming c d. Under named (λ s. ExportsOne s node c (text, means naming mid k.0) d)) =
-    subst (λ (o : Option ItemKind). IfSome o (λ l. ExportsGo span mid new root x1 x2 (text ∷ []) (λ naming c d. Under named (λ s. ExportsOne s node c (text, means naming mid l) d)))) (export_kept old mid node text k.0 p.grows k.1) step in
+    let e : ExportSteps span mid new root x1 x2 (text ∷ []) (λ naming c d. Under named (λ s. ExportsOne s node c (text, means naming mid k.0) d)) =
+    subst (λ (o : Option ItemKind). IfSome o (λ l. ExportSteps span mid new root x1 x2 (text ∷ []) (λ naming c d. Under named (λ s. ExportsOne s node c (text, means naming mid l) d)))) (export_kept old mid node text k.0 p.grows k.1) step in
     let more : take i (map string_bytes ys) ++ text ∷ [] ≡ take (i + 1) (map string_bytes ys) = names_more ys i y text within is is_text in
     record {
       grows = exports_on old mid new p.grows e.grows;
@@ -158,7 +158,7 @@ each_breaks span named old mid root before x1 node ys i y text e within is is_te
 
 pub each_all : (span : Span) (named : List ℕ → Option Reason) (old new : Parts) (root : Root) (before after : Externs) (node : ℕ) (ys : List (String Global)) (i : ℕ) → take i (map string_bytes ys) ≡ map string_bytes ys
     → ((naming : Naming) → take i (map (exported_item naming old node) ys) ≡ map (exported_item naming old node) ys) → SoFar span named old new root before after node ys i
-    → ExportsGo span old new root before after (map string_bytes ys) (λ naming c d. Under named (λ s. Steps (ExportsOne s node) c (map (exported_item naming old node) ys) d))
+    → ExportSteps span old new root before after (map string_bytes ys) (λ naming c d. Under named (λ s. Steps (ExportsOne s node) c (map (exported_item naming old node) ys) d))
 each_all span named old new root before after node ys i names items p = record {
   grows = p.grows;
   exports = p.exports ∙ ap (λ (l : List (List ℕ)). names_of old.exports ++ l) names;
@@ -175,7 +175,7 @@ map_none f (x ∷ xs) h = absurd (cc h)
 
 pub spreads : (dots : Span) (named : List ℕ → Option Reason) (old new : Parts) (root : Root) (before after : Externs) (node : ℕ) (i : InterfaceId) (ys : List (String Global)) → ArePlaced old before → IsInstance old node i
     → AreUnexported old.exports (interface_exports old.types i.0) (map string_bytes ys) → (ys ≡ [] → ⊥)
-    → ExportsGo dots old new root before after (map string_bytes ys) (λ naming c d. Under named (λ s. Steps (ExportsOne s node) c (map (exported_item naming old node) ys) d))
+    → ExportSteps dots old new root before after (map string_bytes ys) (λ naming c d. Under named (λ s. Steps (ExportsOne s node) c (map (exported_item naming old node) ys) d))
     → Exported dots old new root before after (λ naming c d. Under named (λ s. ExportsBy s (at c node) (ExportOptions.spread dots) d))
 spreads dots named old new root before after node i ys placed h u some e =
     exported_all dots old new root before after (map string_bytes ys) (λ naming c d. Under named (λ s. Steps (ExportsOne s node) c (map (exported_item naming old node) ys) d))

@@ -18,13 +18,13 @@ use Rattle.wac_resolution_rules.specs.Find.{names_of}
 use Rattle.wac_resolution_rules.specs.Places.{names_at, more_at}
 use Rattle.wac_resolution_rules.specs.Statements.{ExportsAs, ExportsOne}
 use Rattle.wac_resolution_nodes.specs.declared.root.Root.{Root}
-use Rattle.wac_resolution_nodes.specs.Accesses.{AliasGoes}
+use Rattle.wac_resolution_nodes.specs.Accesses.{AliasStep}
 use Rattle.wac_resolution_nodes.specs.Growth.{GrowsNodes}
 use Rattle.wac_resolution_nodes.specs.Nodes.{Stands, NodesStand}
 use Rattle.wac_resolution_nodes.specs.Root.{numbers_of, composed, Agrees}
 use Rattle.wac_resolution_externs.specs.declared.externs.Externs.{Externs}
 use Rattle.wac_resolution_externs.specs.Externs.{imported_in, exported_in, places_in, ArePlaced, Under}
-use Rattle.wac_resolution_externs.specs.Exports.{GrowsExports, MayExport, Leading, all_at, ExportsGo, Exported}
+use Rattle.wac_resolution_externs.specs.Exports.{GrowsExports, MayExport, Leading, all_at, ExportSteps, Exported}
 
 each_stands : (old : Parts) (exports : Named ℕ) (ns : List GraphNode) → AllByRecursion (Stands old) ns → AllByRecursion (Stands (record old { exports = exports })) ns
 each_stands old exports [] h = tt
@@ -34,7 +34,7 @@ exports_grow : (old : Parts) (exports : Named ℕ) → NodesStand old → GrowsE
 exports_grow old exports h = record { same = refl; kinds = λ n k is. is; stand = each_stands old exports old.nodes h }
 
 pub exports_as : (span : Span) (named : List ℕ → Option Reason) (old new : Parts) (root : Root) (before after : Externs) (name : List ℕ) (node : ℕ) → Agrees old root → MayExport named old root name → new ≡ with_export old name node
-    → exported_in after ≡ with_named (exported_in before) name span → imported_in after ≡ imported_in before → ExportsGo span old new root before after (name ∷ []) (λ naming c d. Under named (λ s. ExportsAs s c name node d))
+    → exported_in after ≡ with_named (exported_in before) name span → imported_in after ≡ imported_in before → ExportSteps span old new root before after (name ∷ []) (λ naming c d. Under named (λ s. ExportsAs s c name node d))
 exports_as span named old new root before after name node agrees may is exported imported = record {
   grows = subst (GrowsExports old) (sym is) (exports_grow old (with_named old.exports name node) agrees.nodes);
   exports = ap (λ (g : Parts). names_of g.exports) is ∙ map_push (λ (e : List ℕ × ℕ). e.0) old.exports (name, node);
@@ -58,8 +58,8 @@ nodes_then_exports old mid new p q = record {
   stand = q.stand;
 }
 
-exports_one : (span : Span) (named : List ℕ → Option Reason) (old mid new : Parts) (root : Root) (before after : Externs) (name : List ℕ) (node n : ℕ) (k : ItemKind) → AliasGoes old mid node name k n
-    → ExportsGo span mid new root before after (name ∷ []) (λ naming c d. Under named (λ s. ExportsAs s c name n d)) → ExportsGo span old new root before after (name ∷ []) (λ naming c d. Under named (λ s. ExportsOne s node c (name, means naming old k) d))
+exports_one : (span : Span) (named : List ℕ → Option Reason) (old mid new : Parts) (root : Root) (before after : Externs) (name : List ℕ) (node n : ℕ) (k : ItemKind) → AliasStep old mid node name k n
+    → ExportSteps span mid new root before after (name ∷ []) (λ naming c d. Under named (λ s. ExportsAs s c name n d)) → ExportSteps span old new root before after (name ∷ []) (λ naming c d. Under named (λ s. ExportsOne s node c (name, means naming old k) d))
 exports_one span named old mid new root before after name node n k a e = record {
   grows = nodes_then_exports old mid new a.grows e.grows;
   exports = e.exports ∙ ap (λ (g : Parts). names_of g.exports ++ name ∷ []) a.grows.same;
@@ -68,8 +68,8 @@ exports_one span named old mid new root before after name node n k a e = record 
   goes = λ naming s same. subst (λ (x : At). ExportsAs s x.composition name x.node (composed naming new root)) (a.is naming (numbers_of root.nodes)) (e.goes naming s same);
 }
 
-pub exports_alias : (span : Span) (named : List ℕ → Option Reason) (old mid new : Parts) (root : Root) (before after : Externs) (name : List ℕ) (node n : ℕ) (o : Option ItemKind) → IfSome o (λ k. AliasGoes old mid node name k n)
-    → ExportsGo span mid new root before after (name ∷ []) (λ naming c d. Under named (λ s. ExportsAs s c name n d)) → IfSome o (λ k. ExportsGo span old new root before after (name ∷ []) (λ naming c d. Under named (λ s. ExportsOne s node c (name, means naming old k) d)))
+pub exports_alias : (span : Span) (named : List ℕ → Option Reason) (old mid new : Parts) (root : Root) (before after : Externs) (name : List ℕ) (node n : ℕ) (o : Option ItemKind) → IfSome o (λ k. AliasStep old mid node name k n)
+    → ExportSteps span mid new root before after (name ∷ []) (λ naming c d. Under named (λ s. ExportsAs s c name n d)) → IfSome o (λ k. ExportSteps span old new root before after (name ∷ []) (λ naming c d. Under named (λ s. ExportsOne s node c (name, means naming old k) d)))
 exports_alias span named old mid new root before after name node n None a e = tt
 exports_alias span named old mid new root before after name node n (Some k) a e = exports_one span named old mid new root before after name node n k a e
 
@@ -77,14 +77,14 @@ exports_alias span named old mid new root before after name node n (Some k) a e 
 abbrev pub OneBroken : (List ℕ → Option Reason) → Parts → Root → Externs → ℕ → List ℕ → Span → Option (List ℕ) → Error → ItemKind → Type 0
 OneBroken named g root before node name span help e k = (naming : Naming) → Under named (λ s. ExportAsBroken s (alias_at (at (composed naming g root) node) name (means naming g k)).composition (places_in root before) name span help e)
 
-pub alias_rejected : (named : List ℕ → Option Reason) (old mid : Parts) (root : Root) (before : Externs) (node n : ℕ) (name : List ℕ) (span : Span) (help : Option (List ℕ)) (e : Error) (o : Option ItemKind) → IfSome o (λ k. AliasGoes old mid node name k n)
+pub alias_rejected : (named : List ℕ → Option Reason) (old mid : Parts) (root : Root) (before : Externs) (node n : ℕ) (name : List ℕ) (span : Span) (help : Option (List ℕ)) (e : Error) (o : Option ItemKind) → IfSome o (λ k. AliasStep old mid node name k n)
     → ((naming : Naming) → Under named (λ s. ExportAsBroken s (composed naming mid root) (places_in root before) name span help e)) → IfSome o (OneBroken named old root before node name span help e)
 alias_rejected named old mid root before node n name span help e None a breaks = tt
 alias_rejected named old mid root before node n name span help e (Some k) a breaks =
     λ naming s same. subst (λ (x : At). ExportAsBroken s x.composition (places_in root before) name span help e) (a.is naming (numbers_of root.nodes)) (breaks naming s same)
 
 -- the node of an alias that was made exists
-pub alias_there : (old mid : Parts) (node n : ℕ) (name : List ℕ) (o : Option ItemKind) → IsSome o → IfSome o (λ k. AliasGoes old mid node name k n) → GrowsNodes old mid × (n < length mid.nodes)
+pub alias_there : (old mid : Parts) (node n : ℕ) (name : List ℕ) (o : Option ItemKind) → IsSome o → IfSome o (λ k. AliasStep old mid node name k n) → GrowsNodes old mid × (n < length mid.nodes)
 alias_there old mid node n name None there a = absurd (cc there)
 alias_there old mid node n name (Some k) there a = (a.grows, a.there)
 
@@ -113,7 +113,7 @@ more_names span (x ∷ old) [] names is = absurd (cc is)
 more_names span (x ∷ old) (y ∷ new) names is = more_names span old new names (cc is)
 
 -- each name has its place
-pub placed_more : (span : Span) (old new : Parts) (root : Root) (before after : Externs) (names : List (List ℕ)) (leads : Leading) → ArePlaced old before → ExportsGo span old new root before after names leads → ArePlaced new after
+pub placed_more : (span : Span) (old new : Parts) (root : Root) (before after : Externs) (names : List (List ℕ)) (leads : Leading) → ArePlaced old before → ExportSteps span old new root before after names leads → ArePlaced new after
 placed_more span old new root before after names leads h e = record {
   imported = ap (λ (l : Named Span). names_of l) e.imported ∙ h.imported ∙ sym (ap (λ (g : Parts). names_of g.imports) e.grows.same);
   exported =
@@ -122,7 +122,7 @@ placed_more span old new root before after names leads h e = record {
       ∙ ap (λ (l : List (List ℕ)). l ++ names) h.exported ∙ sym e.exports;
 }
 
-pub exported_all : (span : Span) (old new : Parts) (root : Root) (before after : Externs) (names : List (List ℕ)) (leads goes : Leading) → ArePlaced old before → ExportsGo span old new root before after names leads
+pub exported_all : (span : Span) (old new : Parts) (root : Root) (before after : Externs) (names : List (List ℕ)) (leads goes : Leading) → ArePlaced old before → ExportSteps span old new root before after names leads
     → ((naming : Naming) → leads naming (composed naming old root) (composed naming new root) → goes naming (composed naming old root) (composed naming new root)) → Exported span old new root before after goes
 exported_all span old new root before after names leads goes h e to = record {
   grows = e.grows;

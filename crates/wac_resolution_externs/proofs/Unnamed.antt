@@ -25,7 +25,7 @@ use Rattle.wac_resolution_nodes.specs.Nodes.{node_of, composition_of}
 use Rattle.wac_resolution_nodes.specs.Root.{numbers_of, composed}
 use Rattle.wac_resolution_externs.specs.declared.externs.Externs.{Externs}
 use Rattle.wac_resolution_externs.specs.Externs.{places_in, ArePlaced, Under}
-use Rattle.wac_resolution_externs.specs.Exports.{ExportsGo, Exported}
+use Rattle.wac_resolution_externs.specs.Exports.{ExportSteps, Exported}
 use Rattle.wac_resolution_externs.proofs.Exporting.{exported_all}
 
 -- ---- without `as`
@@ -56,7 +56,7 @@ named_node None name h = absurd (cc h)
 named_node (Some n) name h = (n, refl, h)
 
 pub exports_unnamed : (span : Span) (named : List ℕ → Option Reason) (old new : Parts) (root : Root) (before after : Externs) (name : List ℕ) (node : ℕ) → ArePlaced old before → IsOwnName old node (Some name)
-    → ExportsGo span old new root before after (name ∷ []) (λ naming c d. Under named (λ s. ExportsAs s c name node d)) → Exported span old new root before after (λ naming c d. Under named (λ s. ExportsBy s (at c node) ExportOptions.none d))
+    → ExportSteps span old new root before after (name ∷ []) (λ naming c d. Under named (λ s. ExportsAs s c name node d)) → Exported span old new root before after (λ naming c d. Under named (λ s. ExportsBy s (at c node) ExportOptions.none d))
 exports_unnamed span named old new root before after name node placed is e =
     exported_all span old new root before after (name ∷ []) (λ naming c d. Under named (λ s. ExportsAs s c name node d)) (λ naming c d. Under named (λ s. ExportsBy s (at c node) ExportOptions.none d)) placed e
     (λ naming goes s same. let n = named_node (node_at (composed naming old root) node) name (is naming (numbers_of root.nodes)) in (n.0, name, n.1, n.2, goes s same))
@@ -75,7 +75,7 @@ own_name_broken named g root before node name span e is h naming x same s rules 
 -- ---- with `as`
 
 pub exports_renamed : (named : List ℕ → Option Reason) (old new : Parts) (root : Root) (before after : Externs) (node : ℕ) (x : ExternName) (text : List ℕ) (span : Span) → text ≡ extern_name_text x → span ≡ extern_name_span x → ArePlaced old before
-    → ExportsGo span old new root before after (text ∷ []) (λ naming c d. Under named (λ s. ExportsAs s c text node d))
+    → ExportSteps span old new root before after (text ∷ []) (λ naming c d. Under named (λ s. ExportsAs s c text node d))
     → Exported (extern_name_span x) old new root before after (λ naming c d. Under named (λ s. ExportsBy s (at c node) (ExportOptions.rename x) d))
 exports_renamed named old new root before after node x text span is_text is_span placed e =
     subst (λ (p : Span). Exported p old new root before after (λ naming c d. Under named (λ s. ExportsBy s (at c node) (ExportOptions.rename x) d))) is_span

@@ -37,7 +37,7 @@ abbrev pub all_at : Span → List (List ℕ) → Named Span
 all_at span names = map (λ name. (name, span)) names
 
 -- these names were exported, each at this place
-pub record ExportsGo (span : Span) (old new : Parts) (root : Root) (before after : Externs) (names : List (List ℕ))
+pub record ExportSteps (span : Span) (old new : Parts) (root : Root) (before after : Externs) (names : List (List ℕ))
     (leads : Leading) : Type 0 where
   pub grows : GrowsExports old new
   pub exports : names_of new.exports ≡ names_of old.exports ++ names

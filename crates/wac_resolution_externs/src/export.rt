@@ -9,7 +9,7 @@ ghost use Rattle.wac_resolution_rules.specs.Expressions.{at, alias_at};
 ghost use Rattle.wac_resolution_rules.specs.Statements.{ExportsAs, ExportsOne};
 ghost use Rattle.wac_resolution_nodes.specs.Root.{composed, Agrees};
 ghost use Rattle.wac_resolution_externs.specs.Externs.{help_of, places_in, ArePlaced, Under};
-ghost use Rattle.wac_resolution_externs.specs.Exports.{ExportsGo};
+ghost use Rattle.wac_resolution_externs.specs.Exports.{ExportSteps};
 
 use crate::check::check_export;
 use crate::externs::Externs;
@@ -31,7 +31,7 @@ pub fn export_as<R: Rules>(
     requires agrees { Agrees state.old.graph root.now }
     requires placed { ArePlaced state.old.graph externs.old }
     requires there { node.0 < length state.old.graph.nodes }
-    ensures ok { OnOk result (ExportsGo name.now.span state.old.graph state.new.graph root.now externs.old externs.new
+    ensures ok { OnOk result (ExportSteps name.now.span state.old.graph state.new.graph root.now externs.old externs.new
         (name.now.text.now ∷ [])
         (λ naming c d. Under (R.named rules.now) (λ s. ExportsAs s c name.now.text.now node.0 d))) }
     ensures err { ErrorSays result (λ e. (naming : Naming)
@@ -58,7 +58,7 @@ pub fn export_alias<R: Rules>(
     requires placed { ArePlaced state.old.graph externs.old }
     requires exported { IsSome (export_kind state.old.graph node.0 name.now.text.now) }
     ensures ok { OnOk result (IfSome (export_kind state.old.graph node.0 name.now.text.now)
-        (λ k. ExportsGo name.now.span state.old.graph state.new.graph root.now externs.old externs.new
+        (λ k. ExportSteps name.now.span state.old.graph state.new.graph root.now externs.old externs.new
         (name.now.text.now ∷ [])
         (λ naming c d. Under (R.named rules.now)
         (λ s. ExportsOne s node.0 c (name.now.text.now, means naming state.old.graph k) d)))) }

@@ -12,7 +12,7 @@ ghost use Rattle.wac_resolution_rules.specs.Spans.{expr_span};
 ghost use Rattle.wac_resolution_rules.specs.Statements.{ExportsBy, ExportsOne};
 ghost use Rattle.wac_resolution_nodes.specs.Root.{composed, Agrees};
 ghost use Rattle.wac_resolution_externs.specs.Externs.{places_in, ArePlaced, Under};
-ghost use Rattle.wac_resolution_externs.specs.Exports.{ExportsGo, Exported};
+ghost use Rattle.wac_resolution_externs.specs.Exports.{ExportSteps, Exported};
 ghost use Rattle.wac_resolution_externs.specs.Spreads.{AreUnexported, EachExported, exported_item};
 
 use crate::export::export_alias;
@@ -70,7 +70,7 @@ fn export_each<R: Rules>(
     requires agrees { Agrees state.old.graph root.now }
     requires placed { ArePlaced state.old.graph externs.old }
     requires exported { EachExported state.old.graph node.0 (map string_bytes names.now) }
-    ensures ok { OnOk result (ExportsGo span state.old.graph state.new.graph root.now externs.old externs.new
+    ensures ok { OnOk result (ExportSteps span state.old.graph state.new.graph root.now externs.old externs.new
         (map string_bytes names.now)
         (λ naming c d. Under (R.named rules.now)
         (λ s. Steps (ExportsOne s node.0) c (map (exported_item naming state.old.graph node.0) names.now) d))) }

@@ -24,11 +24,11 @@ pub record AreFirst (all these : List Mention) : Type 0 where
 pub record OnlyTheseMatter (document : Document) (these : List Mention) : Type 0 where
   -- whatever packages are passed, the document describes with these alone what it describes with all of them
   pub describes : (s : Given) (packages : Packages) (c : Composition)
-      → s.setting.own ≡ document.directive.package_name.name
+      → s.context.own ≡ document.directive.package_name.name
       → Describes (given_over s (kept these packages)) document c ↔ Describes (given_over s packages) document c
   -- and with these alone the same fails in it first
-  pub fails : (s : Given) (packages : Packages) (e : Error) → s.setting.own ≡ document.directive.package_name.name
+  pub fails : (s : Given) (packages : Packages) (e : Error) → s.context.own ≡ document.directive.package_name.name
       → FirstFailing (given_over s (kept these packages)) document e ↔ FirstFailing (given_over s packages) document e
   -- each package of which a described composition has an instance is one of these
-  pub instances : (s : Given) (c : Composition) → s.setting.own ≡ document.directive.package_name.name
+  pub instances : (s : Given) (c : Composition) → s.context.own ≡ document.directive.package_name.name
       → Describes s document c → KeysHold (IsMentioned these) c.nodes

@@ -25,7 +25,7 @@ use Rattle.wac_resolution_rules.specs.Nodes.{is_alias_of, alias_in, alias_number
 use Rattle.wac_resolution_state.specs.Growth.{Grows}
 use Rattle.wac_resolution_nodes.specs.Nodes.{instance_form, form_in, node_of, composition_of, kind_in, Stands, NodesStand}
 use Rattle.wac_resolution_nodes.specs.Growth.{GrowsNodes, IsNamed}
-use Rattle.wac_resolution_nodes.specs.Accesses.{AliasGoes}
+use Rattle.wac_resolution_nodes.specs.Accesses.{AliasStep}
 
 -- ---- nodes of a sound graph
 
@@ -333,7 +333,7 @@ alias_within old new node name k n (Some m) at exported h number stand =
     (subst (λ (g : Parts). GrowsNodes old g) (sym h) (grows_none old (subst NodesStand h stand)), omega (arith, number, same, (position-Some (λ (x : GraphNode). is_alias_in node name x.form) old.nodes m (plain_node (alias node name) k) at).0))
 
 pub alias_goes : (old new : Parts) (node : ℕ) (name : List ℕ) (k : ItemKind) (n : ℕ) → export_kind old node name ≡ Some k → IsAliased old new node name → unwrap_or (alias_in_nodes old.nodes node name) (length old.nodes) ≡ n → NodesStand new
-    → AliasGoes old new node name k n
+    → AliasStep old new node name k n
 alias_goes old new node name k n exported h number stand =
     let both = alias_within old new node name k n (alias_in_nodes old.nodes node name) refl exported h number stand in
     record {
@@ -345,9 +345,9 @@ alias_goes old new node name k n exported h number stand =
     }
 
 -- the same for an export that exists
-pub alias_made : (old new : Parts) (node : ℕ) (name : List ℕ) (n : ℕ) → IsAliased old new node name → unwrap_or (alias_in_nodes old.nodes node name) (length old.nodes) ≡ n → IsSound new → IfSome (export_kind old node name) (λ k. AliasGoes old new node name k n)
+pub alias_made : (old new : Parts) (node : ℕ) (name : List ℕ) (n : ℕ) → IsAliased old new node name → unwrap_or (alias_in_nodes old.nodes node name) (length old.nodes) ≡ n → IsSound new → IfSome (export_kind old node name) (λ k. AliasStep old new node name k n)
 alias_made old new node name n h number sound = go (export_kind old node name) refl
   where
-    go : (o : Option ItemKind) → export_kind old node name ≡ o → IfSome o (λ k. AliasGoes old new node name k n)
+    go : (o : Option ItemKind) → export_kind old node name ≡ o → IfSome o (λ k. AliasStep old new node name k n)
     go None is = tt
     go (Some k) is = alias_goes old new node name k n is h number (sound_stands new sound)

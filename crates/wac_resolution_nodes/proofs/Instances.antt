@@ -30,7 +30,7 @@ use Rattle.wac_resolution_rules.specs.Composition.{kind_at}
 use Rattle.wac_resolution_rules.specs.Expressions.{at, accessed, alias_at, Accesses}
 use Rattle.wac_resolution_rules.specs.Kinds.{instance_of}
 use Rattle.wac_resolution_rules.proofs.StepLaws.{steps_on_map, fails_at_map}
-use Rattle.wac_resolution_nodes.specs.Accesses.{AliasGoes, AccessGoes, AccessesGo}
+use Rattle.wac_resolution_nodes.specs.Accesses.{AliasStep, AccessStep, AccessSteps}
 use Rattle.wac_resolution_nodes.specs.Instances.{IsInstance}
 use Rattle.wac_resolution_nodes.specs.Nodes.{composition_of, kind_in, NodesStand}
 use Rattle.wac_resolution_nodes.proofs.Composed.{grows_none, grows_on}
@@ -98,10 +98,10 @@ not_exported g node i p name h is none naming declared =
     )
 
 pub access_goes : (old new : Parts) (node : ℕ) (i : InterfaceId) (p : PostfixExpr) (name : List ℕ) (n : ℕ) → IsInstance old node i → Means old i p name → IsSome (export_kind old node name)
-    → IfSome (export_kind old node name) (λ k. AliasGoes old new node name k n) → AccessGoes old new node p n
+    → IfSome (export_kind old node name) (λ k. AliasStep old new node name k n) → AccessStep old new node p n
 access_goes old new node i p name n h is there goes = go (export_kind old node name) refl there goes
   where
-    go : (o : Option ItemKind) → export_kind old node name ≡ o → IsSome o → IfSome o (λ k. AliasGoes old new node name k n) → AccessGoes old new node p n
+    go : (o : Option ItemKind) → export_kind old node name ≡ o → IsSome o → IfSome o (λ k. AliasStep old new node name k n) → AccessStep old new node p n
     go None at there a = absurd (cc)
     go (Some k) exported there a = record {
       grows = a.grows;
@@ -119,7 +119,7 @@ access_goes old new node i p name n h is there goes = go (export_kind old node n
 -- ---- accesses in order
 
 abbrev pub SoFar : Parts → Parts → ℕ → Span → List PostfixExpr → ℕ → Span → Type 0
-SoFar old new node span ps n last = AccessesGo old new node ps n × (last ≡ last_span span ps)
+SoFar old new node span ps n last = AccessSteps old new node ps n × (last ≡ last_span span ps)
 
 pub no_access : (g : Parts) (node : ℕ) (span : Span) → NodesStand g → node < length g.nodes → SoFar g g node span [] node span
 no_access g node span h there = (record { grows = grows_none g h; there = there; go = λ naming declared. refl }, refl)
@@ -129,7 +129,7 @@ last_of_more span [] p = refl
 last_of_more span (q ∷ ps) p = last_of_more (postfix_span q) ps p
 
 pub access_next : (old mid new : Parts) (node m n : ℕ) (span before last : Span) (ys : List CodePostfixExpr) (i : ℕ) (y : CodePostfixExpr) → i < length ys → y ≡ get_or ys i y
-    → SoFar old mid node span (take i (map postfix_expr_of ys)) m before → AccessGoes mid new m (postfix_expr_of y) n → last ≡ postfix_span (postfix_expr_of y) → SoFar old new node span (take (i + 1) (map postfix_expr_of ys)) n last
+    → SoFar old mid node span (take i (map postfix_expr_of ys)) m before → AccessStep mid new m (postfix_expr_of y) n → last ≡ postfix_span (postfix_expr_of y) → SoFar old new node span (take (i + 1) (map postfix_expr_of ys)) n last
 access_next old mid new node m n span before last ys i y within is p q at_last = (
   record {
     grows = grows_on old mid new p.0.grows q.grows;

@@ -12,7 +12,7 @@ use Rattle.wac_resolution_nodes.specs.Nodes.{composition_of}
 use Rattle.wac_resolution_nodes.specs.Growth.{GrowsNodes}
 
 -- the node of the new graph is the alias of that export, of this kind, of the old one's node
-pub record AliasGoes (old new : Parts) (node : ℕ) (name : List ℕ) (k : ItemKind) (n : ℕ) : Type 0 where
+pub record AliasStep (old new : Parts) (node : ℕ) (name : List ℕ) (k : ItemKind) (n : ℕ) : Type 0 where
   pub grows : GrowsNodes old new
   pub there : n < length new.nodes
   pub is : (naming : Naming) (declared : Named ℕ)
@@ -20,14 +20,14 @@ pub record AliasGoes (old new : Parts) (node : ℕ) (name : List ℕ) (k : ItemK
       (means naming old k)
 
 -- applied to the old graph's node, the access denotes the new one's
-pub record AccessGoes (old new : Parts) (node : ℕ) (p : PostfixExpr) (n : ℕ) : Type 0 where
+pub record AccessStep (old new : Parts) (node : ℕ) (p : PostfixExpr) (n : ℕ) : Type 0 where
   pub grows : GrowsNodes old new
   pub there : n < length new.nodes
   pub goes : (naming : Naming) (declared : Named ℕ)
       → Accesses (at (composition_of naming old declared) node) p (at (composition_of naming new declared) n)
 
 -- accesses, in order
-pub record AccessesGo (old new : Parts) (node : ℕ) (ps : List PostfixExpr) (n : ℕ) : Type 0 where
+pub record AccessSteps (old new : Parts) (node : ℕ) (ps : List PostfixExpr) (n : ℕ) : Type 0 where
   pub grows : GrowsNodes old new
   pub there : n < length new.nodes
   pub go : (naming : Naming) (declared : Named ℕ)

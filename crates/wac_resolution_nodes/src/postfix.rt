@@ -14,7 +14,7 @@ ghost use Rattle.wac_resolution_rules.specs.Expressions.{at, accessed as accesse
 ghost use Rattle.wac_resolution_rules.specs.BrokenExpressions.{IsNotInstance, IsNotExported, AccessBroken};
 ghost use Rattle.wac_resolution_rules.specs.Errors.{ErrorSays};
 ghost use Rattle.wac_resolution_nodes.specs.Nodes.{composition_of, NodesStand};
-ghost use Rattle.wac_resolution_nodes.specs.Accesses.{AliasGoes, AccessGoes, AccessesGo};
+ghost use Rattle.wac_resolution_nodes.specs.Accesses.{AliasStep, AccessStep, AccessSteps};
 
 use crate::find::find_name;
 use crate::node::instance;
@@ -30,7 +30,7 @@ use wac_resolution_state::State;
 pub fn alias(state: &mut State, node: NodeId, export: &str) -> Result<NodeId, AllocError>
     requires { IsSome (export_kind state.old.graph node.0 export.now) }
     ensures { IfOk result (λ n. IfSome (export_kind state.old.graph node.0 export.now)
-        (λ k. AliasGoes state.old.graph state.new.graph node.0 export.now k n.0)) }
+        (λ k. AliasStep state.old.graph state.new.graph node.0 export.now k n.0)) }
 {
     let alias = state.graph.add_alias(node, export)?;
     // Its contract says that the graph is sound.
@@ -79,7 +79,7 @@ pub fn access(
     access: &PostfixExpr<'_>,
 ) -> Result<NodeId, Error>
     requires { node.0 < length state.old.graph.nodes }
-    ensures ok { IfOk result (λ n. AccessGoes state.old.graph state.new.graph node.0 (postfix_expr_of access.now) n.0) }
+    ensures ok { IfOk result (λ n. AccessStep state.old.graph state.new.graph node.0 (postfix_expr_of access.now) n.0) }
     ensures err { ErrorSays result (λ e. (naming : Naming) (declared : Named ℕ)
         → IsNotInstance (composition_of naming state.old.graph declared) node.0 Operation.access span e
         ⊎ IsNotExported (at (composition_of naming state.old.graph declared) node.0) (postfix_expr_of access.now) e) }
@@ -105,7 +105,7 @@ pub fn accesses(
 ) -> Result<NodeId, Error>
     requires agrees { NodesStand state.old.graph }
     requires there { node.0 < length state.old.graph.nodes }
-    ensures ok { IfOk result (λ n. AccessesGo state.old.graph state.new.graph node.0
+    ensures ok { IfOk result (λ n. AccessSteps state.old.graph state.new.graph node.0
         (map postfix_expr_of accesses.now) n.0) }
     ensures err { ErrorSays result (λ e. (naming : Naming) (declared : Named ℕ)
         → Fails Accesses (AccessBroken span e) (at (composition_of naming state.old.graph declared) node.0)

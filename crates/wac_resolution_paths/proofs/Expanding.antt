@@ -23,7 +23,7 @@ use Rattle.wac_graph.specs.Packages.{Contents, contents_in}
 use Rattle.wac_graph.proofs.Lists.{all_implies}
 use Rattle.wac_resolution_state.specs.Growth.{Grows}
 use Rattle.wac_resolution_state.specs.Named.{scope_of}
-use Rattle.wac_resolution_paths.specs.Expands.{Expands, IsHandedAs, HoldsHanded}
+use Rattle.wac_resolution_paths.specs.Expands.{Expands, IsSuppliedAs, AllSupplied}
 
 pub expands_self : (g : Parts) → Expands g g
 expands_self g = record { same = refl; held = λ i p h. h; named = λ k h. h; kinds = λ naming k h. refl }
@@ -120,16 +120,16 @@ held_expanded old new p e h = record {
   of_definitions = items_expanded old new p.definitions e h.of_definitions;
 }
 
-pub handed_expanded : (packages : List (Key × PackageParts)) (old new : Parts) → Expands old new → (p : HeldPackage) → IsHandedAs packages old p → IsHandedAs packages new p
+pub handed_expanded : (packages : List (Key × PackageParts)) (old new : Parts) → Expands old new → (p : HeldPackage) → IsSuppliedAs packages old p → IsSuppliedAs packages new p
 handed_expanded packages old new e p h = record {
   there = held_expanded old new p e h.there;
   contents = λ naming. h.contents naming ∙ ap Some (sym (contents_expanded old new p naming e h.there));
 }
 
 -- where no package is added, each that is held is still held as it was supplied
-pub handed_kept : (packages : List (Key × PackageParts)) (old new : Parts) → Expands old new → new.packages ≡ old.packages → HoldsHanded packages old → HoldsHanded packages new
+pub handed_kept : (packages : List (Key × PackageParts)) (old new : Parts) → Expands old new → new.packages ≡ old.packages → AllSupplied packages old → AllSupplied packages new
 handed_kept packages old new e same h =
-    subst (AllByRecursion (IsHandedAs packages new)) (sym same) (all_implies (IsHandedAs packages old) (IsHandedAs packages new) (handed_expanded packages old new e) old.packages h)
+    subst (AllByRecursion (IsSuppliedAs packages new)) (sym same) (all_implies (IsSuppliedAs packages old) (IsSuppliedAs packages new) (handed_expanded packages old new e) old.packages h)
 
-pub handed_grown : (packages : List (Key × PackageParts)) (old new : Parts) → Grows old new → HoldsHanded packages old → HoldsHanded packages new
+pub handed_grown : (packages : List (Key × PackageParts)) (old new : Parts) → Grows old new → AllSupplied packages old → AllSupplied packages new
 handed_grown packages old new g h = handed_kept packages old new (grows_expands old new g) (grows_packages old new g) h

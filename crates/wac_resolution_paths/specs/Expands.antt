@@ -20,19 +20,19 @@ pub record Expands (old new : Parts) : Type 0 where
   pub kinds : (naming : Naming) (k : ItemKind) → Names old.types k → means naming new k ≡ means naming old k
 
 -- the graph holds the package with the contents with which it was supplied
-pub record IsHandedAs (packages : List (Key × PackageParts)) (g : Parts) (p : HeldPackage) : Type 0 where
+pub record IsSuppliedAs (packages : List (Key × PackageParts)) (g : Parts) (p : HeldPackage) : Type 0 where
   pub there : IsHeld g.types p
   pub contents : (naming : Naming) → package_of p.key (handed naming packages) ≡ Some (contents_in naming g p)
 
 -- each package that the graph holds was supplied, with the contents that it has there
-abbrev pub HoldsHanded : List (Key × PackageParts) → Parts → Type 0
-HoldsHanded packages g = AllByRecursion (IsHandedAs packages g) g.packages
+abbrev pub AllSupplied : List (Key × PackageParts) → Parts → Type 0
+AllSupplied packages g = AllByRecursion (IsSuppliedAs packages g) g.packages
 
 -- a kind was found for which this holds; no resource was declared
 pub record Found (packages : List (Key × PackageParts)) (old new : Parts) (holds : Naming → Meaning → Type 0)
     (k : ItemKind) : Type 0 where
   pub grows : Expands old new
-  pub handed : HoldsHanded packages new
+  pub supplied : AllSupplied packages new
   pub count : declared_count new ≡ declared_count old
   pub named : Names new.types k
   pub is : (naming : Naming) → holds naming (means naming new k)
@@ -40,11 +40,11 @@ pub record Found (packages : List (Key × PackageParts)) (old new : Parts) (hold
 -- the package of a key is in the new graph, under this number; no resource was declared
 pub record Loads (packages : List (Key × PackageParts)) (old new : Parts) (key : Key) (id : ℕ) : Type 0 where
   pub grows : Expands old new
-  pub handed : HoldsHanded packages new
+  pub supplied : AllSupplied packages new
   pub count : declared_count new ≡ declared_count old
   pub there : id < length new.packages
   pub keyed : option_map (λ p. p.key) (slice_get new.packages id) ≡ Some key
 
 -- no package of the key was supplied
-pub record IsNotHanded (packages : List (Key × PackageParts)) (key : Key) : Type 0 where
+pub record IsNotSupplied (packages : List (Key × PackageParts)) (key : Key) : Type 0 where
   pub is : (naming : Naming) → package_of key (handed naming packages) ≡ None

@@ -1,3 +1,3 @@
 pub mod Expands
-pub mod Setting
+pub mod Context
 pub mod Segments

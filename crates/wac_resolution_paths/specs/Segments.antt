@@ -12,7 +12,7 @@ use Rattle.wac_graph.specs.Means.{means}
 use Rattle.wac_graph.specs.Origin.{Naming}
 use Rattle.wac_ast_grammar.specs.Tree.{PackagePath}
 use Rattle.wac_resolution_rules.specs.BrokenBodies.{last_of}
-use Rattle.wac_resolution_rules.specs.Paths.{Setting, key_of_path, segments_of, beginning_of, IsMember, LeadsFrom}
+use Rattle.wac_resolution_rules.specs.Paths.{Context, key_of_path, segments_of, beginning_of, IsMember, LeadsFrom}
 use Rattle.wac_resolution_state.specs.Named.{scope_of}
 use Rattle.wac_resolution_paths.specs.declared.members.Missing.{Missing}
 
@@ -25,8 +25,8 @@ abbrev pub texts : Spans → List (List ℕ)
 texts all = map (λ s. s.0) all
 
 -- a path that begins in the document's own package, or in a supplied one, resolves to a kind
-abbrev pub LeadsAs : Bool → Setting → Scope → PackagePath → Meaning → Type 0
-LeadsAs own setting root p m = (from : Scope) × (beginning_of own root setting.packages (key_of_path p) ≡ Some from)
+abbrev pub LeadsAs : Bool → Context → Scope → PackagePath → Meaning → Type 0
+LeadsAs own context root p m = (from : Scope) × (beginning_of own root context.packages (key_of_path p) ≡ Some from)
     × LeadsFrom from (segments_of p) m
 
 -- among these named kinds the segments of a path resolve to a kind

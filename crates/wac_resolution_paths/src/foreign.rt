@@ -17,14 +17,14 @@ ghost use Rattle.wac_resolution_rules.specs.BrokenBodies.{ForeignPathBroken, pat
 ghost use Rattle.wac_resolution_rules.specs.Errors.{ErrorSays};
 ghost use Rattle.wac_resolution_rules.specs.Paths.{key_of_path, segments_of};
 ghost use Rattle.wac_resolution_state.specs.Named.{scope_of};
-ghost use Rattle.wac_resolution_paths.specs.Expands.{HoldsHanded, Found, Loads, IsNotHanded};
+ghost use Rattle.wac_resolution_paths.specs.Expands.{AllSupplied, Found, Loads, IsNotSupplied};
 ghost use Rattle.wac_resolution_paths.specs.Segments.{texts, SegmentsLead, LeadsAs};
-ghost use Rattle.wac_resolution_paths.specs.Setting.{packages_in, setting_of};
+ghost use Rattle.wac_resolution_paths.specs.Context.{packages_in, context_of};
 
+use crate::context::Context;
 use crate::key::package_key;
 use crate::members::{Missing, members};
 use crate::packages::package;
-use crate::setting::Setting;
 use indexmap::IndexMap;
 use std::alloc::{AllocError, Global};
 use wac_ast_base::{PackagePath, SegmentSpans};
@@ -176,32 +176,32 @@ fn defined_path(
 /// The package of a path.
 fn load(
     state: &mut State,
-    setting: &Setting<'_>,
+    context: &Context<'_>,
     path: &PackagePath<'_>,
 ) -> Result<Option<PackageId>, AllocError>
-    requires { HoldsHanded (packages_in setting.now) state.old.graph }
+    requires { AllSupplied (packages_in context.now) state.old.graph }
     ensures { IfOk result (λ o. MatchOption o
-        (IsNotHanded (packages_in setting.now) (key_of_path (package_path_of path.now)))
-        (λ id. Loads (packages_in setting.now) state.old.graph state.new.graph
+        (IsNotSupplied (packages_in context.now) (key_of_path (package_path_of path.now)))
+        (λ id. Loads (packages_in context.now) state.old.graph state.new.graph
         (key_of_path (package_path_of path.now)) id.0)) }
 {
     let key = package_key(state.alloc, path.name, path.string)?;
-    package(state, setting, &key)
+    package(state, context, &key)
 }
 
 /// What a path resolves to in a supplied package.
 pub fn foreign_path(
     state: &mut State,
-    setting: &Setting<'_>,
+    context: &Context<'_>,
     path: &PackagePath<'_>,
 ) -> Result<ItemKind, Error>
-    requires { HoldsHanded (packages_in setting.now) state.old.graph }
-    ensures ok { IfOk result (λ k. Found (packages_in setting.now) state.old.graph state.new.graph
-        (λ naming m. LeadsAs false (setting_of naming setting.now) [] (package_path_of path.now) m) k) }
+    requires { AllSupplied (packages_in context.now) state.old.graph }
+    ensures ok { IfOk result (λ k. Found (packages_in context.now) state.old.graph state.new.graph
+        (λ naming m. LeadsAs false (context_of naming context.now) [] (package_path_of path.now) m) k) }
     ensures err { ErrorSays result (λ e. (naming : Naming)
-        → path_broken false (setting_of naming setting.now) [] (package_path_of path.now) e) }
+        → path_broken false (context_of naming context.now) [] (package_path_of path.now) e) }
 {
-    let loaded = load(state, setting, path)?;
+    let loaded = load(state, context, path)?;
     match loaded {
         Some(id) => {
             let held = state.graph.package(id);

@@ -9,7 +9,7 @@ ghost use Rattle.wac_graph.specs.Origin.{Naming};
 ghost use Rattle.wac_graph.specs.Package.{Key};
 ghost use Rattle.wac_resolution_state.specs.Growth.{Grows};
 ghost use Rattle.wac_resolution_state.specs.Named.{scope_of};
-ghost use Rattle.wac_resolution_paths.specs.Expands.{Expands, HoldsHanded};
+ghost use Rattle.wac_resolution_paths.specs.Expands.{Expands, AllSupplied};
 
 /// A graph that gets nothing expands, and what expands twice expands.
 pub fn expanding_goes_on()
@@ -20,10 +20,10 @@ pub fn expanding_goes_on()
 /// A graph that gets more types alone expands, and still holds packages as they were supplied.
 pub fn growing_expands()
     ensures expands { (old new : Parts) → Grows old new → Expands old new }
-    ensures handed { (packages : List (Key × PackageParts)) (old new : Parts)
-        → Grows old new → HoldsHanded packages old → HoldsHanded packages new }
+    ensures supplied { (packages : List (Key × PackageParts)) (old new : Parts)
+        → Grows old new → AllSupplied packages old → AllSupplied packages new }
     ensures kept { (packages : List (Key × PackageParts)) (old new : Parts)
-        → Expands old new → new.packages ≡ old.packages → HoldsHanded packages old → HoldsHanded packages new }
+        → Expands old new → new.packages ≡ old.packages → AllSupplied packages old → AllSupplied packages new }
 {}
 
 /// Named kinds still name types, and mean what they meant.

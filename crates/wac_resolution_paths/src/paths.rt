@@ -11,12 +11,12 @@ ghost use Rattle.wac_resolution_rules.specs.Errors.{ErrorSays};
 ghost use Rattle.wac_resolution_rules.specs.Paths.{LeadsTo, UseNames, WorldNames};
 ghost use Rattle.wac_resolution_state.specs.Bindings.{values_of};
 ghost use Rattle.wac_resolution_state.specs.Named.{scope_of};
-ghost use Rattle.wac_resolution_paths.specs.Expands.{HoldsHanded, Found};
-ghost use Rattle.wac_resolution_paths.specs.Setting.{packages_in, setting_of};
+ghost use Rattle.wac_resolution_paths.specs.Expands.{AllSupplied, Found};
+ghost use Rattle.wac_resolution_paths.specs.Context.{packages_in, context_of};
 
+use crate::context::Context;
 use crate::foreign::foreign_path;
 use crate::own::own_path;
-use crate::setting::Setting;
 use wac_ast_base::PackagePath;
 use wac_ast_uses::{UsePath, WorldRef};
 use wac_graph::ItemKind;
@@ -24,52 +24,52 @@ use wac_resolution_errors::Error;
 use wac_resolution_state::{Names, State, kind_of};
 
 /// Whether a path is of the document's own package.
-fn is_own(setting: &Setting<'_>, path: &PackagePath<'_>) -> bool
-    ensures { result ≡ bytes_eq path.now.name.now setting.now.own.now }
+fn is_own(context: &Context<'_>, path: &PackagePath<'_>) -> bool
+    ensures { result ≡ bytes_eq path.now.name.now context.now.own.now }
 {
-    path.name == setting.own
+    path.name == context.own
 }
 
 /// What a path resolves to.
 pub fn path(
     state: &mut State,
-    setting: &Setting<'_>,
+    context: &Context<'_>,
     root: &Names<'_, ItemKind>,
     path: &PackagePath<'_>,
 ) -> Result<ItemKind, Error>
     requires root { ItemsNamed state.old.graph.types (values_of root.now) }
-    requires handed { HoldsHanded (packages_in setting.now) state.old.graph }
-    ensures ok { IfOk result (λ k. Found (packages_in setting.now) state.old.graph state.new.graph
-        (λ naming m. LeadsTo (setting_of naming setting.now) (scope_of naming state.old.graph (values_of root.now))
+    requires supplied { AllSupplied (packages_in context.now) state.old.graph }
+    ensures ok { IfOk result (λ k. Found (packages_in context.now) state.old.graph state.new.graph
+        (λ naming m. LeadsTo (context_of naming context.now) (scope_of naming state.old.graph (values_of root.now))
         (package_path_of path.now) m) k) }
     ensures err { ErrorSays result (λ e. (naming : Naming)
-        → PathBroken (setting_of naming setting.now) (scope_of naming state.old.graph (values_of root.now))
+        → PathBroken (context_of naming context.now) (scope_of naming state.old.graph (values_of root.now))
         (package_path_of path.now) e) }
 {
-    if is_own(setting, path) {
+    if is_own(context, path) {
         return own_path(state, root, path);
     }
-    foreign_path(state, setting, path)
+    foreign_path(state, context, path)
 }
 
 /// What is used: at root, or of a package.
 pub fn use_path(
     state: &mut State,
-    setting: &Setting<'_>,
+    context: &Context<'_>,
     root: &Names<'_, ItemKind>,
     path: &UsePath<'_>,
 ) -> Result<ItemKind, Error>
     requires root { ItemsNamed state.old.graph.types (values_of root.now) }
-    requires handed { HoldsHanded (packages_in setting.now) state.old.graph }
-    ensures ok { IfOk result (λ k. Found (packages_in setting.now) state.old.graph state.new.graph
-        (λ naming m. UseNames (setting_of naming setting.now) (scope_of naming state.old.graph (values_of root.now))
+    requires supplied { AllSupplied (packages_in context.now) state.old.graph }
+    ensures ok { IfOk result (λ k. Found (packages_in context.now) state.old.graph state.new.graph
+        (λ naming m. UseNames (context_of naming context.now) (scope_of naming state.old.graph (values_of root.now))
         (use_path_of path.now) m) k) }
     ensures err { ErrorSays result (λ e. (naming : Naming)
-        → UsePathBroken (setting_of naming setting.now) (scope_of naming state.old.graph (values_of root.now))
+        → UsePathBroken (context_of naming context.now) (scope_of naming state.old.graph (values_of root.now))
         (use_path_of path.now) e) }
 {
     match path {
-        UsePath::Package(package) => crate::paths::path(state, setting, root, package),
+        UsePath::Package(package) => crate::paths::path(state, context, root, package),
         UsePath::Ident(id) => kind_of(state.alloc, root, id),
     }
 }
@@ -77,21 +77,21 @@ pub fn use_path(
 /// What a reference to a world resolves to.
 pub fn world_ref(
     state: &mut State,
-    setting: &Setting<'_>,
+    context: &Context<'_>,
     root: &Names<'_, ItemKind>,
     world: &WorldRef<'_>,
 ) -> Result<ItemKind, Error>
     requires root { ItemsNamed state.old.graph.types (values_of root.now) }
-    requires handed { HoldsHanded (packages_in setting.now) state.old.graph }
-    ensures ok { IfOk result (λ k. Found (packages_in setting.now) state.old.graph state.new.graph
-        (λ naming m. WorldNames (setting_of naming setting.now)
+    requires supplied { AllSupplied (packages_in context.now) state.old.graph }
+    ensures ok { IfOk result (λ k. Found (packages_in context.now) state.old.graph state.new.graph
+        (λ naming m. WorldNames (context_of naming context.now)
         (scope_of naming state.old.graph (values_of root.now)) (world_ref_of world.now) m) k) }
     ensures err { ErrorSays result (λ e. (naming : Naming)
-        → WorldRefBroken (setting_of naming setting.now) (scope_of naming state.old.graph (values_of root.now))
+        → WorldRefBroken (context_of naming context.now) (scope_of naming state.old.graph (values_of root.now))
         (world_ref_of world.now) e) }
 {
     match world {
-        WorldRef::Package(package) => path(state, setting, root, package),
+        WorldRef::Package(package) => path(state, context, root, package),
         WorldRef::Ident(id) => kind_of(state.alloc, root, id),
     }
 }

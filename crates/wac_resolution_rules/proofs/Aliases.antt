@@ -8,7 +8,7 @@ use Rattle.wac_ast_grammar.specs.Tree.{Statement}
 use Rattle.wac_resolution_rules.specs.Given.{Given}
 use Rattle.wac_resolution_rules.specs.Composition.{NodeForm, imported, definition, aliased, instantiated, Composition, Node, named_at, with_node, with_resources, start}
 use Rattle.wac_resolution_rules.specs.Nodes.{is_alias_of, alias_in, with_alias, next_of}
-use Rattle.wac_resolution_rules.specs.Statements.{name_imported, Goes, Composes}
+use Rattle.wac_resolution_rules.specs.Statements.{name_imported, StatementStep, Composes}
 use Rattle.wac_resolution_rules.specs.Sound.{IsAlias, is_same_alias, AliasesOnce}
 use Rattle.wac_resolution_rules.specs.Spans.{identifier_of}
 use Rattle.wac_resolution_rules.proofs.StatementsStop.{declares_what}
@@ -24,14 +24,14 @@ pub record Stays (P : List Node → Type 0) : Type 0 where
   pub other : (ns : List Node) (n : Node) → (IsAlias n.form → ⊥) → P ns → P (ns ++ n ∷ [])
   pub naming : (ns : List Node) (i : ℕ) (name : List ℕ) → P ns → P (named_at ns i name)
 
-pub stays_goes : (P : List Node → Type 0) → Stays P → (g : Given) (old : Composition) (x : Statement) (new : Composition) → P old.nodes → Goes g old x new → P new.nodes
+pub stays_goes : (P : List Node → Type 0) → Stays P → (g : Given) (old : Composition) (x : Statement) (new : Composition) → P old.nodes → StatementStep g old x new → P new.nodes
 stays_goes P s g old (Statement.import_statement x) new h p =
     subst (λ (c : Composition). P c.nodes) (sym p.6) (s.naming (with_node (with_resources old p.1) (imported (name_imported x p.0)) (promoted p.0)).nodes (next_of old) x.id.string (s.other old.nodes _ (λ f. f) h))
 stays_goes P s g old (Statement.let_statement x) new h p =
     subst (λ (c : Composition). P c.nodes) (sym p.3) (s.naming p.0.composition.nodes p.0.node x.id.string (keeps_stands P s.keeps g old x.expr p.0 h p.1))
 stays_goes P s g old (Statement.export_statement x) new h p = keeps_by P s.keeps g p.0 x.options new (keeps_stands P s.keeps g old x.expr p.0 h p.1) p.2
 stays_goes P s g old (Statement.type_statement x) new h p =
-    let d = declares_what g.setting old x new p in
+    let d = declares_what g.context old x new p in
     subst (λ (c : Composition). P c.nodes) (sym d.2.2) (s.naming (with_node (with_resources old d.1) definition d.0).nodes (next_of old) (identifier_of x).string (s.other old.nodes _ (λ f. f) h))
 
 pub stays_composes : (P : List Node → Type 0) → Stays P → (g : Given) (xs : List Statement) (old new : Composition) → P old.nodes → Composes g old xs new → P new.nodes

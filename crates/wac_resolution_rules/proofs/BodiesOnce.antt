@@ -11,7 +11,7 @@ use Rattle.wac_graph.specs.Resources.{resource_entry}
 use Rattle.wac_ast_grammar.specs.Tree.{Ident, PackagePath, UsePath, WorldRef, ResourceMethod, ItemTypeDecl}
 use Rattle.wac_resolution_rules.specs.Types.{first_params}
 use Rattle.wac_resolution_rules.specs.Declarations.{in_body}
-use Rattle.wac_resolution_rules.specs.Paths.{Setting, segments_of, IsMember, LeadsFrom, LeadsTo, UseNames, WorldNames}
+use Rattle.wac_resolution_rules.specs.Paths.{Context, segments_of, IsMember, LeadsFrom, LeadsTo, UseNames, WorldNames}
 use Rattle.wac_resolution_rules.specs.Bodies.{Body, with_extern, with_type, with_count, constructor_name, name_of_method, HasMethod, with_resource, DeclaresIn, HasItem, used_as, renamed_from, UsesItem, HasUse}
 use Rattle.wac_resolution_rules.specs.Includes.{Entries, HasEntry, has_colon, Taking, TakesNamed, Takes, Included, HasInclude}
 use Rattle.wac_resolution_rules.proofs.StepLaws.{IsOnce, steps_once}
@@ -30,18 +30,18 @@ leads_from_once scope (first ∷ rest) a b p q =
     let e : p.0 ≡ q.0 = stands_once scope first p.0 q.0 p.1 q.1 in
     steps_once IsMember member_once q.0 rest a b (subst (λ (k : Meaning). Steps IsMember k rest a) e p.2) q.2
 
-pub leads_once : (setting : Setting) (root : Scope) (p : PackagePath) (a b : Meaning) → LeadsTo setting root p a → LeadsTo setting root p b → a ≡ b
-leads_once setting root p a b x y =
+pub leads_once : (context : Context) (root : Scope) (p : PackagePath) (a b : Meaning) → LeadsTo context root p a → LeadsTo context root p b → a ≡ b
+leads_once context root p a b x y =
     let e : x.0 ≡ y.0 = some_back (sym x.1 ∙ y.1) in
     leads_from_once y.0 (segments_of p) a b (subst (λ (s : Scope). LeadsFrom s (segments_of p) a) e x.2) y.2
 
-pub use_names_once : (setting : Setting) (root : Scope) (p : UsePath) (a b : Meaning) → UseNames setting root p a → UseNames setting root p b → a ≡ b
-use_names_once setting root (UsePath.path p) a b x y = leads_once setting root p a b x y
-use_names_once setting root (UsePath.ident p) a b x y = stands_once root p.string a b x y
+pub use_names_once : (context : Context) (root : Scope) (p : UsePath) (a b : Meaning) → UseNames context root p a → UseNames context root p b → a ≡ b
+use_names_once context root (UsePath.path p) a b x y = leads_once context root p a b x y
+use_names_once context root (UsePath.ident p) a b x y = stands_once root p.string a b x y
 
-pub world_names_once : (setting : Setting) (root : Scope) (p : WorldRef) (a b : Meaning) → WorldNames setting root p a → WorldNames setting root p b → a ≡ b
-world_names_once setting root (WorldRef.path p) a b x y = leads_once setting root p a b x y
-world_names_once setting root (WorldRef.ident p) a b x y = stands_once root p.string a b x y
+pub world_names_once : (context : Context) (root : Scope) (p : WorldRef) (a b : Meaning) → WorldNames context root p a → WorldNames context root p b → a ≡ b
+world_names_once context root (WorldRef.path p) a b x y = leads_once context root p a b x y
+world_names_once context root (WorldRef.ident p) a b x y = stands_once root p.string a b x y
 
 -- ---- declarations
 
@@ -73,9 +73,9 @@ use_item_once side interface old x a b p q =
     let e : p.0 ≡ q.0 = some_back (sym p.1 ∙ q.1) in
     p.4 ∙ ap (with_type side (record old { uses = old.uses ++ (((used_as x).string, renamed_from x), interface) ∷ [] }) (used_as x).string) e ∙ sym q.4
 
-pub use_once : (setting : Setting) (root : Scope) (side : ExternKind) → IsOnce (HasUse setting root side)
-use_once setting root side old u a b p q =
-    let e : p.0 ≡ q.0 = use_names_once setting root u.path p.0 q.0 p.1 q.1 in
+pub use_once : (context : Context) (root : Scope) (side : ExternKind) → IsOnce (HasUse context root side)
+use_once context root side old u a b p q =
+    let e : p.0 ≡ q.0 = use_names_once context root u.path p.0 q.0 p.1 q.1 in
     steps_once (UsesItem side (promoted q.0)) (use_item_once side (promoted q.0)) old u.items a b (subst (λ (k : Meaning). Steps (UsesItem side (promoted k)) old u.items a) e p.3) q.3
 
 -- ---- include
@@ -97,8 +97,8 @@ included_once entries world old a b p q =
     (subst (λ (t : Taking). Steps Takes (record { entries = t.entries; there = old.exports }) (exports_of world) p.exports) d p.takes_exports) q.takes_exports in
     p.is ∙ ap (λ (t : Taking). record old { imports = t.there; exports = p.exports.there }) d ∙ ap (λ (t : Taking). record old { imports = q.imports.there; exports = t.there }) e ∙ sym q.is
 
-pub include_once : (setting : Setting) (root : Scope) → IsOnce (HasInclude setting root)
-include_once setting root old x a b p q =
+pub include_once : (context : Context) (root : Scope) → IsOnce (HasInclude context root)
+include_once context root old x a b p q =
     let d : p.0 ≡ q.0 = steps_once HasEntry entry_once [] x.items p.0 q.0 p.2 q.2 in
-    let e : p.1 ≡ q.1 = world_names_once setting root x.world p.1 q.1 p.3 q.3 in
+    let e : p.1 ≡ q.1 = world_names_once context root x.world p.1 q.1 p.3 q.3 in
     included_once q.0 (entry_of q.1) old a b (subst (λ (k : Meaning). Included q.0 (entry_of k) old a) e (subst (λ (n : Entries). Included n (entry_of p.1) old a) d p.5)) q.5

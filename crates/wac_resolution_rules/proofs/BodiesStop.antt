@@ -15,7 +15,7 @@ use Rattle.wac_ast_grammar.specs.Tree.{Ident, PackagePath, UsePath, ResourceMeth
 use Rattle.wac_resolution_errors.specs.Error.{Error}
 use Rattle.wac_resolution_rules.specs.Types.{first_params}
 use Rattle.wac_resolution_rules.specs.Declarations.{in_body}
-use Rattle.wac_resolution_rules.specs.Paths.{Setting, is_own, key_of_path, segments_of, beginning_of, IsMember, LeadsFrom, LeadsTo, UseNames}
+use Rattle.wac_resolution_rules.specs.Paths.{Context, is_own, key_of_path, segments_of, beginning_of, IsMember, LeadsFrom, LeadsTo, UseNames}
 use Rattle.wac_resolution_rules.specs.Bodies.{Body, externs, IsNew, constructor_name, method_name, static_name, HasMethod, with_resource, HasItem, used_as, UsesItem, HasUse}
 use Rattle.wac_resolution_rules.specs.BrokenBodies.{IsNoExport, IsNoPackageExport, OwnPathBroken, ForeignPathBroken, path_broken, PathBroken, Owner, IsConflict, NameBroken, method_kind, MethodBroken, ItemBroken, UsePathBroken, IsNoInterface, UseItemBroken, UseBroken}
 use Rattle.wac_resolution_rules.specs.Spans.{use_path_name, use_path_span}
@@ -47,18 +47,18 @@ foreign_path_stops definitions p (first ∷ rest) e m (inr b) q =
     fails_stop IsMember (IsNoPackageExport p first e) member_once (no_package_export_stops p first e) b.0 rest m b.2
     (subst (λ (k : Meaning). Steps IsMember k rest m) (stands_once definitions first q.0 b.0 q.1 b.1) q.2)
 
-begun_stops : (own : Bool) (setting : Setting) (root : Scope) (p : PackagePath) (e : Error) (from : Scope) (m : Meaning) → path_broken own setting root p e
-    → beginning_of own root setting.packages (key_of_path p) ≡ Some from → LeadsFrom from (segments_of p) m → ⊥
-begun_stops true setting root p e from m b begins q =
+begun_stops : (own : Bool) (context : Context) (root : Scope) (p : PackagePath) (e : Error) (from : Scope) (m : Meaning) → path_broken own context root p e
+    → beginning_of own root context.packages (key_of_path p) ≡ Some from → LeadsFrom from (segments_of p) m → ⊥
+begun_stops true context root p e from m b begins q =
     own_path_stops root p (segments_of p) e m b (subst (λ (s : Scope). LeadsFrom s (segments_of p) m) (sym (some_back begins)) q)
-begun_stops false setting root p e from m (inl b) begins q =
+begun_stops false context root p e from m (inl b) begins q =
     let f : None ≡ Some from = sym (ap (option_map (λ (c : Contents). c.definitions)) b.0) ∙ begins in absurd (cc)
-begun_stops false setting root p e from m (inr b) begins q =
+begun_stops false context root p e from m (inr b) begins q =
     let f : Some b.0.definitions ≡ Some from = sym (ap (option_map (λ (c : Contents). c.definitions)) b.1) ∙ begins in
     foreign_path_stops b.0.definitions p (segments_of p) e m b.2 (subst (λ (s : Scope). LeadsFrom s (segments_of p) m) (sym (some_back f)) q)
 
-pub path_stops : (setting : Setting) (root : Scope) (p : PackagePath) (e : Error) (m : Meaning) → PathBroken setting root p e → LeadsTo setting root p m → ⊥
-path_stops setting root p e m b q = begun_stops (is_own setting p) setting root p e q.0 m b q.1 q.2
+pub path_stops : (context : Context) (root : Scope) (p : PackagePath) (e : Error) (m : Meaning) → PathBroken context root p e → LeadsTo context root p m → ⊥
+path_stops context root p e m b q = begun_stops (is_own context p) context root p e q.0 m b q.1 q.2
 
 -- ---- names
 
@@ -99,9 +99,9 @@ item_stops naming of side places old (ItemTypeDecl.alias d) e new (inr b) q = na
 
 -- ---- use
 
-use_path_stops : (setting : Setting) (root : Scope) (p : UsePath) (e : Error) (m : Meaning) → UsePathBroken setting root p e → UseNames setting root p m → ⊥
-use_path_stops setting root (UsePath.path p) e m b q = path_stops setting root p e m b q
-use_path_stops setting root (UsePath.ident x) e m b q = undefined_stops root x e m b q
+use_path_stops : (context : Context) (root : Scope) (p : UsePath) (e : Error) (m : Meaning) → UsePathBroken context root p e → UseNames context root p m → ⊥
+use_path_stops context root (UsePath.path p) e m b q = path_stops context root p e m b q
+use_path_stops context root (UsePath.ident x) e m b q = undefined_stops root x e m b q
 
 pub interface_stops : (k : Meaning) (name : List ℕ) (at : Span) (e : Error) → IsNoInterface k name at e → IsA is_interface_form k → ⊥
 interface_stops k name at e b q = let f : false ≡ true = sym b.0 ∙ q in cc
@@ -120,8 +120,8 @@ named_use_stops : (side : ExternKind) (old : Body) (u : Use) (e : Error) (new : 
 named_use_stops side old u e new k (inl b) is q = interface_stops k (use_path_name u.path) (use_path_span u.path) e b is
 named_use_stops side old u e new k (inr b) is q = fails_stop (UsesItem side (promoted k)) (UseItemBroken side (promoted k) (use_path_name u.path) e) (use_item_once side (promoted k)) (use_item_stops side (promoted k) (use_path_name u.path) e) old u.items new b.1 q
 
-pub use_stops : (setting : Setting) (root : Scope) (side : ExternKind) (old : Body) (u : Use) (e : Error) (new : Body) → UseBroken setting root side old u e → HasUse setting root side old u new → ⊥
-use_stops setting root side old u e new (inl b) q = use_path_stops setting root u.path e q.0 b q.1
-use_stops setting root side old u e new (inr b) q =
-    let same : q.0 ≡ b.0 = use_names_once setting root u.path q.0 b.0 q.1 b.1 in
+pub use_stops : (context : Context) (root : Scope) (side : ExternKind) (old : Body) (u : Use) (e : Error) (new : Body) → UseBroken context root side old u e → HasUse context root side old u new → ⊥
+use_stops context root side old u e new (inl b) q = use_path_stops context root u.path e q.0 b q.1
+use_stops context root side old u e new (inr b) q =
+    let same : q.0 ≡ b.0 = use_names_once context root u.path q.0 b.0 q.1 b.1 in
     named_use_stops side old u e new b.0 b.2 (subst (λ m. IsA is_interface_form m) same q.2) (subst (λ m. Steps (UsesItem side (promoted m)) old u.items new) same q.3)

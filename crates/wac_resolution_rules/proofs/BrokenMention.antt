@@ -29,13 +29,13 @@ use Rattle.wac_resolution_rules.proofs.BrokenTypesMention.{agree_split, path_bre
 -- ---- expressions
 
 mutual
-  expr_breaks_agree : (g : Given) (ps qs : Packages) (old : Composition) (e : Error) (x : Expr) → Agree ps qs (expr_mentions g.setting.own x) → ExprBroken (given_over g ps) old e x ≡ ExprBroken (given_over g qs) old e x
+  expr_breaks_agree : (g : Given) (ps qs : Packages) (old : Composition) (e : Error) (x : Expr) → Agree ps qs (expr_mentions g.context.own x) → ExprBroken (given_over g ps) old e x ≡ ExprBroken (given_over g qs) old e x
   expr_breaks_agree g ps qs old e (Expr.expr span first others) h = λ i.
       first_breaks_agree g ps qs old e first h i ⊎ ((mid : At) × first_agrees g ps qs old first h i mid × Fails Accesses (AccessBroken (primary_span first) e) mid others)
 
-  first_breaks_agree : (g : Given) (ps qs : Packages) (old : Composition) (e : Error) (x : PrimaryExpr) → Agree ps qs (primary_mentions g.setting.own x) → PrimaryBroken (given_over g ps) old e x ≡ PrimaryBroken (given_over g qs) old e x
+  first_breaks_agree : (g : Given) (ps qs : Packages) (old : Composition) (e : Error) (x : PrimaryExpr) → Agree ps qs (primary_mentions g.context.own x) → PrimaryBroken (given_over g ps) old e x ≡ PrimaryBroken (given_over g qs) old e x
   first_breaks_agree g ps qs old e (PrimaryExpr.new span x args) h =
-      let r = agree_prefix ps qs (name_mentions g.setting.own x) (arguments_mentions g.setting.own args) h in
+      let r = agree_prefix ps qs (name_mentions g.context.own x) (arguments_mentions g.context.own args) h in
       λ i. ((instantiable_agrees g ps qs x r.0 i ≡ None) × (e ≡ unknown_package x.name x.span))
       ⊎ ((p : Contents) × (instantiable_agrees g ps qs x r.0 i ≡ Some p) × arguments_break_agree g ps qs (imports_in p) (nothing_given old) e args r.1 i)
       ⊎ ((p : Contents) × (given : Giving) × (instantiable_agrees g ps qs x r.0 i ≡ Some p) × gives_agree g ps qs (imports_in p) (nothing_given old) args r.1 i given
@@ -45,14 +45,14 @@ mutual
   first_breaks_agree g ps qs old e (PrimaryExpr.nested span x) h = expr_breaks_agree g ps qs old e x h
   first_breaks_agree g ps qs old e (PrimaryExpr.ident id) h = refl
 
-  arguments_break_agree : (g : Given) (ps qs : Packages) (imports : Named Meaning) (old : Giving) (e : Error) (x : Arguments) → Agree ps qs (arguments_mentions g.setting.own x)
+  arguments_break_agree : (g : Given) (ps qs : Packages) (imports : Named Meaning) (old : Giving) (e : Error) (x : Arguments) → Agree ps qs (arguments_mentions g.context.own x)
       → ArgumentsBroken (given_over g ps) imports old e x ≡ ArgumentsBroken (given_over g qs) imports old e x
   arguments_break_agree g ps qs imports old e Arguments.none h = refl
   arguments_break_agree g ps qs imports old e (Arguments.more a rest) h =
-      let r = agree_prefix ps qs (argument_mentions g.setting.own a) (arguments_mentions g.setting.own rest) h in
+      let r = agree_prefix ps qs (argument_mentions g.context.own a) (arguments_mentions g.context.own rest) h in
       λ i. argument_breaks_agree g ps qs imports rest old e a r.0 i ⊎ ((mid : Giving) × give_agrees g ps qs imports rest old a r.0 i mid × arguments_break_agree g ps qs imports mid e rest r.1 i)
 
-  argument_breaks_agree : (g : Given) (ps qs : Packages) (imports : Named Meaning) (rest : Arguments) (old : Giving) (e : Error) (x : InstantiationArgument) → Agree ps qs (argument_mentions g.setting.own x)
+  argument_breaks_agree : (g : Given) (ps qs : Packages) (imports : Named Meaning) (rest : Arguments) (old : Giving) (e : Error) (x : InstantiationArgument) → Agree ps qs (argument_mentions g.context.own x)
       → ArgumentBroken (given_over g ps) imports rest old e x ≡ ArgumentBroken (given_over g qs) imports rest old e x
   argument_breaks_agree g ps qs imports rest old e (InstantiationArgument.fill span) h = refl
   argument_breaks_agree g ps qs imports rest old e (InstantiationArgument.spread id) h = refl
@@ -62,18 +62,18 @@ mutual
 
 -- ---- statements
 
-import_kind_breaks : (g : Given) (ps qs : Packages) (old : Composition) (e : Error) (x : ImportType) → Agree ps qs (import_type_mentions g.setting.own x) → ImportKindBroken (given_over g ps) old e x → ImportKindBroken (given_over g qs) old e x
+import_kind_breaks : (g : Given) (ps qs : Packages) (old : Composition) (e : Error) (x : ImportType) → Agree ps qs (import_type_mentions g.context.own x) → ImportKindBroken (given_over g ps) old e x → ImportKindBroken (given_over g qs) old e x
 import_kind_breaks g ps qs old e (ImportType.func x) h b = b
-import_kind_breaks g ps qs old e (ImportType.interface x) h b = interface_breaks g.setting ps qs (root_scope old) None old.resources x.items e h b
-import_kind_breaks g ps qs old e (ImportType.path x) h b = along (λ i. path_breaks_agree g.setting ps qs (root_scope old) x h i e) b
+import_kind_breaks g ps qs old e (ImportType.interface x) h b = interface_breaks g.context ps qs (root_scope old) None old.resources x.items e h b
+import_kind_breaks g ps qs old e (ImportType.path x) h b = along (λ i. path_breaks_agree g.context ps qs (root_scope old) x h i e) b
 import_kind_breaks g ps qs old e (ImportType.ident x) h b = b
 
-import_breaks : (g : Given) (ps qs : Packages) (old : Composition) (places : Places) (e : Error) (x : ImportStatement) → Agree ps qs (import_type_mentions g.setting.own x.ty)
+import_breaks : (g : Given) (ps qs : Packages) (old : Composition) (places : Places) (e : Error) (x : ImportStatement) → Agree ps qs (import_type_mentions g.context.own x.ty)
     → ImportBroken (given_over g ps) old places e x → ImportBroken (given_over g qs) old places e x
 import_breaks g ps qs old places e x h (inl b) = inl (import_kind_breaks g ps qs old e x.ty h b)
 import_breaks g ps qs old places e x h (inr (k, after, means, b)) = inr (k, after, along (λ i. kind_agrees g ps qs old x.ty h i k after) means, b)
 
-let_breaks : (g : Given) (ps qs : Packages) (old : Composition) (places : Places) (e : Error) (x : LetStatement) → Agree ps qs (expr_mentions g.setting.own x.expr)
+let_breaks : (g : Given) (ps qs : Packages) (old : Composition) (places : Places) (e : Error) (x : LetStatement) → Agree ps qs (expr_mentions g.context.own x.expr)
     → LetBroken (given_over g ps) old places e x → LetBroken (given_over g qs) old places e x
 let_breaks g ps qs old places e x h (inl b) = inl (along (expr_breaks_agree g ps qs old e x.expr h) b)
 let_breaks g ps qs old places e x h (inr (a, stands, b)) = inr (a, along (λ i. stands_agree g ps qs old x.expr h i a) stands, b)
@@ -83,24 +83,24 @@ options_break g ps qs a places e x (ExportOptions.spread span) b = b
 options_break g ps qs a places e x (ExportOptions.rename name) b = b
 options_break g ps qs a places e x ExportOptions.none b = b
 
-export_breaks : (g : Given) (ps qs : Packages) (old : Composition) (places : Places) (e : Error) (x : ExportStatement) → Agree ps qs (expr_mentions g.setting.own x.expr)
+export_breaks : (g : Given) (ps qs : Packages) (old : Composition) (places : Places) (e : Error) (x : ExportStatement) → Agree ps qs (expr_mentions g.context.own x.expr)
     → ExportBroken (given_over g ps) old places e x → ExportBroken (given_over g qs) old places e x
 export_breaks g ps qs old places e x h (inl b) = inl (along (expr_breaks_agree g ps qs old e x.expr h) b)
 export_breaks g ps qs old places e x h (inr (a, stands, b)) = inr (a, along (λ i. stands_agree g ps qs old x.expr h i a) stands, options_break g ps qs a places e x.expr x.options b)
 
 -- a statement breaks the rules that it breaks with other packages that agree on what it mentions
-statement_breaks : (g : Given) (ps qs : Packages) (old : Composition) (places : Places) (e : Error) (x : Statement) → Agree ps qs (statement_mentions g.setting.own x)
+statement_breaks : (g : Given) (ps qs : Packages) (old : Composition) (places : Places) (e : Error) (x : Statement) → Agree ps qs (statement_mentions g.context.own x)
     → StatementBroken (given_over g ps) old places e x → StatementBroken (given_over g qs) old places e x
 statement_breaks g ps qs old places e (Statement.import_statement x) h b = import_breaks g ps qs old places e x h b
 statement_breaks g ps qs old places e (Statement.let_statement x) h b = let_breaks g ps qs old places e x h b
 statement_breaks g ps qs old places e (Statement.export_statement x) h b = export_breaks g ps qs old places e x h b
-statement_breaks g ps qs old places e (Statement.type_statement x) h b = declaration_breaks g.setting ps qs old places x e h b
+statement_breaks g ps qs old places e (Statement.type_statement x) h b = declaration_breaks g.context ps qs old places x e h b
 
-leads_agree : (g : Given) (ps qs : Packages) (old : Placed) (x : Statement) → Agree ps qs (statement_mentions g.setting.own x) → Leads (given_over g ps) old x ≡ Leads (given_over g qs) old x
+leads_agree : (g : Given) (ps qs : Packages) (old : Placed) (x : Statement) → Agree ps qs (statement_mentions g.context.own x) → Leads (given_over g ps) old x ≡ Leads (given_over g qs) old x
 leads_agree g ps qs old x h = λ i new. goes_agree g ps qs old.composition x h i new.composition × (new.places ≡ places_after old.composition old.places x new.composition)
 
-all_lead_agree : (g : Given) (ps qs : Packages) (old : Placed) (xs : List Statement) → Agree ps qs (flat_map (statement_mentions g.setting.own) xs) → Steps (Leads (given_over g ps)) old xs ≡ Steps (Leads (given_over g qs)) old xs
-all_lead_agree g ps qs old xs h = steps_agree (Leads (given_over g ps)) (Leads (given_over g qs)) (statement_mentions g.setting.own) ps qs (leads_agree g ps qs) old xs h
+all_lead_agree : (g : Given) (ps qs : Packages) (old : Placed) (xs : List Statement) → Agree ps qs (flat_map (statement_mentions g.context.own) xs) → Steps (Leads (given_over g ps)) old xs ≡ Steps (Leads (given_over g qs)) old xs
+all_lead_agree g ps qs old xs h = steps_agree (Leads (given_over g ps)) (Leads (given_over g qs)) (statement_mentions g.context.own) ps qs (leads_agree g ps qs) old xs h
 
 -- ---- the target
 
@@ -128,18 +128,18 @@ target_world_breaks g ps qs c p e path w h (inr (inr (inr (x, node, r, span, all
     inr (inr (inr (x, node, r, span, along (allowed_agree g ps qs c w h) all, reached, exported, against, place, error)))
 
 -- a target breaks the rules that it breaks with other packages that agree on what it and the nodes mention
-target_breaks : (g : Given) (ps qs : Packages) (c : Composition) (places : Places) (e : Error) (path : PackagePath) → Agree ps qs (path_mentions g.setting.own path) → SameAtNodes ps qs c
+target_breaks : (g : Given) (ps qs : Packages) (c : Composition) (places : Places) (e : Error) (path : PackagePath) → Agree ps qs (path_mentions g.context.own path) → SameAtNodes ps qs c
     → TargetBroken (given_over g ps) c places e path → TargetBroken (given_over g qs) c places e path
-target_breaks g ps qs c places e path h k (inl b) = inl (along (λ i. path_breaks_agree g.setting ps qs (root_scope c) path h i e) b)
-target_breaks g ps qs c places e path h k (inr (m, means, inl b)) = inr (m, along (λ i. path_agrees g.setting ps qs (root_scope c) path h i m) means, inl b)
+target_breaks g ps qs c places e path h k (inl b) = inl (along (λ i. path_breaks_agree g.context ps qs (root_scope c) path h i e) b)
+target_breaks g ps qs c places e path h k (inr (m, means, inl b)) = inr (m, along (λ i. path_agrees g.context ps qs (root_scope c) path h i m) means, inl b)
 target_breaks g ps qs c places e path h k (inr (m, means, inr (w, is, b))) =
-    inr (m, along (λ i. path_agrees g.setting ps qs (root_scope c) path h i m) means, inr (w, is, target_world_breaks g ps qs c places e path w k b))
+    inr (m, along (λ i. path_agrees g.context ps qs (root_scope c) path h i m) means, inr (w, is, target_world_breaks g ps qs c places e path w k b))
 
 -- ---- documents
 
-statement_fails_too : (g : Given) (ps qs : Packages) (doc : Document) (e : Error) → Agree ps qs (flat_map (statement_mentions g.setting.own) doc.statements) → StatementFails (given_over g ps) doc e → StatementFails (given_over g qs) doc e
+statement_fails_too : (g : Given) (ps qs : Packages) (doc : Document) (e : Error) → Agree ps qs (flat_map (statement_mentions g.context.own) doc.statements) → StatementFails (given_over g ps) doc e → StatementFails (given_over g qs) doc e
 statement_fails_too g ps qs doc e h f =
-    let r = agree_split (statement_mentions g.setting.own) ps qs f.before f.failing f.after (subst (λ (l : List Statement). Agree ps qs (flat_map (statement_mentions g.setting.own) l)) f.split h) in
+    let r = agree_split (statement_mentions g.context.own) ps qs f.before f.failing f.after (subst (λ (l : List Statement). Agree ps qs (flat_map (statement_mentions g.context.own) l)) f.split h) in
     record {
       before = f.before;
       failing = f.failing;
@@ -148,13 +148,13 @@ statement_fails_too g ps qs doc e h f =
       so_far = f.so_far;
       leads = along (λ i. all_lead_agree g ps qs (placed_start start) f.before r.0 i f.so_far) f.leads;
       broken = statement_breaks g ps qs f.so_far.composition f.so_far.places e f.failing r.1 f.broken;
-      stops = λ next goes. f.stops next (along (λ i. goes_agree g qs ps f.so_far.composition f.failing (agree_back ps qs (statement_mentions g.setting.own f.failing) r.1) i next) goes);
+      stops = λ next goes. f.stops next (along (λ i. goes_agree g qs ps f.so_far.composition f.failing (agree_back ps qs (statement_mentions g.context.own f.failing) r.1) i next) goes);
     }
 
-target_fails_too : (g : Given) (ps qs : Packages) (doc : Document) (e : Error) → Agree ps qs (target_mentions g.setting.own doc.directive.targets) → Agree ps qs (flat_map (statement_mentions g.setting.own) doc.statements)
+target_fails_too : (g : Given) (ps qs : Packages) (doc : Document) (e : Error) → Agree ps qs (target_mentions g.context.own doc.directive.targets) → Agree ps qs (flat_map (statement_mentions g.context.own) doc.statements)
     → TargetFails (given_over g ps) doc e → TargetFails (given_over g qs) doc e
 target_fails_too g ps qs doc e h k f =
-    let m = subst (λ (t : Option PackagePath). Agree ps qs (target_mentions g.setting.own t)) f.has_target h in
+    let m = subst (λ (t : Option PackagePath). Agree ps qs (target_mentions g.context.own t)) f.has_target h in
     let keys : SameAtNodes ps qs f.whole.composition = keys_composes (given_over g ps) (λ key. package_of key ps ≡ package_of key qs) doc.statements start f.whole.composition k tt (leads_composes (given_over g ps) doc.statements (placed_start start) f.whole f.leads) in
     record {
       target = f.target;
@@ -165,20 +165,20 @@ target_fails_too g ps qs doc e h k f =
       stops = λ meets. f.stops (along (sym (target_agrees g ps qs f.whole.composition (Some f.target) m keys)) meets);
     }
 
-fails_first_too : (g : Given) (ps qs : Packages) (doc : Document) (e : Error) → Agree ps qs (target_mentions g.setting.own doc.directive.targets) → Agree ps qs (flat_map (statement_mentions g.setting.own) doc.statements)
+fails_first_too : (g : Given) (ps qs : Packages) (doc : Document) (e : Error) → Agree ps qs (target_mentions g.context.own doc.directive.targets) → Agree ps qs (flat_map (statement_mentions g.context.own) doc.statements)
     → FirstFailing (given_over g ps) doc e → FirstFailing (given_over g qs) doc e
 fails_first_too g ps qs doc e h k (inl f) = inl (statement_fails_too g ps qs doc e k f)
 fails_first_too g ps qs doc e h k (inr f) = inr (target_fails_too g ps qs doc e h k f)
 
 -- what fails first fails first with other packages that agree on what the document mentions
-failing_agrees : (g : Given) (ps qs : Packages) (doc : Document) (e : Error) → g.setting.own ≡ doc.directive.package_name.name → Agree ps qs (mentions doc) → FirstFailing (given_over g ps) doc e → FirstFailing (given_over g qs) doc e
+failing_agrees : (g : Given) (ps qs : Packages) (doc : Document) (e : Error) → g.context.own ≡ doc.directive.package_name.name → Agree ps qs (mentions doc) → FirstFailing (given_over g ps) doc e → FirstFailing (given_over g qs) doc e
 failing_agrees g ps qs doc e own m f =
     let n = subst (λ (o : List ℕ). Agree ps qs (target_mentions o doc.directive.targets ++ flat_map (statement_mentions o) doc.statements)) (sym own) m in
-    let r = agree_prefix ps qs (target_mentions g.setting.own doc.directive.targets) (flat_map (statement_mentions g.setting.own) doc.statements) n in
+    let r = agree_prefix ps qs (target_mentions g.context.own doc.directive.targets) (flat_map (statement_mentions g.context.own) doc.statements) n in
     fails_first_too g ps qs doc e r.0 r.1 f
 
 -- only mentioned packages matter to what fails first
-pub only_mentioned_fail : (g : Given) (ps : Packages) (doc : Document) (e : Error) → g.setting.own ≡ doc.directive.package_name.name
+pub only_mentioned_fail : (g : Given) (ps : Packages) (doc : Document) (e : Error) → g.context.own ≡ doc.directive.package_name.name
     → FirstFailing (given_over g (kept (mentions doc) ps)) doc e ↔ FirstFailing (given_over g ps) doc e
 only_mentioned_fail g ps doc e own =
     let h = kept_agree (mentions doc) (mentions doc) ps (λ k e. e) in

@@ -84,18 +84,18 @@ mutual
 
   pub first_stops : (s : Given) (old : Composition) (e : Error) (x : PrimaryExpr) (new : At) → PrimaryBroken s old e x → PrimaryStands s old x new → ⊥
   first_stops s old e (PrimaryExpr.new span x args) new (inl b) p = unknown_stops s x e p.0 b p.3
-  first_stops s old e (PrimaryExpr.new span x args) new (inr (inl (c, handed, b))) p =
-      let same : p.0 ≡ c = some_once (instantiable s x) p.0 c p.3 handed in
+  first_stops s old e (PrimaryExpr.new span x args) new (inr (inl (c, supplied, b))) p =
+      let same : p.0 ≡ c = some_once (instantiable s x) p.0 c p.3 supplied in
       gives_stop s (imports_in c) (nothing_given old) e args p.1 b (subst (λ (m : Contents). Gives s (imports_in m) (nothing_given old) args p.1) same p.4)
-  first_stops s old e (PrimaryExpr.new span x args) new (inr (inr (inl (c, given, handed, gives, b)))) p =
-      let same : p.0 ≡ c = some_once (instantiable s x) p.0 c p.3 handed in
+  first_stops s old e (PrimaryExpr.new span x args) new (inr (inr (inl (c, given, supplied, gives, b)))) p =
+      let same : p.0 ≡ c = some_once (instantiable s x) p.0 c p.3 supplied in
       let f = subst (λ (m : Contents). Gives s (imports_in m) (nothing_given old) args p.1) same p.4 in
       let g : p.1 ≡ given = arguments_once s (imports_in c) (nothing_given old) args p.1 given f gives in
       let r = subst (λ (m : Contents). Steps (Spreads (imports_in m)) p.1 (spreads_of args) p.2) same p.5 in
       let t = subst (λ (m : Giving). Steps (Spreads (imports_in c)) m (spreads_of args) p.2) g r in
       fails_stop (Spreads (imports_in c)) _ (spreads_once (imports_in c)) (spread_stops (imports_in c) e) given (spreads_of args) p.2 b t
-  first_stops s old e (PrimaryExpr.new span x args) new (inr (inr (inr (c, given, all, handed, gives, spread, b)))) p =
-      let same : p.0 ≡ c = some_once (instantiable s x) p.0 c p.3 handed in
+  first_stops s old e (PrimaryExpr.new span x args) new (inr (inr (inr (c, given, all, supplied, gives, spread, b)))) p =
+      let same : p.0 ≡ c = some_once (instantiable s x) p.0 c p.3 supplied in
       let f = subst (λ (m : Contents). Gives s (imports_in m) (nothing_given old) args p.1) same p.4 in
       let g : p.1 ≡ given = arguments_once s (imports_in c) (nothing_given old) args p.1 given f gives in
       let r = subst (λ (m : Contents). Steps (Spreads (imports_in m)) p.1 (spreads_of args) p.2) same p.5 in

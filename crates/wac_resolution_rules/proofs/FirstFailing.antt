@@ -4,7 +4,7 @@ use Rattle.wac_graph_types.specs.Steps.{Steps}
 use Rattle.wac_ast_grammar.specs.Tree.{PackagePath, Statement, Document}
 use Rattle.wac_resolution_rules.specs.Given.{Given}
 use Rattle.wac_resolution_rules.specs.Composition.{Composition, start}
-use Rattle.wac_resolution_rules.specs.Statements.{Goes, Composes}
+use Rattle.wac_resolution_rules.specs.Statements.{StatementStep, Composes}
 use Rattle.wac_resolution_rules.specs.Target.{MeetsPath, MeetsTarget}
 use Rattle.wac_resolution_errors.specs.Error.{Error}
 use Rattle.wac_resolution_rules.specs.BrokenStatements.{StatementBroken, TargetBroken}
@@ -27,9 +27,9 @@ leads_composes s (x ∷ xs) old new p = (p.0.composition, p.1.0, leads_composes 
 pub statement_has_none : (s : Given) (doc : Document) (e : Error) (c : Composition) → StatementFails s doc e → Describes s doc c → ⊥
 statement_has_none s doc e c f p =
     let whole = subst (λ (l : List Statement). Composes s start l c) f.split p.0 in
-    let r = steps_prefix (Goes s) start f.before (f.failing ∷ f.after) c whole in
+    let r = steps_prefix (StatementStep s) start f.before (f.failing ∷ f.after) c whole in
     let same : r.0 ≡ f.so_far.composition = composes_once s start f.before r.0 f.so_far.composition r.1 (leads_composes s f.before (placed_start start) f.so_far f.leads) in
-    f.stops r.2.0 (subst (λ (m : Composition). Goes s m f.failing r.2.0) same r.2.1)
+    f.stops r.2.0 (subst (λ (m : Composition). StatementStep s m f.failing r.2.0) same r.2.1)
 
 pub target_has_none : (s : Given) (doc : Document) (e : Error) (c : Composition) → TargetFails s doc e → Describes s doc c → ⊥
 target_has_none s doc e c f p =

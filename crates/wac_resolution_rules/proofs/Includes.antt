@@ -7,7 +7,7 @@ use Rattle.wac_graph_types.specs.Scope.{Named, Scope, look_up, StandsFor, IsFres
 use Rattle.wac_graph_types.specs.Steps.{Steps}
 use Rattle.wac_graph_types.specs.Shape.{entry_of, imports_of, exports_of}
 use Rattle.wac_ast_grammar.specs.Tree.{WorldInclude}
-use Rattle.wac_resolution_rules.specs.Paths.{Setting}
+use Rattle.wac_resolution_rules.specs.Paths.{Context}
 use Rattle.wac_resolution_rules.specs.Bodies.{Body}
 use Rattle.wac_resolution_rules.specs.Includes.{Entries, has_colon, Taking, with_missing, name_taken, TakesNamed, Takes, Included, HasInclude}
 use Rattle.wac_resolution_rules.proofs.StepLaws.{steps_keep, steps_prefix}
@@ -61,13 +61,13 @@ colon_stands old x new colon p = go (has_colon x.0) colon p
     go false e q = absurd (cc)
 
 -- an include loses no import and no export
-pub include_keeps_imports : (setting : Setting) (root : Scope) (old : Body) (x : WorldInclude) (new : Body) (name : List ℕ) (w : Meaning) → HasInclude setting root old x new → StandsFor old.imports name w → StandsFor new.imports name w
-include_keeps_imports setting root old x new name w p h =
+pub include_keeps_imports : (context : Context) (root : Scope) (old : Body) (x : WorldInclude) (new : Body) (name : List ℕ) (w : Meaning) → HasInclude context root old x new → StandsFor old.imports name w → StandsFor new.imports name w
+include_keeps_imports context root old x new name w p h =
     subst (λ (b : Body). StandsFor b.imports name w) (sym p.5.is)
     (steps_keep Takes (λ t. StandsFor t.there name w) (λ o y n has q. takes_keeps name w o y n has q) (record { entries = p.0; there = old.imports }) (imports_of (entry_of p.1)) p.5.imports h p.5.takes_imports)
 
-pub include_keeps_exports : (setting : Setting) (root : Scope) (old : Body) (x : WorldInclude) (new : Body) (name : List ℕ) (w : Meaning) → HasInclude setting root old x new → StandsFor old.exports name w → StandsFor new.exports name w
-include_keeps_exports setting root old x new name w p h =
+pub include_keeps_exports : (context : Context) (root : Scope) (old : Body) (x : WorldInclude) (new : Body) (name : List ℕ) (w : Meaning) → HasInclude context root old x new → StandsFor old.exports name w → StandsFor new.exports name w
+include_keeps_exports context root old x new name w p h =
     subst (λ (b : Body). StandsFor b.exports name w) (sym p.5.is)
     (steps_keep Takes (λ t. StandsFor t.there name w) (λ o y n has q. takes_keeps name w o y n has q) (record { entries = p.5.imports.entries; there = old.exports }) (exports_of (entry_of p.1)) p.5.exports h p.5.takes_exports)
 

@@ -13,7 +13,7 @@ use Rattle.wac_resolution_rules.specs.Given.{Given}
 use Rattle.wac_resolution_rules.specs.Composition.{imported, definition, aliased, Composition, Node, named_at, with_node, with_resources, start}
 use Rattle.wac_resolution_rules.specs.Nodes.{import_of, imports, alias_in, with_alias, next_of}
 use Rattle.wac_resolution_rules.specs.Expressions.{At, at, alias_at, Stands}
-use Rattle.wac_resolution_rules.specs.Statements.{name_imported, ExportsAs, ExportsOne, ExportsBy, Goes, Composes}
+use Rattle.wac_resolution_rules.specs.Statements.{name_imported, ExportsAs, ExportsOne, ExportsBy, StatementStep, Composes}
 use Rattle.wac_resolution_rules.specs.Sound.{OnceEach, NamesOnce}
 use Rattle.wac_resolution_rules.specs.Spans.{identifier_of}
 use Rattle.wac_resolution_rules.proofs.StatementsStop.{declares_what}
@@ -117,7 +117,7 @@ export_by_names s a (ExportOptions.spread span) new h g = export_each_names s a.
 export_by_names s a (ExportOptions.rename name) new h g = export_as_names s a.composition _ a.node new h g
 export_by_names s a ExportOptions.none new h g = export_as_names s a.composition g.1 a.node new h g.4
 
-goes_names : (s : Given) (old : Composition) (x : Statement) (new : Composition) → NamesOnce old → Goes s old x new → NamesOnce new
+goes_names : (s : Given) (old : Composition) (x : Statement) (new : Composition) → NamesOnce old → StatementStep s old x new → NamesOnce new
 goes_names s old (Statement.import_statement x) new h g =
     let name = name_imported x g.0 in
     let ns = (with_node (with_resources old g.1) (imported name) (promoted g.0)).nodes in
@@ -136,7 +136,7 @@ goes_names s old (Statement.let_statement x) new h g =
     })
 goes_names s old (Statement.export_statement x) new h g = export_by_names s g.0 x.options new (expr_names s old x.expr g.0 g.1 h) g.2
 goes_names s old (Statement.type_statement x) new h g =
-    let d = declares_what s.setting old x new g in
+    let d = declares_what s.context old x new g in
     let ns = (with_node (with_resources old d.1) definition d.0).nodes in
     let none : filter_map import_of (named_at ns (next_of old) (identifier_of x).string) ≡ imports old = imports_named ns (next_of old) (identifier_of x).string ∙ imports_with old.nodes _ refl in
     subst NamesOnce (sym d.2.2) (record {

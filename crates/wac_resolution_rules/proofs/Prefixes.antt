@@ -14,7 +14,7 @@ use Rattle.wac_resolution_rules.specs.Given.{Given, imports_in}
 use Rattle.wac_resolution_rules.specs.Composition.{NodeForm, imported, definition, aliased, instantiated, Composition, Node, first_name, named_at, binding, with_node, with_export, with_resources, start}
 use Rattle.wac_resolution_rules.specs.Nodes.{is_alias_of, alias_in, next_of}
 use Rattle.wac_resolution_rules.specs.Expressions.{At, at, accessed, alias_at, Accesses, nothing_given, spreads_of, Stands, PrimaryStands}
-use Rattle.wac_resolution_rules.specs.Statements.{name_imported, Imports, Lets, Exports, Goes, Composes, ExportsAs, ExportsOne, ExportsBy}
+use Rattle.wac_resolution_rules.specs.Statements.{name_imported, Imports, Lets, Exports, StatementStep, Composes, ExportsAs, ExportsOne, ExportsBy}
 use Rattle.wac_resolution_rules.specs.TypeStatements.{Declares}
 use Rattle.wac_resolution_rules.specs.Sound.{IsAlias, IsKept, AreKept, Begins}
 use Rattle.wac_resolution_rules.specs.Spans.{identifier_of}
@@ -251,9 +251,9 @@ continues_imports : (s : Given) (old : Composition) (x : ImportStatement) (new :
 continues_imports s old x new named g = subst (Continues old) (sym g.6)
     (continues_new old (with_node (with_resources old g.1) (imported (name_imported x g.0)) (promoted g.0)) [] _ x.id.string refl refl ([], sym (append-nil old.exports)) named)
 
-continues_declares : (s : Given) (old : Composition) (x : TypeStatement) (new : Composition) → AreNamed old → Declares s.setting old x new → Continues old new
+continues_declares : (s : Given) (old : Composition) (x : TypeStatement) (new : Composition) → AreNamed old → Declares s.context old x new → Continues old new
 continues_declares s old x new named g =
-    let d = declares_what s.setting old x new g in
+    let d = declares_what s.context old x new g in
     subst (Continues old) (sym d.2.2)
     (continues_new old (with_export (with_node (with_resources old d.1) definition d.0) (identifier_of x).string (length old.nodes)) [] _ (identifier_of x).string refl refl (_ ∷ [], refl) named)
 
@@ -295,7 +295,7 @@ continues_exports s old x new named g =
     continues_on old g.0.composition new p (continues_by s g.0 x.options new p.named g.2)
 
 -- a statement continues a composition
-pub goes_continues : (s : Given) (old : Composition) (x : Statement) (new : Composition) → AreNamed old → Goes s old x new → Continues old new
+pub goes_continues : (s : Given) (old : Composition) (x : Statement) (new : Composition) → AreNamed old → StatementStep s old x new → Continues old new
 goes_continues s old (Statement.import_statement x) new named g = continues_imports s old x new named g
 goes_continues s old (Statement.let_statement x) new named g = continues_lets s old x new named g
 goes_continues s old (Statement.export_statement x) new named g = continues_exports s old x new named g
@@ -310,6 +310,6 @@ composes_continues s (x ∷ xs) old new named p =
 -- a composition of statements begins with the composition of each prefix of them
 pub composes_prefix : (s : Given) (before after : List Statement) (new : Composition) → Composes s start (before ++ after) new → (mid : Composition) × Composes s start before mid × Begins mid new
 composes_prefix s before after new p =
-    let r = steps_prefix (Goes s) start before after new p in
+    let r = steps_prefix (StatementStep s) start before after new p in
     let q = composes_continues s before start r.0 tt r.1 in
     (r.0, r.1, (composes_continues s after r.0 new q.named r.2).begins)

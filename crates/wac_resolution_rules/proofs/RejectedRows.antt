@@ -143,7 +143,7 @@ imported_twice naming = inr (function, 0, (func_entry false [] [], ([], [], refl
 
 -- rules that reject every name
 abbrev no_names : Naming → Reason → Given
-no_names naming r = record { setting = (given_in naming []).setting; rules = record { passes = λ a b. None; named = λ text. Some r } }
+no_names naming r = record { context = (given_in naming []).context; rules = record { passes = λ a b. None; named = λ text. Some r } }
 
 -- package a:b; import f: func();
 invalid_name : (naming : Naming) (p : Places) (r : Reason) → StatementBroken (no_names naming r) start p (invalid_extern_name (codes "f") externs.Import r (span 20 1))
@@ -306,7 +306,7 @@ asks_for_params r done = Some r
 asks_for_params r (more s m rest) = None
 
 abbrev with_params : Naming → Reason → Given
-with_params naming r = record { setting = (given_in naming []).setting; rules = record { passes = λ a b. asks_for_params r (row_of (entry_of b)); named = λ text. None } }
+with_params naming r = record { context = (given_in naming []).context; rules = record { passes = λ a b. asks_for_params r (row_of (entry_of b)); named = λ text. None } }
 
 abbrev world_with_g_f : Meaning
 world_with_g_f = world_entry (Some (codes "a:b/w")) [] ((codes "g", other) ∷ []) ((codes "f", function) ∷ [])

@@ -11,7 +11,7 @@ use Rattle.wac_graph_types.specs.Shape.{kind_of, promoted}
 use Rattle.wac_graph.specs.Origin.{Naming}
 use Rattle.wac_graph.specs.Resources.{resource_entry}
 use Rattle.wac_ast_grammar.specs.Tree.{ResourceMethod, ItemTypeDecl, UseItem, Use, InterfaceItem, WorldItemPath, WorldItem}
-use Rattle.wac_resolution_rules.specs.Paths.{Setting}
+use Rattle.wac_resolution_rules.specs.Paths.{Context}
 use Rattle.wac_resolution_rules.specs.Bodies.{Body, empty_body, with_extern, with_type, with_count, constructor_name, name_of_method, HasMethod, with_resource, HasItem, used_as, renamed_from, UsesItem, HasUse, IsCovered}
 use Rattle.wac_resolution_rules.specs.Worlds.{HasInterfaceItem, HasExtern, HasWorldItem, id_or_empty}
 use Rattle.wac_resolution_rules.proofs.StepLaws.{steps_keep}
@@ -67,36 +67,36 @@ use_item_covered : (side : ExternKind) (interface : Meaning) (old : Body) (x : U
 use_item_covered side interface old x new has p =
     subst (IsCovered side) (sym p.4) (used_covered side old (old.uses ++ (((used_as x).string, renamed_from x), interface) ∷ []) (used_as x).string p.0 has)
 
-use_covered : (setting : Setting) (root : Scope) (side : ExternKind) (old : Body) (u : Use) (new : Body) → IsCovered side old → HasUse setting root side old u new → IsCovered side new
-use_covered setting root side old u new has p = steps_keep (UsesItem side (promoted p.0)) (IsCovered side) (use_item_covered side (promoted p.0)) old u.items new has p.3
+use_covered : (context : Context) (root : Scope) (side : ExternKind) (old : Body) (u : Use) (new : Body) → IsCovered side old → HasUse context root side old u new → IsCovered side new
+use_covered context root side old u new has p = steps_keep (UsesItem side (promoted p.0)) (IsCovered side) (use_item_covered side (promoted p.0)) old u.items new has p.3
 
 -- the items of an interface keep it
-pub interface_item_covered : (setting : Setting) (root : Scope) (old : Body) (x : InterfaceItem) (new : Body) → IsCovered sides.Export old → HasInterfaceItem setting root old x new → IsCovered sides.Export new
-interface_item_covered setting root old (InterfaceItem.use_statement u) new has p = use_covered setting root sides.Export old u new has p
-interface_item_covered setting root old (InterfaceItem.ty d) new has p = item_covered setting.naming sides.Export old d new has p
-interface_item_covered setting root old (InterfaceItem.interface_export x) new has p = subst (IsCovered sides.Export) (sym p.3) (with_extern_covered sides.Export old old.resources x.id.string (kind_of func p.0) has)
+pub interface_item_covered : (context : Context) (root : Scope) (old : Body) (x : InterfaceItem) (new : Body) → IsCovered sides.Export old → HasInterfaceItem context root old x new → IsCovered sides.Export new
+interface_item_covered context root old (InterfaceItem.use_statement u) new has p = use_covered context root sides.Export old u new has p
+interface_item_covered context root old (InterfaceItem.ty d) new has p = item_covered context.naming sides.Export old d new has p
+interface_item_covered context root old (InterfaceItem.interface_export x) new has p = subst (IsCovered sides.Export) (sym p.3) (with_extern_covered sides.Export old old.resources x.id.string (kind_of func p.0) has)
 
-import_covered : (setting : Setting) (root : Scope) (old : Body) (x : WorldItemPath) (new : Body) → IsCovered sides.Import old → HasExtern setting root sides.Import old x new → IsCovered sides.Import new
-import_covered setting root old (WorldItemPath.named x) new has p = subst (IsCovered sides.Import) (sym p.1.3) (with_extern_covered sides.Import old p.1.1 x.id.string p.1.0 has)
-import_covered setting root old (WorldItemPath.path x) new has p = subst (IsCovered sides.Import) (sym p.2.2) (with_extern_covered sides.Import old old.resources (id_or_empty p.0) (promoted p.0) has)
-import_covered setting root old (WorldItemPath.ident x) new has p = subst (IsCovered sides.Import) (sym p.2.2) (with_extern_covered sides.Import old old.resources (id_or_empty p.0) (promoted p.0) has)
+import_covered : (context : Context) (root : Scope) (old : Body) (x : WorldItemPath) (new : Body) → IsCovered sides.Import old → HasExtern context root sides.Import old x new → IsCovered sides.Import new
+import_covered context root old (WorldItemPath.named x) new has p = subst (IsCovered sides.Import) (sym p.1.3) (with_extern_covered sides.Import old p.1.1 x.id.string p.1.0 has)
+import_covered context root old (WorldItemPath.path x) new has p = subst (IsCovered sides.Import) (sym p.2.2) (with_extern_covered sides.Import old old.resources (id_or_empty p.0) (promoted p.0) has)
+import_covered context root old (WorldItemPath.ident x) new has p = subst (IsCovered sides.Import) (sym p.2.2) (with_extern_covered sides.Import old old.resources (id_or_empty p.0) (promoted p.0) has)
 
-export_covered : (setting : Setting) (root : Scope) (old : Body) (x : WorldItemPath) (new : Body) → IsCovered sides.Import old → HasExtern setting root sides.Export old x new → IsCovered sides.Import new
-export_covered setting root old (WorldItemPath.named x) new has p = subst (IsCovered sides.Import) (sym p.1.3) has
-export_covered setting root old (WorldItemPath.path x) new has p = subst (IsCovered sides.Import) (sym p.2.2) has
-export_covered setting root old (WorldItemPath.ident x) new has p = subst (IsCovered sides.Import) (sym p.2.2) has
+export_covered : (context : Context) (root : Scope) (old : Body) (x : WorldItemPath) (new : Body) → IsCovered sides.Import old → HasExtern context root sides.Export old x new → IsCovered sides.Import new
+export_covered context root old (WorldItemPath.named x) new has p = subst (IsCovered sides.Import) (sym p.1.3) has
+export_covered context root old (WorldItemPath.path x) new has p = subst (IsCovered sides.Import) (sym p.2.2) has
+export_covered context root old (WorldItemPath.ident x) new has p = subst (IsCovered sides.Import) (sym p.2.2) has
 
 -- the items of a world keep it
-pub world_item_covered : (setting : Setting) (root : Scope) (old : Body) (x : WorldItem) (new : Body) → IsCovered sides.Import old → HasWorldItem setting root old x new → IsCovered sides.Import new
-world_item_covered setting root old (WorldItem.use_statement u) new has p = use_covered setting root sides.Import old u new has p
-world_item_covered setting root old (WorldItem.world_import x) new has p = import_covered setting root old x.path new has p
-world_item_covered setting root old (WorldItem.world_export x) new has p = export_covered setting root old x.path new has p
-world_item_covered setting root old (WorldItem.world_include x) new has p = subst (IsCovered sides.Import) (sym p) has
-world_item_covered setting root old (WorldItem.ty d) new has p = item_covered setting.naming sides.Import old d new has p
+pub world_item_covered : (context : Context) (root : Scope) (old : Body) (x : WorldItem) (new : Body) → IsCovered sides.Import old → HasWorldItem context root old x new → IsCovered sides.Import new
+world_item_covered context root old (WorldItem.use_statement u) new has p = use_covered context root sides.Import old u new has p
+world_item_covered context root old (WorldItem.world_import x) new has p = import_covered context root old x.path new has p
+world_item_covered context root old (WorldItem.world_export x) new has p = export_covered context root old x.path new has p
+world_item_covered context root old (WorldItem.world_include x) new has p = subst (IsCovered sides.Import) (sym p) has
+world_item_covered context root old (WorldItem.ty d) new has p = item_covered context.naming sides.Import old d new has p
 
 -- so it holds of each body of an interface, and of a world before its includes
-pub interface_covered : (setting : Setting) (root : Scope) (n : ℕ) (items : List InterfaceItem) (b : Body) → Steps (HasInterfaceItem setting root) (empty_body n) items b → IsCovered sides.Export b
-interface_covered setting root n items b p = steps_keep (HasInterfaceItem setting root) (IsCovered sides.Export) (interface_item_covered setting root) (empty_body n) items b (λ name h. refl) p
+pub interface_covered : (context : Context) (root : Scope) (n : ℕ) (items : List InterfaceItem) (b : Body) → Steps (HasInterfaceItem context root) (empty_body n) items b → IsCovered sides.Export b
+interface_covered context root n items b p = steps_keep (HasInterfaceItem context root) (IsCovered sides.Export) (interface_item_covered context root) (empty_body n) items b (λ name h. refl) p
 
-pub world_covered : (setting : Setting) (root : Scope) (n : ℕ) (items : List WorldItem) (b : Body) → Steps (HasWorldItem setting root) (empty_body n) items b → IsCovered sides.Import b
-world_covered setting root n items b p = steps_keep (HasWorldItem setting root) (IsCovered sides.Import) (world_item_covered setting root) (empty_body n) items b (λ name h. refl) p
+pub world_covered : (context : Context) (root : Scope) (n : ℕ) (items : List WorldItem) (b : Body) → Steps (HasWorldItem context root) (empty_body n) items b → IsCovered sides.Import b
+world_covered context root n items b p = steps_keep (HasWorldItem context root) (IsCovered sides.Import) (world_item_covered context root) (empty_body n) items b (λ name h. refl) p

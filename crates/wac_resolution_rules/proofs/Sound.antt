@@ -15,7 +15,7 @@ use Rattle.wac_resolution_rules.specs.Given.{Given, instantiable, key_named, imp
 use Rattle.wac_resolution_rules.specs.Composition.{NodeForm, imported, definition, aliased, instantiated, Composition, Node, kind_at, named_at, binding, with_node, with_export, with_resources, start}
 use Rattle.wac_resolution_rules.specs.Nodes.{alias_in, with_alias, next_of, key_of_node}
 use Rattle.wac_resolution_rules.specs.Expressions.{At, at, accessed, alias_at, Accesses, Giving, nothing_given, given_too, spread_step, Spreads, spreads_of, has_fill, Fits, Instantiates, Stands, PrimaryStands, Gives, GivesOne}
-use Rattle.wac_resolution_rules.specs.Statements.{name_imported, Imports, Lets, Exports, Goes, Composes, ExportsAs, ExportsOne, ExportsBy}
+use Rattle.wac_resolution_rules.specs.Statements.{name_imported, Imports, Lets, Exports, StatementStep, Composes, ExportsAs, ExportsOne, ExportsBy}
 use Rattle.wac_resolution_rules.specs.TypeStatements.{Declares}
 use Rattle.wac_resolution_rules.specs.Spans.{identifier_of}
 use Rattle.wac_resolution_rules.specs.Sound.{OnceEach, IsAfterSource, ArgumentsFit, IsLinked, NamesNodes, IsSound}
@@ -146,9 +146,9 @@ cond_some true o x e = absurd (cc e)
 cond_some false o x e = e
 
 pub instance_linked : (s : Given) (p : Contents) (name : PackageName) (filled : Bool) (g : Giving) (new : At) → instantiable s name ≡ Some p → LinkedGiving s g → Instantiates s.rules p (key_named name) filled g new → LinkedAt s new
-instance_linked s p name filled g new handed h i =
+instance_linked s p name filled g new supplied h i =
     let n : Node = record { form = instantiated (key_named name); kind = p.instance; name = None; arguments = g.arguments } in
-    let is : package_of (key_named name) s.setting.packages ≡ Some p = cond_some (bytes_eq name.name s.setting.own) (package_of (key_named name) s.setting.packages) p handed in
+    let is : package_of (key_named name) s.context.packages ≡ Some p = cond_some (bytes_eq name.name s.context.own) (package_of (key_named name) s.context.packages) p supplied in
     subst (LinkedAt s) (sym i.made) (record {
       linked = and_linked s g.composition.nodes n h.linked (record {
         source = tt;
@@ -258,9 +258,9 @@ sound_imports s old x new h g = subst (IsSound s) (sym g.6)
     (binding_sound s (with_node (with_resources old g.1) (imported (name_imported x g.0)) (promoted g.0)) x.id.string (next_of old)
     (node_sound s old g.1 (imported (name_imported x g.0)) (promoted g.0) tt refl h) (next_within old _))
 
-sound_declares : (s : Given) (old : Composition) (x : TypeStatement) (new : Composition) → IsSound s old → Declares s.setting old x new → IsSound s new
+sound_declares : (s : Given) (old : Composition) (x : TypeStatement) (new : Composition) → IsSound s old → Declares s.context old x new → IsSound s new
 sound_declares s old x new h g =
-    let d = declares_what s.setting old x new g in
+    let d = declares_what s.context old x new g in
     subst (IsSound s) (sym d.2.2)
     (binding_sound s (with_export (with_node (with_resources old d.1) definition d.0) (identifier_of x).string (length old.nodes)) (identifier_of x).string (length old.nodes)
     (export_sound s (with_node (with_resources old d.1) definition d.0) (identifier_of x).string (length old.nodes) (node_sound s old d.1 definition d.0 tt refl h) (next_within old _)) (next_within old _))
@@ -294,7 +294,7 @@ sound_exports s old x new named h g =
     let l = stands_linked s old x.expr g.0 named h.linked g.1 in
     sound_by s g.0 x.options new (adds_sound s old g.0.composition h (stands_adds s old x.expr g.0 g.1) l.linked) l.within g.2
 
-pub goes_sound : (s : Given) (old : Composition) (x : Statement) (new : Composition) → AreNamed old → IsSound s old → Goes s old x new → IsSound s new
+pub goes_sound : (s : Given) (old : Composition) (x : Statement) (new : Composition) → AreNamed old → IsSound s old → StatementStep s old x new → IsSound s new
 goes_sound s old (Statement.import_statement x) new named h g = sound_imports s old x new h g
 goes_sound s old (Statement.let_statement x) new named h g = sound_lets s old x new named h g
 goes_sound s old (Statement.export_statement x) new named h g = sound_exports s old x new named h g

@@ -16,7 +16,7 @@ use Rattle.wac_resolution_rules.specs.Bodies.{Body}
 use Rattle.wac_resolution_rules.specs.Composition.{Composition, Node, imported, definition, aliased, instantiated, root_scope, start}
 use Rattle.wac_resolution_rules.specs.Find.{find_name}
 use Rattle.wac_resolution_rules.specs.Expressions.{Giving, name_inferred}
-use Rattle.wac_resolution_rules.specs.Statements.{Goes, Composes, unnamed_export}
+use Rattle.wac_resolution_rules.specs.Statements.{StatementStep, Composes, unnamed_export}
 use Rattle.wac_resolution_rules.specs.Target.{IsAllowed}
 use Rattle.wac_resolution_errors.specs.Error.{duplicate_extern_name, fill_argument_not_last, import_not_in_target, mismatched_instantiation_arg, missing_instantiation_arg, missing_target_export, unknown_package}
 use Rattle.wac_resolution_rules.specs.BrokenStatements.{StatementBroken, TargetWorldBroken, TargetBroken}
@@ -38,7 +38,7 @@ abbrev pub all_pass : Rules
 all_pass = record { passes = λ a b. None; named = λ text. None }
 
 abbrev pub given_in : Naming → List (Key × Contents) → Given
-given_in naming packages = record { setting = record { naming = naming; own = codes "a:b"; version = None; packages = packages }; rules = all_pass }
+given_in naming packages = record { context = record { naming = naming; own = codes "a:b"; version = None; packages = packages }; rules = all_pass }
 
 -- ---- package a:b; import x: interface { f: func(); }; export x.f;
 
@@ -67,10 +67,10 @@ whole_x = record { nodes = node_x ∷ record { form = aliased 0 (codes "f"); kin
 abbrev body_f : Body
 body_f = record { scope = []; uses = []; imports = []; exports = (codes "f", function) ∷ []; resources = 0 }
 
-imports_x : (naming : Naming) → Goes (given_in naming []) start import_x with_x
+imports_x : (naming : Naming) → StatementStep (given_in naming []) start import_x with_x
 imports_x naming = (instance_x, 0, (interface_entry None [] ((codes "f", function) ∷ []), (body_f, (body_f, (func_entry false [] [], ([], [], refl, refl, refl), refl, refl), refl), refl, refl), refl), refl, refl, refl, refl)
 
-exports_x_f : (naming : Naming) → Goes (given_in naming []) with_x export_x_f whole_x
+exports_x_f : (naming : Naming) → StatementStep (given_in naming []) with_x export_x_f whole_x
 exports_x_f naming = (
   record { composition = record { nodes = whole_x.nodes; exports = []; declared = (codes "x", 0) ∷ []; resources = 0 }; node = 1 },
   (
@@ -147,13 +147,13 @@ with_i = record { nodes = node_log ∷ node_i (Some (codes "i")) ∷ []; exports
 abbrev whole_i : Composition
 whole_i = record { nodes = node_log ∷ node_i (Some (codes "i")) ∷ node_run ∷ []; exports = (codes "run", 2) ∷ []; declared = (codes "log", 0) ∷ (codes "i", 1) ∷ []; resources = 0 }
 
-imports_log : (naming : Naming) → Goes (with_cd naming) start import_log with_log
+imports_log : (naming : Naming) → StatementStep (with_cd naming) start import_log with_log
 imports_log naming = (function, 0, (func_entry false [] [], ([], [], refl, refl, refl), refl, refl), refl, refl, refl, refl)
 
 abbrev given_log : Giving
 given_log = record { composition = with_log; arguments = (codes "log", 0) ∷ [] }
 
-lets_i : (naming : Naming) → Goes (with_cd naming) with_log (let_i log_and_fill) with_i
+lets_i : (naming : Naming) → StatementStep (with_cd naming) with_log (let_i log_and_fill) with_i
 lets_i naming = (
   record { composition = made_i; node = 1 },
   (
@@ -173,7 +173,7 @@ lets_i naming = (
   refl,
 )
 
-exports_i_run : (naming : Naming) → Goes (with_cd naming) with_i export_i_run whole_i
+exports_i_run : (naming : Naming) → StatementStep (with_cd naming) with_i export_i_run whole_i
 exports_i_run naming = (
   record { composition = record { nodes = whole_i.nodes; exports = []; declared = whole_i.declared; resources = 0 }; node = 2 },
   (
@@ -253,7 +253,7 @@ made_spread = record {
   resources = 0;
 }
 
-pub spread_composes : (naming : Naming) → Goes (with_cd naming) with_x_log (let_i spread_and_fill) whole_spread
+pub spread_composes : (naming : Naming) → StatementStep (with_cd naming) with_x_log (let_i spread_and_fill) whole_spread
 spread_composes naming = (
   record { composition = made_spread; node = 2 },
   (
@@ -275,7 +275,7 @@ spread_composes naming = (
 
 -- rules that pass nothing, for one reason
 abbrev pub none_pass : Naming → Reason → Given
-none_pass naming r = record { setting = (with_cd naming).setting; rules = record { passes = λ a b. Some r; named = λ text. None } }
+none_pass naming r = record { context = (with_cd naming).context; rules = record { passes = λ a b. Some r; named = λ text. None } }
 
 -- then 72+1: mismatched instantiation argument log, for that reason
 pub argument_mismatches : (naming : Naming) (p : Places) (r : Reason) → StatementBroken (none_pass naming r) with_x_log p (mismatched_instantiation_arg (codes "log") r (span 72 1)) (let_i spread_and_fill)

@@ -18,7 +18,7 @@ use Rattle.wac_resolution_rules.specs.Given.{Given, instantiable, key_named, imp
 use Rattle.wac_resolution_rules.specs.Composition.{imported, definition, aliased, Composition, Node, named_at, binding, root_scope, with_node, with_resources, start}
 use Rattle.wac_resolution_rules.specs.Nodes.{imports, next_of, alias_in, with_alias, key_of_node}
 use Rattle.wac_resolution_rules.specs.Expressions.{At, at, accessed, alias_at, Accesses, Giving, nothing_given, given_too, name_meant, spread_step, Spreads, spreads_of, has_fill, Instantiates, left_out, Stands, PrimaryStands, Gives, GivesOne}
-use Rattle.wac_resolution_rules.specs.Statements.{ImportsKind, name_imported, ExportsOne, ExportsBy, Goes, Composes}
+use Rattle.wac_resolution_rules.specs.Statements.{ImportsKind, name_imported, ExportsOne, ExportsBy, StatementStep, Composes}
 use Rattle.wac_resolution_rules.specs.Target.{open_imports, ImportAllowed, ExportMet, MeetsTarget}
 use Rattle.wac_resolution_rules.specs.ResolvedDocument.{Describes}
 use Rattle.wac_resolution_rules.specs.Mentions.{Mention, name_mentions, expr_mentions, primary_mentions, arguments_mentions, argument_mentions, import_type_mentions, statement_mentions, target_mentions, mentions, Agree, given_over, kept, IsMentioned, KeyHolds, KeysHold}
@@ -33,28 +33,28 @@ handed_agrees : (ps qs : Packages) (b : Bool) (m : Mention) → Agree ps qs (if 
 handed_agrees ps qs true m h = refl
 handed_agrees ps qs false m h = h.0
 
-pub instantiable_agrees : (g : Given) (ps qs : Packages) (x : PackageName) → Agree ps qs (name_mentions g.setting.own x) → instantiable (given_over g ps) x ≡ instantiable (given_over g qs) x
-instantiable_agrees g ps qs x h = handed_agrees ps qs (bytes_eq x.name g.setting.own) (key_named x, x.span) h
+pub instantiable_agrees : (g : Given) (ps qs : Packages) (x : PackageName) → Agree ps qs (name_mentions g.context.own x) → instantiable (given_over g ps) x ≡ instantiable (given_over g qs) x
+instantiable_agrees g ps qs x h = handed_agrees ps qs (bytes_eq x.name g.context.own) (key_named x, x.span) h
 
 mutual
-  pub stands_agree : (g : Given) (ps qs : Packages) (old : Composition) (x : Expr) → Agree ps qs (expr_mentions g.setting.own x) → Stands (given_over g ps) old x ≡ Stands (given_over g qs) old x
+  pub stands_agree : (g : Given) (ps qs : Packages) (old : Composition) (x : Expr) → Agree ps qs (expr_mentions g.context.own x) → Stands (given_over g ps) old x ≡ Stands (given_over g qs) old x
   stands_agree g ps qs old (Expr.expr span first others) h = λ i new. (mid : At) × first_agrees g ps qs old first h i mid × Steps Accesses mid others new
 
-  pub first_agrees : (g : Given) (ps qs : Packages) (old : Composition) (x : PrimaryExpr) → Agree ps qs (primary_mentions g.setting.own x) → PrimaryStands (given_over g ps) old x ≡ PrimaryStands (given_over g qs) old x
+  pub first_agrees : (g : Given) (ps qs : Packages) (old : Composition) (x : PrimaryExpr) → Agree ps qs (primary_mentions g.context.own x) → PrimaryStands (given_over g ps) old x ≡ PrimaryStands (given_over g qs) old x
   first_agrees g ps qs old (PrimaryExpr.new span name args) h =
-      let r = agree_prefix ps qs (name_mentions g.setting.own name) (arguments_mentions g.setting.own args) h in
+      let r = agree_prefix ps qs (name_mentions g.context.own name) (arguments_mentions g.context.own args) h in
       λ i new. (p : Contents) × (given : Giving) × (all : Giving) × (instantiable_agrees g ps qs name r.0 i ≡ Some p)
       × gives_agree g ps qs (imports_in p) (nothing_given old) args r.1 i given × Steps (Spreads (imports_in p)) given (spreads_of args) all × Instantiates g.rules p (key_named name) (has_fill args) all new
   first_agrees g ps qs old (PrimaryExpr.nested span x) h = stands_agree g ps qs old x h
   first_agrees g ps qs old (PrimaryExpr.ident id) h = refl
 
-  pub gives_agree : (g : Given) (ps qs : Packages) (imports : Named Meaning) (old : Giving) (x : Arguments) → Agree ps qs (arguments_mentions g.setting.own x) → Gives (given_over g ps) imports old x ≡ Gives (given_over g qs) imports old x
+  pub gives_agree : (g : Given) (ps qs : Packages) (imports : Named Meaning) (old : Giving) (x : Arguments) → Agree ps qs (arguments_mentions g.context.own x) → Gives (given_over g ps) imports old x ≡ Gives (given_over g qs) imports old x
   gives_agree g ps qs imports old Arguments.none h = refl
   gives_agree g ps qs imports old (Arguments.more a rest) h =
-      let r = agree_prefix ps qs (argument_mentions g.setting.own a) (arguments_mentions g.setting.own rest) h in
+      let r = agree_prefix ps qs (argument_mentions g.context.own a) (arguments_mentions g.context.own rest) h in
       λ i new. (mid : Giving) × give_agrees g ps qs imports rest old a r.0 i mid × gives_agree g ps qs imports mid rest r.1 i new
 
-  pub give_agrees : (g : Given) (ps qs : Packages) (imports : Named Meaning) (rest : Arguments) (old : Giving) (x : InstantiationArgument) → Agree ps qs (argument_mentions g.setting.own x)
+  pub give_agrees : (g : Given) (ps qs : Packages) (imports : Named Meaning) (rest : Arguments) (old : Giving) (x : InstantiationArgument) → Agree ps qs (argument_mentions g.context.own x)
       → GivesOne (given_over g ps) imports rest old x ≡ GivesOne (given_over g qs) imports rest old x
   give_agrees g ps qs imports rest old (InstantiationArgument.fill span) h = refl
   give_agrees g ps qs imports rest old (InstantiationArgument.spread id) h = refl
@@ -64,10 +64,10 @@ mutual
 
 -- ---- statements
 
-pub kind_agrees : (g : Given) (ps qs : Packages) (old : Composition) (x : ImportType) → Agree ps qs (import_type_mentions g.setting.own x) → ImportsKind (given_over g ps) old x ≡ ImportsKind (given_over g qs) old x
+pub kind_agrees : (g : Given) (ps qs : Packages) (old : Composition) (x : ImportType) → Agree ps qs (import_type_mentions g.context.own x) → ImportsKind (given_over g ps) old x ≡ ImportsKind (given_over g qs) old x
 kind_agrees g ps qs old (ImportType.func x) h = refl
-kind_agrees g ps qs old (ImportType.interface x) h = λ i k after. (entry : Meaning) × interface_agrees g.setting ps qs (root_scope old) old.resources None x.items h i entry after × (k ≡ kind_of instance entry)
-kind_agrees g ps qs old (ImportType.path x) h = λ i k after. path_agrees g.setting ps qs (root_scope old) x h i k × (after ≡ old.resources)
+kind_agrees g ps qs old (ImportType.interface x) h = λ i k after. (entry : Meaning) × interface_agrees g.context ps qs (root_scope old) old.resources None x.items h i entry after × (k ≡ kind_of instance entry)
+kind_agrees g ps qs old (ImportType.path x) h = λ i k after. path_agrees g.context ps qs (root_scope old) x h i k × (after ≡ old.resources)
 kind_agrees g ps qs old (ImportType.ident x) h = refl
 
 exports_same : (g : Given) (ps qs : Packages) (a : At) (x : ExportOptions) → ExportsBy (given_over g ps) a x ≡ ExportsBy (given_over g qs) a x
@@ -76,16 +76,16 @@ exports_same g ps qs a (ExportOptions.rename name) = refl
 exports_same g ps qs a ExportOptions.none = refl
 
 -- a statement yields what it yields with other packages that agree on what it mentions
-pub goes_agree : (g : Given) (ps qs : Packages) (old : Composition) (x : Statement) → Agree ps qs (statement_mentions g.setting.own x) → Goes (given_over g ps) old x ≡ Goes (given_over g qs) old x
+pub goes_agree : (g : Given) (ps qs : Packages) (old : Composition) (x : Statement) → Agree ps qs (statement_mentions g.context.own x) → StatementStep (given_over g ps) old x ≡ StatementStep (given_over g qs) old x
 goes_agree g ps qs old (Statement.import_statement x) h = λ i new. (k : Meaning) × (n : ℕ) × kind_agrees g ps qs old x.ty h i k n
     × IsFresh (name_imported x k) (imports old) × (g.rules.named (name_imported x k) ≡ None) × IsFresh x.id.string old.declared
     × (new ≡ binding (with_node (with_resources old n) (imported (name_imported x k)) (promoted k)) x.id.string (next_of old))
 goes_agree g ps qs old (Statement.let_statement x) h = λ i new. (a : At) × stands_agree g ps qs old x.expr h i a × IsFresh x.id.string a.composition.declared × (new ≡ binding a.composition x.id.string a.node)
 goes_agree g ps qs old (Statement.export_statement x) h = λ i new. (a : At) × stands_agree g ps qs old x.expr h i a × exports_same g ps qs a x.options i new
-goes_agree g ps qs old (Statement.type_statement x) h = declares_agrees g.setting ps qs old x h
+goes_agree g ps qs old (Statement.type_statement x) h = declares_agrees g.context ps qs old x h
 
-pub composes_agree : (g : Given) (ps qs : Packages) (old : Composition) (xs : List Statement) → Agree ps qs (flat_map (statement_mentions g.setting.own) xs) → Composes (given_over g ps) old xs ≡ Composes (given_over g qs) old xs
-composes_agree g ps qs old xs h = steps_agree (Goes (given_over g ps)) (Goes (given_over g qs)) (statement_mentions g.setting.own) ps qs (goes_agree g ps qs) old xs h
+pub composes_agree : (g : Given) (ps qs : Packages) (old : Composition) (xs : List Statement) → Agree ps qs (flat_map (statement_mentions g.context.own) xs) → Composes (given_over g ps) old xs ≡ Composes (given_over g qs) old xs
+composes_agree g ps qs old xs h = steps_agree (StatementStep (given_over g ps)) (StatementStep (given_over g qs)) (statement_mentions g.context.own) ps qs (goes_agree g ps qs) old xs h
 
 -- ---- the packages of nodes
 
@@ -133,26 +133,26 @@ key_there P ps true m p h e = absurd (cc e)
 key_there P ps false m p h e = h.0
 
 mutual
-  keys_stands : (g : Given) (P : Key → Type 0) (old : Composition) (x : Expr) (a : At) → EachMention P (expr_mentions g.setting.own x) → KeysHold P old.nodes → Stands g old x a → KeysHold P a.composition.nodes
+  keys_stands : (g : Given) (P : Key → Type 0) (old : Composition) (x : Expr) (a : At) → EachMention P (expr_mentions g.context.own x) → KeysHold P old.nodes → Stands g old x a → KeysHold P a.composition.nodes
   keys_stands g P old (Expr.expr span first others) a m h p = keys_accesses P others p.0 a (keys_first g P old first p.0 m h p.1) p.2
 
-  keys_first : (g : Given) (P : Key → Type 0) (old : Composition) (x : PrimaryExpr) (a : At) → EachMention P (primary_mentions g.setting.own x) → KeysHold P old.nodes → PrimaryStands g old x a → KeysHold P a.composition.nodes
+  keys_first : (g : Given) (P : Key → Type 0) (old : Composition) (x : PrimaryExpr) (a : At) → EachMention P (primary_mentions g.context.own x) → KeysHold P old.nodes → PrimaryStands g old x a → KeysHold P a.composition.nodes
   keys_first g P old (PrimaryExpr.new span name args) a m h p =
-      let r = all_prefix (λ (m : Mention). P m.0) (name_mentions g.setting.own name) (arguments_mentions g.setting.own args) m in
-      let k = key_there P g.setting.packages (bytes_eq name.name g.setting.own) (key_named name, name.span) p.0 r.0 p.3 in
+      let r = all_prefix (λ (m : Mention). P m.0) (name_mentions g.context.own name) (arguments_mentions g.context.own args) m in
+      let k = key_there P g.context.packages (bytes_eq name.name g.context.own) (key_named name, name.span) p.0 r.0 p.3 in
       let q = keys_spreads P (imports_in p.0) (spreads_of args) p.1 p.2 (keys_gives g P (imports_in p.0) (nothing_given old) args p.1 r.1 h p.4) p.5 in
       subst (λ (a : At). KeysHold P a.composition.nodes) (sym p.6.made) (keys_and P p.2.composition.nodes _ q k)
   keys_first g P old (PrimaryExpr.nested span x) a m h p = keys_stands g P old x a m h p
   keys_first g P old (PrimaryExpr.ident id) a m h p = subst (λ (a : At). KeysHold P a.composition.nodes) (sym p.2) h
 
-  keys_gives : (g : Given) (P : Key → Type 0) (imports : Named Meaning) (old : Giving) (x : Arguments) (new : Giving) → EachMention P (arguments_mentions g.setting.own x) → KeysHold P old.composition.nodes
+  keys_gives : (g : Given) (P : Key → Type 0) (imports : Named Meaning) (old : Giving) (x : Arguments) (new : Giving) → EachMention P (arguments_mentions g.context.own x) → KeysHold P old.composition.nodes
       → Gives g imports old x new → KeysHold P new.composition.nodes
   keys_gives g P imports old Arguments.none new m h p = subst (λ (a : Giving). KeysHold P a.composition.nodes) (sym p) h
   keys_gives g P imports old (Arguments.more x rest) new m h p =
-      let r = all_prefix (λ (m : Mention). P m.0) (argument_mentions g.setting.own x) (arguments_mentions g.setting.own rest) m in
+      let r = all_prefix (λ (m : Mention). P m.0) (argument_mentions g.context.own x) (arguments_mentions g.context.own rest) m in
       keys_gives g P imports p.0 rest new r.1 (keys_give g P imports rest old x p.0 r.0 h p.1) p.2
 
-  keys_give : (g : Given) (P : Key → Type 0) (imports : Named Meaning) (rest : Arguments) (old : Giving) (x : InstantiationArgument) (new : Giving) → EachMention P (argument_mentions g.setting.own x) → KeysHold P old.composition.nodes
+  keys_give : (g : Given) (P : Key → Type 0) (imports : Named Meaning) (rest : Arguments) (old : Giving) (x : InstantiationArgument) (new : Giving) → EachMention P (argument_mentions g.context.own x) → KeysHold P old.composition.nodes
       → GivesOne g imports rest old x new → KeysHold P new.composition.nodes
   keys_give g P imports rest old (InstantiationArgument.fill span) new m h p = subst (λ (a : Giving). KeysHold P a.composition.nodes) (sym p.1) h
   keys_give g P imports rest old (InstantiationArgument.spread id) new m h p = subst (λ (a : Giving). KeysHold P a.composition.nodes) (sym p) h
@@ -175,20 +175,20 @@ keys_by g P a (ExportOptions.spread span) new h p = keys_each g P a.node _ a.com
 keys_by g P a (ExportOptions.rename name) new h p = subst (λ (c : Composition). KeysHold P c.nodes) (sym p.3) h
 keys_by g P a ExportOptions.none new h p = subst (λ (c : Composition). KeysHold P c.nodes) (sym p.4.3) h
 
-keys_goes : (g : Given) (P : Key → Type 0) (old : Composition) (x : Statement) (new : Composition) → EachMention P (statement_mentions g.setting.own x) → KeysHold P old.nodes → Goes g old x new → KeysHold P new.nodes
+keys_goes : (g : Given) (P : Key → Type 0) (old : Composition) (x : Statement) (new : Composition) → EachMention P (statement_mentions g.context.own x) → KeysHold P old.nodes → StatementStep g old x new → KeysHold P new.nodes
 keys_goes g P old (Statement.import_statement x) new m h p =
     subst (λ (c : Composition). KeysHold P c.nodes) (sym p.6) (keys_binding P (with_node (with_resources old p.1) (imported (name_imported x p.0)) (promoted p.0)).nodes (next_of old) x.id.string (keys_and P old.nodes _ h tt))
 keys_goes g P old (Statement.let_statement x) new m h p =
     subst (λ (c : Composition). KeysHold P c.nodes) (sym p.3) (keys_binding P p.0.composition.nodes p.0.node x.id.string (keys_stands g P old x.expr p.0 m h p.1))
 keys_goes g P old (Statement.export_statement x) new m h p = keys_by g P p.0 x.options new (keys_stands g P old x.expr p.0 m h p.1) p.2
 keys_goes g P old (Statement.type_statement x) new m h p =
-    let d = declares_what g.setting old x new p in
+    let d = declares_what g.context old x new p in
     subst (λ (c : Composition). KeysHold P c.nodes) (sym d.2.2) (keys_binding P (with_node (with_resources old d.1) definition d.0).nodes (next_of old) (identifier_of x).string (keys_and P old.nodes _ h tt))
 
-pub keys_composes : (g : Given) (P : Key → Type 0) (xs : List Statement) (old new : Composition) → EachMention P (flat_map (statement_mentions g.setting.own) xs) → KeysHold P old.nodes → Composes g old xs new → KeysHold P new.nodes
+pub keys_composes : (g : Given) (P : Key → Type 0) (xs : List Statement) (old new : Composition) → EachMention P (flat_map (statement_mentions g.context.own) xs) → KeysHold P old.nodes → Composes g old xs new → KeysHold P new.nodes
 keys_composes g P [] old new m h p = subst (λ (c : Composition). KeysHold P c.nodes) (sym p) h
 keys_composes g P (x ∷ xs) old new m h p =
-    let r = all_prefix (λ (m : Mention). P m.0) (statement_mentions g.setting.own x) (flat_map (statement_mentions g.setting.own) xs) m in
+    let r = all_prefix (λ (m : Mention). P m.0) (statement_mentions g.context.own x) (flat_map (statement_mentions g.context.own) xs) m in
     keys_composes g P xs p.0 new r.1 (keys_goes g P old x p.0 r.0 h p.1) p.2
 
 -- ---- the target
@@ -205,18 +205,18 @@ pub opens_agree : (g : Given) (ps qs : Packages) (ns : List Node) → KeysHold (
 opens_agree g ps qs [] h = refl
 opens_agree g ps qs (n ∷ ns) h = λ i. open_agree g ps qs n h.0 i ++ opens_agree g ps qs ns h.1 i
 
-pub target_agrees : (g : Given) (ps qs : Packages) (c : Composition) (t : Option PackagePath) → Agree ps qs (target_mentions g.setting.own t) → KeysHold (λ key. package_of key ps ≡ package_of key qs) c.nodes → MeetsTarget (given_over g ps) c t ≡ MeetsTarget (given_over g qs) c t
+pub target_agrees : (g : Given) (ps qs : Packages) (c : Composition) (t : Option PackagePath) → Agree ps qs (target_mentions g.context.own t) → KeysHold (λ key. package_of key ps ≡ package_of key qs) c.nodes → MeetsTarget (given_over g ps) c t ≡ MeetsTarget (given_over g qs) c t
 target_agrees g ps qs c None m h = refl
-target_agrees g ps qs c (Some p) m h = λ i. (k : Meaning) × (w : Meaning) × path_agrees g.setting ps qs (root_scope c) p m i k × (world_of k ≡ Some w)
+target_agrees g ps qs c (Some p) m h = λ i. (k : Meaning) × (w : Meaning) × path_agrees g.context ps qs (root_scope c) p m i k × (world_of k ≡ Some w)
     × (AllByRecursion (ImportAllowed (given_over g ps) w) (imports c ++ opens_agree g ps qs c.nodes h i) × AllByRecursion (ExportMet (given_over g ps) c) (exports_of w))
 
 -- ---- documents
 
 -- a document describes what it describes with other packages that agree on what it mentions
-pub describes_agree : (g : Given) (ps qs : Packages) (doc : Document) (c : Composition) → g.setting.own ≡ doc.directive.package_name.name → Agree ps qs (mentions doc) → Describes (given_over g ps) doc c → Describes (given_over g qs) doc c
+pub describes_agree : (g : Given) (ps qs : Packages) (doc : Document) (c : Composition) → g.context.own ≡ doc.directive.package_name.name → Agree ps qs (mentions doc) → Describes (given_over g ps) doc c → Describes (given_over g qs) doc c
 describes_agree g ps qs doc c own m p =
     let n = subst (λ (o : List ℕ). Agree ps qs (target_mentions o doc.directive.targets ++ flat_map (statement_mentions o) doc.statements)) (sym own) m in
-    let r = agree_prefix ps qs (target_mentions g.setting.own doc.directive.targets) (flat_map (statement_mentions g.setting.own) doc.statements) n in (
+    let r = agree_prefix ps qs (target_mentions g.context.own doc.directive.targets) (flat_map (statement_mentions g.context.own) doc.statements) n in (
       along (λ i. composes_agree g ps qs start doc.statements r.1 i c) p.0,
       along (target_agrees g ps qs c doc.directive.targets r.0 (keys_composes (given_over g ps) (λ key. package_of key ps ≡ package_of key qs) doc.statements start c r.1 tt p.0)) p.1,
     )
@@ -242,7 +242,7 @@ kept_agree all (m ∷ ms) ps sub = (
 )
 
 -- only mentioned packages matter
-pub only_mentioned : (g : Given) (ps : Packages) (doc : Document) (c : Composition) → g.setting.own ≡ doc.directive.package_name.name
+pub only_mentioned : (g : Given) (ps : Packages) (doc : Document) (c : Composition) → g.context.own ≡ doc.directive.package_name.name
     → Describes (given_over g (kept (mentions doc) ps)) doc c ↔ Describes (given_over g ps) doc c
 only_mentioned g ps doc c own =
     let h = kept_agree (mentions doc) (mentions doc) ps (λ k e. e) in
@@ -266,9 +266,9 @@ each_mentioned all (m ∷ ms) sub = (
 )
 
 -- every package that a composition has an instance of is mentioned
-pub instances_mentioned : (g : Given) (doc : Document) (c : Composition) → g.setting.own ≡ doc.directive.package_name.name → Describes g doc c → KeysHold (IsMentioned (mentions doc)) c.nodes
+pub instances_mentioned : (g : Given) (doc : Document) (c : Composition) → g.context.own ≡ doc.directive.package_name.name → Describes g doc c → KeysHold (IsMentioned (mentions doc)) c.nodes
 instances_mentioned g doc c own p =
     let m = each_mentioned (mentions doc) (mentions doc) (λ k e. e) in
     let n = subst (λ (o : List ℕ). EachMention (IsMentioned (mentions doc)) (target_mentions o doc.directive.targets ++ flat_map (statement_mentions o) doc.statements)) (sym own) m in
-    let r = all_prefix (λ (n : Mention). IsMentioned (mentions doc) n.0) (target_mentions g.setting.own doc.directive.targets) (flat_map (statement_mentions g.setting.own) doc.statements) n in
+    let r = all_prefix (λ (n : Mention). IsMentioned (mentions doc) n.0) (target_mentions g.context.own doc.directive.targets) (flat_map (statement_mentions g.context.own) doc.statements) n in
     keys_composes g (IsMentioned (mentions doc)) doc.statements start c r.1 tt p.0

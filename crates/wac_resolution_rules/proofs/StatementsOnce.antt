@@ -10,7 +10,7 @@ use Rattle.wac_resolution_rules.specs.Given.{Given}
 use Rattle.wac_resolution_rules.specs.Composition.{Composition, Node, imported, root_scope, with_node, with_export, with_resources, binding}
 use Rattle.wac_resolution_rules.specs.Nodes.{node_at, instance_at, next_of}
 use Rattle.wac_resolution_rules.specs.Expressions.{At}
-use Rattle.wac_resolution_rules.specs.Statements.{ImportsKind, name_imported, Imports, Lets, unnamed_export, unexported, ExportsOne, ExportsBy, Exports, Goes, Composes}
+use Rattle.wac_resolution_rules.specs.Statements.{ImportsKind, name_imported, Imports, Lets, unnamed_export, unexported, ExportsOne, ExportsBy, Exports, StatementStep, Composes}
 use Rattle.wac_resolution_rules.proofs.StepLaws.{IsOnce, steps_once}
 use Rattle.wac_resolution_rules.proofs.TypesOnce.{func_once}
 use Rattle.wac_resolution_rules.proofs.BodiesOnce.{leads_once}
@@ -21,9 +21,9 @@ use Rattle.wac_resolution_rules.proofs.Options.{some_once}
 pub kind_once : (s : Given) (old : Composition) (x : ImportType) (k l : Meaning) (n m : ℕ) → ImportsKind s old x k n → ImportsKind s old x l m → (k ≡ l) × (n ≡ m)
 kind_once s old (ImportType.func x) k l n m p q = (p.2 ∙ ap (kind_of func) (func_once (root_scope old) [] x p.0 q.0 p.1 q.1) ∙ sym q.2, p.3 ∙ sym q.3)
 kind_once s old (ImportType.interface x) k l n m p q =
-    let e = interface_once s.setting (root_scope old) old.resources None x.items p.0 q.0 n m p.1 q.1 in
+    let e = interface_once s.context (root_scope old) old.resources None x.items p.0 q.0 n m p.1 q.1 in
     (p.2 ∙ ap (kind_of instance) e.0 ∙ sym q.2, e.1)
-kind_once s old (ImportType.path x) k l n m p q = (leads_once s.setting (root_scope old) x k l p.0 q.0, p.1 ∙ sym q.1)
+kind_once s old (ImportType.path x) k l n m p q = (leads_once s.context (root_scope old) x k l p.0 q.0, p.1 ∙ sym q.1)
 kind_once s old (ImportType.ident x) k l n m p q = (some_once (look_up x.string (root_scope old)) k l p.0 q.0, p.1 ∙ sym q.1)
 
 abbrev imports_to : Composition → ImportStatement → Meaning → ℕ → Composition
@@ -63,12 +63,12 @@ exports_once s old x a b p q =
     exports_by_once s q.0 x.options a b (subst (λ (m : At). ExportsBy s m x.options a) e p.2) q.2
 
 -- a statement yields one composition
-pub goes_once : (s : Given) → IsOnce (Goes s)
+pub goes_once : (s : Given) → IsOnce (StatementStep s)
 goes_once s old (Statement.import_statement x) a b p q = imports_once s old x a b p q
 goes_once s old (Statement.let_statement x) a b p q = lets_once s old x a b p q
 goes_once s old (Statement.export_statement x) a b p q = exports_once s old x a b p q
-goes_once s old (Statement.type_statement x) a b p q = declares_once s.setting old x a b p q
+goes_once s old (Statement.type_statement x) a b p q = declares_once s.context old x a b p q
 
 -- from one composition statements yield one
 pub composes_once : (s : Given) (old : Composition) (xs : List Statement) (a b : Composition) → Composes s old xs a → Composes s old xs b → a ≡ b
-composes_once s old xs a b p q = steps_once (Goes s) (goes_once s) old xs a b p q
+composes_once s old xs a b p q = steps_once (StatementStep s) (goes_once s) old xs a b p q

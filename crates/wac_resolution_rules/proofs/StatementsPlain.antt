@@ -17,7 +17,7 @@ use Rattle.wac_resolution_rules.specs.Given.{Given, instantiable, key_named, imp
 use Rattle.wac_resolution_rules.specs.Composition.{Composition, imported, root_scope, with_node, with_resources, binding, start}
 use Rattle.wac_resolution_rules.specs.Nodes.{imports, next_of}
 use Rattle.wac_resolution_rules.specs.Expressions.{At, Accesses, Giving, nothing_given, given_too, name_meant, Spreads, spread_of, spreads_of, is_fill, has_fill, IsEmpty, Instantiates, Stands, PrimaryStands, Gives, GivesOne}
-use Rattle.wac_resolution_rules.specs.Statements.{ImportsKind, unnamed_import, name_imported, Imports, Lets, ExportsBy, Exports, Goes, Composes}
+use Rattle.wac_resolution_rules.specs.Statements.{ImportsKind, unnamed_import, name_imported, Imports, Lets, ExportsBy, Exports, StatementStep, Composes}
 use Rattle.wac_resolution_rules.specs.Target.{MeetsTarget}
 use Rattle.wac_resolution_rules.specs.ResolvedDocument.{Describes}
 use Rattle.wac_resolution_rules.proofs.StepLaws.{steps_map}
@@ -110,7 +110,7 @@ imported_plain x k = go x.name
 
 kind_plain : (s : Given) (old : Composition) (x : ImportType) → ImportsKind s old (walk_import_type (changed plain) no_docs x) ≡ ImportsKind s old x
 kind_plain s old (ImportType.func x) = λ i k after. (entry : Meaning) × func_with_plain (root_scope old) [] x i entry × (k ≡ kind_of func entry) × (after ≡ old.resources)
-kind_plain s old (ImportType.interface x) = λ i k after. (entry : Meaning) × interface_plain s.setting (root_scope old) old.resources None x.items i entry after × (k ≡ kind_of instance entry)
+kind_plain s old (ImportType.interface x) = λ i k after. (entry : Meaning) × interface_plain s.context (root_scope old) old.resources None x.items i entry after × (k ≡ kind_of instance entry)
 kind_plain s old (ImportType.path x) = refl
 kind_plain s old (ImportType.ident x) = refl
 
@@ -132,14 +132,14 @@ exports_plain : (s : Given) (old : Composition) (x : ExportStatement) → Export
 exports_plain s old x = λ i new. (a : At) × stands_plain s old x.expr i a × options_plain s a x.options i new
 
 -- a statement yields what its plain tree yields
-pub goes_plain : (s : Given) (old : Composition) (x : Statement) → Goes s old (walk_statement (changed plain) no_docs x) ≡ Goes s old x
+pub goes_plain : (s : Given) (old : Composition) (x : Statement) → StatementStep s old (walk_statement (changed plain) no_docs x) ≡ StatementStep s old x
 goes_plain s old (Statement.import_statement x) = imports_plain s old x
 goes_plain s old (Statement.let_statement x) = lets_plain s old x
 goes_plain s old (Statement.export_statement x) = exports_plain s old x
-goes_plain s old (Statement.type_statement x) = declares_plain s.setting old x
+goes_plain s old (Statement.type_statement x) = declares_plain s.context old x
 
 pub composes_plain : (s : Given) (old : Composition) (xs : List Statement) → Composes s old (map (walk_statement (changed plain) no_docs) xs) ≡ Composes s old xs
-composes_plain s old xs = steps_map (Goes s) (walk_statement (changed plain) no_docs) (goes_plain s) old xs
+composes_plain s old xs = steps_map (StatementStep s) (walk_statement (changed plain) no_docs) (goes_plain s) old xs
 
 target_plain : (s : Given) (c : Composition) (p : Option PackagePath) → MeetsTarget s c (option_map plain.path p) ≡ MeetsTarget s c p
 target_plain s c None = refl

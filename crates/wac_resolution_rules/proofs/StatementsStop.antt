@@ -11,14 +11,14 @@ use Rattle.wac_graph_types.specs.Shape.{kind_of, exports_of, promoted}
 use Rattle.wac_graph_types.specs.Steps.{Steps}
 use Rattle.wac_graph_types.specs.declared.kind.FuncKind.TheVariants as funcs
 use Rattle.wac_ast_grammar.specs.Tree.{Ident, PackagePath, ImportType, ImportStatement, LetStatement, Expr, ExportOptions, ExportStatement, TypeStatement, Statement}
-use Rattle.wac_resolution_rules.specs.Paths.{Setting}
+use Rattle.wac_resolution_rules.specs.Paths.{Context}
 use Rattle.wac_resolution_rules.specs.TypeStatements.{Declares, Defines}
 use Rattle.wac_resolution_rules.specs.Kinds.{world_of}
 use Rattle.wac_resolution_rules.specs.Given.{Given}
 use Rattle.wac_resolution_rules.specs.Composition.{Composition, Node, kind_at, root_scope}
 use Rattle.wac_resolution_rules.specs.Nodes.{node_at, instance_at, imports}
 use Rattle.wac_resolution_rules.specs.Expressions.{At}
-use Rattle.wac_resolution_rules.specs.Statements.{ImportsKind, name_imported, Imports, Lets, definition_bound, ExportsAs, unnamed_export, unexported, ExportsOne, ExportsBy, Exports, Goes}
+use Rattle.wac_resolution_rules.specs.Statements.{ImportsKind, name_imported, Imports, Lets, definition_bound, ExportsAs, unnamed_export, unexported, ExportsOne, ExportsBy, Exports, StatementStep}
 use Rattle.wac_resolution_rules.specs.Target.{allowed, open_imports, all_imports, ImportAllowed, ExportMet, IsAllowed, MeetsPath}
 use Rattle.wac_resolution_errors.specs.Error.{Error, Operation}
 use Rattle.wac_resolution_rules.specs.BrokenStatements.{IsImportedAlready, IsExportedAlready, IsInvalidName, IsExportConflict, IsUnnamed, IsNoEffect, IsNotWorld, placed_imports, IsNotInTarget, IsImportMismatch, IsMissingExport, IsExportMismatch, ImportKindBroken, ImportBroken, LetBroken, ExportAsBroken, ExportOneBroken, ExportOptionsBroken, ExportBroken, StatementBroken, TargetWorldBroken, TargetBroken}
@@ -57,8 +57,8 @@ conflict_stops c p name span help e u h = neither (definition_bound c name) u.0 
 
 kind_stops : (s : Given) (old : Composition) (e : Error) (x : ImportType) (k : Meaning) (n : ℕ) → ImportKindBroken s old e x → ImportsKind s old x k n → ⊥
 kind_stops s old e (ImportType.func x) k n f g = func_stops funcs.Free (root_scope old) [] x e g.0 f g.1
-kind_stops s old e (ImportType.interface x) k n f g = interface_body_stops s.setting (root_scope old) None None old.resources x.items e g.0 n f g.1
-kind_stops s old e (ImportType.path x) k n f g = path_stops s.setting (root_scope old) x e k f g.0
+kind_stops s old e (ImportType.interface x) k n f g = interface_body_stops s.context (root_scope old) None None old.resources x.items e g.0 n f g.1
+kind_stops s old e (ImportType.path x) k n f g = path_stops s.context (root_scope old) x e k f g.0
 kind_stops s old e (ImportType.ident x) k n f g = undefined_stops (root_scope old) x e k f g.0
 
 import_stops : (s : Given) (old : Composition) (p : Places) (e : Error) (x : ImportStatement) (new : Composition) → ImportBroken s old p e x → Imports s old x new → ⊥
@@ -116,17 +116,17 @@ export_stops s old p e x new (inr (a, stands, f)) g =
     options_stop s a p e x.expr x.options new f (subst (λ (m : At). ExportsBy s m x.options new) same g.2)
 
 -- a type statement defines its name
-pub declares_what : (s : Setting) (old : Composition) (x : TypeStatement) (new : Composition) → Declares s old x new → (m : Meaning) × (n : ℕ) × Defines old (identifier_of x).string m n new
+pub declares_what : (s : Context) (old : Composition) (x : TypeStatement) (new : Composition) → Declares s old x new → (m : Meaning) × (n : ℕ) × Defines old (identifier_of x).string m n new
 declares_what s old (TypeStatement.interface x) new g = (kind_of an_interface g.0, g.1, g.3)
 declares_what s old (TypeStatement.world x) new g = (kind_of a_world g.0, g.1, g.3)
 declares_what s old (TypeStatement.ty x) new g = (g.0, g.1, g.3)
 
 -- a statement that breaks a rule resolves to nothing
-pub statement_stops : (s : Given) (old : Composition) (p : Places) (e : Error) (x : Statement) (new : Composition) → StatementBroken s old p e x → Goes s old x new → ⊥
+pub statement_stops : (s : Given) (old : Composition) (p : Places) (e : Error) (x : Statement) (new : Composition) → StatementBroken s old p e x → StatementStep s old x new → ⊥
 statement_stops s old p e (Statement.import_statement x) new f g = import_stops s old p e x new f g
 statement_stops s old p e (Statement.let_statement x) new f g = let_stops s old p e x new f g
 statement_stops s old p e (Statement.export_statement x) new f g = export_stops s old p e x new f g
-statement_stops s old p e (Statement.type_statement x) new f g = broken_stops s.setting old p x e new f g
+statement_stops s old p e (Statement.type_statement x) new f g = broken_stops s.context old p x e new f g
 
 -- ---- the target
 
@@ -186,9 +186,9 @@ world_stops s c p e path w (inr (inr (inr f))) h = export_mismatch_stops s c p p
 
 -- a target that breaks a rule isn't met
 pub target_stops : (s : Given) (c : Composition) (p : Places) (e : Error) (path : PackagePath) → TargetBroken s c p e path → MeetsPath s c path → ⊥
-target_stops s c p e path (inl f) g = path_stops s.setting (root_scope c) path e g.0 f g.2
+target_stops s c p e path (inl f) g = path_stops s.context (root_scope c) path e g.0 f g.2
 target_stops s c p e path (inr (k, means, f)) g =
-    let same : g.0 ≡ k = leads_once s.setting (root_scope c) path g.0 k g.2 means in
+    let same : g.0 ≡ k = leads_once s.context (root_scope c) path g.0 k g.2 means in
     let is : world_of k ≡ Some g.1 = subst (λ (m : Meaning). world_of m ≡ Some g.1) same g.3 in
     elim f [
       | inl a ↦ not_world_stops path k g.1 e a is

@@ -6,13 +6,13 @@ use Rattle.wac_graph_types.specs.Steps.{Steps}
 use Rattle.wac_graph_types.specs.Shape.{entry_of, imports_of, exports_of}
 use Rattle.wac_graph.specs.Origin.{Naming}
 use Rattle.wac_ast_grammar.specs.Tree.{Ident, WorldItem, WorldItemPath, WorldRef, TypeStatement}
-use Rattle.wac_resolution_rules.specs.Paths.{Setting}
+use Rattle.wac_resolution_rules.specs.Paths.{Context}
 use Rattle.wac_resolution_rules.specs.Composition.{Composition, start, kind_at}
 use Rattle.wac_resolution_rules.specs.TypeStatements.{Declares}
 
 -- the document's own package is a:b, and none is given
-abbrev setting_of : Naming → Setting
-setting_of naming = record { naming = naming; own = codes "a:b"; version = None; packages = [] }
+abbrev context_of : Naming → Context
+context_of naming = record { naming = naming; own = codes "a:b"; version = None; packages = [] }
 
 abbrev ident : List ℕ → ℕ → ℕ → Ident
 ident text offset len = record { string = text; span = span offset len }
@@ -43,7 +43,7 @@ document =
     })
     ∷ []
 
-pub imports_once : (naming : Naming) → (new : Composition) × Steps (Declares (setting_of naming)) start document new × (imported_names new 2 ≡ codes "a:b/i" ∷ [])
+pub imports_once : (naming : Naming) → (new : Composition) × Steps (Declares (context_of naming)) start document new × (imported_names new 2 ≡ codes "a:b/i" ∷ [])
 imports_once naming = (
   _,
   (

@@ -17,7 +17,7 @@ use Rattle.wac_printer_layout.specs.Bare.{no_docs}
 use Rattle.wac_printer_layout.specs.PlainTree.{plain}
 use Rattle.wac_resolution_rules.specs.Types.{first_params}
 use Rattle.wac_resolution_rules.specs.Declarations.{in_body}
-use Rattle.wac_resolution_rules.specs.Paths.{Setting, UseNames, WorldNames}
+use Rattle.wac_resolution_rules.specs.Paths.{Context, UseNames, WorldNames}
 use Rattle.wac_resolution_rules.specs.Bodies.{Body, empty_body, externs, with_extern, with_count, IsNew, constructor_name, method_name, static_name, name_of_method, HasMethod, with_resource, DeclaresIn, HasItem, UsesItem, HasUse}
 use Rattle.wac_resolution_rules.specs.Includes.{Entries, HasEntry, Included, HasInclude}
 use Rattle.wac_resolution_rules.specs.Worlds.{IsFuncRef, HasInterfaceItem, IsInterface, HasExternType, HasExtern, HasWorldItem, includes_of, IsWorld}
@@ -50,13 +50,13 @@ item_plain naming side old (ItemTypeDecl.alias d) = λ i new.
 
 -- ---- paths and use
 
-use_path_plain : (setting : Setting) (root : Scope) (p : UsePath) → UseNames setting root (walk_use_path (changed plain) p) ≡ UseNames setting root p
-use_path_plain setting root (UsePath.path p) = refl
-use_path_plain setting root (UsePath.ident x) = refl
+use_path_plain : (context : Context) (root : Scope) (p : UsePath) → UseNames context root (walk_use_path (changed plain) p) ≡ UseNames context root p
+use_path_plain context root (UsePath.path p) = refl
+use_path_plain context root (UsePath.ident x) = refl
 
-world_ref_plain : (setting : Setting) (root : Scope) (p : WorldRef) → WorldNames setting root (walk_world_ref (changed plain) p) ≡ WorldNames setting root p
-world_ref_plain setting root (WorldRef.path p) = refl
-world_ref_plain setting root (WorldRef.ident x) = refl
+world_ref_plain : (context : Context) (root : Scope) (p : WorldRef) → WorldNames context root (walk_world_ref (changed plain) p) ≡ WorldNames context root p
+world_ref_plain context root (WorldRef.path p) = refl
+world_ref_plain context root (WorldRef.ident x) = refl
 
 use_item_plain : (side : ExternKind) (interface : Meaning) (old : Body) (x : UseItem) → UsesItem side interface old (walk_use_item (changed plain) x) ≡ UsesItem side interface old x
 use_item_plain side interface old x = go x.as_id
@@ -65,18 +65,18 @@ use_item_plain side interface old x = go x.as_id
     go None = refl
     go (Some y) = refl
 
-pub use_plain : (setting : Setting) (root : Scope) (side : ExternKind) (old : Body) (u : Use) → HasUse setting root side old (walk_use (changed plain) no_docs u) ≡ HasUse setting root side old u
-use_plain setting root side old u = λ i new.
-    (k : Meaning) × use_path_plain setting root u.path i k × IsA is_interface_form k
+pub use_plain : (context : Context) (root : Scope) (side : ExternKind) (old : Body) (u : Use) → HasUse context root side old (walk_use (changed plain) no_docs u) ≡ HasUse context root side old u
+use_plain context root side old u = λ i new.
+    (k : Meaning) × use_path_plain context root u.path i k × IsA is_interface_form k
     × steps_map (UsesItem side (promoted k)) (walk_use_item (changed plain)) (use_item_plain side (promoted k)) old u.items i new
 
 -- ---- include
 
-pub include_plain : (setting : Setting) (root : Scope) (old : Body) (x : WorldInclude) → HasInclude setting root old (walk_world_include (changed plain) no_docs x) ≡ HasInclude setting root old x
-include_plain setting root old x = λ i new.
+pub include_plain : (context : Context) (root : Scope) (old : Body) (x : WorldInclude) → HasInclude context root old (walk_world_include (changed plain) no_docs x) ≡ HasInclude context root old x
+include_plain context root old x = λ i new.
     (entries : Entries) × (k : Meaning)
     × steps_map HasEntry (walk_world_include_item (changed plain)) (λ o e. refl) [] x.items i entries
-    × world_ref_plain setting root x.world i k
+    × world_ref_plain context root x.world i k
     × IsA is_world_form k
     × Included entries (entry_of k) old new
 
@@ -86,39 +86,39 @@ func_ref_plain : (scope : Scope) (x : FuncTypeRef) → IsFuncRef scope (walk_fun
 func_ref_plain scope (FuncTypeRef.func f) = func_with_plain scope [] f
 func_ref_plain scope (FuncTypeRef.ident x) = refl
 
-interface_item_plain : (setting : Setting) (root : Scope) (old : Body) (x : InterfaceItem) → HasInterfaceItem setting root old (walk_interface_item (changed plain) no_docs x) ≡ HasInterfaceItem setting root old x
-interface_item_plain setting root old (InterfaceItem.use_statement u) = use_plain setting root sides.Export old u
-interface_item_plain setting root old (InterfaceItem.ty d) = item_plain setting.naming sides.Export old d
-interface_item_plain setting root old (InterfaceItem.interface_export x) = λ i new.
+interface_item_plain : (context : Context) (root : Scope) (old : Body) (x : InterfaceItem) → HasInterfaceItem context root old (walk_interface_item (changed plain) no_docs x) ≡ HasInterfaceItem context root old x
+interface_item_plain context root old (InterfaceItem.use_statement u) = use_plain context root sides.Export old u
+interface_item_plain context root old (InterfaceItem.ty d) = item_plain context.naming sides.Export old d
+interface_item_plain context root old (InterfaceItem.interface_export x) = λ i new.
     (f : Meaning) × func_ref_plain old.scope x.ty i f × IsFresh x.id.string old.exports
     × (new ≡ with_extern sides.Export old x.id.string (kind_of func f))
 
-pub interface_plain : (setting : Setting) (root : Scope) (n : ℕ) (id : Option (List ℕ)) (items : List InterfaceItem) → IsInterface setting root n id (map (walk_interface_item (changed plain) no_docs) items) ≡ IsInterface setting root n id items
-interface_plain setting root n id items = λ i entry after.
-    (b : Body) × steps_map (HasInterfaceItem setting root) (walk_interface_item (changed plain) no_docs) (interface_item_plain setting root) (empty_body n) items i b
+pub interface_plain : (context : Context) (root : Scope) (n : ℕ) (id : Option (List ℕ)) (items : List InterfaceItem) → IsInterface context root n id (map (walk_interface_item (changed plain) no_docs) items) ≡ IsInterface context root n id items
+interface_plain context root n id items = λ i entry after.
+    (b : Body) × steps_map (HasInterfaceItem context root) (walk_interface_item (changed plain) no_docs) (interface_item_plain context root) (empty_body n) items i b
     × (entry ≡ interface_entry id b.uses b.exports) × (after ≡ b.resources)
 
 -- ---- worlds
 
-extern_type_plain : (setting : Setting) (root scope : Scope) (n : ℕ) (x : ExternType) → HasExternType setting root scope n (walk_extern_type (changed plain) no_docs x) ≡ HasExternType setting root scope n x
-extern_type_plain setting root scope n (ExternType.ident x) = refl
-extern_type_plain setting root scope n (ExternType.func f) = λ i m after. (entry : Meaning) × func_with_plain scope [] f i entry × (m ≡ kind_of func entry) × (after ≡ n)
-extern_type_plain setting root scope n (ExternType.interface x) = λ i m after. (entry : Meaning) × interface_plain setting root n None x.items i entry after × (m ≡ kind_of instance entry)
+extern_type_plain : (context : Context) (root scope : Scope) (n : ℕ) (x : ExternType) → HasExternType context root scope n (walk_extern_type (changed plain) no_docs x) ≡ HasExternType context root scope n x
+extern_type_plain context root scope n (ExternType.ident x) = refl
+extern_type_plain context root scope n (ExternType.func f) = λ i m after. (entry : Meaning) × func_with_plain scope [] f i entry × (m ≡ kind_of func entry) × (after ≡ n)
+extern_type_plain context root scope n (ExternType.interface x) = λ i m after. (entry : Meaning) × interface_plain context root n None x.items i entry after × (m ≡ kind_of instance entry)
 
-pub extern_plain : (setting : Setting) (root : Scope) (side : ExternKind) (old : Body) (x : WorldItemPath) → HasExtern setting root side old (walk_world_item_path (changed plain) no_docs x) ≡ HasExtern setting root side old x
-extern_plain setting root side old (WorldItemPath.named x) = λ i new.
+pub extern_plain : (context : Context) (root : Scope) (side : ExternKind) (old : Body) (x : WorldItemPath) → HasExtern context root side old (walk_world_item_path (changed plain) no_docs x) ≡ HasExtern context root side old x
+extern_plain context root side old (WorldItemPath.named x) = λ i new.
     IsFresh x.id.string (externs side old)
-    × ((m : Meaning) × (n : ℕ) × extern_type_plain setting root old.scope old.resources x.ty i m n
+    × ((m : Meaning) × (n : ℕ) × extern_type_plain context root old.scope old.resources x.ty i m n
     × (new ≡ with_extern side (with_count old n) x.id.string m))
-extern_plain setting root side old (WorldItemPath.path p) = refl
-extern_plain setting root side old (WorldItemPath.ident x) = refl
+extern_plain context root side old (WorldItemPath.path p) = refl
+extern_plain context root side old (WorldItemPath.ident x) = refl
 
-world_item_plain : (setting : Setting) (root : Scope) (old : Body) (x : WorldItem) → HasWorldItem setting root old (walk_world_item (changed plain) no_docs x) ≡ HasWorldItem setting root old x
-world_item_plain setting root old (WorldItem.use_statement u) = use_plain setting root sides.Import old u
-world_item_plain setting root old (WorldItem.world_import x) = extern_plain setting root sides.Import old x.path
-world_item_plain setting root old (WorldItem.world_export x) = extern_plain setting root sides.Export old x.path
-world_item_plain setting root old (WorldItem.world_include x) = refl
-world_item_plain setting root old (WorldItem.ty d) = item_plain setting.naming sides.Import old d
+world_item_plain : (context : Context) (root : Scope) (old : Body) (x : WorldItem) → HasWorldItem context root old (walk_world_item (changed plain) no_docs x) ≡ HasWorldItem context root old x
+world_item_plain context root old (WorldItem.use_statement u) = use_plain context root sides.Import old u
+world_item_plain context root old (WorldItem.world_import x) = extern_plain context root sides.Import old x.path
+world_item_plain context root old (WorldItem.world_export x) = extern_plain context root sides.Export old x.path
+world_item_plain context root old (WorldItem.world_include x) = refl
+world_item_plain context root old (WorldItem.ty d) = item_plain context.naming sides.Import old d
 
 includes_plain : (items : List WorldItem) → includes_of (map (walk_world_item (changed plain) no_docs) items) ≡ map (walk_world_include (changed plain) no_docs) (includes_of items)
 includes_plain [] = refl
@@ -128,13 +128,13 @@ includes_plain (WorldItem.world_export x ∷ items) = includes_plain items
 includes_plain (WorldItem.world_include x ∷ items) = ap (λ l. walk_world_include (changed plain) no_docs x ∷ l) (includes_plain items)
 includes_plain (WorldItem.ty d ∷ items) = includes_plain items
 
-includes_all_plain : (setting : Setting) (root : Scope) (mid : Body) (items : List WorldItem) → Steps (HasInclude setting root) mid (includes_of (map (walk_world_item (changed plain) no_docs) items)) ≡ Steps (HasInclude setting root) mid (includes_of items)
-includes_all_plain setting root mid items =
-    ap (Steps (HasInclude setting root) mid) (includes_plain items) ∙ steps_map (HasInclude setting root) (walk_world_include (changed plain) no_docs) (include_plain setting root) mid (includes_of items)
+includes_all_plain : (context : Context) (root : Scope) (mid : Body) (items : List WorldItem) → Steps (HasInclude context root) mid (includes_of (map (walk_world_item (changed plain) no_docs) items)) ≡ Steps (HasInclude context root) mid (includes_of items)
+includes_all_plain context root mid items =
+    ap (Steps (HasInclude context root) mid) (includes_plain items) ∙ steps_map (HasInclude context root) (walk_world_include (changed plain) no_docs) (include_plain context root) mid (includes_of items)
 
-pub world_plain : (setting : Setting) (root : Scope) (n : ℕ) (id : Option (List ℕ)) (items : List WorldItem) → IsWorld setting root n id (map (walk_world_item (changed plain) no_docs) items) ≡ IsWorld setting root n id items
-world_plain setting root n id items = λ i entry after.
-    (mid : Body) × (b : Body) × steps_map (HasWorldItem setting root) (walk_world_item (changed plain) no_docs) (world_item_plain setting root) (empty_body n) items i mid × includes_all_plain setting root mid items i b
+pub world_plain : (context : Context) (root : Scope) (n : ℕ) (id : Option (List ℕ)) (items : List WorldItem) → IsWorld context root n id (map (walk_world_item (changed plain) no_docs) items) ≡ IsWorld context root n id items
+world_plain context root n id items = λ i entry after.
+    (mid : Body) × (b : Body) × steps_map (HasWorldItem context root) (walk_world_item (changed plain) no_docs) (world_item_plain context root) (empty_body n) items i mid × includes_all_plain context root mid items i b
     × (entry ≡ world_entry id b.uses b.imports b.exports) × (after ≡ b.resources)
 
 -- ---- type statements
@@ -147,12 +147,12 @@ identifier_plain (TypeDecl.enum d) = refl
 identifier_plain (TypeDecl.alias d) = refl
 
 -- a type statement yields what its plain tree yields
-pub declares_plain : (setting : Setting) (old : Composition) (s : TypeStatement) → Declares setting old (walk_type_statement (changed plain) no_docs s) ≡ Declares setting old s
-declares_plain setting old (TypeStatement.interface d) = λ i new.
-    (entry : Meaning) × (n : ℕ) × interface_plain setting (root_scope old) old.resources (declared_id setting d.id.string) d.items i entry n
+pub declares_plain : (context : Context) (old : Composition) (s : TypeStatement) → Declares context old (walk_type_statement (changed plain) no_docs s) ≡ Declares context old s
+declares_plain context old (TypeStatement.interface d) = λ i new.
+    (entry : Meaning) × (n : ℕ) × interface_plain context (root_scope old) old.resources (declared_id context d.id.string) d.items i entry n
     × Defines old d.id.string (kind_of an_interface entry) n new
-declares_plain setting old (TypeStatement.world d) = λ i new.
-    (entry : Meaning) × (n : ℕ) × world_plain setting (root_scope old) old.resources (declared_id setting d.id.string) d.items i entry n
+declares_plain context old (TypeStatement.world d) = λ i new.
+    (entry : Meaning) × (n : ℕ) × world_plain context (root_scope old) old.resources (declared_id context d.id.string) d.items i entry n
     × Defines old d.id.string (kind_of a_world entry) n new
-declares_plain setting old (TypeStatement.ty d) = λ i new.
+declares_plain context old (TypeStatement.ty d) = λ i new.
     (m : Meaning) × (n : ℕ) × decl_plain (root_scope old) old.resources d i m n × Defines old (identifier_plain d i) m n new

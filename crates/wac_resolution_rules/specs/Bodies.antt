@@ -12,7 +12,7 @@ use Rattle.wac_graph.specs.Resources.{resource_entry}
 use Rattle.wac_ast_grammar.specs.Tree.{Ident, ResourceMethod, ItemTypeDecl, UseItem, Use}
 use Rattle.wac_resolution_rules.specs.Types.{IsFuncWith, IsConstructor, first_params}
 use Rattle.wac_resolution_rules.specs.Declarations.{IsVariant, IsRecord, IsFlags, IsEnum, IsAlias, in_body}
-use Rattle.wac_resolution_rules.specs.Paths.{Setting, UseNames}
+use Rattle.wac_resolution_rules.specs.Paths.{Context, UseNames}
 
 -- a body so far: what its identifiers denote, the types that it uses, its imports and exports, and how many resources
 -- the document has declared
@@ -125,7 +125,7 @@ UsesItem side interface old x new =
     (used_as x).string m)
 
 -- the types of an interface
-abbrev pub HasUse : Setting → Scope → ExternKind → Body → Use → Body → Type 0
-HasUse setting root side old u new =
-    (k : Meaning) × UseNames setting root u.path k × IsA is_interface_form k
+abbrev pub HasUse : Context → Scope → ExternKind → Body → Use → Body → Type 0
+HasUse context root side old u new =
+    (k : Meaning) × UseNames context root u.path k × IsA is_interface_form k
     × Steps (UsesItem side (promoted k)) old u.items new

@@ -16,7 +16,7 @@ use Rattle.wac_graph.specs.Packages.{Contents, package_of}
 use Rattle.wac_ast_grammar.specs.Tree.{Ident, PackagePath, UsePath, ResourceMethod, ItemTypeDecl, UseItem, Use}
 use Rattle.wac_ast_grammar.specs.Segments.{segment_spans, package_name_span}
 use Rattle.wac_resolution_errors.specs.Error.{Error, undefined_name, duplicate_name, duplicate_interface_export, duplicate_world_item, not_interface, undefined_interface_type, not_interface_value_type, duplicate_resource_constructor, duplicate_resource_method, unknown_package, package_missing_export, package_path_missing_export, use_conflict}
-use Rattle.wac_resolution_rules.specs.Paths.{Setting, is_own, key_of_path, segments_of, IsMember, UseNames}
+use Rattle.wac_resolution_rules.specs.Paths.{Context, is_own, key_of_path, segments_of, IsMember, UseNames}
 use Rattle.wac_resolution_rules.specs.Declarations.{IsVariant, IsRecord, IsFlags, IsEnum, IsAlias, in_body}
 use Rattle.wac_resolution_rules.specs.Types.{first_params}
 use Rattle.wac_resolution_rules.specs.Bodies.{Body, externs, constructor_name, method_name, static_name, HasMethod, with_resource, used_as, UsesItem}
@@ -27,8 +27,8 @@ use Rattle.wac_resolution_rules.specs.Spans.{use_path_name, use_path_span}
 -- ---- paths
 
 -- the package of a path is not given
-abbrev pub IsUnknownPathPackage : Setting → PackagePath → Error → Type 0
-IsUnknownPathPackage setting p e = (package_of (key_of_path p) setting.packages ≡ None)
+abbrev pub IsUnknownPathPackage : Context → PackagePath → Error → Type 0
+IsUnknownPathPackage context p e = (package_of (key_of_path p) context.packages ≡ None)
     × (e ≡ unknown_package p.name (package_name_span p))
 
 -- segment number n, and its span
@@ -72,14 +72,14 @@ ForeignPathBroken definitions p [] e = ⊥
 ForeignPathBroken definitions p (first ∷ rest) e = IsNoDefinition definitions p first e
     ⊎ ((k : Meaning) × StandsFor definitions first k × Fails IsMember (IsNoPackageExport p first e) k rest)
 
-abbrev pub path_broken : Bool → Setting → Scope → PackagePath → Error → Type 0
-path_broken true setting root p e = OwnPathBroken root p (segments_of p) e
-path_broken false setting root p e = IsUnknownPathPackage setting p e
-    ⊎ ((c : Contents) × (package_of (key_of_path p) setting.packages ≡ Some c)
+abbrev pub path_broken : Bool → Context → Scope → PackagePath → Error → Type 0
+path_broken true context root p e = OwnPathBroken root p (segments_of p) e
+path_broken false context root p e = IsUnknownPathPackage context p e
+    ⊎ ((c : Contents) × (package_of (key_of_path p) context.packages ≡ Some c)
     × ForeignPathBroken c.definitions p (segments_of p) e)
 
-abbrev pub PathBroken : Setting → Scope → PackagePath → Error → Type 0
-PathBroken setting root p e = path_broken (is_own setting p) setting root p e
+abbrev pub PathBroken : Context → Scope → PackagePath → Error → Type 0
+PathBroken context root p e = path_broken (is_own context p) context root p e
 
 -- ---- names in a body
 
@@ -158,9 +158,9 @@ ItemBroken naming of side places old (ItemTypeDecl.alias d) e =
 
 -- ---- use
 
-abbrev pub UsePathBroken : Setting → Scope → UsePath → Error → Type 0
-UsePathBroken setting root (UsePath.path p) e = PathBroken setting root p e
-UsePathBroken setting root (UsePath.ident x) e = IsUndefined root x e
+abbrev pub UsePathBroken : Context → Scope → UsePath → Error → Type 0
+UsePathBroken context root (UsePath.path p) e = PathBroken context root p e
+UsePathBroken context root (UsePath.ident x) e = IsUndefined root x e
 
 -- what is named is not an interface
 abbrev pub IsNoInterface : Meaning → List ℕ → Span → Error → Type 0
@@ -196,9 +196,9 @@ abbrev pub UseItemBroken : ExternKind → Meaning → List ℕ → Error → Bod
 UseItemBroken side interface path e old before x = IsNoTypeThere interface path x e
     ⊎ (IsNoUsableType interface path x e ⊎ (IsUsable interface x × IsUseConflict side old x e))
 
-abbrev pub UseBroken : Setting → Scope → ExternKind → Body → Use → Error → Type 0
-UseBroken setting root side old u e =
-    UsePathBroken setting root u.path e
-    ⊎ ((k : Meaning) × UseNames setting root u.path k × (IsNoInterface k (use_path_name u.path) (use_path_span u.path) e
+abbrev pub UseBroken : Context → Scope → ExternKind → Body → Use → Error → Type 0
+UseBroken context root side old u e =
+    UsePathBroken context root u.path e
+    ⊎ ((k : Meaning) × UseNames context root u.path k × (IsNoInterface k (use_path_name u.path) (use_path_span u.path) e
     ⊎ (IsA is_interface_form k
     × Fails (UsesItem side (promoted k)) (UseItemBroken side (promoted k) (use_path_name u.path) e) old u.items)))

@@ -105,8 +105,8 @@ IsExportMismatch s c p path w e = (x : List ℕ × Meaning) × (node : ℕ) × (
 abbrev pub ImportKindBroken : Given → Composition → Error → ImportType → Type 0
 ImportKindBroken s old e (ImportType.func x) = FuncBroken funcs.Free (root_scope old) [] x e
 ImportKindBroken s old e (ImportType.interface x) =
-    InterfaceBroken s.setting (root_scope old) None old.resources x.items e
-ImportKindBroken s old e (ImportType.path x) = PathBroken s.setting (root_scope old) x e
+    InterfaceBroken s.context (root_scope old) None old.resources x.items e
+ImportKindBroken s old e (ImportType.path x) = PathBroken s.context (root_scope old) x e
 ImportKindBroken s old e (ImportType.ident x) = IsUndefined (root_scope old) x e
 
 -- the help, where no name is written
@@ -159,7 +159,7 @@ abbrev pub StatementBroken : Given → Composition → Places → Error → Stat
 StatementBroken s old p e (Statement.import_statement x) = ImportBroken s old p e x
 StatementBroken s old p e (Statement.let_statement x) = LetBroken s old p e x
 StatementBroken s old p e (Statement.export_statement x) = ExportBroken s old p e x
-StatementBroken s old p e (Statement.type_statement x) = DeclarationBroken s.setting old p x e
+StatementBroken s old p e (Statement.type_statement x) = DeclarationBroken s.context old p x e
 
 abbrev pub TargetWorldBroken : Given → Composition → Places → Error → PackagePath → Meaning → Type 0
 TargetWorldBroken s c p e path w = IsNotInTarget s c p path w e ⊎ IsImportMismatch s c p path w e
@@ -167,6 +167,6 @@ TargetWorldBroken s c p e path w = IsNotInTarget s c p path w e ⊎ IsImportMism
 
 -- the target breaks the rule that the error names
 abbrev pub TargetBroken : Given → Composition → Places → Error → PackagePath → Type 0
-TargetBroken s c p e path = PathBroken s.setting (root_scope c) path e
-    ⊎ ((k : Meaning) × LeadsTo s.setting (root_scope c) path k
+TargetBroken s c p e path = PathBroken s.context (root_scope c) path e
+    ⊎ ((k : Meaning) × LeadsTo s.context (root_scope c) path k
     × (IsNotWorld path k e ⊎ ((w : Meaning) × (world_of k ≡ Some w) × TargetWorldBroken s c p e path w)))

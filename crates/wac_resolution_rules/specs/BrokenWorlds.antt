@@ -12,7 +12,7 @@ use Rattle.wac_graph_types.specs.Shape.{IsA, IsNoneOf, is_func_form, is_interfac
 use Rattle.wac_ast_grammar.specs.Tree.{Ident, FuncTypeRef, InterfaceItem, ExternType, WorldItemPath, WorldItem, WorldRef, WorldIncludeItem, WorldInclude, TypeStatement}
 use Rattle.wac_ast_grammar.specs.Spans.{world_ref_name, world_ref_span}
 use Rattle.wac_resolution_errors.specs.Error.{Error, not_func_or_interface, duplicate_world_include_name, not_world, missing_world_include, world_include_conflict, not_func_type, declaration_conflict, duplicate_name}
-use Rattle.wac_resolution_rules.specs.Paths.{Setting, LeadsTo, WorldNames}
+use Rattle.wac_resolution_rules.specs.Paths.{Context, LeadsTo, WorldNames}
 use Rattle.wac_resolution_rules.specs.Bodies.{Body, empty_body, externs}
 use Rattle.wac_resolution_rules.specs.Includes.{Entries, HasEntry, has_colon, Taking, name_taken, Takes, HasInclude}
 use Rattle.wac_resolution_rules.specs.Worlds.{IsFuncRef, HasInterfaceItem, IsInterface, id_or_empty, HasWorldItem, includes_of, IsWorld}
@@ -36,18 +36,18 @@ abbrev pub FuncRefBroken : Scope → FuncTypeRef → Error → Type 0
 FuncRefBroken scope (FuncTypeRef.func f) e = FuncBroken funcs.Free scope [] f e
 FuncRefBroken scope (FuncTypeRef.ident x) e = IsUndefined scope x e ⊎ IsNoFunc scope x e
 
-abbrev pub InterfaceItemBroken : Setting → Scope → Owner → Error → Body → List InterfaceItem → InterfaceItem → Type 0
-InterfaceItemBroken setting root of e old before (InterfaceItem.use_statement u) =
-    UseBroken setting root sides.Export old u e
-InterfaceItemBroken setting root of e old before (InterfaceItem.ty d) =
-    ItemBroken setting.naming of sides.Export (bound_in_interface before) old d e
-InterfaceItemBroken setting root of e old before (InterfaceItem.interface_export x) =
+abbrev pub InterfaceItemBroken : Context → Scope → Owner → Error → Body → List InterfaceItem → InterfaceItem → Type 0
+InterfaceItemBroken context root of e old before (InterfaceItem.use_statement u) =
+    UseBroken context root sides.Export old u e
+InterfaceItemBroken context root of e old before (InterfaceItem.ty d) =
+    ItemBroken context.naming of sides.Export (bound_in_interface before) old d e
+InterfaceItemBroken context root of e old before (InterfaceItem.interface_export x) =
     FuncRefBroken old.scope x.ty e
     ⊎ ((f : Meaning) × IsFuncRef old.scope x.ty f × IsConflict of sides.Export old x.id.string x.id.span e)
 
-abbrev pub InterfaceBroken : Setting → Scope → Option (List ℕ) → ℕ → List InterfaceItem → Error → Type 0
-InterfaceBroken setting root name n items e =
-    Fails (HasInterfaceItem setting root) (InterfaceItemBroken setting root (of_interface name) e) (empty_body n) items
+abbrev pub InterfaceBroken : Context → Scope → Option (List ℕ) → ℕ → List InterfaceItem → Error → Type 0
+InterfaceBroken context root name n items e =
+    Fails (HasInterfaceItem context root) (InterfaceItemBroken context root (of_interface name) e) (empty_body n) items
 
 -- ---- items of worlds
 
@@ -56,34 +56,34 @@ abbrev pub IsNoFuncOrInterface : Scope → Ident → Error → Type 0
 IsNoFuncOrInterface scope x e = (k : Meaning) × StandsFor scope x.string k × IsNoneOf is_func_or_interface_form k
     × (e ≡ not_func_or_interface x.string (described k) x.span)
 
-abbrev pub ExternTypeBroken : Setting → Scope → Scope → ℕ → ExternType → Error → Type 0
-ExternTypeBroken setting root scope n (ExternType.ident x) e = IsUndefined (scope ++ root) x e
+abbrev pub ExternTypeBroken : Context → Scope → Scope → ℕ → ExternType → Error → Type 0
+ExternTypeBroken context root scope n (ExternType.ident x) e = IsUndefined (scope ++ root) x e
     ⊎ IsNoFuncOrInterface (scope ++ root) x e
-ExternTypeBroken setting root scope n (ExternType.func f) e = FuncBroken funcs.Free scope [] f e
-ExternTypeBroken setting root scope n (ExternType.interface i) e = InterfaceBroken setting root None n i.items e
+ExternTypeBroken context root scope n (ExternType.func f) e = FuncBroken funcs.Free scope [] f e
+ExternTypeBroken context root scope n (ExternType.interface i) e = InterfaceBroken context root None n i.items e
 
 abbrev pub InstanceBroken : Owner → ExternKind → Body → Meaning → List ℕ → Span → Error → Type 0
 InstanceBroken of side old k name at e = IsNoInterface k name at e
     ⊎ (IsA is_interface_form k × IsConflict of side old (id_or_empty k) at e)
 
-abbrev pub ExternBroken : Setting → Scope → Owner → ExternKind → Body → WorldItemPath → Error → Type 0
-ExternBroken setting root of side old (WorldItemPath.named x) e =
+abbrev pub ExternBroken : Context → Scope → Owner → ExternKind → Body → WorldItemPath → Error → Type 0
+ExternBroken context root of side old (WorldItemPath.named x) e =
     IsConflict of side old x.id.string x.id.span e
-    ⊎ (IsFresh x.id.string (externs side old) × ExternTypeBroken setting root old.scope old.resources x.ty e)
-ExternBroken setting root of side old (WorldItemPath.path p) e = PathBroken setting root p e
-    ⊎ ((k : Meaning) × LeadsTo setting root p k × InstanceBroken of side old k p.string p.span e)
-ExternBroken setting root of side old (WorldItemPath.ident x) e = IsUndefined root x e
+    ⊎ (IsFresh x.id.string (externs side old) × ExternTypeBroken context root old.scope old.resources x.ty e)
+ExternBroken context root of side old (WorldItemPath.path p) e = PathBroken context root p e
+    ⊎ ((k : Meaning) × LeadsTo context root p k × InstanceBroken of side old k p.string p.span e)
+ExternBroken context root of side old (WorldItemPath.ident x) e = IsUndefined root x e
     ⊎ ((k : Meaning) × StandsFor root x.string k × InstanceBroken of side old k x.string x.span e)
 
-abbrev pub WorldItemBroken : Setting → Scope → Owner → Error → Body → List WorldItem → WorldItem → Type 0
-WorldItemBroken setting root of e old before (WorldItem.use_statement u) = UseBroken setting root sides.Import old u e
-WorldItemBroken setting root of e old before (WorldItem.world_import x) =
-    ExternBroken setting root of sides.Import old x.path e
-WorldItemBroken setting root of e old before (WorldItem.world_export x) =
-    ExternBroken setting root of sides.Export old x.path e
-WorldItemBroken setting root of e old before (WorldItem.world_include x) = ⊥
-WorldItemBroken setting root of e old before (WorldItem.ty d) =
-    ItemBroken setting.naming of sides.Import (bound_in_world before) old d e
+abbrev pub WorldItemBroken : Context → Scope → Owner → Error → Body → List WorldItem → WorldItem → Type 0
+WorldItemBroken context root of e old before (WorldItem.use_statement u) = UseBroken context root sides.Import old u e
+WorldItemBroken context root of e old before (WorldItem.world_import x) =
+    ExternBroken context root of sides.Import old x.path e
+WorldItemBroken context root of e old before (WorldItem.world_export x) =
+    ExternBroken context root of sides.Export old x.path e
+WorldItemBroken context root of e old before (WorldItem.world_include x) = ⊥
+WorldItemBroken context root of e old before (WorldItem.ty d) =
+    ItemBroken context.naming of sides.Import (bound_in_world before) old d e
 
 -- ---- include
 
@@ -92,9 +92,9 @@ abbrev pub IsSecondEntry : Error → Entries → List WorldIncludeItem → World
 IsSecondEntry e old before x = (to : List ℕ) × StandsFor old x.from.string to
     × (e ≡ duplicate_world_include_name x.from.string x.from.span)
 
-abbrev pub WorldRefBroken : Setting → Scope → WorldRef → Error → Type 0
-WorldRefBroken setting root (WorldRef.path p) e = PathBroken setting root p e
-WorldRefBroken setting root (WorldRef.ident x) e = IsUndefined root x e
+abbrev pub WorldRefBroken : Context → Scope → WorldRef → Error → Type 0
+WorldRefBroken context root (WorldRef.path p) e = PathBroken context root p e
+WorldRefBroken context root (WorldRef.ident x) e = IsUndefined root x e
 
 -- what is named is neither a world nor a component
 abbrev pub IsNoWorld : Meaning → WorldRef → Error → Type 0
@@ -145,20 +145,20 @@ TakingBroken x world entries entry old e =
     ⊎ ((b : Taking) × Steps Takes (record { entries = a.entries; there = old.exports }) (exports_of entry) b
     × IsLeftOver x b.entries e)))
 
-abbrev pub IncludeBroken : Setting → Scope → List ℕ → Error → Body → List WorldInclude → WorldInclude → Type 0
-IncludeBroken setting root world e old before x =
+abbrev pub IncludeBroken : Context → Scope → List ℕ → Error → Body → List WorldInclude → WorldInclude → Type 0
+IncludeBroken context root world e old before x =
     Fails HasEntry (IsSecondEntry e) [] x.items
     ⊎ ((entries : Entries) × Steps HasEntry [] x.items entries
-    × (WorldRefBroken setting root x.world e
-    ⊎ ((k : Meaning) × WorldNames setting root x.world k
+    × (WorldRefBroken context root x.world e
+    ⊎ ((k : Meaning) × WorldNames context root x.world k
     × (IsNoWorld k x.world e
     ⊎ (IsA is_world_form k × TakingBroken x world entries (entry_of k) old e)))))
 
-abbrev pub WorldBroken : Setting → Scope → List ℕ → ℕ → List WorldItem → Error → Type 0
-WorldBroken setting root name n items e =
-    Fails (HasWorldItem setting root) (WorldItemBroken setting root (of_world name) e) (empty_body n) items
-    ⊎ ((mid : Body) × Steps (HasWorldItem setting root) (empty_body n) items mid
-    × Fails (HasInclude setting root) (IncludeBroken setting root name e) mid (includes_of items))
+abbrev pub WorldBroken : Context → Scope → List ℕ → ℕ → List WorldItem → Error → Type 0
+WorldBroken context root name n items e =
+    Fails (HasWorldItem context root) (WorldItemBroken context root (of_world name) e) (empty_body n) items
+    ⊎ ((mid : Body) × Steps (HasWorldItem context root) (empty_body n) items mid
+    × Fails (HasInclude context root) (IncludeBroken context root name e) mid (includes_of items))
 
 -- ---- type statements
 
@@ -176,22 +176,22 @@ abbrev pub DefinitionBroken : Composition → Places → Ident → Error → Typ
 DefinitionBroken old places x e = IsExported old places x e ⊎ (IsFresh x.string old.exports × IsBound old places x e)
 
 -- the declared type has no meaning
-abbrev pub KindBroken : Setting → Composition → TypeStatement → Error → Type 0
-KindBroken setting old (TypeStatement.interface d) e =
-    InterfaceBroken setting (root_scope old) (Some d.id.string) old.resources d.items e
-KindBroken setting old (TypeStatement.world d) e =
-    WorldBroken setting (root_scope old) d.id.string old.resources d.items e
-KindBroken setting old (TypeStatement.ty d) e = TypeDeclBroken (root_scope old) old.resources d e
+abbrev pub KindBroken : Context → Composition → TypeStatement → Error → Type 0
+KindBroken context old (TypeStatement.interface d) e =
+    InterfaceBroken context (root_scope old) (Some d.id.string) old.resources d.items e
+KindBroken context old (TypeStatement.world d) e =
+    WorldBroken context (root_scope old) d.id.string old.resources d.items e
+KindBroken context old (TypeStatement.ty d) e = TypeDeclBroken (root_scope old) old.resources d e
 
 -- the declared type has a meaning
-abbrev pub HasKind : Setting → Composition → TypeStatement → Type 0
-HasKind setting old (TypeStatement.interface d) = (entry : Meaning) × (n : ℕ)
-    × IsInterface setting (root_scope old) old.resources (declared_id setting d.id.string) d.items entry n
-HasKind setting old (TypeStatement.world d) = (entry : Meaning) × (n : ℕ)
-    × IsWorld setting (root_scope old) old.resources (declared_id setting d.id.string) d.items entry n
-HasKind setting old (TypeStatement.ty d) = (m : Meaning) × (n : ℕ) × IsTypeDecl (root_scope old) old.resources d m n
+abbrev pub HasKind : Context → Composition → TypeStatement → Type 0
+HasKind context old (TypeStatement.interface d) = (entry : Meaning) × (n : ℕ)
+    × IsInterface context (root_scope old) old.resources (declared_id context d.id.string) d.items entry n
+HasKind context old (TypeStatement.world d) = (entry : Meaning) × (n : ℕ)
+    × IsWorld context (root_scope old) old.resources (declared_id context d.id.string) d.items entry n
+HasKind context old (TypeStatement.ty d) = (m : Meaning) × (n : ℕ) × IsTypeDecl (root_scope old) old.resources d m n
 
 -- a type statement breaks the rule that the error names
-abbrev pub DeclarationBroken : Setting → Composition → Places → TypeStatement → Error → Type 0
-DeclarationBroken setting old places s e = KindBroken setting old s e
-    ⊎ (HasKind setting old s × DefinitionBroken old places (identifier_of s) e)
+abbrev pub DeclarationBroken : Context → Composition → Places → TypeStatement → Error → Type 0
+DeclarationBroken context old places s e = KindBroken context old s e
+    ⊎ (HasKind context old s × DefinitionBroken old places (identifier_of s) e)

@@ -1,4 +1,4 @@
--- What resolving is given besides a document: the setting, and rules.
+-- What resolving is given besides a document: the context, and rules.
 use Rattle.std.specs.Prelude.{ℕ, List, Option, None, if◌then◌else◌}
 use Rattle.std.specs.Str.{bytes_eq}
 use Rattle.wac_graph_types.specs.declared.rules.Reason.{Reason}
@@ -10,7 +10,7 @@ use Rattle.wac_graph.specs.Package.{Key}
 use Rattle.wac_graph.specs.Packages.{Contents, package_of}
 use Rattle.wac_ast_grammar.specs.Tree.{PackageName}
 use Rattle.wac_ast_grammar.specs.Version.{version_text}
-use Rattle.wac_resolution_rules.specs.Paths.{Setting}
+use Rattle.wac_resolution_rules.specs.Paths.{Context}
 
 -- two tests: each returns no reason, or the reason against
 pub record Rules : Type 0 where
@@ -28,7 +28,7 @@ abbrev pub rules_by : (Meaning → Meaning → Option Reason) → (List ℕ → 
 rules_by passes named = record { passes = passes; named = named }
 
 pub record Given : Type 0 where
-  pub setting : Setting
+  pub context : Context
   pub rules : Rules
 
 -- the key that a package's name denotes: the name and the text of the version
@@ -37,7 +37,7 @@ key_named x = (x.name, version_text x.string)
 
 -- the package that a name denotes after `new`: never the document's own
 abbrev pub instantiable : Given → PackageName → Option Contents
-instantiable s x = if bytes_eq x.name s.setting.own then None else package_of (key_named x) s.setting.packages
+instantiable s x = if bytes_eq x.name s.context.own then None else package_of (key_named x) s.context.packages
 
 -- what a package imports
 abbrev pub imports_in : Contents → Named Meaning

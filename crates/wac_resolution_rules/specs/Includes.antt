@@ -7,7 +7,7 @@ use Rattle.wac_graph_types.specs.Scope.{Named, Scope, look_up, IsFresh, with_nam
 use Rattle.wac_graph_types.specs.Steps.{Steps}
 use Rattle.wac_graph_types.specs.Shape.{IsA, is_world_form, entry_of, imports_of, exports_of}
 use Rattle.wac_ast_grammar.specs.Tree.{WorldInclude, WorldIncludeItem}
-use Rattle.wac_resolution_rules.specs.Paths.{Setting, WorldNames}
+use Rattle.wac_resolution_rules.specs.Paths.{Context, WorldNames}
 use Rattle.wac_resolution_rules.specs.Bodies.{Body}
 
 -- the entries of a `with` clause: names of the included world, each with the name to take
@@ -60,10 +60,10 @@ pub record Included (entries : Entries) (world : Meaning) (old new : Body) : Typ
   pub is : new ≡ record old { imports = imports.there; exports = exports.there }
 
 -- a world or component is included, by a `with` clause that names each name once
-abbrev pub HasInclude : Setting → Scope → Body → WorldInclude → Body → Type 0
-HasInclude setting root old x new =
+abbrev pub HasInclude : Context → Scope → Body → WorldInclude → Body → Type 0
+HasInclude context root old x new =
     (entries : Entries) × (k : Meaning)
     × Steps HasEntry [] x.items entries
-    × WorldNames setting root x.world k
+    × WorldNames context root x.world k
     × IsA is_world_form k
     × Included entries (entry_of k) old new

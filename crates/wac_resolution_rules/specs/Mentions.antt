@@ -7,7 +7,7 @@ use Rattle.wac_graph.specs.Package.{Key, same_key}
 use Rattle.wac_graph.specs.Packages.{Packages, package_of}
 use Rattle.wac_ast_grammar.specs.Tree.{PackageName, PackagePath, UsePath, InterfaceItem, ExternType, WorldItemPath, WorldRef, WorldItem, TypeStatement, Expr, PrimaryExpr, Arguments, InstantiationArgument, ImportType, Statement, Document}
 use Rattle.wac_ast_grammar.specs.Segments.{package_name_span}
-use Rattle.wac_resolution_rules.specs.Paths.{Setting, key_of_path}
+use Rattle.wac_resolution_rules.specs.Paths.{Context, key_of_path}
 use Rattle.wac_resolution_rules.specs.Given.{Given, key_named}
 use Rattle.wac_resolution_rules.specs.Composition.{Node}
 use Rattle.wac_resolution_rules.specs.Nodes.{key_of_node}
@@ -128,12 +128,12 @@ KeysHold P ns = AllByRecursion (λ (n : Node). KeyHolds P (key_of_node n.form)) 
 abbrev pub Agree : Packages → Packages → List Mention → Type 0
 Agree ps qs ms = AllByRecursion (λ (m : Mention). package_of m.0 ps ≡ package_of m.0 qs) ms
 
--- the setting with these packages
-abbrev pub over : Setting → Packages → Setting
+-- the context with these packages
+abbrev pub over : Context → Packages → Context
 over s ps = record { naming = s.naming; own = s.own; version = s.version; packages = ps }
 
 abbrev pub given_over : Given → Packages → Given
-given_over g ps = record { setting = over g.setting ps; rules = g.rules }
+given_over g ps = record { context = over g.context ps; rules = g.rules }
 
 -- the entries whose keys are mentioned
 abbrev pub kept : {X : Type 0} → List Mention → List (Key × X) → List (Key × X)

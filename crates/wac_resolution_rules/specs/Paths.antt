@@ -13,7 +13,7 @@ use Rattle.wac_ast_grammar.specs.Tree.{PackagePath, UsePath, WorldRef}
 use Rattle.wac_ast_grammar.specs.Version.{is_slash, version_text}
 
 -- what a document is resolved in: numbers for origins, the document's own package, and the given packages
-pub record Setting : Type 0 where
+pub record Context : Type 0 where
   pub naming : Naming
   pub own : List ℕ
   pub version : Option (List ℕ)
@@ -31,13 +31,13 @@ abbrev pub beginning_of : Bool → Scope → Packages → Key → Option Scope
 beginning_of true root packages key = Some root
 beginning_of false root packages key = option_map (λ (c : Contents). c.definitions) (package_of key packages)
 
-abbrev pub is_own : Setting → PackagePath → Bool
-is_own setting p = bytes_eq p.name setting.own
+abbrev pub is_own : Context → PackagePath → Bool
+is_own context p = bytes_eq p.name context.own
 
 -- where the first segment is looked up: a path of the document's own package begins in its root scope, whatever the
 -- version; another among what that package defines, if it is given
-abbrev pub beginning : Setting → Scope → PackagePath → Option Scope
-beginning setting root p = beginning_of (is_own setting p) root setting.packages (key_of_path p)
+abbrev pub beginning : Context → Scope → PackagePath → Option Scope
+beginning context root p = beginning_of (is_own context p) root context.packages (key_of_path p)
 
 -- a later segment is an export of what the one before it denotes
 abbrev pub IsMember : Meaning → List ℕ → Meaning → Type 0
@@ -49,14 +49,14 @@ LeadsFrom scope [] m = ⊥
 LeadsFrom scope (first ∷ rest) m = (k : Meaning) × StandsFor scope first k × Steps IsMember k rest m
 
 -- a path resolves to a kind
-abbrev pub LeadsTo : Setting → Scope → PackagePath → Meaning → Type 0
-LeadsTo setting root p m = (from : Scope) × (beginning setting root p ≡ Some from) × LeadsFrom from (segments_of p) m
+abbrev pub LeadsTo : Context → Scope → PackagePath → Meaning → Type 0
+LeadsTo context root p m = (from : Scope) × (beginning context root p ≡ Some from) × LeadsFrom from (segments_of p) m
 
 -- what an identifier or path names: an identifier is looked up at root
-abbrev pub UseNames : Setting → Scope → UsePath → Meaning → Type 0
-UseNames setting root (UsePath.path p) m = LeadsTo setting root p m
-UseNames setting root (UsePath.ident x) m = StandsFor root x.string m
+abbrev pub UseNames : Context → Scope → UsePath → Meaning → Type 0
+UseNames context root (UsePath.path p) m = LeadsTo context root p m
+UseNames context root (UsePath.ident x) m = StandsFor root x.string m
 
-abbrev pub WorldNames : Setting → Scope → WorldRef → Meaning → Type 0
-WorldNames setting root (WorldRef.path p) m = LeadsTo setting root p m
-WorldNames setting root (WorldRef.ident x) m = StandsFor root x.string m
+abbrev pub WorldNames : Context → Scope → WorldRef → Meaning → Type 0
+WorldNames context root (WorldRef.path p) m = LeadsTo context root p m
+WorldNames context root (WorldRef.ident x) m = StandsFor root x.string m

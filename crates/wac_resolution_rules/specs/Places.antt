@@ -10,7 +10,7 @@ use Rattle.wac_resolution_rules.specs.Given.{Given}
 use Rattle.wac_resolution_rules.specs.Composition.{Composition}
 use Rattle.wac_resolution_rules.specs.Nodes.{imports}
 use Rattle.wac_resolution_rules.specs.Find.{names_of}
-use Rattle.wac_resolution_rules.specs.Statements.{Goes}
+use Rattle.wac_resolution_rules.specs.Statements.{StatementStep}
 
 -- ---- in a body
 
@@ -95,7 +95,7 @@ placed_start c = record { composition = c; places = nowhere_yet }
 
 -- a statement turns one composition into the next, and changes the places
 abbrev pub Leads : Given → Placed → Statement → Placed → Type 0
-Leads s old x new = Goes s old.composition x new.composition
+Leads s old x new = StatementStep s old.composition x new.composition
     × (new.places ≡ places_after old.composition old.places x new.composition)
 
 -- the names that have places are those that were bound, imported and exported, in order

@@ -10,7 +10,7 @@ use Rattle.wac_ast_grammar.specs.Tree.{PackagePath, Statement, Document}
 use Rattle.wac_ast_grammar.specs.Version.{version_text}
 use Rattle.wac_resolution_rules.specs.Given.{Given, Rules}
 use Rattle.wac_resolution_rules.specs.Composition.{Composition, start}
-use Rattle.wac_resolution_rules.specs.Statements.{Goes, Composes}
+use Rattle.wac_resolution_rules.specs.Statements.{StatementStep, Composes}
 use Rattle.wac_resolution_rules.specs.Target.{MeetsPath, MeetsTarget}
 use Rattle.wac_resolution_errors.specs.Error.{Error, Reports, memory}
 use Rattle.wac_resolution_rules.specs.BrokenStatements.{StatementBroken, TargetBroken}
@@ -19,7 +19,7 @@ use Rattle.wac_resolution_rules.specs.Places.{Leads, Placed, placed_start}
 -- what a document is resolved with: the given packages, by what they mean, and the rules
 abbrev pub given_to : Naming → List (Key × PackageParts) → Rules → Document → Given
 given_to naming packages rules doc = record {
-  setting = record {
+  context = record {
     naming = naming;
     own = doc.directive.package_name.name;
     version = version_text
@@ -47,7 +47,7 @@ pub record StatementFails (s : Given) (doc : Document) (e : Error) : Type 0 wher
   pub so_far : Placed
   pub leads : Steps (Leads s) (placed_start start) before so_far
   pub broken : StatementBroken s so_far.composition so_far.places e failing
-  pub stops : (next : Composition) → Goes s so_far.composition failing next → ⊥
+  pub stops : (next : Composition) → StatementStep s so_far.composition failing next → ⊥
 
 -- all statements have a composition, and the target doesn't allow it
 pub record TargetFails (s : Given) (doc : Document) (e : Error) : Type 0 where

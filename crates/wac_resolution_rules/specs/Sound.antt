@@ -31,7 +31,7 @@ IsAfterSource i (instantiated key) = Unit {0}
 -- the arguments of an instance are for imports of its package, and fit them
 abbrev pub ArgumentsFit : Given → List Node → Option Key → Named ℕ → Type 0
 ArgumentsFit s ns None arguments = Unit {0}
-ArgumentsFit s ns (Some key) arguments = (p : Contents) × (package_of key s.setting.packages ≡ Some p)
+ArgumentsFit s ns (Some key) arguments = (p : Contents) × (package_of key s.context.packages ≡ Some p)
     × AllByRecursion (Fits s.rules (imports_in p) ns) arguments
 
 -- edges of the node of a number come from earlier nodes; each argument names an import of the package once and fits it

@@ -25,8 +25,8 @@ abbrev pub ImportsKind : Given → Composition → ImportType → Meaning → �
 ImportsKind s old (ImportType.func x) k after = (entry : Meaning) × IsFunc (root_scope old) x entry
     × (k ≡ kind_of func entry) × (after ≡ old.resources)
 ImportsKind s old (ImportType.interface x) k after = (entry : Meaning)
-    × IsInterface s.setting (root_scope old) old.resources None x.items entry after × (k ≡ kind_of instance entry)
-ImportsKind s old (ImportType.path x) k after = LeadsTo s.setting (root_scope old) x k × (after ≡ old.resources)
+    × IsInterface s.context (root_scope old) old.resources None x.items entry after × (k ≡ kind_of instance entry)
+ImportsKind s old (ImportType.path x) k after = LeadsTo s.context (root_scope old) x k × (after ≡ old.resources)
 ImportsKind s old (ImportType.ident x) k after = StandsFor (root_scope old) x.string k × (after ≡ old.resources)
 
 -- the id of an instance or a component
@@ -102,12 +102,12 @@ Exports s old x new = (a : At) × Stands s old x.expr a × ExportsBy s a x.optio
 -- ---- statements
 
 -- a statement turns the old composition into the new one
-abbrev pub Goes : Given → Composition → Statement → Composition → Type 0
-Goes s old (Statement.import_statement x) new = Imports s old x new
-Goes s old (Statement.let_statement x) new = Lets s old x new
-Goes s old (Statement.export_statement x) new = Exports s old x new
-Goes s old (Statement.type_statement x) new = Declares s.setting old x new
+abbrev pub StatementStep : Given → Composition → Statement → Composition → Type 0
+StatementStep s old (Statement.import_statement x) new = Imports s old x new
+StatementStep s old (Statement.let_statement x) new = Lets s old x new
+StatementStep s old (Statement.export_statement x) new = Exports s old x new
+StatementStep s old (Statement.type_statement x) new = Declares s.context old x new
 
 -- statements, in order, turn one composition into another
 abbrev pub Composes : Given → Composition → List Statement → Composition → Type 0
-Composes s old statements new = Steps (Goes s) old statements new
+Composes s old statements new = Steps (StatementStep s) old statements new

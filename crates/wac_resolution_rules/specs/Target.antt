@@ -44,7 +44,7 @@ allowed w name = option_or (used_under w name) (look_up name (imports_of w))
 
 -- the imports of a node's package for which the node has no argument
 abbrev pub open_imports : Given → Node → Named Meaning
-open_imports s n = elim (option_and_then (λ key. package_of key s.setting.packages) (key_of_node n.form))
+open_imports s n = elim (option_and_then (λ key. package_of key s.context.packages) (key_of_node n.form))
     [ None ↦ [] | Some p ↦ left_out (imports_in p) n.arguments ]
 
 -- what a composition imports: its import nodes in order, then what each instance of a package leaves open
@@ -68,7 +68,7 @@ IsAllowed s c w = AllByRecursion (ImportAllowed s w) (all_imports s c) × AllByR
 
 -- the path resolves to a world type, which allows the composition
 abbrev pub MeetsPath : Given → Composition → PackagePath → Type 0
-MeetsPath s c p = (k : Meaning) × (w : Meaning) × LeadsTo s.setting (root_scope c) p k × (world_of k ≡ Some w)
+MeetsPath s c p = (k : Meaning) × (w : Meaning) × LeadsTo s.context (root_scope c) p k × (world_of k ≡ Some w)
     × IsAllowed s c w
 
 -- the target is met, if there is one

@@ -5,7 +5,7 @@ use Rattle.wac_graph_types.specs.Meaning.{Meaning}
 use Rattle.wac_graph_types.specs.Scope.{IsFresh}
 use Rattle.wac_graph_types.specs.Shape.{kind_of}
 use Rattle.wac_ast_grammar.specs.Tree.{Ident, TypeStatement, TypeDecl}
-use Rattle.wac_resolution_rules.specs.Paths.{Setting}
+use Rattle.wac_resolution_rules.specs.Paths.{Context}
 use Rattle.wac_resolution_rules.specs.Declarations.{IsTypeDecl}
 use Rattle.wac_resolution_rules.specs.Worlds.{IsInterface, IsWorld}
 use Rattle.wac_resolution_rules.specs.Composition.{Composition, definition, root_scope, with_node, with_export, with_resources, binding}
@@ -15,8 +15,8 @@ version_part None = codes ""
 version_part (Some v) = codes "@" ++ v
 
 -- the id of an interface or world that the document declares
-abbrev pub declared_id : Setting → List ℕ → Option (List ℕ)
-declared_id setting name = Some (setting.own ++ codes "/" ++ name ++ version_part setting.version)
+abbrev pub declared_id : Context → List ℕ → Option (List ℕ)
+declared_id context name = Some (context.own ++ codes "/" ++ name ++ version_part context.version)
 
 -- the identifier of a declaration
 abbrev pub declared_as : TypeDecl → Ident
@@ -36,15 +36,15 @@ abbrev pub Defines : Composition → List ℕ → Meaning → ℕ → Compositio
 Defines old name m n new = IsFresh name old.exports × IsFresh name old.declared × (new ≡ defining old name m n)
 
 -- a type statement turns the old composition into the new one
-abbrev pub Declares : Setting → Composition → TypeStatement → Composition → Type 0
-Declares setting old (TypeStatement.interface d) new =
+abbrev pub Declares : Context → Composition → TypeStatement → Composition → Type 0
+Declares context old (TypeStatement.interface d) new =
     (entry : Meaning) × (n : ℕ)
-    × IsInterface setting (root_scope old) old.resources (declared_id setting d.id.string) d.items entry n
+    × IsInterface context (root_scope old) old.resources (declared_id context d.id.string) d.items entry n
     × Defines old d.id.string (kind_of an_interface entry) n new
-Declares setting old (TypeStatement.world d) new =
+Declares context old (TypeStatement.world d) new =
     (entry : Meaning) × (n : ℕ)
-    × IsWorld setting (root_scope old) old.resources (declared_id setting d.id.string) d.items entry n
+    × IsWorld context (root_scope old) old.resources (declared_id context d.id.string) d.items entry n
     × Defines old d.id.string (kind_of a_world entry) n new
-Declares setting old (TypeStatement.ty d) new =
+Declares context old (TypeStatement.ty d) new =
     (m : Meaning) × (n : ℕ) × IsTypeDecl (root_scope old) old.resources d m n
     × Defines old (declared_as d).string m n new

@@ -10,7 +10,7 @@ use Rattle.wac_graph_types.specs.Steps.{Steps}
 use Rattle.wac_graph_types.specs.Shape.{IsA, is_func_form, is_interface_form, is_func_or_interface_form, entry_of, id_of, kind_of, promoted, interface_entry, world_entry}
 use Rattle.wac_ast_grammar.specs.Tree.{FuncTypeRef, InterfaceItem, ExternType, WorldItemPath, WorldItem, WorldInclude}
 use Rattle.wac_resolution_rules.specs.Types.{IsFunc}
-use Rattle.wac_resolution_rules.specs.Paths.{Setting, LeadsTo}
+use Rattle.wac_resolution_rules.specs.Paths.{Context, LeadsTo}
 use Rattle.wac_resolution_rules.specs.Bodies.{Body, empty_body, externs, with_extern, with_count, HasItem, HasUse}
 use Rattle.wac_resolution_rules.specs.Includes.{HasInclude}
 
@@ -23,30 +23,30 @@ IsFuncRef scope (FuncTypeRef.ident x) entry = (k : Meaning) × StandsFor scope x
     × (entry ≡ entry_of k)
 
 -- an item of an interface turns the old body into the new one
-abbrev pub HasInterfaceItem : Setting → Scope → Body → InterfaceItem → Body → Type 0
-HasInterfaceItem setting root old (InterfaceItem.use_statement u) new = HasUse setting root sides.Export old u new
-HasInterfaceItem setting root old (InterfaceItem.ty d) new = HasItem setting.naming sides.Export old d new
-HasInterfaceItem setting root old (InterfaceItem.interface_export x) new =
+abbrev pub HasInterfaceItem : Context → Scope → Body → InterfaceItem → Body → Type 0
+HasInterfaceItem context root old (InterfaceItem.use_statement u) new = HasUse context root sides.Export old u new
+HasInterfaceItem context root old (InterfaceItem.ty d) new = HasItem context.naming sides.Export old d new
+HasInterfaceItem context root old (InterfaceItem.interface_export x) new =
     (f : Meaning) × IsFuncRef old.scope x.ty f × IsFresh x.id.string old.exports
     × (new ≡ with_extern sides.Export old x.id.string (kind_of func f))
 
 -- the entry of an interface, and the count of declared resources after it
-abbrev pub IsInterface : Setting → Scope → ℕ → Option (List ℕ) → List InterfaceItem → Meaning → ℕ → Type 0
-IsInterface setting root n id items entry after =
-    (b : Body) × Steps (HasInterfaceItem setting root) (empty_body n) items b
+abbrev pub IsInterface : Context → Scope → ℕ → Option (List ℕ) → List InterfaceItem → Meaning → ℕ → Type 0
+IsInterface context root n id items entry after =
+    (b : Body) × Steps (HasInterfaceItem context root) (empty_body n) items b
     × (entry ≡ interface_entry id b.uses b.exports) × (after ≡ b.resources)
 
 -- ---- worlds
 
 -- the kind of an import or export that is given a name: an identifier is looked up in the body, then at root
-abbrev pub HasExternType : Setting → Scope → Scope → ℕ → ExternType → Meaning → ℕ → Type 0
-HasExternType setting root scope n (ExternType.ident x) m after =
+abbrev pub HasExternType : Context → Scope → Scope → ℕ → ExternType → Meaning → ℕ → Type 0
+HasExternType context root scope n (ExternType.ident x) m after =
     (k : Meaning) × StandsFor (scope ++ root) x.string k × IsA is_func_or_interface_form k × (m ≡ promoted k)
     × (after ≡ n)
-HasExternType setting root scope n (ExternType.func f) m after = (entry : Meaning) × IsFunc scope f entry
+HasExternType context root scope n (ExternType.func f) m after = (entry : Meaning) × IsFunc scope f entry
     × (m ≡ kind_of func entry) × (after ≡ n)
-HasExternType setting root scope n (ExternType.interface i) m after =
-    (entry : Meaning) × IsInterface setting root n None i.items entry after × (m ≡ kind_of instance entry)
+HasExternType context root scope n (ExternType.interface i) m after =
+    (entry : Meaning) × IsInterface context root n None i.items entry after × (m ≡ kind_of instance entry)
 
 -- the id of an interface, under which it is imported or exported as an instance
 abbrev pub id_or_empty : Meaning → List ℕ
@@ -58,23 +58,23 @@ HasInstance side old k new = IsA is_interface_form k × IsFresh (id_or_empty k) 
     × (new ≡ with_extern side old (id_or_empty k) (promoted k))
 
 -- an import or export
-abbrev pub HasExtern : Setting → Scope → ExternKind → Body → WorldItemPath → Body → Type 0
-HasExtern setting root side old (WorldItemPath.named x) new =
+abbrev pub HasExtern : Context → Scope → ExternKind → Body → WorldItemPath → Body → Type 0
+HasExtern context root side old (WorldItemPath.named x) new =
     IsFresh x.id.string (externs side old)
-    × ((m : Meaning) × (n : ℕ) × HasExternType setting root old.scope old.resources x.ty m n
+    × ((m : Meaning) × (n : ℕ) × HasExternType context root old.scope old.resources x.ty m n
     × (new ≡ with_extern side (with_count old n) x.id.string m))
-HasExtern setting root side old (WorldItemPath.path p) new = (k : Meaning) × LeadsTo setting root p k
+HasExtern context root side old (WorldItemPath.path p) new = (k : Meaning) × LeadsTo context root p k
     × HasInstance side old k new
-HasExtern setting root side old (WorldItemPath.ident x) new = (k : Meaning) × StandsFor root x.string k
+HasExtern context root side old (WorldItemPath.ident x) new = (k : Meaning) × StandsFor root x.string k
     × HasInstance side old k new
 
 -- an item of a world turns the old body into the new one; includes come afterwards
-abbrev pub HasWorldItem : Setting → Scope → Body → WorldItem → Body → Type 0
-HasWorldItem setting root old (WorldItem.use_statement u) new = HasUse setting root sides.Import old u new
-HasWorldItem setting root old (WorldItem.world_import x) new = HasExtern setting root sides.Import old x.path new
-HasWorldItem setting root old (WorldItem.world_export x) new = HasExtern setting root sides.Export old x.path new
-HasWorldItem setting root old (WorldItem.world_include x) new = new ≡ old
-HasWorldItem setting root old (WorldItem.ty d) new = HasItem setting.naming sides.Import old d new
+abbrev pub HasWorldItem : Context → Scope → Body → WorldItem → Body → Type 0
+HasWorldItem context root old (WorldItem.use_statement u) new = HasUse context root sides.Import old u new
+HasWorldItem context root old (WorldItem.world_import x) new = HasExtern context root sides.Import old x.path new
+HasWorldItem context root old (WorldItem.world_export x) new = HasExtern context root sides.Export old x.path new
+HasWorldItem context root old (WorldItem.world_include x) new = new ≡ old
+HasWorldItem context root old (WorldItem.ty d) new = HasItem context.naming sides.Import old d new
 
 abbrev pub include_in : WorldItem → Option WorldInclude
 include_in (WorldItem.world_include x) = Some x
@@ -85,8 +85,8 @@ abbrev pub includes_of : List WorldItem → List WorldInclude
 includes_of items = filter_map include_in items
 
 -- the entry of a world, and the count of declared resources after it
-abbrev pub IsWorld : Setting → Scope → ℕ → Option (List ℕ) → List WorldItem → Meaning → ℕ → Type 0
-IsWorld setting root n id items entry after =
-    (mid : Body) × (b : Body) × Steps (HasWorldItem setting root) (empty_body n) items mid
-    × Steps (HasInclude setting root) mid (includes_of items) b
+abbrev pub IsWorld : Context → Scope → ℕ → Option (List ℕ) → List WorldItem → Meaning → ℕ → Type 0
+IsWorld context root n id items entry after =
+    (mid : Body) × (b : Body) × Steps (HasWorldItem context root) (empty_body n) items mid
+    × Steps (HasInclude context root) mid (includes_of items) b
     × (entry ≡ world_entry id b.uses b.imports b.exports) × (after ≡ b.resources)

@@ -24,11 +24,11 @@ ghost use Rattle.wac_resolution_rules.specs.Given.{Given};
 ghost use Rattle.wac_resolution_rules.specs.Includes.{Entries, HasInclude, Included, has_colon};
 ghost use Rattle.wac_resolution_rules.specs.Mentions.{Agree, IsMentioned, KeysHold, given_over, kept, mentions};
 ghost use Rattle.wac_resolution_rules.specs.Nodes.{imports};
-ghost use Rattle.wac_resolution_rules.specs.Paths.{LeadsTo, Setting};
+ghost use Rattle.wac_resolution_rules.specs.Paths.{LeadsTo, Context};
 ghost use Rattle.wac_resolution_rules.specs.Places.{HavePlaces, Leads, Placed, Places, placed_start};
 ghost use Rattle.wac_resolution_rules.specs.ResolvedDocument.{DescribeAlike, Describes, FirstFailing};
 ghost use Rattle.wac_resolution_rules.specs.Sound.{AliasesOnce, Begins, IsSound, NamesOnce};
-ghost use Rattle.wac_resolution_rules.specs.Statements.{Composes, Goes};
+ghost use Rattle.wac_resolution_rules.specs.Statements.{Composes, StatementStep};
 ghost use Rattle.wac_resolution_rules.specs.Target.{MeetsPath};
 ghost use Rattle.wac_resolution_rules.specs.Types.{HasType, IsFuncWith};
 ghost use Rattle.wac_resolution_rules.specs.Worlds.{HasInterfaceItem, HasWorldItem, IsInterface, IsWorld};
@@ -41,18 +41,18 @@ pub fn judgements_have_one_result()
         → IsFuncWith scope first f a → IsFuncWith scope first f b → a ≡ b }
     ensures declarations { (scope : Scope) (n : ℕ) (d : TypeDecl) (a b : Meaning) (i j : ℕ)
         → IsTypeDecl scope n d a i → IsTypeDecl scope n d b j → (a ≡ b) × (i ≡ j) }
-    ensures paths { (setting : Setting) (root : Scope) (p : PackagePath) (a b : Meaning)
-        → LeadsTo setting root p a → LeadsTo setting root p b → a ≡ b }
-    ensures interfaces { (setting : Setting) (root : Scope) (n : ℕ) (id : Option (List ℕ)) (items : List InterfaceItem)
+    ensures paths { (context : Context) (root : Scope) (p : PackagePath) (a b : Meaning)
+        → LeadsTo context root p a → LeadsTo context root p b → a ≡ b }
+    ensures interfaces { (context : Context) (root : Scope) (n : ℕ) (id : Option (List ℕ)) (items : List InterfaceItem)
         (a b : Meaning) (i j : ℕ)
-        → IsInterface setting root n id items a i → IsInterface setting root n id items b j → (a ≡ b) × (i ≡ j) }
-    ensures worlds { (setting : Setting) (root : Scope) (n : ℕ) (id : Option (List ℕ)) (items : List WorldItem)
+        → IsInterface context root n id items a i → IsInterface context root n id items b j → (a ≡ b) × (i ≡ j) }
+    ensures worlds { (context : Context) (root : Scope) (n : ℕ) (id : Option (List ℕ)) (items : List WorldItem)
         (a b : Meaning) (i j : ℕ)
-        → IsWorld setting root n id items a i → IsWorld setting root n id items b j → (a ≡ b) × (i ≡ j) }
+        → IsWorld context root n id items a i → IsWorld context root n id items b j → (a ≡ b) × (i ≡ j) }
     ensures expressions { (s : Given) (old : Composition) (x : Expr) (a b : At)
         → Stands s old x a → Stands s old x b → a ≡ b }
     ensures statements { (s : Given) (old : Composition) (x : Statement) (a b : Composition)
-        → Goes s old x a → Goes s old x b → a ≡ b }
+        → StatementStep s old x a → StatementStep s old x b → a ≡ b }
     ensures documents { (s : Given) (document : Document) (a b : Composition)
         → Describes s document a → Describes s document b → a ≡ b }
 {}
@@ -71,7 +71,7 @@ pub fn layout_carries_no_meaning()
 pub fn broken_rules_stop()
     ensures statement { (s : Given) (old : Composition) (places : Places) (e : Error) (x : Statement)
         (new : Composition)
-        → StatementBroken s old places e x → Goes s old x new → ⊥ }
+        → StatementBroken s old places e x → StatementStep s old x new → ⊥ }
     ensures target { (s : Given) (c : Composition) (places : Places) (e : Error) (path : PackagePath)
         → TargetBroken s c places e path → MeetsPath s c path → ⊥ }
 {}
@@ -121,19 +121,19 @@ pub fn names_stand_once()
 /// each package that it instantiates is mentioned.
 pub fn only_mentioned_packages_matter()
     ensures kept { (s : Given) (packages : Packages) (document : Document) (c : Composition)
-        → s.setting.own ≡ document.directive.package_name.name
+        → s.context.own ≡ document.directive.package_name.name
         → Describes (given_over s (kept (mentions document) packages)) document c ↔ Describes (given_over s packages)
         document c }
     ensures fails { (s : Given) (packages : Packages) (document : Document) (e : Error)
-        → s.setting.own ≡ document.directive.package_name.name
+        → s.context.own ≡ document.directive.package_name.name
         → FirstFailing (given_over s (kept (mentions document) packages)) document e ↔ FirstFailing
         (given_over s packages) document e }
     ensures agree { (s : Given) (packages others : Packages) (document : Document) (c : Composition)
-        → s.setting.own ≡ document.directive.package_name.name
+        → s.context.own ≡ document.directive.package_name.name
         → Agree packages others (mentions document) → Describes (given_over s packages) document c
         → Describes (given_over s others) document c }
     ensures instances { (s : Given) (document : Document) (c : Composition)
-        → s.setting.own ≡ document.directive.package_name.name → Describes s document c
+        → s.context.own ≡ document.directive.package_name.name → Describes s document c
         → KeysHold (IsMentioned (mentions document)) c.nodes }
 {}
 
@@ -153,21 +153,21 @@ pub fn names_have_places()
 
 /// In the body of an interface or a world, each name of its scope is among its exports or imports: what is new there is new in the scope.
 pub fn scopes_are_covered()
-    ensures interface { (setting : Setting) (root : Scope) (n : ℕ) (items : List InterfaceItem) (body : Body)
-        → Steps (HasInterfaceItem setting root) (empty_body n) items body → IsCovered sides.Export body }
-    ensures world { (setting : Setting) (root : Scope) (n : ℕ) (items : List WorldItem) (body : Body)
-        → Steps (HasWorldItem setting root) (empty_body n) items body → IsCovered sides.Import body }
+    ensures interface { (context : Context) (root : Scope) (n : ℕ) (items : List InterfaceItem) (body : Body)
+        → Steps (HasInterfaceItem context root) (empty_body n) items body → IsCovered sides.Export body }
+    ensures world { (context : Context) (root : Scope) (n : ℕ) (items : List WorldItem) (body : Body)
+        → Steps (HasWorldItem context root) (empty_body n) items body → IsCovered sides.Import body }
 {}
 
 /// After an `include` a world still imports and exports what it did before, and it imports or exports each name with a
 /// colon that the included world does.
 pub fn includes_lose_nothing()
-    ensures imports { (setting : Setting) (root : Scope) (old : Body) (x : WorldInclude) (new : Body) (name : List ℕ)
+    ensures imports { (context : Context) (root : Scope) (old : Body) (x : WorldInclude) (new : Body) (name : List ℕ)
         (m : Meaning)
-        → HasInclude setting root old x new → StandsFor old.imports name m → StandsFor new.imports name m }
-    ensures exports { (setting : Setting) (root : Scope) (old : Body) (x : WorldInclude) (new : Body) (name : List ℕ)
+        → HasInclude context root old x new → StandsFor old.imports name m → StandsFor new.imports name m }
+    ensures exports { (context : Context) (root : Scope) (old : Body) (x : WorldInclude) (new : Body) (name : List ℕ)
         (m : Meaning)
-        → HasInclude setting root old x new → StandsFor old.exports name m → StandsFor new.exports name m }
+        → HasInclude context root old x new → StandsFor old.exports name m → StandsFor new.exports name m }
     ensures taken_imports { (entries : Entries) (world : Meaning) (old new : Body)
         → Included entries world old new → (before : Named Meaning) (n : List ℕ × Meaning) (after : Named Meaning)
         → imports_of world ≡ before ++ n ∷ after → has_colon n.0 ≡ true → (m : Meaning) × StandsFor new.imports n.0 m }

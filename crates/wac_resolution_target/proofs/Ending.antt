@@ -19,9 +19,9 @@ use Rattle.wac_resolution_nodes.specs.Nodes.{composition_of}
 use Rattle.wac_resolution_nodes.specs.Root.{numbers_of, composed, Agrees}
 use Rattle.wac_resolution_nodes.proofs.Composed.{composition_expands}
 use Rattle.wac_resolution_nodes.proofs.Roots.{scope_agrees}
-use Rattle.wac_resolution_paths.specs.declared.setting.Setting.{Setting}
-use Rattle.wac_resolution_paths.specs.Expands.{IsHandedAs, HoldsHanded, Found}
-use Rattle.wac_resolution_paths.specs.Setting.{packages_in, setting_of}
+use Rattle.wac_resolution_paths.specs.declared.context.Context.{Context}
+use Rattle.wac_resolution_paths.specs.Expands.{IsSuppliedAs, AllSupplied, Found}
+use Rattle.wac_resolution_paths.specs.Context.{packages_in, context_of}
 use Rattle.wac_resolution_rules.specs.BrokenBodies.{PathBroken}
 use Rattle.wac_resolution_rules.specs.BrokenStatements.{IsNotWorld, TargetWorldBroken}
 use Rattle.wac_resolution_rules.specs.Composition.{Composition, root_scope, with_resources}
@@ -43,23 +43,23 @@ all_at {X} P (y ∷ xs) zero x h is = (let same : y ≡ x = cc in subst P same h
 all_at {X} P (y ∷ xs) (suc i) x h is = all_at P xs i x h.1 is
 
 -- what is held was supplied
-pub holds_handed : (setting : Setting) (g : Parts) (naming : Naming) → HoldsHanded (packages_in setting) g → Holds g naming (setting_of naming setting)
-holds_handed setting g naming h i p is = (all_at (IsHandedAs (packages_in setting) g) g.packages i p h is).contents naming
+pub holds_handed : (context : Context) (g : Parts) (naming : Naming) → AllSupplied (packages_in context) g → Holds g naming (context_of naming context)
+holds_handed context g naming h i p is = (all_at (IsSuppliedAs (packages_in context) g) g.packages i p h is).contents naming
 
-module _ (setting : Setting) (rules : Rules) (old : Parts) (root : Root) (target : Target) (agrees : Agrees old root) where
-  pub path_broken : (imported exported : Named Span) (e : Error) → ((naming : Naming) → PathBroken (setting_of naming setting) (scope_of naming old (values_of root.kinds)) (package_path_of target.path.now) e)
-      → Unmeets setting rules old root (package_path_of target.path.now) imported exported e
+module _ (context : Context) (rules : Rules) (old : Parts) (root : Root) (target : Target) (agrees : Agrees old root) where
+  pub path_broken : (imported exported : Named Span) (e : Error) → ((naming : Naming) → PathBroken (context_of naming context) (scope_of naming old (values_of root.kinds)) (package_path_of target.path.now) e)
+      → Unmeets context rules old root (package_path_of target.path.now) imported exported e
   path_broken imported exported e h naming p one im ex =
-      inl (subst (λ (sc : Scope). PathBroken (setting_of naming setting) sc (package_path_of target.path.now) e) (sym (scope_agrees naming old root agrees)) (h naming))
+      inl (subst (λ (sc : Scope). PathBroken (context_of naming context) sc (package_path_of target.path.now) e) (sym (scope_agrees naming old root agrees)) (h naming))
 
   abbrev IsFound : Parts → ItemKind → Type 0
-  IsFound new k = Found (packages_in setting) old new (λ naming m. LeadsTo (setting_of naming setting) (scope_of naming old (values_of root.kinds)) (package_path_of target.path.now) m) k
+  IsFound new k = Found (packages_in context) old new (λ naming m. LeadsTo (context_of naming context) (scope_of naming old (values_of root.kinds)) (package_path_of target.path.now) m) k
 
-  leads : (new : Parts) (k : ItemKind) → IsFound new k → (naming : Naming) → LeadsTo (setting_of naming setting) (root_scope (composed naming old root)) (package_path_of target.path.now) (means naming new k)
-  leads new k f naming = subst (λ (sc : Scope). LeadsTo (setting_of naming setting) sc (package_path_of target.path.now) (means naming new k)) (sym (scope_agrees naming old root agrees)) (f.is naming)
+  leads : (new : Parts) (k : ItemKind) → IsFound new k → (naming : Naming) → LeadsTo (context_of naming context) (root_scope (composed naming old root)) (package_path_of target.path.now) (means naming new k)
+  leads new k f naming = subst (λ (sc : Scope). LeadsTo (context_of naming context) sc (package_path_of target.path.now) (means naming new k)) (sym (scope_agrees naming old root agrees)) (f.is naming)
 
   pub no_world : (new : Parts) (k : ItemKind) (imported exported : Named Span) (e : Error) → IsFound new k → ((naming : Naming) (g : Parts) → IsNotWorld (package_path_of target.path.now) (means naming g k) e)
-      → Unmeets setting rules old root (package_path_of target.path.now) imported exported e
+      → Unmeets context rules old root (package_path_of target.path.now) imported exported e
   no_world new k imported exported e f h naming p one im ex = inr (means naming new k, leads new k f naming, inl (h naming new))
 
   module _ (new : Parts) (k : ItemKind) (f : IsFound new k) (is : k ≡ kinds.Ty (types.World target.world)) (sound : IsSound new) (law : EntriesMean new) where
@@ -72,22 +72,22 @@ module _ (setting : Setting) (rules : Rules) (old : Parts) (root : Root) (target
     is_world : (naming : Naming) → world_of (means naming new k) ≡ Some (entry_means naming new target.world.0)
     is_world naming = ap (λ (x : ItemKind). world_of (means naming new x)) is
 
-    pub target_met : WorldMet (testing new rules target) → Meets setting rules old new root (package_path_of target.path.now)
+    pub target_met : WorldMet (testing new rules target) → Meets context rules old new root (package_path_of target.path.now)
     target_met m = record {
       grows = f.grows;
-      handed = f.handed;
+      supplied = f.supplied;
       count = f.count;
       is = λ naming one. (
         means naming new k,
         entry_means naming new target.world.0,
         leads new k f naming,
         is_world naming,
-        subst (λ (c : Composition). IsAllowed (given_by rules (setting_of naming setting)) c (entry_means naming new target.world.0)) (same_composition naming)
-            (whole_allowed new rules target naming one (setting_of naming setting) (numbers_of root.nodes) sound law (holds_handed setting new naming f.handed) world_there m.nodes m.opens m.exports),
+        subst (λ (c : Composition). IsAllowed (given_by rules (context_of naming context)) c (entry_means naming new target.world.0)) (same_composition naming)
+            (whole_allowed new rules target naming one (context_of naming context) (numbers_of root.nodes) sound law (holds_handed context new naming f.supplied) world_there m.nodes m.opens m.exports),
       );
     }
 
-    pub target_unmet : (imported exported : Named Span) (e : Error) → WorldUnmet (testing new rules target) imported exported e → Unmeets setting rules old root (package_path_of target.path.now) imported exported e
+    pub target_unmet : (imported exported : Named Span) (e : Error) → WorldUnmet (testing new rules target) imported exported e → Unmeets context rules old root (package_path_of target.path.now) imported exported e
     target_unmet imported exported e u naming p one im ex =
         inr (
           means naming new k,
@@ -95,16 +95,16 @@ module _ (setting : Setting) (rules : Rules) (old : Parts) (root : Root) (target
           inr (
             entry_means naming new target.world.0,
             is_world naming,
-            subst (λ (c : Composition). TargetWorldBroken (given_by rules (setting_of naming setting)) c p e (package_path_of target.path.now) (entry_means naming new target.world.0)) (same_composition naming) (go u),
+            subst (λ (c : Composition). TargetWorldBroken (given_by rules (context_of naming context)) c p e (package_path_of target.path.now) (entry_means naming new target.world.0)) (same_composition naming) (go u),
           ),
         )
       where
         go : WorldUnmet (testing new rules target) imported exported e
-            → TargetWorldBroken (given_by rules (setting_of naming setting)) (composition_of naming new (numbers_of root.nodes)) p e (package_path_of target.path.now) (entry_means naming new target.world.0)
+            → TargetWorldBroken (given_by rules (context_of naming context)) (composition_of naming new (numbers_of root.nodes)) p e (package_path_of target.path.now) (entry_means naming new target.world.0)
         go (inl d) =
-            import_denied new rules target naming one (setting_of naming setting) (numbers_of root.nodes) sound law (holds_handed setting new naming f.handed) world_there p e
+            import_denied new rules target naming one (context_of naming context) (numbers_of root.nodes) sound law (holds_handed context new naming f.supplied) world_there p e
             (subst (λ (l : Named Span). SomeDenied (testing new rules target) (of_node new) (λ x. look_up x.0 l) new.imports e) (sym im) d)
-        go (inr (inl (n, d))) = open_denied new rules target naming one (setting_of naming setting) (numbers_of root.nodes) sound law (holds_handed setting new naming f.handed) world_there p e n d
+        go (inr (inl (n, d))) = open_denied new rules target naming one (context_of naming context) (numbers_of root.nodes) sound law (holds_handed context new naming f.supplied) world_there p e n d
         go (inr (inr (n, o, d))) =
-            export_unmet new rules target naming one (setting_of naming setting) (numbers_of root.nodes) sound law (holds_handed setting new naming f.handed) world_there p e n o
+            export_unmet new rules target naming one (context_of naming context) (numbers_of root.nodes) sound law (holds_handed context new naming f.supplied) world_there p e n o
             (subst (λ (l : Named Span). SomeUnmet (testing new rules target) l (of_kind new) (Rattle.wac_graph_types.specs.Readings.world_exports new.types target.world.0) e) (sym ex) d)

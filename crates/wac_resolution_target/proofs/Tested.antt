@@ -38,25 +38,25 @@ module _ (g : Parts) (rules : Rules) (target : Target) where
   Says a b r = (naming : Naming) → IsOneToOne naming → rules.passes (means naming g a) (means naming g b) ≡ r
 
   pub import_allowed : (name : List ℕ) (k wanted : ItemKind) → Allows name (Some wanted) → Says (promoted wanted) k None → Allowed t (of_kind g (name, k))
-  import_allowed name k wanted law ok naming setting one =
+  import_allowed name k wanted law ok naming context one =
       (means naming g wanted, sym (law naming), ap (λ (m : Meaning). rules.passes m (means naming g k)) (promoted_is (entry_means naming g) wanted) ∙ ok naming one)
 
   pub import_missing : (name : List ℕ) (k : ItemKind) (span : Option Span) (e : Error) → Allows name None → e ≡ import_not_in_target name (package_path_of target.path.now).string span → Denied t (of_kind g (name, k)) span e
-  import_missing name k span e law is naming setting one = inl (sym (law naming), is)
+  import_missing name k span e law is naming context one = inl (sym (law naming), is)
 
   pub import_mismatched : (name : List ℕ) (k wanted : ItemKind) (span : Option Span) (r : Reason) (e : Error) → Allows name (Some wanted) → Says (promoted wanted) k (Some r)
       → e ≡ target_mismatch externs.Import name (package_path_of target.path.now).string r span → Denied t (of_kind g (name, k)) span e
-  import_mismatched name k wanted span r e law says is naming setting one =
+  import_mismatched name k wanted span r e law says is naming context one =
       inr (means naming g wanted, r, sym (law naming), ap (λ (m : Meaning). rules.passes m (means naming g k)) (promoted_is (entry_means naming g) wanted) ∙ says naming one, is)
 
   -- by the node that is imported
   pub node_allowed : (name : List ℕ) (n : ℕ) (k : ItemKind) → kind_in g.nodes n ≡ Some k → Allowed t (of_kind g (name, k)) → Allowed t (of_node g (name, n))
-  node_allowed name n k is h naming setting one =
-      let a = h naming setting one in
+  node_allowed name n k is h naming context one =
+      let a = h naming context one in
       (a.0, a.1, ap (rules.passes (shapes.promoted a.0)) (kind_means naming g n k is) ∙ a.2)
 
   pub node_denied : (name : List ℕ) (n : ℕ) (k : ItemKind) (span : Option Span) (e : Error) → kind_in g.nodes n ≡ Some k → Denied t (of_kind g (name, k)) span e → Denied t (of_node g (name, n)) span e
-  node_denied name n k span e is h naming setting one = elim (h naming setting one) [
+  node_denied name n k span e is h naming context one = elim (h naming context one) [
     | inl a ↦ inl a
     | inr b ↦ inr (b.0, b.1, b.2, ap (rules.passes (shapes.promoted b.0)) (kind_means naming g n k is) ∙ b.3, b.4)
   ]
@@ -67,7 +67,7 @@ module _ (g : Parts) (rules : Rules) (target : Target) where
   -- ---- exports
 
   pub export_met : (name : List ℕ) (k exported : ItemKind) (n : ℕ) → look_up name g.exports ≡ Some n → kind_in g.nodes n ≡ Some exported → Says exported (promoted k) None → Met t (of_kind g (name, k))
-  export_met name k exported n at is ok naming setting declared one = (
+  export_met name k exported n at is ok naming context declared one = (
     n,
     at,
     ap (λ (m : Meaning). rules.passes m (shapes.promoted (means naming g k))) (kind_means naming g n exported is)
@@ -76,7 +76,7 @@ module _ (g : Parts) (rules : Rules) (target : Target) where
 
   pub export_missing : (name : List ℕ) (k : ItemKind) (places : Named Span) (e : Error) → look_up name g.exports ≡ None
       → e ≡ missing_target_export name (package_path_of target.path.now).string (words.described k) (package_path_of target.path.now).span → Unmet t places (of_kind g (name, k)) e
-  export_missing name k places e none is naming setting declared one =
+  export_missing name k places e none is naming context declared one =
       inl (none, is ∙ ap (λ (w : List ℕ). missing_target_export name (package_path_of target.path.now).string w (package_path_of target.path.now).span) (sym (word_is (entry_means naming g) k)))
 
   -- a name of both lists is found in both
@@ -94,7 +94,7 @@ module _ (g : Parts) (rules : Rules) (target : Target) where
 
   pub export_mismatched : (name : List ℕ) (k exported : ItemKind) (n : ℕ) (places : Named Span) (r : Reason) (e : Error) → names_of places ≡ names_of g.exports → look_up name g.exports ≡ Some n → kind_in g.nodes n ≡ Some exported
       → Says exported (promoted k) (Some r) → e ≡ target_mismatch externs.Export name (package_path_of target.path.now).string r (look_up name places) → Unmet t places (of_kind g (name, k)) e
-  export_mismatched name k exported n places r e placed at is says told naming setting declared one =
+  export_mismatched name k exported n places r e placed at is says told naming context declared one =
       let span = same_found name places g.exports n placed at in
       inr (
         n,

@@ -27,7 +27,7 @@ use Rattle.wac_resolution_rules.specs.BrokenStatements.{placed_imports, TargetWo
 use Rattle.wac_resolution_rules.specs.Composition.{Composition, kind_at}
 use Rattle.wac_resolution_rules.specs.Given.{Given, Rules}
 use Rattle.wac_resolution_rules.specs.Nodes.{import_of, imports}
-use Rattle.wac_resolution_rules.specs.Paths.{Setting}
+use Rattle.wac_resolution_rules.specs.Paths.{Context}
 use Rattle.wac_resolution_rules.specs.Places.{Places}
 use Rattle.wac_resolution_rules.specs.Target.{open_imports, all_imports, ImportAllowed, ExportMet, IsAllowed}
 use Rattle.wac_resolution_target.specs.declared.target.Target.{Target}
@@ -114,10 +114,10 @@ module _ (g : Parts) (naming : Naming) where
       go false later = later
 
   -- the supplied packages have the contents that the graph holds
-  abbrev pub Holds : Setting → Type 0
-  Holds setting = (i : ℕ) (h : HeldPackage) → slice_get g.packages i ≡ Some h → handed_as h.key setting.packages ≡ Some (contents_in naming g h)
+  abbrev pub Holds : Context → Type 0
+  Holds context = (i : ℕ) (h : HeldPackage) → slice_get g.packages i ≡ Some h → handed_as h.key context.packages ≡ Some (contents_in naming g h)
 
-  module _ (s : Given) (law : EntriesMean g) (holds : Holds s.setting) (held : (i : ℕ) (h : HeldPackage) → slice_get g.packages i ≡ Some h → IsHeld g.types h) where
+  module _ (s : Given) (law : EntriesMean g) (holds : Holds s.context) (held : (i : ℕ) (h : HeldPackage) → slice_get g.packages i ≡ Some h → IsHeld g.types h) where
     abbrev open_of : Option GraphNode → Named ItemKind
     open_of o = elim (option_and_then (λ (n : GraphNode). package_in n.form) o) [ None ↦ [] | Some p ↦ left_open (elim o [ None ↦ [] | Some n ↦ arguments_in n.form ]) (package_imports g p) ]
 
@@ -157,13 +157,13 @@ module _ (g : Parts) (naming : Naming) where
 
 -- ---- the whole
 
-module _ (g : Parts) (rules : Rules) (target : Target) (naming : Naming) (one : IsOneToOne naming) (setting : Setting) (declared : Named ℕ)
-    (sound : IsSound g) (law : EntriesMean g) (holds : Holds g naming setting) (there : Names g.types (kinds.Component target.world)) where
+module _ (g : Parts) (rules : Rules) (target : Target) (naming : Naming) (one : IsOneToOne naming) (context : Context) (declared : Named ℕ)
+    (sound : IsSound g) (law : EntriesMean g) (holds : Holds g naming context) (there : Names g.types (kinds.Component target.world)) where
   abbrev t : Testing
   t = testing g rules target
 
   abbrev s : Given
-  s = given_in t setting
+  s = given_in t context
 
   abbrev c : Composition
   c = composition_of naming g declared
@@ -184,10 +184,10 @@ module _ (g : Parts) (rules : Rules) (target : Target) (naming : Naming) (one : 
   IsIn x = ImportAllowed s w x
 
   nodes_in : AllAllowed t (of_node g) g.imports → AllByRecursion IsIn (imports c)
-  nodes_in h = subst (AllByRecursion IsIn) (sym (imports_are g naming declared sound)) (all_mapped (λ x. of_node g x naming) (λ x. Allowed t (of_node g x)) IsIn (λ x a. a naming setting one) g.imports h)
+  nodes_in h = subst (AllByRecursion IsIn) (sym (imports_are g naming declared sound)) (all_mapped (λ x. of_node g x naming) (λ x. Allowed t (of_node g x)) IsIn (λ x a. a naming context one) g.imports h)
 
   opens_in : AllAllowed t (of_kind g) opens → AllByRecursion IsIn (flat_map (open_imports s) c.nodes)
-  opens_in h = subst (AllByRecursion IsIn) (sym opens_meant) (all_mapped (λ x. of_kind g x naming) (λ x. Allowed t (of_kind g x)) IsIn (λ x a. a naming setting one) opens h)
+  opens_in h = subst (AllByRecursion IsIn) (sym opens_meant) (all_mapped (λ x. of_kind g x naming) (λ x. Allowed t (of_kind g x)) IsIn (λ x a. a naming context one) opens h)
 
   all_in : AllAllowed t (of_node g) g.imports → AllAllowed t (of_kind g) opens → AllByRecursion IsIn (all_imports s c)
   all_in h k = all_append IsIn (imports c) (flat_map (open_imports s) c.nodes) (nodes_in h) (opens_in k)
@@ -195,7 +195,7 @@ module _ (g : Parts) (rules : Rules) (target : Target) (naming : Naming) (one : 
   pub whole_allowed : AllAllowed t (of_node g) g.imports → AllAllowed t (of_kind g) opens → AllMet t (of_kind g) (world_exports g.types target.world.0) → IsAllowed s c w
   whole_allowed h k m = (
     all_in h k,
-    subst (AllByRecursion (ExportMet s c)) (sym exports_meant) (all_mapped (λ x. of_kind g x naming) (λ x. Met t (of_kind g x)) (ExportMet s c) (λ x a. a naming setting declared one) (world_exports g.types target.world.0) m),
+    subst (AllByRecursion (ExportMet s c)) (sym exports_meant) (all_mapped (λ x. of_kind g x naming) (λ x. Met t (of_kind g x)) (ExportMet s c) (λ x a. a naming context declared one) (world_exports g.types target.world.0) m),
   )
 
   -- ---- what is not
@@ -223,19 +223,19 @@ module _ (g : Parts) (rules : Rules) (target : Target) (naming : Naming) (one : 
 
     pub import_denied : SomeDenied t (of_node g) (λ x. look_up x.0 p.imported) g.imports e → TargetWorldBroken s c p e t.path w
     import_denied (x, r, d) =
-        from_denied (at_root x) (reached_left IsPlacedIn (map at_root g.imports) (map at_none opens) (at_root x) (reached_mapped at_root (λ y. Allowed t (of_node g y)) IsPlacedIn (λ y a. a naming setting one) g.imports x r)) (d naming setting one)
+        from_denied (at_root x) (reached_left IsPlacedIn (map at_root g.imports) (map at_none opens) (at_root x) (reached_mapped at_root (λ y. Allowed t (of_node g y)) IsPlacedIn (λ y a. a naming context one) g.imports x r)) (d naming context one)
 
     pub open_denied : AllAllowed t (of_node g) g.imports → SomeDenied t (of_kind g) nowhere opens e → TargetWorldBroken s c p e t.path w
     open_denied all (x, r, d) =
         from_denied (at_none x)
-        (reached_right IsPlacedIn (map at_root g.imports) (map at_none opens) (at_none x) (all_mapped at_root (λ y. Allowed t (of_node g y)) IsPlacedIn (λ y a. a naming setting one) g.imports all)
-        (reached_mapped at_none (λ y. Allowed t (of_kind g y)) IsPlacedIn (λ y a. a naming setting one) opens x r)) (d naming setting one)
+        (reached_right IsPlacedIn (map at_root g.imports) (map at_none opens) (at_none x) (all_mapped at_root (λ y. Allowed t (of_node g y)) IsPlacedIn (λ y a. a naming context one) g.imports all)
+        (reached_mapped at_none (λ y. Allowed t (of_kind g y)) IsPlacedIn (λ y a. a naming context one) opens x r)) (d naming context one)
 
     pub export_unmet : AllAllowed t (of_node g) g.imports → AllAllowed t (of_kind g) opens → SomeUnmet t p.exported (of_kind g) (world_exports g.types target.world.0) e → TargetWorldBroken s c p e t.path w
-    export_unmet h k (x, r, d) = go (d naming setting declared one)
+    export_unmet h k (x, r, d) = go (d naming context declared one)
       where
         reached : ReachedAt (ExportMet s c) (exports_of w) (of_kind g x naming)
-        reached = subst (λ l. ReachedAt (ExportMet s c) l (of_kind g x naming)) (sym exports_meant) (reached_mapped (λ y. of_kind g y naming) (λ y. Met t (of_kind g y)) (ExportMet s c) (λ y a. a naming setting declared one) (world_exports g.types target.world.0) x r)
+        reached = subst (λ l. ReachedAt (ExportMet s c) l (of_kind g x naming)) (sym exports_meant) (reached_mapped (λ y. of_kind g y naming) (λ y. Met t (of_kind g y)) (ExportMet s c) (λ y a. a naming context declared one) (world_exports g.types target.world.0) x r)
 
         go : IsUnmet s c p.exported t.path (of_kind g x naming) e → TargetWorldBroken s c p e t.path w
         go (inl u) = inr (inr (inl (of_kind g x naming, all_in h k, reached, u.0, u.1)))

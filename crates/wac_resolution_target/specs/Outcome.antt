@@ -12,9 +12,9 @@ use Rattle.wac_graph.specs.Origin.{Naming, IsOneToOne}
 use Rattle.wac_resolution_errors.specs.Error.{Error}
 use Rattle.wac_resolution_nodes.specs.declared.root.Root.{Root}
 use Rattle.wac_resolution_nodes.specs.Root.{composed}
-use Rattle.wac_resolution_paths.specs.declared.setting.Setting.{Setting}
-use Rattle.wac_resolution_paths.specs.Expands.{Expands, HoldsHanded}
-use Rattle.wac_resolution_paths.specs.Setting.{packages_in, setting_of}
+use Rattle.wac_resolution_paths.specs.declared.context.Context.{Context}
+use Rattle.wac_resolution_paths.specs.Expands.{Expands, AllSupplied}
+use Rattle.wac_resolution_paths.specs.Context.{packages_in, context_of}
 use Rattle.wac_resolution_rules.specs.BrokenStatements.{TargetBroken}
 use Rattle.wac_resolution_rules.specs.Given.{Rules}
 use Rattle.wac_resolution_rules.specs.Places.{Places}
@@ -40,15 +40,15 @@ WorldUnmet t imported exported e = SomeDenied t (of_node t.graph) (λ x. look_up
     × SomeUnmet t exported (of_kind t.graph) (world_exports t.graph.types t.world) e))
 
 -- the path resolves to a world that allows the composition, under every naming that is one to one
-pub record Meets (setting : Setting) (rules : Rules) (old new : Parts) (root : Root) (path : PackagePath) : Type 0 where
+pub record Meets (context : Context) (rules : Rules) (old new : Parts) (root : Root) (path : PackagePath) : Type 0 where
   pub grows : Expands old new
-  pub handed : HoldsHanded (packages_in setting) new
+  pub supplied : AllSupplied (packages_in context) new
   pub count : declared_count new ≡ declared_count old
   pub is : (naming : Naming) → IsOneToOne naming
-      → MeetsPath (given_by rules (setting_of naming setting)) (composed naming old root) path
+      → MeetsPath (given_by rules (context_of naming context)) (composed naming old root) path
 
 -- the error says why not
-abbrev pub Unmeets : Setting → Rules → Parts → Root → PackagePath → Named Span → Named Span → Error → Type 0
-Unmeets setting rules old root path imported exported e = (naming : Naming) (p : Places) → IsOneToOne naming
+abbrev pub Unmeets : Context → Rules → Parts → Root → PackagePath → Named Span → Named Span → Error → Type 0
+Unmeets context rules old root path imported exported e = (naming : Naming) (p : Places) → IsOneToOne naming
     → p.imported ≡ imported → p.exported ≡ exported
-    → TargetBroken (given_by rules (setting_of naming setting)) (composed naming old root) p e path
+    → TargetBroken (given_by rules (context_of naming context)) (composed naming old root) p e path

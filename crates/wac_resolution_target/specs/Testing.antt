@@ -17,13 +17,13 @@ use Rattle.wac_resolution_nodes.specs.Nodes.{composition_of}
 use Rattle.wac_resolution_rules.specs.BrokenExpressions.{ReachedAt}
 use Rattle.wac_resolution_rules.specs.Composition.{Composition, kind_at}
 use Rattle.wac_resolution_rules.specs.Given.{Given, Rules}
-use Rattle.wac_resolution_rules.specs.Paths.{Setting}
+use Rattle.wac_resolution_rules.specs.Paths.{Context}
 use Rattle.wac_resolution_rules.specs.Target.{allowed, ImportAllowed, ExportMet}
 use Rattle.wac_resolution_target.specs.declared.target.Target.{Target}
 
--- what is given: the setting, and rules
-abbrev pub given_by : Rules → Setting → Given
-given_by rules setting = record { setting = setting; rules = rules }
+-- what is given: the context, and rules
+abbrev pub given_by : Rules → Context → Given
+given_by rules context = record { context = context; rules = rules }
 
 -- a graph, rules, and a target: its path and the number of its world
 pub record Testing : Type 0 where
@@ -36,8 +36,8 @@ abbrev pub testing : Parts → Rules → Target → Testing
 testing g rules target =
     record { graph = g; rules = rules; path = package_path_of target.path.now; world = target.world.0 }
 
-abbrev pub given_in : Testing → Setting → Given
-given_in t setting = given_by t.rules setting
+abbrev pub given_in : Testing → Context → Given
+given_in t context = given_by t.rules context
 
 abbrev pub world_in : Testing → Naming → Meaning
 world_in t naming = entry_means naming t.graph t.world
@@ -53,8 +53,8 @@ abbrev pub Import : Type 0
 Import = Naming → List ℕ × Meaning
 
 abbrev pub Allowed : Testing → Import → Type 0
-Allowed t x = (naming : Naming) (setting : Setting) → IsOneToOne naming
-    → ImportAllowed (given_in t setting) (world_in t naming) (x naming)
+Allowed t x = (naming : Naming) (context : Context) → IsOneToOne naming
+    → ImportAllowed (given_in t context) (world_in t naming) (x naming)
 
 -- the error says why an import at a place is not allowed
 abbrev pub IsDenied : Given → PackagePath → Meaning → (List ℕ × Meaning) × Option Span → Error → Type 0
@@ -63,15 +63,15 @@ IsDenied s path w x e = ((allowed w x.0.0 ≡ None) × (e ≡ import_not_in_targ
     × (e ≡ target_mismatch externs.Import x.0.0 path.string r x.1))
 
 abbrev pub Denied : Testing → Import → Option Span → Error → Type 0
-Denied t x span e = (naming : Naming) (setting : Setting) → IsOneToOne naming
-    → IsDenied (given_in t setting) t.path (world_in t naming) (x naming, span) e
+Denied t x span e = (naming : Naming) (context : Context) → IsOneToOne naming
+    → IsDenied (given_in t context) t.path (world_in t naming) (x naming, span) e
 
 -- ---- exports
 
 -- a name, and what is exported under it
 abbrev pub Met : Testing → Import → Type 0
-Met t x = (naming : Naming) (setting : Setting) (declared : Named ℕ) → IsOneToOne naming
-    → ExportMet (given_in t setting) (composition_of naming t.graph declared) (x naming)
+Met t x = (naming : Naming) (context : Context) (declared : Named ℕ) → IsOneToOne naming
+    → ExportMet (given_in t context) (composition_of naming t.graph declared) (x naming)
 
 -- the error says how an export of the target is not met
 abbrev pub IsUnmet : Given → Composition → Named Span → PackagePath → List ℕ × Meaning → Error → Type 0
@@ -82,8 +82,8 @@ IsUnmet s c places path x e =
     × StandsFor places x.0 span × (e ≡ target_mismatch externs.Export x.0 path.string r (Some span)))
 
 abbrev pub Unmet : Testing → Named Span → Import → Error → Type 0
-Unmet t places x e = (naming : Naming) (setting : Setting) (declared : Named ℕ) → IsOneToOne naming
-    → IsUnmet (given_in t setting) (composition_of naming t.graph declared) places t.path (x naming) e
+Unmet t places x e = (naming : Naming) (context : Context) (declared : Named ℕ) → IsOneToOne naming
+    → IsUnmet (given_in t context) (composition_of naming t.graph declared) places t.path (x naming) e
 
 -- ---- all of a list
 

@@ -6,8 +6,8 @@ ghost use Rattle.wac_resolution_rules.specs.Errors.{ErrorSays};
 ghost use Rattle.wac_resolution_rules.specs.Find.{names_of};
 ghost use Rattle.wac_resolution_rules.specs.Given.{rules_of};
 ghost use Rattle.wac_resolution_nodes.specs.Root.{Agrees};
-ghost use Rattle.wac_resolution_paths.specs.Expands.{HoldsHanded};
-ghost use Rattle.wac_resolution_paths.specs.Setting.{packages_in};
+ghost use Rattle.wac_resolution_paths.specs.Expands.{AllSupplied};
+ghost use Rattle.wac_resolution_paths.specs.Context.{packages_in};
 ghost use Rattle.wac_resolution_externs.specs.Externs.{imported_in, exported_in};
 ghost use Rattle.wac_resolution_target.specs.Outcome.{WorldMet, WorldUnmet, Meets, Unmeets};
 ghost use Rattle.wac_resolution_target.specs.Testing.{testing};
@@ -22,7 +22,7 @@ use wac_graph::{ItemKind, Rules};
 use wac_resolution_errors::Error;
 use wac_resolution_externs::Externs;
 use wac_resolution_nodes::Root;
-use wac_resolution_paths::{Setting, path};
+use wac_resolution_paths::{Context, path};
 use wac_resolution_state::State;
 
 /// Rejects a composition that a world does not allow, or that does not meet its exports.
@@ -46,21 +46,21 @@ fn check_world<R: Rules>(
 /// Rejects a composition that is not what its target requires.
 pub fn check_target<R: Rules>(
     state: &mut State,
-    setting: &Setting<'_>,
+    context: &Context<'_>,
     rules: &R,
     root: &Root<'_>,
     externs: &Externs,
     target: &PackagePath<'_>,
 ) -> Result<(), Error>
     requires agrees { Agrees state.old.graph root.now }
-    requires handed { HoldsHanded (packages_in setting.now) state.old.graph }
+    requires supplied { AllSupplied (packages_in context.now) state.old.graph }
     requires placed { names_of (exported_in externs.now) ≡ names_of state.old.graph.exports }
-    ensures ok { OnOk result (Meets setting.now (rules_of R.Rules rules.now) state.old.graph state.new.graph root.now
+    ensures ok { OnOk result (Meets context.now (rules_of R.Rules rules.now) state.old.graph state.new.graph root.now
         (package_path_of target.now)) }
-    ensures err { ErrorSays result (λ e. Unmeets setting.now (rules_of R.Rules rules.now) state.old.graph root.now
+    ensures err { ErrorSays result (λ e. Unmeets context.now (rules_of R.Rules rules.now) state.old.graph root.now
         (package_path_of target.now) (imported_in externs.now) (exported_in externs.now) e) }
 {
-    let kind = path(state, setting, &root.kinds, target)?;
+    let kind = path(state, context, &root.kinds, target)?;
     let world = world_of(state.alloc, kind, target)?;
     // Their contracts say that the graph is sound, and what the entries of its table mean.
     let _nodes = state.graph.nodes();

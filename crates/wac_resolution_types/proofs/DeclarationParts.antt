@@ -27,9 +27,9 @@ use Rattle.wac_resolution_rules.specs.BrokenTypes.{TypeBroken}
 use Rattle.wac_resolution_rules.specs.BrokenDeclarations.{OptionBroken}
 use Rattle.wac_resolution_state.specs.Growth.{GrowsPlainly, AddsDefined}
 use Rattle.wac_resolution_state.specs.Named.{scope_of}
-use Rattle.wac_resolution_types.specs.NamedParts.{PartStep, PartsGo, parts_mean}
+use Rattle.wac_resolution_types.specs.NamedParts.{PartRelation, PartSteps, parts_mean}
 use Rattle.wac_resolution_types.specs.Funcs.{types_named}
-use Rattle.wac_resolution_types.specs.Declarations.{cases_named, CasesGo, FieldsGo, names_alone, ValueAdded}
+use Rattle.wac_resolution_types.specs.Declarations.{cases_named, CaseSteps, FieldSteps, names_alone, ValueAdded}
 use Rattle.wac_resolution_state.proofs.Grown.{grows_self, plainly_on}
 use Rattle.wac_resolution_types.proofs.NamesAlone.{names_each}
 
@@ -48,11 +48,11 @@ value_added old mid new d holds v g a h = record {
 pub none_named : {V : Type 0} (entries : List (String Global × V)) → entries ≡ [] → by_name entries ≡ []
 none_named entries is = ap by_name is
 
-pub parts_from : {V X : Type 0} (read : V → Option ValueType) (step : PartStep X) (old mid : Parts) (ks : Named ItemKind) (ps qs : Named V) (xs ys : List X) → ps ≡ [] → xs ≡ ys → PartsGo read step old mid ks ps qs xs → PartsGo read step old mid ks [] qs ys
+pub parts_from : {V X : Type 0} (read : V → Option ValueType) (step : PartRelation X) (old mid : Parts) (ks : Named ItemKind) (ps qs : Named V) (xs ys : List X) → ps ≡ [] → xs ≡ ys → PartSteps read step old mid ks ps qs xs → PartSteps read step old mid ks [] qs ys
 parts_from {V} {X} read step old mid ks ps qs xs ys none same h =
-    subst (λ (l : List X). PartsGo read step old mid ks [] qs l) same (subst (λ (l : Named V). PartsGo read step old mid ks l qs xs) none h)
+    subst (λ (l : List X). PartSteps read step old mid ks [] qs l) same (subst (λ (l : Named V). PartSteps read step old mid ks l qs xs) none h)
 
-pub parts_fail_from : {V X : Type 0} (read : V → Option ValueType) (step : PartStep X) (broken : Scope → Named Meaning → List X → X → Type 0) (g : Parts) (ks : Named ItemKind) (ps : Named V) (xs ys : List X) → ps ≡ [] → xs ≡ ys
+pub parts_fail_from : {V X : Type 0} (read : V → Option ValueType) (step : PartRelation X) (broken : Scope → Named Meaning → List X → X → Type 0) (g : Parts) (ks : Named ItemKind) (ps : Named V) (xs ys : List X) → ps ≡ [] → xs ≡ ys
     → ((naming : Naming) → Fails (step (scope_of naming g ks)) (broken (scope_of naming g ks)) (parts_mean read naming g ps) xs) → (naming : Naming) → Fails (step (scope_of naming g ks)) (broken (scope_of naming g ks)) [] ys
 parts_fail_from {V} {X} read step broken g ks ps xs ys none same h naming =
     subst (λ (l : List X). Fails (step (scope_of naming g ks)) (broken (scope_of naming g ks)) [] l) same
@@ -63,13 +63,13 @@ made_of : (ty : DefinedType) (p : Plain) (f : ℕ → Meaning) (parts : List (Sl
 made_of ty p f parts label is = ap (λ (q : Plain). defined_type q (defined_parts f ty)) label ∙ ap (λ (l : List (Slot × Meaning)). defined_type p l) is
 
 pub variant_is : (old mid new : Parts) (ks : Named ItemKind) (ty : DefinedType) (cases : List (String Global × Option ValueType)) (d : VariantDecl) (v : ValueType) → defined_label ty ≡ Plain.variant → ((f : ℕ → Meaning) → defined_parts f ty ≡ naming_each (cases_mean f (by_name cases)))
-    → CasesGo old mid ks [] (by_name cases) d.cases → AddsDefined mid new ty v → ValueAdded old new (λ naming m. IsVariant (scope_of naming old ks) d m) v
+    → CaseSteps old mid ks [] (by_name cases) d.cases → AddsDefined mid new ty v → ValueAdded old new (λ naming m. IsVariant (scope_of naming old ks) d m) v
 variant_is old mid new ks ty cases d v label parts p a =
     value_added old mid new ty (λ naming m. IsVariant (scope_of naming old ks) d m) v p.grows a
     (λ naming. (cases_named naming mid (by_name cases), p.go naming, made_of ty Plain.variant (entry_means naming mid) (naming_each (cases_named naming mid (by_name cases))) label (parts (entry_means naming mid))))
 
 pub record_is : (old mid new : Parts) (ks : Named ItemKind) (ty : DefinedType) (fields : List (String Global × ValueType)) (d : RecordDecl) (v : ValueType) → defined_label ty ≡ Plain.fields → ((f : ℕ → Meaning) → defined_parts f ty ≡ naming_each (values_mean f (by_name fields)))
-    → FieldsGo old mid ks [] (by_name fields) d.fields → AddsDefined mid new ty v → ValueAdded old new (λ naming m. IsRecord (scope_of naming old ks) d m) v
+    → FieldSteps old mid ks [] (by_name fields) d.fields → AddsDefined mid new ty v → ValueAdded old new (λ naming m. IsRecord (scope_of naming old ks) d m) v
 record_is old mid new ks ty fields d v label parts p a =
     value_added old mid new ty (λ naming m. IsRecord (scope_of naming old ks) d m) v p.grows a
     (λ naming. (types_named naming mid (by_name fields), p.go naming, made_of ty Plain.fields (entry_means naming mid) (naming_each (types_named naming mid (by_name fields))) label (parts (entry_means naming mid))))

@@ -40,7 +40,7 @@ use Rattle.wac_resolution_rules.specs.BrokenBodies.{method_kind}
 use Rattle.wac_resolution_state.specs.Growth.{AddsFunc}
 use Rattle.wac_resolution_state.specs.Named.{scope_of}
 use Rattle.wac_resolution_types.specs.Types.{TypeIs}
-use Rattle.wac_resolution_types.specs.Funcs.{given, types_named, TypesNamed, ParamsGo, ResultTypeIs, ResultsGo, ResultsAre, FuncAdded, FuncIs, ConstructorIs, own_params}
+use Rattle.wac_resolution_types.specs.Funcs.{given, types_named, TypesNamed, ParamSteps, ResultTypeIs, ResultSteps, ResultsAre, FuncAdded, FuncIs, ConstructorIs, own_params}
 use Rattle.wac_resolution_state.proofs.Grown.{plainly_on, scope_kept}
 use Rattle.wac_resolution_types.proofs.NamedParts.{parts_kept, values_named, results_named}
 
@@ -72,9 +72,9 @@ scalar_breaks kind g ks x t e is h naming = subst (λ (y : CodeResultList). Resu
 
 -- named results, whose trees and map in the code are these
 pub named_are : (old new : Parts) (ks : Named ItemKind) (x : CodeResultList) (l : Vec CodeNamedType Global) (xs : List NamedType) (rs : FuncResults) (all : List (String Global × ValueType)) → x ≡ results.Named l → xs ≡ map named_type_of l.items
-    → result_children rs ≡ named_result_children all → ((f : ℕ → Meaning) → results_mean f rs ≡ named_results (values_mean f (by_name all))) → ResultsGo old new ks [] (by_name all) xs → ResultsAre old new ks (result_list_of x) rs
+    → result_children rs ≡ named_result_children all → ((f : ℕ → Meaning) → results_mean f rs ≡ named_results (values_mean f (by_name all))) → ResultSteps old new ks [] (by_name all) xs → ResultsAre old new ks (result_list_of x) rs
 named_are old new ks x l xs rs all is trees children means h =
-    let p : ResultsGo old new ks [] (by_name all) (map named_type_of l.items) = subst (ResultsGo old new ks [] (by_name all)) trees h in
+    let p : ResultSteps old new ks [] (by_name all) (map named_type_of l.items) = subst (ResultSteps old new ks [] (by_name all)) trees h in
     subst (λ (y : CodeResultList). ResultsAre old new ks (result_list_of y) rs) (sym is) (record {
       grows = p.grows;
       named = subst (EachKind (Names new.types)) (sym children) (results_named new.types all p.named);
@@ -96,7 +96,7 @@ pub func_kinds : (es : List Entry) (r : FuncResults) (ps : List (String Global �
 func_kinds es r ps h i = each_both (Names es) (result_children r) (value_children ps) h (values_named es ps i)
 
 pub func_is : (old mid late new : Parts) (ks : Named ItemKind) (first ps : Named ValueType) (f : FuncType) (r : FuncResults) (id : FuncTypeId)
-    → ItemsNamed old.types ks → ParamsGo old mid ks first ps f.params → ResultsAre mid late ks f.results r
+    → ItemsNamed old.types ks → ParamSteps old mid ks first ps f.params → ResultsAre mid late ks f.results r
     → AddsFunc late new (λ naming. func_entry f.is_async (results_mean (entry_means naming late) r) (values_mean (entry_means naming late) ps)) id → FuncIs old new ks first f id
 func_is old mid late new ks first ps f r id named p q a = record {
   grows = plainly_on old mid new p.grows (plainly_on mid late new q.grows a.grows);
@@ -109,17 +109,17 @@ func_is old mid late new ks first ps f r id named p q a = record {
 }
 
 pub func_results_break : (kind : FuncKind) (old mid : Parts) (ks : Named ItemKind) (first ps : Named ValueType) (f : FuncType) (e : Error)
-    → ItemsNamed old.types ks → ParamsGo old mid ks first ps f.params → ((naming : Naming) → ResultsBroken kind (scope_of naming mid ks) f.results e) → (naming : Naming) → FuncBroken kind (scope_of naming old ks) (types_named naming old first) f e
+    → ItemsNamed old.types ks → ParamSteps old mid ks first ps f.params → ((naming : Naming) → ResultsBroken kind (scope_of naming mid ks) f.results e) → (naming : Naming) → FuncBroken kind (scope_of naming old ks) (types_named naming old first) f e
 func_results_break kind old mid ks first ps f e named p h naming =
     let scope : scope_of naming mid ks ≡ scope_of naming old ks = scope_kept old mid ks naming p.grows.grows named in
     inr (types_named naming mid ps, p.go naming, subst (λ (s : Scope). ResultsBroken kind s f.results e) scope (h naming))
 
 -- ---- constructors and methods
 
-pub constructor_is : (old mid new : Parts) (ks : Named ItemKind) (first ps : Named ValueType) (resource : ResourceId) (xs : List NamedType) (id : FuncTypeId) → first ≡ [] → Names old.types (kinds.Ty (types.Resource resource)) → ParamsGo old mid ks first ps xs
+pub constructor_is : (old mid new : Parts) (ks : Named ItemKind) (first ps : Named ValueType) (resource : ResourceId) (xs : List NamedType) (id : FuncTypeId) → first ≡ [] → Names old.types (kinds.Ty (types.Resource resource)) → ParamSteps old mid ks first ps xs
     → AddsFunc mid new (λ naming. func_entry false (results_mean (entry_means naming mid) (given_results.Scalar (values.Own resource))) (values_mean (entry_means naming mid) ps)) id → ConstructorIs old new ks resource xs id
 constructor_is old mid new ks first ps resource xs id none there p a =
-    let q : ParamsGo old mid ks [] ps xs = subst (λ (l : Named ValueType). ParamsGo old mid ks l ps xs) none p in
+    let q : ParamSteps old mid ks [] ps xs = subst (λ (l : Named ValueType). ParamSteps old mid ks l ps xs) none p in
     record {
       grows = plainly_on old mid new q.grows a.grows;
       named = a.named;

@@ -20,7 +20,7 @@ use Rattle.wac_graph.specs.Origin.{Naming}
 use Rattle.wac_resolution_rules.proofs.StepLaws.{steps_on_map, fails_at_map}
 use Rattle.wac_resolution_state.specs.Growth.{Grows, GrowsPlainly}
 use Rattle.wac_resolution_state.specs.Named.{scope_of}
-use Rattle.wac_resolution_types.specs.NamedParts.{parts_mean, PartsNamed, PartStep, HasPart, PartGoes, PartsGo}
+use Rattle.wac_resolution_types.specs.NamedParts.{parts_mean, PartsNamed, PartRelation, HasPart, PartStep, PartSteps}
 use Rattle.wac_resolution_state.proofs.Bound.{read_found}
 use Rattle.wac_resolution_state.proofs.Grown.{grows_self, plainly_on, scope_kept, child_kept, child_named}
 
@@ -45,7 +45,7 @@ parts_append read es (e ∷ all) name v h here = (h.0, parts_append read es all 
 
 pub part_goes : {V X : Type 0} (read : V → Option ValueType) (has : Scope → X → Meaning → Type 0) (id : X → Ident) (old new : Parts) (ks : Named ItemKind) (ps qs : Named V) (x : X) (v : V)
     → GrowsPlainly old new → PartsNamed read old.types ps → IfSome (optional (read v)) (Names new.types) → ((naming : Naming) → has (scope_of naming old ks) x (optional_means (entry_means naming new) (read v)))
-    → IsFresh (id x).string ps → qs ≡ with_named ps (id x).string v → PartGoes read (HasPart has id) old new ks ps qs x
+    → IsFresh (id x).string ps → qs ≡ with_named ps (id x).string v → PartStep read (HasPart has id) old new ks ps qs x
 part_goes {V} read has id old new ks ps qs x v g named here is fresh added = record {
   grows = g;
   named = subst (PartsNamed read new.types) (sym added) (parts_append read new.types ps (id x).string v (parts_still_named read old new ps g.grows named) here);
@@ -67,12 +67,12 @@ repeated read all name v is naming g = (optional_means (entry_means naming g) (r
 
 -- ---- parts in order
 
-pub no_parts : {V X : Type 0} (read : V → Option ValueType) (step : PartStep X) (g : Parts) (ks : Named ItemKind) (ps : Named V) → PartsNamed read g.types ps → PartsGo read step g g ks ps ps []
+pub no_parts : {V X : Type 0} (read : V → Option ValueType) (step : PartRelation X) (g : Parts) (ks : Named ItemKind) (ps : Named V) → PartsNamed read g.types ps → PartSteps read step g g ks ps ps []
 no_parts read step g ks ps h = record { grows = grows_self g; named = h; go = λ naming. refl }
 
 -- the parts up to the next one
-pub parts_step : {V X Y : Type 0} (read : V → Option ValueType) (step : PartStep X) (f : Y → X) (old mid new : Parts) (ks : Named ItemKind) (ps qs rs : Named V) (ys : List Y) (i : ℕ) (y : Y)
-    → i < length ys → y ≡ get_or ys i y → ItemsNamed old.types ks → PartsGo read step old mid ks ps qs (take i (map f ys)) → PartGoes read step mid new ks qs rs (f y) → PartsGo read step old new ks ps rs (take (i + 1) (map f ys))
+pub parts_step : {V X Y : Type 0} (read : V → Option ValueType) (step : PartRelation X) (f : Y → X) (old mid new : Parts) (ks : Named ItemKind) (ps qs rs : Named V) (ys : List Y) (i : ℕ) (y : Y)
+    → i < length ys → y ≡ get_or ys i y → ItemsNamed old.types ks → PartSteps read step old mid ks ps qs (take i (map f ys)) → PartStep read step mid new ks qs rs (f y) → PartSteps read step old new ks ps rs (take (i + 1) (map f ys))
 parts_step {V} {X} {Y} read step f old mid new ks ps qs rs ys i y within at named p q = record {
   grows = plainly_on old mid new p.grows q.grows;
   named = q.named;
@@ -84,12 +84,12 @@ parts_step {V} {X} {Y} read step f old mid new ks ps qs rs ys i y within at name
 }
 
 -- all parts
-pub parts_all : {V X : Type 0} (read : V → Option ValueType) (step : PartStep X) (old new : Parts) (ks : Named ItemKind) (ps qs : Named V) (xs ys : List X) → xs ≡ ys → PartsGo read step old new ks ps qs xs → PartsGo read step old new ks ps qs ys
-parts_all read step old new ks ps qs xs ys is h = subst (PartsGo read step old new ks ps qs) is h
+pub parts_all : {V X : Type 0} (read : V → Option ValueType) (step : PartRelation X) (old new : Parts) (ks : Named ItemKind) (ps qs : Named V) (xs ys : List X) → xs ≡ ys → PartSteps read step old new ks ps qs xs → PartSteps read step old new ks ps qs ys
+parts_all read step old new ks ps qs xs ys is h = subst (PartSteps read step old new ks ps qs) is h
 
 -- the next part is broken
-pub parts_break : {V X Y : Type 0} (read : V → Option ValueType) (step : PartStep X) (broken : Scope → Named Meaning → List X → X → Type 0) (f : Y → X) (old mid : Parts) (ks : Named ItemKind) (ps qs : Named V) (ys : List Y) (i : ℕ) (y : Y)
-    → i < length ys → y ≡ get_or ys i y → ItemsNamed old.types ks → PartsGo read step old mid ks ps qs (take i (map f ys)) → ((naming : Naming) (before : List X) → broken (scope_of naming mid ks) (parts_mean read naming mid qs) before (f y))
+pub parts_break : {V X Y : Type 0} (read : V → Option ValueType) (step : PartRelation X) (broken : Scope → Named Meaning → List X → X → Type 0) (f : Y → X) (old mid : Parts) (ks : Named ItemKind) (ps qs : Named V) (ys : List Y) (i : ℕ) (y : Y)
+    → i < length ys → y ≡ get_or ys i y → ItemsNamed old.types ks → PartSteps read step old mid ks ps qs (take i (map f ys)) → ((naming : Naming) (before : List X) → broken (scope_of naming mid ks) (parts_mean read naming mid qs) before (f y))
     → (naming : Naming) → Fails (step (scope_of naming old ks)) (broken (scope_of naming old ks)) (parts_mean read naming old ps) (map f ys)
 parts_break {V} {X} {Y} read step broken f old mid ks ps qs ys i y within at named p breaks naming =
     let scope : scope_of naming mid ks ≡ scope_of naming old ks = scope_kept old mid ks naming p.grows.grows named in

@@ -19,7 +19,7 @@ use Rattle.wac_resolution_types.specs.declared.place.Place.{Place}
 use Rattle.wac_resolution_types.specs.declared.place.Place.TheVariants as places
 use Rattle.wac_resolution_state.specs.Growth.{Grows, GrowsPlainly}
 use Rattle.wac_resolution_state.specs.Named.{scope_of}
-use Rattle.wac_resolution_types.specs.NamedParts.{parts_mean, PartGoes, PartsGo}
+use Rattle.wac_resolution_types.specs.NamedParts.{parts_mean, PartStep, PartSteps}
 use Rattle.wac_resolution_types.specs.Funcs.{given}
 
 -- the type of a part that may have none
@@ -30,19 +30,19 @@ perhaps v = v
 abbrev pub cases_named : Naming → Parts → Named (Option ValueType) → Named Meaning
 cases_named naming g all = parts_mean perhaps naming g all
 
-abbrev pub CaseGoes : Parts → Parts → Named ItemKind → Named (Option ValueType) → Named (Option ValueType) → VariantCase
+abbrev pub CaseStep : Parts → Parts → Named ItemKind → Named (Option ValueType) → Named (Option ValueType) → VariantCase
     → Type 0
-CaseGoes old new ks ps qs x = PartGoes perhaps HasCase old new ks ps qs x
+CaseStep old new ks ps qs x = PartStep perhaps HasCase old new ks ps qs x
 
-abbrev pub CasesGo : Parts → Parts → Named ItemKind → Named (Option ValueType) → Named (Option ValueType)
+abbrev pub CaseSteps : Parts → Parts → Named ItemKind → Named (Option ValueType) → Named (Option ValueType)
     → List VariantCase → Type 0
-CasesGo old new ks ps qs xs = PartsGo perhaps HasCase old new ks ps qs xs
+CaseSteps old new ks ps qs xs = PartSteps perhaps HasCase old new ks ps qs xs
 
-abbrev pub FieldGoes : Parts → Parts → Named ItemKind → Named ValueType → Named ValueType → Field → Type 0
-FieldGoes old new ks ps qs x = PartGoes given HasField old new ks ps qs x
+abbrev pub FieldStep : Parts → Parts → Named ItemKind → Named ValueType → Named ValueType → Field → Type 0
+FieldStep old new ks ps qs x = PartStep given HasField old new ks ps qs x
 
-abbrev pub FieldsGo : Parts → Parts → Named ItemKind → Named ValueType → Named ValueType → List Field → Type 0
-FieldsGo old new ks ps qs xs = PartsGo given HasField old new ks ps qs xs
+abbrev pub FieldSteps : Parts → Parts → Named ItemKind → Named ValueType → Named ValueType → List Field → Type 0
+FieldSteps old new ks ps qs xs = PartSteps given HasField old new ks ps qs xs
 
 -- the type of a case, which may have none, has these values
 pub record CaseTypeIs (old new : Parts) (ks : Named ItemKind) (t : Option Ty) (v : Option ValueType) : Type 0 where

@@ -20,7 +20,7 @@ use Rattle.wac_graph.specs.Origin.{Naming}
 use Rattle.wac_resolution_rules.specs.Types.{HasParam, HasResultType, HasResult, HasResults, IsFuncWith, IsConstructor}
 use Rattle.wac_resolution_state.specs.Growth.{GrowsPlainly}
 use Rattle.wac_resolution_state.specs.Named.{scope_of}
-use Rattle.wac_resolution_types.specs.NamedParts.{parts_mean, PartsNamed, PartGoes, PartsGo}
+use Rattle.wac_resolution_types.specs.NamedParts.{parts_mean, PartsNamed, PartStep, PartSteps}
 
 -- the type of a part that always has one
 abbrev pub given : ValueType → Option ValueType
@@ -33,11 +33,11 @@ types_named naming g all = parts_mean given naming g all
 abbrev pub TypesNamed : List Entry → Named ValueType → Type 0
 TypesNamed es all = PartsNamed given es all
 
-abbrev pub ParamGoes : Parts → Parts → Named ItemKind → Named ValueType → Named ValueType → NamedType → Type 0
-ParamGoes old new ks ps qs x = PartGoes given HasParam old new ks ps qs x
+abbrev pub ParamStep : Parts → Parts → Named ItemKind → Named ValueType → Named ValueType → NamedType → Type 0
+ParamStep old new ks ps qs x = PartStep given HasParam old new ks ps qs x
 
-abbrev pub ParamsGo : Parts → Parts → Named ItemKind → Named ValueType → Named ValueType → List NamedType → Type 0
-ParamsGo old new ks ps qs xs = PartsGo given HasParam old new ks ps qs xs
+abbrev pub ParamSteps : Parts → Parts → Named ItemKind → Named ValueType → Named ValueType → List NamedType → Type 0
+ParamSteps old new ks ps qs xs = PartSteps given HasParam old new ks ps qs xs
 
 -- the type of a result has these values
 pub record ResultTypeIs (old new : Parts) (ks : Named ItemKind) (t : Ty) (v : ValueType) : Type 0 where
@@ -46,11 +46,11 @@ pub record ResultTypeIs (old new : Parts) (ks : Named ItemKind) (t : Ty) (v : Va
   pub is : (naming : Naming) → HasResultType (scope_of naming old ks) t (means naming new (kinds.Value v))
 
 -- a named result, and named results in order
-abbrev pub ResultGoes : Parts → Parts → Named ItemKind → Named ValueType → Named ValueType → NamedType → Type 0
-ResultGoes old new ks ps qs x = PartGoes given HasResult old new ks ps qs x
+abbrev pub ResultStep : Parts → Parts → Named ItemKind → Named ValueType → Named ValueType → NamedType → Type 0
+ResultStep old new ks ps qs x = PartStep given HasResult old new ks ps qs x
 
-abbrev pub ResultsGo : Parts → Parts → Named ItemKind → Named ValueType → Named ValueType → List NamedType → Type 0
-ResultsGo old new ks ps qs xs = PartsGo given HasResult old new ks ps qs xs
+abbrev pub ResultSteps : Parts → Parts → Named ItemKind → Named ValueType → Named ValueType → List NamedType → Type 0
+ResultSteps old new ks ps qs xs = PartSteps given HasResult old new ks ps qs xs
 
 -- the results of a function have these values
 pub record ResultsAre (old new : Parts) (ks : Named ItemKind) (r : ResultList) (rs : FuncResults) : Type 0 where

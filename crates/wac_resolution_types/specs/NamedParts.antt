@@ -26,16 +26,16 @@ abbrev pub PartsNamed : {V : Type 0} → (V → Option ValueType) → List Entry
 PartsNamed read es all = AllByRecursion (λ e. IfSome (optional (read e.1)) (Names es)) all
 
 -- a step by one part, in a scope
-abbrev pub PartStep : Type 0 → Type 1
-PartStep X = Scope → Named Meaning → X → Named Meaning → Type 0
+abbrev pub PartRelation : Type 0 → Type 1
+PartRelation X = Scope → Named Meaning → X → Named Meaning → Type 0
 
 -- a part has a meaning, and no earlier one has its name
-abbrev pub HasPart : {X : Type 0} → (Scope → X → Meaning → Type 0) → (X → Ident) → PartStep X
+abbrev pub HasPart : {X : Type 0} → (Scope → X → Meaning → Type 0) → (X → Ident) → PartRelation X
 HasPart has id scope old x new = (v : Meaning) × has scope x v × IsFresh (id x).string old
     × (new ≡ with_named old (id x).string v)
 
 -- a part takes the old graph and parts to the new ones
-pub record PartGoes {V X : Type 0} (read : V → Option ValueType) (step : PartStep X) (old new : Parts)
+pub record PartStep {V X : Type 0} (read : V → Option ValueType) (step : PartRelation X) (old new : Parts)
     (ks : Named ItemKind) (ps qs : Named V) (x : X) : Type 0 where
   pub grows : GrowsPlainly old new
   pub named : PartsNamed read new.types qs
@@ -43,7 +43,7 @@ pub record PartGoes {V X : Type 0} (read : V → Option ValueType) (step : PartS
       → step (scope_of naming old ks) (parts_mean read naming old ps) x (parts_mean read naming new qs)
 
 -- so do parts in order
-pub record PartsGo {V X : Type 0} (read : V → Option ValueType) (step : PartStep X) (old new : Parts)
+pub record PartSteps {V X : Type 0} (read : V → Option ValueType) (step : PartRelation X) (old new : Parts)
     (ks : Named ItemKind) (ps qs : Named V) (xs : List X) : Type 0 where
   pub grows : GrowsPlainly old new
   pub named : PartsNamed read new.types qs

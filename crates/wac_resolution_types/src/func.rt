@@ -17,7 +17,7 @@ ghost use Rattle.wac_resolution_rules.specs.BrokenTypes.{IsRepeatedParameter, Pa
 ghost use Rattle.wac_resolution_rules.specs.BrokenBodies.{method_kind};
 ghost use Rattle.wac_resolution_rules.specs.Errors.{ErrorSays};
 ghost use Rattle.wac_resolution_state.specs.Bindings.{values_of};
-ghost use Rattle.wac_resolution_types.specs.Funcs.{types_named, TypesNamed, ParamGoes, ParamsGo, FuncAdded, FuncIs, ConstructorIs, own_params};
+ghost use Rattle.wac_resolution_types.specs.Funcs.{types_named, TypesNamed, ParamStep, ParamSteps, FuncAdded, FuncIs, ConstructorIs, own_params};
 ghost use Rattle.wac_resolution_state.specs.Named.{scope_of};
 ghost use Rattle.wac_resolution_rules.specs.Types.{IsFuncWith};
 
@@ -89,7 +89,7 @@ fn take_param(
 ) -> Result<(), Error>
     requires scope { ItemsNamed state.old.graph.types (values_of names.now) }
     requires parts { TypesNamed state.old.graph.types (by_name all.old.entries) }
-    ensures ok { OnOk result (ParamGoes state.old.graph state.new.graph (values_of names.now) (by_name all.old.entries)
+    ensures ok { OnOk result (ParamStep state.old.graph state.new.graph (values_of names.now) (by_name all.old.entries)
         (by_name all.new.entries) (named_type_of param.now)) }
     ensures err { ErrorSays result (λ e. (naming : Naming) (before : List ParamTree)
         → ParamBroken kind (scope_of naming state.old.graph (values_of names.now)) e
@@ -111,7 +111,7 @@ fn take_params(
 ) -> Result<(), Error>
     requires scope { ItemsNamed state.old.graph.types (values_of names.now) }
     requires parts { TypesNamed state.old.graph.types (by_name all.old.entries) }
-    ensures ok { OnOk result (ParamsGo state.old.graph state.new.graph (values_of names.now) (by_name all.old.entries)
+    ensures ok { OnOk result (ParamSteps state.old.graph state.new.graph (values_of names.now) (by_name all.old.entries)
         (by_name all.new.entries) (map named_type_of params.now)) }
     ensures err { ErrorSays result (λ e. (naming : Naming)
         → ParamsBroken kind (scope_of naming state.old.graph (values_of names.now))

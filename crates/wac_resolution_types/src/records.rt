@@ -13,7 +13,7 @@ ghost use Rattle.wac_resolution_rules.specs.Declarations.{HasField, IsRecord};
 ghost use Rattle.wac_resolution_rules.specs.BrokenDeclarations.{IsRepeatedField, FieldBroken, RecordBroken};
 ghost use Rattle.wac_resolution_rules.specs.Errors.{ErrorSays};
 ghost use Rattle.wac_resolution_state.specs.Bindings.{values_of};
-ghost use Rattle.wac_resolution_types.specs.Declarations.{FieldGoes, FieldsGo, ValueAdded};
+ghost use Rattle.wac_resolution_types.specs.Declarations.{FieldStep, FieldSteps, ValueAdded};
 ghost use Rattle.wac_resolution_types.specs.Funcs.{types_named, TypesNamed};
 ghost use Rattle.wac_resolution_state.specs.Named.{scope_of};
 
@@ -60,7 +60,7 @@ fn take_field(
 ) -> Result<(), Error>
     requires scope { ItemsNamed state.old.graph.types (values_of names.now) }
     requires parts { TypesNamed state.old.graph.types (by_name all.old.entries) }
-    ensures ok { OnOk result (FieldGoes state.old.graph state.new.graph (values_of names.now) (by_name all.old.entries)
+    ensures ok { OnOk result (FieldStep state.old.graph state.new.graph (values_of names.now) (by_name all.old.entries)
         (by_name all.new.entries) (field_of field.now)) }
     ensures err { ErrorSays result (λ e. (naming : Naming) (before : List FieldTree)
         → FieldBroken (scope_of naming state.old.graph (values_of names.now)) (ident_of declared.now) e
@@ -82,7 +82,7 @@ fn take_fields(
 ) -> Result<(), Error>
     requires scope { ItemsNamed state.old.graph.types (values_of names.now) }
     requires parts { TypesNamed state.old.graph.types (by_name all.old.entries) }
-    ensures ok { OnOk result (FieldsGo state.old.graph state.new.graph (values_of names.now) (by_name all.old.entries)
+    ensures ok { OnOk result (FieldSteps state.old.graph state.new.graph (values_of names.now) (by_name all.old.entries)
         (by_name all.new.entries) (map field_of fields.now)) }
     ensures err { ErrorSays result (λ e. (naming : Naming)
         → Fails (HasField (scope_of naming state.old.graph (values_of names.now)))

@@ -20,7 +20,7 @@ ghost use Rattle.wac_resolution_rules.specs.Types.{HasResult};
 ghost use Rattle.wac_resolution_rules.specs.BrokenTypes.{IsRepeatedResult, ResultTypeBroken, ResultBroken, ResultsBroken};
 ghost use Rattle.wac_resolution_rules.specs.Errors.{ErrorSays};
 ghost use Rattle.wac_resolution_state.specs.Bindings.{values_of};
-ghost use Rattle.wac_resolution_types.specs.Funcs.{types_named, TypesNamed, ResultTypeIs, ResultGoes, ResultsGo, ResultsAre};
+ghost use Rattle.wac_resolution_types.specs.Funcs.{types_named, TypesNamed, ResultTypeIs, ResultStep, ResultSteps, ResultsAre};
 ghost use Rattle.wac_resolution_state.specs.Named.{scope_of};
 
 use crate::types::value_type;
@@ -97,7 +97,7 @@ fn named_result(
 ) -> Result<(), Error>
     requires scope { ItemsNamed state.old.graph.types (values_of names.now) }
     requires parts { TypesNamed state.old.graph.types (by_name all.old.entries) }
-    ensures ok { OnOk result (ResultGoes state.old.graph state.new.graph (values_of names.now) (by_name all.old.entries)
+    ensures ok { OnOk result (ResultStep state.old.graph state.new.graph (values_of names.now) (by_name all.old.entries)
         (by_name all.new.entries) (named_type_of named.now)) }
     ensures err { ErrorSays result (λ e. (naming : Naming) (before : List ResultTree)
         → ResultBroken kind (scope_of naming state.old.graph (values_of names.now)) e
@@ -117,7 +117,7 @@ fn named_results(
     named: &[NamedType<'_>],
 ) -> Result<IndexMap<String, ValueType>, Error>
     requires { ItemsNamed state.old.graph.types (values_of names.now) }
-    ensures ok { IfOk result (λ all. ResultsGo state.old.graph state.new.graph (values_of names.now) []
+    ensures ok { IfOk result (λ all. ResultSteps state.old.graph state.new.graph (values_of names.now) []
         (by_name all.entries) (map named_type_of named.now)) }
     ensures err { ErrorSays result (λ e. (naming : Naming)
         → let scope = scope_of naming state.old.graph (values_of names.now) in Fails (HasResult scope)

@@ -13,7 +13,7 @@ ghost use Rattle.wac_resolution_rules.specs.Declarations.{HasCase, IsVariant};
 ghost use Rattle.wac_resolution_rules.specs.BrokenDeclarations.{IsRepeatedCase, OptionBroken, CaseBroken, VariantBroken};
 ghost use Rattle.wac_resolution_rules.specs.Errors.{ErrorSays};
 ghost use Rattle.wac_resolution_state.specs.Bindings.{values_of};
-ghost use Rattle.wac_resolution_types.specs.Declarations.{perhaps, cases_named, CaseTypeIs, CaseGoes, CasesGo, ValueAdded};
+ghost use Rattle.wac_resolution_types.specs.Declarations.{perhaps, cases_named, CaseTypeIs, CaseStep, CaseSteps, ValueAdded};
 ghost use Rattle.wac_resolution_state.specs.Named.{scope_of};
 ghost use Rattle.wac_resolution_types.specs.NamedParts.{PartsNamed};
 ghost use Rattle.wac_graph_types.specs.Steps.{Fails};
@@ -78,7 +78,7 @@ fn take_case(
 ) -> Result<(), Error>
     requires scope { ItemsNamed state.old.graph.types (values_of names.now) }
     requires parts { PartsNamed perhaps state.old.graph.types (by_name all.old.entries) }
-    ensures ok { OnOk result (CaseGoes state.old.graph state.new.graph (values_of names.now) (by_name all.old.entries)
+    ensures ok { OnOk result (CaseStep state.old.graph state.new.graph (values_of names.now) (by_name all.old.entries)
         (by_name all.new.entries) (variant_case_of case.now)) }
     ensures err { ErrorSays result (λ e. (naming : Naming) (before : List CaseTree)
         → CaseBroken (scope_of naming state.old.graph (values_of names.now)) (ident_of declared.now) e
@@ -100,7 +100,7 @@ fn take_cases(
 ) -> Result<(), Error>
     requires scope { ItemsNamed state.old.graph.types (values_of names.now) }
     requires parts { PartsNamed perhaps state.old.graph.types (by_name all.old.entries) }
-    ensures ok { OnOk result (CasesGo state.old.graph state.new.graph (values_of names.now) (by_name all.old.entries)
+    ensures ok { OnOk result (CaseSteps state.old.graph state.new.graph (values_of names.now) (by_name all.old.entries)
         (by_name all.new.entries) (map variant_case_of cases.now)) }
     ensures err { ErrorSays result (λ e. (naming : Naming)
         → Fails (HasCase (scope_of naming state.old.graph (values_of names.now)))

@@ -11,34 +11,34 @@ use Rattle.wac_graph.specs.Graph.{Parts}
 use Rattle.wac_graph.specs.Means.{entry_means, declared_count}
 use Rattle.wac_resolution_rules.specs.Worlds.{IsInterface, IsWorld}
 use Rattle.wac_resolution_state.specs.Named.{scope_of}
-use Rattle.wac_resolution_paths.specs.declared.setting.Setting.{Setting}
-use Rattle.wac_resolution_paths.specs.Setting.{setting_of}
+use Rattle.wac_resolution_paths.specs.declared.context.Context.{Context}
+use Rattle.wac_resolution_paths.specs.Context.{context_of}
 use Rattle.wac_resolution_worlds.specs.Made.{InterfaceMade}
 use Rattle.wac_resolution_worlds.specs.WorldItems.{WorldMade}
 use Rattle.wac_resolution_worlds.specs.Declared.{id_text, InterfaceDeclared, WorldDeclared}
 
-pub interface_declared : (setting : Setting) (old new : Parts) (root : Named ItemKind) (d : InterfaceDecl) (id : List ℕ) (i : InterfaceId) → id ≡ id_text setting d.id.string
-    → InterfaceMade setting old new root (Some id) d.items i → InterfaceDeclared setting old new root d (kinds.Ty (types.Interface i))
-interface_declared setting old new root d id i ids h = record {
+pub interface_declared : (context : Context) (old new : Parts) (root : Named ItemKind) (d : InterfaceDecl) (id : List ℕ) (i : InterfaceId) → id ≡ id_text context d.id.string
+    → InterfaceMade context old new root (Some id) d.items i → InterfaceDeclared context old new root d (kinds.Ty (types.Interface i))
+interface_declared context old new root d id i ids h = record {
   grows = h.grows;
-  handed = h.handed;
+  supplied = h.supplied;
   named = h.named;
   is = λ naming. (
     entry_means naming new i.0,
-    subst (λ (o : Option (List ℕ)). IsInterface (setting_of naming setting) (scope_of naming old root) (declared_count old) o d.items (entry_means naming new i.0) (declared_count new)) (ap Some ids) (h.is naming),
+    subst (λ (o : Option (List ℕ)). IsInterface (context_of naming context) (scope_of naming old root) (declared_count old) o d.items (entry_means naming new i.0) (declared_count new)) (ap Some ids) (h.is naming),
     refl,
   );
 }
 
-pub world_declared : (setting : Setting) (old new : Parts) (root : Named ItemKind) (name : List ℕ) (items : List WorldItem) (id : List ℕ) (w : WorldId) → id ≡ id_text setting name
-    → WorldMade setting old new root (Some id) items w → WorldDeclared setting old new root name items (kinds.Ty (types.World w))
-world_declared setting old new root name items id w ids h = record {
+pub world_declared : (context : Context) (old new : Parts) (root : Named ItemKind) (name : List ℕ) (items : List WorldItem) (id : List ℕ) (w : WorldId) → id ≡ id_text context name
+    → WorldMade context old new root (Some id) items w → WorldDeclared context old new root name items (kinds.Ty (types.World w))
+world_declared context old new root name items id w ids h = record {
   grows = h.grows;
-  handed = h.handed;
+  supplied = h.supplied;
   named = h.named;
   is = λ naming. (
     entry_means naming new w.0,
-    subst (λ (o : Option (List ℕ)). IsWorld (setting_of naming setting) (scope_of naming old root) (declared_count old) o items (entry_means naming new w.0) (declared_count new)) (ap Some ids) (h.is naming),
+    subst (λ (o : Option (List ℕ)). IsWorld (context_of naming context) (scope_of naming old root) (declared_count old) o items (entry_means naming new w.0) (declared_count new)) (ap Some ids) (h.is naming),
     refl,
   );
 }

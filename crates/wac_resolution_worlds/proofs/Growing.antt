@@ -16,10 +16,10 @@ use Rattle.wac_resolution_rules.specs.Bodies.{Body}
 use Rattle.wac_resolution_rules.proofs.StepLaws.{steps_on_map, fails_at_map}
 use Rattle.wac_resolution_state.specs.Bindings.{places_of}
 use Rattle.wac_resolution_state.specs.Named.{scope_of}
-use Rattle.wac_resolution_paths.specs.Expands.{HoldsHanded}
+use Rattle.wac_resolution_paths.specs.Expands.{AllSupplied}
 use Rattle.wac_resolution_paths.proofs.Expanding.{expands_self, expands_on, grows_expands, handed_grown, scope_expanded}
 use Rattle.wac_resolution_bodies.specs.Lists.{Lists}
-use Rattle.wac_resolution_bodies.specs.Bodies.{body_in, IsBody, BodyGoes}
+use Rattle.wac_resolution_bodies.specs.Bodies.{body_in, IsBody, BodyStep}
 use Rattle.wac_resolution_worlds.specs.UseStatements.{BodyExpands}
 
 -- how an item takes one body to the next, under a naming and with these names at root
@@ -28,10 +28,10 @@ RootStep X = Naming → Scope → Body → X → Body → Type 0
 
 -- a graph that got types alone
 pub goes_expand : (packages : List (Key × PackageParts)) (side : ExternKind) (old new : Parts) (b c : Lists) (bound : Named Span) (before after : Naming → Body → Body → Type 0)
-    → ((naming : Naming) (x y : Body) → before naming x y → after naming x y) → HoldsHanded packages old → BodyGoes side old new b c bound before → BodyExpands packages side old new b c bound after
+    → ((naming : Naming) (x y : Body) → before naming x y → after naming x y) → AllSupplied packages old → BodyStep side old new b c bound before → BodyExpands packages side old new b c bound after
 goes_expand packages side old new b c bound before after follows held h = record {
   grows = grows_expands old new h.grows;
-  handed = handed_grown packages old new h.grows held;
+  supplied = handed_grown packages old new h.grows held;
   body = h.body;
   places = h.places;
   goes = λ naming. follows naming (body_in naming old b) (body_in naming new c) (h.goes naming);
@@ -41,9 +41,9 @@ no_more : {X : Type 0} (xs : List X) → xs ≡ xs ++ []
 no_more xs = (let nil : xs ++ [] ≡ xs = simp append-nil in sym nil)
 
 -- nothing was taken yet
-pub none_expand : {X : Type 0} (packages : List (Key × PackageParts)) (step : RootStep X) (side : ExternKind) (g : Parts) (root : Named ItemKind) (b : Lists) → HoldsHanded packages g → IsBody g.types side b
+pub none_expand : {X : Type 0} (packages : List (Key × PackageParts)) (step : RootStep X) (side : ExternKind) (g : Parts) (root : Named ItemKind) (b : Lists) → AllSupplied packages g → IsBody g.types side b
     → BodyExpands packages side g g b b [] (λ naming before after. Steps (step naming (scope_of naming g root)) before [] after)
-none_expand packages step side g root b held h = record { grows = expands_self g; handed = held; body = h; places = no_more (places_of b.names); goes = λ naming. refl }
+none_expand packages step side g root b held h = record { grows = expands_self g; supplied = held; body = h; places = no_more (places_of b.names); goes = λ naming. refl }
 
 -- what one more item binds
 pub bound_more : {X Y : Type 0} (bound : X → Named Span) (f : Y → X) (ys : List Y) (i : ℕ) (y : Y) → i < length ys → y ≡ get_or ys i y → flat_map bound (take (i + 1) (map f ys)) ≡ flat_map bound (take i (map f ys)) ++ bound (f y)
@@ -61,7 +61,7 @@ pub items_step : {X Y : Type 0} (packages : List (Key × PackageParts)) (step : 
     → BodyExpands packages side old new b d (flat_map bound (take (i + 1) (map f ys))) (λ naming before after. Steps (step naming (scope_of naming old root)) before (take (i + 1) (map f ys)) after)
 items_step {X} {Y} packages step bound f side old mid new root b c d ys i y within at named p q = record {
   grows = expands_on old mid new p.grows q.grows;
-  handed = q.handed;
+  supplied = q.supplied;
   body = q.body;
   places = q.places ∙ ap (λ (l : Named Span). l ++ bound (f y)) p.places ∙ append_assoc (places_of b.names) (flat_map bound (take i (map f ys))) (bound (f y))
       ∙ ap (λ (l : Named Span). places_of b.names ++ l) (sym (bound_more bound f ys i y within at));

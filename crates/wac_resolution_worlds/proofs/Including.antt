@@ -24,15 +24,15 @@ use Rattle.wac_resolution_rules.specs.Paths as rules
 use Rattle.wac_resolution_rules.specs.Worlds.{include_in, includes_of}
 use Rattle.wac_resolution_state.specs.Bindings.{values_of}
 use Rattle.wac_resolution_state.specs.Named.{scope_of}
-use Rattle.wac_resolution_paths.specs.declared.setting.Setting.{Setting}
-use Rattle.wac_resolution_paths.specs.Expands.{Expands, HoldsHanded, Found}
-use Rattle.wac_resolution_paths.specs.Setting.{packages_in, setting_of}
+use Rattle.wac_resolution_paths.specs.declared.context.Context.{Context}
+use Rattle.wac_resolution_paths.specs.Expands.{Expands, AllSupplied, Found}
+use Rattle.wac_resolution_paths.specs.Context.{packages_in, context_of}
 use Rattle.wac_resolution_paths.proofs.Expanding.{expands_self, expands_on, items_expanded, scope_expanded}
 use Rattle.wac_resolution_bodies.specs.Lists.{Lists}
 use Rattle.wac_resolution_bodies.specs.Bodies.{body_in, UsesNamed}
 use Rattle.wac_resolution_includes.specs.Entries.{Renamings, entries_of, AreAll}
 use Rattle.wac_resolution_includes.specs.Taking.{with_both, IsIncluded}
-use Rattle.wac_resolution_worlds.specs.WorldItems.{AreNamed, IncludesGo, IncludeGoes}
+use Rattle.wac_resolution_worlds.specs.WorldItems.{AreNamed, IncludeSteps, IncludeStep}
 
 -- ---- more types and packages
 
@@ -67,17 +67,17 @@ lists_kept naming old new b e count h =
 
 -- ---- one include
 
-abbrev pub IsNamedWorld : Setting → Parts → Parts → Named ItemKind → WorldInclude → ItemKind → Type 0
-IsNamedWorld setting old new root x k = Found (packages_in setting) old new (λ naming m. rules.WorldNames (setting_of naming setting) (scope_of naming old root) x.world m) k
+abbrev pub IsNamedWorld : Context → Parts → Parts → Named ItemKind → WorldInclude → ItemKind → Type 0
+IsNamedWorld context old new root x k = Found (packages_in context) old new (λ naming m. rules.WorldNames (context_of naming context) (scope_of naming old root) x.world m) k
 
-pub include_goes : (setting : Setting) (old new : Parts) (root : Named ItemKind) (b c : Lists) (x : WorldInclude) (es : Renamings) (k : ItemKind)
-    → AreNamed old.types b → AreAll x.items es → IsNamedWorld setting old new root x k → IsIncluded new (entries_of es) k b.imports b.exports c.imports c.exports → c.names ≡ b.names → c.uses ≡ b.uses → IncludeGoes setting old new root b c x
-include_goes setting old new root b c x es k body all found h names uses =
+pub include_goes : (context : Context) (old new : Parts) (root : Named ItemKind) (b c : Lists) (x : WorldInclude) (es : Renamings) (k : ItemKind)
+    → AreNamed old.types b → AreAll x.items es → IsNamedWorld context old new root x k → IsIncluded new (entries_of es) k b.imports b.exports c.imports c.exports → c.names ≡ b.names → c.uses ≡ b.uses → IncludeStep context old new root b c x
+include_goes context old new root b c x es k body all found h names uses =
     let still = are_still old new b found.grows body in
     let same : c ≡ record b { imports = c.imports; exports = c.exports } = ap (λ n. record c { names = n }) names ∙ ap (λ u. record b { uses = u; imports = c.imports; exports = c.exports }) uses in
     record {
       grows = found.grows;
-      handed = found.handed;
+      supplied = found.supplied;
       named = subst (AreNamed new.types) (sym same) (record { names = still.names; uses = still.uses; imports = h.imports still.imports; exports = h.exports still.exports });
       goes = λ naming.
           let taken : Included (entries_of es) (entry_of (means naming new k)) (body_in naming new b) (body_in naming new (record b { imports = c.imports; exports = c.exports })) = h.included naming (body_in naming new b) in (
@@ -92,17 +92,17 @@ include_goes setting old new root b c x es k body all found h names uses =
     }
 
 -- nothing is found
-pub world_breaks : (setting : Setting) (g : Parts) (root : Named ItemKind) (b : Lists) (world : List ℕ) (x : WorldInclude) (es : Renamings) (e : Error) → AreAll x.items es
-    → ((naming : Naming) → WorldRefBroken (setting_of naming setting) (scope_of naming g root) x.world e)
-    → (naming : Naming) (before : List WorldInclude) → IncludeBroken (setting_of naming setting) (scope_of naming g root) world e (body_in naming g b) before x
-world_breaks setting g root b world x es e all h naming before = inr (entries_of es, all.once, inl (h naming))
+pub world_breaks : (context : Context) (g : Parts) (root : Named ItemKind) (b : Lists) (world : List ℕ) (x : WorldInclude) (es : Renamings) (e : Error) → AreAll x.items es
+    → ((naming : Naming) → WorldRefBroken (context_of naming context) (scope_of naming g root) x.world e)
+    → (naming : Naming) (before : List WorldInclude) → IncludeBroken (context_of naming context) (scope_of naming g root) world e (body_in naming g b) before x
+world_breaks context g root b world x es e all h naming before = inr (entries_of es, all.once, inl (h naming))
 
 -- the world can't be included
-pub taking_breaks : (setting : Setting) (old new : Parts) (root : Named ItemKind) (b : Lists) (world : List ℕ) (x : WorldInclude) (es : Renamings) (k : ItemKind) (e : Error)
-    → AreNamed old.types b → AreAll x.items es → IsNamedWorld setting old new root x k
+pub taking_breaks : (context : Context) (old new : Parts) (root : Named ItemKind) (b : Lists) (world : List ℕ) (x : WorldInclude) (es : Renamings) (k : ItemKind) (e : Error)
+    → AreNamed old.types b → AreAll x.items es → IsNamedWorld context old new root x k
     → ((naming : Naming) (l : Body) → IsNoWorld (means naming new k) x.world e ⊎ (IsA is_world_form (means naming new k) × TakingBroken x world (entries_of es) (entry_of (means naming new k)) (with_both naming new l b.imports b.exports) e))
-    → (naming : Naming) (before : List WorldInclude) → IncludeBroken (setting_of naming setting) (scope_of naming old root) world e (body_in naming old b) before x
-taking_breaks setting old new root b world x es k e body all found h naming before = inr (
+    → (naming : Naming) (before : List WorldInclude) → IncludeBroken (context_of naming context) (scope_of naming old root) world e (body_in naming old b) before x
+taking_breaks context old new root b world x es k e body all found h naming before = inr (
   entries_of es,
   all.once,
   inr (
@@ -119,49 +119,49 @@ steps_after {S} step old [] mid ys new p q = subst (λ (m : S). Steps step m ys 
 steps_after step old (x ∷ xs) mid ys new p q = (p.0, p.1, steps_after step p.0 xs mid ys new p.2 q)
 
 -- nothing was included yet
-pub none_include : (setting : Setting) (g : Parts) (root : Named ItemKind) (b : Lists) → HoldsHanded (packages_in setting) g → AreNamed g.types b → IncludesGo setting g g root b b []
-none_include setting g root b held h = record { grows = expands_self g; handed = held; named = h; goes = λ naming. refl }
+pub none_include : (context : Context) (g : Parts) (root : Named ItemKind) (b : Lists) → AllSupplied (packages_in context) g → AreNamed g.types b → IncludeSteps context g g root b b []
+none_include context g root b held h = record { grows = expands_self g; supplied = held; named = h; goes = λ naming. refl }
 
 includes_one : (x : WorldItem) (o : Option WorldInclude) → include_in x ≡ o → includes_of (x ∷ []) ≡ cons_option o []
 includes_one x o is = ap (λ (p : Option WorldInclude). cons_option p []) is
 
 -- an item that is no include
-pub no_include : (setting : Setting) (g : Parts) (root : Named ItemKind) (b : Lists) (x : WorldItem) → include_in x ≡ None → HoldsHanded (packages_in setting) g → AreNamed g.types b → IncludesGo setting g g root b b (includes_of (x ∷ []))
-no_include setting g root b x is held h = subst (IncludesGo setting g g root b b) (sym (includes_one x None is)) (none_include setting g root b held h)
+pub no_include : (context : Context) (g : Parts) (root : Named ItemKind) (b : Lists) (x : WorldItem) → include_in x ≡ None → AllSupplied (packages_in context) g → AreNamed g.types b → IncludeSteps context g g root b b (includes_of (x ∷ []))
+no_include context g root b x is held h = subst (IncludeSteps context g g root b b) (sym (includes_one x None is)) (none_include context g root b held h)
 
 -- an include
-pub one_include : (setting : Setting) (old new : Parts) (root : Named ItemKind) (b c : Lists) (x : WorldItem) (i : WorldInclude) → include_in x ≡ Some i → IncludeGoes setting old new root b c i → IncludesGo setting old new root b c (includes_of (x ∷ []))
-one_include setting old new root b c x i is h = subst (IncludesGo setting old new root b c) (sym (includes_one x (Some i) is)) (record {
+pub one_include : (context : Context) (old new : Parts) (root : Named ItemKind) (b c : Lists) (x : WorldItem) (i : WorldInclude) → include_in x ≡ Some i → IncludeStep context old new root b c i → IncludeSteps context old new root b c (includes_of (x ∷ []))
+one_include context old new root b c x i is h = subst (IncludeSteps context old new root b c) (sym (includes_one x (Some i) is)) (record {
   grows = h.grows;
-  handed = h.handed;
+  supplied = h.supplied;
   named = h.named;
   goes = λ naming. (body_in naming new c, h.goes naming, refl);
 })
 
 -- the includes up to the next item
-pub includes_step : {Y : Type 0} (f : Y → WorldItem) (setting : Setting) (old mid new : Parts) (root : Named ItemKind) (b c d : Lists) (ys : List Y) (i : ℕ) (y : Y)
+pub includes_step : {Y : Type 0} (f : Y → WorldItem) (context : Context) (old mid new : Parts) (root : Named ItemKind) (b c d : Lists) (ys : List Y) (i : ℕ) (y : Y)
     → i < length ys → y ≡ get_or ys i y → ItemsNamed old.types root
-    → IncludesGo setting old mid root b c (includes_of (take i (map f ys))) → IncludesGo setting mid new root c d (includes_of (f y ∷ [])) → IncludesGo setting old new root b d (includes_of (take (i + 1) (map f ys)))
-includes_step {Y} f setting old mid new root b c d ys i y within at named p q =
+    → IncludeSteps context old mid root b c (includes_of (take i (map f ys))) → IncludeSteps context mid new root c d (includes_of (f y ∷ [])) → IncludeSteps context old new root b d (includes_of (take (i + 1) (map f ys)))
+includes_step {Y} f context old mid new root b c d ys i y within at named p q =
     let inside : i < length (map f ys) = subst (λ (n : ℕ). i < n) (sym (length-map ys f)) within in
     let one : get_or (map f ys) i (f y) ≡ f y = get_or-map f ys i y (f y) within ∙ sym (ap f at) in
     let all : includes_of (take (i + 1) (map f ys)) ≡ includes_of (take i (map f ys)) ++ includes_of (f y ∷ [])
     = ap includes_of (take_more (map f ys) i (f y) inside ∙ ap (λ (x : WorldItem). take i (map f ys) ++ x ∷ []) one) ∙ filter_map-append include_in (take i (map f ys)) (f y ∷ []) in
-    subst (IncludesGo setting old new root b d) (sym all) (record {
+    subst (IncludeSteps context old new root b d) (sym all) (record {
       grows = expands_on old mid new p.grows q.grows;
-      handed = q.handed;
+      supplied = q.supplied;
       named = q.named;
       goes = λ naming.
-          steps_after (HasInclude (setting_of naming setting) (scope_of naming old root)) (body_in naming old b) (includes_of (take i (map f ys))) (body_in naming mid c) (includes_of (f y ∷ [])) (body_in naming new d) (p.goes naming)
-          (subst (λ (s : Scope). Steps (HasInclude (setting_of naming setting) s) (body_in naming mid c) (includes_of (f y ∷ [])) (body_in naming new d)) (scope_expanded old mid root naming p.grows named) (q.goes naming));
+          steps_after (HasInclude (context_of naming context) (scope_of naming old root)) (body_in naming old b) (includes_of (take i (map f ys))) (body_in naming mid c) (includes_of (f y ∷ [])) (body_in naming new d) (p.goes naming)
+          (subst (λ (s : Scope). Steps (HasInclude (context_of naming context) s) (body_in naming mid c) (includes_of (f y ∷ [])) (body_in naming new d)) (scope_expanded old mid root naming p.grows named) (q.goes naming));
     })
 
 -- the next item is an include, and broken
-pub includes_break : {Y : Type 0} (f : Y → WorldItem) (setting : Setting) (old mid : Parts) (root : Named ItemKind) (world : List ℕ) (b c : Lists) (ys : List Y) (i : ℕ) (y : Y) (e : Error)
-    → i < length ys → y ≡ get_or ys i y → ItemsNamed old.types root → IncludesGo setting old mid root b c (includes_of (take i (map f ys)))
-    → ((naming : Naming) (before : List WorldInclude) → (x : WorldInclude) × (include_in (f y) ≡ Some x) × IncludeBroken (setting_of naming setting) (scope_of naming mid root) world e (body_in naming mid c) before x)
-    → (naming : Naming) → Fails (HasInclude (setting_of naming setting) (scope_of naming old root)) (IncludeBroken (setting_of naming setting) (scope_of naming old root) world e) (body_in naming old b) (includes_of (map f ys))
-includes_break {Y} f setting old mid root world b c ys i y e within at named p h naming =
+pub includes_break : {Y : Type 0} (f : Y → WorldItem) (context : Context) (old mid : Parts) (root : Named ItemKind) (world : List ℕ) (b c : Lists) (ys : List Y) (i : ℕ) (y : Y) (e : Error)
+    → i < length ys → y ≡ get_or ys i y → ItemsNamed old.types root → IncludeSteps context old mid root b c (includes_of (take i (map f ys)))
+    → ((naming : Naming) (before : List WorldInclude) → (x : WorldInclude) × (include_in (f y) ≡ Some x) × IncludeBroken (context_of naming context) (scope_of naming mid root) world e (body_in naming mid c) before x)
+    → (naming : Naming) → Fails (HasInclude (context_of naming context) (scope_of naming old root)) (IncludeBroken (context_of naming context) (scope_of naming old root) world e) (body_in naming old b) (includes_of (map f ys))
+includes_break {Y} f context old mid root world b c ys i y e within at named p h naming =
     let inside : i < length (map f ys) = subst (λ (n : ℕ). i < n) (sym (length-map ys f)) within in
     let one : get_or (map f ys) i (f y) ≡ f y = get_or-map f ys i y (f y) within ∙ sym (ap f at) in
     let broken = h naming (includes_of (take i (map f ys))) in
@@ -176,5 +176,5 @@ includes_break {Y} f setting old mid root world b c ys i y e within at named p h
       split = ap includes_of all ∙ filter_map-append include_in (take i (map f ys)) (f y ∷ drop (suc i) (map f ys)) ∙ ap (λ (r : List WorldInclude). includes_of (take i (map f ys)) ++ r) first;
       reached = body_in naming mid c;
       leads = p.goes naming;
-      breaks = subst (λ (s : Scope). IncludeBroken (setting_of naming setting) s world e (body_in naming mid c) (includes_of (take i (map f ys))) broken.0) (scope_expanded old mid root naming p.grows named) broken.2;
+      breaks = subst (λ (s : Scope). IncludeBroken (context_of naming context) s world e (body_in naming mid c) (includes_of (take i (map f ys))) broken.0) (scope_expanded old mid root naming p.grows named) broken.2;
     }

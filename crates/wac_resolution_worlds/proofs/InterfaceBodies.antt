@@ -34,32 +34,32 @@ use Rattle.wac_resolution_rules.specs.Places.{bound_in_interface_item, bound_in_
 use Rattle.wac_resolution_rules.specs.Worlds.{IsFuncRef, HasInterfaceItem}
 use Rattle.wac_resolution_state.specs.Bindings.{values_of, places_of}
 use Rattle.wac_resolution_state.specs.Named.{scope_of}
-use Rattle.wac_resolution_paths.specs.declared.setting.Setting.{Setting}
-use Rattle.wac_resolution_paths.specs.Expands.{HoldsHanded}
-use Rattle.wac_resolution_paths.specs.Setting.{packages_in, setting_of}
+use Rattle.wac_resolution_paths.specs.declared.context.Context.{Context}
+use Rattle.wac_resolution_paths.specs.Expands.{AllSupplied}
+use Rattle.wac_resolution_paths.specs.Context.{packages_in, context_of}
 use Rattle.wac_resolution_paths.proofs.Expanding.{expands_on, grows_expands, handed_grown}
 use Rattle.wac_resolution_bodies.specs.Lists.{Lists, with_kind}
-use Rattle.wac_resolution_bodies.specs.Bodies.{body_in, UsesNamed, IsBody, ItemGoes}
+use Rattle.wac_resolution_bodies.specs.Bodies.{body_in, UsesNamed, IsBody, DeclarationStep}
 use Rattle.wac_resolution_bodies.proofs.Lists.{extern_fresh}
 use Rattle.wac_resolution_bodies.proofs.Methods.{func_goes}
-use Rattle.wac_resolution_worlds.specs.Made.{no_lists, ExportGoes, InterfaceItemGoes, InterfaceItemsGo, InterfaceOf, InterfaceMade}
+use Rattle.wac_resolution_worlds.specs.Made.{no_lists, FuncExportStep, InterfaceItemStep, InterfaceItemSteps, InterfaceOf, InterfaceMade}
 use Rattle.wac_resolution_worlds.specs.Referred.{FuncRefIs}
 use Rattle.wac_resolution_worlds.proofs.Growing.{goes_expand}
 
 -- ---- exports of functions
 
 pub export_goes : (old new : Parts) (b c : Lists) (x : InterfaceExport) (f : FuncTypeId)
-    → IsBody old.types sides.Export b → FuncRefIs old new (values_of b.names) x.ty f → IsFresh x.id.string b.exports → c ≡ with_kind sides.Export b x.id.string (kinds.Func f) → ExportGoes old new b c x
+    → IsBody old.types sides.Export b → FuncRefIs old new (values_of b.names) x.ty f → IsFresh x.id.string b.exports → c ≡ with_kind sides.Export b x.id.string (kinds.Func f) → FuncExportStep old new b c x
 export_goes old new b c x f body added fresh is =
     func_goes sides.Export old new b c (λ naming scope entry. IsFuncRef scope x.ty entry) f x.id.string x.id.string
-    (λ naming before after. (setting : rules.Setting) (root : Scope) → HasInterfaceItem setting root before (InterfaceItem.interface_export x) after) body added refl is
-    (λ naming entry after holds made setting root. (entry, holds, extern_fresh naming old sides.Export b x.id.string fresh, made))
+    (λ naming before after. (context : rules.Context) (root : Scope) → HasInterfaceItem context root before (InterfaceItem.interface_export x) after) body added refl is
+    (λ naming entry after holds made context root. (entry, holds, extern_fresh naming old sides.Export b x.id.string fresh, made))
 
 -- the name is exported already
 pub export_conflicts : (of : Owner) (old new : Parts) (b : Lists) (x : InterfaceExport) (f : FuncTypeId) (e : Error)
     → FuncRefIs old new (values_of b.names) x.ty f → ((naming : Naming) → IsConflict of sides.Export (body_in naming old b) x.id.string x.id.span e)
-    → (naming : Naming) (setting : rules.Setting) (root : Scope) (before : List InterfaceItem) → InterfaceItemBroken setting root of e (body_in naming old b) before (InterfaceItem.interface_export x)
-export_conflicts of old new b x f e added h naming setting root before = inr (entry_means naming new f.0, added.is naming, h naming)
+    → (naming : Naming) (context : rules.Context) (root : Scope) (before : List InterfaceItem) → InterfaceItemBroken context root of e (body_in naming old b) before (InterfaceItem.interface_export x)
+export_conflicts of old new b x f e added h naming context root before = inr (entry_means naming new f.0, added.is naming, h naming)
 
 -- ---- empty bodies
 
@@ -68,45 +68,45 @@ empty_is_body es b is = subst (IsBody es sides.Export) (sym is) (record { names 
 
 -- ---- one item
 
-abbrev pub ItemBreaks : Setting → Parts → Named ItemKind → Owner → Lists → InterfaceItem → CodeError → Type 0
-ItemBreaks setting g root of b x e =
-    (naming : Naming) (before : List InterfaceItem) → places_of b.names ≡ bound_in_interface before → InterfaceItemBroken (setting_of naming setting) (scope_of naming g root) of (told e) (body_in naming g b) before x
+abbrev pub ItemBreaks : Context → Parts → Named ItemKind → Owner → Lists → InterfaceItem → CodeError → Type 0
+ItemBreaks context g root of b x e =
+    (naming : Naming) (before : List InterfaceItem) → places_of b.names ≡ bound_in_interface before → InterfaceItemBroken (context_of naming context) (scope_of naming g root) of (told e) (body_in naming g b) before x
 
-pub use_breaks : (setting : Setting) (g : Parts) (root : Named ItemKind) (of : Owner) (b : Lists) (x : CodeInterfaceItem) (u : Use) (r : Result (Unit {0}) CodeError) → interface_item_of x ≡ InterfaceItem.use_statement u
-    → IfErr r (λ e. (naming : Naming) → UseBroken (setting_of naming setting) (scope_of naming g root) sides.Export (body_in naming g b) u (told e))
-    → IfErr r (ItemBreaks setting g root of b (interface_item_of x))
-use_breaks setting g root of b x u r is h =
-    subst (λ (y : InterfaceItem). IfErr r (ItemBreaks setting g root of b y)) (sym is)
-    (IfErr-weaker r _ (ItemBreaks setting g root of b (InterfaceItem.use_statement u)) (λ e p naming before places. p naming) h)
+pub use_breaks : (context : Context) (g : Parts) (root : Named ItemKind) (of : Owner) (b : Lists) (x : CodeInterfaceItem) (u : Use) (r : Result (Unit {0}) CodeError) → interface_item_of x ≡ InterfaceItem.use_statement u
+    → IfErr r (λ e. (naming : Naming) → UseBroken (context_of naming context) (scope_of naming g root) sides.Export (body_in naming g b) u (told e))
+    → IfErr r (ItemBreaks context g root of b (interface_item_of x))
+use_breaks context g root of b x u r is h =
+    subst (λ (y : InterfaceItem). IfErr r (ItemBreaks context g root of b y)) (sym is)
+    (IfErr-weaker r _ (ItemBreaks context g root of b (InterfaceItem.use_statement u)) (λ e p naming before places. p naming) h)
 
-pub export_breaks : (setting : Setting) (g : Parts) (root : Named ItemKind) (of : Owner) (b : Lists) (x : CodeInterfaceItem) (f : InterfaceExport) (r : Result (Unit {0}) CodeError) → interface_item_of x ≡ InterfaceItem.interface_export f
-    → IfErr r (λ e. (naming : Naming) (s : rules.Setting) (top : Scope) (before : List InterfaceItem) → InterfaceItemBroken s top of (told e) (body_in naming g b) before (InterfaceItem.interface_export f))
-    → IfErr r (ItemBreaks setting g root of b (interface_item_of x))
-export_breaks setting g root of b x f r is h =
-    subst (λ (y : InterfaceItem). IfErr r (ItemBreaks setting g root of b y)) (sym is)
-    (IfErr-weaker r _ (ItemBreaks setting g root of b (InterfaceItem.interface_export f)) (λ e p naming before places. p naming (setting_of naming setting) (scope_of naming g root) before) h)
+pub export_breaks : (context : Context) (g : Parts) (root : Named ItemKind) (of : Owner) (b : Lists) (x : CodeInterfaceItem) (f : InterfaceExport) (r : Result (Unit {0}) CodeError) → interface_item_of x ≡ InterfaceItem.interface_export f
+    → IfErr r (λ e. (naming : Naming) (s : rules.Context) (top : Scope) (before : List InterfaceItem) → InterfaceItemBroken s top of (told e) (body_in naming g b) before (InterfaceItem.interface_export f))
+    → IfErr r (ItemBreaks context g root of b (interface_item_of x))
+export_breaks context g root of b x f r is h =
+    subst (λ (y : InterfaceItem). IfErr r (ItemBreaks context g root of b y)) (sym is)
+    (IfErr-weaker r _ (ItemBreaks context g root of b (InterfaceItem.interface_export f)) (λ e p naming before places. p naming (context_of naming context) (scope_of naming g root) before) h)
 
-pub declaration_breaks : (setting : Setting) (g : Parts) (root : Named ItemKind) (of : Owner) (b : Lists) (x : CodeInterfaceItem) (d : ItemTypeDecl) (r : Result (Unit {0}) CodeError) → interface_item_of x ≡ InterfaceItem.ty d
+pub declaration_breaks : (context : Context) (g : Parts) (root : Named ItemKind) (of : Owner) (b : Lists) (x : CodeInterfaceItem) (d : ItemTypeDecl) (r : Result (Unit {0}) CodeError) → interface_item_of x ≡ InterfaceItem.ty d
     → IfErr r (λ e. (naming : Naming) → ItemBroken naming of sides.Export (places_of b.names) (body_in naming g b) d (told e))
-    → IfErr r (ItemBreaks setting g root of b (interface_item_of x))
-declaration_breaks setting g root of b x d r is h =
-    subst (λ (y : InterfaceItem). IfErr r (ItemBreaks setting g root of b y)) (sym is)
-    (IfErr-weaker r _ (ItemBreaks setting g root of b (InterfaceItem.ty d))
+    → IfErr r (ItemBreaks context g root of b (interface_item_of x))
+declaration_breaks context g root of b x d r is h =
+    subst (λ (y : InterfaceItem). IfErr r (ItemBreaks context g root of b y)) (sym is)
+    (IfErr-weaker r _ (ItemBreaks context g root of b (InterfaceItem.ty d))
     (λ e p naming before places. subst (λ (l : Named Span). ItemBroken naming of sides.Export l (body_in naming g b) d (told e)) places (p naming)) h)
 
-pub export_item : (setting : Setting) (old new : Parts) (root : Named ItemKind) (b c : Lists) (x : CodeInterfaceItem) (f : InterfaceExport) (r : Result (Unit {0}) CodeError) → interface_item_of x ≡ InterfaceItem.interface_export f → HoldsHanded (packages_in setting) old
-    → OnOk r (ExportGoes old new b c f) → OnOk r (InterfaceItemGoes setting old new root b c (interface_item_of x))
-export_item setting old new root b c x f r is held h =
-    subst (λ (y : InterfaceItem). OnOk r (InterfaceItemGoes setting old new root b c y)) (sym is)
-    (OnOk-map r _ (InterfaceItemGoes setting old new root b c (InterfaceItem.interface_export f))
-    (goes_expand (packages_in setting) sides.Export old new b c [] _ _ (λ naming before after p. p (setting_of naming setting) (scope_of naming old root)) held) h)
+pub export_item : (context : Context) (old new : Parts) (root : Named ItemKind) (b c : Lists) (x : CodeInterfaceItem) (f : InterfaceExport) (r : Result (Unit {0}) CodeError) → interface_item_of x ≡ InterfaceItem.interface_export f → AllSupplied (packages_in context) old
+    → OnOk r (FuncExportStep old new b c f) → OnOk r (InterfaceItemStep context old new root b c (interface_item_of x))
+export_item context old new root b c x f r is held h =
+    subst (λ (y : InterfaceItem). OnOk r (InterfaceItemStep context old new root b c y)) (sym is)
+    (OnOk-map r _ (InterfaceItemStep context old new root b c (InterfaceItem.interface_export f))
+    (goes_expand (packages_in context) sides.Export old new b c [] _ _ (λ naming before after p. p (context_of naming context) (scope_of naming old root)) held) h)
 
-pub declaration_item : (setting : Setting) (old new : Parts) (root : Named ItemKind) (b c : Lists) (x : CodeInterfaceItem) (d : ItemTypeDecl) (r : Result (Unit {0}) CodeError) → interface_item_of x ≡ InterfaceItem.ty d → HoldsHanded (packages_in setting) old
-    → OnOk r (ItemGoes sides.Export old new b c d) → OnOk r (InterfaceItemGoes setting old new root b c (interface_item_of x))
-declaration_item setting old new root b c x d r is held h =
-    subst (λ (y : InterfaceItem). OnOk r (InterfaceItemGoes setting old new root b c y)) (sym is)
-    (OnOk-map r _ (InterfaceItemGoes setting old new root b c (InterfaceItem.ty d))
-    (goes_expand (packages_in setting) sides.Export old new b c (bound_in_interface_item (InterfaceItem.ty d)) _ _ (λ naming before after p. p) held) h)
+pub declaration_item : (context : Context) (old new : Parts) (root : Named ItemKind) (b c : Lists) (x : CodeInterfaceItem) (d : ItemTypeDecl) (r : Result (Unit {0}) CodeError) → interface_item_of x ≡ InterfaceItem.ty d → AllSupplied (packages_in context) old
+    → OnOk r (DeclarationStep sides.Export old new b c d) → OnOk r (InterfaceItemStep context old new root b c (interface_item_of x))
+declaration_item context old new root b c x d r is held h =
+    subst (λ (y : InterfaceItem). OnOk r (InterfaceItemStep context old new root b c y)) (sym is)
+    (OnOk-map r _ (InterfaceItemStep context old new root b c (InterfaceItem.ty d))
+    (goes_expand (packages_in context) sides.Export old new b c (bound_in_interface_item (InterfaceItem.ty d)) _ _ (λ naming before after p. p) held) h)
 
 -- ---- interfaces
 
@@ -128,23 +128,23 @@ pub interface_kinds : (es : List Entry) (b : Lists) (uses : List (String Global 
 interface_kinds es b uses exports used exported h =
     each_of_both es (use_children uses) (export_children exports) (uses_each es uses (subst (UsesNamed es) (sym used) h.uses)) (exports_each es exports (subst (ItemsNamed es) (sym exported) h.exports))
 
-pub interface_made : (setting : Setting) (old mid new : Parts) (root : Named ItemKind) (b c : Lists) (id : Option (List ℕ)) (items : List InterfaceItem) (i : InterfaceId) → b ≡ no_lists
-    → InterfaceItemsGo setting old mid root b c items → InterfaceOf mid new id c i → InterfaceMade setting old new root id items i
-interface_made setting old mid new root b c id items i empty p a = record {
+pub interface_made : (context : Context) (old mid new : Parts) (root : Named ItemKind) (b c : Lists) (id : Option (List ℕ)) (items : List InterfaceItem) (i : InterfaceId) → b ≡ no_lists
+    → InterfaceItemSteps context old mid root b c items → InterfaceOf mid new id c i → InterfaceMade context old new root id items i
+interface_made context old mid new root b c id items i empty p a = record {
   grows = expands_on old mid new p.grows (grows_expands mid new a.grows.grows);
-  handed = handed_grown (packages_in setting) mid new a.grows.grows p.handed;
+  supplied = handed_grown (packages_in context) mid new a.grows.grows p.supplied;
   named = a.named;
   is = λ naming. (
     body_in naming mid c,
-    subst (λ (l : Lists). Steps (HasInterfaceItem (setting_of naming setting) (scope_of naming old root)) (body_in naming old l) items (body_in naming mid c)) empty (p.goes naming),
+    subst (λ (l : Lists). Steps (HasInterfaceItem (context_of naming context) (scope_of naming old root)) (body_in naming old l) items (body_in naming mid c)) empty (p.goes naming),
     a.is naming,
     a.grows.count,
   );
 }
 
 -- an item is broken
-pub items_broken : (setting : Setting) (g : Parts) (root : Named ItemKind) (b : Lists) (name : Option (List ℕ)) (items : List InterfaceItem) (e : Error) → b ≡ no_lists
-    → ((naming : Naming) → Fails (HasInterfaceItem (setting_of naming setting) (scope_of naming g root)) (InterfaceItemBroken (setting_of naming setting) (scope_of naming g root) (of_interface name) e) (body_in naming g b) items)
-    → (naming : Naming) → InterfaceBroken (setting_of naming setting) (scope_of naming g root) name (declared_count g) items e
-items_broken setting g root b name items e empty h naming =
-    subst (λ (l : Lists). Fails (HasInterfaceItem (setting_of naming setting) (scope_of naming g root)) (InterfaceItemBroken (setting_of naming setting) (scope_of naming g root) (of_interface name) e) (body_in naming g l) items) empty (h naming)
+pub items_broken : (context : Context) (g : Parts) (root : Named ItemKind) (b : Lists) (name : Option (List ℕ)) (items : List InterfaceItem) (e : Error) → b ≡ no_lists
+    → ((naming : Naming) → Fails (HasInterfaceItem (context_of naming context) (scope_of naming g root)) (InterfaceItemBroken (context_of naming context) (scope_of naming g root) (of_interface name) e) (body_in naming g b) items)
+    → (naming : Naming) → InterfaceBroken (context_of naming context) (scope_of naming g root) name (declared_count g) items e
+items_broken context g root b name items e empty h naming =
+    subst (λ (l : Lists). Fails (HasInterfaceItem (context_of naming context) (scope_of naming g root)) (InterfaceItemBroken (context_of naming context) (scope_of naming g root) (of_interface name) e) (body_in naming g l) items) empty (h naming)

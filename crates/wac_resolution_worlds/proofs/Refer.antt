@@ -24,7 +24,7 @@ use Rattle.wac_resolution_errors.specs.Error.{Error}
 use Rattle.wac_resolution_rules.specs.Types.{IsFuncWith}
 use Rattle.wac_resolution_rules.specs.BrokenTypes.{FuncBroken}
 use Rattle.wac_resolution_rules.specs.BrokenWorlds.{FuncRefBroken, ExternTypeBroken}
-use Rattle.wac_resolution_rules.specs.Paths.{Setting}
+use Rattle.wac_resolution_rules.specs.Paths.{Context}
 use Rattle.wac_ast_types.specs.Declarations.{func_type_ref_of}
 use Rattle.wac_ast_types.specs.declared.func_type.FuncTypeRef.{FuncTypeRef as CodeFuncTypeRef}
 use Rattle.wac_resolution_types.specs.Funcs.{types_named, FuncIs}
@@ -116,13 +116,13 @@ pub ruleset items_told = (func_item, interface_item, memory_told)
 
 pub extern_named : (ks root : Named ItemKind) (x : Ident) (k item : ItemKind) → look_up x.string (ks ++ root) ≡ Some k → IsExternKind k item → ExternNamed ks root x item
 extern_named ks root x k item is h = record {
-  is = λ naming g setting n. (means naming g k, either_stands naming g ks root x.string k is, h.is naming g, h.promotes naming g, refl);
+  is = λ naming g context n. (means naming g k, either_stands naming g ks root x.string k is, h.is naming g, h.promotes naming g, refl);
   named = λ es p q. h.named es (found_named es x.string (ks ++ root) k (named_after es ks root p q) is);
 }
 
 pub extern_breaks : (ks root : Named ItemKind) (x : Ident) (k : ItemKind) (e : Error) → look_up x.string (ks ++ root) ≡ Some k → IsNoExternKind k x e
-    → (naming : Naming) (g : Parts) (setting : Setting) (n : ℕ) → ExternTypeBroken setting (scope_of naming g root) (scope_of naming g ks) n (ExternType.ident x) e
-extern_breaks ks root x k e is h naming g setting n =
+    → (naming : Naming) (g : Parts) (context : Context) (n : ℕ) → ExternTypeBroken context (scope_of naming g root) (scope_of naming g ks) n (ExternType.ident x) e
+extern_breaks ks root x k e is h naming g context n =
     let p = h naming g in
     inr (means naming g k, either_stands naming g ks root x.string k is, p.0, p.1)
 

@@ -34,7 +34,7 @@ use Rattle.wac_resolution_rules.proofs.Scopes.{fresh_before, fresh_after}
 use Rattle.wac_resolution_bodies.proofs.Found.{fresh_value}
 use Rattle.wac_resolution_bodies.proofs.Lists.{body_with_bound, means_with_bound, extern_fresh, extern_stands, places_append}
 use Rattle.wac_resolution_bodies.proofs.Going.{items_step}
-use Rattle.wac_resolution_worlds.specs.Used.{IsThere, IsUsed, UseGoes, UsesGo}
+use Rattle.wac_resolution_worlds.specs.Used.{IsThere, IsUsed, UseStep, UseSteps}
 
 -- ---- what an interface exports
 
@@ -115,7 +115,7 @@ fresh_with_used side b name u n h = subst (IsFresh n) (sym (same_kinds side b na
 pub use_goes : (side : ExternKind) (g : Parts) (i : InterfaceId) (b c d : Lists) (x : UseItem) (id : Ident) (k : ItemKind) (u : UsedType)
     → id ≡ used_as x → u.interface ≡ i → option_map string_bytes u.name ≡ renamed_from x
     → IsBody g.types side b → Names g.types (kinds.Instance i) → IsUsed g i x k → IsFresh (used_as x).string (kinds_of side b)
-    → c ≡ with_used b id.string u → d ≡ with_bound side c id.string id.span k → UseGoes side g i b d x
+    → c ≡ with_used b id.string u → d ≡ with_bound side c id.string id.span k → UseStep side g i b d x
 use_goes side g i b c d x id k u named from renamed body there used fresh is then =
     let y : Ident = used_as x in
     let e : Lists = with_bound side (with_used b y.string u) y.string y.span k in
@@ -138,7 +138,7 @@ use_goes side g i b c d x id k u named from renamed body there used fresh is the
 -- ---- in order
 
 pub uses_step : {Y : Type 0} (f : Y → UseItem) (side : ExternKind) (g : Parts) (i : InterfaceId) (b c d : Lists) (ys : List Y) (n : ℕ) (y : Y)
-    → n < length ys → y ≡ get_or ys n y → UsesGo side g i b c (take n (map f ys)) → UseGoes side g i c d (f y) → UsesGo side g i b d (take (n + 1) (map f ys))
+    → n < length ys → y ≡ get_or ys n y → UseSteps side g i b c (take n (map f ys)) → UseStep side g i c d (f y) → UseSteps side g i b d (take (n + 1) (map f ys))
 uses_step {Y} f side g i b c d ys n y within at p q =
     let within_too : n < length (map f ys) = subst (λ (m : ℕ). n < m) (sym (length-map ys f)) within in
     let read : get_or (map f ys) n (f y) ≡ f y = get_or-map f ys n y (f y) within ∙ ap f (sym at) in
@@ -147,8 +147,8 @@ uses_step {Y} f side g i b c d ys n y within at p q =
     = ap used_at next ∙ map_push (λ x. at_ident (used_as x)) (take n (map f ys)) (f y) in
     items_step (λ naming. UsesItem side (means naming g (kinds.Instance i))) f side g g g b c d (used_at (take n (map f ys))) (at_ident (used_as (f y)) ∷ []) (used_at (take (n + 1) (map f ys))) ys n y within at places p q
 
-pub uses_all : (side : ExternKind) (g : Parts) (i : InterfaceId) (b c : Lists) (xs ys : List UseItem) → xs ≡ ys → UsesGo side g i b c xs → UsesGo side g i b c ys
-uses_all side g i b c xs ys is h = subst (UsesGo side g i b c) is h
+pub uses_all : (side : ExternKind) (g : Parts) (i : InterfaceId) (b c : Lists) (xs ys : List UseItem) → xs ≡ ys → UseSteps side g i b c xs → UseSteps side g i b c ys
+uses_all side g i b c xs ys is h = subst (UseSteps side g i b c) is h
 
 -- ---- what taking a type requires
 

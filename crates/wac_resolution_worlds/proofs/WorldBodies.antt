@@ -32,65 +32,65 @@ use Rattle.wac_resolution_rules.specs.Places.{bound_in_world_item, bound_in_worl
 use Rattle.wac_resolution_rules.specs.Worlds.{HasWorldItem, includes_of}
 use Rattle.wac_resolution_state.specs.Bindings.{places_of}
 use Rattle.wac_resolution_state.specs.Named.{scope_of}
-use Rattle.wac_resolution_paths.specs.declared.setting.Setting.{Setting}
-use Rattle.wac_resolution_paths.specs.Expands.{HoldsHanded}
-use Rattle.wac_resolution_paths.specs.Setting.{packages_in, setting_of}
+use Rattle.wac_resolution_paths.specs.declared.context.Context.{Context}
+use Rattle.wac_resolution_paths.specs.Expands.{AllSupplied}
+use Rattle.wac_resolution_paths.specs.Context.{packages_in, context_of}
 use Rattle.wac_resolution_paths.proofs.Expanding.{expands_self, expands_on, grows_expands, handed_grown, scope_expanded}
 use Rattle.wac_resolution_bodies.specs.Lists.{Lists}
-use Rattle.wac_resolution_bodies.specs.Bodies.{body_in, UsesNamed, IsBody, ItemGoes}
+use Rattle.wac_resolution_bodies.specs.Bodies.{body_in, UsesNamed, IsBody, DeclarationStep}
 use Rattle.wac_resolution_worlds.specs.Made.{no_lists}
-use Rattle.wac_resolution_worlds.specs.WorldItems.{WorldItemGoes, WorldItemsGo, AreNamed, IncludesGo, WorldOf, WorldMade}
+use Rattle.wac_resolution_worlds.specs.WorldItems.{WorldItemStep, WorldItemSteps, AreNamed, IncludeSteps, WorldOf, WorldMade}
 use Rattle.wac_resolution_worlds.proofs.Growing.{goes_expand}
 use Rattle.wac_resolution_worlds.proofs.InterfaceBodies.{uses_each, exports_each, each_of_both}
 
 -- ---- one item
 
-abbrev pub WorldItemBreaks : Setting → Parts → Named ItemKind → Owner → Lists → WorldItem → CodeError → Type 0
-WorldItemBreaks setting g root of b x e =
-    (naming : Naming) (before : List WorldItem) → places_of b.names ≡ bound_in_world before → WorldItemBroken (setting_of naming setting) (scope_of naming g root) of (told e) (body_in naming g b) before x
+abbrev pub WorldItemBreaks : Context → Parts → Named ItemKind → Owner → Lists → WorldItem → CodeError → Type 0
+WorldItemBreaks context g root of b x e =
+    (naming : Naming) (before : List WorldItem) → places_of b.names ≡ bound_in_world before → WorldItemBroken (context_of naming context) (scope_of naming g root) of (told e) (body_in naming g b) before x
 
-pub use_breaks : (setting : Setting) (g : Parts) (root : Named ItemKind) (of : Owner) (b : Lists) (x : CodeWorldItem) (u : Use) (r : Result (Unit {0}) CodeError) → world_item_of x ≡ WorldItem.use_statement u
-    → IfErr r (λ e. (naming : Naming) → UseBroken (setting_of naming setting) (scope_of naming g root) sides.Import (body_in naming g b) u (told e))
-    → IfErr r (WorldItemBreaks setting g root of b (world_item_of x))
-use_breaks setting g root of b x u r is h =
-    subst (λ (y : WorldItem). IfErr r (WorldItemBreaks setting g root of b y)) (sym is)
-    (IfErr-weaker r _ (WorldItemBreaks setting g root of b (WorldItem.use_statement u)) (λ e p naming before places. p naming) h)
+pub use_breaks : (context : Context) (g : Parts) (root : Named ItemKind) (of : Owner) (b : Lists) (x : CodeWorldItem) (u : Use) (r : Result (Unit {0}) CodeError) → world_item_of x ≡ WorldItem.use_statement u
+    → IfErr r (λ e. (naming : Naming) → UseBroken (context_of naming context) (scope_of naming g root) sides.Import (body_in naming g b) u (told e))
+    → IfErr r (WorldItemBreaks context g root of b (world_item_of x))
+use_breaks context g root of b x u r is h =
+    subst (λ (y : WorldItem). IfErr r (WorldItemBreaks context g root of b y)) (sym is)
+    (IfErr-weaker r _ (WorldItemBreaks context g root of b (WorldItem.use_statement u)) (λ e p naming before places. p naming) h)
 
-pub import_breaks : (setting : Setting) (g : Parts) (root : Named ItemKind) (of : Owner) (b : Lists) (x : CodeWorldItem) (i : WorldImport) (r : Result (Unit {0}) CodeError) → world_item_of x ≡ WorldItem.world_import i
-    → IfErr r (λ e. (naming : Naming) → ExternBroken (setting_of naming setting) (scope_of naming g root) of sides.Import (body_in naming g b) i.path (told e))
-    → IfErr r (WorldItemBreaks setting g root of b (world_item_of x))
-import_breaks setting g root of b x i r is h =
-    subst (λ (y : WorldItem). IfErr r (WorldItemBreaks setting g root of b y)) (sym is)
-    (IfErr-weaker r _ (WorldItemBreaks setting g root of b (WorldItem.world_import i)) (λ e p naming before places. p naming) h)
+pub import_breaks : (context : Context) (g : Parts) (root : Named ItemKind) (of : Owner) (b : Lists) (x : CodeWorldItem) (i : WorldImport) (r : Result (Unit {0}) CodeError) → world_item_of x ≡ WorldItem.world_import i
+    → IfErr r (λ e. (naming : Naming) → ExternBroken (context_of naming context) (scope_of naming g root) of sides.Import (body_in naming g b) i.path (told e))
+    → IfErr r (WorldItemBreaks context g root of b (world_item_of x))
+import_breaks context g root of b x i r is h =
+    subst (λ (y : WorldItem). IfErr r (WorldItemBreaks context g root of b y)) (sym is)
+    (IfErr-weaker r _ (WorldItemBreaks context g root of b (WorldItem.world_import i)) (λ e p naming before places. p naming) h)
 
-pub export_breaks : (setting : Setting) (g : Parts) (root : Named ItemKind) (of : Owner) (b : Lists) (x : CodeWorldItem) (i : WorldExport) (r : Result (Unit {0}) CodeError) → world_item_of x ≡ WorldItem.world_export i
-    → IfErr r (λ e. (naming : Naming) → ExternBroken (setting_of naming setting) (scope_of naming g root) of sides.Export (body_in naming g b) i.path (told e))
-    → IfErr r (WorldItemBreaks setting g root of b (world_item_of x))
-export_breaks setting g root of b x i r is h =
-    subst (λ (y : WorldItem). IfErr r (WorldItemBreaks setting g root of b y)) (sym is)
-    (IfErr-weaker r _ (WorldItemBreaks setting g root of b (WorldItem.world_export i)) (λ e p naming before places. p naming) h)
+pub export_breaks : (context : Context) (g : Parts) (root : Named ItemKind) (of : Owner) (b : Lists) (x : CodeWorldItem) (i : WorldExport) (r : Result (Unit {0}) CodeError) → world_item_of x ≡ WorldItem.world_export i
+    → IfErr r (λ e. (naming : Naming) → ExternBroken (context_of naming context) (scope_of naming g root) of sides.Export (body_in naming g b) i.path (told e))
+    → IfErr r (WorldItemBreaks context g root of b (world_item_of x))
+export_breaks context g root of b x i r is h =
+    subst (λ (y : WorldItem). IfErr r (WorldItemBreaks context g root of b y)) (sym is)
+    (IfErr-weaker r _ (WorldItemBreaks context g root of b (WorldItem.world_export i)) (λ e p naming before places. p naming) h)
 
-pub declaration_breaks : (setting : Setting) (g : Parts) (root : Named ItemKind) (of : Owner) (b : Lists) (x : CodeWorldItem) (d : ItemTypeDecl) (r : Result (Unit {0}) CodeError) → world_item_of x ≡ WorldItem.ty d
+pub declaration_breaks : (context : Context) (g : Parts) (root : Named ItemKind) (of : Owner) (b : Lists) (x : CodeWorldItem) (d : ItemTypeDecl) (r : Result (Unit {0}) CodeError) → world_item_of x ≡ WorldItem.ty d
     → IfErr r (λ e. (naming : Naming) → ItemBroken naming of sides.Import (places_of b.names) (body_in naming g b) d (told e))
-    → IfErr r (WorldItemBreaks setting g root of b (world_item_of x))
-declaration_breaks setting g root of b x d r is h =
-    subst (λ (y : WorldItem). IfErr r (WorldItemBreaks setting g root of b y)) (sym is)
-    (IfErr-weaker r _ (WorldItemBreaks setting g root of b (WorldItem.ty d))
+    → IfErr r (WorldItemBreaks context g root of b (world_item_of x))
+declaration_breaks context g root of b x d r is h =
+    subst (λ (y : WorldItem). IfErr r (WorldItemBreaks context g root of b y)) (sym is)
+    (IfErr-weaker r _ (WorldItemBreaks context g root of b (WorldItem.ty d))
     (λ e p naming before places. subst (λ (l : Named Span). ItemBroken naming of sides.Import l (body_in naming g b) d (told e)) places (p naming)) h)
 
-pub declaration_item : (setting : Setting) (old new : Parts) (root : Named ItemKind) (b c : Lists) (x : CodeWorldItem) (d : ItemTypeDecl) (r : Result (Unit {0}) CodeError) → world_item_of x ≡ WorldItem.ty d → HoldsHanded (packages_in setting) old
-    → OnOk r (ItemGoes sides.Import old new b c d) → OnOk r (WorldItemGoes setting old new root b c (world_item_of x))
-declaration_item setting old new root b c x d r is held h =
-    subst (λ (y : WorldItem). OnOk r (WorldItemGoes setting old new root b c y)) (sym is)
-    (OnOk-map r _ (WorldItemGoes setting old new root b c (WorldItem.ty d))
-    (goes_expand (packages_in setting) sides.Import old new b c (bound_in_world_item (WorldItem.ty d)) _ _ (λ naming before after p. p) held) h)
+pub declaration_item : (context : Context) (old new : Parts) (root : Named ItemKind) (b c : Lists) (x : CodeWorldItem) (d : ItemTypeDecl) (r : Result (Unit {0}) CodeError) → world_item_of x ≡ WorldItem.ty d → AllSupplied (packages_in context) old
+    → OnOk r (DeclarationStep sides.Import old new b c d) → OnOk r (WorldItemStep context old new root b c (world_item_of x))
+declaration_item context old new root b c x d r is held h =
+    subst (λ (y : WorldItem). OnOk r (WorldItemStep context old new root b c y)) (sym is)
+    (OnOk-map r _ (WorldItemStep context old new root b c (WorldItem.ty d))
+    (goes_expand (packages_in context) sides.Import old new b c (bound_in_world_item (WorldItem.ty d)) _ _ (λ naming before after p. p) held) h)
 
 -- an include comes afterwards
-pub include_item : (setting : Setting) (g : Parts) (root : Named ItemKind) (b : Lists) (x : CodeWorldItem) (i : WorldInclude) → world_item_of x ≡ WorldItem.world_include i → HoldsHanded (packages_in setting) g → IsBody g.types sides.Import b
-    → WorldItemGoes setting g g root b b (world_item_of x)
-include_item setting g root b x i is held h = subst (WorldItemGoes setting g g root b b) (sym is) (record {
+pub include_item : (context : Context) (g : Parts) (root : Named ItemKind) (b : Lists) (x : CodeWorldItem) (i : WorldInclude) → world_item_of x ≡ WorldItem.world_include i → AllSupplied (packages_in context) g → IsBody g.types sides.Import b
+    → WorldItemStep context g g root b b (world_item_of x)
+include_item context g root b x i is held h = subst (WorldItemStep context g g root b b) (sym is) (record {
   grows = expands_self g;
-  handed = held;
+  supplied = held;
   body = h;
   places = (let nil : places_of b.names ++ [] ≡ places_of b.names = simp append-nil in sym nil);
   goes = λ naming. refl;
@@ -116,36 +116,36 @@ world_kinds es b uses imports exports used imported exported h =
     (each_of_both es (use_children uses) (import_children imports) (uses_each es uses (subst (UsesNamed es) (sym used) h.uses)) (imports_each es imports (subst (ItemsNamed es) (sym imported) h.imports)))
     (exports_each es exports (subst (ItemsNamed es) (sym exported) h.exports))
 
-pub world_made : (setting : Setting) (old mid late new : Parts) (root : Named ItemKind) (b c d : Lists) (id : Option (List ℕ)) (items : List WorldItem) (w : WorldId) → b ≡ no_lists → ItemsNamed old.types root
-    → WorldItemsGo setting old mid root b c items → IncludesGo setting mid late root c d (includes_of items) → WorldOf late new id d w → WorldMade setting old new root id items w
-world_made setting old mid late new root b c d id items w empty named p q a = record {
+pub world_made : (context : Context) (old mid late new : Parts) (root : Named ItemKind) (b c d : Lists) (id : Option (List ℕ)) (items : List WorldItem) (w : WorldId) → b ≡ no_lists → ItemsNamed old.types root
+    → WorldItemSteps context old mid root b c items → IncludeSteps context mid late root c d (includes_of items) → WorldOf late new id d w → WorldMade context old new root id items w
+world_made context old mid late new root b c d id items w empty named p q a = record {
   grows = expands_on old late new (expands_on old mid late p.grows q.grows) (grows_expands late new a.grows.grows);
-  handed = handed_grown (packages_in setting) late new a.grows.grows q.handed;
+  supplied = handed_grown (packages_in context) late new a.grows.grows q.supplied;
   named = a.named;
   is = λ naming. (
     body_in naming mid c,
     body_in naming late d,
-    subst (λ (l : Lists). Steps (HasWorldItem (setting_of naming setting) (scope_of naming old root)) (body_in naming old l) items (body_in naming mid c)) empty (p.goes naming),
-    subst (λ s. Steps (HasInclude (setting_of naming setting) s) (body_in naming mid c) (includes_of items) (body_in naming late d)) (scope_expanded old mid root naming p.grows named) (q.goes naming),
+    subst (λ (l : Lists). Steps (HasWorldItem (context_of naming context) (scope_of naming old root)) (body_in naming old l) items (body_in naming mid c)) empty (p.goes naming),
+    subst (λ s. Steps (HasInclude (context_of naming context) s) (body_in naming mid c) (includes_of items) (body_in naming late d)) (scope_expanded old mid root naming p.grows named) (q.goes naming),
     a.is naming,
     a.grows.count,
   );
 }
 
 -- an item is broken
-pub items_broken : (setting : Setting) (g : Parts) (root : Named ItemKind) (b : Lists) (name : List ℕ) (items : List WorldItem) (e : Error) → b ≡ no_lists
-    → ((naming : Naming) → Fails (HasWorldItem (setting_of naming setting) (scope_of naming g root)) (WorldItemBroken (setting_of naming setting) (scope_of naming g root) (of_world name) e) (body_in naming g b) items)
-    → (naming : Naming) → WorldBroken (setting_of naming setting) (scope_of naming g root) name (declared_count g) items e
-items_broken setting g root b name items e empty h naming =
-    inl (subst (λ (l : Lists). Fails (HasWorldItem (setting_of naming setting) (scope_of naming g root)) (WorldItemBroken (setting_of naming setting) (scope_of naming g root) (of_world name) e) (body_in naming g l) items) empty (h naming))
+pub items_broken : (context : Context) (g : Parts) (root : Named ItemKind) (b : Lists) (name : List ℕ) (items : List WorldItem) (e : Error) → b ≡ no_lists
+    → ((naming : Naming) → Fails (HasWorldItem (context_of naming context) (scope_of naming g root)) (WorldItemBroken (context_of naming context) (scope_of naming g root) (of_world name) e) (body_in naming g b) items)
+    → (naming : Naming) → WorldBroken (context_of naming context) (scope_of naming g root) name (declared_count g) items e
+items_broken context g root b name items e empty h naming =
+    inl (subst (λ (l : Lists). Fails (HasWorldItem (context_of naming context) (scope_of naming g root)) (WorldItemBroken (context_of naming context) (scope_of naming g root) (of_world name) e) (body_in naming g l) items) empty (h naming))
 
 -- an include is broken
-pub includes_broken : (setting : Setting) (old mid : Parts) (root : Named ItemKind) (b c : Lists) (name : List ℕ) (items : List WorldItem) (e : Error) → b ≡ no_lists → ItemsNamed old.types root
-    → WorldItemsGo setting old mid root b c items
-    → ((naming : Naming) → Fails (HasInclude (setting_of naming setting) (scope_of naming mid root)) (IncludeBroken (setting_of naming setting) (scope_of naming mid root) name e) (body_in naming mid c) (includes_of items))
-    → (naming : Naming) → WorldBroken (setting_of naming setting) (scope_of naming old root) name (declared_count old) items e
-includes_broken setting old mid root b c name items e empty named p h naming = inr (
+pub includes_broken : (context : Context) (old mid : Parts) (root : Named ItemKind) (b c : Lists) (name : List ℕ) (items : List WorldItem) (e : Error) → b ≡ no_lists → ItemsNamed old.types root
+    → WorldItemSteps context old mid root b c items
+    → ((naming : Naming) → Fails (HasInclude (context_of naming context) (scope_of naming mid root)) (IncludeBroken (context_of naming context) (scope_of naming mid root) name e) (body_in naming mid c) (includes_of items))
+    → (naming : Naming) → WorldBroken (context_of naming context) (scope_of naming old root) name (declared_count old) items e
+includes_broken context old mid root b c name items e empty named p h naming = inr (
   body_in naming mid c,
-  subst (λ (l : Lists). Steps (HasWorldItem (setting_of naming setting) (scope_of naming old root)) (body_in naming old l) items (body_in naming mid c)) empty (p.goes naming),
-  subst (λ s. Fails (HasInclude (setting_of naming setting) s) (IncludeBroken (setting_of naming setting) s name e) (body_in naming mid c) (includes_of items)) (scope_expanded old mid root naming p.grows named) (h naming),
+  subst (λ (l : Lists). Steps (HasWorldItem (context_of naming context) (scope_of naming old root)) (body_in naming old l) items (body_in naming mid c)) empty (p.goes naming),
+  subst (λ s. Fails (HasInclude (context_of naming context) s) (IncludeBroken (context_of naming context) s name e) (body_in naming mid c) (includes_of items)) (scope_expanded old mid root naming p.grows named) (h naming),
 )

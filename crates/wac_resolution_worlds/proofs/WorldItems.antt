@@ -34,9 +34,9 @@ use Rattle.wac_resolution_rules.specs.Worlds.{id_or_empty, HasInstance, HasExter
 use Rattle.wac_resolution_state.specs.Bindings.{values_of, places_of}
 use Rattle.wac_resolution_state.specs.Named.{scope_of, KindIs}
 use Rattle.wac_resolution_state.proofs.Grown.{grows_self}
-use Rattle.wac_resolution_paths.specs.declared.setting.Setting.{Setting}
-use Rattle.wac_resolution_paths.specs.Expands.{Expands, HoldsHanded, Found}
-use Rattle.wac_resolution_paths.specs.Setting.{packages_in, setting_of}
+use Rattle.wac_resolution_paths.specs.declared.context.Context.{Context}
+use Rattle.wac_resolution_paths.specs.Expands.{Expands, AllSupplied, Found}
+use Rattle.wac_resolution_paths.specs.Context.{packages_in, context_of}
 use Rattle.wac_resolution_paths.proofs.Expanding.{expands_self, grows_expands, handed_grown}
 use Rattle.wac_resolution_bodies.specs.Lists.{Lists, kinds_of, with_kind}
 use Rattle.wac_resolution_bodies.specs.Bodies.{body_in, IsBody}
@@ -45,7 +45,7 @@ use Rattle.wac_resolution_worlds.specs.UseStatements.{BodyExpands}
 use Rattle.wac_resolution_worlds.specs.Instances.{IsInterfaceKind}
 use Rattle.wac_resolution_worlds.specs.Made.{InterfaceMade}
 use Rattle.wac_resolution_worlds.specs.Referred.{NewFunc, ExternNamed}
-use Rattle.wac_resolution_worlds.specs.WorldItems.{InstanceGoes, ExternMade, IdentGoes, ExternGoes}
+use Rattle.wac_resolution_worlds.specs.WorldItems.{InstanceStep, ExternMade, IdentStep, ExternStep}
 use Rattle.wac_resolution_worlds.proofs.Growing.{goes_expand}
 
 same_places : (side : ExternKind) (b : Lists) (name : List ℕ) (k : ItemKind) → places_of (with_kind side b name k).names ≡ places_of b.names ++ []
@@ -56,7 +56,7 @@ same_places sides.Export b name k = (let nil : places_of b.names ++ [] ≡ place
 
 pub instance_goes : (g : Parts) (side : ExternKind) (b c : Lists) (k : ItemKind) (i : InterfaceId) (id : List ℕ)
     → IsBody g.types sides.Import b → Names g.types k → IsInterfaceKind k i → ((naming : Naming) → id ≡ unwrap_or (id_of (entry_means naming g i.0)) [])
-    → IsFresh id (kinds_of side b) → c ≡ with_kind side b id (kinds.Instance i) → InstanceGoes g side k b c
+    → IsFresh id (kinds_of side b) → c ≡ with_kind side b id (kinds.Instance i) → InstanceStep g side k b c
 instance_goes g side b c k i id body named h ids fresh is = record {
   grows = (grows_self g).grows;
   body = subst (IsBody g.types sides.Import) (sym is) (body_with_kind g.types sides.Import side b id (kinds.Instance i) body (h.named g.types named));
@@ -81,47 +81,47 @@ instance_conflicts of g side b k i id name at e h ids conflict naming =
 -- ---- kinds that are given names
 
 -- the type of what a name denotes
-pub named_made : (setting : Setting) (g : Parts) (root names : Named ItemKind) (x : CodeExternType) (id : Ident) (k : ItemKind) → extern_type_of x ≡ ExternType.ident id → HoldsHanded (packages_in setting) g
-    → ItemsNamed g.types names → ItemsNamed g.types root → ExternNamed names root id k → ExternMade setting g g root names (extern_type_of x) k
-named_made setting g root names x id k is held here there h = subst (λ (y : ExternType). ExternMade setting g g root names y k) (sym is) (record {
+pub named_made : (context : Context) (g : Parts) (root names : Named ItemKind) (x : CodeExternType) (id : Ident) (k : ItemKind) → extern_type_of x ≡ ExternType.ident id → AllSupplied (packages_in context) g
+    → ItemsNamed g.types names → ItemsNamed g.types root → ExternNamed names root id k → ExternMade context g g root names (extern_type_of x) k
+named_made context g root names x id k is held here there h = subst (λ (y : ExternType). ExternMade context g g root names y k) (sym is) (record {
   grows = expands_self g;
-  handed = held;
+  supplied = held;
   named = h.named g.types here there;
-  is = λ naming. h.is naming g (setting_of naming setting) (declared_count g);
+  is = λ naming. h.is naming g (context_of naming context) (declared_count g);
 })
 
-pub func_made : (setting : Setting) (old new : Parts) (root names : Named ItemKind) (x : CodeExternType) (f : FuncType) (id : FuncTypeId) → extern_type_of x ≡ ExternType.func f → HoldsHanded (packages_in setting) old
-    → NewFunc old new names f id → ExternMade setting old new root names (extern_type_of x) (kinds.Func id)
-func_made setting old new root names x f id is held h = subst (λ (y : ExternType). ExternMade setting old new root names y (kinds.Func id)) (sym is) (record {
+pub func_made : (context : Context) (old new : Parts) (root names : Named ItemKind) (x : CodeExternType) (f : FuncType) (id : FuncTypeId) → extern_type_of x ≡ ExternType.func f → AllSupplied (packages_in context) old
+    → NewFunc old new names f id → ExternMade context old new root names (extern_type_of x) (kinds.Func id)
+func_made context old new root names x f id is held h = subst (λ (y : ExternType). ExternMade context old new root names y (kinds.Func id)) (sym is) (record {
   grows = grows_expands old new h.grows.grows;
-  handed = handed_grown (packages_in setting) old new h.grows.grows held;
+  supplied = handed_grown (packages_in context) old new h.grows.grows held;
   named = h.named;
   is = λ naming. (entry_means naming new id.0, h.is naming, refl, h.grows.count);
 })
 
 -- an interface that is written in place
-pub inline_made : (setting : Setting) (old new : Parts) (root names : Named ItemKind) (x : CodeExternType) (i : InlineInterface) (id : InterfaceId) → extern_type_of x ≡ ExternType.interface i
-    → InterfaceMade setting old new root None i.items id → ExternMade setting old new root names (extern_type_of x) (kinds.Instance id)
-inline_made setting old new root names x i id is h = subst (λ (y : ExternType). ExternMade setting old new root names y (kinds.Instance id)) (sym is) (record {
+pub inline_made : (context : Context) (old new : Parts) (root names : Named ItemKind) (x : CodeExternType) (i : InlineInterface) (id : InterfaceId) → extern_type_of x ≡ ExternType.interface i
+    → InterfaceMade context old new root None i.items id → ExternMade context old new root names (extern_type_of x) (kinds.Instance id)
+inline_made context old new root names x i id is h = subst (λ (y : ExternType). ExternMade context old new root names y (kinds.Instance id)) (sym is) (record {
   grows = h.grows;
-  handed = h.handed;
+  supplied = h.supplied;
   named = h.named;
   is = λ naming. (entry_of (means naming new (kinds.Instance id)), h.is naming, refl);
 })
 
-pub extern_breaks : (setting : Setting) (g : Parts) (root names : Named ItemKind) (x : CodeExternType) (y : ExternType) (e : Error) → extern_type_of x ≡ y
-    → ((naming : Naming) → ExternTypeBroken (setting_of naming setting) (scope_of naming g root) (scope_of naming g names) (declared_count g) y e)
-    → (naming : Naming) → ExternTypeBroken (setting_of naming setting) (scope_of naming g root) (scope_of naming g names) (declared_count g) (extern_type_of x) e
-extern_breaks setting g root names x y e is h naming = subst (λ (z : ExternType). ExternTypeBroken (setting_of naming setting) (scope_of naming g root) (scope_of naming g names) (declared_count g) z e) (sym is) (h naming)
+pub extern_breaks : (context : Context) (g : Parts) (root names : Named ItemKind) (x : CodeExternType) (y : ExternType) (e : Error) → extern_type_of x ≡ y
+    → ((naming : Naming) → ExternTypeBroken (context_of naming context) (scope_of naming g root) (scope_of naming g names) (declared_count g) y e)
+    → (naming : Naming) → ExternTypeBroken (context_of naming context) (scope_of naming g root) (scope_of naming g names) (declared_count g) (extern_type_of x) e
+extern_breaks context g root names x y e is h naming = subst (λ (z : ExternType). ExternTypeBroken (context_of naming context) (scope_of naming g root) (scope_of naming g names) (declared_count g) z e) (sym is) (h naming)
 
 -- an import or export of a kind that was made
 pub kind_goes : (packages : List (Key × PackageParts)) (side : ExternKind) (old new : Parts) (b c : Lists) (name : List ℕ) (k : ItemKind) (rule : Naming → Body → Body → Type 0)
-    → IsBody old.types sides.Import b → Expands old new → HoldsHanded packages new → Names new.types k → c ≡ with_kind side b name k
+    → IsBody old.types sides.Import b → Expands old new → AllSupplied packages new → Names new.types k → c ≡ with_kind side b name k
     → ((naming : Naming) (after : Body) → after ≡ with_extern side (with_count (body_in naming old b) (declared_count new)) name (means naming new k) → rule naming (body_in naming old b) after)
     → BodyExpands packages sides.Import old new b c [] rule
 kind_goes packages side old new b c name k rule body grows held named is follows = record {
   grows = grows;
-  handed = held;
+  supplied = held;
   body = subst (IsBody new.types sides.Import) (sym is) (body_with_kind new.types sides.Import side b name k (body_still old.types new.types sides.Import b grows.named body) named);
   places = ap (λ (l : Lists). places_of l.names) is ∙ same_places side b name k;
   goes = λ naming.
@@ -130,10 +130,10 @@ kind_goes packages side old new b c name k rule body grows held named is follows
       (ap (body_in naming new) is ∙ means_with_kind naming new side b name k ∙ ap (λ (l : Body). with_extern side l name (means naming new k)) kept);
 }
 
-pub named_goes : (setting : Setting) (side : ExternKind) (old new : Parts) (root : Named ItemKind) (b c : Lists) (x : NamedWorldItem) (k : ItemKind)
-    → IsBody old.types sides.Import b → IsFresh x.id.string (kinds_of side b) → ExternMade setting old new root (values_of b.names) x.ty k → c ≡ with_kind side b x.id.string k → ExternGoes setting side old new root b c (WorldItemPath.named x)
-named_goes setting side old new root b c x k body fresh made is =
-    kind_goes (packages_in setting) side old new b c x.id.string k (λ naming before after. HasExtern (setting_of naming setting) (scope_of naming old root) side before (WorldItemPath.named x) after) body made.grows made.handed made.named is
+pub named_goes : (context : Context) (side : ExternKind) (old new : Parts) (root : Named ItemKind) (b c : Lists) (x : NamedWorldItem) (k : ItemKind)
+    → IsBody old.types sides.Import b → IsFresh x.id.string (kinds_of side b) → ExternMade context old new root (values_of b.names) x.ty k → c ≡ with_kind side b x.id.string k → ExternStep context side old new root b c (WorldItemPath.named x)
+named_goes context side old new root b c x k body fresh made is =
+    kind_goes (packages_in context) side old new b c x.id.string k (λ naming before after. HasExtern (context_of naming context) (scope_of naming old root) side before (WorldItemPath.named x) after) body made.grows made.supplied made.named is
     (λ naming after same. (extern_fresh naming old side b x.id.string fresh, (means naming new k, declared_count new, made.is naming, same)))
 
 -- ---- kinds that are found
@@ -145,49 +145,49 @@ body_found packages old new holds b k body h naming = body_kept naming old new s
 pub body_there : (packages : List (Key × PackageParts)) (old new : Parts) (holds : Naming → Meaning → Type 0) (b : Lists) (k : ItemKind) → IsBody old.types sides.Import b → Found packages old new holds k → IsBody new.types sides.Import b
 body_there packages old new holds b k body h = body_still old.types new.types sides.Import b h.grows.named body
 
-pub path_goes : (setting : Setting) (side : ExternKind) (old new : Parts) (root : Named ItemKind) (b c : Lists) (p : PackagePath) (k : ItemKind)
-    → IsBody old.types sides.Import b → Found (packages_in setting) old new (λ naming m. rules.LeadsTo (setting_of naming setting) (scope_of naming old root) p m) k → InstanceGoes new side k b c → ExternGoes setting side old new root b c (WorldItemPath.path p)
-path_goes setting side old new root b c p k body found h = record {
+pub path_goes : (context : Context) (side : ExternKind) (old new : Parts) (root : Named ItemKind) (b c : Lists) (p : PackagePath) (k : ItemKind)
+    → IsBody old.types sides.Import b → Found (packages_in context) old new (λ naming m. rules.LeadsTo (context_of naming context) (scope_of naming old root) p m) k → InstanceStep new side k b c → ExternStep context side old new root b c (WorldItemPath.path p)
+path_goes context side old new root b c p k body found h = record {
   grows = found.grows;
-  handed = found.handed;
+  supplied = found.supplied;
   body = h.body;
   places = h.places;
   goes = λ naming. (
     means naming new k,
     found.is naming,
-    subst (λ (before : Body). HasInstance side before (means naming new k) (body_in naming new c)) (body_found (packages_in setting) old new _ b k body found naming) (h.goes naming),
+    subst (λ (before : Body). HasInstance side before (means naming new k) (body_in naming new c)) (body_found (packages_in context) old new _ b k body found naming) (h.goes naming),
   );
 }
 
-pub path_breaks : (setting : Setting) (of : Owner) (side : ExternKind) (old new : Parts) (root : Named ItemKind) (b : Lists) (p : PackagePath) (k : ItemKind) (e : Error)
-    → IsBody old.types sides.Import b → Found (packages_in setting) old new (λ naming m. rules.LeadsTo (setting_of naming setting) (scope_of naming old root) p m) k
+pub path_breaks : (context : Context) (of : Owner) (side : ExternKind) (old new : Parts) (root : Named ItemKind) (b : Lists) (p : PackagePath) (k : ItemKind) (e : Error)
+    → IsBody old.types sides.Import b → Found (packages_in context) old new (λ naming m. rules.LeadsTo (context_of naming context) (scope_of naming old root) p m) k
     → ((naming : Naming) → InstanceBroken of side (body_in naming new b) (means naming new k) p.string p.span e)
-    → (naming : Naming) → ExternBroken (setting_of naming setting) (scope_of naming old root) of side (body_in naming old b) (WorldItemPath.path p) e
-path_breaks setting of side old new root b p k e body found h naming = inr (
+    → (naming : Naming) → ExternBroken (context_of naming context) (scope_of naming old root) of side (body_in naming old b) (WorldItemPath.path p) e
+path_breaks context of side old new root b p k e body found h naming = inr (
   means naming new k,
   found.is naming,
-  subst (λ (before : Body). InstanceBroken of side before (means naming new k) p.string p.span e) (body_found (packages_in setting) old new _ b k body found naming) (h naming),
+  subst (λ (before : Body). InstanceBroken of side before (means naming new k) p.string p.span e) (body_found (packages_in context) old new _ b k body found naming) (h naming),
 )
 
-pub ident_goes : (side : ExternKind) (g : Parts) (root : Named ItemKind) (b c : Lists) (x : Ident) (k : ItemKind) → KindIs root x k → InstanceGoes g side k b c → IdentGoes side g root b c x
+pub ident_goes : (side : ExternKind) (g : Parts) (root : Named ItemKind) (b c : Lists) (x : Ident) (k : ItemKind) → KindIs root x k → InstanceStep g side k b c → IdentStep side g root b c x
 ident_goes side g root b c x k is h = record {
   grows = h.grows;
   body = h.body;
   places = h.places;
-  goes = λ naming setting. (means naming g k, is.is naming g, h.goes naming);
+  goes = λ naming context. (means naming g k, is.is naming g, h.goes naming);
 }
 
 -- ---- either
 
-pub ident_item_goes : (setting : Setting) (side : ExternKind) (g : Parts) (root : Named ItemKind) (b c : Lists) (x : CodeWorldItemPath) (id : Ident) (r : Result (Unit {0}) CodeError) → world_item_path_of x ≡ WorldItemPath.ident id → HoldsHanded (packages_in setting) g
-    → OnOk r (IdentGoes side g root b c id) → OnOk r (ExternGoes setting side g g root b c (world_item_path_of x))
-ident_item_goes setting side g root b c x id r is held h =
-    subst (λ (y : WorldItemPath). OnOk r (ExternGoes setting side g g root b c y)) (sym is)
-    (OnOk-map r _ (ExternGoes setting side g g root b c (WorldItemPath.ident id)) (goes_expand (packages_in setting) sides.Import g g b c [] _ _ (λ naming before after p. p (setting_of naming setting)) held) h)
+pub ident_item_goes : (context : Context) (side : ExternKind) (g : Parts) (root : Named ItemKind) (b c : Lists) (x : CodeWorldItemPath) (id : Ident) (r : Result (Unit {0}) CodeError) → world_item_path_of x ≡ WorldItemPath.ident id → AllSupplied (packages_in context) g
+    → OnOk r (IdentStep side g root b c id) → OnOk r (ExternStep context side g g root b c (world_item_path_of x))
+ident_item_goes context side g root b c x id r is held h =
+    subst (λ (y : WorldItemPath). OnOk r (ExternStep context side g g root b c y)) (sym is)
+    (OnOk-map r _ (ExternStep context side g g root b c (WorldItemPath.ident id)) (goes_expand (packages_in context) sides.Import g g b c [] _ _ (λ naming before after p. p (context_of naming context)) held) h)
 
-pub ident_item_breaks : (setting : Setting) (of : Owner) (side : ExternKind) (g : Parts) (root : Named ItemKind) (b : Lists) (x : CodeWorldItemPath) (id : Ident) (r : Result (Unit {0}) CodeError) → world_item_path_of x ≡ WorldItemPath.ident id
-    → IfErr r (λ e. (naming : Naming) (s : rules.Setting) → ExternBroken s (scope_of naming g root) of side (body_in naming g b) (WorldItemPath.ident id) (told e))
-    → IfErr r (λ e. (naming : Naming) → ExternBroken (setting_of naming setting) (scope_of naming g root) of side (body_in naming g b) (world_item_path_of x) (told e))
-ident_item_breaks setting of side g root b x id r is h =
-    subst (λ (y : WorldItemPath). IfErr r (λ e. (naming : Naming) → ExternBroken (setting_of naming setting) (scope_of naming g root) of side (body_in naming g b) y (told e))) (sym is)
-    (IfErr-weaker r _ _ (λ e p naming. p naming (setting_of naming setting)) h)
+pub ident_item_breaks : (context : Context) (of : Owner) (side : ExternKind) (g : Parts) (root : Named ItemKind) (b : Lists) (x : CodeWorldItemPath) (id : Ident) (r : Result (Unit {0}) CodeError) → world_item_path_of x ≡ WorldItemPath.ident id
+    → IfErr r (λ e. (naming : Naming) (s : rules.Context) → ExternBroken s (scope_of naming g root) of side (body_in naming g b) (WorldItemPath.ident id) (told e))
+    → IfErr r (λ e. (naming : Naming) → ExternBroken (context_of naming context) (scope_of naming g root) of side (body_in naming g b) (world_item_path_of x) (told e))
+ident_item_breaks context of side g root b x id r is h =
+    subst (λ (y : WorldItemPath). IfErr r (λ e. (naming : Naming) → ExternBroken (context_of naming context) (scope_of naming g root) of side (body_in naming g b) y (told e))) (sym is)
+    (IfErr-weaker r _ _ (λ e p naming. p naming (context_of naming context)) h)

@@ -11,26 +11,26 @@ use Rattle.wac_graph.specs.Means.{declared_count}
 use Rattle.wac_resolution_rules.specs.TypeStatements.{version_part, declared_id}
 use Rattle.wac_resolution_rules.specs.Worlds.{IsInterface, IsWorld}
 use Rattle.wac_resolution_state.specs.Named.{scope_of}
-use Rattle.wac_resolution_paths.specs.declared.setting.Setting.{Setting}
-use Rattle.wac_resolution_paths.specs.Setting.{packages_in, setting_of}
+use Rattle.wac_resolution_paths.specs.declared.context.Context.{Context}
+use Rattle.wac_resolution_paths.specs.Context.{packages_in, context_of}
 use Rattle.wac_resolution_worlds.specs.Made.{KindMade}
 
 -- the id of an interface or world of this name that the document declares
-abbrev pub id_text : Setting → List ℕ → List ℕ
-id_text setting name = setting.own.now ++ codes "/" ++ name ++ version_part (option_map (λ v. v.now) setting.version)
+abbrev pub id_text : Context → List ℕ → List ℕ
+id_text context name = context.own.now ++ codes "/" ++ name ++ version_part (option_map (λ v. v.now) context.version)
 
 -- the kind is a declared interface
-abbrev pub InterfaceDeclared : Setting → Parts → Parts → Named ItemKind → InterfaceDecl → ItemKind → Type 0
-InterfaceDeclared setting old new root d k =
-    KindMade (packages_in setting) old new (λ naming m after. (entry : Meaning)
-    × IsInterface (setting_of naming setting) (scope_of naming old root) (declared_count old)
-    (declared_id (setting_of naming setting) d.id.string) d.items entry after
+abbrev pub InterfaceDeclared : Context → Parts → Parts → Named ItemKind → InterfaceDecl → ItemKind → Type 0
+InterfaceDeclared context old new root d k =
+    KindMade (packages_in context) old new (λ naming m after. (entry : Meaning)
+    × IsInterface (context_of naming context) (scope_of naming old root) (declared_count old)
+    (declared_id (context_of naming context) d.id.string) d.items entry after
     × (m ≡ kind_of an_interface entry)) k
 
 -- the kind is a declared world of this name and these items
-abbrev pub WorldDeclared : Setting → Parts → Parts → Named ItemKind → List ℕ → List WorldItem → ItemKind → Type 0
-WorldDeclared setting old new root name items k =
-    KindMade (packages_in setting) old new (λ naming m after. (entry : Meaning)
-    × IsWorld (setting_of naming setting) (scope_of naming old root) (declared_count old)
-    (declared_id (setting_of naming setting) name) items entry after
+abbrev pub WorldDeclared : Context → Parts → Parts → Named ItemKind → List ℕ → List WorldItem → ItemKind → Type 0
+WorldDeclared context old new root name items k =
+    KindMade (packages_in context) old new (λ naming m after. (entry : Meaning)
+    × IsWorld (context_of naming context) (scope_of naming old root) (declared_count old)
+    (declared_id (context_of naming context) name) items entry after
     × (m ≡ kind_of a_world entry)) k

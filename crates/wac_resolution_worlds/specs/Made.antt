@@ -20,11 +20,11 @@ use Rattle.wac_resolution_rules.specs.Places.{bound_in_interface_item, bound_in_
 use Rattle.wac_resolution_rules.specs.Worlds.{HasInterfaceItem, IsInterface}
 use Rattle.wac_resolution_state.specs.Growth.{AddsInterface}
 use Rattle.wac_resolution_state.specs.Named.{scope_of}
-use Rattle.wac_resolution_paths.specs.declared.setting.Setting.{Setting}
-use Rattle.wac_resolution_paths.specs.Expands.{Expands, HoldsHanded}
-use Rattle.wac_resolution_paths.specs.Setting.{packages_in, setting_of}
+use Rattle.wac_resolution_paths.specs.declared.context.Context.{Context}
+use Rattle.wac_resolution_paths.specs.Expands.{Expands, AllSupplied}
+use Rattle.wac_resolution_paths.specs.Context.{packages_in, context_of}
 use Rattle.wac_resolution_bodies.specs.Lists.{Lists}
-use Rattle.wac_resolution_bodies.specs.Bodies.{body_in, BodyGoes}
+use Rattle.wac_resolution_bodies.specs.Bodies.{body_in, BodyStep}
 use Rattle.wac_resolution_worlds.specs.UseStatements.{BodyExpands}
 
 -- the lists of an empty body
@@ -35,35 +35,35 @@ no_lists = record { names = []; uses = []; imports = []; exports = [] }
 pub record KindMade (packages : List (Key × PackageParts)) (old new : Parts) (holds : Naming → Meaning → ℕ → Type 0)
     (k : ItemKind) : Type 0 where
   pub grows : Expands old new
-  pub handed : HoldsHanded packages new
+  pub supplied : AllSupplied packages new
   pub named : Names new.types k
   pub is : (naming : Naming) → holds naming (means naming new k) (declared_count new)
 
--- what the export of a function resolves to, whatever the setting
-abbrev pub ExportGoes : Parts → Parts → Lists → Lists → InterfaceExport → Type 0
-ExportGoes old new b c x = BodyGoes sides.Export old new b c []
-    (λ naming before after. (setting : rules.Setting) (root : Scope)
-    → HasInterfaceItem setting root before (InterfaceItem.interface_export x) after)
+-- what the export of a function resolves to, whatever the context
+abbrev pub FuncExportStep : Parts → Parts → Lists → Lists → InterfaceExport → Type 0
+FuncExportStep old new b c x = BodyStep sides.Export old new b c []
+    (λ naming before after. (context : rules.Context) (root : Scope)
+    → HasInterfaceItem context root before (InterfaceItem.interface_export x) after)
 
 -- what an item of an interface resolves to
-abbrev pub InterfaceItemGoes : Setting → Parts → Parts → Named ItemKind → Lists → Lists → InterfaceItem → Type 0
-InterfaceItemGoes setting old new root b c x =
-    BodyExpands (packages_in setting) sides.Export old new b c (bound_in_interface_item x)
-    (λ naming before after. HasInterfaceItem (setting_of naming setting) (scope_of naming old root) before x after)
+abbrev pub InterfaceItemStep : Context → Parts → Parts → Named ItemKind → Lists → Lists → InterfaceItem → Type 0
+InterfaceItemStep context old new root b c x =
+    BodyExpands (packages_in context) sides.Export old new b c (bound_in_interface_item x)
+    (λ naming before after. HasInterfaceItem (context_of naming context) (scope_of naming old root) before x after)
 
 -- items in order
-abbrev pub InterfaceItemsGo : Setting → Parts → Parts → Named ItemKind → Lists → Lists → List InterfaceItem → Type 0
-InterfaceItemsGo setting old new root b c xs =
-    BodyExpands (packages_in setting) sides.Export old new b c (bound_in_interface xs)
-    (λ naming before after. Steps (HasInterfaceItem (setting_of naming setting) (scope_of naming old root)) before
+abbrev pub InterfaceItemSteps : Context → Parts → Parts → Named ItemKind → Lists → Lists → List InterfaceItem → Type 0
+InterfaceItemSteps context old new root b c xs =
+    BodyExpands (packages_in context) sides.Export old new b c (bound_in_interface xs)
+    (λ naming before after. Steps (HasInterfaceItem (context_of naming context) (scope_of naming old root)) before
     xs after)
 
 -- an interface of items
-abbrev pub InterfaceMade : Setting → Parts → Parts → Named ItemKind → Option (List ℕ) → List InterfaceItem → InterfaceId
+abbrev pub InterfaceMade : Context → Parts → Parts → Named ItemKind → Option (List ℕ) → List InterfaceItem → InterfaceId
     → Type 0
-InterfaceMade setting old new root id items i =
-    KindMade (packages_in setting) old new
-    (λ naming m after. IsInterface (setting_of naming setting) (scope_of naming old root) (declared_count old) id
+InterfaceMade context old new root id items i =
+    KindMade (packages_in context) old new
+    (λ naming m after. IsInterface (context_of naming context) (scope_of naming old root) (declared_count old) id
     items (entry_of m) after) (kinds.Instance i)
 
 -- an interface of this id, with the uses and exports of a body, was added

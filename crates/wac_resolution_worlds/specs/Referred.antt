@@ -12,7 +12,7 @@ use Rattle.wac_graph.specs.Graph.{Parts}
 use Rattle.wac_graph.specs.Means.{means, entry_means}
 use Rattle.wac_graph.specs.Origin.{Naming}
 use Rattle.wac_resolution_errors.specs.Error.{Error, not_func_or_interface}
-use Rattle.wac_resolution_rules.specs.Paths.{Setting}
+use Rattle.wac_resolution_rules.specs.Paths.{Context}
 use Rattle.wac_resolution_rules.specs.Types.{IsFunc}
 use Rattle.wac_resolution_rules.specs.Worlds.{IsFuncRef, HasExternType}
 use Rattle.wac_resolution_types.specs.Funcs.{FuncAdded}
@@ -47,7 +47,7 @@ IsNoExternKind k x e = (naming : Naming) (g : Parts)
 -- in a body, else at root, the identifier denotes a function type or an interface, whose items are of this kind,
 -- whatever the graph is
 pub record ExternNamed (ks root : Named ItemKind) (x : Ident) (k : ItemKind) : Type 0 where
-  pub is : (naming : Naming) (g : Parts) (setting : Setting) (n : ℕ)
-      → HasExternType setting (scope_of naming g root) (scope_of naming g ks) n
+  pub is : (naming : Naming) (g : Parts) (context : Context) (n : ℕ)
+      → HasExternType context (scope_of naming g root) (scope_of naming g ks) n
       (ExternType.ident x) (means naming g k) n
   pub named : (es : List Entry) → ItemsNamed es ks → ItemsNamed es root → Names es k

@@ -21,35 +21,35 @@ use Rattle.wac_resolution_rules.specs.Places.{used_at}
 use Rattle.wac_resolution_rules.specs.Spans.{use_path_name, use_path_span}
 use Rattle.wac_resolution_state.specs.Bindings.{places_of}
 use Rattle.wac_resolution_state.specs.Named.{scope_of}
-use Rattle.wac_resolution_paths.specs.declared.setting.Setting.{Setting}
-use Rattle.wac_resolution_paths.specs.Expands.{Expands, HoldsHanded, Found}
-use Rattle.wac_resolution_paths.specs.Setting.{packages_in, setting_of}
+use Rattle.wac_resolution_paths.specs.declared.context.Context.{Context}
+use Rattle.wac_resolution_paths.specs.Expands.{Expands, AllSupplied, Found}
+use Rattle.wac_resolution_paths.specs.Context.{packages_in, context_of}
 use Rattle.wac_resolution_bodies.specs.Lists.{Lists}
 use Rattle.wac_resolution_bodies.specs.Bodies.{body_in, IsBody}
 
 -- the path or identifier names this interface
-abbrev pub IsInterface : Setting → Parts → Parts → Named ItemKind → UsePath → InterfaceId → Type 0
-IsInterface setting old new root used i = Found (packages_in setting) old new
-    (λ naming m. rules.UseNames (setting_of naming setting) (scope_of naming old root) used m)
+abbrev pub IsInterface : Context → Parts → Parts → Named ItemKind → UsePath → InterfaceId → Type 0
+IsInterface context old new root used i = Found (packages_in context) old new
+    (λ naming m. rules.UseNames (context_of naming context) (scope_of naming old root) used m)
     (kinds.Ty (types.Interface i))
 
 -- it names none
-abbrev pub IsNoneNamed : rules.Setting → Scope → UsePath → Error → Type 0
-IsNoneNamed setting root used e = UsePathBroken setting root used e
-    ⊎ ((k : Meaning) × rules.UseNames setting root used k × IsNoInterface k (use_path_name used) (use_path_span used) e)
+abbrev pub IsNoneNamed : rules.Context → Scope → UsePath → Error → Type 0
+IsNoneNamed context root used e = UsePathBroken context root used e
+    ⊎ ((k : Meaning) × rules.UseNames context root used k × IsNoInterface k (use_path_name used) (use_path_span used) e)
 
 -- the graph got more types and perhaps more packages, and the body is another one: these names were bound, and this
 -- holds of what both bodies mean
 pub record BodyExpands (packages : List (Key × PackageParts)) (side : ExternKind) (old new : Parts) (b c : Lists)
     (bound : Named Span) (holds : Naming → Body → Body → Type 0) : Type 0 where
   pub grows : Expands old new
-  pub handed : HoldsHanded packages new
+  pub supplied : AllSupplied packages new
   pub body : IsBody new.types side c
   pub places : places_of c.names ≡ places_of b.names ++ bound
   pub goes : (naming : Naming) → holds naming (body_in naming old b) (body_in naming new c)
 
 -- what a use resolves to
-abbrev pub StatementGoes : Setting → ExternKind → Parts → Parts → Named ItemKind → Lists → Lists → Use → Type 0
-StatementGoes setting side old new root b c u =
-    BodyExpands (packages_in setting) side old new b c (used_at u.items)
-    (λ naming before after. HasUse (setting_of naming setting) (scope_of naming old root) side before u after)
+abbrev pub UseStatementStep : Context → ExternKind → Parts → Parts → Named ItemKind → Lists → Lists → Use → Type 0
+UseStatementStep context side old new root b c u =
+    BodyExpands (packages_in context) side old new b c (used_at u.items)
+    (λ naming before after. HasUse (context_of naming context) (scope_of naming old root) side before u after)

@@ -14,7 +14,7 @@ use Rattle.wac_graph.specs.Origin.{Naming}
 use Rattle.wac_resolution_rules.specs.Bodies.{used_as, UsesItem}
 use Rattle.wac_resolution_rules.specs.Places.{at_ident, used_at}
 use Rattle.wac_resolution_bodies.specs.Lists.{Lists}
-use Rattle.wac_resolution_bodies.specs.Bodies.{BodyGoes}
+use Rattle.wac_resolution_bodies.specs.Bodies.{BodyStep}
 
 -- the interface exports this kind under the name
 pub record IsThere (g : Parts) (i : InterfaceId) (x : UseItem) (k : ItemKind) : Type 0 where
@@ -27,11 +27,11 @@ pub record IsUsed (g : Parts) (i : InterfaceId) (x : UseItem) (k : ItemKind) : T
   pub usable : (naming : Naming) → IsA is_resource_or_value_form (means naming g k)
 
 -- one used type: the graph stays
-abbrev pub UseGoes : ExternKind → Parts → InterfaceId → Lists → Lists → UseItem → Type 0
-UseGoes side g i b c x = BodyGoes side g g b c (at_ident (used_as x) ∷ [])
+abbrev pub UseStep : ExternKind → Parts → InterfaceId → Lists → Lists → UseItem → Type 0
+UseStep side g i b c x = BodyStep side g g b c (at_ident (used_as x) ∷ [])
     (λ naming before after. UsesItem side (means naming g (kinds.Instance i)) before x after)
 
 -- used types in order
-abbrev pub UsesGo : ExternKind → Parts → InterfaceId → Lists → Lists → List UseItem → Type 0
-UsesGo side g i b c xs = BodyGoes side g g b c (used_at xs)
+abbrev pub UseSteps : ExternKind → Parts → InterfaceId → Lists → Lists → List UseItem → Type 0
+UseSteps side g i b c xs = BodyStep side g g b c (used_at xs)
     (λ naming before after. Steps (UsesItem side (means naming g (kinds.Instance i))) before xs after)

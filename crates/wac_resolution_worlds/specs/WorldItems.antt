@@ -24,53 +24,53 @@ use Rattle.wac_resolution_rules.specs.Worlds.{HasExternType, HasInstance, HasExt
 use Rattle.wac_resolution_state.specs.Bindings.{values_of}
 use Rattle.wac_resolution_state.specs.Growth.{AddsWorld}
 use Rattle.wac_resolution_state.specs.Named.{scope_of}
-use Rattle.wac_resolution_paths.specs.declared.setting.Setting.{Setting}
-use Rattle.wac_resolution_paths.specs.Expands.{Expands, HoldsHanded}
-use Rattle.wac_resolution_paths.specs.Setting.{packages_in, setting_of}
+use Rattle.wac_resolution_paths.specs.declared.context.Context.{Context}
+use Rattle.wac_resolution_paths.specs.Expands.{Expands, AllSupplied}
+use Rattle.wac_resolution_paths.specs.Context.{packages_in, context_of}
 use Rattle.wac_resolution_bodies.specs.Lists.{Lists}
-use Rattle.wac_resolution_bodies.specs.Bodies.{body_in, UsesNamed, BodyGoes}
+use Rattle.wac_resolution_bodies.specs.Bodies.{body_in, UsesNamed, BodyStep}
 use Rattle.wac_resolution_worlds.specs.UseStatements.{BodyExpands}
 use Rattle.wac_resolution_worlds.specs.Made.{KindMade}
 
 -- ---- imports and exports
 
 -- an interface, as an instance under its id
-abbrev pub InstanceGoes : Parts → ExternKind → ItemKind → Lists → Lists → Type 0
-InstanceGoes g side k b c =
-    BodyGoes sides.Import g g b c [] (λ naming before after. HasInstance side before (means naming g k) after)
+abbrev pub InstanceStep : Parts → ExternKind → ItemKind → Lists → Lists → Type 0
+InstanceStep g side k b c =
+    BodyStep sides.Import g g b c [] (λ naming before after. HasInstance side before (means naming g k) after)
 
 -- the kind of an import or export that is given a name
-abbrev pub ExternMade : Setting → Parts → Parts → Named ItemKind → Named ItemKind → ExternType → ItemKind → Type 0
-ExternMade setting old new root names x k =
-    KindMade (packages_in setting) old new
-    (λ naming m after. HasExternType (setting_of naming setting) (scope_of naming old root)
+abbrev pub ExternMade : Context → Parts → Parts → Named ItemKind → Named ItemKind → ExternType → ItemKind → Type 0
+ExternMade context old new root names x k =
+    KindMade (packages_in context) old new
+    (λ naming m after. HasExternType (context_of naming context) (scope_of naming old root)
     (scope_of naming old names) (declared_count old) x m after) k
 
--- what an import or export of what an identifier denotes resolves to, whatever the setting
-abbrev pub IdentGoes : ExternKind → Parts → Named ItemKind → Lists → Lists → Ident → Type 0
-IdentGoes side g root b c x = BodyGoes sides.Import g g b c []
-    (λ naming before after. (setting : rules.Setting)
-    → HasExtern setting (scope_of naming g root) side before (WorldItemPath.ident x) after)
+-- what an import or export of what an identifier denotes resolves to, whatever the context
+abbrev pub IdentStep : ExternKind → Parts → Named ItemKind → Lists → Lists → Ident → Type 0
+IdentStep side g root b c x = BodyStep sides.Import g g b c []
+    (λ naming before after. (context : rules.Context)
+    → HasExtern context (scope_of naming g root) side before (WorldItemPath.ident x) after)
 
 -- what an import or export resolves to
-abbrev pub ExternGoes : Setting → ExternKind → Parts → Parts → Named ItemKind → Lists → Lists → WorldItemPath → Type 0
-ExternGoes setting side old new root b c x =
-    BodyExpands (packages_in setting) sides.Import old new b c []
-    (λ naming before after. HasExtern (setting_of naming setting) (scope_of naming old root) side before x after)
+abbrev pub ExternStep : Context → ExternKind → Parts → Parts → Named ItemKind → Lists → Lists → WorldItemPath → Type 0
+ExternStep context side old new root b c x =
+    BodyExpands (packages_in context) sides.Import old new b c []
+    (λ naming before after. HasExtern (context_of naming context) (scope_of naming old root) side before x after)
 
 -- ---- items
 
 -- what an item of a world resolves to
-abbrev pub WorldItemGoes : Setting → Parts → Parts → Named ItemKind → Lists → Lists → WorldItem → Type 0
-WorldItemGoes setting old new root b c x =
-    BodyExpands (packages_in setting) sides.Import old new b c (bound_in_world_item x)
-    (λ naming before after. HasWorldItem (setting_of naming setting) (scope_of naming old root) before x after)
+abbrev pub WorldItemStep : Context → Parts → Parts → Named ItemKind → Lists → Lists → WorldItem → Type 0
+WorldItemStep context old new root b c x =
+    BodyExpands (packages_in context) sides.Import old new b c (bound_in_world_item x)
+    (λ naming before after. HasWorldItem (context_of naming context) (scope_of naming old root) before x after)
 
 -- items in order
-abbrev pub WorldItemsGo : Setting → Parts → Parts → Named ItemKind → Lists → Lists → List WorldItem → Type 0
-WorldItemsGo setting old new root b c xs =
-    BodyExpands (packages_in setting) sides.Import old new b c (bound_in_world xs)
-    (λ naming before after. Steps (HasWorldItem (setting_of naming setting) (scope_of naming old root)) before xs
+abbrev pub WorldItemSteps : Context → Parts → Parts → Named ItemKind → Lists → Lists → List WorldItem → Type 0
+WorldItemSteps context old new root b c xs =
+    BodyExpands (packages_in context) sides.Import old new b c (bound_in_world xs)
+    (λ naming before after. Steps (HasWorldItem (context_of naming context) (scope_of naming old root)) before xs
     after)
 
 -- ---- includes
@@ -86,19 +86,19 @@ pub record AreNamed (es : List Entry) (b : Lists) : Type 0 where
 pub record BodyIncludes (packages : List (Key × PackageParts)) (old new : Parts) (b c : Lists)
     (holds : Naming → Body → Body → Type 0) : Type 0 where
   pub grows : Expands old new
-  pub handed : HoldsHanded packages new
+  pub supplied : AllSupplied packages new
   pub named : AreNamed new.types c
   pub goes : (naming : Naming) → holds naming (body_in naming old b) (body_in naming new c)
 
 -- what includes resolve to, in order
-abbrev pub IncludesGo : Setting → Parts → Parts → Named ItemKind → Lists → Lists → List WorldInclude → Type 0
-IncludesGo setting old new root b c xs = BodyIncludes (packages_in setting) old new b c
-    (λ naming before after. Steps (HasInclude (setting_of naming setting) (scope_of naming old root)) before xs after)
+abbrev pub IncludeSteps : Context → Parts → Parts → Named ItemKind → Lists → Lists → List WorldInclude → Type 0
+IncludeSteps context old new root b c xs = BodyIncludes (packages_in context) old new b c
+    (λ naming before after. Steps (HasInclude (context_of naming context) (scope_of naming old root)) before xs after)
 
 -- what an include resolves to
-abbrev pub IncludeGoes : Setting → Parts → Parts → Named ItemKind → Lists → Lists → WorldInclude → Type 0
-IncludeGoes setting old new root b c x = BodyIncludes (packages_in setting) old new b c
-    (λ naming before after. HasInclude (setting_of naming setting) (scope_of naming old root) before x after)
+abbrev pub IncludeStep : Context → Parts → Parts → Named ItemKind → Lists → Lists → WorldInclude → Type 0
+IncludeStep context old new root b c x = BodyIncludes (packages_in context) old new b c
+    (λ naming before after. HasInclude (context_of naming context) (scope_of naming old root) before x after)
 
 -- ---- worlds
 
@@ -109,8 +109,8 @@ WorldOf old new id b w = AddsWorld old new
     w
 
 -- a world of items
-abbrev pub WorldMade : Setting → Parts → Parts → Named ItemKind → Option (List ℕ) → List WorldItem → WorldId → Type 0
-WorldMade setting old new root id items w =
-    KindMade (packages_in setting) old new
-    (λ naming m after. IsWorld (setting_of naming setting) (scope_of naming old root) (declared_count old) id items
+abbrev pub WorldMade : Context → Parts → Parts → Named ItemKind → Option (List ℕ) → List WorldItem → WorldId → Type 0
+WorldMade context old new root id items w =
+    KindMade (packages_in context) old new
+    (λ naming m after. IsWorld (context_of naming context) (scope_of naming old root) (declared_count old) id items
     (entry_of m) after) (kinds.Component w)

@@ -9,8 +9,8 @@ ghost use Rattle.wac_resolution_rules.specs.Errors.{ErrorSays};
 ghost use Rattle.wac_resolution_rules.specs.TypeStatements.{version_part};
 ghost use Rattle.wac_resolution_state.specs.Bindings.{values_of};
 ghost use Rattle.wac_resolution_state.specs.Named.{scope_of};
-ghost use Rattle.wac_resolution_paths.specs.Expands.{HoldsHanded};
-ghost use Rattle.wac_resolution_paths.specs.Setting.{packages_in, setting_of};
+ghost use Rattle.wac_resolution_paths.specs.Expands.{AllSupplied};
+ghost use Rattle.wac_resolution_paths.specs.Context.{packages_in, context_of};
 ghost use Rattle.wac_resolution_worlds.specs.Declared.{id_text, InterfaceDeclared, WorldDeclared};
 
 use crate::interfaces::interface;
@@ -19,7 +19,7 @@ use std::alloc::{AllocError, Global};
 use wac_ast_worlds::{InterfaceDecl, WorldDecl, WorldItem};
 use wac_graph::{ItemKind, Type};
 use wac_resolution_errors::Error;
-use wac_resolution_paths::Setting;
+use wac_resolution_paths::Context;
 use wac_resolution_state::{Names, State};
 
 /// Adds a version after `@`, if there is one.
@@ -38,34 +38,34 @@ fn push_version(text: &mut String, version: Option<&str>) -> Result<(), AllocErr
 }
 
 /// The id of an interface or world that the document declares.
-fn declared_id(alloc: Global, setting: &Setting<'_>, name: &str) -> Result<String, AllocError>
-    ensures { IfOk result (λ id. string_bytes id ≡ id_text setting.now name.now) }
+fn declared_id(alloc: Global, context: &Context<'_>, name: &str) -> Result<String, AllocError>
+    ensures { IfOk result (λ id. string_bytes id ≡ id_text context.now name.now) }
 {
-    let mut text = String::from_str(alloc, setting.own)?;
+    let mut text = String::from_str(alloc, context.own)?;
     text.push_str("/")?;
     text.push_str(name)?;
-    push_version(&mut text, setting.version)?;
+    push_version(&mut text, context.version)?;
     Ok(text)
 }
 
 /// The kind of a declared interface.
 pub fn interface_decl(
     state: &mut State,
-    setting: &Setting<'_>,
+    context: &Context<'_>,
     root: &Names<'_, ItemKind>,
     decl: &InterfaceDecl<'_>,
 ) -> Result<ItemKind, Error>
     requires root { ItemsNamed state.old.graph.types (values_of root.now) }
-    requires handed { HoldsHanded (packages_in setting.now) state.old.graph }
-    ensures ok { IfOk result (λ k. InterfaceDeclared setting.now state.old.graph state.new.graph (values_of root.now)
+    requires supplied { AllSupplied (packages_in context.now) state.old.graph }
+    ensures ok { IfOk result (λ k. InterfaceDeclared context.now state.old.graph state.new.graph (values_of root.now)
         (interface_decl_of decl.now) k) }
     ensures err { ErrorSays result (λ e. (naming : Naming)
-        → InterfaceBroken (setting_of naming setting.now) (scope_of naming state.old.graph (values_of root.now))
+        → InterfaceBroken (context_of naming context.now) (scope_of naming state.old.graph (values_of root.now))
         (Some decl.now.id.string.now) (declared_count state.old.graph) (interface_decl_of decl.now).items e) }
 {
-    let id = declared_id(state.alloc, setting, decl.id.string)?;
+    let id = declared_id(state.alloc, context, decl.id.string)?;
     let name = Some(decl.id.string);
-    let declared = interface(state, setting, root, Some(id), name, &decl.items)?;
+    let declared = interface(state, context, root, Some(id), name, &decl.items)?;
     Ok(ItemKind::Ty(Type::Interface(declared)))
 }
 
@@ -79,21 +79,21 @@ fn items_of<'x, 'a>(decl: &'x WorldDecl<'a>) -> &'x [WorldItem<'a>]
 /// The kind of a declared world of a name and items.
 fn world_of(
     state: &mut State,
-    setting: &Setting<'_>,
+    context: &Context<'_>,
     root: &Names<'_, ItemKind>,
     name: &str,
     items: &[WorldItem<'_>],
 ) -> Result<ItemKind, Error>
     requires root { ItemsNamed state.old.graph.types (values_of root.now) }
-    requires handed { HoldsHanded (packages_in setting.now) state.old.graph }
-    ensures ok { IfOk result (λ k. WorldDeclared setting.now state.old.graph state.new.graph (values_of root.now)
+    requires supplied { AllSupplied (packages_in context.now) state.old.graph }
+    ensures ok { IfOk result (λ k. WorldDeclared context.now state.old.graph state.new.graph (values_of root.now)
         name.now (map world_item_of items.now) k) }
     ensures err { ErrorSays result (λ e. (naming : Naming)
-        → WorldBroken (setting_of naming setting.now) (scope_of naming state.old.graph (values_of root.now)) name.now
+        → WorldBroken (context_of naming context.now) (scope_of naming state.old.graph (values_of root.now)) name.now
         (declared_count state.old.graph) (map world_item_of items.now) e) }
 {
-    let id = declared_id(state.alloc, setting, name)?;
-    let declared = world(state, setting, root, Some(id), name, items)?;
+    let id = declared_id(state.alloc, context, name)?;
+    let declared = world(state, context, root, Some(id), name, items)?;
     Ok(ItemKind::Ty(Type::World(declared)))
 }
 
@@ -101,16 +101,16 @@ fn world_of(
 pub fn world_decl(
     decl: &WorldDecl<'_>,
     state: &mut State,
-    setting: &Setting<'_>,
+    context: &Context<'_>,
     root: &Names<'_, ItemKind>,
 ) -> Result<ItemKind, Error>
     requires root { ItemsNamed state.old.graph.types (values_of root.now) }
-    requires handed { HoldsHanded (packages_in setting.now) state.old.graph }
-    ensures ok { IfOk result (λ k. WorldDeclared setting.now state.old.graph state.new.graph (values_of root.now)
+    requires supplied { AllSupplied (packages_in context.now) state.old.graph }
+    ensures ok { IfOk result (λ k. WorldDeclared context.now state.old.graph state.new.graph (values_of root.now)
         decl.now.id.string.now (world_decl_of decl.now).items k) }
     ensures err { ErrorSays result (λ e. (naming : Naming)
-        → WorldBroken (setting_of naming setting.now) (scope_of naming state.old.graph (values_of root.now))
+        → WorldBroken (context_of naming context.now) (scope_of naming state.old.graph (values_of root.now))
         decl.now.id.string.now (declared_count state.old.graph) (world_decl_of decl.now).items e) }
 {
-    world_of(state, setting, root, decl.id.string, items_of(decl))
+    world_of(state, context, root, decl.id.string, items_of(decl))
 }

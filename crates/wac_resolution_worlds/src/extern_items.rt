@@ -12,12 +12,12 @@ ghost use Rattle.wac_resolution_rules.specs.Errors.{ErrorSays};
 ghost use Rattle.wac_resolution_rules.specs.Paths as rules;
 ghost use Rattle.wac_resolution_state.specs.Bindings.{values_of};
 ghost use Rattle.wac_resolution_state.specs.Named.{scope_of};
-ghost use Rattle.wac_resolution_paths.specs.Expands.{HoldsHanded};
-ghost use Rattle.wac_resolution_paths.specs.Setting.{packages_in, setting_of};
+ghost use Rattle.wac_resolution_paths.specs.Expands.{AllSupplied};
+ghost use Rattle.wac_resolution_paths.specs.Context.{packages_in, context_of};
 ghost use Rattle.wac_resolution_bodies.specs.Lists.{lists_of};
 ghost use Rattle.wac_resolution_bodies.specs.Bodies.{body_of, IsBody};
 ghost use Rattle.wac_resolution_bodies.specs.Owners.{owner_of};
-ghost use Rattle.wac_resolution_worlds.specs.WorldItems.{ExternMade, IdentGoes, ExternGoes};
+ghost use Rattle.wac_resolution_worlds.specs.WorldItems.{ExternMade, IdentStep, ExternStep};
 
 use crate::externs::named_extern;
 use crate::functions::new_func;
@@ -28,24 +28,24 @@ use wac_ast_worlds::{ExternType, NamedWorldItem, WorldItemPath};
 use wac_graph::{ExternKind, ItemKind};
 use wac_resolution_bodies::{Body, Owner, check_extern};
 use wac_resolution_errors::Error;
-use wac_resolution_paths::{Setting, path};
+use wac_resolution_paths::{Context, path};
 use wac_resolution_state::{Names, State, kind_of};
 
 /// The kind of an import or export that is given a name.
 fn extern_type(
     state: &mut State,
-    setting: &Setting<'_>,
+    context: &Context<'_>,
     root: &Names<'_, ItemKind>,
     names: &Names<'_, ItemKind>,
     ty: &ExternType<'_>,
 ) -> Result<ItemKind, Error>
     requires names { ItemsNamed state.old.graph.types (values_of names.now) }
     requires root { ItemsNamed state.old.graph.types (values_of root.now) }
-    requires handed { HoldsHanded (packages_in setting.now) state.old.graph }
-    ensures ok { IfOk result (λ k. ExternMade setting.now state.old.graph state.new.graph (values_of root.now)
+    requires supplied { AllSupplied (packages_in context.now) state.old.graph }
+    ensures ok { IfOk result (λ k. ExternMade context.now state.old.graph state.new.graph (values_of root.now)
         (values_of names.now) (extern_type_of ty.now) k) }
     ensures err { ErrorSays result (λ e. (naming : Naming)
-        → ExternTypeBroken (setting_of naming setting.now) (scope_of naming state.old.graph (values_of root.now))
+        → ExternTypeBroken (context_of naming context.now) (scope_of naming state.old.graph (values_of root.now))
         (scope_of naming state.old.graph (values_of names.now)) (declared_count state.old.graph)
         (extern_type_of ty.now) e) }
 {
@@ -54,7 +54,7 @@ fn extern_type(
         ExternType::Func(func) => Ok(ItemKind::Func(new_func(state, names, func)?)),
         ExternType::Interface(inline) => Ok(ItemKind::Instance(interface(
             state,
-            setting,
+            context,
             root,
             None,
             None,
@@ -66,7 +66,7 @@ fn extern_type(
 /// Takes an import or export that is given a name: the conflict first, then its type.
 fn named_item(
     state: &mut State,
-    setting: &Setting<'_>,
+    context: &Context<'_>,
     root: &Names<'_, ItemKind>,
     body: &mut Body<'_>,
     owner: &Owner<'_>,
@@ -75,17 +75,17 @@ fn named_item(
 ) -> Result<(), Error>
     requires body { IsBody state.old.graph.types sides.Import (lists_of body.old) }
     requires root { ItemsNamed state.old.graph.types (values_of root.now) }
-    requires handed { HoldsHanded (packages_in setting.now) state.old.graph }
-    ensures ok { OnOk result (ExternGoes setting.now side state.old.graph state.new.graph (values_of root.now)
+    requires supplied { AllSupplied (packages_in context.now) state.old.graph }
+    ensures ok { OnOk result (ExternStep context.now side state.old.graph state.new.graph (values_of root.now)
         (lists_of body.old) (lists_of body.new) (PathTree.named (named_world_item_of item.now))) }
     ensures err { ErrorSays result (λ e. (naming : Naming)
-        → ExternBroken (setting_of naming setting.now) (scope_of naming state.old.graph (values_of root.now))
+        → ExternBroken (context_of naming context.now) (scope_of naming state.old.graph (values_of root.now))
         (owner_of owner.now) side (body_of naming state.old.graph body.old)
         (PathTree.named (named_world_item_of item.now)) e) }
 {
     let id = &item.id;
     check_extern(state.alloc, body, owner, side, id.string, id.span)?;
-    let kind = extern_type(state, setting, root, &body.names, &item.ty)?;
+    let kind = extern_type(state, context, root, &body.names, &item.ty)?;
     body.add(state.alloc, side, id.string, kind)?;
     Ok(())
 }
@@ -93,7 +93,7 @@ fn named_item(
 /// Takes an import or export of what a path resolves to.
 fn path_item(
     state: &mut State,
-    setting: &Setting<'_>,
+    context: &Context<'_>,
     root: &Names<'_, ItemKind>,
     body: &mut Body<'_>,
     owner: &Owner<'_>,
@@ -102,15 +102,15 @@ fn path_item(
 ) -> Result<(), Error>
     requires body { IsBody state.old.graph.types sides.Import (lists_of body.old) }
     requires root { ItemsNamed state.old.graph.types (values_of root.now) }
-    requires handed { HoldsHanded (packages_in setting.now) state.old.graph }
-    ensures ok { OnOk result (ExternGoes setting.now side state.old.graph state.new.graph (values_of root.now)
+    requires supplied { AllSupplied (packages_in context.now) state.old.graph }
+    ensures ok { OnOk result (ExternStep context.now side state.old.graph state.new.graph (values_of root.now)
         (lists_of body.old) (lists_of body.new) (PathTree.path (package_path_of from.now))) }
     ensures err { ErrorSays result (λ e. (naming : Naming)
-        → ExternBroken (setting_of naming setting.now) (scope_of naming state.old.graph (values_of root.now))
+        → ExternBroken (context_of naming context.now) (scope_of naming state.old.graph (values_of root.now))
         (owner_of owner.now) side (body_of naming state.old.graph body.old)
         (PathTree.path (package_path_of from.now)) e) }
 {
-    let kind = path(state, setting, root, from)?;
+    let kind = path(state, context, root, from)?;
     instance(state, body, owner, side, kind, from.string, from.span)?;
     Ok(())
 }
@@ -126,10 +126,10 @@ fn ident_item(
 ) -> Result<(), Error>
     requires body { IsBody state.now.graph.types sides.Import (lists_of body.old) }
     requires root { ItemsNamed state.now.graph.types (values_of root.now) }
-    ensures ok { OnOk result (IdentGoes side state.now.graph (values_of root.now) (lists_of body.old)
+    ensures ok { OnOk result (IdentStep side state.now.graph (values_of root.now) (lists_of body.old)
         (lists_of body.new) (ident_of id.now)) }
-    ensures err { ErrorSays result (λ e. (naming : Naming) (setting : rules.Setting)
-        → ExternBroken setting (scope_of naming state.now.graph (values_of root.now)) (owner_of owner.now) side
+    ensures err { ErrorSays result (λ e. (naming : Naming) (context : rules.Context)
+        → ExternBroken context (scope_of naming state.now.graph (values_of root.now)) (owner_of owner.now) side
         (body_of naming state.now.graph body.old) (PathTree.ident (ident_of id.now)) e) }
 {
     let kind = kind_of(state.alloc, root, id)?;
@@ -140,7 +140,7 @@ fn ident_item(
 /// Takes an import or export.
 pub fn extern_item(
     state: &mut State,
-    setting: &Setting<'_>,
+    context: &Context<'_>,
     root: &Names<'_, ItemKind>,
     body: &mut Body<'_>,
     owner: &Owner<'_>,
@@ -149,16 +149,16 @@ pub fn extern_item(
 ) -> Result<(), Error>
     requires body { IsBody state.old.graph.types sides.Import (lists_of body.old) }
     requires root { ItemsNamed state.old.graph.types (values_of root.now) }
-    requires handed { HoldsHanded (packages_in setting.now) state.old.graph }
-    ensures ok { OnOk result (ExternGoes setting.now side state.old.graph state.new.graph (values_of root.now)
+    requires supplied { AllSupplied (packages_in context.now) state.old.graph }
+    ensures ok { OnOk result (ExternStep context.now side state.old.graph state.new.graph (values_of root.now)
         (lists_of body.old) (lists_of body.new) (world_item_path_of item.now)) }
     ensures err { ErrorSays result (λ e. (naming : Naming)
-        → ExternBroken (setting_of naming setting.now) (scope_of naming state.old.graph (values_of root.now))
+        → ExternBroken (context_of naming context.now) (scope_of naming state.old.graph (values_of root.now))
         (owner_of owner.now) side (body_of naming state.old.graph body.old) (world_item_path_of item.now) e) }
 {
     match item {
-        WorldItemPath::Named(item) => named_item(state, setting, root, body, owner, side, item),
-        WorldItemPath::Package(from) => path_item(state, setting, root, body, owner, side, from),
+        WorldItemPath::Named(item) => named_item(state, context, root, body, owner, side, item),
+        WorldItemPath::Package(from) => path_item(state, context, root, body, owner, side, from),
         WorldItemPath::Ident(id) => ident_item(state, root, body, owner, side, id),
     }
 }

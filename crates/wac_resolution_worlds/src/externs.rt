@@ -5,7 +5,7 @@ ghost use Rattle.wac_graph_types.specs.Scope.{look_up};
 ghost use Rattle.wac_ast_base.specs.Names.{ident_of};
 ghost use Rattle.wac_graph.specs.Graph.{Parts};
 ghost use Rattle.wac_graph.specs.Origin.{Naming};
-ghost use Rattle.wac_resolution_rules.specs.Paths.{Setting};
+ghost use Rattle.wac_resolution_rules.specs.Paths.{Context};
 ghost use Rattle.wac_resolution_rules.specs.BrokenWorlds.{ExternTypeBroken};
 ghost use Rattle.wac_resolution_rules.specs.Errors.{ErrorSays};
 ghost use Rattle.wac_resolution_state.specs.Bindings.{values_of};
@@ -59,8 +59,8 @@ pub fn named_extern(
     id: &Ident<'_>,
 ) -> Result<ItemKind, Error>
     ensures ok { IfOk result (λ k. ExternNamed (values_of names.now) (values_of root.now) (ident_of id.now) k) }
-    ensures err { ErrorSays result (λ e. (naming : Naming) (g : Parts) (setting : Setting) (n : ℕ)
-        → ExternTypeBroken setting (scope_of naming g (values_of root.now)) (scope_of naming g (values_of names.now)) n
+    ensures err { ErrorSays result (λ e. (naming : Naming) (g : Parts) (context : Context) (n : ℕ)
+        → ExternTypeBroken context (scope_of naming g (values_of root.now)) (scope_of naming g (values_of names.now)) n
         (ExternTree.ident (ident_of id.now)) e) }
 {
     match find_in_either(names, root, id.string) {

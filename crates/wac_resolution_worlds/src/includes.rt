@@ -12,11 +12,11 @@ ghost use Rattle.wac_resolution_rules.specs.Includes.{HasInclude};
 ghost use Rattle.wac_resolution_rules.specs.Worlds.{includes_of, include_in as include_of};
 ghost use Rattle.wac_resolution_state.specs.Bindings.{values_of};
 ghost use Rattle.wac_resolution_state.specs.Named.{scope_of};
-ghost use Rattle.wac_resolution_paths.specs.Expands.{HoldsHanded};
-ghost use Rattle.wac_resolution_paths.specs.Setting.{packages_in, setting_of};
+ghost use Rattle.wac_resolution_paths.specs.Expands.{AllSupplied};
+ghost use Rattle.wac_resolution_paths.specs.Context.{packages_in, context_of};
 ghost use Rattle.wac_resolution_bodies.specs.Lists.{lists_of};
 ghost use Rattle.wac_resolution_bodies.specs.Bodies.{body_of};
-ghost use Rattle.wac_resolution_worlds.specs.WorldItems.{AreNamed, IncludeGoes, IncludesGo};
+ghost use Rattle.wac_resolution_worlds.specs.WorldItems.{AreNamed, IncludeStep, IncludeSteps};
 
 use wac_ast_uses::WorldInclude;
 use wac_ast_worlds::WorldItem;
@@ -24,13 +24,13 @@ use wac_graph::ItemKind;
 use wac_resolution_bodies::Body;
 use wac_resolution_errors::Error;
 use wac_resolution_includes::{Inclusion, entries};
-use wac_resolution_paths::{Setting, world_ref};
+use wac_resolution_paths::{Context, world_ref};
 use wac_resolution_state::{Names, State};
 
 /// Takes an include into the world of a name.
 fn include(
     state: &mut State,
-    setting: &Setting<'_>,
+    context: &Context<'_>,
     root: &Names<'_, ItemKind>,
     body: &mut Body<'_>,
     world: &str,
@@ -38,15 +38,15 @@ fn include(
 ) -> Result<(), Error>
     requires body { AreNamed state.old.graph.types (lists_of body.old) }
     requires root { ItemsNamed state.old.graph.types (values_of root.now) }
-    requires handed { HoldsHanded (packages_in setting.now) state.old.graph }
-    ensures ok { OnOk result (IncludeGoes setting.now state.old.graph state.new.graph (values_of root.now)
+    requires supplied { AllSupplied (packages_in context.now) state.old.graph }
+    ensures ok { OnOk result (IncludeStep context.now state.old.graph state.new.graph (values_of root.now)
         (lists_of body.old) (lists_of body.new) (world_include_of include.now)) }
     ensures err { ErrorSays result (λ e. (naming : Naming) (before : List IncludeTree)
-        → IncludeBroken (setting_of naming setting.now) (scope_of naming state.old.graph (values_of root.now)) world.now
+        → IncludeBroken (context_of naming context.now) (scope_of naming state.old.graph (values_of root.now)) world.now
         e (body_of naming state.old.graph body.old) before (world_include_of include.now)) }
 {
     let renamed = entries(state.alloc, &include.with)?;
-    let kind = world_ref(state, setting, root, &include.world)?;
+    let kind = world_ref(state, context, root, &include.world)?;
     let inclusion = Inclusion {
         alloc: state.alloc,
         include,
@@ -75,7 +75,7 @@ fn include_in<'x, 'a>(item: &'x WorldItem<'a>) -> Option<&'x WorldInclude<'a>>
 /// Takes an item of a world, if it is an include.
 fn include_item(
     state: &mut State,
-    setting: &Setting<'_>,
+    context: &Context<'_>,
     root: &Names<'_, ItemKind>,
     body: &mut Body<'_>,
     world: &str,
@@ -83,17 +83,17 @@ fn include_item(
 ) -> Result<(), Error>
     requires body { AreNamed state.old.graph.types (lists_of body.old) }
     requires root { ItemsNamed state.old.graph.types (values_of root.now) }
-    requires handed { HoldsHanded (packages_in setting.now) state.old.graph }
-    ensures ok { OnOk result (IncludesGo setting.now state.old.graph state.new.graph (values_of root.now)
+    requires supplied { AllSupplied (packages_in context.now) state.old.graph }
+    ensures ok { OnOk result (IncludeSteps context.now state.old.graph state.new.graph (values_of root.now)
         (lists_of body.old) (lists_of body.new) (includes_of (world_item_of item.now ∷ []))) }
     ensures err { ErrorSays result (λ e. (naming : Naming) (before : List IncludeTree)
         → (x : IncludeTree) × (include_of (world_item_of item.now) ≡ Some x)
-        × IncludeBroken (setting_of naming setting.now) (scope_of naming state.old.graph (values_of root.now)) world.now
+        × IncludeBroken (context_of naming context.now) (scope_of naming state.old.graph (values_of root.now)) world.now
         e (body_of naming state.old.graph body.old) before x) }
 {
     match include_in(item) {
         Some(clause) => {
-            include(state, setting, root, body, world, clause)?;
+            include(state, context, root, body, world, clause)?;
             Ok(())
         }
         None => Ok(()),
@@ -103,7 +103,7 @@ fn include_item(
 /// Takes the includes among the items of a world, in order.
 pub fn includes(
     state: &mut State,
-    setting: &Setting<'_>,
+    context: &Context<'_>,
     root: &Names<'_, ItemKind>,
     body: &mut Body<'_>,
     world: &str,
@@ -111,16 +111,16 @@ pub fn includes(
 ) -> Result<(), Error>
     requires body { AreNamed state.old.graph.types (lists_of body.old) }
     requires root { ItemsNamed state.old.graph.types (values_of root.now) }
-    requires handed { HoldsHanded (packages_in setting.now) state.old.graph }
-    ensures ok { OnOk result (IncludesGo setting.now state.old.graph state.new.graph (values_of root.now)
+    requires supplied { AllSupplied (packages_in context.now) state.old.graph }
+    ensures ok { OnOk result (IncludeSteps context.now state.old.graph state.new.graph (values_of root.now)
         (lists_of body.old) (lists_of body.new) (includes_of (map world_item_of items.now))) }
     ensures err { ErrorSays result (λ e. (naming : Naming)
-        → Fails (HasInclude (setting_of naming setting.now) (scope_of naming state.old.graph (values_of root.now)))
-        (IncludeBroken (setting_of naming setting.now) (scope_of naming state.old.graph (values_of root.now))
+        → Fails (HasInclude (context_of naming context.now) (scope_of naming state.old.graph (values_of root.now)))
+        (IncludeBroken (context_of naming context.now) (scope_of naming state.old.graph (values_of root.now))
         world.now e) (body_of naming state.old.graph body.old) (includes_of (map world_item_of items.now))) }
 {
     for item in items {
-        include_item(state, setting, root, body, world, item)?;
+        include_item(state, context, root, body, world, item)?;
     }
     Ok(())
 }

@@ -11,7 +11,7 @@ ghost use Rattle.wac_resolution_rules.specs.Errors.{ErrorSays};
 ghost use Rattle.wac_resolution_bodies.specs.Lists.{lists_of};
 ghost use Rattle.wac_resolution_bodies.specs.Bodies.{body_of, IsBody};
 ghost use Rattle.wac_resolution_bodies.specs.Owners.{owner_of};
-ghost use Rattle.wac_resolution_worlds.specs.WorldItems.{InstanceGoes};
+ghost use Rattle.wac_resolution_worlds.specs.WorldItems.{InstanceStep};
 
 use crate::used_interface::interface_of;
 use wac_graph::{CompositionGraph, ExternKind, InterfaceId, ItemKind};
@@ -53,7 +53,7 @@ pub fn instance(
 ) -> Result<(), Error>
     requires body { IsBody state.now.graph.types sides.Import (lists_of body.old) }
     requires kind { Names state.now.graph.types kind }
-    ensures ok { OnOk result (InstanceGoes state.now.graph side kind (lists_of body.old) (lists_of body.new)) }
+    ensures ok { OnOk result (InstanceStep state.now.graph side kind (lists_of body.old) (lists_of body.new)) }
     ensures err { ErrorSays result (λ e. (naming : Naming)
         → InstanceBroken (owner_of owner.now) side (body_of naming state.now.graph body.old)
         (means naming state.now.graph kind) name.now span e) }

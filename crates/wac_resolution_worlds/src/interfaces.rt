@@ -15,12 +15,12 @@ ghost use Rattle.wac_resolution_rules.specs.Places.{bound_in_interface};
 ghost use Rattle.wac_resolution_rules.specs.Worlds.{HasInterfaceItem};
 ghost use Rattle.wac_resolution_state.specs.Bindings.{values_of, places_of};
 ghost use Rattle.wac_resolution_state.specs.Named.{scope_of};
-ghost use Rattle.wac_resolution_paths.specs.Expands.{HoldsHanded};
-ghost use Rattle.wac_resolution_paths.specs.Setting.{packages_in, setting_of};
+ghost use Rattle.wac_resolution_paths.specs.Expands.{AllSupplied};
+ghost use Rattle.wac_resolution_paths.specs.Context.{packages_in, context_of};
 ghost use Rattle.wac_resolution_bodies.specs.Lists.{lists_of};
 ghost use Rattle.wac_resolution_bodies.specs.Bodies.{body_of, IsBody};
 ghost use Rattle.wac_resolution_bodies.specs.Owners.{owner_of};
-ghost use Rattle.wac_resolution_worlds.specs.Made.{no_lists, ExportGoes, InterfaceItemGoes, InterfaceItemsGo, InterfaceOf, InterfaceMade};
+ghost use Rattle.wac_resolution_worlds.specs.Made.{no_lists, FuncExportStep, InterfaceItemStep, InterfaceItemSteps, InterfaceOf, InterfaceMade};
 
 use crate::functions::func_ref;
 use crate::use_statements::use_statement;
@@ -29,7 +29,7 @@ use wac_ast_worlds::{InterfaceExport, InterfaceItem};
 use wac_graph::{ExternKind, Interface, InterfaceId, ItemKind};
 use wac_resolution_bodies::{Body, Owner, check_extern};
 use wac_resolution_errors::Error;
-use wac_resolution_paths::Setting;
+use wac_resolution_paths::Context;
 use wac_resolution_state::{Names, State};
 
 /// Takes the export of a function.
@@ -40,11 +40,11 @@ fn interface_export(
     export: &InterfaceExport<'_>,
 ) -> Result<(), Error>
     requires { IsBody state.old.graph.types sides.Export (lists_of body.old) }
-    ensures ok { OnOk result (ExportGoes state.old.graph state.new.graph (lists_of body.old) (lists_of body.new)
+    ensures ok { OnOk result (FuncExportStep state.old.graph state.new.graph (lists_of body.old) (lists_of body.new)
         (interface_export_of export.now)) }
-    ensures err { ErrorSays result (λ e. (naming : Naming) (setting : rules.Setting) (root : Scope)
+    ensures err { ErrorSays result (λ e. (naming : Naming) (context : rules.Context) (root : Scope)
         (before : List ItemTree)
-        → InterfaceItemBroken setting root (owner_of owner.now) e (body_of naming state.old.graph body.old) before
+        → InterfaceItemBroken context root (owner_of owner.now) e (body_of naming state.old.graph body.old) before
         (ItemTree.interface_export (interface_export_of export.now))) }
 {
     let func = func_ref(state, &body.names, &export.ty)?;
@@ -69,7 +69,7 @@ fn interface_export(
 /// Takes an item of an interface.
 fn interface_item<'a>(
     state: &mut State,
-    setting: &Setting<'_>,
+    context: &Context<'_>,
     root: &Names<'_, ItemKind>,
     body: &mut Body<'a>,
     owner: &Owner<'_>,
@@ -77,17 +77,17 @@ fn interface_item<'a>(
 ) -> Result<(), Error>
     requires body { IsBody state.old.graph.types sides.Export (lists_of body.old) }
     requires root { ItemsNamed state.old.graph.types (values_of root.now) }
-    requires handed { HoldsHanded (packages_in setting.now) state.old.graph }
-    ensures ok { OnOk result (InterfaceItemGoes setting.now state.old.graph state.new.graph (values_of root.now)
+    requires supplied { AllSupplied (packages_in context.now) state.old.graph }
+    ensures ok { OnOk result (InterfaceItemStep context.now state.old.graph state.new.graph (values_of root.now)
         (lists_of body.old) (lists_of body.new) (interface_item_of item.now)) }
     ensures err { ErrorSays result (λ e. (naming : Naming) (before : List ItemTree)
         → places_of body.old.names ≡ bound_in_interface before
-        → InterfaceItemBroken (setting_of naming setting.now) (scope_of naming state.old.graph (values_of root.now))
+        → InterfaceItemBroken (context_of naming context.now) (scope_of naming state.old.graph (values_of root.now))
         (owner_of owner.now) e (body_of naming state.old.graph body.old) before (interface_item_of item.now)) }
 {
     match item {
         InterfaceItem::Use(used) => {
-            use_statement(state, setting, root, body, ExternKind::Export, used)
+            use_statement(state, context, root, body, ExternKind::Export, used)
         }
         InterfaceItem::Export(export) => interface_export(state, body, owner, export),
         InterfaceItem::Ty(decl) => {
@@ -99,7 +99,7 @@ fn interface_item<'a>(
 /// Takes items of an interface, in order, into an empty body.
 fn interface_items<'a>(
     state: &mut State,
-    setting: &Setting<'_>,
+    context: &Context<'_>,
     root: &Names<'_, ItemKind>,
     body: &mut Body<'a>,
     owner: &Owner<'_>,
@@ -107,17 +107,17 @@ fn interface_items<'a>(
 ) -> Result<(), Error>
     requires empty { lists_of body.old ≡ no_lists }
     requires root { ItemsNamed state.old.graph.types (values_of root.now) }
-    requires handed { HoldsHanded (packages_in setting.now) state.old.graph }
-    ensures ok { OnOk result (InterfaceItemsGo setting.now state.old.graph state.new.graph (values_of root.now)
+    requires supplied { AllSupplied (packages_in context.now) state.old.graph }
+    ensures ok { OnOk result (InterfaceItemSteps context.now state.old.graph state.new.graph (values_of root.now)
         (lists_of body.old) (lists_of body.new) (map interface_item_of items.now)) }
     ensures err { ErrorSays result (λ e. (naming : Naming)
-        → Fails (HasInterfaceItem (setting_of naming setting.now)
+        → Fails (HasInterfaceItem (context_of naming context.now)
         (scope_of naming state.old.graph (values_of root.now)))
-        (InterfaceItemBroken (setting_of naming setting.now) (scope_of naming state.old.graph (values_of root.now))
+        (InterfaceItemBroken (context_of naming context.now) (scope_of naming state.old.graph (values_of root.now))
         (owner_of owner.now) e) (body_of naming state.old.graph body.old) (map interface_item_of items.now)) }
 {
     for item in items {
-        interface_item(state, setting, root, body, owner, item)?;
+        interface_item(state, context, root, body, owner, item)?;
     }
     Ok(())
 }
@@ -139,22 +139,22 @@ fn finish_interface(
 /// Adds an interface of items, which may have an id, and a name for errors.
 pub fn interface(
     state: &mut State,
-    setting: &Setting<'_>,
+    context: &Context<'_>,
     root: &Names<'_, ItemKind>,
     id: Option<String>,
     name: Option<&str>,
     items: &[InterfaceItem<'_>],
 ) -> Result<InterfaceId, Error>
     requires root { ItemsNamed state.old.graph.types (values_of root.now) }
-    requires handed { HoldsHanded (packages_in setting.now) state.old.graph }
-    ensures ok { IfOk result (λ i. InterfaceMade setting.now state.old.graph state.new.graph (values_of root.now)
+    requires supplied { AllSupplied (packages_in context.now) state.old.graph }
+    ensures ok { IfOk result (λ i. InterfaceMade context.now state.old.graph state.new.graph (values_of root.now)
         (option_map string_bytes id) (map interface_item_of items.now) i) }
     ensures err { ErrorSays result (λ e. (naming : Naming)
-        → InterfaceBroken (setting_of naming setting.now) (scope_of naming state.old.graph (values_of root.now))
+        → InterfaceBroken (context_of naming context.now) (scope_of naming state.old.graph (values_of root.now))
         (option_map (λ n. n.now) name.entry) (declared_count state.old.graph) (map interface_item_of items.now) e) }
 {
     let mut body = Body::new(state.alloc);
     let owner = Owner::Interface(name);
-    interface_items(state, setting, root, &mut body, &owner, items)?;
+    interface_items(state, context, root, &mut body, &owner, items)?;
     Ok(finish_interface(state, id, body)?)
 }

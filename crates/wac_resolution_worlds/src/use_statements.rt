@@ -7,11 +7,11 @@ ghost use Rattle.wac_resolution_rules.specs.BrokenBodies.{UseBroken};
 ghost use Rattle.wac_resolution_rules.specs.Errors.{ErrorSays};
 ghost use Rattle.wac_resolution_state.specs.Bindings.{values_of};
 ghost use Rattle.wac_resolution_state.specs.Named.{scope_of};
-ghost use Rattle.wac_resolution_paths.specs.Expands.{HoldsHanded};
-ghost use Rattle.wac_resolution_paths.specs.Setting.{packages_in, setting_of};
+ghost use Rattle.wac_resolution_paths.specs.Expands.{AllSupplied};
+ghost use Rattle.wac_resolution_paths.specs.Context.{packages_in, context_of};
 ghost use Rattle.wac_resolution_bodies.specs.Lists.{lists_of};
 ghost use Rattle.wac_resolution_bodies.specs.Bodies.{body_of, IsBody};
-ghost use Rattle.wac_resolution_worlds.specs.UseStatements.{IsInterface, IsNoneNamed, StatementGoes};
+ghost use Rattle.wac_resolution_worlds.specs.UseStatements.{IsInterface, IsNoneNamed, UseStatementStep};
 
 use crate::used_interface::{interface_of, path_name, path_span};
 use crate::used_items::use_items;
@@ -19,25 +19,25 @@ use wac_ast_uses::{Use, UsePath};
 use wac_graph::{ExternKind, InterfaceId, ItemKind};
 use wac_resolution_bodies::Body;
 use wac_resolution_errors::Error;
-use wac_resolution_paths::{Setting, use_path};
+use wac_resolution_paths::{Context, use_path};
 use wac_resolution_state::{Names, State};
 
 /// The interface that a path or an identifier names.
 fn used_interface(
     state: &mut State,
-    setting: &Setting<'_>,
+    context: &Context<'_>,
     root: &Names<'_, ItemKind>,
     path: &UsePath<'_>,
 ) -> Result<InterfaceId, Error>
     requires root { ItemsNamed state.old.graph.types (values_of root.now) }
-    requires handed { HoldsHanded (packages_in setting.now) state.old.graph }
-    ensures ok { IfOk result (λ i. IsInterface setting.now state.old.graph state.new.graph (values_of root.now)
+    requires supplied { AllSupplied (packages_in context.now) state.old.graph }
+    ensures ok { IfOk result (λ i. IsInterface context.now state.old.graph state.new.graph (values_of root.now)
         (use_path_of path.now) i) }
     ensures err { ErrorSays result (λ e. (naming : Naming)
-        → IsNoneNamed (setting_of naming setting.now) (scope_of naming state.old.graph (values_of root.now))
+        → IsNoneNamed (context_of naming context.now) (scope_of naming state.old.graph (values_of root.now))
         (use_path_of path.now) e) }
 {
-    let kind = use_path(state, setting, root, path)?;
+    let kind = use_path(state, context, root, path)?;
     let name = path_name(path);
     let interface = interface_of(state.alloc, kind, name, path_span(path))?;
     Ok(interface)
@@ -46,7 +46,7 @@ fn used_interface(
 /// Takes the used types from an interface.
 pub(crate) fn use_statement<'a>(
     state: &mut State,
-    setting: &Setting<'_>,
+    context: &Context<'_>,
     root: &Names<'_, ItemKind>,
     body: &mut Body<'a>,
     side: ExternKind,
@@ -54,14 +54,14 @@ pub(crate) fn use_statement<'a>(
 ) -> Result<(), Error>
     requires body { IsBody state.old.graph.types side (lists_of body.old) }
     requires root { ItemsNamed state.old.graph.types (values_of root.now) }
-    requires handed { HoldsHanded (packages_in setting.now) state.old.graph }
-    ensures ok { OnOk result (StatementGoes setting.now side state.old.graph state.new.graph (values_of root.now)
+    requires supplied { AllSupplied (packages_in context.now) state.old.graph }
+    ensures ok { OnOk result (UseStatementStep context.now side state.old.graph state.new.graph (values_of root.now)
         (lists_of body.old) (lists_of body.new) (use_of statement.now)) }
     ensures err { ErrorSays result (λ e. (naming : Naming)
-        → UseBroken (setting_of naming setting.now) (scope_of naming state.old.graph (values_of root.now)) side
+        → UseBroken (context_of naming context.now) (scope_of naming state.old.graph (values_of root.now)) side
         (body_of naming state.old.graph body.old) (use_of statement.now) e) }
 {
-    let interface = used_interface(state, setting, root, &statement.path)?;
+    let interface = used_interface(state, context, root, &statement.path)?;
     let path = path_name(&statement.path);
     use_items(state, body, side, interface, path, &statement.items)?;
     Ok(())

@@ -12,7 +12,7 @@ ghost use Rattle.wac_resolution_rules.specs.BrokenBodies.{UseItemBroken};
 ghost use Rattle.wac_resolution_rules.specs.Errors.{ErrorSays};
 ghost use Rattle.wac_resolution_bodies.specs.Lists.{lists_of};
 ghost use Rattle.wac_resolution_bodies.specs.Bodies.{body_of, IsBody};
-ghost use Rattle.wac_resolution_worlds.specs.Used.{UseGoes, UsesGo};
+ghost use Rattle.wac_resolution_worlds.specs.Used.{UseStep, UseSteps};
 
 use crate::used_item::{check_use, renamed, used_as, used_kind};
 use wac_ast_uses::UseItem;
@@ -32,7 +32,7 @@ fn use_item<'a>(
 ) -> Result<(), Error>
     requires body { IsBody state.now.graph.types side (lists_of body.old) }
     requires interface { NamesEntry state.now.graph.types (kinds.Instance interface) }
-    ensures ok { OnOk result (UseGoes side state.now.graph interface (lists_of body.old) (lists_of body.new)
+    ensures ok { OnOk result (UseStep side state.now.graph interface (lists_of body.old) (lists_of body.new)
         (use_item_of item.now)) }
     ensures err { ErrorSays result (λ e. (naming : Naming) (before : List ItemTree)
         → UseItemBroken side (means naming state.now.graph (kinds.Instance interface)) path.now e
@@ -58,7 +58,7 @@ pub(crate) fn use_items<'a>(
 ) -> Result<(), Error>
     requires body { IsBody state.now.graph.types side (lists_of body.old) }
     requires interface { NamesEntry state.now.graph.types (kinds.Instance interface) }
-    ensures ok { OnOk result (UsesGo side state.now.graph interface (lists_of body.old) (lists_of body.new)
+    ensures ok { OnOk result (UseSteps side state.now.graph interface (lists_of body.old) (lists_of body.new)
         (map use_item_of items.now)) }
     ensures err { ErrorSays result (λ e. (naming : Naming)
         → Fails (UsesItem side (means naming state.now.graph (kinds.Instance interface)))

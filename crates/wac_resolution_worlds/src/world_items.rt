@@ -12,13 +12,13 @@ ghost use Rattle.wac_resolution_rules.specs.Places.{bound_in_world};
 ghost use Rattle.wac_resolution_rules.specs.Worlds.{HasWorldItem};
 ghost use Rattle.wac_resolution_state.specs.Bindings.{values_of, places_of};
 ghost use Rattle.wac_resolution_state.specs.Named.{scope_of};
-ghost use Rattle.wac_resolution_paths.specs.Expands.{HoldsHanded};
-ghost use Rattle.wac_resolution_paths.specs.Setting.{packages_in, setting_of};
+ghost use Rattle.wac_resolution_paths.specs.Expands.{AllSupplied};
+ghost use Rattle.wac_resolution_paths.specs.Context.{packages_in, context_of};
 ghost use Rattle.wac_resolution_bodies.specs.Lists.{lists_of};
 ghost use Rattle.wac_resolution_bodies.specs.Bodies.{body_of, IsBody};
 ghost use Rattle.wac_resolution_bodies.specs.Owners.{owner_of};
 ghost use Rattle.wac_resolution_worlds.specs.Made.{no_lists};
-ghost use Rattle.wac_resolution_worlds.specs.WorldItems.{WorldItemGoes, WorldItemsGo};
+ghost use Rattle.wac_resolution_worlds.specs.WorldItems.{WorldItemStep, WorldItemSteps};
 
 use crate::extern_items::extern_item;
 use crate::use_statements::use_statement;
@@ -26,13 +26,13 @@ use wac_ast_worlds::WorldItem;
 use wac_graph::{ExternKind, ItemKind};
 use wac_resolution_bodies::{Body, Owner};
 use wac_resolution_errors::Error;
-use wac_resolution_paths::Setting;
+use wac_resolution_paths::Context;
 use wac_resolution_state::{Names, State};
 
 /// Takes an item of a world. Includes come afterwards.
 fn world_item<'a>(
     state: &mut State,
-    setting: &Setting<'_>,
+    context: &Context<'_>,
     root: &Names<'_, ItemKind>,
     body: &mut Body<'a>,
     owner: &Owner<'_>,
@@ -40,20 +40,20 @@ fn world_item<'a>(
 ) -> Result<(), Error>
     requires body { IsBody state.old.graph.types sides.Import (lists_of body.old) }
     requires root { ItemsNamed state.old.graph.types (values_of root.now) }
-    requires handed { HoldsHanded (packages_in setting.now) state.old.graph }
-    ensures ok { OnOk result (WorldItemGoes setting.now state.old.graph state.new.graph (values_of root.now)
+    requires supplied { AllSupplied (packages_in context.now) state.old.graph }
+    ensures ok { OnOk result (WorldItemStep context.now state.old.graph state.new.graph (values_of root.now)
         (lists_of body.old) (lists_of body.new) (world_item_of item.now)) }
     ensures err { ErrorSays result (λ e. (naming : Naming) (before : List ItemTree)
         → places_of body.old.names ≡ bound_in_world before
-        → WorldItemBroken (setting_of naming setting.now) (scope_of naming state.old.graph (values_of root.now))
+        → WorldItemBroken (context_of naming context.now) (scope_of naming state.old.graph (values_of root.now))
         (owner_of owner.now) e (body_of naming state.old.graph body.old) before (world_item_of item.now)) }
 {
     match item {
-        WorldItem::Use(used) => use_statement(state, setting, root, body, ExternKind::Import, used),
+        WorldItem::Use(used) => use_statement(state, context, root, body, ExternKind::Import, used),
         WorldItem::Import(import) => {
             extern_item(
                 state,
-                setting,
+                context,
                 root,
                 body,
                 owner,
@@ -64,7 +64,7 @@ fn world_item<'a>(
         WorldItem::Export(export) => {
             extern_item(
                 state,
-                setting,
+                context,
                 root,
                 body,
                 owner,
@@ -82,7 +82,7 @@ fn world_item<'a>(
 /// Takes items of a world, in order, into an empty body.
 pub fn world_items<'a>(
     state: &mut State,
-    setting: &Setting<'_>,
+    context: &Context<'_>,
     root: &Names<'_, ItemKind>,
     body: &mut Body<'a>,
     owner: &Owner<'_>,
@@ -90,16 +90,16 @@ pub fn world_items<'a>(
 ) -> Result<(), Error>
     requires empty { lists_of body.old ≡ no_lists }
     requires root { ItemsNamed state.old.graph.types (values_of root.now) }
-    requires handed { HoldsHanded (packages_in setting.now) state.old.graph }
-    ensures ok { OnOk result (WorldItemsGo setting.now state.old.graph state.new.graph (values_of root.now)
+    requires supplied { AllSupplied (packages_in context.now) state.old.graph }
+    ensures ok { OnOk result (WorldItemSteps context.now state.old.graph state.new.graph (values_of root.now)
         (lists_of body.old) (lists_of body.new) (map world_item_of items.now)) }
     ensures err { ErrorSays result (λ e. (naming : Naming)
-        → Fails (HasWorldItem (setting_of naming setting.now) (scope_of naming state.old.graph (values_of root.now)))
-        (WorldItemBroken (setting_of naming setting.now) (scope_of naming state.old.graph (values_of root.now))
+        → Fails (HasWorldItem (context_of naming context.now) (scope_of naming state.old.graph (values_of root.now)))
+        (WorldItemBroken (context_of naming context.now) (scope_of naming state.old.graph (values_of root.now))
         (owner_of owner.now) e) (body_of naming state.old.graph body.old) (map world_item_of items.now)) }
 {
     for item in items {
-        world_item(state, setting, root, body, owner, item)?;
+        world_item(state, context, root, body, owner, item)?;
     }
     Ok(())
 }

@@ -8,8 +8,8 @@ ghost use Rattle.wac_resolution_rules.specs.BrokenWorlds.{WorldBroken};
 ghost use Rattle.wac_resolution_rules.specs.Errors.{ErrorSays};
 ghost use Rattle.wac_resolution_state.specs.Bindings.{values_of};
 ghost use Rattle.wac_resolution_state.specs.Named.{scope_of};
-ghost use Rattle.wac_resolution_paths.specs.Expands.{HoldsHanded};
-ghost use Rattle.wac_resolution_paths.specs.Setting.{packages_in, setting_of};
+ghost use Rattle.wac_resolution_paths.specs.Expands.{AllSupplied};
+ghost use Rattle.wac_resolution_paths.specs.Context.{packages_in, context_of};
 ghost use Rattle.wac_resolution_bodies.specs.Lists.{lists_of};
 ghost use Rattle.wac_resolution_worlds.specs.WorldItems.{AreNamed, WorldOf, WorldMade};
 
@@ -20,7 +20,7 @@ use wac_ast_worlds::WorldItem;
 use wac_graph::{ItemKind, World, WorldId};
 use wac_resolution_bodies::{Body, Owner};
 use wac_resolution_errors::Error;
-use wac_resolution_paths::Setting;
+use wac_resolution_paths::Context;
 use wac_resolution_state::{Names, State};
 
 /// Adds a world with the uses, imports and exports of a body.
@@ -50,23 +50,23 @@ fn finish_world(
 /// Adds a world of items, which may have an id, and a name for errors.
 pub fn world(
     state: &mut State,
-    setting: &Setting<'_>,
+    context: &Context<'_>,
     root: &Names<'_, ItemKind>,
     id: Option<String>,
     name: &str,
     items: &[WorldItem<'_>],
 ) -> Result<WorldId, Error>
     requires root { ItemsNamed state.old.graph.types (values_of root.now) }
-    requires handed { HoldsHanded (packages_in setting.now) state.old.graph }
-    ensures ok { IfOk result (λ w. WorldMade setting.now state.old.graph state.new.graph (values_of root.now)
+    requires supplied { AllSupplied (packages_in context.now) state.old.graph }
+    ensures ok { IfOk result (λ w. WorldMade context.now state.old.graph state.new.graph (values_of root.now)
         (option_map string_bytes id) (map world_item_of items.now) w) }
     ensures err { ErrorSays result (λ e. (naming : Naming)
-        → WorldBroken (setting_of naming setting.now) (scope_of naming state.old.graph (values_of root.now)) name.now
+        → WorldBroken (context_of naming context.now) (scope_of naming state.old.graph (values_of root.now)) name.now
         (declared_count state.old.graph) (map world_item_of items.now) e) }
 {
     let mut body = Body::new(state.alloc);
     let owner = Owner::World(name);
-    world_items(state, setting, root, &mut body, &owner, items)?;
-    includes(state, setting, root, &mut body, name, items)?;
+    world_items(state, context, root, &mut body, &owner, items)?;
+    includes(state, context, root, &mut body, name, items)?;
     Ok(finish_world(state, id, body)?)
 }

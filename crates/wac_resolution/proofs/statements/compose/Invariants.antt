@@ -1,8 +1,8 @@
 use Rattle.std.proofs.Common.{map, take}
 use Rattle.wac_ast.specs.Statements.{statement_of}
 use Rattle.wac_resolution_rules.specs.Given.{rules_of}
-use Rattle.wac_resolution.specs.Sequences.{AllWent}
+use Rattle.wac_resolution.specs.Sequences.{StatementsRun}
 use Rattle.wac_resolution.proofs.statements.compose.Given as goal
 
 abbrev pub invariant-loop-next : goal.invariant-loop-next
-invariant-loop-next g l = AllWent l.setting (rules_of g.R.Rules l.rules) l.fn.state.graph l.state.graph l.fn.root l.root l.fn.externs l.externs (take l.next-index (map statement_of l.statements))
+invariant-loop-next g l = StatementsRun l.context (rules_of g.R.Rules l.rules) l.fn.state.graph l.state.graph l.fn.root l.root l.fn.externs l.externs (take l.next-index (map statement_of l.statements))

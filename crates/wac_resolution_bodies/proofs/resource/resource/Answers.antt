@@ -10,7 +10,7 @@ use Rattle.wac_resolution_rules.specs.Bodies.{HasMethod}
 use Rattle.wac_resolution_rules.specs.BrokenBodies.{MethodBroken}
 use Rattle.wac_resolution_state.specs.Bindings.{places_of}
 use Rattle.wac_resolution_bodies.specs.Lists.{lists_of}
-use Rattle.wac_resolution_bodies.specs.Bodies.{body_of, MethodsGo}
+use Rattle.wac_resolution_bodies.specs.Bodies.{body_of, MethodSteps}
 use Rattle.wac_resolution_bodies.specs.Owners.{owner_of}
 use Rattle.wac_resolution_errors.proofs.Reports.{reports}
 use Rattle.wac_resolution_bodies.proofs.Declared.{resource_item, methods_broken}
@@ -36,5 +36,5 @@ returns-in_err-add_methods-clause-err c =
 
 pub returns-clause-ok : goal.returns-clause-ok
 returns-clause-ok c =
-    let go = subst (λ (l : List ResourceMethod). MethodsGo c.args.side c.declare_resource.new.state.graph c.add_methods.new.state.graph c.args.decl.now.id.string.now c.in_ok-resource.resource (lists_of c.declare_resource.new.body) (lists_of c.add_methods.new.body) (map resource_method_of l)) c.deref.ensures.value c.in_ok-add_methods.ensures.ok in
+    let go = subst (λ (l : List ResourceMethod). MethodSteps c.args.side c.declare_resource.new.state.graph c.add_methods.new.state.graph c.args.decl.now.id.string.now c.in_ok-resource.resource (lists_of c.declare_resource.new.body) (lists_of c.add_methods.new.body) (map resource_method_of l)) c.deref.ensures.value c.in_ok-add_methods.ensures.ok in
     resource_item c.args.side c.args.state.now.graph c.declare_resource.new.state.graph c.add_methods.new.state.graph (lists_of c.args.body.now) (lists_of c.declare_resource.new.body) (lists_of c.add_methods.new.body) (resource_decl_of c.args.decl.now) c.in_ok-resource.resource c.in_ok-resource.ensures.ok go

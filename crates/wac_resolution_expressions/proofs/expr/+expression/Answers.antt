@@ -18,14 +18,14 @@ use Rattle.wac_resolution_rules.specs.BrokenTypes.{IsUndefined}
 use Rattle.wac_resolution_rules.specs.Given.{rules_of}
 use Rattle.wac_resolution_errors.proofs.Reports.{reports, if_reports}
 use Rattle.wac_resolution_state.proofs.Sizes.{most_at}
-use Rattle.wac_resolution_nodes.specs.Accesses.{AccessesGo}
+use Rattle.wac_resolution_nodes.specs.Accesses.{AccessSteps}
 use Rattle.wac_resolution_nodes.specs.Root.{numbers_of, NodeIs}
-use Rattle.wac_resolution_paths.specs.Setting.{packages_in}
+use Rattle.wac_resolution_paths.specs.Context.{packages_in}
 use Rattle.wac_resolution_expressions.specs.Spreads.{GivenThere}
 use Rattle.wac_resolution_expressions.specs.Completing.{Completes, FailsToComplete}
-use Rattle.wac_resolution_expressions.specs.Giving.{ArgumentGoes, ArgumentBreaks, ArgumentsGo, ArgumentsBreak}
-use Rattle.wac_resolution_expressions.specs.Growth.{ExprGoes, ExprBreaks}
-use Rattle.wac_resolution_expressions.specs.Primaries.{PrimaryGoes, PrimaryBreaks}
+use Rattle.wac_resolution_expressions.specs.Giving.{ArgumentStep, ArgumentBreaks, ArgumentSteps, ArgumentsBreak}
+use Rattle.wac_resolution_expressions.specs.Growth.{ExprStep, ExprBreaks}
+use Rattle.wac_resolution_expressions.specs.Primaries.{PrimaryStep, PrimaryBreaks}
 use Rattle.wac_resolution_expressions.proofs.Extending.{agrees_extended, world_extended}
 use Rattle.wac_resolution_expressions.proofs.Standing as stand
 use Rattle.wac_resolution_expressions.proofs.expr.+expression.Goals as goal
@@ -35,7 +35,7 @@ use Rattle.wac_resolution_expressions.proofs.expr.+expression.Goals as goal
 pub expression-returns-in_err-node-clause-err : goal.expression-returns-in_err-node-clause-err
 expression-returns-in_err-node-clause-err g t c =
     let p = err_from_is_err_and c.from_residual.result c.from_residual.ensures.1 in
-    rw (p.1, p.2) (reports c.in_err-node.ensures.err (stand.expr_breaks_first c.args.setting.now (rules_of g.R.Rules c.args.rules.now) c.args.state.now.graph (numbers_of c.args.root.now.nodes) c.args.expr.now.span
+    rw (p.1, p.2) (reports c.in_err-node.ensures.err (stand.expr_breaks_first c.args.context.now (rules_of g.R.Rules c.args.rules.now) c.args.state.now.graph (numbers_of c.args.root.now.nodes) c.args.expr.now.span
     (primary_expr_of c.args.expr.now.primary) (map postfix_expr_of c.args.expr.now.postfix.items) (told c.in_err-node.field-0.0)))
 
 pub expression-accesses-requires-clause-agrees : goal.expression-accesses-requires-clause-agrees
@@ -46,17 +46,17 @@ expression-accesses-requires-clause-there g t c = c.in_ok-node.ensures.ok.there
 
 pub expression-returns-clause-ok : goal.expression-returns-clause-ok
 expression-returns-clause-ok g t c =
-    let s = c.args.setting.now in
+    let s = c.args.context.now in
     let rules = rules_of g.R.Rules c.args.rules.now in
     let declared = numbers_of c.args.root.now.nodes in
-    let go = subst (λ (l : List CodePostfixExpr). IfOk c.accesses.result (λ m. AccessesGo c.primary.new.state.graph c.accesses.new.state.graph c.in_ok-node.node.0 (map postfix_expr_of l) m.0)) c.deref.ensures.value c.accesses.ensures.ok in
-    IfOk-weaker c.accesses.result (λ m. AccessesGo c.primary.new.state.graph c.accesses.new.state.graph c.in_ok-node.node.0 (map postfix_expr_of c.args.expr.now.postfix.items) m.0)
-    (λ m. ExprGoes s rules c.args.state.now.graph c.accesses.new.state.graph declared (expr_of c.args.expr.now) m.0)
+    let go = subst (λ (l : List CodePostfixExpr). IfOk c.accesses.result (λ m. AccessSteps c.primary.new.state.graph c.accesses.new.state.graph c.in_ok-node.node.0 (map postfix_expr_of l) m.0)) c.deref.ensures.value c.accesses.ensures.ok in
+    IfOk-weaker c.accesses.result (λ m. AccessSteps c.primary.new.state.graph c.accesses.new.state.graph c.in_ok-node.node.0 (map postfix_expr_of c.args.expr.now.postfix.items) m.0)
+    (λ m. ExprStep s rules c.args.state.now.graph c.accesses.new.state.graph declared (expr_of c.args.expr.now) m.0)
     (λ m a. stand.expr_goes s rules c.args.state.now.graph c.primary.new.state.graph c.accesses.new.state.graph declared c.args.expr.now.span (primary_expr_of c.args.expr.now.primary) (map postfix_expr_of c.args.expr.now.postfix.items) c.in_ok-node.node.0 m.0 c.in_ok-node.ensures.ok a) go
 
 pub expression-returns-clause-err : goal.expression-returns-clause-err
 expression-returns-clause-err g t c =
-    let s = c.args.setting.now in
+    let s = c.args.context.now in
     let rules = rules_of g.R.Rules c.args.rules.now in
     let there = subst (λ (l : List CodePostfixExpr). IfErr c.accesses.result (λ e. Reports (told e) (stand.AccessesBreak s rules c.primary.new.state.graph c.span.result c.in_ok-node.node.0 (map postfix_expr_of l) (told e)))) c.deref.ensures.value c.accesses.ensures.err in
     let spanned = subst (λ (x : Span). IfErr c.accesses.result (λ e. Reports (told e) (stand.AccessesBreak s rules c.primary.new.state.graph x c.in_ok-node.node.0 (map postfix_expr_of c.args.expr.now.postfix.items) (told e)))) c.span.ensures there in
@@ -68,26 +68,26 @@ expression-returns-clause-err g t c =
 
 pub primary-returns-in-New-clause-ok : goal.primary-returns-in-New-clause-ok
 primary-returns-in-New-clause-ok g t c =
-    subst (λ (x : PrimaryExpr). IfOk c.instantiation.result (λ n. PrimaryGoes c.args.setting.now (rules_of g.R.Rules c.args.rules.now) c.args.state.now.graph c.instantiation.new.state.graph (numbers_of c.args.root.now.nodes) x n.0))
+    subst (λ (x : PrimaryExpr). IfOk c.instantiation.result (λ n. PrimaryStep c.args.context.now (rules_of g.R.Rules c.args.rules.now) c.args.state.now.graph c.instantiation.new.state.graph (numbers_of c.args.root.now.nodes) x n.0))
     (sym (ap primary_expr_of c.in-New.is ∙ new_is c.in-New.part)) c.instantiation.ensures.ok
 
 pub primary-returns-in-New-clause-err : goal.primary-returns-in-New-clause-err
 primary-returns-in-New-clause-err g t c =
-    subst (λ (x : PrimaryExpr). IfErr c.instantiation.result (λ e. Reports (told e) (PrimaryBreaks c.args.setting.now (rules_of g.R.Rules c.args.rules.now) c.args.state.now.graph (numbers_of c.args.root.now.nodes) x (told e))))
+    subst (λ (x : PrimaryExpr). IfErr c.instantiation.result (λ e. Reports (told e) (PrimaryBreaks c.args.context.now (rules_of g.R.Rules c.args.rules.now) c.args.state.now.graph (numbers_of c.args.root.now.nodes) x (told e))))
     (sym (ap primary_expr_of c.in-New.is ∙ new_is c.in-New.part)) c.instantiation.ensures.err
 
 pub primary-returns-in-Ident-clause-ok : goal.primary-returns-in-Ident-clause-ok
 primary-returns-in-Ident-clause-ok g t c =
-    let s = c.args.setting.now in
+    let s = c.args.context.now in
     let rules = rules_of g.R.Rules c.args.rules.now in
     let graph = c.args.state.now.graph in
-    subst (λ (x : PrimaryExpr). IfOk c.node.result (λ n. PrimaryGoes s rules graph graph (numbers_of c.args.root.now.nodes) x n.0)) (sym (ap primary_expr_of c.in-Ident.is))
-    (IfOk-weaker c.node.result (λ n. NodeIs c.args.root.now (ident_of c.in-Ident.id) n) (λ n. PrimaryGoes s rules graph graph (numbers_of c.args.root.now.nodes) (PrimaryExpr.ident (ident_of c.in-Ident.id)) n.0)
-    (λ n is. stand.ident_goes s rules graph c.args.root.now (ident_of c.in-Ident.id) n c.requires.agrees c.requires.handed is) c.node.ensures.ok)
+    subst (λ (x : PrimaryExpr). IfOk c.node.result (λ n. PrimaryStep s rules graph graph (numbers_of c.args.root.now.nodes) x n.0)) (sym (ap primary_expr_of c.in-Ident.is))
+    (IfOk-weaker c.node.result (λ n. NodeIs c.args.root.now (ident_of c.in-Ident.id) n) (λ n. PrimaryStep s rules graph graph (numbers_of c.args.root.now.nodes) (PrimaryExpr.ident (ident_of c.in-Ident.id)) n.0)
+    (λ n is. stand.ident_goes s rules graph c.args.root.now (ident_of c.in-Ident.id) n c.requires.agrees c.requires.supplied is) c.node.ensures.ok)
 
 pub primary-returns-in-Ident-clause-err : goal.primary-returns-in-Ident-clause-err
 primary-returns-in-Ident-clause-err g t c =
-    let s = c.args.setting.now in
+    let s = c.args.context.now in
     let rules = rules_of g.R.Rules c.args.rules.now in
     let graph = c.args.state.now.graph in
     subst (λ (x : PrimaryExpr). IfErr c.node.result (λ e. Reports (told e) (PrimaryBreaks s rules graph (numbers_of c.args.root.now.nodes) x (told e)))) (sym (ap primary_expr_of c.in-Ident.is))
@@ -96,7 +96,7 @@ primary-returns-in-Ident-clause-err g t c =
 
 pub primary-returns-in-Nested-clause-ok : goal.primary-returns-in-Nested-clause-ok
 primary-returns-in-Nested-clause-ok g t c =
-    let s = c.args.setting.now in
+    let s = c.args.context.now in
     let rules = rules_of g.R.Rules c.args.rules.now in
     let old = c.args.state.now.graph in
     let new = c.expression.new.state.graph in
@@ -104,13 +104,13 @@ primary-returns-in-Nested-clause-ok g t c =
     let span = (out-NestedExpr c.in-Nested.nested).span in
     let inner : c.deref.result.now ≡ (out-NestedExpr c.in-Nested.nested).inner.value = search rules in
     let is : primary_expr_of c.args.expr.now ≡ PrimaryExpr.nested span (expr_of c.deref.result.now) = ap primary_expr_of c.in-Nested.is ∙ nested_out c.in-Nested.nested ∙ ap (λ y. PrimaryExpr.nested span (expr_of y)) (sym inner) in
-    subst (λ (x : PrimaryExpr). IfOk c.expression.result (λ n. PrimaryGoes s rules old new declared x n.0)) (sym is)
-    (IfOk-weaker c.expression.result (λ n. ExprGoes s rules old new declared (expr_of c.deref.result.now) n.0) (λ n. PrimaryGoes s rules old new declared (PrimaryExpr.nested span (expr_of c.deref.result.now)) n.0)
+    subst (λ (x : PrimaryExpr). IfOk c.expression.result (λ n. PrimaryStep s rules old new declared x n.0)) (sym is)
+    (IfOk-weaker c.expression.result (λ n. ExprStep s rules old new declared (expr_of c.deref.result.now) n.0) (λ n. PrimaryStep s rules old new declared (PrimaryExpr.nested span (expr_of c.deref.result.now)) n.0)
     (λ n p. stand.nested_goes s rules old new declared span (expr_of c.deref.result.now) n.0 p) c.expression.ensures.ok)
 
 pub primary-returns-in-Nested-clause-err : goal.primary-returns-in-Nested-clause-err
 primary-returns-in-Nested-clause-err g t c =
-    let s = c.args.setting.now in
+    let s = c.args.context.now in
     let rules = rules_of g.R.Rules c.args.rules.now in
     let old = c.args.state.now.graph in
     let declared = numbers_of c.args.root.now.nodes in
@@ -125,12 +125,12 @@ primary-returns-in-Nested-clause-err g t c =
 pub instantiation-returns-in_err-of-clause-err : goal.instantiation-returns-in_err-of-clause-err
 instantiation-returns-in_err-of-clause-err g t c =
     let p = err_from_is_err_and c.from_residual.result c.from_residual.ensures.1 in
-    rw (p.1, p.2) (reports c.in_err-of.ensures.err (stand.unknown_breaks c.args.setting.now (rules_of g.R.Rules c.args.rules.now) c.args.state.now.graph (numbers_of c.args.root.now.nodes) c.args.new.now.span (package_name_of c.args.new.now.«package»)
+    rw (p.1, p.2) (reports c.in_err-of.ensures.err (stand.unknown_breaks c.args.context.now (rules_of g.R.Rules c.args.rules.now) c.args.state.now.graph (numbers_of c.args.root.now.nodes) c.args.new.now.span (package_name_of c.args.new.now.«package»)
     (arguments_from (map argument_of c.args.new.now.arguments.items)) (told c.in_err-of.field-0.0)))
 
 pub instantiation-returns-in_err-arguments-clause-err : goal.instantiation-returns-in_err-arguments-clause-err
 instantiation-returns-in_err-arguments-clause-err g t c =
-    let s = c.args.setting.now in
+    let s = c.args.context.now in
     let rules = rules_of g.R.Rules c.args.rules.now in
     let declared = numbers_of c.args.root.now.nodes in
     let loaded = c.instantiable.new.state.graph in
@@ -143,28 +143,28 @@ instantiation-returns-in_err-arguments-clause-err g t c =
 
 pub instantiation-complete-requires-clause-agrees : goal.instantiation-complete-requires-clause-agrees
 instantiation-complete-requires-clause-agrees g t c =
-    let s = packages_in c.args.setting.now in
+    let s = packages_in c.args.context.now in
     agrees_extended s c.instantiable.new.state.graph c.arguments.new.state.graph c.in_ok-arguments.ensures.ok.extends c.args.root.now
     (agrees_extended s c.args.state.now.graph c.instantiable.new.state.graph c.in_ok-of.ensures.ok.extends c.args.root.now c.requires.agrees)
 
 pub instantiation-complete-requires-clause-loaded : goal.instantiation-complete-requires-clause-loaded
 instantiation-complete-requires-clause-loaded g t c =
     let l = c.in_ok-of.ensures.ok in
-    (l.held, stand.loaded_still c.args.setting.now (rules_of g.R.Rules c.args.rules.now) c.instantiable.new.state.graph c.arguments.new.state.graph c.in_ok-of.of l.held c.in_ok-arguments.ensures.ok.extends l.loaded)
+    (l.held, stand.loaded_still c.args.context.now (rules_of g.R.Rules c.args.rules.now) c.instantiable.new.state.graph c.arguments.new.state.graph c.in_ok-of.of l.held c.in_ok-arguments.ensures.ok.extends l.loaded)
 
 pub instantiation-complete-requires-clause-stand : goal.instantiation-complete-requires-clause-stand
 instantiation-complete-requires-clause-stand g t c =
-    let s = c.args.setting.now in
+    let s = c.args.context.now in
     let rules = rules_of g.R.Rules c.args.rules.now in
     let declared = numbers_of c.args.root.now.nodes in
     let loaded = c.instantiable.new.state.graph in
-    let gave = subst (λ (l : List CodeArgument). ArgumentsGo s rules loaded c.arguments.new.state.graph (by_name c.new-given.result.entries) (by_name c.arguments.new.given.entries) declared c.in_ok-of.of.world (arguments_from (map argument_of l))) c.deref.ensures.value c.in_ok-arguments.ensures.ok in
+    let gave = subst (λ (l : List CodeArgument). ArgumentSteps s rules loaded c.arguments.new.state.graph (by_name c.new-given.result.entries) (by_name c.arguments.new.given.entries) declared c.in_ok-of.of.world (arguments_from (map argument_of l))) c.deref.ensures.value c.in_ok-arguments.ensures.ok in
     stand.themselves s rules c.args.state.now.graph loaded c.arguments.new.state.graph declared c.args.new.now.span (package_name_of c.args.new.now.«package») (arguments_from (map argument_of c.args.new.now.arguments.items)) c.in_ok-of.of (by_name c.arguments.new.given.entries) c.in_ok-of.ensures.ok
     (rw (ap by_name c.new-given.ensures.empty) at gave)
 
 pub instantiation-returns-clause-ok : goal.instantiation-returns-clause-ok
 instantiation-returns-clause-ok g t c =
-    let s = c.args.setting.now in
+    let s = c.args.context.now in
     let rules = rules_of g.R.Rules c.args.rules.now in
     let declared = numbers_of c.args.root.now.nodes in
     let old = c.args.state.now.graph in
@@ -173,13 +173,13 @@ instantiation-returns-clause-ok g t c =
     let name = package_name_of c.args.new.now.«package» in
     let args = arguments_from (map argument_of c.args.new.now.arguments.items) in
     let given = by_name c.arguments.new.given.entries in
-    let gave = subst (λ (l : List CodeArgument). ArgumentsGo s rules loaded mid (by_name c.new-given.result.entries) given declared c.in_ok-of.of.world (arguments_from (map argument_of l))) c.deref.ensures.value c.in_ok-arguments.ensures.ok in
-    IfOk-weaker c.complete.result (λ n. Completes rules mid c.complete.new.state.graph declared c.in_ok-of.of args given n.0) (λ n. PrimaryGoes s rules old c.complete.new.state.graph declared (new_expr_of c.args.new.now) n.0)
+    let gave = subst (λ (l : List CodeArgument). ArgumentSteps s rules loaded mid (by_name c.new-given.result.entries) given declared c.in_ok-of.of.world (arguments_from (map argument_of l))) c.deref.ensures.value c.in_ok-arguments.ensures.ok in
+    IfOk-weaker c.complete.result (λ n. Completes rules mid c.complete.new.state.graph declared c.in_ok-of.of args given n.0) (λ n. PrimaryStep s rules old c.complete.new.state.graph declared (new_expr_of c.args.new.now) n.0)
     (λ n. stand.new_goes s rules old loaded mid declared c.args.new.now.span name args c.in_ok-of.of given c.in_ok-of.ensures.ok (rw (ap by_name c.new-given.ensures.empty) at gave) c.complete.new.state.graph n.0) c.complete.ensures.ok
 
 pub instantiation-returns-clause-err : goal.instantiation-returns-clause-err
 instantiation-returns-clause-err g t c =
-    let s = c.args.setting.now in
+    let s = c.args.context.now in
     let rules = rules_of g.R.Rules c.args.rules.now in
     let declared = numbers_of c.args.root.now.nodes in
     let old = c.args.state.now.graph in
@@ -188,7 +188,7 @@ instantiation-returns-clause-err g t c =
     let name = package_name_of c.args.new.now.«package» in
     let args = arguments_from (map argument_of c.args.new.now.arguments.items) in
     let given = by_name c.arguments.new.given.entries in
-    let gave = subst (λ (l : List CodeArgument). ArgumentsGo s rules loaded mid (by_name c.new-given.result.entries) given declared c.in_ok-of.of.world (arguments_from (map argument_of l))) c.deref.ensures.value c.in_ok-arguments.ensures.ok in
+    let gave = subst (λ (l : List CodeArgument). ArgumentSteps s rules loaded mid (by_name c.new-given.result.entries) given declared c.in_ok-of.of.world (arguments_from (map argument_of l))) c.deref.ensures.value c.in_ok-arguments.ensures.ok in
     IfErr-weaker c.complete.result (λ e. Reports (told e) (FailsToComplete rules mid declared c.in_ok-of.of.world name args given (told e))) (λ e. Reports (told e) (PrimaryBreaks s rules old declared (new_expr_of c.args.new.now) (told e)))
     (λ e h. reports h (stand.completing_breaks s rules old loaded mid declared c.args.new.now.span name args c.in_ok-of.of given c.in_ok-of.ensures.ok (rw (ap by_name c.new-given.ensures.empty) at gave) (told e))) c.complete.ensures.err
 
@@ -199,8 +199,8 @@ instantiation-arguments-requires g t c κs within =
       (
         search rules,
         (
-          agrees_extended (packages_in c.args.setting.now) c.args.state.now.graph c.instantiable.new.state.graph l.extends c.args.root.now c.requires.agrees,
-          (l.extends.handed, (l.loaded.named, subst (GivenThere c.instantiable.new.state.graph) (sym (ap by_name c.new-given.ensures.empty)) tt)),
+          agrees_extended (packages_in c.args.context.now) c.args.state.now.graph c.instantiable.new.state.graph l.extends c.args.root.now c.requires.agrees,
+          (l.extends.supplied, (l.loaded.named, subst (GivenThere c.instantiable.new.state.graph) (sym (ap by_name c.new-given.ensures.empty)) tt)),
         ),
       ),
     )
@@ -209,8 +209,8 @@ instantiation-arguments-requires g t c κs within =
 
 pub arguments-loop-one-init : goal.arguments-loop-one-init
 arguments-loop-one-init g t c = record {
-  so_far = stand.none_yet c.args.setting.now (rules_of g.R.Rules c.args.rules.now) c.args.state.now.graph (by_name c.args.given.now.entries) (numbers_of c.args.root.now.nodes) c.args.world c.args.arguments.now
-      c.requires.agrees.nodes c.requires.handed c.requires.there;
+  so_far = stand.none_yet c.args.context.now (rules_of g.R.Rules c.args.rules.now) c.args.state.now.graph (by_name c.args.given.now.entries) (numbers_of c.args.root.now.nodes) c.args.world c.args.arguments.now
+      c.requires.agrees.nodes c.requires.supplied c.requires.there;
   left = omega arith;
 }
 
@@ -221,8 +221,8 @@ arguments-argument-requires g t c κs within =
       (
         search rules,
         (
-          agrees_extended (packages_in c.args.setting.now) c.args.state.now.graph c.loop-one.state.graph f.extends c.args.root.now c.requires.agrees,
-          (f.extends.handed, (world_extended (packages_in c.args.setting.now) c.args.state.now.graph c.loop-one.state.graph f.extends c.args.world c.requires.world, f.there)),
+          agrees_extended (packages_in c.args.context.now) c.args.state.now.graph c.loop-one.state.graph f.extends c.args.root.now c.requires.agrees,
+          (f.extends.supplied, (world_extended (packages_in c.args.context.now) c.args.state.now.graph c.loop-one.state.graph f.extends c.args.world c.requires.world, f.there)),
         ),
       ),
     )
@@ -231,7 +231,7 @@ pub arguments-returns-in_err-argument-clause-err : goal.arguments-returns-in_err
 arguments-returns-in_err-argument-clause-err g t c =
     let p = err_from_is_err_and c.from_residual.result c.from_residual.ensures.1 in
     let last : c.loop-one.left - 1 ≡ length c.args.arguments.now - suc c.loop-one.one-index = omega (arith, c.loop-one.invariant.left) in
-    rw (p.1, p.2) (reports c.in_err-argument.ensures.err (stand.argument_breaks c.args.setting.now (rules_of g.R.Rules c.args.rules.now) c.args.state.now.graph (by_name c.args.given.now.entries) (numbers_of c.args.root.now.nodes) c.args.world
+    rw (p.1, p.2) (reports c.in_err-argument.ensures.err (stand.argument_breaks c.args.context.now (rules_of g.R.Rules c.args.rules.now) c.args.state.now.graph (by_name c.args.given.now.entries) (numbers_of c.args.root.now.nodes) c.args.world
     c.loop-one.state.graph (by_name c.loop-one.given.entries) c.args.arguments.now c.loop-one.one-index c.one-item.result c.loop-one-test.true c.one-item.is c.requires.world c.loop-one.invariant.so_far
     (nat_eq (c.loop-one.left - 1) 0) (told c.in_err-argument.field-0.0) (ap (λ k. nat_eq k 0) last)))
 
@@ -239,7 +239,7 @@ pub arguments-loop-one-preserved : goal.arguments-loop-one-preserved
 arguments-loop-one-preserved g t c =
     let last : c.loop-one.left - 1 ≡ length c.args.arguments.now - suc c.loop-one.one-index = omega (arith, c.loop-one.invariant.left) in
     record {
-      so_far = stand.arguments_next c.args.setting.now (rules_of g.R.Rules c.args.rules.now) c.args.state.now.graph (by_name c.args.given.now.entries) (numbers_of c.args.root.now.nodes) c.args.world
+      so_far = stand.arguments_next c.args.context.now (rules_of g.R.Rules c.args.rules.now) c.args.state.now.graph (by_name c.args.given.now.entries) (numbers_of c.args.root.now.nodes) c.args.world
           c.loop-one.state.graph (by_name c.loop-one.given.entries) c.args.arguments.now c.loop-one.one-index c.one-item.result c.loop-one-test.true c.one-item.is c.requires.world c.loop-one.invariant.so_far
           c.argument.new.state.graph (by_name c.argument.new.given.entries) (nat_eq (c.loop-one.left - 1) 0) (ap (λ k. nat_eq k 0) last) c.in_ok-argument.ensures.ok;
       left = omega (arith, c.loop-one.invariant.left);
@@ -247,33 +247,33 @@ arguments-loop-one-preserved g t c =
 
 pub arguments-returns-clause-ok : goal.arguments-returns-clause-ok
 arguments-returns-clause-ok g t c =
-    stand.arguments_end c.args.setting.now (rules_of g.R.Rules c.args.rules.now) c.args.state.now.graph (by_name c.args.given.now.entries) (numbers_of c.args.root.now.nodes) c.args.world
+    stand.arguments_end c.args.context.now (rules_of g.R.Rules c.args.rules.now) c.args.state.now.graph (by_name c.args.given.now.entries) (numbers_of c.args.root.now.nodes) c.args.world
     c.loop-one.state.graph (by_name c.loop-one.given.entries) c.args.arguments.now c.loop-one.one-index (omega arith) c.loop-one.invariant.so_far
 
 -- ---- an argument
 
 pub argument-returns-in-Spread-clause-ok : goal.argument-returns-in-Spread-clause-ok
 argument-returns-in-Spread-clause-ok g t c =
-    let s = c.args.setting.now in
+    let s = c.args.context.now in
     let rules = rules_of g.R.Rules c.args.rules.now in
     let graph = c.args.state.now.graph in
     let given = by_name c.args.given.now.entries in
-    subst (λ (x : CodeArgument). ArgumentGoes s rules graph graph given given (numbers_of c.args.root.now.nodes) c.args.world c.args.is_last (argument_of x)) (sym c.in-Spread.is)
-    (stand.spread_goes s rules graph given (numbers_of c.args.root.now.nodes) c.args.world c.args.is_last (ident_of c.in-Spread.field-0) c.requires.agrees.nodes c.requires.handed c.requires.there)
+    subst (λ (x : CodeArgument). ArgumentStep s rules graph graph given given (numbers_of c.args.root.now.nodes) c.args.world c.args.is_last (argument_of x)) (sym c.in-Spread.is)
+    (stand.spread_goes s rules graph given (numbers_of c.args.root.now.nodes) c.args.world c.args.is_last (ident_of c.in-Spread.field-0) c.requires.agrees.nodes c.requires.supplied c.requires.there)
 
 pub argument-returns-in-Fill-clause-ok : goal.argument-returns-in-Fill-clause-ok
 argument-returns-in-Fill-clause-ok g t c =
-    let s = c.args.setting.now in
+    let s = c.args.context.now in
     let rules = rules_of g.R.Rules c.args.rules.now in
     let graph = c.args.state.now.graph in
     let given = by_name c.args.given.now.entries in
     let declared = numbers_of c.args.root.now.nodes in
-    subst (λ (x : CodeArgument). OnOk c.check_last.result (ArgumentGoes s rules graph graph given given declared c.args.world c.args.is_last (argument_of x))) (sym c.in-Fill.is)
-    (on_ok_weaker c.check_last.result (stand.fill_goes s rules graph given declared c.args.world c.args.is_last c.in-Fill.span c.requires.agrees.nodes c.requires.handed c.requires.there) c.check_last.ensures.ok)
+    subst (λ (x : CodeArgument). OnOk c.check_last.result (ArgumentStep s rules graph graph given given declared c.args.world c.args.is_last (argument_of x))) (sym c.in-Fill.is)
+    (on_ok_weaker c.check_last.result (stand.fill_goes s rules graph given declared c.args.world c.args.is_last c.in-Fill.span c.requires.agrees.nodes c.requires.supplied c.requires.there) c.check_last.ensures.ok)
 
 pub argument-returns-in-Fill-clause-err : goal.argument-returns-in-Fill-clause-err
 argument-returns-in-Fill-clause-err g t c =
-    let s = c.args.setting.now in
+    let s = c.args.context.now in
     let rules = rules_of g.R.Rules c.args.rules.now in
     let graph = c.args.state.now.graph in
     let given = by_name c.args.given.now.entries in
@@ -284,18 +284,18 @@ argument-returns-in-Fill-clause-err g t c =
 
 pub argument-returns-in-Inferred-clause-ok : goal.argument-returns-in-Inferred-clause-ok
 argument-returns-in-Inferred-clause-ok g t c =
-    let s = c.args.setting.now in
+    let s = c.args.context.now in
     let rules = rules_of g.R.Rules c.args.rules.now in
     let graph = c.args.state.now.graph in
     let before = by_name c.args.given.now.entries in
     let after = by_name c.give_inferred.new.given.entries in
     let declared = numbers_of c.args.root.now.nodes in
-    subst (λ (x : CodeArgument). OnOk c.give_inferred.result (ArgumentGoes s rules graph graph before after declared c.args.world c.args.is_last (argument_of x))) (sym c.in-Inferred.is)
-    (on_ok_weaker c.give_inferred.result (stand.inferred_goes_on s rules graph before declared c.args.world after c.args.is_last (ident_of c.in-Inferred.id) c.requires.handed) c.give_inferred.ensures.ok)
+    subst (λ (x : CodeArgument). OnOk c.give_inferred.result (ArgumentStep s rules graph graph before after declared c.args.world c.args.is_last (argument_of x))) (sym c.in-Inferred.is)
+    (on_ok_weaker c.give_inferred.result (stand.inferred_goes_on s rules graph before declared c.args.world after c.args.is_last (ident_of c.in-Inferred.id) c.requires.supplied) c.give_inferred.ensures.ok)
 
 pub argument-returns-in-Inferred-clause-err : goal.argument-returns-in-Inferred-clause-err
 argument-returns-in-Inferred-clause-err g t c =
-    let s = c.args.setting.now in
+    let s = c.args.context.now in
     let rules = rules_of g.R.Rules c.args.rules.now in
     let graph = c.args.state.now.graph in
     let before = by_name c.args.given.now.entries in
@@ -305,7 +305,7 @@ argument-returns-in-Inferred-clause-err g t c =
 
 pub argument-returns-in_err-node-in-Named-clause-err : goal.argument-returns-in_err-node-in-Named-clause-err
 argument-returns-in_err-node-in-Named-clause-err g t c =
-    let s = c.args.setting.now in
+    let s = c.args.context.now in
     let rules = rules_of g.R.Rules c.args.rules.now in
     let graph = c.args.state.now.graph in
     let before = by_name c.args.given.now.entries in
@@ -316,23 +316,23 @@ argument-returns-in_err-node-in-Named-clause-err g t c =
     (stand.named_breaks_first s rules graph before declared c.args.world c.args.is_last (argument_name_of c.in-Named.named.name) (expr_of c.in-Named.named.expr) e err)))
 
 pub argument-give_named-requires : goal.argument-give_named-requires
-argument-give_named-requires g t c = world_extended (packages_in c.args.setting.now) c.args.state.now.graph c.expression.new.state.graph c.in_ok-node-in-Named.ensures.ok.extends c.args.world c.requires.world
+argument-give_named-requires g t c = world_extended (packages_in c.args.context.now) c.args.state.now.graph c.expression.new.state.graph c.in_ok-node-in-Named.ensures.ok.extends c.args.world c.requires.world
 
 pub argument-returns-in_ok-node-in-Named-clause-ok : goal.argument-returns-in_ok-node-in-Named-clause-ok
 argument-returns-in_ok-node-in-Named-clause-ok g t c =
-    let s = c.args.setting.now in
+    let s = c.args.context.now in
     let rules = rules_of g.R.Rules c.args.rules.now in
     let graph = c.args.state.now.graph in
     let mid = c.expression.new.state.graph in
     let before = by_name c.args.given.now.entries in
     let after = by_name c.give_named.new.given.entries in
     let declared = numbers_of c.args.root.now.nodes in
-    subst (λ (x : CodeArgument). OnOk c.give_named.result (ArgumentGoes s rules graph mid before after declared c.args.world c.args.is_last (argument_of x))) (sym c.in-Named.is)
+    subst (λ (x : CodeArgument). OnOk c.give_named.result (ArgumentStep s rules graph mid before after declared c.args.world c.args.is_last (argument_of x))) (sym c.in-Named.is)
     (on_ok_weaker c.give_named.result (stand.named_goes s rules graph before declared c.args.world mid after c.args.is_last (argument_name_of c.in-Named.named.name) (expr_of c.in-Named.named.expr) c.in_ok-node-in-Named.node c.requires.world c.requires.there c.in_ok-node-in-Named.ensures.ok) c.give_named.ensures.ok)
 
 pub argument-returns-in_ok-node-in-Named-clause-err : goal.argument-returns-in_ok-node-in-Named-clause-err
 argument-returns-in_ok-node-in-Named-clause-err g t c =
-    let s = c.args.setting.now in
+    let s = c.args.context.now in
     let rules = rules_of g.R.Rules c.args.rules.now in
     let graph = c.args.state.now.graph in
     let mid = c.expression.new.state.graph in

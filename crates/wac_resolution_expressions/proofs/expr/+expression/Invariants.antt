@@ -11,7 +11,7 @@ use Rattle.wac_resolution_expressions.proofs.Standing.{InLoop}
 use Rattle.wac_resolution_expressions.proofs.expr.+expression.Given as goal
 
 abbrev pub invariant-arguments-loop-one : goal.invariant-arguments-loop-one
-invariant-arguments-loop-one g l = InLoop l.setting (rules_of g.R.Rules l.rules) l.fn.state.graph (by_name l.fn.given.entries) (numbers_of l.root.nodes) l.world l.state.graph (by_name l.given.entries) l.arguments l.one-index l.left
+invariant-arguments-loop-one g l = InLoop l.context (rules_of g.R.Rules l.rules) l.fn.state.graph (by_name l.fn.given.entries) (numbers_of l.root.nodes) l.world l.state.graph (by_name l.given.entries) l.arguments l.one-index l.left
 
 abbrev pub decreases-expression : goal.decreases-expression
 decreases-expression g l = 8 * size-Expr l.expr.now + 0

@@ -1,11 +1,11 @@
 use Rattle.std.proofs.Common.{subst}
 use Rattle.std.specs.Prelude.{IfOk, MatchOption}
 use Rattle.wac_graph.specs.Package.{Key}
-use Rattle.wac_resolution_paths.specs.Expands.{Loads, IsNotHanded}
-use Rattle.wac_resolution_paths.specs.Setting.{packages_in}
+use Rattle.wac_resolution_paths.specs.Expands.{Loads, IsNotSupplied}
+use Rattle.wac_resolution_paths.specs.Context.{packages_in}
 use Rattle.wac_resolution_paths.proofs.foreign.load.Goals as goal
 
 pub returns : goal.returns
 returns c =
-    subst (λ (k : Key). IfOk c.«package».result (λ o. MatchOption o (IsNotHanded (packages_in c.args.setting.now) k) (λ id. Loads (packages_in c.args.setting.now) c.args.state.now.graph c.«package».new.state.graph k id.0)))
+    subst (λ (k : Key). IfOk c.«package».result (λ o. MatchOption o (IsNotSupplied (packages_in c.args.context.now) k) (λ id. Loads (packages_in c.args.context.now) c.args.state.now.graph c.«package».new.state.graph k id.0)))
     c.in_ok-key.ensures c.«package».ensures

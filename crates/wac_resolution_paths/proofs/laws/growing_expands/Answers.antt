@@ -4,8 +4,8 @@ use Rattle.wac_resolution_paths.proofs.laws.growing_expands.Goals as goal
 pub returns-clause-expands : goal.returns-clause-expands
 returns-clause-expands c = grows_expands
 
-pub returns-clause-handed : goal.returns-clause-handed
-returns-clause-handed c = handed_grown
+pub returns-clause-supplied : goal.returns-clause-supplied
+returns-clause-supplied c = handed_grown
 
 pub returns-clause-kept : goal.returns-clause-kept
 returns-clause-kept c = handed_kept

@@ -7,7 +7,7 @@ use Rattle.wac_resolution_errors.specs.Told.{told}
 use Rattle.wac_resolution_rules.specs.BrokenTypes.{ParamsBroken}
 use Rattle.wac_resolution_state.specs.Bindings.{values_of}
 use Rattle.wac_resolution_state.specs.Named.{scope_of}
-use Rattle.wac_resolution_types.specs.Funcs.{given, types_named, ParamsGo}
+use Rattle.wac_resolution_types.specs.Funcs.{given, types_named, ParamSteps}
 use Rattle.wac_resolution_errors.proofs.Reports.{reports}
 use Rattle.wac_resolution_types.proofs.NamedParts.{parts_still_named}
 use Rattle.wac_resolution_types.proofs.FuncParts.{func_is, func_kinds, func_results_break}
@@ -22,7 +22,7 @@ returns-in_err-take_params-clause-err c =
 
 pub returns-in_err-results-clause-err : goal.returns-in_err-results-clause-err
 returns-in_err-results-clause-err c =
-    let go = subst (λ (l : List NamedType). ParamsGo c.args.state.now.graph c.take_params.new.state.graph (values_of c.args.names.now) (by_name c.args.first.entries) (by_name c.take_params.new.all.entries) (map named_type_of l)) c.deref.ensures.value c.in_ok-take_params.ensures.ok in
+    let go = subst (λ (l : List NamedType). ParamSteps c.args.state.now.graph c.take_params.new.state.graph (values_of c.args.names.now) (by_name c.args.first.entries) (by_name c.take_params.new.all.entries) (map named_type_of l)) c.deref.ensures.value c.in_ok-take_params.ensures.ok in
     let p = err_from_is_err_and c.from_residual-in_err-results.result c.from_residual-in_err-results.ensures.1 in
     rw (p.1, p.2) (reports c.in_err-results.ensures.err (func_results_break c.args.kind c.args.state.now.graph c.take_params.new.state.graph (values_of c.args.names.now) (by_name c.args.first.entries) (by_name c.take_params.new.all.entries) (func_type_of c.args.func.now) (told c.in_err-results.field-0.0)
     c.requires.scope go))
@@ -34,6 +34,6 @@ add_func-requires c =
 
 pub returns-clause-ok : goal.returns-clause-ok
 returns-clause-ok c =
-    let go = subst (λ (l : List NamedType). ParamsGo c.args.state.now.graph c.take_params.new.state.graph (values_of c.args.names.now) (by_name c.args.first.entries) (by_name c.take_params.new.all.entries) (map named_type_of l)) c.deref.ensures.value c.in_ok-take_params.ensures.ok in
+    let go = subst (λ (l : List NamedType). ParamSteps c.args.state.now.graph c.take_params.new.state.graph (values_of c.args.names.now) (by_name c.args.first.entries) (by_name c.take_params.new.all.entries) (map named_type_of l)) c.deref.ensures.value c.in_ok-take_params.ensures.ok in
     func_is c.args.state.now.graph c.take_params.new.state.graph c.results.new.state.graph c.add_func.new.self.graph (values_of c.args.names.now) (by_name c.args.first.entries) (by_name c.take_params.new.all.entries) (func_type_of c.args.func.now) c.in_ok-results.results c.in_ok-add_func.field-0
     c.requires.scope go c.in_ok-results.ensures.ok c.in_ok-add_func.ensures

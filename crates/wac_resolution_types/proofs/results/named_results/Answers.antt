@@ -9,7 +9,7 @@ use Rattle.wac_resolution_errors.specs.Told.{told}
 use Rattle.wac_resolution_rules.specs.Types.{HasResult}
 use Rattle.wac_resolution_rules.specs.BrokenTypes.{ResultBroken}
 use Rattle.wac_resolution_state.specs.Bindings.{values_of}
-use Rattle.wac_resolution_types.specs.Funcs.{given, ResultsGo}
+use Rattle.wac_resolution_types.specs.Funcs.{given, ResultSteps}
 use Rattle.wac_resolution_errors.proofs.Reports.{reports}
 use Rattle.wac_resolution_state.proofs.Grown.{still_named}
 use Rattle.wac_resolution_types.proofs.NamedParts.{no_parts, parts_step, parts_all, parts_break}
@@ -19,7 +19,7 @@ use Rattle.wac_resolution_types.proofs.results.named_results.Goals as goal
 pub loop-result-init : goal.loop-result-init
 loop-result-init c =
     let empty : c.new-all.result.entries ≡ [] = search rules in
-    subst (λ (l : Named ValueType). ResultsGo c.args.state.now.graph c.args.state.now.graph (values_of c.args.names.now) [] l []) (sym (none_named c.new-all.result.entries empty))
+    subst (λ (l : Named ValueType). ResultSteps c.args.state.now.graph c.args.state.now.graph (values_of c.args.names.now) [] l []) (sym (none_named c.new-all.result.entries empty))
     (no_parts given HasResult c.args.state.now.graph (values_of c.args.names.now) [] tt)
 
 pub named_result-requires-clause-scope : goal.named_result-requires-clause-scope

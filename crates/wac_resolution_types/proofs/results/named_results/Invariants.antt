@@ -2,8 +2,8 @@ use Rattle.std.proofs.Common.{[], map, take}
 use Rattle.wac_graph_types.specs.Names.{by_name}
 use Rattle.wac_ast_types.specs.Declarations.{named_type_of}
 use Rattle.wac_resolution_state.specs.Bindings.{values_of}
-use Rattle.wac_resolution_types.specs.Funcs.{ResultsGo}
+use Rattle.wac_resolution_types.specs.Funcs.{ResultSteps}
 use Rattle.wac_resolution_types.proofs.results.named_results.Given as goal
 
 abbrev pub invariant-loop-result : goal.invariant-loop-result
-invariant-loop-result l = ResultsGo l.fn.state.graph l.state.graph (values_of l.names) [] (by_name l.all.entries) (take l.result-index (map named_type_of l.named))
+invariant-loop-result l = ResultSteps l.fn.state.graph l.state.graph (values_of l.names) [] (by_name l.all.entries) (take l.result-index (map named_type_of l.named))

@@ -2,8 +2,8 @@ use Rattle.std.proofs.Common.{map, take}
 use Rattle.wac_graph_types.specs.Names.{by_name}
 use Rattle.wac_ast_types.specs.Declarations.{variant_case_of}
 use Rattle.wac_resolution_state.specs.Bindings.{values_of}
-use Rattle.wac_resolution_types.specs.Declarations.{CasesGo}
+use Rattle.wac_resolution_types.specs.Declarations.{CaseSteps}
 use Rattle.wac_resolution_types.proofs.variants.take_cases.Given as goal
 
 abbrev pub invariant-loop-case : goal.invariant-loop-case
-invariant-loop-case l = CasesGo l.fn.state.graph l.state.graph (values_of l.names) (by_name l.fn.all.entries) (by_name l.all.entries) (take l.case-index (map variant_case_of l.cases))
+invariant-loop-case l = CaseSteps l.fn.state.graph l.state.graph (values_of l.names) (by_name l.fn.all.entries) (by_name l.all.entries) (take l.case-index (map variant_case_of l.cases))

@@ -23,5 +23,5 @@ returns-in_err-kind-clause-err c =
 
 pub returns-clause-ok : goal.returns-clause-ok
 returns-clause-ok c =
-    named_goes c.args.setting.now c.args.side c.args.state.now.graph c.extern_type.new.state.graph (values_of c.args.root.now) (lists_of c.args.body.now) (lists_of c.add.new.self) (named_world_item_of c.args.item.now) c.in_ok-kind.kind
+    named_goes c.args.context.now c.args.side c.args.state.now.graph c.extern_type.new.state.graph (values_of c.args.root.now) (lists_of c.args.body.now) (lists_of c.add.new.self) (named_world_item_of c.args.item.now) c.in_ok-kind.kind
     c.requires.body c.in_ok-check_extern.ensures.ok c.in_ok-kind.ensures.ok c.in_ok-add.ensures

@@ -3,8 +3,8 @@ use Rattle.wac_ast_worlds.specs.Worlds.{world_item_of}
 use Rattle.wac_resolution_rules.specs.Worlds.{includes_of}
 use Rattle.wac_resolution_state.specs.Bindings.{values_of}
 use Rattle.wac_resolution_bodies.specs.Lists.{lists_of}
-use Rattle.wac_resolution_worlds.specs.WorldItems.{IncludesGo}
+use Rattle.wac_resolution_worlds.specs.WorldItems.{IncludeSteps}
 use Rattle.wac_resolution_worlds.proofs.includes.includes.Given as goal
 
 abbrev pub invariant-loop-item : goal.invariant-loop-item
-invariant-loop-item l = IncludesGo l.setting l.fn.state.graph l.state.graph (values_of l.root) (lists_of l.fn.body) (lists_of l.body) (includes_of (take l.item-index (map world_item_of l.items)))
+invariant-loop-item l = IncludeSteps l.context l.fn.state.graph l.state.graph (values_of l.root) (lists_of l.fn.body) (lists_of l.body) (includes_of (take l.item-index (map world_item_of l.items)))

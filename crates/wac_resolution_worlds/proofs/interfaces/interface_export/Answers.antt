@@ -12,7 +12,7 @@ use Rattle.wac_resolution_worlds.proofs.interfaces.interface_export.Goals as goa
 pub returns-in_err-func-clause-err : goal.returns-in_err-func-clause-err
 returns-in_err-func-clause-err c =
     let p = err_from_is_err_and c.from_residual.result c.from_residual.ensures.1 in
-    rw (p.1, p.2) (reports c.in_err-func.ensures.err (λ err naming setting root before. inl (err naming)))
+    rw (p.1, p.2) (reports c.in_err-func.ensures.err (λ err naming context root before. inl (err naming)))
 
 pub returns-in_err-check_extern-clause-err : goal.returns-in_err-check_extern-clause-err
 returns-in_err-check_extern-clause-err c =

@@ -2,8 +2,8 @@ use Rattle.std.proofs.Common.{map, take}
 use Rattle.wac_ast_worlds.specs.Worlds.{interface_item_of}
 use Rattle.wac_resolution_state.specs.Bindings.{values_of}
 use Rattle.wac_resolution_bodies.specs.Lists.{lists_of}
-use Rattle.wac_resolution_worlds.specs.Made.{InterfaceItemsGo}
+use Rattle.wac_resolution_worlds.specs.Made.{InterfaceItemSteps}
 use Rattle.wac_resolution_worlds.proofs.interfaces.interface_items.Given as goal
 
 abbrev pub invariant-loop-item : goal.invariant-loop-item
-invariant-loop-item l = InterfaceItemsGo l.setting l.fn.state.graph l.state.graph (values_of l.root) (lists_of l.fn.body) (lists_of l.body) (take l.item-index (map interface_item_of l.items))
+invariant-loop-item l = InterfaceItemSteps l.context l.fn.state.graph l.state.graph (values_of l.root) (lists_of l.fn.body) (lists_of l.body) (take l.item-index (map interface_item_of l.items))

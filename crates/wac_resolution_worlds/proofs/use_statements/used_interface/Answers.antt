@@ -11,7 +11,7 @@ use Rattle.wac_resolution_rules.specs.Spans.{use_path_name}
 use Rattle.wac_resolution_state.specs.Bindings.{values_of}
 use Rattle.wac_resolution_state.specs.Named.{scope_of}
 use Rattle.wac_resolution_paths.specs.Expands.{Found}
-use Rattle.wac_resolution_paths.specs.Setting.{packages_in, setting_of}
+use Rattle.wac_resolution_paths.specs.Context.{packages_in, context_of}
 use Rattle.wac_resolution_errors.proofs.Reports.{reports}
 use Rattle.wac_resolution_worlds.proofs.use_statements.used_interface.Goals as goal
 
@@ -32,5 +32,5 @@ returns-in_err-interface-clause-err c =
 
 pub returns-clause-ok : goal.returns-clause-ok
 returns-clause-ok c =
-    subst (λ (k : ItemKind). Found (packages_in c.args.setting.now) c.args.state.now.graph c.use_path.new.state.graph (λ naming m. UseNames (setting_of naming c.args.setting.now) (scope_of naming c.args.state.now.graph (values_of c.args.root.now)) (use_path_of c.args.path.now) m) k)
+    subst (λ (k : ItemKind). Found (packages_in c.args.context.now) c.args.state.now.graph c.use_path.new.state.graph (λ naming m. UseNames (context_of naming c.args.context.now) (scope_of naming c.args.state.now.graph (values_of c.args.root.now)) (use_path_of c.args.path.now) m) k)
     c.in_ok-interface.ensures.ok c.in_ok-kind.ensures.ok

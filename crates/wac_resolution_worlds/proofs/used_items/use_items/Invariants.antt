@@ -1,8 +1,8 @@
 use Rattle.std.proofs.Common.{map, take}
 use Rattle.wac_ast_uses.specs.Uses.{use_item_of}
 use Rattle.wac_resolution_bodies.specs.Lists.{lists_of}
-use Rattle.wac_resolution_worlds.specs.Used.{UsesGo}
+use Rattle.wac_resolution_worlds.specs.Used.{UseSteps}
 use Rattle.wac_resolution_worlds.proofs.used_items.use_items.Given as goal
 
 abbrev pub invariant-loop-item : goal.invariant-loop-item
-invariant-loop-item l = UsesGo l.side l.state.graph l.interface (lists_of l.fn.body) (lists_of l.body) (take l.item-index (map use_item_of l.items))
+invariant-loop-item l = UseSteps l.side l.state.graph l.interface (lists_of l.fn.body) (lists_of l.body) (take l.item-index (map use_item_of l.items))

@@ -28,12 +28,12 @@ returns-in_err-mentioned-clause-layout g c =
 pub returns-clause-held : goal.returns-clause-held
 returns-clause-held g c =
     IfOk-weaker c.resolve_with.result (λ r. HoldsSupplied c.keep_mentioned-kept.result.entries r.graph) (λ r. HoldsMentioned (mentions (document_of c.args.self)) r.graph)
-    (λ r handed. holds_mentioned (document_of c.args.self) c.args.packages.entries c.keep_mentioned-kept.result.entries r.graph (kept_for c.new.result c.args.self c.args.packages.entries c.keep_mentioned-kept.result.entries (mentions_in c.in_ok-mentioned.mentioned.entries) (c.new.ensures ∙ c.self.view_is) c.in_ok-mentioned.ensures.first c.in_ok-mentioned.ensures.matter c.keep_mentioned-kept.ensures) handed) c.resolve_with.ensures.supplied
+    (λ r supplied. holds_mentioned (document_of c.args.self) c.args.packages.entries c.keep_mentioned-kept.result.entries r.graph (kept_for c.new.result c.args.self c.args.packages.entries c.keep_mentioned-kept.result.entries (mentions_in c.in_ok-mentioned.mentioned.entries) (c.new.ensures ∙ c.self.view_is) c.in_ok-mentioned.ensures.first c.in_ok-mentioned.ensures.matter c.keep_mentioned-kept.ensures) supplied) c.resolve_with.ensures.supplied
 
 pub returns-clause-supplied : goal.returns-clause-supplied
 returns-clause-supplied g c =
     IfOk-weaker c.resolve_with.result (λ r. HoldsSupplied c.keep_mentioned-kept.result.entries r.graph) (λ r. HoldsSupplied c.args.packages.entries r.graph)
-    (λ r handed. holds_supplied (document_of c.args.self) c.args.packages.entries c.keep_mentioned-kept.result.entries r.graph (kept_for c.new.result c.args.self c.args.packages.entries c.keep_mentioned-kept.result.entries (mentions_in c.in_ok-mentioned.mentioned.entries) (c.new.ensures ∙ c.self.view_is) c.in_ok-mentioned.ensures.first c.in_ok-mentioned.ensures.matter c.keep_mentioned-kept.ensures) handed) c.resolve_with.ensures.supplied
+    (λ r supplied. holds_supplied (document_of c.args.self) c.args.packages.entries c.keep_mentioned-kept.result.entries r.graph (kept_for c.new.result c.args.self c.args.packages.entries c.keep_mentioned-kept.result.entries (mentions_in c.in_ok-mentioned.mentioned.entries) (c.new.ensures ∙ c.self.view_is) c.in_ok-mentioned.ensures.first c.in_ok-mentioned.ensures.matter c.keep_mentioned-kept.ensures) supplied) c.resolve_with.ensures.supplied
 
 pub returns-clause-graph : goal.returns-clause-graph
 returns-clause-graph g c =

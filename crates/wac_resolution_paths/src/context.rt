@@ -5,7 +5,7 @@ use wac_graph::{Package, PackageKey};
 
 /// What a document is resolved in: its own package, and the packages that were supplied.
 #[derive(Clone, Copy)]
-pub struct Setting<'s> {
+pub struct Context<'s> {
     /// The name of the document's own package.
     pub own: &'s str,
     /// Its version.

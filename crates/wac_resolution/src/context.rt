@@ -2,13 +2,13 @@
 ghost use Rattle.std.specs.Prelude.{◌≡◌, option_map};
 ghost use Rattle.wac_ast_statements.specs.Statements.{directive_of};
 ghost use Rattle.wac_ast_grammar.specs.Version.{version_text};
-ghost use Rattle.wac_resolution_paths.specs.Setting.{packages_in};
+ghost use Rattle.wac_resolution_paths.specs.Context.{packages_in};
 ghost use Rattle.wac_resolution.specs.Resolved.{by_key};
 
 use indexmap::IndexMap;
 use wac_ast::PackageDirective;
 use wac_graph::{Package, PackageKey};
-use wac_resolution_paths::Setting;
+use wac_resolution_paths::Context;
 
 /// The text of the version, after `@`.
 fn version(text: &str) -> Option<&str>
@@ -19,16 +19,16 @@ fn version(text: &str) -> Option<&str>
 }
 
 /// What the document of a directive is resolved in, with these packages.
-pub(crate) fn setting<'s>(
+pub(crate) fn context<'s>(
     directive: &PackageDirective<'s>,
     packages: &'s IndexMap<PackageKey, Package>,
-) -> Setting<'s>
+) -> Context<'s>
     ensures own { result.own.now ≡ (directive_of directive.now).package_name.name }
     ensures version { option_map (λ v. v.now) result.version
         ≡ version_text (directive_of directive.now).package_name.string }
     ensures packages { packages_in result ≡ by_key packages.now.entries }
 {
-    Setting {
+    Context {
         own: directive.package.name,
         version: version(directive.package.string),
         packages,

@@ -5,15 +5,15 @@ use Rattle.wac_graph.specs.Origin.{Naming}
 use Rattle.wac_graph.specs.Package.{Key, key_of}
 use Rattle.wac_graph.specs.Packages.{handed}
 use Rattle.wac_resolution_rules.specs.Paths as rules
-use Rattle.wac_resolution_paths.specs.declared.setting.Setting.{Setting}
+use Rattle.wac_resolution_paths.specs.declared.context.Context.{Context}
 
 -- the supplied packages by key
-abbrev pub packages_in : Setting → List (Key × PackageParts)
+abbrev pub packages_in : Context → List (Key × PackageParts)
 packages_in s = map (λ e. (key_of e.0, e.1)) s.packages.now.entries
 
--- the setting that the rules speak of
-abbrev pub setting_of : Naming → Setting → rules.Setting
-setting_of naming s = record {
+-- the context that the rules speak of
+abbrev pub context_of : Naming → Context → rules.Context
+context_of naming s = record {
   naming = naming;
   own = s.own.now;
   version = option_map (λ v. v.now) s.version;

@@ -1,6 +1,0 @@
-use Rattle.std.proofs.Common.{◌∙◌}
-use Rattle.wac_resolution_paths.proofs.Keys.{keyed_found}
-use Rattle.wac_resolution_paths.proofs.packages.handed.Goals as goal
-
-pub returns : goal.returns
-returns c = c.get.ensures.value ∙ keyed_found c.args.key.now c.args.setting.now.packages.now.entries
