@@ -1,13 +1,11 @@
 // Runs over files in memory.
 use crate::components::Component;
+use crate::runs::{Ran, difference};
 use std::alloc::{AllocError, Global};
 use wac_cli_components::{PackageForm, show_package};
 use wac_cli_console::{Console, Report};
 use wac_cli_packages::{Given, check_target};
 use wac_files::MemoryFiles;
-
-/// The status, the output and the errors of a run.
-pub(crate) type Ran = (u8, Vec<u8>, Vec<u8>);
 
 /// What the file `app.wasm` holds, what is asked of its package, and the status, the output and the errors that are
 /// expected.
@@ -66,17 +64,6 @@ pub(crate) fn run_targets(
         check_target(alloc, files, &mut console, given, paths)
     };
     (status.code(), output, errors)
-}
-
-/// What was found in place of what is expected, or nothing.
-fn difference(alloc: Global, ran: &Ran, expected: (u8, &str, &str)) -> Result<String, AllocError> {
-    let (status, output, errors) = ran;
-    let output = str::from_utf8(output.as_slice()).unwrap_or("?");
-    let errors = str::from_utf8(errors.as_slice()).unwrap_or("?");
-    if *status == expected.0 && output == expected.1 && errors == expected.2 {
-        return Ok(String::new(alloc));
-    }
-    format!(in alloc; "{status}\n{output}\n{errors}\n")
 }
 
 fn package_difference(alloc: Global, row: &PackageRow) -> Result<String, AllocError> {

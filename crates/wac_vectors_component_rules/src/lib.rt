@@ -8,6 +8,8 @@ mod asynchronous;
 #[cfg(test)]
 mod building;
 #[cfg(test)]
+mod chain_paths;
+#[cfg(test)]
 mod chains;
 #[cfg(test)]
 mod choices;
@@ -23,8 +25,6 @@ mod instance_pairs;
 mod items;
 #[cfg(test)]
 mod kinds;
-#[cfg(test)]
-mod long_chains;
 #[cfg(test)]
 mod modules;
 #[cfg(test)]

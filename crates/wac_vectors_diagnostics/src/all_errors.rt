@@ -101,8 +101,8 @@ fn told(alloc: Global, bytes: &[u8], resolve: bool, limit: usize) -> Result<Stri
     Ok(told)
 }
 
-/// Asserts that a text has the errors of a row.
-fn expect(rt: &impl Abort, found: &str, wanted: &str) {
+/// Asserts that this is told of a text.
+pub(crate) fn expect(rt: &impl Abort, found: &str, wanted: &str) {
     assert!(rt; found == wanted, "{found}, and not {wanted}");
 }
 

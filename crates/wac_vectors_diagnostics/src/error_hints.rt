@@ -1,7 +1,7 @@
 //! What is said of mistakes, and the edits that mend them.
 
+use crate::all_errors::expect;
 use std::alloc::{AllocError, Global};
-use std::process::Abort;
 use std::test::Fail;
 use wac_all_errors::{Finding, all_errors};
 
@@ -31,11 +31,6 @@ fn lines(alloc: Global, text: &[u8]) -> Result<String, AllocError> {
         lines.push_str(told.as_str())?;
     }
     Ok(lines)
-}
-
-/// Asserts that this is said of a text.
-fn expect(rt: &impl Abort, found: &str, wanted: &str) {
-    assert!(rt; found == wanted, "{found}, and not {wanted}");
 }
 
 #[test]

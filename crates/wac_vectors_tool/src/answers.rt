@@ -1,20 +1,9 @@
 //! What the program answers.
 
+use crate::runs::ran;
 use std::alloc::{AllocError, Global};
-use std::io::{Read, Write};
 use std::process::Abort;
-use wac_lexer::{In, Out};
-use wac_tool::{Command, RunError, run};
-
-/// A run over a reader and a writer. It has no contract, so that the proofs of the tests read nothing of that of `run`.
-fn ran<R: Read + Drop, W: Write + Drop>(
-    alloc: Global,
-    command: Command,
-    reader: R,
-    writer: W,
-) -> Result<(), RunError> {
-    run(alloc, command, &mut In::new(reader), &mut Out::new(writer))
-}
+use wac_tool::{Command, RunError};
 
 /// What begins the answer to a text that is rejected.
 pub const REJECTED: &str = "error: ";

@@ -8,7 +8,7 @@ use wac_graph::{
     CompositionGraph, ItemKind, NodeId, Package, PackageError, PrimitiveType, Type, ValueType,
 };
 
-const BYTE: ValueType = ValueType::Primitive(PrimitiveType::U8);
+pub const BYTE: ValueType = ValueType::Primitive(PrimitiveType::U8);
 
 /// The node of a number, if there is one.
 fn node_at(graph: &CompositionGraph, number: usize) -> Option<NodeId>

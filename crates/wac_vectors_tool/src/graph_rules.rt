@@ -1,10 +1,9 @@
 //! Which kinds and which names pass.
 
+use crate::graph_building::BYTE;
 use std::test::Fail;
 use wac_graph::{ItemKind, PrimitiveType, Reason, Rules, Type, Types, ValueType};
 use wac_tool_graphs::SameRules;
-
-const BYTE: ValueType = ValueType::Primitive(PrimitiveType::U8);
 
 const CHAR: ValueType = ValueType::Primitive(PrimitiveType::Char);
 

@@ -1,22 +1,11 @@
-//! Chains of types that name the one before twice: that they fit, and where they differ, is found at once.
+//! Where chains of types differ that name the one before twice: it is found at once.
 
+use crate::building::{BYTE, CHAR};
+use crate::chains::{LENGTH, chain};
 use crate::tables::{package_of, reads, told};
 use std::alloc::{AllocError, Global};
 use std::test::Fail;
-use wac_graph_types::{DefinedType, ItemKind, PrimitiveType, Types, ValueType};
-
-/// How many types a chain has.
-const LENGTH: usize = 40;
-
-/// A chain of pairs over a primitive type.
-fn chain(alloc: Global, types: &mut Types, first: PrimitiveType) -> Result<ItemKind, AllocError> {
-    let mut last = ValueType::Primitive(first);
-    for _ in 0..LENGTH {
-        let pair = vec![in alloc; last, last]?;
-        last = ValueType::Defined(types.add_defined_type(DefinedType::Tuple(pair))?);
-    }
-    Ok(ItemKind::Value(last))
-}
+use wac_graph_types::Types;
 
 /// A path through the first element of each pair, and what is at its end.
 fn first_elements(alloc: Global) -> Result<String, AllocError> {
@@ -32,9 +21,9 @@ fn first_elements(alloc: Global) -> Result<String, AllocError> {
 fn long_chains_end_at_once(rt: HostRuntime) -> Result<(), Fail> {
     let alloc = rt.alloc();
     let mut types = Types::new(alloc);
-    let bytes = chain(alloc, &mut types, PrimitiveType::U8)?;
-    let others = chain(alloc, &mut types, PrimitiveType::U8)?;
-    let chars = chain(alloc, &mut types, PrimitiveType::Char)?;
+    let bytes = chain(alloc, &mut types, BYTE)?;
+    let others = chain(alloc, &mut types, BYTE)?;
+    let chars = chain(alloc, &mut types, CHAR)?;
     match package_of(alloc, types, &[bytes, others, chars]) {
         Err(_) => assert!(rt; false, "the chains make no package"),
         Ok(package) => {
