@@ -1,6 +1,6 @@
 // What `wacx package` writes: the texts of the first two components are those of another program.
-use crate::components::Component;
 use crate::component_runs::{PackageRow, package_differences};
+use crate::components::Component;
 use std::test::Fail;
 use wac_cli_components::PackageForm;
 

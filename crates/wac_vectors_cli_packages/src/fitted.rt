@@ -1,6 +1,6 @@
 // What `wacx targets` says. Lines, columns and paths are counted by hand.
-use crate::components::Component;
 use crate::component_runs::{TargetRow, given_of, run_targets, target_differences};
+use crate::components::Component;
 use std::test::Fail;
 use wac_cli_console::Report;
 use wac_files::MemoryFiles;

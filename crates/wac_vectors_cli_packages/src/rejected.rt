@@ -1,6 +1,6 @@
 // What `wacx package` says of what it can't show. Offsets are counted by hand.
-use crate::components::Component;
 use crate::component_runs::{PackageRow, package_differences, run_package};
+use crate::components::Component;
 use std::test::Fail;
 use wac_cli_components::PackageForm;
 use wac_files::MemoryFiles;

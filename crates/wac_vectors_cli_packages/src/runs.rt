@@ -44,12 +44,7 @@ fn tree(alloc: Global, files: &[(&str, &str)]) -> Result<MemoryFiles, AllocError
 }
 
 /// What a command on `app.wac` returns, and what it writes to its output and its errors.
-fn run(
-    alloc: Global,
-    files: &mut MemoryFiles,
-    word: Word,
-    given: Given<'_>,
-) -> Ran {
+fn run(alloc: Global, files: &mut MemoryFiles, word: Word, given: Given<'_>) -> Ran {
     let mut output = Vec::new(alloc);
     let mut errors = Vec::new(alloc);
     let status = {

@@ -1,8 +1,8 @@
 //! Generated documents: what is printed of each reads back, and it is resolved to the same as the document.
 
 use crate::answers::{REJECTED, answer};
-use crate::generator::document;
 use crate::generated_texts::{bare, with_returns, with_tabs};
+use crate::generator::document;
 use std::alloc::{AllocError, Global};
 use std::process::Abort;
 use std::test::Fail;
