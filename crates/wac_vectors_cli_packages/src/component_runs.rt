@@ -1,6 +1,6 @@
 // Runs over files in memory.
 use crate::components::Component;
-use crate::runs::{Ran, difference};
+use crate::runs::{Answer, difference};
 use std::alloc::{AllocError, Global};
 use wac_cli_components::{PackageForm, show_package};
 use wac_cli_console::{Console, Report};
@@ -40,7 +40,7 @@ pub(crate) fn run_package(
     files: &mut MemoryFiles,
     asked: (Option<&str>, PackageForm),
     path: &str,
-) -> Ran {
+) -> Answer {
     let mut output = Vec::new(alloc);
     let mut errors = Vec::new(alloc);
     let status = {
@@ -56,7 +56,7 @@ pub(crate) fn run_targets(
     files: &mut MemoryFiles,
     given: (Given<'_>, Option<&str>),
     paths: (&str, &str),
-) -> Ran {
+) -> Answer {
     let mut output = Vec::new(alloc);
     let mut errors = Vec::new(alloc);
     let status = {
@@ -69,8 +69,8 @@ pub(crate) fn run_targets(
 fn package_difference(alloc: Global, row: &PackageRow) -> Result<String, AllocError> {
     let mut files = MemoryFiles::new(alloc);
     files.file(alloc, "app.wasm", row.component.bytes())?;
-    let ran = run_package(alloc, &mut files, (row.name, row.form), "app.wasm");
-    difference(alloc, &ran, (row.status, row.output, row.errors))
+    let answer = run_package(alloc, &mut files, (row.name, row.form), "app.wasm");
+    difference(alloc, &answer, (row.status, row.output, row.errors))
 }
 
 /// Packages, and the form of errors.
@@ -90,8 +90,8 @@ fn target_difference(alloc: Global, row: &TargetRow) -> Result<String, AllocErro
     files.file(alloc, "world.wac", row.text.as_bytes())?;
     files.file(alloc, "deps.wac", DEPENDENCIES.as_bytes())?;
     let given = (given_of(row.packages, row.report), row.world);
-    let ran = run_targets(alloc, &mut files, given, ("app.wasm", "world.wac"));
-    difference(alloc, &ran, (row.status, row.output, row.errors))
+    let answer = run_targets(alloc, &mut files, given, ("app.wasm", "world.wac"));
+    difference(alloc, &answer, (row.status, row.output, row.errors))
 }
 
 /// What was found in place of what rows expect.

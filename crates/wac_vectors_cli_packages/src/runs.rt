@@ -5,7 +5,7 @@ use wac_cli_packages::{Form, Given, check_with_packages, list_packages, show_gra
 use wac_files::MemoryFiles;
 
 /// The status, the output and the errors of a run.
-pub(crate) type Ran = (u8, Vec<u8>, Vec<u8>);
+pub(crate) type Answer = (u8, Vec<u8>, Vec<u8>);
 
 /// A command.
 #[derive(Clone, Copy)]
@@ -44,7 +44,7 @@ fn tree(alloc: Global, files: &[(&str, &str)]) -> Result<MemoryFiles, AllocError
 }
 
 /// What a command on `app.wac` returns, and what it writes to its output and its errors.
-fn run(alloc: Global, files: &mut MemoryFiles, word: Word, given: Given<'_>) -> Ran {
+fn run(alloc: Global, files: &mut MemoryFiles, word: Word, given: Given<'_>) -> Answer {
     let mut output = Vec::new(alloc);
     let mut errors = Vec::new(alloc);
     let status = {
@@ -92,10 +92,10 @@ fn report_of(word: Word) -> Report {
 /// What was found in place of what is expected, or nothing.
 pub(crate) fn difference(
     alloc: Global,
-    ran: &Ran,
+    answer: &Answer,
     expected: (u8, &str, &str),
 ) -> Result<String, AllocError> {
-    let (status, output, errors) = ran;
+    let (status, output, errors) = answer;
     let output = str::from_utf8(output.as_slice()).unwrap_or("?");
     let errors = str::from_utf8(errors.as_slice()).unwrap_or("?");
     if *status == expected.0 && output == expected.1 && errors == expected.2 {
@@ -113,8 +113,8 @@ fn row_difference(alloc: Global, row: &Row) -> Result<String, AllocError> {
         worlds: row.worlds,
         report: report_of(row.word),
     };
-    let ran = run(alloc, &mut files, row.word, given);
-    difference(alloc, &ran, (row.status, row.output, row.errors))
+    let answer = run(alloc, &mut files, row.word, given);
+    difference(alloc, &answer, (row.status, row.output, row.errors))
 }
 
 /// What was found in place of what rows expect.
