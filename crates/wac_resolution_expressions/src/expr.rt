@@ -68,8 +68,9 @@ fn primary<R: Rules>(
     }
 }
 
-/// A new instance of a package.
+/// A new instance of a package. It has a frame of its own, so that parentheses don't take its stack.
 #[cycle(expression)]
+#[inline(never)]
 fn instantiation<R: Rules>(
     state: &mut State,
     context: &Context<'_>,

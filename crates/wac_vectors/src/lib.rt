@@ -1,8 +1,11 @@
-//! Tests of `wac_parser`: texts that are documents, rejected, cut or long, their layout, writers and memory that fail, and mentions of packages.
+//! Tests of `wac_parser` and `wac_examples`: texts that are documents, rejected, cut or long, their layout, writers and
+//! memory that fail, and mentions of packages; what the examples return for the texts that the documents show.
 #![tactic(auto)]
 
 #[cfg(test)]
 mod cuts;
+#[cfg(test)]
+mod examples;
 #[cfg(test)]
 mod layout;
 #[cfg(test)]

@@ -4,6 +4,9 @@ use wac_cli_console::{Console, Report};
 use wac_cli_packages::{Form, Given, check_with_packages, list_packages, show_graph_with_packages};
 use wac_files::MemoryFiles;
 
+/// The status, the output and the errors of a run.
+pub(crate) type Answer = (u8, Vec<u8>, Vec<u8>);
+
 /// A command.
 #[derive(Clone, Copy)]
 pub(crate) enum Word {
@@ -41,12 +44,7 @@ fn tree(alloc: Global, files: &[(&str, &str)]) -> Result<MemoryFiles, AllocError
 }
 
 /// What a command on `app.wac` returns, and what it writes to its output and its errors.
-fn run(
-    alloc: Global,
-    files: &mut MemoryFiles,
-    word: Word,
-    given: Given<'_>,
-) -> (u8, Vec<u8>, Vec<u8>) {
+fn run(alloc: Global, files: &mut MemoryFiles, word: Word, given: Given<'_>) -> Answer {
     let mut output = Vec::new(alloc);
     let mut errors = Vec::new(alloc);
     let status = {
@@ -91,8 +89,22 @@ fn report_of(word: Word) -> Report {
     }
 }
 
-/// What was found in place of what a row expects, or nothing.
-fn difference(alloc: Global, row: &Row) -> Result<String, AllocError> {
+/// What was found in place of what is expected, or nothing.
+pub(crate) fn difference(
+    alloc: Global,
+    answer: &Answer,
+    expected: (u8, &str, &str),
+) -> Result<String, AllocError> {
+    let (status, output, errors) = answer;
+    let output = str::from_utf8(output.as_slice()).unwrap_or("?");
+    let errors = str::from_utf8(errors.as_slice()).unwrap_or("?");
+    if *status == expected.0 && output == expected.1 && errors == expected.2 {
+        return Ok(String::new(alloc));
+    }
+    format!(in alloc; "{status}\n{output}\n{errors}\n")
+}
+
+fn row_difference(alloc: Global, row: &Row) -> Result<String, AllocError> {
     let mut files = tree(alloc, row.files)?;
     let given = Given {
         packages: row.packages,
@@ -101,20 +113,15 @@ fn difference(alloc: Global, row: &Row) -> Result<String, AllocError> {
         worlds: row.worlds,
         report: report_of(row.word),
     };
-    let (status, output, errors) = run(alloc, &mut files, row.word, given);
-    let output = str::from_utf8(output.as_slice()).unwrap_or("?");
-    let errors = str::from_utf8(errors.as_slice()).unwrap_or("?");
-    if status == row.status && output == row.output && errors == row.errors {
-        return Ok(String::new(alloc));
-    }
-    format!(in alloc; "{status}\n{output}\n{errors}\n")
+    let answer = run(alloc, &mut files, row.word, given);
+    difference(alloc, &answer, (row.status, row.output, row.errors))
 }
 
 /// What was found in place of what rows expect.
 pub(crate) fn differences(alloc: Global, rows: &[Row]) -> Result<String, AllocError> {
     let mut all = String::new(alloc);
     for row in rows {
-        let found = difference(alloc, row)?;
+        let found = row_difference(alloc, row)?;
         all.push_str(found.as_str())?;
     }
     Ok(all)

@@ -6,10 +6,13 @@ use std::alloc::{AllocError, Global};
 use std::test::Fail;
 use wac_graph_types::{DefinedType, ItemKind, Types, ValueType};
 
-/// Forty types, each a pair of the one before.
-fn chain(alloc: Global, types: &mut Types, first: ValueType) -> Result<ItemKind, AllocError> {
+/// How many types a chain has.
+pub const LENGTH: usize = 40;
+
+/// A chain of types, each a pair of the one before.
+pub fn chain(alloc: Global, types: &mut Types, first: ValueType) -> Result<ItemKind, AllocError> {
     let mut last = first;
-    for _ in 0..40 {
+    for _ in 0..LENGTH {
         let pair = vec![in alloc; last, last]?;
         last = defined(types, DefinedType::Tuple(pair))?;
     }

@@ -1,4 +1,5 @@
-//! Tests of `wac_lexer`: vectors of the language, names and messages, docs, scans, and devices of bytes.
+//! Tests of `wac_lexer` and `wac_positions`: vectors of the language, names and messages, docs, scans, and devices of
+//! bytes; places and offsets in each unit, and lines with each end.
 #![tactic(auto)]
 
 #[cfg(test)]
@@ -7,6 +8,8 @@ mod devices;
 mod docs;
 #[cfg(test)]
 mod items;
+#[cfg(test)]
+mod places;
 #[cfg(test)]
 mod scans;
 #[cfg(test)]

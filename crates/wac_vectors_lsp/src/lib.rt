@@ -1,5 +1,18 @@
-//! Tests of `wac_lsp`: whole sessions, message by message.
+//! Tests of the language server: frames in pieces of each size, the messages of transcripts, and replies as texts; the
+//! offsets of places, and texts after changes; whole sessions, message by message.
 #![tactic(auto)]
 
+#[cfg(test)]
+mod changes;
+#[cfg(test)]
+mod frames;
+#[cfg(test)]
+mod messages;
+#[cfg(test)]
+mod offsets;
+#[cfg(test)]
+mod pieces;
+#[cfg(test)]
+mod replies;
 #[cfg(test)]
 mod sessions;

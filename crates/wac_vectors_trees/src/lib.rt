@@ -1,4 +1,5 @@
-//! A part of the tests of `wac_vectors`: what is in trees, as their JSON shows it.
+//! Tests of trees and of the calls that their parsers share: what is in trees, as their JSON shows it; optional parts
+//! and payloads, the lexer's place after them, what a lookahead counts, and paths of packages.
 #![tactic(auto)]
 
 #[cfg(test)]
@@ -7,3 +8,9 @@ mod json_texts;
 mod json_values;
 #[cfg(test)]
 mod json_written;
+#[cfg(test)]
+mod optional;
+#[cfg(test)]
+mod paths;
+#[cfg(test)]
+mod places;

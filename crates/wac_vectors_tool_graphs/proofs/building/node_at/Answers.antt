@@ -1,9 +1,0 @@
-use Rattle.std.proofs.Common.{◌<◌, length, sym, subst}
-use Rattle.std.specs.List.{AllByRecursion}
-use Rattle.wac_vectors_tool_graphs.proofs.building.node_at.Goals as goal
-
-pub loop-id-init : goal.loop-id-init
-loop-id-init c = subst (AllByRecursion (λ k. k < length c.args.graph.now.nodes)) (sym c.into_iter-id-iterator.ensures.into_iter_gives) c.nodes-id-items.ensures.there
-
-pub loop-id-preserved : goal.loop-id-preserved
-loop-id-preserved c = (subst (AllByRecursion (λ k. k < length c.args.graph.now.nodes)) c.in-Some.ensures.steps c.loop-id.invariant).1
