@@ -1,0 +1,15 @@
+//! Tests of `wac_completion`: which kinds of tokens can stand at an offset.
+#![tactic(auto)]
+
+#[cfg(test)]
+mod marked;
+#[cfg(test)]
+mod names;
+#[cfg(test)]
+mod outside;
+#[cfg(test)]
+mod statements;
+#[cfg(test)]
+mod types;
+#[cfg(test)]
+mod worlds;
