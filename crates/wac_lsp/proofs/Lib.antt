@@ -1,1 +1,5 @@
 pub mod Edited
+pub mod Laid
+pub mod Remade
+pub mod Sending
+pub mod TextsIn

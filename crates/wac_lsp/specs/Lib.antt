@@ -1,2 +1,4 @@
+pub mod Edits
 pub mod Formatting
+pub mod Opened
 pub mod Replies

@@ -7,16 +7,21 @@
 
 mod actions;
 mod capabilities;
+mod completing;
 mod diagnostics;
 mod documents;
 mod folding;
 mod formatting;
+mod navigation;
 mod outline;
 mod pieces;
 mod places;
+mod questions;
+mod ranging;
 mod selecting;
 mod server;
 mod serving;
+mod statements;
 mod symbols;
 mod tokens;
 

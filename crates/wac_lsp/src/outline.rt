@@ -1,4 +1,5 @@
 //! What a text declares, by its tokens alone, so that a text with faults has an outline too.
+use crate::pieces::accepted;
 use std::alloc::{AllocError, Global};
 use wac_lexer::{Lexer, SourceSpan, Token};
 
@@ -194,7 +195,7 @@ impl Outliner {
     }
 }
 
-/// What a text declares, in order: nothing where a character is rejected.
+/// What a text declares up to its first rejected character, in order.
 pub(crate) fn outline(alloc: Global, text: &str) -> Result<Vec<Declared>, AllocError> {
     let mut outliner = Outliner {
         found: Vec::new(alloc),
@@ -203,7 +204,7 @@ pub(crate) fn outline(alloc: Global, text: &str) -> Result<Vec<Declared>, AllocE
         keyword: None,
         label: None,
     };
-    if let Ok(mut lexer) = Lexer::new(text) {
+    if let Ok(mut lexer) = Lexer::new(accepted(text)) {
         while let Some((item, span)) = lexer.next() {
             if let Ok(token) = item {
                 outliner.take(token, span)?;

@@ -4,6 +4,7 @@ use std::alloc::{AllocError, Global};
 use std::io::{Read, Write};
 use thiserror::Error;
 use wac_lsp_messages::{ReceiveError, Receiver, send};
+use wac_lsp_texts::ChangeError;
 
 /// Why a server ended without being asked to.
 #[derive(Debug, Drop, Error)]
@@ -14,6 +15,9 @@ pub enum ServeError {
     /// The input ended before the client asked the server to end.
     #[error("the input ended")]
     Ended,
+    /// A change has a place without an offset, so that the text of its document isn't known.
+    #[error("a change has no place in its document")]
+    NoPlace,
     /// The writer failed.
     #[error("the output failed")]
     Output,
@@ -25,6 +29,15 @@ pub enum ServeError {
 impl From<AllocError> for ServeError {
     fn from(error: AllocError) -> Self {
         ServeError::Memory(error)
+    }
+}
+
+impl From<ChangeError> for ServeError {
+    fn from(error: ChangeError) -> Self {
+        match error {
+            ChangeError::NoPlace => ServeError::NoPlace,
+            ChangeError::Memory => ServeError::Memory(AllocError),
+        }
     }
 }
 

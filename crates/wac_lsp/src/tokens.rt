@@ -5,7 +5,7 @@ use serde_json::{Value, json};
 use std::alloc::{AllocError, Global};
 use wac_comments_layout::Piece;
 use wac_lexer::{Lexer, Token};
-use wac_positions::{ColumnUnit, Lines};
+use wac_positions::ColumnUnit;
 
 /// The kind of a token.
 #[derive(Clone, Copy, Debug, PartialEq, Eq)]
@@ -158,7 +158,7 @@ impl Numbers {
     /// Adds a part of one line.
     fn add(
         &mut self,
-        view: &View<'_, '_>,
+        view: &View<'_>,
         start: usize,
         end: usize,
         kind: Kind,
@@ -183,7 +183,7 @@ impl Numbers {
     /// Adds a piece, cut where lines end.
     fn add_piece(
         &mut self,
-        view: &View<'_, '_>,
+        view: &View<'_>,
         piece: &Piece<'_>,
         kind: Kind,
     ) -> Result<(), AllocError> {
@@ -202,7 +202,7 @@ impl Numbers {
 /// The numbers of the kinds of pieces.
 fn numbers_of(
     alloc: Global,
-    view: &View<'_, '_>,
+    view: &View<'_>,
     pieces: &[Piece<'_>],
 ) -> Result<Vec<Value>, AllocError> {
     let mut numbers = Numbers {
@@ -219,15 +219,10 @@ fn numbers_of(
     Ok(values)
 }
 
-/// The kinds of a text's tokens and comments, five numbers each. There are none where a character is rejected.
+/// The kinds of a text's tokens and comments up to its first rejected character, five numbers each.
 pub(crate) fn tokens(alloc: Global, text: &str, unit: ColumnUnit) -> Result<Value, AllocError> {
     let pieces = pieces_of(alloc, text)?;
-    let lines = Lines::new(alloc, text)?;
-    let view = View {
-        lines: &lines,
-        len: text.len(),
-        unit,
-    };
+    let view = View::new(alloc, text, unit)?;
     let numbers = Value::Array(numbers_of(alloc, &view, pieces.as_slice())?);
     json!(in alloc; {"data": numbers})
 }

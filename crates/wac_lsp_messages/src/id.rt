@@ -1,4 +1,8 @@
 //! The ids of requests.
+ghost use Rattle.std.specs.Prelude.{◌≡◌, IfOk};
+ghost use Rattle.serde_json.specs.View.{view};
+ghost use Rattle.wac_lsp_messages.specs.Replying.{id_data};
+
 use serde_json::Value;
 use std::alloc::{AllocError, Global};
 
@@ -24,7 +28,9 @@ impl Id {
     }
 
     /// The id as a value.
-    pub(crate) fn to_value(&self, alloc: Global) -> Result<Value, AllocError> {
+    pub(crate) fn to_value(&self, alloc: Global) -> Result<Value, AllocError>
+        ensures { IfOk result (λ value. view value ≡ id_data self.now) }
+    {
         match self {
             Id::Number(number) => Ok(Value::from(*number)),
             Id::Text(text) => Value::try_from_str(alloc, text.as_str()),

@@ -20,7 +20,7 @@ pub(crate) fn serve_editor(rt: &HostRuntime) -> ExitCode {
 fn status_of(error: &ServeError) -> u8 {
     match error {
         ServeError::Ended => 1,
-        ServeError::Receive(_) | ServeError::Output => 3,
+        ServeError::Receive(_) | ServeError::NoPlace | ServeError::Output => 3,
         ServeError::Memory(_) => 4,
     }
 }
