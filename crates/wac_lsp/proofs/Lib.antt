@@ -1,5 +1,3 @@
 pub mod Edited
 pub mod Laid
-pub mod Remade
 pub mod Sending
-pub mod TextsIn

@@ -1,7 +1,5 @@
 -- What formatting changes.
 use Rattle.std.specs.Prelude.{◌≡◌, ℕ, List, [], ◌⊎◌, Bool, true, false}
-use Rattle.serde_json.specs.View.{view}
-use Rattle.serde_json.specs.declared.value.Value.{Value}
 use Rattle.wac_positions.specs.declared.place.ColumnUnit.{ColumnUnit}
 use Rattle.wac_comments.specs.Errors.{IsErrorOf}
 use Rattle.wac_comments.specs.Tidied.{IsPlain, Kept, SameTree}
@@ -10,7 +8,6 @@ use Rattle.wac_comments.specs.declared.error.TidyError.TheVariants.{Parse, Neste
 use Rattle.wac_comments.specs.declared.options.Options.{Options}
 use Rattle.wac_lsp_messages.specs.declared.notice.Change.{Change}
 use Rattle.wac_lsp_texts.specs.Changed.{Changes}
-use Rattle.wac_lsp.specs.Edits.{edits_data}
 
 -- the changes make the tidy form of a text, as `tidy` promises it
 pub record MakesTidy (unit : ColumnUnit) (options : Options) (text : List ℕ) (changes : List Change) : Type 0 where
@@ -36,10 +33,3 @@ pub record IsLeft (text : List ℕ) (changes : List Change) : Type 0 where
 
 abbrev pub LaysOut : ColumnUnit → Options → List ℕ → List Change → Type 0
 LaysOut unit options text changes = MakesTidy unit options text changes ⊎ IsLeft text changes
-
--- the value has the edits that lay out a text
-pub record IsFormatting (unit : ColumnUnit) (text : List ℕ) (value : Value) : Type 0 where
-  pub options : Options
-  pub changes : List Change
-  pub has : view value ≡ edits_data changes
-  pub lays_out : LaysOut unit options text changes

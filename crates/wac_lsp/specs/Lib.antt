@@ -1,4 +1,2 @@
-pub mod Edits
 pub mod Formatting
-pub mod Opened
 pub mod Replies

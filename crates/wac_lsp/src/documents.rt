@@ -1,7 +1,4 @@
 //! The documents that a client has open.
-ghost use Rattle.std.specs.Prelude.{◌≡◌, ◌∷◌, [], ◌++◌, not, OnOk, option_map, string_bytes};
-ghost use Rattle.wac_lsp.specs.Opened.{is_named, others, text_in};
-
 use std::alloc::AllocError;
 
 /// An open document.
@@ -13,16 +10,12 @@ pub(crate) struct Document {
 }
 
 /// Whether a document has this name.
-fn is_named(document: &Document, uri: &str) -> bool
-    ensures { result ≡ is_named uri.now document.now }
-{
+fn is_named(document: &Document, uri: &str) -> bool {
     document.uri.as_str() == uri
 }
 
 /// The text of an open document.
-pub(crate) fn text_of<'d>(documents: &'d [Document], uri: &str) -> Option<&'d str>
-    ensures { option_map (λ text. text.now) result ≡ text_in uri.now documents.now }
-{
+pub(crate) fn text_of<'d>(documents: &'d [Document], uri: &str) -> Option<&'d str> {
     for document in documents {
         if is_named(document, uri) {
             return Some(document.text.as_str());
@@ -32,20 +25,12 @@ pub(crate) fn text_of<'d>(documents: &'d [Document], uri: &str) -> Option<&'d st
 }
 
 /// Takes the document of a name away.
-pub(crate) fn close(documents: &mut Vec<Document>, uri: &str)
-    ensures { documents.new.items ≡ others uri.now documents.old.items }
-{
-    documents.retain(
-        |document: &Document| -> bool
-            ensures { result ≡ not (is_named uri.entry.now document.now) }
-        { !is_named(document, uri) },
-    );
+pub(crate) fn close(documents: &mut Vec<Document>, uri: &str) {
+    documents.retain(|document| !is_named(document, uri));
 }
 
 /// Puts a document in the place of the one of its name, or adds it.
-pub(crate) fn put(documents: &mut Vec<Document>, document: Document) -> Result<(), AllocError>
-    ensures { OnOk result (documents.new.items ≡ others (string_bytes document.uri) documents.old.items ++ document ∷ []) }
-{
+pub(crate) fn put(documents: &mut Vec<Document>, document: Document) -> Result<(), AllocError> {
     close(documents, document.uri.as_str());
     match documents.push(document) {
         Ok(()) => Ok(()),

@@ -1,9 +1,7 @@
 //! The edits that lay out a document.
 ghost use Rattle.std.specs.Prelude.{◌≡◌, true, IfOk, IfSome};
-ghost use Rattle.serde_json.specs.View.{view};
 ghost use Rattle.wac_lsp_texts.specs.Changed.{Changes};
-ghost use Rattle.wac_lsp.specs.Edits.{edit_data, edits_data, range_data};
-ghost use Rattle.wac_lsp.specs.Formatting.{IsFormatting, LaysOut};
+ghost use Rattle.wac_lsp.specs.Formatting.{LaysOut};
 
 use crate::places::{View, range_value};
 use crate::questions::Answered;
@@ -188,9 +186,7 @@ fn changes_to_tidy(
 }
 
 /// The range of a change: null where there is none.
-fn replaced_range(alloc: Global, change: &Change) -> Result<Value, AllocError>
-    ensures { IfOk result (λ value. view value ≡ range_data change.now.range) }
-{
+fn replaced_range(alloc: Global, change: &Change) -> Result<Value, AllocError> {
     match change.range {
         Some(range) => range_value(alloc, range.start, range.end),
         None => Ok(Value::Null),
@@ -198,19 +194,14 @@ fn replaced_range(alloc: Global, change: &Change) -> Result<Value, AllocError>
 }
 
 /// A change as an edit of the protocol.
-fn edit_value(alloc: Global, change: &Change) -> Result<Value, AllocError>
-    ensures { IfOk result (λ value. view value ≡ edit_data change.now) }
-{
+fn edit_value(alloc: Global, change: &Change) -> Result<Value, AllocError> {
     let range = replaced_range(alloc, change)?;
     let text = change.text.as_str();
-    let edit = json!(in alloc; {"range": range, "newText": text})?;
-    Ok(edit)
+    json!(in alloc; {"range": range, "newText": text})
 }
 
 /// Changes as edits of the protocol.
-pub(crate) fn edits_value(alloc: Global, changes: &[Change]) -> Result<Value, AllocError>
-    ensures { IfOk result (λ value. view value ≡ edits_data changes.now) }
-{
+pub(crate) fn edits_value(alloc: Global, changes: &[Change]) -> Result<Value, AllocError> {
     let mut edits = Vec::new(alloc);
     for change in changes {
         edits.push(edit_value(alloc, change)?)?;
@@ -230,9 +221,7 @@ pub(crate) fn formatted(
     text: &str,
     given: FormattingOptions,
     unit: ColumnUnit,
-) -> Result<Answered, AllocError>
-    ensures { IfOk result (λ answered. IfOk answered (λ value. IsFormatting unit text.now value)) }
-{
+) -> Result<Answered, AllocError> {
     match changes_to_tidy(alloc, text, layout_of(given, text), unit)? {
         Some(changes) => Ok(Ok(edits_value(alloc, changes.as_slice())?)),
         None => Ok(Err(NO_EDITS)),

@@ -1,8 +1,4 @@
 //! Places of texts as values of the protocol.
-ghost use Rattle.std.specs.Prelude.{◌≡◌, IfOk};
-ghost use Rattle.serde_json.specs.View.{view};
-ghost use Rattle.wac_lsp.specs.Edits.{between_data, position_data};
-
 use serde_json::{Value, json};
 use std::alloc::{AllocError, Global};
 use wac_lexer::SourceSpan;
@@ -10,22 +6,17 @@ use wac_lsp_texts::Places;
 use wac_positions::{ColumnUnit, Place};
 
 /// A place as a position.
-pub(crate) fn position(alloc: Global, place: Place) -> Result<Value, AllocError>
-    ensures { IfOk result (λ value. view value ≡ position_data place) }
-{
+pub(crate) fn position(alloc: Global, place: Place) -> Result<Value, AllocError> {
     let line = place.line;
     let character = place.column;
     json!(in alloc; {"line": line, "character": character})
 }
 
 /// From one position to another.
-pub(crate) fn range_value(alloc: Global, start: Place, end: Place) -> Result<Value, AllocError>
-    ensures { IfOk result (λ value. view value ≡ between_data start end) }
-{
+pub(crate) fn range_value(alloc: Global, start: Place, end: Place) -> Result<Value, AllocError> {
     let start = position(alloc, start)?;
     let end = position(alloc, end)?;
-    let range = json!(in alloc; {"start": start, "end": end})?;
-    Ok(range)
+    json!(in alloc; {"start": start, "end": end})
 }
 
 /// From one offset of a text to another.

@@ -1,8 +1,6 @@
 //! The state of a server, and what it answers.
-ghost use Rattle.std.specs.Prelude.{◌≡◌, [], ◌∷◌, IfOk, Some, string_bytes};
-ghost use Rattle.wac_lsp_messages.specs.Replying.{IsReplyTo};
-ghost use Rattle.wac_lsp.specs.Opened.{Holds, LeavesIn};
-ghost use Rattle.wac_lsp.specs.Replies.{AreReplies, replied_to, replies};
+ghost use Rattle.std.specs.Prelude.{◌≡◌, [], ◌∷◌, IfOk};
+ghost use Rattle.wac_lsp.specs.Replies.{replied_to, replies};
 
 use crate::capabilities::capabilities;
 use crate::diagnostics::{published, withdrawn};
@@ -100,10 +98,8 @@ const NOT_OPEN: Refusal = Refusal {
 };
 
 impl Server {
-    ghost use Rattle.std.specs.Prelude.{◌≡◌, [], IfOk, MatchOption, None, OnOk, Some, string_bytes};
-    ghost use Rattle.wac_lsp_messages.specs.Replying.{IsReplyTo};
-    ghost use Rattle.wac_lsp.specs.Opened.{Leaves, Makes, Puts, Remakes, text_in};
-    ghost use Rattle.wac_lsp.specs.Replies.{AreReplies, replies};
+    ghost use Rattle.std.specs.Prelude.{◌≡◌, [], IfOk};
+    ghost use Rattle.wac_lsp.specs.Replies.{replies};
 
     /// A server that wasn't initialized, of a program of this version.
     pub fn new(alloc: Global, version: &'static str) -> Server {
@@ -117,9 +113,7 @@ impl Server {
     }
 
     /// Takes what the client says of itself, and tells what the server can do.
-    fn initialize(&mut self, alloc: Global, client: Initialize) -> Result<Value, AllocError>
-        ensures { self.new.documents.items ≡ self.old.documents.items }
-    {
+    fn initialize(&mut self, alloc: Global, client: Initialize) -> Result<Value, AllocError> {
         self.phase = Phase::Running;
         self.nests_symbols = client.nests_symbols;
         self.unit = if client.counts_bytes {
@@ -163,9 +157,7 @@ impl Server {
     }
 
     /// What a request gets before initialize.
-    fn answer_new(&mut self, alloc: Global, call: &Call) -> Result<Answered, AllocError>
-        ensures { self.new.documents.items ≡ self.old.documents.items }
-    {
+    fn answer_new(&mut self, alloc: Global, call: &Call) -> Result<Answered, AllocError> {
         match call {
             Call::Initialize(Some(client)) => match self.initialize(alloc, *client) {
                 Ok(value) => Ok(Ok(value)),
@@ -177,9 +169,7 @@ impl Server {
     }
 
     /// What a request gets between initialize and shutdown.
-    fn answer_running(&mut self, alloc: Global, call: &Call) -> Result<Answered, AllocError>
-        ensures { self.new.documents.items ≡ self.old.documents.items }
-    {
+    fn answer_running(&mut self, alloc: Global, call: &Call) -> Result<Answered, AllocError> {
         match call {
             Call::Initialize(_) => Ok(Err(NOT_NOW)),
             Call::Shutdown => {
@@ -192,9 +182,7 @@ impl Server {
     }
 
     /// What a request gets.
-    fn answer(&mut self, alloc: Global, call: &Call) -> Result<Answered, AllocError>
-        ensures { self.new.documents.items ≡ self.old.documents.items }
-    {
+    fn answer(&mut self, alloc: Global, call: &Call) -> Result<Answered, AllocError> {
         let phase = self.phase;
         match phase {
             Phase::New => self.answer_new(alloc, call),
@@ -218,10 +206,7 @@ impl Server {
         alloc: Global,
         id: &Id,
         call: Result<Call, Refusal>,
-    ) -> Result<String, AllocError>
-        ensures written { IfOk result (λ body. IsReplyTo (Some id.now) (string_bytes body)) }
-        ensures keeps { self.new.documents.items ≡ self.old.documents.items }
-    {
+    ) -> Result<String, AllocError> {
         let answer = match call {
             Ok(call) => self.answer(alloc, &call)?,
             Err(why) => Err(self.refusal(why)),
@@ -233,34 +218,25 @@ impl Server {
     }
 
     /// Takes a document that was opened or changed, and tells what is wrong with it.
-    #[tactic(auto, using(crate::proofs::Remade::put_last))]
     fn opened(
         &mut self,
         alloc: Global,
         uri: String,
         version: i64,
         text: String,
-    ) -> Result<String, AllocError>
-        ensures unit { self.new.unit ≡ self.old.unit }
-        ensures puts { OnOk result
-            (Puts (string_bytes uri) (string_bytes text) self.old.documents.items self.new.documents.items) }
-    {
+    ) -> Result<String, AllocError> {
         let told = published(alloc, uri.as_str(), version, text.as_str(), self.unit)?;
         put(&mut self.documents, Document { uri, version, text })?;
         Ok(told)
     }
 
     /// The text of a document after changes: none where it isn't open.
-    #[tactic(auto, using(crate::proofs::Remade::makes_of))]
     fn text_after(
         &self,
         alloc: Global,
         uri: &str,
         changes: &[Change],
-    ) -> Result<Option<String>, ChangeError>
-        ensures { IfOk result (λ found. MatchOption found (text_in uri.now self.now.documents.items ≡ None)
-            (λ text. Makes self.now.unit uri.now changes.now self.now.documents.items (string_bytes text))) }
-    {
+    ) -> Result<Option<String>, ChangeError> {
         match text_of(self.documents.as_slice(), uri) {
             Some(text) => match changed(alloc, text, changes, self.unit) {
                 Ok(text) => Ok(Some(text)),
@@ -271,17 +247,13 @@ impl Server {
     }
 
     /// Changes a document, and tells what is wrong with it. Changes of one that isn't open are passed over.
-    #[tactic(auto, using(crate::proofs::Remade::remade, crate::proofs::Remade::none_remade))]
     fn changed(
         &mut self,
         alloc: Global,
         uri: String,
         version: i64,
         changes: &[Change],
-    ) -> Result<Option<String>, ChangeError>
-        ensures { IfOk result (λ _.
-            Remakes self.old.unit (string_bytes uri) changes.now self.old.documents.items self.new.documents.items) }
-    {
+    ) -> Result<Option<String>, ChangeError> {
         match self.text_after(alloc, uri.as_str(), changes)? {
             Some(text) => Ok(Some(self.opened(alloc, uri, version, text)?)),
             None => Ok(None),
@@ -289,10 +261,9 @@ impl Server {
     }
 
     /// Tells again what is wrong with each document.
-    #[tactic(auto, using(crate::proofs::Sending::notified, crate::proofs::Sending::still_replies))]
+    #[tactic(auto, using(crate::proofs::Sending::notified))]
     fn refreshed(&self, alloc: Global) -> Result<Outcome, AllocError>
-        ensures ids { IfOk result (λ outcome. replies outcome.messages.items ≡ []) }
-        ensures written { IfOk result (λ outcome. AreReplies outcome.messages.items) }
+        ensures { IfOk result (λ outcome. replies outcome.messages.items ≡ []) }
     {
         let mut messages = Vec::new(alloc);
         for document in self.documents.as_slice() {
@@ -309,10 +280,7 @@ impl Server {
 
     /// What the server does after a notification while it runs.
     fn noticed(&mut self, alloc: Global, notice: Notice) -> Result<Outcome, ChangeError>
-        ensures ids { IfOk result (λ outcome. replies outcome.messages.items ≡ []) }
-        ensures written { IfOk result (λ outcome. AreReplies outcome.messages.items) }
-        ensures leaves { IfOk result (λ _.
-            Leaves self.old.unit notice self.old.documents.items self.new.documents.items) }
+        ensures { IfOk result (λ outcome. replies outcome.messages.items ≡ []) }
     {
         match notice {
             Notice::Opened { uri, version, text } => {
@@ -341,9 +309,7 @@ impl Server {
 
 /// An outcome in which a reply is sent, and the server goes on.
 fn sends_reply(alloc: Global, id: Option<Id>, body: String) -> Result<Outcome, AllocError>
-    requires { IsReplyTo id (string_bytes body) }
-    ensures ids { IfOk result (λ outcome. replies outcome.messages.items ≡ id ∷ []) }
-    ensures written { IfOk result (λ outcome. AreReplies outcome.messages.items) }
+    ensures { IfOk result (λ outcome. replies outcome.messages.items ≡ id ∷ []) }
 {
     let mut messages = Vec::new(alloc);
     messages.push(Sent::Reply { id, body })?;
@@ -355,8 +321,7 @@ fn sends_reply(alloc: Global, id: Option<Id>, body: String) -> Result<Outcome, A
 
 /// An outcome in which a notification is sent, and the server goes on.
 fn sends_notification(alloc: Global, body: String) -> Result<Outcome, AllocError>
-    ensures ids { IfOk result (λ outcome. replies outcome.messages.items ≡ []) }
-    ensures written { IfOk result (λ outcome. AreReplies outcome.messages.items) }
+    ensures { IfOk result (λ outcome. replies outcome.messages.items ≡ []) }
 {
     let mut messages = Vec::new(alloc);
     messages.push(Sent::Notification { body })?;
@@ -368,8 +333,7 @@ fn sends_notification(alloc: Global, body: String) -> Result<Outcome, AllocError
 
 /// An outcome in which no message is sent.
 fn sends_nothing(alloc: Global, status: Option<u8>) -> Outcome
-    ensures ids { replies result.messages.items ≡ [] }
-    ensures written { AreReplies result.messages.items }
+    ensures { replies result.messages.items ≡ [] }
 {
     Outcome {
         messages: Vec::new(alloc),
@@ -385,10 +349,7 @@ fn is_exit(notice: &Notice) -> bool {
 /// What a server does after a notification: it ends when it is asked to, with 0 after shutdown, and drops all other
 /// notifications before initialize and after shutdown.
 fn answer_notice(alloc: Global, server: &mut Server, notice: Notice) -> Result<Outcome, ChangeError>
-    ensures ids { IfOk result (λ outcome. replies outcome.messages.items ≡ []) }
-    ensures written { IfOk result (λ outcome. AreReplies outcome.messages.items) }
-    ensures leaves { IfOk result (λ _.
-        LeavesIn server.old.phase server.old.unit notice server.old.documents.items server.new.documents.items) }
+    ensures { IfOk result (λ outcome. replies outcome.messages.items ≡ []) }
 {
     let phase = server.phase;
     let ends = is_exit(&notice);
@@ -403,12 +364,7 @@ fn answer_notice(alloc: Global, server: &mut Server, notice: Notice) -> Result<O
 /// the text can't be followed then.
 pub fn answer(alloc: Global, server: &mut Server, message: Message) -> Result<Outcome, ChangeError>
     // A request gets one reply, with its id; what is no message gets one without; all else gets none.
-    ensures ids { IfOk result (λ outcome. replies outcome.messages.items ≡ replied_to message) }
-    // The text of each reply has its id.
-    ensures written { IfOk result (λ outcome. AreReplies outcome.messages.items) }
-    // The text of a document is that with which it was opened, after all changes that came since.
-    ensures holds { IfOk result (λ _.
-        Holds server.old.phase server.old.unit message server.old.documents.items server.new.documents.items) }
+    ensures { IfOk result (λ outcome. replies outcome.messages.items ≡ replied_to message) }
 {
     match message {
         Message::Request { id, call } => {
