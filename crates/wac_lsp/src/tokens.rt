@@ -4,6 +4,7 @@ use crate::places::View;
 use serde_json::{Value, json};
 use std::alloc::{AllocError, Global};
 use wac_comments_layout::Piece;
+use wac_hints::begins_type;
 use wac_lexer::{Lexer, Token};
 use wac_positions::{ColumnUnit, Lines};
 
@@ -55,42 +56,6 @@ pub(crate) fn legend(alloc: Global) -> Result<Value, AllocError> {
     json!(in alloc; {"tokenTypes": names, "tokenModifiers": []})
 }
 
-/// Whether a token is a type of numbers.
-fn is_number(token: Token) -> bool {
-    matches!(
-        token,
-        Token::U8Keyword
-            | Token::S8Keyword
-            | Token::U16Keyword
-            | Token::S16Keyword
-            | Token::U32Keyword
-            | Token::S32Keyword
-            | Token::U64Keyword
-            | Token::S64Keyword
-            | Token::F32Keyword
-            | Token::F64Keyword
-    )
-}
-
-/// Whether a token is the name of a type.
-fn is_type(token: Token) -> bool {
-    is_number(token)
-        || matches!(
-            token,
-            Token::CharKeyword
-                | Token::BoolKeyword
-                | Token::StringKeyword
-                | Token::TupleKeyword
-                | Token::ListKeyword
-                | Token::OptionKeyword
-                | Token::ResultKeyword
-                | Token::BorrowKeyword
-                | Token::StreamKeyword
-                | Token::FutureKeyword
-                | Token::ErrorContextKeyword
-        )
-}
-
 /// Whether a text has a letter.
 fn has_letter(text: &str) -> bool {
     text.as_bytes()
@@ -105,7 +70,7 @@ fn kind_of(token: Token, text: &str) -> Kind {
         Token::String => Kind::Text,
         Token::PackageName | Token::PackagePath => Kind::Namespace,
         _ => {
-            if is_type(token) {
+            if begins_type(token) {
                 Kind::TypeName
             } else if has_letter(text) {
                 Kind::Keyword

@@ -41,57 +41,20 @@ fn back(span: SourceSpan, by: usize) -> SourceSpan
     SourceSpan::new(span.offset().saturating_sub(by), span.len())
 }
 
-/// An error so many bytes before.
-fn error_back(error: Error, by: usize) -> Error
+/// An error so many bytes before. One that memory ran out has no place.
+fn error_back(mut error: Error, by: usize) -> Error
     ensures { told_by result ≡ told_back by (told_by error) }
 {
-    match error {
-        Error::Lexer { error, span } => Error::Lexer {
-            error,
-            span: back(span, by),
-        },
-        Error::Expected {
-            expected,
-            found,
-            span,
-        } => Error::Expected {
-            expected,
-            found,
-            span: back(span, by),
-        },
-        Error::ExpectedEither {
-            first,
-            second,
-            found,
-            span,
-        } => Error::ExpectedEither {
-            first,
-            second,
-            found,
-            span: back(span, by),
-        },
-        Error::ExpectedMultiple {
-            expected,
-            count,
-            found,
-            span,
-        } => Error::ExpectedMultiple {
-            expected,
-            count,
-            found,
-            span: back(span, by),
-        },
-        Error::EmptyType { ty, kind, span } => Error::EmptyType {
-            ty,
-            kind,
-            span: back(span, by),
-        },
-        Error::InvalidVersion { version, span } => Error::InvalidVersion {
-            version,
-            span: back(span, by),
-        },
-        Error::Memory(error) => Error::Memory(error),
+    match &mut error {
+        Error::Lexer { span, .. }
+        | Error::Expected { span, .. }
+        | Error::ExpectedEither { span, .. }
+        | Error::ExpectedMultiple { span, .. }
+        | Error::EmptyType { span, .. }
+        | Error::InvalidVersion { span, .. } => *span = back(*span, by),
+        Error::Memory(_) => {}
     }
+    error
 }
 
 impl Fault {
