@@ -68,8 +68,8 @@ typedef struct {
  *
  * Brackets may nest as deep as the limit, a brace counting as two levels and each other bracket as one. A limit of 0
  * stands for 256, for which a thread with a stack of 512 KB suffices here; wac_graph needs 4 MB. Types that name one
- * another in a chain, as in type b = list<a>; type c = list<b>; are no such nesting: comparing two of them takes 700
- * bytes of stack for each type of the chain (bench/README.md).
+ * another in a chain, as in type b = list<a>; type c = list<b>; are no such nesting: wac_graph compares them without
+ * taking stack, and wac_run takes some for each type of the chain where a text targets a world (bench/README.md).
  *
  * The text, `out`, `message` and *answer don't overlap. No pointer is null, not where its length is 0 either, and none
  * is used after the call. Bytes of `out` and `message` that aren't written stay as they are, and what *answer holds

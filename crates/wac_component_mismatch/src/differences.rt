@@ -6,7 +6,7 @@ use crate::groups::{Group, group_of};
 use crate::known::{entry_of, known_fits, plain};
 use crate::places::Topic;
 use crate::words::Step;
-use wac_component_rules::internals::{Part, Side, items, same_form};
+use wac_component_rules::internals::{Found, Part, Side, items, same_form};
 use wac_graph_types::names::find;
 use wac_graph_types::{Entry, ItemKind, Type};
 
@@ -25,7 +25,11 @@ pub(crate) enum Difference<'a> {
 }
 
 /// What differs in a pair that doesn't fit.
-pub(crate) fn first_difference(entries: &[Entry], pair: Pair) -> Difference<'_>
+pub(crate) fn first_difference<'a>(
+    entries: &'a [Entry],
+    found: &Found,
+    pair: Pair,
+) -> Difference<'a>
     requires table { IsTable entries.now }
 {
     let given = plain(entries, pair.given);
@@ -38,17 +42,22 @@ pub(crate) fn first_difference(entries: &[Entry], pair: Pair) -> Difference<'_>
         }
         (ItemKind::Value(_), ItemKind::Value(_)) => {
             let pair = Pair { given, expected };
-            form_difference(entries, pair, Topic::Type)
+            form_difference(entries, found, pair, Topic::Type)
         }
         _ => {
             let pair = Pair { given, expected };
-            form_difference(entries, pair, Topic::Kind)
+            form_difference(entries, found, pair, Topic::Kind)
         }
     }
 }
 
 /// The same of kinds that aren't both types of values. If all of their parts fit, the topic differs.
-fn form_difference(entries: &[Entry], pair: Pair, topic: Topic) -> Difference<'_>
+fn form_difference<'a>(
+    entries: &'a [Entry],
+    found: &Found,
+    pair: Pair,
+    topic: Topic,
+) -> Difference<'a>
     requires table { IsTable entries.now }
 {
     if !same_form(pair.given, pair.expected) {
@@ -56,13 +65,15 @@ fn form_difference(entries: &[Entry], pair: Pair, topic: Topic) -> Difference<'_
     }
     match pair.given {
         ItemKind::Ty(Type::Resource(_)) => Difference::Here(None, topic),
-        ItemKind::Ty(_) => type_difference(entries, pair),
+        ItemKind::Ty(_) => type_difference(entries, found, pair),
         _ => match (
             entry_of(entries, pair.given),
             entry_of(entries, pair.expected),
         ) {
-            (Some(given), Some(expected)) => match entry_difference(entries, given, expected) {
-                Some(found) => found,
+            (Some(given), Some(expected)) => match entry_difference(
+                entries, found, given, expected,
+            ) {
+                Some(difference) => difference,
                 None => Difference::Here(None, topic),
             },
             _ => Difference::Here(None, topic),
@@ -71,12 +82,12 @@ fn form_difference(entries: &[Entry], pair: Pair, topic: Topic) -> Difference<'_
 }
 
 /// Types are compared both ways: this way first.
-fn type_difference(entries: &[Entry], pair: Pair) -> Difference<'_>
+fn type_difference<'a>(entries: &'a [Entry], found: &Found, pair: Pair) -> Difference<'a>
     requires table { IsTable entries.now }
 {
     let given = pair.given.promote();
     let expected = pair.expected.promote();
-    if known_fits(entries, given, expected) {
+    if known_fits(entries, found, given, expected) {
         Difference::At(
             None,
             Pair {
@@ -92,6 +103,7 @@ fn type_difference(entries: &[Entry], pair: Pair) -> Difference<'_>
 /// What differs in two entries, if it is a part of them.
 fn entry_difference<'a>(
     entries: &'a [Entry],
+    found: &Found,
     given: &'a Entry,
     expected: &'a Entry,
 ) -> Option<Difference<'a>>
@@ -100,20 +112,22 @@ fn entry_difference<'a>(
     match (given, expected) {
         (Entry::Defined(ty), Entry::Defined(other)) => {
             if ty.same_shape(other) {
-                runs_difference(entries, group_of(ty), given, expected)
+                runs_difference(entries, found, group_of(ty), given, expected)
             } else {
                 None
             }
         }
         (Entry::Func(func), Entry::Func(other)) => {
             if func.is_async == other.is_async {
-                func_difference(entries, given, expected)
+                func_difference(entries, found, given, expected)
             } else {
                 Some(Difference::Here(None, Topic::Async))
             }
         }
-        (Entry::Interface(_), Entry::Interface(_)) => export_difference(entries, given, expected),
-        (Entry::World(_), Entry::World(_)) => world_difference(entries, given, expected),
+        (Entry::Interface(_), Entry::Interface(_)) => export_difference(
+            entries, found, given, expected,
+        ),
+        (Entry::World(_), Entry::World(_)) => world_difference(entries, found, given, expected),
         _ => None,
     }
 }
@@ -121,34 +135,37 @@ fn entry_difference<'a>(
 /// Parameters, then results.
 fn func_difference<'a>(
     entries: &'a [Entry],
+    found: &Found,
     given: &'a Entry,
     expected: &'a Entry,
 ) -> Option<Difference<'a>>
     requires table { IsTable entries.now }
 {
-    match runs_difference(entries, Group::Parameters, given, expected) {
-        Some(found) => Some(found),
-        None => runs_difference(entries, Group::Results, given, expected),
+    match runs_difference(entries, found, Group::Parameters, given, expected) {
+        Some(difference) => Some(difference),
+        None => runs_difference(entries, found, Group::Results, given, expected),
     }
 }
 
 /// Imports, then exports.
 fn world_difference<'a>(
     entries: &'a [Entry],
+    found: &Found,
     given: &'a Entry,
     expected: &'a Entry,
 ) -> Option<Difference<'a>>
     requires table { IsTable entries.now }
 {
-    match import_difference(entries, given, expected) {
-        Some(found) => Some(found),
-        None => export_difference(entries, given, expected),
+    match import_difference(entries, found, given, expected) {
+        Some(difference) => Some(difference),
+        None => export_difference(entries, found, given, expected),
     }
 }
 
 /// Parts pair by pair, name, then type, then their number.
 fn runs_difference<'a>(
     entries: &'a [Entry],
+    found: &Found,
     group: Group,
     given: &'a Entry,
     expected: &'a Entry,
@@ -160,8 +177,8 @@ fn runs_difference<'a>(
     for at in 0..first.count.min(second.count) {
         match (first.part(at), second.part(at)) {
             (Some(c), Some(d)) => {
-                if let Some(found) = part_difference(entries, group, at, (c, d)) {
-                    return Some(found);
+                if let Some(difference) = part_difference(entries, found, group, at, (c, d)) {
+                    return Some(difference);
                 }
             }
             _ => return None,
@@ -177,6 +194,7 @@ fn runs_difference<'a>(
 /// The same of one part of each.
 fn part_difference<'a>(
     entries: &'a [Entry],
+    found: &Found,
     group: Group,
     at: usize,
     parts: (Part<'a>, Part<'a>),
@@ -193,7 +211,7 @@ fn part_difference<'a>(
         (Some(a), Some(b)) => {
             let given = ItemKind::Value(a);
             let expected = ItemKind::Value(b);
-            if known_fits(entries, given, expected) {
+            if known_fits(entries, found, given, expected) {
                 None
             } else {
                 Some(Difference::At(step, Pair { given, expected }))
@@ -206,6 +224,7 @@ fn part_difference<'a>(
 /// The first export that is expected and isn't there, or doesn't fit.
 fn export_difference<'a>(
     entries: &'a [Entry],
+    found: &Found,
     given: &'a Entry,
     expected: &'a Entry,
 ) -> Option<Difference<'a>>
@@ -218,7 +237,7 @@ fn export_difference<'a>(
         match find(offered, name.as_str()) {
             None => return Some(Difference::Here(step, Topic::Kind)),
             Some(offer) => {
-                if !known_fits(entries, offer, *kind) {
+                if !known_fits(entries, found, offer, *kind) {
                     let pair = Pair {
                         given: offer,
                         expected: *kind,
@@ -234,6 +253,7 @@ fn export_difference<'a>(
 /// The first import of the given one that the expected one hasn't, or that doesn't fit: the other way round.
 fn import_difference<'a>(
     entries: &'a [Entry],
+    found: &Found,
     given: &'a Entry,
     expected: &'a Entry,
 ) -> Option<Difference<'a>>
@@ -246,7 +266,7 @@ fn import_difference<'a>(
         match find(offered, name.as_str()) {
             None => return Some(Difference::Here(step, Topic::Kind)),
             Some(offer) => {
-                if !known_fits(entries, offer, *kind) {
+                if !known_fits(entries, found, offer, *kind) {
                     let pair = Pair {
                         given: offer,
                         expected: *kind,

@@ -7,14 +7,14 @@ use crate::differences::{Difference, Pair, first_difference};
 use crate::places::{Topic, place};
 use crate::words::{Mismatch, Step};
 use std::alloc::{AllocError, Global};
-use wac_component_rules::internals::fitting;
+use wac_component_rules::internals::{Found, fits_after, found_ahead};
 use wac_graph_types::{Entry, ItemKind, Types};
 
 /// Where the first kind of a table differs from the second one, if it may not stand where the second is expected.
 ///
 /// Parts are compared in this order: `async`; parameters pair by pair, name, then type, then their number; results
 /// the same way; a component's imports in its own order, then its exports in the expected one's. Types are compared
-/// both ways, this way first. Only the path takes memory.
+/// both ways, this way first. The path takes memory, and so do comparisons in a large table.
 ///
 /// ```text
 /// match mismatch(alloc, types, given, expected)? {
@@ -34,21 +34,27 @@ pub fn mismatch<'a>(
     ensures there { (o : ℕ → ℕ) → IfOk result (λ m. IsThereUnlessFits o types.now a b m) }
     ensures leads { IfOk result (λ m. IfSome m (LeadsInBoth types.now a b)) }
 {
-    if fitting(types.entries(), a, b) {
+    let mut found = found_ahead(types.entries(), a, b);
+    if fits_after(types.entries(), &mut found, a, b) {
         return Ok(None);
     }
     let pair = Pair {
         given: a,
         expected: b,
     };
-    match located(alloc, types.entries(), pair) {
+    match located(alloc, types.entries(), &found, pair) {
         Err(e) => Err(e),
-        Ok(found) => Ok(Some(found)),
+        Ok(mismatch) => Ok(Some(mismatch)),
     }
 }
 
 /// The first place where a pair differs.
-fn located<'a>(alloc: Global, entries: &'a [Entry], pair: Pair) -> Result<Mismatch<'a>, AllocError>
+fn located<'a>(
+    alloc: Global,
+    entries: &'a [Entry],
+    found: &Found,
+    pair: Pair,
+) -> Result<Mismatch<'a>, AllocError>
     requires table { IsTable entries.now }
     ensures { IfOk result (LeadsInBoth entries.now pair.given pair.expected) }
 {
@@ -56,7 +62,7 @@ fn located<'a>(alloc: Global, entries: &'a [Entry], pair: Pair) -> Result<Mismat
     let mut at = pair;
     // Each step leads to earlier entries, and a pair is turned at most once before the next.
     for _ in 0..(entries.len() as u128 * 2 + 2) {
-        match first_difference(entries, at) {
+        match first_difference(entries, found, at) {
             Difference::Here(step, topic) => {
                 push(&mut path, step)?;
                 return Ok(told(entries, path, pair, topic));

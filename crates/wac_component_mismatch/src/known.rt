@@ -8,7 +8,7 @@ ghost use Rattle.wac_graph_types.specs.Table.{IsTable, Names};
 ghost use Rattle.wac_component_mismatch.specs.Paths.{IsPlainly, entry_named};
 
 use crate::words::Words;
-use wac_component_rules::internals::{fitting, number, plain_kind};
+use wac_component_rules::internals::{Found, answered, fitting, number, plain_kind};
 use wac_graph_types::{DefinedType, Entry, ItemKind, PrimitiveType, ResourceId, Type, ValueType};
 
 /// Whether an entry is of the sort that a kind names.
@@ -90,11 +90,17 @@ fn is_known(entries: &[Entry], kind: ItemKind) -> bool
     }
 }
 
-/// Whether the table has both kinds, and the first fits the second.
-pub(crate) fn known_fits(entries: &[Entry], a: ItemKind, b: ItemKind) -> bool
+/// Whether the table has both kinds, and the first fits the second. What was found is not compared again.
+pub(crate) fn known_fits(entries: &[Entry], found: &Found, a: ItemKind, b: ItemKind) -> bool
     requires table { IsTable entries.now }
 {
-    is_known(entries, a) && is_known(entries, b) && fitting(entries, a, b)
+    if !is_known(entries, a) || !is_known(entries, b) {
+        return false;
+    }
+    match answered(entries, found, a, b) {
+        Some(fits) => fits,
+        None => fitting(entries, a, b),
+    }
 }
 
 /// A kind with aliases seen through, if the table has it.

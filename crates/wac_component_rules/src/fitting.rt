@@ -8,8 +8,10 @@ ghost use Rattle.wac_component_rules.specs.Found.{AllFit};
 ghost use Rattle.wac_component_rules.specs.Parts.{OfOneSort};
 ghost use Rattle.wac_component_rules.specs.Seen.{seen};
 
+use crate::ahead::compare_ahead;
 use crate::found::Found;
 use crate::kinds::{is_type, number, same_form, value_kind};
+use crate::memory::memory;
 use crate::parts::{part_at, part_count, same_constructor};
 use crate::sides::{Side, items};
 use crate::sources::{plain_kind, source_name};
@@ -81,7 +83,7 @@ fn plain_fits(entries: &[Entry], found: &mut Found, a: ItemKind, b: ItemKind) ->
 /// The same of entries. A pair in `found` isn't compared again, and a pair that fits is added, so that types that name
 /// others twice aren't traversed twice.
 #[cycle(fitting)]
-fn entry_fits(entries: &[Entry], found: &mut Found, i: usize, j: usize) -> bool
+pub(crate) fn entry_fits(entries: &[Entry], found: &mut Found, i: usize, j: usize) -> bool
     requires table { IsTable entries.now }
     requires first { i < length entries.now }
     requires second { j < length entries.now }
@@ -92,6 +94,9 @@ fn entry_fits(entries: &[Entry], found: &mut Found, i: usize, j: usize) -> bool
 {
     if found.has(i, j) {
         return true;
+    }
+    if let Some(fits) = found.answer(i, j) {
+        return fits;
     }
     if compared(entries, found, i, j) {
         found.add(i, j);
@@ -204,6 +209,75 @@ fn parts_fit(entries: &[Entry], found: &mut Found, i: usize, j: usize) -> bool
     true
 }
 
+/// Of two kinds of which one names an entry before this one, chains of types are compared by calls that call one another.
+const SHALLOW: usize = 64;
+
+/// Whether chains of types in both kinds may have more links than are to be compared by calls that call one another: each
+/// link is an earlier entry.
+fn may_be_deep(a: ItemKind, b: ItemKind) -> bool {
+    match (number(a), number(b)) {
+        (Some(i), Some(j)) => i.min(j) >= SHALLOW,
+        _ => false,
+    }
+}
+
+/// What is found of two kinds: of all pairs that they need, where chains of types in them may have many links and there is
+/// memory.
+pub fn found_ahead(entries: &[Entry], a: ItemKind, b: ItemKind) -> Found
+    requires table { IsTable entries.now }
+    requires first { Names entries.now a }
+    requires second { Names entries.now b }
+    ensures { AllFit entries.now result }
+{
+    if !may_be_deep(a, b) {
+        return Found::new();
+    }
+    match memory(entries) {
+        None => Found::new(),
+        Some(alloc) => {
+            let mut found = Found::with_memory(alloc);
+            let _ended = compare_ahead(alloc, entries, &mut found, a, b).is_ok();
+            found
+        }
+    }
+}
+
+/// Whether the first kind of a table may stand where the second is expected, after what was found.
+pub fn fits_after(entries: &[Entry], found: &mut Found, a: ItemKind, b: ItemKind) -> bool
+    requires table { IsTable entries.now }
+    requires first { Names entries.now a }
+    requires second { Names entries.now b }
+    requires found { AllFit entries.now found.old }
+    ensures fits { (o : ℕ → ℕ) → result ≡ fits (seen (meaning o entries.now a)) (seen (meaning o entries.now b)) }
+    ensures found { AllFit entries.now found.new }
+{
+    kind_fits(entries, found, Some(a), Some(b))
+}
+
+/// The same, if it was found.
+pub fn answered(entries: &[Entry], found: &Found, a: ItemKind, b: ItemKind) -> Option<bool>
+    requires table { IsTable entries.now }
+    requires first { Names entries.now a }
+    requires second { Names entries.now b }
+{
+    let first = plain_kind(entries, a);
+    let second = plain_kind(entries, b);
+    if !same_form(first, second) {
+        return Some(false);
+    }
+    match (number(first), number(second)) {
+        (Some(i), Some(j)) => {
+            let fits = found.answer(i, j)?;
+            if fits && is_type(first) {
+                found.answer(j, i)
+            } else {
+                Some(fits)
+            }
+        }
+        _ => Some(true),
+    }
+}
+
 /// Whether the first kind of a table may stand where the second is expected.
 pub fn fitting(entries: &[Entry], a: ItemKind, b: ItemKind) -> bool
     requires table { IsTable entries.now }
@@ -211,6 +285,6 @@ pub fn fitting(entries: &[Entry], a: ItemKind, b: ItemKind) -> bool
     requires second { Names entries.now b }
     ensures { (o : ℕ → ℕ) → result ≡ fits (seen (meaning o entries.now a)) (seen (meaning o entries.now b)) }
 {
-    let mut found = Found::new();
-    kind_fits(entries, &mut found, Some(a), Some(b))
+    let mut found = found_ahead(entries, a, b);
+    fits_after(entries, &mut found, a, b)
 }

@@ -1,11 +1,13 @@
 //! The component model's rules: which kind may stand where another is expected, and which names externs may have.
 #![tactic(auto)]
 
+mod ahead;
 mod fitting;
 mod found;
 pub mod internals;
 mod kinds;
 mod laws;
+mod memory;
 mod parts;
 mod rules;
 mod sides;

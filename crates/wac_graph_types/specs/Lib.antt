@@ -17,3 +17,4 @@ pub mod Steps
 pub mod Shape
 pub mod Borrows
 pub mod Pairs
+pub mod Kept

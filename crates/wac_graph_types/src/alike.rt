@@ -1,12 +1,18 @@
 //! Whether two kinds mean the same.
-ghost use Rattle.std.specs.Prelude.{option_map, string_bytes, ◌≡◌, ◌≢◌, ℕ, ◌<◌, length, IsTrue, ◌↔◌, IfSome};
+ghost use Rattle.std.specs.Prelude.{option_map, string_bytes, ◌≡◌, ◌≢◌, ℕ, List, ◌<◌, length, IsTrue, ◌↔◌, IfSome};
+ghost use Rattle.wac_graph_types.specs.declared.entry.Entry.{Entry};
+ghost use Rattle.wac_graph_types.specs.Kept.{AreTold, PairTells};
 ghost use Rattle.wac_graph_types.specs.Label.{label, defined_label};
 ghost use Rattle.wac_graph_types.specs.Meaning.{IsEarlier, IsOneToOne, IsResource, NamesBefore, meaning, meaning_at, of_child};
 ghost use Rattle.wac_graph_types.specs.Pairs.{AreAlike, Holds};
 
+use crate::ahead::compare_ahead;
 use crate::entry::{DefinedType, Entry};
+use crate::kept::Kept;
 use crate::kind::ItemKind;
+use crate::memory::memory;
 use crate::pairs::Pairs;
+use std::alloc::Global;
 
 fn same_id(first: &Option<String>, second: &Option<String>) -> bool
     ensures { IsTrue result ↔ (option_map string_bytes first.now ≡ option_map string_bytes second.now) }
@@ -55,12 +61,29 @@ fn same_label(first: &Entry, second: &Entry) -> bool
     }
 }
 
+/// Whether two entries mean the same, if that is kept.
+fn kept_answer(kept: Option<&Kept>, i: usize, j: usize) -> Option<bool>
+    ensures { (es : List Entry) → IfSome kept (λ k. AreTold es k.now) → IfSome result (PairTells es i j) }
+{
+    match kept {
+        None => None,
+        Some(kept) => kept.answer(i, j),
+    }
+}
+
 /// Whether two kinds in entries mean the same. Pairs that do are added to `found`.
 #[cycle(same)]
-fn same_kind(entries: &[Entry], found: &mut Pairs, a: Option<ItemKind>, b: Option<ItemKind>) -> bool
+fn same_kind(
+    entries: &[Entry],
+    kept: Option<&Kept>,
+    found: &mut Pairs,
+    a: Option<ItemKind>,
+    b: Option<ItemKind>,
+) -> bool
     requires earlier { IsEarlier entries.now }
     requires first { IfSome a (NamesBefore (length entries.now)) }
     requires second { IfSome b (NamesBefore (length entries.now)) }
+    requires kept { IfSome kept (λ k. AreTold entries.now k.now) }
     requires found { AreAlike entries.now found.old }
     ensures same { (origins : ℕ → ℕ) → IsOneToOne entries.now origins → (IsTrue result ↔ (of_child (meaning_at origins entries.now) a ≡ of_child (meaning_at origins entries.now) b)) }
     ensures found { AreAlike entries.now found.new }
@@ -73,7 +96,7 @@ fn same_kind(entries: &[Entry], found: &mut Pairs, a: Option<ItemKind>, b: Optio
             }
             match (x.id(), y.id()) {
                 (None, None) => true,
-                (Some(i), Some(j)) => same_at(entries, found, i, j),
+                (Some(i), Some(j)) => same_at(entries, kept, found, i, j),
                 _ => false,
             }
         }
@@ -81,13 +104,20 @@ fn same_kind(entries: &[Entry], found: &mut Pairs, a: Option<ItemKind>, b: Optio
     }
 }
 
-/// Whether two entries mean the same. A pair in `found` isn't compared again, and a pair that means the same is added,
-/// so that types that name others twice aren't traversed twice.
+/// Whether two entries mean the same. A pair in `found` or in `kept` isn't compared again, and a pair that means the same
+/// is added to `found`, so that types that name others twice aren't traversed twice.
 #[cycle(same)]
-fn same_at(entries: &[Entry], found: &mut Pairs, i: usize, j: usize) -> bool
+pub(crate) fn same_at(
+    entries: &[Entry],
+    kept: Option<&Kept>,
+    found: &mut Pairs,
+    i: usize,
+    j: usize,
+) -> bool
     requires earlier { IsEarlier entries.now }
     requires first { i < length entries.now }
     requires second { j < length entries.now }
+    requires kept { IfSome kept (λ k. AreTold entries.now k.now) }
     requires found { AreAlike entries.now found.old }
     ensures same { (origins : ℕ → ℕ) → IsOneToOne entries.now origins → (IsTrue result ↔ (meaning_at origins entries.now i ≡ meaning_at origins entries.now j)) }
     ensures found { AreAlike entries.now found.new }
@@ -100,6 +130,12 @@ fn same_at(entries: &[Entry], found: &mut Pairs, i: usize, j: usize) -> bool
     }
     if found.has(i, j) {
         return true;
+    }
+    if let Some(same) = kept_answer(kept, i, j) {
+        if same {
+            found.add(i, j);
+        }
+        return same;
     }
     let first = &entries[i];
     let second = &entries[j];
@@ -116,7 +152,7 @@ fn same_at(entries: &[Entry], found: &mut Pairs, i: usize, j: usize) -> bool
                 if !c.place.same(d.place) {
                     return false;
                 }
-                if !same_kind(entries, found, c.kind, d.kind) {
+                if !same_kind(entries, kept, found, c.kind, d.kind) {
                     return false;
                 }
             }
@@ -127,6 +163,31 @@ fn same_at(entries: &[Entry], found: &mut Pairs, i: usize, j: usize) -> bool
     true
 }
 
+/// Of two kinds of which one names an entry before this one, chains of types are compared by calls that call one another.
+const SHALLOW: usize = 64;
+
+/// The number of the entry that a kind names, or 0.
+fn depth(kind: Option<ItemKind>) -> usize {
+    match kind {
+        None => 0,
+        Some(kind) => kind.id().unwrap_or(0),
+    }
+}
+
+/// Whether two kinds in entries mean the same, after all that they need was compared. Where memory runs out, that is a part
+/// of it.
+fn same_deep(alloc: Global, entries: &[Entry], a: Option<ItemKind>, b: Option<ItemKind>) -> bool
+    requires earlier { IsEarlier entries.now }
+    requires first { IfSome a (NamesBefore (length entries.now)) }
+    requires second { IfSome b (NamesBefore (length entries.now)) }
+    ensures { (origins : ℕ → ℕ) → IsOneToOne entries.now origins → (IsTrue result ↔ (of_child (meaning_at origins entries.now) a ≡ of_child (meaning_at origins entries.now) b)) }
+{
+    let mut kept = Kept::new(alloc);
+    let mut found = Pairs::new();
+    let _ended = compare_ahead(entries, &mut kept, &mut found, a, b).is_ok();
+    same_kind(entries, Some(&kept), &mut found, a, b)
+}
+
 /// Whether two kinds in entries mean the same.
 pub(crate) fn same_child(entries: &[Entry], a: Option<ItemKind>, b: Option<ItemKind>) -> bool
     requires earlier { IsEarlier entries.now }
@@ -134,8 +195,14 @@ pub(crate) fn same_child(entries: &[Entry], a: Option<ItemKind>, b: Option<ItemK
     requires second { IfSome b (NamesBefore (length entries.now)) }
     ensures { (origins : ℕ → ℕ) → IsOneToOne entries.now origins → (IsTrue result ↔ (of_child (meaning_at origins entries.now) a ≡ of_child (meaning_at origins entries.now) b)) }
 {
+    // A chain of types has at most as many links as there are entries before both kinds.
+    if depth(a).min(depth(b)) >= SHALLOW {
+        if let Some(alloc) = memory(entries) {
+            return same_deep(alloc, entries, a, b);
+        }
+    }
     let mut found = Pairs::new();
-    same_kind(entries, &mut found, a, b)
+    same_kind(entries, None, &mut found, a, b)
 }
 
 /// Whether two kinds of one table mean the same.

@@ -11,13 +11,16 @@
 //! used where another is expected; the caller supplies them.
 #![tactic(auto)]
 
+mod ahead;
 mod alike;
 mod borrows;
 mod child;
 mod entry;
 mod equal;
+mod kept;
 mod kind;
 mod laws;
+mod memory;
 pub mod names;
 mod package;
 mod pairs;

@@ -79,3 +79,38 @@ fn types_that_name_others_twice_are_compared_once(rt: HostRuntime) -> Result<(),
     assert!(rt; same(&package, 0, 2) == Some(false), "a longer chain");
     Ok(())
 }
+
+/// How many types a long chain has: with a call for each, comparing two of them took tens of megabytes of stack.
+const LONG: usize = 20_000;
+
+/// Two chains of lists, whose types take turns.
+fn long_chains(alloc: Global) -> Result<Types, AllocError> {
+    let mut types = Types::new(alloc);
+    add_outside(alloc, &mut types)?;
+    add(alloc, &mut types, FIRST)?;
+    add(alloc, &mut types, FIRST)?;
+    for number in 0..2 * LONG {
+        add(alloc, &mut types, Row::List(defined(BEFORE + number)))?;
+    }
+    Ok(types)
+}
+
+/// The last types of both long chains, and the one before that of the second.
+fn long_chained(alloc: Global) -> Result<Package, PackageError> {
+    let last = BEFORE + 2 * LONG;
+    let all = [
+        ("a", item(last)),
+        ("b", item(last + 1)),
+        ("c", item(last - 1)),
+    ];
+    let definitions = named(alloc, &all)?;
+    Package::new(long_chains(alloc)?, WorldId(1), InterfaceId(0), definitions)
+}
+
+#[test]
+fn long_chains_take_no_stack(rt: HostRuntime) -> Result<(), Fail> {
+    let package = long_chained(rt.alloc())?;
+    assert!(rt; same(&package, 0, 1) == Some(true), "equal chains");
+    assert!(rt; same(&package, 0, 2) == Some(false), "a longer chain");
+    Ok(())
+}
