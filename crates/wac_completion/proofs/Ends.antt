@@ -1,5 +1,5 @@
 -- Whether a text, a blank and a token begin some document, by what was tried.
-use Rattle.std.proofs.Common.{◌≡◌, refl, sym, subst, ℕ, ◌+◌, List, length, Bool, true, false, Option, None, Ok, inr, ⊎_elim}
+use Rattle.std.proofs.Common.{◌≡◌, refl, sym, subst, ℕ, ◌+◌, List, length, Bool, true, false, Option, Some, None, Ok, inl, inr, ⊎_elim}
 use Rattle.std.specs.Prelude.{◌⊎◌, MatchBool}
 use Rattle.wac_lexer.specs.Characters.{refused}
 use Rattle.wac_lexer.specs.Items.{items}
@@ -10,7 +10,7 @@ use Rattle.wac_ast_grammar.specs.Grammar.{document}
 use Rattle.wac_ast_grammar.specs.Tokens.{is_token}
 use Rattle.wac_ast_grammar.specs.Viable.{Viable}
 use Rattle.wac_completion.specs.Faults.{last_is_string}
-use Rattle.wac_completion.specs.Standing.{CanFollow, IsBegun, Reads, tried}
+use Rattle.wac_completion.specs.Standing.{CanFollow, IsBegun, Reads, reads_from, tried}
 use Rattle.wac_completion.proofs.Suffixes.{no_argument}
 
 -- whether something holds, as a bool

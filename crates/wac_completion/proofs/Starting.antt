@@ -1,5 +1,5 @@
 -- The text before an offset, without the word at its end.
-use Rattle.std.proofs.Common.{◌≡◌, refl, ap, ◌∙◌, subst, ℕ, List, take, Bool, true, false, Result, Ok, Err}
+use Rattle.std.proofs.Common.{◌≡◌, refl, sym, ap, ◌∙◌, subst, ℕ, List, take, Bool, true, false, Result, Ok, Err}
 use Rattle.std.specs.Prelude.{◌↔◌, IfOk, IsTrue}
 use Rattle.std.specs.Str.{IsCharBoundary}
 use Rattle.wac_lexer.specs.declared.token.Token.{Token}

@@ -12,13 +12,13 @@ use Rattle.wac_ast_grammar.specs.Grammar.{Sym, document}
 use Rattle.wac_ast_grammar.specs.Stopped.{Fault as IsFault}
 use Rattle.wac_ast_grammar.specs.TextTree.{IsTreeOf}
 use Rattle.wac_ast_grammar.specs.Tree.{Document}
-use Rattle.wac_ast_grammar.specs.Viable.{Viable, Leads}
-use Rattle.wac_ast.specs.Document.{ErrorOf, TellsRefused, end_of_text}
+use Rattle.wac_ast_grammar.specs.Viable.{Viable, Leads, Same}
+use Rattle.wac_ast.specs.Document.{ErrorOf, end_of_text}
 use Rattle.wac_ast_base.specs.Answer.{End}
 use Rattle.wac_ast_base.specs.declared.error.Error.{Error as CodeError}
 use Rattle.wac_ast_base.specs.declared.error.Error.TheVariants as errors
 use Rattle.wac_ast_base.specs.Error.{Told, told_by, faulty, expected_one, expected_either, expected_many, empty_type, invalid_version, no_memory}
-use Rattle.wac_ast_base.specs.FirstFault.{Finds, FirstFault, Holds, TellsFirstFault, end_in_sequence, end_of_choice}
+use Rattle.wac_ast_base.specs.FirstFault.{Finds, FirstFault, Holds, Tells, TellsFirstFault, end_in_sequence, end_of_choice}
 use Rattle.wac_completion.specs.Faults.{ends_early, is_end}
 
 -- what begins like some items begins like the first of them
@@ -74,38 +74,35 @@ stops xs lead left first x others e v =
     fault (viable_less document (lead ++ (x ∷ [])) others (subst (Viable document) at v))
 
 -- where the end was found
-ends_viable_told : (text : List ℕ) (told : Told) → TellsRefused text told ⊎ ((refused text ≡ None) × TellsFirstFault document (end_of_text text) (items text) told) → ends_early told ≡ true → Viable document (items text)
-ends_viable_told text told (inl (fault, at, is, same)) e = let f : ends_early told ≡ false = ap ends_early same in absurd cc
-ends_viable_told text told (inr (clean, inl (lead, left, first, tells))) e =
-    let none = held_end (end_of_text text) lead left told tells.holds e in
-    subst (Viable document) (sym (first.splits ∙ ap (λ (ys : List Item). lead ++ ys) none ∙ append-nil lead)) first.viable
-ends_viable_told text told (inr (clean, inr (lead, string, left, first, argued, can, same))) e = let f : ends_early told ≡ false = ap ends_early same in absurd cc
-
 pub ends_viable : (text : List ℕ) (told : Told) → ErrorOf told text → ends_early told ≡ true → Viable document (items text)
-ends_viable text told error e = ends_viable_told text told error.lies e
+ends_viable text told of e = ⊎_elim (λ r. let f : ends_early told ≡ false = ap ends_early r.3 in absurd cc) (λ c. go c.1) of.lies
+  where
+    go : TellsFirstFault document (end_of_text text) (items text) told → Viable document (items text)
+    go (inl (lead, left, first, tells)) =
+        let none = held_end (end_of_text text) lead left told tells.holds e in
+        subst (Viable document) (sym (first.splits ∙ ap (λ (ys : List Item). lead ++ ys) none ∙ append-nil lead)) first.viable
+    go (inr (lead, string, left, first, argued, can, is)) = let f : ends_early told ≡ false = ap ends_early is in absurd cc
 
 -- where it wasn't
-argued_at_end : (xs all left : List Item) → FirstFault document xs all left → EndsArgued document all → Viable document xs → EndsArgued document xs
-argued_at_end xs all [] first argued v = subst (EndsArgued document) (sym (first.splits ∙ append-nil all)) argued
-argued_at_end xs all (x ∷ others) first argued v = absurd (stops xs all (x ∷ others) first x others refl v)
-
-not_viable_told : (text : List ℕ) (told : Told) → TellsRefused text told ⊎ ((refused text ≡ None) × TellsFirstFault document (end_of_text text) (items text) told) → ends_early told ≡ false → refused text ≡ None
-    → Viable document (items text) → EndsArgued document (items text)
-not_viable_told text told (inl (fault, at, is, same)) e clean v = let f : Some (fault, at) ≡ None = sym is ∙ clean in absurd cc
-not_viable_told text told (inr (same, inl (lead, left, first, tells))) e clean v =
-    let some = held_item (end_of_text text) lead left told tells.holds e in
-    absurd (stops (items text) lead left first some.0 some.1 some.2 v)
-not_viable_told text told (inr (same, inr (lead, string, left, first, argued, can, is))) e clean v = argued_at_end (items text) (lead ++ (string ∷ [])) left first argued v
-
 pub not_viable : (text : List ℕ) (told : Told) → ErrorOf told text → ends_early told ≡ false → refused text ≡ None → Viable document (items text) → EndsArgued document (items text)
-not_viable text told error e clean v = not_viable_told text told error.lies e clean v
+not_viable text told of e clean v = ⊎_elim (λ r. let f : Some (r.0, r.1) ≡ None = sym r.2 ∙ clean in absurd cc) (λ c. go c.1) of.lies
+  where
+    at_end : (all left : List Item) → FirstFault document (items text) all left → EndsArgued document all → EndsArgued document (items text)
+    at_end all [] first argued = subst (EndsArgued document) (sym (first.splits ∙ append-nil all)) argued
+    at_end all (x ∷ others) first argued = absurd (stops (items text) all (x ∷ others) first x others refl v)
+
+    go : TellsFirstFault document (end_of_text text) (items text) told → EndsArgued document (items text)
+    go (inl (lead, left, first, tells)) =
+        let some = held_item (end_of_text text) lead left told tells.holds e in
+        absurd (stops (items text) lead left first some.0 some.1 some.2 v)
+    go (inr (lead, string, left, first, argued, can, is)) = at_end (lead ++ (string ∷ [])) left first argued
 
 -- the same of what an error comes to, unless memory ran out
 abbrev pub AtEnd : CodeError → Bool → Type 0
 AtEnd e b = (e ≢ errors.Memory alloc_error) × (b ≡ ends_early (told_by e))
 
 reported : (text : List ℕ) (e : CodeError) → (e ≡ errors.Memory alloc_error) ⊎ ErrorOf (told_by e) text → e ≢ errors.Memory alloc_error → ErrorOf (told_by e) text
-reported text e told other = ⊎_elim (λ m. absurd (other m)) (λ x. x) told
+reported text e told no = ⊎_elim (λ m. absurd (no m)) (λ x. x) told
 
 pub ends_viable_by : {E : Type 0} (text : List ℕ) (e : CodeError) (r : Result Bool E) → (e ≡ errors.Memory alloc_error) ⊎ ErrorOf (told_by e) text → IfOk r (AtEnd e) → IfOk r (λ b. b ≡ true → Viable document (items text))
 ends_viable_by text e (Ok b) told h = λ is. ends_viable text (told_by e) (reported text e told h.0) (sym h.1 ∙ is)

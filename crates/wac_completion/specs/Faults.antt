@@ -3,7 +3,7 @@ use Rattle.std.specs.Prelude.{Bool, true, false, Option, Some, None, Ok}
 use Rattle.wac_lexer.specs.declared.token.Token.{Token}
 use Rattle.wac_lexer.specs.declared.token.Token.TheVariants as t
 use Rattle.wac_ast_grammar.specs.Tokens.{is_token}
-use Rattle.wac_ast_base.specs.Error.{Told, expected_one, expected_either, expected_many}
+use Rattle.wac_ast_base.specs.Error.{Told, faulty, expected_one, expected_either, expected_many, empty_type, invalid_version, no_memory}
 
 abbrev pub is_end : Option Token → Bool
 is_end None = true

@@ -30,8 +30,7 @@ are_rest (Some k) xs = at k xs && not (has_more (behind_first xs))
 -- From a place on, the items are a token and perhaps another one.
 abbrev pub reads_from : ℕ → Token → Option Token → List Item → Bool
 reads_from place k next [] = false
-reads_from place k next (x ∷ xs) =
-    if nat_lt x.span.offset place then reads_from place k next xs else is_token k x.token && are_rest next xs
+reads_from place k next (x ∷ xs) = if nat_lt x.span.offset place then reads_from place k next xs else is_token k x.token && are_rest next xs
 
 -- From a place on, a text has these tokens and nothing else; and no character of it is rejected.
 abbrev pub Reads : List ℕ → ℕ → Token → Option Token → Type 0
@@ -44,9 +43,7 @@ IsBegun text k next = Reads (tried text k next) (length text + 1) k next × Viab
 -- A token of a kind can stand behind a text. Of a string the parser decides with the token behind it, so it is tried with
 -- each that the grammar has there: `:`, `;` and `]`.
 abbrev pub CanFollow : List ℕ → Token → Type 0
-CanFollow text t.String =
-    IsBegun text t.String (Some t.Colon) ⊎ IsBegun text t.String (Some t.Semicolon)
-    ⊎ IsBegun text t.String (Some t.CloseBracket)
+CanFollow text t.String = IsBegun text t.String (Some t.Colon) ⊎ IsBegun text t.String (Some t.Semicolon) ⊎ IsBegun text t.String (Some t.CloseBracket)
 CanFollow text k = IsBegun text k None
 
 -- the second list has those of the first of which something holds, in order

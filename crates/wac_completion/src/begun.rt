@@ -107,8 +107,7 @@ fn at_end(error: Error) -> Result<bool, AllocError>
 /// Whether some document begins with the items of a text, which don't end with a string.
 fn is_viable(alloc: Global, text: &str) -> Result<bool, AllocError>
     ensures yes { IfOk result (λ b. b ≡ true → Viable document (items text.now)) }
-    ensures no { IfOk result (λ b. b ≡ false → refused text.now ≡ None → Viable document (items text.now)
-        → EndsArgued document (items text.now)) }
+    ensures no { IfOk result (λ b. b ≡ false → refused text.now ≡ None → Viable document (items text.now) → EndsArgued document (items text.now)) }
 {
     match Document::parse(alloc, text) {
         Ok(_document) => Ok(true),
@@ -132,8 +131,7 @@ fn is_begun(alloc: Global, text: &str, kind: Token, next: Option<Token>) -> Resu
 
 /// Whether a string can stand behind a text.
 fn string_can_follow(alloc: Global, text: &str) -> Result<bool, AllocError>
-    ensures { IfOk result (λ b. MatchBool b (CanFollow text.now the_tokens.String)
-        (¬ (CanFollow text.now the_tokens.String))) }
+    ensures { IfOk result (λ b. MatchBool b (CanFollow text.now the_tokens.String) (¬ (CanFollow text.now the_tokens.String))) }
 {
     let before_colon = is_begun(alloc, text, Token::String, Some(Token::Colon))?;
     if before_colon {

@@ -72,19 +72,19 @@ fn added(error: &Error) -> Option<Token> {
 }
 
 /// The token that is added to a text. `None` where it is a document, or has a fault before its end.
-fn missing(alloc: Global, text: &str) -> Result<Lack, AllocError> {
+fn missing(alloc: Global, text: &str) -> Result<Missing, AllocError> {
     match Document::parse(alloc, text) {
-        Ok(_document) => Ok(Lack::Nothing),
+        Ok(_document) => Ok(Missing::Nothing),
         Err(Error::Memory(_)) => Err(AllocError),
         Err(error) => match added(&error) {
-            Some(token) => Ok(Lack::Token(token)),
-            None => Ok(Lack::Other),
+            Some(token) => Ok(Missing::Token(token)),
+            None => Ok(Missing::Other),
         },
     }
 }
 
 /// What a text lacks.
-enum Lack {
+enum Missing {
     /// It is a document.
     Nothing,
     /// This token, perhaps with others behind it.
@@ -94,19 +94,19 @@ enum Lack {
 }
 
 /// A document that begins with a text, a blank and an identifier. `None` where none was found.
-pub(crate) fn close(alloc: Global, text: &str) -> Result<Option<Closed>, AllocError> {
+pub(crate) fn closed(alloc: Global, text: &str) -> Result<Option<Closed>, AllocError> {
     let mut all = String::from_str(alloc, text)?;
     all.push(' ')?;
     let at = all.len();
     all.push('a')?;
     for _ in 0..MOST {
         match missing(alloc, all.as_str())? {
-            Lack::Nothing => return Ok(Some(Closed { text: all, at })),
-            Lack::Token(token) => {
+            Missing::Nothing => return Ok(Some(Closed { text: all, at })),
+            Missing::Token(token) => {
                 all.push(' ')?;
                 all.push_str(text_of(token))?;
             }
-            Lack::Other => return Ok(None),
+            Missing::Other => return Ok(None),
         }
     }
     Ok(None)

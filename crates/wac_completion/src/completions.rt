@@ -1,6 +1,6 @@
 //! What can stand at an offset, by its text.
 
-use crate::front::{before, recover};
+use crate::front::{before, recovered};
 use crate::kind::text_of;
 use crate::kinds::kinds_after;
 use crate::names::{Candidate, names_after};
@@ -91,14 +91,14 @@ fn add_tokens(
 }
 
 /// The names, keywords and symbols that can stand behind a text and begin with a word.
-fn completions_behind(
+fn completions(
     alloc: Global,
     source: &str,
     text: &str,
     word: &str,
 ) -> Result<Vec<Completion>, AllocError> {
     let mut found = Vec::new(alloc);
-    let Some(recovered) = recover(alloc, text)? else {
+    let Some(recovered) = recovered(alloc, text)? else {
         return Ok(found);
     };
     let names = names_after(alloc, &recovered, source, word)?;
@@ -121,7 +121,7 @@ pub fn completions_at(
 ) -> Result<Completions, AllocError> {
     match before(source, offset) {
         Some((text, word)) => {
-            let all = completions_behind(alloc, source, text, word)?;
+            let all = completions(alloc, source, text, word)?;
             let start = text.len();
             Ok(Completions { start, all })
         }

@@ -3,7 +3,7 @@
 use crate::word::word_start;
 use std::alloc::{AllocError, Global};
 use wac_ast_base::Error;
-use wac_recovery::{Attempt, Fault, Round, first_round};
+use wac_recovery::{Attempt, Fault, first_round};
 
 /// How many faulty statements are blanked at most.
 const MOST: usize = 100;
@@ -54,7 +54,7 @@ fn is_end(fault: &Fault) -> bool {
 }
 
 /// A text with its faulty statements blanked. `None` where one has no end, or there are too many.
-pub(crate) fn recover(alloc: Global, text: &str) -> Result<Option<Recovered>, AllocError> {
+pub(crate) fn recovered(alloc: Global, text: &str) -> Result<Option<Recovered>, AllocError> {
     let mut marked = String::from_str(alloc, text)?;
     marked.push_str(MARK)?;
     let mut attempt = Attempt::new(alloc, marked.as_str())?;
@@ -62,11 +62,10 @@ pub(crate) fn recover(alloc: Global, text: &str) -> Result<Option<Recovered>, Al
         let Some(round) = first_round(alloc, &attempt)? else {
             return Ok(Some(Recovered { attempt }));
         };
-        let Round { fault, next } = round;
-        if is_end(&fault) || fault.span().offset() > text.len() {
+        if is_end(&round.fault) || round.fault.span().offset() > text.len() {
             return Ok(Some(Recovered { attempt }));
         }
-        match next {
+        match round.next {
             Some(next) => attempt = next,
             None => return Ok(None),
         }

@@ -3,8 +3,8 @@ ghost use Rattle.std.specs.Prelude.{All, IfOk};
 ghost use Rattle.wac_completion.specs.Names.{IsWritten};
 
 use crate::begun::can_follow;
-use crate::closed::{Closed, close};
-use crate::front::{Recovered, before, recover};
+use crate::closed::{Closed, closed};
+use crate::front::{Recovered, before, recovered};
 use crate::word::begins_with;
 use crate::written::written;
 use std::alloc::{AllocError, Global};
@@ -148,7 +148,10 @@ fn candidates(
     for (number, name) in names.iter().enumerate() {
         let spelled = text_of(text, name.span);
         let is_before = name.span.offset() < closed.at && is_for_identifiers(name.kind);
-        if is_before && begins_with(spelled, word) && !is_repeated(text, names, number, spelled) {
+        if is_before
+            && begins_with(spelled, word)
+            && !is_repeated(text, names, number, spelled)
+        {
             if let Some(candidate) = tried(alloc, closed, spelled)? {
                 found.push(candidate)?;
             }
@@ -159,7 +162,7 @@ fn candidates(
 
 /// The names that begin with a word and can stand behind a text, where an identifier can.
 fn names_behind(alloc: Global, text: &str, word: &str) -> Result<Vec<Candidate>, AllocError> {
-    let Some(closed) = close(alloc, text)? else {
+    let Some(closed) = closed(alloc, text)? else {
         return Ok(Vec::new(alloc));
     };
     match names_of(alloc, closed.text.as_str())? {
@@ -218,7 +221,7 @@ pub fn names_at(alloc: Global, source: &str, offset: usize) -> Result<Vec<Candid
     let Some((text, _)) = before(source, offset) else {
         return Ok(Vec::new(alloc));
     };
-    match recover(alloc, text)? {
+    match recovered(alloc, text)? {
         Some(recovered) => names_after(alloc, &recovered, source, ""),
         None => Ok(Vec::new(alloc)),
     }

@@ -59,13 +59,12 @@ pub(crate) fn written(
 {
     let mut all = Vec::new(alloc);
     for name in names {
-        if !is_written(text, name) {
-            continue;
+        if is_written(text, name) {
+            all.push(Candidate {
+                span: name.span,
+                kind: name.kind,
+            })?;
         }
-        all.push(Candidate {
-            span: name.span,
-            kind: name.kind,
-        })?;
     }
     Ok(all)
 }

@@ -2,7 +2,7 @@
 ghost use Rattle.std.specs.Prelude.{◌≡◌, true, IfOk, IfSome};
 ghost use Rattle.serde_json.specs.View.{view};
 ghost use Rattle.wac_lsp_texts.specs.Changed.{Changes};
-ghost use Rattle.wac_lsp.specs.Edits.{edit_data, edits_data, range_data};
+ghost use Rattle.wac_lsp.specs.Edits.{edit_data, edits_data};
 ghost use Rattle.wac_lsp.specs.Formatting.{IsFormatting, LaysOut};
 
 use crate::places::{View, range_value};
@@ -187,24 +187,16 @@ fn changes_to_tidy(
     }
 }
 
-/// The range of a change: null where there is none.
-fn replaced_range(alloc: Global, change: &Change) -> Result<Value, AllocError>
-    ensures { IfOk result (λ value. view value ≡ range_data change.now.range) }
-{
-    match change.range {
-        Some(range) => range_value(alloc, range.start, range.end),
-        None => Ok(Value::Null),
-    }
-}
-
 /// A change as an edit of the protocol.
-fn edit_value(alloc: Global, change: &Change) -> Result<Value, AllocError>
+pub(crate) fn edit_value(alloc: Global, change: &Change) -> Result<Value, AllocError>
     ensures { IfOk result (λ value. view value ≡ edit_data change.now) }
 {
-    let range = replaced_range(alloc, change)?;
+    let range = match change.range {
+        Some(range) => range_value(alloc, range.start, range.end)?,
+        None => Value::Null,
+    };
     let text = change.text.as_str();
-    let edit = json!(in alloc; {"range": range, "newText": text})?;
-    Ok(edit)
+    json!(in alloc; {"range": range, "newText": text})
 }
 
 /// Changes as edits of the protocol.

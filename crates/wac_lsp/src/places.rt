@@ -24,8 +24,7 @@ pub(crate) fn range_value(alloc: Global, start: Place, end: Place) -> Result<Val
 {
     let start = position(alloc, start)?;
     let end = position(alloc, end)?;
-    let range = json!(in alloc; {"start": start, "end": end})?;
-    Ok(range)
+    json!(in alloc; {"start": start, "end": end})
 }
 
 /// From one offset of a text to another.

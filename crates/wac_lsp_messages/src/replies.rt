@@ -36,21 +36,16 @@ pub fn reply(alloc: Global, id: &Id, value: Value) -> Result<String, AllocError>
     message.to_string(alloc)
 }
 
-/// Why a request is refused, as a value.
-fn error_value(alloc: Global, refusal: Refusal) -> Result<Value, AllocError> {
-    let code = refusal.code.number();
-    let text = refusal.message;
-    json!(in alloc; {"code": code, "message": text})
-}
-
 /// The reply to a request that is refused, as a value.
 fn refused_value(alloc: Global, id: Option<&Id>, refusal: Refusal) -> Result<Value, AllocError>
     ensures { IfOk result (λ message.
         get (codes "id") (view message) ≡ Some (reply_id (option_map (λ it. it.now) id.entry))) }
 {
     let given = id_value(alloc, id)?;
-    let error = error_value(alloc, refusal)?;
-    let message = json!(in alloc; {"jsonrpc": "2.0", "id": given, "error": error})?;
+    let code = refusal.code.number();
+    let text = refusal.message;
+    let message =
+        json!(in alloc; {"jsonrpc": "2.0", "id": given, "error": {"code": code, "message": text}})?;
     Ok(message)
 }
 

@@ -42,7 +42,7 @@ static ROWS: [Row; 12] = [
         "package a:b;\\ninterface i { type t = u8; }\\ninterface j { use i.{",
         2,
         21,
-        "t 22 21-21, } 24 21-21",
+        "t 22 21-21",
     ),
     (
         "package a:b;\\nlet x = y ",

@@ -192,7 +192,7 @@ static BYTES: [Row; 13] = [
     ),
     (
         "{\"jsonrpc\":\"2.0\",\"method\":\"textDocument/didChange\",\"params\":{\"contentChanges\":[{\"text\":\"package a:b;\\nlet x\u{202e} = y;\\n\"}],\"textDocument\":{\"uri\":\"file:///project/a%20b.wac\",\"version\":10}}}",
-        "{\"jsonrpc\":\"2.0\",\"method\":\"textDocument/publishDiagnostics\",\"params\":{\"diagnostics\":[{\"code\":\"wac::disallowed-bidirectional-override\",\"message\":\"disallowed bidirectional override codepoint `\\\\u{202e}`\\nremove it: it makes a text look other than it is\",\"range\":{\"end\":{\"character\":8,\"line\":1},\"start\":{\"character\":5,\"line\":1}},\"relatedInformation\":[],\"severity\":1,\"source\":\"wac\"}],\"uri\":\"file:///project/a%20b.wac\",\"version\":10}}",
+        "{\"jsonrpc\":\"2.0\",\"method\":\"textDocument/publishDiagnostics\",\"params\":{\"diagnostics\":[{\"code\":\"wac::disallowed-bidirectional-override\",\"message\":\"disallowed bidirectional override codepoint `\\\\u{202e}`\",\"range\":{\"end\":{\"character\":8,\"line\":1},\"start\":{\"character\":5,\"line\":1}},\"relatedInformation\":[],\"severity\":1,\"source\":\"wac\"}],\"uri\":\"file:///project/a%20b.wac\",\"version\":10}}",
     ),
     (
         "{\"id\":7,\"jsonrpc\":\"2.0\",\"method\":\"textDocument/semanticTokens/full\",\"params\":{\"textDocument\":{\"uri\":\"file:///project/a%20b.wac\"}}}",

@@ -1,4 +1,4 @@
-use Rattle.std.proofs.Common.{◌≡◌, sym, ◌∙◌, subst, ℕ, ◌+◌, List, length, true, false, None}
+use Rattle.std.proofs.Common.{◌≡◌, sym, ap, ◌∙◌, subst, ℕ, ◌+◌, List, length, true, false, None}
 use Rattle.wac_lexer.specs.Characters.{refused}
 use Rattle.wac_lexer.specs.Items.{items}
 use Rattle.wac_ast_grammar.specs.Arguments.{EndsArgued}

@@ -1,5 +1,6 @@
-use Rattle.std.proofs.Common.{◌∙◌, ⊎_elim}
+use Rattle.std.proofs.Common.{refl, sym, ◌∙◌, ⊎_elim}
 use Rattle.wac_ast.specs.Statements.{document_of}
+use Rattle.wac_ast_base.specs.Error.{told_by}
 use Rattle.wac_completion.proofs.Viability.{ends_viable_by, not_viable_by, tree_viable}
 use Rattle.wac_completion.proofs.begun.is_viable.Goals as goal
 

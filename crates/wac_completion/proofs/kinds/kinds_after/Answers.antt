@@ -1,5 +1,5 @@
-use Rattle.std.proofs.Common.{◌≡◌, sym, ◌∙◌}
-use Rattle.std.specs.Prelude.{[]}
+use Rattle.std.proofs.Common.{◌≡◌, sym, ◌∙◌, subst, List, ℕ, Option, None, Some, Result, Ok, Err}
+use Rattle.std.specs.Prelude.{IfOk, MatchOption, []}
 use Rattle.wac_completion.proofs.Keeping.{kinds_of_flat}
 use Rattle.wac_completion.proofs.kinds.kinds_after.Goals as goal
 
