@@ -73,7 +73,7 @@ module _ (context : Context) (rules : Rules) (old mid : Parts) (before : Root) (
     subst (λ (l : List ℕ). IsFresh l (imports (composed naming old before))) (meant naming)
         (sym (ap (λ (c : Composition). look_up name (imports c)) (composed_kept old mid before naming made.grows stand.agrees)) ∙ i.unimported.in_composition naming (numbers_of before.nodes)),
     ap rules.named (sym (meant naming)) ∙ i.passes,
-    i.unbound,
+    i.adds.unbound,
     goes new after y i naming
         ∙ ap (λ (l : List ℕ). binding (with_node (with_resources (composed naming old before) (declared_count mid)) (imported l) (shapes.promoted (means naming mid k))) s.id.string (next_of (composed naming old before))) (meant naming),
   )

@@ -85,9 +85,9 @@ names_with {X} {Y} xs ys name x y h =
     map_push (λ (e : List ℕ × X). e.0) xs (name, x) ∙ ap (λ (l : List (List ℕ)). l ++ name ∷ []) h ∙ sym (map_push (λ (e : List ℕ × Y). e.0) ys (name, y))
 
 pub defined : (old mid new : Parts) (before after : Root) (x y : Externs) (id : Ident) (k : ItemKind) (n : ℕ) → Agrees old before → ArePlaced old x → Names old.types k
-    → IsFresh id.string old.exports → IsFresh id.string (numbers_of before.nodes) → mid ≡ with_definition old id.string k → n ≡ length old.nodes
+    → IsFresh id.string old.exports → mid ≡ with_definition old id.string k → n ≡ length old.nodes
     → exported_in y ≡ with_named (exported_in x) id.string id.span → imported_in y ≡ imported_in x → Binds mid new before after id n → IsDefined old new before after x y id k
-defined old mid new before after x y id k n agrees placed named unexported unbound is number exported imported b = record {
+defined old mid new before after x y id k n agrees placed named unexported is number exported imported b = record {
   grows = grows;
   agrees = b.agrees;
   placed = record {
@@ -98,7 +98,7 @@ defined old mid new before after x y id k n agrees placed named unexported unbou
   };
   defines = λ naming. (
     unexported,
-    unbound,
+    b.fresh,
     b.is naming
         ∙ ap (λ (g : Parts). binding (composed naming g before) id.string n) is
         ∙ ap (λ (c : Composition). binding c id.string n) (composition_defines old (numbers_of before.nodes) id.string k naming)

@@ -5,7 +5,7 @@ use Rattle.wac_ast_grammar.specs.Tree.{ImportStatement}
 use Rattle.wac_graph_types.specs.declared.kind.ExternKind.TheVariants as sides
 use Rattle.wac_graph_types.specs.declared.kind.ItemKind.{ItemKind}
 use Rattle.wac_graph_types.specs.declared.rules.Reason.{Reason}
-use Rattle.wac_graph_types.specs.Scope.{Named, IsFresh}
+use Rattle.wac_graph_types.specs.Scope.{Named}
 use Rattle.wac_graph.specs.Graph.{Parts}
 use Rattle.wac_graph.specs.Origin.{Naming}
 use Rattle.wac_resolution_errors.specs.Error.{Error}
@@ -51,11 +51,10 @@ module _ (named : List ℕ → Option Reason) (g : Parts) (root : Root) (x : Ext
     inr (ap given.rules.named (sym is.of_text) ∙ ap (λ (f : List ℕ → Option Reason). f text) same ∙ passes, h naming (places_in root x) refl),
   )
 
-  pub imports_as : (new : Parts) (after : Root) (y : Externs) (k : ItemKind) → IsUnimported g text → named text ≡ None → IsFresh s.id.string (numbers_of root.nodes) → AddsImport g new root after x y s.id text span k → ImportsAs named g new root after x y s name k
-  imports_as new after y k unimported passes unbound adds = record {
+  pub imports_as : (new : Parts) (after : Root) (y : Externs) (k : ItemKind) → IsUnimported g text → named text ≡ None → AddsImport g new root after x y s.id text span k → ImportsAs named g new root after x y s name k
+  imports_as new after y k unimported passes adds = record {
     unimported = subst (IsUnimported g) is.of_text unimported;
     passes = ap named (sym is.of_text) ∙ passes;
-    unbound = unbound;
     adds =
         subst (λ (t : List ℕ). AddsImport g new root after x y s.id t (import_span s) k) is.of_text
         (subst (λ (p : Span). AddsImport g new root after x y s.id text p k) is.of_span adds);

@@ -50,6 +50,7 @@ import_there old new name k n is number =
 pub adds_import : (old mid new : Parts) (before after : Root) (x y : Externs) (id : Ident) (name : List ℕ) (span : Span) (k : ItemKind) (n : ℕ) → mid ≡ with_import old name k → n ≡ length old.nodes → Binds mid new before after id n
     → imported_in y ≡ with_named (imported_in x) name span → exported_in y ≡ exported_in x → AddsImport old new before after x y id name span k
 adds_import old mid new before after x y id name span k n is number binds imported_at exported_at = record {
+  unbound = binds.fresh;
   same = binds.grows.same ∙ ap (λ (g : Parts). record g { nodes = new.nodes }) is;
   agrees = binds.agrees;
   is = λ naming.

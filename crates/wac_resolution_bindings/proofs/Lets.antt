@@ -1,7 +1,7 @@
 -- `let` statements that are executed.
 use Rattle.std.proofs.Common.{◌≡◌, ◌∙◌, ℕ, ◌++◌, inl, inr, refl, sym, ap, append-nil}
 use Rattle.wac_lexer.specs.Span.{Span}
-use Rattle.wac_graph_types.specs.Scope.{Named, IsFresh, with_named}
+use Rattle.wac_graph_types.specs.Scope.{Named, with_named}
 use Rattle.wac_ast_grammar.specs.Tree.{LetStatement, Statement}
 use Rattle.wac_graph.specs.Graph.{Parts}
 use Rattle.wac_graph.specs.Origin.{Naming}
@@ -45,8 +45,8 @@ let_places naming old mid new before after x s node p q imported exported b =
     λ i. record { bound = bound i; imported = none_imported i; exported = none_exported i }
 
 pub let_went : (context : Context) (rules : Rules) (old mid new : Parts) (before after : Root) (s : LetStatement) (node : ℕ) → IsSound old → IsSound new → ExprStep context rules old mid (numbers_of before.nodes) s.expr node
-    → IsFresh s.id.string (numbers_of before.nodes) → Binds mid new before after s.id node → (x : Externs) → ArePlaced old x → StatementRun context rules old new before after x x (Statement.let_statement s)
-let_went context rules old mid new before after s node p q g fresh b x placed =
+    → Binds mid new before after s.id node → (x : Externs) → ArePlaced old x → StatementRun context rules old new before after x x (Statement.let_statement s)
+let_went context rules old mid new before after s node p q g b x placed =
     let imported : new.imports ≡ old.imports = same_imports context rules old mid new before after s node g b in
     let exported : new.exports ≡ old.exports = same_exports context rules old mid new before after s node g b in
     let exports : new.exports ≡ mid.exports = ap (λ (p : Parts). p.exports) b.grows.same in
@@ -56,7 +56,7 @@ let_went context rules old mid new before after s node p q g fresh b x placed =
         placed = placed_still old new x imported exported placed;
         supplied = handed_still (packages_in context) mid new (b.grows.same ∙ ap (λ (l : Named ℕ). record mid { nodes = new.nodes; exports = l }) (sym exports)) g.extends.supplied;
       };
-      leads = λ naming one. ((at (composed naming mid before) node, g.stands naming one, fresh, b.is naming), let_places naming old mid new before after x s node p q imported exported b);
+      leads = λ naming one. ((at (composed naming mid before) node, g.stands naming one, b.fresh, b.is naming), let_places naming old mid new before after x s node p q imported exported b);
     }
 
 pub let_expr_breaks : (context : Context) (rules : Rules) (g : Parts) (root : Root) (s : LetStatement) (e : Error) → ExprBreaks context rules g (numbers_of root.nodes) s.expr e → (x : Externs) → Breaks context rules g root x (Statement.let_statement s) e

@@ -29,9 +29,9 @@ pub record IsUnimported (g : Parts) (name : List ℕ) : Type 0 where
   pub in_composition : (naming : Naming) (declared : Named ℕ)
       → IsFresh name (imports (composition_of naming g declared))
 
--- an import of this name, place and kind was added, and an identifier was bound to it
-pub record AddsImport (old new : Parts) (before after : Root) (x y : Externs) (id : Ident) (name : List ℕ) (span : Span)
-    (k : ItemKind) : Type 0 where
+-- an import of this name, place and kind was added, and a new identifier was bound to it
+pub record AddsImport (old new : Parts) (before after : Root) (x y : Externs) (id : Ident) (name : List ℕ) (span : Span) (k : ItemKind) : Type 0 where
+  pub unbound : IsFresh id.string (numbers_of before.nodes)
   pub same : new ≡ record old { nodes = new.nodes; imports = with_named old.imports name (length old.nodes) }
   pub agrees : Agrees new after
   pub is : (naming : Naming)
@@ -42,10 +42,8 @@ pub record AddsImport (old new : Parts) (before after : Root) (x y : Externs) (i
   pub imported_at : imported_in y ≡ with_named (imported_in x) name span
   pub exported_at : exported_in y ≡ exported_in x
 
--- an import of this name and kind was added for a statement: the name may be an import's, and the identifier is new
-pub record ImportsAs (named : List ℕ → Option Reason) (old new : Parts) (before after : Root) (x y : Externs)
-    (s : ImportStatement) (name : List ℕ) (k : ItemKind) : Type 0 where
+-- an import of this name and kind was added for a statement, and the name may be an import's
+pub record ImportsAs (named : List ℕ → Option Reason) (old new : Parts) (before after : Root) (x y : Externs) (s : ImportStatement) (name : List ℕ) (k : ItemKind) : Type 0 where
   pub unimported : IsUnimported old name
   pub passes : named name ≡ None
-  pub unbound : IsFresh s.id.string (numbers_of before.nodes)
   pub adds : AddsImport old new before after x y s.id name (import_span s) k

@@ -12,7 +12,6 @@ ghost use Rattle.wac_resolution_nodes.specs.Root.{composed, Agrees};
 ghost use Rattle.wac_resolution_externs.specs.Externs.{exported_in, places_in, ArePlaced};
 ghost use Rattle.wac_resolution_bindings.specs.Defined.{IsDefined};
 
-use crate::unbound::check_unbound;
 use wac_ast_base::Ident;
 use wac_graph::ItemKind;
 use wac_graph::names::find;
@@ -58,7 +57,6 @@ pub fn define<'a>(
         (places_in root.old externs.old) (ident_of id.now) e) }
 {
     check_unexported(state, externs, id)?;
-    check_unbound(state.alloc, root, id)?;
     let node = state.graph.add_definition(id.string, kind)?;
     externs.add_export(state.alloc, id.string, id.span)?;
     root.bind(state, id, node)?;

@@ -11,7 +11,6 @@ ghost use Rattle.wac_resolution_externs.specs.declared.externs.Externs.{Externs}
 ghost use Rattle.wac_resolution_externs.specs.Externs.{ArePlaced};
 ghost use Rattle.wac_resolution_bindings.specs.Statements.{StatementRun, Breaks};
 
-use crate::unbound::check_unbound;
 use wac_ast_statements::LetStatement;
 use wac_graph::Rules;
 use wac_resolution_errors::Error;
@@ -41,7 +40,6 @@ pub fn let_statement<'a, R: Rules>(
     // Its contract says that the graph is sound.
     let _before = state.graph.nodes();
     let node = expression(state, context, rules, root, &statement.expr)?;
-    check_unbound(state.alloc, root, &statement.id)?;
     root.bind(state, &statement.id, node)?;
     // It still is.
     let _after = state.graph.nodes();

@@ -7,7 +7,6 @@ mod import_check;
 mod import_names;
 mod let_statements;
 mod named_imports;
-mod unbound;
 
 pub use definition::define;
 pub use export_statements::export_statement;

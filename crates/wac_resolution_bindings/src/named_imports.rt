@@ -15,7 +15,6 @@ ghost use Rattle.wac_resolution_bindings.specs.Imports.{AddsImport, ImportsAs};
 
 use crate::import_check::check_unimported;
 use crate::import_names::new_name;
-use crate::unbound::check_unbound;
 use wac_ast_base::Ident;
 use wac_ast_worlds::ImportStatement;
 use wac_graph::{ExternKind, ItemKind, Rules};
@@ -73,7 +72,6 @@ pub fn import_as<'a, R: Rules>(
     let name = new_name(statement, text);
     check_unimported(state, externs, &name)?;
     check_name(state.alloc, rules, ExternKind::Import, &name)?;
-    check_unbound(state.alloc, root, &statement.id)?;
     add_import(state, root, externs, &statement.id, &name, kind)?;
     Ok(())
 }

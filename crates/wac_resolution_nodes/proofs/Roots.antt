@@ -191,9 +191,10 @@ fresh_back {X} {Y} read all name is = go (look_up name all) (sym (read_found rea
     go None h = refl
     go (Some x) h = absurd (cc)
 
-pub binds : (old new : Parts) (before after : Root) (x : Ident) (node : NodeId) (k : ItemKind) → Agrees old before → IsNamed old new node.0 x.string → kind_in new.nodes node.0 ≡ Some k
+pub binds : (old new : Parts) (before after : Root) (x : Ident) (node : NodeId) (k : ItemKind) → Agrees old before → IsFresh x.string before.nodes → IsNamed old new node.0 x.string → kind_in new.nodes node.0 ≡ Some k
     → after.nodes ≡ with_named before.nodes x.string (x.span, node) → after.kinds ≡ with_named before.kinds x.string (x.span, k) → Binds old new before after x node.0
-binds old new before after x node k h named kind nodes kinds = record {
+binds old new before after x node k h fresh named kind nodes kinds = record {
+  fresh = fresh_read (λ (b : Span × NodeId). b.1.0) before.nodes x.string fresh;
   grows = named.grows;
   agrees = record {
     nodes = named.grows.stand;

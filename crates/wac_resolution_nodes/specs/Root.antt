@@ -3,7 +3,7 @@ use Rattle.std.specs.Prelude.{◌≡◌, ◌<◌, ℕ, List, [], ◌∷◌, map,
 use Rattle.wac_lexer.specs.Span.{Span}
 use Rattle.wac_ast_grammar.specs.Tree.{Ident}
 use Rattle.wac_graph_types.specs.declared.kind.ItemKind.{ItemKind}
-use Rattle.wac_graph_types.specs.Scope.{Named, StandsFor, with_named}
+use Rattle.wac_graph_types.specs.Scope.{Named, IsFresh, StandsFor, with_named}
 use Rattle.wac_graph.specs.declared.node.NodeId.{NodeId}
 use Rattle.wac_graph.specs.Graph.{Parts}
 use Rattle.wac_graph.specs.Origin.{Naming}
@@ -43,8 +43,9 @@ pub record Agrees (g : Parts) (root : Root) : Type 0 where
   pub nodes : NodesStand g
   pub names : EachAgrees g root.nodes root.kinds
 
--- the identifier is bound to the node, which has its name where it had none
+-- the identifier is new, and is bound to the node, which has its name where it had none
 pub record Binds (old new : Parts) (before after : Root) (x : Ident) (node : ℕ) : Type 0 where
+  pub fresh : IsFresh x.string (numbers_of before.nodes)
   pub grows : GrowsNodes old new
   pub agrees : Agrees new after
   pub is : (naming : Naming) → composed naming new after ≡ binding (composed naming old before) x.string node

@@ -14,11 +14,6 @@ returns-in_err-check_unexported-clause-err c =
     let p = err_from_is_err_and c.from_residual.result c.from_residual.ensures.1 in
     rw (p.1, p.2) (reports c.in_err-check_unexported.ensures.err (λ err naming. inl (err naming (numbers_of c.args.root.now.nodes) (places_in c.args.root.now c.args.externs.now) refl)))
 
-pub returns-in_err-check_unbound-clause-err : goal.returns-in_err-check_unbound-clause-err
-returns-in_err-check_unbound-clause-err c =
-    let p = err_from_is_err_and c.from_residual-in_err-check_unbound.result c.from_residual-in_err-check_unbound.ensures.1 in
-    rw (p.1, p.2) (reports c.in_err-check_unbound.ensures.err (λ err naming. inr (c.in_ok-check_unexported.ensures.ok, err naming c.args.state.now.graph (places_in c.args.root.now c.args.externs.now) refl)))
-
 pub add_export-requires : goal.add_export-requires
 add_export-requires c = fresh_too c.args.id.now.string.now c.args.state.now.graph.exports (exported_in c.args.externs.now) (sym c.requires.placed.exported) c.in_ok-check_unexported.ensures.ok
 
@@ -39,5 +34,5 @@ returns-in_err-bind-clause-err c =
 pub returns-clause-ok : goal.returns-clause-ok
 returns-clause-ok c =
     defined c.args.state.now.graph c.add_definition.new.self c.bind.new.state.graph c.args.root.now c.bind.new.self c.args.externs.now c.add_export.new.self (ident_of c.args.id.now) c.args.kind c.in_ok-node.node.0
-    c.requires.agrees c.requires.placed c.requires.kind c.in_ok-check_unexported.ensures.ok c.in_ok-check_unbound.ensures.ok c.in_ok-node.ensures.ok c.in_ok-node.ensures.number
+    c.requires.agrees c.requires.placed c.requires.kind c.in_ok-check_unexported.ensures.ok c.in_ok-node.ensures.ok c.in_ok-node.ensures.number
     c.in_ok-add_export.ensures.exported c.in_ok-add_export.ensures.imported c.in_ok-bind.ensures.ok

@@ -24,16 +24,6 @@ returns-in_err-check_name-clause-err g c =
     (invalid_breaks (g.R.Rules.named c.args.rules.now) c.args.state.now.graph c.args.root.now c.args.externs.now (import_statement_of c.args.statement.now) c.args.text.now n.text.now n.span (help_of n)
     (record { of_text = c.new_name-name.ensures.text; of_span = c.new_name-name.ensures.span; of_help = c.new_name-name.ensures.help }) (told c.in_err-check_name.field-0.0) c.in_ok-check_unimported.ensures.ok))
 
-pub returns-in_err-check_unbound-clause-err : goal.returns-in_err-check_unbound-clause-err
-returns-in_err-check_unbound-clause-err g c =
-    let p = err_from_is_err_and c.from_residual-in_err-check_unbound.result c.from_residual-in_err-check_unbound.ensures.1 in
-    let n = c.new_name-name.result in
-    rw (p.1, p.2)
-    (reports c.in_err-check_unbound.ensures.err
-    (λ err. bound_breaks (g.R.Rules.named c.args.rules.now) c.args.state.now.graph c.args.root.now c.args.externs.now (import_statement_of c.args.statement.now) c.args.text.now n.text.now n.span (help_of n)
-    (record { of_text = c.new_name-name.ensures.text; of_span = c.new_name-name.ensures.span; of_help = c.new_name-name.ensures.help }) (told c.in_err-check_unbound.field-0.0) c.in_ok-check_unimported.ensures.ok c.in_ok-check_name.ensures.ok
-    (λ naming all same. err naming c.args.state.now.graph all same)))
-
 pub add_import-requires-clause-new : goal.add_import-requires-clause-new
 add_import-requires-clause-new g c = c.in_ok-check_unimported.ensures.ok.in_graph
 
@@ -51,4 +41,4 @@ returns-clause-ok g c =
     let n = c.new_name-name.result in
     imports_as (g.R.Rules.named c.args.rules.now) c.args.state.now.graph c.args.root.now c.args.externs.now (import_statement_of c.args.statement.now) c.args.text.now n.text.now n.span (help_of n)
     (record { of_text = c.new_name-name.ensures.text; of_span = c.new_name-name.ensures.span; of_help = c.new_name-name.ensures.help }) c.add_import.new.state.graph c.add_import.new.root c.add_import.new.externs c.args.kind
-    c.in_ok-check_unimported.ensures.ok c.in_ok-check_name.ensures.ok c.in_ok-check_unbound.ensures.ok c.in_ok-add_import.ensures.ok
+    c.in_ok-check_unimported.ensures.ok c.in_ok-check_name.ensures.ok c.in_ok-add_import.ensures.ok

@@ -19,4 +19,4 @@ bind-requires-2 c = kinds_fresh c.args.state.now.graph c.args.self.now c.args.id
 pub returns-clause-ok : goal.returns-clause-ok
 returns-clause-ok c =
     binds c.args.state.now.graph c.name_node.new.state.graph c.args.self.now (record { nodes = c.bind.new.self; kinds = c.bind-2.new.self }) (ident_of c.args.id.now) c.args.node c.kind-kind.result
-    c.requires.agrees c.in_ok-name_node.ensures c.kind-kind.ensures.kind c.in_ok-bind.ensures.ok c.in_ok-bind-2.ensures.ok
+    c.requires.agrees c.in_ok-check_fresh.ensures.ok c.in_ok-name_node.ensures c.kind-kind.ensures.kind c.in_ok-bind.ensures.ok c.in_ok-bind-2.ensures.ok
