@@ -1,5 +1,5 @@
 -- What blanked statements declare.
-use Rattle.std.specs.Prelude.{◌≡◌, refl, codes, ℕ, Bool, true, false, ◌&&◌, ◌||◌, nat_eq, nat_lt, List, [], ◌∷◌, length, slice_index, Option, Some, None, Result}
+use Rattle.std.specs.Prelude.{◌≡◌, refl, codes, ℕ, Bool, true, false, ◌&&◌, ◌||◌, nat_eq, nat_lt, List, [], ◌∷◌, length, slice_index, Option, Some, None, Result, Ok}
 use Rattle.std.specs.Str.{bytes_eq}
 use Rattle.wac_lexer.specs.Characters.{refused}
 use Rattle.wac_lexer.specs.Item.{Item}
@@ -9,22 +9,23 @@ use Rattle.wac_lexer.specs.Span.{Span}
 use Rattle.wac_lexer.specs.declared.token.Token.{Token}
 use Rattle.wac_lexer.specs.declared.token.Token.TheVariants as t
 use Rattle.wac_lexer.specs.declared.error.Error.{Error}
-use Rattle.wac_ast_grammar.specs.Tokens.{is_token}
 use Rattle.wac_ast_grammar.specs.Tree.{without_percent}
 use Rattle.wac_diagnostics.specs.declared.diagnostic.Diagnostic.{Diagnostic}
 
 -- a name right behind this item is declared there: behind a keyword of a declaration, or another name, as a misspelled
 -- keyword is one
 abbrev pub declares_next : Result Token Error → Bool
-declares_next x =
-    is_token t.Ident x
-    || (is_token t.ImportKeyword x
-    || (is_token t.LetKeyword x
-    || (is_token t.InterfaceKeyword x
-    || (is_token t.WorldKeyword x
-    || (is_token t.TypeKeyword x
-    || (is_token t.VariantKeyword x
-    || (is_token t.RecordKeyword x || (is_token t.FlagsKeyword x || is_token t.EnumKeyword x))))))))
+declares_next (Ok t.Ident) = true
+declares_next (Ok t.ImportKeyword) = true
+declares_next (Ok t.LetKeyword) = true
+declares_next (Ok t.InterfaceKeyword) = true
+declares_next (Ok t.WorldKeyword) = true
+declares_next (Ok t.TypeKeyword) = true
+declares_next (Ok t.VariantKeyword) = true
+declares_next (Ok t.RecordKeyword) = true
+declares_next (Ok t.FlagsKeyword) = true
+declares_next (Ok t.EnumKeyword) = true
+declares_next x = false
 
 -- a byte of a text is a blank
 abbrev pub is_blank_at : List ℕ → ℕ → Bool

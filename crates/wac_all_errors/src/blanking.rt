@@ -1,7 +1,6 @@
 //! What blanked statements declare.
 ghost use Rattle.std.specs.Prelude.{◌≡◌, ◌↔◌, ◌&&◌, IsTrue, MatchOption, false};
 ghost use Rattle.wac_lexer.specs.Reading.{Slices, left as items_left, slice};
-ghost use Rattle.wac_ast_grammar.specs.Tokens.{is_token};
 ghost use Rattle.wac_ast_grammar.specs.Tree.{without_percent};
 ghost use Rattle.wac_all_errors.specs.Naming.{
   IsUndeclared,
@@ -28,31 +27,26 @@ pub(crate) fn is_caused(code: &str) -> bool {
     )
 }
 
-/// Whether an item is a token.
-fn is_token(item: LexerResult<Token>, token: Token) -> bool
-    ensures { result ≡ is_token token item }
-{
-    match item {
-        Ok(found) => found == token,
-        Err(_) => false,
-    }
-}
-
 /// Whether a name right behind an item is declared there: behind a keyword of a declaration, or another name, since a
 /// misspelled keyword is one.
 fn declares_next(item: LexerResult<Token>) -> bool
     ensures { result ≡ declares_next item }
 {
-    is_token(item, Token::Ident)
-        || is_token(item, Token::ImportKeyword)
-        || is_token(item, Token::LetKeyword)
-        || is_token(item, Token::InterfaceKeyword)
-        || is_token(item, Token::WorldKeyword)
-        || is_token(item, Token::TypeKeyword)
-        || is_token(item, Token::VariantKeyword)
-        || is_token(item, Token::RecordKeyword)
-        || is_token(item, Token::FlagsKeyword)
-        || is_token(item, Token::EnumKeyword)
+    matches!(
+        item,
+        Ok(
+            Token::Ident
+                | Token::ImportKeyword
+                | Token::LetKeyword
+                | Token::InterfaceKeyword
+                | Token::WorldKeyword
+                | Token::TypeKeyword
+                | Token::VariantKeyword
+                | Token::RecordKeyword
+                | Token::FlagsKeyword
+                | Token::EnumKeyword
+        )
+    )
 }
 
 /// Whether a byte of a text is a blank.

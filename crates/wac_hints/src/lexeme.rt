@@ -1,4 +1,7 @@
 //! Tokens with their places.
+ghost use Rattle.std.specs.Prelude.{◌≡◌};
+ghost use Rattle.wac_hints.specs.Types.{begins_type};
+
 use wac_lexer::{SourceSpan, Token};
 
 /// A token of a text.
@@ -74,25 +77,9 @@ pub(crate) fn begins_statement(token: Token) -> bool {
 }
 
 /// Whether a token begins a type, and is no name.
-pub(crate) fn begins_type(token: Token) -> bool {
-    is_number(token)
-        || matches!(
-            token,
-            Token::CharKeyword
-                | Token::BoolKeyword
-                | Token::StringKeyword
-                | Token::TupleKeyword
-                | Token::ListKeyword
-                | Token::OptionKeyword
-                | Token::ResultKeyword
-                | Token::BorrowKeyword
-                | Token::StreamKeyword
-                | Token::FutureKeyword
-        )
-}
-
-/// Whether a token is a type of numbers.
-fn is_number(token: Token) -> bool {
+pub fn begins_type(token: Token) -> bool
+    ensures { result ≡ begins_type token }
+{
     matches!(
         token,
         Token::U8Keyword
@@ -105,5 +92,16 @@ fn is_number(token: Token) -> bool {
             | Token::S64Keyword
             | Token::F32Keyword
             | Token::F64Keyword
+            | Token::CharKeyword
+            | Token::BoolKeyword
+            | Token::StringKeyword
+            | Token::TupleKeyword
+            | Token::ListKeyword
+            | Token::OptionKeyword
+            | Token::ResultKeyword
+            | Token::BorrowKeyword
+            | Token::StreamKeyword
+            | Token::FutureKeyword
+            | Token::ErrorContextKeyword
     )
 }

@@ -26,5 +26,6 @@ mod versions;
 
 pub use advice::parse_hint;
 pub use hints::{Edit, Hint};
+pub use lexeme::begins_type;
 pub use scope::undefined_name_hint;
 pub use similar::nearest;

@@ -1,5 +1,5 @@
 -- Where the statements of a text are.
-use Rattle.std.specs.Prelude.{◌≡◌, refl, codes, ℕ, ◌+◌, ◌-◌, Bool, true, false, ◌&&◌, ◌||◌, not, nat_eq, nat_le, nat_lt, List, [], ◌∷◌, length, Option, Some, None, Result, if◌then◌else◌}
+use Rattle.std.specs.Prelude.{◌≡◌, refl, codes, ℕ, ◌+◌, ◌-◌, Bool, true, false, ◌&&◌, not, nat_eq, nat_le, nat_lt, List, [], ◌∷◌, length, Option, Some, None, Result, Ok, if◌then◌else◌}
 use Rattle.std.specs.Option.{option_map}
 use Rattle.wac_lexer.specs.Characters.{refused}
 use Rattle.wac_lexer.specs.Item.{Item, Handed, handed}
@@ -16,18 +16,22 @@ use Rattle.wac_recovery.specs.declared.statements.Sort.TheVariants.{Plain, Decla
 
 -- the item begins a statement that `;` alone ends
 abbrev pub begins_plain : Result Token Error → Bool
-begins_plain x =
-    is_token t.PackageKeyword x
-    || (is_token t.ImportKeyword x
-    || (is_token t.LetKeyword x || (is_token t.ExportKeyword x || is_token t.TypeKeyword x)))
+begins_plain (Ok t.PackageKeyword) = true
+begins_plain (Ok t.ImportKeyword) = true
+begins_plain (Ok t.LetKeyword) = true
+begins_plain (Ok t.ExportKeyword) = true
+begins_plain (Ok t.TypeKeyword) = true
+begins_plain x = false
 
 -- the item begins a declaration, which its braces end
 abbrev pub begins_declaration : Result Token Error → Bool
-begins_declaration x =
-    is_token t.InterfaceKeyword x
-    || (is_token t.WorldKeyword x
-    || (is_token t.VariantKeyword x
-    || (is_token t.RecordKeyword x || (is_token t.FlagsKeyword x || is_token t.EnumKeyword x))))
+begins_declaration (Ok t.InterfaceKeyword) = true
+begins_declaration (Ok t.WorldKeyword) = true
+begins_declaration (Ok t.VariantKeyword) = true
+begins_declaration (Ok t.RecordKeyword) = true
+begins_declaration (Ok t.FlagsKeyword) = true
+begins_declaration (Ok t.EnumKeyword) = true
+begins_declaration x = false
 
 -- the sort of statement that begins with an item
 abbrev pub sort_of : Result Token Error → Sort

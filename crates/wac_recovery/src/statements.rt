@@ -70,23 +70,33 @@ fn is_token(item: LexerResult<Token>, token: Token) -> bool
 fn begins_plain(item: LexerResult<Token>) -> bool
     ensures { result ≡ begins_plain item }
 {
-    is_token(item, Token::PackageKeyword)
-        || is_token(item, Token::ImportKeyword)
-        || is_token(item, Token::LetKeyword)
-        || is_token(item, Token::ExportKeyword)
-        || is_token(item, Token::TypeKeyword)
+    matches!(
+        item,
+        Ok(
+            Token::PackageKeyword
+                | Token::ImportKeyword
+                | Token::LetKeyword
+                | Token::ExportKeyword
+                | Token::TypeKeyword
+        )
+    )
 }
 
 /// Whether an item begins a declaration, which its braces end.
 fn begins_declaration(item: LexerResult<Token>) -> bool
     ensures { result ≡ begins_declaration item }
 {
-    is_token(item, Token::InterfaceKeyword)
-        || is_token(item, Token::WorldKeyword)
-        || is_token(item, Token::VariantKeyword)
-        || is_token(item, Token::RecordKeyword)
-        || is_token(item, Token::FlagsKeyword)
-        || is_token(item, Token::EnumKeyword)
+    matches!(
+        item,
+        Ok(
+            Token::InterfaceKeyword
+                | Token::WorldKeyword
+                | Token::VariantKeyword
+                | Token::RecordKeyword
+                | Token::FlagsKeyword
+                | Token::EnumKeyword
+        )
+    )
 }
 
 /// Whether the next item is `;`.

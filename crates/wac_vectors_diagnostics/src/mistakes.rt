@@ -217,7 +217,7 @@ static NAMES: [Row; 21] = [
 ];
 
 /// Symbols in the place of others.
-static SYMBOLS: [Row; 14] = [
+static SYMBOLS: [Row; 15] = [
     (
         "package a:b;\nlet x = new c:d { e = f };\n",
         Some("write `:` here, not `=`"),
@@ -237,6 +237,11 @@ static SYMBOLS: [Row; 14] = [
         "package a:b;\nimport f: func() u32;\n",
         Some("`->` comes before what a function returns"),
         Some("package a:b;\nimport f: func() -> u32;\n"),
+    ),
+    (
+        "package a:b;\nimport f: func() error-context;\n",
+        Some("`->` comes before what a function returns"),
+        Some("package a:b;\nimport f: func() -> error-context;\n"),
     ),
     (
         "package a:b;\nlet x := y;\n",
