@@ -33,6 +33,8 @@ pub struct Completions {
     pub start: usize,
     /// The names in the order of the text, then the keywords and symbols in the order of [`Token`].
     pub all: Vec<Completion>,
+    /// Whether no name was left out, as [`names_at`](crate::names_at) does where there are very many.
+    pub is_complete: bool,
 }
 
 /// The text of a keyword or a symbol. Other kinds of tokens have many.
@@ -90,21 +92,31 @@ fn add_tokens(
     Ok(())
 }
 
+/// No completions of a word that begins at an offset.
+fn no_completions(alloc: Global, start: usize) -> Completions {
+    Completions {
+        start,
+        all: Vec::new(alloc),
+        is_complete: true,
+    }
+}
+
 /// The names, keywords and symbols that can stand behind a text and begin with a word.
 fn completions_behind(
     alloc: Global,
     source: &str,
     text: &str,
     word: &str,
-) -> Result<Vec<Completion>, AllocError> {
-    let mut found = Vec::new(alloc);
+) -> Result<Completions, AllocError> {
+    let mut found = no_completions(alloc, text.len());
     let Some(recovered) = recover(alloc, text)? else {
         return Ok(found);
     };
     let names = names_after(alloc, &recovered, source, word)?;
-    add_names(alloc, &mut found, source, &names)?;
+    found.is_complete = names.is_complete;
+    add_names(alloc, &mut found.all, source, &names.all)?;
     let kinds = kinds_after(alloc, recovered.text())?;
-    add_tokens(alloc, &mut found, word, &kinds)?;
+    add_tokens(alloc, &mut found.all, word, &kinds)?;
     Ok(found)
 }
 
@@ -120,14 +132,7 @@ pub fn completions_at(
     offset: usize,
 ) -> Result<Completions, AllocError> {
     match before(source, offset) {
-        Some((text, word)) => {
-            let all = completions_behind(alloc, source, text, word)?;
-            let start = text.len();
-            Ok(Completions { start, all })
-        }
-        None => Ok(Completions {
-            start: offset,
-            all: Vec::new(alloc),
-        }),
+        Some((text, word)) => completions_behind(alloc, source, text, word),
+        None => Ok(no_completions(alloc, offset)),
     }
 }

@@ -13,6 +13,8 @@
 mod begun;
 mod closed;
 mod completions;
+mod copies;
+mod foreign;
 mod front;
 mod kind;
 mod kinds;
@@ -21,5 +23,6 @@ mod word;
 mod written;
 
 pub use completions::{Completed, Completion, Completions, completions_at};
+pub use foreign::{Foreign, foreign_at};
 pub use kinds::{kinds_after, kinds_at};
 pub use names::{Candidate, names_at};

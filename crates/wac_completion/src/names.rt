@@ -4,9 +4,11 @@ ghost use Rattle.wac_completion.specs.Names.{IsWritten};
 
 use crate::begun::can_follow;
 use crate::closed::{Closed, close};
+use crate::copies::{Copies, last_statement};
 use crate::front::{Recovered, before, recover};
 use crate::word::begins_with;
 use crate::written::written;
+use indexmap::IndexSet;
 use std::alloc::{AllocError, Global};
 use wac_ast::Document;
 use wac_ast::internals::Statements;
@@ -59,31 +61,6 @@ fn names_of(alloc: Global, text: &str) -> Result<Option<Names>, AllocError> {
     }
 }
 
-/// The name that is mentioned at an offset, where it is bound. It is bound before.
-fn mentioned(names: &Names, at: usize) -> Option<Candidate> {
-    for mention in &names.mentions {
-        if mention.span.offset() == at {
-            let name = names.bindings.get(mention.binding)?;
-            if name.span.offset() < at {
-                return Some(Candidate {
-                    span: name.span,
-                    kind: name.kind,
-                });
-            }
-        }
-    }
-    None
-}
-
-/// What a name stands for in the place of the identifier.
-fn tried(alloc: Global, closed: &Closed, name: &str) -> Result<Option<Candidate>, AllocError> {
-    let text = closed.with_name(alloc, name)?;
-    match names_of(alloc, text.as_str())? {
-        Some(names) => Ok(mentioned(&names, closed.at)),
-        None => Ok(None),
-    }
-}
-
 /// Whether an identifier can stand for a name of a kind.
 fn is_for_identifiers(kind: Kind) -> bool {
     !matches!(
@@ -112,12 +89,6 @@ fn text_of(text: &str, span: SourceSpan) -> &str {
     text.get(span.offset()..end).unwrap_or("")
 }
 
-/// Whether a name is spelled like one before it.
-fn is_repeated(text: &str, names: &[Name], number: usize, name: &str) -> bool {
-    names.iter().take(number).any(|other| is_for_identifiers(other.kind)
-        && text_of(text, other.span) == name)
-}
-
 /// Whether a text ends in the braces of a `use`.
 fn ends_in_use(text: &str) -> bool {
     let Ok(mut lexer) = Lexer::new(text) else {
@@ -136,41 +107,111 @@ fn ends_in_use(text: &str) -> bool {
     is_inside
 }
 
-/// Those of the names of a closed text that begin with a word and can stand in the place of its identifier.
-fn candidates(
+/// Whether a name may be one that can stand at an offset: an identifier before it that begins with a word.
+fn is_before(name: &Name, spelled: &str, at: usize, word: &str) -> bool {
+    name.span.offset() < at && is_for_identifiers(name.kind) && begins_with(spelled, word)
+}
+
+/// Those of the names of a closed text that are bound before its identifier and begin with a word, each spelling once.
+fn spelled_before(
     alloc: Global,
     closed: &Closed,
     names: &[Name],
     word: &str,
 ) -> Result<Vec<Candidate>, AllocError> {
     let text = closed.text.as_str();
+    let mut spellings: IndexSet<&str> = IndexSet::new(alloc);
     let mut found = Vec::new(alloc);
-    for (number, name) in names.iter().enumerate() {
+    for name in names {
         let spelled = text_of(text, name.span);
-        let is_before = name.span.offset() < closed.at && is_for_identifiers(name.kind);
-        if is_before && begins_with(spelled, word) && !is_repeated(text, names, number, spelled) {
-            if let Some(candidate) = tried(alloc, closed, spelled)? {
-                found.push(candidate)?;
-            }
+        if is_before(name, spelled, closed.at, word) && spellings.insert(spelled)? {
+            found.push(Candidate {
+                span: name.span,
+                kind: name.kind,
+            })?;
         }
     }
     Ok(found)
 }
 
+/// The names that can stand at an offset.
+#[derive(Drop)]
+pub(crate) struct Found {
+    /// The names, in the order of the text.
+    pub all: Vec<Candidate>,
+    /// Whether none was left out since there are too many.
+    pub is_complete: bool,
+}
+
+/// How many bytes copies of a statement may have together.
+const MOST_BYTES: usize = 2097152;
+
+/// How many copies of a statement of so many bytes are made at most.
+fn most_copies(length: usize) -> usize {
+    match MOST_BYTES.checked_div(length) {
+        Some(count) => count.max(1),
+        None => MOST_BYTES,
+    }
+}
+
+/// The last names of a list, so many at most.
+fn last_names(names: &[Candidate], most: usize) -> &[Candidate] {
+    names
+        .get(names.len().saturating_sub(most)..)
+        .unwrap_or(names)
+}
+
+/// Those of some names that can stand in the place of the identifier of a closed text: each is put there, in a copy of
+/// the statement, and looked up by the rules of names.
+fn standing(alloc: Global, closed: &Closed, names: &[Candidate]) -> Result<Found, AllocError> {
+    let text = closed.text.as_str();
+    let start = last_statement(text.get(..closed.at).unwrap_or(""));
+    let tried = last_names(names, most_copies(text.len().saturating_sub(start)));
+    let is_complete = tried.len() == names.len();
+    let copies = Copies::new(alloc, closed, start, tried)?;
+    let all = match names_of(alloc, copies.text.as_str())? {
+        Some(names) => copies.candidates(alloc, &names)?,
+        None => Vec::new(alloc),
+    };
+    Ok(Found { all, is_complete })
+}
+
+/// Those of the names of a closed text that begin with a word and can stand in the place of its identifier.
+fn candidates(
+    alloc: Global,
+    closed: &Closed,
+    names: &[Name],
+    word: &str,
+) -> Result<Found, AllocError> {
+    let spelled = spelled_before(alloc, closed, names, word)?;
+    if spelled.is_empty() {
+        return no_names(alloc);
+    }
+    standing(alloc, closed, &spelled)
+}
+
+/// No names.
+fn no_names(alloc: Global) -> Result<Found, AllocError> {
+    Ok(Found {
+        all: Vec::new(alloc),
+        is_complete: true,
+    })
+}
+
 /// The names that begin with a word and can stand behind a text, where an identifier can.
-fn names_behind(alloc: Global, text: &str, word: &str) -> Result<Vec<Candidate>, AllocError> {
+fn names_behind(alloc: Global, text: &str, word: &str) -> Result<Found, AllocError> {
     let Some(closed) = close(alloc, text)? else {
-        return Ok(Vec::new(alloc));
+        return no_names(alloc);
     };
     match names_of(alloc, closed.text.as_str())? {
         Some(names) => {
             let mut found = candidates(alloc, &closed, &names.bindings, word)?;
             if ends_in_use(text) {
-                found.retain(|candidate| is_type(candidate.kind));
+                found.all.retain(|candidate| is_type(candidate.kind));
             }
             Ok(found)
         }
-        None => Ok(Vec::new(alloc)),
+        None => no_names(alloc),
     }
 }
 
@@ -193,16 +234,19 @@ pub(crate) fn names_after(
     recovered: &Recovered,
     source: &str,
     word: &str,
-) -> Result<Vec<Candidate>, AllocError>
-    ensures { IfOk result (λ found. All (IsWritten source.now) found.items) }
+) -> Result<Found, AllocError>
+    ensures { IfOk result (λ found. All (IsWritten source.now) found.all.items) }
 {
     let text = recovered.text();
-    if !can_follow(alloc, text, Token::Ident)? {
-        return Ok(Vec::new(alloc));
-    }
-    let found = names_behind(alloc, text, word)?;
-    let moved = moved_back(alloc, &found, recovered.skip())?;
-    written(alloc, source, &moved)
+    let found = if can_follow(alloc, text, Token::Ident)? {
+        names_behind(alloc, text, word)?
+    } else {
+        no_names(alloc)?
+    };
+    let moved = moved_back(alloc, &found.all, recovered.skip())?;
+    let all = written(alloc, source, &moved)?;
+    let is_complete = found.is_complete;
+    Ok(Found { all, is_complete })
 }
 
 /// The names that can stand at an offset: those that an identifier there would be looked up as, each once, in the order
@@ -211,7 +255,9 @@ pub(crate) fn names_after(
 /// At root they are those that are bound before; in a body its own, and those of the root; behind `x.` what `x` exports,
 /// where the document declares it; and in the braces of a `use` the types of the interface. As for kinds, a word that
 /// touches the offset is cut off, and statements with a fault before the offset are blanked; there are none in one that
-/// has no end. It takes the time of a parse for each name that is bound before. The error is that memory ran out.
+/// has no end. Each name is looked up in a copy of the statement, and all copies are parsed at once: they have 2 MB
+/// together at most, so where the statement is long, the names that are bound first are left out. The error is that
+/// memory ran out.
 pub fn names_at(alloc: Global, source: &str, offset: usize) -> Result<Vec<Candidate>, AllocError>
     ensures { IfOk result (λ found. All (IsWritten source.now) found.items) }
 {
@@ -219,7 +265,10 @@ pub fn names_at(alloc: Global, source: &str, offset: usize) -> Result<Vec<Candid
         return Ok(Vec::new(alloc));
     };
     match recover(alloc, text)? {
-        Some(recovered) => names_after(alloc, &recovered, source, ""),
+        Some(recovered) => {
+            let found = names_after(alloc, &recovered, source, "")?;
+            Ok(found.all)
+        }
         None => Ok(Vec::new(alloc)),
     }
 }

@@ -27,3 +27,4 @@ mod uses;
 mod worlds;
 
 pub use names::{Kind, Mention, Name, Names};
+pub use tied::name_in;

@@ -1,5 +1,5 @@
 //! Mentions that are spelled like the names for which they stand.
-ghost use Rattle.std.specs.Prelude.{◌≡◌, ◌↔◌, All, IfOk, IfSome, IsTrue};
+ghost use Rattle.std.specs.Prelude.{◌≡◌, ◌↔◌, All, IfOk, IfSome, IsSome, IsTrue};
 ghost use Rattle.wac_lexer.specs.Reading.{Slices, slice};
 ghost use Rattle.wac_ast_grammar.specs.Tree.{without_percent};
 ghost use Rattle.wac_names.specs.Places.{AreTied, IsTied, name_in};
@@ -35,9 +35,11 @@ fn without_percent(text: &str) -> &str
     text.strip_prefix('%').unwrap_or(text)
 }
 
-/// The name that a text has in a span.
-fn name_in(source: &str, span: SourceSpan) -> Option<&str>
-    ensures { IfSome result (λ name. name.now ≡ name_in source.now span) }
+/// The name that a text has in a span, without a leading `%`: `log` for `%log`. `None` where the span doesn't lie in the
+/// text, or cuts a character.
+pub fn name_in(source: &str, span: SourceSpan) -> Option<&str>
+    ensures name { IfSome result (λ name. name.now ≡ name_in source.now span) }
+    ensures found { IsSome result ↔ Slices source.now span }
 {
     if lies_in(source, span) {
         Some(without_percent(text_in(source, span)))
