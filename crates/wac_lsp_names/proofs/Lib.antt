@@ -1,0 +1,3 @@
+mod Following
+mod Giving
+pub mod Spans

@@ -1,0 +1,177 @@
+//! A document as it is read: its text without faulty statements, its tokens and its names.
+use crate::lexed::{Lexed, number_at, tokens_of};
+use crate::parts::without_percent;
+use std::alloc::{AllocError, Global};
+use wac_ast::Document;
+use wac_ast::internals::Statements;
+use wac_ast_base::Error;
+use wac_comments_layout::too_deep;
+use wac_lexer::SourceSpan;
+use wac_names::{Kind, Name, Names};
+use wac_recovery::{Recovery, recover};
+
+/// How many faulty statements are blanked at most.
+const MOST: usize = 100;
+
+/// How many are blanked of a long text.
+const LEAST: usize = 16;
+
+/// How many bytes are read again for them, about.
+const MOST_BYTES: usize = 1048576;
+
+/// A document as it is read.
+#[derive(Drop)]
+pub(crate) struct Reading {
+    /// The text, of which faulty statements are blanked.
+    pub(crate) text: String,
+    /// How many bytes at the beginning of it the document doesn't have.
+    pub(crate) skip: usize,
+    pub(crate) names: Names,
+    pub(crate) tokens: Vec<Lexed>,
+}
+
+/// How many faulty statements of a text are blanked: fewer of a long one, since each costs a parse.
+fn most_faults(text: &str) -> usize {
+    match MOST_BYTES.checked_div(text.len()) {
+        Some(count) => count.min(MOST).max(LEAST),
+        None => MOST,
+    }
+}
+
+/// A document that is lent. The prover follows it through a call at far less cost than a bare one.
+#[derive(Clone, Copy)]
+struct Lent<'d, 'a> {
+    document: &'d Document<'a>,
+}
+
+/// The names of the document of a text.
+fn names_in(lent: Lent<'_, '_>, alloc: Global, text: &str) -> Result<Option<Names>, AllocError> {
+    let Lent { document } = lent;
+    let statements = Statements {
+        all: &document.statements,
+    };
+    let names = Names::of(alloc, text, &document.directive, statements)?;
+    Ok(Some(names))
+}
+
+/// There are no names where a text is rejected. That memory ran out is an error.
+fn no_names(error: Error) -> Result<Option<Names>, AllocError> {
+    match error {
+        Error::Memory(_) => Err(AllocError),
+        _ => Ok(None),
+    }
+}
+
+/// The names of the document of a text whose brackets aren't nested too deep.
+fn names_of_flat(alloc: Global, text: &str) -> Result<Option<Names>, AllocError> {
+    match Document::parse(alloc, text) {
+        Ok(document) => {
+            let lent = Lent {
+                document: &document,
+            };
+            names_in(lent, alloc, text)
+        }
+        Err(error) => no_names(error),
+    }
+}
+
+/// The names of the document of a text, if it has a tree, and its brackets aren't nested deeper than is parsed.
+pub(crate) fn names_of(alloc: Global, text: &str) -> Result<Option<Names>, AllocError> {
+    match too_deep(text) {
+        Some(_) => Ok(None),
+        None => names_of_flat(alloc, text),
+    }
+}
+
+/// What is left of a text without its faulty statements, which are blanked.
+#[derive(Drop)]
+struct Left {
+    text: String,
+    skip: usize,
+}
+
+/// Blanks the faulty statements of a text.
+fn blanked(alloc: Global, source: &str) -> Result<Left, AllocError> {
+    let recovery = recover(alloc, source, most_faults(source))?;
+    let Recovery {
+        faults: _,
+        text,
+        skip,
+    } = recovery;
+    Ok(Left { text, skip })
+}
+
+/// Reads what is left of a text, if it is a document.
+fn read_left(alloc: Global, left: Left) -> Result<Option<Reading>, AllocError> {
+    let Left { text, skip } = left;
+    let Some(names) = names_of(alloc, text.as_str())? else {
+        return Ok(None);
+    };
+    let tokens = tokens_of(alloc, text.as_str())?;
+    Ok(Some(Reading {
+        text,
+        skip,
+        names,
+        tokens,
+    }))
+}
+
+/// Reads a text. There is nothing to read where too many statements are faulty.
+pub(crate) fn read(alloc: Global, source: &str) -> Result<Option<Reading>, AllocError> {
+    read_left(alloc, blanked(alloc, source)?)
+}
+
+impl Reading {
+    /// What the text has in a span.
+    pub(crate) fn slice(&self, span: SourceSpan) -> &str {
+        let end = span.offset().saturating_add(span.len());
+        self.text.as_str().get(span.offset()..end).unwrap_or("")
+    }
+
+    /// The name that the text has in a span.
+    pub(crate) fn word(&self, span: SourceSpan) -> &str {
+        without_percent(self.slice(span))
+    }
+
+    /// The name of a number, where it is bound.
+    pub(crate) fn name(&self, number: usize) -> Option<&Name> {
+        self.names.bindings.get(number)
+    }
+
+    /// What binds the name of a number.
+    pub(crate) fn kind(&self, number: usize) -> Option<Kind> {
+        Some(self.name(number)?.kind)
+    }
+
+    /// The number of the token with which a name is bound.
+    pub(crate) fn token_of(&self, number: usize) -> Option<usize> {
+        number_at(self.tokens.as_slice(), self.name(number)?.span.offset())
+    }
+
+    /// The text of a token, empty where there is none.
+    pub(crate) fn token_text(&self, number: usize) -> &str {
+        match self.tokens.get(number) {
+            Some(lexed) => self.slice(lexed.span),
+            None => "",
+        }
+    }
+
+    /// The name that a token is, or that stands between its quotes.
+    pub(crate) fn token_word(&self, number: usize) -> &str {
+        without_percent(self.token_text(number).trim_matches('"'))
+    }
+
+    /// The number of the name that the token of a number stands for, where it is used.
+    pub(crate) fn mentioned_by(&self, number: usize) -> Option<usize> {
+        let lexed = self.tokens.get(number)?;
+        let start = lexed.span.offset();
+        let end = start.saturating_add(lexed.span.len());
+        let last = self
+            .names
+            .mentions
+            .iter()
+            .filter(|mention| start <= mention.span.offset() && mention.span.offset() < end)
+            .last()?;
+        Some(last.binding)
+    }
+}
