@@ -1,10 +1,9 @@
 //! Requests of a client.
-use crate::fields::{count, field, uri};
-use crate::notice::{Range, read_place, read_range};
-use crate::refusal::{Code, Refusal};
+use crate::fields::{field, owned_text, uri};
+use crate::question::{INVALID_PARAMS, Question, read_question};
+use crate::refusal::Refusal;
 use serde_json::Value;
 use std::alloc::{AllocError, Global};
-use wac_positions::Place;
 
 /// What a client says of itself.
 #[derive(Clone, Copy, Debug, PartialEq, Eq)]
@@ -17,15 +16,6 @@ pub struct Initialize {
     pub nests_symbols: bool,
 }
 
-/// How a document is to be laid out.
-#[derive(Clone, Copy, Debug, PartialEq, Eq)]
-pub struct FormattingOptions {
-    /// How many blanks a tab is worth.
-    pub tab_size: usize,
-    /// Whether lines begin with blanks, and not with tabs.
-    pub insert_spaces: bool,
-}
-
 /// What a client asks for.
 #[derive(Debug, Drop)]
 pub enum Call {
@@ -33,58 +23,22 @@ pub enum Call {
     Initialize(Option<Initialize>),
     /// To prepare for the end.
     Shutdown,
-    /// The edits that lay out a document.
-    Formatting {
+    /// Something of a document.
+    Document {
         /// Its name.
         uri: String,
-        /// How.
-        options: FormattingOptions,
+        /// What.
+        question: Question,
     },
-    /// What a document declares.
-    DocumentSymbol {
-        /// Its name.
-        uri: String,
-    },
-    /// The kinds of a document's tokens.
-    SemanticTokens {
-        /// Its name.
-        uri: String,
-    },
-    /// Which parts of a document can be folded.
-    FoldingRange {
-        /// Its name.
-        uri: String,
-    },
-    /// What is around places of a document.
-    SelectionRange {
-        /// Its name.
-        uri: String,
-        /// The places.
-        places: Vec<Place>,
-    },
-    /// What mends a part of a document.
-    CodeAction {
-        /// Its name.
-        uri: String,
-        /// The part.
-        range: Range,
+    /// What open documents declare under names that have a text in them.
+    WorkspaceSymbols {
+        /// The text.
+        query: String,
     },
 }
 
 /// What reading the parameters of a request gives: it, or why not.
 pub(crate) type CallResult = Result<Call, Refusal>;
-
-/// Parameters that lack something, or have another type.
-const INVALID_PARAMS: Refusal = Refusal {
-    code: Code::InvalidParams,
-    message: "the parameters are not those of this method",
-};
-
-/// A method that there isn't.
-const NO_METHOD: Refusal = Refusal {
-    code: Code::MethodNotFound,
-    message: "there is no such method",
-};
 
 /// Whether columns are to be counted in bytes, by the encodings that a client has in order of preference.
 fn counts_bytes(capabilities: &Value) -> bool {
@@ -124,70 +78,23 @@ fn read_initialize(params: &Value) -> Option<Initialize> {
     })
 }
 
-/// How a document is to be laid out.
-fn read_options(params: &Value) -> Option<FormattingOptions> {
-    let options = field(params, "options")?;
-    Some(FormattingOptions {
-        tab_size: count(options, "tabSize")?,
-        insert_spaces: field(options, "insertSpaces")?.as_bool()?,
-    })
-}
-
-/// The edits that lay out a document.
-fn read_formatting(alloc: Global, params: &Value) -> Result<CallResult, AllocError> {
-    let Some(options) = read_options(params) else {
-        return Ok(Err(INVALID_PARAMS));
-    };
-    match uri(alloc, params)? {
-        Some(uri) => Ok(Ok(Call::Formatting { uri, options })),
+/// What open documents declare.
+fn read_workspace_symbols(alloc: Global, params: &Value) -> Result<CallResult, AllocError> {
+    match owned_text(alloc, params, "query")? {
+        Some(query) => Ok(Ok(Call::WorkspaceSymbols { query })),
         None => Ok(Err(INVALID_PARAMS)),
     }
 }
 
-/// What mends a part of a document.
-fn read_action(uri: String, params: &Value) -> CallResult {
-    match field(params, "range").and_then(read_range) {
-        Some(range) => Ok(Call::CodeAction { uri, range }),
-        None => Err(INVALID_PARAMS),
-    }
-}
-
-/// The places of a request, if each value is one.
-fn read_places(alloc: Global, params: &Value) -> Result<Option<Vec<Place>>, AllocError> {
-    let Some(Value::Array(values)) = field(params, "positions") else {
-        return Ok(None);
-    };
-    let mut all = Vec::new(alloc);
-    for value in values {
-        match read_place(value) {
-            Some(place) => all.push(place)?,
-            None => return Ok(None),
-        }
-    }
-    Ok(Some(all))
-}
-
-/// What is around places of a document.
-fn read_selection(alloc: Global, params: &Value) -> Result<CallResult, AllocError> {
-    let Some(places) = read_places(alloc, params)? else {
-        return Ok(Err(INVALID_PARAMS));
-    };
-    match uri(alloc, params)? {
-        Some(uri) => Ok(Ok(Call::SelectionRange { uri, places })),
-        None => Ok(Err(INVALID_PARAMS)),
-    }
-}
-
-/// What a request about a document asks for, beside its name.
+/// Something of a document.
 fn read_about(alloc: Global, method: &str, params: &Value) -> Result<CallResult, AllocError> {
-    let Some(uri) = uri(alloc, params)? else {
-        return Ok(Err(INVALID_PARAMS));
+    let question = match read_question(alloc, method, params)? {
+        Ok(question) => question,
+        Err(why) => return Ok(Err(why)),
     };
-    match method {
-        "textDocument/documentSymbol" => Ok(Ok(Call::DocumentSymbol { uri })),
-        "textDocument/semanticTokens/full" => Ok(Ok(Call::SemanticTokens { uri })),
-        "textDocument/foldingRange" => Ok(Ok(Call::FoldingRange { uri })),
-        _ => Ok(read_action(uri, params)),
+    match uri(alloc, params)? {
+        Some(uri) => Ok(Ok(Call::Document { uri, question })),
+        None => Ok(Err(INVALID_PARAMS)),
     }
 }
 
@@ -200,12 +107,7 @@ pub(crate) fn read_call(
     match method {
         "initialize" => Ok(Ok(Call::Initialize(read_initialize(params)))),
         "shutdown" => Ok(Ok(Call::Shutdown)),
-        "textDocument/formatting" => read_formatting(alloc, params),
-        "textDocument/selectionRange" => read_selection(alloc, params),
-        "textDocument/documentSymbol"
-        | "textDocument/semanticTokens/full"
-        | "textDocument/foldingRange"
-        | "textDocument/codeAction" => read_about(alloc, method, params),
-        _ => Ok(Err(NO_METHOD)),
+        "workspace/symbol" => read_workspace_symbols(alloc, params),
+        _ => read_about(alloc, method, params),
     }
 }

@@ -1,15 +1,27 @@
 //! Reading the fields of values.
+ghost use Rattle.std.specs.Prelude.{◌≡◌, option_map};
+ghost use Rattle.serde_json.specs.Find.{get};
+ghost use Rattle.serde_json.specs.View.{view};
+ghost use Rattle.wac_lsp_messages.specs.Meaning.{text_in};
+
 use serde_json::Value;
 use std::alloc::{AllocError, Global};
 
 /// The field of a value, if it is an object that has it.
-pub(crate) fn field<'v>(value: &'v Value, name: &str) -> Option<&'v Value> {
+pub(crate) fn field<'v>(value: &'v Value, name: &str) -> Option<&'v Value>
+    ensures { option_map (λ it. view it.now) result ≡ get name.now (view value.now) }
+{
     value.get(name)
 }
 
 /// The text of a field.
-pub(crate) fn text<'v>(value: &'v Value, name: &str) -> Option<&'v str> {
-    field(value, name)?.as_str()
+pub(crate) fn text<'v>(value: &'v Value, name: &str) -> Option<&'v str>
+    ensures { option_map (λ it. it.now) result ≡ text_in name.now (view value.now) }
+{
+    match field(value, name) {
+        Some(field) => field.as_str(),
+        None => None,
+    }
 }
 
 /// The text of a field, copied.

@@ -1,4 +1,9 @@
 //! The messages of a client.
+ghost use Rattle.std.specs.Prelude.{◌≡◌, IfOk, IsUtf8, Some, codes, option_map};
+ghost use Rattle.serde_json.specs.Read.{read};
+ghost use Rattle.serde_json.specs.View.{view};
+ghost use Rattle.wac_lsp_messages.specs.Meaning.{IsMessageIn, IsMessageOf, text_in};
+
 use crate::call::{Call, read_call};
 use crate::fields::{field, text};
 use crate::id::Id;
@@ -38,18 +43,42 @@ const NO_MESSAGE: Refusal = Refusal {
     message: "the body is no message",
 };
 
-/// The message that a body is. A lone surrogate in it is read as U+FFFD. The error is that memory ran out.
-pub fn read_message(alloc: Global, body: &[u8]) -> Result<Message, AllocError> {
-    let body = without_lone_surrogates(alloc, body)?;
-    match Value::from_slice(alloc, body.as_slice()) {
-        Ok(value) => message_of(alloc, &value),
+/// The value that bytes are: `None` where they are no JSON text.
+fn value_of(alloc: Global, bytes: &[u8]) -> Result<Option<Value>, AllocError>
+    ensures { IfOk result (λ found. IsUtf8 bytes.now → option_map (λ value. view value) found ≡ read bytes.now) }
+{
+    match Value::from_slice(alloc, bytes) {
+        Ok(value) => Ok(Some(value)),
         Err(error) if error.is_memory() => Err(AllocError),
-        Err(_) => Ok(Message::Wrong(NO_JSON)),
+        Err(_) => Ok(None),
+    }
+}
+
+/// The message that a body is which is no JSON text as it stands: it may be one without its lone surrogates.
+fn read_mended(alloc: Global, body: &[u8]) -> Result<Message, AllocError> {
+    let body = without_lone_surrogates(alloc, body)?;
+    match value_of(alloc, body.as_slice())? {
+        Some(value) => message_of(alloc, &value),
+        None => Ok(Message::Wrong(NO_JSON)),
+    }
+}
+
+/// The message that a body is. A lone surrogate in it is read as U+FFFD. The error is that memory ran out.
+#[tactic(auto, using(crate::proofs::Found::message_in, crate::proofs::Found::no_json))]
+pub fn read_message(alloc: Global, body: &[u8]) -> Result<Message, AllocError>
+    // Of a JSON text it is a request with its id, a notification or a reply as its fields say.
+    ensures { IfOk result (λ message. IsMessageIn body.now message) }
+{
+    match value_of(alloc, body)? {
+        Some(value) => message_of(alloc, &value),
+        None => read_mended(alloc, body),
     }
 }
 
 /// The message that a value is.
-fn message_of(alloc: Global, value: &Value) -> Result<Message, AllocError> {
+fn message_of(alloc: Global, value: &Value) -> Result<Message, AllocError>
+    ensures { IfOk result (λ message. IsMessageOf (view value.now) message) }
+{
     match text(value, "method") {
         Some(method) => sent(alloc, value, method),
         None if is_reply(value) => Ok(Message::Reply),
@@ -63,7 +92,10 @@ fn is_reply(value: &Value) -> bool {
 }
 
 /// An object without a method: a request that can't be one, if it has an id.
-fn without_method(alloc: Global, value: &Value) -> Result<Message, AllocError> {
+#[tactic(auto, using(crate::proofs::Found::request_with, crate::proofs::Found::wrong_with, crate::proofs::Found::wrong_without))]
+fn without_method(alloc: Global, value: &Value) -> Result<Message, AllocError>
+    ensures { IfOk result (λ message. IsMessageOf (view value.now) message) }
+{
     match field(value, "id") {
         Some(id) => match Id::of(alloc, id)? {
             Some(id) => Ok(Message::Request {
@@ -77,7 +109,11 @@ fn without_method(alloc: Global, value: &Value) -> Result<Message, AllocError> {
 }
 
 /// A request or a notification of this method.
-fn sent(alloc: Global, value: &Value, method: &str) -> Result<Message, AllocError> {
+#[tactic(auto, using(crate::proofs::Found::request_with, crate::proofs::Found::notification_with, crate::proofs::Found::wrong_with))]
+fn sent(alloc: Global, value: &Value, method: &str) -> Result<Message, AllocError>
+    requires { text_in (codes "method") (view value.now) ≡ Some method.now }
+    ensures { IfOk result (λ message. IsMessageOf (view value.now) message) }
+{
     let nothing = Value::Null;
     let params = field(value, "params").unwrap_or(&nothing);
     match field(value, "id") {

@@ -52,6 +52,8 @@ pub enum Notice {
         /// Its name.
         uri: String,
     },
+    /// Files of the client's folders were changed.
+    FilesChanged,
     /// Something that the server does nothing about, or a notice without what it needs.
     Other,
 }
@@ -162,6 +164,7 @@ pub(crate) fn read_notice(
         "textDocument/didOpen" => read_opened(alloc, params)?,
         "textDocument/didChange" => read_changed(alloc, params)?,
         "textDocument/didClose" => read_closed(alloc, params)?,
+        "workspace/didChangeWatchedFiles" => Some(Notice::FilesChanged),
         _ => None,
     };
     Ok(found.unwrap_or(Notice::Other))

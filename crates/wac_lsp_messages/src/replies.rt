@@ -1,31 +1,65 @@
 //! The messages of the server.
+ghost use Rattle.std.specs.Prelude.{◌≡◌, Some, IfOk, codes, option_map, string_bytes};
+ghost use Rattle.serde_json.specs.Find.{get};
+ghost use Rattle.serde_json.specs.View.{view};
+ghost use Rattle.wac_lsp_messages.specs.Replying.{id_data, reply_id, IsReplyTo};
+
 use crate::id::Id;
 use crate::refusal::Refusal;
 use serde_json::{Value, json};
 use std::alloc::{AllocError, Global};
 
 /// The id of a reply: `null` where the request's isn't known.
-fn id_value(alloc: Global, id: Option<&Id>) -> Result<Value, AllocError> {
+fn id_value(alloc: Global, id: Option<&Id>) -> Result<Value, AllocError>
+    ensures { IfOk result (λ value. view value ≡ reply_id (option_map (λ it. it.now) id.entry)) }
+{
     match id {
         Some(id) => id.to_value(alloc),
         None => Ok(Value::Null),
     }
 }
 
+/// The reply to a request, as a value.
+fn reply_value(alloc: Global, id: &Id, value: Value) -> Result<Value, AllocError>
+    ensures { IfOk result (λ message. get (codes "id") (view message) ≡ Some (id_data id.now)) }
+{
+    let given = id.to_value(alloc)?;
+    let message = json!(in alloc; {"jsonrpc": "2.0", "id": given, "result": value})?;
+    Ok(message)
+}
+
 /// The reply to a request, with what it asked for.
-pub fn reply(alloc: Global, id: &Id, value: Value) -> Result<String, AllocError> {
-    let id = id.to_value(alloc)?;
-    json!(in alloc; {"jsonrpc": "2.0", "id": id, "result": value})?.to_string(alloc)
+pub fn reply(alloc: Global, id: &Id, value: Value) -> Result<String, AllocError>
+    ensures { IfOk result (λ text. IsReplyTo (Some id.now) (string_bytes text)) }
+{
+    let message = reply_value(alloc, id, value)?;
+    message.to_string(alloc)
+}
+
+/// Why a request is refused, as a value.
+fn error_value(alloc: Global, refusal: Refusal) -> Result<Value, AllocError> {
+    let code = refusal.code.number();
+    let text = refusal.message;
+    json!(in alloc; {"code": code, "message": text})
+}
+
+/// The reply to a request that is refused, as a value.
+fn refused_value(alloc: Global, id: Option<&Id>, refusal: Refusal) -> Result<Value, AllocError>
+    ensures { IfOk result (λ message.
+        get (codes "id") (view message) ≡ Some (reply_id (option_map (λ it. it.now) id.entry))) }
+{
+    let given = id_value(alloc, id)?;
+    let error = error_value(alloc, refusal)?;
+    let message = json!(in alloc; {"jsonrpc": "2.0", "id": given, "error": error})?;
+    Ok(message)
 }
 
 /// The reply to a request that is refused, or to what is no message.
-pub fn refused(alloc: Global, id: Option<&Id>, refusal: Refusal) -> Result<String, AllocError> {
-    let id = id_value(alloc, id)?;
-    let code = refusal.code.number();
-    let message = refusal.message;
-    json!(in alloc; {"jsonrpc": "2.0", "id": id, "error": {"code": code, "message": message}})?.to_string(
-        alloc,
-    )
+pub fn refused(alloc: Global, id: Option<&Id>, refusal: Refusal) -> Result<String, AllocError>
+    ensures { IfOk result (λ text. IsReplyTo (option_map (λ it. it.now) id.entry) (string_bytes text)) }
+{
+    let message = refused_value(alloc, id, refusal)?;
+    message.to_string(alloc)
 }
 
 /// A notification of the server.

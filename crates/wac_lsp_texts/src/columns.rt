@@ -6,7 +6,7 @@ ghost use Rattle.wac_lsp_texts.specs.Clamped.{IsClampedColumn};
 use wac_positions::ColumnUnit;
 
 /// How many units a byte counts for.
-fn width(unit: ColumnUnit, byte: u8) -> usize
+pub(crate) fn width(unit: ColumnUnit, byte: u8) -> usize
     ensures is { result ≡ width unit byte }
     ensures most { result ≤ 2 }
 {

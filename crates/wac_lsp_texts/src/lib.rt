@@ -8,6 +8,8 @@
 mod changing;
 mod columns;
 mod offsets;
+mod places;
 
 pub use changing::{ChangeError, changed};
 pub use offsets::offset_at;
+pub use places::Places;
