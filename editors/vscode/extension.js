@@ -79,6 +79,13 @@ function follow({ notify }, subscriptions) {
     );
 }
 
+/** Tells the server that files changed which may have packages. */
+function watch({ notify }, subscriptions) {
+    const watcher = vscode.workspace.createFileSystemWatcher('**/*.{wac,wasm}');
+    const changed = () => notify('workspace/didChangeWatchedFiles', { changes: [] });
+    subscriptions.push(watcher, watcher.onDidCreate(changed), watcher.onDidChange(changed), watcher.onDidDelete(changed));
+}
+
 let server;
 
 exports.activate = async ({ subscriptions }) => {
@@ -93,13 +100,23 @@ exports.activate = async ({ subscriptions }) => {
     await server.request('initialize', { processId: process.pid, rootUri, workspaceFolders: folders, capabilities: {} });
     server.notify('initialized', {});
     follow(server, subscriptions);
+    watch(server, subscriptions);
     const provideDocumentFormattingEdits = async ({ uri }, { tabSize, insertSpaces }) => {
         const textDocument = { uri: uri.toString() };
         const edits = await server.request('textDocument/formatting', { textDocument, options: { tabSize, insertSpaces } });
         return (edits ?? []).map(({ range, newText }) => vscode.TextEdit.replace(toRange(range), newText));
     };
     const formatter = { provideDocumentFormattingEdits };
-    subscriptions.push(errors, vscode.languages.registerDocumentFormattingEditProvider('wac', formatter));
+    const provideDefinition = async ({ uri }, { line, character }) => {
+        const textDocument = { uri: uri.toString() };
+        const found = await server.request('textDocument/definition', { textDocument, position: { line, character } });
+        return found && new vscode.Location(vscode.Uri.parse(found.uri), toRange(found.range));
+    };
+    subscriptions.push(
+        errors,
+        vscode.languages.registerDocumentFormattingEditProvider('wac', formatter),
+        vscode.languages.registerDefinitionProvider('wac', { provideDefinition }),
+    );
 };
 
 exports.deactivate = async () => {

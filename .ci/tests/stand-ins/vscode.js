@@ -19,12 +19,19 @@ class Diagnostic {
     }
 }
 
+class Location {
+    constructor(uri, range) {
+        Object.assign(this, { uri, range });
+    }
+}
+
 const shown = [];
 module.exports = {
     happens,
     shown,
     Range,
     Diagnostic,
+    Location,
     Uri: { parse: (text) => ({ toString: () => text, toJSON: () => text }) },
     TextEdit: { replace: (range, newText) => ({ range, newText }) },
     window: { showErrorMessage: (message) => shown.push(message) },
@@ -32,6 +39,12 @@ module.exports = {
         textDocuments: [],
         workspaceFolders: undefined,
         getConfiguration: (section) => ({ get: (name) => process.env[`${section}_${name}`] }),
+        createFileSystemWatcher: () => ({
+            onDidCreate: when('fileCreated'),
+            onDidChange: when('fileChanged'),
+            onDidDelete: when('fileDeleted'),
+            dispose() {},
+        }),
         onDidOpenTextDocument: when('open'),
         onDidChangeTextDocument: when('change'),
         onDidCloseTextDocument: when('close'),
@@ -40,6 +53,10 @@ module.exports = {
         createDiagnosticCollection: () => ({ set: (uri, errors) => shown.push([uri, errors]) }),
         registerDocumentFormattingEditProvider: (_, { provideDocumentFormattingEdits }) => {
             happens.format = provideDocumentFormattingEdits;
+            return { dispose() {} };
+        },
+        registerDefinitionProvider: (_, { provideDefinition }) => {
+            happens.define = provideDefinition;
             return { dispose() {} };
         },
     },

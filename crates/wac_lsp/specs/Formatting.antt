@@ -1,11 +1,45 @@
 -- What formatting changes.
-use Rattle.std.specs.Prelude.{ℕ, List, [], ◌∷◌}
+use Rattle.std.specs.Prelude.{◌≡◌, ℕ, List, [], ◌⊎◌, Bool, true, false}
+use Rattle.serde_json.specs.View.{view}
+use Rattle.serde_json.specs.declared.value.Value.{Value}
 use Rattle.wac_positions.specs.declared.place.ColumnUnit.{ColumnUnit}
-use Rattle.wac_comments.specs.Tidied.{Kept, SameTree}
+use Rattle.wac_comments.specs.Errors.{IsErrorOf}
+use Rattle.wac_comments.specs.Tidied.{IsPlain, Kept, SameTree}
+use Rattle.wac_comments.specs.declared.error.TidyError.{TidyError}
+use Rattle.wac_comments.specs.declared.error.TidyError.TheVariants.{Parse, NestedTooDeep, NotKept, Memory}
+use Rattle.wac_comments.specs.declared.options.Options.{Options}
 use Rattle.wac_lsp_messages.specs.declared.notice.Change.{Change}
 use Rattle.wac_lsp_texts.specs.Changed.{Changes}
+use Rattle.wac_lsp.specs.Edits.{edits_data}
 
--- the change makes a text of this one that has the same comments, each before the same token, and the same tree
-abbrev pub MakesTidy : ColumnUnit → List ℕ → Change → Type 0
-MakesTidy unit text change =
-    (after : List ℕ) × Changes unit text (change ∷ []) after × Kept text after × SameTree text after
+-- the changes make the tidy form of a text, as `tidy` promises it
+pub record MakesTidy (unit : ColumnUnit) (options : Options) (text : List ℕ) (changes : List Change) : Type 0 where
+  pub after : List ℕ
+  pub makes : Changes unit text changes after
+  pub kept : Kept text after
+  pub tree : SameTree text after
+  pub plain : IsPlain options text after
+
+-- whether an error is the text's: it is no document, or its brackets are nested too deep
+abbrev pub is_of_text : TidyError → Bool
+is_of_text (Parse error) = true
+is_of_text (NestedTooDeep span) = true
+is_of_text NotKept = false
+is_of_text (Memory error) = false
+
+-- the text has no tidy form, and nothing is changed
+pub record IsLeft (text : List ℕ) (changes : List Change) : Type 0 where
+  pub error : TidyError
+  pub told : IsErrorOf text error
+  pub of_text : is_of_text error ≡ true
+  pub nothing : changes ≡ []
+
+abbrev pub LaysOut : ColumnUnit → Options → List ℕ → List Change → Type 0
+LaysOut unit options text changes = MakesTidy unit options text changes ⊎ IsLeft text changes
+
+-- the value has the edits that lay out a text
+pub record IsFormatting (unit : ColumnUnit) (text : List ℕ) (value : Value) : Type 0 where
+  pub options : Options
+  pub changes : List Change
+  pub has : view value ≡ edits_data changes
+  pub lays_out : LaysOut unit options text changes

@@ -1,2 +1,5 @@
+pub mod Edits
 pub mod Formatting
+pub mod Opened
 pub mod Replies
+pub mod Steps

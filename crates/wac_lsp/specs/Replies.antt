@@ -1,5 +1,6 @@
 -- The replies among the messages of a server.
-use Rattle.std.specs.Prelude.{List, [], ◌∷◌, Option, Some, None}
+use Rattle.std.specs.Prelude.{List, [], ◌∷◌, Option, Some, None, string_bytes}
+use Rattle.wac_lsp_messages.specs.Replying.{IsReplyTo}
 use Rattle.wac_lsp_messages.specs.declared.id.Id.{Id}
 use Rattle.wac_lsp_messages.specs.declared.message.Message.{Message}
 use Rattle.wac_lsp_messages.specs.declared.message.Message.TheVariants as messages
@@ -19,3 +20,9 @@ replied_to (messages.Request id call) = Some id ∷ []
 replied_to (messages.Notification notice) = []
 replied_to messages.Reply = []
 replied_to (messages.Wrong why) = None ∷ []
+
+-- the text of each reply among messages has its id
+abbrev pub AreReplies : List Sent → Type 0
+AreReplies [] = Unit {0}
+AreReplies (sent.Reply id body ∷ more) = IsReplyTo id (string_bytes body) × AreReplies more
+AreReplies (sent.Notification body ∷ more) = AreReplies more

@@ -26,7 +26,7 @@ fn is_in(finding: &Finding, part: Part) -> bool {
 /// An edit of one document, as a value.
 fn edit_value(
     alloc: Global,
-    view: &View<'_, '_>,
+    view: &View<'_>,
     uri: &str,
     span: SourceSpan,
     text: &str,
@@ -38,7 +38,7 @@ fn edit_value(
 /// The change that mends what was found, as an action.
 fn action_value(
     alloc: Global,
-    view: &View<'_, '_>,
+    view: &View<'_>,
     uri: &str,
     finding: &Finding,
 ) -> Result<Option<Value>, AllocError> {
@@ -62,7 +62,7 @@ fn action_value(
 /// The actions for what was found in a part of a text.
 fn actions_value(
     alloc: Global,
-    view: &View<'_, '_>,
+    view: &View<'_>,
     uri: &str,
     part: Part,
     found: &[Finding],
@@ -94,10 +94,6 @@ pub(crate) fn actions(
     let start = offset_at(&lines, text.len(), range.start, unit).unwrap_or(0);
     let end = offset_at(&lines, text.len(), range.end, unit).unwrap_or(0);
     let part = Part { start, end };
-    let view = View {
-        lines: &lines,
-        len: text.len(),
-        unit,
-    };
+    let view = View::new(alloc, text, unit)?;
     actions_value(alloc, &view, uri, part, found.as_slice())
 }

@@ -1,4 +1,5 @@
 //! What is wrong with a document, as a notification.
+use crate::documents::Document;
 use crate::places::View;
 use serde_json::{Value, json};
 use std::alloc::{AllocError, Global};
@@ -6,7 +7,7 @@ use wac_all_errors::{Finding, all_errors};
 use wac_diagnostics::{Diagnostic, Note, Severity};
 use wac_lexer::SourceSpan;
 use wac_lsp_messages::notification;
-use wac_positions::{ColumnUnit, Lines};
+use wac_positions::ColumnUnit;
 
 /// How many errors of a document are told, where it isn't long.
 const MOST: usize = 100;
@@ -39,12 +40,7 @@ fn severity_number(severity: Severity) -> u8 {
 }
 
 /// Another place that a diagnostic speaks of.
-fn related(
-    alloc: Global,
-    view: &View<'_, '_>,
-    uri: &str,
-    note: &Note,
-) -> Result<Value, AllocError> {
+fn related(alloc: Global, view: &View<'_>, uri: &str, note: &Note) -> Result<Value, AllocError> {
     let range = view.span(alloc, note.span)?;
     let message = note.message.as_str();
     json!(in alloc; {"location": {"uri": uri, "range": range}, "message": message})
@@ -53,7 +49,7 @@ fn related(
 /// The other places that a diagnostic speaks of.
 fn all_related(
     alloc: Global,
-    view: &View<'_, '_>,
+    view: &View<'_>,
     uri: &str,
     notes: &[Note],
 ) -> Result<Value, AllocError> {
@@ -74,11 +70,7 @@ fn message_of(alloc: Global, diagnostic: &Diagnostic) -> Result<String, AllocErr
 }
 
 /// The range of a diagnostic: the beginning of the text, where it has no place.
-fn range_of(
-    alloc: Global,
-    view: &View<'_, '_>,
-    diagnostic: &Diagnostic,
-) -> Result<Value, AllocError> {
+fn range_of(alloc: Global, view: &View<'_>, diagnostic: &Diagnostic) -> Result<Value, AllocError> {
     match diagnostic.span {
         Some(span) => view.span(alloc, span),
         None => view.span(alloc, SourceSpan::new(0, 0)),
@@ -88,7 +80,7 @@ fn range_of(
 /// A diagnostic as a value.
 pub(crate) fn diagnostic_value(
     alloc: Global,
-    view: &View<'_, '_>,
+    view: &View<'_>,
     uri: &str,
     diagnostic: &Diagnostic,
 ) -> Result<Value, AllocError> {
@@ -110,7 +102,7 @@ pub(crate) fn diagnostic_value(
 /// The diagnostics of errors, as a value.
 fn diagnostics_value(
     alloc: Global,
-    view: &View<'_, '_>,
+    view: &View<'_>,
     uri: &str,
     found: &[Finding],
 ) -> Result<Value, AllocError> {
@@ -119,6 +111,35 @@ fn diagnostics_value(
         all.push(diagnostic_value(alloc, view, uri, &finding.diagnostic)?)?;
     }
     Ok(Value::Array(all))
+}
+
+/// Diagnostics as a value.
+fn others_value(
+    alloc: Global,
+    view: &View<'_>,
+    uri: &str,
+    found: &[Diagnostic],
+) -> Result<Value, AllocError> {
+    let mut all = Vec::new(alloc);
+    for diagnostic in found {
+        all.push(diagnostic_value(alloc, view, uri, diagnostic)?)?;
+    }
+    Ok(Value::Array(all))
+}
+
+/// Other diagnostics of a document than those of its text alone, as a notification.
+pub(crate) fn published_others(
+    alloc: Global,
+    document: &Document,
+    unit: ColumnUnit,
+    found: &[Diagnostic],
+) -> Result<String, AllocError> {
+    let uri = document.uri();
+    let version = document.version;
+    let view = View::new(alloc, document.text(), unit)?;
+    let diagnostics = others_value(alloc, &view, uri, found)?;
+    let params = json!(in alloc; {"uri": uri, "version": version, "diagnostics": diagnostics})?;
+    notification(alloc, PUBLISH, params)
 }
 
 /// The diagnostics of a document, as a notification.
@@ -133,12 +154,7 @@ pub(crate) fn published(
         Ok(found) => found,
         Err(_) => return Err(AllocError),
     };
-    let lines = Lines::new(alloc, text)?;
-    let view = View {
-        lines: &lines,
-        len: text.len(),
-        unit,
-    };
+    let view = View::new(alloc, text, unit)?;
     let diagnostics = diagnostics_value(alloc, &view, uri, found.as_slice())?;
     let params = json!(in alloc; {"uri": uri, "version": version, "diagnostics": diagnostics})?;
     notification(alloc, PUBLISH, params)

@@ -1,20 +1,40 @@
 //! The documents that a client has open.
+ghost use Rattle.std.specs.Prelude.{◌≡◌, ◌∷◌, [], ◌++◌, not, OnOk, option_map, string_bytes};
+ghost use Rattle.wac_lsp.specs.Opened.{is_named, others, text_in};
+
 use std::alloc::AllocError;
 
 /// An open document.
 #[derive(Drop)]
-pub(crate) struct Document {
+pub struct Document {
     pub(crate) uri: String,
+    pub(crate) version: i64,
     pub(crate) text: String,
 }
 
+impl Document {
+    /// Its name, letter for letter as the client has it.
+    pub fn uri(&self) -> &str {
+        self.uri.as_str()
+    }
+
+    /// Its text.
+    pub fn text(&self) -> &str {
+        self.text.as_str()
+    }
+}
+
 /// Whether a document has this name.
-fn is_named(document: &Document, uri: &str) -> bool {
+fn is_named(document: &Document, uri: &str) -> bool
+    ensures { result ≡ is_named uri.now document.now }
+{
     document.uri.as_str() == uri
 }
 
 /// The text of an open document.
-pub(crate) fn text_of<'d>(documents: &'d [Document], uri: &str) -> Option<&'d str> {
+pub(crate) fn text_of<'d>(documents: &'d [Document], uri: &str) -> Option<&'d str>
+    ensures { option_map (λ text. text.now) result ≡ text_in uri.now documents.now }
+{
     for document in documents {
         if is_named(document, uri) {
             return Some(document.text.as_str());
@@ -24,12 +44,20 @@ pub(crate) fn text_of<'d>(documents: &'d [Document], uri: &str) -> Option<&'d st
 }
 
 /// Takes the document of a name away.
-pub(crate) fn close(documents: &mut Vec<Document>, uri: &str) {
-    documents.retain(|document| !is_named(document, uri));
+pub(crate) fn close(documents: &mut Vec<Document>, uri: &str)
+    ensures { documents.new.items ≡ others uri.now documents.old.items }
+{
+    documents.retain(
+        |document: &Document| -> bool
+            ensures { result ≡ not (is_named uri.entry.now document.now) }
+        { !is_named(document, uri) },
+    );
 }
 
 /// Puts a document in the place of the one of its name, or adds it.
-pub(crate) fn put(documents: &mut Vec<Document>, document: Document) -> Result<(), AllocError> {
+pub(crate) fn put(documents: &mut Vec<Document>, document: Document) -> Result<(), AllocError>
+    ensures { OnOk result (documents.new.items ≡ others (string_bytes document.uri) documents.old.items ++ document ∷ []) }
+{
     close(documents, document.uri.as_str());
     match documents.push(document) {
         Ok(()) => Ok(()),

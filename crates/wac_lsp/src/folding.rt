@@ -4,10 +4,10 @@ use crate::places::View;
 use serde_json::{Value, json};
 use std::alloc::{AllocError, Global};
 use wac_comments_layout::Piece;
-use wac_positions::{ColumnUnit, Lines};
+use wac_positions::ColumnUnit;
 
 /// Lines that can be folded, from one to another.
-#[derive(Clone, Copy, Debug)]
+#[derive(Clone, Copy)]
 struct Fold {
     first: usize,
     last: usize,
@@ -55,7 +55,7 @@ impl Collector {
     }
 
     /// Takes the next piece.
-    fn take(&mut self, view: &View<'_, '_>, piece: &Piece<'_>) -> Result<(), AllocError> {
+    fn take(&mut self, view: &View<'_>, piece: &Piece<'_>) -> Result<(), AllocError> {
         let start = piece.span.offset();
         if piece.is_comment() {
             let end = start.saturating_add(piece.text.len());
@@ -95,7 +95,7 @@ fn folds_value(alloc: Global, found: &[Fold]) -> Result<Value, AllocError> {
 /// The lines that can be folded among pieces.
 fn folds_among(
     alloc: Global,
-    view: &View<'_, '_>,
+    view: &View<'_>,
     pieces: &[Piece<'_>],
 ) -> Result<Vec<Fold>, AllocError> {
     let mut collector = Collector {
@@ -109,15 +109,10 @@ fn folds_among(
     Ok(found)
 }
 
-/// The parts of a text that can be folded. There are none where a character is rejected.
+/// The parts of a text that can be folded, up to its first rejected character.
 pub(crate) fn folds(alloc: Global, text: &str, unit: ColumnUnit) -> Result<Value, AllocError> {
     let pieces = pieces_of(alloc, text)?;
-    let lines = Lines::new(alloc, text)?;
-    let view = View {
-        lines: &lines,
-        len: text.len(),
-        unit,
-    };
+    let view = View::new(alloc, text, unit)?;
     let found = folds_among(alloc, &view, pieces.as_slice())?;
     folds_value(alloc, found.as_slice())
 }

@@ -1,16 +1,19 @@
 //! The edits that lay out a document.
-ghost use Rattle.std.specs.Prelude.{◌≡◌, ◌∷◌, [], true, IfOk, IfSome};
+ghost use Rattle.std.specs.Prelude.{◌≡◌, true, IfOk, IfSome};
+ghost use Rattle.serde_json.specs.View.{view};
 ghost use Rattle.wac_lsp_texts.specs.Changed.{Changes};
-ghost use Rattle.wac_lsp.specs.Formatting.{MakesTidy};
+ghost use Rattle.wac_lsp.specs.Edits.{edit_data, edits_data, range_data};
+ghost use Rattle.wac_lsp.specs.Formatting.{IsFormatting, LaysOut};
 
+use crate::differing::{Run, differing};
 use crate::places::{View, range_value};
+use crate::questions::Answered;
 use serde_json::{Value, json};
 use std::alloc::{AllocError, Global};
-use std::slice;
 use wac_comments::{Indent, LineEnd, Options, TidyError, tidy};
-use wac_lsp_messages::{Change, FormattingOptions, Range};
+use wac_lsp_messages::{Change, Code, FormattingOptions, Range, Refusal};
 use wac_lsp_texts::{ChangeError, changed};
-use wac_positions::{ColumnUnit, Lines};
+use wac_positions::ColumnUnit;
 
 /// What indents a line by one level: at most 16 blanks.
 fn indent_of(given: FormattingOptions) -> Indent {
@@ -39,62 +42,42 @@ fn line_end_of(text: &str) -> LineEnd {
     LineEnd::Lf
 }
 
-/// How many bytes two texts have the same at their beginning, up to the end of a line.
-fn same_front(first: &[u8], second: &[u8]) -> usize {
-    let mut count = 0usize;
-    let mut front = 0usize;
-    for (a, b) in first.iter().zip(second.iter()) {
-        if *a != *b {
-            return front;
-        }
-        count = count.saturating_add(1);
-        if *a == b'\n' {
-            front = count;
-        }
+/// How a text is laid out.
+pub(crate) fn layout_of(given: FormattingOptions, text: &str) -> Options {
+    Options {
+        indent: indent_of(given),
+        line_end: line_end_of(text),
     }
-    front
 }
 
-/// How many bytes two texts have the same at their end, from the beginning of a line of the first on.
-fn same_back(first: &[u8], second: &[u8]) -> usize {
-    let mut count = 0usize;
-    let mut back = 0usize;
-    for (a, b) in first.iter().rev().zip(second.iter().rev()) {
-        if *a == b'\n' {
-            back = count;
-        }
-        if *a != *b {
-            return back;
-        }
-        count = count.saturating_add(1);
-    }
-    back
+/// The change that makes lines of a text those of another one.
+fn change_of(alloc: Global, view: &View<'_>, after: &str, run: &Run) -> Result<Change, AllocError> {
+    let range = Range {
+        start: view.place(run.old.start),
+        end: view.place(run.old.end),
+    };
+    let new = after.get(run.new.start..run.new.end).unwrap_or("");
+    Ok(Change {
+        range: Some(range),
+        text: String::from_str(alloc, new)?,
+    })
 }
 
-/// The lines of a text that differ from those of another one, and what comes in their place.
-fn difference(
+/// The changes of the lines of a text that differ from those of another one, from the last to the first: none where
+/// the texts are the same.
+fn differences(
     alloc: Global,
-    view: &View<'_, '_>,
     text: &str,
     after: &str,
-) -> Result<Option<Change>, AllocError> {
-    let front = same_front(text.as_bytes(), after.as_bytes());
-    let most = text.len().min(after.len()).saturating_sub(front);
-    let back = same_back(text.as_bytes(), after.as_bytes()).min(most);
-    let end = text.len().saturating_sub(back);
-    let stop = after.len().saturating_sub(back);
-    let Some(new) = after.get(front..stop) else {
-        return Ok(None);
-    };
-    let range = Range {
-        start: view.place(front),
-        end: view.place(end),
-    };
-    let text = String::from_str(alloc, new)?;
-    Ok(Some(Change {
-        range: Some(range),
-        text,
-    }))
+    unit: ColumnUnit,
+) -> Result<Vec<Change>, AllocError> {
+    let mut changes = Vec::new(alloc);
+    let runs = differing(alloc, text, after)?;
+    let view = View::new(alloc, text, unit)?;
+    for run in runs.as_slice().iter().rev() {
+        changes.push(change_of(alloc, &view, after, run)?)?;
+    }
+    Ok(changes)
 }
 
 /// Whether two texts are the same.
@@ -104,20 +87,20 @@ fn is_text(first: &str, second: &str) -> bool
     first == second
 }
 
-/// A change, if it makes a text another one: that is tested.
+/// Changes, if they make a text another one, one after another: that is tested.
 fn tested(
     alloc: Global,
     text: &str,
     after: &str,
-    change: Change,
+    changes: Vec<Change>,
     unit: ColumnUnit,
-) -> Result<Option<Change>, AllocError>
-    ensures { IfOk result (λ found. IfSome found (λ edit. Changes unit text.now (edit ∷ []) after.now)) }
+) -> Result<Option<Vec<Change>>, AllocError>
+    ensures { IfOk result (λ found. IfSome found (λ edits. Changes unit text.now edits.items after.now)) }
 {
-    match changed(alloc, text, slice::from_ref(&change), unit) {
+    match changed(alloc, text, changes.as_slice(), unit) {
         Ok(made) => {
             if is_text(made.as_str(), after) {
-                Ok(Some(change))
+                Ok(Some(changes))
             } else {
                 Ok(None)
             }
@@ -127,55 +110,78 @@ fn tested(
     }
 }
 
-/// The change that makes a text another one: none where it is this one, or none is found.
-fn change_to(
+/// The changes that make a text another one, or `None` where they failed the test. No texts are known for which they do.
+fn changes_to(
     alloc: Global,
     text: &str,
     after: &str,
     unit: ColumnUnit,
-) -> Result<Option<Change>, AllocError>
-    ensures { IfOk result (λ found. IfSome found (λ edit. Changes unit text.now (edit ∷ []) after.now)) }
+) -> Result<Option<Vec<Change>>, AllocError>
+    ensures { IfOk result (λ found. IfSome found (λ edits. Changes unit text.now edits.items after.now)) }
 {
-    if is_text(text, after) {
-        return Ok(None);
-    }
-    let lines = Lines::new(alloc, text)?;
-    let view = View {
-        lines: &lines,
-        len: text.len(),
-        unit,
-    };
-    match difference(alloc, &view, text, after)? {
-        Some(change) => tested(alloc, text, after, change, unit),
-        None => Ok(None),
-    }
+    let changes = differences(alloc, text, after, unit)?;
+    tested(alloc, text, after, changes, unit)
 }
 
-/// The change that makes a text its tidy form: none where it is tidy or no document.
-fn change_to_tidy(
+/// The changes that make a text its tidy form, none where it is no document, or `None` where a test failed.
+#[tactic(auto, using(crate::proofs::Laid::laid_out, crate::proofs::Laid::is_left))]
+fn changes_to_tidy(
     alloc: Global,
     text: &str,
     options: Options,
     unit: ColumnUnit,
-) -> Result<Option<Change>, AllocError>
-    ensures { IfOk result (λ found. IfSome found (λ edit. MakesTidy unit text.now edit)) }
+) -> Result<Option<Vec<Change>>, AllocError>
+    ensures { IfOk result (λ found. IfSome found (λ edits. LaysOut unit options text.now edits.items)) }
 {
     match tidy(alloc, text, options) {
-        Ok(after) => match change_to(alloc, text, after.as_str(), unit) {
-            Ok(Some(change)) => Ok(Some(change)),
+        Ok(after) => match changes_to(alloc, text, after.as_str(), unit) {
+            Ok(Some(changes)) => Ok(Some(changes)),
             Ok(None) => Ok(None),
             Err(_) => Err(AllocError),
         },
+        Err(TidyError::Parse(_)) => Ok(Some(Vec::new(alloc))),
+        Err(TidyError::NestedTooDeep { .. }) => Ok(Some(Vec::new(alloc))),
+        Err(TidyError::NotKept) => Ok(None),
         Err(TidyError::Memory(_)) => Err(AllocError),
-        Err(_) => Ok(None),
     }
 }
 
-/// A change of a range as a value.
-fn edit_value(alloc: Global, range: Range, text: &str) -> Result<Value, AllocError> {
-    let range = range_value(alloc, range.start, range.end)?;
-    json!(in alloc; {"range": range, "newText": text})
+/// The range of a change: null where there is none.
+fn replaced_range(alloc: Global, change: &Change) -> Result<Value, AllocError>
+    ensures { IfOk result (λ value. view value ≡ range_data change.now.range) }
+{
+    match change.range {
+        Some(range) => range_value(alloc, range.start, range.end),
+        None => Ok(Value::Null),
+    }
 }
+
+/// A change as an edit of the protocol.
+fn edit_value(alloc: Global, change: &Change) -> Result<Value, AllocError>
+    ensures { IfOk result (λ value. view value ≡ edit_data change.now) }
+{
+    let range = replaced_range(alloc, change)?;
+    let text = change.text.as_str();
+    let edit = json!(in alloc; {"range": range, "newText": text})?;
+    Ok(edit)
+}
+
+/// Changes as edits of the protocol.
+pub(crate) fn edits_value(alloc: Global, changes: &[Change]) -> Result<Value, AllocError>
+    ensures { IfOk result (λ value. view value ≡ edits_data changes.now) }
+{
+    let mut edits = Vec::new(alloc);
+    for change in changes {
+        edits.push(edit_value(alloc, change)?)?;
+    }
+    Ok(Value::from(edits))
+}
+
+/// Edits that failed a test.
+pub(crate) const NO_EDITS: Refusal = Refusal {
+    code: Code::InternalError,
+    message: "the layout can't be told by edits",
+};
 
 /// The edits that lay out a text: none where it is tidy or no document.
 pub(crate) fn formatted(
@@ -183,16 +189,11 @@ pub(crate) fn formatted(
     text: &str,
     given: FormattingOptions,
     unit: ColumnUnit,
-) -> Result<Value, AllocError> {
-    let options = Options {
-        indent: indent_of(given),
-        line_end: line_end_of(text),
-    };
-    let mut edits = Vec::new(alloc);
-    if let Some(change) = change_to_tidy(alloc, text, options, unit)? {
-        if let Some(range) = change.range {
-            edits.push(edit_value(alloc, range, change.text.as_str())?)?;
-        }
+) -> Result<Answered, AllocError>
+    ensures { IfOk result (λ answered. IfOk answered (λ value. IsFormatting unit text.now value)) }
+{
+    match changes_to_tidy(alloc, text, layout_of(given, text), unit)? {
+        Some(changes) => Ok(Ok(edits_value(alloc, changes.as_slice())?)),
+        None => Ok(Err(NO_EDITS)),
     }
-    Ok(Value::Array(edits))
 }

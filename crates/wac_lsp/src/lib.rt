@@ -1,24 +1,32 @@
-//! A language server: its state, what it answers to a message, and the loop over a reader and a writer.
+//! A language server: its state, and what it answers to a message.
 //!
 //! ```text
-//! let status = serve(alloc, &mut input, &mut output, VERSION)?;      // 0 after shutdown and exit
+//! let mut server = Server::new(alloc, VERSION);
+//! let outcome = step(alloc, &mut server, &body)?;      // the messages that it sends, and the status with which it ends
 //! ```
 #![tactic(auto)]
 
 mod actions;
 mod capabilities;
+mod completing;
 mod diagnostics;
+mod differing;
 mod documents;
 mod folding;
 mod formatting;
+mod navigation;
 mod outline;
 mod pieces;
 mod places;
+mod questions;
+mod ranging;
 mod selecting;
 mod server;
-mod serving;
+mod statements;
 mod symbols;
+mod telling;
 mod tokens;
 
+pub use completing::Suggestion;
+pub use documents::Document;
 pub use server::{Outcome, Sent, Server, answer, step};
-pub use serving::{ServeError, serve};

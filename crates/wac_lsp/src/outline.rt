@@ -1,9 +1,10 @@
 //! What a text declares, by its tokens alone, so that a text with faults has an outline too.
+use crate::pieces::accepted;
 use std::alloc::{AllocError, Global};
 use wac_lexer::{Lexer, SourceSpan, Token};
 
 /// Something that a text declares.
-#[derive(Clone, Copy, Debug)]
+#[derive(Clone, Copy)]
 pub(crate) struct Declared {
     /// Where its name is.
     pub(crate) name: SourceSpan,
@@ -45,7 +46,7 @@ fn ends_with_brace(token: Token) -> bool {
 }
 
 /// The keyword of a declaration, before its name.
-#[derive(Clone, Copy, Debug)]
+#[derive(Clone, Copy)]
 struct Keyword {
     kind: u8,
     start: usize,
@@ -53,7 +54,7 @@ struct Keyword {
 }
 
 /// A declaration whose end isn't reached, by its index.
-#[derive(Clone, Copy, Debug)]
+#[derive(Clone, Copy)]
 struct Pending {
     index: usize,
     /// How many braces were open before it.
@@ -194,7 +195,7 @@ impl Outliner {
     }
 }
 
-/// What a text declares, in order: nothing where a character is rejected.
+/// What a text declares up to its first rejected character, in order.
 pub(crate) fn outline(alloc: Global, text: &str) -> Result<Vec<Declared>, AllocError> {
     let mut outliner = Outliner {
         found: Vec::new(alloc),
@@ -203,7 +204,7 @@ pub(crate) fn outline(alloc: Global, text: &str) -> Result<Vec<Declared>, AllocE
         keyword: None,
         label: None,
     };
-    if let Ok(mut lexer) = Lexer::new(text) {
+    if let Ok(mut lexer) = Lexer::new(accepted(text)) {
         while let Some((item, span)) = lexer.next() {
             if let Ok(token) = item {
                 outliner.take(token, span)?;

@@ -1,43 +1,65 @@
 //! Places of texts as values of the protocol.
+ghost use Rattle.std.specs.Prelude.{◌≡◌, IfOk};
+ghost use Rattle.serde_json.specs.View.{view};
+ghost use Rattle.wac_lsp.specs.Edits.{between_data, position_data};
+
 use serde_json::{Value, json};
 use std::alloc::{AllocError, Global};
 use wac_lexer::SourceSpan;
-use wac_positions::{ColumnUnit, Lines, Place};
+use wac_lsp_texts::Places;
+use wac_positions::{ColumnUnit, Place};
 
 /// A place as a position.
-pub(crate) fn position(alloc: Global, place: Place) -> Result<Value, AllocError> {
+pub(crate) fn position(alloc: Global, place: Place) -> Result<Value, AllocError>
+    ensures { IfOk result (λ value. view value ≡ position_data place) }
+{
     let line = place.line;
     let character = place.column;
     json!(in alloc; {"line": line, "character": character})
 }
 
 /// From one position to another.
-pub(crate) fn range_value(alloc: Global, start: Place, end: Place) -> Result<Value, AllocError> {
+pub(crate) fn range_value(alloc: Global, start: Place, end: Place) -> Result<Value, AllocError>
+    ensures { IfOk result (λ value. view value ≡ between_data start end) }
+{
     let start = position(alloc, start)?;
     let end = position(alloc, end)?;
-    json!(in alloc; {"start": start, "end": end})
+    let range = json!(in alloc; {"start": start, "end": end})?;
+    Ok(range)
 }
 
 /// From one offset of a text to another.
-#[derive(Clone, Copy, Debug)]
+#[derive(Clone, Copy)]
 pub(crate) struct Part {
     pub(crate) start: usize,
     pub(crate) end: usize,
 }
 
-/// The lines of a text, and what columns are counted in.
-#[derive(Clone, Copy)]
-pub(crate) struct View<'v, 'a> {
-    pub(crate) lines: &'v Lines<'a>,
-    /// How many bytes the text has.
-    pub(crate) len: usize,
-    pub(crate) unit: ColumnUnit,
+/// A text of which places are told.
+#[derive(Drop)]
+pub(crate) struct View<'a> {
+    places: Places<'a>,
 }
 
-impl View<'_, '_> {
+impl<'a> View<'a> {
+    /// A view of a text with columns in these units.
+    pub(crate) fn new(
+        alloc: Global,
+        text: &'a str,
+        unit: ColumnUnit,
+    ) -> Result<View<'a>, AllocError> {
+        let places = Places::new(alloc, text, unit)?;
+        Ok(View { places })
+    }
+
+    /// How many bytes the text has.
+    pub(crate) fn len(&self) -> usize {
+        self.places.len()
+    }
+
     /// The place of an offset.
     pub(crate) fn place(&self, offset: usize) -> Place {
-        self.lines.place(offset, self.unit)
+        self.places.place(offset)
     }
 
     /// From one offset to another as a range.
@@ -52,8 +74,7 @@ impl View<'_, '_> {
 
     /// A span as a range, cut at the end of the text.
     pub(crate) fn span(&self, alloc: Global, span: SourceSpan) -> Result<Value, AllocError> {
-        let start = span.offset().min(self.len);
-        let end = span.offset().saturating_add(span.len()).min(self.len);
-        self.range(alloc, start, end)
+        let end = span.offset().saturating_add(span.len());
+        self.range(alloc, span.offset(), end)
     }
 }

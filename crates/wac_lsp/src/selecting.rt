@@ -85,19 +85,14 @@ fn parts_around(
 }
 
 /// A part within another.
-fn within(
-    alloc: Global,
-    view: &View<'_, '_>,
-    part: Part,
-    parent: Value,
-) -> Result<Value, AllocError> {
+fn within(alloc: Global, view: &View<'_>, part: Part, parent: Value) -> Result<Value, AllocError> {
     let range = view.range(alloc, part.start, part.end)?;
     json!(in alloc; {"range": range, "parent": parent})
 }
 
 /// Parts, each within the next, and the last within the whole text.
-fn selection(alloc: Global, view: &View<'_, '_>, parts: &[Part]) -> Result<Value, AllocError> {
-    let whole = view.range(alloc, 0, view.len)?;
+fn selection(alloc: Global, view: &View<'_>, parts: &[Part]) -> Result<Value, AllocError> {
+    let whole = view.range(alloc, 0, view.len())?;
     let mut value = json!(in alloc; {"range": whole})?;
     for part in parts.iter().rev() {
         value = within(alloc, view, *part, value)?;
@@ -108,7 +103,7 @@ fn selection(alloc: Global, view: &View<'_, '_>, parts: &[Part]) -> Result<Value
 /// What is around each of these places.
 fn selections_value(
     alloc: Global,
-    view: &View<'_, '_>,
+    view: &View<'_>,
     pieces: &[Piece<'_>],
     offsets: &[usize],
 ) -> Result<Value, AllocError> {
@@ -135,7 +130,7 @@ fn offsets_of(
     Ok(offsets)
 }
 
-/// What is around places of a text. Where a character is rejected it is the whole text alone.
+/// What is around places of a text. Behind a rejected character it is the whole text alone.
 pub(crate) fn selections(
     alloc: Global,
     text: &str,
@@ -144,11 +139,6 @@ pub(crate) fn selections(
 ) -> Result<Value, AllocError> {
     let offsets = offsets_of(alloc, text, places, unit)?;
     let pieces = pieces_of(alloc, text)?;
-    let lines = Lines::new(alloc, text)?;
-    let view = View {
-        lines: &lines,
-        len: text.len(),
-        unit,
-    };
+    let view = View::new(alloc, text, unit)?;
     selections_value(alloc, &view, pieces.as_slice(), offsets.as_slice())
 }

@@ -1,26 +1,26 @@
 //! The state of a server, and what it answers.
-ghost use Rattle.std.specs.Prelude.{◌≡◌, [], ◌∷◌, IfOk};
-ghost use Rattle.wac_lsp.specs.Replies.{replied_to, replies};
+ghost use Rattle.std.specs.Prelude.{◌≡◌, [], ◌∷◌, IfOk, Some, string_bytes};
+ghost use Rattle.wac_lsp_messages.specs.Replying.{IsReplyTo};
+ghost use Rattle.wac_lsp.specs.Opened.{Holds, LeavesIn};
+ghost use Rattle.wac_lsp.specs.Replies.{AreReplies, replied_to, replies};
+ghost use Rattle.wac_lsp.specs.Steps.{Steps};
 
-use crate::actions::actions;
 use crate::capabilities::capabilities;
 use crate::diagnostics::{published, withdrawn};
 use crate::documents::{Document, close, put, text_of};
-use crate::folding::folds;
-use crate::formatting::formatted;
-use crate::selecting::selections;
-use crate::symbols::symbols;
-use crate::tokens::tokens;
+use crate::questions::{Answered, Subject, answer_question};
+use crate::symbols::workspace_symbols;
 use serde_json::{Value, json};
 use std::alloc::{AllocError, Global};
 use wac_lsp_messages::{
-    Call, Change, Code, Id, Initialize, Message, Notice, Refusal, read_message, refused, reply,
+    Call, Change, Code, Id, Initialize, Message, Notice, Question, Refusal, read_message, refused,
+    reply,
 };
 use wac_lsp_texts::{ChangeError, changed};
 use wac_positions::ColumnUnit;
 
 /// How far a server has come.
-#[derive(Clone, Copy, Debug, PartialEq, Eq)]
+#[derive(Clone, Copy)]
 enum Phase {
     /// It wasn't initialized.
     New,
@@ -50,7 +50,7 @@ pub enum Sent {
         /// The message as JSON.
         body: String,
     },
-    /// A notification.
+    /// What replies to nothing: a notification, or a request of the server's own.
     Notification {
         /// The message as JSON.
         body: String,
@@ -100,24 +100,12 @@ const NOT_OPEN: Refusal = Refusal {
     message: "the document is not open",
 };
 
-/// What a request gets.
-type Answered = Result<Value, Refusal>;
-
-/// The name of the document that a request is about: empty where it is about none.
-fn name_of(call: &Call) -> &str {
-    match call {
-        Call::Formatting { uri, .. } => uri.as_str(),
-        Call::DocumentSymbol { uri } => uri.as_str(),
-        Call::SemanticTokens { uri } => uri.as_str(),
-        Call::FoldingRange { uri } => uri.as_str(),
-        Call::SelectionRange { uri, .. } => uri.as_str(),
-        Call::CodeAction { uri, .. } => uri.as_str(),
-        Call::Initialize(_) => "",
-        Call::Shutdown => "",
-    }
-}
-
 impl Server {
+    ghost use Rattle.std.specs.Prelude.{◌≡◌, [], IfOk, MatchOption, None, OnOk, Some, string_bytes};
+    ghost use Rattle.wac_lsp_messages.specs.Replying.{IsReplyTo};
+    ghost use Rattle.wac_lsp.specs.Opened.{Leaves, Makes, Puts, Remakes, text_in};
+    ghost use Rattle.wac_lsp.specs.Replies.{AreReplies, replies};
+
     /// A server that wasn't initialized, of a program of this version.
     pub fn new(alloc: Global, version: &'static str) -> Server {
         Server {
@@ -129,8 +117,30 @@ impl Server {
         }
     }
 
+    /// Whether it wasn't initialized.
+    pub fn is_new(&self) -> bool {
+        matches!(self.phase, Phase::New)
+    }
+
+    /// Whether it was initialized, and wasn't asked to prepare for the end.
+    pub fn is_running(&self) -> bool {
+        matches!(self.phase, Phase::Running)
+    }
+
+    /// The documents that the client has open.
+    pub fn documents(&self) -> &[Document] {
+        self.documents.as_slice()
+    }
+
+    /// The units of columns.
+    pub(crate) fn unit(&self) -> ColumnUnit {
+        self.unit
+    }
+
     /// Takes what the client says of itself, and tells what the server can do.
-    fn initialize(&mut self, alloc: Global, client: Initialize) -> Result<Value, AllocError> {
+    fn initialize(&mut self, alloc: Global, client: Initialize) -> Result<Value, AllocError>
+        ensures { self.new.documents.items ≡ self.old.documents.items }
+    {
         self.phase = Phase::Running;
         self.nests_symbols = client.nests_symbols;
         self.unit = if client.counts_bytes {
@@ -146,43 +156,37 @@ impl Server {
         })
     }
 
-    /// What a request about a document with this text gets.
-    fn about(
+    /// What a question about a document gets.
+    fn answer_about(
         &self,
         alloc: Global,
         uri: &str,
-        text: &str,
-        call: &Call,
-    ) -> Result<Value, AllocError> {
-        match call {
-            Call::Formatting { options, .. } => formatted(alloc, text, *options, self.unit),
-            Call::DocumentSymbol { .. } => {
-                symbols(alloc, uri, text, self.unit, self.nests_symbols)
-            }
-            Call::SemanticTokens { .. } => tokens(alloc, text, self.unit),
-            Call::FoldingRange { .. } => folds(alloc, text, self.unit),
-            Call::SelectionRange { places, .. } => {
-                selections(alloc, text, places.as_slice(), self.unit)
-            }
-            Call::CodeAction { range, .. } => actions(alloc, uri, text, *range, self.unit),
-            Call::Initialize(_) | Call::Shutdown => Ok(Value::Null),
-        }
+        question: &Question,
+    ) -> Result<Answered, AllocError> {
+        let Some(text) = text_of(self.documents.as_slice(), uri) else {
+            return Ok(Err(NOT_OPEN));
+        };
+        let about = Subject {
+            uri,
+            text,
+            unit: self.unit,
+            nests_symbols: self.nests_symbols,
+        };
+        answer_question(alloc, &about, question)
     }
 
-    /// What a request about a document gets.
-    fn answer_about(&self, alloc: Global, call: &Call) -> Result<Answered, AllocError> {
-        let uri = name_of(call);
-        match text_of(self.documents.as_slice(), uri) {
-            Some(text) => match self.about(alloc, uri, text, call) {
-                Ok(value) => Ok(Ok(value)),
-                Err(_) => Err(AllocError),
-            },
-            None => Ok(Err(NOT_OPEN)),
+    /// What open documents declare under names that have a text in them.
+    fn symbols(&self, alloc: Global, query: &str) -> Result<Answered, AllocError> {
+        match workspace_symbols(alloc, self.documents.as_slice(), query, self.unit) {
+            Ok(value) => Ok(Ok(value)),
+            Err(_) => Err(AllocError),
         }
     }
 
     /// What a request gets before initialize.
-    fn answer_new(&mut self, alloc: Global, call: &Call) -> Result<Answered, AllocError> {
+    fn answer_new(&mut self, alloc: Global, call: &Call) -> Result<Answered, AllocError>
+        ensures { self.new.documents.items ≡ self.old.documents.items }
+    {
         match call {
             Call::Initialize(Some(client)) => match self.initialize(alloc, *client) {
                 Ok(value) => Ok(Ok(value)),
@@ -194,19 +198,24 @@ impl Server {
     }
 
     /// What a request gets between initialize and shutdown.
-    fn answer_running(&mut self, alloc: Global, call: &Call) -> Result<Answered, AllocError> {
+    fn answer_running(&mut self, alloc: Global, call: &Call) -> Result<Answered, AllocError>
+        ensures { self.new.documents.items ≡ self.old.documents.items }
+    {
         match call {
             Call::Initialize(_) => Ok(Err(NOT_NOW)),
             Call::Shutdown => {
                 self.phase = Phase::ShutDown;
                 Ok(Ok(Value::Null))
             }
-            _ => self.answer_about(alloc, call),
+            Call::Document { uri, question } => { self.answer_about(alloc, uri.as_str(), question) }
+            Call::WorkspaceSymbols { query } => self.symbols(alloc, query.as_str()),
         }
     }
 
     /// What a request gets.
-    fn answer(&mut self, alloc: Global, call: &Call) -> Result<Answered, AllocError> {
+    fn answer(&mut self, alloc: Global, call: &Call) -> Result<Answered, AllocError>
+        ensures { self.new.documents.items ≡ self.old.documents.items }
+    {
         let phase = self.phase;
         match phase {
             Phase::New => self.answer_new(alloc, call),
@@ -230,7 +239,10 @@ impl Server {
         alloc: Global,
         id: &Id,
         call: Result<Call, Refusal>,
-    ) -> Result<String, AllocError> {
+    ) -> Result<String, AllocError>
+        ensures written { IfOk result (λ body. IsReplyTo (Some id.now) (string_bytes body)) }
+        ensures keeps { self.new.documents.items ≡ self.old.documents.items }
+    {
         let answer = match call {
             Ok(call) => self.answer(alloc, &call)?,
             Err(why) => Err(self.refusal(why)),
@@ -242,80 +254,117 @@ impl Server {
     }
 
     /// Takes a document that was opened or changed, and tells what is wrong with it.
+    #[tactic(auto, using(crate::proofs::Remade::put_last))]
     fn opened(
         &mut self,
         alloc: Global,
         uri: String,
         version: i64,
         text: String,
-    ) -> Result<String, AllocError> {
+    ) -> Result<String, AllocError>
+        ensures unit { self.new.unit ≡ self.old.unit }
+        ensures puts { OnOk result
+            (Puts (string_bytes uri) (string_bytes text) self.old.documents.items self.new.documents.items) }
+    {
         let told = published(alloc, uri.as_str(), version, text.as_str(), self.unit)?;
-        put(&mut self.documents, Document { uri, text })?;
+        put(&mut self.documents, Document { uri, version, text })?;
         Ok(told)
     }
 
-    /// The text of an open document after changes. There is none where it isn't open, or a place has no offset.
+    /// The text of a document after changes: none where it isn't open.
+    #[tactic(auto, using(crate::proofs::Remade::makes_of))]
     fn text_after(
         &self,
         alloc: Global,
         uri: &str,
         changes: &[Change],
-    ) -> Result<Option<String>, AllocError> {
+    ) -> Result<Option<String>, ChangeError>
+        ensures { IfOk result (λ found. MatchOption found (text_in uri.now self.now.documents.items ≡ None)
+            (λ text. Makes self.now.unit uri.now changes.now self.now.documents.items (string_bytes text))) }
+    {
         match text_of(self.documents.as_slice(), uri) {
             Some(text) => match changed(alloc, text, changes, self.unit) {
                 Ok(text) => Ok(Some(text)),
-                Err(ChangeError::NoPlace) => Ok(None),
-                Err(ChangeError::Memory) => Err(AllocError),
+                Err(error) => Err(error),
             },
             None => Ok(None),
         }
     }
 
     /// Changes a document, and tells what is wrong with it. Changes of one that isn't open are passed over.
+    #[tactic(auto, using(crate::proofs::Remade::remade, crate::proofs::Remade::none_remade))]
     fn changed(
         &mut self,
         alloc: Global,
         uri: String,
         version: i64,
         changes: &[Change],
-    ) -> Result<Option<String>, AllocError> {
+    ) -> Result<Option<String>, ChangeError>
+        ensures { IfOk result (λ _.
+            Remakes self.old.unit (string_bytes uri) changes.now self.old.documents.items self.new.documents.items) }
+    {
         match self.text_after(alloc, uri.as_str(), changes)? {
             Some(text) => Ok(Some(self.opened(alloc, uri, version, text)?)),
             None => Ok(None),
         }
     }
 
-    /// What is sent after a notification, if something is.
-    fn noticed(&mut self, alloc: Global, notice: Notice) -> Result<Option<String>, AllocError> {
+    /// Tells again what is wrong with each document.
+    #[tactic(auto, using(crate::proofs::Sending::notified, crate::proofs::Sending::still_replies))]
+    fn refreshed(&self, alloc: Global) -> Result<Outcome, AllocError>
+        ensures ids { IfOk result (λ outcome. replies outcome.messages.items ≡ []) }
+        ensures written { IfOk result (λ outcome. AreReplies outcome.messages.items) }
+    {
+        let mut messages = Vec::new(alloc);
+        for document in self.documents.as_slice() {
+            let uri = document.uri.as_str();
+            let text = document.text.as_str();
+            let body = published(alloc, uri, document.version, text, self.unit)?;
+            messages.push(Sent::Notification { body })?;
+        }
+        Ok(Outcome {
+            messages,
+            status: None,
+        })
+    }
+
+    /// What the server does after a notification while it runs.
+    fn noticed(&mut self, alloc: Global, notice: Notice) -> Result<Outcome, ChangeError>
+        ensures ids { IfOk result (λ outcome. replies outcome.messages.items ≡ []) }
+        ensures written { IfOk result (λ outcome. AreReplies outcome.messages.items) }
+        ensures leaves { IfOk result (λ _.
+            Leaves self.old.unit notice self.old.documents.items self.new.documents.items) }
+    {
         match notice {
             Notice::Opened { uri, version, text } => {
-                Ok(Some(self.opened(alloc, uri, version, text)?))
+                let body = self.opened(alloc, uri, version, text)?;
+                Ok(sends_notification(alloc, body)?)
             }
             Notice::Changed {
                 uri,
                 version,
                 changes,
-            } => self.changed(alloc, uri, version, changes.as_slice()),
+            } => match self.changed(alloc, uri, version, changes.as_slice())? {
+                Some(body) => Ok(sends_notification(alloc, body)?),
+                None => Ok(sends_nothing(alloc, None)),
+            },
             Notice::Closed { uri } => {
                 close(&mut self.documents, uri.as_str());
-                Ok(Some(withdrawn(alloc, uri.as_str())?))
+                let body = withdrawn(alloc, uri.as_str())?;
+                Ok(sends_notification(alloc, body)?)
             }
-            Notice::Initialized | Notice::Exit | Notice::Other => Ok(None),
-        }
-    }
-
-    /// The status with which the server ends: 0 after shutdown.
-    fn status(&self) -> u8 {
-        match self.phase {
-            Phase::ShutDown => 0,
-            Phase::New | Phase::Running => 1,
+            Notice::FilesChanged => Ok(self.refreshed(alloc)?),
+            Notice::Exit => Ok(sends_nothing(alloc, Some(1))),
+            Notice::Initialized | Notice::Other => Ok(sends_nothing(alloc, None)),
         }
     }
 }
 
 /// An outcome in which a reply is sent, and the server goes on.
 fn sends_reply(alloc: Global, id: Option<Id>, body: String) -> Result<Outcome, AllocError>
-    ensures { IfOk result (λ outcome. replies outcome.messages.items ≡ id ∷ []) }
+    requires { IsReplyTo id (string_bytes body) }
+    ensures ids { IfOk result (λ outcome. replies outcome.messages.items ≡ id ∷ []) }
+    ensures written { IfOk result (λ outcome. AreReplies outcome.messages.items) }
 {
     let mut messages = Vec::new(alloc);
     messages.push(Sent::Reply { id, body })?;
@@ -327,7 +376,8 @@ fn sends_reply(alloc: Global, id: Option<Id>, body: String) -> Result<Outcome, A
 
 /// An outcome in which a notification is sent, and the server goes on.
 fn sends_notification(alloc: Global, body: String) -> Result<Outcome, AllocError>
-    ensures { IfOk result (λ outcome. replies outcome.messages.items ≡ []) }
+    ensures ids { IfOk result (λ outcome. replies outcome.messages.items ≡ []) }
+    ensures written { IfOk result (λ outcome. AreReplies outcome.messages.items) }
 {
     let mut messages = Vec::new(alloc);
     messages.push(Sent::Notification { body })?;
@@ -339,7 +389,8 @@ fn sends_notification(alloc: Global, body: String) -> Result<Outcome, AllocError
 
 /// An outcome in which no message is sent.
 fn sends_nothing(alloc: Global, status: Option<u8>) -> Outcome
-    ensures { replies result.messages.items ≡ [] }
+    ensures ids { replies result.messages.items ≡ [] }
+    ensures written { AreReplies result.messages.items }
 {
     Outcome {
         messages: Vec::new(alloc),
@@ -352,43 +403,55 @@ fn is_exit(notice: &Notice) -> bool {
     matches!(notice, Notice::Exit)
 }
 
-/// What a server does after a notification.
-fn answer_notice(alloc: Global, server: &mut Server, notice: Notice) -> Result<Outcome, AllocError>
-    ensures { IfOk result (λ outcome. replies outcome.messages.items ≡ []) }
+/// What a server does after a notification: it ends when it is asked to, with 0 after shutdown, and drops all other
+/// notifications before initialize and after shutdown.
+fn answer_notice(alloc: Global, server: &mut Server, notice: Notice) -> Result<Outcome, ChangeError>
+    ensures ids { IfOk result (λ outcome. replies outcome.messages.items ≡ []) }
+    ensures written { IfOk result (λ outcome. AreReplies outcome.messages.items) }
+    ensures leaves { IfOk result (λ _.
+        LeavesIn server.old.phase server.old.unit notice server.old.documents.items server.new.documents.items) }
 {
-    if is_exit(&notice) {
-        return Ok(sends_nothing(alloc, Some(server.status())));
-    }
-    if server.phase != Phase::Running {
-        return Ok(sends_nothing(alloc, None));
-    }
-    match server.noticed(alloc, notice)? {
-        Some(body) => sends_notification(alloc, body),
-        None => Ok(sends_nothing(alloc, None)),
+    let phase = server.phase;
+    let ends = is_exit(&notice);
+    match phase {
+        Phase::New => Ok(sends_nothing(alloc, if ends { Some(1) } else { None })),
+        Phase::Running => server.noticed(alloc, notice),
+        Phase::ShutDown => Ok(sends_nothing(alloc, if ends { Some(0) } else { None })),
     }
 }
 
-/// What a server does after a message. The error is that memory ran out.
-pub fn answer(alloc: Global, server: &mut Server, message: Message) -> Result<Outcome, AllocError>
+/// What a server does after a message. The error is that memory ran out, or that a change has a place without an offset:
+/// the text can't be followed then.
+pub fn answer(alloc: Global, server: &mut Server, message: Message) -> Result<Outcome, ChangeError>
     // A request gets one reply, with its id; what is no message gets one without; all else gets none.
-    ensures { IfOk result (λ outcome. replies outcome.messages.items ≡ replied_to message) }
+    ensures ids { IfOk result (λ outcome. replies outcome.messages.items ≡ replied_to message) }
+    // The text of each reply has its id.
+    ensures written { IfOk result (λ outcome. AreReplies outcome.messages.items) }
+    // The text of a document is that with which it was opened, after all changes that came since.
+    ensures holds { IfOk result (λ _.
+        Holds server.old.phase server.old.unit message server.old.documents.items server.new.documents.items) }
 {
     match message {
         Message::Request { id, call } => {
             let body = server.replied(alloc, &id, call)?;
-            sends_reply(alloc, Some(id), body)
+            Ok(sends_reply(alloc, Some(id), body)?)
         }
         Message::Notification(notice) => answer_notice(alloc, server, notice),
         Message::Reply => Ok(sends_nothing(alloc, None)),
         Message::Wrong(why) => {
             let body = refused(alloc, None, why)?;
-            sends_reply(alloc, None, body)
+            Ok(sends_reply(alloc, None, body)?)
         }
     }
 }
 
-/// What a server does after the message with this body. The error is that memory ran out.
-pub fn step(alloc: Global, server: &mut Server, body: &[u8]) -> Result<Outcome, AllocError> {
+/// What a server does after the message with this body. The errors are those of `answer`.
+#[tactic(auto, using(crate::proofs::Stepping::stepped))]
+pub fn step(alloc: Global, server: &mut Server, body: &[u8]) -> Result<Outcome, ChangeError>
+    // It is what `answer` does after the message that the body is.
+    ensures { IfOk result (λ outcome. Steps server.old.phase server.old.unit body.now
+        server.old.documents.items server.new.documents.items outcome.messages.items) }
+{
     let message = read_message(alloc, body)?;
     answer(alloc, server, message)
 }

@@ -1,10 +1,11 @@
 //! What a document declares, as values of the protocol.
+use crate::documents::Document;
 use crate::outline::{Declared, outline};
 use crate::places::View;
 use serde_json::{Value, json};
 use std::alloc::{AllocError, Global};
 use wac_lexer::SourceSpan;
-use wac_positions::{ColumnUnit, Lines};
+use wac_positions::ColumnUnit;
 
 /// The text of a span.
 fn text_of(text: &str, span: SourceSpan) -> &str {
@@ -15,7 +16,7 @@ fn text_of(text: &str, span: SourceSpan) -> &str {
 /// A declaration with those within it.
 fn nested(
     alloc: Global,
-    view: &View<'_, '_>,
+    view: &View<'_>,
     text: &str,
     declared: &Declared,
     children: Vec<Value>,
@@ -37,7 +38,7 @@ fn nested(
 /// A declaration alone.
 fn flat(
     alloc: Global,
-    view: &View<'_, '_>,
+    view: &View<'_>,
     uri: &str,
     text: &str,
     declared: &Declared,
@@ -78,7 +79,7 @@ fn take_deeper(
 /// after it, and were turned into values before.
 fn all_nested(
     alloc: Global,
-    view: &View<'_, '_>,
+    view: &View<'_>,
     text: &str,
     all: &[Declared],
 ) -> Result<Vec<Value>, AllocError> {
@@ -95,7 +96,7 @@ fn all_nested(
 /// Declarations in a list, without those within them.
 fn all_flat(
     alloc: Global,
-    view: &View<'_, '_>,
+    view: &View<'_>,
     uri: &str,
     text: &str,
     all: &[Declared],
@@ -116,16 +117,47 @@ pub(crate) fn symbols(
     nests: bool,
 ) -> Result<Value, AllocError> {
     let all = outline(alloc, text)?;
-    let lines = Lines::new(alloc, text)?;
-    let view = View {
-        lines: &lines,
-        len: text.len(),
-        unit,
-    };
+    let view = View::new(alloc, text, unit)?;
     let values = if nests {
         all_nested(alloc, &view, text, all.as_slice())?
     } else {
         all_flat(alloc, &view, uri, text, all.as_slice())?
     };
+    Ok(Value::Array(values))
+}
+
+/// Adds those declarations of a document whose names have a text in them.
+fn add_named(
+    alloc: Global,
+    document: &Document,
+    query: &str,
+    unit: ColumnUnit,
+    values: &mut Vec<Value>,
+) -> Result<(), AllocError> {
+    let text = document.text.as_str();
+    let view = View::new(alloc, text, unit)?;
+    let all = outline(alloc, text)?;
+    for declared in all.as_slice() {
+        if text_of(text, declared.name).contains(query) {
+            let value = flat(alloc, &view, document.uri.as_str(), text, declared)?;
+            if values.push(value).is_err() {
+                return Err(AllocError);
+            }
+        }
+    }
+    Ok(())
+}
+
+/// What documents declare under names that have a text in them.
+pub(crate) fn workspace_symbols(
+    alloc: Global,
+    documents: &[Document],
+    query: &str,
+    unit: ColumnUnit,
+) -> Result<Value, AllocError> {
+    let mut values = Vec::new(alloc);
+    for document in documents {
+        add_named(alloc, document, query, unit, &mut values)?;
+    }
     Ok(Value::Array(values))
 }

@@ -4,11 +4,12 @@ use crate::places::View;
 use serde_json::{Value, json};
 use std::alloc::{AllocError, Global};
 use wac_comments_layout::Piece;
+use wac_hints::begins_type;
 use wac_lexer::{Lexer, Token};
-use wac_positions::{ColumnUnit, Lines};
+use wac_positions::ColumnUnit;
 
 /// The kind of a token.
-#[derive(Clone, Copy, Debug, PartialEq, Eq)]
+#[derive(Clone, Copy)]
 enum Kind {
     Keyword,
     TypeName,
@@ -55,42 +56,6 @@ pub(crate) fn legend(alloc: Global) -> Result<Value, AllocError> {
     json!(in alloc; {"tokenTypes": names, "tokenModifiers": []})
 }
 
-/// Whether a token is a type of numbers.
-fn is_number(token: Token) -> bool {
-    matches!(
-        token,
-        Token::U8Keyword
-            | Token::S8Keyword
-            | Token::U16Keyword
-            | Token::S16Keyword
-            | Token::U32Keyword
-            | Token::S32Keyword
-            | Token::U64Keyword
-            | Token::S64Keyword
-            | Token::F32Keyword
-            | Token::F64Keyword
-    )
-}
-
-/// Whether a token is the name of a type.
-fn is_type(token: Token) -> bool {
-    is_number(token)
-        || matches!(
-            token,
-            Token::CharKeyword
-                | Token::BoolKeyword
-                | Token::StringKeyword
-                | Token::TupleKeyword
-                | Token::ListKeyword
-                | Token::OptionKeyword
-                | Token::ResultKeyword
-                | Token::BorrowKeyword
-                | Token::StreamKeyword
-                | Token::FutureKeyword
-                | Token::ErrorContextKeyword
-        )
-}
-
 /// Whether a text has a letter.
 fn has_letter(text: &str) -> bool {
     text.as_bytes()
@@ -105,7 +70,7 @@ fn kind_of(token: Token, text: &str) -> Kind {
         Token::String => Kind::Text,
         Token::PackageName | Token::PackagePath => Kind::Namespace,
         _ => {
-            if is_type(token) {
+            if begins_type(token) {
                 Kind::TypeName
             } else if has_letter(text) {
                 Kind::Keyword
@@ -158,7 +123,7 @@ impl Numbers {
     /// Adds a part of one line.
     fn add(
         &mut self,
-        view: &View<'_, '_>,
+        view: &View<'_>,
         start: usize,
         end: usize,
         kind: Kind,
@@ -183,7 +148,7 @@ impl Numbers {
     /// Adds a piece, cut where lines end.
     fn add_piece(
         &mut self,
-        view: &View<'_, '_>,
+        view: &View<'_>,
         piece: &Piece<'_>,
         kind: Kind,
     ) -> Result<(), AllocError> {
@@ -202,7 +167,7 @@ impl Numbers {
 /// The numbers of the kinds of pieces.
 fn numbers_of(
     alloc: Global,
-    view: &View<'_, '_>,
+    view: &View<'_>,
     pieces: &[Piece<'_>],
 ) -> Result<Vec<Value>, AllocError> {
     let mut numbers = Numbers {
@@ -219,15 +184,10 @@ fn numbers_of(
     Ok(values)
 }
 
-/// The kinds of a text's tokens and comments, five numbers each. There are none where a character is rejected.
+/// The kinds of a text's tokens and comments up to its first rejected character, five numbers each.
 pub(crate) fn tokens(alloc: Global, text: &str, unit: ColumnUnit) -> Result<Value, AllocError> {
     let pieces = pieces_of(alloc, text)?;
-    let lines = Lines::new(alloc, text)?;
-    let view = View {
-        lines: &lines,
-        len: text.len(),
-        unit,
-    };
+    let view = View::new(alloc, text, unit)?;
     let numbers = Value::Array(numbers_of(alloc, &view, pieces.as_slice())?);
     json!(in alloc; {"data": numbers})
 }

@@ -3,7 +3,8 @@
 use std::alloc::{AllocError, Global};
 use std::process::Abort;
 use std::test::Fail;
-use wac_lsp_messages::{Call, Change, Id, Initialize, Message, Notice, read_message};
+use wac_lsp_messages::{Call, Change, Id, Initialize, Message, Notice, Question, read_message};
+use wac_positions::Place;
 
 /// A body, and the message in words.
 type Row = (&'static str, &'static str);
@@ -46,7 +47,47 @@ static WRONG: [Row; 15] = [
 ];
 
 /// Requests, and those that are refused.
-static REQUESTS: [Row; 25] = [
+static REQUESTS: [Row; 41] = [
+    (
+        "{\"id\":8,\"method\":\"textDocument/definition\",\"params\":{\"textDocument\":{\"uri\":\"x\"},\"position\":{\"line\":2,\"character\":7}}}",
+        "request 8 definition x 2 7",
+    ),
+    (
+        "{\"id\":8,\"method\":\"textDocument/documentHighlight\",\"params\":{\"textDocument\":{\"uri\":\"x\"},\"position\":{\"line\":2,\"character\":7}}}",
+        "request 8 highlights x 2 7",
+    ),
+    (
+        "{\"id\":8,\"method\":\"textDocument/prepareRename\",\"params\":{\"textDocument\":{\"uri\":\"x\"},\"position\":{\"line\":2,\"character\":7}}}",
+        "request 8 prepare x 2 7",
+    ),
+    (
+        "{\"id\":8,\"method\":\"textDocument/hover\",\"params\":{\"textDocument\":{\"uri\":\"x\"},\"position\":{\"line\":2,\"character\":7}}}",
+        "request 8 hover x 2 7",
+    ),
+    (
+        "{\"id\":8,\"method\":\"textDocument/references\",\"params\":{\"textDocument\":{\"uri\":\"x\"},\"position\":{\"line\":2,\"character\":7},\"context\":{\"includeDeclaration\":true}}}",
+        "request 8 references and declaration x 2 7",
+    ),
+    (
+        "{\"id\":8,\"method\":\"textDocument/references\",\"params\":{\"textDocument\":{\"uri\":\"x\"},\"position\":{\"line\":2,\"character\":7},\"context\":{\"includeDeclaration\":false}}}",
+        "request 8 references x 2 7",
+    ),
+    (
+        "{\"id\":8,\"method\":\"textDocument/references\",\"params\":{\"textDocument\":{\"uri\":\"x\"},\"position\":{\"line\":2,\"character\":7}}}",
+        "request 8 refused -32602",
+    ),
+    (
+        "{\"id\":8,\"method\":\"textDocument/hover\",\"params\":{\"textDocument\":{\"uri\":\"x\"},\"position\":{\"line\":-1,\"character\":7}}}",
+        "request 8 refused -32602",
+    ),
+    (
+        "{\"id\":8,\"method\":\"textDocument/rename\",\"params\":{\"textDocument\":{\"uri\":\"x\"},\"position\":{\"line\":2,\"character\":7},\"newName\":\"y\"}}",
+        "request 8 rename x 2 7 y",
+    ),
+    (
+        "{\"id\":8,\"method\":\"textDocument/rename\",\"params\":{\"textDocument\":{\"uri\":\"x\"},\"position\":{\"line\":2,\"character\":7}}}",
+        "request 8 refused -32602",
+    ),
     (
         "{\"jsonrpc\":\"2.0\",\"id\":1,\"method\":\"shutdown\"}",
         "request 1 shutdown",
@@ -108,6 +149,14 @@ static REQUESTS: [Row; 25] = [
         "request 4 refused -32602",
     ),
     (
+        "{\"id\":4,\"method\":\"textDocument/rangeFormatting\",\"params\":{\"textDocument\":{\"uri\":\"x\"},\"range\":{\"start\":{\"line\":1,\"character\":0},\"end\":{\"line\":2,\"character\":0}},\"options\":{\"tabSize\":8,\"insertSpaces\":true}}}",
+        "request 4 formatting x 1 to 2 8",
+    ),
+    (
+        "{\"id\":4,\"method\":\"textDocument/rangeFormatting\",\"params\":{\"textDocument\":{\"uri\":\"x\"},\"options\":{\"tabSize\":8,\"insertSpaces\":true}}}",
+        "request 4 refused -32602",
+    ),
+    (
         "{\"id\":5,\"method\":\"textDocument/documentSymbol\",\"params\":{\"textDocument\":{\"uri\":\"x\"}}}",
         "request 5 symbols x",
     ),
@@ -147,12 +196,32 @@ static REQUESTS: [Row; 25] = [
         "{\"id\":6,\"method\":\"textDocument/semanticTokens/full\",\"params\":{\"textDocument\":{\"uri\":\"x\"}}}",
         "request 6 tokens x",
     ),
+    (
+        "{\"id\":11,\"method\":\"textDocument/completion\",\"params\":{\"textDocument\":{\"uri\":\"x\"},\"position\":{\"line\":1,\"character\":2},\"context\":{\"triggerKind\":1}}}",
+        "request 11 completions x 1 2",
+    ),
+    (
+        "{\"id\":11,\"method\":\"textDocument/completion\",\"params\":{\"textDocument\":{\"uri\":\"x\"}}}",
+        "request 11 refused -32602",
+    ),
+    (
+        "{\"id\":10,\"method\":\"workspace/symbol\",\"params\":{\"query\":\"x\"}}",
+        "request 10 symbols everywhere x",
+    ),
+    (
+        "{\"id\":10,\"method\":\"workspace/symbol\",\"params\":{\"query\":1}}",
+        "request 10 refused -32602",
+    ),
 ];
 
 /// Notifications, and those that lack something.
-static NOTIFICATIONS: [Row; 13] = [
+static NOTIFICATIONS: [Row; 14] = [
     ("{\"method\":\"initialized\",\"params\":{}}", "initialized"),
     ("{\"method\":\"exit\"}", "exit"),
+    (
+        "{\"method\":\"workspace/didChangeWatchedFiles\",\"params\":{\"changes\":[]}}",
+        "files changed",
+    ),
     (
         "{\"method\":\"textDocument/didSave\",\"params\":{}}",
         "other",
@@ -225,13 +294,17 @@ fn initialize_words(alloc: Global, found: &Initialize) -> Result<String, AllocEr
     }
 }
 
-/// A request in words.
-fn call_words(alloc: Global, call: &Call) -> Result<String, AllocError> {
-    match call {
-        Call::Initialize(Some(found)) => initialize_words(alloc, found),
-        Call::Initialize(None) => String::from_str(alloc, "initialize ?"),
-        Call::Shutdown => String::from_str(alloc, "shutdown"),
-        Call::Formatting { uri, options } => {
+/// A question about a place, in words.
+fn place_words(alloc: Global, what: &str, uri: &str, place: Place) -> Result<String, AllocError> {
+    let line = place.line;
+    let column = place.column;
+    format!(in alloc; "{what} {uri} {line} {column}")
+}
+
+/// What is asked of a document, in words.
+fn question_words(alloc: Global, uri: &str, question: &Question) -> Result<String, AllocError> {
+    match question {
+        Question::Formatting(options) => {
             let size = options.tab_size;
             let kind = if options.insert_spaces {
                 "blanks"
@@ -240,18 +313,52 @@ fn call_words(alloc: Global, call: &Call) -> Result<String, AllocError> {
             };
             format!(in alloc; "formatting {uri} {size} {kind}")
         }
-        Call::DocumentSymbol { uri } => format!(in alloc; "symbols {uri}"),
-        Call::SemanticTokens { uri } => format!(in alloc; "tokens {uri}"),
-        Call::FoldingRange { uri } => format!(in alloc; "folds {uri}"),
-        Call::SelectionRange { uri, places } => {
+        Question::RangeFormatting(range, options) => {
+            let line = range.start.line;
+            let end_line = range.end.line;
+            let size = options.tab_size;
+            format!(in alloc; "formatting {uri} {line} to {end_line} {size}")
+        }
+        Question::Symbols => format!(in alloc; "symbols {uri}"),
+        Question::SemanticTokens => format!(in alloc; "tokens {uri}"),
+        Question::FoldingRanges => format!(in alloc; "folds {uri}"),
+        Question::SelectionRanges(places) => {
             let count = places.len();
             format!(in alloc; "selections {uri} {count}")
         }
-        Call::CodeAction { uri, range } => {
+        Question::CodeActions(range) => {
             let line = range.start.line;
             let end_line = range.end.line;
             format!(in alloc; "actions {uri} {line} to {end_line}")
         }
+        Question::Completions(place) => {
+            let line = place.line;
+            let column = place.column;
+            format!(in alloc; "completions {uri} {line} {column}")
+        }
+        Question::Definition(place) => place_words(alloc, "definition", uri, *place),
+        Question::References(place, true) => {
+            place_words(alloc, "references and declaration", uri, *place)
+        }
+        Question::References(place, false) => place_words(alloc, "references", uri, *place),
+        Question::Highlights(place) => place_words(alloc, "highlights", uri, *place),
+        Question::Hover(place) => place_words(alloc, "hover", uri, *place),
+        Question::PrepareRename(place) => place_words(alloc, "prepare", uri, *place),
+        Question::Rename(place, new) => {
+            let words = place_words(alloc, "rename", uri, *place)?;
+            format!(in alloc; "{words} {new}")
+        }
+    }
+}
+
+/// A request in words.
+fn call_words(alloc: Global, call: &Call) -> Result<String, AllocError> {
+    match call {
+        Call::Initialize(Some(found)) => initialize_words(alloc, found),
+        Call::Initialize(None) => String::from_str(alloc, "initialize ?"),
+        Call::Shutdown => String::from_str(alloc, "shutdown"),
+        Call::Document { uri, question } => question_words(alloc, uri.as_str(), question),
+        Call::WorkspaceSymbols { query } => format!(in alloc; "symbols everywhere {query}"),
     }
 }
 
@@ -275,6 +382,7 @@ fn notice_words(alloc: Global, notice: &Notice) -> Result<String, AllocError> {
     match notice {
         Notice::Initialized => String::from_str(alloc, "initialized"),
         Notice::Exit => String::from_str(alloc, "exit"),
+        Notice::FilesChanged => String::from_str(alloc, "files changed"),
         Notice::Opened { uri, version, text } => {
             format!(in alloc; "opened {uri} {version} \"{text}\"")
         }

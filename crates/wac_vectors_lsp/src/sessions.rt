@@ -1,12 +1,13 @@
 //! Sessions: what is sent after each message of a client.
 
-use std::alloc::{AllocError, Global};
+use std::alloc::Global;
 use std::process::Abort;
 use std::test::Fail;
 use wac_lsp::{Server, step};
+use wac_lsp_texts::ChangeError;
 
 /// The body of a message, and those that are sent after it, a line each, or the status with which the server ends.
-type Row = (&'static str, &'static str);
+pub(crate) type Row = (&'static str, &'static str);
 
 /// How a session begins and ends.
 static BEGINNING: [Row; 15] = [
@@ -36,7 +37,7 @@ static BEGINNING: [Row; 15] = [
     ),
     (
         "{\"id\":4,\"jsonrpc\":\"2.0\",\"method\":\"initialize\",\"params\":{\"capabilities\":{\"textDocument\":{\"documentSymbol\":{\"hierarchicalDocumentSymbolSupport\":true}}},\"processId\":null}}",
-        "{\"id\":4,\"jsonrpc\":\"2.0\",\"result\":{\"capabilities\":{\"codeActionProvider\":{\"codeActionKinds\":[\"quickfix\"]},\"documentFormattingProvider\":true,\"documentSymbolProvider\":true,\"foldingRangeProvider\":true,\"positionEncoding\":\"utf-16\",\"selectionRangeProvider\":true,\"semanticTokensProvider\":{\"full\":true,\"legend\":{\"tokenModifiers\":[],\"tokenTypes\":[\"keyword\",\"type\",\"string\",\"comment\",\"operator\",\"variable\",\"namespace\"]}},\"textDocumentSync\":{\"change\":2,\"openClose\":true}},\"serverInfo\":{\"name\":\"wacx\",\"version\":\"1.2.3\"}}}",
+        "{\"id\":4,\"jsonrpc\":\"2.0\",\"result\":{\"capabilities\":{\"codeActionProvider\":{\"codeActionKinds\":[\"quickfix\"]},\"completionProvider\":{\"triggerCharacters\":[\".\",\"{\",\":\",\"/\",\"\\\"\"]},\"definitionProvider\":true,\"documentFormattingProvider\":true,\"documentHighlightProvider\":true,\"documentRangeFormattingProvider\":true,\"documentSymbolProvider\":true,\"foldingRangeProvider\":true,\"hoverProvider\":true,\"positionEncoding\":\"utf-16\",\"referencesProvider\":true,\"renameProvider\":{\"prepareProvider\":true},\"selectionRangeProvider\":true,\"semanticTokensProvider\":{\"full\":true,\"legend\":{\"tokenModifiers\":[],\"tokenTypes\":[\"keyword\",\"type\",\"string\",\"comment\",\"operator\",\"variable\",\"namespace\"]}},\"textDocumentSync\":{\"change\":2,\"openClose\":true},\"workspaceSymbolProvider\":true},\"serverInfo\":{\"name\":\"wacx\",\"version\":\"1.2.3\"}}}",
     ),
     (
         "{\"id\":5,\"jsonrpc\":\"2.0\",\"method\":\"initialize\",\"params\":{\"capabilities\":{\"textDocument\":{\"documentSymbol\":{\"hierarchicalDocumentSymbolSupport\":true}}},\"processId\":null}}",
@@ -70,10 +71,10 @@ static BEGINNING: [Row; 15] = [
 ];
 
 /// A document is opened, changed, asked about and closed.
-static DOCUMENT: [Row; 19] = [
+static DOCUMENT: [Row; 21] = [
     (
         "{\"id\":1,\"jsonrpc\":\"2.0\",\"method\":\"initialize\",\"params\":{\"capabilities\":{\"textDocument\":{\"documentSymbol\":{\"hierarchicalDocumentSymbolSupport\":true}}},\"processId\":null}}",
-        "{\"id\":1,\"jsonrpc\":\"2.0\",\"result\":{\"capabilities\":{\"codeActionProvider\":{\"codeActionKinds\":[\"quickfix\"]},\"documentFormattingProvider\":true,\"documentSymbolProvider\":true,\"foldingRangeProvider\":true,\"positionEncoding\":\"utf-16\",\"selectionRangeProvider\":true,\"semanticTokensProvider\":{\"full\":true,\"legend\":{\"tokenModifiers\":[],\"tokenTypes\":[\"keyword\",\"type\",\"string\",\"comment\",\"operator\",\"variable\",\"namespace\"]}},\"textDocumentSync\":{\"change\":2,\"openClose\":true}},\"serverInfo\":{\"name\":\"wacx\",\"version\":\"1.2.3\"}}}",
+        "{\"id\":1,\"jsonrpc\":\"2.0\",\"result\":{\"capabilities\":{\"codeActionProvider\":{\"codeActionKinds\":[\"quickfix\"]},\"completionProvider\":{\"triggerCharacters\":[\".\",\"{\",\":\",\"/\",\"\\\"\"]},\"definitionProvider\":true,\"documentFormattingProvider\":true,\"documentHighlightProvider\":true,\"documentRangeFormattingProvider\":true,\"documentSymbolProvider\":true,\"foldingRangeProvider\":true,\"hoverProvider\":true,\"positionEncoding\":\"utf-16\",\"referencesProvider\":true,\"renameProvider\":{\"prepareProvider\":true},\"selectionRangeProvider\":true,\"semanticTokensProvider\":{\"full\":true,\"legend\":{\"tokenModifiers\":[],\"tokenTypes\":[\"keyword\",\"type\",\"string\",\"comment\",\"operator\",\"variable\",\"namespace\"]}},\"textDocumentSync\":{\"change\":2,\"openClose\":true},\"workspaceSymbolProvider\":true},\"serverInfo\":{\"name\":\"wacx\",\"version\":\"1.2.3\"}}}",
     ),
     (
         "{\"jsonrpc\":\"2.0\",\"method\":\"textDocument/didOpen\",\"params\":{\"textDocument\":{\"languageId\":\"wac\",\"text\":\"package a:b;\\nlte x = y;\\n\",\"uri\":\"file:///project/a%20b.wac\",\"version\":1}}}",
@@ -120,6 +121,14 @@ static DOCUMENT: [Row; 19] = [
         "{\"id\":5,\"jsonrpc\":\"2.0\",\"result\":[{\"children\":[{\"children\":[],\"kind\":23,\"name\":\"r\",\"range\":{\"end\":{\"character\":20,\"line\":2},\"start\":{\"character\":2,\"line\":2}},\"selectionRange\":{\"end\":{\"character\":10,\"line\":2},\"start\":{\"character\":9,\"line\":2}}},{\"children\":[],\"kind\":12,\"name\":\"f\",\"range\":{\"end\":{\"character\":12,\"line\":3},\"start\":{\"character\":2,\"line\":3}},\"selectionRange\":{\"end\":{\"character\":3,\"line\":3},\"start\":{\"character\":2,\"line\":3}}}],\"kind\":11,\"name\":\"i\",\"range\":{\"end\":{\"character\":1,\"line\":4},\"start\":{\"character\":0,\"line\":1}},\"selectionRange\":{\"end\":{\"character\":11,\"line\":1},\"start\":{\"character\":10,\"line\":1}}}]}",
     ),
     (
+        "{\"jsonrpc\":\"2.0\",\"method\":\"workspace/didChangeWatchedFiles\",\"params\":{\"changes\":[]}}",
+        "{\"jsonrpc\":\"2.0\",\"method\":\"textDocument/publishDiagnostics\",\"params\":{\"diagnostics\":[],\"uri\":\"file:///project/a%20b.wac\",\"version\":4}}",
+    ),
+    (
+        "{\"id\":25,\"jsonrpc\":\"2.0\",\"method\":\"workspace/symbol\",\"params\":{\"query\":\"f\"}}",
+        "{\"id\":25,\"jsonrpc\":\"2.0\",\"result\":[{\"kind\":12,\"location\":{\"range\":{\"end\":{\"character\":12,\"line\":3},\"start\":{\"character\":2,\"line\":3}},\"uri\":\"file:///project/a%20b.wac\"},\"name\":\"f\"}]}",
+    ),
+    (
         "{\"id\":22,\"jsonrpc\":\"2.0\",\"method\":\"textDocument/foldingRange\",\"params\":{\"textDocument\":{\"uri\":\"file:///project/a%20b.wac\"}}}",
         "{\"id\":22,\"jsonrpc\":\"2.0\",\"result\":[{\"endLine\":4,\"startLine\":1}]}",
     ),
@@ -147,10 +156,10 @@ static DOCUMENT: [Row; 19] = [
 ];
 
 /// Columns are counted in bytes, and the outline has no declarations within others.
-static BYTES: [Row; 9] = [
+static BYTES: [Row; 13] = [
     (
         "{\"id\":1,\"jsonrpc\":\"2.0\",\"method\":\"initialize\",\"params\":{\"capabilities\":{\"general\":{\"positionEncodings\":[\"utf-8\",\"utf-16\"]}},\"processId\":null}}",
-        "{\"id\":1,\"jsonrpc\":\"2.0\",\"result\":{\"capabilities\":{\"codeActionProvider\":{\"codeActionKinds\":[\"quickfix\"]},\"documentFormattingProvider\":true,\"documentSymbolProvider\":true,\"foldingRangeProvider\":true,\"positionEncoding\":\"utf-8\",\"selectionRangeProvider\":true,\"semanticTokensProvider\":{\"full\":true,\"legend\":{\"tokenModifiers\":[],\"tokenTypes\":[\"keyword\",\"type\",\"string\",\"comment\",\"operator\",\"variable\",\"namespace\"]}},\"textDocumentSync\":{\"change\":2,\"openClose\":true}},\"serverInfo\":{\"name\":\"wacx\",\"version\":\"1.2.3\"}}}",
+        "{\"id\":1,\"jsonrpc\":\"2.0\",\"result\":{\"capabilities\":{\"codeActionProvider\":{\"codeActionKinds\":[\"quickfix\"]},\"completionProvider\":{\"triggerCharacters\":[\".\",\"{\",\":\",\"/\",\"\\\"\"]},\"definitionProvider\":true,\"documentFormattingProvider\":true,\"documentHighlightProvider\":true,\"documentRangeFormattingProvider\":true,\"documentSymbolProvider\":true,\"foldingRangeProvider\":true,\"hoverProvider\":true,\"positionEncoding\":\"utf-8\",\"referencesProvider\":true,\"renameProvider\":{\"prepareProvider\":true},\"selectionRangeProvider\":true,\"semanticTokensProvider\":{\"full\":true,\"legend\":{\"tokenModifiers\":[],\"tokenTypes\":[\"keyword\",\"type\",\"string\",\"comment\",\"operator\",\"variable\",\"namespace\"]}},\"textDocumentSync\":{\"change\":2,\"openClose\":true},\"workspaceSymbolProvider\":true},\"serverInfo\":{\"name\":\"wacx\",\"version\":\"1.2.3\"}}}",
     ),
     (
         "{\"jsonrpc\":\"2.0\",\"method\":\"textDocument/didOpen\",\"params\":{\"textDocument\":{\"languageId\":\"wac\",\"text\":\"package a:b;\\n/* \u{e9} */ let x = y;\\n\",\"uri\":\"file:///project/a%20b.wac\",\"version\":7}}}",
@@ -174,6 +183,22 @@ static BYTES: [Row; 9] = [
         "{\"id\":4,\"jsonrpc\":\"2.0\",\"result\":[{\"newText\":\"  f: func();\\n\",\"range\":{\"end\":{\"character\":0,\"line\":4},\"start\":{\"character\":0,\"line\":3}}}]}",
     ),
     (
+        "{\"jsonrpc\":\"2.0\",\"method\":\"textDocument/didChange\",\"params\":{\"contentChanges\":[{\"text\":\"package a:b;\\nimport y:  func();\\nlet  x = y; // c\\n\"}],\"textDocument\":{\"uri\":\"file:///project/a%20b.wac\",\"version\":9}}}",
+        "{\"jsonrpc\":\"2.0\",\"method\":\"textDocument/publishDiagnostics\",\"params\":{\"diagnostics\":[],\"uri\":\"file:///project/a%20b.wac\",\"version\":9}}",
+    ),
+    (
+        "{\"id\":6,\"jsonrpc\":\"2.0\",\"method\":\"textDocument/rangeFormatting\",\"params\":{\"options\":{\"insertSpaces\":true,\"tabSize\":4},\"range\":{\"end\":{\"character\":5,\"line\":2},\"start\":{\"character\":0,\"line\":2}},\"textDocument\":{\"uri\":\"file:///project/a%20b.wac\"}}}",
+        "{\"id\":6,\"jsonrpc\":\"2.0\",\"result\":[{\"newText\":\"\\n\\nlet x = y;\",\"range\":{\"end\":{\"character\":11,\"line\":2},\"start\":{\"character\":18,\"line\":1}}}]}",
+    ),
+    (
+        "{\"jsonrpc\":\"2.0\",\"method\":\"textDocument/didChange\",\"params\":{\"contentChanges\":[{\"text\":\"package a:b;\\nlet x\u{202e} = y;\\n\"}],\"textDocument\":{\"uri\":\"file:///project/a%20b.wac\",\"version\":10}}}",
+        "{\"jsonrpc\":\"2.0\",\"method\":\"textDocument/publishDiagnostics\",\"params\":{\"diagnostics\":[{\"code\":\"wac::disallowed-bidirectional-override\",\"message\":\"disallowed bidirectional override codepoint `\\\\u{202e}`\\nremove it: it makes a text look other than it is\",\"range\":{\"end\":{\"character\":8,\"line\":1},\"start\":{\"character\":5,\"line\":1}},\"relatedInformation\":[],\"severity\":1,\"source\":\"wac\"}],\"uri\":\"file:///project/a%20b.wac\",\"version\":10}}",
+    ),
+    (
+        "{\"id\":7,\"jsonrpc\":\"2.0\",\"method\":\"textDocument/semanticTokens/full\",\"params\":{\"textDocument\":{\"uri\":\"file:///project/a%20b.wac\"}}}",
+        "{\"id\":7,\"jsonrpc\":\"2.0\",\"result\":{\"data\":[0,0,7,0,0,0,8,3,6,0,0,3,1,4,0,1,0,3,0,0,0,4,1,5,0]}}",
+    ),
+    (
         "{\"id\":5,\"jsonrpc\":\"2.0\",\"method\":\"shutdown\",\"params\":{}}",
         "{\"id\":5,\"jsonrpc\":\"2.0\",\"result\":null}",
     ),
@@ -183,14 +208,54 @@ static BYTES: [Row; 9] = [
     ),
 ];
 
+/// A document is laid out by edits of the lines that differ, from the last to the first.
+static LAYOUT: [Row; 9] = [
+    (
+        "{\"id\":1,\"jsonrpc\":\"2.0\",\"method\":\"initialize\",\"params\":{\"capabilities\":{\"textDocument\":{\"documentSymbol\":{\"hierarchicalDocumentSymbolSupport\":true}}},\"processId\":null}}",
+        "{\"id\":1,\"jsonrpc\":\"2.0\",\"result\":{\"capabilities\":{\"codeActionProvider\":{\"codeActionKinds\":[\"quickfix\"]},\"completionProvider\":{\"triggerCharacters\":[\".\",\"{\",\":\",\"/\",\"\\\"\"]},\"definitionProvider\":true,\"documentFormattingProvider\":true,\"documentHighlightProvider\":true,\"documentRangeFormattingProvider\":true,\"documentSymbolProvider\":true,\"foldingRangeProvider\":true,\"hoverProvider\":true,\"positionEncoding\":\"utf-16\",\"referencesProvider\":true,\"renameProvider\":{\"prepareProvider\":true},\"selectionRangeProvider\":true,\"semanticTokensProvider\":{\"full\":true,\"legend\":{\"tokenModifiers\":[],\"tokenTypes\":[\"keyword\",\"type\",\"string\",\"comment\",\"operator\",\"variable\",\"namespace\"]}},\"textDocumentSync\":{\"change\":2,\"openClose\":true},\"workspaceSymbolProvider\":true},\"serverInfo\":{\"name\":\"wacx\",\"version\":\"1.2.3\"}}}",
+    ),
+    (
+        "{\"jsonrpc\":\"2.0\",\"method\":\"textDocument/didOpen\",\"params\":{\"textDocument\":{\"languageId\":\"wac\",\"text\":\"package a:b;\\n\\nimport y:  func();\\n\\ninterface i {\\n    f: func();\\n}\\n\\nlet  x = y;\\n\",\"uri\":\"file:///project/a%20b.wac\",\"version\":1}}}",
+        "{\"jsonrpc\":\"2.0\",\"method\":\"textDocument/publishDiagnostics\",\"params\":{\"diagnostics\":[],\"uri\":\"file:///project/a%20b.wac\",\"version\":1}}",
+    ),
+    (
+        "{\"id\":2,\"jsonrpc\":\"2.0\",\"method\":\"textDocument/formatting\",\"params\":{\"options\":{\"insertSpaces\":true,\"tabSize\":4},\"textDocument\":{\"uri\":\"file:///project/a%20b.wac\"}}}",
+        "{\"id\":2,\"jsonrpc\":\"2.0\",\"result\":[{\"newText\":\"let x = y;\\n\",\"range\":{\"end\":{\"character\":0,\"line\":9},\"start\":{\"character\":0,\"line\":8}}},{\"newText\":\"import y: func();\\n\",\"range\":{\"end\":{\"character\":0,\"line\":3},\"start\":{\"character\":0,\"line\":2}}}]}",
+    ),
+    (
+        "{\"jsonrpc\":\"2.0\",\"method\":\"textDocument/didChange\",\"params\":{\"contentChanges\":[{\"text\":\"package a:b;\\nimport y: func();\\n\\n\\n\\nlet x = y;\\n\"}],\"textDocument\":{\"uri\":\"file:///project/a%20b.wac\",\"version\":2}}}",
+        "{\"jsonrpc\":\"2.0\",\"method\":\"textDocument/publishDiagnostics\",\"params\":{\"diagnostics\":[],\"uri\":\"file:///project/a%20b.wac\",\"version\":2}}",
+    ),
+    (
+        "{\"id\":3,\"jsonrpc\":\"2.0\",\"method\":\"textDocument/formatting\",\"params\":{\"options\":{\"insertSpaces\":true,\"tabSize\":4},\"textDocument\":{\"uri\":\"file:///project/a%20b.wac\"}}}",
+        "{\"id\":3,\"jsonrpc\":\"2.0\",\"result\":[{\"newText\":\"\",\"range\":{\"end\":{\"character\":0,\"line\":5},\"start\":{\"character\":0,\"line\":3}}},{\"newText\":\"\\n\",\"range\":{\"end\":{\"character\":0,\"line\":1},\"start\":{\"character\":0,\"line\":1}}}]}",
+    ),
+    (
+        "{\"jsonrpc\":\"2.0\",\"method\":\"textDocument/didChange\",\"params\":{\"contentChanges\":[{\"text\":\"package a:b;\\n\\ninterface i {\\n    record r { a: u8 }\\n}\\n\\nimport y: func();\"}],\"textDocument\":{\"uri\":\"file:///project/a%20b.wac\",\"version\":3}}}",
+        "{\"jsonrpc\":\"2.0\",\"method\":\"textDocument/publishDiagnostics\",\"params\":{\"diagnostics\":[],\"uri\":\"file:///project/a%20b.wac\",\"version\":3}}",
+    ),
+    (
+        "{\"id\":4,\"jsonrpc\":\"2.0\",\"method\":\"textDocument/formatting\",\"params\":{\"options\":{\"insertSpaces\":true,\"tabSize\":4},\"textDocument\":{\"uri\":\"file:///project/a%20b.wac\"}}}",
+        "{\"id\":4,\"jsonrpc\":\"2.0\",\"result\":[{\"newText\":\"import y: func();\\n\",\"range\":{\"end\":{\"character\":17,\"line\":6},\"start\":{\"character\":0,\"line\":6}}},{\"newText\":\"    record r {\\n        a: u8,\\n    }\\n\",\"range\":{\"end\":{\"character\":0,\"line\":4},\"start\":{\"character\":0,\"line\":3}}}]}",
+    ),
+    (
+        "{\"jsonrpc\":\"2.0\",\"method\":\"textDocument/didChange\",\"params\":{\"contentChanges\":[{\"text\":\"package a:b;\\n\\n\\nimport y: func();\\n\\nlet x = y;\\n\"}],\"textDocument\":{\"uri\":\"file:///project/a%20b.wac\",\"version\":4}}}",
+        "{\"jsonrpc\":\"2.0\",\"method\":\"textDocument/publishDiagnostics\",\"params\":{\"diagnostics\":[],\"uri\":\"file:///project/a%20b.wac\",\"version\":4}}",
+    ),
+    (
+        "{\"id\":5,\"jsonrpc\":\"2.0\",\"method\":\"textDocument/formatting\",\"params\":{\"options\":{\"insertSpaces\":true,\"tabSize\":4},\"textDocument\":{\"uri\":\"file:///project/a%20b.wac\"}}}",
+        "{\"id\":5,\"jsonrpc\":\"2.0\",\"result\":[{\"newText\":\"\",\"range\":{\"end\":{\"character\":0,\"line\":3},\"start\":{\"character\":0,\"line\":2}}}]}",
+    ),
+];
+
 /// The server is ended before it was begun.
 static ENDED: [Row; 1] = [("{\"jsonrpc\":\"2.0\",\"method\":\"exit\"}", "status 1")];
 
 /// What a server does after a message, in words.
-fn told(alloc: Global, server: &mut Server, body: &str) -> Result<String, AllocError> {
+pub(crate) fn told(alloc: Global, server: &mut Server, body: &str) -> Result<String, ChangeError> {
     let outcome = step(alloc, server, body.as_bytes())?;
     if let Some(status) = outcome.status {
-        return format!(in alloc; "status {status}");
+        return Ok(format!(in alloc; "status {status}")?);
     }
     let mut told = String::new(alloc);
     for message in outcome.messages.as_slice() {
@@ -203,7 +268,7 @@ fn told(alloc: Global, server: &mut Server, body: &str) -> Result<String, AllocE
 }
 
 /// Asserts that a server tells what each row says.
-fn is_session(rt: &impl Abort, alloc: Global, rows: &[Row]) -> Result<(), Fail> {
+pub(crate) fn is_session(rt: &impl Abort, alloc: Global, rows: &[Row]) -> Result<(), Fail> {
     let mut server = Server::new(alloc, "1.2.3");
     for (body, expected) in rows {
         let found = told(alloc, &mut server, body)?;
@@ -225,6 +290,11 @@ fn documents_are_followed(rt: HostRuntime) -> Result<(), Fail> {
 #[test]
 fn columns_are_counted_in_bytes(rt: HostRuntime) -> Result<(), Fail> {
     is_session(&rt, rt.alloc(), &BYTES)
+}
+
+#[test]
+fn layouts_change_the_lines_that_differ(rt: HostRuntime) -> Result<(), Fail> {
+    is_session(&rt, rt.alloc(), &LAYOUT)
 }
 
 #[test]

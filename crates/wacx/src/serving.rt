@@ -1,13 +1,16 @@
 // Serving an editor.
 use crate::command::version;
+use std::process;
 use std::process::ExitCode;
-use wac_lsp::{ServeError, serve};
+use wac_files::Disk;
+use wac_lsp_sessions::{ServeError, serve};
 
 /// Answers the messages on standard input until the editor ends it.
 pub(crate) fn serve_editor(rt: &HostRuntime) -> ExitCode {
     let mut input = rt.stdin();
     let mut output = rt.stdout();
-    match serve(rt.alloc(), &mut input, &mut output, version()) {
+    let mut files = Disk::new(*rt, process::id(rt.process()));
+    match serve(rt.alloc(), &mut input, &mut output, &mut files, version()) {
         Ok(status) => ExitCode::from(status),
         Err(error) => {
             let _ = eprintln!(rt; "error: {error}");
@@ -20,7 +23,7 @@ pub(crate) fn serve_editor(rt: &HostRuntime) -> ExitCode {
 fn status_of(error: &ServeError) -> u8 {
     match error {
         ServeError::Ended => 1,
-        ServeError::Receive(_) | ServeError::Output => 3,
+        ServeError::Receive(_) | ServeError::NoPlace | ServeError::Output => 3,
         ServeError::Memory(_) => 4,
     }
 }

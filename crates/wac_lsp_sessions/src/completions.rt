@@ -1,0 +1,69 @@
+//! Names of packages that can stand at places of documents.
+use serde_json::Value;
+use std::alloc::{AllocError, Global};
+use wac_lsp::{Document, Server, Suggestion};
+use wac_lsp_messages::{Call, Question};
+use wac_lsp_workspace::{Offer, Offered, Workspace};
+use wac_positions::Place;
+
+/// The number of what a name stands for among the kinds of completions.
+fn number_of(what: Offered) -> u8 {
+    match what {
+        Offered::Function => 3,
+        Offered::Instance => 8,
+        Offered::Type => 22,
+        Offered::Other => 6,
+    }
+}
+
+/// Names of packages as suggestions, each with the whole name beside it.
+fn suggestions(alloc: Global, offers: &[Offer]) -> Result<Vec<Suggestion<'_>>, AllocError> {
+    let mut all = Vec::with_capacity(alloc, offers.len())?;
+    for offer in offers {
+        all.push(Suggestion {
+            label: offer.written.as_str(),
+            detail: offer.name.as_str(),
+            kind: number_of(offer.what),
+        })?;
+    }
+    Ok(all)
+}
+
+/// What can stand at a place of a document, if that is a name of a package of the folders.
+fn completed_at(
+    alloc: Global,
+    server: &Server,
+    workspace: &Workspace,
+    document: &Document,
+    place: Place,
+) -> Result<Option<Value>, AllocError> {
+    let offset = server.offset_in(alloc, document.text(), place)?;
+    let offers = workspace.names_at(alloc, document.text(), offset)?;
+    if offers.is_empty() {
+        return Ok(None);
+    }
+    let suggestions = suggestions(alloc, offers.as_slice())?;
+    let value = server.completions(alloc, document, place, suggestions.as_slice())?;
+    Ok(Some(value))
+}
+
+/// What a request gets that asks what can stand at a place: nothing where it asks for something else, or where no name of
+/// a package of the folders can stand there.
+pub(crate) fn completed_by(
+    alloc: Global,
+    server: &Server,
+    workspace: &Workspace,
+    call: &Call,
+) -> Result<Option<Value>, AllocError> {
+    let Call::Document {
+        uri,
+        question: Question::Completions(place),
+    } = call
+    else {
+        return Ok(None);
+    };
+    match server.document(uri.as_str()) {
+        Some(document) => completed_at(alloc, server, workspace, document, *place),
+        None => Ok(None),
+    }
+}

@@ -1,0 +1,61 @@
+//! What is told of open documents, with what is known of folders.
+ghost use Rattle.std.specs.Prelude.{◌≡◌, [], IfOk};
+ghost use Rattle.wac_lsp.specs.Replies.{AreReplies, replies};
+
+use serde_json::json;
+use std::alloc::{AllocError, Global};
+use wac_diagnostics::Diagnostic;
+use wac_lsp::{Document, Sent, Server};
+use wac_lsp_folders::path_of_uri;
+use wac_lsp_messages::notification;
+use wac_lsp_workspace::Workspace;
+
+/// The number of a warning among the messages of a log.
+const WARNING: u8 = 2;
+
+/// What the workspace says of a document.
+pub(crate) fn said_of(
+    alloc: Global,
+    workspace: &Workspace,
+    document: &Document,
+) -> Result<Vec<Diagnostic>, AllocError> {
+    match path_of_uri(alloc, document.uri())? {
+        Some(path) => workspace.diagnose(alloc, path.as_str(), document.text()),
+        None => Ok(Vec::new(alloc)),
+    }
+}
+
+/// What is told of a document: what is wrong with its text alone, or else what the workspace says.
+fn published(
+    alloc: Global,
+    server: &Server,
+    workspace: &Workspace,
+    document: &Document,
+) -> Result<String, AllocError> {
+    let said = said_of(alloc, workspace, document)?;
+    server.publication(alloc, document, said.as_slice())
+}
+
+/// What is told of each open document.
+#[tactic(auto, using(crate::proofs::Sending::notified, crate::proofs::Sending::still_replies))]
+pub(crate) fn all_published(
+    alloc: Global,
+    server: &Server,
+    workspace: &Workspace,
+) -> Result<Vec<Sent>, AllocError>
+    ensures ids { IfOk result (λ messages. replies messages.items ≡ []) }
+    ensures written { IfOk result (λ messages. AreReplies messages.items) }
+{
+    let mut messages = Vec::new(alloc);
+    for document in server.documents() {
+        let body = published(alloc, server, workspace, document)?;
+        messages.push(Sent::Notification { body })?;
+    }
+    Ok(messages)
+}
+
+/// A line for the log of a client.
+pub(crate) fn logged(alloc: Global, line: &str) -> Result<String, AllocError> {
+    let params = json!(in alloc; {"type": WARNING, "message": line})?;
+    notification(alloc, "window/logMessage", params)
+}

@@ -1,0 +1,352 @@
+//! A session: a server, and what is known of the folders that its client has open.
+ghost use Rattle.std.specs.Prelude.{◌≡◌, [], ◌∷◌, IfOk, Some, string_bytes};
+ghost use Rattle.wac_lsp_messages.specs.Replying.{IsReplyTo};
+ghost use Rattle.wac_lsp.specs.Replies.{AreReplies, replied_to, replies};
+ghost use Rattle.wac_lsp_sessions.specs.Answering.{Answers};
+
+use crate::completions::completed_by;
+use crate::definitions::declared_by;
+use crate::refreshing::{all_published, logged, said_of};
+use crate::watching::{Touched, touched_by, watch_request, watches_files};
+use std::alloc::{AllocError, Global};
+use wac_lsp::{Outcome, Sent, Server, answer};
+use wac_lsp_folders::{client_folders, path_of_uri};
+use wac_lsp_messages::{Call, Id, Message, Notice, Refusal, read_message, reply};
+use wac_lsp_texts::ChangeError;
+use wac_lsp_workspace::{FolderContents, Workspace};
+
+/// A server, and what is known of the folders that its client has open.
+#[derive(Drop)]
+pub struct Session {
+    server: Server,
+    workspace: Workspace,
+    /// Whether the client takes that it is asked to watch files.
+    watches_files: bool,
+}
+
+/// What a session does after a message.
+#[derive(Drop)]
+pub struct Stepped {
+    /// What the server does.
+    pub outcome: Outcome,
+    /// Whether the folders are to be read then, and given to `take`.
+    pub reads_folders: bool,
+}
+
+/// Whether a request is one with which a client begins.
+fn initializes(call: &Call) -> bool {
+    match call {
+        Call::Initialize(client) => client.is_some(),
+        _ => false,
+    }
+}
+
+/// Whether a message is one with which a client begins.
+fn begins(message: &Message) -> bool {
+    match message {
+        Message::Request { call, .. } => match call {
+            Ok(call) => initializes(call),
+            Err(_) => false,
+        },
+        _ => false,
+    }
+}
+
+/// An outcome after which no folder is read.
+fn stays(outcome: Outcome) -> Stepped
+    ensures { result.outcome ≡ outcome }
+{
+    Stepped {
+        outcome,
+        reads_folders: false,
+    }
+}
+
+/// An outcome that has these messages, which are no replies, in place of its own.
+fn with_messages(outcome: Outcome, messages: Vec<Sent>) -> Outcome
+    ensures { result.messages ≡ messages }
+{
+    let Outcome { status, .. } = outcome;
+    Outcome { messages, status }
+}
+
+/// A message that replies to nothing.
+fn sends_one(alloc: Global, body: String) -> Result<Vec<Sent>, AllocError>
+    ensures ids { IfOk result (λ messages. replies messages.items ≡ []) }
+    ensures written { IfOk result (λ messages. AreReplies messages.items) }
+{
+    let mut messages = Vec::new(alloc);
+    messages.push(Sent::Notification { body })?;
+    Ok(messages)
+}
+
+/// The reply to a request, with what it asked for.
+fn sends_value(alloc: Global, id: Id, body: String) -> Result<Outcome, AllocError>
+    requires { IsReplyTo (Some id) (string_bytes body) }
+    ensures ids { IfOk result (λ outcome. replies outcome.messages.items ≡ Some id ∷ []) }
+    ensures written { IfOk result (λ outcome. AreReplies outcome.messages.items) }
+{
+    let mut messages = Vec::new(alloc);
+    messages.push(Sent::Reply { id: Some(id), body })?;
+    Ok(Outcome {
+        messages,
+        status: None,
+    })
+}
+
+impl Session {
+    /// A session that wasn't initialized, of a program of this version.
+    pub fn new(alloc: Global, version: &'static str) -> Session {
+        Session {
+            server: Server::new(alloc, version),
+            workspace: Workspace::new(alloc, Vec::new(alloc)),
+            watches_files: false,
+        }
+    }
+
+    /// The paths of the client's folders.
+    pub fn folders(&self) -> &[String] {
+        self.workspace.folders()
+    }
+
+    /// What the session does after the message with this body. No file is read.
+    ///
+    /// The errors are those of `answer` of `wac_lsp`: that memory ran out, or that a change has a place without an offset.
+    pub fn step(&mut self, alloc: Global, body: &[u8]) -> Result<Stepped, ChangeError>
+        // The replies are those to a message that the body is, and the text of each has its id.
+        ensures { IfOk result (λ stepped. Answers body.now stepped.outcome.messages.items) }
+    {
+        let message = read_message(alloc, body)?;
+        self.prepared(alloc, body, message)
+    }
+
+    /// What the session does after a message, whose folders it takes where the client begins with it.
+    fn prepared(
+        &mut self,
+        alloc: Global,
+        body: &[u8],
+        message: Message,
+    ) -> Result<Stepped, ChangeError>
+        ensures ids { IfOk result (λ stepped. replies stepped.outcome.messages.items ≡ replied_to message) }
+        ensures written { IfOk result (λ stepped. AreReplies stepped.outcome.messages.items) }
+    {
+        self.prepare(alloc, body, &message)?;
+        self.answer(alloc, message)
+    }
+
+    /// Takes what a client says of its folders, if this is the message with which it begins.
+    fn prepare(&mut self, alloc: Global, body: &[u8], message: &Message) -> Result<(), AllocError> {
+        if begins(message) && self.server.is_new() {
+            self.begin(alloc, body)?;
+        }
+        Ok(())
+    }
+
+    /// Takes what a client says of its folders.
+    fn begin(&mut self, alloc: Global, body: &[u8]) -> Result<(), AllocError> {
+        let folders = client_folders(alloc, body)?;
+        self.workspace = Workspace::new(alloc, folders);
+        self.watches_files = watches_files(alloc, body)?;
+        Ok(())
+    }
+
+    /// What the session does after a message.
+    pub fn answer(&mut self, alloc: Global, message: Message) -> Result<Stepped, ChangeError>
+        // A request gets one reply, with its id; what is no message gets one without; all else gets none.
+        ensures ids { IfOk result (λ stepped. replies stepped.outcome.messages.items ≡ replied_to message) }
+        // The text of each reply has its id.
+        ensures written { IfOk result (λ stepped. AreReplies stepped.outcome.messages.items) }
+    {
+        match message {
+            Message::Notification(notice) => self.noticed(alloc, notice),
+            Message::Request { id, call } => self.requested(alloc, id, call),
+            other => Ok(stays(answer(alloc, &mut self.server, other)?)),
+        }
+    }
+
+    /// What a request gets that asks where something is declared, or what can stand at a place, if a package of the folders
+    /// has the answer.
+    fn asked(&self, alloc: Global, call: &Call) -> Result<Option<serde_json::Value>, AllocError> {
+        match declared_by(alloc, &self.server, &self.workspace, call)? {
+            Some(value) => Ok(Some(value)),
+            None => completed_by(alloc, &self.server, &self.workspace, call),
+        }
+    }
+
+    /// What a request gets for which a package of the folders has the answer.
+    fn declared(
+        &self,
+        alloc: Global,
+        call: &Result<Call, Refusal>,
+    ) -> Result<Option<serde_json::Value>, AllocError> {
+        match call {
+            Ok(call) if self.server.is_running() => self.asked(alloc, call),
+            _ => Ok(None),
+        }
+    }
+
+    /// What the session does after a request.
+    fn requested(
+        &mut self,
+        alloc: Global,
+        id: Id,
+        call: Result<Call, Refusal>,
+    ) -> Result<Stepped, ChangeError>
+        ensures ids { IfOk result (λ stepped. replies stepped.outcome.messages.items ≡ Some id ∷ []) }
+        ensures written { IfOk result (λ stepped. AreReplies stepped.outcome.messages.items) }
+    {
+        match self.declared(alloc, &call)? {
+            Some(value) => {
+                let body = reply(alloc, &id, value)?;
+                Ok(stays(sends_value(alloc, id, body)?))
+            }
+            None => {
+                let message = Message::Request { id, call };
+                Ok(stays(answer(alloc, &mut self.server, message)?))
+            }
+        }
+    }
+
+    /// What the session does after a notification.
+    fn noticed(&mut self, alloc: Global, notice: Notice) -> Result<Stepped, ChangeError>
+        ensures ids { IfOk result (λ stepped. replies stepped.outcome.messages.items ≡ []) }
+        ensures written { IfOk result (λ stepped. AreReplies stepped.outcome.messages.items) }
+    {
+        let touched = touched_by(alloc, &notice)?;
+        let outcome = answer(alloc, &mut self.server, Message::Notification(notice))?;
+        if !self.server.is_running() || self.folders().is_empty() {
+            return Ok(stays(outcome));
+        }
+        Ok(self.touched(alloc, touched, outcome)?)
+    }
+
+    /// What the session does after a notification of a client with folders.
+    fn touched(
+        &mut self,
+        alloc: Global,
+        touched: Touched,
+        outcome: Outcome,
+    ) -> Result<Stepped, AllocError>
+        requires ids { replies outcome.messages.items ≡ [] }
+        requires written { AreReplies outcome.messages.items }
+        ensures ids { IfOk result (λ stepped. replies stepped.outcome.messages.items ≡ []) }
+        ensures written { IfOk result (λ stepped. AreReplies stepped.outcome.messages.items) }
+    {
+        match touched {
+            Touched::Nothing => Ok(stays(outcome)),
+            Touched::Text(uri) => Ok(stays(self.text_taken(alloc, uri.as_str(), outcome)?)),
+            Touched::Closed(uri) => self.closed(alloc, uri.as_str(), outcome),
+            Touched::Begun => Ok(Stepped {
+                outcome: self.begun(alloc, outcome)?,
+                reads_folders: true,
+            }),
+            Touched::Files => Ok(Stepped {
+                outcome: with_messages(outcome, Vec::new(alloc)),
+                reads_folders: true,
+            }),
+        }
+    }
+
+    /// Asks a client to watch files, if it takes that.
+    fn begun(&self, alloc: Global, outcome: Outcome) -> Result<Outcome, AllocError>
+        requires ids { replies outcome.messages.items ≡ [] }
+        requires written { AreReplies outcome.messages.items }
+        ensures ids { IfOk result (λ outcome. replies outcome.messages.items ≡ []) }
+        ensures written { IfOk result (λ outcome. AreReplies outcome.messages.items) }
+    {
+        if !self.watches_files {
+            return Ok(outcome);
+        }
+        let body = watch_request(alloc)?;
+        Ok(with_messages(outcome, sends_one(alloc, body)?))
+    }
+
+    /// Takes the text of a document that was opened or changed. Returns whether packages were made anew.
+    fn take_text(&mut self, alloc: Global, uri: &str) -> Result<bool, AllocError> {
+        let Some(document) = self.server.document(uri) else {
+            return Ok(false);
+        };
+        match path_of_uri(alloc, uri)? {
+            Some(path) => self
+                .workspace
+                .open(alloc, path.as_str(), uri, document.text()),
+            None => Ok(false),
+        }
+    }
+
+    /// What is told after a document was opened or changed: what is wrong with it, and where packages were made anew what is
+    /// wrong with each.
+    fn text_taken(
+        &mut self,
+        alloc: Global,
+        uri: &str,
+        outcome: Outcome,
+    ) -> Result<Outcome, AllocError>
+        requires ids { replies outcome.messages.items ≡ [] }
+        requires written { AreReplies outcome.messages.items }
+        ensures ids { IfOk result (λ outcome. replies outcome.messages.items ≡ []) }
+        ensures written { IfOk result (λ outcome. AreReplies outcome.messages.items) }
+    {
+        if self.take_text(alloc, uri)? {
+            return Ok(with_messages(outcome, self.refreshed(alloc)?));
+        }
+        match self.said(alloc, uri)? {
+            Some(body) => Ok(with_messages(outcome, sends_one(alloc, body)?)),
+            None => Ok(outcome),
+        }
+    }
+
+    /// What is told of a document of which the workspace says something.
+    fn said(&self, alloc: Global, uri: &str) -> Result<Option<String>, AllocError> {
+        let Some(document) = self.server.document(uri) else {
+            return Ok(None);
+        };
+        let said = said_of(alloc, &self.workspace, document)?;
+        if said.is_empty() {
+            return Ok(None);
+        }
+        Ok(Some(self.server.publication(alloc, document, said.as_slice())?))
+    }
+
+    /// What is told of each open document.
+    fn refreshed(&self, alloc: Global) -> Result<Vec<Sent>, AllocError>
+        ensures ids { IfOk result (λ messages. replies messages.items ≡ []) }
+        ensures written { IfOk result (λ messages. AreReplies messages.items) }
+    {
+        all_published(alloc, &self.server, &self.workspace)
+    }
+
+    /// What the session does after a document was closed: its file stands for itself again, and is read.
+    fn closed(&mut self, alloc: Global, uri: &str, outcome: Outcome) -> Result<Stepped, AllocError>
+        requires ids { replies outcome.messages.items ≡ [] }
+        requires written { AreReplies outcome.messages.items }
+        ensures ids { IfOk result (λ stepped. replies stepped.outcome.messages.items ≡ []) }
+        ensures written { IfOk result (λ stepped. AreReplies stepped.outcome.messages.items) }
+    {
+        let Some(path) = path_of_uri(alloc, uri)? else {
+            return Ok(stays(outcome));
+        };
+        let reads_folders = self.workspace.holds(path.as_str());
+        let _ = self.workspace.close(alloc, path.as_str())?;
+        Ok(Stepped {
+            outcome,
+            reads_folders,
+        })
+    }
+
+    /// Takes what was read of the folders. Returns the messages that are sent then: the files that were passed over, and
+    /// what is wrong with each open document.
+    #[tactic(auto, using(crate::proofs::Sending::notified, crate::proofs::Sending::still_replies))]
+    pub fn take(&mut self, alloc: Global, contents: FolderContents) -> Result<Vec<Sent>, AllocError>
+        ensures ids { IfOk result (λ messages. replies messages.items ≡ []) }
+        ensures written { IfOk result (λ messages. AreReplies messages.items) }
+    {
+        let passed_over = self.workspace.take(alloc, contents)?;
+        let mut messages = self.refreshed(alloc)?;
+        for line in passed_over.as_slice() {
+            let body = logged(alloc, line.as_str())?;
+            messages.push(Sent::Notification { body })?;
+        }
+        Ok(messages)
+    }
+}

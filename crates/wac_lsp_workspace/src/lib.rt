@@ -1,0 +1,34 @@
+//! The packages of the folders that an editor has open: which documents and components have them, what is wrong with a
+//! document that mentions them, and where they are declared.
+//!
+//! ```text
+//! let mut workspace = Workspace::new(alloc, folders);
+//! let contents = read_folders(alloc, &mut files, workspace.folders())?;
+//! workspace.take(alloc, contents)?;
+//! let changed = workspace.open(alloc, path, uri, text)?;              // an open text stands before its file
+//! let found = workspace.diagnose(alloc, path, text)?;                 // as `wacx check --packages` says it
+//! let declared = workspace.declaration_at(text, offset);              // of `new a:b`, of `a:b/i`, of `use a:b/i.{t}`
+//! let names = workspace.names_at(alloc, text, offset)?;               // in `new a:b { `, behind `x.`, in `use a:b/i.{`
+//! ```
+//!
+//! A document has a package if it has no target and no statement but those of types; every other one is a composition.
+#![tactic(auto)]
+
+mod contents;
+mod declarations;
+mod kinds;
+mod named;
+mod offering;
+mod packages;
+mod searching;
+mod sources;
+mod telling;
+mod walk;
+mod warning;
+mod workspace;
+
+pub use contents::{FolderContents, read_folders};
+pub use declarations::Declaration;
+pub use kinds::is_declaration;
+pub use offering::{Offer, Offered};
+pub use workspace::Workspace;

@@ -1,0 +1,92 @@
+//! What is wrong with the documents of folders.
+use crate::packages::Packages;
+use crate::warning::warnings_of;
+use std::alloc::{AllocError, Global};
+use wac_diagnostics::Diagnostic;
+use wac_error_diagnostics::Reading;
+use wac_package_errors::{
+    Composed, KnownPackages, declaration_diagnostic, first_error_with, flat_text,
+};
+
+/// What the command's help says where no file has a package.
+const NO_FILE: &str = "no file of --packages has it";
+
+/// The same of the folders of an editor.
+const NO_FILE_OF_FOLDERS: &str = "no file of the folders has it";
+
+/// The code of an instantiation of a package of which no world is chosen.
+const NO_WORLD: &str = "wac::no-world";
+
+/// What is wrong with the document of this number, which declares a package or is to.
+pub(crate) fn declaration_fault(
+    alloc: Global,
+    packages: &Packages,
+    document: usize,
+    text: &str,
+) -> Result<Vec<Diagnostic>, AllocError> {
+    let known = packages.known();
+    for fault in known.declared.faults.as_slice() {
+        if fault.text == document {
+            let diagnostic = declaration_diagnostic(alloc, text, &fault.error, known)?;
+            return told(alloc, diagnostic);
+        }
+    }
+    Ok(Vec::new(alloc))
+}
+
+/// What is wrong with a composition first, or what of it may not be meant.
+pub(crate) fn composition_fault(
+    alloc: Global,
+    known: KnownPackages<'_>,
+    text: &str,
+) -> Result<Vec<Diagnostic>, AllocError> {
+    match flat_text(alloc, text.as_bytes()) {
+        Ok(Reading::Text(text)) => judged(alloc, known, text),
+        Ok(Reading::Rejected(diagnostic)) => told(alloc, diagnostic),
+        Err(_) => Err(AllocError),
+    }
+}
+
+/// The same of a text whose brackets aren't nested too deeply.
+fn judged(
+    alloc: Global,
+    known: KnownPackages<'_>,
+    text: &str,
+) -> Result<Vec<Diagnostic>, AllocError> {
+    match first_error_with(alloc, text, known) {
+        Ok(Composed::Resolved(graph)) => warnings_of(alloc, text, &graph),
+        Ok(Composed::Unresolved) => Ok(Vec::new(alloc)),
+        Ok(Composed::Rejected(diagnostic)) => told(alloc, diagnostic),
+        Err(_) => Err(AllocError),
+    }
+}
+
+/// Whether a diagnostic asks for an option of the command: which world of several is meant.
+fn asks_for_option(diagnostic: &Diagnostic) -> bool {
+    diagnostic.code == NO_WORLD && diagnostic.help.is_some()
+}
+
+/// What an editor shows of a diagnostic. That no world of several is chosen is no error there, since none can be.
+fn told(alloc: Global, diagnostic: Diagnostic) -> Result<Vec<Diagnostic>, AllocError> {
+    let mut all = Vec::new(alloc);
+    if !asks_for_option(&diagnostic) {
+        all.push(for_editor(alloc, diagnostic)?)?;
+    }
+    Ok(all)
+}
+
+/// Whether the help of a diagnostic says that no file of the command has a package.
+fn names_no_file(diagnostic: &Diagnostic) -> bool {
+    match &diagnostic.help {
+        Some(help) => help.as_str() == NO_FILE,
+        None => false,
+    }
+}
+
+/// A diagnostic whose help speaks of folders, and not of options.
+fn for_editor(alloc: Global, mut diagnostic: Diagnostic) -> Result<Diagnostic, AllocError> {
+    if names_no_file(&diagnostic) {
+        diagnostic.help = Some(String::from_str(alloc, NO_FILE_OF_FOLDERS)?);
+    }
+    Ok(diagnostic)
+}

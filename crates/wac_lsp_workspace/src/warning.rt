@@ -1,0 +1,48 @@
+//! What of a composition may not be meant.
+use indexmap::IndexMap;
+use std::alloc::{AllocError, Global};
+use wac_ast::Document;
+use wac_ast::internals::Statements;
+use wac_composition_warnings::warnings;
+use wac_diagnostics::Diagnostic;
+use wac_graph::CompositionGraph;
+use wac_graph_outputs::bound_places;
+use wac_lexer::SourceSpan;
+use wac_printer::Page;
+
+/// What of the graph of a text may not be meant.
+pub(crate) fn warnings_of(
+    alloc: Global,
+    text: &str,
+    graph: &CompositionGraph,
+) -> Result<Vec<Diagnostic>, AllocError> {
+    let places = places_of(alloc, text)?;
+    warnings(alloc, graph, &places)
+}
+
+/// The places in which the document of a text binds names.
+fn places_of(alloc: Global, text: &str) -> Result<IndexMap<String, SourceSpan>, AllocError> {
+    match Document::parse(alloc, text) {
+        Ok(document) => places_in(
+            Page {
+                document: &document,
+            },
+            alloc,
+        ),
+        // It was parsed before, so only memory runs out.
+        Err(_) => Err(AllocError),
+    }
+}
+
+fn places_in(
+    page: Page<'_, '_>,
+    alloc: Global,
+) -> Result<IndexMap<String, SourceSpan>, AllocError> {
+    let Page { document } = page;
+    bound_places(
+        alloc,
+        Statements {
+            all: &document.statements,
+        },
+    )
+}
