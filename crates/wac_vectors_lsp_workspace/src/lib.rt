@@ -1,11 +1,9 @@
 //! Tests of `wac_lsp_workspace`: which documents declare packages, what is wrong with documents of folders over files in
-//! memory, with texts that are open and with others, and where what they mention is declared.
+//! memory, with texts that are open and with others, and which names of packages complete.
 #![tactic(auto)]
 
 #[cfg(test)]
 mod changed;
-#[cfg(test)]
-mod declared;
 #[cfg(test)]
 mod folders;
 #[cfg(test)]
