@@ -19,7 +19,7 @@ use wac_recovery::{Attempt, Round, first_round};
 /// declares isn't told as an unknown one, and none is in a text with a rejected character. The error is that memory ran
 /// out.
 ///
-/// It takes the time of a parse for each fault, and of two more.
+/// It takes the time of a parse for each fault, and of two more unless only one is asked for.
 pub fn all_errors(
     alloc: Global,
     bytes: &[u8],
@@ -95,7 +95,7 @@ fn errors_of(
     ensures begins { IfOk result (λ found. BeginsWith known found.items) }
     ensures most { IfOk result (λ found. length found.items ≤ limit) }
 {
-    match first_of(alloc, text, known) {
+    match first_of(alloc, text, known, limit == 1) {
         Ok(First { finding, next }) => match later_errors(alloc, text, next, resolve, limit - 1) {
             Ok(later) => put_first(finding, later),
             Err(_) => Err(AllocError),

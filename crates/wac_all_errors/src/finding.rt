@@ -88,7 +88,7 @@ pub(crate) fn finding_of(
 }
 
 /// What is said of a fault.
-fn diagnostic_of(alloc: Global, fault: &Fault) -> Result<Diagnostic, AllocError> {
+pub(crate) fn diagnostic_of(alloc: Global, fault: &Fault) -> Result<Diagnostic, AllocError> {
     match fault {
         Fault::Parse(error) => parse_diagnostic(alloc, error),
         Fault::TooDeep(span) => nested_too_deep(alloc, *span),

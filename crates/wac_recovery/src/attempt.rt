@@ -4,7 +4,7 @@ use crate::statements::{Part, part_at};
 use std::alloc::{AllocError, Global};
 
 /// The directive that stands in for one that is missing or faulty.
-const STAND_IN: &str = "package a:b;";
+pub(crate) const STAND_IN: &str = "package a:b;";
 
 /// A source of which faulty statements are blanked.
 #[derive(Drop)]
@@ -80,8 +80,9 @@ impl Attempt {
         Ok(Attempt { text, skip })
     }
 
-    /// What is tried after a fault at a place: nothing where there is nothing to blank.
-    pub(crate) fn next(&self, alloc: Global, place: usize) -> Result<Option<Attempt>, AllocError>
+    /// What is tried after a fault at a place of its text: the text with the statement there blanked, or nothing where
+    /// there is nothing to blank. The error is that memory ran out.
+    pub fn next(&self, alloc: Global, place: usize) -> Result<Option<Attempt>, AllocError>
         ensures { IfOk result (λ found. option_map attempt_of found ≡ next (attempt_of self.now) place) }
     {
         match part_at(self.text.as_str(), place) {

@@ -9,12 +9,15 @@
 //! ```
 #![tactic(auto)]
 
+mod alone;
 mod attempt;
 mod blanked;
 mod fault;
 mod recovery;
 mod statements;
 
+pub use alone::fault_at;
 pub use attempt::Attempt;
 pub use fault::Fault;
 pub use recovery::{Recovery, Round, first_round, recover};
+pub use statements::begins_declaration;

@@ -82,8 +82,13 @@ fn begins_plain(item: LexerResult<Token>) -> bool
     )
 }
 
-/// Whether an item begins a declaration, which its braces end.
-fn begins_declaration(item: LexerResult<Token>) -> bool
+/// Whether an item begins a declaration: a statement that ends with the brace that closes its first one.
+///
+/// ```text
+/// begins_declaration(Ok(Token::InterfaceKeyword))      // true
+/// begins_declaration(Ok(Token::TypeKeyword))           // false: `;` ends it
+/// ```
+pub fn begins_declaration(item: LexerResult<Token>) -> bool
     ensures { result ≡ begins_declaration item }
 {
     matches!(

@@ -3,7 +3,7 @@
 use std::alloc::{AllocError, Global};
 use std::process::Abort;
 use std::test::Fail;
-use wac_recovery::{Fault, Recovery, recover};
+use wac_recovery::{Fault, Recovery, fault_at, recover};
 
 /// A text, how many faults are asked for, and a line `OFFSET+LEN MESSAGE` for each.
 type Row = (&'static str, usize, &'static str);
@@ -163,6 +163,39 @@ static TEXTS: [Row; 5] = [
     ),
 ];
 
+/// A text, a place, and the line of the fault that the statement there has there: empty where it has none.
+type PlaceRow = (&'static str, usize, &'static str);
+
+/// Faults of statements, be there others before them or not.
+static ALONE: [PlaceRow; 8] = [
+    (
+        "package a:b;\nlet = x;\nlet y = ;\n",
+        17,
+        "17+1 expected identifier, found `=`",
+    ),
+    (
+        "package a:b;\nlet = x;\nlet y = ;\n",
+        30,
+        "30+1 expected either `new` keyword, `(`, or identifier, found `;`",
+    ),
+    (
+        "package a:b;\nlet x = y",
+        21,
+        "21+1 expected `;`, found end of input",
+    ),
+    (
+        "package a:b; // \u{c}\nlet = z;\n",
+        16,
+        "16+1 disallowed control code '\\u{c}'",
+    ),
+    // The statement there has its fault elsewhere, or none.
+    ("package a:b;\nlet = x;\n", 15, ""),
+    ("package a:b;\nlet x = y;\n", 17, ""),
+    // The directive is no statement behind another one.
+    ("package a;\nlet = x;\n", 8, ""),
+    ("", 0, ""),
+];
+
 /// A fault as a line, without its end.
 pub(crate) fn line(alloc: Global, fault: &Fault) -> Result<String, AllocError> {
     let span = fault.span();
@@ -203,4 +236,21 @@ fn faults_are_found(rt: HostRuntime) -> Result<(), Fail> {
     are_found(&rt, rt.alloc(), &DIRECTIVES)?;
     are_found(&rt, rt.alloc(), &BRACES)?;
     are_found(&rt, rt.alloc(), &TEXTS)
+}
+
+/// The fault at a place of a text as a line: empty where there is none.
+fn line_at(alloc: Global, text: &str, place: usize) -> Result<String, AllocError> {
+    match fault_at(alloc, text, place)? {
+        Some(fault) => line(alloc, &fault),
+        None => Ok(String::new(alloc)),
+    }
+}
+
+#[test]
+fn statements_have_faults_alone(rt: HostRuntime) -> Result<(), Fail> {
+    for (text, place, expected) in &ALONE {
+        let found = line_at(rt.alloc(), text, *place)?;
+        assert!(rt; found.as_str() == *expected, "{text}\n{found}");
+    }
+    Ok(())
 }
