@@ -6,7 +6,9 @@ use Rattle.wac_completion.specs.Standing.{AreKinds}
 
 -- a letter, a digit, `-` or `%`
 abbrev pub is_word : ℕ → Bool
-is_word b = (nat_le 97 b && nat_le b 122) || ((nat_le 65 b && nat_le b 90) || ((nat_le 48 b && nat_le b 57) || (nat_eq b 45 || nat_eq b 37)))
+is_word b =
+    (nat_le 97 b && nat_le b 122) || ((nat_le 65 b && nat_le b 90) ||
+    ((nat_le 48 b && nat_le b 57) || (nat_eq b 45 || nat_eq b 37)))
 
 -- The word at the end of a text begins here: from here on there are its bytes alone, and before it none. It may be empty.
 pub record WordBegins (text : List ℕ) (at : ℕ) : Type 0 where
@@ -17,4 +19,6 @@ pub record WordBegins (text : List ℕ) (at : ℕ) : Type 0 where
 -- These are the kinds that can stand at an offset between two characters: behind the text before it, without the word at
 -- that text's end.
 abbrev pub AreKindsAt : List ℕ → ℕ → List Token → Type 0
-AreKindsAt source offset found = IsCharBoundary source offset → (at : ℕ) × WordBegins (take offset source) at × AreKinds (take at (take offset source)) found
+AreKindsAt source offset found =
+    IsCharBoundary source offset →
+    (at : ℕ) × WordBegins (take offset source) at × AreKinds (take at (take offset source)) found

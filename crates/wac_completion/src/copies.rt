@@ -5,6 +5,7 @@ use crate::names::Candidate;
 use std::alloc::{AllocError, Global};
 use wac_lexer::{Lexer, SourceSpan, Token};
 use wac_names::{Mention, Name, Names};
+use wac_recovery::begins_declaration;
 
 /// How the statement that was begun last goes on.
 #[derive(Clone, Copy)]
@@ -19,19 +20,6 @@ struct Begun {
     depth: usize,
 }
 
-/// Whether a token begins a declaration, which a brace ends.
-fn begins_declaration(token: Token) -> bool {
-    matches!(
-        token,
-        Token::InterfaceKeyword
-            | Token::WorldKeyword
-            | Token::VariantKeyword
-            | Token::RecordKeyword
-            | Token::FlagsKeyword
-            | Token::EnumKeyword
-    )
-}
-
 impl Begun {
     /// The statement that a token at an offset begins, or belongs to.
     fn at(self, token: Token, offset: usize) -> Begun {
@@ -41,7 +29,7 @@ impl Begun {
         Begun {
             start: offset,
             goes_on: true,
-            declares: begins_declaration(token),
+            declares: begins_declaration(Ok(token)),
             depth: 0,
         }
     }

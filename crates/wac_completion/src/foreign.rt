@@ -1,8 +1,9 @@
 //! Which names of foreign packages an offset asks for.
 
 use crate::front::before;
+use crate::names::text_of;
 use std::alloc::{AllocError, Global};
-use wac_lexer::{Lexer, SourceSpan, Token};
+use wac_lexer::{Lexer, Token};
 
 /// What of a foreign package can stand at an offset.
 #[derive(Drop)]
@@ -64,7 +65,7 @@ struct Lexeme<'t> {
 }
 
 /// The text of a token, if it is of this kind.
-fn text_of(lexeme: Option<Lexeme<'_>>, token: Token) -> Option<&str> {
+fn text_if(lexeme: Option<Lexeme<'_>>, token: Token) -> Option<&str> {
     match lexeme {
         Some(found) if found.token == token => Some(found.text),
         _ => None,
@@ -91,14 +92,14 @@ impl<'t> Recent<'t> {
 
     /// What a brace behind them encloses.
     fn opened(self) -> Opened<'t> {
-        if text_of(self.second, Token::NewKeyword).is_some() {
-            return match text_of(self.last, Token::PackageName) {
+        if text_if(self.second, Token::NewKeyword).is_some() {
+            return match text_if(self.last, Token::PackageName) {
                 Some(package) => Opened::Arguments(package),
                 None => Opened::Other,
             };
         }
-        let is_use = text_of(self.first, Token::UseKeyword).is_some();
-        match text_of(self.second, Token::PackagePath) {
+        let is_use = text_if(self.first, Token::UseKeyword).is_some();
+        match text_if(self.second, Token::PackagePath) {
             Some(path) if is_use => Opened::Uses(path),
             _ => Opened::Other,
         }
@@ -106,7 +107,7 @@ impl<'t> Recent<'t> {
 
     /// Whether the last one is of this kind.
     fn ends_with(self, token: Token) -> bool {
-        text_of(self.last, token).is_some()
+        text_if(self.last, token).is_some()
     }
 }
 
@@ -241,12 +242,12 @@ fn exporting<'t>(
     closed: Option<&'t str>,
     instances: &[Instance<'t>],
 ) -> Option<&'t str> {
-    text_of(recent.last, Token::Dot)?;
-    if text_of(recent.second, Token::CloseBrace).is_some() {
+    text_if(recent.last, Token::Dot)?;
+    if text_if(recent.second, Token::CloseBrace).is_some() {
         return closed;
     }
-    let name = text_of(recent.second, Token::Ident)?;
-    if text_of(recent.first, Token::Dot).is_some() {
+    let name = text_if(recent.second, Token::Ident)?;
+    if text_if(recent.first, Token::Dot).is_some() {
         return None;
     }
     package_of(instances, name)
@@ -284,12 +285,6 @@ fn asked(reader: Reader<'_>) -> Option<Foreign<'_>> {
     within(braces.pop()?)
 }
 
-/// The text that a span of another one has.
-fn slice(text: &str, span: SourceSpan) -> &str {
-    let end = span.offset().saturating_add(span.len());
-    text.get(span.offset()..end).unwrap_or("")
-}
-
 /// Which names of a foreign package can stand at an offset in bytes, as its tokens say it. A word that touches the offset
 /// from the left is cut off first.
 ///
@@ -315,7 +310,7 @@ pub fn foreign_at<'t>(
     let mut reader = Reader::new(alloc);
     while let Some((item, span)) = lexer.next() {
         if let Ok(token) = item {
-            let text = slice(text, span);
+            let text = text_of(text, span);
             reader.take(Lexeme { token, text })?;
         }
     }

@@ -10,9 +10,6 @@ use crate::word::begins_with;
 use crate::written::written;
 use indexmap::IndexSet;
 use std::alloc::{AllocError, Global};
-use wac_ast::Document;
-use wac_ast::internals::Statements;
-use wac_ast_base::Error;
 use wac_lexer::{Lexer, SourceSpan, Token};
 use wac_names::{Kind, Name, Names};
 
@@ -29,35 +26,6 @@ impl Candidate {
     /// The name as a text has it in its span.
     pub(crate) fn text_in<'t>(&self, text: &'t str) -> &'t str {
         text_of(text, self.span)
-    }
-}
-
-/// A document that is lent.
-struct Lent<'d, 'a> {
-    document: &'d Document<'a>,
-}
-
-/// The names of a document that is lent, and of this text.
-fn names_in(lent: Lent<'_, '_>, alloc: Global, text: &str) -> Result<Names, AllocError> {
-    let Lent { document } = lent;
-    let statements = Statements {
-        all: &document.statements,
-    };
-    Names::of(alloc, text, &document.directive, statements)
-}
-
-/// The names of a text. `None` where it is no document.
-fn names_of(alloc: Global, text: &str) -> Result<Option<Names>, AllocError> {
-    match Document::parse(alloc, text) {
-        Ok(document) => {
-            let lent = Lent {
-                document: &document,
-            };
-            let names = names_in(lent, alloc, text)?;
-            Ok(Some(names))
-        }
-        Err(Error::Memory(_)) => Err(AllocError),
-        Err(_) => Ok(None),
     }
 }
 
@@ -84,7 +52,7 @@ fn is_type(kind: Kind) -> bool {
 }
 
 /// What a text has in a span. It is empty where the span isn't one of the text.
-fn text_of(text: &str, span: SourceSpan) -> &str {
+pub(crate) fn text_of(text: &str, span: SourceSpan) -> &str {
     let end = span.offset().saturating_add(span.len());
     text.get(span.offset()..end).unwrap_or("")
 }
@@ -169,7 +137,7 @@ fn standing(alloc: Global, closed: &Closed, names: &[Candidate]) -> Result<Found
     let tried = last_names(names, most_copies(text.len().saturating_sub(start)));
     let is_complete = tried.len() == names.len();
     let copies = Copies::new(alloc, closed, start, tried)?;
-    let all = match names_of(alloc, copies.text.as_str())? {
+    let all = match Names::of_text(alloc, copies.text.as_str())? {
         Some(names) => copies.candidates(alloc, &names)?,
         None => Vec::new(alloc),
     };
@@ -203,7 +171,7 @@ fn names_behind(alloc: Global, text: &str, word: &str) -> Result<Found, AllocErr
     let Some(closed) = close(alloc, text)? else {
         return no_names(alloc);
     };
-    match names_of(alloc, closed.text.as_str())? {
+    match Names::of_text(alloc, closed.text.as_str())? {
         Some(names) => {
             let mut found = candidates(alloc, &closed, &names.bindings, word)?;
             if ends_in_use(text) {

@@ -1,5 +1,5 @@
 -- The places of a name.
-use Rattle.std.specs.Prelude.{◌≡◌, ◌≢◌, ℕ, ◌-◌, List, [], IsTrue, All, find}
+use Rattle.std.specs.Prelude.{◌≡◌, ◌≢◌, ◌⊎◌, ℕ, ◌-◌, List, [], IsTrue, All, find}
 use Rattle.std.specs.Option.{option_map_or}
 use Rattle.wac_lexer.specs.Reading.{Slices}
 use Rattle.wac_lexer.specs.Span.{Span, span}
@@ -32,3 +32,14 @@ pub record AreOccurrences (source : List ℕ) (offset : ℕ) (o : Occurrences) :
   pub used : All (IsAlike source o.bound) o.used.items
   pub at : o.at ≡ at_of offset o.bound o.used.items
   pub touches : IsTrue (touches offset o.at)
+
+-- the name at an offset is bound here
+pub record IsBoundAt (source : List ℕ) (offset : ℕ) (bound : Span) : Type 0 where
+  pub name : Occurrences
+  pub is_there : AreOccurrences source offset name
+  pub bound_here : name.bound ≡ bound
+
+-- the name at an offset is used in these places: in none, if a name that is bound isn't there
+abbrev pub AreUsesAt : List ℕ → ℕ → List Span → Type 0
+AreUsesAt source offset used =
+    (used ≡ []) ⊎ ((name : Occurrences) × AreOccurrences source offset name × (name.used.items ≡ used))

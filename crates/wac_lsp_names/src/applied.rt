@@ -1,6 +1,6 @@
 //! Whether edits changed nothing but a name.
 use crate::edits::{Edit, edited, moved};
-use crate::reading::{Reading, names_of};
+use crate::reading::Reading;
 use crate::refusals::{RenameError, Stopped};
 use std::alloc::Global;
 use wac_lexer::SourceSpan;
@@ -80,7 +80,7 @@ pub(crate) fn test_edits(
     let Some(text) = edited(alloc, reading.text.as_str(), edits)? else {
         return Err(Stopped::Refused(RenameError::Unsure));
     };
-    let Some(after) = names_of(alloc, text.as_str())? else {
+    let Some(after) = Names::of_text(alloc, text.as_str())? else {
         return Err(Stopped::Refused(RenameError::Unsure));
     };
     match names_fault(edits, &reading.names, &after, number) {

@@ -24,7 +24,6 @@ mod includes;
 mod lexed;
 mod occurrences;
 mod origins;
-mod parts;
 mod reading;
 mod refusals;
 mod renaming;

@@ -2,13 +2,12 @@
 ghost use Rattle.std.specs.Prelude.{◌≡◌, All, IfOk, IfSome, IsTrue, find, map, option_copied};
 ghost use Rattle.wac_lexer.specs.Reading.{Slices};
 ghost use Rattle.wac_names.specs.Places.{touches};
-ghost use Rattle.wac_lsp_names.specs.Occurrences.{AreOccurrences, IsAlike, IsNamed, at_of, back};
+ghost use Rattle.wac_lsp_names.specs.Occurrences.{AreOccurrences, AreUsesAt, IsAlike, IsBoundAt, IsNamed, at_of, back};
 
-use crate::parts::{is_same, touches};
 use crate::reading::{Reading, read};
 use std::alloc::{AllocError, Global};
 use wac_lexer::SourceSpan;
-use wac_names::name_in;
+use wac_names::{is_same, name_in, touches};
 
 /// A name that is at an offset: where it is there, where it is bound and where it is used.
 #[derive(Drop)]
@@ -145,7 +144,10 @@ pub fn definition_at(
     source: &str,
     offset: usize,
 ) -> Result<Option<SourceSpan>, AllocError>
-    ensures { IfOk result (λ found. IfSome found (Slices source.now)) }
+    // It lies in the source.
+    ensures slices { IfOk result (λ found. IfSome found (Slices source.now)) }
+    // It is where `occurrences_at` finds the name bound.
+    ensures bound { IfOk result (λ found. IfSome found (IsBoundAt source.now offset)) }
 {
     match occurrences_at(alloc, source, offset)? {
         Some(found) => Ok(Some(found.bound)),
@@ -154,13 +156,16 @@ pub fn definition_at(
 }
 
 /// Where the name at an offset is used: nowhere where there is none. The error is that memory ran out.
-#[tactic(auto, using(crate::proofs::Spans::uses_lie_in))]
+#[tactic(auto, using(crate::proofs::Spans::uses_lie_in, crate::proofs::Spans::used_at, crate::proofs::Spans::unused))]
 pub fn references_at(
     alloc: Global,
     source: &str,
     offset: usize,
 ) -> Result<Vec<SourceSpan>, AllocError>
-    ensures { IfOk result (λ all. All (Slices source.now) all.items) }
+    // Each lies in the source.
+    ensures slices { IfOk result (λ all. All (Slices source.now) all.items) }
+    // They are those that `occurrences_at` finds.
+    ensures used { IfOk result (λ all. AreUsesAt source.now offset all.items) }
 {
     match occurrences_at(alloc, source, offset)? {
         Some(found) => Ok(found.used),

@@ -1,13 +1,8 @@
 //! A document as it is read: its text without faulty statements, its tokens and its names.
 use crate::lexed::{Lexed, number_at, tokens_of};
-use crate::parts::without_percent;
 use std::alloc::{AllocError, Global};
-use wac_ast::Document;
-use wac_ast::internals::Statements;
-use wac_ast_base::Error;
-use wac_comments_layout::too_deep;
 use wac_lexer::SourceSpan;
-use wac_names::{Kind, Name, Names};
+use wac_names::{Kind, Name, Names, without_percent};
 use wac_recovery::{Recovery, recover};
 
 /// How many faulty statements are blanked at most.
@@ -38,51 +33,6 @@ fn most_faults(text: &str) -> usize {
     }
 }
 
-/// A document that is lent. The prover follows it through a call at far less cost than a bare one.
-#[derive(Clone, Copy)]
-struct Lent<'d, 'a> {
-    document: &'d Document<'a>,
-}
-
-/// The names of the document of a text.
-fn names_in(lent: Lent<'_, '_>, alloc: Global, text: &str) -> Result<Option<Names>, AllocError> {
-    let Lent { document } = lent;
-    let statements = Statements {
-        all: &document.statements,
-    };
-    let names = Names::of(alloc, text, &document.directive, statements)?;
-    Ok(Some(names))
-}
-
-/// There are no names where a text is rejected. That memory ran out is an error.
-fn no_names(error: Error) -> Result<Option<Names>, AllocError> {
-    match error {
-        Error::Memory(_) => Err(AllocError),
-        _ => Ok(None),
-    }
-}
-
-/// The names of the document of a text whose brackets aren't nested too deep.
-fn names_of_flat(alloc: Global, text: &str) -> Result<Option<Names>, AllocError> {
-    match Document::parse(alloc, text) {
-        Ok(document) => {
-            let lent = Lent {
-                document: &document,
-            };
-            names_in(lent, alloc, text)
-        }
-        Err(error) => no_names(error),
-    }
-}
-
-/// The names of the document of a text, if it has a tree, and its brackets aren't nested deeper than is parsed.
-pub(crate) fn names_of(alloc: Global, text: &str) -> Result<Option<Names>, AllocError> {
-    match too_deep(text) {
-        Some(_) => Ok(None),
-        None => names_of_flat(alloc, text),
-    }
-}
-
 /// What is left of a text without its faulty statements, which are blanked.
 #[derive(Drop)]
 struct Left {
@@ -104,7 +54,7 @@ fn blanked(alloc: Global, source: &str) -> Result<Left, AllocError> {
 /// Reads what is left of a text, if it is a document.
 fn read_left(alloc: Global, left: Left) -> Result<Option<Reading>, AllocError> {
     let Left { text, skip } = left;
-    let Some(names) = names_of(alloc, text.as_str())? else {
+    let Some(names) = Names::of_text(alloc, text.as_str())? else {
         return Ok(None);
     };
     let tokens = tokens_of(alloc, text.as_str())?;

@@ -9,14 +9,13 @@ use crate::edits::Edit;
 use crate::entries::entries_of;
 use crate::forms::Renaming;
 use crate::occurrences::{Occurrences, occurrences_in};
-use crate::parts::without_percent;
 use crate::reading::{Reading, read};
 use crate::refusals::{RenameError, Stopped};
 use crate::sound::{Change, are_sound};
 use crate::spelling::name_fault;
 use crate::taken::{is_blanked_word, scope_fault};
 use std::alloc::{AllocError, Global};
-use wac_names::name_in;
+use wac_names::{name_in, without_percent};
 
 /// Where a name is bound and used, in the order of the text.
 fn offsets_of(alloc: Global, found: &Occurrences) -> Result<Vec<usize>, AllocError>

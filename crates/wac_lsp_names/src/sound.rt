@@ -4,10 +4,9 @@ ghost use Rattle.wac_names.specs.Places.{name_in};
 ghost use Rattle.wac_lsp_names.specs.Edits.{AddsOld, AreEdits, AreSound, GivesNew, IsEdit, IsWritten, Joins, Keeps, PutsNew, renamed_offsets};
 
 use crate::edits::Edit;
-use crate::parts::{is_same, without_percent};
 use std::alloc::{AllocError, Global};
 use wac_lexer::SourceSpan;
-use wac_names::name_in;
+use wac_names::{is_same, name_in, without_percent};
 
 /// A name of a source that is to get another one.
 #[derive(Clone, Copy)]

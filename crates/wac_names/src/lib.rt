@@ -2,9 +2,7 @@
 //!
 //! ```text
 //! let source = "package a:b; import log: func(); export log;";
-//! let document = Document::parse(alloc, source)?;
-//! let statements = Statements { all: &document.statements };
-//! let names = Names::of(alloc, source, &document.directive, statements)?;
+//! let names = Names::of_text(alloc, source)?.unwrap();      // `None` where the text is no document
 //! let name = names.definition_at(40);             // `log` of the import, at 20+3
 //! let uses = names.references_at(alloc, 20)?;     // `log` of the export, at 40+3
 //! ```
@@ -21,10 +19,11 @@ mod interfaces;
 mod names;
 mod paths;
 mod place;
+mod texts;
 mod tied;
 mod types;
 mod uses;
 mod worlds;
 
-pub use names::{Kind, Mention, Name, Names};
-pub use tied::name_in;
+pub use names::{Kind, Mention, Name, Names, touches};
+pub use tied::{is_same, name_in, without_percent};

@@ -82,7 +82,7 @@ pub struct Names {
 }
 
 /// Whether an offset is in a span or just behind it.
-fn touches(span: SourceSpan, offset: usize) -> bool
+pub fn touches(span: SourceSpan, offset: usize) -> bool
     ensures { result ≡ touches offset span }
 {
     let start = span.offset();

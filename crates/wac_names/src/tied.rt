@@ -29,7 +29,7 @@ fn text_in(source: &str, span: SourceSpan) -> &str
 }
 
 /// The text without a leading `%`.
-fn without_percent(text: &str) -> &str
+pub fn without_percent(text: &str) -> &str
     ensures { result.now ≡ without_percent text.now }
 {
     text.strip_prefix('%').unwrap_or(text)
@@ -50,7 +50,7 @@ pub fn name_in(source: &str, span: SourceSpan) -> Option<&str>
 
 /// Whether two texts are the same.
 #[tactic(auto, using(wac_lexer::proofs::Texts::bytes_eq_is))]
-fn is_same(text: &str, other: &str) -> bool
+pub fn is_same(text: &str, other: &str) -> bool
     ensures { IsTrue result → text.now ≡ other.now }
 {
     text == other

@@ -1,0 +1,75 @@
+//! Names of texts.
+ghost use Rattle.std.specs.Prelude.{◌≡◌, IfOk, IfSome, None};
+ghost use Rattle.wac_names.specs.Places.{AreTied};
+
+use crate::names::Names;
+use std::alloc::{AllocError, Global};
+use wac_ast::Document;
+use wac_ast::internals::Statements;
+use wac_ast_base::Error;
+use wac_comments_layout::too_deep;
+
+/// A document that is lent. The prover follows it through a call at far less cost than a bare one.
+#[derive(Clone, Copy)]
+struct Lent<'d, 'a> {
+    document: &'d Document<'a>,
+}
+
+/// The names of the document of a text.
+fn names_in(lent: Lent<'_, '_>, alloc: Global, text: &str) -> Result<Option<Names>, AllocError>
+    ensures { IfOk result (λ found. IfSome found (AreTied text.now)) }
+{
+    let Lent { document } = lent;
+    let statements = Statements {
+        all: &document.statements,
+    };
+    match Names::of(alloc, text, &document.directive, statements) {
+        Ok(names) => Ok(Some(names)),
+        Err(_) => Err(AllocError),
+    }
+}
+
+/// There are no names where a text is rejected. That memory ran out is an error.
+fn no_names(error: Error) -> Result<Option<Names>, AllocError>
+    ensures { IfOk result (λ found. found ≡ None) }
+{
+    match error {
+        Error::Memory(_) => Err(AllocError),
+        _ => Ok(None),
+    }
+}
+
+/// The names of a text whose brackets aren't nested too deep, if it is a document.
+fn names_of_flat(alloc: Global, text: &str) -> Result<Option<Names>, AllocError>
+    ensures { IfOk result (λ found. IfSome found (AreTied text.now)) }
+{
+    match Document::parse(alloc, text) {
+        Ok(document) => {
+            let lent = Lent {
+                document: &document,
+            };
+            names_in(lent, alloc, text)
+        }
+        Err(error) => no_names(error),
+    }
+}
+
+impl Names {
+    ghost use Rattle.std.specs.Prelude.{IfOk, IfSome};
+    ghost use Rattle.wac_names.specs.Places.{AreTied};
+
+    /// The names of a text, as `of` finds them. `None` where the text is no document, or its brackets are nested deeper than
+    /// is parsed. The error is that memory ran out.
+    ///
+    /// ```text
+    /// let names = Names::of_text(alloc, "package a:b; let x = y;")?;      // `x` is bound, and `y` stands for nothing
+    /// ```
+    pub fn of_text(alloc: Global, text: &str) -> Result<Option<Names>, AllocError>
+        ensures { IfOk result (λ found. IfSome found (AreTied text.now)) }
+    {
+        match too_deep(text) {
+            Some(_) => Ok(None),
+            None => names_of_flat(alloc, text),
+        }
+    }
+}
