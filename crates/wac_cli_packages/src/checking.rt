@@ -1,13 +1,14 @@
 // `wacx check --packages`.
 ghost use Rattle.std.specs.Prelude.{◌≡◌};
 
-use crate::graphs::warnings_of;
+use crate::graphs::text_of;
 use crate::options::{Given, Setting};
 use crate::supply::{Supply, read_supply};
 use crate::verdicts::first_error_of;
 use std::alloc::{AllocError, Global};
 use std::io::Write;
 use wac_cli_console::{Console, Outcome, Status, Task, finish};
+use wac_composition_warnings::warnings_of;
 use wac_diagnostics::Diagnostic;
 use wac_files::{FileError, FileSystem, Found, find_files};
 use wac_graph::CompositionGraph;
@@ -173,7 +174,7 @@ fn warn<O: Write + Drop, E: Write + Drop>(
     bytes: &[u8],
     graph: &CompositionGraph,
 ) -> Result<Outcome, AllocError> {
-    let found = warnings_of(setting.alloc, bytes, graph)?;
+    let found = warnings_of(setting.alloc, text_of(bytes), graph)?;
     report_each(console, setting, path, bytes, found.as_slice())?;
     Ok(Outcome::Good)
 }

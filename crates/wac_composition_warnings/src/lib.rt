@@ -4,5 +4,7 @@
 mod cases;
 mod conflicts;
 mod finding;
+mod places;
 
 pub use finding::warnings;
+pub use places::warnings_of;

@@ -246,8 +246,11 @@ impl FolderContents {
         Ok(())
     }
 
-    /// Notes that a file couldn't be read.
+    /// Notes that a file couldn't be read. That memory ran out is no fault of the file.
     fn pass_over(&mut self, alloc: Global, path: &str, error: FileError) -> Result<(), AllocError> {
+        if matches!(error, FileError::OutOfMemory) {
+            return Err(AllocError);
+        }
         self.passed_over
             .push(format!(in alloc; "{path}: {error}")?)?;
         Ok(())

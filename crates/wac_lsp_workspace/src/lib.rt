@@ -24,7 +24,6 @@ mod searching;
 mod sources;
 mod telling;
 mod walk;
-mod warning;
 mod workspace;
 
 pub use contents::{FolderContents, read_folders};

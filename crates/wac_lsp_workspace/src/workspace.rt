@@ -11,12 +11,23 @@ use wac_graph::{Package, PackageKey};
 /// The folders that a client has open, and the packages that their documents and components have.
 ///
 /// They are made anew where a text changes that declares one, or did before: neither reads a file.
-#[derive(Drop)]
 pub struct Workspace {
     folders: Vec<String>,
     sources: Vec<Source>,
     components: Vec<ComponentPackage>,
     packages: Packages,
+}
+
+// Written out, so that those who drop one need not follow its parts.
+impl Drop for Workspace {
+    fn drop(self) {
+        let Workspace {
+            folders: _,
+            sources: _,
+            components: _,
+            packages: _,
+        } = self;
+    }
 }
 
 /// The documents of files, with what is open of them.

@@ -1,17 +1,18 @@
-//! What of a composition may not be meant.
+//! The same warnings of a text whose graph is known: the text is parsed anew for the places of its names.
+use crate::finding::warnings;
 use indexmap::IndexMap;
 use std::alloc::{AllocError, Global};
 use wac_ast::Document;
 use wac_ast::internals::Statements;
-use wac_composition_warnings::warnings;
 use wac_diagnostics::Diagnostic;
 use wac_graph::CompositionGraph;
 use wac_graph_outputs::bound_places;
 use wac_lexer::SourceSpan;
 use wac_printer::Page;
 
-/// What of the graph of a text may not be meant.
-pub(crate) fn warnings_of(
+/// What of the graph of a text may not be meant, as `warnings` finds it, at the places in which the text binds names. The
+/// text is one that was resolved to this graph. The error is that memory ran out.
+pub fn warnings_of(
     alloc: Global,
     text: &str,
     graph: &CompositionGraph,
@@ -34,6 +35,7 @@ fn places_of(alloc: Global, text: &str) -> Result<IndexMap<String, SourceSpan>, 
     }
 }
 
+/// The places in which a document binds names.
 fn places_in(
     page: Page<'_, '_>,
     alloc: Global,
