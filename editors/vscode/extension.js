@@ -90,14 +90,17 @@ let server;
 
 exports.activate = async ({ subscriptions }) => {
     const errors = vscode.languages.createDiagnosticCollection('wac');
-    server = connect(vscode.workspace.getConfiguration('wac').get('program'), (method, { uri, diagnostics }) => {
+    const settings = vscode.workspace.getConfiguration('wac');
+    server = connect(settings.get('program'), (method, { uri, diagnostics }) => {
         if (method === 'textDocument/publishDiagnostics') {
             errors.set(vscode.Uri.parse(uri), diagnostics.map(toDiagnostic));
         }
     });
     const folders = (vscode.workspace.workspaceFolders ?? []).map(({ uri, name }) => ({ uri: uri.toString(), name }));
     const rootUri = folders.length ? folders[0].uri : null;
-    await server.request('initialize', { processId: process.pid, rootUri, workspaceFolders: folders, capabilities: {} });
+    const initializationOptions = { errorsPage: settings.get('errorsPage') };
+    const client = { processId: process.pid, rootUri, workspaceFolders: folders, initializationOptions };
+    await server.request('initialize', { ...client, capabilities: {} });
     server.notify('initialized', {});
     follow(server, subscriptions);
     watch(server, subscriptions);

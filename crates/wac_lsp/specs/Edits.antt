@@ -7,11 +7,14 @@ use Rattle.wac_lsp_messages.specs.declared.notice.Range.{Range}
 use Rattle.wac_lsp_messages.specs.declared.notice.Change.{Change}
 
 abbrev pub position_data : Place → Data
-position_data place = object (member (codes "character") (number (unsigned place.column)) (member (codes "line") (number (unsigned place.line)) no_members))
+position_data place =
+    object (member (codes "character") (number (unsigned place.column))
+    (member (codes "line") (number (unsigned place.line)) no_members))
 
 -- from one place to another
 abbrev pub between_data : Place → Place → Data
-between_data start end = object (member (codes "end") (position_data end) (member (codes "start") (position_data start) no_members))
+between_data start end =
+    object (member (codes "end") (position_data end) (member (codes "start") (position_data start) no_members))
 
 abbrev pub range_data : Option Range → Data
 range_data None = null
@@ -19,7 +22,9 @@ range_data (Some range) = between_data range.start range.end
 
 -- a change as an edit of the protocol
 abbrev pub edit_data : Change → Data
-edit_data change = object (member (codes "newText") (string (string_bytes change.text)) (member (codes "range") (range_data change.range) no_members))
+edit_data change =
+    object (member (codes "newText") (string (string_bytes change.text))
+    (member (codes "range") (range_data change.range) no_members))
 
 abbrev pub edits_data : List Change → Data
 edits_data changes = array (items_of (map edit_data changes))

@@ -33,7 +33,8 @@ pub record Puts (uri text : List ℕ) (old new : List Document) : Type 0 where
   pub last : new ≡ others uri old ++ document ∷ []
 
 -- the changes make this text of that of the document of a name
-pub record Makes (unit : ColumnUnit) (uri : List ℕ) (changes : List Change) (documents : List Document) (after : List ℕ) : Type 0 where
+pub record Makes (unit : ColumnUnit) (uri : List ℕ) (changes : List Change)
+    (documents : List Document) (after : List ℕ) : Type 0 where
   pub before : List ℕ
   pub found : text_in uri documents ≡ Some before
   pub makes : Changes unit before changes after
@@ -41,7 +42,8 @@ pub record Makes (unit : ColumnUnit) (uri : List ℕ) (changes : List Change) (d
 -- the document of a name has the text that the changes make of its old one; where there is none, all stay
 abbrev pub Remakes : ColumnUnit → List ℕ → List Change → List Document → List Document → Type 0
 Remakes unit uri changes old new =
-    MatchOption (text_in uri old) (new ≡ old) (λ before. (after : List ℕ) × Changes unit before changes after × Puts uri after old new)
+    MatchOption (text_in uri old) (new ≡ old)
+    (λ before. (after : List ℕ) × Changes unit before changes after × Puts uri after old new)
 
 -- what a notification makes of the open documents
 abbrev pub Leaves : ColumnUnit → Notice → List Document → List Document → Type 0

@@ -10,7 +10,8 @@ use Rattle.wac_lsp.specs.declared.server.Phase.{Phase}
 use Rattle.wac_lsp.specs.declared.server.Sent.{Sent}
 
 -- it is what `answer` does after a message that the body is
-pub record Steps (phase : Phase) (unit : ColumnUnit) (body : List ℕ) (old new : List Document) (sent : List Sent) : Type 0 where
+pub record Steps (phase : Phase) (unit : ColumnUnit) (body : List ℕ)
+    (old new : List Document) (sent : List Sent) : Type 0 where
   pub message : Message
   pub is_in : IsMessageIn body message
   pub ids : replies sent ≡ replied_to message

@@ -1,13 +1,14 @@
 //! What mends a part of a document.
 use crate::diagnostics::{diagnostic_value, errors};
 use crate::places::{Part, View};
+use crate::questions::Subject;
 use serde_json::{Value, json};
 use std::alloc::{AllocError, Global};
 use wac_all_errors::Finding;
 use wac_lexer::SourceSpan;
 use wac_lsp_messages::Range;
 use wac_lsp_texts::offset_at;
-use wac_positions::{ColumnUnit, Lines};
+use wac_positions::Lines;
 
 /// Whether a part has a place in common with a span.
 fn touches(part: Part, span: SourceSpan) -> bool {
@@ -39,7 +40,7 @@ fn edit_value(
 fn action_value(
     alloc: Global,
     view: &View<'_>,
-    uri: &str,
+    about: &Subject<'_>,
     finding: &Finding,
 ) -> Result<Option<Value>, AllocError> {
     let Some(change) = &finding.edit else {
@@ -48,8 +49,8 @@ fn action_value(
     let Some(title) = &finding.diagnostic.help else {
         return Ok(None);
     };
-    let edit = edit_value(alloc, view, uri, change.span, change.text.as_str())?;
-    let diagnostic = diagnostic_value(alloc, view, uri, &finding.diagnostic)?;
+    let edit = edit_value(alloc, view, about.uri, change.span, change.text.as_str())?;
+    let diagnostic = diagnostic_value(alloc, view, about, &finding.diagnostic)?;
     let action = json!(in alloc; {
         "title": title,
         "kind": "quickfix",
@@ -63,14 +64,14 @@ fn action_value(
 fn actions_value(
     alloc: Global,
     view: &View<'_>,
-    uri: &str,
+    about: &Subject<'_>,
     part: Part,
     found: &[Finding],
 ) -> Result<Value, AllocError> {
     let mut actions = Vec::new(alloc);
     for finding in found {
         if is_in(finding, part) {
-            if let Some(action) = action_value(alloc, view, uri, finding)? {
+            if let Some(action) = action_value(alloc, view, about, finding)? {
                 actions.push(action)?;
             }
         }
@@ -81,11 +82,11 @@ fn actions_value(
 /// The changes that mend what is wrong in a part of a text.
 pub(crate) fn actions(
     alloc: Global,
-    uri: &str,
-    text: &str,
+    about: &Subject<'_>,
     range: Range,
-    unit: ColumnUnit,
 ) -> Result<Value, AllocError> {
+    let text = about.text;
+    let unit = about.unit;
     let found = match errors(alloc, text) {
         Ok(found) => found,
         Err(_) => return Err(AllocError),
@@ -95,5 +96,5 @@ pub(crate) fn actions(
     let end = offset_at(&lines, text.len(), range.end, unit).unwrap_or(0);
     let part = Part { start, end };
     let view = View::new(alloc, text, unit)?;
-    actions_value(alloc, &view, uri, part, found.as_slice())
+    actions_value(alloc, &view, about, part, found.as_slice())
 }

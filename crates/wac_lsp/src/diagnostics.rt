@@ -1,13 +1,12 @@
 //! What is wrong with a document, as a notification.
-use crate::documents::Document;
 use crate::places::View;
+use crate::questions::Subject;
 use serde_json::{Value, json};
 use std::alloc::{AllocError, Global};
 use wac_all_errors::{Finding, all_errors};
 use wac_diagnostics::{Diagnostic, Note, Severity};
 use wac_lexer::SourceSpan;
 use wac_lsp_messages::notification;
-use wac_positions::ColumnUnit;
 
 /// How many errors of a document are told, where it isn't long.
 const MOST: usize = 100;
@@ -77,8 +76,32 @@ fn range_of(alloc: Global, view: &View<'_>, diagnostic: &Diagnostic) -> Result<V
     }
 }
 
-/// A diagnostic as a value.
-pub(crate) fn diagnostic_value(
+/// The place of a code on a page: a heading's anchor is its text without colons.
+fn href_of(alloc: Global, page: &str, code: &str) -> Result<String, AllocError> {
+    let mut href = format!(in alloc; "{page}#")?;
+    for part in code.split(':') {
+        href.push_str(part)?;
+    }
+    Ok(href)
+}
+
+/// Adds where the code of a diagnostic is explained.
+fn put_description(
+    alloc: Global,
+    value: &mut Value,
+    page: &str,
+    code: &str,
+) -> Result<(), AllocError> {
+    let href = href_of(alloc, page, code)?;
+    let description = json!(in alloc; {"href": href})?;
+    if let Some(members) = value.as_object_mut() {
+        members.insert(String::from_str(alloc, "codeDescription")?, description)?;
+    }
+    Ok(())
+}
+
+/// A diagnostic as a value, but for where its code is explained.
+fn plain_value(
     alloc: Global,
     view: &View<'_>,
     uri: &str,
@@ -99,16 +122,30 @@ pub(crate) fn diagnostic_value(
     })
 }
 
+/// A diagnostic as a value.
+pub(crate) fn diagnostic_value(
+    alloc: Global,
+    view: &View<'_>,
+    about: &Subject<'_>,
+    diagnostic: &Diagnostic,
+) -> Result<Value, AllocError> {
+    let mut value = plain_value(alloc, view, about.uri, diagnostic)?;
+    if let Some(page) = about.errors_page {
+        put_description(alloc, &mut value, page, diagnostic.code)?;
+    }
+    Ok(value)
+}
+
 /// The diagnostics of errors, as a value.
 fn diagnostics_value(
     alloc: Global,
-    view: &View<'_>,
-    uri: &str,
+    about: &Subject<'_>,
     found: &[Finding],
 ) -> Result<Value, AllocError> {
+    let view = View::new(alloc, about.text, about.unit)?;
     let mut all = Vec::new(alloc);
     for finding in found {
-        all.push(diagnostic_value(alloc, view, uri, &finding.diagnostic)?)?;
+        all.push(diagnostic_value(alloc, &view, about, &finding.diagnostic)?)?;
     }
     Ok(Value::Array(all))
 }
@@ -116,48 +153,60 @@ fn diagnostics_value(
 /// Diagnostics as a value.
 fn others_value(
     alloc: Global,
-    view: &View<'_>,
-    uri: &str,
+    about: &Subject<'_>,
     found: &[Diagnostic],
 ) -> Result<Value, AllocError> {
+    let view = View::new(alloc, about.text, about.unit)?;
     let mut all = Vec::new(alloc);
     for diagnostic in found {
-        all.push(diagnostic_value(alloc, view, uri, diagnostic)?)?;
+        all.push(diagnostic_value(alloc, &view, about, diagnostic)?)?;
     }
     Ok(Value::Array(all))
+}
+
+/// The notification that tells the diagnostics of a document.
+fn publication_of(
+    alloc: Global,
+    uri: &str,
+    version: i64,
+    diagnostics: Value,
+) -> Result<String, AllocError> {
+    let params = json!(in alloc; {"uri": uri, "version": version, "diagnostics": diagnostics})?;
+    notification(alloc, PUBLISH, params)
 }
 
 /// Other diagnostics of a document than those of its text alone, as a notification.
 pub(crate) fn published_others(
     alloc: Global,
-    document: &Document,
-    unit: ColumnUnit,
+    about: &Subject<'_>,
+    version: i64,
     found: &[Diagnostic],
 ) -> Result<String, AllocError> {
-    let uri = document.uri();
-    let version = document.version;
-    let view = View::new(alloc, document.text(), unit)?;
-    let diagnostics = others_value(alloc, &view, uri, found)?;
-    let params = json!(in alloc; {"uri": uri, "version": version, "diagnostics": diagnostics})?;
-    notification(alloc, PUBLISH, params)
+    let diagnostics = others_value(alloc, about, found)?;
+    publication_of(alloc, about.uri, version, diagnostics)
 }
 
-/// The diagnostics of a document, as a notification.
+/// The errors of the text of a document, as a notification.
+pub(crate) fn published_errors(
+    alloc: Global,
+    about: &Subject<'_>,
+    version: i64,
+    found: &[Finding],
+) -> Result<String, AllocError> {
+    let diagnostics = diagnostics_value(alloc, about, found)?;
+    publication_of(alloc, about.uri, version, diagnostics)
+}
+
+/// What is wrong with the text of a document, as a notification.
 pub(crate) fn published(
     alloc: Global,
-    uri: &str,
+    about: &Subject<'_>,
     version: i64,
-    text: &str,
-    unit: ColumnUnit,
 ) -> Result<String, AllocError> {
-    let found = match errors(alloc, text) {
-        Ok(found) => found,
-        Err(_) => return Err(AllocError),
-    };
-    let view = View::new(alloc, text, unit)?;
-    let diagnostics = diagnostics_value(alloc, &view, uri, found.as_slice())?;
-    let params = json!(in alloc; {"uri": uri, "version": version, "diagnostics": diagnostics})?;
-    notification(alloc, PUBLISH, params)
+    match errors(alloc, about.text) {
+        Ok(found) => published_errors(alloc, about, version, found.as_slice()),
+        Err(_) => Err(AllocError),
+    }
 }
 
 /// That a document that was closed has no diagnostics.

@@ -24,6 +24,8 @@ pub(crate) struct Subject<'d> {
     pub(crate) unit: ColumnUnit,
     /// Whether symbols are told within symbols.
     pub(crate) nests_symbols: bool,
+    /// The URI of the page that explains the codes of errors, if the client named one.
+    pub(crate) errors_page: Option<&'d str>,
 }
 
 /// What is asked, where it isn't refused.
@@ -54,7 +56,7 @@ pub(crate) fn answer_question(
         Question::SelectionRanges(places) => {
             found(selections(alloc, text, places.as_slice(), unit))
         }
-        Question::CodeActions(range) => found(actions(alloc, uri, text, *range, unit)),
+        Question::CodeActions(range) => found(actions(alloc, about, *range)),
         Question::Completions(place) => found(completed(alloc, text, *place, unit, &[])),
         Question::Definition(place) => found(definition(alloc, about, *place)),
         Question::References(place, with) => found(references(alloc, about, *place, *with)),

@@ -31,13 +31,28 @@ enum Phase {
 }
 
 /// The state of a server.
-#[derive(Drop)]
 pub struct Server {
     phase: Phase,
     version: &'static str,
     unit: ColumnUnit,
     nests_symbols: bool,
+    /// The URI of the page that explains the codes of errors, if the client named one.
+    errors_page: Option<String>,
     documents: Vec<Document>,
+}
+
+// Written out, so that those who drop one need not follow its parts.
+impl Drop for Server {
+    fn drop(self) {
+        let Server {
+            phase: _,
+            version: _,
+            unit: _,
+            nests_symbols: _,
+            errors_page: _,
+            documents: _,
+        } = self;
+    }
 }
 
 /// A message of a server.
@@ -113,6 +128,7 @@ impl Server {
             version,
             unit: ColumnUnit::Utf16,
             nests_symbols: false,
+            errors_page: None,
             documents: Vec::new(alloc),
         }
     }
@@ -137,12 +153,29 @@ impl Server {
         self.unit
     }
 
+    /// A document of this name and this text, for what is told of it.
+    pub(crate) fn about<'d>(&'d self, uri: &'d str, text: &'d str) -> Subject<'d> {
+        Subject {
+            uri,
+            text,
+            unit: self.unit,
+            nests_symbols: self.nests_symbols,
+            errors_page: match &self.errors_page {
+                Some(page) => Some(page.as_str()),
+                None => None,
+            },
+        }
+    }
+
     /// Takes what the client says of itself, and tells what the server can do.
-    fn initialize(&mut self, alloc: Global, client: Initialize) -> Result<Value, AllocError>
+    fn initialize(&mut self, alloc: Global, client: &Initialize) -> Result<Value, AllocError>
         ensures { self.new.documents.items ≡ self.old.documents.items }
     {
         self.phase = Phase::Running;
         self.nests_symbols = client.nests_symbols;
+        if let Some(page) = &client.errors_page {
+            self.errors_page = Some(String::from_str(alloc, page.as_str())?);
+        }
         self.unit = if client.counts_bytes {
             ColumnUnit::Bytes
         } else {
@@ -166,12 +199,7 @@ impl Server {
         let Some(text) = text_of(self.documents.as_slice(), uri) else {
             return Ok(Err(NOT_OPEN));
         };
-        let about = Subject {
-            uri,
-            text,
-            unit: self.unit,
-            nests_symbols: self.nests_symbols,
-        };
+        let about = self.about(uri, text);
         answer_question(alloc, &about, question)
     }
 
@@ -188,7 +216,7 @@ impl Server {
         ensures { self.new.documents.items ≡ self.old.documents.items }
     {
         match call {
-            Call::Initialize(Some(client)) => match self.initialize(alloc, *client) {
+            Call::Initialize(Some(client)) => match self.initialize(alloc, client) {
                 Ok(value) => Ok(Ok(value)),
                 Err(_) => Err(AllocError),
             },
@@ -266,7 +294,7 @@ impl Server {
         ensures puts { OnOk result
             (Puts (string_bytes uri) (string_bytes text) self.old.documents.items self.new.documents.items) }
     {
-        let told = published(alloc, uri.as_str(), version, text.as_str(), self.unit)?;
+        let told = published(alloc, &self.about(uri.as_str(), text.as_str()), version)?;
         put(&mut self.documents, Document { uri, version, text })?;
         Ok(told)
     }
@@ -317,9 +345,8 @@ impl Server {
     {
         let mut messages = Vec::new(alloc);
         for document in self.documents.as_slice() {
-            let uri = document.uri.as_str();
-            let text = document.text.as_str();
-            let body = published(alloc, uri, document.version, text, self.unit)?;
+            let about = self.about(document.uri(), document.text());
+            let body = published(alloc, &about, document.version)?;
             messages.push(Sent::Notification { body })?;
         }
         Ok(Outcome {
@@ -361,7 +388,7 @@ impl Server {
 }
 
 /// An outcome in which a reply is sent, and the server goes on.
-fn sends_reply(alloc: Global, id: Option<Id>, body: String) -> Result<Outcome, AllocError>
+pub fn sends_reply(alloc: Global, id: Option<Id>, body: String) -> Result<Outcome, AllocError>
     requires { IsReplyTo id (string_bytes body) }
     ensures ids { IfOk result (λ outcome. replies outcome.messages.items ≡ id ∷ []) }
     ensures written { IfOk result (λ outcome. AreReplies outcome.messages.items) }

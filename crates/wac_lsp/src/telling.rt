@@ -1,6 +1,6 @@
 //! What a caller that knows more than the open documents tells of them.
 use crate::completing::{Suggestion, completed};
-use crate::diagnostics::{errors, published, published_others};
+use crate::diagnostics::{errors, published_errors, published_others};
 use crate::documents::Document;
 use crate::navigation::location;
 use crate::places::View;
@@ -31,12 +31,12 @@ impl Server {
         document: &Document,
         others: &[Diagnostic],
     ) -> Result<String, AllocError> {
-        let text = document.text();
-        match errors(alloc, text) {
+        let about = self.about(document.uri(), document.text());
+        match errors(alloc, about.text) {
             Ok(found) if found.is_empty() => {
-                published_others(alloc, document, self.unit(), others)
+                published_others(alloc, &about, document.version, others)
             }
-            Ok(_) => published(alloc, document.uri(), document.version, text, self.unit()),
+            Ok(found) => published_errors(alloc, &about, document.version, found.as_slice()),
             Err(_) => Err(AllocError),
         }
     }

@@ -6,7 +6,7 @@ use serde_json::Value;
 use std::alloc::{AllocError, Global};
 
 /// What a client says of itself.
-#[derive(Clone, Copy, Debug, PartialEq, Eq)]
+#[derive(Debug, Drop)]
 pub struct Initialize {
     /// The process that the server ends with, where there is one.
     pub process_id: Option<i64>,
@@ -14,6 +14,8 @@ pub struct Initialize {
     pub counts_bytes: bool,
     /// Whether the client takes symbols within symbols.
     pub nests_symbols: bool,
+    /// The URI of the page that explains the codes of errors, if the client's options name one as `errorsPage`.
+    pub errors_page: Option<String>,
 }
 
 /// What a client asks for.
@@ -65,17 +67,35 @@ fn nests_symbols(capabilities: &Value) -> Option<bool> {
     field(symbol, "hierarchicalDocumentSymbolSupport")?.as_bool()
 }
 
-/// What a client says of itself, if the parameters are an object with capabilities.
-fn read_initialize(params: &Value) -> Option<Initialize> {
-    let capabilities = field(params, "capabilities")?;
-    if !capabilities.is_object() {
-        return None;
+/// The page that explains the codes of errors, if the client's options name one.
+fn errors_page(alloc: Global, params: &Value) -> Result<Option<String>, AllocError> {
+    match field(params, "initializationOptions") {
+        Some(options) => owned_text(alloc, options, "errorsPage"),
+        None => Ok(None),
     }
-    Some(Initialize {
+}
+
+/// The capabilities of a client, if they are an object.
+fn capabilities_in(params: &Value) -> Option<&Value> {
+    let capabilities = field(params, "capabilities")?;
+    if capabilities.is_object() {
+        Some(capabilities)
+    } else {
+        None
+    }
+}
+
+/// What a client says of itself, if the parameters have its capabilities.
+fn read_initialize(alloc: Global, params: &Value) -> Result<Option<Initialize>, AllocError> {
+    let Some(capabilities) = capabilities_in(params) else {
+        return Ok(None);
+    };
+    Ok(Some(Initialize {
         process_id: field(params, "processId").and_then(Value::as_i64),
         counts_bytes: counts_bytes(capabilities),
         nests_symbols: nests_symbols(capabilities).unwrap_or(false),
-    })
+        errors_page: errors_page(alloc, params)?,
+    }))
 }
 
 /// What open documents declare.
@@ -105,7 +125,7 @@ pub(crate) fn read_call(
     params: &Value,
 ) -> Result<CallResult, AllocError> {
     match method {
-        "initialize" => Ok(Ok(Call::Initialize(read_initialize(params)))),
+        "initialize" => Ok(Ok(Call::Initialize(read_initialize(alloc, params)?))),
         "shutdown" => Ok(Ok(Call::Shutdown)),
         "workspace/symbol" => read_workspace_symbols(alloc, params),
         _ => read_about(alloc, method, params),

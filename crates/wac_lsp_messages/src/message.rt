@@ -1,8 +1,8 @@
 //! The messages of a client.
-ghost use Rattle.std.specs.Prelude.{◌≡◌, IfOk, IsUtf8, Some, codes, option_map};
+ghost use Rattle.std.specs.Prelude.{◌≡◌, IfOk, IsTrue, IsUtf8, Some, codes, option_map};
 ghost use Rattle.serde_json.specs.Read.{read};
 ghost use Rattle.serde_json.specs.View.{view};
-ghost use Rattle.wac_lsp_messages.specs.Meaning.{IsMessageIn, IsMessageOf, text_in};
+ghost use Rattle.wac_lsp_messages.specs.Meaning.{HasOutcome, IsMessageIn, IsMessageOf, text_in};
 
 use crate::call::{Call, read_call};
 use crate::fields::{field, text};
@@ -86,8 +86,10 @@ fn message_of(alloc: Global, value: &Value) -> Result<Message, AllocError>
     }
 }
 
-/// Whether a value is a reply.
-fn is_reply(value: &Value) -> bool {
+/// Whether a value says what became of a request.
+fn is_reply(value: &Value) -> bool
+    ensures { IsTrue result → HasOutcome (view value.now) }
+{
     field(value, "result").is_some() || field(value, "error").is_some()
 }
 

@@ -2,7 +2,6 @@
 use serde_json::Value;
 use std::alloc::{AllocError, Global};
 use wac_lsp::{Document, Server, Suggestion};
-use wac_lsp_messages::{Call, Question};
 use wac_lsp_workspace::{Offer, Offered, Workspace};
 use wac_positions::Place;
 
@@ -30,7 +29,7 @@ fn suggestions(alloc: Global, offers: &[Offer]) -> Result<Vec<Suggestion<'_>>, A
 }
 
 /// What can stand at a place of a document, if that is a name of a package of the folders.
-fn completed_at(
+pub(crate) fn completed_at(
     alloc: Global,
     server: &Server,
     workspace: &Workspace,
@@ -45,25 +44,4 @@ fn completed_at(
     let suggestions = suggestions(alloc, offers.as_slice())?;
     let value = server.completions(alloc, document, place, suggestions.as_slice())?;
     Ok(Some(value))
-}
-
-/// What a request gets that asks what can stand at a place: nothing where it asks for something else, or where no name of
-/// a package of the folders can stand there.
-pub(crate) fn completed_by(
-    alloc: Global,
-    server: &Server,
-    workspace: &Workspace,
-    call: &Call,
-) -> Result<Option<Value>, AllocError> {
-    let Call::Document {
-        uri,
-        question: Question::Completions(place),
-    } = call
-    else {
-        return Ok(None);
-    };
-    match server.document(uri.as_str()) {
-        Some(document) => completed_at(alloc, server, workspace, document, *place),
-        None => Ok(None),
-    }
 }

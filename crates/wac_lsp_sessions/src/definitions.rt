@@ -3,7 +3,6 @@ use serde_json::Value;
 use std::alloc::{AllocError, Global};
 use wac_lsp::{Document, Server};
 use wac_lsp_folders::uri_of_path;
-use wac_lsp_messages::{Call, Question};
 use wac_lsp_workspace::{Declaration, Workspace};
 use wac_positions::Place;
 
@@ -26,7 +25,7 @@ fn location(
 }
 
 /// Where what a document names at a place is declared, if a document of the folders declares it.
-fn declared_at(
+pub(crate) fn declared_at(
     alloc: Global,
     server: &Server,
     workspace: &Workspace,
@@ -38,26 +37,5 @@ fn declared_at(
         Ok(Some(declaration)) => Ok(Some(location(alloc, server, &declaration)?)),
         Ok(None) => Ok(None),
         Err(_) => Err(AllocError),
-    }
-}
-
-/// What a request gets that asks where something of a package is declared: nothing where it asks for something else, or
-/// where no document of the folders declares that.
-pub(crate) fn declared_by(
-    alloc: Global,
-    server: &Server,
-    workspace: &Workspace,
-    call: &Call,
-) -> Result<Option<Value>, AllocError> {
-    let Call::Document {
-        uri,
-        question: Question::Definition(place),
-    } = call
-    else {
-        return Ok(None);
-    };
-    match server.document(uri.as_str()) {
-        Some(document) => declared_at(alloc, server, workspace, document, *place),
-        None => Ok(None),
     }
 }

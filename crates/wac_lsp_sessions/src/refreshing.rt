@@ -37,7 +37,7 @@ fn published(
 }
 
 /// What is told of each open document.
-#[tactic(auto, using(crate::proofs::Sending::notified, crate::proofs::Sending::still_replies))]
+#[tactic(auto, using(wac_lsp::proofs::Sending::notified, wac_lsp::proofs::Sending::still_replies))]
 pub(crate) fn all_published(
     alloc: Global,
     server: &Server,

@@ -1,27 +1,37 @@
 //! A session: a server, and what is known of the folders that its client has open.
-ghost use Rattle.std.specs.Prelude.{◌≡◌, [], ◌∷◌, IfOk, Some, string_bytes};
-ghost use Rattle.wac_lsp_messages.specs.Replying.{IsReplyTo};
+ghost use Rattle.std.specs.Prelude.{◌≡◌, [], ◌∷◌, IfOk, Some};
 ghost use Rattle.wac_lsp.specs.Replies.{AreReplies, replied_to, replies};
 ghost use Rattle.wac_lsp_sessions.specs.Answering.{Answers};
 
-use crate::completions::completed_by;
-use crate::definitions::declared_by;
+use crate::completions::completed_at;
+use crate::definitions::declared_at;
 use crate::refreshing::{all_published, logged, said_of};
 use crate::watching::{Touched, touched_by, watch_request, watches_files};
+use serde_json::Value;
 use std::alloc::{AllocError, Global};
-use wac_lsp::{Outcome, Sent, Server, answer};
+use wac_lsp::{Outcome, Sent, Server, answer, sends_reply};
 use wac_lsp_folders::{client_folders, path_of_uri};
-use wac_lsp_messages::{Call, Id, Message, Notice, Refusal, read_message, reply};
+use wac_lsp_messages::{Call, Id, Message, Notice, Question, Refusal, read_message, reply};
 use wac_lsp_texts::ChangeError;
 use wac_lsp_workspace::{FolderContents, Workspace};
 
 /// A server, and what is known of the folders that its client has open.
-#[derive(Drop)]
 pub struct Session {
     server: Server,
     workspace: Workspace,
     /// Whether the client takes that it is asked to watch files.
     watches_files: bool,
+}
+
+// Written out, so that those who drop one need not follow its parts.
+impl Drop for Session {
+    fn drop(self) {
+        let Session {
+            server: _,
+            workspace: _,
+            watches_files: _,
+        } = self;
+    }
 }
 
 /// What a session does after a message.
@@ -78,20 +88,6 @@ fn sends_one(alloc: Global, body: String) -> Result<Vec<Sent>, AllocError>
     let mut messages = Vec::new(alloc);
     messages.push(Sent::Notification { body })?;
     Ok(messages)
-}
-
-/// The reply to a request, with what it asked for.
-fn sends_value(alloc: Global, id: Id, body: String) -> Result<Outcome, AllocError>
-    requires { IsReplyTo (Some id) (string_bytes body) }
-    ensures ids { IfOk result (λ outcome. replies outcome.messages.items ≡ Some id ∷ []) }
-    ensures written { IfOk result (λ outcome. AreReplies outcome.messages.items) }
-{
-    let mut messages = Vec::new(alloc);
-    messages.push(Sent::Reply { id: Some(id), body })?;
-    Ok(Outcome {
-        messages,
-        status: None,
-    })
 }
 
 impl Session {
@@ -166,10 +162,21 @@ impl Session {
 
     /// What a request gets that asks where something is declared, or what can stand at a place, if a package of the folders
     /// has the answer.
-    fn asked(&self, alloc: Global, call: &Call) -> Result<Option<serde_json::Value>, AllocError> {
-        match declared_by(alloc, &self.server, &self.workspace, call)? {
-            Some(value) => Ok(Some(value)),
-            None => completed_by(alloc, &self.server, &self.workspace, call),
+    fn asked(&self, alloc: Global, call: &Call) -> Result<Option<Value>, AllocError> {
+        let Call::Document { uri, question } = call else {
+            return Ok(None);
+        };
+        let Some(document) = self.server.document(uri.as_str()) else {
+            return Ok(None);
+        };
+        match question {
+            Question::Definition(place) => {
+                declared_at(alloc, &self.server, &self.workspace, document, *place)
+            }
+            Question::Completions(place) => {
+                completed_at(alloc, &self.server, &self.workspace, document, *place)
+            }
+            _ => Ok(None),
         }
     }
 
@@ -178,7 +185,7 @@ impl Session {
         &self,
         alloc: Global,
         call: &Result<Call, Refusal>,
-    ) -> Result<Option<serde_json::Value>, AllocError> {
+    ) -> Result<Option<Value>, AllocError> {
         match call {
             Ok(call) if self.server.is_running() => self.asked(alloc, call),
             _ => Ok(None),
@@ -198,7 +205,7 @@ impl Session {
         match self.declared(alloc, &call)? {
             Some(value) => {
                 let body = reply(alloc, &id, value)?;
-                Ok(stays(sends_value(alloc, id, body)?))
+                Ok(stays(sends_reply(alloc, Some(id), body)?))
             }
             None => {
                 let message = Message::Request { id, call };
@@ -336,7 +343,7 @@ impl Session {
 
     /// Takes what was read of the folders. Returns the messages that are sent then: the files that were passed over, and
     /// what is wrong with each open document.
-    #[tactic(auto, using(crate::proofs::Sending::notified, crate::proofs::Sending::still_replies))]
+    #[tactic(auto, using(wac_lsp::proofs::Sending::notified, wac_lsp::proofs::Sending::still_replies))]
     pub fn take(&mut self, alloc: Global, contents: FolderContents) -> Result<Vec<Sent>, AllocError>
         ensures ids { IfOk result (λ messages. replies messages.items ≡ []) }
         ensures written { IfOk result (λ messages. AreReplies messages.items) }

@@ -47,7 +47,7 @@ static WRONG: [Row; 15] = [
 ];
 
 /// Requests, and those that are refused.
-static REQUESTS: [Row; 41] = [
+static REQUESTS: [Row; 43] = [
     (
         "{\"id\":8,\"method\":\"textDocument/definition\",\"params\":{\"textDocument\":{\"uri\":\"x\"},\"position\":{\"line\":2,\"character\":7}}}",
         "request 8 definition x 2 7",
@@ -110,19 +110,27 @@ static REQUESTS: [Row; 41] = [
     ),
     (
         "{\"id\":1,\"method\":\"initialize\",\"params\":{\"processId\":17,\"capabilities\":{}}}",
-        "request 1 initialize 17 utf-16 flat",
+        "request 1 initialize 17 utf-16 flat -",
     ),
     (
         "{\"id\":1,\"method\":\"initialize\",\"params\":{\"processId\":null,\"capabilities\":{\"general\":{\"positionEncodings\":[\"utf-32\",\"utf-8\",\"utf-16\"]}}}}",
-        "request 1 initialize - utf-8 flat",
+        "request 1 initialize - utf-8 flat -",
     ),
     (
         "{\"id\":1,\"method\":\"initialize\",\"params\":{\"processId\":null,\"capabilities\":{\"general\":{\"positionEncodings\":[\"utf-16\",\"utf-8\"]},\"textDocument\":{\"documentSymbol\":{\"hierarchicalDocumentSymbolSupport\":true}}}}}",
-        "request 1 initialize - utf-16 nested",
+        "request 1 initialize - utf-16 nested -",
     ),
     (
         "{\"id\":1,\"method\":\"initialize\",\"params\":{\"processId\":null,\"capabilities\":{\"general\":{\"positionEncodings\":[\"utf-32\"]}}}}",
-        "request 1 initialize - utf-16 flat",
+        "request 1 initialize - utf-16 flat -",
+    ),
+    (
+        "{\"id\":1,\"method\":\"initialize\",\"params\":{\"capabilities\":{},\"initializationOptions\":{\"errorsPage\":\"https://e.org/e\"}}}",
+        "request 1 initialize - utf-16 flat https://e.org/e",
+    ),
+    (
+        "{\"id\":1,\"method\":\"initialize\",\"params\":{\"capabilities\":{},\"initializationOptions\":{\"errorsPage\":7}}}",
+        "request 1 initialize - utf-16 flat -",
     ),
     (
         "{\"id\":1,\"method\":\"initialize\"}",
@@ -288,9 +296,13 @@ fn initialize_words(alloc: Global, found: &Initialize) -> Result<String, AllocEr
     } else {
         "flat"
     };
+    let page = match &found.errors_page {
+        Some(page) => page.as_str(),
+        None => "-",
+    };
     match found.process_id {
-        Some(process) => format!(in alloc; "initialize {process} {encoding} {symbols}"),
-        None => format!(in alloc; "initialize - {encoding} {symbols}"),
+        Some(process) => format!(in alloc; "initialize {process} {encoding} {symbols} {page}"),
+        None => format!(in alloc; "initialize - {encoding} {symbols} {page}"),
     }
 }
 
