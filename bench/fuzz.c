@@ -1,5 +1,5 @@
 /* Calls the library for C with texts that were changed at random, each with every word and for its graph, in a thread
- * with a stack of 4 MB, which graphs need. bench/fuzz compiles and runs it:
+ * with a stack of 512 KB. bench/fuzz compiles and runs it:
  *
  *     fuzz CORPUS COMPONENTS COUNT SEED SECONDS LAST SAMPLE EVERY
  *
@@ -32,7 +32,7 @@
 #define MOST_BYTES (MOST_PACKAGES * 2 * (LONGEST + 8))
 /* The room for a message. */
 #define MESSAGE 4096
-#define STACK (4 << 20)
+#define STACK (512 << 10)
 /* The memory that a call may take: so many times the bytes that it is given, and 1 MB; with components, what the limits
  * of decoding allow, whatever their length is. */
 #define TIMES 512

@@ -67,9 +67,9 @@ typedef struct {
 /* Puts into `out` what a word makes of a text, or into `message` why it makes nothing of it, and says in *answer which.
  *
  * Brackets may nest as deep as the limit, a brace counting as two levels and each other bracket as one. A limit of 0
- * stands for 256, for which a thread with a stack of 512 KB suffices here; wac_graph needs 4 MB. Types that name one
- * another in a chain, as in type b = list<a>; type c = list<b>; are no such nesting: comparing two of them takes 700
- * bytes of stack for each type of the chain (bench/README.md).
+ * stands for 256, for which a thread with a stack of 512 KB suffices. Types that name one another in a chain, as in
+ * type b = list<a>; type c = list<b>; are no such nesting: comparing two of them takes 700 bytes of stack for each type
+ * of the chain (bench/README.md).
  *
  * The text, `out`, `message` and *answer don't overlap. No pointer is null, not where its length is 0 either, and none
  * is used after the call. Bytes of `out` and `message` that aren't written stay as they are, and what *answer holds
@@ -78,8 +78,7 @@ void wac_run(uint32_t word, size_t limit, const uint8_t *text, size_t text_lengt
              uint8_t *message, size_t message_room, wac_answer *answer);
 
 /* Puts into `out` the graph that a document describes by the component model's rules, as one JSON object on a line
- * (docs/GRAPH.md), or into `message` why there is none; else as wac_run. Each instance in an argument of another takes
- * 27 KB of stack where its package is handed over: a thread needs 4 MB for 256 levels of brackets.
+ * (docs/GRAPH.md), or into `message` why there is none; else as wac_run.
  *
  * The document may mention the packages that are handed over, in any order. They are frames, one after another: a length
  * of eight bytes, lowest first, and then so many bytes. A package is a frame with a document that declares it

@@ -232,8 +232,20 @@ static uint32_t run_chains(void) {
     return answer.status;
 }
 
+/* Makes instances that are arguments of one another, as deep as the usual limit allows. */
+static uint32_t run_instances(void) {
+    static const char package[] = "package c:d; world w { import e: func(); export f: func(); }";
+    uint8_t frame[sizeof package + 7] = {sizeof package - 1}, none[1];
+    wac_answer answer;
+    memcpy(frame + 8, package, sizeof package - 1);
+    char *text = nested("package a:b; import y: func(); let x = ", "new c:d { e: ", "y", " }.f", 128);
+    wac_graph(0, (uint8_t *)text, strlen(text), frame, sizeof frame, none, 0, none, 0, &answer);
+    free(text);
+    return answer.status;
+}
+
 static void *run_deep(void *status) {
-    if (run_chains() != WAC_WELL)
+    if (run_chains() != WAC_WELL || run_instances() != WAC_WELL)
         *(int *)status = 1;
     uint8_t out[1], message[1];
     wac_answer answer;

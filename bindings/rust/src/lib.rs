@@ -14,7 +14,7 @@
 //! ```
 //!
 //! Any thread may call, and several at once. Brackets may nest 256 deep, a brace counting as two, for which a stack of
-//! 512 KB suffices, and for [`graph`] one of 4 MB; [`run`] takes another limit.
+//! 512 KB suffices; [`run`] takes another limit.
 #![warn(missing_docs)]
 
 mod ffi;
