@@ -1,2 +1,3 @@
+pub mod Common
 pub mod Declaring
 pub mod Told

@@ -1,3 +1,4 @@
+pub mod Common
 pub mod Failing
 pub mod Faults
 pub mod Words

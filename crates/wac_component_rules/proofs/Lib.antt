@@ -1,3 +1,4 @@
+pub mod Common
 pub mod Turning
 pub mod PartRows
 pub mod SideRows

@@ -1,2 +1,3 @@
+pub mod Common
 pub mod Groups
 pub mod Unread

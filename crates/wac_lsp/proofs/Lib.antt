@@ -1,3 +1,4 @@
+pub mod Common
 pub mod Edited
 pub mod Laid
 pub mod Remade

@@ -1,3 +1,4 @@
+pub mod Common
 mod Following
 mod Giving
 pub mod Spans

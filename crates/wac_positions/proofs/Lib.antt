@@ -1,3 +1,4 @@
+pub mod Common
 pub mod Columns
 pub mod Counting
 pub mod LinesAt

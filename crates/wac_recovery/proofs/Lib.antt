@@ -1,3 +1,4 @@
+pub mod Common
 pub mod Blanking
 pub mod Faulting
 pub mod Rejecting

@@ -1,3 +1,4 @@
+pub mod Common
 pub mod Putting
 pub mod NodeLines
 pub mod Rows

@@ -1,4 +1,5 @@
-use Rattle.std.proofs.Common.{sym, ◌∙◌}
+use Rattle.wac_comments.proofs.Common.{◌∙◌}
+use Rattle.std.proofs.Common.{sym}
 use Rattle.wac_comments.proofs.Alike.{is_refusal}
 use Rattle.wac_comments.proofs.tidying.format_text.Goals as goal
 

@@ -1,0 +1,13 @@
+-- The words that proofs of this crate cite, given on from one place. Declares nothing.
+pub use Rattle.std.proofs.Common.{Bool, Err, List, None, Ok, Option, Result, Some, [], ap, arith, cond, drop, false, get_or, inl, inr, is_some, length, ltb, map, refl, rules, subst, suc, sym, true, zero, ℕ, ◌+◌, ◌<◌, ◌∙◌, ◌∷◌, ◌≡◌, ◌≤◌, ◌⊎◌}
+pub use Rattle.std.specs.Prelude.{IfErr, IfOk, OnOk, String, option_map, slice_get}
+pub use Rattle.wac_ast.specs.Statements.{document_of, statement_of}
+pub use Rattle.wac_ast_grammar.specs.TextTree.{IsTreeOf}
+pub use Rattle.wac_declared_packages.specs.Declaring.{Breaks, IsDeclaredBy, IsGraphOf, IsRefused, IsUnresolved}
+pub use Rattle.wac_declared_packages.specs.Refusing.{IsDeclaration, IsOfResolving, IsUnmade, first_other, other_place}
+pub use Rattle.wac_declared_packages.specs.Together.{AreCopiesOf, AreDeclared, AreFrom, EachHasPackage, HasMentioned, HasPackage, IsDeclared, IsOneOf, IsThere, IsWhole, Puts, Supplies, by_copy, by_text, declared_key, found, now_of, under, world_chosen}
+pub use Rattle.wac_graph.proofs.Keys.{keys_same, other_key}
+pub use Rattle.wac_graph.specs.Package.{Key, key_of, same_key}
+pub use Rattle.wac_graph.specs.declared.package_key.PackageKey.{PackageKey}
+pub use Rattle.wac_graph_types.specs.Package.{PackageParts}
+pub use Rattle.wac_resolution_paths.proofs.Keys.{keyed_found}
