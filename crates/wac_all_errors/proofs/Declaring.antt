@@ -1,10 +1,15 @@
 -- One item after another that may declare a name.
-use Rattle.wac_all_errors.proofs.Common.{◌≡◌, refl, sym, ap, ◌∙◌, ℕ, List, [], ◌∷◌, Bool, true, false, ◌&&◌, ◌||◌, Option, Some, None, Result, not, slice, Span, Diagnostic, IsUndeclared, declared_among, declares_next, is_blank_at, same_name, SaysSame}
+use Rattle.std.proofs.Common.{◌≡◌, refl, sym, ap, ◌∙◌, ℕ, List, [], ◌∷◌, Bool, true, false, ◌&&◌, ◌||◌, Option, Some, None, Result, not}
 use Rattle.std.specs.Str.{bytes_eq}
 use Rattle.std.proofs.lemmas.Slice.Eq.{bytes_eq-Decides}
 use Rattle.wac_lexer.specs.Item.{Item, Handed, handed, behind_first, OnFirst}
+use Rattle.wac_lexer.specs.Reading.{slice}
+use Rattle.wac_lexer.specs.Span.{Span}
 use Rattle.wac_lexer.specs.declared.token.Token.{Token}
 use Rattle.wac_lexer.specs.declared.error.Error.{Error}
+use Rattle.wac_diagnostics.specs.declared.diagnostic.Diagnostic.{Diagnostic}
+use Rattle.wac_all_errors.specs.Naming.{IsUndeclared, declared_among, declares_next, is_blank_at, same_name}
+use Rattle.wac_all_errors.specs.Telling.{SaysSame}
 
 -- what is found at an item, by its token, its place, its text and the items after it
 abbrev pub found_at : List ℕ → List ℕ → Bool → Result Token Error → ℕ → List ℕ → List Item → Bool

@@ -1,3 +1,2 @@
-pub mod Common
 pub mod Declaring
 pub mod Told

@@ -1,11 +1,14 @@
 -- What is told of bytes by their verdict.
-use Rattle.wac_all_errors.proofs.Common.{◌≡◌, ◌∙◌, subst, ℕ, ◌<◌, List, [], ◌∷◌, Bool, Option, Result, Ok, Err, IfOk, inl, inr, Span, Diagnostic, BeginsWith, IsTold, SaysSame}
+use Rattle.std.proofs.Common.{◌≡◌, ◌∙◌, subst, ℕ, ◌<◌, List, [], ◌∷◌, Bool, Option, Result, Ok, Err, IfOk, inl, inr}
 use Rattle.std.specs.Prelude.{Vec}
 use Rattle.std.specs.declared.alloc.Global.{Global}
+use Rattle.wac_lexer.specs.Span.{Span}
 use Rattle.wac_diagnostics.specs.Reports.{Says}
+use Rattle.wac_diagnostics.specs.declared.diagnostic.Diagnostic.{Diagnostic}
 use Rattle.wac_first_error.specs.Verdicts.{IsVerdict}
 use Rattle.wac_first_error.specs.declared.first.Verdict.{Verdict}
 use Rattle.wac_first_error.specs.declared.first.Verdict.TheVariants as verdicts
+use Rattle.wac_all_errors.specs.Telling.{BeginsWith, IsTold, SaysSame}
 use Rattle.wac_all_errors.specs.declared.finding.Finding.{Finding}
 
 says_so : (code message : List ℕ) (at : Option Span) (known told : Diagnostic) → Says code message at known → SaysSame known told → Says code message at told

@@ -1,16 +1,26 @@
 -- What is reported of a rejection, from where reading its part stopped.
 use Rattle.std.proofs.Common.{◌≡◌, suc, List, [], ◌∷◌, ◌++◌, length, map, take, Option, Some, None, Result, Ok, Err, Bool, true, false, cond, refl, sym as back, ap, subst, ◌∙◌, ◌⊎◌, inl, inr, arith}
-use Rattle.wac_ast_base.proofs.Common.{alloc_error, Span, Item, Reading, left, Token, is_token, at, Sym, argument, Body, TreeOf, Error, Told, told_by, faulty, empty_type, no_memory, expected, refusal, End, end_of_input, end_span, body_name, part_name, version_told, told_at, told, told_in, Gives}
+use Rattle.std.specs.Prelude.{alloc_error}
 use Rattle.std.proofs.lemmas.List.{append-nil}
+use Rattle.wac_lexer.specs.Span.{Span}
+use Rattle.wac_lexer.specs.Item.{Item}
+use Rattle.wac_lexer.specs.Reading.{Reading, left}
+use Rattle.wac_lexer.specs.declared.token.Token.{Token}
 use Rattle.wac_lexer.specs.declared.token.Token.TheVariants as t
 use Rattle.wac_lexer.specs.declared.error.Error.{Error as Fault}
+use Rattle.wac_ast_grammar.specs.Tokens.{is_token, at}
+use Rattle.wac_ast_grammar.specs.Grammar.{Sym, argument, Body, TreeOf}
 use Rattle.wac_ast_grammar.specs.Reading.{Standing, at_once, closing, behind_comma, Tried, can, Stop, Why, other, version, empty_body, told as told_of_item, before, read}
 use Rattle.wac_ast_grammar.specs.Viable.{Viable}
 use Rattle.wac_ast_grammar.specs.Possible.{same_standing, named}
 use Rattle.wac_ast_grammar.specs.Bodies.{Opens}
 use Rattle.wac_ast_grammar.specs.Arguments.{EndsArgued, CutShort}
 use Rattle.wac_ast_grammar.specs.Stopped.{Fault as IsFault, CanStand, Stands, Stopped}
+use Rattle.wac_ast_base.specs.declared.error.Error.{Error}
 use Rattle.wac_ast_base.specs.declared.error.Error.TheVariants as errors
+use Rattle.wac_ast_base.specs.Error.{Told, told_by, faulty, empty_type, no_memory, expected}
+use Rattle.wac_ast_base.specs.Lookahead.{refusal}
+use Rattle.wac_ast_base.specs.Answer.{End, end_of_input, end_span, body_name, part_name, version_told, told_at, told, told_in, Gives}
 use Rattle.wac_ast_base.specs.FirstFault.{FirstFault, Expects, AllExpected, Finds, Holds, Tells, TellsFirstFault, TellsRefusal, Answers}
 use Rattle.wac_ast_grammar.proofs.Tables.{same_token, needs_more}
 use Rattle.wac_ast_grammar.proofs.Sound.{sound}

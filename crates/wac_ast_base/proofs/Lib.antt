@@ -1,4 +1,3 @@
-pub mod Common
 pub mod Places
 pub mod Lookaheads
 pub mod Taken

@@ -1,7 +1,10 @@
 -- Lemmas on lists of expected tokens.
-use Rattle.wac_ast_base.proofs.Common.{◌≡◌, refl, ap, ◌∙◌, ℕ, ◌+◌, ◌-◌, ◌<◌, List, [], ◌∷◌, ◌++◌, codes, drop, length, Option, Some, None, append_assoc, drop_more, Token, kept_in, entry, entries, joined}
-use Rattle.std.proofs.Common.{sym, append-nil}
+use Rattle.std.proofs.Common.{◌≡◌, refl, sym, ap, ◌∙◌, ℕ, ◌+◌, ◌-◌, ◌<◌, List, [], ◌∷◌, ◌++◌, codes, drop, length, Option, Some, None, append_assoc, append-nil}
 use Rattle.std.proofs.Math.ListN.{get_or}
+use Rattle.std.proofs.lemmas.List.{drop_more}
+use Rattle.wac_lexer.specs.declared.token.Token.{Token}
+use Rattle.wac_ast_base.specs.Lookahead.{kept_in}
+use Rattle.wac_ast_base.specs.Messages.{entry, entries, joined}
 
 -- the texts after a separator, if there are any
 abbrev pub after : List ℕ → List (List ℕ) → List ℕ

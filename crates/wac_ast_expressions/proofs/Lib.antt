@@ -1,4 +1,3 @@
-pub mod Common
 pub mod Spans
 pub mod ArgumentParts
 pub mod ExprViews

@@ -1,8 +1,15 @@
 -- Where the reading of an argument is rejected.
 use Rattle.std.proofs.Common.{◌≡◌, ℕ, zero, suc, List, [], ◌∷◌, ◌++◌, Result, Ok, Err, Bool, true, false, refl, sym as back, ap, ◌∙◌, ◌⊎◌, inl, inr}
-use Rattle.wac_ast_grammar.proofs.Common.{append-nil, Token, Item, is_token, argument, identifier, expr, rule, token, or_told, ◌▸◌, perhaps, TreeOf, Parts, Grammar, build, DerivesIn, DerivesBy, Ident, Stop, can, other, read, read_in, at_one_of, IsAlone, CutShort, Stopped}
+use Rattle.std.proofs.lemmas.List.{append-nil}
+use Rattle.wac_lexer.specs.declared.token.Token.{Token}
 use Rattle.wac_lexer.specs.declared.token.Token.TheVariants as t
-use Rattle.wac_ast_grammar.specs.Grammar.{sym}
+use Rattle.wac_lexer.specs.Item.{Item}
+use Rattle.wac_ast_grammar.specs.Tokens.{is_token}
+use Rattle.wac_ast_grammar.specs.Grammar.{argument, identifier, expr, rule, token, sym, or_told, ◌▸◌, perhaps, TreeOf, Parts, Grammar, build, DerivesIn, DerivesBy}
+use Rattle.wac_ast_grammar.specs.Tree.{Ident}
+use Rattle.wac_ast_grammar.specs.Reading.{Stop, can, other, read, read_in, at_one_of}
+use Rattle.wac_ast_grammar.specs.Arguments.{IsAlone, CutShort}
+use Rattle.wac_ast_grammar.specs.Stopped.{Stopped}
 use Rattle.wac_ast_grammar.proofs.Fixed.{read_is}
 use Rattle.wac_ast_grammar.proofs.Tables.{at_one_of_head, apart_not}
 use Rattle.wac_ast_grammar.proofs.Complete.{Begins, begins_in, complete_in, by_begins, by_completes}

@@ -1,9 +1,15 @@
 -- The leaves of a tree that derives from items: what is asked of them holds, where it does of what items make.
 use Rattle.std.proofs.Common.{◌≡◌, ℕ, zero, suc, true, Some, None, List, [], ◌∷◌, ◌++◌, inl, inr, subst, sym as back}
-use Rattle.wac_ast_grammar.proofs.Common.{AllByRecursion, Span, Item, Doc, is_token, valid, Sym, document, directive, statements, statement, import_statement, extern_name, import_type, let_statement, export_statement, export_options, expr, primary_expr, new_expr, arguments, more_arguments, argument, named_argument, argument_name, nested_expr, postfixes, postfix_expr, access_expr, named_access_expr, type_statement, type_decl, item_type_decl, resource_decl, methods, resource_method, constructor, method, variant_decl, cases, more_cases, variant_case, record_decl, fields, more_fields, field, flags_decl, flags, more_flags, flag, enum_decl, enum_cases, more_enum_cases, enum_case, type_alias, type_alias_kind, func_type_ref, func_type, params, more_params, result_list, named_type, ty, tuple_type, list_type, option_type, result_type, borrow_type, stream_type, future_type, types, more_types, result_part, payload, interface_decl, inline_interface, interface_items, interface_item, interface_export, use_statement, use_path, use_items, more_use_items, use_item, world_decl, world_items, world_item, world_import, world_export, world_item_path, named_world_item, extern_type, world_include, world_ref, include_items, more_include_items, include_item, identifier, string, package_name, package_path, rule, build, docs_of, primary_span, postfix_span, last_span, TreeOf, Parts, Grammar, token, then, either, nothing, to_end, docs, not_empty, more, or_told, DerivesIn, DerivesBy, Derives, Ident, Ty, PrimaryExpr, PostfixExpr, InstantiationArgument, Document, join, types_from, arguments_from, walk_extern_name, walk_ty, walk_optional_ty, walk_types, walk_named_type, walk_result_list, walk_func_type, walk_func_type_ref, walk_constructor, walk_method, walk_resource_method, walk_resource_decl, walk_variant_case, walk_variant_decl, walk_field, walk_record_decl, walk_flag, walk_flags_decl, walk_enum_case, walk_enum_decl, walk_type_alias_kind, walk_type_alias, walk_type_decl, walk_item_type_decl, walk_use_path, walk_use_item, walk_use, walk_interface_export, walk_interface_item, walk_interface_decl, walk_inline_interface, walk_extern_type, walk_named_world_item, walk_world_item_path, walk_world_import, walk_world_export, walk_world_ref, walk_world_include_item, walk_world_include, walk_world_item, walk_world_decl, walk_access_expr, walk_named_access_expr, walk_postfix_expr, walk_instantiation_argument_name, walk_expr, walk_primary_expr, walk_arguments, walk_instantiation_argument, walk_named_instantiation_argument, walk_import_type, walk_import_statement, walk_let_statement, walk_export_options, walk_export_statement, walk_type_statement, walk_statement, walk_package_directive, walk_document, IfThere, Asked, holds, holds_with_spans}
+use Rattle.std.specs.List.{AllByRecursion}
 use Rattle.wac_lexer.specs.declared.token.Token.TheVariants as t
-use Rattle.wac_ast_grammar.specs.Grammar.{sym}
+use Rattle.wac_lexer.specs.Span.{Span}
+use Rattle.wac_lexer.specs.Item.{Item, Doc}
+use Rattle.wac_ast_grammar.specs.Tokens.{is_token, valid}
+use Rattle.wac_ast_grammar.specs.Grammar.{Sym, document, directive, statements, statement, import_statement, extern_name, import_type, let_statement, export_statement, export_options, expr, primary_expr, new_expr, arguments, more_arguments, argument, named_argument, argument_name, nested_expr, postfixes, postfix_expr, access_expr, named_access_expr, type_statement, type_decl, item_type_decl, resource_decl, methods, resource_method, constructor, method, variant_decl, cases, more_cases, variant_case, record_decl, fields, more_fields, field, flags_decl, flags, more_flags, flag, enum_decl, enum_cases, more_enum_cases, enum_case, type_alias, type_alias_kind, func_type_ref, func_type, params, more_params, result_list, named_type, ty, tuple_type, list_type, option_type, result_type, borrow_type, stream_type, future_type, types, more_types, result_part, payload, interface_decl, inline_interface, interface_items, interface_item, interface_export, use_statement, use_path, use_items, more_use_items, use_item, world_decl, world_items, world_item, world_import, world_export, world_item_path, named_world_item, extern_type, world_include, world_ref, include_items, more_include_items, include_item, identifier, string, package_name, package_path, rule, build, docs_of, primary_span, postfix_span, last_span, TreeOf, Parts, Grammar, token, sym, then, either, nothing, to_end, docs, not_empty, more, or_told, DerivesIn, DerivesBy, Derives}
 use Rattle.wac_ast_grammar.specs.Tree as tree
+use Rattle.wac_ast_grammar.specs.Tree.{Ident, Ty, PrimaryExpr, PostfixExpr, InstantiationArgument, Document, join, types_from, arguments_from}
+use Rattle.wac_ast_grammar.specs.Walk.{walk_extern_name, walk_ty, walk_optional_ty, walk_types, walk_named_type, walk_result_list, walk_func_type, walk_func_type_ref, walk_constructor, walk_method, walk_resource_method, walk_resource_decl, walk_variant_case, walk_variant_decl, walk_field, walk_record_decl, walk_flag, walk_flags_decl, walk_enum_case, walk_enum_decl, walk_type_alias_kind, walk_type_alias, walk_type_decl, walk_item_type_decl, walk_use_path, walk_use_item, walk_use, walk_interface_export, walk_interface_item, walk_interface_decl, walk_inline_interface, walk_extern_type, walk_named_world_item, walk_world_item_path, walk_world_import, walk_world_export, walk_world_ref, walk_world_include_item, walk_world_include, walk_world_item, walk_world_decl, walk_access_expr, walk_named_access_expr, walk_postfix_expr, walk_instantiation_argument_name, walk_expr, walk_primary_expr, walk_arguments, walk_instantiation_argument, walk_named_instantiation_argument, walk_import_type, walk_import_statement, walk_let_statement, walk_export_options, walk_export_statement, walk_type_statement, walk_statement, walk_package_directive, walk_document}
+use Rattle.wac_ast_grammar.specs.Leaves.{IfThere, Asked, holds, holds_with_spans}
 use Rattle.wac_ast_grammar.proofs.Complete.{Family}
 use Rattle.wac_ast_grammar.proofs.Walked.{document_spans_aside}
 

@@ -1,5 +1,9 @@
 -- The docs before a production are those of its first item.
-use Rattle.wac_ast_grammar.proofs.Common.{◌≡◌, ◌<◌, arith, length, false, List, [], ◌∷◌, Ok, Token, Item, Doc, OnFirst, Sym, TreeOf, docs_of, read_token, read, empty}
+use Rattle.std.proofs.Common.{◌≡◌, ◌<◌, arith, length, false, List, [], ◌∷◌, Ok}
+use Rattle.wac_lexer.specs.declared.token.Token.{Token}
+use Rattle.wac_lexer.specs.Item.{Item, Doc, OnFirst}
+use Rattle.wac_ast_grammar.specs.Grammar.{Sym, TreeOf, docs_of}
+use Rattle.wac_ast_grammar.specs.Reading.{read_token, read, empty}
 use Rattle.wac_ast_grammar.proofs.Fixed.{takes_some}
 
 pub docs_of_token : (xs : List Item) (ds : List Doc) (k : Token) (x : Item) (rest : List Item) → OnFirst xs (λ x. x.docs ≡ ds) → read_token [] k xs ≡ Ok (x, rest) → docs_of xs ≡ ds

@@ -1,4 +1,3 @@
-pub mod Common
 pub mod Fixed
 pub mod Tables
 pub mod Complete

@@ -1,7 +1,15 @@
 -- The laws of a rejection, put together.
 use Rattle.std.proofs.Common.{◌≡◌, ℕ, zero, suc, ◌+◌, ◌-◌, arith, List, [], ◌∷◌, ◌++◌, length, Result, Ok, Err, Bool, true, false, refl, sym as back, ap, subst, ◌∙◌, ◌⊎◌, inl, inr, append_assoc}
-use Rattle.wac_ast_grammar.proofs.Common.{append-nil, length-append, Token, Item, Doc, is_token, Sym, argument, rule, build, TreeOf, Parts, Grammar, DerivesIn, DerivesBy, Derives, Standing, at_once, closing, behind_comma, Stop, before, other, read, read_by, read_in, is_empty, measure, Viable, Similar, Leads, named, Fault, CanStand, CanFollowComma, Stands, Stopped}
+use Rattle.std.proofs.lemmas.List.{append-nil, length-append}
+use Rattle.wac_lexer.specs.declared.token.Token.{Token}
 use Rattle.wac_lexer.specs.declared.token.Token.TheVariants as t
+use Rattle.wac_lexer.specs.Item.{Item, Doc}
+use Rattle.wac_ast_grammar.specs.Tokens.{is_token}
+use Rattle.wac_ast_grammar.specs.Grammar.{Sym, argument, rule, build, TreeOf, Parts, Grammar, DerivesIn, DerivesBy, Derives}
+use Rattle.wac_ast_grammar.specs.Reading.{Standing, at_once, closing, behind_comma, Stop, before, other, read, read_by, read_in, is_empty, measure}
+use Rattle.wac_ast_grammar.specs.Viable.{Viable, Similar, Leads}
+use Rattle.wac_ast_grammar.specs.Possible.{named}
+use Rattle.wac_ast_grammar.specs.Stopped.{Fault, CanStand, CanFollowComma, Stands, Stopped}
 use Rattle.wac_ast_grammar.proofs.Fixed.{all_ranked}
 use Rattle.wac_ast_grammar.proofs.Tables.{clashes, needs_more, rule_lawful}
 use Rattle.wac_ast_grammar.proofs.Complete.{may_follow, complete, complete_before, begins_in, by_begins}

@@ -1,6 +1,12 @@
 -- The laws of changes and of what is asked of leaves, each from the law of walks.
-use Rattle.wac_ast_grammar.proofs.Common.{◌≡◌, List, [], ◌∷◌, map, Option, Some, None, Bool, refl, ap, ◌∙◌, option_map, AllByRecursion, Span, Doc, Ident, String, PackageName, PackagePath, Document, walk_document, IfThere, Change, Asked, changed, holds, holds_with_spans, after, unchanged, asked_after}
-use Rattle.std.proofs.Common.{sym}
+use Rattle.std.proofs.Common.{◌≡◌, List, [], ◌∷◌, map, Option, Some, None, Bool, refl, sym, ap, ◌∙◌}
+use Rattle.std.specs.Option.{option_map}
+use Rattle.std.specs.List.{AllByRecursion}
+use Rattle.wac_lexer.specs.Span.{Span}
+use Rattle.wac_lexer.specs.Item.{Doc}
+use Rattle.wac_ast_grammar.specs.Tree.{Ident, String, PackageName, PackagePath, Document}
+use Rattle.wac_ast_grammar.specs.Walk.{walk_document}
+use Rattle.wac_ast_grammar.specs.Leaves.{IfThere, Change, Asked, changed, holds, holds_with_spans, after, unchanged, asked_after}
 use Rattle.wac_ast_grammar.proofs.Linked.{Link, link_document}
 
 -- ---- lists and options

@@ -1,4 +1,3 @@
-pub mod Common
 pub mod TypeParts
 pub mod NamedResults
 pub mod Built

@@ -1,6 +1,7 @@
 -- The trees of productions with a part that may be left out.
-use Rattle.wac_ast_uses.proofs.Common.{◌≡◌, List, refl, inl, inr, ◌⊎◌, TreeOf, Parts, build, use_item, world_include, identifier, world_ref}
+use Rattle.std.proofs.Common.{◌≡◌, List, refl, inl, inr, ◌⊎◌}
 use Rattle.wac_lexer.specs.Item.{Item, Doc}
+use Rattle.wac_ast_grammar.specs.Grammar.{TreeOf, Parts, build, use_item, world_include, identifier, world_ref}
 use Rattle.wac_ast_base.specs.Pieces.{behind_word}
 use Rattle.wac_ast_uses.specs.Tails.{with_part, with_items}
 

@@ -1,9 +1,11 @@
 -- What a command has written of a text in memory, and how it fails.
-use Rattle.wac_calls.proofs.Common.{◌≡◌, ◌∙◌, ℕ, ◌+◌, List, [], ◌++◌, arith, ap, subst, sym, Some, Err, IsUtf8, string_bytes, Fails}
+use Rattle.std.proofs.Common.{◌≡◌, ◌∙◌, ℕ, ◌+◌, List, [], ◌++◌, arith, ap, subst, sym, Some, Err}
+use Rattle.std.specs.Prelude.{IsUtf8, string_bytes}
 use Rattle.wac_tool.specs.Running.{Answers, ReadsAll, Refuses, Writes, input_failures}
 use Rattle.wac_tool.specs.declared.command.Command.{Command}
 use Rattle.wac_tool.specs.declared.error.RunError.{RunError}
 use Rattle.wac_tool.specs.declared.error.RunError.TheVariants.{Refused, Input, Output, Memory, NotUtf8}
+use Rattle.wac_calls.specs.Commands.{Fails}
 
 -- what is kept is what the command writes of the text, where a feed had that text left, and a sink held nothing
 pub writes_of : (command : Command) (text input left old new kept out : List ℕ) → input ≡ left → left ≡ text → old ≡ [] → new ≡ old ++ out

@@ -1,4 +1,3 @@
-pub mod Common
 pub mod Failing
 pub mod Faults
 pub mod Words

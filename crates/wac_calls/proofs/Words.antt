@@ -1,8 +1,11 @@
 -- What words come to for bytes that are no text, and numbers that no word has.
-use Rattle.wac_calls.proofs.Common.{◌≡◌, refl, ℕ, List, inl, ◌≢◌, IsUtf8, Says, Word}
+use Rattle.std.proofs.Common.{◌≡◌, refl, ℕ, List, inl}
+use Rattle.std.specs.Prelude.{◌≢◌, IsUtf8}
 use Rattle.wac_tool.specs.declared.command.Command.TheVariants.{Tokens, Fmt, Json, Resolve, Packages, Check}
+use Rattle.wac_calls.specs.Calls.{Says}
 use Rattle.wac_calls.specs.Numbers.{word_number}
 use Rattle.wac_calls_answers.specs.declared.outcome.Outcome.TheVariants.{NotUtf8}
+use Rattle.wac_calls.specs.declared.word.Word.{Word}
 use Rattle.wac_calls.specs.declared.word.Word.TheVariants.{Wac, Tidy, Errors}
 
 -- each word but that for the first error says that they are no text

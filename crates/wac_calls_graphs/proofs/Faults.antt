@@ -1,11 +1,15 @@
 -- What is said of a text that has no graph.
-use Rattle.wac_calls_graphs.proofs.Common.{◌≡◌, ℕ, List, inl, inr, ap, ⊎_elim, ◌⊎◌, alloc_error, Outcome, IsOfDocument, IsOfPackage, SaysGraph, IsDocument}
+use Rattle.std.proofs.Common.{◌≡◌, ℕ, List, inl, inr, ap, ⊎_elim}
+use Rattle.std.specs.Prelude.{◌⊎◌, alloc_error}
 use Rattle.wac_ast.specs.Document.{ErrorOf}
 use Rattle.wac_ast_base.specs.Error.{told_by}
 use Rattle.wac_ast_base.specs.declared.error.Error.{Error}
 use Rattle.wac_ast_base.specs.declared.error.Error.TheVariants as errors
 use Rattle.wac_calls_answers.specs.Rejecting.{IsOfError}
+use Rattle.wac_calls_answers.specs.declared.outcome.Outcome.{Outcome}
 use Rattle.wac_calls_answers.specs.declared.outcome.Outcome.TheVariants.{Written, Rejected, NotUtf8, OutOfMemory, NestedTooDeep, BadPackage}
+use Rattle.wac_calls_graphs.specs.Compositions.{IsOfDocument, IsOfPackage, SaysGraph}
+use Rattle.wac_calls_graphs.specs.Graphs.{IsDocument}
 
 -- the graph of a text with an error of parsing
 pub graph_fault : (source : List ℕ) (e : Error) (outcome : Outcome) → (e ≡ errors.Memory alloc_error) ⊎ ErrorOf (told_by e) source

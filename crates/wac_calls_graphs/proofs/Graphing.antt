@@ -1,5 +1,7 @@
 -- What holds of a graph that is shown, or of the error in its place.
-use Rattle.wac_calls_graphs.proofs.Common.{ℕ, List, Ok, Err, Result, IfOk, IfErr, IsDocument, IsErrorOf, IsErrorOfDocument}
+use Rattle.std.proofs.Common.{ℕ, List, Ok, Err}
+use Rattle.std.specs.Prelude.{Result, IfOk, IfErr}
+use Rattle.wac_calls_graphs.specs.Graphs.{IsDocument, IsErrorOf, IsErrorOfDocument}
 use Rattle.wac_calls_graphs.specs.declared.error.GraphError.{GraphError}
 use Rattle.wac_calls_graphs.specs.declared.error.GraphError.TheVariants.{Parse, Resolution, Package, Component, Memory}
 

@@ -1,9 +1,10 @@
 -- The first frame of a buffer.
-use Rattle.wac_calls_texts.proofs.Common.{◌≡◌, ◌∙◌, ℕ, ◌+◌, ◌<◌, ◌≤◌, List, ◌++◌, length, take, drop, sym, ap, ap₂, append_assoc, Option, Some, None, MatchOption, IfSome, frame}
+use Rattle.std.proofs.Common.{◌≡◌, ◌∙◌, ℕ, ◌+◌, ◌<◌, ◌≤◌, List, ◌++◌, length, take, drop, sym, ap, ap₂, append_assoc, Option, Some, None, MatchOption, IfSome}
 use Rattle.std.proofs.lemmas.List.{take-append-drop}
 use Rattle.std.specs.Int.{w64, to_le_bytes}
 use Rattle.std.specs.List.{IsSplitAt}
 use denote.Bor.{Bor}
+use Rattle.wac_calls_texts.specs.Frames.{frame}
 
 -- a frame, where a buffer begins with a length and so many bytes
 pub first_frame : (buffer head rest text after : List ℕ) (len : ℕ) → to_le_bytes w64 len ≡ head → length text ≡ len → buffer ≡ head ++ rest

@@ -1,4 +1,3 @@
-pub mod Common
 pub mod Replaced
 pub mod Tidied
 pub mod Formatted

@@ -1,6 +1,9 @@
 -- Files that are formatted one after another.
-use Rattle.wac_cli.proofs.Common.{◌≡◌, ◌≢◌, refl, ap, ◌∙◌, List, ◌++◌, [], ◌∷◌, append_assoc, append-nil, Replacement, AreFormattings, OnlyFormats, FormatOptions}
+use Rattle.std.proofs.Common.{◌≡◌, ◌≢◌, refl, ap, ◌∙◌, List, ◌++◌, [], ◌∷◌, append_assoc, append-nil}
+use Rattle.wac_files.specs.Replacements.{Replacement}
+use Rattle.wac_cli.specs.Replacing.{AreFormattings, OnlyFormats}
 use Rattle.wac_cli_console.specs.declared.options.Action.TheVariants.{Write}
+use Rattle.wac_cli.specs.declared.options.FormatOptions.{FormatOptions}
 
 pub joined : (options : FormatOptions) (rs ss : List Replacement) → AreFormattings options rs → AreFormattings options ss → AreFormattings options (rs ++ ss)
 joined options [] ss first second = second

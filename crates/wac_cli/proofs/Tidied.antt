@@ -1,9 +1,11 @@
 -- What `tidy` ensures, as one fact of its result.
-use Rattle.wac_cli.proofs.Common.{◌≡◌, ℕ, List, Result, Ok, Err, IfOk, FormatOptions}
+use Rattle.std.proofs.Common.{◌≡◌, ℕ, List}
+use Rattle.std.specs.Prelude.{Result, Ok, Err, IfOk}
 use Rattle.wac_comments.specs.Comments.{comment_texts, doc_texts}
 use Rattle.wac_comments.specs.Tidied.{IsPlain, Kept, SameTree}
 use Rattle.wac_comments.specs.declared.options.Options.{Options}
 use Rattle.wac_cli.specs.Tidying.{IsLayoutOf, IsTidiedAs}
+use Rattle.wac_cli.specs.declared.options.FormatOptions.{FormatOptions}
 
 pub tidied : {A E : Type 0} (bytes : A → List ℕ) (options : FormatOptions) (layout : Options) (source : List ℕ) (r : Result A E) → IsLayoutOf options layout
     → IfOk r (λ text. comment_texts (bytes text) ≡ comment_texts source)

@@ -1,17 +1,25 @@
 -- Texts that are formatted alike have the same bare tree.
-use Rattle.wac_comments.proofs.Common.{◌≡◌, ◌⊎◌, inl, inr, ℕ, zero, suc, Bool, true, false, cond, List, [], ◌∷◌, refl, ap, ◌∙◌, ◌||◌, filter, replicate, Result, Ok, Err, IfOk, alloc_error, filter_map, list_any, Document, read_docs, is_comment, texts, Texts, printed, comment_texts, doc_texts, has_comments, Kept, ReadsBackAs, SameTree}
-use Rattle.std.proofs.Common.{sym}
+use Rattle.std.proofs.Common.{◌≡◌, ◌⊎◌, inl, inr, ℕ, zero, suc, Bool, true, false, cond, List, [], ◌∷◌, sym, refl, ap, ◌∙◌}
+use Rattle.std.specs.Prelude.{◌||◌, filter, replicate, Result, Ok, Err, IfOk, alloc_error}
+use Rattle.std.specs.List.{filter_map, list_any}
 use Rattle.wac_lexer.specs.Docs.{doc_text}
 use Rattle.wac_ast.proofs.Documents.{is_one}
 use Rattle.wac_ast.specs.Document.{ErrorOf}
 use Rattle.wac_ast_base.specs.Error.{told_by}
 use Rattle.wac_ast_base.specs.declared.error.Error.{Error}
 use Rattle.wac_ast_base.specs.declared.error.Error.TheVariants as errors
+use Rattle.wac_ast_grammar.specs.Tree.{Document}
 use Rattle.wac_printer_layout.specs.Bare.{bare_document}
 use Rattle.wac_printer_layout.specs.Joins.{AreBlanks}
+use Rattle.wac_printer_layout.specs.Reread.{read_docs}
+use Rattle.wac_comments_layout.specs.Kept.{is_comment}
+use Rattle.wac_comments_layout.specs.Pieces.{texts}
+use Rattle.wac_comments_layout.specs.Printing.{Texts, printed}
 use Rattle.wac_comments_layout.proofs.Keeping.{comments_printed}
+use Rattle.wac_comments.specs.Comments.{comment_texts, doc_texts, has_comments}
 use Rattle.wac_comments.specs.Errors.{is_memory}
 use Rattle.wac_comments.specs.Options.{indent_text}
+use Rattle.wac_comments.specs.Tidied.{Kept, ReadsBackAs, SameTree}
 use Rattle.wac_comments.specs.declared.options.Indent.{Indent}
 use Rattle.wac_comments.specs.declared.options.Indent.TheVariants.{Tab, Blanks}
 

@@ -1,4 +1,3 @@
-pub mod Common
 pub mod Same
 pub mod Alike
 pub mod Read

@@ -1,15 +1,17 @@
 -- Each item of a text that has a tree is a token.
 use Rattle.std.proofs.Common.{◌≡◌, ℕ, zero, suc, List, [], ◌∷◌, ◌++◌, true, sym as back, refl, subst, inl, inr, Ok, Err, Result}
-use Rattle.wac_comments.proofs.Common.{AllByRecursion, Document, IsTokenItem}
+use Rattle.std.specs.List.{AllByRecursion}
 use Rattle.std.proofs.lemmas.Bool.{false≢true}
 use Rattle.wac_lexer.specs.Item.{Item}
 use Rattle.wac_lexer.specs.Items.{items}
 use Rattle.wac_lexer.specs.declared.error.Error.{Error}
 use Rattle.wac_lexer.specs.declared.token.Token.{Token}
 use Rattle.wac_ast_grammar.specs.Tokens.{is_token}
+use Rattle.wac_ast_grammar.specs.Tree.{Document}
 use Rattle.wac_ast_grammar.specs.TextTree.{IsTreeOf}
 use Rattle.wac_ast_grammar.specs.Grammar.{Sym, rule, TreeOf, Parts, Grammar, token, sym, then, either, nothing, to_end, docs, not_empty, more, or_told, document, DerivesIn, DerivesBy}
 use Rattle.wac_ast_grammar.proofs.Complete.{Family}
+use Rattle.wac_comments_layout.proofs.Known.{IsTokenItem}
 
 abbrev Tokens : List Item → Type 0
 Tokens xs = AllByRecursion IsTokenItem xs

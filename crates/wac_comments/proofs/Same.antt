@@ -1,7 +1,10 @@
 -- Texts that are compared one by one.
-use Rattle.wac_comments.proofs.Common.{◌≡◌, ℕ, ◌+◌, ◌<◌, ◌≤◌, List, ◌∷◌, drop, length, get_or, ap, ◌∙◌, arith, Some, slice_get, slice_get_within, get_or_from_slice_get, texts_of, Piece}
-use Rattle.std.proofs.Common.{sym}
+use Rattle.std.proofs.Common.{◌≡◌, ℕ, ◌+◌, ◌<◌, ◌≤◌, List, ◌∷◌, drop, length, get_or, sym, ap, ◌∙◌, arith, Some}
+use Rattle.std.specs.Prelude.{slice_get}
 use Rattle.std.proofs.lemmas.List.{drop_more, drop_all, length-map}
+use Rattle.std.proofs.lemmas.Option.{slice_get_within, get_or_from_slice_get}
+use Rattle.wac_comments_layout.specs.Texts.{texts_of}
+use Rattle.wac_comments_layout.specs.declared.pieces.Piece.{Piece}
 use Rattle.wac_comments_layout.proofs.Guided.{texts_at}
 
 -- the texts are the same from an index on where those behind it are, and both have this one

@@ -1,4 +1,3 @@
-pub mod Common
 pub mod Apart
 pub mod Guided
 pub mod Known

@@ -1,7 +1,10 @@
 -- Where a word begins, byte by byte.
-use Rattle.wac_completion.proofs.Common.{◌≡◌, refl, sym, ap, ◌∙◌, subst, ℕ, ◌+◌, ◌-◌, ◌<◌, ◌≤◌, List, length, Bool, true, false, inl, inr, ⊎_elim, arith, ◌⊎◌, MatchBool, slice_index, IsCharBoundary, WordBegins, is_word}
+use Rattle.std.proofs.Common.{◌≡◌, refl, sym, ap, ◌∙◌, subst, ℕ, ◌+◌, ◌-◌, ◌<◌, ◌≤◌, List, length, Bool, true, false, inl, inr, ⊎_elim, arith}
 use Rattle.std.proofs.lemmas.Bool.{cases_lt}
+use Rattle.std.specs.Prelude.{◌⊎◌, MatchBool, slice_index}
+use Rattle.std.specs.Str.{IsCharBoundary}
 use Rattle.std.proofs.lemmas.Bool.Decides.{nat_tests}
+use Rattle.wac_completion.specs.Words.{WordBegins, is_word}
 
 -- the word at the end of the first n bytes
 pub record BeginsBefore (text : List ℕ) (n at : ℕ) : Type 0 where

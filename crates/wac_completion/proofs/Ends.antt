@@ -1,6 +1,16 @@
 -- Whether a text, a blank and a token begin some document, by what was tried.
-use Rattle.wac_completion.proofs.Common.{◌≡◌, refl, sym, subst, ℕ, ◌+◌, List, length, Bool, true, false, Option, None, Ok, inr, ⊎_elim, ◌⊎◌, MatchBool, refused, items, Token, EndsArgued, document, is_token, Viable, last_is_string, CanFollow, IsBegun, Reads, tried}
+use Rattle.std.proofs.Common.{◌≡◌, refl, sym, subst, ℕ, ◌+◌, List, length, Bool, true, false, Option, None, Ok, inr, ⊎_elim}
+use Rattle.std.specs.Prelude.{◌⊎◌, MatchBool}
+use Rattle.wac_lexer.specs.Characters.{refused}
+use Rattle.wac_lexer.specs.Items.{items}
+use Rattle.wac_lexer.specs.declared.token.Token.{Token}
 use Rattle.wac_lexer.specs.declared.token.Token.TheVariants as t
+use Rattle.wac_ast_grammar.specs.Arguments.{EndsArgued}
+use Rattle.wac_ast_grammar.specs.Grammar.{document}
+use Rattle.wac_ast_grammar.specs.Tokens.{is_token}
+use Rattle.wac_ast_grammar.specs.Viable.{Viable}
+use Rattle.wac_completion.specs.Faults.{last_is_string}
+use Rattle.wac_completion.specs.Standing.{CanFollow, IsBegun, Reads, tried}
 use Rattle.wac_completion.proofs.Suffixes.{no_argument}
 
 -- whether something holds, as a bool

@@ -1,8 +1,12 @@
 -- One kind after another is kept or left out.
-use Rattle.wac_completion.proofs.Common.{◌≡◌, refl, sym, subst, ℕ, ◌+◌, ◌<◌, ◌≤◌, List, [], ◌∷◌, ◌++◌, length, drop, get_or, suc, ap, ◌∙◌, inl, inr, arith, ◌⊎◌, Option, Some, None, MatchOption, Result, Ok, Err, IfOk, append-nil, append_assoc, drop_all, Token, AreKinds, CanFollow, Kept}
+use Rattle.std.proofs.Common.{◌≡◌, refl, sym, subst, ℕ, ◌+◌, ◌<◌, ◌≤◌, List, [], ◌∷◌, ◌++◌, length, drop, get_or, suc, ap, ◌∙◌, inl, inr, arith}
 use Rattle.std.proofs.Math.Seq.{drop-cons}
+use Rattle.std.specs.Prelude.{◌⊎◌, Option, Some, None, MatchOption, Result, Ok, Err, IfOk}
+use Rattle.std.proofs.lemmas.List.{append-nil, append_assoc, drop_all}
+use Rattle.wac_lexer.specs.declared.token.Token.{Token}
 use Rattle.wac_comments_layout.specs.Nesting.{too_deep}
 use Rattle.wac_completion.specs.Kinds.{kinds}
+use Rattle.wac_completion.specs.Standing.{AreKinds, CanFollow, Kept}
 
 -- what is kept of the rest, after these, is what is kept of all
 abbrev pub KeepsOn : (Token → Type 0) → List Token → List Token → List Token → Type 0

@@ -1,4 +1,3 @@
-pub mod Common
 pub mod Beginning
 pub mod Ends
 pub mod Keeping

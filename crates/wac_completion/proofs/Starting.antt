@@ -1,5 +1,10 @@
 -- The text before an offset, without the word at its end.
-use Rattle.wac_completion.proofs.Common.{◌≡◌, refl, ap, ◌∙◌, subst, ℕ, List, take, Bool, true, false, Result, Ok, Err, ◌↔◌, IfOk, IsTrue, IsCharBoundary, Token, AreKinds, AreKindsAt, WordBegins}
+use Rattle.std.proofs.Common.{◌≡◌, refl, ap, ◌∙◌, subst, ℕ, List, take, Bool, true, false, Result, Ok, Err}
+use Rattle.std.specs.Prelude.{◌↔◌, IfOk, IsTrue}
+use Rattle.std.specs.Str.{IsCharBoundary}
+use Rattle.wac_lexer.specs.declared.token.Token.{Token}
+use Rattle.wac_completion.specs.Standing.{AreKinds}
+use Rattle.wac_completion.specs.Words.{AreKindsAt, WordBegins}
 
 pub kinds_there : {X E : Type 0} (source : List ℕ) (offset at : ℕ) (before text : List ℕ) (r : Result X E) (items : X → List Token) → before ≡ take offset source → WordBegins before at → text ≡ take at before
     → IfOk r (λ v. AreKinds text (items v)) → IfOk r (λ v. AreKindsAt source offset (items v))

@@ -1,7 +1,16 @@
 -- What is read from a place on is what items end with.
-use Rattle.wac_completion.proofs.Common.{◌≡◌, refl, sym, ap, ◌∙◌, ℕ, List, [], ◌∷◌, ◌++◌, map, Bool, true, false, Option, Some, None, Ok, Err, eqb-true, Result, nat_lt, ◌&&◌, if◌then◌else◌, append_assoc, map-append, Item, Handed, handed, behind_first, Span, Token, EndsWithArgument, is_token, kind, last_is_string, are_rest, reads_from}
+use Rattle.std.proofs.Common.{◌≡◌, refl, sym, ap, ◌∙◌, ℕ, List, [], ◌∷◌, ◌++◌, map, Bool, true, false, Option, Some, None, Ok, Err, eqb-true}
+use Rattle.std.specs.Prelude.{Result, nat_lt, ◌&&◌, if◌then◌else◌}
+use Rattle.std.proofs.lemmas.List.{append_assoc, map-append}
+use Rattle.wac_lexer.specs.Item.{Item, Handed, handed, behind_first}
+use Rattle.wac_lexer.specs.Span.{Span}
+use Rattle.wac_lexer.specs.declared.token.Token.{Token}
 use Rattle.wac_lexer.specs.declared.token.Token.TheVariants as t
 use Rattle.wac_lexer.specs.declared.error.Error.{Error}
+use Rattle.wac_ast_grammar.specs.Arguments.{EndsWithArgument}
+use Rattle.wac_ast_grammar.specs.Tokens.{is_token, kind}
+use Rattle.wac_completion.specs.Faults.{last_is_string}
+use Rattle.wac_completion.specs.Standing.{are_rest, reads_from}
 
 -- ---- one item after another
 

@@ -1,14 +1,25 @@
 -- An error says whether some document begins with the items of a text.
-use Rattle.wac_completion.proofs.Common.{◌≡◌, refl, sym, ap, ◌∙◌, subst, ℕ, List, [], ◌∷◌, ◌++◌, Bool, true, false, Option, Some, None, Ok, Err, inl, inr, ⊎_elim, ◌⊎◌, ◌≢◌, IfOk, Result, alloc_error, append-nil, append_assoc, refused, Item, items, Span, Token, EndsArgued, Sym, document, Viable, Leads, ends_early, is_end}
+use Rattle.std.proofs.Common.{◌≡◌, refl, sym, ap, ◌∙◌, subst, ℕ, List, [], ◌∷◌, ◌++◌, Bool, true, false, Option, Some, None, Ok, Err, inl, inr, ⊎_elim}
+use Rattle.std.specs.Prelude.{◌⊎◌, ◌≢◌, IfOk, Result, alloc_error}
+use Rattle.std.proofs.lemmas.List.{append-nil, append_assoc}
+use Rattle.wac_lexer.specs.Characters.{refused}
+use Rattle.wac_lexer.specs.Item.{Item}
+use Rattle.wac_lexer.specs.Items.{items}
+use Rattle.wac_lexer.specs.Span.{Span}
+use Rattle.wac_lexer.specs.declared.token.Token.{Token}
+use Rattle.wac_ast_grammar.specs.Arguments.{EndsArgued}
+use Rattle.wac_ast_grammar.specs.Grammar.{Sym, document}
 use Rattle.wac_ast_grammar.specs.Stopped.{Fault as IsFault}
 use Rattle.wac_ast_grammar.specs.TextTree.{IsTreeOf}
 use Rattle.wac_ast_grammar.specs.Tree.{Document}
+use Rattle.wac_ast_grammar.specs.Viable.{Viable, Leads}
 use Rattle.wac_ast.specs.Document.{ErrorOf, TellsRefused, end_of_text}
 use Rattle.wac_ast_base.specs.Answer.{End}
 use Rattle.wac_ast_base.specs.declared.error.Error.{Error as CodeError}
 use Rattle.wac_ast_base.specs.declared.error.Error.TheVariants as errors
 use Rattle.wac_ast_base.specs.Error.{Told, told_by, faulty, expected_one, expected_either, expected_many, empty_type, invalid_version, no_memory}
 use Rattle.wac_ast_base.specs.FirstFault.{Finds, FirstFault, Holds, TellsFirstFault, end_in_sequence, end_of_choice}
+use Rattle.wac_completion.specs.Faults.{ends_early, is_end}
 
 -- what begins like some items begins like the first of them
 leads_less : (a b ys : List Item) → Leads (a ++ b) ys → Leads a ys

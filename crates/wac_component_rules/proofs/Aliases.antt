@@ -1,17 +1,32 @@
 -- What aliases are seen as, and kinds that are none.
-use Rattle.wac_component_rules.proofs.Common.{◌≡◌, ◌∙◌, ◌<◌, ℕ, List, Option, Some, None, refl, sym, ap, subst, length, slice_get, option_map, IfSome, string_bytes, ValueType, DefinedTypeId, ItemKind, Sort, Entry, Form, form, named_by, sort_named, value_form, value_named_by, children, sort_of, label, Plain, Meaning, EachKind, row, named, of_kind, meaning_at, NamesBefore, IsEarlier, IsTable, IsOfSort, Names, entry_names, each_entry_named, Seen, What, seen, what, entry_seen, items, entry_what, seen_through, through, aliased_in, bytes_eq}
+use Rattle.std.proofs.Common.{◌≡◌, ◌∙◌, ◌<◌, ℕ, List, Option, Some, None, refl, sym, ap, subst, length}
+use Rattle.std.specs.Prelude.{slice_get, option_map, IfSome, string_bytes}
+use Rattle.wac_graph_types.specs.declared.kind.ValueType.{ValueType}
 use Rattle.wac_graph_types.specs.declared.kind.ValueType.TheVariants as values
+use Rattle.wac_graph_types.specs.declared.kind.DefinedTypeId.{DefinedTypeId}
+use Rattle.wac_graph_types.specs.declared.kind.ItemKind.{ItemKind}
 use Rattle.wac_graph_types.specs.declared.kind.ItemKind.TheVariants as kinds
 use Rattle.wac_graph_types.specs.declared.kind.«Type».TheVariants as types
+use Rattle.wac_graph_types.specs.declared.kind.Sort.{Sort}
 use Rattle.wac_graph_types.specs.declared.kind.Sort.TheVariants as sorts
+use Rattle.wac_graph_types.specs.declared.entry.Entry.{Entry}
 use Rattle.wac_graph_types.specs.declared.entry.Entry.TheVariants as entries
 use Rattle.wac_graph_types.specs.declared.entry.DefinedType.TheVariants as defined
 use Rattle.wac_graph_types.specs.declared.entry.Resource.{Resource}
 use Rattle.wac_graph_types.specs.declared.entry.ResourceAlias.{ResourceAlias}
+use Rattle.wac_graph_types.specs.Kind.{Form, form, named_by, sort_named, value_form, value_named_by}
 use Rattle.wac_graph_types.specs.Kind as forms
 use Rattle.wac_graph_types.specs.Entry as slots
+use Rattle.wac_graph_types.specs.Entry.{children, sort_of}
+use Rattle.wac_graph_types.specs.Label.{label, Plain}
+use Rattle.wac_graph_types.specs.Meaning.{Meaning, EachKind, row, named, of_kind, meaning_at, NamesBefore, IsEarlier}
 use Rattle.wac_graph_types.specs.Readings.{as_resource}
+use Rattle.wac_graph_types.specs.Table.{IsTable, IsOfSort, Names}
+use Rattle.wac_graph_types.proofs.Tables.{entry_names, each_entry_named}
 use Rattle.wac_component_rules.specs.Seen as view
+use Rattle.wac_component_rules.specs.Seen.{Seen, What, seen, what, entry_seen, items, entry_what, seen_through, through}
+use Rattle.wac_component_rules.specs.Parts.{aliased_in}
+use Rattle.std.specs.Str.{bytes_eq}
 use Rattle.wac_component_rules.specs.Fits.{stands}
 use Rattle.wac_component_rules.proofs.Entries.{what_at, names_number}
 

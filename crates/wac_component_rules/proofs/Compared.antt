@@ -1,7 +1,11 @@
 -- Kinds that are compared and are no aliases, with an entry or without.
-use Rattle.wac_component_rules.proofs.Common.{◌≡◌, ℕ, Option, Some, None, Bool, true, false, sym, subst, ItemKind, form, named_by, Meaning, named, Seen, What, what, entry_seen, fits, is_type}
+use Rattle.std.proofs.Common.{◌≡◌, ℕ, Option, Some, None, Bool, true, false, sym, subst}
+use Rattle.wac_graph_types.specs.declared.kind.ItemKind.{ItemKind}
+use Rattle.wac_graph_types.specs.Kind.{form, named_by}
+use Rattle.wac_graph_types.specs.Meaning.{Meaning, named}
 use Rattle.wac_component_rules.specs.Seen as view
-use Rattle.wac_component_rules.specs.Fits.{stands}
+use Rattle.wac_component_rules.specs.Seen.{Seen, What, what, entry_seen}
+use Rattle.wac_component_rules.specs.Fits.{fits, stands, is_type}
 use Rattle.wac_component_rules.proofs.Entries.{other_form, nothing_fits, entry_refuses, type_fits, item_fits}
 
 -- what a kind that is no alias is seen as

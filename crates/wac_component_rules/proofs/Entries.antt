@@ -1,16 +1,31 @@
 -- What entries and kinds of a table are to the rules.
-use Rattle.wac_component_rules.proofs.Common.{◌≡◌, ◌∙◌, ◌<◌, ℕ, List, Option, Some, None, Bool, true, false, refl, sym, ap, subst, length, slice_get, option_map, IfSome, ◌&&◌, ◌||◌, not, ValueType, ItemKind, Sort, Entry, Form, form, named_by, sort_named, value_form, value_named_by, children, sort_of, label, defined_label, Meaning, row, meaning_at, IsEarlier, slot_import, Names, meaning_at_entry, Seen, What, Items, plain_what, seen, what, entry_seen, items, entry_what, through, fits, serves, same_form, is_type, IsSided, side_fits, parts_fit}
+use Rattle.std.proofs.Common.{◌≡◌, ◌∙◌, ◌<◌, ℕ, List, Option, Some, None, Bool, true, false, refl, sym, ap, subst, length}
+use Rattle.std.specs.Prelude.{slice_get, option_map, IfSome, ◌&&◌, ◌||◌, not}
+use Rattle.wac_graph_types.specs.declared.kind.ValueType.{ValueType}
 use Rattle.wac_graph_types.specs.declared.kind.ValueType.TheVariants as values
 use Rattle.wac_graph_types.specs.declared.kind.«Type».TheVariants as types
+use Rattle.wac_graph_types.specs.declared.kind.ItemKind.{ItemKind}
 use Rattle.wac_graph_types.specs.declared.kind.ItemKind.TheVariants as kinds
+use Rattle.wac_graph_types.specs.declared.kind.Sort.{Sort}
 use Rattle.wac_graph_types.specs.declared.kind.Sort.TheVariants as sorts
+use Rattle.wac_graph_types.specs.declared.entry.Entry.{Entry}
 use Rattle.wac_graph_types.specs.declared.entry.Entry.TheVariants as entries
 use Rattle.wac_graph_types.specs.declared.entry.DefinedType.{DefinedType}
 use Rattle.wac_graph_types.specs.declared.entry.DefinedType.TheVariants as defined
+use Rattle.wac_graph_types.specs.Kind.{Form, form, named_by, sort_named, value_form, value_named_by}
 use Rattle.wac_graph_types.specs.Kind as forms
+use Rattle.wac_graph_types.specs.Entry.{children, sort_of}
+use Rattle.wac_graph_types.specs.Label.{label, defined_label}
+use Rattle.wac_graph_types.specs.Meaning.{Meaning, row, meaning_at, IsEarlier}
+use Rattle.wac_graph_types.specs.Shape.{slot_import}
+use Rattle.wac_graph_types.specs.Table.{Names}
+use Rattle.wac_graph_types.proofs.Meanings.{meaning_at_entry}
 use Rattle.wac_component_rules.specs.declared.sides.Side.TheVariants as sides
 use Rattle.wac_component_rules.specs.Seen as view
-use Rattle.wac_component_rules.specs.Fits.{stands}
+use Rattle.wac_component_rules.specs.Seen.{Seen, What, Items, plain_what, seen, what, entry_seen, items, entry_what, through}
+use Rattle.wac_component_rules.specs.Fits.{fits, stands, serves, same_form, is_type}
+use Rattle.wac_component_rules.specs.Parts.{IsSided}
+use Rattle.wac_component_rules.specs.Sides.{side_fits, parts_fit}
 use Rattle.wac_component_rules.proofs.Turning.{serves_stands, taken_is_found, form_same, form_differs, and_false}
 
 -- what an entry of a table is, of its label and its parts

@@ -1,4 +1,3 @@
-pub mod Common
 pub mod Turning
 pub mod PartRows
 pub mod SideRows

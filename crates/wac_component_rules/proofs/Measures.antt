@@ -1,7 +1,13 @@
 -- What falls as kinds and entries are compared.
-use Rattle.wac_component_rules.proofs.Common.{◌≡◌, ◌+◌, ◌*◌, ◌<◌, ◌≤◌, ℕ, suc, Option, Some, None, arith, subst, sym, IfSome, ValueType, DefinedTypeId, ItemKind, named_by, value_named_by, NamesBefore}
+use Rattle.std.proofs.Common.{◌≡◌, ◌+◌, ◌*◌, ◌<◌, ◌≤◌, ℕ, suc, Option, Some, None, arith, subst, sym}
+use Rattle.std.specs.Prelude.{IfSome}
+use Rattle.wac_graph_types.specs.declared.kind.ValueType.{ValueType}
 use Rattle.wac_graph_types.specs.declared.kind.ValueType.TheVariants as values
+use Rattle.wac_graph_types.specs.declared.kind.DefinedTypeId.{DefinedTypeId}
+use Rattle.wac_graph_types.specs.declared.kind.ItemKind.{ItemKind}
 use Rattle.wac_graph_types.specs.declared.kind.ItemKind.TheVariants as kinds
+use Rattle.wac_graph_types.specs.Kind.{named_by, value_named_by}
+use Rattle.wac_graph_types.specs.Meaning.{NamesBefore}
 
 -- what is above four times the entry that a kind names
 abbrev pub above_id : Option ℕ → ℕ

@@ -1,6 +1,16 @@
 -- Parts are compared place by place: what is left decides.
-use Rattle.wac_component_rules.proofs.Common.{◌≡◌, ◌∙◌, ◌+◌, ℕ, zero, suc, List, [], ◌∷◌, length, drop, refl, sym, ap, Option, Some, subst, add-one, Bool, true, false, slice_get, IfSome, ◌&&◌, ItemKind, Entry, Slot, children, Plain, Meaning, of_child, row, EachKind, drop_some, drop_past, seen, items, fits, each_fits, same_slot, same_plain, parts_of}
+use Rattle.std.proofs.Common.{◌≡◌, ◌∙◌, ◌+◌, ℕ, zero, suc, List, [], ◌∷◌, length, drop, refl, sym, ap, Option, Some, subst, add-one, Bool, true, false}
+use Rattle.std.specs.Prelude.{slice_get, IfSome, ◌&&◌}
+use Rattle.wac_graph_types.specs.declared.kind.ItemKind.{ItemKind}
+use Rattle.wac_graph_types.specs.declared.entry.Entry.{Entry}
 use Rattle.wac_graph_types.specs.declared.entry.Entry.TheVariants as entries
+use Rattle.wac_graph_types.specs.Entry.{Slot, children}
+use Rattle.wac_graph_types.specs.Label.{Plain}
+use Rattle.wac_graph_types.specs.Meaning.{Meaning, of_child, row, EachKind}
+use Rattle.wac_graph_types.proofs.Rows.{drop_some, drop_past}
+use Rattle.wac_component_rules.specs.Seen.{seen, items}
+use Rattle.wac_component_rules.specs.Fits.{fits, each_fits, same_slot, same_plain}
+use Rattle.wac_component_rules.specs.Parts.{parts_of}
 use Rattle.wac_component_rules.proofs.Turning.{and_false, slot_same, slot_differs, plain_same, plain_differs}
 
 abbrev pub row_fits : (ℕ → Meaning) → List (Slot × Option ItemKind) → List (Slot × Option ItemKind) → Bool

@@ -1,6 +1,10 @@
 -- All pairs in slots fit, also after others are added.
-use Rattle.wac_component_rules.proofs.Common.{◌≡◌, ℕ, List, Option, Some, None, subst, set, replicate, slice_get, IfSome, slice_get_within, get_or_from_slice_get, Entry, AllFit, EntryFits}
+use Rattle.std.proofs.Common.{◌≡◌, ℕ, List, Option, Some, None, subst, set, replicate}
+use Rattle.std.specs.Prelude.{slice_get, IfSome}
+use Rattle.std.proofs.lemmas.Option.{slice_get_within, get_or_from_slice_get}
 use Rattle.std.proofs.lemmas.List.Elements.{All-replicate, All-set}
+use Rattle.wac_graph_types.specs.declared.entry.Entry.{Entry}
+use Rattle.wac_component_rules.specs.Found.{AllFit, EntryFits}
 
 HeldFits : List Entry → Option (ℕ × ℕ) → Type 0
 HeldFits es p = IfSome p (λ q. EntryFits es q.0 q.1)

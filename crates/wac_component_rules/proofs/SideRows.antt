@@ -1,10 +1,26 @@
 -- What interfaces and worlds import and export, read of their meanings, and compared place by place.
-use Rattle.wac_component_rules.proofs.Common.{◌≡◌, ◌∙◌, ◌+◌, ℕ, zero, suc, List, [], ◌∷◌, ◌++◌, length, map, drop, refl, sym, ap, Option, Some, None, subst, add-one, append-nil, Bool, true, false, cond, slice_get, ◌&&◌, string_bytes, String, bytes_eq, Global, ItemKind, Entry, Slot, children, use_children, import_children, export_children, Meaning, of_kind, of_child, row, EachKind, by_name, Named, look_up, slot_import, slot_export, cons_named, drop_some, drop_past, Side, Seen, Items, seen, items, listed, picked, fits, offered, each_found, found_fits, side_items, slot_side, IsSided, side_fits}
+use Rattle.std.proofs.Common.{◌≡◌, ◌∙◌, ◌+◌, ℕ, zero, suc, List, [], ◌∷◌, ◌++◌, length, map, drop, refl, sym, ap, Option, Some, None, subst, add-one, append-nil, Bool, true, false, cond}
+use Rattle.std.specs.Prelude.{slice_get, ◌&&◌, string_bytes, String}
 use Rattle.std.specs.List.{AllByRecursion}
+use Rattle.std.specs.Str.{bytes_eq}
+use Rattle.std.specs.declared.alloc.Global.{Global}
+use Rattle.wac_graph_types.specs.declared.kind.ItemKind.{ItemKind}
+use Rattle.wac_graph_types.specs.declared.entry.Entry.{Entry}
 use Rattle.wac_graph_types.specs.declared.entry.Entry.TheVariants as entries
 use Rattle.wac_graph_types.specs.declared.entry.UsedType.{UsedType}
+use Rattle.wac_graph_types.specs.Entry.{Slot, children, use_children, import_children, export_children}
+use Rattle.wac_graph_types.specs.Meaning.{Meaning, of_kind, of_child, row, EachKind}
+use Rattle.wac_graph_types.specs.Names.{by_name}
+use Rattle.wac_graph_types.specs.Scope.{Named, look_up}
+use Rattle.wac_graph_types.specs.Shape.{slot_import, slot_export, cons_named}
+use Rattle.wac_graph_types.proofs.Rows.{drop_some, drop_past}
+use Rattle.wac_component_rules.specs.declared.sides.Side.{Side}
 use Rattle.wac_component_rules.specs.declared.sides.Side.TheVariants as sides
 use Rattle.wac_component_rules.specs.Seen as view
+use Rattle.wac_component_rules.specs.Seen.{Seen, Items, seen, items, listed, picked}
+use Rattle.wac_component_rules.specs.Fits.{fits, offered, each_found, found_fits}
+use Rattle.wac_component_rules.specs.Parts.{side_items, slot_side, IsSided}
+use Rattle.wac_component_rules.specs.Sides.{side_fits}
 
 -- kinds by name, as the rules see them; and each with what it fits
 abbrev pub seen_items : (ℕ → Meaning) → Named ItemKind → Named Seen

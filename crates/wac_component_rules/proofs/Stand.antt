@@ -1,8 +1,22 @@
 -- Entries of a table that are compared, and what is read of them.
-use Rattle.wac_component_rules.proofs.Common.{◌≡◌, ◌∙◌, ◌*◌, ◌≤◌, ℕ, suc, List, [], ◌∷◌, Option, Some, None, Bool, true, false, refl, sym, ap, subst, arith, length, slice_get, option_map, IfSome, ◌&&◌, IsTrue, ◌↔◌, String, Global, by_name, ItemKind, Entry, Slot, sort_of, Meaning, of_child, meaning_at, NamesBefore, IsEarlier, Named, look_up, IsTable, IsOfSort, Names, entry_names, each_entry_named, Side, seen, what, fits, same_plain, each_found, parts_of, plain_of, side_items, OfOneSort, IsSided, side_fits, parts_fit}
+use Rattle.std.proofs.Common.{◌≡◌, ◌∙◌, ◌*◌, ◌≤◌, ℕ, suc, List, [], ◌∷◌, Option, Some, None, Bool, true, false, refl, sym, ap, subst, arith, length}
+use Rattle.std.specs.Prelude.{slice_get, option_map, IfSome, ◌&&◌, IsTrue, ◌↔◌, String}
+use Rattle.std.specs.declared.alloc.Global.{Global}
+use Rattle.wac_graph_types.specs.Names.{by_name}
+use Rattle.wac_graph_types.specs.declared.kind.ItemKind.{ItemKind}
 use Rattle.wac_graph_types.specs.declared.kind.Sort.TheVariants as sorts
+use Rattle.wac_graph_types.specs.declared.entry.Entry.{Entry}
+use Rattle.wac_graph_types.specs.Entry.{Slot, sort_of}
+use Rattle.wac_graph_types.specs.Meaning.{Meaning, of_child, meaning_at, NamesBefore, IsEarlier}
+use Rattle.wac_graph_types.specs.Scope.{Named, look_up}
+use Rattle.wac_graph_types.specs.Table.{IsTable, IsOfSort, Names}
+use Rattle.wac_graph_types.proofs.Tables.{entry_names, each_entry_named}
+use Rattle.wac_component_rules.specs.declared.sides.Side.{Side}
 use Rattle.wac_component_rules.specs.declared.sides.Side.TheVariants as sides
-use Rattle.wac_component_rules.specs.Fits.{stands}
+use Rattle.wac_component_rules.specs.Seen.{seen, what}
+use Rattle.wac_component_rules.specs.Fits.{fits, stands, same_plain, each_found}
+use Rattle.wac_component_rules.specs.Parts.{parts_of, plain_of, side_items, OfOneSort, IsSided}
+use Rattle.wac_component_rules.specs.Sides.{side_fits, parts_fit}
 use Rattle.wac_component_rules.proofs.Turning.{and_false}
 use Rattle.wac_component_rules.proofs.Aliases.{entry_there}
 use Rattle.wac_component_rules.proofs.Entries.{IsMade, made_stands, sided, sided_stands}

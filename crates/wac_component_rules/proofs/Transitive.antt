@@ -1,7 +1,16 @@
 -- What fits a kind that fits a third one fits that.
-use Rattle.wac_component_rules.proofs.Common.{◌≡◌, ◌∙◌, ℕ, List, [], ◌∷◌, map, refl, sym, ap, subst, Option, Some, None, Bool, true, false, cond, ◌&&◌, ◌||◌, not, bytes_eq, bytes_eq-Decides, Slot, Form, Plain, Named, look_up, slot_import, slot_export, cons_named, Seen, What, Items, listed, picked, same_plain, same_form, same_slot, is_type, found_fits, each_found, each_taken, fits, serves, each_fits, offered, demanded}
+use Rattle.std.proofs.Common.{◌≡◌, ◌∙◌, ℕ, List, [], ◌∷◌, map, refl, sym, ap, subst, Option, Some, None, Bool, true, false, cond}
+use Rattle.std.specs.Prelude.{◌&&◌, ◌||◌, not}
+use Rattle.std.specs.Str.{bytes_eq}
+use Rattle.std.proofs.lemmas.Slice.Eq.{bytes_eq-Decides}
+use Rattle.wac_graph_types.specs.Entry.{Slot}
+use Rattle.wac_graph_types.specs.Kind.{Form}
+use Rattle.wac_graph_types.specs.Label.{Plain}
+use Rattle.wac_graph_types.specs.Scope.{Named, look_up}
+use Rattle.wac_graph_types.specs.Shape.{slot_import, slot_export, cons_named}
 use Rattle.wac_component_rules.specs.Seen as view
-use Rattle.wac_component_rules.specs.Fits.{stands}
+use Rattle.wac_component_rules.specs.Seen.{Seen, What, Items, listed, picked}
+use Rattle.wac_component_rules.specs.Fits.{same_plain, same_form, same_slot, is_type, found_fits, each_found, each_taken, fits, stands, serves, each_fits, offered, demanded}
 use Rattle.wac_component_rules.proofs.Itself.{and_true, fit_of}
 use Rattle.wac_component_rules.proofs.Turning.{form_same, form_truly, plain_same, plain_truly, slot_same, slot_truly, serves_stands, taken_is_found}
 use Rattle.wac_component_rules.proofs.SideRows.{fit_listed}

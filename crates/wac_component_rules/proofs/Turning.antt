@@ -1,9 +1,18 @@
 -- What fits is what is accepted the other way round.
-use Rattle.wac_component_rules.proofs.Common.{◌≡◌, ◌∙◌, ℕ, List, Option, Some, None, Bool, true, false, refl, sym, ap, subst, cond, ◌&&◌, ◌||◌, not, bytes_eq, Form, Slot, Plain, plain, kind, absent, Meaning, node, done, more, look_up, slot_import, slot_export, cons_named, Seen, What, Items, listed, picked, same_plain, same_form, same_slot, is_type, found_fits, each_found, fits_found, each_taken, fits, accepts, serves, each_fits, each_accepts, offered, demanded}
+use Rattle.std.proofs.Common.{◌≡◌, ◌∙◌, ℕ, List, Option, Some, None, Bool, true, false, refl, sym, ap, subst, cond}
+use Rattle.std.specs.Prelude.{◌&&◌, ◌||◌, not}
+use Rattle.std.specs.Str.{bytes_eq}
 use Rattle.std.proofs.Math.Bool.{decide}
 use Rattle.wac_graph_types.specs.Equality.{meaning_discrete}
+use Rattle.wac_graph_types.specs.Kind.{Form}
+use Rattle.wac_graph_types.specs.Entry.{Slot}
+use Rattle.wac_graph_types.specs.Label.{Plain, plain, kind, absent}
+use Rattle.wac_graph_types.specs.Meaning.{Meaning, node, done, more}
+use Rattle.wac_graph_types.specs.Scope.{look_up}
+use Rattle.wac_graph_types.specs.Shape.{slot_import, slot_export, cons_named}
 use Rattle.wac_component_rules.specs.Seen as view
-use Rattle.wac_component_rules.specs.Fits.{stands}
+use Rattle.wac_component_rules.specs.Seen.{Seen, What, Items, listed, picked}
+use Rattle.wac_component_rules.specs.Fits.{same_plain, same_form, same_slot, is_type, found_fits, each_found, fits_found, each_taken, fits, accepts, stands, serves, each_fits, each_accepts, offered, demanded}
 
 -- ---- equality of labels, as a truth value
 

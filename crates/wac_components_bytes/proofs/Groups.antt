@@ -1,9 +1,12 @@
 -- Groups of seven bits, read one by one.
-use Rattle.wac_components_bytes.proofs.Common.{◌≡◌, ℕ, suc, ◌+◌, ◌*◌, ◌%◌, ◌^◌, ◌<◌, ◌≤◌, List, [], ◌∷◌, ◌++◌, length, refl, sym, ap, ◌∙◌, arith, append_assoc, length_push, of_groups, IsGroups, Reads}
+use Rattle.std.proofs.Common.{◌≡◌, ℕ, suc, ◌+◌, ◌*◌, ◌%◌, ◌^◌, ◌<◌, ◌≤◌, List, [], ◌∷◌, ◌++◌, length, refl, sym, ap, ◌∙◌, arith, append_assoc}
 use Rattle.std.specs.List.{All}
 use Rattle.std.specs.Int.Bits.{bit_or, bit_and}
+use Rattle.std.proofs.lemmas.List.{length_push}
 use Rattle.std.proofs.lemmas.List.Elements.{All-push, All-nil}
 use Rattle.std.proofs.lemmas.Nat.{pow-add, or_shifted, or_comm, and_mask, shl_whole}
+use Rattle.wac_components_bytes.specs.Leb128.{of_groups, IsGroups}
+use Rattle.wac_components_bytes.specs.Reading.{Reads}
 
 -- each group weighs 128 times as much as the one before
 pub weight-suc : (k : ℕ) → 2 ^ (7 * suc k) ≡ 128 * 2 ^ (7 * k)

@@ -1,5 +1,8 @@
 -- What is unread, before and after a byte or a name.
-use Rattle.wac_components_bytes.proofs.Common.{◌≡◌, ℕ, ◌+◌, ◌-◌, ◌<◌, ◌≤◌, List, [], ◌∷◌, ◌++◌, length, take, drop, get_or, refl, sym, ap, subst, ◌∙◌, arith, append_assoc, drop_more, drop-drop, get_or-take, length-take-le, length-drop, take-append-drop, drop-take, take-take, IsLeb128, Reads, IsName}
+use Rattle.std.proofs.Common.{◌≡◌, ℕ, ◌+◌, ◌-◌, ◌<◌, ◌≤◌, List, [], ◌∷◌, ◌++◌, length, take, drop, get_or, refl, sym, ap, subst, ◌∙◌, arith, append_assoc}
+use Rattle.std.proofs.lemmas.List.{drop_more, drop-drop, get_or-take, length-take-le, length-drop, take-append-drop, drop-take, take-take}
+use Rattle.wac_components_bytes.specs.Leb128.{IsLeb128}
+use Rattle.wac_components_bytes.specs.Reading.{Reads, IsName}
 
 -- the byte at a place before the end is what is unread first
 pub unread_first :

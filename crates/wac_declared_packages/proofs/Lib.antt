@@ -1,4 +1,3 @@
-pub mod Common
 mod Copies
 mod Declares
 mod First

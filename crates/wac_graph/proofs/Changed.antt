@@ -1,5 +1,10 @@
 -- Nodes that are changed in their place.
-use Rattle.wac_graph.proofs.Common.{◌≡◌, ◌∙◌, ◌<◌, ℕ, Option, Some, None, List, [], length, refl, sym, ap, subst, slice_get, slice_set, option_and_then, IsSome, slice_get_within, Named, IsFresh, Node, package_in, arguments_in, arguments_at, changed_in}
+use Rattle.std.proofs.Common.{◌≡◌, ◌∙◌, ◌<◌, ℕ, Option, Some, None, List, [], length, refl, sym, ap, subst}
+use Rattle.std.specs.Prelude.{slice_get, slice_set, option_and_then, IsSome}
+use Rattle.std.proofs.lemmas.Option.{slice_get_within}
+use Rattle.wac_graph_types.specs.Scope.{Named, IsFresh}
+use Rattle.wac_graph.specs.Node.{Node, package_in, arguments_in}
+use Rattle.wac_graph.specs.HeldNodes.{arguments_at, changed_in}
 
 -- an instance is among the nodes
 pub instance_there : (ns : List Node) (i : ℕ) → IsSome (option_and_then (λ (n : Node). package_in n.form) (slice_get ns i)) → i < length ns

@@ -1,4 +1,3 @@
-pub mod Common
 pub mod Numbers
 pub mod Sound
 pub mod Exported

@@ -1,5 +1,10 @@
 -- Nodes that are found by name.
-use Rattle.wac_graph.proofs.Common.{◌≡◌, ◌∙◌, ℕ, List, [], ◌∷◌, Option, Some, None, Bool, true, false, cond, refl, ap, option_map, bytes_eq, Named, look_up, with_named, IsFresh, numbers_of, NodeId}
+use Rattle.std.proofs.Common.{◌≡◌, ◌∙◌, ℕ, List, [], ◌∷◌, Option, Some, None, Bool, true, false, cond, refl, ap}
+use Rattle.std.specs.Prelude.{option_map}
+use Rattle.std.specs.Str.{bytes_eq}
+use Rattle.wac_graph_types.specs.Scope.{Named, look_up, with_named, IsFresh}
+use Rattle.wac_graph.specs.NodeNames.{numbers_of}
+use Rattle.wac_graph.specs.declared.node.NodeId.{NodeId}
 
 -- the number of the node that a name finds
 pub number_found : (name : List ℕ) (names : Named NodeId) → option_map (λ n. n.0) (look_up name names) ≡ look_up name (numbers_of names)

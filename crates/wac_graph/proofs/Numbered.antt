@@ -1,5 +1,7 @@
 -- Origins can be numbered: no two have one number.
-use Rattle.wac_graph.proofs.Common.{◌≡◌, ◌∙◌, ◌<◌, ◌+◌, ℕ, zero, suc, List, [], ◌∷◌, Option, Some, None, refl, ap, arith, Key, Origin, declared, copied, IsOneToOne, coded, coded_text, coded_version, numbered}
+use Rattle.std.proofs.Common.{◌≡◌, ◌∙◌, ◌<◌, ◌+◌, ℕ, zero, suc, List, [], ◌∷◌, Option, Some, None, refl, ap, arith}
+use Rattle.wac_graph.specs.Package.{Key}
+use Rattle.wac_graph.specs.Origin.{Origin, declared, copied, IsOneToOne, coded, coded_text, coded_version, numbered}
 
 positive : (a b : ℕ) → 0 < coded a b
 unfolding coded

@@ -1,5 +1,14 @@
 -- What is read of a graph stays through each building call.
-use Rattle.wac_graph.proofs.Common.{◌≡◌, ℕ, Option, Some, None, List, [], length, refl, slice_get, slice_set, ItemKind, Entry, PackageParts, IsGrown, Key, moved_package, Node, import, definition, alias, instantiation, Parts, plain_node, changed, given_too, with_entry, with_package, with_import, with_definition, with_export, with_alias, with_instantiation, with_name, with_argument, Keeps}
+use Rattle.std.proofs.Common.{◌≡◌, ℕ, Option, Some, None, List, [], length, refl}
+use Rattle.std.specs.Prelude.{slice_get, slice_set}
+use Rattle.wac_graph_types.specs.declared.kind.ItemKind.{ItemKind}
+use Rattle.wac_graph_types.specs.declared.entry.Entry.{Entry}
+use Rattle.wac_graph_types.specs.Package.{PackageParts}
+use Rattle.wac_graph_copies.specs.Copied.{IsGrown}
+use Rattle.wac_graph.specs.Package.{Key, moved_package}
+use Rattle.wac_graph.specs.Node.{Node, import, definition, alias, instantiation}
+use Rattle.wac_graph.specs.Graph.{Parts, plain_node, changed, given_too, with_entry, with_package, with_import, with_definition, with_export, with_alias, with_instantiation, with_name, with_argument}
+use Rattle.wac_graph.specs.Kept.{Keeps}
 use Rattle.wac_graph.proofs.Keeping.{Stay, extends_keeps, no_more, one_more, all_stay, stay_more, stay_set}
 
 pub entry_keeps : (g : Parts) (e : Entry) → Keeps g (with_entry g e)

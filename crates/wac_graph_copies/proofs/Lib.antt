@@ -1,4 +1,3 @@
-pub mod Common
 pub mod Views
 pub mod Copying
 pub mod Copies

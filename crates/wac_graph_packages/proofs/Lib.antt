@@ -1,4 +1,3 @@
-pub mod Common
 mod Assembling
 mod Choosing
 mod Defining

@@ -1,7 +1,17 @@
 -- Whether an entry's meaning contains a borrow is decided by what is in it, place by place, and known of each entry.
-use Rattle.wac_graph_types.proofs.Common.{◌≡◌, ◌∙◌, ◌+◌, ℕ, zero, suc, List, [], ◌∷◌, ◌++◌, length, drop, map, Option, Some, None, Bool, true, false, ◌||◌, refl, sym, ap, subst, add-one, map-append, slice_get, ItemKind, Entry, Slot, children, label, Meaning, look, over, meanings_from, meaning_at, meaning, of_child, row, AreBorrows, is_resource, borrows, contains_borrow, row_contains_borrow}
+use Rattle.std.proofs.Common.{◌≡◌, ◌∙◌, ◌+◌, ℕ, zero, suc, List, [], ◌∷◌, ◌++◌, length, drop, map, Option, Some, None, Bool, true, false, ◌||◌, refl, sym, ap, subst, add-one}
+use Rattle.std.proofs.lemmas.List.{map-append}
+use Rattle.std.specs.Prelude.{slice_get}
+use Rattle.wac_graph_types.specs.declared.kind.ItemKind.{ItemKind}
+use Rattle.wac_graph_types.specs.declared.entry.Entry.{Entry}
 use Rattle.wac_graph_types.specs.declared.entry.Entry.TheVariants as entries
 use Rattle.wac_graph_types.specs.declared.entry.DefinedType.TheVariants as defined
+use Rattle.wac_graph_types.specs.Entry.{Slot, children}
+use Rattle.wac_graph_types.specs.Label.{label}
+use Rattle.wac_graph_types.specs.Meaning.{Meaning, look, over, meanings_from, meaning_at, meaning, of_child, row}
+use Rattle.wac_graph_types.specs.Borrows.{AreBorrows}
+use Rattle.wac_graph_types.specs.Readings.{is_resource}
+use Rattle.wac_graph_types.specs.Shape.{borrows, contains_borrow, row_contains_borrow}
 use Rattle.wac_graph_types.proofs.Meanings.{split}
 use Rattle.wac_graph_types.proofs.Rows.{drop_some, drop_past}
 

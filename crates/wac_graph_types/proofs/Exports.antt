@@ -1,8 +1,24 @@
 -- An interface or world of a table has exports that name earlier entries.
-use Rattle.wac_graph_types.proofs.Common.{◌≡◌, ◌<◌, ◌++◌, ℕ, zero, suc, List, [], ◌∷◌, length, arith, rules, Option, Some, None, Bool, sym, ap, ◌∙◌, slice_get, option_map, option_and_then, IsSome, IsTrue, ◌↔◌, String, Global, ItemKind, Entry, Interface, World, Slot, sort_of, use_children, import_children, export_children, as_interface, as_world, ChildrenBefore, IsEarlier, Meaning, row, meaning_at, IsOneToOne, by_name, SameExports, OtherExports, interface_exports, world_exports, Named, items_mean, items_in, slot_export, row_from, exporting, WorldId}
+use Rattle.std.proofs.Common.{◌≡◌, ◌<◌, ◌++◌, ℕ, zero, suc, List, [], ◌∷◌, length, arith, rules, Option, Some, None, Bool, sym, ap, ◌∙◌}
+use Rattle.std.specs.Prelude.{slice_get, option_map, option_and_then, IsSome, IsTrue, ◌↔◌, String}
+use Rattle.std.specs.declared.alloc.Global.{Global}
+use Rattle.wac_graph_types.specs.declared.kind.ItemKind.{ItemKind}
 use Rattle.wac_graph_types.specs.declared.kind.Sort.TheVariants as sorts
+use Rattle.wac_graph_types.specs.declared.entry.Entry.{Entry}
 use Rattle.wac_graph_types.specs.declared.entry.Entry.TheVariants as entries
+use Rattle.wac_graph_types.specs.declared.entry.Interface.{Interface}
+use Rattle.wac_graph_types.specs.declared.entry.World.{World}
+use Rattle.wac_graph_types.specs.Entry.{Slot, sort_of, use_children, import_children, export_children}
+use Rattle.wac_graph_types.specs.Readings.{as_interface, as_world}
+use Rattle.wac_graph_types.specs.Meaning.{ChildrenBefore, IsEarlier}
+use Rattle.wac_graph_types.specs.Meaning.{Meaning, row, meaning_at, IsOneToOne}
+use Rattle.wac_graph_types.specs.Names.{by_name}
+use Rattle.wac_graph_types.specs.Package.{SameExports, OtherExports}
+use Rattle.wac_graph_types.specs.Readings.{interface_exports, world_exports}
+use Rattle.wac_graph_types.specs.Scope.{Named}
+use Rattle.wac_graph_types.specs.Shape.{items_mean, items_in, slot_export, row_from, exporting}
 use Rattle.wac_graph_types.specs.declared.kind.InterfaceId.{InterfaceId}
+use Rattle.wac_graph_types.specs.declared.kind.WorldId.{WorldId}
 use Rattle.wac_graph_types.proofs.Parts.{exports_row, exports_read}
 use Rattle.wac_graph_types.proofs.Rows.{earlier_from, before_more}
 

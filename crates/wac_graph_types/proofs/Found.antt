@@ -1,9 +1,24 @@
 -- What a table has under a name is what is read of the meaning.
-use Rattle.wac_graph_types.proofs.Common.{◌≡◌, ◌∙◌, ℕ, List, [], ◌∷◌, ◌++◌, Option, Some, None, Bool, true, false, cond, refl, sym, ap, subst, slice_get, option_map, option_and_then, String, Global, bytes_eq, ItemKind, WorldId, Entry, Interface, World, Slot, sort_of, use_children, import_children, export_children, Meaning, of_kind, EachKind, by_name, as_interface, as_world, interface_exports, world_exports, world_imports, kind_exports, instance_exports, Named, look_up, items_mean, IsOver, exports_of, imports_of, export_of, Names, ItemsNamed, EachEntryNamed}
+use Rattle.std.proofs.Common.{◌≡◌, ◌∙◌, ℕ, List, [], ◌∷◌, ◌++◌, Option, Some, None, Bool, true, false, cond, refl, sym, ap, subst}
+use Rattle.std.specs.Prelude.{slice_get, option_map, option_and_then, String}
+use Rattle.std.specs.declared.alloc.Global.{Global}
+use Rattle.std.specs.Str.{bytes_eq}
+use Rattle.wac_graph_types.specs.declared.kind.ItemKind.{ItemKind}
 use Rattle.wac_graph_types.specs.declared.kind.ItemKind.TheVariants as kinds
 use Rattle.wac_graph_types.specs.declared.kind.«Type».TheVariants as types
+use Rattle.wac_graph_types.specs.declared.kind.WorldId.{WorldId}
 use Rattle.wac_graph_types.specs.declared.kind.Sort.TheVariants as sorts
+use Rattle.wac_graph_types.specs.declared.entry.Entry.{Entry}
 use Rattle.wac_graph_types.specs.declared.entry.Entry.TheVariants as entries
+use Rattle.wac_graph_types.specs.declared.entry.Interface.{Interface}
+use Rattle.wac_graph_types.specs.declared.entry.World.{World}
+use Rattle.wac_graph_types.specs.Entry.{Slot, sort_of, use_children, import_children, export_children}
+use Rattle.wac_graph_types.specs.Meaning.{Meaning, of_kind, EachKind}
+use Rattle.wac_graph_types.specs.Names.{by_name}
+use Rattle.wac_graph_types.specs.Readings.{as_interface, as_world, interface_exports, world_exports, world_imports, kind_exports, instance_exports}
+use Rattle.wac_graph_types.specs.Scope.{Named, look_up}
+use Rattle.wac_graph_types.specs.Shape.{items_mean, IsOver, exports_of, imports_of, export_of}
+use Rattle.wac_graph_types.specs.Table.{Names, ItemsNamed, EachEntryNamed}
 use Rattle.wac_graph_types.proofs.Shapes.{items_found}
 use Rattle.wac_graph_types.proofs.Parts as parts
 

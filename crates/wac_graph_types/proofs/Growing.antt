@@ -1,6 +1,9 @@
 -- A table that grows keeps its meanings.
-use Rattle.wac_graph_types.proofs.Common.{◌≡◌, List, [], ◌∷◌, ◌++◌, sym, subst, ap, ◌∙◌, Entry, Names, meaning}
+use Rattle.std.proofs.Common.{◌≡◌, List, [], ◌∷◌, ◌++◌, sym, subst, ap, ◌∙◌}
+use Rattle.wac_graph_types.specs.declared.entry.Entry.{Entry}
 use Rattle.wac_graph_types.specs.Growth.{KeepsMeanings, KeepsNames}
+use Rattle.wac_graph_types.specs.Table.{Names}
+use Rattle.wac_graph_types.specs.Meaning.{meaning}
 use Rattle.wac_graph_types.proofs.Meanings.{grown}
 use Rattle.wac_graph_types.proofs.Tables.{names_kept}
 

@@ -1,4 +1,3 @@
-pub mod Common
 pub mod Meanings
 pub mod Rows
 pub mod Each

@@ -1,5 +1,11 @@
 -- A map by name, entry by entry.
-use Rattle.wac_graph_types.proofs.Common.{◌≡◌, ◌∙◌, ℕ, zero, suc, Some, List, [], ◌∷◌, refl, sym, ap, subst, length, String, string_bytes, slice_get, Global, ItemKind, Entry, by_name, Names, ItemsNamed}
+use Rattle.std.proofs.Common.{◌≡◌, ◌∙◌, ℕ, zero, suc, Some, List, [], ◌∷◌, refl, sym, ap, subst, length}
+use Rattle.std.specs.Prelude.{String, string_bytes, slice_get}
+use Rattle.std.specs.declared.alloc.Global.{Global}
+use Rattle.wac_graph_types.specs.declared.kind.ItemKind.{ItemKind}
+use Rattle.wac_graph_types.specs.declared.entry.Entry.{Entry}
+use Rattle.wac_graph_types.specs.Names.{by_name}
+use Rattle.wac_graph_types.specs.Table.{Names, ItemsNamed}
 
 pub listed_at : {X : Type 0} (es : List (String Global × X)) (k : ℕ) (name : String Global) (x : X) → slice_get es k ≡ Some (name, x) → slice_get (by_name es) k ≡ Some (string_bytes name, x)
 listed_at [] k name x is = absurd (cc)

@@ -1,6 +1,14 @@
 -- A table's meanings stay as it grows, and each is a label over the meanings of what it names.
-use Rattle.wac_graph_types.proofs.Common.{◌≡◌, ◌+◌, ◌<◌, ◌≤◌, ℕ, zero, suc, List, [], ◌∷◌, ◌++◌, length, refl, sym, ◌∙◌, ap, arith, length-append, Option, Some, None, subst, slice_get, IfSome, get_or_append_left, ItemKind, Entry, form, named_by, Slot, children, plain, kind, dangling, label, Meaning, node, done, look, named, of_child, row, over, meanings_from, meaning_at, meaning, NamesBefore, ChildrenBefore, EarlierFrom, IsEarlier}
+use Rattle.std.proofs.Common.{◌≡◌, ◌+◌, ◌<◌, ◌≤◌, ℕ, zero, suc, List, [], ◌∷◌, ◌++◌, length, refl, sym, ◌∙◌, ap, arith, length-append, Option, Some, None, subst}
+use Rattle.std.specs.Prelude.{slice_get, IfSome}
+use Rattle.std.proofs.lemmas.List.{get_or_append_left}
 use Rattle.std.proofs.Math.Seq.{get_or-append_seam}
+use Rattle.wac_graph_types.specs.declared.kind.ItemKind.{ItemKind}
+use Rattle.wac_graph_types.specs.declared.entry.Entry.{Entry}
+use Rattle.wac_graph_types.specs.Kind.{form, named_by}
+use Rattle.wac_graph_types.specs.Entry.{Slot, children}
+use Rattle.wac_graph_types.specs.Label.{plain, kind, dangling, label}
+use Rattle.wac_graph_types.specs.Meaning.{Meaning, node, done, look, named, of_child, row, over, meanings_from, meaning_at, meaning, NamesBefore, ChildrenBefore, EarlierFrom, IsEarlier}
 
 -- older meanings stay
 pub look_kept : (o : ℕ → ℕ) (es : List Entry) (ms : List Meaning) (i : ℕ) → i < length ms → look (meanings_from o ms es) i ≡ look ms i

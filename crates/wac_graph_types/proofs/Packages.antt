@@ -1,6 +1,12 @@
 -- What a package names is in its table.
-use Rattle.wac_graph_types.proofs.Common.{length, List, [], ◌∷◌, ℕ, ItemKind, Entry, children, NamesBefore, EachKind, PackageParts, IsPackage, EachItem, IsOfSort, Names, IsTable, ItemsNamed}
+use Rattle.std.proofs.Common.{length, List, [], ◌∷◌, ℕ}
+use Rattle.wac_graph_types.specs.declared.kind.ItemKind.{ItemKind}
 use Rattle.wac_graph_types.specs.declared.kind.ItemKind.TheVariants as kinds
+use Rattle.wac_graph_types.specs.declared.entry.Entry.{Entry}
+use Rattle.wac_graph_types.specs.Entry.{children}
+use Rattle.wac_graph_types.specs.Meaning.{NamesBefore, EachKind}
+use Rattle.wac_graph_types.specs.Package.{PackageParts, IsPackage, EachItem}
+use Rattle.wac_graph_types.specs.Table.{IsOfSort, Names, IsTable, ItemsNamed}
 use Rattle.wac_graph_types.proofs.Each.{all_each}
 
 pub package_table : (p : PackageParts) → IsPackage p → IsTable p.types

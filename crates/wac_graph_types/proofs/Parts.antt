@@ -1,13 +1,25 @@
 -- What an entry means, made of its parts.
-use Rattle.wac_graph_types.proofs.Common.{◌≡◌, ℕ, List, [], ◌∷◌, ◌++◌, map, Some, Option, refl, ◌∙◌, ap, string_bytes, option_map, String, Global, ItemKind, DefinedType, FuncType, Interface, World, Slot, children, defined_children, use_children, import_children, export_children, value_children, case_children, Plain, plain, defined_label, Meaning, node, Row, row, of_kind, of_child, by_name, nothing, row_from, exporting, importing, using, naming_each, tuple_children, name_children, interface_entry, world_entry, func_entry, named_results, exports_of, imports_of, uses_of, id_of, items_mean, values_mean, cases_mean, types_mean, uses_mean, optional_means, results_mean, entry_over, defined_parts, items_in, slot_export}
+use Rattle.std.proofs.Common.{◌≡◌, ℕ, List, [], ◌∷◌, ◌++◌, map, Some, Option, refl, ◌∙◌, ap}
+use Rattle.std.specs.Prelude.{string_bytes, option_map, String}
+use Rattle.std.specs.declared.alloc.Global.{Global}
+use Rattle.wac_graph_types.specs.declared.kind.ItemKind.{ItemKind}
 use Rattle.wac_graph_types.specs.declared.kind.ItemKind.TheVariants as kinds
 use Rattle.wac_graph_types.specs.declared.kind.ValueType.{ValueType}
 use Rattle.wac_graph_types.specs.declared.entry.Entry.TheVariants as entries
+use Rattle.wac_graph_types.specs.declared.entry.DefinedType.{DefinedType}
 use Rattle.wac_graph_types.specs.declared.entry.DefinedType.TheVariants as defined
 use Rattle.wac_graph_types.specs.declared.entry.FuncResults.{FuncResults}
 use Rattle.wac_graph_types.specs.declared.entry.FuncResults.TheVariants as results
+use Rattle.wac_graph_types.specs.declared.entry.FuncType.{FuncType}
+use Rattle.wac_graph_types.specs.declared.entry.Interface.{Interface}
+use Rattle.wac_graph_types.specs.declared.entry.World.{World}
 use Rattle.wac_graph_types.specs.declared.entry.UsedType.{UsedType}
 use Rattle.wac_graph_types.specs.Entry as slots
+use Rattle.wac_graph_types.specs.Entry.{Slot, children, defined_children, use_children, import_children, export_children, value_children, case_children}
+use Rattle.wac_graph_types.specs.Label.{Plain, plain, defined_label}
+use Rattle.wac_graph_types.specs.Meaning.{Meaning, node, Row, row, of_kind, of_child}
+use Rattle.wac_graph_types.specs.Names.{by_name}
+use Rattle.wac_graph_types.specs.Shape.{nothing, row_from, exporting, importing, using, naming_each, tuple_children, name_children, interface_entry, world_entry, func_entry, named_results, exports_of, imports_of, uses_of, id_of, items_mean, values_mean, cases_mean, types_mean, uses_mean, optional_means, results_mean, entry_over, defined_parts, items_in, slot_export}
 use Rattle.wac_graph_types.proofs.Shapes.{exports_back, interface_exports_back, interface_uses_back, world_exports_back, world_imports_back, world_uses_back}
 
 -- the kinds in an entry, each with its meaning

@@ -1,7 +1,15 @@
 -- An entry of a table read as one of its sort.
-use Rattle.wac_graph_types.proofs.Common.{◌≡◌, ◌∙◌, ◌<◌, ◌≤◌, ℕ, List, Option, None, length, get_or, refl, sym, ap, slice_get, option_and_then, slice_get_past, Entry, DefinedType, FuncType, Interface, World, as_defined, as_resource, as_func, as_interface, as_world}
+use Rattle.std.proofs.Common.{◌≡◌, ◌∙◌, ◌<◌, ◌≤◌, ℕ, List, Option, None, length, get_or, refl, sym, ap}
+use Rattle.std.specs.Prelude.{slice_get, option_and_then}
+use Rattle.std.proofs.lemmas.Option.{slice_get_past}
+use Rattle.wac_graph_types.specs.declared.entry.Entry.{Entry}
 use Rattle.wac_graph_types.specs.declared.entry.Entry.TheVariants as entries
+use Rattle.wac_graph_types.specs.declared.entry.DefinedType.{DefinedType}
 use Rattle.wac_graph_types.specs.declared.entry.Resource.{Resource}
+use Rattle.wac_graph_types.specs.declared.entry.FuncType.{FuncType}
+use Rattle.wac_graph_types.specs.declared.entry.Interface.{Interface}
+use Rattle.wac_graph_types.specs.declared.entry.World.{World}
+use Rattle.wac_graph_types.specs.Readings.{as_defined, as_resource, as_func, as_interface, as_world}
 use Rattle.wac_graph_types.proofs.Rows.{stands}
 
 pub read_at : {Y : Type 0} (f : Entry → Option Y) (es : List Entry) (n : ℕ) (e : Entry) (o : Option Y)

@@ -1,9 +1,16 @@
 -- What is read of a meaning is what its kind says.
-use Rattle.wac_graph_types.proofs.Common.{◌≡◌, ℕ, List, [], ◌∷◌, ◌++◌, Some, None, Option, Bool, true, false, cond, refl, ◌∙◌, ap, append-nil, option_map, bytes_eq, ItemKind, Slot, Meaning, of_kind, Named, look_up, form_of, described, promoted, Uses, row_from, exporting, importing, using, interface_entry, world_entry, exports_of, imports_of, uses_of, id_of, items_in, cons_named, slot_export, slot_import, slot_use, items_mean}
+use Rattle.std.proofs.Common.{◌≡◌, ℕ, List, [], ◌∷◌, ◌++◌, Some, None, Option, Bool, true, false, cond, refl, ◌∙◌, ap, append-nil}
+use Rattle.std.specs.Prelude.{option_map}
+use Rattle.std.specs.Str.{bytes_eq}
 use Rattle.wac_graph_types.specs.declared.kind.«Type».TheVariants as types
+use Rattle.wac_graph_types.specs.declared.kind.ItemKind.{ItemKind}
 use Rattle.wac_graph_types.specs.declared.kind.ItemKind.TheVariants as kinds
 use Rattle.wac_graph_types.specs.Kind as forms
 use Rattle.wac_graph_types.specs.Words as words
+use Rattle.wac_graph_types.specs.Entry.{Slot}
+use Rattle.wac_graph_types.specs.Meaning.{Meaning, of_kind}
+use Rattle.wac_graph_types.specs.Scope.{Named, look_up}
+use Rattle.wac_graph_types.specs.Shape.{form_of, described, promoted, Uses, row_from, exporting, importing, using, interface_entry, world_entry, exports_of, imports_of, uses_of, id_of, items_in, cons_named, slot_export, slot_import, slot_use, items_mean}
 
 -- ---- kinds
 

@@ -1,6 +1,14 @@
 -- A table stays one as entries are added that name older ones.
-use Rattle.wac_graph_types.proofs.Common.{◌≡◌, ◌<◌, ℕ, zero, suc, Option, Some, None, List, [], ◌∷◌, ◌++◌, length, length-append, subst, arith, slice_get, option_map, IfSome, slice_get_within, ItemKind, Entry, named_by, sort_named, Slot, children, sort_of, EachKind, EachFrom, NamesBefore, IsOfSort, Names, IsTable, EachEntryNamed}
+use Rattle.std.proofs.Common.{◌≡◌, ◌<◌, ℕ, zero, suc, Option, Some, None, List, [], ◌∷◌, ◌++◌, length, length-append, subst, arith}
+use Rattle.std.specs.Prelude.{slice_get, option_map, IfSome}
+use Rattle.std.proofs.lemmas.Option.{slice_get_within}
+use Rattle.wac_graph_types.specs.declared.kind.ItemKind.{ItemKind}
 use Rattle.wac_graph_types.specs.declared.kind.Sort.{Sort}
+use Rattle.wac_graph_types.specs.declared.entry.Entry.{Entry}
+use Rattle.wac_graph_types.specs.Kind.{named_by, sort_named}
+use Rattle.wac_graph_types.specs.Entry.{Slot, children, sort_of}
+use Rattle.wac_graph_types.specs.Meaning.{EachKind, EachFrom, NamesBefore}
+use Rattle.wac_graph_types.specs.Table.{IsOfSort, Names, IsTable, EachEntryNamed}
 use Rattle.wac_graph_types.proofs.Meanings.{is_earlier_more, names_before_more}
 use Rattle.wac_graph_types.proofs.Rows.{earlier_from}
 

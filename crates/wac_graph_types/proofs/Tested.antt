@@ -1,6 +1,13 @@
 -- What tests over all kinds of a package say of it.
-use Rattle.wac_graph_types.proofs.Common.{ℕ, List, length, ItemKind, Entry, children, NamesBefore, EachKind, PackageParts, HasId, IdsInRange, IdsOfSort, HaveIds, IsOfSort, AllPass, DefinitionsPass, EntriesPass}
+use Rattle.std.proofs.Common.{ℕ, List, length}
+use Rattle.wac_graph_types.specs.declared.kind.ItemKind.{ItemKind}
+use Rattle.wac_graph_types.specs.declared.entry.Entry.{Entry}
 use Rattle.wac_graph_types.specs.declared.package.Test.TheVariants as tests
+use Rattle.wac_graph_types.specs.Entry.{children}
+use Rattle.wac_graph_types.specs.Meaning.{NamesBefore, EachKind}
+use Rattle.wac_graph_types.specs.Package.{PackageParts, HasId, IdsInRange, IdsOfSort, HaveIds}
+use Rattle.wac_graph_types.specs.Table.{IsOfSort}
+use Rattle.wac_graph_types.specs.Tests.{AllPass, DefinitionsPass, EntriesPass}
 use Rattle.wac_graph_types.proofs.Each.{each_all, all_each}
 
 pub in_range_passes : (p : PackageParts) → IdsInRange p → AllPass tests.InRange p

@@ -1,4 +1,3 @@
-pub mod Common
 pub mod Texts
 pub mod Joined
 pub mod Escapes

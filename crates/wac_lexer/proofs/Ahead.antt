@@ -1,6 +1,13 @@
 -- What a lexer keeps of the items ahead stays right at each step.
-use Rattle.wac_lexer.proofs.Common.{◌≡◌, ℕ, ◌+◌, ◌<◌, ◌≤◌, ◌^◌, List, [], length, sym, refl, ap, ◌∙◌, subst, arith, Some, None, Result, IsCharBoundary-end, Span, span, end_of, Handed, handed, behind_first, items_from, IsWithin, IsFound, IsAhead, items_behind, Nexts, left, Token, Error}
+use Rattle.std.proofs.Common.{◌≡◌, ℕ, ◌+◌, ◌<◌, ◌≤◌, ◌^◌, List, [], length, sym, refl, ap, ◌∙◌, subst, arith, Some, None, Result}
 use Rattle.std.specs.Option.{MatchOption}
+use Rattle.std.proofs.lemmas.Str.{IsCharBoundary-end}
+use Rattle.wac_lexer.specs.Span.{Span, span, end_of}
+use Rattle.wac_lexer.specs.Item.{Handed, handed, behind_first}
+use Rattle.wac_lexer.specs.Items.{items_from}
+use Rattle.wac_lexer.specs.Reading.{IsWithin, IsFound, IsAhead, items_behind, Nexts, left}
+use Rattle.wac_lexer.specs.declared.token.Token.{Token}
+use Rattle.wac_lexer.specs.declared.error.Error.{Error}
 use Rattle.wac_lexer.proofs.Found.{IsSome, none_handed, found_rest, found_ends, first_text, before_last, before_next}
 use Rattle.wac_lexer.proofs.Unfolded.{between_next, items_end, none_left}
 

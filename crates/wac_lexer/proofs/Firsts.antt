@@ -1,9 +1,23 @@
 -- What a text begins with.
-use Rattle.wac_lexer.proofs.Common.{◌≡◌, ◌≢◌, ℕ, zero, suc, ◌<◌, ◌≤◌, true, false, cond, List, [], ◌∷◌, ◌++◌, take, length, sym, refl, ap, ◌∙◌, subst, arith, inl, inr, ⊎_elim, Option, Some, None, Result, Err, length-append, append_assoc, ◌⊎◌, nat_eq, nat_le, ◌==◌, concat, AllByRecursion, take-append_seam, cases_Bool, cases_lt, cond_both, ne_eqb, eqb-true, eq-eqb, and_parts, and_from, true≢false, leb-true, le-leb, Pattern, Matches, matches, may_stop, after, after_all, Nothing, Range, Or, shape_of, pattern_of, quoted, opens, longest_token, IsToken, IsLongest, HasNone, string, first_item, with_fault, Token, String, Error, UnterminatedComment, Shape}
-use Rattle.std.specs.Prelude.{MatchOption}
-use Rattle.wac_lexer.specs.Items.{fault_of}
+use Rattle.std.proofs.Common.{◌≡◌, ◌≢◌, ℕ, zero, suc, ◌<◌, ◌≤◌, true, false, cond, List, [], ◌∷◌, ◌++◌, take, length, sym, refl, ap, ◌∙◌, subst, arith, inl, inr, ⊎_elim, Option, Some, None, Result, Err, length-append, append_assoc}
+use Rattle.std.specs.Prelude.{◌⊎◌, nat_eq, nat_le, ◌==◌, MatchOption}
+use Rattle.std.specs.List.{concat, AllByRecursion}
+use Rattle.std.proofs.Math.Seq.{take-append_seam}
+use Rattle.std.proofs.lemmas.Bool.{cases_Bool, cases_lt, cond_both, ne_eqb, eqb-true, eq-eqb, and_parts, and_from, true≢false, leb-true, le-leb}
+use Rattle.wac_lexer.specs.Pattern.{Pattern, Matches, matches, may_stop, after, after_all}
+use Rattle.wac_lexer.specs.Pattern.Pattern.{Nothing, Range, Or}
+use Rattle.wac_lexer.specs.Shapes.{shape_of, pattern_of, quoted}
+use Rattle.wac_lexer.specs.Comments.{opens}
+use Rattle.wac_lexer.specs.Tokens.{longest_token, IsToken, IsLongest, HasNone}
+use Rattle.wac_lexer.specs.Tokens.IsToken.{string}
+use Rattle.wac_lexer.specs.Items.{first_item, fault_of, with_fault}
 use Rattle.wac_lexer.specs.First.{IsFirst}
 use Rattle.wac_lexer.specs.First.IsFirst.{comment, quote, token, character}
+use Rattle.wac_lexer.specs.declared.token.Token.{Token}
+use Rattle.wac_lexer.specs.declared.token.Token.TheVariants.{String}
+use Rattle.wac_lexer.specs.declared.error.Error.{Error}
+use Rattle.wac_lexer.specs.declared.error.Error.TheVariants.{UnterminatedComment}
+use Rattle.wac_lexer.specs.declared.shape.Shape.{Shape}
 use Rattle.wac_lexer.specs.declared.shape.Shape.TheVariants as shapes
 use Rattle.wac_lexer.proofs.Patterns.{matches_meant}
 use Rattle.wac_lexer.proofs.States.{after_nothing}

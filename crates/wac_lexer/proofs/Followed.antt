@@ -1,9 +1,26 @@
 -- The state in which a token ends, by its kind, and the first byte of a token.
-use Rattle.wac_lexer.proofs.Common.{◌≡◌, ℕ, Bool, true, false, cond, List, [], ◌∷◌, ◌++◌, length, sym, refl, ap, ◌∙◌, subst, inl, inr, ⊎_elim, arith, Some, None, Ok, ◌&&◌, ◌||◌, not, nat_eq, is_some, ◌==◌, bytes_eq, and_parts, or_cases, eqb-true, false≢true, ne_eqb, is_blank, begins, line_len, block_len, part_len, fixed_texts, shape_of, token_of, InTable, IsToken, fixed, identifier, string, name, path, first_item, class_of, step_of, shape_at, Token, Shape, Class, Dot, First, Later, State, Start, Small, Capital, Digits, Tail, Closed, OneDot, TwoDots, Ended, Dead}
+use Rattle.std.proofs.Common.{◌≡◌, ℕ, Bool, true, false, cond, List, [], ◌∷◌, ◌++◌, length, sym, refl, ap, ◌∙◌, subst, inl, inr, ⊎_elim, arith, Some, None, Ok}
+use Rattle.std.specs.Prelude.{◌&&◌, ◌||◌, not, nat_eq, is_some, ◌==◌}
+use Rattle.std.specs.Str.{bytes_eq}
+use Rattle.std.proofs.lemmas.Bool.{and_parts, or_cases, eqb-true, false≢true, ne_eqb}
+use Rattle.wac_lexer.specs.Comments.{is_blank, begins, line_len, block_len, part_len}
+use Rattle.wac_lexer.specs.Words.{fixed_texts}
+use Rattle.wac_lexer.specs.Shapes.{shape_of}
+use Rattle.wac_lexer.specs.Tokens.{token_of, InTable, IsToken}
+use Rattle.wac_lexer.specs.Tokens.IsToken.{fixed, identifier, string, name, path}
+use Rattle.wac_lexer.specs.Items.{first_item}
+use Rattle.wac_lexer.specs.Automaton.{class_of, step_of, shape_at}
 use Rattle.wac_lexer.proofs.Following.{run, is_dead, quiet, ends, all_quiet, follows}
+use Rattle.wac_lexer.specs.declared.token.Token.{Token}
 use Rattle.wac_lexer.specs.declared.token.Token.TheVariants as tokens
+use Rattle.wac_lexer.specs.declared.shape.Shape.{Shape}
 use Rattle.wac_lexer.specs.declared.shape.Shape.TheVariants as shapes
+use Rattle.wac_lexer.specs.Automaton.{Class}
+use Rattle.wac_lexer.specs.Automaton.Class.{Dot}
 use Rattle.wac_lexer.specs.Automaton.Package.{Name, Path}
+use Rattle.wac_lexer.specs.Automaton.Part.{First, Later}
+use Rattle.wac_lexer.specs.Automaton.{State}
+use Rattle.wac_lexer.specs.Automaton.State.{Start, Small, Capital, Digits, Tail, Closed, OneDot, TwoDots, Ended, Dead}
 use Rattle.wac_lexer.proofs.Sorts.{AreBytes, shape_bytes, shape_found, token_meant}
 use Rattle.wac_lexer.proofs.InFront.{shape_run}
 

@@ -1,7 +1,13 @@
 -- What may follow a token, as the walk over a text finds it.
-use Rattle.wac_lexer.proofs.Common.{◌≡◌, ℕ, Bool, true, false, ◌&&◌, not, List, [], ◌∷◌, is_some, if◌then◌else◌, codes, refl, Token, First, Later, State, Small, Capital, Digits, Tail, Closed, OneDot, Ended, Dead, class_of, step_of, shape_at, begins, opens}
+use Rattle.std.specs.Prelude.{◌≡◌, ℕ, Bool, true, false, ◌&&◌, not, List, [], ◌∷◌, is_some, if◌then◌else◌, codes, refl}
+use Rattle.wac_lexer.specs.declared.token.Token.{Token}
 use Rattle.wac_lexer.specs.declared.token.Token.TheVariants as tokens
 use Rattle.wac_lexer.specs.Automaton.Package.{Name, Path}
+use Rattle.wac_lexer.specs.Automaton.Part.{First, Later}
+use Rattle.wac_lexer.specs.Automaton.{State}
+use Rattle.wac_lexer.specs.Automaton.State.{Small, Capital, Digits, Tail, Closed, OneDot, Ended, Dead}
+use Rattle.wac_lexer.specs.Automaton.{class_of, step_of, shape_at}
+use Rattle.wac_lexer.specs.Comments.{begins, opens}
 
 -- the state after a text
 abbrev pub run : State → List ℕ → State

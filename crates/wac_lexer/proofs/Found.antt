@@ -1,5 +1,11 @@
 -- What is known of the item that is found at a place, and how many items come before it.
-use Rattle.wac_lexer.proofs.Common.{◌≡◌, ℕ, zero, suc, ◌+◌, ◌-◌, ◌<◌, ◌≤◌, List, [], ◌∷◌, ◌++◌, drop, length, sym, refl, ap, ◌∙◌, subst, arith, Option, Some, None, Result, length-append, Span, end_of, Item, Handed, handed, behind_first, OnFirst, first_item, item_at, items_upto, items_from, items, BetweenItems, items_before, slice, Token, Error}
+use Rattle.std.proofs.Common.{◌≡◌, ℕ, zero, suc, ◌+◌, ◌-◌, ◌<◌, ◌≤◌, List, [], ◌∷◌, ◌++◌, drop, length, sym, refl, ap, ◌∙◌, subst, arith, Option, Some, None, Result, length-append}
+use Rattle.wac_lexer.specs.Span.{Span, end_of}
+use Rattle.wac_lexer.specs.Item.{Item, Handed, handed, behind_first, OnFirst}
+use Rattle.wac_lexer.specs.Items.{first_item, item_at, items_upto, items_from, items}
+use Rattle.wac_lexer.specs.Reading.{BetweenItems, items_before, slice}
+use Rattle.wac_lexer.specs.declared.token.Token.{Token}
+use Rattle.wac_lexer.specs.declared.error.Error.{Error}
 use Rattle.wac_lexer.proofs.Unfolded.{start_of, HasByte, first_has_byte, items_none, items_some, before_others}
 
 -- ---- the first item

@@ -1,6 +1,14 @@
 -- A token's text before a text that doesn't continue it is the longest match.
-use Rattle.wac_lexer.proofs.Common.{◌≡◌, ℕ, zero, suc, ◌+◌, ◌<◌, ◌≤◌, Bool, true, false, cond, List, [], ◌∷◌, ◌++◌, take, length, sym, refl, ap, ◌∙◌, subst, ⊎_elim, arith, Option, Some, None, add-zero, zero-add, append_assoc, append-nil, ◌&&◌, not, is_some, and_parts, false≢true, cases_Bool, shape_of, token_of, longest_token, class_of, step_of, shape_at, Token, State, Start, Dead}
+use Rattle.std.proofs.Common.{◌≡◌, ℕ, zero, suc, ◌+◌, ◌<◌, ◌≤◌, Bool, true, false, cond, List, [], ◌∷◌, ◌++◌, take, length, sym, refl, ap, ◌∙◌, subst, ⊎_elim, arith, Option, Some, None, add-zero, zero-add, append_assoc, append-nil}
+use Rattle.std.specs.Prelude.{◌&&◌, not, is_some}
+use Rattle.std.proofs.lemmas.Bool.{and_parts, false≢true, cases_Bool}
+use Rattle.wac_lexer.specs.Shapes.{shape_of}
+use Rattle.wac_lexer.specs.Tokens.{token_of, longest_token}
+use Rattle.wac_lexer.specs.Automaton.{class_of, step_of, shape_at}
 use Rattle.wac_lexer.proofs.Following.{run, is_dead, quiet}
+use Rattle.wac_lexer.specs.declared.token.Token.{Token}
+use Rattle.wac_lexer.specs.Automaton.{State}
+use Rattle.wac_lexer.specs.Automaton.State.{Start, Dead}
 use Rattle.wac_lexer.proofs.States.{Reads, reads_none, reads_more, reads_dead, shape_is}
 use Rattle.wac_lexer.proofs.Sorts.{AreBytes}
 use Rattle.wac_lexer.proofs.Fronts.{one_token}

@@ -1,4 +1,3 @@
-pub mod Common
 pub mod Patterns
 pub mod Refusals
 pub mod States

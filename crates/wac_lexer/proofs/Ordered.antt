@@ -1,7 +1,20 @@
 -- The items of a source are in order, and cut no character.
-use Rattle.wac_lexer.proofs.Common.{◌≡◌, ℕ, zero, suc, ◌+◌, ◌<◌, ◌≤◌, List, [], ◌∷◌, ◌++◌, take, drop, length, get_or, sym, refl, ap, ◌∙◌, subst, arith, Option, Some, None, Result, Err, nat_eq, slice_index, slice_get, ◌==◌, encode_utf8, len_utf8, IsUtf8, IsCharBoundary, encode_utf8_all, cond_both, eqb-true, IsCharBoundary-end, IsCharBoundary-start, IsCharBoundary-at_seam, IsCharBoundary-from_rest, IsUtf8-past_char, IsUtf8-drop, chars_past_char, length-encode, Item, token_of, longest_token, shape_of, opens, first_item, first_char_len, with_fault, items_upto, items_from, items, Shape, Token, Error, UnexpectedToken, UnterminatedString, UnterminatedComment}
-use Rattle.wac_lexer.specs.Items.{fault_of}
+use Rattle.std.proofs.Common.{◌≡◌, ℕ, zero, suc, ◌+◌, ◌<◌, ◌≤◌, List, [], ◌∷◌, ◌++◌, take, drop, length, get_or, sym, refl, ap, ◌∙◌, subst, arith, Option, Some, None, Result, Err}
+use Rattle.std.specs.Prelude.{nat_eq, slice_index, slice_get, ◌==◌}
+use Rattle.std.specs.Char.{encode_utf8, len_utf8}
+use Rattle.std.specs.Str.{IsUtf8, IsCharBoundary, encode_utf8_all}
+use Rattle.std.proofs.lemmas.Bool.{cond_both, eqb-true}
+use Rattle.std.proofs.lemmas.Str.{IsCharBoundary-end, IsCharBoundary-start, IsCharBoundary-at_seam, IsCharBoundary-from_rest, IsUtf8-past_char, IsUtf8-drop, chars_past_char, length-encode}
+use Rattle.wac_lexer.specs.Item.{Item}
+use Rattle.wac_lexer.specs.Tokens.{token_of, longest_token}
+use Rattle.wac_lexer.specs.Shapes.{shape_of}
+use Rattle.wac_lexer.specs.Comments.{opens}
+use Rattle.wac_lexer.specs.Items.{first_item, first_char_len, fault_of, with_fault, items_upto, items_from, items}
 use Rattle.wac_lexer.specs.Order.{InOrder}
+use Rattle.wac_lexer.specs.declared.shape.Shape.{Shape}
+use Rattle.wac_lexer.specs.declared.token.Token.{Token}
+use Rattle.wac_lexer.specs.declared.error.Error.{Error}
+use Rattle.wac_lexer.specs.declared.error.Error.TheVariants.{UnexpectedToken, UnterminatedString, UnterminatedComment}
 use Rattle.wac_lexer.proofs.Boundaries.{ne_zero, gap_boundary}
 use Rattle.wac_lexer.proofs.Fronts.{boundary_after_ascii, front_boundary, no_shape_no_token}
 use Rattle.wac_lexer.proofs.Longest.{Longest, longest_is}

@@ -1,5 +1,10 @@
 -- Reading a pattern byte by byte finds the texts of the pattern, and no others.
-use Rattle.wac_lexer.proofs.Common.{◌≡◌, ℕ, true, cond, List, [], ◌∷◌, ◌++◌, sym, refl, ap, ◌∙◌, subst, inl, inr, ⊎_elim, ◌&&◌, nat_le, concat, AllByRecursion, and_parts, or_cases, and_from, or_left, or_right, false≢true, cases_Bool, Pattern, Matches, may_stop, followed_by, either, after, matches, Nothing, Empty, Range, Then, Or, Many}
+use Rattle.std.proofs.Common.{◌≡◌, ℕ, true, cond, List, [], ◌∷◌, ◌++◌, sym, refl, ap, ◌∙◌, subst, inl, inr, ⊎_elim}
+use Rattle.std.specs.Prelude.{◌&&◌, nat_le}
+use Rattle.std.specs.List.{concat, AllByRecursion}
+use Rattle.std.proofs.lemmas.Bool.{and_parts, or_cases, and_from, or_left, or_right, false≢true, cases_Bool}
+use Rattle.wac_lexer.specs.Pattern.{Pattern, Matches, may_stop, followed_by, either, after, matches}
+use Rattle.wac_lexer.specs.Pattern.Pattern.{Nothing, Empty, Range, Then, Or, Many}
 
 -- `either` and `followed_by` mean `Or` and `Then`
 either_made : (p q : Pattern) (t : List ℕ) → Matches (Or p q) t → Matches (either p q) t

@@ -1,8 +1,24 @@
 -- A text has at most one of the shapes, and is at most one token.
-use Rattle.wac_lexer.proofs.Common.{◌≡◌, ℕ, ◌<◌, Bool, true, false, cond, List, [], ◌∷◌, ◌++◌, sym, refl, ap, ◌∙◌, subst, inl, inr, ⊎_elim, arith, Option, Some, None, append_assoc, ◌&&◌, ◌||◌, not, nat_lt, nat_le, is_none, concat, AllByRecursion, bytes_eq, and_parts, false≢true, cases_Bool, ltb-true, leb-true, Pattern, Matches, matches, may_stop, Nothing, Empty, Range, Then, Or, Many, find, fixed_texts, keywords, symbols, shape_of, pattern_of, id, package_name, package_path, quoted, symbol, token_of, InTable, IsToken, fixed, identifier, string, name, path, shape_at, step_of, class_of, Token, Ident, PackageName, PackagePath, String, Shape, First, Later, State, Start, Joined, Small, Capital, Behind, Version, Digits, Point, Tail, Closed, Minus, OneDot, TwoDots, Ended, Dead}
+use Rattle.std.proofs.Common.{◌≡◌, ℕ, ◌<◌, Bool, true, false, cond, List, [], ◌∷◌, ◌++◌, sym, refl, ap, ◌∙◌, subst, inl, inr, ⊎_elim, arith, Option, Some, None, append_assoc}
+use Rattle.std.specs.Prelude.{◌&&◌, ◌||◌, not, nat_lt, nat_le, is_none}
+use Rattle.std.specs.List.{concat, AllByRecursion}
+use Rattle.std.specs.Str.{bytes_eq}
+use Rattle.std.proofs.lemmas.Bool.{and_parts, false≢true, cases_Bool, ltb-true, leb-true}
+use Rattle.wac_lexer.specs.Pattern.{Pattern, Matches, matches, may_stop}
+use Rattle.wac_lexer.specs.Pattern.Pattern.{Nothing, Empty, Range, Then, Or, Many}
+use Rattle.wac_lexer.specs.Words.{find, fixed_texts, keywords, symbols}
+use Rattle.wac_lexer.specs.Shapes.{shape_of, pattern_of, id, package_name, package_path, quoted, symbol}
+use Rattle.wac_lexer.specs.Tokens.{token_of, InTable, IsToken}
+use Rattle.wac_lexer.specs.Tokens.IsToken.{fixed, identifier, string, name, path}
+use Rattle.wac_lexer.specs.Automaton.{shape_at, step_of, class_of}
+use Rattle.wac_lexer.specs.declared.token.Token.{Token}
+use Rattle.wac_lexer.specs.declared.token.Token.TheVariants.{Ident, PackageName, PackagePath, String}
+use Rattle.wac_lexer.specs.declared.shape.Shape.{Shape}
 use Rattle.wac_lexer.specs.declared.shape.Shape.TheVariants as shapes
 use Rattle.wac_lexer.specs.Automaton.Package.{Name, Path}
-use Rattle.wac_lexer.specs.Automaton.State.{Inside}
+use Rattle.wac_lexer.specs.Automaton.Part.{First, Later}
+use Rattle.wac_lexer.specs.Automaton.{State}
+use Rattle.wac_lexer.specs.Automaton.State.{Start, Joined, Small, Capital, Behind, Version, Digits, Point, Tail, Inside, Closed, Minus, OneDot, TwoDots, Ended, Dead}
 use Rattle.wac_lexer.proofs.Patterns.{matches_made, matches_meant}
 use Rattle.wac_lexer.proofs.States.{Reads, rest_of, reads_none, reads_more, shape_is}
 use Rattle.wac_lexer.proofs.Texts.{bytes_eq_is, bytes_eq_same, is_shape, is_shape_is, find_first, word_not_found, other_not_found, token_by}

@@ -1,8 +1,22 @@
 -- What the walk lets follow a token may follow it; and a token before what may follow it is the first item.
-use Rattle.wac_lexer.proofs.Common.{◌≡◌, ℕ, zero, suc, ◌+◌, ◌-◌, ◌<◌, ◌≤◌, Bool, true, false, cond, List, [], ◌∷◌, ◌++◌, take, length, sym, refl, ap, ◌∙◌, subst, inl, inr, ⊎_elim, arith, Option, Some, None, length-append, ◌&&◌, ◌||◌, not, nat_eq, nat_lt, is_some, bytes_eq, take-append_seam, take-take, length-take-le, and_parts, or_cases, false≢true, ltb-true, eqb-true, is_blank, begins, opens, fixed_texts, token_of, longest_token, InTable, IsToken, fixed, identifier, string, name, path, shape_of, class_of, step_of, shape_at, Token, State, Start}
+use Rattle.std.proofs.Common.{◌≡◌, ℕ, zero, suc, ◌+◌, ◌-◌, ◌<◌, ◌≤◌, Bool, true, false, cond, List, [], ◌∷◌, ◌++◌, take, length, sym, refl, ap, ◌∙◌, subst, inl, inr, ⊎_elim, arith, Option, Some, None, length-append}
+use Rattle.std.specs.Prelude.{◌&&◌, ◌||◌, not, nat_eq, nat_lt, is_some}
+use Rattle.std.specs.Str.{bytes_eq}
+use Rattle.std.proofs.Math.Seq.{take-append_seam}
+use Rattle.std.proofs.lemmas.List.{take-take, length-take-le}
+use Rattle.std.proofs.lemmas.Bool.{and_parts, or_cases, false≢true, ltb-true, eqb-true}
+use Rattle.wac_lexer.specs.Comments.{is_blank, begins, opens}
+use Rattle.wac_lexer.specs.Words.{fixed_texts}
+use Rattle.wac_lexer.specs.Tokens.{token_of, longest_token, InTable, IsToken}
+use Rattle.wac_lexer.specs.Tokens.IsToken.{fixed, identifier, string, name, path}
+use Rattle.wac_lexer.specs.Shapes.{shape_of}
 use Rattle.wac_lexer.specs.Follow.{Follows}
+use Rattle.wac_lexer.specs.Automaton.{class_of, step_of, shape_at}
+use Rattle.wac_lexer.specs.declared.token.Token.{Token}
 use Rattle.wac_lexer.specs.declared.token.Token.TheVariants as tokens
 use Rattle.wac_lexer.specs.declared.shape.Shape.TheVariants as shapes
+use Rattle.wac_lexer.specs.Automaton.{State}
+use Rattle.wac_lexer.specs.Automaton.State.{Start}
 use Rattle.wac_lexer.proofs.Texts.{bytes_eq_is}
 use Rattle.wac_lexer.proofs.Sorts.{AreBytes, shape_bytes, token_found, token_meant}
 use Rattle.wac_lexer.proofs.States.{reads_none}

@@ -1,6 +1,20 @@
 -- The items after a place, unfolded once: the first one, and the items after it.
-use Rattle.wac_lexer.proofs.Common.{◌≡◌, ℕ, zero, suc, ◌+◌, ◌<◌, ◌≤◌, List, [], ◌∷◌, ◌++◌, take, drop, length, sym, refl, ap, ◌∙◌, subst, arith, Option, Some, None, Result, Err, append_assoc, slice_get, slice_index, nat_eq, nat_lt, ◌==◌, len_utf8, chars, drop_all, cond_both, span, end_of, Item, behind_first, OnFirst, token_of, longest_token, gap, opens, docs_at, first_item, first_char_len, with_fault, item_at, items_upto, items_from, items, BetweenItems, Token, Error, UnexpectedToken, UnterminatedString, UnterminatedComment}
-use Rattle.wac_lexer.specs.Items.{fault_of}
+use Rattle.std.proofs.Common.{◌≡◌, ℕ, zero, suc, ◌+◌, ◌<◌, ◌≤◌, List, [], ◌∷◌, ◌++◌, take, drop, length, sym, refl, ap, ◌∙◌, subst, arith, Option, Some, None, Result, Err, append_assoc}
+use Rattle.std.specs.Prelude.{slice_get, slice_index, nat_eq, nat_lt, ◌==◌}
+use Rattle.std.specs.Char.{len_utf8}
+use Rattle.std.specs.Str.{chars}
+use Rattle.std.proofs.lemmas.List.{drop_all}
+use Rattle.std.proofs.lemmas.Bool.{cond_both}
+use Rattle.wac_lexer.specs.Span.{span, end_of}
+use Rattle.wac_lexer.specs.Item.{Item, behind_first, OnFirst}
+use Rattle.wac_lexer.specs.Tokens.{token_of, longest_token}
+use Rattle.wac_lexer.specs.Comments.{gap, opens}
+use Rattle.wac_lexer.specs.Docs.{docs_at}
+use Rattle.wac_lexer.specs.Items.{first_item, first_char_len, fault_of, with_fault, item_at, items_upto, items_from, items}
+use Rattle.wac_lexer.specs.Reading.{BetweenItems}
+use Rattle.wac_lexer.specs.declared.token.Token.{Token}
+use Rattle.wac_lexer.specs.declared.error.Error.{Error}
+use Rattle.wac_lexer.specs.declared.error.Error.TheVariants.{UnexpectedToken, UnterminatedString, UnterminatedComment}
 use Rattle.wac_lexer.proofs.Boundaries.{ne_zero}
 
 -- each item has a byte

@@ -1,9 +1,12 @@
 -- The layout of a text by changes.
-use Rattle.wac_lsp.proofs.Common.{◌≡◌, ℕ, List, [], true, inl, inr, ColumnUnit, Change, Changes}
+use Rattle.std.proofs.Common.{◌≡◌, ℕ, List, [], true, inl, inr}
+use Rattle.wac_positions.specs.declared.place.ColumnUnit.{ColumnUnit}
 use Rattle.wac_comments.specs.Errors.{IsErrorOf}
 use Rattle.wac_comments.specs.Tidied.{IsPlain, Kept, SameTree}
 use Rattle.wac_comments.specs.declared.error.TidyError.{TidyError}
 use Rattle.wac_comments.specs.declared.options.Options.{Options}
+use Rattle.wac_lsp_messages.specs.declared.notice.Change.{Change}
+use Rattle.wac_lsp_texts.specs.Changed.{Changes}
 use Rattle.wac_lsp.specs.Formatting.{LaysOut, is_of_text}
 
 -- the changes make the tidy form

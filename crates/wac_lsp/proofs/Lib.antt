@@ -1,4 +1,3 @@
-pub mod Common
 pub mod Edited
 pub mod Laid
 pub mod Remade

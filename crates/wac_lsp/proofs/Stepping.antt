@@ -1,8 +1,13 @@
 -- Steps of a server.
-use Rattle.wac_lsp.proofs.Common.{◌≡◌, ℕ, List, Ok, Err, Result, IfOk, ColumnUnit, Holds, AreReplies, replied_to, replies, Document}
+use Rattle.std.proofs.Common.{◌≡◌, ℕ, List, Ok, Err}
+use Rattle.std.specs.Prelude.{Result, IfOk}
+use Rattle.wac_positions.specs.declared.place.ColumnUnit.{ColumnUnit}
 use Rattle.wac_lsp_messages.specs.Meaning.{IsMessageIn}
 use Rattle.wac_lsp_messages.specs.declared.message.Message.{Message}
+use Rattle.wac_lsp.specs.Opened.{Holds}
+use Rattle.wac_lsp.specs.Replies.{AreReplies, replied_to, replies}
 use Rattle.wac_lsp.specs.Steps.{Steps}
+use Rattle.wac_lsp.specs.declared.documents.Document.{Document}
 use Rattle.wac_lsp.specs.declared.server.Outcome.{Outcome}
 use Rattle.wac_lsp.specs.declared.server.Phase.{Phase}
 

@@ -1,5 +1,9 @@
 -- Looking for the text of a document.
-use Rattle.wac_lsp.proofs.Common.{◌≡◌, sym, ap, ◌∙◌, ℕ, ◌+◌, ◌<◌, ◌≤◌, true, false, List, ◌∷◌, drop, get_or, length, Some, None, drop_more, drop_all, string_bytes, if◌then◌else◌, Document, is_named, text_in}
+use Rattle.std.proofs.Common.{◌≡◌, sym, ap, ◌∙◌, ℕ, ◌+◌, ◌<◌, ◌≤◌, true, false, List, ◌∷◌, drop, get_or, length, Some, None}
+use Rattle.std.proofs.lemmas.List.{drop_more, drop_all}
+use Rattle.std.specs.Prelude.{string_bytes, if◌then◌else◌}
+use Rattle.wac_lsp.specs.declared.documents.Document.{Document}
+use Rattle.wac_lsp.specs.Opened.{is_named, text_in}
 
 -- the documents from an index on begin with the one there
 from_index : (documents : List Document) (index : ℕ) (document : Document) → index < length documents → document ≡ get_or documents index document → drop index documents ≡ document ∷ drop (index + 1) documents

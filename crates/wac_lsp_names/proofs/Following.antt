@@ -1,5 +1,9 @@
 -- One edit after another.
-use Rattle.wac_lsp_names.proofs.Common.{◌≡◌, sym, ap, ◌∙◌, subst, ℕ, ◌+◌, ◌<◌, ◌≤◌, List, ◌∷◌, drop, get_or, length, drop_more, drop_all, end_of, Edit, AreEdits, IsEdit}
+use Rattle.std.proofs.Common.{◌≡◌, sym, ap, ◌∙◌, subst, ℕ, ◌+◌, ◌<◌, ◌≤◌, List, ◌∷◌, drop, get_or, length}
+use Rattle.std.proofs.lemmas.List.{drop_more, drop_all}
+use Rattle.wac_lexer.specs.Span.{end_of}
+use Rattle.wac_lsp_names.specs.declared.edits.Edit.{Edit}
+use Rattle.wac_lsp_names.specs.Edits.{AreEdits, IsEdit}
 
 -- where those from an index on are edits behind a place, all are
 abbrev pub Follows : List ℕ → List ℕ → List ℕ → List Edit → ℕ → ℕ → Type 0

@@ -1,7 +1,11 @@
 -- The name at an offset gets a new one.
-use Rattle.wac_lsp_names.proofs.Common.{ℕ, List, Result, Ok, Err, IfOk, Edit, Occurrences, AreOccurrences, IsGiven, IsGivenAt}
+use Rattle.std.proofs.Common.{ℕ, List, Result, Ok, Err, IfOk}
 use Rattle.std.specs.Prelude.{Vec}
 use Rattle.std.specs.declared.alloc.Global.{Global}
+use Rattle.wac_lsp_names.specs.declared.edits.Edit.{Edit}
+use Rattle.wac_lsp_names.specs.declared.occurrences.Occurrences.{Occurrences}
+use Rattle.wac_lsp_names.specs.Occurrences.{AreOccurrences}
+use Rattle.wac_lsp_names.specs.Edits.{IsGiven, IsGivenAt}
 
 -- where the edits are right for a name at the offset, they are right there
 pub given_there : {E : Type 0} (source : List ℕ) (offset : ℕ) (new : List ℕ) (o : Occurrences) (r : Result (Vec Edit Global) E) → AreOccurrences source offset o

@@ -1,4 +1,3 @@
-pub mod Common
 mod Following
 mod Giving
 pub mod Spans

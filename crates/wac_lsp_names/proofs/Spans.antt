@@ -1,9 +1,14 @@
 -- The places of a name.
-use Rattle.wac_lsp_names.proofs.Common.{◌≡◌, refl, sym, subst, inl, inr, cond, ℕ, ◌+◌, ◌<◌, ◌≤◌, List, [], ◌∷◌, take, get_or, length, Bool, true, false, Option, Some, All, find, take_all, Span, Occurrences, AreOccurrences, AreUsesAt, IsAlike, IsBoundAt, IsNameAt, at_of}
+use Rattle.std.proofs.Common.{◌≡◌, refl, sym, subst, inl, inr, cond, ℕ, ◌+◌, ◌<◌, ◌≤◌, List, [], ◌∷◌, take, get_or, length, Bool, true, false, Option, Some}
+use Rattle.std.specs.List.{All, find}
 use Rattle.std.specs.Option.{option_map_or}
 use Rattle.std.proofs.lemmas.List.Elements.{All-head, All-more, All-tail, All-weaker}
+use Rattle.std.proofs.lemmas.List.{take_all}
 use Rattle.wac_lexer.specs.Reading.{Slices}
+use Rattle.wac_lexer.specs.Span.{Span}
 use Rattle.wac_names.specs.Places.{touches}
+use Rattle.wac_lsp_names.specs.declared.occurrences.Occurrences.{Occurrences}
+use Rattle.wac_lsp_names.specs.Occurrences.{AreOccurrences, AreUsesAt, IsAlike, IsBoundAt, IsNameAt, at_of}
 
 -- all uses lie in the source
 pub uses_lie_in : (source : List ℕ) (offset : ℕ) (o : Occurrences) → AreOccurrences source offset o → All (Slices source) o.used.items

@@ -1,5 +1,6 @@
 -- What is found of a document.
-use Rattle.wac_package_errors.proofs.Common.{ℕ, List, Result, Ok, Err, IfOk}
+use Rattle.std.proofs.Common.{ℕ, List, Result, Ok, Err}
+use Rattle.std.specs.Prelude.{IfOk}
 use Rattle.wac_ast_grammar.specs.Tree.{Document as Tree}
 use Rattle.wac_ast_grammar.specs.TextTree.{IsTreeOf}
 use Rattle.wac_package_errors.specs.Composed.{IsDocumentOrRejected}

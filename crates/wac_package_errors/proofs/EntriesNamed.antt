@@ -1,5 +1,11 @@
 -- Kinds that name entries of a table.
-use Rattle.wac_package_errors.proofs.Common.{◌≡◌, ℕ, List, Option, None, Some, refl, IfSome, ItemKind, Entry, world_imports, look_up, Names, EachEntryNamed}
+use Rattle.std.proofs.Common.{◌≡◌, ℕ, List, Option, None, Some, refl}
+use Rattle.std.specs.Prelude.{IfSome}
+use Rattle.wac_graph_types.specs.declared.kind.ItemKind.{ItemKind}
+use Rattle.wac_graph_types.specs.declared.entry.Entry.{Entry}
+use Rattle.wac_graph_types.specs.Readings.{world_imports}
+use Rattle.wac_graph_types.specs.Scope.{look_up}
+use Rattle.wac_graph_types.specs.Table.{Names, EachEntryNamed}
 use Rattle.wac_graph_types.proofs.Found.{world_imports_named, found_named}
 
 -- what a world imports names an entry

@@ -1,7 +1,13 @@
 -- Widths of bytes, and how columns rise along a line.
-use Rattle.wac_positions.proofs.Common.{◌≡◌, ◌≤◌, ◌<◌, ◌+◌, ℕ, List, false, inl, inr, subst, arith, length, take, get_or, cond, cond_both, cond-false, cases_lt, nat_tests, take-take, sum_by_more, sum_by-take-le, ColumnUnit, is_continuation, width, units}
+use Rattle.std.proofs.Common.{◌≡◌, ◌≤◌, ◌<◌, ◌+◌, ℕ, List, false, inl, inr, subst, arith, length, take, get_or, cond}
+use Rattle.std.proofs.lemmas.Bool.{cond_both, cond-false, cases_lt}
+use Rattle.std.proofs.lemmas.Bool.Decides.{nat_tests}
+use Rattle.std.proofs.lemmas.List.{take-take}
 use lib.Dec.{leb}
+use Rattle.std.proofs.lemmas.List.Sums.{sum_by_more, sum_by-take-le}
+use Rattle.wac_positions.specs.declared.place.ColumnUnit.{ColumnUnit}
 use Rattle.wac_positions.specs.declared.place.ColumnUnit.TheVariants.{Bytes, Utf16, Characters}
+use Rattle.wac_positions.specs.Places.{is_continuation, width, units}
 
 pub width_small : (unit : ColumnUnit) (b : ℕ) → width unit b ≤ 2
 width_small Bytes b = omega arith

@@ -1,5 +1,9 @@
 -- How many numbers of a non-decreasing list are at most another.
-use Rattle.wac_positions.proofs.Common.{◌≡◌, ◌∙◌, ◌≤◌, ◌<◌, ◌+◌, ◌-◌, ℕ, zero, suc, List, [], ◌∷◌, Bool, true, false, inl, inr, refl, sym, arith, length, get_or, take, cond, ap, add-one, le-leb, leb-true, false_from_ne_true, cases_lt, count_by_more_yes, count_by_more_no, sum_by-cons, count_by, IsNonDecreasingBy}
+use Rattle.std.proofs.Common.{◌≡◌, ◌∙◌, ◌≤◌, ◌<◌, ◌+◌, ◌-◌, ℕ, zero, suc, List, [], ◌∷◌, Bool, true, false, inl, inr, refl, sym, arith, length, get_or, take, cond, ap, add-one}
+use Rattle.std.proofs.lemmas.Bool.{le-leb, leb-true, false_from_ne_true, cases_lt}
+use Rattle.std.proofs.lemmas.List.Sums.{count_by_more_yes, count_by_more_no, sum_by-cons}
+use Rattle.std.specs.List.{count_by}
+use Rattle.std.specs.List.Sorted.{IsNonDecreasingBy}
 use lib.Dec.{leb}
 use Rattle.std.proofs.Math.Seq.{take-length}
 

@@ -1,4 +1,3 @@
-pub mod Common
 pub mod Columns
 pub mod Counting
 pub mod LinesAt

@@ -1,6 +1,12 @@
 -- In which line an offset lies.
-use Rattle.wac_positions.proofs.Common.{◌≡◌, ◌∙◌, ◌≤◌, ◌<◌, ◌+◌, ℕ, List, true, false, inl, inr, sym, subst, arith, length, get_or, cond, ap, sum_by-cons, count_by-le-length, le-leb, cases_lt, count_by, IsPartitionPoint, line_starts, starts_after, IsLine, line_at}
+use Rattle.std.proofs.Common.{◌≡◌, ◌∙◌, ◌≤◌, ◌<◌, ◌+◌, ℕ, List, true, false, inl, inr, sym, subst, arith, length, get_or, cond, ap}
+use Rattle.std.proofs.lemmas.List.Sums.{sum_by-cons, count_by-le-length}
+use Rattle.std.proofs.lemmas.Bool.{le-leb, cases_lt}
+use Rattle.std.specs.List.{count_by}
+use Rattle.std.specs.List.Sorted.{IsPartitionPoint}
 use lib.Dec.{leb}
+use Rattle.wac_positions.specs.Lines.{line_starts, starts_after, IsLine}
+use Rattle.wac_positions.specs.Places.{line_at}
 use Rattle.wac_positions.proofs.Counting.{count_is, up_to_is, up_to_splits}
 use Rattle.wac_positions.proofs.Starts.{starts_rise}
 

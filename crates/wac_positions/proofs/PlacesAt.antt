@@ -1,7 +1,12 @@
 -- The places of the offsets of a line.
-use Rattle.wac_positions.proofs.Common.{◌≡◌, ◌∙◌, ◌≤◌, ◌<◌, ◌+◌, ◌-◌, ℕ, List, false, sym, arith, subst, length, get_or, take, drop, ap, drop-take, take-take, get_or-take, get_or-drop, IsCharBoundary, ColumnUnit, line_starts, IsLine, is_continuation, units, line_at, column_at, place_at}
+use Rattle.std.proofs.Common.{◌≡◌, ◌∙◌, ◌≤◌, ◌<◌, ◌+◌, ◌-◌, ℕ, List, false, sym, arith, subst, length, get_or, take, drop, ap}
+use Rattle.std.proofs.lemmas.List.{drop-take, take-take, get_or-take, get_or-drop}
+use Rattle.std.specs.Str.{IsCharBoundary}
 use Rattle.std.specs.List.{slice_index}
+use Rattle.wac_positions.specs.declared.place.ColumnUnit.{ColumnUnit}
 use Rattle.wac_positions.specs.declared.place.Place.{Place}
+use Rattle.wac_positions.specs.Lines.{line_starts, IsLine}
+use Rattle.wac_positions.specs.Places.{is_continuation, units, line_at, column_at, place_at}
 use Rattle.wac_positions.proofs.Columns.{leading, is_leading}
 use Rattle.wac_positions.proofs.LinesAt.{InLine, line_of_offset, offset_of_line}
 

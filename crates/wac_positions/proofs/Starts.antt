@@ -1,8 +1,13 @@
 -- Where lines begin.
-use Rattle.wac_positions.proofs.Common.{◌≡◌, ◌∙◌, ◌≤◌, ◌<◌, ◌+◌, ◌-◌, ℕ, zero, suc, List, [], ◌∷◌, ◌++◌, true, false, inl, inr, refl, sym, subst, arith, length, get_or, drop, cond, ap, add-one, append_assoc, cond_both, cond-true, cond-false, cases_lt, false_from_ne_true, nat_tests, IsNonDecreasingBy, IsUtf8, IsCharBoundary, ends_line, is_line_end, line_starts, starts_after, Begins}
+use Rattle.std.proofs.Common.{◌≡◌, ◌∙◌, ◌≤◌, ◌<◌, ◌+◌, ◌-◌, ℕ, zero, suc, List, [], ◌∷◌, ◌++◌, true, false, inl, inr, refl, sym, subst, arith, length, get_or, drop, cond, ap, add-one, append_assoc}
+use Rattle.std.proofs.lemmas.Bool.{cond_both, cond-true, cond-false, cases_lt, false_from_ne_true}
+use Rattle.std.proofs.lemmas.Bool.Decides.{nat_tests}
 use Rattle.std.proofs.lemmas.Str.{IsCharBoundary-after_ascii, IsCharBoundary-start}
+use Rattle.std.specs.List.Sorted.{IsNonDecreasingBy}
+use Rattle.std.specs.Str.{IsUtf8, IsCharBoundary}
 use Rattle.std.specs.List.{slice_index}
 use lib.Seq.{drop-cons}
+use Rattle.wac_positions.specs.Lines.{ends_line, is_line_end, line_starts, starts_after, Begins}
 
 -- ---- each line begins after a byte of ASCII
 

@@ -1,4 +1,3 @@
-pub mod Common
 pub mod PartsOf
 pub mod BareLists
 pub mod Steps

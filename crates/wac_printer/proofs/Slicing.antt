@@ -1,8 +1,12 @@
 -- A tree whose spans slice the source, as parsing promises it, can be printed.
-use Rattle.wac_printer.proofs.Common.{ℕ, List, [], ◌∷◌, Option, Some, None, zero, suc, arith, All, AllByRecursion, Slices, Document, IdentSliced, StringSliced, PackageNameSliced, PackagePathSliced, printable, any_docs, DocumentSliced}
+use Rattle.std.proofs.Common.{ℕ, List, [], ◌∷◌, Option, Some, None, zero, suc, arith}
+use Rattle.std.specs.List.{All, AllByRecursion}
+use Rattle.wac_lexer.specs.Reading.{Slices}
+use Rattle.wac_ast_grammar.specs.Tree.{Document}
 use Rattle.wac_ast_grammar.specs.Leaves.{IfThere, changed, holds_with_spans, unchanged}
 use Rattle.wac_ast_grammar.specs.Slices.{sliced, DocsSlice, DocumentSlices}
 use Rattle.wac_ast_grammar.proofs.Linked.{Link, link_document}
+use Rattle.wac_printer.specs.Sliced.{IdentSliced, StringSliced, PackageNameSliced, PackagePathSliced, printable, any_docs, DocumentSliced}
 
 each_printable : {A : Type 0} (v : A → A) (w u : A → Type 0) (c : A → A) → ((x : A) → u x → w x) → (xs : List A) → AllByRecursion u xs → All w xs
 each_printable v w u c f [] h i d k = absurd (omega arith)

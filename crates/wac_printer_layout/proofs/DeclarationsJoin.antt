@@ -1,7 +1,14 @@
 -- The pieces of declarations of types join.
-use Rattle.wac_printer_layout.proofs.Common.{◌≡◌, ℕ, Bool, true, false, List, ◌++◌, refl, Option, Some, None, follows, Ident, Ty, Constructor, Method, ResourceMethod, ResourceDecl, VariantCase, VariantDecl, Field, RecordDecl, Flag, FlagsDecl, EnumCase, EnumDecl, TypeAliasKind, TypeAlias, TypeDecl, ItemTypeDecl, IfThere, text, Spelled, TyHas, ConstructorHas, MethodHas, ResourceMethodHas, ResourceDeclHas, VariantCaseHas, VariantDeclHas, FieldHas, RecordDeclHas, FlagHas, FlagsDeclHas, EnumCaseHas, EnumDeclHas, TypeAliasKindHas, TypeAliasHas, TypeDeclHas, ItemTypeDeclHas, ty_layout, func_type_layout, params_layout, constructor_layout, static_layout, method_layout, resource_method_layout, resource_decl_layout, payload_layout, variant_case_layout, variant_decl_layout, field_layout, record_decl_layout, flag_layout, flags_decl_layout, enum_case_layout, enum_decl_layout, alias_kind_layout, type_alias_layout, type_decl_layout, item_type_decl_layout}
+use Rattle.std.proofs.Common.{◌≡◌, ℕ, Bool, true, false, List, ◌++◌, refl, Option, Some, None}
+use Rattle.wac_lexer.proofs.Following.{follows}
 use Rattle.wac_lexer.specs.declared.token.Token.TheVariants as kinds
 use Rattle.wac_ast_grammar.specs.Tree as tree
+use Rattle.wac_ast_grammar.specs.Tree.{Ident, Ty, Constructor, Method, ResourceMethod, ResourceDecl, VariantCase, VariantDecl, Field, RecordDecl, Flag, FlagsDecl, EnumCase, EnumDecl, TypeAliasKind, TypeAlias, TypeDecl, ItemTypeDecl}
+use Rattle.wac_ast_grammar.specs.Leaves.{IfThere}
+use Rattle.wac_printer_layout.specs.Printed.{text}
+use Rattle.wac_printer_layout.specs.Texts.{Spelled, TyHas, ConstructorHas, MethodHas, ResourceMethodHas, ResourceDeclHas, VariantCaseHas, VariantDeclHas, FieldHas, RecordDeclHas, FlagHas, FlagsDeclHas, EnumCaseHas, EnumDeclHas, TypeAliasKindHas, TypeAliasHas, TypeDeclHas, ItemTypeDeclHas}
+use Rattle.wac_printer_layout.specs.TypeLayout.{ty_layout, func_type_layout, params_layout}
+use Rattle.wac_printer_layout.specs.DeclarationLayout.{constructor_layout, static_layout, method_layout, resource_method_layout, resource_decl_layout, payload_layout, variant_case_layout, variant_decl_layout, field_layout, record_decl_layout, flag_layout, flags_decl_layout, enum_case_layout, enum_decl_layout, alias_kind_layout, type_alias_layout, type_decl_layout, item_type_decl_layout}
 use Rattle.wac_printer_layout.proofs.Joints.{J, also, documented, known, word, colon, equals, semicolon, open_paren, close_paren, rows_follow, body_follow, rows_join, body_join}
 use Rattle.wac_printer_layout.proofs.TypesJoin.{ty_join, params_join, func_type_join}
 

@@ -1,5 +1,19 @@
 -- What is printed of a document is read back.
-use Rattle.wac_printer_layout.proofs.Common.{◌≡◌, ℕ, true, List, [], ◌∷◌, sym, subst, AllByRecursion, Item, items, InOrder, slice, end_of, ordered, Document, Piece, text, AreBlanks, Joins, doc_lines, bare_document, document_layout, Spelled, DocumentHas, printed, RereadAs}
+use Rattle.std.proofs.Common.{◌≡◌, ℕ, true, List, [], ◌∷◌, sym, subst}
+use Rattle.std.specs.List.{AllByRecursion}
+use Rattle.wac_lexer.specs.Item.{Item}
+use Rattle.wac_lexer.specs.Items.{items}
+use Rattle.wac_lexer.specs.Order.{InOrder}
+use Rattle.wac_lexer.specs.Reading.{slice}
+use Rattle.wac_lexer.specs.Span.{end_of}
+use Rattle.wac_lexer.proofs.Ordered.{ordered}
+use Rattle.wac_ast_grammar.specs.Tree.{Document}
+use Rattle.wac_printer_layout.specs.Printed.{Piece, text}
+use Rattle.wac_printer_layout.specs.Joins.{AreBlanks, Joins}
+use Rattle.wac_printer_layout.specs.Bare.{doc_lines, bare_document}
+use Rattle.wac_printer_layout.specs.StatementLayout.{document_layout}
+use Rattle.wac_printer_layout.specs.Texts.{Spelled, DocumentHas}
+use Rattle.wac_printer_layout.specs.Reread.{printed, RereadAs}
 use Rattle.wac_printer_layout.proofs.Accepted.{text_accepted}
 use Rattle.wac_printer_layout.proofs.Bytes.{utf8_bytes}
 use Rattle.wac_printer_layout.proofs.Means.{Means, placed_means}

@@ -1,7 +1,14 @@
 -- The pieces of expressions join.
-use Rattle.wac_printer_layout.proofs.Common.{◌≡◌, ℕ, Bool, true, List, [], ◌∷◌, ◌++◌, refl, AllByRecursion, flat_map, follows, PostfixExpr, InstantiationArgumentName, Expr, PrimaryExpr, Arguments, InstantiationArgument, Piece, line, text, deeper, newline, Spelled, PostfixExprHas, ArgumentNameHas, ExprHas, PrimaryExprHas, ArgumentsHas, ArgumentHas, postfix_expr_layout, argument_name_layout, comma_layout, braced_layout, expr_layout, primary_expr_layout, arguments_layout, argument_layout}
+use Rattle.std.proofs.Common.{◌≡◌, ℕ, Bool, true, List, [], ◌∷◌, ◌++◌, refl}
+use Rattle.std.specs.List.{AllByRecursion, flat_map}
+use Rattle.wac_lexer.proofs.Following.{follows}
 use Rattle.wac_lexer.specs.declared.token.Token.TheVariants as kinds
 use Rattle.wac_ast_grammar.specs.Tree as tree
+use Rattle.wac_ast_grammar.specs.Tree.{PostfixExpr, InstantiationArgumentName, Expr, PrimaryExpr, Arguments, InstantiationArgument}
+use Rattle.wac_printer_layout.specs.Printed.{Piece, line, text, deeper}
+use Rattle.wac_printer_layout.specs.Parts.{newline}
+use Rattle.wac_printer_layout.specs.Texts.{Spelled, PostfixExprHas, ArgumentNameHas, ExprHas, PrimaryExprHas, ArgumentsHas, ArgumentHas}
+use Rattle.wac_printer_layout.specs.ExpressionLayout.{postfix_expr_layout, argument_name_layout, comma_layout, braced_layout, expr_layout, primary_expr_layout, arguments_layout, argument_layout}
 use Rattle.wac_printer_layout.proofs.Joints.{J, also, known, dot, word, string, name, colon, comma, ellipsis, open_paren, close_paren, open_brace, close_brace, open_bracket, close_bracket}
 
 module _ (gap : List ℕ) where

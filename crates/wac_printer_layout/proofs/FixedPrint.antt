@@ -1,5 +1,12 @@
 -- What is printed is fixed from the second time on.
-use Rattle.wac_printer_layout.proofs.Common.{◌≡◌, ℕ, true, List, sym, ap, ◌∙◌, Document, text, doc_lines, bare_document, settle_document, document_layout, Spelled, DocumentHas, printed, IsReread}
+use Rattle.std.proofs.Common.{◌≡◌, ℕ, true, List, sym, ap, ◌∙◌}
+use Rattle.wac_ast_grammar.specs.Tree.{Document}
+use Rattle.wac_printer_layout.specs.Printed.{text}
+use Rattle.wac_printer_layout.specs.Bare.{doc_lines, bare_document}
+use Rattle.wac_printer_layout.specs.Settled.{settle_document}
+use Rattle.wac_printer_layout.specs.StatementLayout.{document_layout}
+use Rattle.wac_printer_layout.specs.Texts.{Spelled, DocumentHas}
+use Rattle.wac_printer_layout.specs.Reread.{printed, IsReread}
 use Rattle.wac_printer_layout.proofs.Settling.{settled_document, twice_document}
 
 -- the docs of a tree that was read from a printed text, cut into lines

@@ -1,8 +1,16 @@
 -- The pieces of interfaces join.
-use Rattle.wac_printer_layout.proofs.Common.{◌≡◌, ℕ, Bool, true, false, List, [], ◌∷◌, ◌++◌, refl, Option, Some, None, codes, AllByRecursion, follows, Ident, UsePath, UseItem, Use, InterfaceExport, InterfaceItem, InterfaceDecl, InlineInterface, IfThere, text, fresh_behind, joined, Spelled, IdentHas, UsePathHas, UseItemHas, UseHas, InterfaceExportHas, InterfaceItemHas, InterfaceDeclHas, InlineInterfaceHas, func_type_ref_layout, use_path_layout, as_layout, use_item_layout, use_items_layout, use_layout, interface_export_layout, interface_item_layout, interface_decl_layout, inline_interface_layout}
+use Rattle.std.proofs.Common.{◌≡◌, ℕ, Bool, true, false, List, [], ◌∷◌, ◌++◌, refl, Option, Some, None, codes}
+use Rattle.std.specs.List.{AllByRecursion}
+use Rattle.wac_lexer.proofs.Following.{follows}
 use Rattle.wac_lexer.specs.declared.token.Token.TheVariants as kinds
 use Rattle.wac_ast_grammar.specs.Tree as tree
-use Rattle.wac_printer_layout.specs.Printed.{token}
+use Rattle.wac_ast_grammar.specs.Tree.{Ident, UsePath, UseItem, Use, InterfaceExport, InterfaceItem, InterfaceDecl, InlineInterface}
+use Rattle.wac_ast_grammar.specs.Leaves.{IfThere}
+use Rattle.wac_printer_layout.specs.Printed.{token, text, fresh_behind}
+use Rattle.wac_printer_layout.specs.Parts.{joined}
+use Rattle.wac_printer_layout.specs.Texts.{Spelled, IdentHas, UsePathHas, UseItemHas, UseHas, InterfaceExportHas, InterfaceItemHas, InterfaceDeclHas, InlineInterfaceHas}
+use Rattle.wac_printer_layout.specs.TypeLayout.{func_type_ref_layout}
+use Rattle.wac_printer_layout.specs.InterfaceLayout.{use_path_layout, as_layout, use_item_layout, use_items_layout, use_layout, interface_export_layout, interface_item_layout, interface_decl_layout, inline_interface_layout}
 use Rattle.wac_printer_layout.proofs.Joints.{J, also, documented, known, word, path, colon, semicolon, open_brace, close_brace, joined_join, body_follow, body_join}
 use Rattle.wac_printer_layout.proofs.TypesJoin.{func_type_ref_join}
 use Rattle.wac_printer_layout.proofs.DeclarationsJoin.{item_type_decl_join}

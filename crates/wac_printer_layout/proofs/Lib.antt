@@ -1,4 +1,3 @@
-pub mod Common
 pub mod Skips
 pub mod Bytes
 pub mod ReadBack

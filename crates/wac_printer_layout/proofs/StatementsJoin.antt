@@ -1,8 +1,15 @@
 -- The pieces of statements and of documents join.
-use Rattle.wac_printer_layout.proofs.Common.{◌≡◌, ℕ, Bool, true, List, [], ◌∷◌, ◌++◌, refl, Option, Some, None, codes, follows, ExternName, PackagePath, ImportType, ImportStatement, LetStatement, ExportOptions, ExportStatement, TypeStatement, Statement, PackageDirective, Document, IfThere, Piece, text, space, spaced, Spelled, ExternNameHas, PackagePathHas, ImportTypeHas, ImportStatementHas, LetStatementHas, ExportOptionsHas, ExportStatementHas, TypeStatementHas, StatementHas, DirectiveHas, DocumentHas, expr_layout, import_type_layout, renamed_layout, import_name_layout, import_statement_layout, let_statement_layout, export_options_layout, export_statement_layout, type_statement_layout, statement_layout, targets_layout, directive_layout, document_layout}
+use Rattle.std.proofs.Common.{◌≡◌, ℕ, Bool, true, List, [], ◌∷◌, ◌++◌, refl, Option, Some, None, codes}
+use Rattle.wac_lexer.proofs.Following.{follows}
 use Rattle.wac_lexer.specs.declared.token.Token.TheVariants as kinds
 use Rattle.wac_ast_grammar.specs.Tree as tree
-use Rattle.wac_printer_layout.specs.Printed.{token}
+use Rattle.wac_ast_grammar.specs.Tree.{ExternName, PackagePath, ImportType, ImportStatement, LetStatement, ExportOptions, ExportStatement, TypeStatement, Statement, PackageDirective, Document}
+use Rattle.wac_ast_grammar.specs.Leaves.{IfThere}
+use Rattle.wac_printer_layout.specs.Printed.{Piece, token, text}
+use Rattle.wac_printer_layout.specs.Parts.{space, spaced}
+use Rattle.wac_printer_layout.specs.Texts.{Spelled, ExternNameHas, PackagePathHas, ImportTypeHas, ImportStatementHas, LetStatementHas, ExportOptionsHas, ExportStatementHas, TypeStatementHas, StatementHas, DirectiveHas, DocumentHas}
+use Rattle.wac_printer_layout.specs.ExpressionLayout.{expr_layout}
+use Rattle.wac_printer_layout.specs.StatementLayout.{import_type_layout, renamed_layout, import_name_layout, import_statement_layout, let_statement_layout, export_options_layout, export_statement_layout, type_statement_layout, statement_layout, targets_layout, directive_layout, document_layout}
 use Rattle.wac_printer_layout.proofs.Joints.{J, also, documented, known, word, path, name, colon, equals, semicolon, ellipsis, spaced_join}
 use Rattle.wac_printer_layout.proofs.TypesJoin.{extern_name_join, func_type_join}
 use Rattle.wac_printer_layout.proofs.DeclarationsJoin.{type_decl_join}

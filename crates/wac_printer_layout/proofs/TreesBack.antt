@@ -1,6 +1,17 @@
 -- What is printed of the tree of a text reads back.
-use Rattle.wac_printer_layout.proofs.Common.{◌≡◌, ℕ, true, List, [], sym, refl, ◌∙◌, subst, IsUtf8, items, Document, document, IsTreeOf, AreBlanks, placed, doc_lines, bare_document, document_layout, Spelled, DocumentHas, printed, IsReread, RereadAs, ReadsBack, WasPrinted, IsFixed}
+use Rattle.std.proofs.Common.{◌≡◌, ℕ, true, List, [], sym, refl, ◌∙◌, subst}
+use Rattle.std.specs.Str.{IsUtf8}
+use Rattle.wac_lexer.specs.Items.{items}
+use Rattle.wac_ast_grammar.specs.Tree.{Document}
+use Rattle.wac_ast_grammar.specs.Grammar.{document}
+use Rattle.wac_ast_grammar.specs.TextTree.{IsTreeOf}
 use Rattle.wac_ast_grammar.proofs.Complete.{one_tree}
+use Rattle.wac_printer_layout.specs.Joins.{AreBlanks}
+use Rattle.wac_printer_layout.specs.Placed.{placed}
+use Rattle.wac_printer_layout.specs.Bare.{doc_lines, bare_document}
+use Rattle.wac_printer_layout.specs.StatementLayout.{document_layout}
+use Rattle.wac_printer_layout.specs.Texts.{Spelled, DocumentHas}
+use Rattle.wac_printer_layout.specs.Reread.{printed, IsReread, RereadAs, ReadsBack, WasPrinted, IsFixed}
 use Rattle.wac_printer_layout.proofs.Accepted.{text_accepted}
 use Rattle.wac_printer_layout.proofs.Bytes.{utf8_bytes}
 use Rattle.wac_printer_layout.proofs.ReadBack.{read_back}

@@ -1,7 +1,14 @@
 -- The pieces of types join.
-use Rattle.wac_printer_layout.proofs.Common.{◌≡◌, ℕ, Bool, true, false, List, ◌++◌, refl, AllByRecursion, follows, Ident, ExternName, Ty, OptionalTy, Types, NamedType, ResultList, FuncType, FuncTypeRef, text, joined, Spelled, ExternNameHas, TyHas, OptionalTyHas, TypesHas, NamedTypeHas, ResultListHas, FuncTypeHas, FuncTypeRefHas, extern_name_layout, ty_layout, element_layout, types_layout, further_types_layout, named_type_layout, results_layout, async_layout, params_layout, func_type_layout, func_type_ref_layout}
+use Rattle.std.proofs.Common.{◌≡◌, ℕ, Bool, true, false, List, ◌++◌, refl}
+use Rattle.std.specs.List.{AllByRecursion}
+use Rattle.wac_lexer.proofs.Following.{follows}
 use Rattle.wac_lexer.specs.declared.token.Token.TheVariants as kinds
 use Rattle.wac_ast_grammar.specs.Tree as tree
+use Rattle.wac_ast_grammar.specs.Tree.{Ident, ExternName, Ty, OptionalTy, Types, NamedType, ResultList, FuncType, FuncTypeRef}
+use Rattle.wac_printer_layout.specs.Printed.{text}
+use Rattle.wac_printer_layout.specs.Parts.{joined}
+use Rattle.wac_printer_layout.specs.Texts.{Spelled, ExternNameHas, TyHas, OptionalTyHas, TypesHas, NamedTypeHas, ResultListHas, FuncTypeHas, FuncTypeRefHas}
+use Rattle.wac_printer_layout.specs.TypeLayout.{extern_name_layout, ty_layout, element_layout, types_layout, further_types_layout, named_type_layout, results_layout, async_layout, params_layout, func_type_layout, func_type_ref_layout}
 use Rattle.wac_printer_layout.proofs.Joints.{J, also, known, word, string, colon, comma, open_paren, close_paren, open_angle, close_angle, underscore, arrow, joined_join}
 
 module _ (gap : List ℕ) where

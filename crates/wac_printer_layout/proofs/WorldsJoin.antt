@@ -1,8 +1,13 @@
 -- The pieces of worlds join.
-use Rattle.wac_printer_layout.proofs.Common.{◌≡◌, ℕ, Bool, true, List, [], ◌∷◌, ◌++◌, refl, codes, AllByRecursion, follows, Ident, ExternType, NamedWorldItem, WorldItemPath, WorldImport, WorldExport, WorldRef, WorldIncludeItem, WorldInclude, WorldItem, WorldDecl, text, Spelled, ExternTypeHas, NamedWorldItemHas, WorldItemPathHas, WorldImportHas, WorldExportHas, WorldRefHas, WorldIncludeItemHas, WorldIncludeHas, WorldItemHas, WorldDeclHas, extern_type_layout, named_world_item_layout, world_item_path_layout, world_import_layout, world_export_layout, world_ref_layout, world_include_item_layout, with_layout, world_include_layout, world_item_layout, world_decl_layout}
+use Rattle.std.proofs.Common.{◌≡◌, ℕ, Bool, true, List, [], ◌∷◌, ◌++◌, refl, codes}
+use Rattle.std.specs.List.{AllByRecursion}
+use Rattle.wac_lexer.proofs.Following.{follows}
 use Rattle.wac_lexer.specs.declared.token.Token.TheVariants as kinds
 use Rattle.wac_ast_grammar.specs.Tree as tree
-use Rattle.wac_printer_layout.specs.Printed.{token}
+use Rattle.wac_ast_grammar.specs.Tree.{Ident, ExternType, NamedWorldItem, WorldItemPath, WorldImport, WorldExport, WorldRef, WorldIncludeItem, WorldInclude, WorldItem, WorldDecl}
+use Rattle.wac_printer_layout.specs.Printed.{token, text}
+use Rattle.wac_printer_layout.specs.Texts.{Spelled, ExternTypeHas, NamedWorldItemHas, WorldItemPathHas, WorldImportHas, WorldExportHas, WorldRefHas, WorldIncludeItemHas, WorldIncludeHas, WorldItemHas, WorldDeclHas}
+use Rattle.wac_printer_layout.specs.WorldLayout.{extern_type_layout, named_world_item_layout, world_item_path_layout, world_import_layout, world_export_layout, world_ref_layout, world_include_item_layout, with_layout, world_include_layout, world_item_layout, world_decl_layout}
 use Rattle.wac_printer_layout.proofs.Joints.{J, also, documented, known, word, path, colon, semicolon, rows_follow, body_follow, rows_join, body_join}
 use Rattle.wac_printer_layout.proofs.TypesJoin.{func_type_join}
 use Rattle.wac_printer_layout.proofs.DeclarationsJoin.{item_type_decl_join}

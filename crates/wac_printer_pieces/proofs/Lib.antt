@@ -1,4 +1,3 @@
-pub mod Common
 pub mod Fronts
 pub mod Printing
 pub mod Indentation

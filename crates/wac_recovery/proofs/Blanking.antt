@@ -1,6 +1,7 @@
 -- Blanks, one after another, and between other texts.
-use Rattle.wac_recovery.proofs.Common.{◌≡◌, ap, sym, ◌∙◌, ℕ, ◌+◌, ◌<◌, List, [], ◌∷◌, ◌++◌, map, take, length, get_or, map-append, take_more, blank}
-use Rattle.std.proofs.Common.{append_assoc}
+use Rattle.std.proofs.Common.{◌≡◌, ap, sym, ◌∙◌, ℕ, ◌+◌, ◌<◌, List, [], ◌∷◌, ◌++◌, map, take, length, get_or, append_assoc}
+use Rattle.std.proofs.lemmas.List.{map-append, take_more}
+use Rattle.wac_recovery.specs.Blanked.{blank}
 
 -- one byte more
 pub one_more_blank : (before now new items : List ℕ) (i byte : ℕ) → now ≡ before ++ map blank (take i items) → i < length items → byte ≡ get_or items i byte → new ≡ now ++ (blank byte ∷ []) → new ≡ before ++ map blank (take (i + 1) items)

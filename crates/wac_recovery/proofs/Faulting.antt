@@ -1,5 +1,6 @@
 -- What parsing finds.
-use Rattle.wac_recovery.proofs.Common.{◌≡◌, sym, subst, ⊎_elim, List, ℕ, Option, Some, None, Result, Ok, Err, ◌⊎◌, IfOk, alloc_error, IsFirstFault, IsRejection, IsWrongWith, Fault}
+use Rattle.std.proofs.Common.{◌≡◌, sym, subst, ⊎_elim, List, ℕ, Option, Some, None, Result, Ok, Err}
+use Rattle.std.specs.Prelude.{◌⊎◌, IfOk, alloc_error}
 use Rattle.wac_ast_grammar.specs.Tree.{Document}
 use Rattle.wac_ast_grammar.specs.TextTree.{IsTreeOf}
 use Rattle.wac_ast.specs.Document.{ErrorOf}
@@ -7,6 +8,8 @@ use Rattle.wac_ast_base.specs.Error.{told_by}
 use Rattle.wac_ast_base.specs.declared.error.Error.{Error}
 use Rattle.wac_ast_base.specs.declared.error.Error.TheVariants as errors
 use Rattle.wac_comments_layout.specs.Nesting.{too_deep}
+use Rattle.wac_recovery.specs.Faults.{IsFirstFault, IsRejection, IsWrongWith}
+use Rattle.wac_recovery.specs.declared.fault.Fault.{Fault}
 
 -- an error of parsing that isn't out of memory is what is wrong first
 pub fault_found : {E : Type 0} (text : List ℕ) (e : Error) (r : Result (Option Fault) E) → too_deep text ≡ None → ((tree : Document) → IsTreeOf text tree → e ≡ errors.Memory alloc_error)

@@ -1,4 +1,3 @@
-pub mod Common
 pub mod Blanking
 pub mod Faulting
 pub mod Rejecting

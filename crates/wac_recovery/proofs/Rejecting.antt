@@ -1,10 +1,15 @@
 -- The first rejected character of a text is a slice of it.
-use Rattle.wac_recovery.proofs.Common.{◌≡◌, ℕ, ◌+◌, List, [], ◌∷◌, ◌++◌, drop, sym, ap, ◌∙◌, subst, add_assoc, add-zero, zero-add, MatchOption, None, Some, sum_by, IsCharBoundary, IsUtf8, chars, IsCharBoundary-start, IsCharBoundary-past_char, IsUtf8-drop, drop_past_char, encodes-chars, Slices, Span}
+use Rattle.std.proofs.Common.{◌≡◌, ℕ, ◌+◌, List, [], ◌∷◌, ◌++◌, drop, sym, ap, ◌∙◌, subst, add_assoc, add-zero, zero-add}
+use Rattle.std.specs.Prelude.{MatchOption, None, Some, sum_by}
 use Rattle.std.specs.List.{AllByRecursion}
 use Rattle.std.specs.Char.{len_utf8}
+use Rattle.std.specs.Str.{IsCharBoundary, IsUtf8, chars}
+use Rattle.std.proofs.lemmas.Str.{IsCharBoundary-start, IsCharBoundary-past_char, IsUtf8-drop, drop_past_char, encodes-chars}
 use Rattle.std.proofs.lemmas.List.Sums.{sum_by-cons}
 use lib.Utf8.{encodes}
 use Rattle.wac_lexer.specs.Characters.{IsFirstRefused, fault_of, refused}
+use Rattle.wac_lexer.specs.Reading.{Slices}
+use Rattle.wac_lexer.specs.Span.{Span}
 use Rattle.wac_lexer.specs.declared.error.Error.{Error}
 
 -- a character is cut from those before and behind

@@ -1,9 +1,15 @@
 -- One round after another.
-use Rattle.wac_recovery.proofs.Common.{◌≡◌, refl, sym, ap, ◌∙◌, subst, ℕ, ◌+◌, ◌-◌, ◌<◌, ◌≤◌, List, [], ◌∷◌, ◌++◌, length, arith, Some, None, inl, inr, ⊎_elim, ◌↔◌, map, option_map, append-nil, length-map, map-append, Attempt, attempt_of, next, whole, IsFaultless, IsWrongWith, Wrong, moved_back, place_of, wrong_of, IsRecovery, IsRound, Recovers, left_of, Fault, Round}
-use Rattle.std.proofs.lemmas.List.{append_assoc}
+use Rattle.std.proofs.Common.{◌≡◌, refl, sym, ap, ◌∙◌, subst, ℕ, ◌+◌, ◌-◌, ◌<◌, ◌≤◌, List, [], ◌∷◌, ◌++◌, length, arith, Some, None, inl, inr, ⊎_elim}
+use Rattle.std.specs.Prelude.{◌↔◌, map, option_map}
+use Rattle.std.proofs.lemmas.List.{append-nil, append_assoc, length-map, map-append}
+use Rattle.wac_recovery.specs.Attempts.{Attempt, attempt_of, next, whole}
+use Rattle.wac_recovery.specs.Faults.{IsFaultless, IsWrongWith, Wrong, moved_back, place_of, wrong_of}
 use Rattle.wac_recovery.specs.Faults.Wrong.{rejected, nested}
+use Rattle.wac_recovery.specs.Recovered.{IsRecovery, IsRound, Recovers, left_of}
 use Rattle.wac_recovery.specs.declared.attempt.Attempt.{Attempt as CodeAttempt}
+use Rattle.wac_recovery.specs.declared.fault.Fault.{Fault}
 use Rattle.wac_recovery.specs.declared.recovery.Recovery.{Recovery}
+use Rattle.wac_recovery.specs.declared.recovery.Round.{Round}
 
 -- what is found from an attempt on, after these, is what is found from the first on
 abbrev pub Continues : ℕ → Attempt → List Wrong → ℕ → Attempt → Type 0

@@ -1,6 +1,12 @@
 -- Faults of statements that stand alone.
-use Rattle.wac_recovery.proofs.Common.{◌≡◌, subst, ℕ, List, length, arith, IsUtf8, IsCharBoundary, IsCharBoundary-start, Slices, Span, span, end_of, stand_in, IsWrongWith, Wrong, moved_back, place_of}
+use Rattle.std.proofs.Common.{◌≡◌, subst, ℕ, List, length, arith}
+use Rattle.std.specs.Str.{IsUtf8, IsCharBoundary}
+use Rattle.std.proofs.lemmas.Str.{IsCharBoundary-start}
+use Rattle.wac_lexer.specs.Reading.{Slices}
+use Rattle.wac_lexer.specs.Span.{Span, span, end_of}
 use Rattle.wac_recovery.specs.Alone.{IsFaultAt, IsFaultBehind, alone}
+use Rattle.wac_recovery.specs.Attempts.{stand_in}
+use Rattle.wac_recovery.specs.Faults.{IsWrongWith, Wrong, moved_back, place_of}
 
 -- all before a part cuts no character
 pub before : (source : List ℕ) (part : Span) → IsUtf8 source → Slices source part → Slices source (span 0 part.offset)

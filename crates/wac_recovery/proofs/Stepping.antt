@@ -1,10 +1,18 @@
 -- One item of a statement after another.
-use Rattle.wac_recovery.proofs.Common.{◌≡◌, refl, sym, ap, ◌∙◌, subst, ℕ, ◌+◌, ◌-◌, ◌<◌, ◌≤◌, List, [], ◌∷◌, length, Bool, true, false, cond, arith, Option, Some, None, Result, IfSome, nat_lt, option_map, IsCharBoundary, IsCharBoundary-end, Item, Handed, handed, behind_first, Slices, Span, end_of, after_item, begun_at, ends, statement_among, up_to, with_item, Begun}
+use Rattle.std.proofs.Common.{◌≡◌, refl, sym, ap, ◌∙◌, subst, ℕ, ◌+◌, ◌-◌, ◌<◌, ◌≤◌, List, [], ◌∷◌, length, Bool, true, false, cond, arith, Option, Some, None, Result}
+use Rattle.std.specs.Prelude.{IfSome, nat_lt, option_map}
+use Rattle.std.specs.Str.{IsCharBoundary}
 use Rattle.std.proofs.lemmas.Bool.{lt-ltb, le-ltb}
+use Rattle.std.proofs.lemmas.Str.{IsCharBoundary-end}
+use Rattle.wac_lexer.specs.Item.{Item, Handed, handed, behind_first}
+use Rattle.wac_lexer.specs.Reading.{Slices}
+use Rattle.wac_lexer.specs.Span.{Span, end_of}
 use Rattle.wac_lexer.specs.declared.token.Token.{Token}
 use Rattle.wac_lexer.specs.declared.error.Error.{Error}
 use Rattle.wac_ast_grammar.specs.Tokens.{is_token}
 use Rattle.wac_lexer.specs.declared.token.Token.TheVariants as t
+use Rattle.wac_recovery.specs.Statements.{after_item, begun_at, ends, statement_among, up_to, with_item}
+use Rattle.wac_recovery.specs.declared.statements.Begun.{Begun}
 
 -- what is found at an item that ends its statement or doesn't, by what was computed
 abbrev pub by_end : ℕ → ℕ → Begun → Result Token Error → ℕ → List Item → Bool → Option Span

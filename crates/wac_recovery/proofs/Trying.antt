@@ -1,5 +1,14 @@
 -- One attempt after another.
-use Rattle.wac_recovery.proofs.Common.{◌≡◌, ap, ap₂, ◌∙◌, subst, ℕ, List, ◌++◌, length, max, Some, None, option_map, Span, Attempt, attempt_of, front, next, without, without_found, blanked, IsWrongWith, moved_back, place_of, wrong_of, IsRound, part_at, Fault, Round}
+use Rattle.std.proofs.Common.{◌≡◌, ap, ap₂, ◌∙◌, subst, ℕ, List, ◌++◌, length, max, Some, None}
+use Rattle.std.specs.Prelude.{option_map}
+use Rattle.wac_lexer.specs.Span.{Span}
+use Rattle.wac_recovery.specs.Attempts.{Attempt, attempt_of, front, next, without, without_found}
+use Rattle.wac_recovery.specs.Blanked.{blanked}
+use Rattle.wac_recovery.specs.Faults.{IsWrongWith, moved_back, place_of, wrong_of}
+use Rattle.wac_recovery.specs.Recovered.{IsRound}
+use Rattle.wac_recovery.specs.Statements.{part_at}
+use Rattle.wac_recovery.specs.declared.fault.Fault.{Fault}
+use Rattle.wac_recovery.specs.declared.recovery.Round.{Round}
 
 abbrev made : List ℕ → ℕ → Attempt
 made text skip = record { text = text; skip = skip }

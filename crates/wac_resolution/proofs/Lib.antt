@@ -1,4 +1,3 @@
-pub mod Common
 pub mod DeclaredKinds
 pub mod Leading
 pub mod ImportTypes

@@ -1,4 +1,3 @@
-pub mod Common
 pub mod Standing
 pub mod Defining
 pub mod PlaceLaws

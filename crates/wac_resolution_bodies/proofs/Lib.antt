@@ -1,4 +1,3 @@
-pub mod Common
 pub mod Found
 pub mod Lists
 pub mod Going

@@ -1,4 +1,3 @@
-pub mod Common
 pub mod Imports
 pub mod Spreading
 pub mod SpreadSteps

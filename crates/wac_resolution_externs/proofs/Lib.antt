@@ -1,4 +1,3 @@
-pub mod Common
 pub mod Checks
 pub mod Exporting
 pub mod Unnamed

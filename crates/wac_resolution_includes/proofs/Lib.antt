@@ -1,4 +1,3 @@
-pub mod Common
 pub mod Found
 pub mod Read
 pub mod Taken

@@ -1,4 +1,3 @@
-pub mod Common
 pub mod Arguments
 pub mod FirstMentions
 pub mod Keys

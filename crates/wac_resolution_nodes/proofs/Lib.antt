@@ -1,4 +1,3 @@
-pub mod Common
 pub mod Composed
 pub mod Roots
 pub mod Found

@@ -1,4 +1,3 @@
-pub mod Common
 pub mod Keys
 pub mod Walks
 pub mod Expanding

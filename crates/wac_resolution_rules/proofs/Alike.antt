@@ -1,10 +1,20 @@
 -- Layout carries no meaning.
-use Rattle.wac_resolution_rules.proofs.Common.{◌≡◌, ℕ, List, sym, ap, ◌∙◌, subst, ◌↔◌, IsUtf8, Key, Naming, Document, Keep, bare_document, plain_document, Rules, Composition, Describes, DescribeAlike, given_to}
+use Rattle.std.proofs.Common.{◌≡◌, ℕ, List, sym, ap, ◌∙◌, subst}
+use Rattle.std.specs.Prelude.{◌↔◌}
+use Rattle.std.specs.Str.{IsUtf8}
 use Rattle.wac_graph_types.specs.Package.{PackageParts}
+use Rattle.wac_graph.specs.Package.{Key}
+use Rattle.wac_graph.specs.Origin.{Naming}
+use Rattle.wac_ast_grammar.specs.Tree.{Document}
 use Rattle.wac_ast_grammar.specs.TextTree.{IsTreeOf}
 use Rattle.wac_ast_grammar.specs.Spelled.{DocumentSpelled}
+use Rattle.wac_printer_layout.specs.Bare.{Keep, bare_document}
+use Rattle.wac_printer_layout.specs.PlainTree.{plain_document}
 use Rattle.wac_printer_layout.specs.Reread.{IsReread}
 use Rattle.wac_printer_layout.proofs.PlainTrees.{plain_of_bare, plain_of_reread}
+use Rattle.wac_resolution_rules.specs.Given.{Rules}
+use Rattle.wac_resolution_rules.specs.Composition.{Composition}
+use Rattle.wac_resolution_rules.specs.ResolvedDocument.{Describes, DescribeAlike, given_to}
 use Rattle.wac_resolution_rules.proofs.StatementsPlain.{describes_plain}
 
 both_ways : {A B : Type 0} → A ≡ B → A ↔ B

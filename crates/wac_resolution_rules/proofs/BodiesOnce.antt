@@ -1,5 +1,19 @@
 -- What paths name, what items of a body declare, and what is included, is unique.
-use Rattle.wac_resolution_rules.proofs.Common.{◌≡◌, ℕ, List, [], ◌∷◌, ◌++◌, Bool, true, false, refl, sym, ◌∙◌, ap, subst, ExternKind, func, Meaning, Scope, Steps, kind_of, promoted, entry_of, imports_of, exports_of, Naming, resource_entry, Ident, PackagePath, UsePath, WorldRef, ResourceMethod, ItemTypeDecl, first_params, in_body, Context, segments_of, IsMember, LeadsFrom, LeadsTo, UseNames, WorldNames, Body, with_extern, with_type, with_count, constructor_name, name_of_method, HasMethod, with_resource, DeclaresIn, HasItem, used_as, renamed_from, UsesItem, HasUse, Entries, HasEntry, has_colon, Taking, TakesNamed, Takes, Included, HasInclude}
+use Rattle.std.proofs.Common.{◌≡◌, ℕ, List, [], ◌∷◌, ◌++◌, Bool, true, false, refl, sym, ◌∙◌, ap, subst}
+use Rattle.wac_graph_types.specs.declared.kind.ExternKind.{ExternKind}
+use Rattle.wac_graph_types.specs.Kind.{func}
+use Rattle.wac_graph_types.specs.Meaning.{Meaning}
+use Rattle.wac_graph_types.specs.Scope.{Scope}
+use Rattle.wac_graph_types.specs.Steps.{Steps}
+use Rattle.wac_graph_types.specs.Shape.{kind_of, promoted, entry_of, imports_of, exports_of}
+use Rattle.wac_graph.specs.Origin.{Naming}
+use Rattle.wac_graph.specs.Resources.{resource_entry}
+use Rattle.wac_ast_grammar.specs.Tree.{Ident, PackagePath, UsePath, WorldRef, ResourceMethod, ItemTypeDecl}
+use Rattle.wac_resolution_rules.specs.Types.{first_params}
+use Rattle.wac_resolution_rules.specs.Declarations.{in_body}
+use Rattle.wac_resolution_rules.specs.Paths.{Context, segments_of, IsMember, LeadsFrom, LeadsTo, UseNames, WorldNames}
+use Rattle.wac_resolution_rules.specs.Bodies.{Body, with_extern, with_type, with_count, constructor_name, name_of_method, HasMethod, with_resource, DeclaresIn, HasItem, used_as, renamed_from, UsesItem, HasUse}
+use Rattle.wac_resolution_rules.specs.Includes.{Entries, HasEntry, has_colon, Taking, TakesNamed, Takes, Included, HasInclude}
 use Rattle.wac_resolution_rules.proofs.StepLaws.{IsOnce, steps_once}
 use Rattle.wac_resolution_rules.proofs.TypesOnce.{stands_once, func_once, constructor_once}
 use Rattle.wac_resolution_rules.proofs.DeclarationsOnce.{variant_once, record_once, flags_once, enum_once, alias_once}

@@ -1,6 +1,26 @@
 -- Of the packages only those that a document mentions matter to what fails in it first.
-use Rattle.wac_resolution_rules.proofs.Common.{◌≡◌, ◌⊎◌, inl, inr, ◌↔◌, ℕ, List, ◌++◌, map, refl, sym, subst, Option, Some, None, flat_map, AllByRecursion, Span, Meaning, Named, look_up, Steps, Fails, Packages, Contents, package_of, argument_name_span, PackagePath, Expr, PrimaryExpr, Arguments, InstantiationArgument, ImportType, ImportStatement, LetStatement, ExportOptions, ExportStatement, Statement, Document, Error, unknown_package, Given, imports_in, Composition, root_scope, start, imports, At, Accesses, Giving, nothing_given, name_meant, Spreads, spreads_of, Places, Placed, Leads, places_after, placed_start, all_imports, ImportAllowed, ReachedAt, IsGivenAlready, AccessBroken, SpreadBroken, InstantiationBroken, ExprBroken, PrimaryBroken, ArgumentsBroken, ArgumentBroken, placed_imports, ImportKindBroken, ImportBroken, LetBroken, ExportOptionsBroken, ExportBroken, StatementBroken, TargetWorldBroken, TargetBroken, StatementFails, TargetFails, FirstFailing, path_mentions, name_mentions, expr_mentions, primary_mentions, arguments_mentions, argument_mentions, import_type_mentions, statement_mentions, target_mentions, mentions, Agree, given_over, kept, KeysHold}
+use Rattle.std.proofs.Common.{◌≡◌, ◌⊎◌, inl, inr, ◌↔◌, ℕ, List, ◌++◌, map, refl, sym, subst, Option, Some, None}
+use Rattle.std.specs.Prelude.{flat_map}
+use Rattle.std.specs.List.{AllByRecursion}
+use Rattle.wac_lexer.specs.Span.{Span}
+use Rattle.wac_graph_types.specs.Meaning.{Meaning}
+use Rattle.wac_graph_types.specs.Scope.{Named, look_up}
+use Rattle.wac_graph_types.specs.Steps.{Steps, Fails}
+use Rattle.wac_graph.specs.Packages.{Packages, Contents, package_of}
 use Rattle.wac_ast_grammar.specs.Grammar.{primary_span}
+use Rattle.wac_ast_grammar.specs.Spans.{argument_name_span}
+use Rattle.wac_ast_grammar.specs.Tree.{PackagePath, Expr, PrimaryExpr, Arguments, InstantiationArgument, ImportType, ImportStatement, LetStatement, ExportOptions, ExportStatement, Statement, Document}
+use Rattle.wac_resolution_errors.specs.Error.{Error, unknown_package}
+use Rattle.wac_resolution_rules.specs.Given.{Given, imports_in}
+use Rattle.wac_resolution_rules.specs.Composition.{Composition, root_scope, start}
+use Rattle.wac_resolution_rules.specs.Nodes.{imports}
+use Rattle.wac_resolution_rules.specs.Expressions.{At, Accesses, Giving, nothing_given, name_meant, Spreads, spreads_of}
+use Rattle.wac_resolution_rules.specs.Places.{Places, Placed, Leads, places_after, placed_start}
+use Rattle.wac_resolution_rules.specs.Target.{all_imports, ImportAllowed}
+use Rattle.wac_resolution_rules.specs.BrokenExpressions.{ReachedAt, IsGivenAlready, AccessBroken, SpreadBroken, InstantiationBroken, ExprBroken, PrimaryBroken, ArgumentsBroken, ArgumentBroken}
+use Rattle.wac_resolution_rules.specs.BrokenStatements.{placed_imports, ImportKindBroken, ImportBroken, LetBroken, ExportOptionsBroken, ExportBroken, StatementBroken, TargetWorldBroken, TargetBroken}
+use Rattle.wac_resolution_rules.specs.ResolvedDocument.{StatementFails, TargetFails, FirstFailing}
+use Rattle.wac_resolution_rules.specs.Mentions.{path_mentions, name_mentions, expr_mentions, primary_mentions, arguments_mentions, argument_mentions, import_type_mentions, statement_mentions, target_mentions, mentions, Agree, given_over, kept, KeysHold}
 use Rattle.wac_resolution_rules.proofs.FirstFailing.{leads_composes}
 use Rattle.wac_resolution_rules.proofs.TypesMention.{along, agree_prefix, steps_agree, path_agrees}
 use Rattle.wac_resolution_rules.proofs.StatementsMention.{instantiable_agrees, stands_agree, first_agrees, gives_agree, give_agrees, kind_agrees, goes_agree, keys_composes, opens_agree, target_agrees, agree_back, kept_agree}

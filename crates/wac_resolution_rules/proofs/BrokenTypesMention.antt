@@ -1,7 +1,28 @@
 -- Of the packages only those that paths, bodies and type statements mention matter to which rules these break.
-use Rattle.wac_resolution_rules.proofs.Common.{◌≡◌, ◌⊎◌, inl, inr, ℕ, List, [], ◌∷◌, ◌++◌, refl, subst, Option, Some, None, Bool, true, false, flat_map, if◌then◌else◌, bytes_eq, ExternKind, Meaning, Scope, Steps, Fails, IsA, is_interface_form, is_world_form, entry_of, promoted, Packages, Contents, PackagePath, UsePath, Use, InterfaceItem, ExternType, WorldItemPath, WorldRef, WorldInclude, WorldItem, TypeStatement, Error, unknown_package, Composition, root_scope, Context, key_of_path, segments_of, Body, empty_body, UsesItem, Entries, HasEntry, HasInclude, HasInterfaceItem, HasWorldItem, includes_of, declared_id, Places, Owner, of_interface, of_world, path_broken, ForeignPathBroken, PathBroken, UsePathBroken, IsNoInterface, UseItemBroken, UseBroken, InterfaceItemBroken, InterfaceBroken, ExternTypeBroken, InstanceBroken, ExternBroken, WorldItemBroken, IsSecondEntry, WorldRefBroken, IsNoWorld, TakingBroken, IncludeBroken, WorldBroken, KindBroken, HasKind, DeclarationBroken, Mention, path_mentions, use_path_mentions, interface_item_mentions, interface_mentions, extern_type_mentions, extern_mentions, world_ref_mentions, world_item_mentions, type_mentions, Agree, over, use_path_name, use_path_span}
+use Rattle.std.proofs.Common.{◌≡◌, ◌⊎◌, inl, inr, ℕ, List, [], ◌∷◌, ◌++◌, refl, subst, Option, Some, None, Bool, true, false}
+use Rattle.std.specs.Prelude.{flat_map, if◌then◌else◌}
+use Rattle.std.specs.Str.{bytes_eq}
+use Rattle.wac_graph_types.specs.declared.kind.ExternKind.{ExternKind}
 use Rattle.wac_graph_types.specs.declared.kind.ExternKind.TheVariants as sides
+use Rattle.wac_graph_types.specs.Meaning.{Meaning}
+use Rattle.wac_graph_types.specs.Scope.{Scope}
+use Rattle.wac_graph_types.specs.Steps.{Steps, Fails}
+use Rattle.wac_graph_types.specs.Shape.{IsA, is_interface_form, is_world_form, entry_of, promoted}
+use Rattle.wac_graph.specs.Packages.{Packages, Contents}
 use Rattle.wac_ast_grammar.specs.Segments.{package_name_span}
+use Rattle.wac_ast_grammar.specs.Tree.{PackagePath, UsePath, Use, InterfaceItem, ExternType, WorldItemPath, WorldRef, WorldInclude, WorldItem, TypeStatement}
+use Rattle.wac_resolution_errors.specs.Error.{Error, unknown_package}
+use Rattle.wac_resolution_rules.specs.Composition.{Composition, root_scope}
+use Rattle.wac_resolution_rules.specs.Paths.{Context, key_of_path, segments_of}
+use Rattle.wac_resolution_rules.specs.Bodies.{Body, empty_body, UsesItem}
+use Rattle.wac_resolution_rules.specs.Includes.{Entries, HasEntry, HasInclude}
+use Rattle.wac_resolution_rules.specs.Worlds.{HasInterfaceItem, HasWorldItem, includes_of}
+use Rattle.wac_resolution_rules.specs.TypeStatements.{declared_id}
+use Rattle.wac_resolution_rules.specs.Places.{Places}
+use Rattle.wac_resolution_rules.specs.BrokenBodies.{Owner, of_interface, of_world, path_broken, ForeignPathBroken, PathBroken, UsePathBroken, IsNoInterface, UseItemBroken, UseBroken}
+use Rattle.wac_resolution_rules.specs.BrokenWorlds.{InterfaceItemBroken, InterfaceBroken, ExternTypeBroken, InstanceBroken, ExternBroken, WorldItemBroken, IsSecondEntry, WorldRefBroken, IsNoWorld, TakingBroken, IncludeBroken, WorldBroken, KindBroken, HasKind, DeclarationBroken}
+use Rattle.wac_resolution_rules.specs.Mentions.{Mention, path_mentions, use_path_mentions, interface_item_mentions, interface_mentions, extern_type_mentions, extern_mentions, world_ref_mentions, world_item_mentions, type_mentions, Agree, over}
+use Rattle.wac_resolution_rules.specs.Spans.{use_path_name, use_path_span}
 use Rattle.wac_resolution_rules.proofs.StatementsStop.{all_append}
 use Rattle.wac_resolution_rules.proofs.TypesMention.{along, same, agree_prefix, steps_agree, path_agrees, use_path_agrees, interface_item_agrees, interface_agrees, world_item_agrees, world_ref_agrees, include_mentions, include_agrees, includes_agree, world_agrees}
 

@@ -1,6 +1,15 @@
 -- An expression only appends nodes, and denotes a bound node, an alias or a new node.
-use Rattle.wac_resolution_rules.proofs.Common.{◌≡◌, ℕ, List, [], ◌∷◌, ◌++◌, refl, sym, ◌∙◌, ap, subst, Option, Some, None, Bool, true, false, cond, is_some, append_assoc, append-nil, Meaning, Named, look_up, exports_of, Steps, Ident, PostfixExpr, Expr, PrimaryExpr, Arguments, InstantiationArgument, Given, imports_in, aliased, Composition, Node, with_node, alias_in, with_alias, At, at, accessed, alias_at, Accesses, Giving, nothing_given, given_too, spread_step, Spreads, spreads_of, Stands, PrimaryStands, Gives, GivesOne}
+use Rattle.std.proofs.Common.{◌≡◌, ℕ, List, [], ◌∷◌, ◌++◌, refl, sym, ◌∙◌, ap, subst, Option, Some, None, Bool, true, false, cond, is_some, append_assoc, append-nil}
 use Rattle.std.specs.List.{fold}
+use Rattle.wac_graph_types.specs.Meaning.{Meaning}
+use Rattle.wac_graph_types.specs.Scope.{Named, look_up}
+use Rattle.wac_graph_types.specs.Shape.{exports_of}
+use Rattle.wac_graph_types.specs.Steps.{Steps}
+use Rattle.wac_ast_grammar.specs.Tree.{Ident, PostfixExpr, Expr, PrimaryExpr, Arguments, InstantiationArgument}
+use Rattle.wac_resolution_rules.specs.Given.{Given, imports_in}
+use Rattle.wac_resolution_rules.specs.Composition.{aliased, Composition, Node, with_node}
+use Rattle.wac_resolution_rules.specs.Nodes.{alias_in, with_alias}
+use Rattle.wac_resolution_rules.specs.Expressions.{At, at, accessed, alias_at, Accesses, Giving, nothing_given, given_too, spread_step, Spreads, spreads_of, Stands, PrimaryStands, Gives, GivesOne}
 
 -- the new composition is the old one with more nodes
 abbrev pub added : Composition → List Node → Composition

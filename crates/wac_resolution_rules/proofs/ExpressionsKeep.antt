@@ -1,6 +1,17 @@
 -- What expressions and exports keep of the nodes of a composition.
-use Rattle.wac_resolution_rules.proofs.Common.{ℕ, List, [], ◌∷◌, sym, subst, Option, Some, None, Bool, true, false, cond, is_some, Meaning, Named, look_up, exports_of, Steps, Key, Ident, PostfixExpr, Expr, PrimaryExpr, Arguments, InstantiationArgument, ExportOptions, Given, key_named, imports_in, Composition, Node, with_alias, with_instance, At, at, accessed, alias_at, Accesses, Giving, nothing_given, given_too, spread_step, Spreads, spreads_of, Stands, PrimaryStands, Gives, GivesOne, ExportsOne, ExportsBy}
+use Rattle.std.proofs.Common.{ℕ, List, [], ◌∷◌, sym, subst, Option, Some, None, Bool, true, false, cond, is_some}
 use Rattle.std.specs.Prelude.{fold}
+use Rattle.wac_graph_types.specs.Meaning.{Meaning}
+use Rattle.wac_graph_types.specs.Scope.{Named, look_up}
+use Rattle.wac_graph_types.specs.Shape.{exports_of}
+use Rattle.wac_graph_types.specs.Steps.{Steps}
+use Rattle.wac_graph.specs.Package.{Key}
+use Rattle.wac_ast_grammar.specs.Tree.{Ident, PostfixExpr, Expr, PrimaryExpr, Arguments, InstantiationArgument, ExportOptions}
+use Rattle.wac_resolution_rules.specs.Given.{Given, key_named, imports_in}
+use Rattle.wac_resolution_rules.specs.Composition.{Composition, Node}
+use Rattle.wac_resolution_rules.specs.Nodes.{with_alias, with_instance}
+use Rattle.wac_resolution_rules.specs.Expressions.{At, at, accessed, alias_at, Accesses, Giving, nothing_given, given_too, spread_step, Spreads, spreads_of, Stands, PrimaryStands, Gives, GivesOne}
+use Rattle.wac_resolution_rules.specs.Statements.{ExportsOne, ExportsBy}
 
 -- it is kept where the alias of an export is added, and where an instance of a package is
 pub record Keeps (P : List Node → Type 0) : Type 0 where

@@ -1,5 +1,15 @@
 -- An expression denotes one node, and a statement yields one composition.
-use Rattle.wac_resolution_rules.proofs.Common.{◌≡◌, ℕ, sym, ◌∙◌, ap, subst, Some, Meaning, Named, look_up, StandsFor, exports_of, Steps, Contents, Expr, PrimaryExpr, Arguments, InstantiationArgument, Given, instantiable, key_named, imports_in, Composition, Node, node_at, instance_at, next_of, with_instance, At, at, accessed, alias_at, Accesses, Giving, nothing_given, given_too, name_meant, name_inferred, spread_from, Spreads, spreads_of, Stands, PrimaryStands, Gives, GivesOne}
+use Rattle.std.proofs.Common.{◌≡◌, ℕ, sym, ◌∙◌, ap, subst, Some}
+use Rattle.wac_graph_types.specs.Meaning.{Meaning}
+use Rattle.wac_graph_types.specs.Scope.{Named, look_up, StandsFor}
+use Rattle.wac_graph_types.specs.Shape.{exports_of}
+use Rattle.wac_graph_types.specs.Steps.{Steps}
+use Rattle.wac_graph.specs.Packages.{Contents}
+use Rattle.wac_ast_grammar.specs.Tree.{Expr, PrimaryExpr, Arguments, InstantiationArgument}
+use Rattle.wac_resolution_rules.specs.Given.{Given, instantiable, key_named, imports_in}
+use Rattle.wac_resolution_rules.specs.Composition.{Composition, Node}
+use Rattle.wac_resolution_rules.specs.Nodes.{node_at, instance_at, next_of, with_instance}
+use Rattle.wac_resolution_rules.specs.Expressions.{At, at, accessed, alias_at, Accesses, Giving, nothing_given, given_too, name_meant, name_inferred, spread_from, Spreads, spreads_of, Stands, PrimaryStands, Gives, GivesOne}
 use Rattle.wac_resolution_rules.proofs.StepLaws.{IsOnce, steps_once}
 use Rattle.wac_resolution_rules.proofs.Options.{some_once}
 

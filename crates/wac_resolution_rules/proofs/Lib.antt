@@ -1,4 +1,3 @@
-pub mod Common
 pub mod Options
 pub mod StepLaws
 pub mod TypesOnce

@@ -1,5 +1,21 @@
 -- No name is imported, exported or bound twice.
-use Rattle.wac_resolution_rules.proofs.Common.{◌≡◌, ℕ, zero, suc, List, [], ◌∷◌, ◌++◌, sym, ◌∙◌, ap, subst, refl, Option, Some, None, Bool, true, false, cond, filter_map, cons_option, bytes_eq, bytes_eq-Decides, Meaning, Named, look_up, IsFresh, with_named, promoted, Steps, Expr, ExportOptions, Statement, Given, imported, definition, aliased, Composition, Node, named_at, with_node, with_resources, start, import_of, imports, alias_in, with_alias, next_of, At, at, alias_at, Stands, name_imported, ExportsAs, ExportsOne, ExportsBy, StatementStep, Composes, OnceEach, NamesOnce, identifier_of}
+use Rattle.std.proofs.Common.{◌≡◌, ℕ, zero, suc, List, [], ◌∷◌, ◌++◌, sym, ◌∙◌, ap, subst, refl, Option, Some, None, Bool, true, false, cond}
+use Rattle.std.specs.Prelude.{filter_map}
+use Rattle.std.specs.List.{cons_option}
+use Rattle.std.specs.Str.{bytes_eq}
+use Rattle.std.proofs.lemmas.Slice.Eq.{bytes_eq-Decides}
+use Rattle.wac_graph_types.specs.Meaning.{Meaning}
+use Rattle.wac_graph_types.specs.Scope.{Named, look_up, IsFresh, with_named}
+use Rattle.wac_graph_types.specs.Shape.{promoted}
+use Rattle.wac_graph_types.specs.Steps.{Steps}
+use Rattle.wac_ast_grammar.specs.Tree.{Expr, ExportOptions, Statement}
+use Rattle.wac_resolution_rules.specs.Given.{Given}
+use Rattle.wac_resolution_rules.specs.Composition.{imported, definition, aliased, Composition, Node, named_at, with_node, with_resources, start}
+use Rattle.wac_resolution_rules.specs.Nodes.{import_of, imports, alias_in, with_alias, next_of}
+use Rattle.wac_resolution_rules.specs.Expressions.{At, at, alias_at, Stands}
+use Rattle.wac_resolution_rules.specs.Statements.{name_imported, ExportsAs, ExportsOne, ExportsBy, StatementStep, Composes}
+use Rattle.wac_resolution_rules.specs.Sound.{OnceEach, NamesOnce}
+use Rattle.wac_resolution_rules.specs.Spans.{identifier_of}
 use Rattle.wac_resolution_rules.proofs.StatementsStop.{declares_what}
 use Rattle.wac_resolution_rules.proofs.ExpressionsAdd.{Adds, stands_adds, alias_adds}
 use Rattle.wac_resolution_rules.proofs.ExpressionsKeep.{Keeps, keeps_stands}

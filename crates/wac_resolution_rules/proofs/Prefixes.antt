@@ -1,7 +1,23 @@
 -- A composition begins with that of each prefix of its statements, but an alias node without a name may have one later.
-use Rattle.wac_resolution_rules.proofs.Common.{◌≡◌, ◌≤◌, ℕ, zero, suc, List, [], ◌∷◌, ◌++◌, length, refl, sym, ◌∙◌, ap, subst, Option, Some, None, unwrap_or, Bool, true, false, cond, arith, append_assoc, append-nil, length-append, le_refl, inl, inr, ◌⊎◌, get_or, slice_get, slice_set, bytes_eq, AllByRecursion, slice_get-get_or, Meaning, Named, look_up, with_named, exports_of, promoted, Steps, PostfixExpr, Expr, PrimaryExpr, ImportStatement, LetStatement, ExportOptions, ExportStatement, TypeStatement, Statement, Given, imports_in, NodeForm, imported, definition, aliased, instantiated, Composition, Node, first_name, named_at, binding, with_node, with_export, with_resources, start, is_alias_of, alias_in, next_of, At, at, accessed, alias_at, Accesses, nothing_given, spreads_of, Stands, PrimaryStands, name_imported, Imports, Lets, Exports, StatementStep, Composes, ExportsAs, ExportsOne, ExportsBy, Declares, IsKept, AreKept, Begins, identifier_of}
+use Rattle.std.proofs.Common.{◌≡◌, ◌≤◌, ℕ, zero, suc, List, [], ◌∷◌, ◌++◌, length, refl, sym, ◌∙◌, ap, subst, Option, Some, None, unwrap_or, Bool, true, false, cond, arith, append_assoc, append-nil, length-append, le_refl, inl, inr, ◌⊎◌, get_or}
+use Rattle.std.specs.Prelude.{slice_get, slice_set}
+use Rattle.std.specs.Str.{bytes_eq}
+use Rattle.std.specs.List.{AllByRecursion}
 use Rattle.std.proofs.lemmas.List.Quantifiers.{position-Some}
-use Rattle.wac_resolution_rules.specs.Sound.{IsAlias}
+use Rattle.std.proofs.lemmas.Option.{slice_get-get_or}
+use Rattle.wac_graph_types.specs.Meaning.{Meaning}
+use Rattle.wac_graph_types.specs.Scope.{Named, look_up, with_named}
+use Rattle.wac_graph_types.specs.Shape.{exports_of, promoted}
+use Rattle.wac_graph_types.specs.Steps.{Steps}
+use Rattle.wac_ast_grammar.specs.Tree.{PostfixExpr, Expr, PrimaryExpr, ImportStatement, LetStatement, ExportOptions, ExportStatement, TypeStatement, Statement}
+use Rattle.wac_resolution_rules.specs.Given.{Given, imports_in}
+use Rattle.wac_resolution_rules.specs.Composition.{NodeForm, imported, definition, aliased, instantiated, Composition, Node, first_name, named_at, binding, with_node, with_export, with_resources, start}
+use Rattle.wac_resolution_rules.specs.Nodes.{is_alias_of, alias_in, next_of}
+use Rattle.wac_resolution_rules.specs.Expressions.{At, at, accessed, alias_at, Accesses, nothing_given, spreads_of, Stands, PrimaryStands}
+use Rattle.wac_resolution_rules.specs.Statements.{name_imported, Imports, Lets, Exports, StatementStep, Composes, ExportsAs, ExportsOne, ExportsBy}
+use Rattle.wac_resolution_rules.specs.TypeStatements.{Declares}
+use Rattle.wac_resolution_rules.specs.Sound.{IsAlias, IsKept, AreKept, Begins}
+use Rattle.wac_resolution_rules.specs.Spans.{identifier_of}
 use Rattle.wac_resolution_rules.proofs.ExpressionsAdd.{Adds, added, adds_more, stands_adds, gives_add, spreads_add, alias_adds}
 use Rattle.wac_resolution_rules.proofs.StepLaws.{steps_prefix}
 use Rattle.wac_resolution_rules.proofs.StatementsStop.{declares_what}

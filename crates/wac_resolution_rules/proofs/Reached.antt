@@ -1,5 +1,7 @@
 -- What holds of each holds of one that is reached.
-use Rattle.wac_resolution_rules.proofs.Common.{List, [], ◌∷◌, ◌++◌, subst, AllByRecursion, ReachedAt}
+use Rattle.std.proofs.Common.{List, [], ◌∷◌, ◌++◌, subst}
+use Rattle.std.specs.List.{AllByRecursion}
+use Rattle.wac_resolution_rules.specs.BrokenExpressions.{ReachedAt}
 
 -- what holds of each holds of one of them
 pub all_at : {X : Type 0} (P : X → Type 0) (before after : List X) (x : X) → AllByRecursion P (before ++ x ∷ after) → P x

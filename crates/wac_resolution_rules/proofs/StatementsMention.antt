@@ -1,7 +1,28 @@
 -- Of the packages only those that a document mentions matter.
-use Rattle.wac_resolution_rules.proofs.Common.{◌≡◌, ℕ, zero, suc, List, [], ◌∷◌, ◌++◌, refl, sym, ap, subst, Option, Some, None, Bool, true, false, cond, is_some, ◌||◌, ◌↔◌, flat_map, option_and_then, if◌then◌else◌, AllByRecursion, list_any, bytes_eq, bytes_eq-Decides, instance, Meaning, Named, look_up, IsFresh, Steps, kind_of, promoted, exports_of, Key, same_key, same_version, Packages, Contents, package_of, Ident, PackageName, PackagePath, PostfixExpr, Expr, PrimaryExpr, Arguments, InstantiationArgument, ImportType, ExportOptions, Statement, Document, world_of, Given, instantiable, key_named, imports_in, imported, definition, aliased, Composition, Node, named_at, binding, root_scope, with_node, with_resources, start, imports, next_of, alias_in, with_alias, key_of_node, At, at, accessed, alias_at, Accesses, Giving, nothing_given, given_too, name_meant, spread_step, Spreads, spreads_of, has_fill, Instantiates, left_out, Stands, PrimaryStands, Gives, GivesOne, ImportsKind, name_imported, ExportsOne, ExportsBy, StatementStep, Composes, open_imports, ImportAllowed, ExportMet, MeetsTarget, Describes, Mention, name_mentions, expr_mentions, primary_mentions, arguments_mentions, argument_mentions, import_type_mentions, statement_mentions, target_mentions, mentions, Agree, given_over, kept, IsMentioned, KeyHolds, KeysHold, identifier_of}
-use Rattle.std.specs.Prelude.{fold}
+use Rattle.std.proofs.Common.{◌≡◌, ℕ, zero, suc, List, [], ◌∷◌, ◌++◌, refl, sym, ap, subst, Option, Some, None, Bool, true, false, cond, is_some, ◌||◌, ◌↔◌}
+use Rattle.std.specs.Prelude.{flat_map, fold, option_and_then, if◌then◌else◌}
+use Rattle.std.specs.List.{AllByRecursion, list_any}
+use Rattle.std.specs.Str.{bytes_eq}
 use Rattle.std.proofs.lemmas.Map.Entries.{lookup-filter-keys}
+use Rattle.std.proofs.lemmas.Slice.Eq.{bytes_eq-Decides}
+use Rattle.wac_graph_types.specs.Kind.{instance}
+use Rattle.wac_graph_types.specs.Meaning.{Meaning}
+use Rattle.wac_graph_types.specs.Scope.{Named, look_up, IsFresh}
+use Rattle.wac_graph_types.specs.Steps.{Steps}
+use Rattle.wac_graph_types.specs.Shape.{kind_of, promoted, exports_of}
+use Rattle.wac_graph.specs.Package.{Key, same_key, same_version}
+use Rattle.wac_graph.specs.Packages.{Packages, Contents, package_of}
+use Rattle.wac_ast_grammar.specs.Tree.{Ident, PackageName, PackagePath, PostfixExpr, Expr, PrimaryExpr, Arguments, InstantiationArgument, ImportType, ExportOptions, Statement, Document}
+use Rattle.wac_resolution_rules.specs.Kinds.{world_of}
+use Rattle.wac_resolution_rules.specs.Given.{Given, instantiable, key_named, imports_in}
+use Rattle.wac_resolution_rules.specs.Composition.{imported, definition, aliased, Composition, Node, named_at, binding, root_scope, with_node, with_resources, start}
+use Rattle.wac_resolution_rules.specs.Nodes.{imports, next_of, alias_in, with_alias, key_of_node}
+use Rattle.wac_resolution_rules.specs.Expressions.{At, at, accessed, alias_at, Accesses, Giving, nothing_given, given_too, name_meant, spread_step, Spreads, spreads_of, has_fill, Instantiates, left_out, Stands, PrimaryStands, Gives, GivesOne}
+use Rattle.wac_resolution_rules.specs.Statements.{ImportsKind, name_imported, ExportsOne, ExportsBy, StatementStep, Composes}
+use Rattle.wac_resolution_rules.specs.Target.{open_imports, ImportAllowed, ExportMet, MeetsTarget}
+use Rattle.wac_resolution_rules.specs.ResolvedDocument.{Describes}
+use Rattle.wac_resolution_rules.specs.Mentions.{Mention, name_mentions, expr_mentions, primary_mentions, arguments_mentions, argument_mentions, import_type_mentions, statement_mentions, target_mentions, mentions, Agree, given_over, kept, IsMentioned, KeyHolds, KeysHold}
+use Rattle.wac_resolution_rules.specs.Spans.{identifier_of}
 use Rattle.wac_resolution_rules.proofs.StatementsStop.{all_append, all_prefix, declares_what}
 use Rattle.wac_resolution_rules.proofs.Prefixes.{named_at_suc}
 use Rattle.wac_resolution_rules.proofs.TypesMention.{along, agree_prefix, steps_agree, path_agrees, interface_agrees, declares_agrees}

@@ -1,5 +1,16 @@
 -- A statement yields one composition.
-use Rattle.wac_resolution_rules.proofs.Common.{◌≡◌, ℕ, List, [], sym, ◌∙◌, ap, subst, Some, None, func, instance, Meaning, Named, look_up, kind_of, exports_of, promoted, Steps, ImportType, ImportStatement, LetStatement, ExportOptions, ExportStatement, Statement, Given, Composition, Node, imported, root_scope, with_node, with_export, with_resources, binding, node_at, instance_at, next_of, At, ImportsKind, name_imported, Imports, Lets, unnamed_export, unexported, ExportsOne, ExportsBy, Exports, StatementStep, Composes}
+use Rattle.std.proofs.Common.{◌≡◌, ℕ, List, [], sym, ◌∙◌, ap, subst, Some, None}
+use Rattle.wac_graph_types.specs.Kind.{func, instance}
+use Rattle.wac_graph_types.specs.Meaning.{Meaning}
+use Rattle.wac_graph_types.specs.Scope.{Named, look_up}
+use Rattle.wac_graph_types.specs.Shape.{kind_of, exports_of, promoted}
+use Rattle.wac_graph_types.specs.Steps.{Steps}
+use Rattle.wac_ast_grammar.specs.Tree.{ImportType, ImportStatement, LetStatement, ExportOptions, ExportStatement, Statement}
+use Rattle.wac_resolution_rules.specs.Given.{Given}
+use Rattle.wac_resolution_rules.specs.Composition.{Composition, Node, imported, root_scope, with_node, with_export, with_resources, binding}
+use Rattle.wac_resolution_rules.specs.Nodes.{node_at, instance_at, next_of}
+use Rattle.wac_resolution_rules.specs.Expressions.{At}
+use Rattle.wac_resolution_rules.specs.Statements.{ImportsKind, name_imported, Imports, Lets, unnamed_export, unexported, ExportsOne, ExportsBy, Exports, StatementStep, Composes}
 use Rattle.wac_resolution_rules.proofs.StepLaws.{IsOnce, steps_once}
 use Rattle.wac_resolution_rules.proofs.TypesOnce.{func_once}
 use Rattle.wac_resolution_rules.proofs.BodiesOnce.{leads_once}

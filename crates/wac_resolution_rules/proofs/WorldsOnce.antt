@@ -1,6 +1,19 @@
 -- A body, a world and a type statement each have one result.
-use Rattle.wac_resolution_rules.proofs.Common.{◌≡◌, ℕ, List, [], ◌++◌, None, Option, sym, ◌∙◌, ap, subst, ExternKind, func, instance, an_interface, a_world, Meaning, Scope, Steps, kind_of, entry_of, promoted, interface_entry, world_entry, FuncTypeRef, InterfaceItem, ExternType, WorldItemPath, WorldItem, TypeStatement, Context, Body, empty_body, with_extern, with_count, HasInclude, IsFuncRef, HasInterfaceItem, IsInterface, HasExternType, id_or_empty, HasInstance, HasExtern, HasWorldItem, includes_of, IsWorld, Composition, root_scope, declared_id, declared_as, defining, Defines, Declares}
+use Rattle.std.proofs.Common.{◌≡◌, ℕ, List, [], ◌++◌, None, Option, sym, ◌∙◌, ap, subst}
+use Rattle.wac_graph_types.specs.declared.kind.ExternKind.{ExternKind}
 use Rattle.wac_graph_types.specs.declared.kind.ExternKind.TheVariants as sides
+use Rattle.wac_graph_types.specs.Kind.{func, instance, an_interface, a_world}
+use Rattle.wac_graph_types.specs.Meaning.{Meaning}
+use Rattle.wac_graph_types.specs.Scope.{Scope}
+use Rattle.wac_graph_types.specs.Steps.{Steps}
+use Rattle.wac_graph_types.specs.Shape.{kind_of, entry_of, promoted, interface_entry, world_entry}
+use Rattle.wac_ast_grammar.specs.Tree.{FuncTypeRef, InterfaceItem, ExternType, WorldItemPath, WorldItem, TypeStatement}
+use Rattle.wac_resolution_rules.specs.Paths.{Context}
+use Rattle.wac_resolution_rules.specs.Bodies.{Body, empty_body, with_extern, with_count}
+use Rattle.wac_resolution_rules.specs.Includes.{HasInclude}
+use Rattle.wac_resolution_rules.specs.Worlds.{IsFuncRef, HasInterfaceItem, IsInterface, HasExternType, id_or_empty, HasInstance, HasExtern, HasWorldItem, includes_of, IsWorld}
+use Rattle.wac_resolution_rules.specs.Composition.{Composition, root_scope}
+use Rattle.wac_resolution_rules.specs.TypeStatements.{declared_id, declared_as, defining, Defines, Declares}
 use Rattle.wac_resolution_rules.proofs.StepLaws.{IsOnce, steps_once}
 use Rattle.wac_resolution_rules.proofs.TypesOnce.{stands_once, func_once}
 use Rattle.wac_resolution_rules.proofs.DeclarationsOnce.{Same, decl_once}

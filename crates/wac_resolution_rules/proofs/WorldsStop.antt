@@ -1,7 +1,24 @@
 -- A type statement that breaks a rule resolves to nothing.
-use Rattle.wac_resolution_rules.proofs.Common.{◌≡◌, ◌⊎◌, inl, inr, ℕ, List, [], ◌∷◌, ◌++◌, Some, None, Option, Bool, true, false, sym, ◌∙◌, subst, Span, ExternKind, Meaning, Scope, StandsFor, Steps, IsA, is_world_form, entry_of, imports_of, exports_of, Ident, FuncTypeRef, InterfaceItem, ExternType, WorldItemPath, WorldItem, WorldRef, WorldIncludeItem, WorldInclude, TypeStatement, Error, Context, WorldNames, Body, empty_body, Entries, HasEntry, has_colon, Taking, name_taken, TakesNamed, Takes, Included, HasInclude, IsFuncRef, HasInterfaceItem, IsInterface, HasExternType, id_or_empty, HasInstance, HasExtern, HasWorldItem, includes_of, IsWorld, Composition, root_scope, declared_id, declared_as, Defines, Declares, Owner, of_interface, of_world, FuncRefBroken, InterfaceItemBroken, InterfaceBroken, ExternTypeBroken, InstanceBroken, ExternBroken, WorldItemBroken, IsSecondEntry, WorldRefBroken, IsNoWorld, IsIncludeConflict, IsLeftOver, TakingBroken, IncludeBroken, WorldBroken, DefinitionBroken, DeclarationBroken, Places, bound_in_interface, bound_in_world}
+use Rattle.std.proofs.Common.{◌≡◌, ◌⊎◌, inl, inr, ℕ, List, [], ◌∷◌, ◌++◌, Some, None, Option, Bool, true, false, sym, ◌∙◌, subst}
+use Rattle.wac_lexer.specs.Span.{Span}
+use Rattle.wac_graph_types.specs.declared.kind.ExternKind.{ExternKind}
 use Rattle.wac_graph_types.specs.declared.kind.ExternKind.TheVariants as sides
 use Rattle.wac_graph_types.specs.declared.kind.FuncKind.TheVariants as funcs
+use Rattle.wac_graph_types.specs.Meaning.{Meaning}
+use Rattle.wac_graph_types.specs.Scope.{Scope, StandsFor}
+use Rattle.wac_graph_types.specs.Steps.{Steps}
+use Rattle.wac_graph_types.specs.Shape.{IsA, is_world_form, entry_of, imports_of, exports_of}
+use Rattle.wac_ast_grammar.specs.Tree.{Ident, FuncTypeRef, InterfaceItem, ExternType, WorldItemPath, WorldItem, WorldRef, WorldIncludeItem, WorldInclude, TypeStatement}
+use Rattle.wac_resolution_errors.specs.Error.{Error}
+use Rattle.wac_resolution_rules.specs.Paths.{Context, WorldNames}
+use Rattle.wac_resolution_rules.specs.Bodies.{Body, empty_body}
+use Rattle.wac_resolution_rules.specs.Includes.{Entries, HasEntry, has_colon, Taking, name_taken, TakesNamed, Takes, Included, HasInclude}
+use Rattle.wac_resolution_rules.specs.Worlds.{IsFuncRef, HasInterfaceItem, IsInterface, HasExternType, id_or_empty, HasInstance, HasExtern, HasWorldItem, includes_of, IsWorld}
+use Rattle.wac_resolution_rules.specs.Composition.{Composition, root_scope}
+use Rattle.wac_resolution_rules.specs.TypeStatements.{declared_id, declared_as, Defines, Declares}
+use Rattle.wac_resolution_rules.specs.BrokenBodies.{Owner, of_interface, of_world}
+use Rattle.wac_resolution_rules.specs.BrokenWorlds.{FuncRefBroken, InterfaceItemBroken, InterfaceBroken, ExternTypeBroken, InstanceBroken, ExternBroken, WorldItemBroken, IsSecondEntry, WorldRefBroken, IsNoWorld, IsIncludeConflict, IsLeftOver, TakingBroken, IncludeBroken, WorldBroken, DefinitionBroken, DeclarationBroken}
+use Rattle.wac_resolution_rules.specs.Places.{Places, bound_in_interface, bound_in_world}
 use Rattle.wac_resolution_rules.proofs.StepLaws.{fails_stop, steps_once}
 use Rattle.wac_resolution_rules.proofs.TypesOnce.{stands_once}
 use Rattle.wac_resolution_rules.proofs.BodiesOnce.{leads_once, world_names_once, entry_once, takes_once, include_once}

@@ -1,8 +1,11 @@
 -- What is found among names that are bound.
-use Rattle.wac_resolution_state.proofs.Common.{◌≡◌, ◌∙◌, ℕ, List, [], ◌∷◌, Option, Some, None, Bool, true, false, cond, refl, sym, ap, map, Bor, option_map, Named, look_up, with_named, IsFresh, by_text}
+use Rattle.std.proofs.Common.{◌≡◌, ◌∙◌, ℕ, List, [], ◌∷◌, Option, Some, None, Bool, true, false, cond, refl, sym, ap, map, Bor}
+use Rattle.std.specs.Prelude.{option_map}
 use Rattle.std.specs.Map.{lookup}
 use Rattle.std.specs.Str.{bytes_eq}
 use Rattle.indexmap.specs.IndexMap.{insert_entry}
+use Rattle.wac_graph_types.specs.Scope.{Named, look_up, with_named, IsFresh}
+use Rattle.wac_resolution_state.specs.Bindings.{by_text}
 
 -- what a map has under a text is found by the text
 pub text_found : {X : Type 0} (name : List ℕ) (es : List (Bor (List ℕ) × X)) → lookup (λ k. bytes_eq name k.now) es ≡ look_up name (by_text es)

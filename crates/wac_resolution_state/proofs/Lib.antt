@@ -1,4 +1,3 @@
-pub mod Common
 pub mod Bound
 pub mod Added
 pub mod Grown

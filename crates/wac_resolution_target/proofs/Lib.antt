@@ -1,4 +1,3 @@
-pub mod Common
 pub mod Worlds
 pub mod Last
 pub mod Meanings

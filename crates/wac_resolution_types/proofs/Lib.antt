@@ -1,4 +1,3 @@
-pub mod Common
 pub mod TypeParts
 pub mod NamedParts
 pub mod FuncParts

@@ -1,4 +1,3 @@
-pub mod Common
 pub mod UsedInterfaces
 pub mod UsedItems
 pub mod UseStatements

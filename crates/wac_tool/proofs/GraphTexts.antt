@@ -1,6 +1,10 @@
 -- What is written of a graph, and what is returned for an error.
-use Rattle.wac_tool.proofs.Common.{◌≡◌, ℕ, suc, List, [], ◌∷◌, ◌++◌, map, ⊎_elim, refl, sym, subst, ap, inr, Ok, Err, ◌⊎◌, Result, IfOk, IfErr, alloc_error, document_of, IsTreeOf, Document, Writes, Rejects, Resolve, RunError, Refused, Input, Output, Memory, NotUtf8}
+use Rattle.std.proofs.Common.{◌≡◌, ℕ, suc, List, [], ◌∷◌, ◌++◌, map, ⊎_elim, refl, sym, subst, ap, inr, Ok, Err}
+use Rattle.std.specs.Prelude.{◌⊎◌, Result, IfOk, IfErr, alloc_error}
+use Rattle.wac_ast.specs.Statements.{document_of}
 use Rattle.wac_ast.specs.declared.document.Document.{Document as CodeDocument}
+use Rattle.wac_ast_grammar.specs.TextTree.{IsTreeOf}
+use Rattle.wac_ast_grammar.specs.Tree.{Document}
 use Rattle.wac_graph.specs.Graph.{Parts}
 use Rattle.wac_graph.specs.Node.{Node as GraphNode, arguments_in}
 use Rattle.wac_graph.specs.Origin.{Naming}
@@ -17,6 +21,10 @@ use Rattle.wac_resolution_nodes.specs.Nodes.{composition_of, node_of}
 use Rattle.wac_tool_graphs.specs.Lines.{node_line, node_lines, argument_lines, export_lines, graph_lines}
 use Rattle.wac_tool_graphs.specs.Alone.{alone, same_rules}
 use Rattle.wac_tool.specs.Resolving.{IsGraphText, IsGraphOf, HasGraph, IsRejection, IsErrorOf}
+use Rattle.wac_tool.specs.Running.{Writes, Rejects}
+use Rattle.wac_tool.specs.declared.command.Command.TheVariants.{Resolve}
+use Rattle.wac_tool.specs.declared.error.RunError.{RunError}
+use Rattle.wac_tool.specs.declared.error.RunError.TheVariants.{Refused, Input, Output, Memory, NotUtf8}
 
 -- ---- the lines of a graph
 

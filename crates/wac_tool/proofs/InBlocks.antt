@@ -1,8 +1,15 @@
 -- What is below blocks that held nothing.
-use Rattle.wac_tool.proofs.Common.{◌≡◌, ℕ, true, List, [], ◌++◌, length, sym, ap, ◌∙◌, subst, arith, length-append, Err, inl, inr, ◌&&◌, nat_eq, nil_from_length, and_parts, eqb-true, is_front, Began, Answers, Command, RunError, Refused, Input, Output, Memory, NotUtf8}
-use Rattle.std.proofs.lemmas.List.{append-nil}
+use Rattle.std.proofs.Common.{◌≡◌, ℕ, true, List, [], ◌++◌, length, sym, ap, ◌∙◌, subst, arith, length-append, Err, inl, inr}
+use Rattle.std.specs.Prelude.{◌&&◌, nat_eq}
+use Rattle.std.proofs.lemmas.List.{append-nil, nil_from_length}
+use Rattle.std.proofs.lemmas.Bool.{and_parts, eqb-true}
 use Rattle.wac_lexer.specs.Blocks.{Holding, given}
+use Rattle.wac_tool.specs.Front.{is_front, Began}
 use Rattle.wac_tool.specs.Blocks.{Fresh, Grown}
+use Rattle.wac_tool.specs.Running.{Answers}
+use Rattle.wac_tool.specs.declared.command.Command.{Command}
+use Rattle.wac_tool.specs.declared.error.RunError.{RunError}
+use Rattle.wac_tool.specs.declared.error.RunError.TheVariants.{Refused, Input, Output, Memory, NotUtf8}
 use Rattle.wac_tool.proofs.Fronts.{is_front-append, is_front-chain}
 
 -- Nothing was put.

@@ -1,9 +1,17 @@
 -- What is returned for a source that has no tree.
-use Rattle.wac_tool.proofs.Common.{◌≡◌, ◌∙◌, ℕ, List, Option, Some, Err, inl, refl, ⊎_elim, Span, ◌⊎◌, ◌≢◌, IsUtf8, alloc_error, string_bytes, Document, IsTreeOf, Answers, IsRefusal, HasNoTree, Refuses, Rejects, place_of, Command, RunError, Refused, Input, Output, Memory, NotUtf8}
+use Rattle.std.proofs.Common.{◌≡◌, ◌∙◌, ℕ, List, Option, Some, Err, inl, refl, ⊎_elim}
+use Rattle.wac_lexer.specs.Span.{Span}
+use Rattle.std.specs.Prelude.{◌⊎◌, ◌≢◌, IsUtf8, alloc_error, string_bytes}
+use Rattle.wac_ast_grammar.specs.Tree.{Document}
+use Rattle.wac_ast_grammar.specs.TextTree.{IsTreeOf}
 use Rattle.wac_ast.specs.Document.{ErrorOf}
 use Rattle.wac_ast_base.specs.Error.{told_by}
 use Rattle.wac_ast_base.specs.declared.error.Error.{Error}
 use Rattle.wac_ast_base.specs.declared.error.Error.TheVariants as errors
+use Rattle.wac_tool.specs.Running.{Answers, IsRefusal, HasNoTree, Refuses, Rejects, place_of}
+use Rattle.wac_tool.specs.declared.command.Command.{Command}
+use Rattle.wac_tool.specs.declared.error.RunError.{RunError}
+use Rattle.wac_tool.specs.declared.error.RunError.TheVariants.{Refused, Input, Output, Memory, NotUtf8}
 
 -- an error has a place, unless memory ran out
 lies : (e : Error) → e ≢ errors.Memory alloc_error → (at : Span) × (place_of (told_by e) ≡ Some at)

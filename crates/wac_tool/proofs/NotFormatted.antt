@@ -1,6 +1,12 @@
 -- What is returned for a document, by whether it is formatted.
-use Rattle.wac_tool.proofs.Common.{◌≡◌, ℕ, List, [], Ok, Err, inl, inr, refl, sym, ◌≢◌, IsUtf8, Document, IsTreeOf, printed, Answers, IsUnformatted, Check, RunError, Refused, Input, Output, Memory, NotUtf8}
-use Rattle.std.proofs.Common.{append-nil}
+use Rattle.std.proofs.Common.{◌≡◌, ℕ, List, [], Ok, Err, inl, inr, refl, sym, append-nil}
+use Rattle.std.specs.Prelude.{◌≢◌, IsUtf8}
+use Rattle.wac_ast_grammar.specs.Tree.{Document}
+use Rattle.wac_ast_grammar.specs.TextTree.{IsTreeOf}
+use Rattle.wac_tool.specs.Running.{printed, Answers, IsUnformatted}
+use Rattle.wac_tool.specs.declared.command.Command.TheVariants.{Check}
+use Rattle.wac_tool.specs.declared.error.RunError.{RunError}
+use Rattle.wac_tool.specs.declared.error.RunError.TheVariants.{Refused, Input, Output, Memory, NotUtf8}
 
 -- Where it is, nothing is written.
 pub formatted : (source : List ℕ) (document : Document) (written : List ℕ) → IsUtf8 source → IsTreeOf source document → source ≡ printed source document → Answers Check (Ok tt) source written written

@@ -1,4 +1,3 @@
-pub mod Common
 pub mod Putting
 pub mod NodeLines
 pub mod Rows

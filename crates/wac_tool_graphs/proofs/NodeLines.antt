@@ -1,11 +1,19 @@
 -- The lines of the nodes of a graph.
-use Rattle.wac_tool_graphs.proofs.Common.{◌≡◌, ◌∙◌, ◌<◌, ℕ, zero, suc, List, [], ◌∷◌, ◌++◌, Option, Some, None, refl, sym, ap, subst, map, length, append_assoc, codes, flat_map, arith, ◌+◌, Result, Err, slice_get, option_map, decimal, described, Parts, numbers, Naming, form_words, id_words, node_line, node_lines, argument_lines, Began, Puts, OutputFailed}
+use Rattle.std.proofs.Common.{◌≡◌, ◌∙◌, ◌<◌, ℕ, zero, suc, List, [], ◌∷◌, ◌++◌, Option, Some, None, refl, sym, ap, subst, map, length, append_assoc, codes, flat_map, arith, ◌+◌, Result, Err}
+use Rattle.std.specs.Prelude.{slice_get, option_map, decimal}
 use Rattle.wac_graph_types.specs.declared.kind.ItemKind.{ItemKind}
+use Rattle.wac_graph_types.specs.Shape.{described}
 use Rattle.wac_graph_types.specs.Words as words
 use Rattle.wac_graph_types.proofs.Shapes.{word_is}
 use Rattle.wac_graph.specs.Node.{Node as GraphNode, arguments_in}
+use Rattle.wac_graph.specs.Graph.{Parts}
 use Rattle.wac_graph.specs.Means.{means, entry_means}
+use Rattle.wac_graph.specs.Numbers.{numbers}
+use Rattle.wac_graph.specs.Origin.{Naming}
 use Rattle.wac_resolution_nodes.specs.Nodes.{form_in, node_of}
+use Rattle.wac_tool_graphs.specs.Lines.{form_words, id_words, node_line, node_lines, argument_lines}
+use Rattle.wac_tool_graphs.specs.Puts.{Began, Puts}
+use Rattle.wac_tool_graphs.specs.declared.lines.OutputFailed.{OutputFailed}
 use Rattle.wac_tool_graphs.proofs.Putting.{began_after, puts_after, fails_first}
 
 -- ---- nodes by number

@@ -1,8 +1,10 @@
 -- Texts that are put in parts.
-use Rattle.wac_tool_graphs.proofs.Common.{◌≡◌, ◌+◌, ◌<◌, ℕ, List, [], ◌∷◌, ◌++◌, length, length-append, take, drop, get_or, append_assoc, flat_map, sym, ap, ◌∙◌, subst, arith, Result, Ok, Err, Began, Puts, OutputFailed}
+use Rattle.std.proofs.Common.{◌≡◌, ◌+◌, ◌<◌, ℕ, List, [], ◌∷◌, ◌++◌, length, length-append, take, drop, get_or, append_assoc, flat_map, sym, ap, ◌∙◌, subst, arith, Result, Ok, Err}
 use Rattle.std.proofs.Math.Seq.{take-append-add}
 use Rattle.std.proofs.lemmas.List.{take-append-le, take-append-drop, drop_more, flat_map_more, append-nil}
 use Rattle.std.proofs.lemmas.Grind.{flat_map-append}
+use Rattle.wac_tool_graphs.specs.Puts.{Began, Puts}
+use Rattle.wac_tool_graphs.specs.declared.lines.OutputFailed.{OutputFailed}
 
 -- a prefix of a text is one of a longer text
 pub began_longer : (old new text more : List ℕ) → Began old new text → Began old new (text ++ more)

@@ -1,9 +1,12 @@
 -- Compositions whose lines are written out.
-use Rattle.wac_tool_graphs.proofs.Common.{◌≡◌, ℕ, List, [], ◌∷◌, refl, Some, None, codes, false, Meaning, kind_of, bare_kind, func_entry, interface_entry, graph_lines}
+use Rattle.std.proofs.Common.{◌≡◌, ℕ, List, [], ◌∷◌, refl, Some, None, codes, false}
 use Rattle.std.specs.Fmt.{digits}
 use Rattle.wac_graph_types.specs.declared.kind.PrimitiveType.TheVariants as primitives
 use Rattle.wac_graph_types.specs.Kind.{func, instance, a_value, primitive}
+use Rattle.wac_graph_types.specs.Meaning.{Meaning}
+use Rattle.wac_graph_types.specs.Shape.{kind_of, bare_kind, func_entry, interface_entry}
 use Rattle.wac_resolution_rules.specs.Composition.{Composition, imported, definition, aliased, instantiated, start}
+use Rattle.wac_tool_graphs.specs.Lines.{graph_lines}
 
 -- func()
 abbrev function : Meaning

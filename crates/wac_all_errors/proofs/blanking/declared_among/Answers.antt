@@ -1,5 +1,6 @@
-use Rattle.wac_all_errors.proofs.Common.{◌≡◌, ◌∙◌, ◌&&◌, ap, refl, rules, false, is_blank_at, same_name}
+use Rattle.std.proofs.Common.{◌≡◌, ◌∙◌, ◌&&◌, ap, refl, rules, false}
 use Rattle.wac_lexer.specs.Reading.{left as items_left, slice}
+use Rattle.wac_all_errors.specs.Naming.{is_blank_at, same_name}
 use Rattle.wac_all_errors.proofs.Declaring.{declared_later, not_here, text_at}
 use Rattle.wac_all_errors.proofs.blanking.declared_among.Goals as goal
 use Rattle.wac_all_errors.proofs.blanking.declared_among.Goals.{else-is_behind-via-then-is_behind+else-is_blanked_name, else-is_behind-via-else-is_behind}

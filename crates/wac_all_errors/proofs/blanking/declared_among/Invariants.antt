@@ -1,4 +1,6 @@
-use Rattle.wac_all_errors.proofs.Common.{◌≡◌, false, left, declared_among}
+use Rattle.std.proofs.Common.{◌≡◌, false}
+use Rattle.wac_lexer.specs.Reading.{left}
+use Rattle.wac_all_errors.specs.Naming.{declared_among}
 use Rattle.wac_all_errors.proofs.blanking.declared_among.Given as goal
 
 abbrev pub invariant-loop-item : goal.invariant-loop-item

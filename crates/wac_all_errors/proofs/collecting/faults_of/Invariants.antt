@@ -1,4 +1,4 @@
-use Rattle.wac_all_errors.proofs.Common.{◌≤◌, ◌+◌, length}
+use Rattle.std.proofs.Common.{◌≤◌, ◌+◌, length}
 use Rattle.wac_all_errors.proofs.collecting.faults_of.Given as goal
 
 abbrev pub invariant-loop-count : goal.invariant-loop-count

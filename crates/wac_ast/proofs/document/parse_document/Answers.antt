@@ -1,4 +1,4 @@
-use Rattle.wac_ast.proofs.Common.{document_of}
+use Rattle.wac_ast.specs.Statements.{document_of}
 use Rattle.wac_ast.proofs.Whole.{parses}
 use Rattle.wac_ast.proofs.document.parse_document.Goals as goal
 

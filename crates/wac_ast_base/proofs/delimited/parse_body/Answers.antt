@@ -1,5 +1,8 @@
-use Rattle.wac_ast_base.proofs.Common.{refl, ◌∙◌, left, first_item, body_of}
+use Rattle.std.proofs.Common.{refl, ◌∙◌}
+use Rattle.wac_lexer.specs.Reading.{left}
 use Rattle.wac_lexer.specs.declared.token.Token.TheVariants as t
+use Rattle.wac_ast_base.specs.Answer.{first_item}
+use Rattle.wac_ast_base.specs.Lists.{body_of}
 use Rattle.wac_ast_base.proofs.Exits.{same_error}
 use Rattle.wac_ast_base.proofs.Lists.{closed_by, closed_fails, never_fails, list_made_fails, moved_end}
 use Rattle.wac_ast_base.proofs.delimited.parse_body.Goals as goal

@@ -1,4 +1,7 @@
-use Rattle.wac_ast_base.proofs.Common.{◌∙◌, left, first_item, list_of}
+use Rattle.std.proofs.Common.{◌∙◌}
+use Rattle.wac_lexer.specs.Reading.{left}
+use Rattle.wac_ast_base.specs.Answer.{first_item}
+use Rattle.wac_ast_base.specs.Lists.{list_of}
 use Rattle.wac_ast_base.proofs.Exits.{same_error}
 use Rattle.wac_ast_base.proofs.Lists.{closes_plain, closed_by, closed_fails, never_fails, list_made_fails, moved_end}
 use Rattle.wac_ast_base.proofs.delimited.parse_list.Goals as goal

@@ -1,5 +1,6 @@
-use Rattle.wac_ast_base.proofs.Common.{rules, ◌++◌, entry}
+use Rattle.std.proofs.Common.{rules, ◌++◌}
 use Rattle.std.proofs.Output.{has_written_append}
+use Rattle.wac_ast_base.specs.Messages.{entry}
 use Rattle.wac_ast_base.proofs.Messages.{token_written, place_passed}
 use Rattle.wac_ast_base.proofs.message.write_kept.Goals as goal
 use Rattle.wac_ast_base.proofs.message.write_kept.Goals.{in-Some+in_ok-write_entry, in_default}

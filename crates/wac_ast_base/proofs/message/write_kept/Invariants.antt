@@ -1,7 +1,9 @@
-use Rattle.wac_ast_base.proofs.Common.{◌≡◌, ℕ, List, ◌++◌, drop, kept_in, entries, joined}
+use Rattle.std.proofs.Common.{◌≡◌, ℕ, List, ◌++◌, drop}
 use denote.Text.{Utf8}
 use denote.Shadow.{shadow}
 use Rattle.std.specs.Fmt.{HasWritten, IsPlainFormatter}
+use Rattle.wac_ast_base.specs.Lookahead.{kept_in}
+use Rattle.wac_ast_base.specs.Messages.{entries, joined}
 use Rattle.wac_ast_base.proofs.Messages.{after}
 use Rattle.wac_ast_base.proofs.message.write_kept.Given as goal
 

@@ -1,5 +1,6 @@
-use Rattle.wac_ast_base.proofs.Common.{inr, ◌∙◌, err_from_is_err_and, told_by}
-use Rattle.std.proofs.Common.{sym}
+use Rattle.std.proofs.Common.{sym, inr, ◌∙◌}
+use Rattle.std.proofs.lemmas.Result.{err_from_is_err_and}
+use Rattle.wac_ast_base.specs.Error.{told_by}
 use Rattle.wac_ast_base.proofs.Taken.{fault_refused}
 use Rattle.wac_ast_base.proofs.parse.take_optional.Goals as goal
 

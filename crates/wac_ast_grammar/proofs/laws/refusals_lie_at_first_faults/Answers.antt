@@ -1,4 +1,5 @@
-use Rattle.wac_ast_grammar.proofs.Common.{◌≡◌, refl, false, Sym, argument}
+use Rattle.std.proofs.Common.{◌≡◌, refl, false}
+use Rattle.wac_ast_grammar.specs.Grammar.{Sym, argument}
 use Rattle.wac_ast_grammar.proofs.Tables.{needs_more}
 use Rattle.wac_ast_grammar.proofs.Refused.{stopped}
 use Rattle.wac_ast_grammar.proofs.laws.refusals_lie_at_first_faults.Goals as goal

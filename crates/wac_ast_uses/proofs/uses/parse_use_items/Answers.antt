@@ -1,4 +1,4 @@
-use Rattle.wac_ast_uses.proofs.Common.{refl}
+use Rattle.std.proofs.Common.{refl}
 use Rattle.wac_ast_base.proofs.Exits as x
 use Rattle.wac_ast_base.proofs.Yields as y
 use Rattle.wac_ast_uses.proofs.uses.parse_use_items.Goals as goal

@@ -1,4 +1,5 @@
-use Rattle.wac_calls.proofs.Common.{inr, subst, Comes}
+use Rattle.std.proofs.Common.{inr, subst}
+use Rattle.wac_calls.specs.Calls.{Comes}
 use Rattle.wac_calls.proofs.calls.outcome_of.Goals as goal
 
 pub returns-in-Ok : goal.returns-in-Ok

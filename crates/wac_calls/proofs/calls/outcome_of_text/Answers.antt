@@ -1,4 +1,4 @@
-use Rattle.wac_calls.proofs.Common.{◌∙◌, inl, inr, refl, sym}
+use Rattle.std.proofs.Common.{◌∙◌, inl, inr, refl, sym}
 use Rattle.wac_calls.proofs.calls.outcome_of_text.Goals as goal
 
 pub returns-in-Some : goal.returns-in-Some

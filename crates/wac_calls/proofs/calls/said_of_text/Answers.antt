@@ -1,5 +1,7 @@
-use Rattle.wac_calls.proofs.Common.{inr, subst, sym, Says, Word}
+use Rattle.std.proofs.Common.{inr, subst, sym}
+use Rattle.wac_calls.specs.Calls.{Says}
 use Rattle.wac_calls.specs.Errors.{SaysErrors}
+use Rattle.wac_calls.specs.declared.word.Word.{Word}
 use Rattle.wac_calls.proofs.calls.said_of_text.Goals as goal
 
 pub returns-in-Wac : goal.returns-in-Wac

@@ -1,4 +1,5 @@
-use Rattle.wac_calls.proofs.Common.{subst, Fails}
+use Rattle.std.proofs.Common.{subst}
+use Rattle.wac_calls.specs.Commands.{Fails}
 use Rattle.wac_calls.proofs.commands.failed.Goals as goal
 
 pub returns-in-Refused : goal.returns-in-Refused

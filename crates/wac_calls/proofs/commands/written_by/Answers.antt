@@ -1,4 +1,4 @@
-use Rattle.wac_calls.proofs.Common.{◌∙◌, ap}
+use Rattle.std.proofs.Common.{◌∙◌, ap}
 use Rattle.wac_lexer.specs.Device.{Kept}
 use Rattle.wac_calls_texts.specs.Feed.{Reading}
 use Rattle.wac_calls.proofs.Failing.{fails_of, writes_of}

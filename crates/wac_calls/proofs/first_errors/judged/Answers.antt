@@ -1,4 +1,4 @@
-use Rattle.wac_calls.proofs.Common.{inr, subst, true}
+use Rattle.std.proofs.Common.{inr, subst, true}
 use Rattle.wac_first_error.specs.Verdicts.{IsVerdict}
 use Rattle.wac_calls.proofs.first_errors.judged.Goals as goal
 

@@ -1,5 +1,5 @@
 use lib.Utf8.{encode}
-use Rattle.wac_calls.proofs.Common.{string_bytes}
+use Rattle.std.proofs.Common.{string_bytes}
 use Rattle.wac_calls.proofs.first_errors.line_of.Goals as goal
 
 pub returns : goal.returns

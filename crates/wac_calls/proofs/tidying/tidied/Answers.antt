@@ -1,4 +1,4 @@
-use Rattle.wac_calls.proofs.Common.{string_bytes, subst}
+use Rattle.std.proofs.Common.{string_bytes, subst}
 use Rattle.wac_comments.specs.Tidied.{IsPlain}
 use Rattle.wac_calls.proofs.tidying.tidied.Goals as goal
 

@@ -1,4 +1,5 @@
-use Rattle.wac_calls.proofs.Common.{subst, told_by}
+use Rattle.std.proofs.Common.{subst}
+use Rattle.wac_ast_base.specs.Error.{told_by}
 use Rattle.wac_comments.specs.Errors.{IsErrorOf}
 use Rattle.wac_calls.proofs.Faults.{tidy_fault, tidy_not_kept}
 use Rattle.wac_calls.proofs.tidying.untidied.Goals as goal

@@ -1,4 +1,4 @@
-use Rattle.wac_calls_graphs.proofs.Common.{inl, inr}
+use Rattle.std.proofs.Common.{inl, inr}
 use Rattle.wac_calls_graphs.proofs.composition.graphed.Goals as goal
 
 pub returns-in-Ok : goal.returns-in-Ok

@@ -1,4 +1,5 @@
-use Rattle.wac_calls_graphs.proofs.Common.{inl, inr, refl, subst, ComesToGraph}
+use Rattle.std.proofs.Common.{inl, inr, refl, subst}
+use Rattle.wac_calls_graphs.specs.Compositions.{ComesToGraph}
 use Rattle.wac_calls_graphs.proofs.composition.outcome_of.Goals as goal
 
 pub returns-in-Ok : goal.returns-in-Ok

@@ -1,4 +1,5 @@
-use Rattle.wac_calls_graphs.proofs.Common.{subst, IsErrorOf}
+use Rattle.std.proofs.Common.{subst}
+use Rattle.wac_calls_graphs.specs.Graphs.{IsErrorOf}
 use Rattle.wac_calls_graphs.proofs.Faults.{graph_broken, graph_fault, graph_without}
 use Rattle.wac_calls_graphs.proofs.composition.ungraphed.Goals as goal
 

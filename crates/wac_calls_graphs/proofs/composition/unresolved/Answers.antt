@@ -1,4 +1,6 @@
-use Rattle.wac_calls_graphs.proofs.Common.{subst, sym, Outcome, IsOfDocument}
+use Rattle.std.proofs.Common.{subst, sym}
+use Rattle.wac_calls_answers.specs.declared.outcome.Outcome.{Outcome}
+use Rattle.wac_calls_graphs.specs.Compositions.{IsOfDocument}
 use Rattle.wac_calls_graphs.proofs.composition.unresolved.Goals as goal
 
 pub returns-in-Ok : goal.returns-in-Ok

@@ -1,4 +1,5 @@
-use Rattle.wac_calls_texts.proofs.Common.{◌≡◌, ◌++◌, length, framed}
+use Rattle.std.proofs.Common.{◌≡◌, ◌++◌, length}
+use Rattle.wac_calls_texts.specs.Frames.{framed}
 use Rattle.wac_calls_texts.proofs.frames.frames_of.Given as goal
 
 abbrev pub invariant-frame : goal.invariant-frame

@@ -1,4 +1,4 @@
-use Rattle.wac_calls_texts.proofs.Common.{rules}
+use Rattle.std.proofs.Common.{rules}
 use Rattle.std.proofs.lemmas.Nat.{le_bytes_8}
 use Rattle.wac_calls_texts.proofs.frames.number.Goals as goal
 

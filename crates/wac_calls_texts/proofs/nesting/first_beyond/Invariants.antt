@@ -1,4 +1,4 @@
-use Rattle.wac_calls_texts.proofs.Common.{◌≡◌, ◌≤◌}
+use Rattle.std.proofs.Common.{◌≡◌, ◌≤◌}
 use Rattle.wac_lexer.specs.Reading.{left}
 use Rattle.wac_calls_texts.specs.Nesting.{first_beyond}
 use Rattle.wac_calls_texts.proofs.nesting.first_beyond.Given as goal

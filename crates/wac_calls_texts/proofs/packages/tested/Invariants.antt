@@ -1,4 +1,5 @@
-use Rattle.wac_calls_texts.proofs.Common.{◌≡◌, ◌++◌, All, drop, framed}
+use Rattle.std.proofs.Common.{◌≡◌, ◌++◌, All, drop}
+use Rattle.wac_calls_texts.specs.Frames.{framed}
 use Rattle.wac_calls_texts.specs.Packages.{IsPackage}
 use Rattle.wac_calls_texts.proofs.packages.tested.Given as goal
 

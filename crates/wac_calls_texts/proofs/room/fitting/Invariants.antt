@@ -1,4 +1,4 @@
-use Rattle.wac_calls_texts.proofs.Common.{ℕ, ◌≤◌, ◌<◌, length}
+use Rattle.std.proofs.Common.{ℕ, ◌≤◌, ◌<◌, length}
 use Rattle.wac_calls_texts.specs.Room.{AreWhole}
 use Rattle.wac_calls_texts.proofs.room.fitting.Given as goal
 

@@ -1,4 +1,5 @@
-use Rattle.wac_cli.proofs.Common.{◌≡◌, take, AreChecks}
+use Rattle.std.proofs.Common.{◌≡◌, take}
+use Rattle.wac_cli.specs.Checked.{AreChecks}
 use Rattle.wac_cli.proofs.checking.check_each.Given as goal
 
 abbrev pub invariant-loop-found : goal.invariant-loop-found

@@ -1,4 +1,5 @@
-use Rattle.wac_cli.proofs.Common.{take, ComeTo}
+use Rattle.std.proofs.Common.{take}
+use Rattle.wac_cli.specs.Formatted.{ComeTo}
 use Rattle.wac_cli.proofs.formatting.format_each.Given as goal
 
 abbrev pub invariant-loop-found : goal.invariant-loop-found

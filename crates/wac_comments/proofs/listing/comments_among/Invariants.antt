@@ -1,4 +1,6 @@
-use Rattle.wac_comments.proofs.Common.{◌≡◌, ◌++◌, drop, pieces_of, comments_among}
+use Rattle.std.proofs.Common.{◌≡◌, ◌++◌, drop}
+use Rattle.wac_comments_layout.specs.Texts.{pieces_of}
+use Rattle.wac_comments.specs.Comments.{comments_among}
 use Rattle.wac_comments.proofs.listing.comments_among.Given as goal
 
 abbrev pub invariant-loop-piece : goal.invariant-loop-piece

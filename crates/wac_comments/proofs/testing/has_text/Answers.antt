@@ -1,6 +1,8 @@
-use Rattle.wac_comments.proofs.Common.{length, Some, refl, ap, ◌∙◌, slice_get-map, slice_get_read, bytes_eq_is, Piece}
-use Rattle.std.proofs.Common.{sym}
+use Rattle.std.proofs.Common.{length, Some, sym, refl, ap, ◌∙◌}
 use Rattle.std.specs.Option.{option_map}
+use Rattle.std.proofs.lemmas.Option.{slice_get-map, slice_get_read}
+use Rattle.wac_lexer.proofs.Texts.{bytes_eq_is}
+use Rattle.wac_comments_layout.specs.declared.pieces.Piece.{Piece}
 use Rattle.wac_comments.proofs.testing.has_text.Goals as goal
 
 pub returns-in-Some : goal.returns-in-Some

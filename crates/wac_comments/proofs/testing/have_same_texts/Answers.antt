@@ -1,4 +1,4 @@
-use Rattle.wac_comments.proofs.Common.{texts_of}
+use Rattle.wac_comments_layout.specs.Texts.{texts_of}
 use Rattle.wac_comments.proofs.Same.{same_more}
 use Rattle.wac_comments.proofs.testing.have_same_texts.Goals as goal
 

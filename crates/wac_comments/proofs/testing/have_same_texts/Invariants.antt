@@ -1,4 +1,5 @@
-use Rattle.wac_comments.proofs.Common.{◌≡◌, drop, texts_of}
+use Rattle.std.proofs.Common.{◌≡◌, drop}
+use Rattle.wac_comments_layout.specs.Texts.{texts_of}
 use Rattle.wac_comments.proofs.testing.have_same_texts.Given as goal
 
 abbrev pub invariant-loop-index : goal.invariant-loop-index

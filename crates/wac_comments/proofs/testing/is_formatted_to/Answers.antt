@@ -1,5 +1,6 @@
-use Rattle.wac_comments.proofs.Common.{ℕ, List, subst, ◌∙◌, bytes_eq_is, RereadAs}
-use Rattle.std.proofs.Common.{sym}
+use Rattle.std.proofs.Common.{ℕ, List, sym, subst, ◌∙◌}
+use Rattle.wac_lexer.proofs.Texts.{bytes_eq_is}
+use Rattle.wac_printer_layout.specs.Reread.{RereadAs}
 use Rattle.wac_comments.proofs.testing.is_formatted_to.Goals as goal
 
 pub returns-in-Ok-clause-yes : goal.returns-in-Ok-clause-yes

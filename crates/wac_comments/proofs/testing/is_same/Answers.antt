@@ -1,5 +1,5 @@
-use Rattle.wac_comments.proofs.Common.{◌∙◌, bytes_eq_is}
-use Rattle.std.proofs.Common.{sym}
+use Rattle.std.proofs.Common.{sym, ◌∙◌}
+use Rattle.wac_lexer.proofs.Texts.{bytes_eq_is}
 use Rattle.wac_comments.proofs.testing.is_same.Goals as goal
 
 pub returns-then-eq-clause-same : goal.returns-then-eq-clause-same

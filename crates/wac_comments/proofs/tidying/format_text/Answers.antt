@@ -1,5 +1,4 @@
-use Rattle.wac_comments.proofs.Common.{◌∙◌}
-use Rattle.std.proofs.Common.{sym}
+use Rattle.std.proofs.Common.{sym, ◌∙◌}
 use Rattle.wac_comments.proofs.Alike.{is_refusal}
 use Rattle.wac_comments.proofs.tidying.format_text.Goals as goal
 

@@ -1,6 +1,13 @@
-use Rattle.wac_comments.proofs.Common.{◌≡◌, ℕ, List, ap, subst, ◌∙◌, AllByRecursion, list_any, is_comment, texts, printed, texts_of, printed_known, has_comments, ReadsBackAs}
-use Rattle.std.proofs.Common.{sym}
+use Rattle.std.proofs.Common.{◌≡◌, ℕ, List, sym, ap, subst, ◌∙◌}
+use Rattle.std.specs.List.{AllByRecursion, list_any}
 use Rattle.wac_comments_layout.specs.Following.{IsPieceText}
+use Rattle.wac_comments_layout.specs.Kept.{is_comment}
+use Rattle.wac_comments_layout.specs.Pieces.{texts}
+use Rattle.wac_comments_layout.specs.Printing.{printed}
+use Rattle.wac_comments_layout.specs.Texts.{texts_of}
+use Rattle.wac_comments_layout.proofs.Known.{printed_known}
+use Rattle.wac_comments.specs.Comments.{has_comments}
+use Rattle.wac_comments.specs.Tidied.{ReadsBackAs}
 use Rattle.wac_comments.proofs.Alike.{has_same}
 use Rattle.wac_comments.proofs.Read.{are_tokens}
 use Rattle.wac_comments.proofs.tidying.tested.Goals as goal

@@ -1,5 +1,5 @@
-use Rattle.wac_comments.proofs.Common.{subst, string_bytes, IsFormatted, ReadsBackAs}
-use Rattle.std.proofs.Common.{sym}
+use Rattle.std.proofs.Common.{sym, subst, string_bytes}
+use Rattle.wac_comments.specs.Tidied.{IsFormatted, ReadsBackAs}
 use Rattle.wac_comments.proofs.Alike.{on_ok, same_tree}
 use Rattle.wac_comments.proofs.tidying.tidied.Goals as goal
 

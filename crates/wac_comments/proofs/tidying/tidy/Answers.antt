@@ -1,4 +1,4 @@
-use Rattle.wac_comments.proofs.Common.{string_bytes}
+use Rattle.std.proofs.Common.{string_bytes}
 use Rattle.wac_comments.proofs.Alike.{on_ok, same_comments, same_docs}
 use Rattle.wac_comments.proofs.tidying.tidy.Goals as goal
 

@@ -1,4 +1,5 @@
-use Rattle.wac_comments_layout.proofs.Common.{◌≡◌, false, now_of, is_among}
+use Rattle.std.proofs.Common.{◌≡◌, false}
+use Rattle.wac_comments_layout.specs.Printing.{now_of, is_among}
 use Rattle.wac_comments_layout.proofs.printing.is_among.Given as goal
 
 abbrev pub invariant-loop-back : goal.invariant-loop-back

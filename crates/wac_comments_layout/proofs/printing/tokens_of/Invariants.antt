@@ -1,4 +1,6 @@
-use Rattle.wac_comments_layout.proofs.Common.{◌≡◌, ◌++◌, drop, now_of, tokens_of, texts_of}
+use Rattle.std.proofs.Common.{◌≡◌, ◌++◌, drop}
+use Rattle.wac_comments_layout.specs.Printing.{now_of, tokens_of}
+use Rattle.wac_comments_layout.specs.Texts.{texts_of}
 use Rattle.wac_comments_layout.proofs.printing.tokens_of.Given as goal
 
 abbrev pub invariant-loop-piece : goal.invariant-loop-piece

@@ -1,4 +1,6 @@
-use Rattle.wac_comments_layout.proofs.Common.{◌∷◌, sym, ap, ◌∙◌, subst, AllByRecursion, IsPieceText}
+use Rattle.std.proofs.Common.{◌∷◌, sym, ap, ◌∙◌, subst}
+use Rattle.std.specs.List.{AllByRecursion}
+use Rattle.wac_comments_layout.specs.Following.{IsPieceText}
 use Rattle.wac_comments_layout.proofs.Guided.{texts_at}
 use Rattle.wac_comments_layout.proofs.standing.stand_in_bytes.Goals as goal
 

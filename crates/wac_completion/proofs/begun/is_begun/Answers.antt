@@ -1,4 +1,10 @@
-use Rattle.wac_completion.proofs.Common.{◌≡◌, sym, ◌∙◌, subst, ℕ, ◌+◌, List, length, true, false, None, refused, items, EndsArgued, document, Viable, Reads, tried}
+use Rattle.std.proofs.Common.{◌≡◌, sym, ◌∙◌, subst, ℕ, ◌+◌, List, length, true, false, None}
+use Rattle.wac_lexer.specs.Characters.{refused}
+use Rattle.wac_lexer.specs.Items.{items}
+use Rattle.wac_ast_grammar.specs.Arguments.{EndsArgued}
+use Rattle.wac_ast_grammar.specs.Grammar.{document}
+use Rattle.wac_ast_grammar.specs.Viable.{Viable}
+use Rattle.wac_completion.specs.Standing.{Reads, tried}
 use Rattle.wac_completion.proofs.Ends.{decided, yes}
 use Rattle.wac_completion.proofs.begun.is_begun.Goals as goal
 

@@ -1,4 +1,4 @@
-use Rattle.wac_completion.proofs.Common.{◌∙◌, ⊎_elim}
+use Rattle.std.proofs.Common.{◌∙◌, ⊎_elim}
 use Rattle.wac_ast.specs.Statements.{document_of}
 use Rattle.wac_completion.proofs.Viability.{ends_viable_by, not_viable_by, tree_viable}
 use Rattle.wac_completion.proofs.begun.is_viable.Goals as goal

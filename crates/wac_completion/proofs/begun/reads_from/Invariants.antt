@@ -1,5 +1,6 @@
-use Rattle.wac_completion.proofs.Common.{◌≡◌, reads_from}
+use Rattle.std.proofs.Common.{◌≡◌}
 use Rattle.wac_lexer.specs.Reading.{left}
+use Rattle.wac_completion.specs.Standing.{reads_from}
 use Rattle.wac_completion.proofs.begun.reads_from.Given as goal
 
 abbrev pub invariant-loop-item : goal.invariant-loop-item

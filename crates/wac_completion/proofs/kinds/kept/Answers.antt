@@ -1,4 +1,4 @@
-use Rattle.wac_completion.proofs.Common.{CanFollow}
+use Rattle.wac_completion.specs.Standing.{CanFollow}
 use Rattle.wac_completion.proofs.Ends.{no, yes}
 use Rattle.wac_completion.proofs.Keeping.{kept_all, kept_none, kept_one}
 use Rattle.wac_completion.proofs.kinds.kept.Goals as goal

@@ -1,4 +1,5 @@
-use Rattle.wac_completion.proofs.Common.{drop, CanFollow}
+use Rattle.std.proofs.Common.{drop}
+use Rattle.wac_completion.specs.Standing.{CanFollow}
 use Rattle.wac_completion.proofs.Keeping.{KeepsOn}
 use Rattle.wac_completion.proofs.kinds.kept.Given as goal
 

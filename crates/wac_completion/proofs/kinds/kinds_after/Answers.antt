@@ -1,4 +1,5 @@
-use Rattle.wac_completion.proofs.Common.{◌≡◌, sym, ◌∙◌, []}
+use Rattle.std.proofs.Common.{◌≡◌, sym, ◌∙◌}
+use Rattle.std.specs.Prelude.{[]}
 use Rattle.wac_completion.proofs.Keeping.{kinds_of_flat}
 use Rattle.wac_completion.proofs.kinds.kinds_after.Goals as goal
 

@@ -1,4 +1,4 @@
-use Rattle.wac_completion.proofs.Common.{false}
+use Rattle.std.specs.Prelude.{false}
 use Rattle.wac_completion.proofs.Starting.{kinds_there, nothing_there}
 use Rattle.wac_completion.proofs.kinds.kinds_at.Goals as goal
 

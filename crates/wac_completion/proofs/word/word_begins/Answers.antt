@@ -1,4 +1,4 @@
-use Rattle.wac_completion.proofs.Common.{refl}
+use Rattle.std.proofs.Common.{refl}
 use Rattle.wac_completion.proofs.Beginning.{next_begins}
 use Rattle.wac_completion.proofs.word.word_begins.Goals as goal
 

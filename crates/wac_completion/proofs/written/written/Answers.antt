@@ -1,5 +1,7 @@
-use Rattle.wac_completion.proofs.Common.{sym, subst, All, IsWritten}
+use Rattle.std.proofs.Common.{sym, subst}
 use Rattle.std.proofs.lemmas.List.Elements.{All-push}
+use Rattle.std.specs.List.{All}
+use Rattle.wac_completion.specs.Names.{IsWritten}
 use Rattle.wac_completion.proofs.written.written.Goals as goal
 
 pub loop-name-preserved : goal.loop-name-preserved

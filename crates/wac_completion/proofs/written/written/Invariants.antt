@@ -1,4 +1,5 @@
-use Rattle.wac_completion.proofs.Common.{All, IsWritten}
+use Rattle.std.specs.List.{All}
+use Rattle.wac_completion.specs.Names.{IsWritten}
 use Rattle.wac_completion.proofs.written.written.Given as goal
 
 abbrev pub invariant-loop-name : goal.invariant-loop-name

@@ -1,5 +1,14 @@
-use Rattle.wac_component_rules.proofs.Common.{◌≡◌, ◌∙◌, [], Some, None, true, false, refl, sym, ap, subst, arith, option_map, unwrap_or, string_bytes, sort_of, named_by, meaning_at, by_name, look_up, none_within, mapped_at, IsSided, parts_of, part_view, side_items, side_fits, parts_fit}
-use Rattle.wac_graph_types.proofs.Rows.{stands}
+use Rattle.std.proofs.Common.{◌≡◌, ◌∙◌, [], Some, None, true, false, refl, sym, ap, subst, arith}
+use Rattle.std.specs.Prelude.{option_map, unwrap_or, string_bytes}
+use Rattle.wac_graph_types.specs.Entry.{sort_of}
+use Rattle.wac_graph_types.specs.Kind.{named_by}
+use Rattle.wac_graph_types.specs.Meaning.{meaning_at}
+use Rattle.wac_graph_types.specs.Names.{by_name}
+use Rattle.wac_graph_types.specs.Scope.{look_up}
+use Rattle.wac_graph_types.proofs.Rows.{stands, none_within}
+use Rattle.wac_graph_types.proofs.Views.{mapped_at}
+use Rattle.wac_component_rules.specs.Parts.{IsSided, parts_of, part_view, side_items}
+use Rattle.wac_component_rules.specs.Sides.{side_fits, parts_fit}
 use Rattle.wac_component_rules.proofs.Compared.{forms_differ, without_entries, types_fit, items_fit}
 use Rattle.wac_component_rules.proofs.Entries.{IsMade}
 use Rattle.wac_component_rules.proofs.Measures.{above_both}

@@ -1,4 +1,8 @@
-use Rattle.wac_component_rules.proofs.Common.{ℕ, ◌+◌, ◌*◌, Some, meaning_at, by_name, AllFit, parts_of}
+use Rattle.std.proofs.Common.{ℕ, ◌+◌, ◌*◌, Some}
+use Rattle.wac_graph_types.specs.Meaning.{meaning_at}
+use Rattle.wac_graph_types.specs.Names.{by_name}
+use Rattle.wac_component_rules.specs.Found.{AllFit}
+use Rattle.wac_component_rules.specs.Parts.{parts_of}
 use Rattle.wac_component_rules.proofs.Measures.{above}
 use Rattle.wac_component_rules.proofs.PartRows.{RestFits}
 use Rattle.wac_component_rules.proofs.SideRows.{RestFound}

@@ -1,4 +1,7 @@
-use Rattle.wac_component_rules.proofs.Common.{◌∙◌, None, Some, ap, string_bytes, Slot, optional, mapped_at}
+use Rattle.std.proofs.Common.{◌∙◌, None, Some, ap}
+use Rattle.std.specs.Prelude.{string_bytes}
+use Rattle.wac_graph_types.specs.Entry.{Slot, optional}
+use Rattle.wac_graph_types.proofs.Views.{mapped_at}
 use Rattle.wac_component_rules.proofs.parts.at_case.Goals as goal
 
 pub returns-in-None : goal.returns-in-None

@@ -1,6 +1,9 @@
-use Rattle.wac_component_rules.proofs.Common.{None, Some, sym, arith, slice_get_past, Slot, mapped_at}
+use Rattle.std.proofs.Common.{None, Some, sym, arith}
+use Rattle.std.proofs.lemmas.Option.{slice_get_past}
 use Rattle.wac_graph_types.specs.declared.kind.ItemKind.TheVariants as kinds
+use Rattle.wac_graph_types.specs.Entry.{Slot}
 use Rattle.wac_graph_types.proofs.Rows.{stands}
+use Rattle.wac_graph_types.proofs.Views.{mapped_at}
 use Rattle.wac_component_rules.proofs.parts.at_item.Goals as goal
 
 pub returns-in-None : goal.returns-in-None

@@ -1,5 +1,8 @@
-use Rattle.wac_component_rules.proofs.Common.{None, Some, string_bytes, Slot, mapped_at}
+use Rattle.std.proofs.Common.{None, Some}
+use Rattle.std.specs.Prelude.{string_bytes}
 use Rattle.wac_graph_types.specs.declared.kind.ItemKind.TheVariants as kinds
+use Rattle.wac_graph_types.specs.Entry.{Slot}
+use Rattle.wac_graph_types.proofs.Views.{mapped_at}
 use Rattle.wac_component_rules.proofs.parts.at_named_result.Goals as goal
 
 pub returns-in-None : goal.returns-in-None

@@ -1,7 +1,10 @@
-use Rattle.wac_component_rules.proofs.Common.{◌∙◌, sym, ap, arith, value_form, names_before_more, through}
+use Rattle.std.proofs.Common.{◌∙◌, sym, ap, arith}
 use Rattle.wac_graph_types.specs.declared.kind.ItemKind.TheVariants as kinds
 use Rattle.wac_graph_types.specs.Kind as forms
+use Rattle.wac_graph_types.specs.Kind.{value_form}
 use Rattle.wac_graph_types.proofs.Rows.{stands}
+use Rattle.wac_graph_types.proofs.Meanings.{names_before_more}
+use Rattle.wac_component_rules.specs.Seen.{through}
 use Rattle.wac_component_rules.proofs.Aliases.{alias_before, alias_names, defined_alias, defined_before, defined_within, whole_defined, whole_value}
 use Rattle.wac_component_rules.proofs.Measures.{above_defined}
 use Rattle.wac_component_rules.proofs.sources.+plain_value.Goals as goal

@@ -1,4 +1,4 @@
-use Rattle.wac_component_rules.proofs.Common.{Some}
+use Rattle.std.proofs.Common.{Some}
 use Rattle.wac_graph_types.specs.declared.kind.ItemKind.TheVariants as kinds
 use Rattle.wac_component_rules.proofs.Measures.{above}
 use Rattle.wac_component_rules.proofs.sources.+plain_value.Given as goal

@@ -1,6 +1,8 @@
-use Rattle.wac_component_rules.proofs.Common.{◌∙◌, Some, sym, ap, arith, option_copied, What}
+use Rattle.std.proofs.Common.{◌∙◌, Some, sym, ap, arith}
+use Rattle.std.specs.Prelude.{option_copied}
 use Rattle.wac_graph_types.specs.declared.kind.Sort.TheVariants as sorts
 use Rattle.wac_graph_types.proofs.Rows.{stands}
+use Rattle.wac_component_rules.specs.Seen.{What}
 use Rattle.wac_component_rules.proofs.Aliases.{no_resource, own_name, resource_entry, sort_at, source_before, source_sort, sources_name}
 use Rattle.wac_component_rules.proofs.sources.+source_name.Goals as goal
 

@@ -1,4 +1,4 @@
-use Rattle.wac_component_rules.proofs.Common.{sym, subst}
+use Rattle.std.proofs.Common.{sym, subst}
 use Rattle.wac_component_rules.proofs.Aliases.{IsWhole, whole_kind}
 use Rattle.wac_component_rules.proofs.sources.plain_kind.Goals as goal
 

@@ -1,4 +1,4 @@
-use Rattle.wac_component_rules.proofs.Common.{ap, sym, subst}
+use Rattle.std.proofs.Common.{ap, sym, subst}
 use Rattle.wac_graph_types.specs.declared.kind.ItemKind.TheVariants as kinds
 use Rattle.wac_component_rules.proofs.Aliases.{IsWhole, whole_kind}
 use Rattle.wac_component_rules.proofs.sources.plain_type.Goals as goal

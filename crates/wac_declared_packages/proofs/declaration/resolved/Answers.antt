@@ -1,6 +1,8 @@
-use Rattle.wac_declared_packages.proofs.Common.{[], sym, subst, document_of, IsGraphOf, IsUnresolved}
+use Rattle.std.proofs.Common.{[], sym, subst}
+use Rattle.wac_ast.specs.Statements.{document_of}
 use Rattle.wac_ast.specs.declared.document.Document.{Document}
 use Rattle.wac_graph.specs.Graph.{Parts}
+use Rattle.wac_declared_packages.specs.Declaring.{IsGraphOf, IsUnresolved}
 use Rattle.wac_declared_packages.proofs.Refuses.{unresolved}
 use Rattle.wac_declared_packages.proofs.declaration.resolved.Goals as goal
 

@@ -1,4 +1,4 @@
-use Rattle.wac_declared_packages.proofs.Common.{now_of}
+use Rattle.wac_declared_packages.specs.Together.{now_of}
 use Rattle.wac_declared_packages.proofs.Texts.{ThereBefore}
 use Rattle.wac_declared_packages.proofs.ending.first_unmade.Given as goal
 

@@ -1,4 +1,4 @@
-use Rattle.wac_declared_packages.proofs.Common.{now_of}
+use Rattle.wac_declared_packages.specs.Together.{now_of}
 use Rattle.wac_declared_packages.proofs.Declares.{copies_declared}
 use Rattle.wac_declared_packages.proofs.making.made_of.Goals as goal
 

@@ -1,4 +1,6 @@
-use Rattle.wac_graph_copies.proofs.Common.{◌≡◌, take, tuple_children, moved_children}
+use Rattle.std.proofs.Common.{◌≡◌, take}
+use Rattle.wac_graph_types.specs.Entry.{tuple_children}
+use Rattle.wac_graph_copies.specs.Moved.{moved_children}
 use Rattle.wac_graph_copies.proofs.copy.copy_tuple.Given as goal
 
 abbrev pub invariant-loop-value : goal.invariant-loop-value

@@ -1,4 +1,7 @@
-use Rattle.wac_graph_types.proofs.Common.{ℕ, ◌+◌, ◌*◌, children, IsOneToOne, meaning_at, AreAlike}
+use Rattle.std.proofs.Common.{ℕ, ◌+◌, ◌*◌}
+use Rattle.wac_graph_types.specs.Entry.{children}
+use Rattle.wac_graph_types.specs.Meaning.{IsOneToOne, meaning_at}
+use Rattle.wac_graph_types.specs.Pairs.{AreAlike}
 use Rattle.wac_graph_types.proofs.Rows.{RestDecides, above}
 use Rattle.wac_graph_types.proofs.alike.+same.Given as goal
 

@@ -1,4 +1,6 @@
-use Rattle.wac_graph_types.proofs.Common.{sym, arith, children, child_view, look}
+use Rattle.std.proofs.Common.{sym, arith}
+use Rattle.wac_graph_types.specs.Entry.{children, child_view}
+use Rattle.wac_graph_types.specs.Meaning.{look}
 use Rattle.wac_graph_types.proofs.Rows.{none_within}
 use Rattle.wac_graph_types.proofs.Borrowing.{resource_has_none, entry_has, rest_borrows_step, rest_borrows_found, rest_borrows_end}
 use Rattle.wac_graph_types.proofs.borrows.entry_has_borrow.Goals as goal

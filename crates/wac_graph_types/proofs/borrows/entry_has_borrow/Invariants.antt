@@ -1,4 +1,7 @@
-use Rattle.wac_graph_types.proofs.Common.{◌≡◌, List, map, children, Meaning, look, contains_borrow}
+use Rattle.std.proofs.Common.{◌≡◌, List, map}
+use Rattle.wac_graph_types.specs.Entry.{children}
+use Rattle.wac_graph_types.specs.Meaning.{Meaning, look}
+use Rattle.wac_graph_types.specs.Shape.{contains_borrow}
 use Rattle.wac_graph_types.proofs.Borrowing.{RestBorrows}
 use Rattle.wac_graph_types.proofs.borrows.entry_has_borrow.Given as goal
 

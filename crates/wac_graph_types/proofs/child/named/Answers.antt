@@ -1,5 +1,7 @@
-use Rattle.wac_graph_types.proofs.Common.{◌∙◌, None, Some, ap, string_bytes, Slot}
+use Rattle.std.proofs.Common.{◌∙◌, None, Some, ap}
+use Rattle.std.specs.Prelude.{string_bytes}
 use Rattle.wac_graph_types.specs.declared.kind.ItemKind.TheVariants as kinds
+use Rattle.wac_graph_types.specs.Entry.{Slot}
 use Rattle.wac_graph_types.proofs.Views.{mapped_at}
 use Rattle.wac_graph_types.proofs.child.named.Goals as goal
 

@@ -1,4 +1,6 @@
-use Rattle.wac_graph_types.proofs.Common.{◌∙◌, ℕ, List, [], ◌∷◌, ◌++◌, subst, sym, ap, by_name, IsFresh}
+use Rattle.std.proofs.Common.{◌∙◌, ℕ, List, [], ◌∷◌, ◌++◌, subst, sym, ap}
+use Rattle.wac_graph_types.specs.Names.{by_name}
+use Rattle.wac_graph_types.specs.Scope.{IsFresh}
 use Rattle.wac_graph_types.proofs.Maps.{inserted}
 use Rattle.wac_graph_types.proofs.names.push.Goals as goal
 

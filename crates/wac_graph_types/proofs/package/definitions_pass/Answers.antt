@@ -1,4 +1,6 @@
-use Rattle.wac_graph_types.proofs.Common.{refl, sym, arith, by_name, Passes}
+use Rattle.std.proofs.Common.{refl, sym, arith}
+use Rattle.wac_graph_types.specs.Names.{by_name}
+use Rattle.wac_graph_types.specs.Tests.{Passes}
 use Rattle.wac_graph_types.proofs.Rows.{shown, refuted}
 use Rattle.wac_graph_types.proofs.Listed.{listed_at, listed_length}
 use Rattle.wac_graph_types.proofs.Each.{rest_passes_step, rest_passes_fails, rest_passes_end, each_all, all_each}

@@ -1,4 +1,5 @@
-use Rattle.wac_graph_types.proofs.Common.{by_name, Passes}
+use Rattle.wac_graph_types.specs.Names.{by_name}
+use Rattle.wac_graph_types.specs.Tests.{Passes}
 use Rattle.wac_graph_types.proofs.Each.{RestPasses}
 use Rattle.wac_graph_types.proofs.package.definitions_pass.Given as goal
 

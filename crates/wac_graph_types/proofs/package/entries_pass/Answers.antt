@@ -1,4 +1,7 @@
-use Rattle.wac_graph_types.proofs.Common.{refl, arith, children, EachKind, Passes}
+use Rattle.std.proofs.Common.{refl, arith}
+use Rattle.wac_graph_types.specs.Entry.{children}
+use Rattle.wac_graph_types.specs.Meaning.{EachKind}
+use Rattle.wac_graph_types.specs.Tests.{Passes}
 use Rattle.wac_graph_types.proofs.Rows.{stands}
 use Rattle.wac_graph_types.proofs.Each.{rest_passes_step}
 use Rattle.wac_graph_types.proofs.package.entries_pass.Goals as goal

@@ -1,4 +1,6 @@
-use Rattle.wac_graph_types.proofs.Common.{children, EachKind, Passes}
+use Rattle.wac_graph_types.specs.Entry.{children}
+use Rattle.wac_graph_types.specs.Meaning.{EachKind}
+use Rattle.wac_graph_types.specs.Tests.{Passes}
 use Rattle.wac_graph_types.proofs.Each.{RestPasses}
 use Rattle.wac_graph_types.proofs.package.entries_pass.Given as goal
 

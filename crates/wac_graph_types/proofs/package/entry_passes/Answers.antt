@@ -1,4 +1,7 @@
-use Rattle.wac_graph_types.proofs.Common.{refl, sym, arith, IfSome, children, child_view, Passes}
+use Rattle.std.proofs.Common.{refl, sym, arith}
+use Rattle.std.specs.Prelude.{IfSome}
+use Rattle.wac_graph_types.specs.Entry.{children, child_view}
+use Rattle.wac_graph_types.specs.Tests.{Passes}
 use Rattle.wac_graph_types.proofs.Rows.{shown}
 use Rattle.wac_graph_types.proofs.Each.{rest_passes_step, rest_passes_end, each_all}
 use Rattle.wac_graph_types.proofs.package.entry_passes.Goals as goal

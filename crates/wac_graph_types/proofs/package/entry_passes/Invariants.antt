@@ -1,4 +1,6 @@
-use Rattle.wac_graph_types.proofs.Common.{IfSome, children, Passes}
+use Rattle.std.specs.Prelude.{IfSome}
+use Rattle.wac_graph_types.specs.Entry.{children}
+use Rattle.wac_graph_types.specs.Tests.{Passes}
 use Rattle.wac_graph_types.proofs.Each.{RestPasses}
 use Rattle.wac_graph_types.proofs.package.entry_passes.Given as goal
 

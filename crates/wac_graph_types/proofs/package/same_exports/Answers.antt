@@ -1,4 +1,7 @@
-use Rattle.wac_graph_types.proofs.Common.{slice_get, option_and_then, Interface, World, as_interface, as_world}
+use Rattle.std.specs.Prelude.{slice_get, option_and_then}
+use Rattle.wac_graph_types.specs.declared.entry.Interface.{Interface}
+use Rattle.wac_graph_types.specs.declared.entry.World.{World}
+use Rattle.wac_graph_types.specs.Readings.{as_interface, as_world}
 use Rattle.wac_graph_types.proofs.Exports.{read_map, exports_same, exports_other}
 use Rattle.wac_graph_types.proofs.package.same_exports.Goals as goal
 

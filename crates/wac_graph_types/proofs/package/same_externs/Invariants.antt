@@ -1,4 +1,6 @@
-use Rattle.wac_graph_types.proofs.Common.{ℕ, export_children, IsOneToOne, meaning_at}
+use Rattle.std.proofs.Common.{ℕ}
+use Rattle.wac_graph_types.specs.Entry.{export_children}
+use Rattle.wac_graph_types.specs.Meaning.{IsOneToOne, meaning_at}
 use Rattle.wac_graph_types.proofs.Rows.{RestDecides}
 use Rattle.wac_graph_types.proofs.package.same_externs.Given as goal
 

@@ -1,4 +1,7 @@
-use Rattle.wac_lexer.proofs.Common.{◌≡◌, ◌∙◌, ◌<◌, sym, subst, take, length, arith, eqb-true, state_at, Start}
+use Rattle.std.proofs.Common.{◌≡◌, ◌∙◌, ◌<◌, sym, subst, take, length, arith}
+use Rattle.std.proofs.lemmas.Bool.{eqb-true}
+use Rattle.wac_lexer.specs.Automaton.{state_at}
+use Rattle.wac_lexer.specs.Automaton.State.{Start}
 use Rattle.wac_lexer.proofs.Boundaries.{ne_zero}
 use Rattle.wac_lexer.proofs.States.{Reads, walk_reads, reads_none}
 use Rattle.wac_lexer.proofs.Tables.{ended_alone}

@@ -1,4 +1,6 @@
-use Rattle.wac_lexer.proofs.Common.{◌+◌, take, sym, refl, ap, ◌∙◌, arith, state_at, found_at, longest}
+use Rattle.std.proofs.Common.{◌+◌, take, sym, refl, ap, ◌∙◌, arith}
+use Rattle.wac_lexer.specs.Automaton.{state_at}
+use Rattle.wac_lexer.specs.Front.{found_at, longest}
 use Rattle.wac_lexer.proofs.States.{Reads, walk_reads, walk_longest, walk_ends}
 use Rattle.wac_lexer.proofs.Tables.{found_longer, found_stays}
 use Rattle.wac_lexer.proofs.automaton.longest_ended.Goals as goal

@@ -1,4 +1,6 @@
-use Rattle.wac_lexer.proofs.Common.{◌≡◌, ◌&&◌, drop, list_all, is_plain}
+use Rattle.std.proofs.Common.{◌≡◌, ◌&&◌, drop}
+use Rattle.std.specs.List.{list_all}
+use Rattle.wac_lexer.specs.Characters.{is_plain}
 use Rattle.wac_lexer.proofs.characters.are_plain.Given as goal
 
 abbrev pub invariant-loop-byte : goal.invariant-loop-byte

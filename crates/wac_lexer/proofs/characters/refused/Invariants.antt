@@ -1,4 +1,6 @@
-use Rattle.wac_lexer.proofs.Common.{◌≡◌, ◌-◌, length, drop, IsCharBoundary, chars, refused, refused_from}
+use Rattle.std.proofs.Common.{◌≡◌, ◌-◌, length, drop}
+use Rattle.std.specs.Str.{IsCharBoundary, chars}
+use Rattle.wac_lexer.specs.Characters.{refused, refused_from}
 use Rattle.wac_lexer.proofs.characters.refused.Given as goal
 
 abbrev pub invariant-loop-place : goal.invariant-loop-place

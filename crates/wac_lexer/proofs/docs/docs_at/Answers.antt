@@ -1,4 +1,9 @@
-use Rattle.wac_lexer.proofs.Common.{◌≡◌, ◌+◌, ◌++◌, map, take, drop, length, sym, ap, ◌∙◌, subst, arith, append-nil, append_assoc, zero-add, IsCharBoundary, IsUtf8-drop, IsCharBoundary-start, part_len, doc_of_part, docs_at, docs_upto, doc_of}
+use Rattle.std.proofs.Common.{◌≡◌, ◌+◌, ◌++◌, map, take, drop, length, sym, ap, ◌∙◌, subst, arith, append-nil, append_assoc, zero-add}
+use Rattle.std.specs.Str.{IsCharBoundary}
+use Rattle.std.proofs.lemmas.Str.{IsUtf8-drop, IsCharBoundary-start}
+use Rattle.wac_lexer.specs.Comments.{part_len}
+use Rattle.wac_lexer.specs.Docs.{doc_of_part, docs_at, docs_upto}
+use Rattle.wac_lexer.specs.Item.{doc_of}
 use Rattle.wac_lexer.proofs.Boundaries.{part_boundary}
 use Rattle.wac_lexer.proofs.Trimmed.{docs_done, docs_end, docs_more}
 use Rattle.wac_lexer.proofs.docs.docs_at.Goals as goal

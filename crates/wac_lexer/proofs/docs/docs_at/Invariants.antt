@@ -1,4 +1,7 @@
-use Rattle.wac_lexer.proofs.Common.{length, ◌-◌, ◌≡◌, ◌++◌, map, ℕ, ◌+◌, ◌≤◌, IsCharBoundary, doc_of, docs_at, docs_upto}
+use Rattle.std.proofs.Common.{length, ◌-◌, ◌≡◌, ◌++◌, map, ℕ, ◌+◌, ◌≤◌}
+use Rattle.std.specs.Str.{IsCharBoundary}
+use Rattle.wac_lexer.specs.Item.{doc_of}
+use Rattle.wac_lexer.specs.Docs.{docs_at, docs_upto}
 use Rattle.wac_lexer.proofs.docs.docs_at.Given as goal
 
 abbrev pub invariant-loop-start : goal.invariant-loop-start

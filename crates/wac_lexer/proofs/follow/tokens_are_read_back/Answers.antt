@@ -1,4 +1,5 @@
-use Rattle.wac_lexer.proofs.Common.{◌++◌, ◌≡◌, length, arith, gap}
+use Rattle.std.proofs.Common.{◌++◌, ◌≡◌, length, arith}
+use Rattle.wac_lexer.specs.Comments.{gap}
 use Rattle.wac_lexer.proofs.Gaps.{gap_done}
 use Rattle.wac_lexer.proofs.Standing.{stands_alone}
 use Rattle.wac_lexer.proofs.follow.tokens_are_read_back.Goals as goal

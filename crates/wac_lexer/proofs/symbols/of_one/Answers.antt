@@ -1,4 +1,5 @@
-use Rattle.wac_lexer.proofs.Common.{sym, ◌∙◌, [], ◌∷◌, brackets, separators}
+use Rattle.std.proofs.Common.{sym, ◌∙◌, [], ◌∷◌}
+use Rattle.wac_lexer.specs.Words.{brackets, separators}
 use Rattle.wac_lexer.proofs.Texts.{find_first, find_next}
 use Rattle.wac_lexer.proofs.symbols.of_one.Goals as goal
 

@@ -1,4 +1,4 @@
-use Rattle.wac_lsp.proofs.Common.{rules}
+use Rattle.std.proofs.Common.{rules}
 use Rattle.std.proofs.lemmas.Fn.{filter_same}
 use Rattle.wac_lsp.proofs.documents.close.Goals as goal
 

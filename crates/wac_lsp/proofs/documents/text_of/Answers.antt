@@ -1,4 +1,4 @@
-use Rattle.wac_lsp.proofs.Common.{sym, ap, ◌∙◌, ◌<◌, ◌≤◌, length, Some, arith}
+use Rattle.std.proofs.Common.{sym, ap, ◌∙◌, ◌<◌, ◌≤◌, length, Some, arith}
 use Rattle.wac_lsp.proofs.TextsIn.{found_here, not_here, nowhere}
 use Rattle.wac_lsp.proofs.documents.text_of.Goals as goal
 

@@ -1,4 +1,5 @@
-use Rattle.wac_lsp.proofs.Common.{◌≡◌, drop, text_in}
+use Rattle.std.proofs.Common.{◌≡◌, drop}
+use Rattle.wac_lsp.specs.Opened.{text_in}
 use Rattle.wac_lsp.proofs.documents.text_of.Given as goal
 
 abbrev pub invariant-loop-document : goal.invariant-loop-document

@@ -1,4 +1,6 @@
-use Rattle.wac_lsp.proofs.Common.{subst, string_bytes, Changes}
+use Rattle.std.proofs.Common.{subst}
+use Rattle.std.specs.Prelude.{string_bytes}
+use Rattle.wac_lsp_texts.specs.Changed.{Changes}
 use Rattle.wac_lsp.proofs.Laid.{laid_out}
 use Rattle.wac_lsp.proofs.formatting.changes_to_tidy.Goals as goal
 

@@ -1,5 +1,8 @@
-use Rattle.wac_lsp.proofs.Common.{◌∙◌, ◌≤◌, ap, length, map, rules, take_all, items_of, edit_data}
+use Rattle.std.proofs.Common.{◌∙◌, ◌≤◌, ap, length, map, rules}
+use Rattle.std.proofs.lemmas.List.{take_all}
 use Rattle.serde_json.specs.Data.{array}
+use Rattle.serde_json.specs.View.{items_of}
+use Rattle.wac_lsp.specs.Edits.{edit_data}
 use Rattle.wac_lsp.proofs.formatting.edits_value.Goals as goal
 
 pub returns : goal.returns

@@ -1,4 +1,7 @@
-use Rattle.wac_lsp.proofs.Common.{◌≡◌, take, map, view, edit_data}
+use Rattle.std.proofs.Common.{◌≡◌, take}
+use Rattle.std.specs.Prelude.{map}
+use Rattle.serde_json.specs.View.{view}
+use Rattle.wac_lsp.specs.Edits.{edit_data}
 use Rattle.wac_lsp.proofs.formatting.edits_value.Given as goal
 
 abbrev pub invariant-loop-change : goal.invariant-loop-change

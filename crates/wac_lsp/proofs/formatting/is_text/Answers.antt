@@ -1,4 +1,4 @@
-use Rattle.wac_lsp.proofs.Common.{sym, ◌∙◌}
+use Rattle.std.proofs.Common.{sym, ◌∙◌}
 use Rattle.wac_lexer.proofs.Texts.{bytes_eq_is}
 use Rattle.wac_lsp.proofs.formatting.is_text.Goals as goal
 

@@ -1,4 +1,4 @@
-use Rattle.wac_lsp.proofs.Common.{sym, ◌∙◌}
+use Rattle.std.proofs.Common.{sym, ◌∙◌}
 use Rattle.wac_lsp.proofs.Edited.{same_after}
 use Rattle.wac_lsp.proofs.formatting.tested.Goals as goal
 

@@ -1,4 +1,4 @@
-use Rattle.wac_lsp_names.proofs.Common.{rules}
+use Rattle.std.proofs.Common.{rules}
 use Rattle.wac_lsp_names.proofs.Spans.{all_alike, one_more_alike}
 use Rattle.wac_lsp_names.proofs.occurrences.are_alike.Goals as goal
 

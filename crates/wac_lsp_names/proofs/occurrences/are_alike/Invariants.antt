@@ -1,4 +1,6 @@
-use Rattle.wac_lsp_names.proofs.Common.{take, All, IsAlike}
+use Rattle.std.proofs.Common.{take}
+use Rattle.std.specs.List.{All}
+use Rattle.wac_lsp_names.specs.Occurrences.{IsAlike}
 use Rattle.wac_lsp_names.proofs.occurrences.are_alike.Given as goal
 
 abbrev pub invariant-loop-span : goal.invariant-loop-span

@@ -1,4 +1,4 @@
-use Rattle.wac_lsp_names.proofs.Common.{rules}
+use Rattle.std.proofs.Common.{rules}
 use Rattle.wac_lsp_names.proofs.Spans.{bound_at}
 use Rattle.wac_lsp_names.proofs.occurrences.definition_at.Goals as goal
 

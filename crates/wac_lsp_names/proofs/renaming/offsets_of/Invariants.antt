@@ -1,4 +1,4 @@
-use Rattle.wac_lsp_names.proofs.Common.{◌≡◌, ◌∷◌, map, take}
+use Rattle.std.proofs.Common.{◌≡◌, ◌∷◌, map, take}
 use Rattle.wac_lsp_names.proofs.renaming.offsets_of.Given as goal
 
 abbrev pub invariant-loop-span : goal.invariant-loop-span

@@ -1,4 +1,5 @@
-use Rattle.wac_package_errors.proofs.Common.{◌<◌, length, AllByRecursion}
+use Rattle.std.proofs.Common.{◌<◌, length}
+use Rattle.std.specs.List.{AllByRecursion}
 use Rattle.wac_package_errors.proofs.mismatches.first_mismatch.Given as goal
 
 abbrev pub invariant-loop-id : goal.invariant-loop-id

@@ -1,4 +1,5 @@
-use Rattle.wac_package_errors.proofs.Common.{◌<◌, length, sym, subst, AllByRecursion}
+use Rattle.std.proofs.Common.{◌<◌, length, sym, subst}
+use Rattle.std.specs.List.{AllByRecursion}
 use Rattle.wac_package_errors.proofs.sources.source_of.Goals as goal
 
 pub loop-id-init : goal.loop-id-init

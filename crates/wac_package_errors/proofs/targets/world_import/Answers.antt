@@ -1,4 +1,10 @@
-use Rattle.wac_package_errors.proofs.Common.{◌∙◌, List, Option, sym, ap, subst, IfSome, Entry, ItemKind, world_imports, look_up, Names}
+use Rattle.std.proofs.Common.{◌∙◌, List, Option, sym, ap, subst}
+use Rattle.std.specs.Prelude.{IfSome}
+use Rattle.wac_graph_types.specs.declared.entry.Entry.{Entry}
+use Rattle.wac_graph_types.specs.declared.kind.ItemKind.{ItemKind}
+use Rattle.wac_graph_types.specs.Readings.{world_imports}
+use Rattle.wac_graph_types.specs.Scope.{look_up}
+use Rattle.wac_graph_types.specs.Table.{Names}
 use Rattle.wac_package_errors.proofs.EntriesNamed.{import_named}
 use Rattle.wac_package_errors.proofs.targets.world_import.Goals as goal
 

@@ -1,4 +1,4 @@
-use Rattle.wac_positions.proofs.Common.{ℕ, List, ◌∷◌, ap, length}
+use Rattle.std.proofs.Common.{ℕ, List, ◌∷◌, ap, length}
 use Rattle.wac_positions.proofs.Starts.{none_start}
 use Rattle.wac_positions.proofs.laws.texts_without_line_ends_have_one_line.Goals as goal
 

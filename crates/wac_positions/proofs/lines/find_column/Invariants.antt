@@ -1,4 +1,5 @@
-use Rattle.wac_positions.proofs.Common.{◌≡◌, ◌≤◌, ◌<◌, ◌*◌, ℕ, take, units, IsColumn}
+use Rattle.std.proofs.Common.{◌≡◌, ◌≤◌, ◌<◌, ◌*◌, ℕ, take}
+use Rattle.wac_positions.specs.Places.{units, IsColumn}
 use Rattle.wac_positions.proofs.lines.find_column.Given as goal
 
 abbrev pub invariant-loop-at : goal.invariant-loop-at

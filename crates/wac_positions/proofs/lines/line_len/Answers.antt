@@ -1,4 +1,6 @@
-use Rattle.wac_positions.proofs.Common.{◌≡◌, true, sym, arith, length, get_or, position_or_len_is, is_line_end}
+use Rattle.std.proofs.Common.{◌≡◌, true, sym, arith, length, get_or}
+use Rattle.std.proofs.lemmas.List.Sums.{position_or_len_is}
+use Rattle.wac_positions.specs.Lines.{is_line_end}
 use Rattle.wac_positions.proofs.lines.line_len.Goals as goal
 
 pub returns-then-is_line_end-clause-len : goal.returns-then-is_line_end-clause-len

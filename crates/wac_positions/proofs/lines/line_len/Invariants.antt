@@ -1,4 +1,5 @@
-use Rattle.wac_positions.proofs.Common.{◌≡◌, ◌<◌, ℕ, false, get_or, is_line_end}
+use Rattle.std.proofs.Common.{◌≡◌, ◌<◌, ℕ, false, get_or}
+use Rattle.wac_positions.specs.Lines.{is_line_end}
 use Rattle.wac_positions.proofs.lines.line_len.Given as goal
 
 abbrev pub invariant-loop-at : goal.invariant-loop-at

@@ -1,4 +1,5 @@
-use Rattle.wac_positions.proofs.Common.{◌≡◌, ◌++◌, drop, line_starts, starts_after}
+use Rattle.std.proofs.Common.{◌≡◌, ◌++◌, drop}
+use Rattle.wac_positions.specs.Lines.{line_starts, starts_after}
 use Rattle.wac_positions.proofs.lines.line_starts.Given as goal
 
 abbrev pub invariant-loop-at : goal.invariant-loop-at

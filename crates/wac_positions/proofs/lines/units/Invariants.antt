@@ -1,4 +1,5 @@
-use Rattle.wac_positions.proofs.Common.{◌≡◌, ◌≤◌, ◌*◌, take, units}
+use Rattle.std.proofs.Common.{◌≡◌, ◌≤◌, ◌*◌, take}
+use Rattle.wac_positions.specs.Places.{units}
 use Rattle.wac_positions.proofs.lines.units.Given as goal
 
 abbrev pub invariant-loop-byte : goal.invariant-loop-byte

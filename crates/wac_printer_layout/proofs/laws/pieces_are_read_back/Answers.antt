@@ -1,4 +1,5 @@
-use Rattle.wac_printer_layout.proofs.Common.{[], text}
+use Rattle.std.proofs.Common.{[]}
+use Rattle.wac_printer_layout.specs.Printed.{text}
 use Rattle.wac_printer_layout.proofs.Accepted.{text_accepted}
 use Rattle.wac_printer_layout.proofs.Bytes.{utf8_bytes}
 use Rattle.wac_printer_layout.proofs.ReadBack.{read_back}

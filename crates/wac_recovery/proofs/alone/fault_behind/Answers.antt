@@ -1,4 +1,6 @@
-use Rattle.wac_recovery.proofs.Common.{◌≡◌, subst, Slices, span}
+use Rattle.std.proofs.Common.{◌≡◌, subst}
+use Rattle.wac_lexer.specs.Reading.{Slices}
+use Rattle.wac_lexer.specs.Span.{span}
 use Rattle.wac_recovery.proofs.Standing.{before}
 use Rattle.wac_recovery.proofs.alone.fault_behind.Goals as goal
 

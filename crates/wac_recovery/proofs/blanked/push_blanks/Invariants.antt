@@ -1,4 +1,6 @@
-use Rattle.wac_recovery.proofs.Common.{◌≡◌, ◌++◌, take, map, string_bytes, blank}
+use Rattle.std.proofs.Common.{◌≡◌, ◌++◌, take}
+use Rattle.std.specs.Prelude.{map, string_bytes}
+use Rattle.wac_recovery.specs.Blanked.{blank}
 use Rattle.wac_recovery.proofs.blanked.push_blanks.Given as goal
 
 abbrev pub invariant-loop-byte : goal.invariant-loop-byte

@@ -1,4 +1,8 @@
-use Rattle.wac_recovery.proofs.Common.{◌≡◌, refl, subst, inl, inr, ◌-◌, arith, MatchOption, map, attempt_of, whole, IsFaultless, wrong_of, IsRound}
+use Rattle.std.proofs.Common.{◌≡◌, refl, subst, inl, inr, ◌-◌, arith}
+use Rattle.std.specs.Prelude.{MatchOption, map}
+use Rattle.wac_recovery.specs.Attempts.{attempt_of, whole}
+use Rattle.wac_recovery.specs.Faults.{IsFaultless, wrong_of}
+use Rattle.wac_recovery.specs.Recovered.{IsRound}
 use Rattle.wac_recovery.proofs.Rounds.{begins, ends, last_round, more_rounds, recovered}
 use Rattle.wac_recovery.proofs.recovery.find_faults.Goals as goal
 use Rattle.wac_recovery.proofs.recovery.find_faults.Goals.{In_ok-push}

@@ -1,4 +1,7 @@
-use Rattle.wac_recovery.proofs.Common.{◌-◌, map, attempt_of, whole, wrong_of}
+use Rattle.std.proofs.Common.{◌-◌}
+use Rattle.std.specs.Prelude.{map}
+use Rattle.wac_recovery.specs.Attempts.{attempt_of, whole}
+use Rattle.wac_recovery.specs.Faults.{wrong_of}
 use Rattle.wac_recovery.proofs.Rounds.{Continues}
 use Rattle.wac_recovery.proofs.recovery.find_faults.Given as goal
 

@@ -1,4 +1,5 @@
-use Rattle.wac_recovery.proofs.Common.{whole, left_of}
+use Rattle.wac_recovery.specs.Attempts.{whole}
+use Rattle.wac_recovery.specs.Recovered.{left_of}
 use Rattle.wac_recovery.proofs.Rounds.{most, none_found}
 use Rattle.wac_recovery.proofs.recovery.recover.Goals as goal
 

@@ -1,4 +1,5 @@
-use Rattle.wac_recovery.proofs.Common.{arith, rules, Slices}
+use Rattle.std.proofs.Common.{arith, rules}
+use Rattle.wac_lexer.specs.Reading.{Slices}
 use Rattle.wac_recovery.proofs.Rejecting.{refused_slices}
 use Rattle.wac_recovery.proofs.statements.part_at.Goals as goal
 

@@ -1,4 +1,9 @@
-use Rattle.wac_recovery.proofs.Common.{◌≡◌, ◌≤◌, ◌<◌, ◌+◌, ◌-◌, ◌∙◌, sym, ap, subst, length, arith, rules, Some, handed, behind_first, left, Slices, Span, end_of, after_item, ends, up_to, with_item, Begun}
+use Rattle.std.proofs.Common.{◌≡◌, ◌≤◌, ◌<◌, ◌+◌, ◌-◌, ◌∙◌, sym, ap, subst, length, arith, rules, Some}
+use Rattle.wac_lexer.specs.Item.{handed, behind_first}
+use Rattle.wac_lexer.specs.Reading.{left, Slices}
+use Rattle.wac_lexer.specs.Span.{Span, end_of}
+use Rattle.wac_recovery.specs.Statements.{after_item, ends, up_to, with_item}
+use Rattle.wac_recovery.specs.declared.statements.Begun.{Begun}
 use Rattle.wac_recovery.proofs.Stepping.{IsBegun, depth_within, ended_before, ended_slices, found_here, goes_on, still_begun}
 use Rattle.wac_recovery.proofs.statements.statement_among.Goals as goal
 use Rattle.wac_recovery.proofs.statements.statement_among.Goals.{After-ends}

@@ -1,5 +1,8 @@
-use Rattle.wac_recovery.proofs.Common.{◌≡◌, ◌≤◌, length, IfSome, None, left, statement_among}
+use Rattle.std.proofs.Common.{◌≡◌, ◌≤◌, length}
+use Rattle.std.specs.Prelude.{IfSome, None}
 use Rattle.wac_recovery.proofs.Stepping.{IsBegun}
+use Rattle.wac_lexer.specs.Reading.{left}
+use Rattle.wac_recovery.specs.Statements.{statement_among}
 use Rattle.wac_recovery.proofs.statements.statement_among.Given as goal
 
 abbrev pub invariant-loop-item : goal.invariant-loop-item

@@ -1,4 +1,4 @@
-use Rattle.wac_resolution.proofs.Common.{by_key, returned}
+use Rattle.wac_resolution.specs.Resolved.{by_key, returned}
 use Rattle.wac_resolution.proofs.Alike.{reread_same, same_alike, results_alike}
 use Rattle.wac_resolution.proofs.laws.formatting_changes_no_graph.Goals as goal
 

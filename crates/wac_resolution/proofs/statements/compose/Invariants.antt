@@ -1,4 +1,7 @@
-use Rattle.wac_resolution.proofs.Common.{map, take, statement_of, rules_of, StatementsRun}
+use Rattle.std.proofs.Common.{map, take}
+use Rattle.wac_ast.specs.Statements.{statement_of}
+use Rattle.wac_resolution_rules.specs.Given.{rules_of}
+use Rattle.wac_resolution.specs.Sequences.{StatementsRun}
 use Rattle.wac_resolution.proofs.statements.compose.Given as goal
 
 abbrev pub invariant-loop-next : goal.invariant-loop-next

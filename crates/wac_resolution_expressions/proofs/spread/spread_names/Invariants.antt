@@ -1,4 +1,7 @@
-use Rattle.wac_resolution_expressions.proofs.Common.{map, take, string_bytes, by_name, NamesSpread}
+use Rattle.std.proofs.Common.{map, take}
+use Rattle.std.specs.Prelude.{string_bytes}
+use Rattle.wac_graph_types.specs.Names.{by_name}
+use Rattle.wac_resolution_expressions.specs.Spreads.{NamesSpread}
 use Rattle.wac_resolution_expressions.proofs.spread.spread_names.Given as goal
 
 abbrev pub invariant-loop-name : goal.invariant-loop-name

@@ -1,4 +1,6 @@
-use Rattle.wac_resolution_externs.proofs.Common.{sym, err_from_is_err_and, exported_in}
+use Rattle.std.proofs.Common.{sym}
+use Rattle.std.proofs.lemmas.Result.{err_from_is_err_and}
+use Rattle.wac_resolution_externs.specs.Externs.{exported_in}
 use Rattle.wac_resolution_externs.proofs.Checks.{fresh_too}
 use Rattle.wac_resolution_externs.proofs.Exporting.{exports_as}
 use Rattle.wac_resolution_externs.proofs.export.export_as.Goals as goal

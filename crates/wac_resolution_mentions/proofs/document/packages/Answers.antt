@@ -1,8 +1,12 @@
-use Rattle.wac_resolution_mentions.proofs.Common.{◌≡◌, ◌∙◌, List, ap, map, subst, document_of, statement_of, AscendInTexts, first_mentions, mentioned_by, mentions_in, OnlyTheseMatter}
-use Rattle.std.proofs.Common.{sym}
+use Rattle.std.proofs.Common.{◌≡◌, ◌∙◌, List, ap, map, sym, subst}
 use Rattle.std.proofs.lemmas.Result.{IfOk-weaker}
+use Rattle.wac_ast.specs.Statements.{document_of, statement_of}
 use Rattle.wac_ast_statements.specs.Statements.{directive_of}
 use Rattle.wac_ast.specs.declared.statement.Statement.{Statement}
+use Rattle.wac_resolution_mentions.specs.Ascending.{AscendInTexts}
+use Rattle.wac_resolution_mentions.specs.FirstMentions.{first_mentions}
+use Rattle.wac_resolution_mentions.specs.Noted.{mentioned_by, mentions_in}
+use Rattle.wac_resolution_mentions.specs.Packages.{OnlyTheseMatter}
 use Rattle.wac_resolution_mentions.proofs.document.packages.Goals as goal
 
 pub returns-clause-matter : goal.returns-clause-matter

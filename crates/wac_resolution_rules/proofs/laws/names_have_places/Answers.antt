@@ -1,4 +1,4 @@
-use Rattle.wac_resolution_rules.proofs.Common.{imports}
+use Rattle.wac_resolution_rules.specs.Nodes.{imports}
 use Rattle.wac_resolution_rules.proofs.FirstFailing.{leads_composes}
 use Rattle.wac_resolution_rules.proofs.Places.{statements_have_places, has_place}
 use Rattle.wac_resolution_rules.proofs.laws.names_have_places.Goals as goal

@@ -1,5 +1,8 @@
-use Rattle.wac_tool.proofs.Common.{◌∙◌, inl, sym, ◌≢◌, printed, Check}
+use Rattle.std.proofs.Common.{◌∙◌, inl, sym}
+use Rattle.std.specs.Prelude.{◌≢◌}
 use Rattle.std.proofs.lemmas.Slice.Eq.{bytes_eq-Decides}
+use Rattle.wac_tool.specs.Running.{printed}
+use Rattle.wac_tool.specs.declared.command.Command.TheVariants.{Check}
 use Rattle.wac_tool.proofs.NoTree.{refuses}
 use Rattle.wac_tool.proofs.NotFormatted.{formatted, unformatted}
 use Rattle.wac_tool.proofs.checking.check.Goals as goal

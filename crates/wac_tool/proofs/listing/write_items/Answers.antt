@@ -1,4 +1,8 @@
-use Rattle.wac_tool.proofs.Common.{◌≡◌, ◌++◌, ◌∙◌, ap, refl, rules, arith, take, string_bytes, Err, alloc_error, left, item_lines, Memory}
+use Rattle.std.proofs.Common.{◌≡◌, ◌++◌, ◌∙◌, ap, refl, rules, arith, take, string_bytes, Err}
+use Rattle.std.specs.Prelude.{alloc_error}
+use Rattle.wac_lexer.specs.Reading.{left}
+use Rattle.wac_tool.specs.Running.{item_lines}
+use Rattle.wac_tool.specs.declared.error.RunError.TheVariants.{Memory}
 use Rattle.wac_tool.proofs.Faults.{not_listed}
 use Rattle.wac_tool.proofs.Fronts.{began_at}
 use Rattle.wac_tool.proofs.ItemLines.{item_lines-next, item_lines-none, lines_held, all_held, began, began_more, interrupted, ran_out}

@@ -1,4 +1,6 @@
-use Rattle.wac_tool.proofs.Common.{◌≡◌, ◌++◌, string_bytes, mentions_in, package_lines}
+use Rattle.std.proofs.Common.{◌≡◌, ◌++◌, string_bytes}
+use Rattle.wac_resolution_mentions.specs.Noted.{mentions_in}
+use Rattle.wac_tool.specs.Running.{package_lines}
 use Rattle.wac_tool.proofs.packages.keys.Given as goal
 
 -- the lines so far, and those of the keys that are left, are all lines

@@ -1,4 +1,4 @@
-use Rattle.wac_tool.proofs.Common.{Packages}
+use Rattle.wac_tool.specs.declared.command.Command.TheVariants.{Packages}
 use Rattle.wac_tool.proofs.NoTree.{rejects}
 use Rattle.wac_tool.proofs.packages.lines_of.Goals as goal
 

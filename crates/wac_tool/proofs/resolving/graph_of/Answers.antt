@@ -1,4 +1,5 @@
-use Rattle.wac_tool.proofs.Common.{inl, Resolve}
+use Rattle.std.proofs.Common.{inl}
+use Rattle.wac_tool.specs.declared.command.Command.TheVariants.{Resolve}
 use Rattle.wac_tool.proofs.GraphTexts.{has_graph, rejects_document}
 use Rattle.wac_tool.proofs.NoTree.{rejects}
 use Rattle.wac_tool.proofs.resolving.graph_of.Goals as goal

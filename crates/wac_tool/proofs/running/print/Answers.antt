@@ -1,4 +1,5 @@
-use Rattle.wac_tool.proofs.Common.{rules, document_of}
+use Rattle.std.proofs.Common.{rules}
+use Rattle.wac_ast.specs.Statements.{document_of}
 use Rattle.wac_tool.proofs.Printing.{began}
 use Rattle.wac_tool.proofs.running.print.Goals as goal
 

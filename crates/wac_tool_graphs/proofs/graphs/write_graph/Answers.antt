@@ -1,4 +1,7 @@
-use Rattle.wac_tool_graphs.proofs.Common.{ℕ, subst, Named, export_lines, Puts}
+use Rattle.std.proofs.Common.{ℕ, subst}
+use Rattle.wac_graph_types.specs.Scope.{Named}
+use Rattle.wac_tool_graphs.specs.Lines.{export_lines}
+use Rattle.wac_tool_graphs.specs.Puts.{Puts}
 use Rattle.wac_tool_graphs.proofs.Putting.{puts_after}
 use Rattle.wac_tool_graphs.proofs.graphs.write_graph.Goals as goal
 

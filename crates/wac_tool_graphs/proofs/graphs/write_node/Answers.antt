@@ -1,4 +1,10 @@
-use Rattle.wac_tool_graphs.proofs.Common.{◌≡◌, ◌++◌, ◌∙◌, ℕ, [], ap, subst, rules, Err, Option, Some, None, slice_get, Named, Parts, arguments_of, Node, arguments_in, argument_lines, Began, Puts}
+use Rattle.std.proofs.Common.{◌≡◌, ◌++◌, ◌∙◌, ℕ, [], ap, subst, rules, Err, Option, Some, None}
+use Rattle.std.specs.Prelude.{slice_get}
+use Rattle.wac_graph_types.specs.Scope.{Named}
+use Rattle.wac_graph.specs.Graph.{Parts, arguments_of}
+use Rattle.wac_graph.specs.Node.{Node, arguments_in}
+use Rattle.wac_tool_graphs.specs.Lines.{argument_lines}
+use Rattle.wac_tool_graphs.specs.Puts.{Began, Puts}
 use Rattle.wac_tool_graphs.proofs.NodeLines.{kind_is, fails_in_form, fails_in_kind, ends_node}
 use Rattle.wac_tool_graphs.proofs.graphs.write_node.Goals as goal
 

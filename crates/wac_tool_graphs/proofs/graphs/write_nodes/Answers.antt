@@ -1,4 +1,7 @@
-use Rattle.wac_tool_graphs.proofs.Common.{◌≡◌, ◌∙◌, ◌++◌, ◌∷◌, ◌<◌, ◌+◌, [], length, ap, subst, rules, Err, flat_map, AllByRecursion, Began, Puts}
+use Rattle.std.proofs.Common.{◌≡◌, ◌∙◌, ◌++◌, ◌∷◌, ◌<◌, ◌+◌, [], length, ap, subst, rules, Err}
+use Rattle.std.specs.Prelude.{flat_map}
+use Rattle.std.specs.List.{AllByRecursion}
+use Rattle.wac_tool_graphs.specs.Puts.{Began, Puts}
 use Rattle.wac_tool_graphs.proofs.NodeLines.{lines_at, at_lines, lines_by_number}
 use Rattle.wac_tool_graphs.proofs.Putting.{one_more, none_left, put_more, fails_in}
 use Rattle.wac_tool_graphs.proofs.graphs.write_nodes.Goals as goal

@@ -1,4 +1,8 @@
-use Rattle.wac_tool_graphs.proofs.Common.{◌≡◌, ◌<◌, ◌++◌, ℕ, List, length, flat_map, AllByRecursion, numbers, Naming}
+use Rattle.std.proofs.Common.{◌≡◌, ◌<◌, ◌++◌, ℕ, List, length}
+use Rattle.std.specs.Prelude.{flat_map}
+use Rattle.std.specs.List.{AllByRecursion}
+use Rattle.wac_graph.specs.Numbers.{numbers}
+use Rattle.wac_graph.specs.Origin.{Naming}
 use Rattle.wac_tool_graphs.proofs.NodeLines.{lines_at}
 use Rattle.wac_tool_graphs.proofs.graphs.write_nodes.Given as goal
 

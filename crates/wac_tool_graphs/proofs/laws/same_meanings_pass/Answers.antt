@@ -1,4 +1,4 @@
-use Rattle.wac_tool_graphs.proofs.Common.{meaning_discrete, equal_or-equal, equal_or-unequal}
+use Rattle.wac_graph_types.specs.Equality.{meaning_discrete, equal_or-equal, equal_or-unequal}
 use Rattle.wac_tool_graphs.proofs.laws.same_meanings_pass.Goals as goal
 
 pub returns-clause-equal : goal.returns-clause-equal

@@ -1,4 +1,5 @@
-use Rattle.wac_tool_graphs.proofs.Common.{◌+◌, ◌∙◌, ap, subst, Began}
+use Rattle.std.proofs.Common.{◌+◌, ◌∙◌, ap, subst}
+use Rattle.wac_tool_graphs.specs.Puts.{Began}
 use Rattle.wac_tool_graphs.proofs.Putting.{began_at}
 use Rattle.wac_tool_graphs.proofs.lines.put_each.Goals as goal
 

@@ -1,4 +1,5 @@
-use Rattle.wac_tool_graphs.proofs.Common.{◌≡◌, ◌++◌, take, flat_map}
+use Rattle.std.proofs.Common.{◌≡◌, ◌++◌, take}
+use Rattle.std.specs.Prelude.{flat_map}
 use Rattle.wac_tool_graphs.proofs.lines.put_each.Given as goal
 
 abbrev pub invariant-loop-part : goal.invariant-loop-part

@@ -1,4 +1,6 @@
-use Rattle.wac_tool_graphs.proofs.Common.{◌≡◌, ◌∙◌, ◌++◌, ◌∷◌, [], ℕ, List, ap, subst, rules, codes, Err, name_line, Began}
+use Rattle.std.proofs.Common.{◌≡◌, ◌∙◌, ◌++◌, ◌∷◌, [], ℕ, List, ap, subst, rules, codes, Err}
+use Rattle.wac_tool_graphs.specs.Lines.{name_line}
+use Rattle.wac_tool_graphs.specs.Puts.{Began}
 use Rattle.wac_tool_graphs.proofs.Putting.{one_more, put_more, fails_in}
 use Rattle.wac_tool_graphs.proofs.lines.write_names.Goals as goal
 

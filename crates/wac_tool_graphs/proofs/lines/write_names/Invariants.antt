@@ -1,4 +1,6 @@
-use Rattle.wac_tool_graphs.proofs.Common.{◌≡◌, ◌++◌, ℕ, List, flat_map, name_line}
+use Rattle.std.proofs.Common.{◌≡◌, ◌++◌, ℕ, List}
+use Rattle.std.specs.Prelude.{flat_map}
+use Rattle.wac_tool_graphs.specs.Lines.{name_line}
 use Rattle.wac_tool_graphs.proofs.lines.write_names.Given as goal
 
 abbrev pub invariant-loop-name : goal.invariant-loop-name

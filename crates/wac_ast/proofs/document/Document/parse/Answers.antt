@@ -1,4 +1,4 @@
-use Rattle.wac_ast.proofs.Common.{document_of}
+use Rattle.wac_ast.specs.Statements.{document_of}
 use Rattle.wac_ast.proofs.Documents.{is_found, is_only, is_one, is_error}
 use Rattle.wac_ast_grammar.proofs.Ordered.{is_sliced}
 use Rattle.wac_ast.proofs.document.Document.parse.Goals as goal

@@ -1,4 +1,5 @@
-use Rattle.wac_ast_uses.proofs.Common.{refl, include_item}
+use Rattle.std.proofs.Common.{refl}
+use Rattle.wac_ast_grammar.specs.Grammar.{include_item}
 use Rattle.wac_ast_base.proofs.Exits as x
 use Rattle.wac_ast_base.proofs.Yields as y
 use Rattle.wac_ast_uses.proofs.includes.WorldIncludeItemParse.parse.Goals as goal

@@ -1,5 +1,5 @@
 use Rattle.wac_ast_uses.proofs.Built.{include_built}
-use Rattle.wac_ast_uses.proofs.Common.{world_include}
+use Rattle.wac_ast_grammar.specs.Grammar.{world_include}
 use Rattle.wac_ast_base.proofs.Exits as x
 use Rattle.wac_ast_base.proofs.Yields as y
 use Rattle.wac_ast_uses.proofs.includes.WorldIncludeParse.parse.Goals as goal

@@ -1,4 +1,6 @@
-use Rattle.wac_ast_uses.proofs.Common.{refl, world_ref, looks}
+use Rattle.std.proofs.Common.{refl}
+use Rattle.wac_ast_grammar.specs.Grammar.{world_ref}
+use Rattle.wac_ast_base.proofs.Lookaheads.{looks}
 use Rattle.wac_ast_base.proofs.Exits as x
 use Rattle.wac_ast_base.proofs.Yields as y
 use Rattle.wac_ast_uses.proofs.includes.WorldRefParse.parse.Goals as goal

@@ -1,5 +1,5 @@
 use Rattle.wac_ast_uses.proofs.Built.{use_item_built}
-use Rattle.wac_ast_uses.proofs.Common.{use_item}
+use Rattle.wac_ast_grammar.specs.Grammar.{use_item}
 use Rattle.wac_ast_base.proofs.Exits as x
 use Rattle.wac_ast_base.proofs.Yields as y
 use Rattle.wac_ast_uses.proofs.uses.UseItemParse.parse.Goals as goal

@@ -1,4 +1,4 @@
-use Rattle.wac_ast_uses.proofs.Common.{use_statement}
+use Rattle.wac_ast_grammar.specs.Grammar.{use_statement}
 use Rattle.wac_ast_base.proofs.Exits as x
 use Rattle.wac_ast_base.proofs.Yields as y
 use Rattle.wac_ast_uses.proofs.uses.UseParse.parse.Goals as goal

@@ -1,4 +1,5 @@
-use Rattle.wac_component_rules.proofs.Common.{◌∙◌, ap, sym, component_names, no_name, unless}
+use Rattle.std.proofs.Common.{◌∙◌, ap, sym}
+use Rattle.wac_component_rules.specs.Fits.{component_names, no_name, unless}
 use Rattle.wac_component_rules.proofs.rules.ComponentRulesRules.extern_name.Goals as goal
 
 pub returns-then-is_extern_name : goal.returns-then-is_extern_name

@@ -1,4 +1,8 @@
-use Rattle.wac_component_rules.proofs.Common.{◌≡◌, ◌∙◌, List, None, Some, ap, subst, sym, Entry, meaning, component_passes, does_not_fit, fits, unless, seen}
+use Rattle.std.proofs.Common.{◌≡◌, ◌∙◌, List, None, Some, ap, subst, sym}
+use Rattle.wac_graph_types.specs.declared.entry.Entry.{Entry}
+use Rattle.wac_graph_types.specs.Meaning.{meaning}
+use Rattle.wac_component_rules.specs.Fits.{component_passes, does_not_fit, fits, unless}
+use Rattle.wac_component_rules.specs.Seen.{seen}
 use Rattle.wac_component_rules.proofs.rules.ComponentRulesRules.subtype.Goals as goal
 
 pub returns-then-fitting : goal.returns-then-fitting

@@ -1,4 +1,4 @@
-use Rattle.wac_components_bytes.proofs.Common.{arith, ◌∙◌}
+use Rattle.std.proofs.Common.{arith, ◌∙◌}
 use Rattle.wac_components_bytes.proofs.Groups.{below_weight, one_more, the_last}
 use Rattle.wac_components_bytes.proofs.reader.Reader.groups.Goals as goal
 

@@ -1,4 +1,5 @@
-use Rattle.wac_components_bytes.proofs.Common.{◌≡◌, ◌≤◌, unread}
+use Rattle.std.proofs.Common.{◌≡◌, ◌≤◌}
+use Rattle.wac_components_bytes.specs.Reading.{unread}
 use Rattle.wac_components_bytes.proofs.Groups.{Fronts}
 use Rattle.wac_components_bytes.proofs.reader.Reader.groups.Given as goal
 

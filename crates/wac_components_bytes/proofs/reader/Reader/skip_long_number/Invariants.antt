@@ -1,4 +1,4 @@
-use Rattle.wac_components_bytes.proofs.Common.{◌≡◌, ◌≤◌}
+use Rattle.std.proofs.Common.{◌≡◌, ◌≤◌}
 use Rattle.wac_components_bytes.proofs.reader.Reader.skip_long_number.Given as goal
 
 abbrev pub invariant-loop : goal.invariant-loop

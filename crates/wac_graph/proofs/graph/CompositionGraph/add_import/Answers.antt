@@ -1,4 +1,6 @@
-use Rattle.wac_graph.proofs.Common.{◌≡◌, rules, sym, subst, Parts, with_import, IsSound}
+use Rattle.std.proofs.Common.{◌≡◌, rules, sym, subst}
+use Rattle.wac_graph.specs.Graph.{Parts, with_import}
+use Rattle.wac_graph.specs.Sound.{IsSound}
 use Rattle.wac_graph.proofs.Sound.{sound_import}
 use Rattle.wac_graph.proofs.graph.CompositionGraph.add_import.Goals as goal
 

@@ -1,5 +1,10 @@
-use Rattle.wac_graph.proofs.Common.{◌≡◌, Option, rules, Some, sym, subst, slice_get, IfSome, HeldPackage, held_of, Parts, with_instantiation, IsSound}
+use Rattle.std.proofs.Common.{◌≡◌, Option, rules, Some, sym, subst}
+use Rattle.std.specs.Prelude.{slice_get, IfSome}
 use Rattle.wac_graph_types.specs.declared.kind.ItemKind.TheVariants as kinds
+use Rattle.wac_graph.specs.Package.{HeldPackage}
+use Rattle.wac_graph.specs.Readings.{held_of}
+use Rattle.wac_graph.specs.Graph.{Parts, with_instantiation}
+use Rattle.wac_graph.specs.Sound.{IsSound}
 use Rattle.wac_graph.proofs.Sound.{sound_instantiation}
 use Rattle.wac_graph.proofs.graph.CompositionGraph.add_instantiation.Goals as goal
 

@@ -1,4 +1,4 @@
-use Rattle.wac_graph.proofs.Common.{key_of}
+use Rattle.wac_graph.specs.Package.{key_of}
 use Rattle.wac_graph.proofs.Added.{adds_package}
 use Rattle.wac_graph.proofs.Origins.{keeps_package, keeps_types}
 use Rattle.wac_graph.proofs.graph.CompositionGraph.add_package.Goals as goal

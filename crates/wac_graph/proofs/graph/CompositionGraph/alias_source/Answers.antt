@@ -1,4 +1,8 @@
-use Rattle.wac_graph.proofs.Common.{◌≡◌, Some, slice_get, Parts, source_in, IsSoundNode}
+use Rattle.std.proofs.Common.{◌≡◌, Some}
+use Rattle.std.specs.Prelude.{slice_get}
+use Rattle.wac_graph.specs.Graph.{Parts}
+use Rattle.wac_graph.specs.Node.{source_in}
+use Rattle.wac_graph.specs.Sound.{IsSoundNode}
 use Rattle.wac_graph.proofs.Reading.{source_earlier, source_there}
 use Rattle.wac_graph.proofs.graph.CompositionGraph.alias_source.Goals as goal
 

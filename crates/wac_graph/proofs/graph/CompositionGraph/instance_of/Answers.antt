@@ -1,4 +1,8 @@
-use Rattle.wac_graph.proofs.Common.{◌≡◌, ◌∙◌, ◌<◌, Some, length, sym, subst, slice_get, option_map, IfSome, Parts, package_of, package_in, IsSoundNode}
+use Rattle.std.proofs.Common.{◌≡◌, ◌∙◌, ◌<◌, Some, length, sym, subst}
+use Rattle.std.specs.Prelude.{slice_get, option_map, IfSome}
+use Rattle.wac_graph.specs.Graph.{Parts, package_of}
+use Rattle.wac_graph.specs.Node.{package_in}
+use Rattle.wac_graph.specs.Sound.{IsSoundNode}
 use Rattle.wac_graph.proofs.Reading.{package_there, package_is, package_within}
 use Rattle.wac_graph.proofs.graph.CompositionGraph.instance_of.Goals as goal
 

@@ -1,4 +1,6 @@
-use Rattle.wac_graph.proofs.Common.{◌≡◌, rules, sym, subst, Parts, empty, IsSound}
+use Rattle.std.proofs.Common.{◌≡◌, rules, sym, subst}
+use Rattle.wac_graph.specs.Graph.{Parts, empty}
+use Rattle.wac_graph.specs.Sound.{IsSound}
 use Rattle.wac_graph.proofs.Sound.{sound_empty}
 use Rattle.wac_graph.proofs.graph.CompositionGraph.new.Goals as goal
 

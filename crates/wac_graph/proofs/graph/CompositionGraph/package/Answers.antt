@@ -1,4 +1,7 @@
-use Rattle.wac_graph.proofs.Common.{subst, Parts, IsHeld, held_of}
+use Rattle.std.proofs.Common.{subst}
+use Rattle.wac_graph.specs.Graph.{Parts}
+use Rattle.wac_graph.specs.Package.{IsHeld}
+use Rattle.wac_graph.specs.Readings.{held_of}
 use Rattle.wac_graph.proofs.graph.CompositionGraph.package.Goals as goal
 
 pub returns-clause-named : goal.returns-clause-named

@@ -1,4 +1,9 @@
-use Rattle.wac_graph.proofs.Common.{◌≡◌, ◌∙◌, List, sym, ap, subst, IsSome, IsFresh, Node, Parts, with_argument, parameter_kind, arguments_of, IsSound}
+use Rattle.std.proofs.Common.{◌≡◌, ◌∙◌, List, sym, ap, subst}
+use Rattle.std.specs.Prelude.{IsSome}
+use Rattle.wac_graph_types.specs.Scope.{IsFresh}
+use Rattle.wac_graph.specs.Node.{Node}
+use Rattle.wac_graph.specs.Graph.{Parts, with_argument, parameter_kind, arguments_of}
+use Rattle.wac_graph.specs.Sound.{IsSound}
 use Rattle.wac_graph.proofs.Reading.{parameter_instance}
 use Rattle.wac_graph.proofs.Sound.{sound_given}
 use Rattle.wac_graph.proofs.graph.CompositionGraph.set_argument.Goals as goal

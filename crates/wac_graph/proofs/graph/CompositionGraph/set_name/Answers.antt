@@ -1,4 +1,8 @@
-use Rattle.wac_graph.proofs.Common.{◌≡◌, ◌∙◌, ℕ, List, Some, sym, ap, subst, Node, Parts, with_name, changed_in, IsSound}
+use Rattle.std.proofs.Common.{◌≡◌, ◌∙◌, ℕ, List, Some, sym, ap, subst}
+use Rattle.wac_graph.specs.Node.{Node}
+use Rattle.wac_graph.specs.Graph.{Parts, with_name}
+use Rattle.wac_graph.specs.HeldNodes.{changed_in}
+use Rattle.wac_graph.specs.Sound.{IsSound}
 use Rattle.wac_graph.proofs.Sound.{sound_named}
 use Rattle.wac_graph.proofs.graph.CompositionGraph.set_name.Goals as goal
 

@@ -1,4 +1,7 @@
-use Rattle.wac_graph.proofs.Common.{◌∙◌, ℕ, List, [], ◌∷◌, ◌++◌, sym, ap, subst, Named, Node, AreIndexed}
+use Rattle.std.proofs.Common.{◌∙◌, ℕ, List, [], ◌∷◌, ◌++◌, sym, ap, subst}
+use Rattle.wac_graph_types.specs.Scope.{Named}
+use Rattle.wac_graph.specs.Node.{Node}
+use Rattle.wac_graph.specs.HeldNodes.{AreIndexed}
 use Rattle.wac_graph.proofs.Indexed.{plain_indexed}
 use Rattle.wac_graph.proofs.held_nodes.HeldNodes.push.Goals as goal
 

@@ -1,4 +1,10 @@
-use Rattle.wac_graph.proofs.Common.{◌≡◌, ◌∙◌, ◌<◌, Some, List, length, sym, ap, subst, slice_get, option_and_then, IsSome, IsFresh, stands, Node, package_in, is_alias_of, given_too, NodeList, arguments_at, changed_in}
+use Rattle.std.proofs.Common.{◌≡◌, ◌∙◌, ◌<◌, Some, List, length, sym, ap, subst}
+use Rattle.std.specs.Prelude.{slice_get, option_and_then, IsSome}
+use Rattle.wac_graph_types.specs.Scope.{IsFresh}
+use Rattle.wac_graph_types.proofs.Rows.{stands}
+use Rattle.wac_graph.specs.Node.{Node, package_in, is_alias_of}
+use Rattle.wac_graph.specs.Graph.{given_too}
+use Rattle.wac_graph.specs.HeldNodes.{NodeList, arguments_at, changed_in}
 use Rattle.wac_graph.proofs.Calls.{same_alias}
 use Rattle.wac_graph.proofs.Changed.{instance_there, instance_at, open_at, changed_here}
 use Rattle.wac_graph.proofs.Indexed.{changed_indexed}

@@ -1,4 +1,7 @@
-use Rattle.wac_graph_types.proofs.Common.{List, subst, Entry, by_name, IsPackage, FirstFault}
+use Rattle.std.proofs.Common.{List, subst}
+use Rattle.wac_graph_types.specs.declared.entry.Entry.{Entry}
+use Rattle.wac_graph_types.specs.Names.{by_name}
+use Rattle.wac_graph_types.specs.Package.{IsPackage, FirstFault}
 use Rattle.wac_graph_types.proofs.package.Package.new.Goals as goal
 
 pub returns-in-Err-clause-err : goal.returns-in-Err-clause-err

@@ -1,4 +1,4 @@
-use Rattle.wac_graph_types.proofs.Common.{slot_of}
+use Rattle.wac_graph_types.specs.Pairs.{slot_of}
 use Rattle.wac_graph_types.proofs.Remembered.{first_alone, zeros_alone}
 use Rattle.wac_graph_types.proofs.pairs.Pairs.new.Goals as goal
 

@@ -1,5 +1,8 @@
-use Rattle.wac_graph_types.proofs.Common.{◌≡◌, ◌∙◌, List, subst, Entry, meaning, contains_borrow}
+use Rattle.std.proofs.Common.{◌≡◌, ◌∙◌, List, subst}
+use Rattle.wac_graph_types.specs.declared.entry.Entry.{Entry}
 use Rattle.wac_graph_types.specs.declared.kind.ItemKind.TheVariants as kinds
+use Rattle.wac_graph_types.specs.Meaning.{meaning}
+use Rattle.wac_graph_types.specs.Shape.{contains_borrow}
 use Rattle.wac_graph_types.proofs.Borrowing.{known_of}
 use Rattle.wac_graph_types.proofs.types.Types.contains_borrow.Goals as goal
 

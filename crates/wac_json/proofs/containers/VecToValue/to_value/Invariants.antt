@@ -1,4 +1,5 @@
-use Rattle.wac_json.proofs.Common.{◌≡◌, map, take, view}
+use Rattle.std.specs.Prelude.{◌≡◌, map, take}
+use Rattle.serde_json.specs.View.{view}
 use Rattle.wac_json.proofs.containers.VecToValue.to_value.Given as goal
 
 abbrev pub invariant-loop-item : goal.invariant-loop-item

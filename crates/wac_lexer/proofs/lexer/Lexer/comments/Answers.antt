@@ -1,4 +1,4 @@
-use Rattle.wac_lexer.proofs.Common.{left}
+use Rattle.wac_lexer.specs.Reading.{left}
 use Rattle.wac_lexer.proofs.Unfolded.{first_docs}
 use Rattle.wac_lexer.proofs.lexer.Lexer.comments.Goals as goal
 

@@ -1,4 +1,4 @@
-use Rattle.wac_lexer.proofs.Common.{left}
+use Rattle.wac_lexer.specs.Reading.{left}
 use Rattle.wac_lexer.proofs.Ahead.{second_handed}
 use Rattle.wac_lexer.proofs.lexer.Lexer.peek2.Goals as goal
 

@@ -1,7 +1,7 @@
-use Rattle.wac_lexer.proofs.Common.{sym, ◌∙◌, ap, Some, refl, Word, Quoted}
+use Rattle.std.proofs.Common.{sym, ◌∙◌, ap, Some, refl}
 use Rattle.wac_lexer.proofs.Texts.{word_found, word_not_found, symbol_found, symbol_is_found, other_not_found}
 use Rattle.wac_lexer.proofs.Fronts.{token_fixed, token_plain}
-use Rattle.wac_lexer.specs.declared.shape.Shape.TheVariants.{Name, Path}
+use Rattle.wac_lexer.specs.declared.shape.Shape.TheVariants.{Word, Name, Path, Quoted}
 use Rattle.wac_lexer.proofs.lexer.items.token_of.Goals as goal
 
 pub returns-in-Some : goal.returns-in-Some

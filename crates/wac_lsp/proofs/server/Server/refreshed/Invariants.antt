@@ -1,4 +1,5 @@
-use Rattle.wac_lsp.proofs.Common.{◌≡◌, [], AreReplies, replies}
+use Rattle.std.proofs.Common.{◌≡◌, []}
+use Rattle.wac_lsp.specs.Replies.{AreReplies, replies}
 use Rattle.wac_lsp.proofs.server.Server.refreshed.Given as goal
 
 abbrev pub invariant-loop-document : goal.invariant-loop-document

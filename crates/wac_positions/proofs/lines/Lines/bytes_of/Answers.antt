@@ -1,5 +1,5 @@
-use Rattle.wac_positions.proofs.Common.{arith, ◌≡◌, ◌∙◌, ◌≤◌, ℕ, List, subst, sym, length, line_starts}
-use Rattle.std.proofs.Common.{slice_index}
+use Rattle.std.proofs.Common.{arith, ◌≡◌, ◌∙◌, ◌≤◌, ℕ, List, subst, sym, length, slice_index}
+use Rattle.wac_positions.specs.Lines.{line_starts}
 use Rattle.wac_positions.proofs.Starts.{stop_within}
 use Rattle.wac_positions.proofs.lines.Lines.bytes_of.Goals as goal
 

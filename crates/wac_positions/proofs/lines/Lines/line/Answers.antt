@@ -1,4 +1,5 @@
-use Rattle.wac_positions.proofs.Common.{ℕ, List, subst, sym, IsCharBoundary, IsUtf8}
+use Rattle.std.proofs.Common.{ℕ, List, subst, sym}
+use Rattle.std.specs.Str.{IsCharBoundary, IsUtf8}
 use Rattle.wac_positions.proofs.Starts.{begins_boundary}
 use Rattle.wac_positions.proofs.lines.Lines.line.Goals as goal
 

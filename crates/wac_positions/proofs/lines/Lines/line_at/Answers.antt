@@ -1,7 +1,9 @@
-use Rattle.wac_positions.proofs.Common.{rules, arith, of_calls, ◌≡◌, ◌≤◌, ◌+◌, ◌-◌, ◌∙◌, ℕ, List, true, false, ap, subst, length, sym, IsPartitionPoint, IsPartitionedBy, line_starts, line_at}
-use Rattle.std.proofs.Common.{slice_index}
+use Rattle.std.proofs.Common.{rules, arith, of_calls, ◌≡◌, ◌≤◌, ◌+◌, ◌-◌, ◌∙◌, ℕ, List, true, false, ap, subst, slice_index, length, sym}
 use Rattle.std.proofs.lemmas.List.Sorted.{IsPartitionedBy-leb, IsPartitionPoint-from_clause}
+use Rattle.std.specs.List.Sorted.{IsPartitionPoint, IsPartitionedBy}
 use lib.Dec.{leb}
+use Rattle.wac_positions.specs.Lines.{line_starts}
+use Rattle.wac_positions.specs.Places.{line_at}
 use Rattle.wac_positions.proofs.LinesAt.{line_found, line_there, line_begins}
 use Rattle.wac_positions.proofs.Starts.{starts_rise}
 use Rattle.wac_positions.proofs.lines.Lines.line_at.Goals as goal

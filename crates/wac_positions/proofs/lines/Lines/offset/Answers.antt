@@ -1,4 +1,6 @@
-use Rattle.wac_positions.proofs.Common.{arith, ◌≡◌, ◌∙◌, ◌+◌, ℕ, List, Some, inl, inr, ap, sym, subst, length, cases_lt, place_at}
+use Rattle.std.proofs.Common.{arith, ◌≡◌, ◌∙◌, ◌+◌, ℕ, List, Some, inl, inr, ap, sym, subst, length}
+use Rattle.std.proofs.lemmas.Bool.{cases_lt}
+use Rattle.wac_positions.specs.Places.{place_at}
 use Rattle.wac_positions.proofs.Columns.{one_column}
 use Rattle.wac_positions.proofs.PlacesAt.{AtColumn, place, place_of_offset, column_boundary, denoted}
 use Rattle.wac_positions.proofs.lines.Lines.offset.Goals as goal

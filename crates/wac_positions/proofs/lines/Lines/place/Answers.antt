@@ -1,5 +1,8 @@
-use Rattle.wac_positions.proofs.Common.{arith, ◌≡◌, ◌∙◌, ◌≤◌, ◌-◌, ℕ, List, inl, inr, ap, sym, subst, take, drop, slice_index_or, cases_lt, get_or_default, line_starts, place_at, IsNearest}
-use Rattle.std.proofs.Common.{slice_index}
+use Rattle.std.proofs.Common.{arith, ◌≡◌, ◌∙◌, ◌≤◌, ◌-◌, ℕ, List, inl, inr, ap, sym, subst, take, drop, slice_index, slice_index_or}
+use Rattle.std.proofs.lemmas.Bool.{cases_lt}
+use Rattle.std.proofs.lemmas.List.{get_or_default}
+use Rattle.wac_positions.specs.Lines.{line_starts}
+use Rattle.wac_positions.specs.Places.{place_at, IsNearest}
 use Rattle.wac_positions.proofs.PlacesAt.{place, place_is, between}
 use Rattle.wac_positions.proofs.lines.Lines.place.Goals as goal
 

@@ -1,4 +1,5 @@
-use Rattle.wac_positions.proofs.Common.{arith, ◌≡◌, ◌∙◌, ap, length, line_starts}
+use Rattle.std.proofs.Common.{arith, ◌≡◌, ◌∙◌, ap, length}
+use Rattle.wac_positions.specs.Lines.{line_starts}
 use Rattle.wac_positions.proofs.lines.Lines.stop.Goals as goal
 
 pub overflow_add-number : goal.overflow_add-number

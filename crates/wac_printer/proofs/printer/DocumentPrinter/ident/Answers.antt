@@ -1,4 +1,4 @@
-use Rattle.wac_printer.proofs.Common.{IdentSliced}
+use Rattle.wac_printer.specs.Sliced.{IdentSliced}
 use Rattle.wac_printer.proofs.printer.DocumentPrinter.ident.Goals as goal
 
 pub spelled-requires : goal.spelled-requires

@@ -1,4 +1,4 @@
-use Rattle.wac_printer.proofs.Common.{PackageNameSliced}
+use Rattle.wac_printer.specs.Sliced.{PackageNameSliced}
 use Rattle.wac_printer.proofs.printer.DocumentPrinter.package_name.Goals as goal
 
 pub spelled-requires : goal.spelled-requires

@@ -1,4 +1,4 @@
-use Rattle.wac_printer.proofs.Common.{PackagePathSliced}
+use Rattle.wac_printer.specs.Sliced.{PackagePathSliced}
 use Rattle.wac_printer.proofs.printer.DocumentPrinter.package_path.Goals as goal
 
 pub spelled-requires : goal.spelled-requires

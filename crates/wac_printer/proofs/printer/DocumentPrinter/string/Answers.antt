@@ -1,4 +1,4 @@
-use Rattle.wac_printer.proofs.Common.{StringSliced}
+use Rattle.wac_printer.specs.Sliced.{StringSliced}
 use Rattle.wac_printer.proofs.printer.DocumentPrinter.string.Goals as goal
 
 pub spelled-requires : goal.spelled-requires

@@ -1,4 +1,6 @@
-use Rattle.wac_printer_pieces.proofs.Common.{ap, ◌∙◌, times, Printer}
+use Rattle.std.proofs.Common.{ap, ◌∙◌}
+use Rattle.wac_printer_layout.specs.Printed.{times}
+use Rattle.wac_printer_pieces.specs.Printed.{Printer}
 use Rattle.wac_printer_pieces.proofs.Indentation.{at_once, prints_same}
 use Rattle.wac_printer_pieces.proofs.pieces.Pieces.indentation.Goals as goal
 

@@ -1,4 +1,5 @@
-use Rattle.wac_printer_pieces.proofs.Common.{◌≡◌, false, after, spaces}
+use Rattle.std.proofs.Common.{◌≡◌, false}
+use Rattle.wac_printer_pieces.specs.Printed.{after, spaces}
 use Rattle.wac_printer_pieces.proofs.pieces.Pieces.many.Given as goal
 
 abbrev pub invariant-space : goal.invariant-space

@@ -1,4 +1,6 @@
-use Rattle.wac_tool_graphs.proofs.Common.{refl, meaning, meaning_discrete, equal_or-equal, equal_or-unequal}
+use Rattle.std.proofs.Common.{refl}
+use Rattle.wac_graph_types.specs.Meaning.{meaning}
+use Rattle.wac_graph_types.specs.Equality.{meaning_discrete, equal_or-equal, equal_or-unequal}
 use Rattle.wac_tool_graphs.proofs.rules.SameRulesRules.subtype.Goals as goal
 
 pub returns-then-same : goal.returns-then-same

@@ -1,6 +1,13 @@
-use Rattle.wac_lexer.proofs.Common.{◌≡◌, length, sym, ap, ◌∙◌, subst, Some, None, Option, ℕ, Err, false, get_or, arith, ◌<◌, UnexpectedToken, IsCharBoundary, opens, token_of, longest_token, longest, shape_of, Shape, first_item}
+use Rattle.std.proofs.Common.{◌≡◌, length, sym, ap, ◌∙◌, subst, Some, None, Option, ℕ, Err, false, get_or, arith, ◌<◌}
+use Rattle.wac_lexer.specs.declared.error.Error.TheVariants.{UnexpectedToken}
+use Rattle.std.specs.Str.{IsCharBoundary}
+use Rattle.wac_lexer.specs.Comments.{opens}
+use Rattle.wac_lexer.specs.Tokens.{token_of, longest_token}
+use Rattle.wac_lexer.specs.Front.{longest}
+use Rattle.wac_lexer.specs.Shapes.{shape_of}
+use Rattle.wac_lexer.specs.declared.shape.Shape.{Shape}
 use Rattle.wac_lexer.proofs.Fronts.{Fronts, fronts, front_boundary, first_item_is, fault_quote, fault_other, boundary_after_ascii}
-use Rattle.wac_lexer.specs.Items.{fault_of}
+use Rattle.wac_lexer.specs.Items.{first_item, fault_of}
 use Rattle.wac_lexer.proofs.Boundaries.{ne_zero}
 use Rattle.wac_lexer.proofs.lexer.items.Scanner.first_item.Goals as goal
 use Rattle.wac_lexer.proofs.lexer.items.Scanner.first_item.Goals.{After-longest_front}

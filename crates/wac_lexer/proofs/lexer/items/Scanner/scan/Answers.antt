@@ -1,4 +1,10 @@
-use Rattle.wac_lexer.proofs.Common.{arith, ◌≡◌, ◌+◌, ◌<◌, ◌^◌, [], ◌∷◌, ap, sym, ◌∙◌, subst, drop, Some, IsCharBoundary, IsCharBoundary-from_rest, span, end_of, handed, first_item, items_from, Slices}
+use Rattle.std.proofs.Common.{arith, ◌≡◌, ◌+◌, ◌<◌, ◌^◌, [], ◌∷◌, ap, sym, ◌∙◌, subst, drop, Some}
+use Rattle.std.specs.Str.{IsCharBoundary}
+use Rattle.std.proofs.lemmas.Str.{IsCharBoundary-from_rest}
+use Rattle.wac_lexer.specs.Span.{span, end_of}
+use Rattle.wac_lexer.specs.Item.{handed}
+use Rattle.wac_lexer.specs.Items.{first_item, items_from}
+use Rattle.wac_lexer.specs.Reading.{Slices}
 use Rattle.wac_lexer.proofs.Unfolded.{made, items_none, items_some}
 use Rattle.wac_lexer.proofs.lexer.items.Scanner.scan.Goals as goal
 use Rattle.wac_lexer.proofs.lexer.items.Scanner.scan.Goals.{After-from_residual, After-new}
