@@ -98,7 +98,8 @@ exports.activate = async ({ subscriptions }) => {
     });
     const folders = (vscode.workspace.workspaceFolders ?? []).map(({ uri, name }) => ({ uri: uri.toString(), name }));
     const rootUri = folders.length ? folders[0].uri : null;
-    const initializationOptions = { errorsPage: settings.get('errorsPage') };
+    // A setting without a value is an empty text.
+    const initializationOptions = { errorsPage: settings.get('errorsPage') || undefined };
     const client = { processId: process.pid, rootUri, workspaceFolders: folders, initializationOptions };
     await server.request('initialize', { ...client, capabilities: {} });
     server.notify('initialized', {});
