@@ -1,19 +1,10 @@
 -- The clauses of parsing a text, from what reading its items gives.
 use Rattle.std.proofs.Common.{◌≡◌, ℕ, List, [], Option, Some, None, Result, Ok, Err, refl, sym as back, ap, subst, ◌∙◌, ◌⊎◌, inl, inr}
-use Rattle.std.specs.Prelude.{IfOk, IfErr, MatchResult, alloc_error}
-use Rattle.std.proofs.lemmas.List.{append-nil}
-use Rattle.wac_lexer.specs.Span.{Span}
-use Rattle.wac_lexer.specs.Item.{Item}
-use Rattle.wac_lexer.specs.Items.{items}
+use Rattle.wac_ast.proofs.Common.{IfOk, IfErr, MatchResult, alloc_error, append-nil, Span, Item, items, Document, document, Derives, read, Error, told_in}
 use Rattle.wac_lexer.specs.declared.error.Error.{Error as Fault}
-use Rattle.wac_ast_grammar.specs.Tree.{Document}
-use Rattle.wac_ast_grammar.specs.Grammar.{document, Derives}
-use Rattle.wac_ast_grammar.specs.Reading.{read}
 use Rattle.wac_ast_grammar.specs.TextTree.{IsTreeOf}
-use Rattle.wac_ast_base.specs.declared.error.Error.{Error}
 use Rattle.wac_ast_base.specs.declared.error.Error.TheVariants as errors
 use Rattle.wac_ast_base.specs.Error.{told_by}
-use Rattle.wac_ast_base.specs.Answer.{told_in}
 use Rattle.wac_ast_base.specs.FirstFault.{TellsFirstFault}
 use Rattle.wac_ast.specs.Document.{ErrorOf, end_of_text, refused_or, Parses}
 use Rattle.wac_ast_grammar.proofs.Complete.{complete, tree_or}

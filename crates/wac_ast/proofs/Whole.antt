@@ -1,16 +1,6 @@
 -- Parsing a whole text.
-use Rattle.std.proofs.Common.{◌≡◌, ℕ, List, [], ◌∷◌, None, Result, Ok, Err, false, refl, sym, ap, ◌∙◌, inl, inr}
-use Rattle.std.specs.Prelude.{OnOk}
-use Rattle.wac_lexer.specs.Span.{Span, span}
-use Rattle.wac_lexer.specs.Item.{Item}
-use Rattle.wac_lexer.specs.Items.{items}
+use Rattle.wac_ast.proofs.Common.{◌≡◌, ℕ, List, [], ◌∷◌, None, Result, Ok, Err, false, refl, sym, ap, ◌∙◌, inl, inr, OnOk, Span, span, Item, items, Reading, left, Error, End, end_of_input, Gives, has_more, final_span, told_in, Document, document, read}
 use Rattle.wac_lexer.specs.Characters.{refused}
-use Rattle.wac_lexer.specs.Reading.{Reading, left}
-use Rattle.wac_ast_base.specs.declared.error.Error.{Error}
-use Rattle.wac_ast_base.specs.Answer.{End, end_of_input, Gives, has_more, final_span, told_in}
-use Rattle.wac_ast_grammar.specs.Tree.{Document}
-use Rattle.wac_ast_grammar.specs.Grammar.{document}
-use Rattle.wac_ast_grammar.specs.Reading.{read}
 use Rattle.wac_ast.specs.Document.{end_of_text, Parses}
 
 same_end : (x y : End) → x.source ≡ y.source → x.final ≡ y.final → x ≡ y

@@ -1,19 +1,14 @@
 -- Where a production stops: after the parts that were read, one step per part.
 use Rattle.std.proofs.Common.{◌≡◌, Bool, true, false, cond, ◌⊎◌, inl, inr, Some, List, [], ◌∷◌, ◌++◌, map, Result, Ok, Err, sym as back, refl, subst, ap, ◌∙◌}
-use Rattle.std.specs.Prelude.{IsErrAnd}
-use Rattle.wac_lexer.specs.declared.token.Token.{Token}
-use Rattle.wac_lexer.specs.Item.{Item}
-use Rattle.wac_lexer.specs.Reading.{Reading, left}
+use Rattle.wac_ast_base.proofs.Common.{IsErrAnd, Token, Item, Reading, left, Sym, TreeOf, Parts, Grammar, token, then, either, optional, docs, rule, at, read_is}
 use Rattle.wac_ast_base.specs.declared.error.Error.{Error}
-use Rattle.wac_ast_grammar.specs.Grammar.{Sym, TreeOf, Parts, Grammar, token, sym, then, either, optional, docs, rule}
+use Rattle.wac_ast_grammar.specs.Grammar.{sym}
 use Rattle.wac_ast_grammar.specs.Reading.{Stop, Tried, can, refuse, read, read_in, read_token, at_one_of, not_fault, first, begins, other as why_other}
-use Rattle.wac_ast_grammar.specs.Tokens.{at}
 use Rattle.wac_ast_base.specs.Error.{told_by, no_memory}
 use Rattle.wac_ast_base.specs.Lookahead.{Looked, looked, tried, told_of, Peeks}
 use Rattle.wac_ast_base.specs.Lists.{tells}
 use Rattle.wac_ast_base.specs.Answer.{End, end_of_input, told, plain, Fails, Gives, TakesOptional}
 use Rattle.wac_ast_base.specs.Pieces.{PartOf, GivesPart}
-use Rattle.wac_ast_grammar.proofs.Fixed.{read_is}
 use Rattle.wac_ast_base.proofs.Loops.{fails_bind}
 use Rattle.wac_ast_base.proofs.Lookaheads.{Looks, tests, looks_on, looks_fail, one_test}
 use Rattle.wac_ast_base.proofs.Lists.{never_fails}

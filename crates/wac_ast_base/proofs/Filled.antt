@@ -1,11 +1,8 @@
 -- Bodies that may not be empty.
 use Rattle.std.proofs.Common.{◌≡◌, List, [], ◌∷◌, Some, inr, Ok, true, false, refl, ap, sym as back, ◌∙◌}
-use Rattle.wac_lexer.specs.Item.{Item}
-use Rattle.wac_lexer.specs.Reading.{Reading, left}
+use Rattle.wac_ast_base.proofs.Common.{Item, Reading, left, at, Sym, TreeOf, Parts, Grammar, Body, not_empty}
 use Rattle.wac_lexer.specs.declared.token.Token.TheVariants as t
 use Rattle.wac_ast_base.specs.declared.error.Error.{Error}
-use Rattle.wac_ast_grammar.specs.Tokens.{at}
-use Rattle.wac_ast_grammar.specs.Grammar.{Sym, TreeOf, Parts, Grammar, Body, not_empty}
 use Rattle.wac_ast_grammar.specs.Grammar as g
 use Rattle.wac_ast_grammar.specs.Reading.{read, read_in, read_token, closes as closing}
 use Rattle.wac_ast_base.specs.Error.{told_by, empty_type}

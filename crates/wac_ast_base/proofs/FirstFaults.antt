@@ -1,15 +1,9 @@
 -- What is reported of a rejection, from where reading its part stopped.
 use Rattle.std.proofs.Common.{◌≡◌, suc, List, [], ◌∷◌, ◌++◌, length, map, take, Option, Some, None, Result, Ok, Err, Bool, true, false, cond, refl, sym as back, ap, subst, ◌∙◌, ◌⊎◌, inl, inr, arith}
-use Rattle.std.specs.Prelude.{alloc_error}
+use Rattle.wac_ast_base.proofs.Common.{alloc_error, Span, Item, Reading, left, Token, is_token, at, Sym, argument, Body, TreeOf}
 use Rattle.std.proofs.lemmas.List.{append-nil}
-use Rattle.wac_lexer.specs.Span.{Span}
-use Rattle.wac_lexer.specs.Item.{Item}
-use Rattle.wac_lexer.specs.Reading.{Reading, left}
-use Rattle.wac_lexer.specs.declared.token.Token.{Token}
 use Rattle.wac_lexer.specs.declared.token.Token.TheVariants as t
 use Rattle.wac_lexer.specs.declared.error.Error.{Error as Fault}
-use Rattle.wac_ast_grammar.specs.Tokens.{is_token, at}
-use Rattle.wac_ast_grammar.specs.Grammar.{Sym, argument, Body, TreeOf}
 use Rattle.wac_ast_grammar.specs.Reading.{Standing, at_once, closing, behind_comma, Tried, can, Stop, Why, other, version, empty_body, told as told_of_item, before, read}
 use Rattle.wac_ast_grammar.specs.Viable.{Viable}
 use Rattle.wac_ast_grammar.specs.Possible.{same_standing, named}

@@ -1,3 +1,4 @@
+pub mod Common
 pub mod Places
 pub mod Lookaheads
 pub mod Taken

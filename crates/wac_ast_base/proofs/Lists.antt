@@ -1,23 +1,16 @@
 -- Loops over the items of a list.
 use Rattle.std.proofs.Common.{◌≡◌, ◌≤◌, ◌<◌, arith, ℕ, List, [], ◌∷◌, ◌++◌, length, map, Result, Ok, Err, Some, Bool, true, false, cond, refl, sym as back, ap, subst, ◌∙◌, inl, inr, append_assoc}
 use Rattle.std.proofs.lemmas.List.{append-nil}
-use Rattle.wac_lexer.specs.Item.{Item}
-use Rattle.wac_lexer.specs.Span.{Span}
-use Rattle.wac_lexer.specs.Reading.{Reading, left}
-use Rattle.wac_lexer.specs.declared.token.Token.{Token}
+use Rattle.wac_ast_base.proofs.Common.{Item, Span, Reading, left, Token, is_token, at, valid, Sym, Listed, listed, listed_more, IsErrAnd, read_is, takes_some}
 use Rattle.wac_lexer.specs.declared.token.Token.TheVariants as t
 use Rattle.wac_ast_base.specs.declared.error.Error.{Error}
-use Rattle.wac_ast_grammar.specs.Tokens.{is_token, at, valid}
-use Rattle.wac_ast_grammar.specs.Grammar.{Sym, Listed, listed, listed_more}
 use Rattle.wac_ast_grammar.specs.Grammar as g
 use Rattle.wac_ast_grammar.specs.Reading.{Stop, can, closes as closing, follows, version, refuse, mapped, two, pair_with, read, read_in, read_token, read_sym, at_one_of, begins, empty}
 use Rattle.wac_ast_base.specs.Answer.{End, end_of_input, told, told_in, Fails, has_more, plain}
-use Rattle.std.specs.Prelude.{IsErrAnd}
 use Rattle.wac_ast_base.specs.Error.{told_by}
 use Rattle.wac_ast_base.specs.Lookahead.{looked, tried, told_of}
 use Rattle.wac_ast_base.proofs.Lookaheads.{no_item_fails, over_fails}
 use Rattle.wac_ast_base.specs.Lists.{GivesBy, TakesListBy, GoesOn, Reads, list_by, rest_by, IsCommaList, IsList, unclosed, closes, list_of, more_of, repeats, body_of}
-use Rattle.wac_ast_grammar.proofs.Fixed.{read_is, takes_some}
 use Rattle.wac_ast_base.proofs.Loops.{fails_bind}
 
 pub same_fails : {A : Type 0} (e : Error) (end : End) (m n : Result A Stop) → m ≡ n → Fails e end n → Fails e end m

@@ -1,18 +1,11 @@
 -- Where none of the tokens that were tried is next.
-use Rattle.std.proofs.Common.{◌≡◌, ℕ, suc, Bool, true, false, ◌||◌, cond, if◌then◌else◌, ◌<◌, ◌≤◌, ◌+◌, drop, get_or, ◌^◌, ◌-◌, min, arith, zero, ltb, append_assoc, List, [], ◌∷◌, ◌++◌, map, take, length, Option, Some, None, Result, Ok, Err, inr, refl, sym, ap, subst, ◌∙◌}
+use Rattle.wac_ast_base.proofs.Common.{◌≡◌, ℕ, suc, Bool, true, false, ◌||◌, cond, if◌then◌else◌, ◌<◌, ◌≤◌, ◌+◌, drop, ◌^◌, ◌-◌, min, arith, zero, ltb, append_assoc, List, [], ◌∷◌, ◌++◌, map, take, length, Option, Some, None, Result, Ok, Err, inr, refl, ap, subst, ◌∙◌, ltb-true, Span, Item, Handed, handed, Reading, left, shown, Token, at, Sym, Stop, Tried, can, follows, begins, at_one_of, refuse}
+use Rattle.std.proofs.Common.{get_or, sym}
 use Rattle.std.proofs.Math.Seq.{drop-cons}
-use Rattle.std.proofs.lemmas.Bool.{ltb-true}
 use Rattle.std.proofs.lemmas.List.{append-nil}
-use Rattle.wac_lexer.specs.Span.{Span}
-use Rattle.wac_lexer.specs.Item.{Item, Handed, handed}
-use Rattle.wac_lexer.specs.Reading.{Reading, left, shown}
-use Rattle.wac_lexer.specs.declared.token.Token.{Token}
 use Rattle.wac_lexer.specs.declared.error.Error.{Error as LexError}
 use Rattle.wac_ast_base.specs.declared.error.Error.{Error}
-use Rattle.wac_ast_grammar.specs.Tokens.{at}
 use Rattle.wac_ast_grammar.specs.Grammar as g
-use Rattle.wac_ast_grammar.specs.Grammar.{Sym}
-use Rattle.wac_ast_grammar.specs.Reading.{Stop, Tried, can, follows, begins, at_one_of, refuse}
 use Rattle.wac_ast_base.specs.Error.{Told, told_by, expected}
 use Rattle.wac_ast_base.specs.Lookahead.{Looked, looked, is_next, is_one_of, tried, refusal, told_of, peeked, Peeks}
 use Rattle.wac_ast_base.specs.Lists.{tells}

@@ -1,13 +1,10 @@
 -- Loops: what was read so far, with what reading gives of the rest, is what reading gives of all.
-use Rattle.std.proofs.Common.{◌≡◌, ◌≤◌, ◌⊎◌, inl, inr, arith, List, [], ◌∷◌, ◌++◌, Some, Result, Ok, Err, Bool, true, false, refl, sym, ap, subst, ◌∙◌, append_assoc}
+use Rattle.wac_ast_base.proofs.Common.{◌≡◌, ◌≤◌, ◌⊎◌, inl, inr, arith, List, [], ◌∷◌, ◌++◌, Some, Result, Ok, Err, Bool, true, false, refl, ap, subst, ◌∙◌, append_assoc, Item, Reading, left, Stop, ◌>>=◌, mapped, two, read, at_one_of, begins, read_is}
+use Rattle.std.proofs.Common.{sym}
 use Rattle.std.proofs.lemmas.List.{append-nil}
-use Rattle.wac_lexer.specs.Item.{Item}
-use Rattle.wac_lexer.specs.Reading.{Reading, left}
 use Rattle.wac_ast_base.specs.declared.error.Error.{Error}
 use Rattle.wac_ast_grammar.specs.Grammar as g
-use Rattle.wac_ast_grammar.specs.Reading.{Stop, ◌>>=◌, mapped, two, read, at_one_of, begins}
 use Rattle.wac_ast_base.specs.Answer.{End, end_of_input, told_in, Fails, has_more}
-use Rattle.wac_ast_grammar.proofs.Fixed.{read_is}
 
 told_bind : {A B : Type 0} (end : End) (m : Result A Stop) (f : A → Result B Stop) (x : _) → told_in end m ≡ Some x → told_in end (m >>= f) ≡ Some x
 told_bind end (Ok a) f x h = absurd cc

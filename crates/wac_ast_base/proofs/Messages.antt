@@ -1,8 +1,7 @@
 -- Lemmas on lists of expected tokens.
-use Rattle.std.proofs.Common.{◌≡◌, refl, sym, ap, ◌∙◌, ℕ, ◌+◌, ◌-◌, ◌<◌, List, [], ◌∷◌, ◌++◌, codes, drop, length, Option, Some, None, append_assoc, append-nil}
+use Rattle.wac_ast_base.proofs.Common.{◌≡◌, refl, ap, ◌∙◌, ℕ, ◌+◌, ◌-◌, ◌<◌, List, [], ◌∷◌, ◌++◌, codes, drop, length, Option, Some, None, append_assoc, drop_more, Token}
+use Rattle.std.proofs.Common.{sym, append-nil}
 use Rattle.std.proofs.Math.ListN.{get_or}
-use Rattle.std.proofs.lemmas.List.{drop_more}
-use Rattle.wac_lexer.specs.declared.token.Token.{Token}
 use Rattle.wac_ast_base.specs.Lookahead.{kept_in}
 use Rattle.wac_ast_base.specs.Messages.{entry, entries, joined}
 

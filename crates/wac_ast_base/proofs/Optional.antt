@@ -1,12 +1,8 @@
 -- Parts that may be left out.
 use Rattle.std.proofs.Common.{◌≡◌, Bool, true, false, cond, ◌++◌, List, [], ◌∷◌, inl, inr, Result, Ok, Err, refl, sym as back, ap, ◌∙◌}
-use Rattle.wac_lexer.specs.Reading.{Reading, left}
-use Rattle.wac_lexer.specs.declared.token.Token.{Token}
+use Rattle.wac_ast_base.proofs.Common.{Reading, left, Token, Item, at, is_token, valid, Stop, Tried, can, version, refuse, read, read_in, read_token, at_one_of, not_fault}
 use Rattle.wac_ast_base.specs.declared.error.Error.{Error}
-use Rattle.wac_lexer.specs.Item.{Item}
-use Rattle.wac_ast_grammar.specs.Tokens.{at, is_token, valid}
 use Rattle.wac_ast_grammar.specs.Grammar as g
-use Rattle.wac_ast_grammar.specs.Reading.{Stop, Tried, can, version, refuse, read, read_in, read_token, at_one_of, not_fault}
 use Rattle.wac_ast_base.specs.Answer.{end_of_input, Gives, TakesOptional, first_item}
 use Rattle.wac_ast_base.specs.Lists.{Reads}
 use Rattle.wac_ast_base.proofs.Lookaheads.{one_test}

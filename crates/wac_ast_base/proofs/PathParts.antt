@@ -1,12 +1,8 @@
 -- The first segment of a text, and the others.
-use Rattle.std.proofs.Common.{◌≡◌, ◌<◌, ℕ, suc, ◌+◌, List, [], ◌∷◌, length, false, refl, sym, ap, subst, ◌∙◌}
-use Rattle.std.specs.List.{slice_split, before_first, after_first, position_or_len, count_by}
+use Rattle.wac_ast_base.proofs.Common.{◌≡◌, ◌<◌, ℕ, suc, ◌+◌, List, [], ◌∷◌, length, false, refl, ap, subst, ◌∙◌, slice_split, before_first, after_first, position_or_len, count_by, fails_before_first, span, is_slash, behind, located, segments_from}
+use Rattle.std.proofs.Common.{sym}
 use Rattle.std.proofs.lemmas.List.Splits.{slice_split_first, slice_split_none, length-slice_split}
 use Rattle.std.proofs.lemmas.List.Elements.{All-from_get_or}
-use Rattle.std.proofs.lemmas.List.Sums.{fails_before_first}
-use Rattle.wac_lexer.specs.Span.{span}
-use Rattle.wac_ast_grammar.specs.Version.{is_slash}
-use Rattle.wac_ast_grammar.specs.Segments.{behind, located, segments_from}
 
 pub first_segment : (offset : ℕ) (text : List ℕ) → position_or_len is_slash text < length text → segments_from offset text ≡ (before_first is_slash text, span offset (length (before_first is_slash text))) ∷ segments_from (behind (behind offset (length (before_first is_slash text))) 1) (after_first is_slash text)
 first_segment offset text h = ap (located offset) (slice_split_first is_slash text 0 h)

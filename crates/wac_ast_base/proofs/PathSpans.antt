@@ -1,16 +1,7 @@
 -- The package's name of a path and its segments lie at their spans.
-use Rattle.std.proofs.Common.{◌≡◌, ◌<◌, ◌≤◌, ℕ, suc, ◌+◌, ◌-◌, not, List, [], ◌∷◌, take, drop, length, refl, sym, ap, subst, ◌∙◌, arith, ⊎_elim}
-use Rattle.std.specs.Prelude.{◌^◌}
-use Rattle.std.specs.List.{AllByRecursion, slice_split, onto_first, position_or_len}
-use Rattle.std.proofs.lemmas.Bool.{cases_lt, cond_both}
-use Rattle.std.proofs.lemmas.List.{drop-drop, drop-take, drop_all, get_or-take, length-take-le, length-drop, take-take}
-use Rattle.std.proofs.lemmas.List.Sums.{fails_before_first, passes_at_first, position_or_len_is, prefix_len-le-length}
-use Rattle.wac_lexer.specs.Span.{Span, span, end_of}
-use Rattle.wac_lexer.specs.Reading.{slice}
-use Rattle.wac_ast_grammar.specs.Version.{is_slash, is_at_sign, unversioned, path_name, path_segments}
-use Rattle.wac_ast_grammar.specs.Tree.{PackagePath}
+use Rattle.wac_ast_base.proofs.Common.{◌≡◌, ◌<◌, ◌≤◌, ℕ, suc, ◌+◌, ◌-◌, not, List, [], ◌∷◌, take, drop, length, refl, ap, subst, ◌∙◌, arith, ⊎_elim, ◌^◌, AllByRecursion, slice_split, onto_first, position_or_len, cases_lt, cond_both, drop-drop, drop-take, drop_all, get_or-take, length-take-le, length-drop, take-take, fails_before_first, passes_at_first, position_or_len_is, prefix_len-le-length, Span, span, end_of, slice, is_slash, is_at_sign, unversioned, path_name, path_segments, PackagePath, behind, located, segment_spans, package_name_span}
+use Rattle.std.proofs.Common.{sym}
 use Rattle.wac_ast_grammar.specs.Spelled.{spelled}
-use Rattle.wac_ast_grammar.specs.Segments.{behind, located, segment_spans, package_name_span}
 
 module _ (source : List ℕ) where
   -- each part is the slice at its span

@@ -1,7 +1,6 @@
 -- The tokens that a lookahead keeps fill the first of its places.
-use Rattle.std.proofs.Common.{◌≡◌, ℕ, zero, suc, ◌+◌, ◌<◌, ◌≤◌, List, [], ◌∷◌, ◌++◌, take, length, min, Option, Some, slice_set, arith, refl, sym, ap, subst, ◌∙◌, length-append, ◌⊎◌, inl, inr, ◌^◌, ◌-◌}
-use Rattle.std.proofs.lemmas.List.{take-append-le, take_all}
-use Rattle.wac_lexer.specs.declared.token.Token.{Token}
+use Rattle.wac_ast_base.proofs.Common.{◌≡◌, ℕ, zero, suc, ◌+◌, ◌<◌, ◌≤◌, List, [], ◌∷◌, ◌++◌, take, length, min, Option, Some, slice_set, arith, refl, ap, subst, ◌∙◌, length-append, ◌⊎◌, inl, inr, ◌^◌, ◌-◌, take-append-le, take_all, Token}
+use Rattle.std.proofs.Common.{sym}
 use Rattle.wac_ast_base.specs.Error.{places}
 use Rattle.wac_ast_base.specs.Lookahead.{kept_in}
 

@@ -1,9 +1,7 @@
 -- What std's calls say of a text.
-use Rattle.std.proofs.Common.{◌≡◌, ℕ, ◌<◌, List, [], ◌∷◌, drop, length, Option, Some, None, MatchOption, refl, sym, ap, ◌∙◌, Bor, lit<, ◌+◌, ne_eqb, ◌++◌}
-use Rattle.std.proofs.lemmas.Str.Pattern.{strip_prefix_char}
+use Rattle.wac_ast_base.proofs.Common.{◌≡◌, ℕ, ◌<◌, List, [], ◌∷◌, drop, length, Option, Some, None, MatchOption, refl, ap, ◌∙◌, Bor, lit<, ◌+◌, ne_eqb, ◌++◌, strip_prefix_char, unwrap_or, without_percent, without_front_quote, without_last_quote}
+use Rattle.std.proofs.Common.{sym}
 use Rattle.std.specs.Str.Pattern.{FindsCharPrefix}
-use Rattle.std.specs.Prelude.{unwrap_or}
-use Rattle.wac_ast_grammar.specs.Tree.{without_percent, without_front_quote, without_last_quote}
 
 differs : (text : List ℕ) → ((rest : List ℕ) → text ≡ 37 ∷ rest → ⊥) → without_percent text ≡ text
 differs [] h = refl

@@ -1,17 +1,11 @@
 -- A token that is next, and taken.
-use Rattle.std.proofs.Common.{◌≡◌, ℕ, true, false, eq-eqb, cond, take, map, length, List, [], ◌∷◌, ◌⊎◌, inl, inr, Option, Some, None, Result, Ok, Err, refl, sym, ap, subst, ◌∙◌, rules}
+use Rattle.wac_ast_base.proofs.Common.{◌≡◌, ℕ, true, false, eq-eqb, cond, take, map, length, List, [], ◌∷◌, ◌⊎◌, inl, inr, Option, Some, None, Result, Ok, Err, refl, ap, subst, ◌∙◌, rules, Span, Item, handed, behind_first, Reading, left, shown, Token, reads_version, kind, is_token, is_bad, valid, at, read_token, can, version, other, refuse, Stop, Tried, not_fault}
+use Rattle.std.proofs.Common.{sym}
 use denote.Enum.Bare.{sameb, same_true}
 use Rattle.wac_lexer.specs.contracts.token.Token.{the_type}
 use Rattle.wac_lexer.specs.declared.error.Error.{Error as LexError}
-use Rattle.wac_lexer.specs.Span.{Span}
-use Rattle.wac_lexer.specs.Item.{Item, handed, behind_first}
-use Rattle.wac_lexer.specs.Reading.{Reading, left, shown}
-use Rattle.wac_lexer.specs.declared.token.Token.{Token}
 use Rattle.wac_lexer.specs.declared.token.Token.TheVariants as t
 use Rattle.wac_ast_base.specs.declared.error.Error.{Error}
-use Rattle.wac_ast_grammar.specs.Version.{reads_version}
-use Rattle.wac_ast_grammar.specs.Tokens.{kind, is_token, is_bad, valid, at}
-use Rattle.wac_ast_grammar.specs.Reading.{read_token, can, version, other, refuse, Stop, Tried, not_fault}
 use Rattle.wac_ast_base.specs.Error.{Told, told_by, faulty, expected, expected_one, no_memory}
 use Rattle.wac_ast_base.specs.Lookahead.{refusal, fault_at}
 use Rattle.wac_ast_base.specs.Answer.{plain, first_item, End, end_of_input, end_span, empty_end, told, version_told, Fails}

@@ -1,16 +1,11 @@
 -- What a production gives: its parts in order, one step per part.
-use Rattle.std.proofs.Common.{◌≡◌, Bool, true, false, cond, List, [], ◌∷◌, ◌++◌, map, Ok, inl, inr, refl, ap, ◌∙◌}
-use Rattle.wac_lexer.specs.declared.token.Token.{Token}
-use Rattle.wac_lexer.specs.Item.{Item, Doc, OnFirst}
-use Rattle.wac_lexer.specs.Reading.{Reading, left}
+use Rattle.wac_ast_base.proofs.Common.{◌≡◌, Bool, true, false, cond, List, [], ◌∷◌, ◌++◌, map, Ok, inl, inr, refl, ap, ◌∙◌, Token, Item, Doc, OnFirst, Reading, left, Tried, can, read, read_in, read_token, at_one_of, first, begins, empty, read_is}
 use Rattle.wac_ast_grammar.specs.Grammar.{Sym, TreeOf, Parts, Grammar, token, sym, then, either, optional, nothing as no_part, anything, docs, rule, build, docs_of}
-use Rattle.wac_ast_grammar.specs.Reading.{Tried, can, read, read_in, read_token, at_one_of, first, begins, empty}
 use Rattle.wac_ast_base.specs.Lookahead.{Looked, Peeks}
 use Rattle.wac_ast_base.specs.Answer.{end_of_input, first_item, TakesOptional}
 use Rattle.wac_ast_base.specs.Pieces.{GivesPart}
 use Rattle.wac_ast_base.specs.declared.error.Error.{Error}
 use Rattle.wac_ast_grammar.proofs.Docs.{docs_of_token, docs_of_sym}
-use Rattle.wac_ast_grammar.proofs.Fixed.{read_is}
 use Rattle.wac_ast_base.proofs.Lookaheads.{Looks, tests, looks_on, one_test}
 use Rattle.wac_ast_base.proofs.Optional.{optional_there, optional_missing, token_there}
 

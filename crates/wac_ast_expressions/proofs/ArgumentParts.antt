@@ -1,22 +1,13 @@
 -- How an argument is read, by what comes next.
 use Rattle.std.proofs.Common.{◌≡◌, List, [], ◌∷◌, Bool, true, false, cond, map, Some, Result, Ok, Err, refl, sym as back, ap, subst, ◌∙◌, ◌⊎◌, inl, inr}
-use Rattle.std.specs.Prelude.{◌||◌}
+use Rattle.wac_ast_expressions.proofs.Common.{◌||◌, Item, behind_first, Ident, Expr, InstantiationArgument, InstantiationArgumentName, NamedInstantiationArgument, Parts, build, rule, argument, named_argument, argument_name, identifier, string, expr, string_of, Reading, left, looked, tried, told_of, alternatives_fail, begins, Stop, other, can, told, refuse, mapped, pair_with, read, read_token, at_one_of, read_is, fails_bind}
 use Rattle.wac_lexer.specs.declared.token.Token.{Token}
 use Rattle.wac_lexer.specs.declared.token.Token.TheVariants as t
-use Rattle.wac_lexer.specs.Item.{Item, behind_first}
 use Rattle.wac_ast_base.specs.declared.error.Error.{Error}
 use Rattle.wac_ast_grammar.specs.Tokens.{is_token, at}
-use Rattle.wac_ast_grammar.specs.Tree.{Ident, Expr, InstantiationArgument, InstantiationArgumentName, NamedInstantiationArgument}
-use Rattle.wac_ast_grammar.specs.Grammar.{Parts, build, rule, argument, named_argument, argument_name, identifier, string, expr, string_of}
-use Rattle.wac_lexer.specs.Reading.{Reading, left}
 use Rattle.wac_ast_base.specs.Error.{told_by}
-use Rattle.wac_ast_base.specs.Lookahead.{looked, tried, told_of}
-use Rattle.wac_ast_base.proofs.Lookaheads.{alternatives_fail}
-use Rattle.wac_ast_grammar.specs.Reading.{begins, Stop, other, can, told, refuse, mapped, pair_with, read, read_token, at_one_of}
 use Rattle.wac_ast_base.specs.Answer.{End, end_of_input, Fails, told as told_stop}
-use Rattle.wac_ast_grammar.proofs.Fixed.{read_is}
 use Rattle.wac_ast_grammar.proofs.Tables.{same_token, same_token_of}
-use Rattle.wac_ast_base.proofs.Loops.{fails_bind}
 
 abbrev pub ReadOf : Type 0 → Type 0
 ReadOf A = Result (A × List Item) Stop

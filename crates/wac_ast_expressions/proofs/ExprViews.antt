@@ -1,18 +1,10 @@
 -- The trees of expressions that hold others.
-use Rattle.std.proofs.Common.{◌≡◌, List, map, ap, ◌∙◌, refl, Ok, Err, Global}
-use Rattle.std.specs.Prelude.{Box}
+use Rattle.wac_ast_expressions.proofs.Common.{◌≡◌, List, map, ap, ◌∙◌, refl, Ok, Err, Global, Box, Span, Expr, PrimaryExpr, PostfixExpr, Arguments, arguments_from, Item, build, expr, primary_expr, postfixes, mapped, read, Reads, read_is}
 use mathlib.Core.Former.{Count}
-use Rattle.wac_lexer.specs.Span.{Span}
 use Rattle.wac_ast_expressions.specs.declared.expr.Expr.{Expr as CodeExpr}
 use Rattle.wac_ast_expressions.specs.declared.expr.NewExpr.{NewExpr as CodeNewExpr, Row_of-InstantiationArgument, end_of-InstantiationArgument, more_of-InstantiationArgument, items-the_row-InstantiationArgument, items_hidden-the_row-InstantiationArgument-0}
 use Rattle.wac_ast_expressions.specs.declared.expr.PrimaryExpr.{PrimaryExpr as CodePrimaryExpr, New, New'}
 use Rattle.wac_ast_expressions.specs.declared.expr.NestedExpr.{NestedExpr as CodeNestedExpr, NestedExpr', roll-NestedExpr, out-NestedExpr, out-roll-NestedExpr}
-use Rattle.wac_ast_grammar.specs.Tree.{Expr, PrimaryExpr, PostfixExpr, Arguments, arguments_from}
-use Rattle.wac_lexer.specs.Item.{Item}
-use Rattle.wac_ast_grammar.specs.Grammar.{build, expr, primary_expr, postfixes}
-use Rattle.wac_ast_grammar.specs.Reading.{mapped, read}
-use Rattle.wac_ast_base.specs.Lists.{Reads}
-use Rattle.wac_ast_grammar.proofs.Fixed.{read_is}
 use Rattle.wac_ast_base.specs.Names.{package_name_of}
 use Rattle.wac_ast_expressions.specs.Expressions.{argument_of, arguments_of_row, primary_expr_of, new_expr_of, nested_expr_of, expr_of, after_primary}
 

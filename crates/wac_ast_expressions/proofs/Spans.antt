@@ -1,10 +1,7 @@
 -- The span of the last postfix expression.
-use Rattle.std.proofs.Common.{◌≡◌, ◌-◌, ◌^◌, ◌<◌, ℕ, suc, List, [], ◌∷◌, ◌++◌, length, map, Some, subst, refl, sym, arith}
+use Rattle.wac_ast_expressions.proofs.Common.{◌≡◌, ◌-◌, ◌^◌, ◌<◌, ℕ, suc, List, [], ◌∷◌, ◌++◌, length, map, Some, subst, refl, sym, arith, Span, end_of, PostfixExpr, last_span, postfix_span}
 use Rattle.std.specs.List.{slice_get}
-use Rattle.wac_lexer.specs.Span.{Span, end_of}
-use Rattle.wac_ast_grammar.specs.Tree.{PostfixExpr}
 use Rattle.wac_ast_expressions.specs.declared.expr.PostfixExpr.{PostfixExpr as CodePostfixExpr}
-use Rattle.wac_ast_grammar.specs.Grammar.{last_span, postfix_span}
 use Rattle.wac_ast_expressions.specs.Expressions.{postfix_expr_of}
 
 pub last_is : (before : Span) (xs : List CodePostfixExpr) (x : CodePostfixExpr) → slice_get xs (length xs - 1) ≡ Some x → last_span before (map postfix_expr_of xs) ≡ postfix_span (postfix_expr_of x)

@@ -1,7 +1,7 @@
 -- Parts that are told apart by the item after the next.
 use Rattle.std.proofs.Common.{◌≡◌, List, [], ◌∷◌, Result, Ok, Err, false, refl, sym as back, ap, ◌∙◌, ◌⊎◌, inl, inr}
 use Rattle.wac_lexer.specs.declared.token.Token.TheVariants as t
-use Rattle.wac_lexer.specs.Item.{Item}
+use Rattle.wac_ast_grammar.proofs.Common.{Item}
 use Rattle.wac_ast_grammar.specs.Tokens.{at}
 use Rattle.wac_ast_grammar.specs.Tree.{Ident, Expr, InstantiationArgument, InstantiationArgumentName, NamedInstantiationArgument, ExternType, WorldItemPath}
 use Rattle.wac_ast_grammar.specs.Grammar.{Parts, build, rule, argument, named_argument, argument_name, identifier, string, expr, string_of, world_item_path, named_world_item, extern_type}

@@ -1,9 +1,7 @@
 -- Where the reading of an argument is rejected.
 use Rattle.std.proofs.Common.{◌≡◌, ℕ, zero, suc, List, [], ◌∷◌, ◌++◌, Result, Ok, Err, Bool, true, false, refl, sym as back, ap, ◌∙◌, ◌⊎◌, inl, inr}
-use Rattle.std.proofs.lemmas.List.{append-nil}
-use Rattle.wac_lexer.specs.declared.token.Token.{Token}
+use Rattle.wac_ast_grammar.proofs.Common.{append-nil, Token, Item}
 use Rattle.wac_lexer.specs.declared.token.Token.TheVariants as t
-use Rattle.wac_lexer.specs.Item.{Item}
 use Rattle.wac_ast_grammar.specs.Tokens.{is_token}
 use Rattle.wac_ast_grammar.specs.Grammar.{argument, identifier, expr, rule, token, sym, or_told, ◌▸◌, perhaps, TreeOf, Parts, Grammar, build, DerivesIn, DerivesBy}
 use Rattle.wac_ast_grammar.specs.Tree.{Ident}

@@ -1,10 +1,7 @@
 -- A body is rejected for being empty exactly after its opening brace and at the closing one.
 use Rattle.std.proofs.Common.{◌≡◌, ℕ, zero, suc, arith, List, [], ◌∷◌, ◌++◌, length, map, Result, Ok, Err, Bool, true, false, cond, refl, sym as back, ap, subst, ◌∙◌, ◌⊎◌, inl, inr, append_assoc}
-use Rattle.std.proofs.lemmas.List.{append_cancel_right}
-use Rattle.wac_lexer.specs.declared.token.Token.{Token}
+use Rattle.wac_ast_grammar.proofs.Common.{append_cancel_right, Token, Error, Item}
 use Rattle.wac_lexer.specs.declared.token.Token.TheVariants as t
-use Rattle.wac_lexer.specs.declared.error.Error.{Error}
-use Rattle.wac_lexer.specs.Item.{Item}
 use Rattle.wac_ast_grammar.specs.Tokens.{is_token, valid, at}
 use Rattle.wac_ast_grammar.specs.Grammar.{Sym, document, identifier, rule, build, TreeOf, Parts, Body, variant_body, record_body, flags_body, enum_body, Grammar, token, sym, then, either, nothing, to_end, docs, not_empty, more, or_told, docs_of}
 use Rattle.wac_ast_grammar.specs.Reading.{Tried, closing, can, closes, follows, Stop, Why, other, version, empty_body, told, refuse, mapped, pair_with, two, read, read_by, read_in, read_token, read_sym, led, is_empty, begins, first, at_one_of, may_leave, measure}

@@ -1,7 +1,6 @@
 -- Where no alternative begins with the next item, all their first tokens are named.
 use Rattle.std.proofs.Common.{◌≡◌, Bool, true, false, cond, not, List, [], ◌∷◌, ◌++◌, map, refl, sym as back, ap, subst, ◌∙◌, append_assoc}
-use Rattle.wac_lexer.specs.declared.token.Token.{Token}
-use Rattle.wac_lexer.specs.Item.{Item}
+use Rattle.wac_ast_grammar.proofs.Common.{Token, Item}
 use Rattle.wac_ast_grammar.specs.Tokens.{at}
 use Rattle.wac_ast_grammar.specs.Grammar.{Grammar, token, sym, then, either, nothing, to_end, docs, not_empty, more, or_told}
 use Rattle.wac_ast_grammar.specs.Reading.{Tried, can, refuse, two, read, read_in, read_token, empty, begins, is_empty, first, at_one_of}

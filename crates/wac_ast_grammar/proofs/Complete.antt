@@ -1,9 +1,6 @@
 -- What the grammar derives is read, whatever follows that does not continue it.
 use Rattle.std.proofs.Common.{◌≡◌, ℕ, zero, suc, List, [], ◌∷◌, ◌++◌, map, Result, Ok, Err, Bool, true, false, cond, refl, sym as back, ap, subst, ◌∙◌, inl, inr, append_assoc, eq-eqb}
-use Rattle.std.proofs.lemmas.List.{append-nil}
-use Rattle.wac_lexer.specs.declared.error.Error.{Error}
-use Rattle.wac_lexer.specs.declared.token.Token.{Token}
-use Rattle.wac_lexer.specs.Item.{Item, Doc}
+use Rattle.wac_ast_grammar.proofs.Common.{append-nil, Error, Token, Item, Doc}
 use Rattle.wac_ast_grammar.specs.Tokens.{is_token, is_bad, is_fault, at, kind, valid}
 use Rattle.wac_ast_grammar.proofs.Tables.{continues, all_tokens, one_of, at_one_of_head, at_one_of_nil, one_of_append, among, negated, apart, always, among_is, not_true, apart_not, away_from, others, clashes, needs_more, clash_behind, needs_behind, clash, needs, pickable, lawful, within, rule_lawful, begins_is, clashes_is, needs_is, every_token}
 use Rattle.wac_ast_grammar.specs.Grammar.{Sym, rule, TreeOf, Parts, Behind, anything, no_fault, one_among, Grammar, token, sym, then, either, nothing, to_end, docs, not_empty, more, or_told, docs_of, DerivesIn, DerivesBy, Derives}

@@ -1,9 +1,7 @@
 -- Where reading stops: what comes before can be completed, and each token that was looked for can occur there.
 use Rattle.std.proofs.Common.{◌≡◌, ℕ, zero, suc, ◌+◌, ◌<◌, arith, List, [], ◌∷◌, ◌++◌, map, Bool, true, false, cond, refl, sym as back, ap, subst, ◌∙◌, ◌⊎◌, inl, inr, eq-eqb}
-use Rattle.std.proofs.lemmas.Bool.{eqb-true, ltb-true}
-use Rattle.wac_lexer.specs.declared.token.Token.{Token}
+use Rattle.wac_ast_grammar.proofs.Common.{eqb-true, ltb-true, Token, Item}
 use Rattle.wac_lexer.specs.declared.token.Token.TheVariants as t
-use Rattle.wac_lexer.specs.Item.{Item}
 use Rattle.wac_ast_grammar.specs.Tokens.{is_token, kind, valid}
 use Rattle.wac_ast_grammar.proofs.Tables.{all_tokens, among, within, same_token, begins_is}
 use Rattle.wac_ast_grammar.specs.Grammar.{Sym, rule, build, TreeOf, Parts, Grammar, token, sym, then, either, nothing, to_end, docs, not_empty, more, or_told, docs_of, DerivesIn, DerivesBy, Derives}

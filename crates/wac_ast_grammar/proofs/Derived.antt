@@ -1,9 +1,7 @@
 -- The leaves of a tree that derives from items: what is asked of them holds, where it does of what items make.
 use Rattle.std.proofs.Common.{◌≡◌, ℕ, zero, suc, true, Some, None, List, [], ◌∷◌, ◌++◌, inl, inr, subst, sym as back}
-use Rattle.std.specs.List.{AllByRecursion}
+use Rattle.wac_ast_grammar.proofs.Common.{AllByRecursion, Span, Item, Doc}
 use Rattle.wac_lexer.specs.declared.token.Token.TheVariants as t
-use Rattle.wac_lexer.specs.Span.{Span}
-use Rattle.wac_lexer.specs.Item.{Item, Doc}
 use Rattle.wac_ast_grammar.specs.Tokens.{is_token, valid}
 use Rattle.wac_ast_grammar.specs.Grammar.{Sym, document, directive, statements, statement, import_statement, extern_name, import_type, let_statement, export_statement, export_options, expr, primary_expr, new_expr, arguments, more_arguments, argument, named_argument, argument_name, nested_expr, postfixes, postfix_expr, access_expr, named_access_expr, type_statement, type_decl, item_type_decl, resource_decl, methods, resource_method, constructor, method, variant_decl, cases, more_cases, variant_case, record_decl, fields, more_fields, field, flags_decl, flags, more_flags, flag, enum_decl, enum_cases, more_enum_cases, enum_case, type_alias, type_alias_kind, func_type_ref, func_type, params, more_params, result_list, named_type, ty, tuple_type, list_type, option_type, result_type, borrow_type, stream_type, future_type, types, more_types, result_part, payload, interface_decl, inline_interface, interface_items, interface_item, interface_export, use_statement, use_path, use_items, more_use_items, use_item, world_decl, world_items, world_item, world_import, world_export, world_item_path, named_world_item, extern_type, world_include, world_ref, include_items, more_include_items, include_item, identifier, string, package_name, package_path, rule, build, docs_of, primary_span, postfix_span, last_span, TreeOf, Parts, Grammar, token, sym, then, either, nothing, to_end, docs, not_empty, more, or_told, DerivesIn, DerivesBy, Derives}
 use Rattle.wac_ast_grammar.specs.Tree as tree

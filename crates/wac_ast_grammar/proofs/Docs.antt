@@ -1,7 +1,5 @@
 -- The docs before a production are those of its first item.
-use Rattle.std.proofs.Common.{◌≡◌, ◌<◌, arith, length, false, List, [], ◌∷◌, Ok}
-use Rattle.wac_lexer.specs.declared.token.Token.{Token}
-use Rattle.wac_lexer.specs.Item.{Item, Doc, OnFirst}
+use Rattle.wac_ast_grammar.proofs.Common.{◌≡◌, ◌<◌, arith, length, false, List, [], ◌∷◌, Ok, Token, Item, Doc, OnFirst}
 use Rattle.wac_ast_grammar.specs.Grammar.{Sym, TreeOf, docs_of}
 use Rattle.wac_ast_grammar.specs.Reading.{read_token, read, empty}
 use Rattle.wac_ast_grammar.proofs.Fixed.{takes_some}

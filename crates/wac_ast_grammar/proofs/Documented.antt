@@ -1,19 +1,7 @@
 -- The items of a text and their docs slice it.
-use Rattle.std.proofs.Common.{◌≡◌, ℕ, zero, suc, ◌+◌, List, [], ◌∷◌, ◌++◌, take, drop, length, sym, refl, ap, ◌∙◌, subst, arith, Option, Some, None, Result}
-use Rattle.std.specs.Prelude.{◌==◌}
-use Rattle.std.specs.List.{AllByRecursion}
-use Rattle.std.specs.Str.{IsUtf8, IsCharBoundary}
-use Rattle.std.proofs.lemmas.Bool.{cond_both}
-use Rattle.std.proofs.lemmas.List.{length-take-le, length-drop}
+use Rattle.wac_ast_grammar.proofs.Common.{◌≡◌, ℕ, zero, suc, ◌+◌, List, [], ◌∷◌, ◌++◌, take, drop, length, sym, refl, ap, ◌∙◌, subst, arith, Option, Some, None, Result, ◌==◌, AllByRecursion, IsUtf8, IsCharBoundary, cond_both, length-take-le, length-drop, Item, Doc, OnFirst, first_item, items_from, InOrder, Slices, span, end_of, Token, Error}
 use Rattle.wac_lexer.specs.Comments.{part_len}
 use Rattle.wac_lexer.specs.Docs.{doc_text, doc_of_part, docs_upto, docs_at}
-use Rattle.wac_lexer.specs.Item.{Item, Doc, OnFirst}
-use Rattle.wac_lexer.specs.Items.{first_item, items_from}
-use Rattle.wac_lexer.specs.Order.{InOrder}
-use Rattle.wac_lexer.specs.Reading.{Slices}
-use Rattle.wac_lexer.specs.Span.{span, end_of}
-use Rattle.wac_lexer.specs.declared.token.Token.{Token}
-use Rattle.wac_lexer.specs.declared.error.Error.{Error}
 use Rattle.wac_lexer.proofs.Boundaries.{part_boundary}
 use Rattle.wac_lexer.proofs.Unfolded.{made, start_of, items_none, items_some, first_docs}
 use Rattle.wac_ast_grammar.specs.Slices.{DocsSlice}

@@ -1,8 +1,6 @@
 -- Reading a symbol is reading its rule.
 use Rattle.std.proofs.Common.{◌≡◌, ℕ, zero, suc, ◌+◌, ◌-◌, ◌*◌, ◌<◌, ◌≤◌, arith, List, [], ◌∷◌, ◌++◌, length, map, Result, Ok, Err, Bool, true, false, cond, ltb, refl, sym as back, ap, subst, ◌∙◌, ◌⊎◌, inl, inr}
-use Rattle.std.proofs.lemmas.Bool.{ltb-true}
-use Rattle.wac_lexer.specs.declared.token.Token.{Token}
-use Rattle.wac_lexer.specs.Item.{Item}
+use Rattle.wac_ast_grammar.proofs.Common.{ltb-true, Token, Item}
 use Rattle.wac_ast_grammar.specs.Tokens.{is_token, valid, at}
 use Rattle.wac_ast_grammar.specs.Grammar.{Sym, document, rule, build, TreeOf, Parts, Grammar, token, sym, then, either, nothing, to_end, docs, not_empty, more, or_told, docs_of}
 use Rattle.wac_ast_grammar.specs.Reading.{Tried, can, closes, Stop, refuse, mapped, pair_with, two, read, read_by, read_in, read_token, read_sym, led, built, empty, is_empty, begins, first, at_one_of, may_leave, rank, measure}

@@ -1,3 +1,4 @@
+pub mod Common
 pub mod Fixed
 pub mod Tables
 pub mod Complete

@@ -1,8 +1,5 @@
 -- The law of walks: what holds between three walks at leaves, and goes from parts to nodes, holds between them at each tree. The first walks after a change.
-use Rattle.std.specs.Prelude.{◌≡◌, refl, List, [], ◌∷◌, map, Option, Bool}
-use Rattle.std.specs.Option.{option_map}
-use Rattle.wac_lexer.specs.Span.{Span}
-use Rattle.wac_lexer.specs.Item.{Doc}
+use Rattle.wac_ast_grammar.proofs.Common.{◌≡◌, refl, List, [], ◌∷◌, map, Option, Bool, option_map, Span, Doc}
 use Rattle.wac_ast_grammar.specs.Tree as tree
 use Rattle.wac_ast_grammar.specs.Tree.{Ident, String, PackageName, PackagePath, ExternName, Ty, OptionalTy, Types, NamedType, ResultList, FuncType, FuncTypeRef, Constructor, Method, ResourceMethod, ResourceDecl, VariantCase, VariantDecl, Field, RecordDecl, Flag, FlagsDecl, EnumCase, EnumDecl, TypeAliasKind, TypeAlias, TypeDecl, ItemTypeDecl, UsePath, UseItem, Use, InterfaceExport, InterfaceItem, InterfaceDecl, InlineInterface, ExternType, NamedWorldItem, WorldItemPath, WorldImport, WorldExport, WorldRef, WorldIncludeItem, WorldInclude, WorldItem, WorldDecl, AccessExpr, NamedAccessExpr, PostfixExpr, InstantiationArgumentName, Expr, PrimaryExpr, Arguments, InstantiationArgument, NamedInstantiationArgument, ImportType, ImportStatement, LetStatement, ExportOptions, ExportStatement, TypeStatement, Statement, PackageDirective, Document}
 use Rattle.wac_ast_grammar.specs.Walk.{Walk, has_item, has_type, walk_extern_name, walk_ty, walk_optional_ty, walk_types, walk_named_type, walk_result_list, walk_func_type, walk_func_type_ref, walk_constructor, walk_method, walk_resource_method, walk_resource_decl, walk_variant_case, walk_variant_decl, walk_field, walk_record_decl, walk_flag, walk_flags_decl, walk_enum_case, walk_enum_decl, walk_type_alias_kind, walk_type_alias, walk_type_decl, walk_item_type_decl, walk_use_path, walk_use_item, walk_use, walk_interface_export, walk_interface_item, walk_interface_decl, walk_inline_interface, walk_extern_type, walk_named_world_item, walk_world_item_path, walk_world_import, walk_world_export, walk_world_ref, walk_world_include_item, walk_world_include, walk_world_item, walk_world_decl, walk_access_expr, walk_named_access_expr, walk_postfix_expr, walk_instantiation_argument_name, walk_expr, walk_primary_expr, walk_arguments, walk_instantiation_argument, walk_named_instantiation_argument, walk_import_type, walk_import_statement, walk_let_statement, walk_export_options, walk_export_statement, walk_type_statement, walk_statement, walk_package_directive, walk_document}

@@ -1,6 +1,5 @@
 -- What is asked of a tree is asked of all its leaves.
-use Rattle.std.proofs.Common.{◌↔◌, List, [], ◌∷◌, ◌++◌, Option, Some, None}
-use Rattle.std.specs.List.{AllByRecursion, flat_map}
+use Rattle.wac_ast_grammar.proofs.Common.{◌↔◌, List, [], ◌∷◌, ◌++◌, Option, Some, None, AllByRecursion, flat_map}
 use Rattle.wac_ast_grammar.specs.Tree.{Document}
 use Rattle.wac_ast_grammar.specs.Walk.{walk_document}
 use Rattle.wac_ast_grammar.specs.Leaves.{IfThere, Leaf, changed, holds_with_spans, of_leaves, leaves, docs_leaf, of_option, unchanged}

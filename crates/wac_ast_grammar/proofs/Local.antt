@@ -1,8 +1,6 @@
 -- Reading looks at no item past the one at which it stops.
 use Rattle.std.proofs.Common.{◌≡◌, ℕ, zero, suc, ◌+◌, ◌-◌, ◌≤◌, arith, List, [], ◌∷◌, ◌++◌, length, map, Result, Ok, Err, Bool, true, false, cond, refl, sym as back, ap, subst, ◌∙◌, ◌⊎◌, inl, inr}
-use Rattle.wac_lexer.specs.declared.token.Token.{Token}
-use Rattle.wac_lexer.specs.Item.{Item, Doc}
-use Rattle.wac_lexer.specs.declared.error.Error.{Error}
+use Rattle.wac_ast_grammar.proofs.Common.{Token, Item, Doc, Error}
 use Rattle.wac_ast_grammar.specs.Tokens.{is_token, is_bad, valid, at}
 use Rattle.wac_ast_grammar.specs.Grammar.{Sym, rule, build, TreeOf, Parts, Behind, anything, no_fault, one_among, Grammar, token, sym, then, either, nothing, to_end, docs, not_empty, more, or_told, docs_of, Derives}
 use Rattle.wac_ast_grammar.specs.Reading.{Tried, can, closes, follows, Stop, Why, other, version, empty_body, told, refuse, mapped, pair_with, read, read_by, read_in, read_token, read_sym, led, two, begins, first, at_one_of, may_leave, measure}

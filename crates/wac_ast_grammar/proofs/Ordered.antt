@@ -1,15 +1,6 @@
 -- The tree of a text slices it.
-use Rattle.std.proofs.Common.{◌≡◌, ◌<◌, ◌≤◌, ℕ, List, [], ◌∷◌, Result, Ok, Err, refl, ap, subst, arith, ⊎_elim}
-use Rattle.std.specs.Prelude.{IfOk}
-use Rattle.std.specs.List.{AllByRecursion}
-use Rattle.std.specs.Str.{IsUtf8, IsCharBoundary}
-use Rattle.std.proofs.lemmas.Bool.{cases_lt}
+use Rattle.wac_ast_grammar.proofs.Common.{◌≡◌, ◌<◌, ◌≤◌, ℕ, List, [], ◌∷◌, Result, Ok, Err, refl, ap, subst, arith, ⊎_elim, IfOk, AllByRecursion, IsUtf8, IsCharBoundary, cases_lt, Span, end_of, Item, Doc, items, Slices, slice, InOrder}
 use Rattle.std.proofs.lemmas.Str.{IsCharBoundary-start}
-use Rattle.wac_lexer.specs.Span.{Span, end_of}
-use Rattle.wac_lexer.specs.Item.{Item, Doc}
-use Rattle.wac_lexer.specs.Items.{items}
-use Rattle.wac_lexer.specs.Reading.{Slices, slice}
-use Rattle.wac_lexer.specs.Order.{InOrder}
 use Rattle.wac_ast_grammar.specs.Version.{unversioned, path_name, path_segments, version_of}
 use Rattle.wac_ast_grammar.specs.Tree.{without_percent, between_quotes, join, Document}
 use Rattle.wac_ast_grammar.specs.Grammar.{document}

@@ -1,8 +1,7 @@
 -- Why reading stopped: what is known where it is for a version's text, or reported at the item before.
 use Rattle.std.proofs.Common.{◌≡◌, ℕ, zero, suc, List, [], ◌∷◌, ◌++◌, map, Result, Ok, Err, Bool, true, false, cond, refl, sym as back, ap, subst, ◌⊎◌, inl, inr}
-use Rattle.wac_lexer.specs.declared.token.Token.{Token}
+use Rattle.wac_ast_grammar.proofs.Common.{Token, Item}
 use Rattle.wac_lexer.specs.declared.token.Token.TheVariants as t
-use Rattle.wac_lexer.specs.Item.{Item}
 use Rattle.wac_ast_grammar.specs.Tokens.{is_token, valid, at}
 use Rattle.wac_ast_grammar.specs.Grammar.{Sym, document, rule, build, TreeOf, Parts, Grammar, token, sym, then, either, nothing, to_end, docs, not_empty, more, or_told, docs_of}
 use Rattle.wac_ast_grammar.specs.Reading.{Tried, can, closes, Stop, Why, other, version, empty_body, told, refuse, mapped, two, read, read_by, read_in, read_token, read_sym, led, begins, first, at_one_of, may_leave, measure}

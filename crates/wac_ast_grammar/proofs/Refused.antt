@@ -1,9 +1,7 @@
 -- The laws of a rejection, put together.
 use Rattle.std.proofs.Common.{◌≡◌, ℕ, zero, suc, ◌+◌, ◌-◌, arith, List, [], ◌∷◌, ◌++◌, length, Result, Ok, Err, Bool, true, false, refl, sym as back, ap, subst, ◌∙◌, ◌⊎◌, inl, inr, append_assoc}
-use Rattle.std.proofs.lemmas.List.{append-nil, length-append}
-use Rattle.wac_lexer.specs.declared.token.Token.{Token}
+use Rattle.wac_ast_grammar.proofs.Common.{append-nil, length-append, Token, Item, Doc}
 use Rattle.wac_lexer.specs.declared.token.Token.TheVariants as t
-use Rattle.wac_lexer.specs.Item.{Item, Doc}
 use Rattle.wac_ast_grammar.specs.Tokens.{is_token}
 use Rattle.wac_ast_grammar.specs.Grammar.{Sym, argument, rule, build, TreeOf, Parts, Grammar, DerivesIn, DerivesBy, Derives}
 use Rattle.wac_ast_grammar.specs.Reading.{Standing, at_once, closing, behind_comma, Stop, before, other, read, read_by, read_in, is_empty, measure}

@@ -1,12 +1,9 @@
 -- A list of tokens for each symbol, which is read by computation, each with a text of its shape.
 use Rattle.std.proofs.Common.{◌≡◌, true, List, [], ◌∷◌, map, Ok, refl, sym as back, subst, ◌∙◌}
-use Rattle.wac_lexer.specs.Span.{span}
+use Rattle.wac_ast_grammar.proofs.Common.{span, append-nil, Token, Item}
 use Rattle.wac_ast_grammar.specs.Tokens.{valid}
 use Rattle.wac_ast_grammar.specs.TokenTexts.{text_of}
-use Rattle.std.proofs.lemmas.List.{append-nil}
-use Rattle.wac_lexer.specs.declared.token.Token.{Token}
 use Rattle.wac_lexer.specs.declared.token.Token.TheVariants as t
-use Rattle.wac_lexer.specs.Item.{Item}
 use Rattle.wac_ast_grammar.specs.Grammar.{Sym, document, directive, statements, statement, import_statement, extern_name, import_type, let_statement, export_statement, export_options, expr, primary_expr, new_expr, arguments, more_arguments, argument, named_argument, argument_name, nested_expr, postfixes, postfix_expr, access_expr, named_access_expr, type_statement, type_decl, item_type_decl, resource_decl, methods, resource_method, constructor, method, variant_decl, cases, more_cases, variant_case, record_decl, fields, more_fields, field, flags_decl, flags, more_flags, flag, enum_decl, enum_cases, more_enum_cases, enum_case, type_alias, type_alias_kind, func_type_ref, func_type, params, more_params, result_list, named_type, ty, tuple_type, list_type, option_type, result_type, borrow_type, stream_type, future_type, types, more_types, result_part, payload, interface_decl, inline_interface, interface_items, interface_item, interface_export, use_statement, use_path, use_items, more_use_items, use_item, world_decl, world_items, world_item, world_import, world_export, world_item_path, named_world_item, extern_type, world_include, world_ref, include_items, more_include_items, include_item, identifier, string, package_name, package_path, TreeOf, Derives}
 use Rattle.wac_ast_grammar.specs.Reading.{read}
 use Rattle.wac_ast_grammar.specs.Possible.{IsOf}

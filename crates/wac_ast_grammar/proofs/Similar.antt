@@ -1,7 +1,6 @@
 -- Deriving depends on tokens and texts alone: it survives other spans and docs, and the trees differ only there.
 use Rattle.std.proofs.Common.{◌≡◌, ℕ, zero, suc, List, [], ◌∷◌, ◌++◌, true, refl, sym as back, ap, subst, ◌∙◌, inl, inr}
-use Rattle.wac_lexer.specs.declared.token.Token.{Token}
-use Rattle.wac_lexer.specs.Item.{Item}
+use Rattle.wac_ast_grammar.proofs.Common.{Token, Item}
 use Rattle.wac_ast_grammar.specs.Tokens.{is_token, valid}
 use Rattle.wac_ast_grammar.specs.Grammar.{Sym, rule, build, TreeOf, Parts, Grammar, token, sym, then, either, nothing, to_end, docs, not_empty, more, or_told, docs_of, DerivesIn, DerivesBy, Derives}
 use Rattle.wac_ast_grammar.specs.Viable.{Same, Similar, Leads, LikeIn, Respects}

@@ -1,7 +1,6 @@
 -- What is read is derived.
 use Rattle.std.proofs.Common.{◌≡◌, ℕ, zero, suc, List, [], ◌∷◌, ◌++◌, map, Result, Ok, Err, Bool, true, false, cond, refl, sym as back, ap, subst, ◌∙◌, inl, inr, append_assoc}
-use Rattle.wac_lexer.specs.declared.token.Token.{Token}
-use Rattle.wac_lexer.specs.Item.{Item, Doc}
+use Rattle.wac_ast_grammar.proofs.Common.{Token, Item, Doc}
 use Rattle.wac_ast_grammar.specs.Tokens.{is_token, valid, at}
 use Rattle.wac_ast_grammar.specs.Grammar.{Sym, rule, build, TreeOf, Parts, Grammar, token, sym, then, either, nothing, to_end, docs, not_empty, more, or_told, docs_of, DerivesIn, DerivesBy, Derives}
 use Rattle.wac_ast_grammar.specs.Reading.{Tried, can, closes, Stop, version, refuse, mapped, pair_with, read, read_by, read_in, read_token, read_sym, led, two, is_empty, begins, first, at_one_of, may_leave, measure}

@@ -1,9 +1,7 @@
 -- Where reading stops: what comes before can be completed, and each token that was looked for can occur there.
 use Rattle.std.proofs.Common.{◌≡◌, List, [], ◌∷◌, ◌++◌, map, Result, Ok, Err, Bool, true, false, cond, refl, sym as back, ap, subst, ◌∙◌, ◌⊎◌, inl, inr, append_assoc}
-use Rattle.wac_lexer.specs.declared.token.Token.{Token}
+use Rattle.wac_ast_grammar.proofs.Common.{Token, append-nil, Item}
 use Rattle.wac_lexer.specs.declared.token.Token.TheVariants as t
-use Rattle.std.proofs.lemmas.List.{append-nil}
-use Rattle.wac_lexer.specs.Item.{Item}
 use Rattle.wac_ast_grammar.specs.Tokens.{is_token, valid, at}
 use Rattle.wac_ast_grammar.specs.Grammar.{Sym, Parts, Grammar, token, sym, then, either, nothing, to_end, docs, not_empty, more, or_told, docs_of, DerivesIn, Derives}
 use Rattle.wac_ast_grammar.specs.Reading.{Standing, at_once, closing, behind_comma, Tried, can, closes, follows, Stop, Why, other, version, empty_body, told, before, refuse, ◌>>=◌, mapped, pair_with, read_in, read_token, read_sym, led, two, is_empty, begins, first, at_one_of, may_leave}

@@ -1,10 +1,7 @@
 -- Tests on tokens, and the tables that the laws need of a rule.
 use Rattle.std.proofs.Common.{◌≡◌, List, [], ◌∷◌, ◌++◌, Result, Ok, Err, Bool, true, false, cond, refl, sym as back, ap, ◌∙◌, eq-eqb}
-use Rattle.std.proofs.lemmas.Bool.{eqb-true}
-use Rattle.wac_lexer.specs.declared.error.Error.{Error}
-use Rattle.wac_lexer.specs.declared.token.Token.{Token}
+use Rattle.wac_ast_grammar.proofs.Common.{eqb-true, Error, Token, Item}
 use Rattle.wac_lexer.specs.declared.token.Token.TheVariants as t
-use Rattle.wac_lexer.specs.Item.{Item}
 use Rattle.wac_ast_grammar.specs.Tokens.{is_token}
 use Rattle.wac_ast_grammar.specs.Grammar.{Sym, document, statements, import_type, export_options, expr, argument, named_argument, postfixes, variant_case, field, type_alias_kind, func_type_ref, func_type, result_list, named_type, ty, result_type, stream_type, future_type, result_part, payload, use_item, world_item_path, named_world_item, extern_type, rule, Behind, anything, no_fault, one_among, Grammar, token, sym, then, either, nothing, to_end, docs, not_empty, more, or_told}
 use Rattle.wac_ast_grammar.specs.Reading.{empty, is_empty, begins, first, at_one_of}

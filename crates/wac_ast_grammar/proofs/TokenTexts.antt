@@ -1,6 +1,5 @@
 -- Each token has a text of its shape.
-use Rattle.std.proofs.Common.{inl, inr, refl}
-use Rattle.wac_lexer.specs.declared.token.Token.{Token}
+use Rattle.wac_ast_grammar.proofs.Common.{inl, inr, refl, Token}
 use Rattle.wac_lexer.specs.declared.token.Token.TheVariants as t
 use Rattle.wac_ast_grammar.specs.TokenTexts.{HasText}
 

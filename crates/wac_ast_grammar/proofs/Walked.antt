@@ -1,9 +1,5 @@
 -- The laws of changes and of what is asked of leaves, each from the law of walks.
-use Rattle.std.proofs.Common.{◌≡◌, List, [], ◌∷◌, map, Option, Some, None, Bool, refl, sym, ap, ◌∙◌}
-use Rattle.std.specs.Option.{option_map}
-use Rattle.std.specs.List.{AllByRecursion}
-use Rattle.wac_lexer.specs.Span.{Span}
-use Rattle.wac_lexer.specs.Item.{Doc}
+use Rattle.wac_ast_grammar.proofs.Common.{◌≡◌, List, [], ◌∷◌, map, Option, Some, None, Bool, refl, sym, ap, ◌∙◌, option_map, AllByRecursion, Span, Doc}
 use Rattle.wac_ast_grammar.specs.Tree.{Ident, String, PackageName, PackagePath, Document}
 use Rattle.wac_ast_grammar.specs.Walk.{walk_document}
 use Rattle.wac_ast_grammar.specs.Leaves.{IfThere, Change, Asked, changed, holds, holds_with_spans, after, unchanged, asked_after}

@@ -1,7 +1,5 @@
 -- The trees of productions with a part of two forms.
-use Rattle.std.proofs.Common.{◌≡◌, List, refl, inl, inr, ◌⊎◌}
-use Rattle.wac_lexer.specs.Item.{Item, Doc}
-use Rattle.wac_ast_grammar.specs.Grammar.{TreeOf, Parts, build, is_there, identifier, resource_decl, method, variant_case, func_type}
+use Rattle.wac_ast_types.proofs.Common.{◌≡◌, List, refl, inl, inr, ◌⊎◌, Item, Doc, TreeOf, Parts, build, is_there, identifier, resource_decl, method, variant_case, func_type}
 use Rattle.wac_ast_types.specs.Tails.{resource_tail, tail_methods, case_tail, held_type}
 
 pub resource_built : (ds : List Doc) (word : Item) (id : TreeOf identifier) (p : Parts resource_tail) → build resource_decl (ds, (word, (id, p))) ≡ record { docs = ds; id = id; methods = tail_methods p }

@@ -1,20 +1,7 @@
 -- A declaration whose docs, keyword and name were read together.
-use Rattle.std.proofs.Common.{◌≡◌, List, [], Result, Ok, Err, ap, subst, ◌∙◌}
-use Rattle.wac_lexer.specs.declared.token.Token.{Token}
-use Rattle.wac_lexer.specs.Item.{Item, Doc}
-use Rattle.wac_lexer.specs.Reading.{Reading, left}
-use Rattle.wac_ast_grammar.specs.Tree.{Ident}
-use Rattle.wac_ast_grammar.specs.Grammar.{Grammar, Parts, token, sym, then, docs, docs_of, identifier}
-use Rattle.wac_ast_grammar.specs.Reading.{Stop, pair_with, two, read, read_in, read_token}
-use Rattle.wac_ast_base.specs.declared.error.Error.{Error}
-use Rattle.wac_ast_base.specs.Answer.{End, end_of_input, Fails}
-use Rattle.wac_ast_base.specs.Pieces.{GivesPart}
-use Rattle.wac_ast_base.proofs.Loops.{fails_bind}
-use Rattle.wac_ast_base.proofs.Lists.{same_fails}
-use Rattle.wac_ast_base.proofs.Optional.{same}
+use Rattle.wac_ast_types.proofs.Common.{◌≡◌, List, [], Result, Ok, Err, ap, subst, ◌∙◌, Token, Item, Doc, Reading, left, Ident, Grammar, Parts, token, then, docs, docs_of, identifier, Stop, pair_with, two, read, read_in, read_token, Error, End, end_of_input, Fails, GivesPart, fails_bind, same_fails, same, Stops, Yields}
+use Rattle.wac_ast_grammar.specs.Grammar.{sym}
 use Rattle.wac_ast_base.proofs.Exits as x
-use Rattle.wac_ast_base.proofs.Exits.{Stops}
-use Rattle.wac_ast_base.proofs.Yields.{Yields}
 
 module _ {A B C D : Type 0} (d : D) (g : B → List Item → Result (C × List Item) Stop) where
   -- two parts, and a third one after them

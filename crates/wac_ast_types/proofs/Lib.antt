@@ -1,3 +1,4 @@
+pub mod Common
 pub mod TypeParts
 pub mod NamedResults
 pub mod Built

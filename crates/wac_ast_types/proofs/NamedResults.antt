@@ -1,21 +1,11 @@
 -- Results with names: an identifier is tried first, and then they are a list of parameters.
 use Rattle.std.proofs.Common.{◌≡◌, List, [], ◌∷◌, Ok, Bool, true, false, refl, ap, subst, ◌∙◌, sym as back}
 use Rattle.wac_lexer.specs.declared.token.Token.TheVariants as k
-use Rattle.wac_lexer.specs.declared.token.Token.{Token}
-use Rattle.wac_lexer.specs.Item.{Item}
-use Rattle.wac_lexer.specs.Reading.{Reading, left}
-use Rattle.wac_ast_grammar.specs.Tokens.{at}
-use Rattle.wac_ast_grammar.specs.Tree.{NamedType}
+use Rattle.wac_ast_types.proofs.Common.{Token, Item, Reading, left, at, NamedType, Listed, then, can, read, read_token, refuse, at_one_of, begins, Error, Fails, end_of_input, comma_list, body_fails, filled_ends, Stops, Yields}
 use Rattle.wac_ast_grammar.specs.Grammar as g
-use Rattle.wac_ast_grammar.specs.Grammar.{Listed, then, sym}
-use Rattle.wac_ast_grammar.specs.Reading.{can, read, read_token, refuse, at_one_of, begins}
-use Rattle.wac_ast_base.specs.declared.error.Error.{Error}
-use Rattle.wac_ast_base.specs.Answer.{Fails, end_of_input}
-use Rattle.wac_ast_base.proofs.Lists.{comma_list, body_fails, filled_ends}
+use Rattle.wac_ast_grammar.specs.Grammar.{sym}
 use Rattle.wac_ast_base.proofs.Exits as x
-use Rattle.wac_ast_base.proofs.Exits.{Stops}
 use Rattle.wac_ast_base.proofs.Yields as y
-use Rattle.wac_ast_base.proofs.Yields.{Yields}
 use Rattle.wac_ast_types.proofs.TypeParts.{token_at}
 
 -- a token that was taken was next

@@ -1,13 +1,6 @@
 -- A symbol that may be left out, after a token.
-use Rattle.std.proofs.Common.{◌≡◌, Bool, true, Result, Ok, Err, inl, refl}
-use Rattle.wac_lexer.specs.declared.token.Token.{Token}
-use Rattle.wac_lexer.specs.Item.{Item}
-use Rattle.wac_lexer.specs.Reading.{Reading, left}
-use Rattle.wac_ast_grammar.specs.Grammar.{Sym, TreeOf, Parts, token, sym, then, optional}
-use Rattle.wac_ast_grammar.specs.Reading.{read}
-use Rattle.wac_ast_base.specs.declared.error.Error.{Error}
-use Rattle.wac_ast_base.specs.Answer.{Gives, TakesOptional}
-use Rattle.wac_ast_base.specs.Pieces.{GivesPart}
+use Rattle.wac_ast_types.proofs.Common.{◌≡◌, Bool, true, Result, Ok, Err, inl, refl, Token, Item, Reading, left, Sym, TreeOf, Parts, token, then, optional, read, Error, Gives, TakesOptional, GivesPart}
+use Rattle.wac_ast_grammar.specs.Grammar.{sym}
 use Rattle.wac_ast_base.proofs.Exits as x
 use Rattle.wac_ast_base.proofs.Yields as y
 

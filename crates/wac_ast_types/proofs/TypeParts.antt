@@ -4,29 +4,16 @@ use Rattle.std.specs.Prelude.{Vec, Box}
 use mathlib.Core.Former.{Count}
 use denote.Enum.Bare.{same_true}
 use Rattle.wac_lexer.specs.contracts.token.Token.{the_type}
-use Rattle.wac_lexer.specs.declared.token.Token.{Token}
+use Rattle.wac_ast_types.proofs.Common.{Token, Span, Item, handed, behind_first, Reading, left, is_token, at, Ident, Ty, Types, OptionalTy, types_from, join, Listed, can, refuse, mapped, two, read, read_in, read_token, built, at_one_of, begins, End, end_of_input, Fails, first_item, has_more, Error, read_is, fails_bind, same, same_fails, moved_end, list_open, comma_list, closed_by, closed_fails}
 use Rattle.wac_lexer.specs.declared.token.Token.TheVariants as k
 use Rattle.wac_lexer.specs.declared.error.Error.{Error as LexError}
-use Rattle.wac_lexer.specs.Span.{Span}
-use Rattle.wac_lexer.specs.Item.{Item, handed, behind_first}
-use Rattle.wac_lexer.specs.Reading.{Reading, left}
-use Rattle.wac_ast_grammar.specs.Tokens.{is_token, at}
-use Rattle.wac_ast_grammar.specs.Tree.{Ident, Ty, Types, OptionalTy, types_from, join}
-use Rattle.wac_ast_grammar.specs.Grammar.{Listed}
 use Rattle.wac_ast_grammar.specs.Grammar as g
-use Rattle.wac_ast_grammar.specs.Reading.{can, refuse, mapped, two, read, read_in, read_token, built, at_one_of, begins}
-use Rattle.wac_ast_base.specs.Answer.{End, end_of_input, Fails, first_item, has_more}
-use Rattle.wac_ast_base.specs.declared.error.Error.{Error}
 use Rattle.wac_ast_base.specs.Lists.{Reads, unclosed}
 use Rattle.wac_ast_types.specs.Types.{ty_of, types_of_row, optional_of, compound, word_at, held_from, with_payload, TakesPayload, second_rule, second_of}
 use Rattle.wac_ast_types.specs.declared.types.Type as code
 use Rattle.wac_ast_grammar.specs.Consumed.{Consumed}
 use Rattle.wac_ast_grammar.proofs.Sound.{sound}
-use Rattle.wac_ast_grammar.proofs.Fixed.{read_is}
-use Rattle.wac_ast_base.proofs.Loops.{fails_bind}
 use Rattle.wac_ast_grammar.proofs.Choices.{none_of}
-use Rattle.wac_ast_base.proofs.Optional.{same}
-use Rattle.wac_ast_base.proofs.Lists.{same_fails, moved_end, list_open, comma_list, closed_by, closed_fails}
 
 -- ---- the trees of values that hold themselves
 

@@ -1,7 +1,5 @@
 -- The trees of productions with a part that may be left out.
-use Rattle.std.proofs.Common.{◌≡◌, List, refl, inl, inr, ◌⊎◌}
-use Rattle.wac_lexer.specs.Item.{Item, Doc}
-use Rattle.wac_ast_grammar.specs.Grammar.{TreeOf, build, import_statement, identifier, extern_name, import_type}
+use Rattle.wac_ast_worlds.proofs.Common.{◌≡◌, List, refl, inl, inr, ◌⊎◌, Item, Doc, TreeOf, build, import_statement, identifier, extern_name, import_type}
 use Rattle.wac_ast_base.specs.Pieces.{behind_word}
 
 -- the tree of an import, by the name that is read

@@ -1,15 +1,8 @@
 -- A path of a world's item, by what follows its identifier.
-use Rattle.std.proofs.Common.{◌≡◌, List, [], ◌∷◌, Bool, true, false, cond, refl}
+use Rattle.wac_ast_worlds.proofs.Common.{◌≡◌, List, [], ◌∷◌, Bool, true, false, cond, refl, Reading, left, Looked, Peeks, Looks, looks_on, tests, Item, behind_first, Ident, NamedWorldItem, WorldItemPath, identifier, world_item_path, named_world_item, mapped, read, begins, at_one_of}
 use Rattle.wac_lexer.specs.declared.token.Token.{Token}
 use Rattle.wac_lexer.specs.declared.token.Token.TheVariants as t
-use Rattle.wac_lexer.specs.Reading.{Reading, left}
-use Rattle.wac_ast_base.specs.Lookahead.{Looked, Peeks}
-use Rattle.wac_ast_base.proofs.Lookaheads.{Looks, looks_on, tests}
-use Rattle.wac_lexer.specs.Item.{Item, behind_first}
 use Rattle.wac_ast_grammar.specs.Tokens.{at, is_token}
-use Rattle.wac_ast_grammar.specs.Tree.{Ident, NamedWorldItem, WorldItemPath}
-use Rattle.wac_ast_grammar.specs.Grammar.{identifier, world_item_path, named_world_item}
-use Rattle.wac_ast_grammar.specs.Reading.{mapped, read, begins, at_one_of}
 use Rattle.wac_ast_grammar.proofs.Bodies.{is_ok_token}
 use Rattle.wac_ast_grammar.proofs.Ahead.{path_named, path_ident}
 

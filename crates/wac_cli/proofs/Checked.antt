@@ -1,19 +1,11 @@
 -- What follows of the outcomes of files that were checked.
-use Rattle.std.proofs.Common.{◌≡◌, ◌≢◌, ℕ, ◌+◌, ◌<◌, sym, ap, ◌∙◌, subst, inl, inr, List, ◌++◌, [], ◌∷◌, length, take, get_or}
-use Rattle.std.proofs.lemmas.List.{take_more}
-use Rattle.std.specs.Prelude.{true, Result, Ok, Err, Option, None, MatchOption, Vec}
-use Rattle.std.specs.declared.alloc.Global.{Global}
+use Rattle.wac_cli.proofs.Common.{◌≡◌, ◌≢◌, ℕ, ◌+◌, ◌<◌, sym, ap, ◌∙◌, subst, inl, inr, List, ◌++◌, [], ◌∷◌, length, take, get_or, take_more, true, Result, Ok, Err, Option, None, MatchOption, Vec, Global, FileError, Found, IsFailure, failure_of, Outcome, Untidy, Rejected}
 use Rattle.wac_diagnostics.specs.declared.diagnostic.Diagnostic.{Diagnostic}
 use Rattle.wac_first_error.specs.Verdicts.{IsVerdict}
 use Rattle.wac_first_error.specs.declared.first.Verdict.{Verdict}
 use Rattle.wac_first_error.specs.declared.first.Verdict.TheVariants as verdicts
-use Rattle.wac_files.specs.declared.error.FileError.{FileError}
 use Rattle.wac_files.specs.declared.error.FileError.TheVariants as errors
-use Rattle.wac_files.specs.declared.walk.Found.{Found}
 use Rattle.wac_cli.specs.Checked.{AreChecks, IsCheckOf, IsFoundCheck, IsReadCheck}
-use Rattle.wac_cli_console.specs.Outcomes.{IsFailure, failure_of}
-use Rattle.wac_cli_console.specs.declared.outcome.Outcome.{Outcome}
-use Rattle.wac_cli_console.specs.declared.outcome.Outcome.TheVariants.{Untidy, Rejected}
 
 -- one file more
 checks_more : (all : List Found) (outcomes : List Outcome) (found : Found) (outcome : Outcome) → AreChecks all outcomes → IsFoundCheck found outcome

@@ -1,17 +1,9 @@
 -- What follows of the outcomes of files that were formatted.
-use Rattle.std.proofs.Common.{◌≡◌, ◌≢◌, ℕ, ◌+◌, ◌<◌, refl, sym, ap, ◌∙◌, subst, inl, inr, List, ◌++◌, [], ◌∷◌, length, take, get_or, append-nil}
-use Rattle.std.proofs.lemmas.List.{take_more}
-use Rattle.std.specs.Prelude.{Option, Some, None, MatchOption, string_bytes}
-use Rattle.wac_files.specs.Replacements.{Replacement}
-use Rattle.wac_files.specs.declared.error.FileError.{FileError}
+use Rattle.wac_cli.proofs.Common.{◌≡◌, ◌≢◌, ℕ, ◌+◌, ◌<◌, refl, sym, ap, ◌∙◌, subst, inl, inr, List, ◌++◌, [], ◌∷◌, length, take, get_or, append-nil, take_more, Option, Some, None, MatchOption, string_bytes, Replacement, FileError, Found, IsFailure, failure_of, Outcome, Good, Untidy, Unresolved, Rejected, Failed, OutOfMemory}
 use Rattle.wac_files.specs.declared.error.FileError.TheVariants as errors
-use Rattle.wac_files.specs.declared.walk.Found.{Found}
 use Rattle.wac_cli.specs.Formatted.{IsReplaced, ComesTo, FailsWith, FoundComesTo, ComeTo}
-use Rattle.wac_cli_console.specs.Outcomes.{IsFailure, failure_of}
 use Rattle.wac_cli.specs.Replacing.{OnlyFormats}
 use Rattle.wac_cli.specs.declared.options.FormatOptions.{FormatOptions}
-use Rattle.wac_cli_console.specs.declared.outcome.Outcome.{Outcome}
-use Rattle.wac_cli_console.specs.declared.outcome.Outcome.TheVariants.{Good, Untidy, Unresolved, Rejected, Failed, OutOfMemory}
 use Rattle.wac_cli.proofs.Replaced.{both}
 
 -- memory that ran out is an outcome, whatever failed

@@ -1,3 +1,4 @@
+pub mod Common
 pub mod Replaced
 pub mod Tidied
 pub mod Formatted

@@ -1,6 +1,5 @@
 -- Files that are formatted one after another.
-use Rattle.std.proofs.Common.{◌≡◌, ◌≢◌, refl, ap, ◌∙◌, List, ◌++◌, [], ◌∷◌, append_assoc, append-nil}
-use Rattle.wac_files.specs.Replacements.{Replacement}
+use Rattle.wac_cli.proofs.Common.{◌≡◌, ◌≢◌, refl, ap, ◌∙◌, List, ◌++◌, [], ◌∷◌, append_assoc, append-nil, Replacement}
 use Rattle.wac_cli.specs.Replacing.{AreFormattings, OnlyFormats}
 use Rattle.wac_cli_console.specs.declared.options.Action.TheVariants.{Write}
 use Rattle.wac_cli.specs.declared.options.FormatOptions.{FormatOptions}

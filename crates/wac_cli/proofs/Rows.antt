@@ -1,15 +1,10 @@
 -- Reports, computed: of a file that was found and of one that was not.
-use Rattle.std.proofs.Common.{◌≡◌, ◌∙◌, refl, inl, inr, [], ◌∷◌}
-use Rattle.std.specs.Prelude.{Some, None, String, string_bytes}
-use Rattle.std.specs.declared.alloc.Global.{Global}
-use Rattle.wac_files.specs.Replacements.{Replacement}
+use Rattle.wac_cli.proofs.Common.{◌≡◌, ◌∙◌, refl, inl, inr, [], ◌∷◌, Some, None, String, string_bytes, Global, Replacement, Found, Good, Untidy, Rejected, Failed}
 use Rattle.wac_files.specs.declared.error.FileError.TheVariants.{NotFound}
-use Rattle.wac_files.specs.declared.walk.Found.{Found}
 use Rattle.wac_cli.specs.Checked.{AreChecks}
 use Rattle.wac_cli.specs.Formatted.{ComeTo}
 use Rattle.wac_cli.specs.Replacing.{IsFormatting}
 use Rattle.wac_cli.specs.declared.options.FormatOptions.{FormatOptions}
-use Rattle.wac_cli_console.specs.declared.outcome.Outcome.TheVariants.{Good, Untidy, Rejected, Failed}
 
 abbrev there : String Global → Found
 there path = record { path = path; failure = None }

@@ -1,6 +1,5 @@
 -- What `tidy` ensures, as one fact of its result.
-use Rattle.std.proofs.Common.{◌≡◌, ℕ, List}
-use Rattle.std.specs.Prelude.{Result, Ok, Err, IfOk}
+use Rattle.wac_cli.proofs.Common.{◌≡◌, ℕ, List, Result, Ok, Err, IfOk}
 use Rattle.wac_comments.specs.Comments.{comment_texts, doc_texts}
 use Rattle.wac_comments.specs.Tidied.{IsPlain, Kept, SameTree}
 use Rattle.wac_comments.specs.declared.options.Options.{Options}

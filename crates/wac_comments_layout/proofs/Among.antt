@@ -1,15 +1,10 @@
 -- Tokens that stand at an index.
-use Rattle.std.proofs.Common.{◌≡◌, ℕ, zero, suc, ◌+◌, ◌-◌, ◌<◌, ◌≤◌, Bool, true, false, cond, List, [], ◌∷◌, map, take, get_or, subst, codes, drop, length, min, sym, refl, ap, ◌∙◌, arith, ⊎_elim}
+use Rattle.wac_comments_layout.proofs.Common.{◌≡◌, ℕ, zero, suc, ◌+◌, ◌-◌, ◌<◌, ◌≤◌, Bool, true, false, cond, List, [], ◌∷◌, map, take, get_or, subst, codes, drop, length, min, sym, refl, ap, ◌∙◌, arith, ⊎_elim, ◌&&◌, ◌||◌, nat_eq, nat_le, list_all, starts_with, take-map, bytes_eq, drop_min, get_or-drop, length-map, and_parts, cases_lt, eq-eqb, false≢true, le-leb, leb-true, or_parts, bytes_eq_is}
 use denote.Bor.{Bor}
 use lib.Pointwise.{pointwise}
-use Rattle.std.specs.Prelude.{◌&&◌, ◌||◌, nat_eq, nat_le}
-use Rattle.std.specs.List.{drop-map, list_all, starts_with, take-map}
-use Rattle.std.specs.Str.{bytes_eq}
+use Rattle.std.specs.List.{drop-map}
 use Rattle.std.specs.Cmp.Derive.Mapped.{pointwise-map}
-use Rattle.std.proofs.lemmas.List.{drop_min, get_or-drop, length-map}
 use Rattle.std.proofs.lemmas.Option.{unwrap_or-slice_get}
-use Rattle.std.proofs.lemmas.Bool.{and_parts, cases_lt, eq-eqb, false≢true, le-leb, leb-true, or_parts}
-use Rattle.wac_lexer.proofs.Texts.{bytes_eq_is}
 use Rattle.wac_comments_layout.specs.Printing.{Texts, empty_with, goes, goes_far_from_nothing, is_among, is_last_comma, is_near_nothing, may_be_of_with, may_go, now_of, stand_at, token_at, token_before}
 use Rattle.wac_comments_layout.specs.Brackets.{is_closing, is_flat}
 use Rattle.wac_comments_layout.specs.declared.brackets.Brackets.{Brackets}

@@ -1,26 +1,15 @@
 -- What stands behind a token and doesn't continue it.
-use Rattle.std.proofs.Common.{◌≡◌, ℕ, Bool, true, false, cond, List, [], ◌∷◌, ◌++◌, sym, refl, ap, ◌∙◌, subst, inl, inr, ⊎_elim, arith, Some, codes}
-use Rattle.std.specs.Prelude.{◌&&◌, ◌||◌, not, nat_eq, nat_le, is_some, if◌then◌else◌}
-use Rattle.std.specs.List.{list_any}
-use Rattle.std.specs.Str.{bytes_eq}
-use Rattle.std.proofs.lemmas.Bool.{and_parts, or_cases, false≢true, eqb-true, leb-true}
+use Rattle.wac_comments_layout.proofs.Common.{◌≡◌, ℕ, Bool, true, false, cond, List, [], ◌∷◌, ◌++◌, sym, refl, ap, ◌∙◌, subst, inl, inr, ⊎_elim, arith, Some, codes, ◌&&◌, ◌||◌, not, nat_eq, nat_le, is_some, if◌then◌else◌, list_any, bytes_eq, and_parts, or_cases, false≢true, eqb-true, leb-true, is_blank, Follows, token_of, InTable, IsToken, Token, walk_follows, blank_follows, bytes_eq_is}
 use Rattle.std.proofs.lemmas.List.Folds.{list_any-append}
-use Rattle.wac_lexer.specs.Comments.{is_blank}
-use Rattle.wac_lexer.specs.Follow.{Follows}
-use Rattle.wac_lexer.specs.Tokens.{token_of}
 use Rattle.wac_lexer.specs.Automaton.{class_of, step_of, shape_at}
 use Rattle.wac_lexer.specs.Pattern.{Pattern, Matches}
 use Rattle.wac_lexer.specs.Pattern.Pattern.{Then}
 use Rattle.wac_lexer.specs.Shapes.{byte, id, some, at_version}
-use Rattle.wac_lexer.specs.Tokens.{InTable, IsToken}
 use Rattle.wac_lexer.specs.Tokens.IsToken.{fixed, identifier, string, name, path}
 use Rattle.wac_lexer.specs.Words.{fixed_texts}
-use Rattle.wac_lexer.specs.declared.token.Token.{Token}
 use Rattle.wac_lexer.specs.declared.token.Token.TheVariants as tokens
 use Rattle.wac_lexer.proofs.Following.{ends, follows, is_dead, quiet}
-use Rattle.wac_lexer.proofs.Standing.{walk_follows, blank_follows}
 use Rattle.wac_lexer.proofs.Sorts.{token_meant}
-use Rattle.wac_lexer.proofs.Texts.{bytes_eq_is}
 use Rattle.wac_comments_layout.specs.Following.{ends_tokens, end_tokens, stands_apart, is_closed, is_access, may_follow}
 
 -- a byte ends each token, whatever stands behind it

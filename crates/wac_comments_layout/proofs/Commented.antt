@@ -1,15 +1,5 @@
 -- One step of the walk over the pieces of a text, and over the comments of a gap.
-use Rattle.std.proofs.Common.{◌≡◌, ℕ, zero, suc, ◌+◌, ◌<◌, ◌≤◌, true, false, cond, get_or, List, [], ◌∷◌, ◌++◌, map, take, drop, length, sym, refl, subst, ap, ◌∙◌, arith, Some, None, append_assoc}
-use Rattle.std.specs.Prelude.{◌==◌, nat_eq, Result}
-use Rattle.std.proofs.lemmas.List.{drop_all, drop_more}
-use Rattle.std.proofs.lemmas.Bool.{ne_eqb}
-use Rattle.wac_lexer.specs.Comments.{begins, is_blank, opens, part_len}
-use Rattle.wac_lexer.specs.Item.{Item, Handed, handed, behind_first, OnFirst}
-use Rattle.wac_lexer.specs.Reading.{Nexts, Reading, left, slice}
-use Rattle.wac_lexer.specs.Span.{Span, end_of}
-use Rattle.wac_lexer.specs.declared.error.Error.{Error}
-use Rattle.wac_lexer.specs.declared.token.Token.{Token}
-use Rattle.wac_lexer.proofs.Followed.{no_comment, part_by}
+use Rattle.wac_comments_layout.proofs.Common.{◌≡◌, ℕ, zero, suc, ◌+◌, ◌<◌, ◌≤◌, true, false, cond, get_or, List, [], ◌∷◌, ◌++◌, map, take, drop, length, sym, refl, subst, ap, ◌∙◌, arith, Some, None, append_assoc, ◌==◌, nat_eq, Result, drop_all, drop_more, ne_eqb, begins, is_blank, opens, part_len, Item, Handed, handed, behind_first, OnFirst, Nexts, Reading, left, slice, Span, end_of, Error, Token, no_comment, part_by}
 use Rattle.wac_comments_layout.specs.Pieces.{Piece, comment_of_part, comments_at, comments_upto, end_piece, pieces_after}
 use Rattle.wac_comments_layout.specs.Texts.{pieces_of, texts_of}
 use Rattle.wac_comments_layout.specs.declared.pieces.Piece.{Piece as Read}

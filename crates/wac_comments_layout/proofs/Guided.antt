@@ -1,16 +1,6 @@
 -- One step of a walk that is guided by what is known: over blanks, over a comment, over a token.
-use Rattle.std.proofs.Common.{◌≡◌, ℕ, zero, suc, ◌+◌, ◌<◌, ◌≤◌, Bool, true, false, cond, List, [], ◌∷◌, ◌++◌, map, take, drop, length, get_or, sym, refl, ap, ◌∙◌, subst, arith, Some}
-use Rattle.std.specs.Prelude.{◌==◌, nat_lt}
-use Rattle.std.specs.List.{prefix_len}
-use Rattle.std.specs.Str.{bytes_eq}
-use Rattle.std.proofs.lemmas.Bool.{eqb-true, ltb-true}
-use Rattle.std.proofs.lemmas.List.{drop_more, drop-map, get_or-drop, length-drop, length-take-le, take-append-drop}
-use Rattle.std.proofs.lemmas.List.Sums.{prefix_len_passes}
-use Rattle.wac_lexer.specs.Comments.{is_blank, part_len}
-use Rattle.wac_lexer.specs.Span.{span}
-use Rattle.wac_lexer.specs.Tokens.{token_of}
-use Rattle.wac_lexer.specs.declared.token.Token.{Token}
-use Rattle.wac_lexer.proofs.Texts.{bytes_eq_is}
+use Rattle.wac_comments_layout.proofs.Common.{◌≡◌, ℕ, zero, suc, ◌+◌, ◌<◌, ◌≤◌, Bool, true, false, cond, List, [], ◌∷◌, ◌++◌, map, take, drop, length, get_or, sym, refl, ap, ◌∙◌, subst, arith, Some, ◌==◌, nat_lt, prefix_len, bytes_eq, eqb-true, ltb-true, drop_more, get_or-drop, length-drop, length-take-le, take-append-drop, prefix_len_passes, is_blank, part_len, span, token_of, Token, bytes_eq_is}
+use Rattle.std.proofs.lemmas.List.{drop-map}
 use Rattle.wac_comments_layout.specs.Following.{may_follow, texts_from}
 use Rattle.wac_comments_layout.specs.Kept.{kept}
 use Rattle.wac_comments_layout.specs.Pieces.{Piece, comment_of_part, piece}

@@ -1,5 +1,5 @@
 -- Printing keeps all comments, in order.
-use Rattle.std.proofs.Common.{◌≡◌, ℕ, ◌+◌, Bool, true, false, cond, List, [], ◌∷◌, ◌++◌, filter, sym, refl, ap, ◌∙◌, append_assoc, append-nil, codes}
+use Rattle.wac_comments_layout.proofs.Common.{◌≡◌, ℕ, ◌+◌, Bool, true, false, cond, List, [], ◌∷◌, ◌++◌, filter, sym, refl, ap, ◌∙◌, append_assoc, append-nil, codes}
 use Rattle.std.proofs.lemmas.List.Elements.{filter-append}
 use Rattle.wac_comments_layout.specs.Kept.{is_comment}
 use Rattle.wac_comments_layout.specs.Printing.{Texts, added, ends_resource, goes, innermost, needs_comma, opened_behind, printed, printed_from, spelled, tokens_of}

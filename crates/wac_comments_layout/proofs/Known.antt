@@ -1,19 +1,8 @@
 -- Each text of a source whose items are tokens begins with a slash, as comments do, is empty, or is a token's.
-use Rattle.std.proofs.Common.{◌≡◌, ℕ, ◌+◌, Bool, true, false, cond, List, [], ◌∷◌, map, take, drop, length, sym, refl, ap, ◌∙◌, Option, Some, None, Ok, Err, Result, inl, inr}
-use Rattle.std.specs.Prelude.{◌==◌, nat_eq, slice_index}
-use Rattle.std.specs.List.{AllByRecursion}
-use Rattle.std.proofs.lemmas.Bool.{cond_both}
-use Rattle.wac_lexer.specs.Comments.{opens}
-use Rattle.wac_lexer.specs.Item.{Item}
-use Rattle.wac_lexer.specs.Items.{first_char_len, fault_of, first_item, items, items_from, with_fault}
-use Rattle.wac_lexer.specs.Span.{end_of}
-use Rattle.wac_lexer.specs.Tokens.{token_of, longest_token}
-use Rattle.wac_lexer.specs.declared.error.Error.{Error}
+use Rattle.wac_comments_layout.proofs.Common.{◌≡◌, ℕ, ◌+◌, Bool, true, false, cond, List, [], ◌∷◌, map, take, drop, length, sym, refl, ap, ◌∙◌, Option, Some, None, Ok, Err, Result, inl, inr, ◌==◌, nat_eq, slice_index, AllByRecursion, cond_both, opens, Item, first_char_len, fault_of, first_item, items, items_from, with_fault, end_of, token_of, longest_token, Error, Token, made, start_of, items_none, items_some}
 use Rattle.wac_lexer.specs.declared.error.Error.TheVariants.{UnexpectedToken, UnterminatedComment, UnterminatedString}
-use Rattle.wac_lexer.specs.declared.token.Token.{Token}
 use Rattle.wac_lexer.specs.declared.token.Token.TheVariants as tokens
 use Rattle.wac_lexer.proofs.Longest.{Longest, longest_is}
-use Rattle.wac_lexer.proofs.Unfolded.{made, start_of, items_none, items_some}
 use Rattle.wac_comments_layout.specs.Following.{IsPieceText}
 use Rattle.wac_comments_layout.specs.Pieces.{Piece, comments_at, end_piece, piece_of_item, pieces, pieces_after, texts}
 use Rattle.wac_comments_layout.specs.Printing.{printed}

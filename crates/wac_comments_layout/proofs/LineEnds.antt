@@ -1,9 +1,5 @@
 -- Line ends that stay as they are.
-use Rattle.std.proofs.Common.{◌≡◌, ℕ, Bool, true, false, cond, List, [], ◌∷◌, ◌++◌, sym, refl, ap, ◌∙◌}
-use Rattle.std.specs.Prelude.{◌&&◌, nat_eq, not}
-use Rattle.std.specs.Str.{bytes_eq}
-use Rattle.std.proofs.lemmas.Bool.{and_parts, eqb-true}
-use Rattle.wac_lexer.proofs.Texts.{bytes_eq_is}
+use Rattle.wac_comments_layout.proofs.Common.{◌≡◌, ℕ, Bool, true, false, cond, List, [], ◌∷◌, ◌++◌, sym, refl, ap, ◌∙◌, ◌&&◌, nat_eq, not, bytes_eq, and_parts, eqb-true, bytes_eq_is}
 use Rattle.wac_comments_layout.specs.Plain.{is_line_end, with_line_ends}
 
 with_same : (quoted : Bool) (text : List ℕ) → with_line_ends (10 ∷ []) quoted text ≡ text

@@ -1,20 +1,11 @@
 -- The brackets among the pieces of a text are those among its items.
-use Rattle.std.proofs.Common.{◌≡◌, ℕ, zero, suc, ◌+◌, ◌-◌, ◌<◌, ◌≤◌, Bool, true, false, cond, List, [], ◌∷◌, ◌++◌, take, drop, length, sym, refl, ap, ◌∙◌, subst, arith, Option, Some, None}
-use Rattle.std.specs.Prelude.{◌==◌, nat_eq, nat_le, nat_lt, slice_index}
-use Rattle.std.specs.List.{AllByRecursion}
-use Rattle.std.proofs.lemmas.Bool.{and_parts, cond_both, eqb-true, ltb-false}
+use Rattle.wac_comments_layout.proofs.Common.{◌≡◌, ℕ, zero, suc, ◌+◌, ◌-◌, ◌<◌, ◌≤◌, Bool, true, false, cond, List, [], ◌∷◌, ◌++◌, take, drop, length, sym, refl, ap, ◌∙◌, subst, arith, Option, Some, None, ◌==◌, nat_eq, nat_le, nat_lt, slice_index, AllByRecursion, and_parts, cond_both, eqb-true, ltb-false, begins, is_blank, opens, part_len, Item, items, Span, end_of, part_by, refused}
 use Rattle.std.proofs.lemmas.List.{length-take as taken}
 use Rattle.std.proofs.Math.Nat.{min-le_left}
-use Rattle.wac_lexer.specs.Comments.{begins, is_blank, opens, part_len}
-use Rattle.wac_lexer.specs.Item.{Item}
-use Rattle.wac_lexer.specs.Items.{items}
-use Rattle.wac_lexer.specs.Span.{Span, end_of}
-use Rattle.wac_lexer.proofs.Followed.{part_by}
 use Rattle.wac_comments_layout.specs.Brackets.{is_opening, is_closing}
 use Rattle.wac_comments_layout.specs.Kept.{kept, kept_len}
 use Rattle.wac_comments_layout.specs.Nesting.{first_beyond, first_among, most, too_deep}
 use Rattle.wac_comments_layout.specs.Pieces.{Piece, comment_of_part, comments_at, comments_upto, end_piece, piece, pieces, pieces_after}
-use Rattle.wac_lexer.specs.Characters.{refused}
 
 -- a text is no bracket
 abbrev NoBracket : List ℕ → Type 0

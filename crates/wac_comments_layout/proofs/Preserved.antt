@@ -1,7 +1,5 @@
 -- What holds of each token and comment of a text, and of the marks that printing adds, holds of each that is printed.
-use Rattle.std.proofs.Common.{ℕ, ◌+◌, List, [], ◌∷◌, ◌++◌, codes}
-use Rattle.std.specs.List.{AllByRecursion}
-use Rattle.std.proofs.lemmas.Bool.{cond_both}
+use Rattle.wac_comments_layout.proofs.Common.{ℕ, ◌+◌, List, [], ◌∷◌, ◌++◌, codes, AllByRecursion, cond_both}
 use Rattle.wac_comments_layout.specs.Kept.{is_comment}
 use Rattle.wac_comments_layout.specs.Printing.{Texts, added, ends_resource, goes, innermost, needs_comma, opened_behind, printed, printed_from, spelled, tokens_of}
 use Rattle.wac_comments_layout.specs.declared.brackets.Brackets.{Brackets}

@@ -1,7 +1,5 @@
 -- One step over tokens and comments that are printed.
-use Rattle.std.proofs.Common.{◌≡◌, ℕ, ◌+◌, ◌<◌, Bool, true, false, cond, List, [], ◌∷◌, ◌++◌, drop, length, get_or, sym, refl, ap, ◌∙◌, arith, append_assoc}
-use Rattle.std.specs.Prelude.{not}
-use Rattle.std.proofs.lemmas.List.{drop-drop, drop_more, length-drop}
+use Rattle.wac_comments_layout.proofs.Common.{◌≡◌, ℕ, ◌+◌, ◌<◌, Bool, true, false, cond, List, [], ◌∷◌, ◌++◌, drop, length, get_or, sym, refl, ap, ◌∙◌, arith, append_assoc, not, drop-drop, drop_more, length-drop}
 use Rattle.wac_comments_layout.specs.Kept.{is_comment}
 use Rattle.wac_comments_layout.specs.Printing.{Texts, Progress, added, goes, spelled, innermost, opened_behind, printed_from, tokens_of, with_comment, with_added, with_printed, passed, with_token, with_piece}
 use Rattle.wac_comments_layout.specs.Texts.{texts_of}

@@ -1,18 +1,5 @@
 -- A text with few opening brackets has none that is nested deeply.
-use Rattle.std.proofs.Common.{◌≡◌, ℕ, zero, suc, ◌+◌, ◌-◌, ◌≤◌, Bool, true, false, cond, List, [], ◌∷◌, take, drop, length, sym, refl, ap, ◌∙◌, subst, arith, Option, Some, None, Result, codes, ⊎_elim}
-use Rattle.std.specs.Prelude.{◌||◌, count_by, nat_le}
-use Rattle.std.specs.Str.{bytes_eq}
-use Rattle.std.proofs.lemmas.Bool.{or_cases, lt-leb}
-use Rattle.std.proofs.lemmas.List.{drop-drop}
-use Rattle.std.proofs.lemmas.List.Sums.{sum_by-take-drop}
-use Rattle.wac_lexer.specs.Comments.{gap}
-use Rattle.wac_lexer.specs.Item.{Item}
-use Rattle.wac_lexer.specs.Items.{first_item, items, items_from, items_upto}
-use Rattle.wac_lexer.specs.Span.{Span}
-use Rattle.wac_lexer.specs.declared.token.Token.{Token}
-use Rattle.wac_lexer.specs.declared.error.Error.{Error}
-use Rattle.wac_lexer.proofs.Texts.{bytes_eq_is}
-use Rattle.wac_lexer.proofs.Unfolded.{before_others, item_is, start_of}
+use Rattle.wac_comments_layout.proofs.Common.{◌≡◌, ℕ, zero, suc, ◌+◌, ◌-◌, ◌≤◌, Bool, true, false, cond, List, [], ◌∷◌, take, drop, length, sym, refl, ap, ◌∙◌, subst, arith, Option, Some, None, Result, codes, ⊎_elim, ◌||◌, count_by, nat_le, bytes_eq, or_cases, lt-leb, drop-drop, sum_by-take-drop, gap, Item, first_item, items, items_from, items_upto, Span, Token, Error, bytes_eq_is, before_others, item_is, start_of}
 use Rattle.wac_comments_layout.specs.Brackets.{is_opening, is_closing}
 use Rattle.wac_comments_layout.specs.Nesting.{first_beyond, may_open}
 

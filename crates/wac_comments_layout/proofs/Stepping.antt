@@ -1,17 +1,7 @@
 -- The texts of the pieces from a place on: one step over a token, and over a blank or a comment.
-use Rattle.std.proofs.Common.{◌≡◌, ℕ, zero, suc, ◌+◌, ◌<◌, ◌≤◌, cond, List, [], ◌∷◌, ◌++◌, map, take, drop, length, sym, refl, ap, ◌∙◌, arith, Ok, Option, Some, None, Result, append_assoc}
-use Rattle.std.specs.Prelude.{◌==◌}
+use Rattle.wac_comments_layout.proofs.Common.{◌≡◌, ℕ, zero, suc, ◌+◌, ◌<◌, ◌≤◌, cond, List, [], ◌∷◌, ◌++◌, map, take, drop, length, sym, refl, ap, ◌∙◌, arith, Ok, Option, Some, None, Result, append_assoc, ◌==◌, drop-drop, length-drop, map-append, part_len, gap, Follows, first_item, items_from, span, Token, Error, stands_alone, start_of, items_some, items_none, items_end}
 use Rattle.std.proofs.Math.Seq.{take-append_seam}
-use Rattle.std.proofs.lemmas.List.{drop-drop, length-drop, map-append}
-use Rattle.wac_lexer.specs.Comments.{part_len, gap}
-use Rattle.wac_lexer.specs.Follow.{Follows}
-use Rattle.wac_lexer.specs.Items.{first_item, items_from}
-use Rattle.wac_lexer.specs.Span.{span}
-use Rattle.wac_lexer.specs.declared.token.Token.{Token}
-use Rattle.wac_lexer.specs.declared.error.Error.{Error}
 use Rattle.wac_lexer.proofs.Gaps.{gap_done, gap_part}
-use Rattle.wac_lexer.proofs.Standing.{stands_alone}
-use Rattle.wac_lexer.proofs.Unfolded.{start_of, items_some, items_none, items_end}
 use Rattle.wac_comments_layout.specs.Pieces.{Piece, comment_of_part, comments_at, comments_upto, end_piece, piece, pieces_after}
 use Rattle.wac_comments_layout.specs.Following.{texts_from}
 use Rattle.wac_comments_layout.proofs.Commented.{comments_done, comments_end, comments_more}

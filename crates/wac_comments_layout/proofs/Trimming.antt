@@ -1,12 +1,5 @@
 -- What is kept of a comment cuts no character.
-use Rattle.std.proofs.Common.{◌≡◌, ℕ, ◌-◌, ◌<◌, ◌≤◌, List, length, reverse, get_or, ap, ◌∙◌, subst, arith, ⊎_elim}
-use Rattle.std.specs.List.{suffix_len}
-use Rattle.std.specs.Str.{IsCharBoundary}
-use Rattle.std.proofs.lemmas.Bool.{cases_lt, cond_both}
-use Rattle.std.proofs.lemmas.List.{get_or-reverse}
-use Rattle.std.proofs.lemmas.List.Sums.{prefix_len_passes, suffix_len-le-length}
-use Rattle.std.proofs.lemmas.Str.{IsCharBoundary-end, IsCharBoundary-before_ascii}
-use Rattle.wac_lexer.specs.Comments.{is_blank}
+use Rattle.wac_comments_layout.proofs.Common.{◌≡◌, ℕ, ◌-◌, ◌<◌, ◌≤◌, List, length, reverse, get_or, ap, ◌∙◌, subst, arith, ⊎_elim, suffix_len, IsCharBoundary, cases_lt, cond_both, get_or-reverse, prefix_len_passes, suffix_len-le-length, IsCharBoundary-end, IsCharBoundary-before_ascii, is_blank}
 use Rattle.wac_lexer.proofs.Fronts.{blank_ascii}
 use Rattle.wac_comments_layout.specs.Kept.{is_line, kept_len}
 

@@ -1,14 +1,8 @@
 -- What texts declare, as their packages are made one after another.
-use Rattle.std.proofs.Common.{◌≡◌, ◌∙◌, ℕ, zero, suc, List, [], ◌∷◌, Option, Some, None, Bool, true, false, cond, refl, sym, ap, subst, Result, Ok, Err}
-use Rattle.std.specs.Prelude.{IfOk, OnOk, String, slice_get, option_map}
+use Rattle.wac_declared_packages.proofs.Common.{◌≡◌, ◌∙◌, ℕ, zero, suc, List, [], ◌∷◌, Option, Some, None, Bool, true, false, cond, refl, sym, ap, subst, Result, Ok, Err, IfOk, OnOk, String, slice_get, option_map, IsTreeOf, PackageParts, Key, key_of, same_key, PackageKey, keys_same}
 use Rattle.std.specs.declared.alloc.Global.{Global}
 use denote.Bor.{Bor}
-use Rattle.wac_ast_grammar.specs.TextTree.{IsTreeOf}
 use Rattle.wac_ast_grammar.specs.Tree.{Document}
-use Rattle.wac_graph_types.specs.Package.{PackageParts}
-use Rattle.wac_graph.specs.Package.{Key, key_of, same_key}
-use Rattle.wac_graph.specs.declared.package_key.PackageKey.{PackageKey}
-use Rattle.wac_graph.proofs.Keys.{keys_same}
 use Rattle.wac_declared_packages.specs.Declaring.{IsDeclaredBy}
 use Rattle.wac_declared_packages.specs.Refusing.{IsDeclaration}
 use Rattle.wac_declared_packages.specs.Together.{AreCopiesOf, AreDeclared, IsDeclared, IsOneOf, Puts, by_copy, by_text, declared_key, found, now_of, world_chosen}

@@ -1,9 +1,8 @@
 -- The first statement of another sort, as statements are gone over.
-use Rattle.std.proofs.Common.{◌≡◌, ◌∙◌, ◌+◌, ◌<◌, ◌≤◌, ℕ, suc, Option, Some, None, List, ◌∷◌, length, drop, get_or, map, sym, ap, arith}
+use Rattle.wac_declared_packages.proofs.Common.{◌≡◌, ◌∙◌, ◌+◌, ◌<◌, ◌≤◌, ℕ, suc, Option, Some, None, List, ◌∷◌, length, drop, get_or, map, sym, ap, arith, statement_of}
 use Rattle.std.proofs.Math.Seq.{drop-cons}
 use Rattle.std.proofs.lemmas.List.{drop_all}
 use Rattle.wac_lexer.specs.Span.{Span}
-use Rattle.wac_ast.specs.Statements.{statement_of}
 use Rattle.wac_ast.specs.declared.statement.Statement.{Statement}
 use Rattle.wac_declared_packages.specs.Refusing.{first_other, other_place}
 

@@ -1,3 +1,4 @@
+pub mod Common
 mod Copies
 mod Declares
 mod First

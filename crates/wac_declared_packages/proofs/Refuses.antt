@@ -1,9 +1,5 @@
 -- Why a document declares no package, from the parts of what makes one.
-use Rattle.std.proofs.Common.{◌≡◌, List, Result, Err, inl, inr, subst, sym}
-use Rattle.std.specs.Prelude.{IfErr}
-use Rattle.wac_graph_types.specs.Package.{PackageParts}
-use Rattle.wac_graph.specs.declared.package_key.PackageKey.{PackageKey}
-use Rattle.wac_ast.specs.Statements.{document_of}
+use Rattle.wac_declared_packages.proofs.Common.{◌≡◌, List, Result, Err, inl, inr, subst, sym, IfErr, PackageParts, PackageKey, document_of}
 use Rattle.wac_ast.specs.declared.document.Document.{Document as CodeDocument}
 use Rattle.wac_ast_grammar.specs.Tree.{Document}
 use Rattle.wac_resolution_errors.specs.declared.error.Error.{Error as ResolutionError}

@@ -1,13 +1,8 @@
 -- Texts, one by one: whether the package of each is there.
-use Rattle.std.proofs.Common.{◌≡◌, ◌∙◌, ◌<◌, ◌≤◌, ◌+◌, ℕ, zero, suc, List, [], ◌∷◌, Option, Some, None, Bool, true, false, is_some, length, ltb, refl, sym, ap, subst, arith, Result, Ok, Err}
-use Rattle.std.specs.Prelude.{IfOk, slice_get}
+use Rattle.wac_declared_packages.proofs.Common.{◌≡◌, ◌∙◌, ◌<◌, ◌≤◌, ◌+◌, ℕ, zero, suc, List, [], ◌∷◌, Option, Some, None, Bool, true, false, is_some, length, ltb, refl, sym, ap, subst, arith, Result, Ok, Err, IfOk, slice_get, IsTreeOf, PackageParts, Key, PackageKey}
 use Rattle.std.proofs.lemmas.Bool.{ltb-false, ltb-true}
 use denote.Bor.{Bor}
-use Rattle.wac_ast_grammar.specs.TextTree.{IsTreeOf}
 use Rattle.wac_ast_grammar.specs.Tree.{Document}
-use Rattle.wac_graph_types.specs.Package.{PackageParts}
-use Rattle.wac_graph.specs.Package.{Key}
-use Rattle.wac_graph.specs.declared.package_key.PackageKey.{PackageKey}
 use Rattle.wac_declared_packages.specs.Together.{EachHasPackage, HasPackage, IsWhole, declared_key, now_of, under}
 
 -- what is found under a key that the document declares

@@ -1,13 +1,6 @@
 -- What is added to a table is what was meant.
-use Rattle.std.proofs.Common.{◌≡◌, ◌∙◌, ℕ, [], ◌∷◌, ◌++◌, length, ap}
-use Rattle.std.specs.Prelude.{slice_get}
-use Rattle.wac_graph_types.specs.declared.entry.Entry.{Entry}
-use Rattle.wac_graph_types.specs.Entry.{children}
-use Rattle.wac_graph_types.specs.Meaning.{EachKind}
-use Rattle.wac_graph_types.specs.Package.{PackageParts, IsPackage}
-use Rattle.wac_graph_types.specs.Table.{Names}
+use Rattle.wac_graph.proofs.Common.{◌≡◌, ◌∙◌, ℕ, [], ◌∷◌, ◌++◌, length, ap, slice_get, Entry, children, EachKind, PackageParts, IsPackage, Names, IsGrownBy, MeansTheSame}
 use Rattle.wac_graph.specs.Adds.{Adds, AddsPackage}
-use Rattle.wac_graph_copies.specs.Copied.{IsGrownBy, MeansTheSame}
 use Rattle.wac_graph.specs.Graph.{Parts, with_entry, with_package}
 use Rattle.wac_graph.specs.Means.{CopiesMean}
 use Rattle.wac_graph.specs.Package.{Key}

@@ -1,10 +1,6 @@
 -- Under a one-to-one naming resources have different origins.
-use Rattle.std.proofs.Common.{◌≡◌, ◌∙◌, ◌+◌, ◌-◌, ◌<◌, ◌≤◌, ℕ, zero, suc, List, [], ◌∷◌, Option, Some, None, Bool, true, false, ◌⊎◌, inl, inr, ◌&&◌, cond, refl, sym, ap, subst, take, arith}
-use Rattle.std.specs.Prelude.{slice_get, nat_le, nat_lt}
-use Rattle.std.proofs.lemmas.Bool.Decides.{nat_tests}
-use Rattle.wac_graph_types.specs.declared.entry.Entry.{Entry}
+use Rattle.wac_graph.proofs.Common.{◌≡◌, ◌∙◌, ◌+◌, ◌-◌, ◌<◌, ◌≤◌, ℕ, zero, suc, List, [], ◌∷◌, Option, Some, None, Bool, true, false, ◌⊎◌, inl, inr, ◌&&◌, cond, refl, sym, ap, subst, take, arith, slice_get, nat_le, nat_lt, nat_tests, Entry, IsResource}
 use Rattle.wac_graph_types.specs.declared.entry.Entry.TheVariants as entries
-use Rattle.wac_graph_types.specs.Meaning.{IsResource}
 use Rattle.wac_graph_types.specs.Meaning as meanings
 use Rattle.wac_graph.specs.Graph.{Parts}
 use Rattle.wac_graph.specs.Package.{HeldPackage}

@@ -1,12 +1,5 @@
 -- What is read of a graph in which a node was named, given an argument, or added.
-use Rattle.std.proofs.Common.{◌≡◌, ◌∙◌, ◌<◌, ◌+◌, ℕ, zero, suc, Option, Some, None, List, [], ◌∷◌, ◌++◌, length, refl, sym, ap, arith, Bool, true, false, cond, map}
-use Rattle.std.specs.Prelude.{slice_get, slice_set, option_map, option_and_then, nat_lt, not, IsSome}
-use Rattle.std.specs.List.{position, position_or_len}
-use Rattle.std.proofs.lemmas.Bool.Decides.{nat_tests}
-use Rattle.wac_graph_types.specs.declared.kind.ItemKind.{ItemKind}
-use Rattle.wac_graph_types.specs.Readings.{instance_exports}
-use Rattle.wac_graph_types.specs.Scope.{Named, look_up, with_named, IsFresh}
-use Rattle.wac_graph_types.proofs.Rows.{none_within}
+use Rattle.wac_graph.proofs.Common.{◌≡◌, ◌∙◌, ◌<◌, ◌+◌, ℕ, zero, suc, Option, Some, None, List, [], ◌∷◌, ◌++◌, length, refl, sym, ap, arith, Bool, true, false, cond, map, slice_get, slice_set, option_map, option_and_then, nat_lt, not, IsSome, position, position_or_len, nat_tests, ItemKind, instance_exports, Named, look_up, with_named, IsFresh, none_within}
 use Rattle.wac_graph.specs.Node.{Node, Form, import, definition, alias, instantiation, package_in, arguments_in, is_alias_of}
 use Rattle.wac_graph.specs.Graph.{Parts, plain_node, changed, given_too, with_name, with_argument, with_instantiation, export_kind, import_kind, parameter_kind, package_of, arguments_of, alias_in}
 use Rattle.wac_graph.proofs.Lists.{get_last, set_here, set_other, set_read, found_last, found_other}

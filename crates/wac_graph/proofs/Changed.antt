@@ -1,8 +1,5 @@
 -- Nodes that are changed in their place.
-use Rattle.std.proofs.Common.{◌≡◌, ◌∙◌, ◌<◌, ℕ, Option, Some, None, List, [], length, refl, sym, ap, subst}
-use Rattle.std.specs.Prelude.{slice_get, slice_set, option_and_then, IsSome}
-use Rattle.std.proofs.lemmas.Option.{slice_get_within}
-use Rattle.wac_graph_types.specs.Scope.{Named, IsFresh}
+use Rattle.wac_graph.proofs.Common.{◌≡◌, ◌∙◌, ◌<◌, ℕ, Option, Some, None, List, [], length, refl, sym, ap, subst, slice_get, slice_set, option_and_then, IsSome, slice_get_within, Named, IsFresh}
 use Rattle.wac_graph.specs.Node.{Node, package_in, arguments_in}
 use Rattle.wac_graph.specs.HeldNodes.{arguments_at, changed_in}
 

@@ -1,16 +1,8 @@
 -- A package that is copied in keeps its contents.
-use Rattle.std.proofs.Common.{◌≡◌, ◌∙◌, ap, ℕ, List, [], ◌∷◌, length, refl, map}
-use Rattle.wac_graph_types.specs.declared.kind.ItemKind.{ItemKind}
+use Rattle.wac_graph.proofs.Common.{◌≡◌, ◌∙◌, ap, ℕ, List, [], ◌∷◌, length, refl, map, ItemKind, Meaning, meaning, PackageParts, IsPackage, Named, items_mean, ItemsNamed, package_world, package_instance, package_definitions, moved, moved_items}
 use Rattle.wac_graph_types.specs.declared.kind.ItemKind.TheVariants as kinds
-use Rattle.wac_graph_types.specs.Meaning.{Meaning, meaning}
-use Rattle.wac_graph_types.specs.Package.{PackageParts, IsPackage}
-use Rattle.wac_graph_types.specs.Scope.{Named}
-use Rattle.wac_graph_types.specs.Shape.{items_mean}
-use Rattle.wac_graph_types.specs.Table.{ItemsNamed}
-use Rattle.wac_graph_types.proofs.Packages.{package_world, package_instance, package_definitions}
 use Rattle.wac_graph.specs.Graph.{Parts}
 use Rattle.wac_graph.specs.Means.{means, entry_means, CopiesMean, KeepsKinds}
-use Rattle.wac_graph_copies.specs.Moved.{moved, moved_items}
 use Rattle.wac_graph.specs.Origin.{Naming, copied}
 use Rattle.wac_graph.specs.Package.{Key, HeldPackage, IsHeld}
 use Rattle.wac_graph.specs.Packages.{Contents, contents_in, HoldsContents}

@@ -1,17 +1,11 @@
 -- A kind of an entry that was added names an entry of the table.
-use Rattle.std.proofs.Common.{◌≡◌, ◌<◌, ℕ, Some, List, length, ap, subst, refl, sym, ◌∙◌}
-use Rattle.std.specs.Prelude.{slice_get, option_map, IfSome}
-use Rattle.std.proofs.lemmas.Option.{slice_get_within}
-use Rattle.wac_graph_types.specs.declared.kind.ItemKind.{ItemKind}
+use Rattle.wac_graph.proofs.Common.{◌≡◌, ◌<◌, ℕ, Some, List, length, ap, subst, refl, sym, ◌∙◌, slice_get, option_map, IfSome, slice_get_within, ItemKind, InterfaceId, WorldId, Entry, sort_of, Names}
 use Rattle.wac_graph_types.specs.declared.kind.ItemKind.TheVariants as kinds
 use Rattle.wac_graph_types.specs.declared.kind.«Type».TheVariants as types
 use Rattle.wac_graph_types.specs.declared.kind.ValueType.TheVariants as values
 use Rattle.wac_graph_types.specs.declared.kind.DefinedTypeId.{DefinedTypeId}
 use Rattle.wac_graph_types.specs.declared.kind.ResourceId.{ResourceId}
 use Rattle.wac_graph_types.specs.declared.kind.FuncTypeId.{FuncTypeId}
-use Rattle.wac_graph_types.specs.declared.kind.InterfaceId.{InterfaceId}
-use Rattle.wac_graph_types.specs.declared.kind.WorldId.{WorldId}
-use Rattle.wac_graph_types.specs.declared.entry.Entry.{Entry}
 use Rattle.wac_graph_types.specs.declared.entry.Entry.TheVariants as entries
 use Rattle.wac_graph_types.specs.declared.entry.DefinedType.{DefinedType}
 use Rattle.wac_graph_types.specs.declared.entry.Resource.{Resource}
@@ -19,8 +13,6 @@ use Rattle.wac_graph_types.specs.declared.entry.FuncType.{FuncType}
 use Rattle.wac_graph_types.specs.declared.entry.Interface.{Interface}
 use Rattle.wac_graph_types.specs.declared.entry.World.{World}
 use Rattle.wac_graph_types.specs.Kind.{named_by, sort_named}
-use Rattle.wac_graph_types.specs.Entry.{sort_of}
-use Rattle.wac_graph_types.specs.Table.{Names}
 
 -- a kind that names the entry of a number, where that entry is of the kind's sort
 pub names_at : (es : List Entry) (n : ℕ) (e : Entry) (k : ItemKind) → slice_get es n ≡ Some e → named_by k ≡ Some n → sort_of e ≡ sort_named k → Names es k

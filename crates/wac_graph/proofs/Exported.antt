@@ -1,16 +1,6 @@
 -- What nodes export and packages import names entries of the table, and exists.
-use Rattle.std.proofs.Common.{◌≡◌, ◌<◌, ℕ, Option, Some, None, List, [], length, refl, sym, ap}
-use Rattle.std.specs.Prelude.{slice_get, option_and_then, IfSome}
-use Rattle.std.proofs.lemmas.Option.{slice_get_within}
-use Rattle.wac_graph_types.specs.declared.kind.ItemKind.{ItemKind}
+use Rattle.wac_graph.proofs.Common.{◌≡◌, ◌<◌, ℕ, Option, Some, None, List, [], length, refl, sym, ap, slice_get, option_and_then, IfSome, slice_get_within, ItemKind, InterfaceId, Entry, instance_exports, world_imports, look_up, Names, IsTable, instance_exports_named, world_imports_named, found_named, each_entry_named}
 use Rattle.wac_graph_types.specs.declared.kind.ItemKind.TheVariants as kinds
-use Rattle.wac_graph_types.specs.declared.kind.InterfaceId.{InterfaceId}
-use Rattle.wac_graph_types.specs.declared.entry.Entry.{Entry}
-use Rattle.wac_graph_types.specs.Readings.{instance_exports, world_imports}
-use Rattle.wac_graph_types.specs.Scope.{look_up}
-use Rattle.wac_graph_types.specs.Table.{Names, IsTable}
-use Rattle.wac_graph_types.proofs.Found.{instance_exports_named, world_imports_named, found_named}
-use Rattle.wac_graph_types.proofs.Tables.{each_entry_named}
 use Rattle.wac_graph.specs.Package.{HeldPackage}
 use Rattle.wac_graph.specs.Node.{Node}
 use Rattle.wac_graph.specs.Graph.{Parts, export_kind, import_kind}

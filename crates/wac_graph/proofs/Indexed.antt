@@ -1,13 +1,6 @@
 -- Aliases are found as nodes are added and changed.
-use Rattle.std.proofs.Common.{◌≡◌, ◌∙◌, ◌+◌, ℕ, zero, suc, Option, Some, None, List, [], ◌∷◌, ◌++◌, length, refl, sym, ap, subst, Bool, true, false, cond, ◌&&◌, ◌⊎◌, inl, inr}
-use Rattle.std.specs.Prelude.{slice_get, slice_set, option_map, unwrap_or, nat_eq}
-use Rattle.std.specs.List.{position}
-use Rattle.std.specs.Str.{bytes_eq}
-use Rattle.std.proofs.lemmas.Bool.Decides.{Decides-eqb}
-use Rattle.std.proofs.lemmas.Slice.Eq.{bytes_eq-Decides}
+use Rattle.wac_graph.proofs.Common.{◌≡◌, ◌∙◌, ◌+◌, ℕ, zero, suc, Option, Some, None, List, [], ◌∷◌, ◌++◌, length, refl, sym, ap, subst, Bool, true, false, cond, ◌&&◌, ◌⊎◌, inl, inr, slice_get, slice_set, option_map, unwrap_or, nat_eq, position, bytes_eq, Decides-eqb, bytes_eq-Decides, ItemKind, Named, look_up, with_named, IsFresh}
 use Rattle.std.proofs.lemmas.List.{length-append}
-use Rattle.wac_graph_types.specs.declared.kind.ItemKind.{ItemKind}
-use Rattle.wac_graph_types.specs.Scope.{Named, look_up, with_named, IsFresh}
 use Rattle.wac_graph.specs.Node.{Node, Form, import, definition, alias, instantiation, source_in, is_alias_of}
 use Rattle.wac_graph.specs.Graph.{alias_in, plain_node}
 use Rattle.wac_graph.specs.HeldNodes.{aliases_at, AreIndexed}

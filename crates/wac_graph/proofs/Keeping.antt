@@ -1,17 +1,7 @@
 -- Each building call keeps what is read.
-use Rattle.std.proofs.Common.{◌≡◌, ◌∙◌, ℕ, Option, Some, None, List, [], ◌∷◌, ◌++◌, Bool, true, false, refl, sym, ap, subst, append-nil, arith}
-use Rattle.std.specs.Prelude.{slice_get, slice_set, option_and_then, nat_eq}
-use Rattle.std.proofs.lemmas.Bool.Decides.{nat_tests}
-use Rattle.wac_graph_types.specs.declared.kind.ItemKind.{ItemKind}
+use Rattle.wac_graph.proofs.Common.{◌≡◌, ◌∙◌, ℕ, Option, Some, None, List, [], ◌∷◌, ◌++◌, Bool, true, false, refl, sym, ap, subst, append-nil, arith, slice_get, slice_set, option_and_then, nat_eq, nat_tests, ItemKind, Entry, by_name, as_interface, as_world, world_imports, instance_exports, Named, look_up, Names, KeepsNames, names_kept}
 use Rattle.wac_graph_types.specs.declared.kind.ItemKind.TheVariants as kinds
-use Rattle.wac_graph_types.specs.declared.entry.Entry.{Entry}
-use Rattle.wac_graph_types.specs.Names.{by_name}
-use Rattle.wac_graph_types.specs.Readings.{as_interface, as_world, world_imports, instance_exports}
-use Rattle.wac_graph_types.specs.Scope.{Named, look_up}
-use Rattle.wac_graph_types.specs.Table.{Names}
-use Rattle.wac_graph_types.specs.Growth.{KeepsNames}
 use Rattle.wac_graph_types.proofs.Growing.{names_appended, names_unchanged as names_same}
-use Rattle.wac_graph_types.proofs.Tables.{names_kept}
 use Rattle.wac_graph.specs.Package.{HeldPackage}
 use Rattle.wac_graph.specs.Node.{Node}
 use Rattle.wac_graph.specs.Graph.{Parts, with_entry}

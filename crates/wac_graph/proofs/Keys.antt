@@ -1,9 +1,5 @@
 -- Keys are distinguished by their texts, and aliases by number and text.
-use Rattle.std.proofs.Common.{◌≡◌, ◌∙◌, ℕ, List, Option, Some, None, Bool, true, false, ◌&&◌, refl, sym, ap, arith}
-use Rattle.std.specs.Prelude.{nat_eq, IsTrue, ◌↔◌}
-use Rattle.std.specs.Str.{bytes_eq}
-use Rattle.std.proofs.lemmas.Slice.Eq.{bytes_eq-Decides}
-use Rattle.std.proofs.lemmas.Bool.Decides.{nat_tests}
+use Rattle.wac_graph.proofs.Common.{◌≡◌, ◌∙◌, ℕ, List, Option, Some, None, Bool, true, false, ◌&&◌, refl, sym, ap, arith, nat_eq, IsTrue, ◌↔◌, bytes_eq, bytes_eq-Decides, nat_tests}
 use Rattle.wac_graph.specs.Package.{Key, same_key, same_version}
 use Rattle.wac_graph.specs.Node.{alias, is_alias_of}
 

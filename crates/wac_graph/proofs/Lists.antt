@@ -1,11 +1,5 @@
 -- Lists by number and by name, as one more element is appended, or one is put in another's place.
-use Rattle.std.proofs.Common.{◌≡◌, ◌∙◌, ◌<◌, ◌≤◌, ◌+◌, ℕ, zero, suc, Option, Some, None, List, [], ◌∷◌, ◌++◌, length, refl, sym, ap, subst, arith, Bool, true, false, cond, ◌⊎◌, inl, inr, map}
-use Rattle.std.specs.Prelude.{option_map, slice_get, slice_set, nat_lt, not}
-use Rattle.std.specs.List.{AllByRecursion, position, position_or_len}
-use Rattle.std.specs.Str.{bytes_eq}
-use Rattle.std.proofs.lemmas.Bool.{lt-ltb}
-use Rattle.std.proofs.lemmas.Slice.Eq.{bytes_eq-Decides}
-use Rattle.wac_graph_types.specs.Scope.{Named, look_up, IsFresh}
+use Rattle.wac_graph.proofs.Common.{◌≡◌, ◌∙◌, ◌<◌, ◌≤◌, ◌+◌, ℕ, zero, suc, Option, Some, None, List, [], ◌∷◌, ◌++◌, length, refl, sym, ap, subst, arith, Bool, true, false, cond, ◌⊎◌, inl, inr, map, option_map, slice_get, slice_set, nat_lt, not, AllByRecursion, position, position_or_len, bytes_eq, lt-ltb, bytes_eq-Decides, Named, look_up, IsFresh}
 use Rattle.wac_graph.specs.Sound.{EachAt, Differ, name_in}
 
 -- ---- by number

@@ -1,8 +1,5 @@
 -- Nodes that are found by name.
-use Rattle.std.proofs.Common.{◌≡◌, ◌∙◌, ℕ, List, [], ◌∷◌, Option, Some, None, Bool, true, false, cond, refl, ap}
-use Rattle.std.specs.Prelude.{option_map}
-use Rattle.std.specs.Str.{bytes_eq}
-use Rattle.wac_graph_types.specs.Scope.{Named, look_up, with_named, IsFresh}
+use Rattle.wac_graph.proofs.Common.{◌≡◌, ◌∙◌, ℕ, List, [], ◌∷◌, Option, Some, None, Bool, true, false, cond, refl, ap, option_map, bytes_eq, Named, look_up, with_named, IsFresh}
 use Rattle.wac_graph.specs.NodeNames.{numbers_of}
 use Rattle.wac_graph.specs.declared.node.NodeId.{NodeId}
 

@@ -1,5 +1,5 @@
 -- Origins can be numbered: no two have one number.
-use Rattle.std.proofs.Common.{◌≡◌, ◌∙◌, ◌<◌, ◌+◌, ℕ, zero, suc, List, [], ◌∷◌, Option, Some, None, refl, ap, arith}
+use Rattle.wac_graph.proofs.Common.{◌≡◌, ◌∙◌, ◌<◌, ◌+◌, ℕ, zero, suc, List, [], ◌∷◌, Option, Some, None, refl, ap, arith}
 use Rattle.wac_graph.specs.Package.{Key}
 use Rattle.wac_graph.specs.Origin.{Origin, declared, copied, IsOneToOne, coded, coded_text, coded_version, numbered}
 

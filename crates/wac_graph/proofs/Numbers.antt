@@ -1,6 +1,5 @@
 -- Numbers from one on.
-use Rattle.std.proofs.Common.{◌≡◌, ◌<◌, ◌≤◌, ◌+◌, ◌-◌, ℕ, zero, suc, List, [], ◌∷◌, ap, ◌∙◌, arith}
-use Rattle.std.specs.List.{AllByRecursion}
+use Rattle.wac_graph.proofs.Common.{◌≡◌, ◌<◌, ◌≤◌, ◌+◌, ◌-◌, ℕ, zero, suc, List, [], ◌∷◌, ap, ◌∙◌, arith, AllByRecursion}
 use Rattle.wac_graph.specs.Numbers.{numbers}
 
 pub numbers_step : (n k : ℕ) → n < k → numbers n (k - n) ≡ n ∷ numbers (n + 1) (k - (n + 1))

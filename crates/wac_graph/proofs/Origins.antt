@@ -1,27 +1,10 @@
 -- Where resources come from, as a graph grows.
-use Rattle.std.proofs.Common.{◌≡◌, ◌∙◌, ◌<◌, ◌≤◌, ◌+◌, ◌-◌, ℕ, zero, suc, Option, Some, None, List, [], ◌∷◌, ◌++◌, length, take, refl, sym, ap, arith, Bool, true, false, cond, ◌&&◌, append-nil}
-use Rattle.std.specs.Prelude.{slice_get, nat_le, nat_lt, option_map}
-use Rattle.std.specs.List.{AllByRecursion}
-use Rattle.std.proofs.lemmas.Bool.{lt-ltb, le-ltb}
-use Rattle.std.proofs.lemmas.Bool.Decides.{nat_tests}
-use Rattle.wac_graph_types.specs.declared.kind.ItemKind.{ItemKind}
-use Rattle.wac_graph_types.specs.declared.entry.Entry.{Entry}
-use Rattle.wac_graph_types.specs.Entry.{children}
+use Rattle.wac_graph.proofs.Common.{◌≡◌, ◌∙◌, ◌<◌, ◌≤◌, ◌+◌, ◌-◌, ℕ, zero, suc, Option, Some, None, List, [], ◌∷◌, ◌++◌, length, take, refl, sym, ap, arith, Bool, true, false, cond, ◌&&◌, append-nil, slice_get, nat_le, nat_lt, option_map, AllByRecursion, lt-ltb, le-ltb, nat_tests, ItemKind, Entry, children, node, of_kind, row, meaning, meaning_at, NamesBefore, ChildrenBefore, EachKind, kind_exports, look_up, export_of, Names, export_found, PackageParts, moved, IsGrown, IsGrownBy, MeansTheSame, copies_length}
 use Rattle.wac_graph_types.specs.Label.{label}
-use Rattle.wac_graph_types.specs.Meaning.{node, of_kind, row, meaning, meaning_at, NamesBefore, ChildrenBefore, EachKind}
-use Rattle.wac_graph_types.specs.Readings.{kind_exports}
-use Rattle.wac_graph_types.specs.Scope.{look_up}
-use Rattle.wac_graph_types.specs.Shape.{export_of}
-use Rattle.wac_graph_types.specs.Table.{Names}
-use Rattle.wac_graph_types.proofs.Found.{export_found}
-use Rattle.wac_graph_types.specs.Package.{PackageParts}
 use Rattle.wac_graph_types.proofs.Meanings.{grown_under, meaning_at_entry, added}
 use Rattle.wac_graph.specs.Package.{Key, HeldPackage, IsHeld, moved_package}
 use Rattle.wac_graph.specs.Graph.{Parts, with_entry, with_package}
 use Rattle.wac_graph.specs.Sound.{EachAt, IsSound}
-use Rattle.wac_graph_copies.specs.Moved.{moved}
-use Rattle.wac_graph_copies.specs.Copied.{IsGrown, IsGrownBy, MeansTheSame}
-use Rattle.wac_graph_copies.proofs.Growing.{copies_length}
 use Rattle.wac_graph.specs.Origin.{Origin, Naming, declared, copied}
 use Rattle.wac_graph.specs.Means.{copied_at, own_from, own_resources, resources_in, or_declared, origin_in, declared_count, origin_at, entry_means_in, entry_means, means, KeepsKinds, MeansAdded, EntriesMean, CopiesMean}
 

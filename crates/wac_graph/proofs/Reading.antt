@@ -1,8 +1,5 @@
 -- What is read of a graph exists.
-use Rattle.std.proofs.Common.{◌≡◌, ◌<◌, ℕ, Option, Some, None, List, [], length, sym, ap, arith, rules, Bor}
-use Rattle.std.specs.Prelude.{slice_get, option_map, option_and_then, IfSome, IsSome}
-use Rattle.std.proofs.lemmas.Option.{slice_get_within}
-use Rattle.wac_graph_types.specs.Scope.{Named, look_up}
+use Rattle.wac_graph.proofs.Common.{◌≡◌, ◌<◌, ℕ, Option, Some, None, List, [], length, sym, ap, arith, rules, Bor, slice_get, option_map, option_and_then, IfSome, IsSome, slice_get_within, Named, look_up}
 use Rattle.wac_graph.specs.Node.{Node, Form, import, definition, alias, instantiation, sort_in, source_in, package_in, arguments_in, HasPackage}
 use Rattle.wac_graph.specs.Graph.{Parts, arguments_of, package_of, import_kind, parameter_kind}
 use Rattle.wac_graph.specs.Sound.{NamesNodes, IsSoundNode, IsPlaced}

@@ -1,30 +1,14 @@
 -- What always holds of a graph still holds as it is built.
-use Rattle.std.proofs.Common.{◌≡◌, ◌∙◌, ◌<◌, ◌≤◌, ◌+◌, ℕ, zero, suc, Option, Some, None, List, [], ◌∷◌, ◌++◌, length, length-append, append-nil, refl, sym, ap, subst, arith, true, false, inl, inr}
-use Rattle.std.specs.Prelude.{slice_get, slice_set, IsSome, option_and_then}
-use Rattle.std.specs.List.{AllByRecursion}
-use Rattle.wac_graph_types.specs.declared.kind.ItemKind.{ItemKind}
+use Rattle.wac_graph.proofs.Common.{◌≡◌, ◌∙◌, ◌<◌, ◌≤◌, ◌+◌, ℕ, zero, suc, Option, Some, None, List, [], ◌∷◌, ◌++◌, length, append-nil, refl, sym, ap, subst, arith, true, false, inl, inr, slice_get, slice_set, IsSome, option_and_then, AllByRecursion, ItemKind, Entry, children, EachKind, KeepsMeanings, PackageParts, IsPackage, Named, IsFresh, cons_named, Names, IsTable, ItemsNamed, keeps_appended, package_world, package_instance, package_definitions, names_kept, table_more, moved_items, IsGrown, IsGrownBy, copy_named, copies_length}
+use Rattle.std.proofs.Common.{length-append}
 use Rattle.wac_graph_types.specs.declared.kind.ItemKind.TheVariants as kinds
-use Rattle.wac_graph_types.specs.declared.entry.Entry.{Entry}
-use Rattle.wac_graph_types.specs.Entry.{children}
-use Rattle.wac_graph_types.specs.Meaning.{EachKind}
-use Rattle.wac_graph_types.specs.Growth.{KeepsMeanings}
-use Rattle.wac_graph_types.specs.Package.{PackageParts, IsPackage}
-use Rattle.wac_graph_types.specs.Scope.{Named, IsFresh}
-use Rattle.wac_graph_types.specs.Shape.{cons_named}
-use Rattle.wac_graph_types.specs.Table.{Names, IsTable, ItemsNamed}
-use Rattle.wac_graph_types.proofs.Growing.{keeps_appended}
-use Rattle.wac_graph_types.proofs.Packages.{package_world, package_instance, package_definitions}
 use Rattle.wac_graph_types.proofs.Shapes.{cons_append}
-use Rattle.wac_graph_types.proofs.Tables.{names_kept, table_more}
-use Rattle.wac_graph_copies.specs.Moved.{moved_items}
-use Rattle.wac_graph_copies.specs.Copied.{IsGrown, IsGrownBy}
 use Rattle.wac_graph.specs.Package.{Key, HeldPackage, IsHeld, moved_package, package_keyed, same_key}
 use Rattle.wac_graph.specs.Node.{Node, Form, import, definition, alias, instantiation, import_in, source_in, package_in, arguments_in, is_alias_of}
 use Rattle.wac_graph.specs.Graph.{Parts, empty, plain_node, with_entry, with_import, with_definition, with_export, with_alias, with_instantiation, with_name, with_argument, changed, given_too, export_kind, import_kind, parameter_kind, arguments_of, alias_in}
 use Rattle.wac_graph.specs.Kept.{Keeps}
 use Rattle.wac_graph.specs.Sound.{EachAt, NamesNodes, IsPlaced, IsSoundNode, AliasedOnce, imports_from, IsSound}
 use Rattle.wac_graph.proofs.Exported.{export_kind_names, exporting_there}
-use Rattle.wac_graph_copies.proofs.Growing.{copy_named, copies_length}
 use Rattle.wac_graph.proofs.Keeping.{extends_keeps, no_more, one_more, all_stay, stay_more, stay_set}
 use Rattle.wac_graph.proofs.Keys.{other_key, itself}
 use Rattle.wac_graph.proofs.Lists.{get_more, get_set, set_length, each_more, each_set, differ_more, names_more, found_last, all_more, all_implies, none_at}

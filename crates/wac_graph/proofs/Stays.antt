@@ -1,10 +1,5 @@
 -- What is read of a graph stays through each building call.
-use Rattle.std.proofs.Common.{◌≡◌, ℕ, Option, Some, None, List, [], length, refl}
-use Rattle.std.specs.Prelude.{slice_get, slice_set}
-use Rattle.wac_graph_types.specs.declared.kind.ItemKind.{ItemKind}
-use Rattle.wac_graph_types.specs.declared.entry.Entry.{Entry}
-use Rattle.wac_graph_types.specs.Package.{PackageParts}
-use Rattle.wac_graph_copies.specs.Copied.{IsGrown}
+use Rattle.wac_graph.proofs.Common.{◌≡◌, ℕ, Option, Some, None, List, [], length, refl, slice_get, slice_set, ItemKind, Entry, PackageParts, IsGrown}
 use Rattle.wac_graph.specs.Package.{Key, moved_package}
 use Rattle.wac_graph.specs.Node.{Node, import, definition, alias, instantiation}
 use Rattle.wac_graph.specs.Graph.{Parts, plain_node, changed, given_too, with_entry, with_package, with_import, with_definition, with_export, with_alias, with_instantiation, with_name, with_argument}

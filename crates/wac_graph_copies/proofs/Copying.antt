@@ -1,15 +1,9 @@
 -- A map or set is copied entry by entry, with new numbers.
-use Rattle.std.proofs.Common.{◌≡◌, ◌∙◌, ℕ, List, [], ◌∷◌, ◌++◌, refl, sym, ap, subst, map, Bool, false, append_assoc, append-nil, ◌||◌}
-use Rattle.std.specs.Prelude.{string_bytes, String}
-use Rattle.std.specs.declared.alloc.Global.{Global}
-use Rattle.std.specs.List.{list_any, IsDistinct, AllByRecursion}
-use Rattle.std.specs.Str.{bytes_eq}
+use Rattle.wac_graph_copies.proofs.Common.{◌≡◌, ◌∙◌, ℕ, List, [], ◌∷◌, ◌++◌, refl, sym, ap, subst, map, Bool, false, append_assoc, append-nil, ◌||◌, string_bytes, String, Global, list_any, IsDistinct, AllByRecursion, bytes_eq, by_name, IsFresh}
 use Rattle.std.specs.Bool.{one_answer}
 use Rattle.std.specs.String.{string_eq}
 use Rattle.std.specs.Map.{keys_of}
 use Rattle.std.proofs.lemmas.Slice.Eq.{bytes_eq-Decides}
-use Rattle.wac_graph_types.specs.Names.{by_name}
-use Rattle.wac_graph_types.specs.Scope.{IsFresh}
 use Rattle.wac_graph_types.proofs.Maps.{fresh_name}
 
 bytes_eq-sym : (a b : List ℕ) → bytes_eq a b ≡ bytes_eq b a

@@ -1,12 +1,5 @@
 -- Moved numbers are in a usize's range where the table has room.
-use Rattle.std.proofs.Common.{◌+◌, ◌<◌, ◌^◌, ℕ, Option, Some, None, List, [], ◌∷◌, length, arith}
-use Rattle.std.specs.Prelude.{IfSome}
-use Rattle.wac_graph_types.specs.declared.kind.ItemKind.{ItemKind}
-use Rattle.wac_graph_types.specs.declared.entry.Entry.{Entry}
-use Rattle.wac_graph_types.specs.Kind.{named_by}
-use Rattle.wac_graph_types.specs.Entry.{Slot}
-use Rattle.wac_graph_types.specs.Meaning.{NamesBefore, EachKind}
-use Rattle.wac_graph_types.specs.Table.{ItemsNamed}
+use Rattle.wac_graph_copies.proofs.Common.{◌+◌, ◌<◌, ◌^◌, ℕ, Option, Some, None, List, [], ◌∷◌, length, arith, IfSome, ItemKind, Entry, named_by, Slot, NamesBefore, EachKind, ItemsNamed}
 use Rattle.wac_graph_copies.specs.Moved.{Fits, ItemsFit}
 
 pub kind_fits : (n at : ℕ) (k : ItemKind) → NamesBefore at k → n + at < 2 ^ 64 → Fits n k

@@ -1,13 +1,6 @@
 -- A table grows copy by copy.
-use Rattle.std.proofs.Common.{◌≡◌, ◌∙◌, ◌+◌, ◌<◌, ℕ, zero, suc, Option, Some, None, List, [], ◌∷◌, ◌++◌, refl, sym, ap, subst, take, length, length-append, append_assoc, append-nil, arith}
-use Rattle.std.specs.Prelude.{slice_get, option_map, IfSome}
-use Rattle.wac_graph_types.specs.declared.kind.ItemKind.{ItemKind}
+use Rattle.wac_graph_copies.proofs.Common.{◌≡◌, ◌∙◌, ◌+◌, ◌<◌, ℕ, zero, suc, Option, Some, None, List, [], ◌∷◌, ◌++◌, refl, sym, ap, subst, take, length, length-append, append_assoc, append-nil, arith, slice_get, option_map, IfSome, ItemKind, Entry, named_by, sort_named, Slot, children, sort_of, NamesBefore, EachKind, IsOfSort, Names, IsTable}
 use Rattle.wac_graph_types.specs.declared.kind.Sort.{Sort}
-use Rattle.wac_graph_types.specs.declared.entry.Entry.{Entry}
-use Rattle.wac_graph_types.specs.Kind.{named_by, sort_named}
-use Rattle.wac_graph_types.specs.Entry.{Slot, children, sort_of}
-use Rattle.wac_graph_types.specs.Meaning.{NamesBefore, EachKind}
-use Rattle.wac_graph_types.specs.Table.{IsOfSort, Names, IsTable}
 use Rattle.wac_graph_types.proofs.Tables.{table_more, entry_names}
 use Rattle.wac_graph_copies.specs.Moved.{moved, moved_children}
 use Rattle.wac_graph_copies.specs.Copied.{IsCopy, AreCopies, IsGrown, IsGrownBy}

@@ -1,21 +1,14 @@
 -- What is in an entry, seen by name.
-use Rattle.std.proofs.Common.{◌≡◌, ◌∙◌, ◌+◌, ℕ, zero, suc, Bool, Option, Some, None, List, [], ◌∷◌, ◌++◌, refl, sym, ap, subst, map, take, length, get_or, ◌<◌, add-one, arith}
-use Rattle.std.specs.Prelude.{string_bytes, option_map, slice_get, IfSome, String}
-use Rattle.std.specs.declared.alloc.Global.{Global}
-use Rattle.wac_graph_types.specs.declared.kind.ValueType.{ValueType}
-use Rattle.wac_graph_types.specs.declared.kind.ItemKind.{ItemKind}
+use Rattle.wac_graph_copies.proofs.Common.{◌≡◌, ◌∙◌, ◌+◌, ℕ, zero, suc, Bool, Option, Some, None, List, [], ◌∷◌, ◌++◌, refl, sym, ap, subst, map, take, length, get_or, ◌<◌, add-one, arith, string_bytes, option_map, slice_get, IfSome, String, Global, ValueType, ItemKind, EachKind, by_name, plain, func, interface, world, Slot, only, given, tuple_children, used, import, export, optional, value_children, named_result_children, result_children, case_children, name_children, use_children, import_children, export_children}
 use Rattle.wac_graph_types.specs.declared.kind.ItemKind.TheVariants as kinds
 use Rattle.wac_graph_types.specs.declared.entry.UsedType.{UsedType}
-use Rattle.wac_graph_types.specs.Meaning.{EachKind}
-use Rattle.wac_graph_types.specs.Names.{by_name}
 use Rattle.wac_graph_copies.specs.Moved.{moved, moved_value, moved_child, moved_children, moved_items, Fits, ItemsFit}
 use Rattle.wac_graph_copies.specs.Copied.{IsCopy}
 use Rattle.wac_graph_types.specs.declared.entry.Entry.TheVariants as entries
 use Rattle.wac_graph_types.specs.declared.entry.FuncType.{FuncType}
 use Rattle.wac_graph_types.specs.declared.entry.Interface.{Interface}
 use Rattle.wac_graph_types.specs.declared.entry.World.{World}
-use Rattle.wac_graph_types.specs.Label.{plain, func, interface, world}
-use Rattle.wac_graph_types.specs.Entry.{Slot, only, named, given, tuple_children, used, import, export, optional, value_children, named_result_children, result_children, case_children, name_children, use_children, import_children, export_children}
+use Rattle.wac_graph_types.specs.Entry.{named}
 
 abbrev pub value_child : List ℕ × ValueType → Slot × Option ItemKind
 value_child e = (named e.0, Some (kinds.Value e.1))

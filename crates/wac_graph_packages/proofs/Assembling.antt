@@ -1,19 +1,11 @@
 -- Tables that grow by a world and an interface.
-use Rattle.std.proofs.Common.{◌≡◌, ◌∙◌, ◌+◌, ◌<◌, ◌≤◌, ℕ, Option, Some, None, List, [], ◌∷◌, ◌++◌, length, refl, sym, ap, subst, arith, append_assoc, append-nil, Result, Ok, Err}
-use Rattle.std.specs.Prelude.{IfSome, slice_get, option_and_then, OnOk, OnErr}
-use Rattle.wac_graph_types.specs.declared.entry.Entry.{Entry}
+use Rattle.wac_graph_packages.proofs.Common.{◌≡◌, ◌∙◌, ◌+◌, ◌<◌, ◌≤◌, ℕ, Option, Some, None, List, [], ◌∷◌, ◌++◌, length, refl, sym, ap, subst, arith, append_assoc, append-nil, Result, Ok, Err, IfSome, slice_get, option_and_then, OnOk, OnErr, Entry, ItemKind, WorldId, KeepsMeanings, by_name, Named, IsGrown}
 use Rattle.wac_graph_types.specs.declared.entry.Entry.TheVariants as entries
 use Rattle.wac_graph_types.specs.declared.entry.World.{World}
-use Rattle.wac_graph_types.specs.declared.kind.ItemKind.{ItemKind}
-use Rattle.wac_graph_types.specs.declared.kind.WorldId.{WorldId}
-use Rattle.wac_graph_types.specs.Growth.{KeepsMeanings}
 use Rattle.wac_graph_types.specs.Kind.{named_by}
-use Rattle.wac_graph_types.specs.Names.{by_name}
 use Rattle.wac_graph_types.specs.Readings.{as_world, world_imports, world_exports}
 use Rattle.wac_graph_types.specs.Package.{PackageParts}
-use Rattle.wac_graph_types.specs.Scope.{Named}
 use Rattle.wac_graph_types.proofs.Growing.{keeps_appended}
-use Rattle.wac_graph_copies.specs.Copied.{IsGrown}
 use Rattle.wac_graph_packages.specs.Definitions.{HasWorld, IsChosen, IsWorld}
 
 before_more : (n m : ℕ) (x : Option ℕ) → n ≤ m → IfSome x (λ i. i < n) → IfSome x (λ i. i < m)

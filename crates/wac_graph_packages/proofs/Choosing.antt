@@ -1,8 +1,5 @@
 -- Which world is chosen.
-use Rattle.std.proofs.Common.{◌≡◌, ◌∙◌, ℕ, Some, None, List, [], ◌∷◌, ◌++◌, length, refl, sym, ap, arith, append_assoc, append-nil, get_or}
-use Rattle.wac_graph_types.specs.declared.kind.ItemKind.{ItemKind}
-use Rattle.wac_graph_types.specs.declared.kind.WorldId.{WorldId}
-use Rattle.wac_graph_types.specs.Scope.{Named}
+use Rattle.wac_graph_packages.proofs.Common.{◌≡◌, ◌∙◌, ℕ, Some, None, List, [], ◌∷◌, ◌++◌, length, refl, sym, ap, arith, append_assoc, append-nil, get_or, ItemKind, WorldId, Named}
 use Rattle.wac_graph_packages.specs.Definitions.{listed, sole, world_of, worlds_in}
 
 -- one definition more was gone over

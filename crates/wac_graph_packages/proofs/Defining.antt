@@ -1,11 +1,8 @@
 -- Definitions by name, as the exports of a graph are gone over.
-use Rattle.std.proofs.Common.{◌≡◌, ◌∙◌, ◌<◌, ℕ, zero, suc, Option, Some, List, [], ◌∷◌, ◌++◌, length, refl, sym, ap, subst, map, Bool, false, true, arith, append_assoc, append-nil, ◌||◌}
-use Rattle.std.specs.Prelude.{slice_get}
+use Rattle.wac_graph_packages.proofs.Common.{◌≡◌, ◌∙◌, ◌<◌, ℕ, zero, suc, Option, Some, List, [], ◌∷◌, ◌++◌, length, refl, sym, ap, subst, map, Bool, false, true, arith, append_assoc, append-nil, ◌||◌, slice_get, ItemKind, Named, IsFresh}
 use Rattle.std.specs.List.{list_any, AllByRecursion}
 use Rattle.std.specs.Str.{bytes_eq}
 use Rattle.std.proofs.lemmas.Slice.Eq.{bytes_eq-Decides}
-use Rattle.wac_graph_types.specs.declared.kind.ItemKind.{ItemKind}
-use Rattle.wac_graph_types.specs.Scope.{Named, IsFresh}
 use Rattle.wac_graph_types.proofs.Maps.{fresh_name}
 use Rattle.wac_graph.specs.Graph.{Parts}
 use Rattle.wac_graph.specs.Sound.{Differ, IsSound, NamesNodes, name_in}

@@ -1,3 +1,4 @@
+pub mod Common
 mod Assembling
 mod Choosing
 mod Defining

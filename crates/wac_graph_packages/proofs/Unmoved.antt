@@ -1,18 +1,14 @@
 -- A copy with the numbers of what it is a copy of.
-use Rattle.std.proofs.Common.{◌≡◌, ◌∙◌, ◌+◌, ◌<◌, ◌^◌, ℕ, List, [], ◌∷◌, length, refl, ap, subst, arith}
+use Rattle.wac_graph_packages.proofs.Common.{◌≡◌, ◌∙◌, ◌+◌, ◌<◌, ◌^◌, ℕ, List, [], ◌∷◌, length, refl, ap, subst, arith, Entry, ItemKind, KeepsMeanings, AreCopies, IsGrownBy, MeansTheSame}
 use Rattle.std.proofs.Math.Nat.{zero-add}
 use Rattle.std.proofs.Math.Path.{fun_ext}
-use Rattle.wac_graph_types.specs.declared.entry.Entry.{Entry}
 use Rattle.wac_graph_types.specs.declared.kind.ValueType.{ValueType}
 use Rattle.wac_graph_types.specs.declared.kind.ValueType.TheVariants as values
 use Rattle.wac_graph_types.specs.declared.kind.«Type».{«Type» as ItemType}
 use Rattle.wac_graph_types.specs.declared.kind.«Type».TheVariants as types
-use Rattle.wac_graph_types.specs.declared.kind.ItemKind.{ItemKind}
 use Rattle.wac_graph_types.specs.declared.kind.ItemKind.TheVariants as kinds
-use Rattle.wac_graph_types.specs.Growth.{KeepsMeanings}
 use Rattle.wac_graph_types.specs.Meaning.{meaning}
 use Rattle.wac_graph_types.specs.Table.{ItemsNamed}
-use Rattle.wac_graph_copies.specs.Copied.{AreCopies, IsGrownBy, MeansTheSame}
 use Rattle.wac_graph_copies.specs.Moved.{moved, moved_value, moved_type, moved_items, ItemsFit}
 use Rattle.wac_graph_copies.proofs.Fitting.{items_fit}
 

@@ -1,7 +1,5 @@
 -- A test of each element, place by place: what is left decides.
-use Rattle.std.proofs.Common.{◌≡◌, ◌+◌, ℕ, suc, List, [], ◌∷◌, length, drop, sym, Some, subst, add-one}
-use Rattle.std.specs.Prelude.{slice_get}
-use Rattle.std.specs.List.{AllByRecursion}
+use Rattle.wac_graph_types.proofs.Common.{◌≡◌, ◌+◌, ℕ, suc, List, [], ◌∷◌, length, drop, sym, Some, subst, add-one, slice_get, AllByRecursion}
 use Rattle.wac_graph_types.specs.Meaning.{EachFrom}
 use Rattle.wac_graph_types.proofs.Rows.{drop_some, drop_past}
 

@@ -1,7 +1,5 @@
 -- An interface or world of a table has exports that name earlier entries.
-use Rattle.std.proofs.Common.{◌≡◌, ◌<◌, ◌++◌, ℕ, zero, suc, List, [], ◌∷◌, length, arith, rules, Option, Some, None, Bool, sym, ap, ◌∙◌}
-use Rattle.std.specs.Prelude.{slice_get, option_map, option_and_then, IsSome, IsTrue, ◌↔◌, String}
-use Rattle.std.specs.declared.alloc.Global.{Global}
+use Rattle.wac_graph_types.proofs.Common.{◌≡◌, ◌<◌, ◌++◌, ℕ, zero, suc, List, [], ◌∷◌, length, arith, rules, Option, Some, None, Bool, sym, ap, ◌∙◌, slice_get, option_map, option_and_then, IsSome, IsTrue, ◌↔◌, String, Global}
 use Rattle.wac_graph_types.specs.declared.kind.ItemKind.{ItemKind}
 use Rattle.wac_graph_types.specs.declared.kind.Sort.TheVariants as sorts
 use Rattle.wac_graph_types.specs.declared.entry.Entry.{Entry}

@@ -1,5 +1,5 @@
 -- A table that grows keeps its meanings.
-use Rattle.std.proofs.Common.{◌≡◌, List, [], ◌∷◌, ◌++◌, sym, subst, ap, ◌∙◌}
+use Rattle.wac_graph_types.proofs.Common.{◌≡◌, List, [], ◌∷◌, ◌++◌, sym, subst, ap, ◌∙◌}
 use Rattle.wac_graph_types.specs.declared.entry.Entry.{Entry}
 use Rattle.wac_graph_types.specs.Growth.{KeepsMeanings, KeepsNames}
 use Rattle.wac_graph_types.specs.Table.{Names}

@@ -1,7 +1,5 @@
 -- A map by name, entry by entry.
-use Rattle.std.proofs.Common.{◌≡◌, ◌∙◌, ℕ, zero, suc, Some, List, [], ◌∷◌, refl, sym, ap, subst, length}
-use Rattle.std.specs.Prelude.{String, string_bytes, slice_get}
-use Rattle.std.specs.declared.alloc.Global.{Global}
+use Rattle.wac_graph_types.proofs.Common.{◌≡◌, ◌∙◌, ℕ, zero, suc, Some, List, [], ◌∷◌, refl, sym, ap, subst, length, String, string_bytes, slice_get, Global}
 use Rattle.wac_graph_types.specs.declared.kind.ItemKind.{ItemKind}
 use Rattle.wac_graph_types.specs.declared.entry.Entry.{Entry}
 use Rattle.wac_graph_types.specs.Names.{by_name}

@@ -1,5 +1,5 @@
 -- What a package names is in its table.
-use Rattle.std.proofs.Common.{length, List, [], ◌∷◌, ℕ}
+use Rattle.wac_graph_types.proofs.Common.{length, List, [], ◌∷◌, ℕ}
 use Rattle.wac_graph_types.specs.declared.kind.ItemKind.{ItemKind}
 use Rattle.wac_graph_types.specs.declared.kind.ItemKind.TheVariants as kinds
 use Rattle.wac_graph_types.specs.declared.entry.Entry.{Entry}

@@ -1,7 +1,5 @@
 -- What an entry means, made of its parts.
-use Rattle.std.proofs.Common.{◌≡◌, ℕ, List, [], ◌∷◌, ◌++◌, map, Some, Option, refl, ◌∙◌, ap}
-use Rattle.std.specs.Prelude.{string_bytes, option_map, String}
-use Rattle.std.specs.declared.alloc.Global.{Global}
+use Rattle.wac_graph_types.proofs.Common.{◌≡◌, ℕ, List, [], ◌∷◌, ◌++◌, map, Some, Option, refl, ◌∙◌, ap, string_bytes, option_map, String, Global}
 use Rattle.wac_graph_types.specs.declared.kind.ItemKind.{ItemKind}
 use Rattle.wac_graph_types.specs.declared.kind.ItemKind.TheVariants as kinds
 use Rattle.wac_graph_types.specs.declared.kind.ValueType.{ValueType}

@@ -1,7 +1,5 @@
 -- All pairs in slots mean the same, also after others are added.
-use Rattle.std.proofs.Common.{◌≡◌, ℕ, zero, suc, List, Some, ap, refl, subst, set, replicate}
-use Rattle.std.specs.Prelude.{slice_get}
-use Rattle.std.proofs.lemmas.Option.{slice_get_within, get_or_from_slice_get}
+use Rattle.wac_graph_types.proofs.Common.{◌≡◌, ℕ, zero, suc, List, Some, ap, refl, subst, set, replicate, slice_get, slice_get_within, get_or_from_slice_get}
 use Rattle.std.proofs.lemmas.List.Elements.{All-replicate, All-set}
 use Rattle.wac_graph_types.specs.declared.entry.Entry.{Entry}
 use Rattle.wac_graph_types.specs.Meaning.{Alike}

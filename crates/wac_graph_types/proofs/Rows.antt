@@ -1,11 +1,9 @@
 -- Rows of meanings are compared place by place: what is left decides.
-use Rattle.std.proofs.Common.{◌≡◌, ◌≢◌, ◌+◌, ◌*◌, ◌<◌, ◌≤◌, ℕ, zero, suc, List, [], ◌∷◌, length, drop, refl, sym, ◌∙◌, ap, arith, Option, Some, None, subst, get_or, add-one, true, false}
-use Rattle.std.specs.Prelude.{slice_get, IfSome, IsTrue}
+use Rattle.wac_graph_types.proofs.Common.{◌≡◌, ◌≢◌, ◌+◌, ◌*◌, ◌<◌, ◌≤◌, ℕ, zero, suc, List, [], ◌∷◌, length, drop, refl, sym, ◌∙◌, ap, arith, Option, Some, None, subst, get_or, add-one, true, false, slice_get, IfSome, IsTrue, slice_get_read}
 use Rattle.wac_graph_types.specs.declared.kind.ItemKind.{ItemKind}
 use Rattle.wac_graph_types.specs.declared.entry.Entry.{Entry}
 use Rattle.wac_graph_types.specs.Kind.{named_by}
 use Rattle.wac_graph_types.specs.Entry.{Slot, children}
-use Rattle.std.proofs.lemmas.Option.{slice_get_read}
 use Rattle.wac_graph_types.specs.Label.{Label, label}
 use Rattle.wac_graph_types.proofs.Meanings.{meaning_at_entry}
 use Rattle.wac_graph_types.specs.Meaning.{Meaning, meaning_at, node, Row, done, more, of_child, row, NamesBefore, ChildrenBefore, EarlierFrom, IsEarlier}

@@ -1,7 +1,5 @@
 -- What is read of a meaning is what its kind says.
-use Rattle.std.proofs.Common.{◌≡◌, ℕ, List, [], ◌∷◌, ◌++◌, Some, None, Option, Bool, true, false, cond, refl, ◌∙◌, ap, append-nil}
-use Rattle.std.specs.Prelude.{option_map}
-use Rattle.std.specs.Str.{bytes_eq}
+use Rattle.wac_graph_types.proofs.Common.{◌≡◌, ℕ, List, [], ◌∷◌, ◌++◌, Some, None, Option, Bool, true, false, cond, refl, ◌∙◌, ap, append-nil, option_map, bytes_eq}
 use Rattle.wac_graph_types.specs.declared.kind.«Type».TheVariants as types
 use Rattle.wac_graph_types.specs.declared.kind.ItemKind.{ItemKind}
 use Rattle.wac_graph_types.specs.declared.kind.ItemKind.TheVariants as kinds

@@ -1,7 +1,5 @@
 -- A table stays one as entries are added that name older ones.
-use Rattle.std.proofs.Common.{◌≡◌, ◌<◌, ℕ, zero, suc, Option, Some, None, List, [], ◌∷◌, ◌++◌, length, length-append, subst, arith}
-use Rattle.std.specs.Prelude.{slice_get, option_map, IfSome}
-use Rattle.std.proofs.lemmas.Option.{slice_get_within}
+use Rattle.wac_graph_types.proofs.Common.{◌≡◌, ◌<◌, ℕ, zero, suc, Option, Some, None, List, [], ◌∷◌, ◌++◌, length, length-append, subst, arith, slice_get, option_map, IfSome, slice_get_within}
 use Rattle.wac_graph_types.specs.declared.kind.ItemKind.{ItemKind}
 use Rattle.wac_graph_types.specs.declared.kind.Sort.{Sort}
 use Rattle.wac_graph_types.specs.declared.entry.Entry.{Entry}

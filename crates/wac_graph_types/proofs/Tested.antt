@@ -1,5 +1,5 @@
 -- What tests over all kinds of a package say of it.
-use Rattle.std.proofs.Common.{ℕ, List, length}
+use Rattle.wac_graph_types.proofs.Common.{ℕ, List, length}
 use Rattle.wac_graph_types.specs.declared.kind.ItemKind.{ItemKind}
 use Rattle.wac_graph_types.specs.declared.entry.Entry.{Entry}
 use Rattle.wac_graph_types.specs.declared.package.Test.TheVariants as tests

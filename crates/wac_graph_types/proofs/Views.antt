@@ -1,8 +1,5 @@
 -- Maps by name, seen as the kinds in an entry.
-use Rattle.std.proofs.Common.{◌≡◌, ◌∙◌, ℕ, List, [], ◌∷◌, Option, length, map, refl, sym, ap, suc}
-use Rattle.std.specs.Prelude.{String, slice_get, option_map}
-use Rattle.std.specs.declared.alloc.Global.{Global}
-use Rattle.std.proofs.lemmas.Option.{slice_get-map}
+use Rattle.wac_graph_types.proofs.Common.{◌≡◌, ◌∙◌, ℕ, List, [], ◌∷◌, Option, length, map, refl, sym, ap, suc, String, slice_get, option_map, Global, slice_get-map}
 use Rattle.wac_graph_types.specs.declared.kind.ItemKind.{ItemKind}
 use Rattle.wac_graph_types.specs.Entry.{export_children}
 

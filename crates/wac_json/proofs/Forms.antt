@@ -1,10 +1,7 @@
 -- Forms of lists and of optional parts.
-use Rattle.std.proofs.Common.{◌≡◌, ◌∙◌, List, [], ◌∷◌, map, refl, ap, Result, Ok, Err, IfOk}
-use Rattle.serde_json.specs.Data.{Data, array, item}
+use Rattle.wac_json.proofs.Common.{◌≡◌, ◌∙◌, List, [], ◌∷◌, map, refl, ap, Result, Ok, Err, IfOk, Data, array, item, Value, list_json, list_of-map, optional-map}
 use Rattle.serde_json.specs.View as view
-use Rattle.serde_json.specs.declared.value.Value.{Value}
-use Rattle.wac_json_forms.specs.Forms.{items_of, list_json}
-use Rattle.wac_json_forms.proofs.Lists.{list_of-map, optional-map}
+use Rattle.wac_json_forms.specs.Forms.{items_of}
 
 -- the items of a list's form, as the data of each
 pub items_are : {X : Type 0} (form : X → Data) (xs : List X) → view.items_of (map form xs) ≡ items_of form xs

@@ -1,11 +1,8 @@
 -- One more item or member without floats.
-use Rattle.std.proofs.Common.{◌≡◌, List, ℕ, [], ◌∷◌, ◌++◌, Ordering, Less, Equal, Greater, false, refl}
+use Rattle.wac_json.proofs.Common.{◌≡◌, List, ℕ, [], ◌∷◌, ◌++◌, Ordering, Less, Equal, Greater, false, refl, Data, Members, no_members, member, put, view, items_view, Value}
 use Rattle.std.specs.Ordering.{match_ordering}
 use Rattle.std.proofs.lemmas.Bool.{or_parts}
-use Rattle.serde_json.specs.Data.{Data, Members, no_members, member, put}
-use Rattle.serde_json.specs.View.{view, items_view}
 use Rattle.serde_json.specs.Written.{has_float, items_have_float, members_have_float}
-use Rattle.serde_json.specs.declared.value.Value.{Value}
 
 chosen : (o : Ordering) (a b c : Members) → members_have_float a ≡ false → members_have_float b ≡ false → members_have_float c ≡ false
     → members_have_float (match_ordering o a b c) ≡ false

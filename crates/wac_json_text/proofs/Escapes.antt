@@ -1,26 +1,16 @@
 -- Texts with the escapes of a JSON string.
-use Rattle.std.proofs.Common.{◌≡◌, ◌≤◌, ◌<◌, ◌+◌, ◌*◌, ℕ, zero, suc, inl, inr, one-add, Bool, codes, decimal, Some, None, true, false, cond, List, [], ◌∷◌, ◌++◌, take, drop, length, get_or, append-nil, refl, sym, ap, ◌∙◌, subst, arith, ⊎_elim, Result, Ok, Err}
-use Rattle.std.specs.Prelude.{◌||◌, ◌&&◌, ◌⊎◌, not, nat_eq, nat_le, nat_lt}
-use Rattle.std.specs.List.{prefix_len, slice_get, AllByRecursion}
-use Rattle.std.specs.Str.{IsAscii, IsUtf8, IsCharBoundary, bytes_eq}
+use Rattle.wac_json_text.proofs.Common.{◌≡◌, ◌≤◌, ◌<◌, ◌+◌, ◌*◌, ℕ, zero, suc, inl, inr, one-add, Bool, codes, decimal, Some, None, true, false, cond, List, [], ◌∷◌, ◌++◌, take, drop, length, get_or, append-nil, refl, sym, ap, ◌∙◌, subst, arith, ⊎_elim, Result, Ok, Err, ◌||◌, ◌&&◌, ◌⊎◌, not, nat_eq, nat_le, nat_lt, prefix_len, slice_get, AllByRecursion, IsAscii, IsUtf8, IsCharBoundary, bytes_eq, IsCharBoundary-before_ascii, IsCharBoundary-end, escape, escape_byte, marked, parts_text, Piece, blank, text, fresh_after, Printer, Prints, PrintError, prints_same, after-append, after-blank, goes, stops, wrote_all}
 use Rattle.std.proofs.Math.Seq.{take-add}
 use Rattle.std.proofs.lemmas.Bool.{eqb-true, leb-false, ltb-true}
 use Rattle.std.proofs.lemmas.List.{take-append-drop, take_all, take_more}
 use Rattle.std.proofs.lemmas.List.Sums.{prefix_len-le-length, prefix_len_stops}
 use Rattle.std.proofs.lemmas.Grind.{flat_map-append}
 use Rattle.std.proofs.lemmas.Str.Ascii.{IsAscii-from_all}
-use Rattle.std.proofs.lemmas.Str.{IsCharBoundary-before_ascii, IsCharBoundary-end}
-use Rattle.json.specs.Print.{escape, escape_byte}
 use Rattle.wac_lexer.proofs.States.{below, below_at}
 use Rattle.wac_lexer.proofs.Texts.{bytes_eq_is}
 use Rattle.wac_printer_layout.proofs.Bytes.{utf8_bytes}
 use Rattle.semver.specs.Parse.{Parts}
-use Rattle.semver.specs.Identifiers.{marked, parts_text}
-use Rattle.wac_printer_layout.specs.Printed.{Piece, blank, text, fresh_after}
-use Rattle.wac_printer_pieces.specs.Printed.{Printer, Prints, after}
-use Rattle.wac_printer_pieces.specs.declared.error.PrintError.{PrintError}
-use Rattle.wac_printer_pieces.proofs.Indentation.{prints_same}
-use Rattle.wac_printer_pieces.proofs.Printing.{after-append, after-blank, goes, stops, wrote_all}
+use Rattle.wac_printer_pieces.specs.Printed.{after}
 use Rattle.wac_json_text.specs.Pieces.{code_escape, is_plain, marked_pieces, version_pieces}
 use Rattle.wac_json_text.specs.declared.text.TheConstants.{CODES}
 use Rattle.wac_json_text.proofs.Texts.{one_text}

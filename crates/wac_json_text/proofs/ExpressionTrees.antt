@@ -1,13 +1,6 @@
 -- The trees of expressions, which hold others of their kind, as JSON.
-use Rattle.std.proofs.Common.{◌≡◌, sym, Result}
+use Rattle.wac_json_text.proofs.Common.{◌≡◌, sym, Result, argument_of, expr_of, primary_expr_of, InstantiationArgument, PrimaryExpr, Printer, Prints, PrintError, printed_at, argument_json, primary_expr_json}
 use Rattle.wac_ast_grammar.specs.Tree as tree
-use Rattle.wac_ast_expressions.specs.Expressions.{argument_of, expr_of, primary_expr_of}
-use Rattle.wac_ast_expressions.specs.declared.expr.InstantiationArgument.{InstantiationArgument}
-use Rattle.wac_ast_expressions.specs.declared.expr.PrimaryExpr.{PrimaryExpr}
-use Rattle.wac_printer_pieces.specs.Printed.{Printer, Prints}
-use Rattle.wac_printer_pieces.specs.declared.error.PrintError.{PrintError}
-use Rattle.wac_printer_pieces.proofs.Sequence.{printed_at}
-use Rattle.wac_json_forms.specs.Forms.{argument_json, primary_expr_json}
 use Rattle.wac_json_text.specs.Pieces.{pieces}
 
 -- a primary expression, or an argument, that is another

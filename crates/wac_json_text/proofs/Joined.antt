@@ -1,16 +1,8 @@
 -- Steps joined by `and`, by the text that they write: constants side by side are one, and two calls write as one.
-use Rattle.std.proofs.Common.{◌≡◌, ℕ, Bool, true, false, List, [], ◌∷◌, ◌++◌, codes, append_assoc, append-nil, refl, sym, ap, ◌∙◌, subst, Result, Ok, Err}
+use Rattle.wac_json_text.proofs.Common.{◌≡◌, ℕ, Bool, true, false, List, [], ◌∷◌, ◌++◌, codes, append_assoc, append-nil, refl, sym, ap, ◌∙◌, subst, Result, Ok, Err, escape, quoted, Data, null, boolean, number, string, array, object, Items, no_items, item, Members, no_members, member, comma_if, compact_text, items_text, members_text, number_text, Piece, blank, text, text_of, fresh_after, Printer, Prints, PrintError, prints_same, text-append, items_of}
 use Rattle.std.specs.Result.{result_and}
-use Rattle.json.specs.Print.{escape, quoted}
-use Rattle.serde_json.specs.Data.{Data, null, boolean, number, string, array, object, Items, no_items, item, Members, no_members, member}
-use Rattle.serde_json.specs.Written.{comma_if, compact_text, items_text, members_text, number_text}
-use Rattle.wac_printer_layout.specs.Printed.{Piece, blank, text, text_of, fresh_after}
-use Rattle.wac_printer_pieces.specs.Printed.{Printer, Prints, after}
-use Rattle.wac_printer_pieces.specs.declared.error.PrintError.{PrintError}
-use Rattle.wac_printer_pieces.proofs.Indentation.{prints_same}
-use Rattle.wac_printer_pieces.proofs.Printing.{text-append}
+use Rattle.wac_printer_pieces.specs.Printed.{after}
 use Rattle.wac_printer_pieces.proofs.Sequence as step
-use Rattle.wac_json_forms.specs.Forms.{items_of}
 use Rattle.wac_json_text.specs.Pieces.{pieces, joined_pieces}
 use Rattle.wac_json_text.proofs.Texts.{closed_items, written_is}
 

@@ -1,3 +1,4 @@
+pub mod Common
 pub mod Texts
 pub mod Joined
 pub mod Escapes

@@ -1,9 +1,5 @@
 -- What writing a value into a new sink gives.
-use Rattle.std.proofs.Common.{◌≡◌, ℕ, true, false, List, ◌++◌, Result, Ok, Err, OnOk, OnErr, sym, ap, ◌∙◌, subst}
-use Rattle.serde_json.specs.Data.{Data}
-use Rattle.serde_json.specs.Written.{compact_text}
-use Rattle.wac_printer_pieces.specs.Printed.{Printer, Prints}
-use Rattle.wac_printer_pieces.specs.declared.error.PrintError.{PrintError}
+use Rattle.wac_json_text.proofs.Common.{◌≡◌, ℕ, true, false, List, ◌++◌, Result, Ok, Err, OnOk, OnErr, sym, ap, ◌∙◌, subst, Data, compact_text, Printer, Prints, PrintError}
 use Rattle.wac_json_text.specs.Pieces.{pieces, IsBegun}
 use Rattle.wac_json_text.proofs.Texts.{begun, wrote_text}
 

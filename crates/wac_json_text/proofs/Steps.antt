@@ -1,14 +1,6 @@
 -- What the writer's functions cite.
-use Rattle.std.proofs.Common.{List, map, sym, Result, Option}
-use Rattle.std.specs.Option.{option_map}
-use Rattle.serde_json.specs.Data.{Data}
-use Rattle.wac_printer_pieces.specs.Printed.{Printer, Prints}
-use Rattle.wac_printer_pieces.specs.declared.error.PrintError.{PrintError}
-use Rattle.wac_printer_pieces.proofs.Printing.{seq}
-use Rattle.wac_printer_pieces.proofs.Sequence.{printed_at}
-use Rattle.wac_json_forms.specs.Forms.{list_json, optional}
+use Rattle.wac_json_text.proofs.Common.{List, map, sym, Result, Option, option_map, Data, Printer, Prints, PrintError, seq, printed_at, list_json, optional, list_of-map, optional-map}
 use Rattle.wac_json_text.specs.Pieces.{pieces}
-use Rattle.wac_json_forms.proofs.Lists.{list_of-map, optional-map}
 
 pub ruleset steps = (seq, list_of-map, optional-map)
 

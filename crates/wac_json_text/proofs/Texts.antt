@@ -1,14 +1,6 @@
 -- The parts that are put for a value are its compact text.
-use Rattle.std.proofs.Common.{◌≡◌, ℕ, Bool, true, false, List, [], ◌∷◌, ◌++◌, map, length, codes, append_assoc, append-nil, refl, sym, ap, ◌∙◌, arith, Result, Ok, Err, OnErr}
-use Rattle.std.specs.List.{flat_map}
-use Rattle.json.specs.Print.{quoted}
-use Rattle.serde_json.specs.Data.{Data, null, boolean, number, string, array, object, Items, no_items, item, Members, no_members, member}
-use Rattle.serde_json.specs.Written.{compact_text, items_text, members_text, number_text}
-use Rattle.wac_printer_layout.specs.Printed.{Piece, blank, text, fresh_after}
-use Rattle.wac_printer_pieces.specs.Printed.{Printer, Prints, after, is_front, has_failed}
-use Rattle.wac_printer_pieces.specs.declared.error.PrintError.{PrintError}
-use Rattle.wac_printer_pieces.proofs.Printing.{text-append, after-blank, fresh_after-append}
-use Rattle.wac_json_forms.specs.Forms.{items_of, list_json, optional}
+use Rattle.wac_json_text.proofs.Common.{◌≡◌, ℕ, Bool, true, false, List, [], ◌∷◌, ◌++◌, map, length, codes, append_assoc, append-nil, refl, sym, ap, ◌∙◌, arith, Result, Ok, Err, OnErr, flat_map, quoted, Data, null, boolean, number, string, array, object, Items, no_items, item, Members, no_members, member, compact_text, items_text, members_text, number_text, Piece, blank, text, fresh_after, Printer, Prints, is_front, has_failed, PrintError, text-append, after-blank, fresh_after-append, items_of, list_json, optional}
+use Rattle.wac_printer_pieces.specs.Printed.{after}
 use Rattle.wac_json_text.specs.Pieces.{pieces, items_pieces, others_pieces, members_pieces, behind_comma, joined_pieces, list_pieces, IsBegun}
 
 -- a value, and what follows it

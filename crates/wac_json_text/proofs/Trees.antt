@@ -1,17 +1,10 @@
 -- The trees of types and of expressions, which hold others of their kind, as JSON.
-use Rattle.std.proofs.Common.{◌≡◌, ℕ, List, [], ◌∷◌, ◌++◌, codes, decimal, sym, Result}
-use Rattle.serde_json.specs.Data.{Data}
+use Rattle.wac_json_text.proofs.Common.{◌≡◌, ℕ, List, [], ◌∷◌, ◌++◌, codes, decimal, sym, Result, Data, blank, ty_of, Printer, Prints, PrintError, printed_at, ty_json}
 use Rattle.wac_lexer.specs.Span.{Span}
-use Rattle.wac_printer_layout.specs.Printed.{blank}
 use Rattle.wac_ast_grammar.specs.Tree as tree
-use Rattle.wac_ast_types.specs.Types.{ty_of}
 use Rattle.wac_ast_types.specs.declared.types.«Type» as code
 use Rattle.wac_ast_types.specs.declared.types.«Type».{«Type»}
-use Rattle.wac_printer_pieces.specs.Printed.{Printer, Prints}
-use Rattle.wac_printer_pieces.specs.declared.error.PrintError.{PrintError}
-use Rattle.wac_printer_pieces.proofs.Sequence.{printed_at}
 use Rattle.wac_json_text.specs.Contents.{held_pieces, span_inside}
-use Rattle.wac_json_forms.specs.Forms.{ty_json}
 use Rattle.wac_json_text.specs.Pieces.{pieces}
 use Rattle.wac_json_text.proofs.Joined.{around, before}
 

@@ -1,7 +1,6 @@
 -- What a lexer keeps of the items ahead stays right at each step.
-use Rattle.std.proofs.Common.{◌≡◌, ℕ, ◌+◌, ◌<◌, ◌≤◌, ◌^◌, List, [], length, sym, refl, ap, ◌∙◌, subst, arith, Some, None, Result}
+use Rattle.wac_lexer.proofs.Common.{◌≡◌, ℕ, ◌+◌, ◌<◌, ◌≤◌, ◌^◌, List, [], length, sym, refl, ap, ◌∙◌, subst, arith, Some, None, Result, IsCharBoundary-end}
 use Rattle.std.specs.Option.{MatchOption}
-use Rattle.std.proofs.lemmas.Str.{IsCharBoundary-end}
 use Rattle.wac_lexer.specs.Span.{Span, span, end_of}
 use Rattle.wac_lexer.specs.Item.{Handed, handed, behind_first}
 use Rattle.wac_lexer.specs.Items.{items_from}

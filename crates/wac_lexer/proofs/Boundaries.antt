@@ -1,14 +1,5 @@
 -- No character is cut after a blank or a comment.
-use Rattle.std.proofs.Common.{◌≡◌, ℕ, zero, suc, ◌+◌, ◌-◌, ◌<◌, ◌≤◌, false, List, ◌∷◌, drop, length, get_or, sym, refl, ap, ◌∙◌, subst, arith, ⊎_elim, Option, Some, None, add-zero, add_assoc, length-append}
-use Rattle.std.proofs.Math.Seq.{get_or-append_seam}
-use Rattle.std.proofs.lemmas.Bool.{cond_both, eqb-false}
-use Rattle.std.specs.Prelude.{◌==◌, nat_eq, slice_index}
-use Rattle.std.specs.List.{prefix_len}
-use Rattle.std.specs.Str.{IsUtf8, IsCharBoundary}
-use Rattle.std.proofs.lemmas.List.{drop-drop, length-drop, get_or-drop}
-use Rattle.std.proofs.lemmas.List.Sums.{prefix_len_stops, prefix_len-le-length}
-use Rattle.std.proofs.lemmas.Bool.{cases_lt, eqb-true, not-false}
-use Rattle.std.proofs.lemmas.Str.{IsCharBoundary-end, IsCharBoundary-before_ascii}
+use Rattle.wac_lexer.proofs.Common.{◌≡◌, ℕ, zero, suc, ◌+◌, ◌-◌, ◌<◌, ◌≤◌, false, List, ◌∷◌, drop, length, get_or, sym, refl, ap, ◌∙◌, subst, arith, ⊎_elim, Option, Some, None, add-zero, add_assoc, length-append, get_or-append_seam, cond_both, eqb-false, ◌==◌, nat_eq, slice_index, prefix_len, IsUtf8, IsCharBoundary, drop-drop, length-drop, get_or-drop, prefix_len_stops, prefix_len-le-length, cases_lt, eqb-true, not-false, IsCharBoundary-end, IsCharBoundary-before_ascii}
 use Rattle.wac_lexer.specs.Comments.{behind, begins, opens, is_blank, is_not_line_end, line_len, block_len, part_len, parts_len}
 use Rattle.wac_lexer.proofs.Fronts.{boundary_after_ascii, blank_ascii}
 use Rattle.wac_lexer.proofs.Pieces.{meant, inside_front, opens_within}

@@ -1,9 +1,6 @@
 -- What a text begins with.
-use Rattle.std.proofs.Common.{◌≡◌, ◌≢◌, ℕ, zero, suc, ◌<◌, ◌≤◌, true, false, cond, List, [], ◌∷◌, ◌++◌, take, length, sym, refl, ap, ◌∙◌, subst, arith, inl, inr, ⊎_elim, Option, Some, None, Result, Err, length-append, append_assoc}
-use Rattle.std.specs.Prelude.{◌⊎◌, nat_eq, nat_le, ◌==◌, MatchOption}
-use Rattle.std.specs.List.{concat, AllByRecursion}
-use Rattle.std.proofs.Math.Seq.{take-append_seam}
-use Rattle.std.proofs.lemmas.Bool.{cases_Bool, cases_lt, cond_both, ne_eqb, eqb-true, eq-eqb, and_parts, and_from, true≢false, leb-true, le-leb}
+use Rattle.wac_lexer.proofs.Common.{◌≡◌, ◌≢◌, ℕ, zero, suc, ◌<◌, ◌≤◌, true, false, cond, List, [], ◌∷◌, ◌++◌, take, length, sym, refl, ap, ◌∙◌, subst, arith, inl, inr, ⊎_elim, Option, Some, None, Result, Err, length-append, append_assoc, ◌⊎◌, nat_eq, nat_le, ◌==◌, concat, AllByRecursion, take-append_seam, cases_Bool, cases_lt, cond_both, ne_eqb, eqb-true, eq-eqb, and_parts, and_from, true≢false, leb-true, le-leb}
+use Rattle.std.specs.Prelude.{MatchOption}
 use Rattle.wac_lexer.specs.Pattern.{Pattern, Matches, matches, may_stop, after, after_all}
 use Rattle.wac_lexer.specs.Pattern.Pattern.{Nothing, Range, Or}
 use Rattle.wac_lexer.specs.Shapes.{shape_of, pattern_of, quoted}

@@ -1,8 +1,5 @@
 -- The state in which a token ends, by its kind, and the first byte of a token.
-use Rattle.std.proofs.Common.{◌≡◌, ℕ, Bool, true, false, cond, List, [], ◌∷◌, ◌++◌, length, sym, refl, ap, ◌∙◌, subst, inl, inr, ⊎_elim, arith, Some, None, Ok}
-use Rattle.std.specs.Prelude.{◌&&◌, ◌||◌, not, nat_eq, is_some, ◌==◌}
-use Rattle.std.specs.Str.{bytes_eq}
-use Rattle.std.proofs.lemmas.Bool.{and_parts, or_cases, eqb-true, false≢true, ne_eqb}
+use Rattle.wac_lexer.proofs.Common.{◌≡◌, ℕ, Bool, true, false, cond, List, [], ◌∷◌, ◌++◌, length, sym, refl, ap, ◌∙◌, subst, inl, inr, ⊎_elim, arith, Some, None, Ok, ◌&&◌, ◌||◌, not, nat_eq, is_some, ◌==◌, bytes_eq, and_parts, or_cases, eqb-true, false≢true, ne_eqb}
 use Rattle.wac_lexer.specs.Comments.{is_blank, begins, line_len, block_len, part_len}
 use Rattle.wac_lexer.specs.Words.{fixed_texts}
 use Rattle.wac_lexer.specs.Shapes.{shape_of}

@@ -1,5 +1,5 @@
 -- What is known of the item that is found at a place, and how many items come before it.
-use Rattle.std.proofs.Common.{◌≡◌, ℕ, zero, suc, ◌+◌, ◌-◌, ◌<◌, ◌≤◌, List, [], ◌∷◌, ◌++◌, drop, length, sym, refl, ap, ◌∙◌, subst, arith, Option, Some, None, Result, length-append}
+use Rattle.wac_lexer.proofs.Common.{◌≡◌, ℕ, zero, suc, ◌+◌, ◌-◌, ◌<◌, ◌≤◌, List, [], ◌∷◌, ◌++◌, drop, length, sym, refl, ap, ◌∙◌, subst, arith, Option, Some, None, Result, length-append}
 use Rattle.wac_lexer.specs.Span.{Span, end_of}
 use Rattle.wac_lexer.specs.Item.{Item, Handed, handed, behind_first, OnFirst}
 use Rattle.wac_lexer.specs.Items.{first_item, item_at, items_upto, items_from, items}

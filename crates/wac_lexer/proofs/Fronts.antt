@@ -1,12 +1,5 @@
 -- A prefix with a shape is a token, and ASCII.
-use Rattle.std.proofs.Common.{◌≡◌, ℕ, zero, suc, ◌+◌, ◌-◌, ◌<◌, ◌≤◌, Bool, true, false, cond, List, [], ◌∷◌, ◌++◌, take, length, get_or, sym, refl, ap, ◌∙◌, subst, inl, inr, ⊎_elim, arith, Option, Some, None, append_assoc}
-use Rattle.std.proofs.lemmas.List.{length_push}
-use Rattle.std.specs.Prelude.{◌&&◌, ◌||◌, nat_eq, nat_lt, nat_le, ◌==◌}
-use Rattle.std.specs.List.{concat, AllByRecursion}
-use Rattle.std.specs.Str.{IsAscii, IsUtf8, IsCharBoundary}
-use Rattle.std.proofs.lemmas.Bool.{and_parts, eqb-true, ltb-true, leb-true, or_cases, eq-eqb, ne_eqb}
-use Rattle.std.proofs.lemmas.List.{get_or-take, length-take-le}
-use Rattle.std.proofs.lemmas.Str.{IsAscii-append, IsCharBoundary-after_ascii}
+use Rattle.wac_lexer.proofs.Common.{◌≡◌, ℕ, zero, suc, ◌+◌, ◌-◌, ◌<◌, ◌≤◌, Bool, true, false, cond, List, [], ◌∷◌, ◌++◌, take, length, get_or, sym, refl, ap, ◌∙◌, subst, inl, inr, ⊎_elim, arith, Option, Some, None, append_assoc, length_push, ◌&&◌, ◌||◌, nat_eq, nat_lt, nat_le, ◌==◌, concat, AllByRecursion, IsAscii, IsUtf8, IsCharBoundary, and_parts, eqb-true, ltb-true, leb-true, or_cases, eq-eqb, ne_eqb, get_or-take, length-take-le, IsAscii-append, IsCharBoundary-after_ascii, Err}
 use Rattle.std.proofs.lemmas.Str.Ascii.{IsAscii-nil, IsAscii-cons}
 use Rattle.wac_lexer.specs.Pattern.{Pattern, Matches, matches}
 use Rattle.wac_lexer.specs.Pattern.Pattern.{Nothing, Empty, Range, Then, Or, Many}
@@ -16,7 +9,6 @@ use Rattle.wac_lexer.specs.Tokens.{token_of, longest_token}
 use Rattle.wac_lexer.specs.Front.{longest}
 use Rattle.wac_lexer.specs.Comments.{is_blank, opens}
 use Rattle.wac_lexer.specs.Items.{first_item, first_char_len, fault_of, with_fault}
-use Rattle.std.proofs.Common.{Err}
 use Rattle.wac_lexer.specs.declared.error.Error.TheVariants.{UnexpectedToken, UnterminatedString, UnterminatedComment}
 use Rattle.wac_lexer.specs.declared.token.Token.{Token}
 use Rattle.wac_lexer.specs.declared.token.Token.TheVariants.{Ident, PackageName, PackagePath, String}

@@ -1,8 +1,5 @@
 -- One step over the blanks and comments of a gap.
-use Rattle.std.proofs.Common.{◌≡◌, ℕ, zero, suc, ◌+◌, ◌-◌, ◌<◌, ◌≤◌, false, cond, List, [], ◌∷◌, drop, length, sym, refl, ap, ◌∙◌, arith, Some, None, add-zero}
-use Rattle.std.specs.Prelude.{◌==◌}
-use Rattle.std.proofs.lemmas.List.{drop-drop, drop_all, length-drop}
-use Rattle.std.proofs.lemmas.Bool.{ne_eqb}
+use Rattle.wac_lexer.proofs.Common.{◌≡◌, ℕ, zero, suc, ◌+◌, ◌-◌, ◌<◌, ◌≤◌, false, cond, List, [], ◌∷◌, drop, length, sym, refl, ap, ◌∙◌, arith, Some, None, add-zero, ◌==◌, drop-drop, drop_all, length-drop, ne_eqb}
 use Rattle.wac_lexer.specs.Comments.{behind, block_len, gap, part_len, parts_len}
 
 -- the length of a gap, part by part

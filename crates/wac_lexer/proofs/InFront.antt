@@ -1,7 +1,5 @@
 -- A token's text before a text that doesn't continue it is the longest match.
-use Rattle.std.proofs.Common.{◌≡◌, ℕ, zero, suc, ◌+◌, ◌<◌, ◌≤◌, Bool, true, false, cond, List, [], ◌∷◌, ◌++◌, take, length, sym, refl, ap, ◌∙◌, subst, ⊎_elim, arith, Option, Some, None, add-zero, zero-add, append_assoc, append-nil}
-use Rattle.std.specs.Prelude.{◌&&◌, not, is_some}
-use Rattle.std.proofs.lemmas.Bool.{and_parts, false≢true, cases_Bool}
+use Rattle.wac_lexer.proofs.Common.{◌≡◌, ℕ, zero, suc, ◌+◌, ◌<◌, ◌≤◌, Bool, true, false, cond, List, [], ◌∷◌, ◌++◌, take, length, sym, refl, ap, ◌∙◌, subst, ⊎_elim, arith, Option, Some, None, add-zero, zero-add, append_assoc, append-nil, ◌&&◌, not, is_some, and_parts, false≢true, cases_Bool}
 use Rattle.wac_lexer.specs.Shapes.{shape_of}
 use Rattle.wac_lexer.specs.Tokens.{token_of, longest_token}
 use Rattle.wac_lexer.specs.Automaton.{class_of, step_of, shape_at}

@@ -1,8 +1,5 @@
 -- A text is sought among the entries of its own length alone.
-use Rattle.std.proofs.Common.{◌≡◌, ◌≢◌, ℕ, ◌≤◌, ◌<◌, Bool, true, false, cond, List, [], ◌∷◌, ◌++◌, length, get_or, sym, refl, ap, ◌∙◌, subst, ⊎_elim, arith, Some, None}
-use Rattle.std.specs.Prelude.{◌&&◌, nat_le}
-use Rattle.std.specs.Str.{bytes_eq}
-use Rattle.std.proofs.lemmas.Bool.{and_from, le-leb, cases_Bool, cases_lt}
+use Rattle.wac_lexer.proofs.Common.{◌≡◌, ◌≢◌, ℕ, ◌≤◌, ◌<◌, Bool, true, false, cond, List, [], ◌∷◌, ◌++◌, length, get_or, sym, refl, ap, ◌∙◌, subst, ⊎_elim, arith, Some, None, ◌&&◌, nat_le, bytes_eq, and_from, le-leb, cases_Bool, cases_lt}
 use Rattle.wac_lexer.specs.Words.{find, keywords, symbols, brackets, separators, long_symbols, with_lengths}
 use Rattle.wac_lexer.specs.declared.token.Token.{Token}
 use Rattle.wac_lexer.proofs.Texts.{bytes_eq_is, find_next}

@@ -1,3 +1,4 @@
+pub mod Common
 pub mod Patterns
 pub mod Refusals
 pub mod States

@@ -1,7 +1,6 @@
 -- The prefix that is found is the longest that is a token.
-use Rattle.std.proofs.Common.{[], ◌∷◌, ◌≡◌, ℕ, zero, suc, ◌<◌, ◌≤◌, List, take, length, refl, sym, ap, ◌∙◌, arith, Option, Some, None, ⊎_elim}
+use Rattle.wac_lexer.proofs.Common.{[], ◌∷◌, ◌≡◌, ℕ, zero, suc, ◌<◌, ◌≤◌, List, take, length, refl, sym, ap, ◌∙◌, arith, Option, Some, None, ⊎_elim, cases_lt}
 use Rattle.std.specs.Prelude.{MatchOption}
-use Rattle.std.proofs.lemmas.Bool.{cases_lt}
 use Rattle.wac_lexer.specs.Tokens.{token_of, longest_token, IsToken, IsLongest, HasNone}
 use Rattle.wac_lexer.proofs.Sorts.{token_found, token_meant}
 use Rattle.wac_lexer.specs.declared.token.Token.{Token}

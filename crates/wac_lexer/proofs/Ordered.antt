@@ -1,10 +1,5 @@
 -- The items of a source are in order, and cut no character.
-use Rattle.std.proofs.Common.{◌≡◌, ℕ, zero, suc, ◌+◌, ◌<◌, ◌≤◌, List, [], ◌∷◌, ◌++◌, take, drop, length, get_or, sym, refl, ap, ◌∙◌, subst, arith, Option, Some, None, Result, Err}
-use Rattle.std.specs.Prelude.{nat_eq, slice_index, slice_get, ◌==◌}
-use Rattle.std.specs.Char.{encode_utf8, len_utf8}
-use Rattle.std.specs.Str.{IsUtf8, IsCharBoundary, encode_utf8_all}
-use Rattle.std.proofs.lemmas.Bool.{cond_both, eqb-true}
-use Rattle.std.proofs.lemmas.Str.{IsCharBoundary-end, IsCharBoundary-start, IsCharBoundary-at_seam, IsCharBoundary-from_rest, IsUtf8-past_char, IsUtf8-drop, chars_past_char, length-encode}
+use Rattle.wac_lexer.proofs.Common.{◌≡◌, ℕ, zero, suc, ◌+◌, ◌<◌, ◌≤◌, List, [], ◌∷◌, ◌++◌, take, drop, length, get_or, sym, refl, ap, ◌∙◌, subst, arith, Option, Some, None, Result, Err, nat_eq, slice_index, slice_get, ◌==◌, encode_utf8, len_utf8, IsUtf8, IsCharBoundary, encode_utf8_all, cond_both, eqb-true, IsCharBoundary-end, IsCharBoundary-start, IsCharBoundary-at_seam, IsCharBoundary-from_rest, IsUtf8-past_char, IsUtf8-drop, chars_past_char, length-encode}
 use Rattle.wac_lexer.specs.Item.{Item}
 use Rattle.wac_lexer.specs.Tokens.{token_of, longest_token}
 use Rattle.wac_lexer.specs.Shapes.{shape_of}

@@ -1,10 +1,5 @@
 -- The blanks and comments that are skipped are the longest gap, and its docs are those of the place.
-use Rattle.std.proofs.Common.{◌≡◌, ◌≢◌, ℕ, zero, suc, ◌+◌, ◌-◌, ◌<◌, ◌≤◌, Bool, true, false, cond, List, [], ◌∷◌, ◌++◌, take, drop, length, sym, refl, ap, ◌∙◌, subst, arith, inl, inr, ⊎_elim, Option, Some, None, length-append, append_assoc}
-use Rattle.std.specs.Prelude.{◌==◌, not, nat_eq, slice_index}
-use Rattle.std.specs.List.{concat, AllByRecursion, prefix_len}
-use Rattle.std.proofs.Math.Seq.{take-append_seam, drop-append_seam}
-use Rattle.std.proofs.lemmas.List.{drop-drop, length-drop, drop_all}
-use Rattle.std.proofs.lemmas.Bool.{cases_Bool, cond_both, ne_eqb, eqb-true, true≢false, eq-eqb}
+use Rattle.wac_lexer.proofs.Common.{◌≡◌, ◌≢◌, ℕ, zero, suc, ◌+◌, ◌-◌, ◌<◌, ◌≤◌, Bool, true, false, cond, List, [], ◌∷◌, ◌++◌, take, drop, length, sym, refl, ap, ◌∙◌, subst, arith, inl, inr, ⊎_elim, Option, Some, None, length-append, append_assoc, ◌==◌, not, nat_eq, slice_index, concat, AllByRecursion, prefix_len, take-append_seam, drop-append_seam, drop-drop, length-drop, drop_all, cases_Bool, cond_both, ne_eqb, eqb-true, true≢false, eq-eqb}
 use Rattle.wac_lexer.specs.Comments.{Inside, behind, begins, opens, is_blank, is_not_line_end, line_len, block_len, part_len, parts_len, gap}
 use Rattle.wac_lexer.specs.Docs.{doc_of_part, docs_upto, docs_at}
 use Rattle.wac_lexer.specs.Gap.{EndsLine, IsPart, Gap, IsLongestGap, docs_among}

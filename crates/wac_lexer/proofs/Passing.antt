@@ -1,6 +1,5 @@
 -- Bytes passed on in blocks.
-use Rattle.std.proofs.Common.{◌≡◌, ◌++◌, ◌+◌, ◌-◌, ◌≤◌, ◌∷◌, ℕ, List, [], length, take, drop, sym, ap, ◌∙◌, append_assoc, arith, length-append}
-use Rattle.std.proofs.lemmas.List.{take-append-drop, drop-drop, take_at, drop-append-le, drop_all, length-drop}
+use Rattle.wac_lexer.proofs.Common.{◌≡◌, ◌++◌, ◌+◌, ◌-◌, ◌≤◌, ◌∷◌, ℕ, List, [], length, take, drop, sym, ap, ◌∙◌, append_assoc, arith, length-append, take-append-drop, drop-drop, take_at, drop-append-le, drop_all, length-drop}
 use Rattle.wac_lexer.specs.Blocks.{Holding}
 
 -- the first n of the bytes held are passed on

@@ -1,8 +1,5 @@
 -- Reading a pattern byte by byte finds the texts of the pattern, and no others.
-use Rattle.std.proofs.Common.{◌≡◌, ℕ, true, cond, List, [], ◌∷◌, ◌++◌, sym, refl, ap, ◌∙◌, subst, inl, inr, ⊎_elim}
-use Rattle.std.specs.Prelude.{◌&&◌, nat_le}
-use Rattle.std.specs.List.{concat, AllByRecursion}
-use Rattle.std.proofs.lemmas.Bool.{and_parts, or_cases, and_from, or_left, or_right, false≢true, cases_Bool}
+use Rattle.wac_lexer.proofs.Common.{◌≡◌, ℕ, true, cond, List, [], ◌∷◌, ◌++◌, sym, refl, ap, ◌∙◌, subst, inl, inr, ⊎_elim, ◌&&◌, nat_le, concat, AllByRecursion, and_parts, or_cases, and_from, or_left, or_right, false≢true, cases_Bool}
 use Rattle.wac_lexer.specs.Pattern.{Pattern, Matches, may_stop, followed_by, either, after, matches}
 use Rattle.wac_lexer.specs.Pattern.Pattern.{Nothing, Empty, Range, Then, Or, Many}
 

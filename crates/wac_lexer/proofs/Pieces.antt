@@ -1,8 +1,5 @@
 -- Counting how deeply comments nest finds the end that the pieces of comments define.
-use Rattle.std.proofs.Common.{◌≡◌, ℕ, zero, suc, ◌+◌, ◌-◌, ◌<◌, ◌≤◌, Bool, true, false, List, [], ◌∷◌, ◌++◌, length, drop, sym, refl, ap, ◌∙◌, subst, arith, ⊎_elim, Option, Some, None, append_assoc}
-use Rattle.std.specs.Prelude.{◌&&◌, nat_eq}
-use Rattle.std.proofs.lemmas.List.{drop_all, drop-drop}
-use Rattle.std.proofs.lemmas.Bool.{cases_Bool, and_parts, eqb-true}
+use Rattle.wac_lexer.proofs.Common.{◌≡◌, ℕ, zero, suc, ◌+◌, ◌-◌, ◌<◌, ◌≤◌, Bool, true, false, List, [], ◌∷◌, ◌++◌, length, drop, sym, refl, ap, ◌∙◌, subst, arith, ⊎_elim, Option, Some, None, append_assoc, ◌&&◌, nat_eq, drop_all, drop-drop, cases_Bool, and_parts, eqb-true}
 use Rattle.wac_lexer.specs.Comments.{begins, opens, closes, Inside, behind}
 use Rattle.wac_lexer.specs.Comments.Inside.{ends, comment, byte}
 

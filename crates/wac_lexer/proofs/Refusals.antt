@@ -1,15 +1,7 @@
 -- One step of the test of a source's characters.
-use Rattle.std.proofs.Common.{add-zero, zero-add, one-add, add_assoc, ◌≡◌, ℕ, zero, suc, ◌+◌, ◌<◌, ◌≤◌, true, false, cond, List, [], ◌∷◌, ◌++◌, take, drop, length, sym, refl, ap, ◌∙◌, subst, ⊎_elim, arith, Option, Some, None}
-use Rattle.std.specs.Prelude.{MatchOption, sum_by, ◌||◌, not, nat_eq, nat_le, is_none}
-use Rattle.std.specs.List.{AllByRecursion, list_all, prefix_len}
-use Rattle.std.specs.Char.{encode_utf8, len_utf8}
-use Rattle.std.specs.Str.{chars, IsUtf8, IsCharBoundary}
-use Rattle.std.proofs.lemmas.Bool.{and_parts, and_from, or_cases, eqb-true, leb-true, false≢true, cases_Bool}
-use Rattle.std.proofs.Math.Seq.{take-add, drop-append_seam}
-use Rattle.std.proofs.lemmas.List.{drop-drop}
+use Rattle.wac_lexer.proofs.Common.{add-zero, zero-add, one-add, add_assoc, ◌≡◌, ℕ, zero, suc, ◌+◌, ◌<◌, ◌≤◌, true, false, cond, List, [], ◌∷◌, ◌++◌, take, drop, length, sym, refl, ap, ◌∙◌, subst, ⊎_elim, arith, Option, Some, None, sum_by, ◌||◌, not, nat_eq, nat_le, is_none, AllByRecursion, list_all, prefix_len, encode_utf8, len_utf8, chars, IsUtf8, IsCharBoundary, and_parts, and_from, or_cases, eqb-true, leb-true, false≢true, cases_Bool, take-add, drop-append_seam, drop-drop, sum_by-cons, prefix_len-le-length, chars_past_char, chars-nil, encode_ascii, length-encode, IsUtf8-past_char, IsUtf8-drop, IsCharBoundary-from_rest, IsCharBoundary-from_drop}
+use Rattle.std.specs.Prelude.{MatchOption}
 use Rattle.std.proofs.lemmas.List.Folds.{list_all-append}
-use Rattle.std.proofs.lemmas.List.Sums.{sum_by-cons, prefix_len-le-length}
-use Rattle.std.proofs.lemmas.Str.{chars_past_char, chars-nil, encode_ascii, length-encode, IsUtf8-past_char, IsUtf8-drop, IsCharBoundary-from_rest, IsCharBoundary-from_drop}
 use Rattle.wac_lexer.specs.Span.{Span, span}
 use Rattle.wac_lexer.specs.Characters.{fault_of, is_within, is_plain, refused_from, refused, IsFirstRefused}
 use Rattle.wac_lexer.specs.declared.error.Error.{Error}

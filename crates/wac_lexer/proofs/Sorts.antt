@@ -1,9 +1,5 @@
 -- A text has at most one of the shapes, and is at most one token.
-use Rattle.std.proofs.Common.{◌≡◌, ℕ, ◌<◌, Bool, true, false, cond, List, [], ◌∷◌, ◌++◌, sym, refl, ap, ◌∙◌, subst, inl, inr, ⊎_elim, arith, Option, Some, None, append_assoc}
-use Rattle.std.specs.Prelude.{◌&&◌, ◌||◌, not, nat_lt, nat_le, is_none}
-use Rattle.std.specs.List.{concat, AllByRecursion}
-use Rattle.std.specs.Str.{bytes_eq}
-use Rattle.std.proofs.lemmas.Bool.{and_parts, false≢true, cases_Bool, ltb-true, leb-true}
+use Rattle.wac_lexer.proofs.Common.{◌≡◌, ℕ, ◌<◌, Bool, true, false, cond, List, [], ◌∷◌, ◌++◌, sym, refl, ap, ◌∙◌, subst, inl, inr, ⊎_elim, arith, Option, Some, None, append_assoc, ◌&&◌, ◌||◌, not, nat_lt, nat_le, is_none, concat, AllByRecursion, bytes_eq, and_parts, false≢true, cases_Bool, ltb-true, leb-true}
 use Rattle.wac_lexer.specs.Pattern.{Pattern, Matches, matches, may_stop}
 use Rattle.wac_lexer.specs.Pattern.Pattern.{Nothing, Empty, Range, Then, Or, Many}
 use Rattle.wac_lexer.specs.Words.{find, fixed_texts, keywords, symbols}

@@ -1,10 +1,5 @@
 -- What the walk lets follow a token may follow it; and a token before what may follow it is the first item.
-use Rattle.std.proofs.Common.{◌≡◌, ℕ, zero, suc, ◌+◌, ◌-◌, ◌<◌, ◌≤◌, Bool, true, false, cond, List, [], ◌∷◌, ◌++◌, take, length, sym, refl, ap, ◌∙◌, subst, inl, inr, ⊎_elim, arith, Option, Some, None, length-append}
-use Rattle.std.specs.Prelude.{◌&&◌, ◌||◌, not, nat_eq, nat_lt, is_some}
-use Rattle.std.specs.Str.{bytes_eq}
-use Rattle.std.proofs.Math.Seq.{take-append_seam}
-use Rattle.std.proofs.lemmas.List.{take-take, length-take-le}
-use Rattle.std.proofs.lemmas.Bool.{and_parts, or_cases, false≢true, ltb-true, eqb-true}
+use Rattle.wac_lexer.proofs.Common.{◌≡◌, ℕ, zero, suc, ◌+◌, ◌-◌, ◌<◌, ◌≤◌, Bool, true, false, cond, List, [], ◌∷◌, ◌++◌, take, length, sym, refl, ap, ◌∙◌, subst, inl, inr, ⊎_elim, arith, Option, Some, None, length-append, ◌&&◌, ◌||◌, not, nat_eq, nat_lt, is_some, bytes_eq, take-append_seam, take-take, length-take-le, and_parts, or_cases, false≢true, ltb-true, eqb-true}
 use Rattle.wac_lexer.specs.Comments.{is_blank, begins, opens}
 use Rattle.wac_lexer.specs.Words.{fixed_texts}
 use Rattle.wac_lexer.specs.Tokens.{token_of, longest_token, InTable, IsToken}

@@ -1,9 +1,5 @@
 -- Each state of the walk knows what may follow, shape by shape. Checked at each state and each byte.
-use Rattle.std.proofs.Common.{◌≡◌, ℕ, zero, suc, ◌+◌, ◌-◌, ◌<◌, Bool, true, false, cond, List, [], ◌∷◌, ◌++◌, take, drop, length, get_or, sym, refl, ap, ◌∙◌, subst, ⊎_elim, arith, Option, Some, None, add-one, add-zero}
-use Rattle.std.specs.Prelude.{◌&&◌, nat_eq, ◌⊎◌}
-use Rattle.std.proofs.Math.Seq.{take-add}
-use Rattle.std.proofs.lemmas.List.{take_more}
-use Rattle.std.proofs.lemmas.Bool.{and_parts, eqb-true, false≢true}
+use Rattle.wac_lexer.proofs.Common.{◌≡◌, ℕ, zero, suc, ◌+◌, ◌-◌, ◌<◌, Bool, true, false, cond, List, [], ◌∷◌, ◌++◌, take, drop, length, get_or, sym, refl, ap, ◌∙◌, subst, ⊎_elim, arith, Option, Some, None, add-one, add-zero, ◌&&◌, nat_eq, ◌⊎◌, take-add, take_more, and_parts, eqb-true, false≢true}
 use Rattle.wac_lexer.specs.Pattern.{Pattern, after, after_all, may_stop}
 use Rattle.wac_lexer.specs.Pattern.Pattern.{Nothing, Empty, Range, Then, Or, Many}
 use Rattle.wac_lexer.specs.Shapes.{byte, some, lower, upper, digit, word, id, version_byte, version, at_version, pattern_of, shape_of}

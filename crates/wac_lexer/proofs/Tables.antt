@@ -1,8 +1,5 @@
 -- The code's tables are the automaton's classes and steps: held against them entry by entry, by computation.
-use Rattle.std.proofs.Common.{◌≡◌, ℕ, zero, suc, ◌+◌, ◌*◌, ◌-◌, ◌<◌, ◌≤◌, Bool, true, List, [], ◌∷◌, take, length, get_or, refl, sym, ap, ◌∙◌, subst, ⊎_elim, arith, Option, Some, None}
-use Rattle.std.specs.Prelude.{nat_eq, nat_lt, is_some, is_none, option_map}
-use Rattle.std.proofs.lemmas.Bool.{eqb-true, ltb-true, cases_lt, false≢true}
-use Rattle.std.proofs.lemmas.List.{get_or_past}
+use Rattle.wac_lexer.proofs.Common.{◌≡◌, ℕ, zero, suc, ◌+◌, ◌*◌, ◌-◌, ◌<◌, ◌≤◌, Bool, true, List, [], ◌∷◌, take, length, get_or, refl, sym, ap, ◌∙◌, subst, ⊎_elim, arith, Option, Some, None, nat_eq, nat_lt, is_some, is_none, option_map, eqb-true, ltb-true, cases_lt, false≢true, get_or_past}
 use Rattle.wac_lexer.specs.Automaton.{Class, State, class_of, step_of, shape_at, class_at, state_at, states}
 use Rattle.wac_lexer.specs.Automaton.Class.{Lower, Upper, Digit, Percent, Dash, Plus, Colon, Slash, At, Dot, Quote, CloseAngle, OtherSymbol, Other}
 use Rattle.wac_lexer.specs.Automaton.Package.{Name, Path}

@@ -1,8 +1,5 @@
 -- The tokens' tables and patterns: what the texts of a table and of a pattern are.
-use Rattle.std.proofs.Common.{◌≡◌, ℕ, Bool, true, false, cond, List, [], ◌∷◌, ◌++◌, map, sym, refl, ap, ◌∙◌, subst, inl, inr, ⊎_elim, arith, Option, Some, None}
-use Rattle.std.specs.Prelude.{◌&&◌, nat_eq, nat_le, is_some}
-use Rattle.std.specs.Str.{bytes_eq}
-use Rattle.std.proofs.lemmas.Bool.{and_parts, eqb-true, eq-eqb, false≢true, true≢false, cases_Bool, leb-true, and_from}
+use Rattle.wac_lexer.proofs.Common.{◌≡◌, ℕ, Bool, true, false, cond, List, [], ◌∷◌, ◌++◌, map, sym, refl, ap, ◌∙◌, subst, inl, inr, ⊎_elim, arith, Option, Some, None, ◌&&◌, nat_eq, nat_le, is_some, bytes_eq, and_parts, eqb-true, eq-eqb, false≢true, true≢false, cases_Bool, leb-true, and_from}
 use Rattle.wac_lexer.specs.Pattern.{Matches, matches}
 use Rattle.wac_lexer.specs.Words.{find, keywords, symbols, fixed_texts}
 use Rattle.wac_lexer.specs.Shapes.{literal, any_of, shape_of, pattern_of, id, package_name, package_path, quoted, symbol}

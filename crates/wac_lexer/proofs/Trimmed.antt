@@ -1,11 +1,6 @@
 -- The texts of documentation comments, and one step of the walk over them.
-use Rattle.std.proofs.Common.{◌≡◌, ◌≢◌, ℕ, zero, suc, ◌+◌, ◌-◌, ◌<◌, ◌≤◌, Bool, true, false, cond, List, [], ◌++◌, take, drop, length, sym, refl, ap, ◌∙◌, arith, ⊎_elim, Option, Some, None, codes, length-append}
-use Rattle.std.specs.Prelude.{◌&&◌, ◌==◌}
-use Rattle.std.specs.Str.{trim}
-use Rattle.std.proofs.Math.Seq.{take-append_seam, drop-append_seam}
+use Rattle.wac_lexer.proofs.Common.{◌≡◌, ◌≢◌, ℕ, zero, suc, ◌+◌, ◌-◌, ◌<◌, ◌≤◌, Bool, true, false, cond, List, [], ◌++◌, take, drop, length, sym, refl, ap, ◌∙◌, arith, ⊎_elim, Option, Some, None, codes, length-append, ◌&&◌, ◌==◌, trim, take-append_seam, drop-append_seam, take-append-drop, drop_all, cases_Bool, ne_eqb}
 use Rattle.std.proofs.lemmas.Slice.Eq.{bytes_eq-Decides}
-use Rattle.std.proofs.lemmas.List.{take-append-drop, drop_all}
-use Rattle.std.proofs.lemmas.Bool.{cases_Bool, ne_eqb}
 use Rattle.wac_lexer.specs.Item.{Doc}
 use Rattle.wac_lexer.specs.Comments.{part_len}
 use Rattle.wac_lexer.specs.Docs.{begins_with, ends_with, doc_text, doc_of_part, docs_upto}

@@ -1,10 +1,5 @@
 -- The items after a place, unfolded once: the first one, and the items after it.
-use Rattle.std.proofs.Common.{◌≡◌, ℕ, zero, suc, ◌+◌, ◌<◌, ◌≤◌, List, [], ◌∷◌, ◌++◌, take, drop, length, sym, refl, ap, ◌∙◌, subst, arith, Option, Some, None, Result, Err, append_assoc}
-use Rattle.std.specs.Prelude.{slice_get, slice_index, nat_eq, nat_lt, ◌==◌}
-use Rattle.std.specs.Char.{len_utf8}
-use Rattle.std.specs.Str.{chars}
-use Rattle.std.proofs.lemmas.List.{drop_all}
-use Rattle.std.proofs.lemmas.Bool.{cond_both}
+use Rattle.wac_lexer.proofs.Common.{◌≡◌, ℕ, zero, suc, ◌+◌, ◌<◌, ◌≤◌, List, [], ◌∷◌, ◌++◌, take, drop, length, sym, refl, ap, ◌∙◌, subst, arith, Option, Some, None, Result, Err, append_assoc, slice_get, slice_index, nat_eq, nat_lt, ◌==◌, len_utf8, chars, drop_all, cond_both}
 use Rattle.wac_lexer.specs.Span.{span, end_of}
 use Rattle.wac_lexer.specs.Item.{Item, behind_first, OnFirst}
 use Rattle.wac_lexer.specs.Tokens.{token_of, longest_token}

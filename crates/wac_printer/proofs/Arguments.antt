@@ -1,22 +1,9 @@
 -- The arguments of an instantiation, printed from the values.
-use Rattle.std.proofs.Common.{rules, ◌≡◌, ℕ, Bool, true, false, List, [], ◌∷◌, ◌++◌, codes, map, length, append_assoc, refl, sym, ap, ◌∙◌, zero, suc, arith, ◌<◌, ◌≤◌, subst}
+use Rattle.wac_printer.proofs.Common.{rules, ◌≡◌, ℕ, Bool, true, false, List, [], ◌∷◌, ◌++◌, codes, map, length, append_assoc, refl, sym, ap, ◌∙◌, zero, suc, arith, ◌<◌, ◌≤◌, subst, All, flat_map, Span, Arguments, arguments_from, argument_name_of, argument_of, expr_of, primary_expr_of, InstantiationArgument, Fill, Named, PrimaryExpr, Nested, NestedExpr, out-NestedExpr, nested_out, bare_argument, bare_argument_name, bare_arguments, bare_expr, bare_primary_expr, Piece, token, line, deeper, space, newline, argument_layout, argument_name_layout, arguments_layout, braced_layout, comma_layout, expr_layout, primary_expr_layout, ending_layout}
 use Rattle.std.specs.Bool.{◌==◌}
-use Rattle.std.specs.List.{All, flat_map}
-use Rattle.wac_lexer.specs.Span.{Span}
 use Rattle.wac_ast_grammar.specs.Tree as tree
-use Rattle.wac_ast_grammar.specs.Tree.{Arguments, arguments_from}
-use Rattle.wac_ast_expressions.specs.Expressions.{argument_name_of, argument_of, expr_of, primary_expr_of}
 use denote.Param.Weighed.{most}
-use Rattle.wac_ast_expressions.specs.declared.expr.InstantiationArgument.{InstantiationArgument, Fill, Named}
 use Rattle.wac_ast_expressions.specs.declared.expr.NamedInstantiationArgument.{NamedInstantiationArgument}
-use Rattle.wac_ast_expressions.specs.declared.expr.PrimaryExpr.{PrimaryExpr, Nested}
-use Rattle.wac_ast_expressions.specs.declared.expr.NestedExpr.{NestedExpr, out-NestedExpr}
-use Rattle.wac_ast_expressions.proofs.ExprViews.{nested_out}
-use Rattle.wac_printer_layout.specs.Bare.{bare_argument, bare_argument_name, bare_arguments, bare_expr, bare_primary_expr}
-use Rattle.wac_printer_layout.specs.Printed.{Piece, token, line, deeper}
-use Rattle.wac_printer_layout.specs.Parts.{space, newline}
-use Rattle.wac_printer_layout.specs.ExpressionLayout.{argument_layout, argument_name_layout, arguments_layout, braced_layout, comma_layout, expr_layout, primary_expr_layout}
-use Rattle.wac_printer_pieces.specs.Arguments.{ending_layout}
 use Rattle.wac_printer.specs.Arguments.{argument_line_layout, braces_layout, is_lone_fill}
 use Rattle.wac_printer.specs.Sliced.{ArgumentSliced, ArgumentsSliced}
 

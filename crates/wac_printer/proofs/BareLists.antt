@@ -1,13 +1,5 @@
 -- Docs and lists of trees of values, printed from the values.
-use Rattle.std.proofs.Common.{◌≡◌, ℕ, List, Result, map, sym, ◌∙◌}
-use Rattle.wac_ast_base.specs.Names.{doc_comment_of}
-use Rattle.wac_ast_base.specs.declared.names.DocComment.{DocComment}
-use Rattle.wac_printer_layout.specs.Bare.{doc_lines}
-use Rattle.wac_printer_layout.specs.Parts.{body, docs_layout, joined, rows}
-use Rattle.wac_printer_layout.specs.Printed.{Piece}
-use Rattle.wac_printer_pieces.specs.declared.error.PrintError.{PrintError}
-use Rattle.wac_printer_pieces.specs.Printed.{Printer, Prints}
-use Rattle.wac_printer_pieces.proofs.Sequence.{printed_at}
+use Rattle.wac_printer.proofs.Common.{◌≡◌, ℕ, List, Result, map, sym, ◌∙◌, doc_comment_of, DocComment, doc_lines, body, docs_layout, joined, rows, Piece, PrintError, Printer, Prints, printed_at}
 use Rattle.wac_printer.proofs.PartsOf.{body-of, joined-of, rows-of}
 
 -- the docs of a vector

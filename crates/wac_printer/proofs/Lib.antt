@@ -1,3 +1,4 @@
+pub mod Common
 pub mod PartsOf
 pub mod BareLists
 pub mod Steps

@@ -1,17 +1,8 @@
 -- Lists of trees of values, printed from the values.
-use Rattle.std.proofs.Common.{◌≡◌, ℕ, List, [], ◌∷◌, ◌++◌, map, refl, ap, ◌∙◌, suc, subst, arith, ◌<◌, length, codes}
-use Rattle.std.specs.List.{flat_map, All}
-use Rattle.wac_printer_layout.specs.Printed.{Piece, deeper, token}
-use Rattle.wac_printer_layout.specs.Parts.{between, joined, spaced, body, rows, open_body, close_body, doc_layout, docs_layout, space, newline}
+use Rattle.wac_printer.proofs.Common.{◌≡◌, ℕ, List, [], ◌∷◌, ◌++◌, map, refl, ap, ◌∙◌, suc, subst, arith, ◌<◌, length, codes, flat_map, All, Piece, deeper, token, between, joined, spaced, body, rows, open_body, close_body, doc_layout, docs_layout, space, newline, doc_comment_of, DocComment, world_include_item_of, with_layout, world_include_item_layout, doc_line, doc_lines, bare_world_include_item, flat_map-of, flat_map-append}
 use Rattle.std.specs.Str.Lines.{lines}
 use Rattle.wac_lexer.specs.Item.{Doc}
-use Rattle.wac_ast_base.specs.Names.{doc_comment_of}
-use Rattle.wac_ast_base.specs.declared.names.DocComment.{DocComment}
-use Rattle.wac_ast_uses.specs.Uses.{world_include_item_of}
 use Rattle.wac_ast_uses.specs.declared.includes.WorldIncludeItem.{WorldIncludeItem}
-use Rattle.wac_printer_layout.specs.WorldLayout.{with_layout, world_include_item_layout}
-use Rattle.wac_printer_layout.specs.Bare.{doc_line, doc_lines, bare_world_include_item}
-use Rattle.wac_printer_pieces.proofs.Printing.{flat_map-of, flat_map-append}
 
 between-of : {X Y : Type 0} (s : List Piece) (f : Y → List Piece) (g : X → Y) (xs : List X) → between s f (map g xs) ≡ between s (λ x. f (g x)) xs
 between-of s f g [] = refl

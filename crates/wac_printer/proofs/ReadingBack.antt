@@ -1,12 +1,7 @@
 -- What is printed of a document reads back.
-use Rattle.std.proofs.Common.{◌≡◌, ℕ, Bool, true, List, ◌++◌, ap, ◌∙◌, refl, Result, Ok, Err}
-use Rattle.wac_ast_grammar.specs.Tree.{Document}
-use Rattle.wac_printer_layout.specs.Bare.{bare_document, doc_lines}
-use Rattle.wac_printer_layout.specs.Printed.{Piece, text}
-use Rattle.wac_printer_layout.specs.StatementLayout.{document_layout}
+use Rattle.wac_printer.proofs.Common.{◌≡◌, ℕ, Bool, true, List, ◌++◌, ap, ◌∙◌, refl, Result, Ok, Err, Document, bare_document, doc_lines, Piece, text, document_layout, PrintError, Printer, Prints}
 use Rattle.wac_printer_layout.proofs.TreesBack.{reads_back}
-use Rattle.wac_printer_pieces.specs.declared.error.PrintError.{PrintError}
-use Rattle.wac_printer_pieces.specs.Printed.{Printer, after, Prints}
+use Rattle.wac_printer_pieces.specs.Printed.{after}
 use Rattle.wac_printer.specs.ReadBack.{IsReadBack}
 
 after_bytes : (ps : List Piece) (p : Printer) → (after ps p).bytes ≡ p.bytes ++ text p.space p.fresh ps

@@ -1,8 +1,5 @@
 -- A tree whose spans slice the source, as parsing promises it, can be printed.
-use Rattle.std.proofs.Common.{ℕ, List, [], ◌∷◌, Option, Some, None, zero, suc, arith}
-use Rattle.std.specs.List.{All, AllByRecursion}
-use Rattle.wac_lexer.specs.Reading.{Slices}
-use Rattle.wac_ast_grammar.specs.Tree.{Document}
+use Rattle.wac_printer.proofs.Common.{ℕ, List, [], ◌∷◌, Option, Some, None, zero, suc, arith, All, AllByRecursion, Slices, Document}
 use Rattle.wac_ast_grammar.specs.Leaves.{IfThere, changed, holds_with_spans, unchanged}
 use Rattle.wac_ast_grammar.specs.Slices.{sliced, DocsSlice, DocumentSlices}
 use Rattle.wac_ast_grammar.proofs.Linked.{Link, link_document}

@@ -1,7 +1,6 @@
 -- What the printer's methods cite.
-use Rattle.wac_printer_pieces.proofs.Printing.{seq}
+use Rattle.wac_printer.proofs.Common.{seq, All-of-map}
 use Rattle.wac_printer.proofs.PartsOf.{parts_of, body-is, rows-is}
-use Rattle.wac_printer_pieces.proofs.Progress.{All-of-map}
 
 pub ruleset steps = (seq)
 

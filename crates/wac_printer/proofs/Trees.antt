@@ -1,18 +1,9 @@
 -- The trees of values that hold themselves.
-use Rattle.std.proofs.Common.{◌≡◌, ℕ, ◌≤◌, ◌<◌, List, [], ◌∷◌, ◌++◌, codes, map, subst, Global, get_or, length, zero, suc, refl, ap, ◌∙◌, arith}
-use Rattle.std.specs.Prelude.{Vec}
-use Rattle.std.specs.List.{All, flat_map}
+use Rattle.wac_printer.proofs.Common.{◌≡◌, ℕ, ◌≤◌, ◌<◌, List, [], ◌∷◌, ◌++◌, codes, map, subst, Global, get_or, length, zero, suc, refl, ap, ◌∙◌, arith, Vec, All, flat_map, token, space, joined, bare_ty, bare_types, ty_layout, types_layout, further_types_layout, Span, types_from, ty_of, types_of_row}
 use mathlib.Core.Former.{Count}
 use denote.Param.Weighed.{most}
-use Rattle.wac_printer_layout.specs.Printed.{token}
-use Rattle.wac_printer_layout.specs.Parts.{space, joined}
 use Rattle.wac_printer.specs.Sliced.{TySliced, TypesSliced}
-use Rattle.wac_printer_layout.specs.Bare.{bare_ty, bare_types}
-use Rattle.wac_printer_layout.specs.TypeLayout.{ty_layout, types_layout, further_types_layout}
-use Rattle.wac_lexer.specs.Span.{Span}
 use Rattle.wac_ast_grammar.specs.Tree as tree
-use Rattle.wac_ast_grammar.specs.Tree.{types_from}
-use Rattle.wac_ast_types.specs.Types.{ty_of, types_of_row}
 use Rattle.wac_ast_types.specs.declared.types.«Type».TheViews.{sized-Tuple}
 use Rattle.wac_ast_types.specs.declared.types.«Type».{«Type», Tuple, Tuple', Row_of-Type, end_of-Type, more_of-Type, items-the_row-Type, items_hidden-the_row-Type-0, size-Type}
 

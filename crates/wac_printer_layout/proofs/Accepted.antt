@@ -1,15 +1,5 @@
 -- Neither printing nor reading introduces a rejected character.
-use Rattle.std.proofs.Common.{◌≡◌, ℕ, ◌<◌, Bool, true, List, [], ◌∷◌, ◌++◌, sym, refl, ap, ◌∙◌, subst, arith, ⊎_elim}
-use Rattle.std.specs.Prelude.{◌||◌, nat_eq}
-use Rattle.std.specs.List.{AllByRecursion}
-use Rattle.std.specs.Str.{IsAscii, chars, trim}
-use Rattle.std.specs.Str.Lines.{lines}
-use Rattle.std.proofs.lemmas.Bool.{or_cases, eqb-true}
-use Rattle.std.proofs.lemmas.Str.{IsUtf8-nil, chars-nil}
-use Rattle.std.proofs.lemmas.Str.Ascii.{IsAscii-nil, IsAscii-cons}
-use Rattle.wac_lexer.specs.Characters.{fault_of}
-use Rattle.wac_lexer.specs.Comments.{is_blank}
-use Rattle.wac_lexer.proofs.Fronts.{blank_ascii}
+use Rattle.wac_printer_layout.proofs.Common.{◌≡◌, ℕ, ◌<◌, Bool, true, List, [], ◌∷◌, ◌++◌, sym, refl, ap, ◌∙◌, subst, arith, ⊎_elim, ◌||◌, nat_eq, AllByRecursion, IsAscii, chars, trim, lines, or_cases, eqb-true, IsUtf8-nil, chars-nil, IsAscii-nil, IsAscii-cons, fault_of, is_blank, blank_ascii}
 use Rattle.wac_printer_layout.specs.Printed.{Piece, token, blank, line, doc, text_of, text, fresh_after}
 use Rattle.wac_printer_layout.specs.Joins.{AreBlanks, IsDocLine, Fits, JoinsBefore}
 use Rattle.wac_printer_layout.specs.Accepted.{IsAccepted}

@@ -1,28 +1,7 @@
 -- The texts and the docs of a source's items have no rejected character where the source has none.
-use Rattle.std.proofs.Common.{◌≡◌, ℕ, suc, ◌+◌, ◌-◌, ◌<◌, true, List, [], ◌∷◌, ◌++◌, take, drop, length, get_or, sym, refl, ap, ◌∙◌, subst, arith, inl, inr, Option, Some, None, Result, length-append, codes}
-use Rattle.std.specs.Prelude.{◌&&◌}
-use Rattle.std.specs.List.{AllByRecursion}
-use Rattle.std.specs.Str.{IsUtf8, IsCharBoundary, trim, bytes_eq}
-use Rattle.std.proofs.Math.Seq.{get_or-append_seam, take-append_seam, drop-append_seam}
-use Rattle.std.proofs.lemmas.Bool.{and_parts, cond_both}
-use Rattle.std.proofs.lemmas.List.{take-append-drop, length-take-le, length-drop, get_or-drop}
-use Rattle.std.proofs.lemmas.Str.{IsCharBoundary-end, IsCharBoundary-start, IsCharBoundary-before_ascii, IsCharBoundary-after_ascii}
-use Rattle.wac_lexer.specs.Span.{Span, span, end_of}
-use Rattle.wac_lexer.specs.Comments.{gap}
-use Rattle.wac_lexer.specs.Docs.{begins_with, ends_with, doc_text, doc_of_part, docs_at}
-use Rattle.wac_lexer.specs.Gap.{IsPart, Gap, docs_among}
-use Rattle.wac_lexer.specs.Item.{Item, Doc, OnFirst}
-use Rattle.wac_lexer.specs.Items.{first_item, items_from, items}
-use Rattle.wac_lexer.specs.Order.{InOrder}
-use Rattle.wac_lexer.specs.Reading.{slice, Slices}
-use Rattle.wac_lexer.specs.declared.token.Token.{Token}
-use Rattle.wac_lexer.specs.declared.error.Error.{Error}
-use Rattle.wac_lexer.proofs.Fronts.{blank_ascii}
-use Rattle.wac_lexer.proofs.Ordered.{ordered}
-use Rattle.wac_lexer.proofs.Parts.{longest_gap, docs_in_gap}
+use Rattle.wac_printer_layout.proofs.Common.{◌≡◌, ℕ, suc, ◌+◌, ◌-◌, ◌<◌, true, List, [], ◌∷◌, ◌++◌, take, drop, length, get_or, sym, refl, ap, ◌∙◌, subst, arith, inl, inr, Option, Some, None, Result, length-append, codes, ◌&&◌, AllByRecursion, IsUtf8, IsCharBoundary, trim, bytes_eq, get_or-append_seam, take-append_seam, drop-append_seam, and_parts, cond_both, take-append-drop, length-take-le, length-drop, get_or-drop, IsCharBoundary-end, IsCharBoundary-start, IsCharBoundary-before_ascii, IsCharBoundary-after_ascii, Span, span, end_of, gap, begins_with, ends_with, doc_text, doc_of_part, docs_at, IsPart, Gap, docs_among, Item, Doc, OnFirst, first_item, items_from, items, InOrder, slice, Slices, Token, Error, blank_ascii, ordered, longest_gap, docs_in_gap, made, start_of, items_none, items_some, first_docs}
 use Rattle.wac_lexer.proofs.Pieces.{inside_front}
 use Rattle.wac_lexer.proofs.Texts.{bytes_eq_is}
-use Rattle.wac_lexer.proofs.Unfolded.{made, start_of, items_none, items_some, first_docs}
 use Rattle.wac_printer_layout.specs.Accepted.{IsAccepted, ItemIsAccepted}
 use Rattle.wac_printer_layout.proofs.Characters.{Holds, holds_take, holds_drop, holds_trim}
 use Rattle.wac_printer_layout.proofs.DocLines.{each}

@@ -1,10 +1,6 @@
 -- The UTF-8 of characters consists of bytes.
-use Rattle.std.proofs.Common.{◌≡◌, ℕ, ◌+◌, ◌/◌, ◌<◌, true, List, [], ◌∷◌, ◌++◌, subst, arith, ⊎_elim}
-use Rattle.std.specs.Prelude.{nat_lt}
-use Rattle.std.specs.Str.{IsUtf8}
-use Rattle.std.proofs.lemmas.Bool.{and_parts, ltb-true, cond_both}
+use Rattle.wac_printer_layout.proofs.Common.{◌≡◌, ℕ, ◌+◌, ◌/◌, ◌<◌, true, List, [], ◌∷◌, ◌++◌, subst, arith, ⊎_elim, nat_lt, IsUtf8, and_parts, ltb-true, cond_both, AreBytes}
 use lib.Utf8.{scalar, scalars, scalar_cases, next, encode, encodes}
-use Rattle.wac_lexer.proofs.Sorts.{AreBytes}
 
 bytes-append : (a b : List ℕ) → AreBytes a → AreBytes b → AreBytes (a ++ b)
 bytes-append [] b ha hb = hb

@@ -1,13 +1,9 @@
 -- Declarations of types are read back.
 use Rattle.std.proofs.Common.{◌≡◌, ℕ, Bool, true, false, List, [], ◌∷◌, ◌++◌, map, sym as back, refl, ap, ◌∙◌, subst, Option, Some, None, inl, inr, codes}
-use Rattle.std.specs.List.{AllByRecursion, flat_map}
-use Rattle.wac_lexer.specs.Item.{Item, Doc}
-use Rattle.wac_lexer.specs.Reading.{slice}
+use Rattle.wac_printer_layout.proofs.Common.{AllByRecursion, flat_map, Item, Doc, slice, is_token, Ident, Ty, FuncType, Constructor, Method, ResourceMethod, ResourceDecl, VariantCase, VariantDecl, Field, RecordDecl, Flag, FlagsDecl, EnumCase, EnumDecl, TypeAliasKind, TypeAlias, TypeDecl, ItemTypeDecl, docs_of, build, Derives, named_type, constructor, method, resource_method, methods, resource_decl, variant_case, cases, more_cases, variant_decl, field, fields, more_fields, record_decl, flag, flags, more_flags, flags_decl, enum_case, enum_cases, more_enum_cases, enum_decl, type_alias_kind, type_alias, type_decl, item_type_decl, by_rule}
 use Rattle.wac_lexer.specs.declared.token.Token.TheVariants as kinds
-use Rattle.wac_ast_grammar.specs.Tokens.{is_token}
 use Rattle.wac_ast_grammar.specs.Tree as tree
-use Rattle.wac_ast_grammar.specs.Tree.{Ident, Ty, FuncType, Constructor, Method, ResourceMethod, ResourceDecl, VariantCase, VariantDecl, Field, RecordDecl, Flag, FlagsDecl, EnumCase, EnumDecl, TypeAliasKind, TypeAlias, TypeDecl, ItemTypeDecl}
-use Rattle.wac_ast_grammar.specs.Grammar.{docs_of, build, Derives, identifier, named_type, constructor, method, resource_method, methods, resource_decl, variant_case, cases, more_cases, variant_decl, field, fields, more_fields, record_decl, flag, flags, more_flags, flags_decl, enum_case, enum_cases, more_enum_cases, enum_decl, type_alias_kind, type_alias, type_decl, item_type_decl}
+use Rattle.wac_ast_grammar.specs.Grammar.{identifier}
 use Rattle.wac_printer_layout.specs.Printed.{Piece, token, line, deeper}
 use Rattle.wac_printer_layout.specs.Bare.{nowhere, doc_lines, bare_ty, bare_named_type, bare_func_type, bare_constructor, bare_method, bare_resource_method, bare_resource_decl, bare_variant_case, bare_variant_decl, bare_field, bare_record_decl, bare_flag, bare_flags_decl, bare_enum_case, bare_enum_decl, bare_alias_kind, bare_type_alias, bare_type_decl, bare_item_type_decl}
 use Rattle.wac_printer_layout.specs.Parts.{space, newline, joined, spaced, body, rows, docs_layout, close_body}
@@ -15,7 +11,6 @@ use Rattle.wac_printer_layout.specs.TypeLayout.{ty_layout, named_type_layout, pa
 use Rattle.wac_printer_layout.specs.DeclarationLayout.{constructor_layout, static_layout, method_layout, resource_method_layout, resource_decl_layout, variant_case_layout, variant_decl_layout, field_layout, record_decl_layout, flag_layout, flags_decl_layout, enum_case_layout, enum_decl_layout, alias_kind_layout, type_alias_layout, type_decl_layout, item_type_decl_layout}
 use Rattle.wac_printer_layout.specs.Texts.{Spelled, ConstructorHas, MethodHas, ResourceMethodHas, ResourceDeclHas, VariantCaseHas, VariantDeclHas, FieldHas, RecordDeclHas, FlagHas, FlagsDeclHas, EnumCaseHas, EnumDeclHas, TypeAliasKindHas, TypeAliasHas, TypeDeclHas, ItemTypeDeclHas}
 use Rattle.wac_printer_layout.specs.Reread.{read_docs}
-use Rattle.wac_ast_grammar.proofs.Completed.{by_rule}
 use Rattle.wac_printer_layout.proofs.Means.{Means, split, pending, pending-append}
 use Rattle.wac_printer_layout.proofs.NamesBack.{alone, word_back, documented, docs_back}
 use Rattle.wac_printer_layout.proofs.TypesBack.{ty_back}

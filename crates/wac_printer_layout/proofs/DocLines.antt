@@ -1,11 +1,5 @@
 -- The lines of a text, trimmed, are lines of docs.
-use Rattle.std.proofs.Common.{◌≡◌, ◌≢◌, ℕ, ◌+◌, ◌-◌, ◌/◌, ◌≤◌, Bool, true, false, cond, List, [], ◌∷◌, ◌++◌, take, length, get_or, sym, refl, ap, ◌∙◌, subst, arith, ⊎_elim, append-nil}
-use Rattle.std.specs.Prelude.{◌&&◌, ◌==◌, nat_lt, slice_index, if◌then◌else◌, map}
-use Rattle.std.specs.List.{AllByRecursion, slice_split, onto_first}
-use Rattle.std.specs.Str.{chars, trim}
-use Rattle.std.specs.Str.Lines.{lines, lines_of_parts, strip_carriage_return}
-use Rattle.std.proofs.lemmas.Bool.{and_parts, cases_Bool, cond_both, ne_eqb, eqb-true, eqb-false}
-use Rattle.std.proofs.lemmas.Str.{encode_ascii, IsUtf8-nil, chars-nil, encodes-chars, scalars-chars, IsCharBoundary-before_ascii}
+use Rattle.wac_printer_layout.proofs.Common.{◌≡◌, ◌≢◌, ℕ, ◌+◌, ◌-◌, ◌/◌, ◌≤◌, Bool, true, false, cond, List, [], ◌∷◌, ◌++◌, take, length, get_or, sym, refl, ap, ◌∙◌, subst, arith, ⊎_elim, append-nil, ◌&&◌, ◌==◌, nat_lt, slice_index, if◌then◌else◌, map, AllByRecursion, slice_split, onto_first, chars, trim, lines, lines_of_parts, strip_carriage_return, and_parts, cases_Bool, cond_both, ne_eqb, eqb-true, eqb-false, encode_ascii, IsUtf8-nil, chars-nil, encodes-chars, scalars-chars, IsCharBoundary-before_ascii}
 use lib.Utf8.{scalar, scalars, encode, encodes}
 use Rattle.wac_printer_layout.specs.Joins.{IsDocLine}
 use Rattle.wac_printer_layout.proofs.Characters.{Holds, holds-append, holds_take, holds_chars, holds_trim, trim_again, all-append}

@@ -1,13 +1,5 @@
 -- What is printed of a document is read back.
-use Rattle.std.proofs.Common.{◌≡◌, ℕ, true, List, [], ◌∷◌, sym, subst}
-use Rattle.std.specs.List.{AllByRecursion}
-use Rattle.wac_lexer.specs.Item.{Item}
-use Rattle.wac_lexer.specs.Items.{items}
-use Rattle.wac_lexer.specs.Order.{InOrder}
-use Rattle.wac_lexer.specs.Reading.{slice}
-use Rattle.wac_lexer.specs.Span.{end_of}
-use Rattle.wac_lexer.proofs.Ordered.{ordered}
-use Rattle.wac_ast_grammar.specs.Tree.{Document}
+use Rattle.wac_printer_layout.proofs.Common.{◌≡◌, ℕ, true, List, [], ◌∷◌, sym, subst, AllByRecursion, Item, items, InOrder, slice, end_of, ordered, Document}
 use Rattle.wac_printer_layout.specs.Printed.{Piece, text}
 use Rattle.wac_printer_layout.specs.Joins.{AreBlanks, Joins}
 use Rattle.wac_printer_layout.specs.Bare.{doc_lines, bare_document}

@@ -1,9 +1,5 @@
 -- What is printed is UTF-8, whatever text is written for a depth.
-use Rattle.std.proofs.Common.{ℕ, zero, suc, Bool, true, false, List, [], ◌∷◌, ◌++◌}
-use Rattle.std.specs.Str.{IsUtf8}
-use Rattle.std.proofs.lemmas.Str.{IsUtf8-nil, IsUtf8-append}
-use Rattle.wac_ast_grammar.specs.Tree.{Document}
-use Rattle.wac_ast_grammar.specs.TextTree.{IsTreeOf}
+use Rattle.wac_printer_layout.proofs.Common.{ℕ, zero, suc, Bool, true, false, List, [], ◌∷◌, ◌++◌, IsUtf8, IsUtf8-nil, IsUtf8-append, Document, IsTreeOf}
 use Rattle.wac_printer_layout.specs.Printed.{Piece, token, blank, line, doc, times, text_of, text, fresh_after}
 use Rattle.wac_printer_layout.specs.Bare.{doc_lines, bare_document}
 use Rattle.wac_printer_layout.specs.Joins.{Fits, JoinsBefore}

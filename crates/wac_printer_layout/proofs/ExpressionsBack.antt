@@ -1,19 +1,14 @@
 -- Expressions are read back.
 use Rattle.std.proofs.Common.{◌≡◌, ℕ, List, [], ◌∷◌, ◌++◌, map, sym as back, refl, ap, subst, inl, inr, codes}
-use Rattle.std.specs.List.{AllByRecursion, flat_map}
-use Rattle.wac_lexer.specs.Item.{Item}
-use Rattle.wac_lexer.specs.Reading.{slice}
+use Rattle.wac_printer_layout.proofs.Common.{AllByRecursion, flat_map, Item, slice, is_token, Ident, String, PackageName, AccessExpr, NamedAccessExpr, PostfixExpr, InstantiationArgumentName, Expr, PrimaryExpr, Arguments, InstantiationArgument, arguments_from, build, Derives, access_expr, named_access_expr, postfix_expr, postfixes, argument, arguments, more_arguments, new_expr, nested_expr, primary_expr, expr, by_rule}
 use Rattle.wac_lexer.specs.declared.token.Token.TheVariants as kinds
-use Rattle.wac_ast_grammar.specs.Tokens.{is_token}
 use Rattle.wac_ast_grammar.specs.Tree as tree
-use Rattle.wac_ast_grammar.specs.Tree.{Ident, String, PackageName, AccessExpr, NamedAccessExpr, PostfixExpr, InstantiationArgumentName, Expr, PrimaryExpr, Arguments, InstantiationArgument, arguments_from}
-use Rattle.wac_ast_grammar.specs.Grammar.{build, Derives, identifier, access_expr, named_access_expr, postfix_expr, postfixes, argument, arguments, more_arguments, new_expr, nested_expr, primary_expr, expr}
+use Rattle.wac_ast_grammar.specs.Grammar.{identifier}
 use Rattle.wac_printer_layout.specs.Printed.{Piece, token, line, deeper}
 use Rattle.wac_printer_layout.specs.Bare.{nowhere, bare_postfix_expr, bare_expr, bare_primary_expr, bare_arguments, bare_argument}
 use Rattle.wac_printer_layout.specs.Parts.{newline, close_body}
 use Rattle.wac_printer_layout.specs.ExpressionLayout.{postfix_expr_layout, comma_layout, braced_layout, expr_layout, primary_expr_layout, arguments_layout, argument_layout}
 use Rattle.wac_printer_layout.specs.Texts.{Spelled, PostfixExprHas, ExprHas, PrimaryExprHas, ArgumentsHas, ArgumentHas}
-use Rattle.wac_ast_grammar.proofs.Completed.{by_rule}
 use Rattle.wac_printer_layout.proofs.Means.{Means, split}
 use Rattle.wac_printer_layout.proofs.NamesBack.{alone, is_kind, word_back, string_back, name_back}
 use Rattle.wac_printer_layout.proofs.ListsBack.{regroup}

@@ -1,10 +1,7 @@
 -- The pieces of expressions join.
-use Rattle.std.proofs.Common.{◌≡◌, ℕ, Bool, true, List, [], ◌∷◌, ◌++◌, refl}
-use Rattle.std.specs.List.{AllByRecursion, flat_map}
-use Rattle.wac_lexer.proofs.Following.{follows}
+use Rattle.wac_printer_layout.proofs.Common.{◌≡◌, ℕ, Bool, true, List, [], ◌∷◌, ◌++◌, refl, AllByRecursion, flat_map, follows, PostfixExpr, InstantiationArgumentName, Expr, PrimaryExpr, Arguments, InstantiationArgument}
 use Rattle.wac_lexer.specs.declared.token.Token.TheVariants as kinds
 use Rattle.wac_ast_grammar.specs.Tree as tree
-use Rattle.wac_ast_grammar.specs.Tree.{PostfixExpr, InstantiationArgumentName, Expr, PrimaryExpr, Arguments, InstantiationArgument}
 use Rattle.wac_printer_layout.specs.Printed.{Piece, line, text, deeper}
 use Rattle.wac_printer_layout.specs.Parts.{newline}
 use Rattle.wac_printer_layout.specs.Texts.{Spelled, PostfixExprHas, ArgumentNameHas, ExprHas, PrimaryExprHas, ArgumentsHas, ArgumentHas}

@@ -1,11 +1,5 @@
 -- Characters that aren't rejected.
-use Rattle.std.proofs.Common.{◌≡◌, ℕ, ◌+◌, List, [], ◌∷◌, refl, ap, ◌∙◌, subst, Some, None}
-use Rattle.std.specs.Prelude.{MatchOption}
-use Rattle.std.specs.List.{AllByRecursion}
-use Rattle.std.specs.Char.{len_utf8}
-use Rattle.std.specs.Str.{chars}
-use Rattle.wac_lexer.specs.Span.{span}
-use Rattle.wac_lexer.specs.Characters.{fault_of, refused_from, IsFirstRefused}
+use Rattle.wac_printer_layout.proofs.Common.{◌≡◌, ℕ, ◌+◌, List, [], ◌∷◌, refl, ap, ◌∙◌, subst, Some, None, MatchOption, AllByRecursion, len_utf8, chars, span, fault_of, refused_from, IsFirstRefused}
 use Rattle.wac_lexer.proofs.Refusals.{first_refused}
 use Rattle.wac_printer_layout.specs.Accepted.{IsAccepted}
 use Rattle.wac_printer_layout.proofs.Characters.{Holds}

@@ -1,20 +1,9 @@
 -- What a derived tree is made of is spelled as its sort.
 use Rattle.std.proofs.Common.{◌≡◌, ℕ, true, List, [], sym as back, refl, ap, ◌∙◌, subst, Some, Result, Ok, Err}
-use Rattle.std.specs.List.{AllByRecursion}
-use Rattle.std.proofs.lemmas.Bool.{false≢true}
-use Rattle.wac_lexer.specs.Item.{Item, Doc}
-use Rattle.wac_lexer.specs.Reading.{slice}
-use Rattle.wac_lexer.specs.Tokens.{token_of}
-use Rattle.wac_lexer.specs.declared.token.Token.{Token}
+use Rattle.wac_printer_layout.proofs.Common.{AllByRecursion, false≢true, Item, Doc, slice, token_of, Token, Error, unversioned, path_name, path_segments, version_of, reads_version, is_token, valid, Document, asked_after, build, Derives, document, document_asked}
 use Rattle.wac_lexer.specs.declared.token.Token.TheVariants as kinds
-use Rattle.wac_lexer.specs.declared.error.Error.{Error}
-use Rattle.wac_ast_grammar.specs.Version.{unversioned, path_name, path_segments, version_of, reads_version}
-use Rattle.wac_ast_grammar.specs.Tokens.{is_token, valid}
-use Rattle.wac_ast_grammar.specs.Tree.{Document}
-use Rattle.wac_ast_grammar.specs.Leaves.{asked_after}
-use Rattle.wac_ast_grammar.specs.Grammar.{build, Derives, document, package_name, package_path}
+use Rattle.wac_ast_grammar.specs.Grammar.{package_name, package_path}
 use Rattle.wac_ast_grammar.proofs.Derived.{Made, derived_document}
-use Rattle.wac_ast_grammar.proofs.Walked.{document_asked}
 use Rattle.wac_printer_layout.specs.Accepted.{IsAccepted}
 use Rattle.wac_printer_layout.specs.Bare.{doc_lines, bare, bare_package_name, bare_package_path, bare_document}
 use Rattle.wac_printer_layout.specs.Texts.{Spelled, DocsHave, PackageNameHas, PackagePathHas, DocumentHas, has}

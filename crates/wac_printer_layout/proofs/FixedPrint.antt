@@ -1,6 +1,5 @@
 -- What is printed is fixed from the second time on.
-use Rattle.std.proofs.Common.{◌≡◌, ℕ, true, List, sym, ap, ◌∙◌}
-use Rattle.wac_ast_grammar.specs.Tree.{Document}
+use Rattle.wac_printer_layout.proofs.Common.{◌≡◌, ℕ, true, List, sym, ap, ◌∙◌, Document}
 use Rattle.wac_printer_layout.specs.Printed.{text}
 use Rattle.wac_printer_layout.specs.Bare.{doc_lines, bare_document}
 use Rattle.wac_printer_layout.specs.Settled.{settle_document}

@@ -1,19 +1,14 @@
 -- Functions are read back.
 use Rattle.std.proofs.Common.{◌≡◌, ℕ, Bool, true, false, List, [], ◌∷◌, ◌++◌, map, sym as back, refl, ap, subst, inl, inr, codes}
-use Rattle.std.specs.Prelude.{◌⊎◌}
-use Rattle.std.specs.List.{AllByRecursion}
-use Rattle.wac_lexer.specs.Item.{Item}
+use Rattle.wac_printer_layout.proofs.Common.{◌⊎◌, AllByRecursion, Item, is_token, Ident, NamedType, ResultList, FuncType, FuncTypeRef, by_rule}
 use Rattle.wac_lexer.specs.declared.token.Token.TheVariants as kinds
-use Rattle.wac_ast_grammar.specs.Tokens.{is_token}
 use Rattle.wac_ast_grammar.specs.Tree as tree
-use Rattle.wac_ast_grammar.specs.Tree.{Ident, NamedType, ResultList, FuncType, FuncTypeRef}
 use Rattle.wac_ast_grammar.specs.Grammar.{token as one_token, sym as one_sym, then, optional, build, is_there, results_of, DerivesIn, Derives, identifier, named_type, params, more_params, result_list, func_type, func_type_ref}
 use Rattle.wac_printer_layout.specs.Printed.{token}
 use Rattle.wac_printer_layout.specs.Bare.{bare_named_type, bare_result_list, bare_func_type, bare_func_type_ref}
 use Rattle.wac_printer_layout.specs.Parts.{joined}
 use Rattle.wac_printer_layout.specs.TypeLayout.{named_type_layout, results_layout, async_layout, func_type_layout, func_type_ref_layout}
 use Rattle.wac_printer_layout.specs.Texts.{Spelled, NamedTypeHas, ResultListHas, FuncTypeHas, FuncTypeRefHas}
-use Rattle.wac_ast_grammar.proofs.Completed.{by_rule}
 use Rattle.wac_printer_layout.proofs.Means.{Means, split}
 use Rattle.wac_printer_layout.proofs.NamesBack.{alone, word_back}
 use Rattle.wac_printer_layout.proofs.TypesBack.{ty_back}

@@ -1,16 +1,6 @@
 -- Equal bare trees with equal lines of docs give equal texts; and the lines of what is printed.
-use Rattle.std.proofs.Common.{◌≡◌, ◌↔◌, ℕ, Bool, true, false, cond, List, [], ◌∷◌, ◌++◌, map, length, refl, sym, ap, ◌∙◌, subst}
-use Rattle.std.specs.Prelude.{◌==◌, not}
-use Rattle.std.specs.List.{AllByRecursion, flat_map, filter}
-use Rattle.std.specs.Str.{IsUtf8, trim}
-use Rattle.std.specs.Str.Lines.{lines}
-use Rattle.wac_lexer.specs.Item.{Doc}
-use Rattle.wac_ast_grammar.specs.Tree.{Document}
-use Rattle.wac_ast_grammar.specs.TextTree.{IsTreeOf}
-use Rattle.wac_ast_grammar.specs.Walk.{walk_document}
-use Rattle.wac_ast_grammar.specs.Leaves.{Leaf, changed, leaves, docs_leaf, of_leaves, unchanged}
+use Rattle.wac_printer_layout.proofs.Common.{◌≡◌, ◌↔◌, ℕ, Bool, true, false, cond, List, [], ◌∷◌, ◌++◌, map, length, refl, sym, ap, ◌∙◌, subst, ◌==◌, not, AllByRecursion, flat_map, filter, IsUtf8, trim, lines, Doc, Document, IsTreeOf, walk_document, Leaf, changed, leaves, docs_leaf, of_leaves, unchanged, Gives, document_composed, document_implied, document_any_spans}
 use Rattle.wac_ast_grammar.proofs.Listed.{document_listed}
-use Rattle.wac_ast_grammar.proofs.Walked.{Gives, document_composed, document_implied, document_any_spans}
 use Rattle.wac_printer_layout.specs.Printed.{text}
 use Rattle.wac_printer_layout.specs.StatementLayout.{document_layout}
 use Rattle.wac_printer_layout.specs.Joins.{IsDocLine, AreBlanks}

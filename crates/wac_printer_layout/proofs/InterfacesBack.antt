@@ -1,12 +1,9 @@
 -- Interfaces are read back.
 use Rattle.std.proofs.Common.{◌≡◌, ℕ, List, [], ◌∷◌, ◌++◌, map, sym as back, refl, ap, subst, Option, Some, None, inl, inr, codes}
-use Rattle.std.specs.List.{AllByRecursion}
-use Rattle.wac_lexer.specs.Item.{Item}
+use Rattle.wac_printer_layout.proofs.Common.{AllByRecursion, Item, is_token, Ident, PackagePath, FuncTypeRef, UsePath, UseItem, Use, InterfaceExport, InterfaceItem, InterfaceDecl, InlineInterface, docs_of, build, Derives, use_path, use_item, use_items, more_use_items, use_statement, interface_export, interface_item, interface_items, interface_decl, inline_interface, by_rule}
 use Rattle.wac_lexer.specs.declared.token.Token.TheVariants as kinds
-use Rattle.wac_ast_grammar.specs.Tokens.{is_token}
 use Rattle.wac_ast_grammar.specs.Tree as tree
-use Rattle.wac_ast_grammar.specs.Tree.{Ident, PackagePath, FuncTypeRef, UsePath, UseItem, Use, InterfaceExport, InterfaceItem, InterfaceDecl, InlineInterface}
-use Rattle.wac_ast_grammar.specs.Grammar.{docs_of, build, Derives, identifier, package_path, use_path, use_item, use_items, more_use_items, use_statement, interface_export, interface_item, interface_items, interface_decl, inline_interface}
+use Rattle.wac_ast_grammar.specs.Grammar.{identifier, package_path}
 use Rattle.wac_printer_layout.specs.Printed.{token, deeper}
 use Rattle.wac_printer_layout.specs.Bare.{doc_lines, bare_func_type_ref, bare_use_path, bare_use_item, bare_use, bare_interface_export, bare_interface_item, bare_interface_decl, bare_inline_interface}
 use Rattle.wac_printer_layout.specs.Parts.{space, joined, spaced, body, docs_layout, close_body}
@@ -14,7 +11,6 @@ use Rattle.wac_printer_layout.specs.TypeLayout.{func_type_ref_layout}
 use Rattle.wac_printer_layout.specs.InterfaceLayout.{use_path_layout, use_item_layout, use_items_layout, use_layout, interface_export_layout, interface_item_layout, interface_decl_layout, inline_interface_layout}
 use Rattle.wac_printer_layout.specs.Texts.{Spelled, UsePathHas, UseItemHas, UseHas, InterfaceExportHas, InterfaceItemHas, InterfaceDeclHas, InlineInterfaceHas}
 use Rattle.wac_printer_layout.specs.Reread.{read_docs}
-use Rattle.wac_ast_grammar.proofs.Completed.{by_rule}
 use Rattle.wac_printer_layout.proofs.Means.{Means, split, pending}
 use Rattle.wac_printer_layout.proofs.NamesBack.{alone, word_back, path_back, documented, docs_back}
 use Rattle.wac_printer_layout.proofs.FunctionsBack.{func_type_ref_back}

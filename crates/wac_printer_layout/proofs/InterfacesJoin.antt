@@ -1,11 +1,7 @@
 -- The pieces of interfaces join.
-use Rattle.std.proofs.Common.{◌≡◌, ℕ, Bool, true, false, List, [], ◌∷◌, ◌++◌, refl, Option, Some, None, codes}
-use Rattle.std.specs.List.{AllByRecursion}
-use Rattle.wac_lexer.proofs.Following.{follows}
+use Rattle.wac_printer_layout.proofs.Common.{◌≡◌, ℕ, Bool, true, false, List, [], ◌∷◌, ◌++◌, refl, Option, Some, None, codes, AllByRecursion, follows, Ident, UsePath, UseItem, Use, InterfaceExport, InterfaceItem, InterfaceDecl, InlineInterface, IfThere}
 use Rattle.wac_lexer.specs.declared.token.Token.TheVariants as kinds
 use Rattle.wac_ast_grammar.specs.Tree as tree
-use Rattle.wac_ast_grammar.specs.Tree.{Ident, UsePath, UseItem, Use, InterfaceExport, InterfaceItem, InterfaceDecl, InlineInterface}
-use Rattle.wac_ast_grammar.specs.Leaves.{IfThere}
 use Rattle.wac_printer_layout.specs.Printed.{token, text, fresh_behind}
 use Rattle.wac_printer_layout.specs.Parts.{joined}
 use Rattle.wac_printer_layout.specs.Texts.{Spelled, IdentHas, UsePathHas, UseItemHas, UseHas, InterfaceExportHas, InterfaceItemHas, InterfaceDeclHas, InlineInterfaceHas}

@@ -1,11 +1,5 @@
 -- The concatenation of two lists of pieces joins where each of the two does.
-use Rattle.std.proofs.Common.{◌≡◌, ℕ, Bool, true, false, List, [], ◌∷◌, ◌++◌, sym, refl, ap, ◌∙◌, subst, append_assoc, Option, Some, None}
-use Rattle.std.specs.Prelude.{nat_eq}
-use Rattle.std.proofs.lemmas.Bool.{false≢true}
-use Rattle.wac_lexer.proofs.Following.{follows}
-use Rattle.wac_lexer.proofs.Standing.{walk_follows}
-use Rattle.wac_lexer.specs.Tokens.{token_of}
-use Rattle.wac_lexer.specs.declared.token.Token.{Token}
+use Rattle.wac_printer_layout.proofs.Common.{◌≡◌, ℕ, Bool, true, false, List, [], ◌∷◌, ◌++◌, sym, refl, ap, ◌∙◌, subst, append_assoc, Option, Some, None, nat_eq, false≢true, follows, walk_follows, token_of, Token}
 use Rattle.wac_printer_layout.specs.Printed.{Piece, text_of, text, fresh_after, fresh_behind}
 use Rattle.wac_printer_layout.specs.Accepted.{IsAccepted}
 use Rattle.wac_printer_layout.specs.Joins.{Stands, Fits, JoinsBefore}

@@ -1,11 +1,7 @@
 -- The joints of printed text: what each sort of piece may precede.
-use Rattle.std.proofs.Common.{◌≡◌, ℕ, Bool, true, List, [], ◌∷◌, ◌++◌, refl, ap, ◌∙◌, append_assoc, Some, codes}
-use Rattle.std.specs.List.{AllByRecursion, flat_map}
-use Rattle.wac_lexer.proofs.Following.{follows}
-use Rattle.wac_lexer.specs.Tokens.{token_of}
+use Rattle.wac_printer_layout.proofs.Common.{◌≡◌, ℕ, Bool, true, List, [], ◌∷◌, ◌++◌, refl, ap, ◌∙◌, append_assoc, Some, codes, AllByRecursion, flat_map, follows, token_of, Doc}
 use Rattle.wac_lexer.specs.declared.token.Token.TheVariants as kinds
 use Rattle.wac_lexer.proofs.Followed.{dot_before_word}
-use Rattle.wac_lexer.specs.Item.{Doc}
 use Rattle.wac_printer_layout.specs.Printed.{Piece, token, text, fresh_behind, deeper}
 use Rattle.wac_printer_layout.specs.Joins.{Stands, JoinsBefore}
 use Rattle.wac_printer_layout.specs.Parts.{space, newline, joined, spaced, body, rows, close_body, docs_layout}

@@ -1,3 +1,4 @@
+pub mod Common
 pub mod Skips
 pub mod Bytes
 pub mod ReadBack

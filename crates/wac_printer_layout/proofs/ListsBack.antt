@@ -1,9 +1,6 @@
 -- Lists are read back: rows, items between commas, and items on lines of their own.
-use Rattle.std.proofs.Common.{◌≡◌, ℕ, true, List, [], ◌∷◌, ◌++◌, map, ap, ◌∙◌, subst, append_assoc, codes}
-use Rattle.std.specs.List.{AllByRecursion, flat_map}
-use Rattle.wac_lexer.specs.Item.{Item}
+use Rattle.wac_printer_layout.proofs.Common.{◌≡◌, ℕ, true, List, [], ◌∷◌, ◌++◌, map, ap, ◌∙◌, subst, append_assoc, codes, AllByRecursion, flat_map, Item, is_token}
 use Rattle.wac_lexer.specs.declared.token.Token.TheVariants as kinds
-use Rattle.wac_ast_grammar.specs.Tokens.{is_token}
 use Rattle.wac_printer_layout.specs.Printed.{Piece, token}
 use Rattle.wac_printer_layout.specs.Parts.{space, newline, joined, spaced}
 use Rattle.wac_printer_layout.proofs.Means.{Means, split, pending}

@@ -1,9 +1,5 @@
 -- Items that say what pieces are meant to say, piece by piece.
-use Rattle.std.proofs.Common.{◌≡◌, ℕ, ◌+◌, Bool, List, [], ◌∷◌, ◌++◌, map, length, sym, refl, ap, ◌∙◌, subst, append_assoc, append-nil}
-use Rattle.std.specs.List.{AllByRecursion}
-use Rattle.wac_lexer.specs.Span.{span}
-use Rattle.wac_lexer.specs.Item.{Item, Doc}
-use Rattle.wac_lexer.specs.Reading.{slice}
+use Rattle.wac_printer_layout.proofs.Common.{◌≡◌, ℕ, ◌+◌, Bool, List, [], ◌∷◌, ◌++◌, map, length, sym, refl, ap, ◌∙◌, subst, append_assoc, append-nil, AllByRecursion, span, Item, Doc, slice}
 use Rattle.wac_printer_layout.specs.Printed.{Piece, token, blank, line, doc, text_of, fresh_after}
 use Rattle.wac_printer_layout.specs.Placed.{kind_of, with_docs, placed}
 

@@ -1,23 +1,15 @@
 -- Names are read back.
 use Rattle.std.proofs.Common.{◌≡◌, ℕ, List, [], ◌∷◌, ◌++◌, map, sym as back, refl, ap, ◌∙◌, subst, Some, Ok, inl, inr, append_assoc, append-nil}
-use Rattle.std.specs.Str.Lines.{lines}
-use Rattle.wac_lexer.specs.Item.{Item, Doc}
-use Rattle.wac_lexer.specs.Reading.{slice}
-use Rattle.wac_lexer.specs.Tokens.{token_of}
-use Rattle.wac_lexer.specs.declared.token.Token.{Token}
+use Rattle.wac_printer_layout.proofs.Common.{lines, Item, Doc, slice, token_of, Token, unversioned, path_name, path_segments, version_of, reads_version, is_token, Ident, String, PackageName, PackagePath, ExternName, build, Derives, extern_name, docs_of, by_rule}
 use Rattle.wac_lexer.specs.declared.token.Token.TheVariants as kinds
-use Rattle.wac_ast_grammar.specs.Version.{unversioned, path_name, path_segments, version_of, reads_version}
-use Rattle.wac_ast_grammar.specs.Tokens.{is_token}
 use Rattle.wac_ast_grammar.specs.Tree as tree
-use Rattle.wac_ast_grammar.specs.Tree.{Ident, String, PackageName, PackagePath, ExternName}
-use Rattle.wac_ast_grammar.specs.Grammar.{build, Derives, identifier, string, package_name, package_path, extern_name, docs_of}
+use Rattle.wac_ast_grammar.specs.Grammar.{identifier, string, package_name, package_path}
 use Rattle.wac_printer_layout.specs.Printed.{Piece}
 use Rattle.wac_printer_layout.specs.Bare.{nowhere, doc_line, doc_lines, bare_ident, bare_string, bare_package_name, bare_package_path, bare_extern_name}
 use Rattle.wac_printer_layout.specs.Reread.{read_docs}
 use Rattle.wac_printer_layout.specs.Parts.{docs_layout}
 use Rattle.wac_printer_layout.specs.TypeLayout.{extern_name_layout}
 use Rattle.wac_printer_layout.specs.Texts.{Spelled, IdentHas, StringHas, PackageNameHas, PackagePathHas, ExternNameHas}
-use Rattle.wac_ast_grammar.proofs.Completed.{by_rule}
 use Rattle.wac_printer_layout.proofs.ReadBack.{kind_is}
 use Rattle.wac_printer_layout.proofs.Means.{texts_of, Says, Means}
 

@@ -1,24 +1,8 @@
 -- The items of a source without rejected characters are what a derivation needs to be printed.
-use Rattle.std.proofs.Common.{◌≡◌, ℕ, ◌+◌, List, [], ◌∷◌, ◌++◌, map, take, drop, sym, refl, ap, ◌∙◌, subst, Option, Some, None, Result, Ok}
-use Rattle.std.specs.List.{AllByRecursion}
-use Rattle.std.specs.Str.{trim}
-use Rattle.std.specs.Str.Lines.{lines}
-use Rattle.std.proofs.lemmas.List.{take-append-drop}
+use Rattle.wac_printer_layout.proofs.Common.{◌≡◌, ℕ, ◌+◌, List, [], ◌∷◌, ◌++◌, map, take, drop, sym, refl, ap, ◌∙◌, subst, Option, Some, None, Result, Ok, AllByRecursion, trim, lines, take-append-drop, Item, Doc, first_item, items_from, items, slice, token_of, Token, Error, bytes_back, ordered, AreBytes, token_found, made, start_of, items_none, items_some, Document, Derives, document}
 use Rattle.wac_lexer.specs.First.{IsFirst}
 use Rattle.wac_lexer.specs.First.IsFirst.{comment, quote, token, character}
-use Rattle.wac_lexer.specs.Item.{Item, Doc}
-use Rattle.wac_lexer.specs.Items.{first_item, items_from, items}
-use Rattle.wac_lexer.specs.Reading.{slice}
-use Rattle.wac_lexer.specs.Tokens.{token_of}
-use Rattle.wac_lexer.specs.declared.token.Token.{Token}
-use Rattle.wac_lexer.specs.declared.error.Error.{Error}
 use Rattle.wac_lexer.proofs.Firsts.{first_meant}
-use Rattle.wac_lexer.proofs.InFront.{bytes_back}
-use Rattle.wac_lexer.proofs.Ordered.{ordered}
-use Rattle.wac_lexer.proofs.Sorts.{AreBytes, token_found}
-use Rattle.wac_lexer.proofs.Unfolded.{made, start_of, items_none, items_some}
-use Rattle.wac_ast_grammar.specs.Tree.{Document}
-use Rattle.wac_ast_grammar.specs.Grammar.{Derives, document}
 use Rattle.wac_printer_layout.specs.Accepted.{IsAccepted, ItemIsAccepted}
 use Rattle.wac_printer_layout.specs.Joins.{IsDocLine}
 use Rattle.wac_printer_layout.specs.Bare.{doc_line, doc_lines, bare_document}

@@ -1,21 +1,11 @@
 -- A token that is no string consists of visible ASCII characters, so that no character of it is rejected.
-use Rattle.std.proofs.Common.{◌≡◌, ℕ, zero, suc, ◌+◌, ◌-◌, ◌<◌, ◌≤◌, Bool, true, false, List, [], ◌∷◌, sym, refl, subst, arith, inl, inr, ⊎_elim, Option, Some, None}
-use Rattle.std.specs.Prelude.{◌&&◌, ◌⊎◌, nat_le, nat_lt, not, is_none}
-use Rattle.std.specs.List.{AllByRecursion, concat}
-use Rattle.std.specs.Str.{IsAscii}
-use Rattle.std.proofs.lemmas.Bool.{and_parts, leb-true, ltb-true, false≢true}
-use Rattle.std.proofs.lemmas.Str.Ascii.{IsAscii-nil, IsAscii-cons}
-use Rattle.wac_lexer.specs.Characters.{fault_of}
+use Rattle.wac_printer_layout.proofs.Common.{◌≡◌, ℕ, zero, suc, ◌+◌, ◌-◌, ◌<◌, ◌≤◌, Bool, true, false, List, [], ◌∷◌, sym, refl, subst, arith, inl, inr, ⊎_elim, Option, Some, None, ◌&&◌, ◌⊎◌, nat_le, nat_lt, not, is_none, AllByRecursion, concat, IsAscii, and_parts, leb-true, ltb-true, false≢true, IsAscii-nil, IsAscii-cons, fault_of, token_of, InTable, IsToken, Token, Error, token_meant}
 use Rattle.wac_lexer.specs.Pattern.{Pattern, Matches}
 use Rattle.wac_lexer.specs.Pattern.Pattern.{Nothing, Empty, Range, Then, Or, Many}
 use Rattle.wac_lexer.specs.Shapes.{id, package_name, package_path}
-use Rattle.wac_lexer.specs.Tokens.{token_of, InTable, IsToken}
 use Rattle.wac_lexer.specs.Tokens.IsToken.{fixed, identifier, string, name, path}
 use Rattle.wac_lexer.specs.Words.{fixed_texts}
-use Rattle.wac_lexer.specs.declared.token.Token.{Token}
 use Rattle.wac_lexer.specs.declared.token.Token.TheVariants as tokens
-use Rattle.wac_lexer.specs.declared.error.Error.{Error}
-use Rattle.wac_lexer.proofs.Sorts.{token_meant}
 use Rattle.wac_printer_layout.specs.Accepted.{IsAccepted}
 use Rattle.wac_printer_layout.proofs.Characters.{holds_ascii, all-append}
 use Rattle.wac_printer_layout.proofs.Fine.{Fine, accepted}

@@ -1,14 +1,7 @@
 -- The plain tree of a document is read off its bare tree: `%` and quotes are taken off there.
-use Rattle.std.proofs.Common.{◌≡◌, ℕ, List, refl, sym, ap, ◌∙◌}
-use Rattle.std.specs.Str.{IsUtf8}
-use Rattle.wac_lexer.proofs.Ordered.{ordered}
-use Rattle.wac_ast_grammar.specs.Tree.{without_percent, between_quotes, Document}
-use Rattle.wac_ast_grammar.specs.TextTree.{IsTreeOf}
-use Rattle.wac_ast_grammar.specs.Walk.{walk_document}
-use Rattle.wac_ast_grammar.specs.Leaves.{Change, changed}
+use Rattle.wac_printer_layout.proofs.Common.{◌≡◌, ℕ, List, refl, sym, ap, ◌∙◌, IsUtf8, ordered, without_percent, between_quotes, Document, IsTreeOf, walk_document, Change, changed, Gives, agree, document_agreeing, document_implied}
 use Rattle.wac_ast_grammar.specs.Spelled.{spelled, DocumentSpelled}
 use Rattle.wac_ast_grammar.proofs.Ordered.{document_spelled}
-use Rattle.wac_ast_grammar.proofs.Walked.{Gives, agree, document_agreeing, document_implied}
 use Rattle.wac_printer_layout.specs.Bare.{nowhere, Keep, no_docs, bare, bare_document}
 use Rattle.wac_printer_layout.specs.PlainTree.{plain, plain_document}
 use Rattle.wac_printer_layout.specs.Reread.{IsReread}

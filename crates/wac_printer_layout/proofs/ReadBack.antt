@@ -1,21 +1,8 @@
 -- Pieces that join are read back, with their places and docs.
-use Rattle.std.proofs.Common.{◌≡◌, ℕ, zero, suc, ◌+◌, Bool, true, false, List, [], ◌∷◌, ◌++◌, take, drop, length, sym, ap, ◌∙◌, subst, arith, Some, None, Ok, Err, append_assoc, append-nil}
-use Rattle.std.proofs.Math.Seq.{take-append_seam, drop-append_seam}
-use Rattle.std.proofs.lemmas.List.{drop-drop, length-drop}
-use Rattle.wac_lexer.specs.Span.{span}
-use Rattle.wac_lexer.specs.Comments.{part_len}
-use Rattle.wac_lexer.specs.Docs.{docs_at}
+use Rattle.wac_printer_layout.proofs.Common.{◌≡◌, ℕ, zero, suc, ◌+◌, Bool, true, false, List, [], ◌∷◌, ◌++◌, take, drop, length, sym, ap, ◌∙◌, subst, arith, Some, None, Ok, Err, append_assoc, append-nil, take-append_seam, drop-append_seam, drop-drop, length-drop, span, part_len, docs_at, first_item, items_from, items, token_of, IsToken, Token, gap_done, start_of, items_some, items_end, AreBytes, token_found, bytes_back, stands_alone}
 use Rattle.wac_lexer.specs.Follow.{Follows}
-use Rattle.wac_lexer.specs.Items.{first_item, items_from, items}
-use Rattle.wac_lexer.specs.Tokens.{token_of, IsToken}
-use Rattle.wac_lexer.specs.declared.token.Token.{Token}
 use Rattle.wac_lexer.specs.declared.error.Error.TheVariants.{UnexpectedToken}
-use Rattle.wac_lexer.proofs.Gaps.{gap_done}
 use Rattle.wac_lexer.proofs.Trimmed.{docs_done}
-use Rattle.wac_lexer.proofs.Unfolded.{start_of, items_some, items_end}
-use Rattle.wac_lexer.proofs.Sorts.{AreBytes, token_found}
-use Rattle.wac_lexer.proofs.InFront.{bytes_back}
-use Rattle.wac_lexer.proofs.Standing.{stands_alone}
 use Rattle.wac_printer_layout.specs.Printed.{Piece, token, blank, line, doc, times, text_of, text, fresh_after}
 use Rattle.wac_printer_layout.specs.Joins.{AreBlanks, Fits, Joins}
 use Rattle.wac_printer_layout.specs.Placed.{kind_of, placed_before, placed}

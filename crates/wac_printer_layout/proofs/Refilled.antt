@@ -1,12 +1,5 @@
 -- A bare tree is made of the bare tree without docs and of the docs of its holders, in order: each holder takes the next.
-use Rattle.std.proofs.Common.{◌≡◌, ℕ, List, [], ◌∷◌, ◌++◌, map, Option, Some, None, refl, sym, ap, ◌∙◌}
-use Rattle.std.specs.Option.{option_map}
-use Rattle.std.specs.List.{flat_map}
-use Rattle.wac_lexer.specs.Span.{Span}
-use Rattle.wac_lexer.specs.Item.{Doc}
-use Rattle.wac_ast_grammar.specs.Tree.{Document}
-use Rattle.wac_ast_grammar.specs.Walk.{Walk, walk_document}
-use Rattle.wac_ast_grammar.specs.Leaves.{Leaf, Change, changed, leaves, docs_leaf, of_option, unchanged}
+use Rattle.wac_printer_layout.proofs.Common.{◌≡◌, ℕ, List, [], ◌∷◌, ◌++◌, map, Option, Some, None, refl, sym, ap, ◌∙◌, option_map, flat_map, Span, Doc, Document, Walk, walk_document, Leaf, Change, changed, leaves, docs_leaf, of_option, unchanged}
 use Rattle.wac_ast_grammar.proofs.Linked.{Link, link_document}
 use Rattle.wac_printer_layout.specs.Bare.{Keep, no_docs, bare, bare_document}
 use Rattle.wac_printer_layout.specs.TreeLines.{bare_tree, docs_among, docs_in}

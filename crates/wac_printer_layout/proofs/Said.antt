@@ -1,7 +1,5 @@
 -- What the placed items say is what the pieces are meant to say.
-use Rattle.std.proofs.Common.{◌≡◌, ℕ, ◌+◌, Bool, List, [], ◌∷◌, map, length, refl, ap, ◌∙◌}
-use Rattle.wac_lexer.specs.Span.{span}
-use Rattle.wac_lexer.specs.Item.{Item, Doc}
+use Rattle.wac_printer_layout.proofs.Common.{◌≡◌, ℕ, ◌+◌, Bool, List, [], ◌∷◌, map, length, refl, ap, ◌∙◌, span, Item, Doc}
 use Rattle.wac_printer_layout.specs.Printed.{Piece, token, blank, line, doc, text_of, fresh_after}
 use Rattle.wac_printer_layout.specs.Placed.{with_docs, placed_before, placed, said_of, before_said, said_before, said}
 

@@ -1,17 +1,10 @@
 -- Docs are settled from the second time on.
-use Rattle.std.proofs.Common.{◌≡◌, ℕ, Bool, true, false, cond, List, [], ◌∷◌, ◌++◌, map, length, sym, refl, ap, ◌∙◌}
-use Rattle.std.specs.Prelude.{◌==◌}
-use Rattle.std.specs.Str.{trim}
-use Rattle.std.specs.Str.Lines.{lines}
-use Rattle.wac_lexer.specs.Item.{Doc}
-use Rattle.wac_ast_grammar.specs.Tree.{Document}
-use Rattle.wac_ast_grammar.specs.Leaves.{unchanged}
+use Rattle.wac_printer_layout.proofs.Common.{◌≡◌, ℕ, Bool, true, false, cond, List, [], ◌∷◌, ◌++◌, map, length, sym, refl, ap, ◌∙◌, ◌==◌, trim, lines, Doc, Document, unchanged, Gives, agree, document_composed, document_agreeing, document_implied}
 use Rattle.wac_printer_layout.specs.Joins.{IsDocLine}
 use Rattle.wac_printer_layout.specs.Bare.{nowhere, doc_line, doc_lines, bare, bare_document}
 use Rattle.wac_printer_layout.specs.Texts.{Spelled, DocsHave, DocumentHas, has}
 use Rattle.wac_printer_layout.specs.Settled.{settle_document}
 use Rattle.wac_printer_layout.specs.Reread.{read_docs}
-use Rattle.wac_ast_grammar.proofs.Walked.{Gives, agree, document_composed, document_agreeing, document_implied}
 use Rattle.wac_printer_layout.proofs.DocLines.{lines_again}
 
 -- docs

@@ -1,22 +1,5 @@
 -- Reading past a blank or a comment: the items after it, with its doc.
-use Rattle.std.proofs.Common.{◌≡◌, ◌≢◌, ℕ, suc, ◌+◌, ◌-◌, ◌<◌, Bool, true, false, cond, List, [], ◌∷◌, ◌++◌, take, drop, length, sym, refl, ap, ◌∙◌, subst, inl, inr, arith, Option, Some, None, Result, length-append, add-zero}
-use Rattle.std.specs.Prelude.{◌&&◌, nat_eq}
-use Rattle.std.specs.Str.{IsUtf8, trim, trim_start, trim_end, chars, skip_leading_whitespace, encode_utf8_all}
-use Rattle.std.proofs.Math.Seq.{drop-append_seam}
-use Rattle.std.proofs.lemmas.List.{drop-drop}
-use Rattle.std.proofs.lemmas.Str.{chars-append, chars-IsAscii, IsUtf8-from_ascii}
-use Rattle.std.proofs.lemmas.Str.Ascii.{IsAscii-nil, IsAscii-cons}
-use Rattle.wac_lexer.specs.Span.{span}
-use Rattle.wac_lexer.specs.Item.{Item, Doc}
-use Rattle.wac_lexer.specs.Comments.{part_len, gap}
-use Rattle.wac_lexer.specs.Docs.{doc_text, doc_of_part, docs_at}
-use Rattle.wac_lexer.specs.Gap.{IsPart, Gap, EndsLine, docs_among}
-use Rattle.wac_lexer.specs.Items.{first_item, items_from}
-use Rattle.wac_lexer.specs.declared.token.Token.{Token}
-use Rattle.wac_lexer.specs.declared.error.Error.{Error}
-use Rattle.wac_lexer.proofs.Gaps.{gap_part}
-use Rattle.wac_lexer.proofs.Parts.{part_takes, longest_gap, docs_in_gap}
-use Rattle.wac_lexer.proofs.Unfolded.{start_of, items_none, items_some}
+use Rattle.wac_printer_layout.proofs.Common.{◌≡◌, ◌≢◌, ℕ, suc, ◌+◌, ◌-◌, ◌<◌, Bool, true, false, cond, List, [], ◌∷◌, ◌++◌, take, drop, length, sym, refl, ap, ◌∙◌, subst, inl, inr, arith, Option, Some, None, Result, length-append, add-zero, ◌&&◌, nat_eq, IsUtf8, trim, trim_start, trim_end, chars, skip_leading_whitespace, encode_utf8_all, drop-append_seam, drop-drop, chars-append, chars-IsAscii, IsUtf8-from_ascii, IsAscii-nil, IsAscii-cons, span, Item, Doc, part_len, gap, doc_text, doc_of_part, docs_at, IsPart, Gap, EndsLine, docs_among, first_item, items_from, Token, Error, gap_part, part_takes, longest_gap, docs_in_gap, start_of, items_none, items_some}
 use Rattle.wac_printer_layout.specs.Joins.{AreBlanks, IsDocLine}
 use Rattle.wac_printer_layout.specs.Placed.{with_docs}
 

@@ -1,13 +1,9 @@
 -- Statements and documents are read back.
 use Rattle.std.proofs.Common.{◌≡◌, ℕ, List, [], ◌∷◌, ◌++◌, map, sym as back, refl, ap, ◌∙◌, subst, Option, Some, None, inl, inr, codes, append-nil}
-use Rattle.std.specs.List.{AllByRecursion}
-use Rattle.std.specs.Option.{option_map}
-use Rattle.wac_lexer.specs.Item.{Item, Doc}
+use Rattle.wac_printer_layout.proofs.Common.{AllByRecursion, option_map, Item, Doc, is_token, Ident, ExternName, PackageName, PackagePath, ImportType, ImportStatement, LetStatement, ExportOptions, ExportStatement, TypeStatement, Statement, PackageDirective, Document, docs_of, build, Derives, import_type, import_statement, let_statement, export_options, export_statement, type_statement, statement, statements, directive, document, by_rule}
 use Rattle.wac_lexer.specs.declared.token.Token.TheVariants as kinds
-use Rattle.wac_ast_grammar.specs.Tokens.{is_token}
 use Rattle.wac_ast_grammar.specs.Tree as tree
-use Rattle.wac_ast_grammar.specs.Tree.{Ident, ExternName, PackageName, PackagePath, ImportType, ImportStatement, LetStatement, ExportOptions, ExportStatement, TypeStatement, Statement, PackageDirective, Document}
-use Rattle.wac_ast_grammar.specs.Grammar.{docs_of, build, Derives, identifier, package_path, import_type, import_statement, let_statement, export_options, export_statement, type_statement, statement, statements, directive, document}
+use Rattle.wac_ast_grammar.specs.Grammar.{identifier, package_path}
 use Rattle.wac_printer_layout.specs.Printed.{token}
 use Rattle.wac_printer_layout.specs.Bare.{doc_lines, bare_package_path, bare_extern_name, bare_expr, bare_import_type, bare_import_statement, bare_let_statement, bare_export_options, bare_export_statement, bare_type_statement, bare_statement, bare_directive, bare_document}
 use Rattle.wac_printer_layout.specs.Parts.{newline, spaced, docs_layout}
@@ -16,7 +12,6 @@ use Rattle.wac_printer_layout.specs.ExpressionLayout.{expr_layout}
 use Rattle.wac_printer_layout.specs.StatementLayout.{import_type_layout, import_name_layout, import_statement_layout, let_statement_layout, export_options_layout, export_statement_layout, type_statement_layout, statement_layout, targets_layout, directive_layout, document_layout}
 use Rattle.wac_printer_layout.specs.Texts.{Spelled, ImportTypeHas, ImportStatementHas, LetStatementHas, ExportOptionsHas, ExportStatementHas, TypeStatementHas, StatementHas, DirectiveHas, DocumentHas}
 use Rattle.wac_printer_layout.specs.Reread.{read_docs}
-use Rattle.wac_ast_grammar.proofs.Completed.{by_rule}
 use Rattle.wac_printer_layout.proofs.Means.{texts_of, Means, split, pending}
 use Rattle.wac_printer_layout.proofs.NamesBack.{alone, word_back, name_back, path_back, extern_name_back, documented, docs_back}
 use Rattle.wac_printer_layout.proofs.FunctionsBack.{func_type_back}

@@ -1,10 +1,7 @@
 -- The pieces of statements and of documents join.
-use Rattle.std.proofs.Common.{◌≡◌, ℕ, Bool, true, List, [], ◌∷◌, ◌++◌, refl, Option, Some, None, codes}
-use Rattle.wac_lexer.proofs.Following.{follows}
+use Rattle.wac_printer_layout.proofs.Common.{◌≡◌, ℕ, Bool, true, List, [], ◌∷◌, ◌++◌, refl, Option, Some, None, codes, follows, ExternName, PackagePath, ImportType, ImportStatement, LetStatement, ExportOptions, ExportStatement, TypeStatement, Statement, PackageDirective, Document, IfThere}
 use Rattle.wac_lexer.specs.declared.token.Token.TheVariants as kinds
 use Rattle.wac_ast_grammar.specs.Tree as tree
-use Rattle.wac_ast_grammar.specs.Tree.{ExternName, PackagePath, ImportType, ImportStatement, LetStatement, ExportOptions, ExportStatement, TypeStatement, Statement, PackageDirective, Document}
-use Rattle.wac_ast_grammar.specs.Leaves.{IfThere}
 use Rattle.wac_printer_layout.specs.Printed.{Piece, token, text}
 use Rattle.wac_printer_layout.specs.Parts.{space, spaced}
 use Rattle.wac_printer_layout.specs.Texts.{Spelled, ExternNameHas, PackagePathHas, ImportTypeHas, ImportStatementHas, LetStatementHas, ExportOptionsHas, ExportStatementHas, TypeStatementHas, StatementHas, DirectiveHas, DocumentHas}

@@ -1,10 +1,5 @@
 -- What is printed of the tree of a text reads back.
-use Rattle.std.proofs.Common.{◌≡◌, ℕ, true, List, [], sym, refl, ◌∙◌, subst}
-use Rattle.std.specs.Str.{IsUtf8}
-use Rattle.wac_lexer.specs.Items.{items}
-use Rattle.wac_ast_grammar.specs.Tree.{Document}
-use Rattle.wac_ast_grammar.specs.Grammar.{document}
-use Rattle.wac_ast_grammar.specs.TextTree.{IsTreeOf}
+use Rattle.wac_printer_layout.proofs.Common.{◌≡◌, ℕ, true, List, [], sym, refl, ◌∙◌, subst, IsUtf8, items, Document, document, IsTreeOf}
 use Rattle.wac_ast_grammar.proofs.Complete.{one_tree}
 use Rattle.wac_printer_layout.specs.Joins.{AreBlanks}
 use Rattle.wac_printer_layout.specs.Placed.{placed}

@@ -1,16 +1,13 @@
 -- Types are read back.
 use Rattle.std.proofs.Common.{◌≡◌, ℕ, List, [], ◌∷◌, ◌++◌, sym as back, refl, ap, ◌∙◌, subst, Some, None, inl, inr, codes, append_assoc}
-use Rattle.wac_lexer.specs.Item.{Item}
+use Rattle.wac_printer_layout.proofs.Common.{Item, is_token, Ident, Ty, OptionalTy, Types, types_from, rule, build, DerivesIn, Derives, ty, tuple_type, list_type, option_type, result_type, borrow_type, stream_type, future_type, types, more_types, result_part, payload, by_rule}
 use Rattle.wac_lexer.specs.declared.token.Token.TheVariants as kinds
-use Rattle.wac_ast_grammar.specs.Tokens.{is_token}
 use Rattle.wac_ast_grammar.specs.Tree as tree
-use Rattle.wac_ast_grammar.specs.Tree.{Ident, Ty, OptionalTy, Types, types_from}
-use Rattle.wac_ast_grammar.specs.Grammar.{rule, build, DerivesIn, Derives, identifier, ty, tuple_type, list_type, option_type, result_type, borrow_type, stream_type, future_type, types, more_types, result_part, payload}
+use Rattle.wac_ast_grammar.specs.Grammar.{identifier}
 use Rattle.wac_printer_layout.specs.Printed.{Piece, token}
 use Rattle.wac_printer_layout.specs.Bare.{nowhere, bare_ty, bare_types}
 use Rattle.wac_printer_layout.specs.TypeLayout.{ty_layout, further_types_layout}
 use Rattle.wac_printer_layout.specs.Texts.{Spelled, TyHas, TypesHas}
-use Rattle.wac_ast_grammar.proofs.Completed.{by_rule}
 use Rattle.wac_printer_layout.proofs.Means.{Means, split}
 use Rattle.wac_printer_layout.proofs.NamesBack.{alone, word_back}
 

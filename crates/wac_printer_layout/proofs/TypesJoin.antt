@@ -1,10 +1,7 @@
 -- The pieces of types join.
-use Rattle.std.proofs.Common.{◌≡◌, ℕ, Bool, true, false, List, ◌++◌, refl}
-use Rattle.std.specs.List.{AllByRecursion}
-use Rattle.wac_lexer.proofs.Following.{follows}
+use Rattle.wac_printer_layout.proofs.Common.{◌≡◌, ℕ, Bool, true, false, List, ◌++◌, refl, AllByRecursion, follows, Ident, ExternName, Ty, OptionalTy, Types, NamedType, ResultList, FuncType, FuncTypeRef}
 use Rattle.wac_lexer.specs.declared.token.Token.TheVariants as kinds
 use Rattle.wac_ast_grammar.specs.Tree as tree
-use Rattle.wac_ast_grammar.specs.Tree.{Ident, ExternName, Ty, OptionalTy, Types, NamedType, ResultList, FuncType, FuncTypeRef}
 use Rattle.wac_printer_layout.specs.Printed.{text}
 use Rattle.wac_printer_layout.specs.Parts.{joined}
 use Rattle.wac_printer_layout.specs.Texts.{Spelled, ExternNameHas, TyHas, OptionalTyHas, TypesHas, NamedTypeHas, ResultListHas, FuncTypeHas, FuncTypeRefHas}

@@ -1,19 +1,15 @@
 -- Worlds are read back.
 use Rattle.std.proofs.Common.{◌≡◌, ℕ, List, [], ◌∷◌, ◌++◌, map, sym as back, refl, ap, ◌∙◌, subst, inl, inr, codes}
-use Rattle.std.specs.List.{AllByRecursion, flat_map}
-use Rattle.wac_lexer.specs.Item.{Item, Doc}
+use Rattle.wac_printer_layout.proofs.Common.{AllByRecursion, flat_map, Item, Doc, is_token, Ident, PackagePath, ExternType, NamedWorldItem, WorldItemPath, WorldImport, WorldExport, WorldRef, WorldIncludeItem, WorldInclude, WorldItem, WorldDecl, docs_of, build, Derives, extern_type, world_item_path, world_import, world_export, world_ref, include_item, include_items, more_include_items, world_include, world_item, world_items, world_decl, by_rule}
 use Rattle.wac_lexer.specs.declared.token.Token.TheVariants as kinds
-use Rattle.wac_ast_grammar.specs.Tokens.{is_token}
 use Rattle.wac_ast_grammar.specs.Tree as tree
-use Rattle.wac_ast_grammar.specs.Tree.{Ident, PackagePath, ExternType, NamedWorldItem, WorldItemPath, WorldImport, WorldExport, WorldRef, WorldIncludeItem, WorldInclude, WorldItem, WorldDecl}
-use Rattle.wac_ast_grammar.specs.Grammar.{docs_of, build, Derives, identifier, package_path, extern_type, world_item_path, world_import, world_export, world_ref, include_item, include_items, more_include_items, world_include, world_item, world_items, world_decl}
+use Rattle.wac_ast_grammar.specs.Grammar.{identifier, package_path}
 use Rattle.wac_printer_layout.specs.Printed.{token, deeper}
 use Rattle.wac_printer_layout.specs.Bare.{doc_lines, bare_extern_type, bare_world_item_path, bare_world_import, bare_world_export, bare_world_ref, bare_world_include_item, bare_world_include, bare_world_item, bare_world_decl}
 use Rattle.wac_printer_layout.specs.Parts.{newline, spaced, body, rows, docs_layout, close_body}
 use Rattle.wac_printer_layout.specs.WorldLayout.{extern_type_layout, world_item_path_layout, world_import_layout, world_export_layout, world_ref_layout, world_include_item_layout, with_layout, world_include_layout, world_item_layout, world_decl_layout}
 use Rattle.wac_printer_layout.specs.Texts.{Spelled, ExternTypeHas, WorldItemPathHas, WorldImportHas, WorldExportHas, WorldRefHas, WorldIncludeItemHas, WorldIncludeHas, WorldItemHas, WorldDeclHas}
 use Rattle.wac_printer_layout.specs.Reread.{read_docs}
-use Rattle.wac_ast_grammar.proofs.Completed.{by_rule}
 use Rattle.wac_printer_layout.proofs.Means.{Means, split, pending}
 use Rattle.wac_printer_layout.proofs.NamesBack.{alone, word_back, path_back, documented, docs_back}
 use Rattle.wac_printer_layout.proofs.FunctionsBack.{func_type_back}

@@ -1,10 +1,7 @@
 -- The pieces of worlds join.
-use Rattle.std.proofs.Common.{◌≡◌, ℕ, Bool, true, List, [], ◌∷◌, ◌++◌, refl, codes}
-use Rattle.std.specs.List.{AllByRecursion}
-use Rattle.wac_lexer.proofs.Following.{follows}
+use Rattle.wac_printer_layout.proofs.Common.{◌≡◌, ℕ, Bool, true, List, [], ◌∷◌, ◌++◌, refl, codes, AllByRecursion, follows, Ident, ExternType, NamedWorldItem, WorldItemPath, WorldImport, WorldExport, WorldRef, WorldIncludeItem, WorldInclude, WorldItem, WorldDecl}
 use Rattle.wac_lexer.specs.declared.token.Token.TheVariants as kinds
 use Rattle.wac_ast_grammar.specs.Tree as tree
-use Rattle.wac_ast_grammar.specs.Tree.{Ident, ExternType, NamedWorldItem, WorldItemPath, WorldImport, WorldExport, WorldRef, WorldIncludeItem, WorldInclude, WorldItem, WorldDecl}
 use Rattle.wac_printer_layout.specs.Printed.{token, text}
 use Rattle.wac_printer_layout.specs.Texts.{Spelled, ExternTypeHas, NamedWorldItemHas, WorldItemPathHas, WorldImportHas, WorldExportHas, WorldRefHas, WorldIncludeItemHas, WorldIncludeHas, WorldItemHas, WorldDeclHas}
 use Rattle.wac_printer_layout.specs.WorldLayout.{extern_type_layout, named_world_item_layout, world_item_path_layout, world_import_layout, world_export_layout, world_ref_layout, world_include_item_layout, with_layout, world_include_layout, world_item_layout, world_decl_layout}

@@ -1,8 +1,5 @@
 -- Beginnings of texts.
-use Rattle.std.proofs.Common.{◌≡◌, ℕ, ◌<◌, Bool, true, false, List, [], ◌∷◌, ◌++◌, length, take, drop, append_assoc, refl, sym, ap, ◌∙◌, subst, arith}
-use Rattle.std.specs.Prelude.{nat_eq}
-use Rattle.std.proofs.lemmas.Bool.{and_parts, and_from, eq-eqb}
-use Rattle.std.proofs.lemmas.List.{take-append-drop, length-drop}
+use Rattle.wac_printer_pieces.proofs.Common.{◌≡◌, ℕ, ◌<◌, Bool, true, false, List, [], ◌∷◌, ◌++◌, length, take, drop, append_assoc, refl, sym, ap, ◌∙◌, subst, arith, nat_eq, and_parts, and_from, eq-eqb, take-append-drop, length-drop}
 use Rattle.wac_printer_pieces.specs.Printed.{is_front}
 
 pub is_front-append : (xs ys : List ℕ) → is_front true xs (xs ++ ys) ≡ true

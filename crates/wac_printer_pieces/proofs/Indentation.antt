@@ -1,16 +1,10 @@
 -- Indentation.
-use Rattle.std.proofs.Common.{◌≡◌, ℕ, zero, suc, ◌+◌, ◌*◌, ◌<◌, ◌≤◌, Bool, true, false, cond, List, [], ◌∷◌, ◌++◌, length, take, replicate, append_assoc, append-nil, refl, sym, ap, ◌∙◌, subst, arith, add-one, ⊎_elim}
-use Rattle.std.specs.Prelude.{◌⊎◌}
-use Rattle.std.specs.List.{list_all}
+use Rattle.wac_printer_pieces.proofs.Common.{◌≡◌, ℕ, zero, suc, ◌+◌, ◌*◌, ◌<◌, ◌≤◌, Bool, true, false, cond, List, [], ◌∷◌, ◌++◌, length, take, replicate, append_assoc, append-nil, refl, sym, ap, ◌∙◌, subst, arith, add-one, ⊎_elim, ◌⊎◌, list_all, and_parts, eqb-true, replicate-append-replicate, take-replicate, Piece, blank, line, text, fresh_after, times, Result, Ok, Err}
 use Rattle.std.specs.Str.{IsAscii}
 use Rattle.std.proofs.Math.Nat.{mul-suc}
-use Rattle.std.proofs.lemmas.Bool.{and_parts, eqb-true}
-use Rattle.std.proofs.lemmas.List.{replicate-append-replicate, take-replicate}
 use Rattle.std.proofs.lemmas.List.Elements.{All-replicate}
 use Rattle.std.proofs.lemmas.Str.Ascii.{IsAscii-from_all}
-use Rattle.wac_printer_layout.specs.Printed.{Piece, blank, line, text, fresh_after, times}
 use Rattle.wac_printer_pieces.specs.Printed.{Printer, after, is_front, is_space, Prints, spaces, has_failed}
-use Rattle.std.proofs.Common.{Result, Ok, Err}
 use Rattle.wac_printer_pieces.specs.declared.error.PrintError.{PrintError}
 use Rattle.wac_printer_pieces.proofs.Printing.{goes, wrote_all, after-append, text-append, fresh_after-append, front-after, seq, after-nil}
 

@@ -1,11 +1,7 @@
 -- What a printer writes, piece by piece.
-use Rattle.std.proofs.Common.{◌≡◌, ℕ, ◌+◌, Bool, true, false, List, [], ◌∷◌, ◌++◌, take, drop, append_assoc, append-nil, refl, sym, ap, ◌∙◌, subst, Result, Ok, Err, arith, length, get_or, ◌-◌, ◌≤◌, ◌<◌, map, length-append, suc, Some, None}
-use Rattle.std.specs.List.{slice_get, flat_map}
-use Rattle.std.proofs.lemmas.List.{take_more, take-append-drop, take_all}
-use Rattle.std.specs.Prelude.{nat_eq}
+use Rattle.wac_printer_pieces.proofs.Common.{◌≡◌, ℕ, ◌+◌, Bool, true, false, List, [], ◌∷◌, ◌++◌, take, drop, append_assoc, append-nil, refl, sym, ap, ◌∙◌, subst, Result, Ok, Err, arith, length, get_or, ◌-◌, ◌≤◌, ◌<◌, map, length-append, suc, Some, None, slice_get, flat_map, take_more, take-append-drop, take_all, nat_eq, Piece, token, blank, doc, text, text_of, fresh_after}
 use Rattle.wac_printer_pieces.specs.declared.error.PrintError.{PrintError}
 use Rattle.wac_printer_pieces.specs.declared.error.PrintError.TheVariants.{Writer, Failed}
-use Rattle.wac_printer_layout.specs.Printed.{Piece, token, blank, doc, text, text_of, fresh_after}
 use Rattle.wac_printer_pieces.specs.Printed.{Printer, after, is_front, Prints, Keeps, has_failed, failures_of}
 use Rattle.wac_printer_pieces.proofs.Fronts.{is_front-append, is_front-longer}
 

@@ -1,8 +1,6 @@
 -- A list printed element by element.
-use Rattle.std.proofs.Common.{zero, suc, map, arith, ◌≡◌, ℕ, ◌+◌, ◌<◌, ◌≤◌, false, List, [], ◌∷◌, ◌++◌, take, length, get_or, refl, sym, ap, ◌∙◌, subst, Result, Ok, Err}
-use Rattle.std.specs.List.{flat_map, All}
+use Rattle.wac_printer_pieces.proofs.Common.{zero, suc, map, arith, ◌≡◌, ℕ, ◌+◌, ◌<◌, ◌≤◌, false, List, [], ◌∷◌, ◌++◌, take, length, get_or, refl, sym, ap, ◌∙◌, subst, Result, Ok, Err, flat_map, All, Piece, deeper}
 use Rattle.wac_printer_pieces.specs.declared.error.PrintError.{PrintError}
-use Rattle.wac_printer_layout.specs.Printed.{Piece, deeper}
 use Rattle.wac_printer_pieces.specs.Printed.{Printer, after, Prints}
 use Rattle.wac_printer_pieces.proofs.Printing as one
 use Rattle.wac_printer_pieces.proofs.Printing.{after-source, after-depth}

@@ -1,10 +1,9 @@
 -- Parts printed in order.
-use Rattle.std.proofs.Common.{◌≡◌, ℕ, List, [], ◌∷◌, ◌++◌, Result, Ok, Err, ap, sym, ◌∙◌, subst, arith, true, false, refl}
+use Rattle.wac_printer_pieces.proofs.Common.{◌≡◌, ℕ, List, [], ◌∷◌, ◌++◌, Result, Ok, Err, ap, sym, ◌∙◌, subst, arith, true, false, refl, Piece}
 use Rattle.std.specs.Result.{IsErrAnd, result_and}
 use Rattle.std.proofs.lemmas.Result.{err_from_is_err_and}
 use Rattle.wac_printer_pieces.specs.declared.error.PrintError.{PrintError}
 use Rattle.wac_printer_pieces.specs.declared.error.PrintError.TheVariants.{Writer, Failed}
-use Rattle.wac_printer_layout.specs.Printed.{Piece}
 use Rattle.wac_printer_pieces.specs.Printed.{Printer, Prints, is_front, has_failed}
 use Rattle.wac_printer_pieces.specs.Printed as printed
 use Rattle.wac_printer_pieces.proofs.Printing as one

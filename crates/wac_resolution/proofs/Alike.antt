@@ -1,11 +1,6 @@
 -- Layout carries no meaning.
-use Rattle.std.proofs.Common.{◌≡◌, ℕ, List, [], Result, Ok, Err, sym}
+use Rattle.wac_resolution.proofs.Common.{◌≡◌, ℕ, List, [], Result, Ok, Err, sym, PackageParts, Named, PackageKey, Naming, IsOneToOne, Key, Error, memory, told, Composition, Rules, given_to, Describes, DescribeAlike, GraphClause, OnlyClause, describes_once, composition_of}
 use Rattle.std.specs.Str.{IsUtf8}
-use Rattle.wac_graph_types.specs.Package.{PackageParts}
-use Rattle.wac_graph_types.specs.Scope.{Named}
-use Rattle.wac_graph.specs.declared.package_key.PackageKey.{PackageKey}
-use Rattle.wac_graph.specs.Origin.{Naming, IsOneToOne}
-use Rattle.wac_graph.specs.Package.{Key}
 use Rattle.wac_ast_grammar.specs.Slices.{DocumentSlices}
 use Rattle.wac_ast_grammar.specs.Spelled.{DocumentSpelled}
 use Rattle.wac_ast_grammar.specs.TextTree.{IsTreeOf}
@@ -13,14 +8,7 @@ use Rattle.wac_ast_grammar.specs.Tree.{Document}
 use Rattle.wac_printer_layout.specs.Bare.{doc_lines}
 use Rattle.wac_printer_layout.specs.Reread.{IsReread, read_docs}
 use Rattle.wac_resolution_errors.specs.declared.error.Error.{Error as CodeError}
-use Rattle.wac_resolution_errors.specs.Error.{Error, memory}
-use Rattle.wac_resolution_errors.specs.Told.{told}
-use Rattle.wac_resolution_rules.specs.Composition.{Composition}
-use Rattle.wac_resolution_rules.specs.Given.{Rules}
-use Rattle.wac_resolution_rules.specs.ResolvedDocument.{given_to, Describes, DescribeAlike, GraphClause, OnlyClause}
 use Rattle.wac_resolution_rules.proofs.Alike.{bare_alike}
-use Rattle.wac_resolution_rules.proofs.FirstFailing.{describes_once}
-use Rattle.wac_resolution_nodes.specs.Nodes.{composition_of}
 use Rattle.wac_resolution.specs.Layout.{SameBareTree, DescribedClause, ReturnedAlike}
 use Rattle.wac_resolution.specs.Resolved.{Resolved, by_key, Promised, call}
 use Rattle.wac_resolution.proofs.Ending.{Described}

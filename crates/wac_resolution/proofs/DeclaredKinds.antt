@@ -1,35 +1,10 @@
 -- Kinds that type statements declare.
-use Rattle.std.proofs.Common.{◌≡◌, Some, Result, Ok, Err, sym, subst}
-use Rattle.std.specs.Prelude.{IfOk, IfErr}
-use Rattle.wac_ast_grammar.specs.Tree.{InterfaceDecl, WorldDecl, TypeDecl, TypeStatement}
-use Rattle.wac_graph_types.specs.declared.kind.ItemKind.{ItemKind}
-use Rattle.wac_graph_types.specs.Kind.{an_interface, a_world}
-use Rattle.wac_graph_types.specs.Meaning.{Meaning}
-use Rattle.wac_graph_types.specs.Scope.{Scope}
-use Rattle.wac_graph_types.specs.Shape.{kind_of}
-use Rattle.wac_ast.specs.Statements.{type_statement_of}
+use Rattle.wac_resolution.proofs.Common.{◌≡◌, Some, Result, Ok, Err, sym, subst, IfOk, IfErr, InterfaceDecl, WorldDecl, TypeDecl, TypeStatement, ItemKind, an_interface, a_world, Meaning, Scope, kind_of, type_statement_of, Parts, means, declared_count, Naming, told, InterfaceBroken, WorldBroken, KindBroken, root_scope, declared_id, IsInterface, IsWorld, values_of, scope_of, Root, composed, Agrees, scope_agrees, Context, AllSupplied, packages_in, context_of, grows_expands, handed_grown}
 use Rattle.wac_ast.specs.declared.type_statement.TypeStatement.{TypeStatement as CodeStatement}
-use Rattle.wac_graph.specs.Graph.{Parts}
-use Rattle.wac_graph.specs.Means.{means, declared_count}
-use Rattle.wac_graph.specs.Origin.{Naming}
-use Rattle.wac_resolution_errors.specs.Told.{told}
 use Rattle.wac_resolution_errors.specs.declared.error.Error.{Error as CodeError}
 use Rattle.wac_resolution_rules.specs.BrokenDeclarations.{TypeDeclBroken}
-use Rattle.wac_resolution_rules.specs.BrokenWorlds.{InterfaceBroken, WorldBroken, KindBroken}
-use Rattle.wac_resolution_rules.specs.Composition.{root_scope}
 use Rattle.wac_resolution_rules.specs.Declarations.{IsTypeDecl}
-use Rattle.wac_resolution_rules.specs.TypeStatements.{declared_id}
-use Rattle.wac_resolution_rules.specs.Worlds.{IsInterface, IsWorld}
-use Rattle.wac_resolution_state.specs.Bindings.{values_of}
 use Rattle.wac_resolution_types.specs.Declarations.{KindAdded}
-use Rattle.wac_resolution_state.specs.Named.{scope_of}
-use Rattle.wac_resolution_nodes.specs.declared.root.Root.{Root}
-use Rattle.wac_resolution_nodes.specs.Root.{composed, Agrees}
-use Rattle.wac_resolution_nodes.proofs.Roots.{scope_agrees}
-use Rattle.wac_resolution_paths.specs.declared.context.Context.{Context}
-use Rattle.wac_resolution_paths.specs.Expands.{AllSupplied}
-use Rattle.wac_resolution_paths.specs.Context.{packages_in, context_of}
-use Rattle.wac_resolution_paths.proofs.Expanding.{grows_expands, handed_grown}
 use Rattle.wac_resolution_worlds.specs.Declared.{InterfaceDeclared, WorldDeclared}
 use Rattle.wac_resolution.specs.Definitions.{KindDeclared}
 

@@ -1,41 +1,12 @@
 -- What resolving yields.
-use Rattle.std.proofs.Common.{◌≡◌, ◌∙◌, ◌⊎◌, ℕ, List, map, Option, Some, None, inl, inr, refl, sym, ap, subst}
-use Rattle.std.specs.Prelude.{option_map}
-use Rattle.wac_graph_types.specs.Package.{PackageParts}
-use Rattle.wac_graph_types.specs.Scope.{Named}
+use Rattle.wac_resolution.proofs.Common.{◌≡◌, ◌∙◌, ◌⊎◌, ℕ, List, map, Option, Some, None, inl, inr, refl, sym, ap, subst, option_map, PackageParts, Named, PackagePath, version_text, document_of, statement_of, package_path_of, PackageKey, Parts, Naming, IsOneToOne, Key, handed, Error, Reports, memory, Composition, start, with_resources, Given, Rules, Placed, Leads, placed_start, given_to, Describes, FirstFailing, Composes, reports, leads_composes, first_has_none, fails_at, fails_at_target, Root, composition_of, numbers_of, composed, Agrees, Context, AllSupplied, packages_in, given_in, Externs, imported_in, exported_in, places_in, placed_in}
 use Rattle.wac_graph_types.specs.Steps.{Steps, Fails}
-use Rattle.wac_ast_grammar.specs.Tree.{Document, PackagePath, Statement}
-use Rattle.wac_ast_grammar.specs.Version.{version_text}
+use Rattle.wac_ast_grammar.specs.Tree.{Document, Statement}
 use Rattle.wac_ast.specs.declared.document.Document.{Document as CodeDocument}
 use Rattle.wac_ast.specs.declared.statement.Statement.{Statement as CodeStatement}
-use Rattle.wac_ast.specs.Statements.{document_of, statement_of}
 use Rattle.wac_ast_statements.specs.Statements.{directive_of}
-use Rattle.wac_ast_base.specs.Names.{package_path_of}
-use Rattle.wac_graph.specs.declared.package_key.PackageKey.{PackageKey}
-use Rattle.wac_graph.specs.Graph.{Parts}
-use Rattle.wac_graph.specs.Origin.{Naming, IsOneToOne}
-use Rattle.wac_graph.specs.Package.{Key}
-use Rattle.wac_graph.specs.Packages.{handed}
-use Rattle.wac_resolution_errors.specs.Error.{Error, Reports, memory}
-use Rattle.wac_resolution_rules.specs.Composition.{Composition, start, with_resources}
-use Rattle.wac_resolution_rules.specs.Given.{Given, Rules}
-use Rattle.wac_resolution_rules.specs.Places.{Placed, Leads, placed_start}
-use Rattle.wac_resolution_rules.specs.ResolvedDocument.{given_to, Describes, FirstFailing}
-use Rattle.wac_resolution_rules.specs.Statements.{Composes}
 use Rattle.wac_resolution_rules.specs.Target.{MeetsTarget}
-use Rattle.wac_resolution_errors.proofs.Reports.{reports}
-use Rattle.wac_resolution_rules.proofs.FirstFailing.{leads_composes, first_has_none, fails_at, fails_at_target}
-use Rattle.wac_resolution_nodes.specs.declared.root.Root.{Root}
-use Rattle.wac_resolution_nodes.specs.Nodes.{composition_of}
-use Rattle.wac_resolution_nodes.specs.Root.{numbers_of, composed, Agrees}
 use Rattle.wac_resolution_nodes.proofs.Composed.{composition_expands}
-use Rattle.wac_resolution_paths.specs.declared.context.Context.{Context}
-use Rattle.wac_resolution_paths.specs.Expands.{AllSupplied}
-use Rattle.wac_resolution_paths.specs.Context.{packages_in}
-use Rattle.wac_resolution_expressions.specs.Growth.{given_in}
-use Rattle.wac_resolution_externs.specs.declared.externs.Externs.{Externs}
-use Rattle.wac_resolution_externs.specs.Externs.{imported_in, exported_in, places_in}
-use Rattle.wac_resolution_bindings.specs.Statements.{placed_in}
 use Rattle.wac_resolution.specs.Sequences.{StatementsRun, BreaksAfter, OneBreaks}
 use Rattle.wac_resolution_target.specs.Outcome.{Meets, Unmeets}
 use Rattle.wac_resolution.specs.Resolved.{by_key}

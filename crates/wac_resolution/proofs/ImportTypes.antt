@@ -1,34 +1,13 @@
 -- What the types of imports mean.
-use Rattle.std.proofs.Common.{◌≡◌, [], None, refl, sym, subst}
-use Rattle.wac_ast_grammar.specs.Tree.{Ident, PackagePath, FuncType, InlineInterface, ImportType}
+use Rattle.wac_resolution.proofs.Common.{◌≡◌, [], None, refl, sym, subst, Ident, PackagePath, FuncType, InlineInterface, ImportType, ItemKind, Scope, StandsFor, entry_of, Parts, means, entry_means, declared_count, Naming, Error, InterfaceBroken, root_scope, IsInterface, values_of, scope_of, KindIs, Root, composed, Agrees, scope_agrees, items_named, Context, AllSupplied, Found, packages_in, context_of, expands_self, grows_expands, handed_grown, InterfaceMade}
 use Rattle.wac_graph_types.specs.declared.kind.FuncTypeId.{FuncTypeId}
 use Rattle.wac_graph_types.specs.declared.kind.FuncKind.TheVariants as funcs
 use Rattle.wac_graph_types.specs.declared.kind.InterfaceId.{InterfaceId}
-use Rattle.wac_graph_types.specs.declared.kind.ItemKind.{ItemKind}
 use Rattle.wac_graph_types.specs.declared.kind.ItemKind.TheVariants as kinds
-use Rattle.wac_graph_types.specs.Scope.{Scope, StandsFor}
-use Rattle.wac_graph_types.specs.Shape.{entry_of}
-use Rattle.wac_graph.specs.Graph.{Parts}
-use Rattle.wac_graph.specs.Means.{means, entry_means, declared_count}
-use Rattle.wac_graph.specs.Origin.{Naming}
-use Rattle.wac_resolution_errors.specs.Error.{Error}
 use Rattle.wac_resolution_rules.specs.BrokenBodies.{PathBroken}
 use Rattle.wac_resolution_rules.specs.BrokenTypes.{IsUndefined, FuncBroken}
-use Rattle.wac_resolution_rules.specs.BrokenWorlds.{InterfaceBroken}
-use Rattle.wac_resolution_rules.specs.Composition.{root_scope}
 use Rattle.wac_resolution_rules.specs.Paths.{LeadsTo}
 use Rattle.wac_resolution_rules.specs.Types.{IsFunc}
-use Rattle.wac_resolution_rules.specs.Worlds.{IsInterface}
-use Rattle.wac_resolution_state.specs.Bindings.{values_of}
-use Rattle.wac_resolution_state.specs.Named.{scope_of, KindIs}
-use Rattle.wac_resolution_nodes.specs.declared.root.Root.{Root}
-use Rattle.wac_resolution_nodes.specs.Root.{composed, Agrees}
-use Rattle.wac_resolution_nodes.proofs.Roots.{scope_agrees, items_named}
-use Rattle.wac_resolution_paths.specs.declared.context.Context.{Context}
-use Rattle.wac_resolution_paths.specs.Expands.{AllSupplied, Found}
-use Rattle.wac_resolution_paths.specs.Context.{packages_in, context_of}
-use Rattle.wac_resolution_paths.proofs.Expanding.{expands_self, grows_expands, handed_grown}
-use Rattle.wac_resolution_worlds.specs.Made.{InterfaceMade}
 use Rattle.wac_resolution_worlds.specs.Referred.{NewFunc}
 use Rattle.wac_resolution.specs.ImportTypes.{ImportMade, ImportTypeBreaks}
 

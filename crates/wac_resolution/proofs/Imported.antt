@@ -1,39 +1,12 @@
 -- Import statements that are executed, or broken.
-use Rattle.std.proofs.Common.{◌≡◌, ◌∙◌, ℕ, List, [], ◌∷◌, ◌++◌, Option, Some, None, inl, inr, refl, sym, ap, subst, length, append-nil}
-use Rattle.std.specs.Prelude.{slice_set, filter_map}
+use Rattle.wac_resolution.proofs.Common.{◌≡◌, ◌∙◌, ℕ, List, [], ◌∷◌, ◌++◌, Option, Some, None, inl, inr, refl, sym, ap, subst, length, append-nil, slice_set, filter_map, Span, ImportStatement, ItemKind, promoted, Meaning, Named, look_up, IsFresh, with_named, Parts, means, entry_means, declared_count, Naming, get_last, Error, ImportNameBroken, Composition, Node, imported, with_node, with_resources, named_at, first_name, binding, Rules, import_of, imports, next_of, places_after, import_span, name_imported, Imports, Root, numbers_of, composed, places, Context, packages_in, given_in, Externs, imported_in, exported_in, places_in, Under, Stand, StatementRun, Breaks, placed_kept, composed_kept}
 use Rattle.std.proofs.lemmas.List.Elements.{filter_map-append}
-use Rattle.wac_lexer.specs.Span.{Span}
-use Rattle.wac_ast_grammar.specs.Tree.{ImportStatement, Statement}
-use Rattle.wac_graph_types.specs.declared.kind.ItemKind.{ItemKind}
-use Rattle.wac_graph_types.specs.Kind.{promoted}
-use Rattle.wac_graph_types.specs.Meaning.{Meaning}
-use Rattle.wac_graph_types.specs.Scope.{Named, look_up, IsFresh, with_named}
+use Rattle.wac_ast_grammar.specs.Tree.{Statement}
 use Rattle.wac_graph_types.specs.Shape as shapes
 use Rattle.wac_graph_types.proofs.Shapes.{promoted_is}
-use Rattle.wac_graph.specs.Graph.{Parts}
-use Rattle.wac_graph.specs.Means.{means, entry_means, declared_count}
-use Rattle.wac_graph.specs.Origin.{Naming}
-use Rattle.wac_graph.proofs.Lists.{get_last}
-use Rattle.wac_resolution_errors.specs.Error.{Error}
-use Rattle.wac_resolution_rules.specs.BrokenStatements.{ImportNameBroken}
-use Rattle.wac_resolution_rules.specs.Composition.{Composition, Node, imported, with_node, with_resources, named_at, first_name, binding}
-use Rattle.wac_resolution_rules.specs.Given.{Rules}
-use Rattle.wac_resolution_rules.specs.Nodes.{import_of, imports, next_of}
-use Rattle.wac_resolution_rules.specs.Places.{places_after}
-use Rattle.wac_resolution_rules.specs.Spans.{import_span}
-use Rattle.wac_resolution_rules.specs.Statements.{name_imported, Imports}
-use Rattle.wac_resolution_nodes.specs.declared.root.Root.{Root}
-use Rattle.wac_resolution_nodes.specs.Root.{numbers_of, composed, places}
-use Rattle.wac_resolution_paths.specs.declared.context.Context.{Context}
-use Rattle.wac_resolution_paths.specs.Context.{packages_in}
-use Rattle.wac_resolution_expressions.specs.Growth.{given_in}
-use Rattle.wac_resolution_externs.specs.declared.externs.Externs.{Externs}
-use Rattle.wac_resolution_externs.specs.Externs.{imported_in, exported_in, places_in, Under}
 use Rattle.wac_resolution_bindings.specs.Imports.{ImportsAs}
 use Rattle.wac_resolution.specs.ImportTypes.{ImportMade, ImportTypeBreaks}
-use Rattle.wac_resolution_bindings.specs.Statements.{Stand, StatementRun, Breaks}
 use Rattle.wac_resolution_bindings.proofs.PlaceLaws.{one_more_at, no_more_at, same_places}
-use Rattle.wac_resolution_bindings.proofs.Standing.{placed_kept, composed_kept}
 use Rattle.wac_resolution_bindings.proofs.Importing.{placed_imported, handed_imported}
 
 -- ---- the imports of a composition with one more

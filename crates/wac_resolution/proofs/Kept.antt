@@ -1,26 +1,9 @@
 -- What is right with the packages that are mentioned is right with all that were supplied.
-use Rattle.std.proofs.Common.{◌≡◌, ◌∙◌, ◌↔◌, ℕ, List, [], ◌∷◌, filter, Some, Result, Ok, Err, Bool, true, false, cond, inl, inr, refl, sym, ap, subst}
-use Rattle.std.specs.List.{AllByRecursion}
-use Rattle.wac_graph_types.specs.Package.{PackageParts}
-use Rattle.wac_graph_types.specs.Scope.{Named}
+use Rattle.wac_resolution.proofs.Common.{◌≡◌, ◌∙◌, ◌↔◌, ℕ, List, [], ◌∷◌, filter, Some, Result, Ok, Err, Bool, true, false, cond, inl, inr, refl, sym, ap, subst, AllByRecursion, PackageParts, Named, version_text, document_of, PackageKey, Parts, Naming, HeldPackage, Key, key_of, same_key, Contents, Packages, contents_in, contents_of, handed, package_of, Error, Composition, Given, Rules, IsMentioned, Mention, given_over, is_mentioned, kept, mentions, Describes, FirstClause, FirstFailing, GraphClause, OnlyClause, given_to, AllSupplied, IsSuppliedAs, AreFirst, OnlyTheseMatter}
 use Rattle.wac_ast_grammar.specs.Tree.{Document}
-use Rattle.wac_ast_grammar.specs.Version.{version_text}
 use Rattle.wac_ast.specs.declared.document.Document.{Document as CodeDocument}
-use Rattle.wac_ast.specs.Statements.{document_of}
 use Rattle.wac_graph.proofs.Keys.{keys_same}
-use Rattle.wac_graph.specs.declared.package_key.PackageKey.{PackageKey}
-use Rattle.wac_graph.specs.Graph.{Parts}
-use Rattle.wac_graph.specs.Origin.{Naming}
-use Rattle.wac_graph.specs.Package.{HeldPackage, Key, key_of, same_key}
-use Rattle.wac_graph.specs.Packages.{Contents, Packages, contents_in, contents_of, handed, package_of}
 use Rattle.wac_resolution_errors.specs.declared.error.Error.{Error as CodeError}
-use Rattle.wac_resolution_errors.specs.Error.{Error}
-use Rattle.wac_resolution_rules.specs.Composition.{Composition}
-use Rattle.wac_resolution_rules.specs.Given.{Given, Rules}
-use Rattle.wac_resolution_rules.specs.Mentions.{IsMentioned, Mention, given_over, is_mentioned, kept, mentions}
-use Rattle.wac_resolution_rules.specs.ResolvedDocument.{Describes, FirstClause, FirstFailing, GraphClause, OnlyClause, given_to}
-use Rattle.wac_resolution_paths.specs.Expands.{AllSupplied, IsSuppliedAs}
-use Rattle.wac_resolution_mentions.specs.Packages.{AreFirst, OnlyTheseMatter}
 use Rattle.wac_resolution.specs.Resolved.{HoldsMentioned, HoldsSupplied, Promised, Resolved, by_key, returned, call}
 
 -- ---- what is kept

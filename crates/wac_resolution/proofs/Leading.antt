@@ -1,40 +1,10 @@
 -- Type statements take one composition to the next.
-use Rattle.std.proofs.Common.{◌≡◌, ◌∙◌, ℕ, zero, suc, List, [], ◌∷◌, ◌++◌, Option, None, inl, inr, refl, sym, ap, subst, append-nil}
-use Rattle.std.specs.Prelude.{filter_map}
-use Rattle.std.specs.List.{cons_option}
-use Rattle.wac_lexer.specs.Span.{Span}
-use Rattle.wac_ast_grammar.specs.Tree.{TypeStatement, Statement}
-use Rattle.wac_graph_types.specs.declared.kind.ItemKind.{ItemKind}
-use Rattle.wac_graph_types.specs.Meaning.{Meaning}
-use Rattle.wac_graph_types.specs.Package.{PackageParts}
-use Rattle.wac_graph_types.specs.Scope.{Named, with_named}
-use Rattle.wac_graph.specs.Graph.{Parts}
-use Rattle.wac_graph.specs.Means.{means, declared_count}
-use Rattle.wac_graph.specs.Origin.{Naming}
-use Rattle.wac_graph.specs.Package.{Key}
-use Rattle.wac_graph.proofs.Lists.{all_implies}
-use Rattle.wac_resolution_errors.specs.Error.{Error}
-use Rattle.wac_resolution_rules.specs.BrokenWorlds.{DefinitionBroken, KindBroken, HasKind}
-use Rattle.wac_resolution_rules.specs.Composition.{Composition, Node, definition, named_at}
-use Rattle.wac_resolution_rules.specs.Given.{Rules}
-use Rattle.wac_resolution_rules.specs.Nodes.{import_of, imports, next_of}
+use Rattle.wac_resolution.proofs.Common.{◌≡◌, ◌∙◌, ℕ, zero, suc, List, [], ◌∷◌, ◌++◌, Option, None, inl, inr, refl, sym, ap, subst, append-nil, filter_map, cons_option, Span, TypeStatement, ItemKind, Meaning, PackageParts, Named, with_named, Parts, means, declared_count, Naming, Key, all_implies, Error, DefinitionBroken, KindBroken, HasKind, Composition, Node, definition, named_at, Rules, import_of, imports, next_of, Places, more_at, places_after, identifier_of, Defines, defining, Declares, Root, composed, Context, IsSuppliedAs, AllSupplied, packages_in, context_of, Externs, places_in, IsDefined, Stand, StatementRun, Breaks, composed_kept}
+use Rattle.wac_ast_grammar.specs.Tree.{Statement}
 use Rattle.wac_resolution_rules.specs.Paths as rules
-use Rattle.wac_resolution_rules.specs.Places.{Places, more_at, places_after}
-use Rattle.wac_resolution_rules.specs.Spans.{identifier_of}
-use Rattle.wac_resolution_rules.specs.TypeStatements.{Defines, defining, Declares}
 use Rattle.wac_resolution_rules.proofs.Prefixes.{named_at_suc}
-use Rattle.wac_resolution_nodes.specs.declared.root.Root.{Root}
-use Rattle.wac_resolution_nodes.specs.Root.{composed}
-use Rattle.wac_resolution_paths.specs.declared.context.Context.{Context}
-use Rattle.wac_resolution_paths.specs.Expands.{IsSuppliedAs, AllSupplied}
-use Rattle.wac_resolution_paths.specs.Context.{packages_in, context_of}
-use Rattle.wac_resolution_externs.specs.declared.externs.Externs.{Externs}
-use Rattle.wac_resolution_externs.specs.Externs.{places_in}
 use Rattle.wac_resolution_externs.specs.Exports.{GrowsExports}
-use Rattle.wac_resolution_bindings.specs.Defined.{IsDefined}
 use Rattle.wac_resolution.specs.Definitions.{DeclaresKind, KindDeclared}
-use Rattle.wac_resolution_bindings.specs.Statements.{Stand, StatementRun, Breaks}
-use Rattle.wac_resolution_bindings.proofs.Standing.{composed_kept}
 
 -- ---- the judgement
 

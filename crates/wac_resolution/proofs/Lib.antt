@@ -1,3 +1,4 @@
+pub mod Common
 pub mod DeclaredKinds
 pub mod Leading
 pub mod ImportTypes

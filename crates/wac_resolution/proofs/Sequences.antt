@@ -1,20 +1,7 @@
 -- Statements that are executed in order.
-use Rattle.std.proofs.Common.{◌≡◌, ◌+◌, ◌<◌, ℕ, List, [], refl, subst, map, take, length, get_or}
+use Rattle.wac_resolution.proofs.Common.{◌≡◌, ◌+◌, ◌<◌, ℕ, List, [], refl, subst, map, take, length, get_or, statement_of, Parts, Error, StatementBroken, Rules, Leads, Root, composed, Context, given_in, Externs, places_in, Stand, placed_in, StatementRun, Breaks}
 use Rattle.wac_ast.specs.declared.statement.Statement.{Statement as CodeStatement}
-use Rattle.wac_ast.specs.Statements.{statement_of}
-use Rattle.wac_graph.specs.Graph.{Parts}
-use Rattle.wac_resolution_errors.specs.Error.{Error}
-use Rattle.wac_resolution_rules.specs.BrokenStatements.{StatementBroken}
-use Rattle.wac_resolution_rules.specs.Given.{Rules}
-use Rattle.wac_resolution_rules.specs.Places.{Leads}
 use Rattle.wac_resolution_rules.proofs.StepLaws.{steps_on_map, fails_at_map}
-use Rattle.wac_resolution_nodes.specs.declared.root.Root.{Root}
-use Rattle.wac_resolution_nodes.specs.Root.{composed}
-use Rattle.wac_resolution_paths.specs.declared.context.Context.{Context}
-use Rattle.wac_resolution_expressions.specs.Growth.{given_in}
-use Rattle.wac_resolution_externs.specs.declared.externs.Externs.{Externs}
-use Rattle.wac_resolution_externs.specs.Externs.{places_in}
-use Rattle.wac_resolution_bindings.specs.Statements.{Stand, placed_in, StatementRun, Breaks}
 use Rattle.wac_resolution.specs.Sequences.{StatementsRun, BreaksAfter, OneBreaks}
 
 pub none_went : (context : Context) (rules : Rules) (g : Parts) (root : Root) (x : Externs) → Stand context g root x → StatementsRun context rules g g root root x x []

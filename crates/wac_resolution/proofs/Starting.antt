@@ -1,24 +1,7 @@
 -- What resolving begins with: an empty graph, no names and no places.
-use Rattle.std.proofs.Common.{◌≡◌, ◌∙◌, ℕ, [], refl, sym, ap, subst}
-use Rattle.wac_lexer.specs.Span.{Span}
-use Rattle.wac_graph_types.specs.Scope.{Named}
+use Rattle.wac_resolution.proofs.Common.{◌≡◌, ◌∙◌, ℕ, [], refl, sym, ap, subst, Span, Named, Parts, empty, declared_count, own_from, Naming, start, placed_start, Bindings, places_of, Root, composition_of, numbers_of, composed, Agrees, Context, AllSupplied, packages_in, Externs, imported_in, exported_in, Stand, placed_in}
 use Rattle.wac_graph.specs.declared.node.NodeId.{NodeId}
-use Rattle.wac_graph.specs.Graph.{Parts, empty}
-use Rattle.wac_graph.specs.Means.{declared_count, own_from}
-use Rattle.wac_graph.specs.Origin.{Naming}
-use Rattle.wac_resolution_rules.specs.Composition.{start}
 use Rattle.wac_resolution_rules.specs.Find.{names_of}
-use Rattle.wac_resolution_rules.specs.Places.{placed_start}
-use Rattle.wac_resolution_state.specs.Bindings.{Bindings, places_of}
-use Rattle.wac_resolution_nodes.specs.declared.root.Root.{Root}
-use Rattle.wac_resolution_nodes.specs.Nodes.{composition_of}
-use Rattle.wac_resolution_nodes.specs.Root.{numbers_of, composed, Agrees}
-use Rattle.wac_resolution_paths.specs.declared.context.Context.{Context}
-use Rattle.wac_resolution_paths.specs.Expands.{AllSupplied}
-use Rattle.wac_resolution_paths.specs.Context.{packages_in}
-use Rattle.wac_resolution_externs.specs.declared.externs.Externs.{Externs}
-use Rattle.wac_resolution_externs.specs.Externs.{imported_in, exported_in}
-use Rattle.wac_resolution_bindings.specs.Statements.{Stand, placed_in}
 
 -- the graph, the names at root and the places are empty
 pub record IsStart (g : Parts) (root : Root) (x : Externs) : Type 0 where

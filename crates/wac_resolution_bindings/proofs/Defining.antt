@@ -1,33 +1,7 @@
 -- A definition is added, exported and bound.
-use Rattle.std.proofs.Common.{◌≡◌, ◌∙◌, ◌<◌, ℕ, List, [], ◌∷◌, ◌++◌, Option, Some, None, refl, sym, ap, subst, length, arith}
-use Rattle.std.specs.Prelude.{slice_get, option_map}
-use Rattle.std.specs.List.{AllByRecursion}
-use Rattle.std.proofs.lemmas.List.{map_push}
-use Rattle.wac_lexer.specs.Span.{Span}
-use Rattle.wac_ast_grammar.specs.Tree.{Ident}
-use Rattle.wac_graph_types.specs.declared.kind.ItemKind.{ItemKind}
-use Rattle.wac_graph_types.specs.Scope.{Named, look_up, IsFresh, with_named}
-use Rattle.wac_graph_types.specs.Table.{Names}
+use Rattle.wac_resolution_bindings.proofs.Common.{◌≡◌, ◌∙◌, ◌<◌, ℕ, List, [], ◌∷◌, ◌++◌, Option, Some, None, refl, sym, ap, subst, length, arith, slice_get, option_map, AllByRecursion, map_push, Span, Ident, ItemKind, Named, look_up, IsFresh, with_named, Names, Parts, plain_node, with_definition, means, Naming, get_kept, all_more, Error, declaration_conflict, IsExported, Composition, binding, definition, with_node, with_export, names_of, next_of, Places, Root, composition_of, kind_in, Stands, NodesStand, numbers_of, composed, Agrees, Binds, composition_defines, next_is, Externs, imported_in, exported_in, ArePlaced, GrowsExports, stands_too}
 use Rattle.wac_graph.specs.Node.{Node as GraphNode, definition as defined_form}
-use Rattle.wac_graph.specs.Graph.{Parts, plain_node, with_definition}
-use Rattle.wac_graph.specs.Means.{means}
-use Rattle.wac_graph.specs.Origin.{Naming}
-use Rattle.wac_graph.proofs.Lists.{get_kept, all_more}
-use Rattle.wac_resolution_errors.specs.Error.{Error, declaration_conflict}
-use Rattle.wac_resolution_rules.specs.BrokenWorlds.{IsExported}
-use Rattle.wac_resolution_rules.specs.Composition.{Composition, binding, definition, with_node, with_export}
-use Rattle.wac_resolution_rules.specs.Find.{names_of}
-use Rattle.wac_resolution_rules.specs.Nodes.{next_of}
-use Rattle.wac_resolution_rules.specs.Places.{Places}
-use Rattle.wac_resolution_nodes.specs.declared.root.Root.{Root}
 use Rattle.wac_resolution_nodes.specs.Growth.{GrowsNodes}
-use Rattle.wac_resolution_nodes.specs.Nodes.{composition_of, kind_in, Stands, NodesStand}
-use Rattle.wac_resolution_nodes.specs.Root.{numbers_of, composed, Agrees, Binds}
-use Rattle.wac_resolution_nodes.proofs.Composed.{composition_defines, next_is}
-use Rattle.wac_resolution_externs.specs.declared.externs.Externs.{Externs}
-use Rattle.wac_resolution_externs.specs.Externs.{imported_in, exported_in, ArePlaced}
-use Rattle.wac_resolution_externs.specs.Exports.{GrowsExports}
-use Rattle.wac_resolution_externs.proofs.Checks.{stands_too}
 use Rattle.wac_resolution_bindings.specs.Defined.{IsDefined}
 
 -- the identifier was exported before

@@ -1,27 +1,5 @@
 -- Export statements that are executed.
-use Rattle.std.proofs.Common.{◌≡◌, ◌∙◌, ℕ, ◌++◌, inl, inr, refl, sym, ap, append-nil}
-use Rattle.wac_lexer.specs.Span.{Span}
-use Rattle.wac_graph_types.specs.Scope.{Named}
-use Rattle.wac_ast_grammar.specs.Tree.{Expr, ExportStatement, Statement}
-use Rattle.wac_graph.specs.Graph.{Parts}
-use Rattle.wac_graph.specs.Origin.{Naming}
-use Rattle.wac_graph.specs.Sound.{IsSound}
-use Rattle.wac_resolution_errors.specs.Error.{Error}
-use Rattle.wac_resolution_rules.specs.BrokenStatements.{ExportOptionsBroken}
-use Rattle.wac_resolution_rules.specs.Expressions.{at}
-use Rattle.wac_resolution_rules.specs.Given.{Rules}
-use Rattle.wac_resolution_rules.specs.Nodes.{imports}
-use Rattle.wac_resolution_rules.specs.Places.{more_at, places_after}
-use Rattle.wac_resolution_rules.specs.Spans.{expr_span, export_span}
-use Rattle.wac_resolution_rules.specs.Statements.{ExportsBy}
-use Rattle.wac_resolution_nodes.specs.declared.root.Root.{Root}
-use Rattle.wac_resolution_nodes.specs.Root.{numbers_of, composed, places, Agrees}
-use Rattle.wac_resolution_paths.specs.declared.context.Context.{Context}
-use Rattle.wac_resolution_paths.specs.Context.{packages_in}
-use Rattle.wac_resolution_expressions.specs.Growth.{given_in, ExprStep, ExprBreaks}
-use Rattle.wac_resolution_externs.specs.declared.externs.Externs.{Externs}
-use Rattle.wac_resolution_externs.specs.Externs.{imported_in, exported_in, places_in, ArePlaced, Under}
-use Rattle.wac_resolution_externs.specs.Exports.{Exported}
+use Rattle.wac_resolution_bindings.proofs.Common.{◌≡◌, ◌∙◌, ℕ, ◌++◌, inl, inr, refl, sym, ap, append-nil, Span, Named, Expr, ExportStatement, Statement, Parts, Naming, IsSound, Error, ExportOptionsBroken, at, Rules, imports, more_at, places_after, expr_span, export_span, ExportsBy, Root, numbers_of, composed, places, Agrees, Context, packages_in, given_in, ExprStep, ExprBreaks, Externs, imported_in, exported_in, places_in, ArePlaced, Under, Exported}
 use Rattle.wac_resolution_bindings.specs.Statements.{StatementRun, Breaks}
 use Rattle.wac_resolution_bindings.proofs.Grown.{agrees_still, agrees_extends, placed_still, handed_still}
 use Rattle.wac_resolution_bindings.proofs.ImportedNames.{imported_same, none_more}

@@ -1,22 +1,6 @@
 -- What is kept beside a graph still agrees with it as the graph gets nodes.
-use Rattle.std.proofs.Common.{◌≡◌, ◌∙◌, ℕ, List, [], ◌∷◌, Some, sym, ap, subst}
-use Rattle.std.specs.List.{AllByRecursion}
-use Rattle.wac_graph_types.specs.declared.kind.ItemKind.{ItemKind}
-use Rattle.wac_graph_types.specs.Package.{PackageParts}
-use Rattle.wac_graph_types.specs.Scope.{Named}
-use Rattle.wac_graph.specs.declared.node.NodeId.{NodeId}
-use Rattle.wac_graph.specs.Graph.{Parts}
+use Rattle.wac_resolution_bindings.proofs.Common.{◌≡◌, ◌∙◌, ℕ, List, [], ◌∷◌, Some, sym, ap, subst, AllByRecursion, ItemKind, PackageParts, Named, NodeId, Parts, Key, HeldPackage, names_of, Bindings, Root, kind_in, NodesStand, EachAgrees, Agrees, IsSuppliedAs, AllSupplied, Extends, Externs, ArePlaced}
 use Rattle.wac_graph.specs.Node.{Node as GraphNode}
-use Rattle.wac_graph.specs.Package.{Key, HeldPackage}
-use Rattle.wac_resolution_rules.specs.Find.{names_of}
-use Rattle.wac_resolution_state.specs.Bindings.{Bindings}
-use Rattle.wac_resolution_nodes.specs.declared.root.Root.{Root}
-use Rattle.wac_resolution_nodes.specs.Nodes.{kind_in, NodesStand}
-use Rattle.wac_resolution_nodes.specs.Root.{EachAgrees, Agrees}
-use Rattle.wac_resolution_paths.specs.Expands.{IsSuppliedAs, AllSupplied}
-use Rattle.wac_resolution_expressions.specs.Growth.{Extends}
-use Rattle.wac_resolution_externs.specs.declared.externs.Externs.{Externs}
-use Rattle.wac_resolution_externs.specs.Externs.{ArePlaced}
 
 each_still : (old new : Parts) (ns : Bindings NodeId) (ks : Bindings ItemKind) → ((n : ℕ) (k : ItemKind) → kind_in old.nodes n ≡ Some k → kind_in new.nodes n ≡ Some k) → EachAgrees old ns ks → EachAgrees new ns ks
 each_still old new [] [] keep h = tt

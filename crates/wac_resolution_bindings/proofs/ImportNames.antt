@@ -1,39 +1,18 @@
 -- The names of imports: which exist, and which one a statement means.
-use Rattle.std.proofs.Common.{◌≡◌, ◌∙◌, ℕ, List, Option, Some, None, true, false, is_some, refl, sym, ap}
-use Rattle.std.specs.Prelude.{option_map, option_and_then, slice_get, string_bytes, unwrap_or}
-use Rattle.wac_lexer.specs.Span.{Span}
+use Rattle.wac_resolution_bindings.proofs.Common.{◌≡◌, ◌∙◌, ℕ, List, Option, Some, None, true, false, is_some, refl, sym, ap, option_map, option_and_then, slice_get, string_bytes, unwrap_or, Span, ItemKind, Meaning, of_kind, Named, look_up, entry_over, id_of, Names, Parts, entry_means, origin_at, EntriesMean, Naming, IsSound, Error, duplicate_extern_name, IsImportedAlready, imports, Places, item_id, composition_of, imported_where, Externs, imported_in, ArePlaced, stands_too, fresh_too}
 use Rattle.wac_graph_types.specs.declared.entry.Entry.{Entry}
 use Rattle.wac_graph_types.specs.declared.entry.Entry.TheVariants as entries
 use Rattle.wac_graph_types.specs.declared.entry.World.{World}
 use Rattle.wac_graph_types.specs.declared.kind.ExternKind.TheVariants as sides
 use Rattle.wac_graph_types.specs.declared.kind.InterfaceId.{InterfaceId}
-use Rattle.wac_graph_types.specs.declared.kind.ItemKind.{ItemKind}
 use Rattle.wac_graph_types.specs.declared.kind.ItemKind.TheVariants as kinds
 use Rattle.wac_graph_types.specs.declared.kind.Sort.TheVariants as sorts
 use Rattle.wac_graph_types.specs.declared.kind.«Type».{«Type» as ItemType}
 use Rattle.wac_graph_types.specs.declared.kind.«Type».TheVariants as types
 use Rattle.wac_graph_types.specs.declared.kind.WorldId.{WorldId}
 use Rattle.wac_graph_types.specs.Entry.{sort_of}
-use Rattle.wac_graph_types.specs.Meaning.{Meaning, of_kind}
 use Rattle.wac_graph_types.specs.Readings.{as_world}
-use Rattle.wac_graph_types.specs.Scope.{Named, look_up}
-use Rattle.wac_graph_types.specs.Shape.{entry_over, id_of}
-use Rattle.wac_graph_types.specs.Table.{Names}
 use Rattle.wac_graph_types.proofs.Parts as parts
-use Rattle.wac_graph.specs.Graph.{Parts}
-use Rattle.wac_graph.specs.Means.{entry_means, origin_at, EntriesMean}
-use Rattle.wac_graph.specs.Origin.{Naming}
-use Rattle.wac_graph.specs.Sound.{IsSound}
-use Rattle.wac_resolution_errors.specs.Error.{Error, duplicate_extern_name}
-use Rattle.wac_resolution_rules.specs.BrokenStatements.{IsImportedAlready}
-use Rattle.wac_resolution_rules.specs.Nodes.{imports}
-use Rattle.wac_resolution_rules.specs.Places.{Places}
-use Rattle.wac_resolution_rules.specs.Statements.{item_id}
-use Rattle.wac_resolution_nodes.specs.Nodes.{composition_of}
-use Rattle.wac_resolution_nodes.proofs.NodeNames.{imported_where}
-use Rattle.wac_resolution_externs.specs.declared.externs.Externs.{Externs}
-use Rattle.wac_resolution_externs.specs.Externs.{imported_in, ArePlaced}
-use Rattle.wac_resolution_externs.proofs.Checks.{stands_too, fresh_too}
 use Rattle.wac_resolution_bindings.specs.Imports.{written_world_id, IsUnimported}
 
 -- ---- what is imported already

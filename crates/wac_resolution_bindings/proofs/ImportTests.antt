@@ -1,23 +1,7 @@
 -- The tests of a statement's name and identifier.
-use Rattle.std.proofs.Common.{◌≡◌, ◌∙◌, ℕ, List, Option, None, inl, inr, refl, sym, ap, subst}
-use Rattle.wac_lexer.specs.Span.{Span}
-use Rattle.wac_ast_grammar.specs.Tree.{ImportStatement}
+use Rattle.wac_resolution_bindings.proofs.Common.{◌≡◌, ◌∙◌, ℕ, List, Option, None, inl, inr, refl, sym, ap, subst, Span, ImportStatement, ItemKind, Named, Parts, Naming, Error, IsImportedAlready, IsInvalidName, help_unless, ImportNameBroken, IsBound, Places, import_span, Root, composition_of, numbers_of, composed, places, Externs, imported_in, places_in, Under}
 use Rattle.wac_graph_types.specs.declared.kind.ExternKind.TheVariants as sides
-use Rattle.wac_graph_types.specs.declared.kind.ItemKind.{ItemKind}
 use Rattle.wac_graph_types.specs.declared.rules.Reason.{Reason}
-use Rattle.wac_graph_types.specs.Scope.{Named}
-use Rattle.wac_graph.specs.Graph.{Parts}
-use Rattle.wac_graph.specs.Origin.{Naming}
-use Rattle.wac_resolution_errors.specs.Error.{Error}
-use Rattle.wac_resolution_rules.specs.BrokenStatements.{IsImportedAlready, IsInvalidName, help_unless, ImportNameBroken}
-use Rattle.wac_resolution_rules.specs.BrokenWorlds.{IsBound}
-use Rattle.wac_resolution_rules.specs.Places.{Places}
-use Rattle.wac_resolution_rules.specs.Spans.{import_span}
-use Rattle.wac_resolution_nodes.specs.declared.root.Root.{Root}
-use Rattle.wac_resolution_nodes.specs.Nodes.{composition_of}
-use Rattle.wac_resolution_nodes.specs.Root.{numbers_of, composed, places}
-use Rattle.wac_resolution_externs.specs.declared.externs.Externs.{Externs}
-use Rattle.wac_resolution_externs.specs.Externs.{imported_in, places_in, Under}
 use Rattle.wac_resolution_bindings.specs.Imports.{IsUnimported, AddsImport, ImportsAs}
 
 -- the name that is tested is the statement's, with its place and help

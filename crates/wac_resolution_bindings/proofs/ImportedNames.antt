@@ -1,21 +1,6 @@
 -- The imports of a composition have the names of those of its graph.
-use Rattle.std.proofs.Common.{◌≡◌, ◌∙◌, ℕ, suc, List, [], ◌∷◌, Option, Some, None, refl, sym, ap, map}
-use Rattle.std.specs.Prelude.{slice_get, filter_map, option_map}
-use Rattle.std.specs.List.{cons_option}
-use Rattle.wac_lexer.specs.Span.{Span}
-use Rattle.wac_graph_types.specs.Meaning.{Meaning}
-use Rattle.wac_graph_types.specs.Scope.{Named, with_named}
-use Rattle.wac_graph_types.specs.Shape.{cons_named}
-use Rattle.wac_graph.specs.Graph.{Parts}
-use Rattle.wac_graph.specs.Means.{means}
+use Rattle.wac_resolution_bindings.proofs.Common.{◌≡◌, ◌∙◌, ℕ, suc, List, [], ◌∷◌, Option, Some, None, refl, sym, ap, map, slice_get, filter_map, option_map, cons_option, Span, Meaning, Named, with_named, cons_named, Parts, means, Naming, HeldPackage, IsSound, imports_from, names_of, imports, import_name, import_of, more_at, instance_form, form_in, node_of, composition_of}
 use Rattle.wac_graph.specs.Node.{Node as GraphNode, Form, import, definition as defined, alias, instantiation, import_in}
-use Rattle.wac_graph.specs.Origin.{Naming}
-use Rattle.wac_graph.specs.Package.{HeldPackage}
-use Rattle.wac_graph.specs.Sound.{IsSound, imports_from}
-use Rattle.wac_resolution_rules.specs.Find.{names_of}
-use Rattle.wac_resolution_rules.specs.Nodes.{imports, import_name, import_of}
-use Rattle.wac_resolution_rules.specs.Places.{more_at}
-use Rattle.wac_resolution_nodes.specs.Nodes.{instance_form, form_in, node_of, composition_of}
 
 each_name : (naming : Naming) (g : Parts) (n : ℕ) (ns : List GraphNode) → names_of (filter_map import_of (map (node_of naming g) ns)) ≡ names_of (imports_from n ns)
 each_name naming g n [] = refl

@@ -1,28 +1,6 @@
 -- An import that is added to a graph.
-use Rattle.std.proofs.Common.{◌≡◌, ◌∙◌, ◌<◌, ℕ, List, [], ◌∷◌, ◌++◌, Some, sym, ap, subst, arith, length, length-append}
-use Rattle.std.proofs.lemmas.List.{map_push}
-use Rattle.wac_lexer.specs.Span.{Span}
-use Rattle.wac_ast_grammar.specs.Tree.{Ident}
-use Rattle.wac_graph_types.specs.declared.kind.ItemKind.{ItemKind}
-use Rattle.wac_graph_types.specs.Package.{PackageParts}
-use Rattle.wac_graph_types.specs.Scope.{Named, with_named}
-use Rattle.wac_graph.specs.declared.node.NodeId.{NodeId}
-use Rattle.wac_graph.specs.Graph.{Parts, plain_node, with_import}
-use Rattle.wac_graph.specs.Means.{means}
+use Rattle.wac_resolution_bindings.proofs.Common.{◌≡◌, ◌∙◌, ◌<◌, ℕ, List, [], ◌∷◌, ◌++◌, Some, sym, ap, subst, arith, length, length-append, map_push, Span, Ident, ItemKind, PackageParts, Named, with_named, NodeId, Parts, plain_node, with_import, means, Key, IsSound, all_implies, Composition, imported, with_node, binding, names_of, Bindings, Root, kind_in, numbers_of, composed, EachAgrees, Agrees, Binds, sound_stands, grows_more, next_is, composition_imports, IsSuppliedAs, AllSupplied, Externs, imported_in, exported_in, ArePlaced}
 use Rattle.wac_graph.specs.Node.{Node as GraphNode, import}
-use Rattle.wac_graph.specs.Package.{Key}
-use Rattle.wac_graph.specs.Sound.{IsSound}
-use Rattle.wac_graph.proofs.Lists.{all_implies}
-use Rattle.wac_resolution_rules.specs.Composition.{Composition, imported, with_node, binding}
-use Rattle.wac_resolution_rules.specs.Find.{names_of}
-use Rattle.wac_resolution_state.specs.Bindings.{Bindings}
-use Rattle.wac_resolution_nodes.specs.declared.root.Root.{Root}
-use Rattle.wac_resolution_nodes.specs.Nodes.{kind_in}
-use Rattle.wac_resolution_nodes.specs.Root.{numbers_of, composed, EachAgrees, Agrees, Binds}
-use Rattle.wac_resolution_nodes.proofs.Composed.{sound_stands, grows_more, next_is, composition_imports}
-use Rattle.wac_resolution_paths.specs.Expands.{IsSuppliedAs, AllSupplied}
-use Rattle.wac_resolution_externs.specs.declared.externs.Externs.{Externs}
-use Rattle.wac_resolution_externs.specs.Externs.{imported_in, exported_in, ArePlaced}
 use Rattle.wac_resolution_bindings.specs.Imports.{AddsImport}
 
 -- names still agree with more nodes

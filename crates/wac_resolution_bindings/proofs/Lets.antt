@@ -1,26 +1,5 @@
 -- `let` statements that are executed.
-use Rattle.std.proofs.Common.{◌≡◌, ◌∙◌, ℕ, ◌++◌, inl, inr, refl, sym, ap, append-nil}
-use Rattle.wac_lexer.specs.Span.{Span}
-use Rattle.wac_graph_types.specs.Scope.{Named, with_named}
-use Rattle.wac_ast_grammar.specs.Tree.{LetStatement, Statement}
-use Rattle.wac_graph.specs.Graph.{Parts}
-use Rattle.wac_graph.specs.Origin.{Naming}
-use Rattle.wac_graph.specs.Sound.{IsSound}
-use Rattle.wac_resolution_errors.specs.Error.{Error}
-use Rattle.wac_resolution_rules.specs.BrokenWorlds.{IsBound}
-use Rattle.wac_resolution_rules.specs.Composition.{Composition}
-use Rattle.wac_resolution_rules.specs.Expressions.{at}
-use Rattle.wac_resolution_rules.specs.Find.{names_of}
-use Rattle.wac_resolution_rules.specs.Given.{Rules}
-use Rattle.wac_resolution_rules.specs.Nodes.{imports}
-use Rattle.wac_resolution_rules.specs.Places.{Places, more_at, places_after}
-use Rattle.wac_resolution_nodes.specs.declared.root.Root.{Root}
-use Rattle.wac_resolution_nodes.specs.Root.{numbers_of, composed, places, Binds}
-use Rattle.wac_resolution_paths.specs.declared.context.Context.{Context}
-use Rattle.wac_resolution_paths.specs.Context.{packages_in}
-use Rattle.wac_resolution_expressions.specs.Growth.{ExprStep, ExprBreaks}
-use Rattle.wac_resolution_externs.specs.declared.externs.Externs.{Externs}
-use Rattle.wac_resolution_externs.specs.Externs.{imported_in, exported_in, places_in, ArePlaced}
+use Rattle.wac_resolution_bindings.proofs.Common.{◌≡◌, ◌∙◌, ℕ, ◌++◌, inl, inr, refl, sym, ap, append-nil, Span, Named, with_named, LetStatement, Statement, Parts, Naming, IsSound, Error, IsBound, Composition, at, names_of, Rules, imports, Places, more_at, places_after, Root, numbers_of, composed, places, Binds, Context, packages_in, ExprStep, ExprBreaks, Externs, imported_in, exported_in, places_in, ArePlaced}
 use Rattle.wac_resolution_bindings.specs.Statements.{StatementRun, Breaks}
 use Rattle.wac_resolution_bindings.proofs.Grown.{placed_still, handed_still}
 use Rattle.wac_resolution_bindings.proofs.ImportedNames.{imported_same, none_more, one_more}

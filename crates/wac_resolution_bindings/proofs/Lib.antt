@@ -1,3 +1,4 @@
+pub mod Common
 pub mod Standing
 pub mod Defining
 pub mod PlaceLaws

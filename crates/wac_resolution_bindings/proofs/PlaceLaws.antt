@@ -1,9 +1,6 @@
 -- Places of the names that a statement adds.
-use Rattle.std.proofs.Common.{◌≡◌, ◌∙◌, ℕ, List, [], ◌∷◌, ap, length, drop}
+use Rattle.wac_resolution_bindings.proofs.Common.{◌≡◌, ◌∙◌, ℕ, List, [], ◌∷◌, ap, length, drop, Span, Named, with_named, Places, names_at, more_at}
 use Rattle.std.proofs.Math.Seq.{drop-append_seam, drop-length}
-use Rattle.wac_lexer.specs.Span.{Span}
-use Rattle.wac_graph_types.specs.Scope.{Named, with_named}
-use Rattle.wac_resolution_rules.specs.Places.{Places, names_at, more_at}
 
 -- one more name, at its place
 pub one_more_at : {X : Type 0} (span : Span) (l : Named X) (m : Named X) (name : List ℕ) (x : X) → m ≡ with_named l name x → more_at span l m ≡ (name, span) ∷ []

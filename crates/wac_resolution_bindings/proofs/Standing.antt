@@ -1,19 +1,6 @@
 -- What is kept beside a graph still agrees with it as the graph gets types and packages.
-use Rattle.std.proofs.Common.{◌≡◌, ◌∙◌, sym, ap}
-use Rattle.wac_graph.specs.Graph.{Parts}
-use Rattle.wac_graph.specs.Means.{declared_count}
-use Rattle.wac_graph.specs.Origin.{Naming}
-use Rattle.wac_resolution_rules.specs.Composition.{root_scope, with_resources}
-use Rattle.wac_resolution_rules.specs.Find.{names_of}
-use Rattle.wac_resolution_nodes.specs.declared.root.Root.{Root}
-use Rattle.wac_resolution_nodes.specs.Root.{numbers_of, composed, Agrees}
-use Rattle.wac_resolution_nodes.proofs.Composed.{composition_expands}
+use Rattle.wac_resolution_bindings.proofs.Common.{◌≡◌, ◌∙◌, sym, ap, Parts, declared_count, Naming, root_scope, with_resources, names_of, Root, numbers_of, composed, Agrees, composition_expands, Context, Expands, AllSupplied, packages_in, Externs, ArePlaced}
 use Rattle.wac_resolution_nodes.proofs.Roots.{agrees_expands}
-use Rattle.wac_resolution_paths.specs.declared.context.Context.{Context}
-use Rattle.wac_resolution_paths.specs.Expands.{Expands, AllSupplied}
-use Rattle.wac_resolution_paths.specs.Context.{packages_in}
-use Rattle.wac_resolution_externs.specs.declared.externs.Externs.{Externs}
-use Rattle.wac_resolution_externs.specs.Externs.{ArePlaced}
 use Rattle.wac_resolution_bindings.specs.Statements.{Stand}
 
 -- the names at root still denote nodes and their kinds

@@ -1,33 +1,13 @@
 -- Resources and declarations of types.
-use Rattle.std.proofs.Common.{◌≡◌, ◌∙◌, inr, ℕ, suc, [], ◌∷◌, ◌++◌, sym, ap, subst, append-nil}
-use Rattle.wac_lexer.specs.Span.{Span}
-use Rattle.wac_ast_grammar.specs.Tree.{Ident, ResourceDecl, ItemTypeDecl}
-use Rattle.wac_graph_types.specs.declared.kind.ExternKind.{ExternKind}
+use Rattle.wac_resolution_bodies.proofs.Common.{◌≡◌, ◌∙◌, inr, ℕ, suc, [], ◌∷◌, ◌++◌, sym, ap, subst, append-nil, Span, Ident, ResourceDecl, ItemTypeDecl, ExternKind, ItemKind, ResourceId, a_resource, Meaning, Named, IsFresh, kind_of, Steps, Fails, Names, Parts, means, entry_means, declared_count, Naming, Error, Body, with_count, with_type, with_resource, DeclaresIn, HasMethod, HasItem, Owner, MethodBroken, ItemBroken, values_of, places_of, Grows, AddsResource, grows_on}
 use Rattle.wac_graph_types.specs.declared.kind.ExternKind.TheVariants as sides
-use Rattle.wac_graph_types.specs.declared.kind.ItemKind.{ItemKind}
 use Rattle.wac_graph_types.specs.declared.kind.ItemKind.TheVariants as kinds
 use Rattle.wac_graph_types.specs.declared.kind.«Type».TheVariants as types
-use Rattle.wac_graph_types.specs.declared.kind.ResourceId.{ResourceId}
 use Rattle.wac_graph_types.specs.declared.kind.ValueType.{ValueType}
-use Rattle.wac_graph_types.specs.Kind.{a_resource}
-use Rattle.wac_graph_types.specs.Meaning.{Meaning}
-use Rattle.wac_graph_types.specs.Scope.{Named, IsFresh}
-use Rattle.wac_graph_types.specs.Shape.{kind_of}
-use Rattle.wac_graph_types.specs.Steps.{Steps, Fails}
-use Rattle.wac_graph_types.specs.Table.{Names}
-use Rattle.wac_graph.specs.Graph.{Parts}
-use Rattle.wac_graph.specs.Means.{means, entry_means, declared_count}
-use Rattle.wac_graph.specs.Origin.{Naming}
 use Rattle.wac_graph.specs.Resources.{resource_entry}
-use Rattle.wac_resolution_errors.specs.Error.{Error}
-use Rattle.wac_resolution_rules.specs.Bodies.{Body, with_count, with_type, with_resource, DeclaresIn, HasMethod, HasItem}
-use Rattle.wac_resolution_rules.specs.BrokenBodies.{Owner, MethodBroken, ItemBroken}
 use Rattle.wac_resolution_rules.specs.Places.{at_ident}
 use Rattle.wac_resolution_rules.specs.Spans.{item_identifier}
-use Rattle.wac_resolution_state.specs.Bindings.{values_of, places_of}
 use Rattle.wac_resolution_types.specs.Declarations.{ValueAdded, KindAdded}
-use Rattle.wac_resolution_state.specs.Growth.{Grows, AddsResource}
-use Rattle.wac_resolution_state.proofs.Grown.{grows_on}
 use Rattle.wac_resolution_bodies.specs.Lists.{Lists, kinds_of, with_bound}
 use Rattle.wac_resolution_bodies.specs.Bodies.{body_in, IsBody, BodyStep, MethodSteps, ResourceStep, IsDeclared, DeclarationStep}
 use Rattle.wac_resolution_bodies.proofs.Lists.{body_still, body_kept, body_with_bound, means_with_bound, extern_fresh, bound_fresh, places_append}

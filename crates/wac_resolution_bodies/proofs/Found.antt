@@ -1,9 +1,5 @@
 -- What is found among names that are bound, and among names with one more.
-use Rattle.std.proofs.Common.{◌≡◌, ◌∙◌, ℕ, List, Option, Some, None, refl, sym, ap}
-use Rattle.std.specs.Prelude.{option_map}
-use Rattle.wac_lexer.specs.Span.{Span}
-use Rattle.wac_graph_types.specs.Scope.{look_up, IsFresh}
-use Rattle.wac_resolution_state.specs.Bindings.{Bindings, places_of, values_of}
+use Rattle.wac_resolution_bodies.proofs.Common.{◌≡◌, ◌∙◌, ℕ, List, Option, Some, None, refl, sym, ap, option_map, Span, look_up, IsFresh, Bindings, places_of, values_of}
 use Rattle.wac_resolution_state.proofs.Bound.{read_found}
 
 -- ---- options

@@ -1,15 +1,6 @@
 -- Bodies as they take items in order.
-use Rattle.std.proofs.Common.{◌≡◌, ◌∙◌, ◌+◌, ◌<◌, ℕ, List, [], ◌++◌, refl, sym, ap, subst, map, take, length, get_or, append_assoc, append-nil}
-use Rattle.wac_lexer.specs.Span.{Span}
-use Rattle.wac_graph_types.specs.declared.kind.ExternKind.{ExternKind}
-use Rattle.wac_graph_types.specs.Scope.{Named}
-use Rattle.wac_graph_types.specs.Steps.{Steps, Fails}
-use Rattle.wac_graph.specs.Graph.{Parts}
-use Rattle.wac_graph.specs.Origin.{Naming}
-use Rattle.wac_resolution_rules.specs.Bodies.{Body}
+use Rattle.wac_resolution_bodies.proofs.Common.{◌≡◌, ◌∙◌, ◌+◌, ◌<◌, ℕ, List, [], ◌++◌, refl, sym, ap, subst, map, take, length, get_or, append_assoc, append-nil, Span, ExternKind, Named, Steps, Fails, Parts, Naming, Body, places_of, grows_self, grows_on}
 use Rattle.wac_resolution_rules.proofs.StepLaws.{steps_on_map, fails_at_map}
-use Rattle.wac_resolution_state.specs.Bindings.{places_of}
-use Rattle.wac_resolution_state.proofs.Grown.{grows_self, grows_on}
 use Rattle.wac_resolution_bodies.specs.Lists.{Lists}
 use Rattle.wac_resolution_bodies.specs.Bodies.{body_in, IsBody, BodyStep}
 

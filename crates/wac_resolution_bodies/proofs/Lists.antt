@@ -1,26 +1,11 @@
 -- Bodies of a graph: what they mean as they and the graph grow.
-use Rattle.std.proofs.Common.{◌≡◌, ◌∙◌, ℕ, List, [], ◌∷◌, ◌++◌, Some, refl, sym, ap, subst}
-use Rattle.std.specs.Prelude.{option_map}
-use Rattle.std.proofs.lemmas.List.{map_push}
-use Rattle.wac_lexer.specs.Span.{Span}
-use Rattle.wac_graph_types.specs.declared.kind.ExternKind.{ExternKind}
+use Rattle.wac_resolution_bodies.proofs.Common.{◌≡◌, ◌∙◌, ℕ, List, [], ◌∷◌, ◌++◌, Some, refl, sym, ap, subst, option_map, map_push, Span, ExternKind, ItemKind, Meaning, Named, Scope, look_up, StandsFor, IsFresh, with_named, Uses, items_mean, uses_mean, Names, ItemsNamed, Parts, means, entry_means, declared_count, Naming, Body, externs, with_extern, with_count, with_type, Bindings, values_of, places_of, scope_of}
 use Rattle.wac_graph_types.specs.declared.kind.ExternKind.TheVariants as sides
-use Rattle.wac_graph_types.specs.declared.kind.ItemKind.{ItemKind}
 use Rattle.wac_graph_types.specs.declared.kind.ItemKind.TheVariants as kinds
 use Rattle.wac_graph_types.specs.declared.entry.Entry.{Entry}
 use Rattle.wac_graph_types.specs.declared.entry.UsedType.{UsedType}
 use Rattle.wac_graph_types.specs.Growth.{KeepsNames}
-use Rattle.wac_graph_types.specs.Meaning.{Meaning}
-use Rattle.wac_graph_types.specs.Scope.{Named, Scope, look_up, StandsFor, IsFresh, with_named}
-use Rattle.wac_graph_types.specs.Shape.{Uses, items_mean, uses_mean}
-use Rattle.wac_graph_types.specs.Table.{Names, ItemsNamed}
 use Rattle.wac_graph_types.proofs.Shapes.{items_found}
-use Rattle.wac_graph.specs.Graph.{Parts}
-use Rattle.wac_graph.specs.Means.{means, entry_means, declared_count}
-use Rattle.wac_graph.specs.Origin.{Naming}
-use Rattle.wac_resolution_rules.specs.Bodies.{Body, externs, with_extern, with_count, with_type}
-use Rattle.wac_resolution_state.specs.Bindings.{Bindings, values_of, places_of}
-use Rattle.wac_resolution_state.specs.Named.{scope_of}
 use Rattle.wac_resolution_bodies.specs.Lists.{Lists, kinds_of, with_kind, with_bound}
 use Rattle.wac_resolution_bodies.specs.Bodies.{body_in, UsesNamed, Covers, IsBody}
 use Rattle.wac_resolution_rules.proofs.Scopes.{fresh_before, fresh_after}

@@ -1,31 +1,12 @@
 -- Constructors and methods.
-use Rattle.std.proofs.Common.{◌≡◌, ◌∙◌, ◌+◌, ◌<◌, inl, inr, ℕ, List, [], ◌++◌, refl, sym, ap, subst, map, take, length, get_or, append-nil}
-use Rattle.wac_ast_grammar.specs.Tree.{Ident, Constructor, Method, ResourceMethod}
-use Rattle.wac_graph_types.specs.declared.kind.ExternKind.{ExternKind}
+use Rattle.wac_resolution_bodies.proofs.Common.{◌≡◌, ◌∙◌, ◌+◌, ◌<◌, inl, inr, ℕ, List, [], ◌++◌, refl, sym, ap, subst, map, take, length, get_or, append-nil, Ident, Constructor, Method, ExternKind, ItemKind, ResourceId, func, Meaning, Scope, StandsFor, IsFresh, kind_of, entry_of, Fails, Names, Parts, means, entry_means, Naming, Error, duplicate_resource_method, Body, externs, with_extern, with_count, constructor_name, method_name, static_name, name_of_method, HasMethod, ParamsBroken, FuncBroken, IsSecondMethod, MethodBroken, method_kind, values_of, places_of, FuncAdded, Grows}
+use Rattle.wac_ast_grammar.specs.Tree.{ResourceMethod}
 use Rattle.wac_graph_types.specs.declared.kind.ExternKind.TheVariants as sides
 use Rattle.wac_graph_types.specs.declared.kind.FuncKind.TheVariants as funcs
-use Rattle.wac_graph_types.specs.declared.kind.ItemKind.{ItemKind}
 use Rattle.wac_graph_types.specs.declared.kind.ItemKind.TheVariants as kinds
 use Rattle.wac_graph_types.specs.declared.kind.«Type».TheVariants as types
 use Rattle.wac_graph_types.specs.declared.kind.FuncTypeId.{FuncTypeId}
-use Rattle.wac_graph_types.specs.declared.kind.ResourceId.{ResourceId}
-use Rattle.wac_graph_types.specs.Kind.{func}
-use Rattle.wac_graph_types.specs.Meaning.{Meaning}
-use Rattle.wac_graph_types.specs.Scope.{Scope, StandsFor, IsFresh}
-use Rattle.wac_graph_types.specs.Shape.{kind_of, entry_of}
-use Rattle.wac_graph_types.specs.Steps.{Fails}
-use Rattle.wac_graph_types.specs.Table.{Names}
-use Rattle.wac_graph.specs.Graph.{Parts}
-use Rattle.wac_graph.specs.Means.{means, entry_means}
-use Rattle.wac_graph.specs.Origin.{Naming}
-use Rattle.wac_resolution_errors.specs.Error.{Error, duplicate_resource_method}
 use Rattle.wac_resolution_rules.specs.Types.{IsFuncWith, IsConstructor, first_params}
-use Rattle.wac_resolution_rules.specs.Bodies.{Body, externs, with_extern, with_count, constructor_name, method_name, static_name, name_of_method, HasMethod}
-use Rattle.wac_resolution_rules.specs.BrokenTypes.{ParamsBroken, FuncBroken}
-use Rattle.wac_resolution_rules.specs.BrokenBodies.{IsSecondMethod, MethodBroken, method_kind}
-use Rattle.wac_resolution_state.specs.Bindings.{values_of, places_of}
-use Rattle.wac_resolution_types.specs.Funcs.{FuncAdded}
-use Rattle.wac_resolution_state.specs.Growth.{Grows}
 use Rattle.wac_resolution_bodies.specs.Lists.{Lists, kinds_of, with_kind}
 use Rattle.wac_resolution_bodies.specs.Bodies.{body_in, IsBody, BodyStep, IsTaken, MethodStep, MethodSteps}
 use Rattle.wac_resolution_bodies.proofs.Lists.{body_still, body_kept, body_with_kind, means_with_kind, extern_fresh}

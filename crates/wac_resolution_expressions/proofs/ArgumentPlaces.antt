@@ -1,15 +1,6 @@
 -- Where arguments are.
-use Rattle.std.proofs.Common.{◌≡◌, ◌∙◌, ℕ, List, [], ◌∷◌, Option, Some, None, ap}
-use Rattle.std.specs.Prelude.{option_map, option_and_then}
-use Rattle.wac_lexer.specs.Span.{Span}
-use Rattle.wac_ast_grammar.specs.Tree.{Ident}
+use Rattle.wac_resolution_expressions.proofs.Common.{◌≡◌, ◌∙◌, ℕ, List, [], ◌∷◌, Option, Some, None, ap, option_map, option_and_then, Span, Ident, Meaning, Named, look_up, argument_place, Composition, Node, name_inferred, node_at}
 use Rattle.wac_ast_grammar.specs.Tree.{InstantiationArgument}
-use Rattle.wac_graph_types.specs.Meaning.{Meaning}
-use Rattle.wac_graph_types.specs.Scope.{Named, look_up}
-use Rattle.wac_resolution_rules.specs.BrokenExpressions.{argument_place}
-use Rattle.wac_resolution_rules.specs.Composition.{Composition, Node}
-use Rattle.wac_resolution_rules.specs.Expressions.{name_inferred}
-use Rattle.wac_resolution_rules.specs.Nodes.{node_at}
 
 named_of : (imports : Named Meaning) (x : Ident) (o : Option Node) (text : List ℕ) → option_map (name_inferred imports x.string) o ≡ Some text
     → elim o as (λ _. Named Span) [ None ↦ [] | Some n ↦ (name_inferred imports x.string n, x.span) ∷ [] ] ≡ (text, x.span) ∷ []

@@ -1,34 +1,6 @@
 -- Arguments that are wrong, and instances that are made of those that are right.
-use Rattle.std.proofs.Common.{◌≡◌, ◌∙◌, ◌<◌, ℕ, List, [], ◌∷◌, ◌++◌, Option, Some, None, false, inl, inr, sym, ap, subst, length, is_some}
-use Rattle.std.specs.Prelude.{slice_get, option_and_then, unwrap_or, IsSome}
-use Rattle.std.specs.List.{AllByRecursion}
-use Rattle.std.proofs.lemmas.Option.{slice_get_within}
-use Rattle.wac_lexer.specs.Span.{Span}
-use Rattle.wac_ast_grammar.specs.Tree.{PackageName, Arguments}
-use Rattle.wac_graph_types.specs.declared.kind.ItemKind.{ItemKind}
+use Rattle.wac_resolution_expressions.proofs.Common.{◌≡◌, ◌∙◌, ◌<◌, ℕ, List, [], ◌∷◌, ◌++◌, Option, Some, None, false, inl, inr, sym, ap, subst, length, is_some, slice_get, option_and_then, unwrap_or, IsSome, AllByRecursion, slice_get_within, Span, PackageName, Arguments, ItemKind, WorldId, Reason, Meaning, world_imports, Named, look_up, StandsFor, IsFresh, imports_of, Steps, Fails, NodeId, Parts, import_kind, means, entry_means, Naming, IsOneToOne, HeldPackage, contents_in, Error, ReachedAt, argument_places, SpreadBroken, Composition, at, Fits, left_out, has_fill, spreads_of, IsComplete, Spreads, Rules, imports_in, next_of, with_instance, GrowsNodes, composition_of, grows_on}
 use Rattle.wac_graph_types.specs.declared.kind.ItemKind.TheVariants as kinds
-use Rattle.wac_graph_types.specs.declared.kind.WorldId.{WorldId}
-use Rattle.wac_graph_types.specs.declared.rules.Reason.{Reason}
-use Rattle.wac_graph_types.specs.Meaning.{Meaning}
-use Rattle.wac_graph_types.specs.Readings.{world_imports}
-use Rattle.wac_graph_types.specs.Scope.{Named, look_up, StandsFor, IsFresh}
-use Rattle.wac_graph_types.specs.Shape.{imports_of}
-use Rattle.wac_graph_types.specs.Steps.{Steps, Fails}
-use Rattle.wac_graph.specs.declared.node.NodeId.{NodeId}
-use Rattle.wac_graph.specs.Graph.{Parts, import_kind}
-use Rattle.wac_graph.specs.Means.{means, entry_means}
-use Rattle.wac_graph.specs.Origin.{Naming, IsOneToOne}
-use Rattle.wac_graph.specs.Package.{HeldPackage}
-use Rattle.wac_graph.specs.Packages.{contents_in}
-use Rattle.wac_resolution_errors.specs.Error.{Error}
-use Rattle.wac_resolution_rules.specs.BrokenExpressions.{ReachedAt, argument_places, SpreadBroken}
-use Rattle.wac_resolution_rules.specs.Composition.{Composition}
-use Rattle.wac_resolution_rules.specs.Expressions.{at, Fits, left_out, has_fill, spreads_of, IsComplete, Spreads}
-use Rattle.wac_resolution_rules.specs.Given.{Rules, imports_in}
-use Rattle.wac_resolution_rules.specs.Nodes.{next_of, with_instance}
-use Rattle.wac_resolution_nodes.specs.Growth.{GrowsNodes}
-use Rattle.wac_resolution_nodes.specs.Nodes.{composition_of}
-use Rattle.wac_resolution_nodes.proofs.Composed.{grows_on}
 use Rattle.wac_resolution_expressions.specs.Arguments.{given_nodes}
 use Rattle.wac_resolution_expressions.specs.Incomplete.{IsIncomplete}
 use Rattle.wac_resolution_expressions.specs.Fits.{IsImport, AllFit, IsFirstMisfit}

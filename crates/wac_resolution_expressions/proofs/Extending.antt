@@ -1,30 +1,8 @@
 -- What a graph keeps as expressions are resolved.
-use Rattle.std.proofs.Common.{◌≡◌, ◌∙◌, ◌<◌, ℕ, zero, suc, List, [], ◌∷◌, Some, refl, sym, ap, subst, length}
-use Rattle.std.specs.Prelude.{slice_get}
-use Rattle.std.specs.List.{AllByRecursion}
-use Rattle.wac_graph_types.specs.declared.entry.Entry.{Entry}
+use Rattle.wac_resolution_expressions.proofs.Common.{◌≡◌, ◌∙◌, ◌<◌, ℕ, zero, suc, List, [], ◌∷◌, Some, refl, sym, ap, subst, length, slice_get, AllByRecursion, Entry, WorldId, Meaning, Named, entry_of, imports_of, Names, NodeId, Parts, means, declared_count, Naming, Key, HeldPackage, IsHeld, contents_in, handed, package_of, all_implies, Root, GrowsNodes, composition_of, kind_in, NodesStand, Agrees, composition_expands, still_stand, still_there, agrees_expands, agrees_nodes, Expands, AllSupplied, IsSuppliedAs}
 use Rattle.wac_graph_types.specs.declared.kind.ItemKind.TheVariants as kinds
-use Rattle.wac_graph_types.specs.declared.kind.WorldId.{WorldId}
-use Rattle.wac_graph_types.specs.Meaning.{Meaning}
 use Rattle.wac_graph_types.specs.Package.{PackageParts}
-use Rattle.wac_graph_types.specs.Scope.{Named}
-use Rattle.wac_graph_types.specs.Shape.{entry_of, imports_of}
-use Rattle.wac_graph_types.specs.Table.{Names}
-use Rattle.wac_graph.specs.declared.node.NodeId.{NodeId}
-use Rattle.wac_graph.specs.Graph.{Parts}
-use Rattle.wac_graph.specs.Means.{means, declared_count}
 use Rattle.wac_graph.specs.Node.{Node as GraphNode}
-use Rattle.wac_graph.specs.Origin.{Naming}
-use Rattle.wac_graph.specs.Package.{Key, HeldPackage, IsHeld}
-use Rattle.wac_graph.specs.Packages.{contents_in, handed, package_of}
-use Rattle.wac_graph.proofs.Lists.{all_implies}
-use Rattle.wac_resolution_nodes.specs.declared.root.Root.{Root}
-use Rattle.wac_resolution_nodes.specs.Growth.{GrowsNodes}
-use Rattle.wac_resolution_nodes.specs.Nodes.{composition_of, kind_in, NodesStand}
-use Rattle.wac_resolution_nodes.specs.Root.{Agrees}
-use Rattle.wac_resolution_nodes.proofs.Composed.{composition_expands, still_stand, still_there}
-use Rattle.wac_resolution_nodes.proofs.Roots.{agrees_expands, agrees_nodes}
-use Rattle.wac_resolution_paths.specs.Expands.{Expands, AllSupplied, IsSuppliedAs}
 use Rattle.wac_resolution_expressions.specs.Spreads.{GivenThere, imports_at}
 use Rattle.wac_resolution_expressions.specs.Growth.{Extends}
 

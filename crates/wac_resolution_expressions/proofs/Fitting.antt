@@ -1,29 +1,8 @@
 -- Arguments that fit.
-use Rattle.std.proofs.Common.{◌≡◌, ◌∙◌, ◌<◌, ℕ, List, [], ◌∷◌, ◌++◌, Option, Some, None, Result, refl, sym, ap, subst, length, append_assoc, append-nil}
-use Rattle.std.specs.Prelude.{option_map, IfSome, IsSome}
-use Rattle.std.specs.List.{AllByRecursion}
-use Rattle.wac_graph_types.specs.declared.entry.Entry.{Entry}
-use Rattle.wac_graph_types.specs.declared.kind.ItemKind.{ItemKind}
+use Rattle.wac_resolution_expressions.proofs.Common.{◌≡◌, ◌∙◌, ◌<◌, ℕ, List, [], ◌∷◌, ◌++◌, Option, Some, None, Result, refl, sym, ap, subst, length, append_assoc, append-nil, option_map, IfSome, IsSome, AllByRecursion, Entry, ItemKind, WorldId, Reason, Meaning, meaning, world_imports, Named, look_up, Names, EachEntryNamed, world_imports_named, found_named, items_found, NodeId, Parts, means, entry_means, entry_means_in, origin_at, EntriesMean, OriginsApart, Naming, IsOneToOne, kind_at, Fits, Rules, composition_of, kind_in, kind_means}
 use Rattle.wac_graph_types.specs.declared.kind.ItemKind.TheVariants as kinds
-use Rattle.wac_graph_types.specs.declared.kind.WorldId.{WorldId}
-use Rattle.wac_graph_types.specs.declared.rules.Reason.{Reason}
-use Rattle.wac_graph_types.specs.Meaning.{Meaning, meaning}
 use Rattle.wac_graph_types.specs.Meaning as tables
-use Rattle.wac_graph_types.specs.Readings.{world_imports}
 use Rattle.wac_graph_types.specs.Rules.{Answers}
-use Rattle.wac_graph_types.specs.Scope.{Named, look_up}
-use Rattle.wac_graph_types.specs.Table.{Names, EachEntryNamed}
-use Rattle.wac_graph_types.proofs.Found.{world_imports_named, found_named}
-use Rattle.wac_graph_types.proofs.Shapes.{items_found}
-use Rattle.wac_graph.specs.declared.node.NodeId.{NodeId}
-use Rattle.wac_graph.specs.Graph.{Parts}
-use Rattle.wac_graph.specs.Means.{means, entry_means, entry_means_in, origin_at, EntriesMean, OriginsApart}
-use Rattle.wac_graph.specs.Origin.{Naming, IsOneToOne}
-use Rattle.wac_resolution_rules.specs.Composition.{kind_at}
-use Rattle.wac_resolution_rules.specs.Expressions.{Fits}
-use Rattle.wac_resolution_rules.specs.Given.{Rules}
-use Rattle.wac_resolution_nodes.specs.Nodes.{composition_of, kind_in}
-use Rattle.wac_resolution_nodes.proofs.Roots.{kind_means}
 use Rattle.wac_resolution_expressions.specs.Arguments.{given_nodes}
 use Rattle.wac_resolution_expressions.specs.Fits.{IsImport, IsFit, IsForNone, IsUnfit, IsAgainst, FitAll, AllFit, IsFirstMisfit}
 use Rattle.wac_resolution_expressions.specs.Spreads.{GivenThere, imports_at}

@@ -1,14 +1,6 @@
 -- Arguments that are given in order.
-use Rattle.std.proofs.Common.{◌≡◌, ◌∙◌, ◌+◌, ◌<◌, ◌≤◌, ℕ, suc, List, [], ◌∷◌, ◌++◌, inl, inr, refl, sym, ap, subst, take, drop, length, get_or}
-use Rattle.std.proofs.lemmas.List.{take_more, take_all, take-append-drop, drop_all}
-use Rattle.std.proofs.Math.Seq.{drop-cons}
-use Rattle.wac_ast_grammar.specs.Tree.{InstantiationArgument, arguments_from}
-use Rattle.wac_graph_types.specs.Meaning.{Meaning}
-use Rattle.wac_graph_types.specs.Scope.{Named}
-use Rattle.wac_resolution_errors.specs.Error.{Error}
-use Rattle.wac_resolution_rules.specs.BrokenExpressions.{ArgumentBroken, ArgumentsBroken}
-use Rattle.wac_resolution_rules.specs.Expressions.{Giving, Gives, GivesOne}
-use Rattle.wac_resolution_rules.specs.Given.{Given}
+use Rattle.wac_resolution_expressions.proofs.Common.{◌≡◌, ◌∙◌, ◌+◌, ◌<◌, ◌≤◌, ℕ, suc, List, [], ◌∷◌, ◌++◌, inl, inr, refl, sym, ap, subst, take, drop, length, get_or, take_more, take_all, take-append-drop, drop_all, drop-cons, arguments_from, Meaning, Named, Error, ArgumentBroken, ArgumentsBroken, Giving, Gives, GivesOne, Given}
+use Rattle.wac_ast_grammar.specs.Tree.{InstantiationArgument}
 
 module _ (s : Given) (imports : Named Meaning) where
   -- the first arguments give this, with the rest after them

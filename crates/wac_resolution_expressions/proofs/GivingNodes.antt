@@ -1,30 +1,7 @@
 -- Nodes that are given for names.
-use Rattle.std.proofs.Common.{◌≡◌, ◌∙◌, ◌<◌, ℕ, List, Option, Some, None, true, inr, Result, refl, sym, ap, subst, length, is_some}
-use Rattle.std.specs.Prelude.{option_map, IfErr}
-use Rattle.std.proofs.lemmas.List.{map_push}
-use Rattle.std.proofs.lemmas.Result.{IfErr-weaker}
-use Rattle.wac_lexer.specs.Span.{Span}
-use Rattle.wac_ast_grammar.specs.Tree.{Ident, Arguments, InstantiationArgument}
-use Rattle.wac_graph_types.specs.declared.kind.WorldId.{WorldId}
-use Rattle.wac_graph_types.specs.Scope.{Named, look_up, IsFresh, with_named}
-use Rattle.wac_graph.specs.declared.node.NodeId.{NodeId}
-use Rattle.wac_graph.specs.Graph.{Parts}
-use Rattle.wac_graph.specs.Origin.{Naming}
-use Rattle.wac_graph.proofs.Lists.{all_more}
-use Rattle.wac_resolution_errors.specs.Error.{Error, duplicate_instantiation_arg}
-use Rattle.wac_resolution_errors.specs.Told.{told}
+use Rattle.wac_resolution_expressions.proofs.Common.{◌≡◌, ◌∙◌, ◌<◌, ℕ, List, Option, Some, None, true, inr, Result, refl, sym, ap, subst, length, is_some, option_map, IfErr, map_push, IfErr-weaker, Span, Ident, Arguments, WorldId, Named, look_up, IsFresh, with_named, NodeId, Parts, Naming, all_more, Error, duplicate_instantiation_arg, told, ArgumentBroken, Composition, Node, at, given_too, GivesOne, name_inferred, Given, node_at, Root, composition_of, numbers_of, Agrees, NodeIs, grows_none, fresh_read, read_found}
+use Rattle.wac_ast_grammar.specs.Tree.{InstantiationArgument}
 use Rattle.wac_resolution_errors.specs.declared.error.Error.{Error as CodeError}
-use Rattle.wac_resolution_rules.specs.BrokenExpressions.{ArgumentBroken}
-use Rattle.wac_resolution_rules.specs.Composition.{Composition, Node}
-use Rattle.wac_resolution_rules.specs.Expressions.{at, given_too, GivesOne, name_inferred}
-use Rattle.wac_resolution_rules.specs.Given.{Given}
-use Rattle.wac_resolution_rules.specs.Nodes.{node_at}
-use Rattle.wac_resolution_nodes.specs.declared.root.Root.{Root}
-use Rattle.wac_resolution_nodes.specs.Nodes.{composition_of}
-use Rattle.wac_resolution_nodes.specs.Root.{numbers_of, Agrees, NodeIs}
-use Rattle.wac_resolution_nodes.proofs.Composed.{grows_none}
-use Rattle.wac_resolution_nodes.proofs.Roots.{fresh_read}
-use Rattle.wac_resolution_state.proofs.Bound.{read_found}
 use Rattle.wac_resolution_expressions.specs.Arguments.{given_nodes}
 use Rattle.wac_resolution_expressions.specs.GivenByNodes.{Gave}
 use Rattle.wac_resolution_expressions.specs.Spreads.{giving_of, imports_at, GivenThere}

@@ -1,31 +1,8 @@
 -- Imports of a world as they are meant, and those that are left out.
-use Rattle.std.proofs.Common.{◌≡◌, ◌∙◌, ℕ, List, [], ◌∷◌, Option, Some, None, Bool, true, false, cond, refl, sym, ap, is_some, is_none, length, ◌<◌}
-use Rattle.std.specs.Prelude.{slice_get, option_map, option_and_then, unwrap_or}
+use Rattle.wac_resolution_expressions.proofs.Common.{◌≡◌, ◌∙◌, ℕ, List, [], ◌∷◌, Option, Some, None, Bool, true, false, cond, refl, sym, ap, is_some, is_none, length, ◌<◌, slice_get, option_map, option_and_then, unwrap_or, bytes_eq, ItemKind, WorldId, Meaning, of_kind, world_imports, Named, look_up, imports_of, items_mean, Names, world_imports_mean, items_found, NodeId, Parts, entry_means, origin_at, EntriesMean, Naming, Node, InstantiationArgumentName, slice_get-map, none_within, node_of, composition_of, name_meant, instance_id, own_name, if_imported, name_inferred, left_out, find_name, node_at}
 use Rattle.std.specs.Option.{option_or}
-use Rattle.std.specs.Str.{bytes_eq}
-use Rattle.wac_graph_types.specs.declared.kind.ItemKind.{ItemKind}
 use Rattle.wac_graph_types.specs.declared.kind.ItemKind.TheVariants as kinds
-use Rattle.wac_graph_types.specs.declared.kind.WorldId.{WorldId}
-use Rattle.wac_graph_types.specs.Meaning.{Meaning, of_kind}
-use Rattle.wac_graph_types.specs.Readings.{world_imports}
-use Rattle.wac_graph_types.specs.Scope.{Named, look_up}
-use Rattle.wac_graph_types.specs.Shape.{imports_of, items_mean}
-use Rattle.wac_graph_types.specs.Table.{Names}
-use Rattle.wac_graph_types.proofs.Found.{world_imports_mean}
-use Rattle.wac_graph_types.proofs.Shapes.{items_found}
-use Rattle.wac_graph.specs.declared.node.NodeId.{NodeId}
 use Rattle.wac_graph.specs.Node.{Node as GraphNode}
-use Rattle.wac_graph.specs.Graph.{Parts}
-use Rattle.wac_graph.specs.Means.{entry_means, origin_at, EntriesMean}
-use Rattle.wac_graph.specs.Origin.{Naming}
-use Rattle.wac_resolution_rules.specs.Composition.{Node}
-use Rattle.wac_ast_grammar.specs.Tree.{InstantiationArgumentName}
-use Rattle.std.proofs.lemmas.Option.{slice_get-map}
-use Rattle.wac_graph_types.proofs.Rows.{none_within}
-use Rattle.wac_resolution_nodes.specs.Nodes.{node_of, composition_of}
-use Rattle.wac_resolution_rules.specs.Expressions.{name_meant, instance_id, own_name, if_imported, name_inferred, left_out}
-use Rattle.wac_resolution_rules.specs.Find.{find_name}
-use Rattle.wac_resolution_rules.specs.Nodes.{node_at}
 use Rattle.wac_resolution_expressions.specs.Arguments.{given_nodes, first_name}
 
 -- what a world of the graph imports

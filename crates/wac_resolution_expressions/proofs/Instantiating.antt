@@ -1,17 +1,6 @@
 -- The package that is instantiated under a name.
-use Rattle.std.proofs.Common.{◌≡◌, ◌∙◌, Some, None, Bool, false, cond, refl, sym, ap, subst}
-use Rattle.std.specs.Prelude.{slice_get, option_map}
-use Rattle.std.specs.Str.{bytes_eq}
-use Rattle.wac_ast_grammar.specs.Tree.{PackageName}
+use Rattle.wac_resolution_expressions.proofs.Common.{◌≡◌, ◌∙◌, Some, None, Bool, false, cond, refl, sym, ap, subst, slice_get, option_map, bytes_eq, PackageName, Parts, Key, HeldPackage, IsHeld, contents_in, handed, package_of, key_named, NodesStand, Context, Loads, packages_in}
 use Rattle.wac_graph.specs.declared.node.PackageId.{PackageId}
-use Rattle.wac_graph.specs.Graph.{Parts}
-use Rattle.wac_graph.specs.Package.{Key, HeldPackage, IsHeld}
-use Rattle.wac_graph.specs.Packages.{contents_in, handed, package_of}
-use Rattle.wac_resolution_rules.specs.Given.{key_named}
-use Rattle.wac_resolution_nodes.specs.Nodes.{NodesStand}
-use Rattle.wac_resolution_paths.specs.declared.context.Context.{Context}
-use Rattle.wac_resolution_paths.specs.Expands.{Loads}
-use Rattle.wac_resolution_paths.specs.Context.{packages_in}
 use Rattle.wac_resolution_expressions.specs.Loaded.{IsInstantiable}
 use Rattle.wac_resolution_expressions.proofs.Extending.{expands_extends, composition_same, held_contents}
 

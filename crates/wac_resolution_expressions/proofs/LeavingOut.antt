@@ -1,23 +1,8 @@
 -- Imports that are left out, unless there is a fill.
-use Rattle.std.proofs.Common.{◌≡◌, ◌∙◌, ◌+◌, ◌<◌, ◌||◌, ℕ, suc, List, [], ◌∷◌, ◌++◌, Option, Some, None, Bool, true, false, inl, inr, refl, sym, ap, subst, map, take, drop, length, get_or}
-use Rattle.std.proofs.lemmas.List.{length-map, get_or-map, take_more, take-append-drop}
-use Rattle.std.proofs.Math.Seq.{drop-cons}
-use Rattle.wac_graph_types.specs.declared.kind.ItemKind.{ItemKind}
+use Rattle.wac_resolution_expressions.proofs.Common.{◌≡◌, ◌∙◌, ◌+◌, ◌<◌, ◌||◌, ℕ, suc, List, [], ◌∷◌, ◌++◌, Option, Some, None, Bool, true, false, inl, inr, refl, sym, ap, subst, map, take, drop, length, get_or, length-map, get_or-map, take_more, take-append-drop, drop-cons, ItemKind, WorldId, Meaning, world_imports, Named, items_mean, Names, PackageName, Arguments, arguments_from, argument_of, Parts, entry_means, EntriesMean, Naming, Error, missing_instantiation_arg, is_fill, has_fill, left_out, IsComplete}
 use Rattle.wac_graph_types.specs.declared.kind.ItemKind.TheVariants as kinds
-use Rattle.wac_graph_types.specs.declared.kind.WorldId.{WorldId}
-use Rattle.wac_graph_types.specs.Meaning.{Meaning}
-use Rattle.wac_graph_types.specs.Readings.{world_imports}
-use Rattle.wac_graph_types.specs.Scope.{Named}
-use Rattle.wac_graph_types.specs.Shape.{items_mean}
-use Rattle.wac_graph_types.specs.Table.{Names}
-use Rattle.wac_ast_grammar.specs.Tree.{InstantiationArgument, PackageName, Arguments, arguments_from}
-use Rattle.wac_ast_expressions.specs.Expressions.{argument_of}
+use Rattle.wac_ast_grammar.specs.Tree.{InstantiationArgument}
 use Rattle.wac_ast_expressions.specs.declared.expr.InstantiationArgument.{InstantiationArgument as CodeArgument}
-use Rattle.wac_graph.specs.Graph.{Parts}
-use Rattle.wac_graph.specs.Means.{entry_means, EntriesMean}
-use Rattle.wac_graph.specs.Origin.{Naming}
-use Rattle.wac_resolution_errors.specs.Error.{Error, missing_instantiation_arg}
-use Rattle.wac_resolution_rules.specs.Expressions.{is_fill, has_fill, left_out, IsComplete}
 use Rattle.wac_resolution_expressions.specs.Arguments.{first_name}
 use Rattle.wac_resolution_expressions.specs.Incomplete.{IsIncomplete}
 use Rattle.wac_resolution_expressions.specs.Spreads.{imports_at}

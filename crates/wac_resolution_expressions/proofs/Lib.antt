@@ -1,3 +1,4 @@
+pub mod Common
 pub mod Imports
 pub mod Spreading
 pub mod SpreadSteps

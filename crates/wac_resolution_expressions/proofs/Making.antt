@@ -1,30 +1,11 @@
 -- An instance that is made argument by argument.
-use Rattle.std.proofs.Common.{◌≡◌, ◌∙◌, ◌<◌, ℕ, suc, List, [], ◌∷◌, ◌++◌, Option, Some, None, refl, sym, ap, subst, map, length, arith}
-use Rattle.std.specs.Prelude.{slice_get, option_and_then, IfSome, IsSome, String}
-use Rattle.std.specs.declared.alloc.Global.{Global}
-use Rattle.std.specs.List.{AllByRecursion, IsDistinct}
+use Rattle.wac_resolution_expressions.proofs.Common.{◌≡◌, ◌∙◌, ◌<◌, ℕ, suc, List, [], ◌∷◌, ◌++◌, Option, Some, None, refl, sym, ap, subst, map, length, arith, slice_get, option_and_then, IfSome, IsSome, String, Global, AllByRecursion, IsDistinct, map_push, ItemKind, by_name, Named, IsFresh, none_within, NodeId, Parts, with_instantiation, with_argument, import_kind, parameter_kind, arguments_of, means, HeldPackage, get_last, Composition, at, with_instance, composition_of, sound_stands, grows_more, next_is, instance_with, instance_given, composition_instance, fresh_read}
 use Rattle.std.specs.Map.{keys_of}
 use Rattle.std.specs.String.{string_eq}
-use Rattle.std.proofs.lemmas.List.{map_push}
-use Rattle.wac_graph_types.specs.declared.kind.ItemKind.{ItemKind}
 use Rattle.wac_graph_types.specs.declared.kind.ItemKind.TheVariants as kinds
-use Rattle.wac_graph_types.specs.Names.{by_name}
-use Rattle.wac_graph_types.specs.Scope.{Named, IsFresh}
-use Rattle.wac_graph_types.proofs.Rows.{none_within}
-use Rattle.wac_graph.specs.declared.node.NodeId.{NodeId}
-use Rattle.wac_graph.specs.Graph.{Parts, with_instantiation, with_argument, import_kind, parameter_kind, arguments_of}
-use Rattle.wac_graph.specs.Means.{means}
 use Rattle.wac_graph.specs.Node.{Node as GraphNode, instantiation, package_in, arguments_in}
-use Rattle.wac_graph.specs.Package.{HeldPackage}
 use Rattle.wac_graph.specs.Sound.{IsSound}
-use Rattle.wac_graph.proofs.Lists.{get_last}
 use Rattle.wac_graph_copies.proofs.Copying.{Copying, copying_start, copying_new, copying_step, copying_end}
-use Rattle.wac_resolution_rules.specs.Composition.{Composition}
-use Rattle.wac_resolution_rules.specs.Expressions.{at}
-use Rattle.wac_resolution_rules.specs.Nodes.{with_instance}
-use Rattle.wac_resolution_nodes.specs.Nodes.{composition_of}
-use Rattle.wac_resolution_nodes.proofs.Composed.{sound_stands, grows_more, next_is, instance_with, instance_given, composition_instance}
-use Rattle.wac_resolution_nodes.proofs.Roots.{fresh_read}
 use Rattle.wac_resolution_expressions.specs.Arguments.{given_nodes}
 use Rattle.wac_resolution_expressions.specs.Spreads.{GivenThere}
 use Rattle.wac_resolution_expressions.specs.Instances.{MakesInstance}

@@ -1,16 +1,7 @@
 -- Where the arguments that aren't spreads are.
-use Rattle.std.proofs.Common.{◌≡◌, ◌∙◌, ◌+◌, ◌<◌, ℕ, suc, List, [], ◌∷◌, ◌++◌, Option, Some, None, Bool, true, false, cond, refl, sym, ap, subst, map, take, drop, length, get_or}
-use Rattle.std.specs.Str.{bytes_eq}
-use Rattle.std.proofs.lemmas.List.{length-map, get_or-map, take_more, take-append-drop}
-use Rattle.std.proofs.Math.Seq.{drop-cons}
-use Rattle.wac_lexer.specs.Span.{Span}
-use Rattle.wac_ast_grammar.specs.Tree.{InstantiationArgument, arguments_from}
-use Rattle.wac_graph_types.specs.Meaning.{Meaning}
-use Rattle.wac_graph_types.specs.Scope.{Named, look_up}
-use Rattle.wac_ast_expressions.specs.Expressions.{argument_of}
+use Rattle.wac_resolution_expressions.proofs.Common.{◌≡◌, ◌∙◌, ◌+◌, ◌<◌, ℕ, suc, List, [], ◌∷◌, ◌++◌, Option, Some, None, Bool, true, false, cond, refl, sym, ap, subst, map, take, drop, length, get_or, bytes_eq, length-map, get_or-map, take_more, take-append-drop, drop-cons, Span, arguments_from, Meaning, Named, look_up, argument_of, argument_place, own_places, Composition}
+use Rattle.wac_ast_grammar.specs.Tree.{InstantiationArgument}
 use Rattle.wac_ast_expressions.specs.declared.expr.InstantiationArgument.{InstantiationArgument as CodeArgument}
-use Rattle.wac_resolution_rules.specs.BrokenExpressions.{argument_place, own_places}
-use Rattle.wac_resolution_rules.specs.Composition.{Composition}
 
 -- where a name isn't found in the first list, the rest decides
 after_none : {X : Type 0} (name : List ℕ) (xs ys : Named X) → look_up name xs ≡ None → look_up name (xs ++ ys) ≡ look_up name ys

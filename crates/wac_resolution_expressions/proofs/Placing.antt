@@ -1,23 +1,7 @@
 -- Each argument that is given has a place: where it is written, or where a spread is.
-use Rattle.std.proofs.Common.{◌≡◌, ◌∙◌, ℕ, List, [], ◌∷◌, ◌++◌, Option, Some, None, Bool, true, false, cond, ◌⊎◌, inl, inr, refl, sym, ap, subst, fold, is_some, map}
-use Rattle.std.specs.Prelude.{slice_get, option_and_then, flat_map, IsSome}
-use Rattle.std.specs.List.{AllByRecursion}
-use Rattle.std.specs.Str.{bytes_eq}
+use Rattle.wac_resolution_expressions.proofs.Common.{◌≡◌, ◌∙◌, ℕ, List, [], ◌∷◌, ◌++◌, Option, Some, None, Bool, true, false, cond, ◌⊎◌, inl, inr, refl, sym, ap, subst, fold, is_some, map, slice_get, option_and_then, flat_map, IsSome, AllByRecursion, bytes_eq, Span, Ident, Arguments, argument_name_span, Meaning, Named, look_up, exports_of, Steps, get_kept, all_more, all_implies, argument_place, own_places, spread_places, argument_places, Composition, Node, kind_at, At, at, alias_at, Giving, given_too, name_meant, name_inferred, spread_step, Spreads, spreads_of, Gives, GivesOne, Given, instance_of, node_at, instance_at}
 use Rattle.std.proofs.lemmas.Slice.Eq.{bytes_eq-Decides}
-use Rattle.wac_lexer.specs.Span.{Span}
-use Rattle.wac_ast_grammar.specs.Tree.{Ident, Arguments, InstantiationArgument}
-use Rattle.wac_ast_grammar.specs.Spans.{argument_name_span}
-use Rattle.wac_graph_types.specs.Meaning.{Meaning}
-use Rattle.wac_graph_types.specs.Scope.{Named, look_up}
-use Rattle.wac_graph_types.specs.Shape.{exports_of}
-use Rattle.wac_graph_types.specs.Steps.{Steps}
-use Rattle.wac_graph.proofs.Lists.{get_kept, all_more, all_implies}
-use Rattle.wac_resolution_rules.specs.BrokenExpressions.{argument_place, own_places, spread_places, argument_places}
-use Rattle.wac_resolution_rules.specs.Composition.{Composition, Node, kind_at}
-use Rattle.wac_resolution_rules.specs.Expressions.{At, at, alias_at, Giving, given_too, name_meant, name_inferred, spread_step, Spreads, spreads_of, Gives, GivesOne}
-use Rattle.wac_resolution_rules.specs.Given.{Given}
-use Rattle.wac_resolution_rules.specs.Kinds.{instance_of}
-use Rattle.wac_resolution_rules.specs.Nodes.{node_at, instance_at}
+use Rattle.wac_ast_grammar.specs.Tree.{InstantiationArgument}
 use Rattle.wac_resolution_rules.proofs.ExpressionsAdd.{added, Adds, adds_none, alias_adds, spread_adds, stands_adds}
 
 -- ---- names that are found

@@ -1,34 +1,9 @@
 -- Places of spreads that give a name.
-use Rattle.std.proofs.Common.{◌≡◌, ◌∙◌, ◌+◌, ◌<◌, ℕ, suc, List, [], ◌∷◌, ◌++◌, Option, Some, None, Bool, true, false, cond, refl, sym, ap, subst, map, take, drop, length, get_or}
-use Rattle.std.specs.Prelude.{option_map, option_and_then, flat_map}
-use Rattle.std.specs.Str.{bytes_eq}
-use Rattle.std.proofs.lemmas.List.{length-map, get_or-map, take_more, take-append-drop}
+use Rattle.wac_resolution_expressions.proofs.Common.{◌≡◌, ◌∙◌, ◌+◌, ◌<◌, ℕ, suc, List, [], ◌∷◌, ◌++◌, Option, Some, None, Bool, true, false, cond, refl, sym, ap, subst, map, take, drop, length, get_or, option_map, option_and_then, flat_map, bytes_eq, length-map, get_or-map, take_more, take-append-drop, drop-cons, Span, Ident, arguments_from, ItemKind, InterfaceId, Meaning, Named, look_up, exports_of, Names, argument_of, Parts, export_kind, means, entry_means, EntriesMean, Naming, spread_places, Composition, spread_of, spreads_of, instance_of, instance_at, read_found, IsInstance, composition_of, kind_in, is_instance, no_instance, export_meant, kind_means}
 use Rattle.std.proofs.lemmas.Grind.{flat_map-append}
-use Rattle.std.proofs.Math.Seq.{drop-cons}
-use Rattle.wac_lexer.specs.Span.{Span}
-use Rattle.wac_ast_grammar.specs.Tree.{Ident, InstantiationArgument, arguments_from}
-use Rattle.wac_graph_types.specs.declared.kind.ItemKind.{ItemKind}
+use Rattle.wac_ast_grammar.specs.Tree.{InstantiationArgument}
 use Rattle.wac_graph_types.specs.declared.kind.ItemKind.TheVariants as kinds
-use Rattle.wac_graph_types.specs.declared.kind.InterfaceId.{InterfaceId}
-use Rattle.wac_graph_types.specs.Meaning.{Meaning}
-use Rattle.wac_graph_types.specs.Scope.{Named, look_up}
-use Rattle.wac_graph_types.specs.Shape.{exports_of}
-use Rattle.wac_graph_types.specs.Table.{Names}
-use Rattle.wac_ast_expressions.specs.Expressions.{argument_of}
 use Rattle.wac_ast_expressions.specs.declared.expr.InstantiationArgument.{InstantiationArgument as CodeArgument}
-use Rattle.wac_graph.specs.Graph.{Parts, export_kind}
-use Rattle.wac_graph.specs.Means.{means, entry_means, EntriesMean}
-use Rattle.wac_graph.specs.Origin.{Naming}
-use Rattle.wac_resolution_rules.specs.BrokenExpressions.{spread_places}
-use Rattle.wac_resolution_rules.specs.Composition.{Composition}
-use Rattle.wac_resolution_rules.specs.Expressions.{spread_of, spreads_of}
-use Rattle.wac_resolution_rules.specs.Kinds.{instance_of}
-use Rattle.wac_resolution_rules.specs.Nodes.{instance_at}
-use Rattle.wac_resolution_state.proofs.Bound.{read_found}
-use Rattle.wac_resolution_nodes.specs.Instances.{IsInstance}
-use Rattle.wac_resolution_nodes.specs.Nodes.{composition_of, kind_in}
-use Rattle.wac_resolution_nodes.proofs.Instances.{is_instance, no_instance, export_meant}
-use Rattle.wac_resolution_nodes.proofs.Roots.{kind_means}
 use Rattle.wac_resolution_expressions.specs.Places.{exports_at}
 
 -- ---- a node

@@ -1,36 +1,9 @@
 -- Spreads, in order.
-use Rattle.std.proofs.Common.{◌≡◌, ◌∙◌, ◌+◌, ◌<◌, ℕ, suc, List, [], ◌∷◌, ◌++◌, Option, Some, None, Bool, true, false, cond, inr, refl, sym, ap, subst, map, take, drop, length, get_or, fold, is_some, append_assoc, append-nil, arith}
-use Rattle.std.specs.Prelude.{string_bytes, String, flat_map}
-use Rattle.std.specs.declared.alloc.Global.{Global}
-use Rattle.std.proofs.lemmas.List.{length-map, get_or-map, take_more, take-append-drop}
-use Rattle.std.proofs.Math.Seq.{drop-cons}
-use Rattle.wac_ast_grammar.specs.Tree.{Ident, InstantiationArgument, arguments_from}
-use Rattle.wac_graph_types.specs.declared.entry.Entry.{Entry}
+use Rattle.wac_resolution_expressions.proofs.Common.{◌≡◌, ◌∙◌, ◌+◌, ◌<◌, ℕ, suc, List, [], ◌∷◌, ◌++◌, Option, Some, None, Bool, true, false, cond, inr, refl, sym, ap, subst, map, take, drop, length, get_or, fold, is_some, append_assoc, append-nil, arith, string_bytes, String, flat_map, Global, length-map, get_or-map, take_more, take-append-drop, drop-cons, Ident, arguments_from, Entry, InterfaceId, WorldId, Meaning, by_name, Named, look_up, exports_of, imports_of, Steps, Fails, Names, argument_of, NodeId, Parts, entry_means, Naming, Error, spread_instantiation_no_match, SpreadBroken, Giving, at, alias_at, given_too, spread_step, spread_from, Spreads, spread_of, spreads_of, Root, GrowsNodes, IsInstance, NodesStand, numbers_of, NodeIs, grows_none, grows_on}
+use Rattle.wac_ast_grammar.specs.Tree.{InstantiationArgument}
 use Rattle.wac_graph_types.specs.declared.kind.ItemKind.TheVariants as kinds
-use Rattle.wac_graph_types.specs.declared.kind.InterfaceId.{InterfaceId}
-use Rattle.wac_graph_types.specs.declared.kind.WorldId.{WorldId}
-use Rattle.wac_graph_types.specs.Meaning.{Meaning}
-use Rattle.wac_graph_types.specs.Names.{by_name}
-use Rattle.wac_graph_types.specs.Scope.{Named, look_up}
-use Rattle.wac_graph_types.specs.Shape.{exports_of, imports_of}
-use Rattle.wac_graph_types.specs.Steps.{Steps, Fails}
-use Rattle.wac_graph_types.specs.Table.{Names}
 use Rattle.wac_ast_base.specs.declared.names.Ident.{Ident as CodeIdent}
-use Rattle.wac_ast_expressions.specs.Expressions.{argument_of}
 use Rattle.wac_ast_expressions.specs.declared.expr.InstantiationArgument.{InstantiationArgument as CodeArgument, Inferred, Spread, Named', Fill}
-use Rattle.wac_graph.specs.declared.node.NodeId.{NodeId}
-use Rattle.wac_graph.specs.Graph.{Parts}
-use Rattle.wac_graph.specs.Means.{entry_means}
-use Rattle.wac_graph.specs.Origin.{Naming}
-use Rattle.wac_resolution_errors.specs.Error.{Error, spread_instantiation_no_match}
-use Rattle.wac_resolution_rules.specs.BrokenExpressions.{SpreadBroken}
-use Rattle.wac_resolution_rules.specs.Expressions.{Giving, at, alias_at, given_too, spread_step, spread_from, Spreads, spread_of, spreads_of}
-use Rattle.wac_resolution_nodes.specs.declared.root.Root.{Root}
-use Rattle.wac_resolution_nodes.specs.Growth.{GrowsNodes}
-use Rattle.wac_resolution_nodes.specs.Instances.{IsInstance}
-use Rattle.wac_resolution_nodes.specs.Nodes.{NodesStand}
-use Rattle.wac_resolution_nodes.specs.Root.{numbers_of, NodeIs}
-use Rattle.wac_resolution_nodes.proofs.Composed.{grows_none, grows_on}
 use Rattle.wac_resolution_expressions.specs.Arguments.{given_nodes}
 use Rattle.wac_resolution_expressions.specs.GivenByNodes.{Gave}
 use Rattle.wac_resolution_expressions.specs.Spreads.{giving_of, GivenThere, imports_at, NodeSpread}

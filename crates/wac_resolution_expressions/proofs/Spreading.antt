@@ -1,34 +1,7 @@
 -- Spreads, name by name.
-use Rattle.std.proofs.Common.{◌≡◌, ◌∙◌, ◌+◌, ◌<◌, ℕ, List, [], ◌∷◌, ◌++◌, Option, Some, None, Bool, true, false, cond, refl, sym, ap, subst, map, take, length, get_or, fold, is_some, is_none, append_assoc, append-nil}
-use Rattle.std.specs.Prelude.{option_map, IfSome, string_bytes, String}
-use Rattle.std.specs.declared.alloc.Global.{Global}
-use Rattle.std.proofs.lemmas.List.{map_push, length-map, get_or-map}
+use Rattle.wac_resolution_expressions.proofs.Common.{◌≡◌, ◌∙◌, ◌+◌, ◌<◌, ℕ, List, [], ◌∷◌, ◌++◌, Option, Some, None, Bool, true, false, cond, refl, sym, ap, subst, map, take, length, get_or, fold, is_some, is_none, append_assoc, append-nil, option_map, IfSome, string_bytes, String, Global, map_push, length-map, get_or-map, ItemKind, InterfaceId, WorldId, Entry, Meaning, interface_exports, world_imports, Named, look_up, with_named, exports_of, items_mean, Names, NodeId, Parts, export_kind, means, entry_means, EntriesMean, Naming, At, Giving, at, alias_at, given_too, spread_step, names_of, instance_of, read_found, AliasStep, GrowsNodes, IsInstance, composition_of, kind_in, NodesStand, grows_none, grows_on, still_there, export_meant, kind_means}
 use Rattle.std.proofs.lemmas.List.Sums.{fold_more}
-use Rattle.wac_graph_types.specs.declared.kind.ItemKind.{ItemKind}
 use Rattle.wac_graph_types.specs.declared.kind.ItemKind.TheVariants as kinds
-use Rattle.wac_graph_types.specs.declared.kind.InterfaceId.{InterfaceId}
-use Rattle.wac_graph_types.specs.declared.kind.WorldId.{WorldId}
-use Rattle.wac_graph_types.specs.declared.entry.Entry.{Entry}
-use Rattle.wac_graph_types.specs.Meaning.{Meaning}
-use Rattle.wac_graph_types.specs.Readings.{interface_exports, world_imports}
-use Rattle.wac_graph_types.specs.Scope.{Named, look_up, with_named}
-use Rattle.wac_graph_types.specs.Shape.{exports_of, items_mean}
-use Rattle.wac_graph_types.specs.Table.{Names}
-use Rattle.wac_graph.specs.declared.node.NodeId.{NodeId}
-use Rattle.wac_graph.specs.Graph.{Parts, export_kind}
-use Rattle.wac_graph.specs.Means.{means, entry_means, EntriesMean}
-use Rattle.wac_graph.specs.Origin.{Naming}
-use Rattle.wac_resolution_rules.specs.Expressions.{At, Giving, at, alias_at, given_too, spread_step}
-use Rattle.wac_resolution_rules.specs.Find.{names_of}
-use Rattle.wac_resolution_rules.specs.Kinds.{instance_of}
-use Rattle.wac_resolution_state.proofs.Bound.{read_found}
-use Rattle.wac_resolution_nodes.specs.Accesses.{AliasStep}
-use Rattle.wac_resolution_nodes.specs.Growth.{GrowsNodes}
-use Rattle.wac_resolution_nodes.specs.Instances.{IsInstance}
-use Rattle.wac_resolution_nodes.specs.Nodes.{composition_of, kind_in, NodesStand}
-use Rattle.wac_resolution_nodes.proofs.Composed.{grows_none, grows_on, still_there}
-use Rattle.wac_resolution_nodes.proofs.Instances.{export_meant}
-use Rattle.wac_resolution_nodes.proofs.Roots.{kind_means}
 use Rattle.wac_resolution_expressions.specs.Arguments.{given_nodes}
 use Rattle.wac_resolution_expressions.specs.Spreads.{giving_of, GivenThere, imports_at, name_spread, NamesSpread, NodeSpread}
 use Rattle.wac_resolution_expressions.proofs.Imports.{imports_meant}

@@ -1,44 +1,13 @@
 -- What expressions denote, and the rules that they break.
-use Rattle.std.proofs.Common.{◌≡◌, ◌∙◌, ◌+◌, ◌-◌, ◌<◌, ◌≤◌, ℕ, suc, List, [], ◌∷◌, Bool, false, inl, inr, Result, refl, sym, ap, subst, map, take, drop, length, get_or, arith, rules}
-use Rattle.std.specs.Prelude.{IfErr, IsSome, nat_eq}
-use Rattle.std.specs.List.{AllByRecursion}
-use Rattle.std.proofs.lemmas.List.{length-map, get_or-map, length-drop}
-use Rattle.std.proofs.lemmas.Result.{IfErr-weaker}
-use Rattle.wac_lexer.specs.Span.{Span}
-use Rattle.wac_ast_grammar.specs.Tree.{Ident, PackageName, PostfixExpr, Expr, PrimaryExpr, Arguments, InstantiationArgument, InstantiationArgumentName, arguments_from}
+use Rattle.wac_resolution_expressions.proofs.Common.{◌≡◌, ◌∙◌, ◌+◌, ◌-◌, ◌<◌, ◌≤◌, ℕ, suc, List, [], ◌∷◌, Bool, false, inl, inr, Result, refl, sym, ap, subst, map, take, drop, length, get_or, arith, rules, IfErr, IsSome, nat_eq, AllByRecursion, length-map, get_or-map, length-drop, IfErr-weaker, Span, Ident, PackageName, PostfixExpr, Expr, PrimaryExpr, Arguments, InstantiationArgumentName, arguments_from, argument_name_span, WorldId, Meaning, Named, look_up, IsFresh, Steps, Fails, Names, argument_of, NodeId, Parts, Naming, IsOneToOne, Key, HeldPackage, Contents, contents_in, Error, told, AccessBroken, ArgumentBroken, ArgumentsBroken, IsFillNotLast, IsGivenAlready, IsUnknownPackage, own_places, Composition, at, Accesses, nothing_given, given_too, Gives, GivesOne, name_meant, has_fill, Instantiates, IsEmpty, Spreads, spreads_of, Given, Rules, imports_in, Root, AccessSteps, composition_of, NodesStand, numbers_of, Agrees, NodeIs, Context, AllSupplied, packages_in, context_of, fresh_read}
+use Rattle.wac_ast_grammar.specs.Tree.{InstantiationArgument}
 use Rattle.wac_ast_grammar.specs.Grammar.{primary_span}
-use Rattle.wac_ast_grammar.specs.Spans.{argument_name_span}
 use Rattle.wac_graph_types.specs.declared.kind.ItemKind.TheVariants as kinds
-use Rattle.wac_graph_types.specs.declared.kind.WorldId.{WorldId}
-use Rattle.wac_graph_types.specs.Meaning.{Meaning}
-use Rattle.wac_graph_types.specs.Scope.{Named, look_up, IsFresh}
-use Rattle.wac_graph_types.specs.Steps.{Steps, Fails}
-use Rattle.wac_graph_types.specs.Table.{Names}
-use Rattle.wac_ast_expressions.specs.Expressions.{argument_of}
 use Rattle.wac_ast_expressions.specs.declared.expr.InstantiationArgument.{InstantiationArgument as CodeArgument}
-use Rattle.wac_graph.specs.declared.node.NodeId.{NodeId}
-use Rattle.wac_graph.specs.Graph.{Parts}
-use Rattle.wac_graph.specs.Origin.{Naming, IsOneToOne}
-use Rattle.wac_graph.specs.Package.{Key, HeldPackage}
-use Rattle.wac_graph.specs.Packages.{Contents, contents_in}
-use Rattle.wac_resolution_errors.specs.Error.{Error}
-use Rattle.wac_resolution_errors.specs.Told.{told}
 use Rattle.wac_resolution_errors.specs.declared.error.Error.{Error as CodeError}
-use Rattle.wac_resolution_rules.specs.BrokenExpressions.{AccessBroken, ArgumentBroken, ArgumentsBroken, IsFillNotLast, IsGivenAlready, IsUnknownPackage, own_places}
-use Rattle.wac_resolution_rules.specs.Composition.{Composition}
-use Rattle.wac_resolution_rules.specs.Expressions.{at, Accesses, nothing_given, given_too, Gives, GivesOne, name_meant, has_fill, Instantiates, IsEmpty, Spreads, spreads_of}
-use Rattle.wac_resolution_rules.specs.Given.{Given, Rules, imports_in}
-use Rattle.wac_resolution_nodes.specs.declared.root.Root.{Root}
-use Rattle.wac_resolution_nodes.specs.Accesses.{AccessSteps}
-use Rattle.wac_resolution_nodes.specs.Nodes.{composition_of, NodesStand}
-use Rattle.wac_resolution_nodes.specs.Root.{numbers_of, Agrees, NodeIs}
-use Rattle.wac_resolution_paths.specs.declared.context.Context.{Context}
-use Rattle.wac_resolution_paths.specs.Expands.{AllSupplied}
-use Rattle.wac_resolution_paths.specs.Context.{packages_in, context_of}
 use Rattle.wac_resolution_expressions.specs.Arguments.{given_nodes}
 use Rattle.wac_resolution_expressions.specs.GivenByNodes.{Gave}
 use Rattle.wac_resolution_expressions.specs.Spreads.{giving_of, imports_at, GivenThere}
-use Rattle.wac_resolution_nodes.proofs.Roots.{fresh_read}
 use Rattle.wac_resolution_expressions.specs.declared.packages.Loaded.{Loaded}
 use Rattle.wac_resolution_expressions.specs.Completing.{Completes, FailsToComplete}
 use Rattle.wac_resolution_expressions.specs.Giving.{is_none, GivesFor, IsGivenFor, GivesOn, ArgumentStep, ArgumentBreaks, ArgumentSteps, ArgumentsBreak}

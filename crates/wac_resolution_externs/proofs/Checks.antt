@@ -1,35 +1,13 @@
 -- Names that are tested.
-use Rattle.std.proofs.Common.{◌≡◌, ◌∙◌, ℕ, zero, suc, List, [], ◌∷◌, Option, Some, None, Bool, true, false, cond, refl, sym, ap, subst, length, ◌<◌}
-use Rattle.std.specs.Prelude.{slice_get, option_map, option_and_then, IfSome, IsSome}
-use Rattle.std.specs.List.{AllByRecursion}
-use Rattle.std.specs.Str.{bytes_eq}
-use Rattle.std.proofs.lemmas.Option.{slice_get-map}
-use Rattle.wac_lexer.specs.Span.{Span}
+use Rattle.wac_resolution_externs.proofs.Common.{◌≡◌, ◌∙◌, ℕ, zero, suc, List, [], ◌∷◌, Option, Some, None, Bool, true, false, cond, refl, sym, ap, subst, length, ◌<◌, slice_get, option_map, option_and_then, IfSome, IsSome, AllByRecursion, bytes_eq, slice_get-map, Span, ItemKind, Named, look_up, IsFresh, StandsFor, NodeId, Parts, means, entry_means, Naming, Error, export_conflict, duplicate_extern_name, IsExportConflict, IsExportedAlready, names_of, node_at, is_definition, Places, if_definition, definition_bound, Bindings, values_of, Root, instance_form, form_in, node_of, composition_of, kind_in, Stands, NodesStand, numbers_of, composed, places, Agrees, bound_there, number_fresh, place_fresh, fresh_read}
 use Rattle.wac_graph_types.specs.declared.kind.ExternKind.TheVariants as sides
-use Rattle.wac_graph_types.specs.declared.kind.ItemKind.{ItemKind}
-use Rattle.wac_graph_types.specs.Scope.{Named, look_up, IsFresh, StandsFor}
 use Rattle.wac_graph_types.specs.Words as words
 use Rattle.wac_graph_types.proofs.Shapes.{word_is}
-use Rattle.wac_graph.specs.declared.node.NodeId.{NodeId}
 use Rattle.wac_graph.specs.declared.node.NodeKind.{NodeKind}
 use Rattle.wac_graph.specs.declared.node.NodeKind.TheVariants as nodes
 use Rattle.wac_graph.specs.Package.{HeldPackage}
 use Rattle.wac_graph.specs.Node.{Node as GraphNode, Form, import, definition, alias, instantiation, package_in, Sort, sort_in, sort_of, defined}
-use Rattle.wac_graph.specs.Graph.{Parts}
-use Rattle.wac_graph.specs.Means.{means, entry_means}
-use Rattle.wac_graph.specs.Origin.{Naming}
-use Rattle.wac_resolution_errors.specs.Error.{Error, export_conflict, duplicate_extern_name}
-use Rattle.wac_resolution_rules.specs.BrokenStatements.{IsExportConflict, IsExportedAlready}
-use Rattle.wac_resolution_rules.specs.Find.{names_of}
-use Rattle.wac_resolution_rules.specs.Nodes.{node_at, is_definition}
-use Rattle.wac_resolution_rules.specs.Places.{Places}
-use Rattle.wac_resolution_rules.specs.Statements.{if_definition, definition_bound}
-use Rattle.wac_resolution_state.specs.Bindings.{Bindings, values_of}
 use Rattle.wac_resolution_state.proofs.Bound.{read_found}
-use Rattle.wac_resolution_nodes.specs.declared.root.Root.{Root}
-use Rattle.wac_resolution_nodes.specs.Nodes.{instance_form, form_in, node_of, composition_of, kind_in, Stands, NodesStand}
-use Rattle.wac_resolution_nodes.specs.Root.{numbers_of, composed, places, Agrees}
-use Rattle.wac_resolution_nodes.proofs.Roots.{bound_there, number_fresh, place_fresh, fresh_read}
 use Rattle.wac_resolution_externs.specs.declared.externs.Externs.{Externs}
 use Rattle.wac_resolution_externs.specs.Externs.{exported_in, ArePlaced}
 

@@ -1,38 +1,8 @@
 -- Exports that are exported in order.
-use Rattle.std.proofs.Common.{◌≡◌, ◌∙◌, ◌<◌, ◌+◌, ℕ, zero, suc, List, [], ◌∷◌, ◌++◌, Option, Some, None, inl, inr, refl, sym, ap, subst, map, length, take, get_or, append_assoc, arith}
-use Rattle.std.specs.Prelude.{slice_get, option_map, option_and_then, unwrap_or, IfSome, IsSome, string_bytes, String}
-use Rattle.std.specs.declared.alloc.Global.{Global}
-use Rattle.std.specs.List.{AllByRecursion}
-use Rattle.std.proofs.lemmas.List.{take_more, length-map, get_or-map, map_push}
-use Rattle.wac_lexer.specs.Span.{Span}
-use Rattle.wac_ast_grammar.specs.Tree.{Expr, ExportOptions}
-use Rattle.wac_graph_types.specs.declared.kind.ItemKind.{ItemKind}
-use Rattle.wac_graph_types.specs.declared.kind.InterfaceId.{InterfaceId}
-use Rattle.wac_graph_types.specs.declared.rules.Reason.{Reason}
-use Rattle.wac_graph_types.specs.Meaning.{Meaning}
-use Rattle.wac_graph_types.specs.Readings.{instance_exports, interface_exports}
-use Rattle.wac_graph_types.specs.Scope.{Named, look_up}
-use Rattle.wac_graph_types.specs.Shape.{nothing}
-use Rattle.wac_graph_types.specs.Steps.{Steps, Fails}
-use Rattle.wac_graph.specs.declared.node.NodeId.{NodeId}
+use Rattle.wac_resolution_externs.proofs.Common.{◌≡◌, ◌∙◌, ◌<◌, ◌+◌, ℕ, zero, suc, List, [], ◌∷◌, ◌++◌, Option, Some, None, inl, inr, refl, sym, ap, subst, map, length, take, get_or, append_assoc, arith, slice_get, option_map, option_and_then, unwrap_or, IfSome, IsSome, string_bytes, String, Global, AllByRecursion, take_more, length-map, get_or-map, map_push, Span, Expr, ExportOptions, ItemKind, InterfaceId, Reason, Meaning, instance_exports, interface_exports, Named, look_up, nothing, Steps, Fails, NodeId, Parts, export_kind, means, entry_means, Naming, Error, Operation, spread_export_no_effect, ExportAsBroken, ExportOneBroken, ExportOptionsBroken, at, alias_at, names_of, Places, names_at, expr_span, ExportsBy, ExportsOne, Bindings, Root, IsInstance, composition_of, numbers_of, composed, places, Agrees, EachAgrees}
 use Rattle.wac_graph.specs.Node.{Node as GraphNode}
-use Rattle.wac_graph.specs.Graph.{Parts, export_kind}
-use Rattle.wac_graph.specs.Means.{means, entry_means}
-use Rattle.wac_graph.specs.Origin.{Naming}
-use Rattle.wac_resolution_errors.specs.Error.{Error, Operation, spread_export_no_effect}
 use Rattle.wac_resolution_rules.specs.BrokenExpressions.{IsNotInstance}
-use Rattle.wac_resolution_rules.specs.BrokenStatements.{ExportAsBroken, ExportOneBroken, ExportOptionsBroken}
-use Rattle.wac_resolution_rules.specs.Expressions.{at, alias_at}
-use Rattle.wac_resolution_rules.specs.Find.{names_of}
-use Rattle.wac_resolution_rules.specs.Places.{Places, names_at}
-use Rattle.wac_resolution_rules.specs.Spans.{expr_span}
-use Rattle.wac_resolution_rules.specs.Statements.{ExportsBy, ExportsOne}
 use Rattle.wac_resolution_rules.proofs.StepLaws.{steps_on_map, fails_at_map}
-use Rattle.wac_resolution_state.specs.Bindings.{Bindings}
-use Rattle.wac_resolution_nodes.specs.declared.root.Root.{Root}
-use Rattle.wac_resolution_nodes.specs.Instances.{IsInstance}
-use Rattle.wac_resolution_nodes.specs.Nodes.{composition_of}
-use Rattle.wac_resolution_nodes.specs.Root.{numbers_of, composed, places, Agrees, EachAgrees}
 use Rattle.wac_resolution_externs.specs.declared.externs.Externs.{Externs}
 use Rattle.wac_resolution_externs.specs.Externs.{imported_in, exported_in, places_in, ArePlaced, Under}
 use Rattle.wac_resolution_externs.specs.Exports.{GrowsExports, all_at, ExportSteps, Exported}

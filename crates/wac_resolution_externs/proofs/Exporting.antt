@@ -1,27 +1,8 @@
 -- A node is exported.
-use Rattle.std.proofs.Common.{◌≡◌, ◌∙◌, ◌<◌, ℕ, List, [], ◌∷◌, ◌++◌, Option, Some, None, refl, sym, ap, subst, length}
-use Rattle.std.specs.Prelude.{IfSome, IsSome}
-use Rattle.std.specs.List.{AllByRecursion}
-use Rattle.std.proofs.lemmas.List.{map_push}
-use Rattle.wac_lexer.specs.Span.{Span}
-use Rattle.wac_graph_types.specs.declared.kind.ItemKind.{ItemKind}
-use Rattle.wac_graph_types.specs.declared.rules.Reason.{Reason}
-use Rattle.wac_graph_types.specs.Scope.{Named, with_named}
+use Rattle.wac_resolution_externs.proofs.Common.{◌≡◌, ◌∙◌, ◌<◌, ℕ, List, [], ◌∷◌, ◌++◌, Option, Some, None, refl, sym, ap, subst, length, IfSome, IsSome, AllByRecursion, map_push, Span, ItemKind, Reason, Named, with_named, Parts, with_export, means, Naming, Error, ExportAsBroken, At, at, alias_at, names_of, names_at, more_at, ExportsAs, ExportsOne, Root, Stands, NodesStand, numbers_of, composed, Agrees}
 use Rattle.wac_graph.specs.Node.{Node as GraphNode}
-use Rattle.wac_graph.specs.Graph.{Parts, with_export}
-use Rattle.wac_graph.specs.Means.{means}
-use Rattle.wac_graph.specs.Origin.{Naming}
-use Rattle.wac_resolution_errors.specs.Error.{Error}
-use Rattle.wac_resolution_rules.specs.BrokenStatements.{ExportAsBroken}
-use Rattle.wac_resolution_rules.specs.Expressions.{At, at, alias_at}
-use Rattle.wac_resolution_rules.specs.Find.{names_of}
-use Rattle.wac_resolution_rules.specs.Places.{names_at, more_at}
-use Rattle.wac_resolution_rules.specs.Statements.{ExportsAs, ExportsOne}
-use Rattle.wac_resolution_nodes.specs.declared.root.Root.{Root}
 use Rattle.wac_resolution_nodes.specs.Accesses.{AliasStep}
 use Rattle.wac_resolution_nodes.specs.Growth.{GrowsNodes}
-use Rattle.wac_resolution_nodes.specs.Nodes.{Stands, NodesStand}
-use Rattle.wac_resolution_nodes.specs.Root.{numbers_of, composed, Agrees}
 use Rattle.wac_resolution_externs.specs.declared.externs.Externs.{Externs}
 use Rattle.wac_resolution_externs.specs.Externs.{imported_in, exported_in, places_in, ArePlaced, Under}
 use Rattle.wac_resolution_externs.specs.Exports.{GrowsExports, MayExport, Leading, all_at, ExportSteps, Exported}

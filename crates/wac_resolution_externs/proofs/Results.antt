@@ -1,5 +1,5 @@
 -- What is said of a result, said in other words.
-use Rattle.std.specs.Prelude.{Result, Ok, Err, OnOk, IfErr}
+use Rattle.wac_resolution_externs.proofs.Common.{Result, Ok, Err, OnOk, IfErr}
 
 pub on_ok : {T E : Type 0} (P Q : Type 0) (r : Result T E) → (P → Q) → OnOk r P → OnOk r Q
 on_ok P Q (Ok x) to h = to h

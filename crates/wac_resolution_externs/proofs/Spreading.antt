@@ -1,29 +1,12 @@
 -- Exports of an instance, in order.
-use Rattle.std.proofs.Common.{◌≡◌, ◌==◌, length, suc, arith, ◌∙◌, ℕ, List, [], ◌∷◌, ◌++◌, Option, Some, None, Bool, true, false, cond, refl, sym, ap, subst, map, is_none, append-nil, append_assoc}
-use Rattle.std.specs.Prelude.{slice_get, option_map, option_and_then, unwrap_or, IsSome, string_bytes, String}
-use Rattle.std.specs.declared.alloc.Global.{Global}
+use Rattle.wac_resolution_externs.proofs.Common.{◌≡◌, ◌==◌, length, suc, arith, ◌∙◌, ℕ, List, [], ◌∷◌, ◌++◌, Option, Some, None, Bool, true, false, cond, refl, sym, ap, subst, map, is_none, append-nil, append_assoc, slice_get, option_map, option_and_then, unwrap_or, IsSome, string_bytes, String, Global, IsDistinct, AllByRecursion, bytes_eq, ItemKind, InterfaceId, Meaning, of_kind, by_name, instance_exports, interface_exports, Named, look_up, exports_of, items_mean, nothing, Parts, export_kind, means, entry_means, Naming, names_of, unexported, IsInstance}
 use Rattle.std.specs.Bool.{one_answer}
-use Rattle.std.specs.List.{IsDistinct, AllByRecursion}
 use Rattle.std.specs.Map.{keys_of}
-use Rattle.std.specs.Str.{bytes_eq}
 use Rattle.std.specs.String.{string_eq}
 use Rattle.std.proofs.lemmas.Bool.Decides.{Decides-eqb}
 use Rattle.std.proofs.lemmas.Slice.Eq.{bytes_eq-Decides}
-use Rattle.wac_graph_types.specs.declared.kind.ItemKind.{ItemKind}
 use Rattle.wac_graph_types.specs.declared.kind.ItemKind.TheVariants as kinds
-use Rattle.wac_graph_types.specs.declared.kind.InterfaceId.{InterfaceId}
-use Rattle.wac_graph_types.specs.Meaning.{Meaning, of_kind}
-use Rattle.wac_graph_types.specs.Names.{by_name}
-use Rattle.wac_graph_types.specs.Readings.{instance_exports, interface_exports}
-use Rattle.wac_graph_types.specs.Scope.{Named, look_up}
-use Rattle.wac_graph_types.specs.Shape.{exports_of, items_mean, nothing}
 use Rattle.wac_graph.specs.Node.{Node as GraphNode}
-use Rattle.wac_graph.specs.Graph.{Parts, export_kind}
-use Rattle.wac_graph.specs.Means.{means, entry_means}
-use Rattle.wac_graph.specs.Origin.{Naming}
-use Rattle.wac_resolution_rules.specs.Find.{names_of}
-use Rattle.wac_resolution_rules.specs.Statements.{unexported}
-use Rattle.wac_resolution_nodes.specs.Instances.{IsInstance}
 use Rattle.wac_resolution_externs.specs.Spreads.{AreUnexported, EachExported, meaning_exported, exported_item}
 
 -- ---- names that aren't exported yet

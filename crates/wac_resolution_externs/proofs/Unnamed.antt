@@ -1,28 +1,11 @@
 -- The names under which nodes are exported.
-use Rattle.std.proofs.Common.{◌≡◌, ◌∙◌, ◌<◌, ℕ, List, [], ◌∷◌, Option, Some, None, inl, inr, refl, sym, ap, subst, length}
-use Rattle.std.specs.Prelude.{slice_get, option_map, option_and_then}
+use Rattle.wac_resolution_externs.proofs.Common.{◌≡◌, ◌∙◌, ◌<◌, ℕ, List, [], ◌∷◌, Option, Some, None, inl, inr, refl, sym, ap, subst, length, slice_get, option_map, option_and_then, slice_get-map, Span, Expr, ExternName, ExportOptions, Reason, Named, Parts, Naming, Error, export_requires_as, IsUnnamed, ExportAsBroken, ExportOptionsBroken, at, instance_id, own_name, node_at, expr_span, unnamed_export, ExportsAs, ExportsBy, Root, node_of, composition_of, numbers_of, composed}
 use Rattle.std.specs.Option.{option_or}
-use Rattle.std.proofs.lemmas.Option.{slice_get-map}
-use Rattle.wac_lexer.specs.Span.{Span}
-use Rattle.wac_ast_grammar.specs.Tree.{Expr, ExternName, ExportOptions}
 use Rattle.wac_ast_grammar.specs.Spans.{extern_name_text, extern_name_span}
-use Rattle.wac_graph_types.specs.declared.rules.Reason.{Reason}
-use Rattle.wac_graph_types.specs.Scope.{Named}
 use Rattle.wac_graph_types.proofs.Rows.{none_within}
 use Rattle.wac_graph.specs.Node.{Node as GraphNode}
-use Rattle.wac_graph.specs.Graph.{Parts}
-use Rattle.wac_graph.specs.Origin.{Naming}
-use Rattle.wac_resolution_errors.specs.Error.{Error, export_requires_as}
 use Rattle.wac_resolution_rules.specs.BrokenBodies.{as_clause}
-use Rattle.wac_resolution_rules.specs.BrokenStatements.{IsUnnamed, ExportAsBroken, ExportOptionsBroken}
 use Rattle.wac_resolution_rules.specs.Composition.{Node}
-use Rattle.wac_resolution_rules.specs.Expressions.{at, instance_id, own_name}
-use Rattle.wac_resolution_rules.specs.Nodes.{node_at}
-use Rattle.wac_resolution_rules.specs.Spans.{expr_span}
-use Rattle.wac_resolution_rules.specs.Statements.{unnamed_export, ExportsAs, ExportsBy}
-use Rattle.wac_resolution_nodes.specs.declared.root.Root.{Root}
-use Rattle.wac_resolution_nodes.specs.Nodes.{node_of, composition_of}
-use Rattle.wac_resolution_nodes.specs.Root.{numbers_of, composed}
 use Rattle.wac_resolution_externs.specs.declared.externs.Externs.{Externs}
 use Rattle.wac_resolution_externs.specs.Externs.{places_in, ArePlaced, Under}
 use Rattle.wac_resolution_externs.specs.Exports.{ExportSteps, Exported}

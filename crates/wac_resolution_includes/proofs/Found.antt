@@ -1,22 +1,10 @@
 -- What a name finds among the entries of a `with` clause.
-use Rattle.std.proofs.Common.{◌≡◌, ◌∙◌, ℕ, List, [], ◌∷◌, Option, Some, None, Bool, true, false, cond, refl, sym, ap, Bor}
-use Rattle.std.specs.Prelude.{option_map, unwrap_or, string_bytes, String, slice_get}
+use Rattle.wac_resolution_includes.proofs.Common.{◌≡◌, ◌∙◌, ℕ, List, [], ◌∷◌, Option, Some, None, Bool, true, false, cond, refl, sym, ap, Bor, option_map, unwrap_or, string_bytes, String, slice_get, bytes_eq, Span, WorldInclude, WorldIncludeItem, by_name, Named, look_up, without_first, world_include_item_of, missing_world_include, told, name_taken, entry_named, span_of_entry, span_taken, IsLeftOver, world_ref_name, world_ref_span}
 use Rattle.std.specs.declared.alloc.Global.{Global}
 use Rattle.std.specs.Map.{remove_entry}
-use Rattle.std.specs.Str.{bytes_eq}
 use Rattle.std.proofs.lemmas.Slice.Eq.{bytes_eq-Decides}
-use Rattle.wac_lexer.specs.Span.{Span}
-use Rattle.wac_ast_grammar.specs.Tree.{WorldInclude, WorldIncludeItem}
-use Rattle.wac_graph_types.specs.Names.{by_name}
-use Rattle.wac_graph_types.specs.Scope.{Named, look_up, without_first}
-use Rattle.wac_ast_uses.specs.Uses.{world_include_item_of}
 use Rattle.wac_ast_uses.specs.declared.includes.WorldIncludeItem.{WorldIncludeItem as CodeWorldIncludeItem}
-use Rattle.wac_resolution_errors.specs.Error.{missing_world_include}
-use Rattle.wac_resolution_errors.specs.Told.{told}
 use Rattle.wac_resolution_errors.specs.declared.error.Error.TheVariants as errors
-use Rattle.wac_resolution_rules.specs.Includes.{name_taken}
-use Rattle.wac_resolution_rules.specs.BrokenWorlds.{entry_named, span_of_entry, span_taken, IsLeftOver}
-use Rattle.wac_ast_grammar.specs.Spans.{world_ref_name, world_ref_span}
 use Rattle.wac_resolution_state.proofs.Bound.{read_found}
 use Rattle.wac_resolution_includes.specs.Entries.{Renamings, entries_of, AreOf}
 

@@ -1,18 +1,8 @@
 -- The entries of a `with` clause, read in order.
-use Rattle.std.proofs.Common.{◌≡◌, ◌∙◌, ◌+◌, ◌<◌, ℕ, List, [], ◌∷◌, ◌++◌, Some, None, Bool, true, false, cond, refl, sym, ap, subst, map, take, length, get_or, Bor}
-use Rattle.std.specs.Prelude.{option_map}
+use Rattle.wac_resolution_includes.proofs.Common.{◌≡◌, ◌∙◌, ◌+◌, ◌<◌, ℕ, List, [], ◌∷◌, ◌++◌, Some, None, Bool, true, false, cond, refl, sym, ap, subst, map, take, length, get_or, Bor, option_map, bytes_eq, take_more, map_push, WorldIncludeItem, Named, look_up, IsFresh, with_named, Steps, Fails, world_include_item_of, Entries, HasEntry, entry_named, steps_on_map, fails_at_map}
 use Rattle.std.specs.List.{AllByRecursion}
-use Rattle.std.specs.Str.{bytes_eq}
-use Rattle.std.proofs.lemmas.List.{take_more, map_push}
 use Rattle.wac_lexer.proofs.Texts.{bytes_eq_same}
-use Rattle.wac_ast_grammar.specs.Tree.{WorldIncludeItem}
-use Rattle.wac_graph_types.specs.Scope.{Named, look_up, IsFresh, with_named}
-use Rattle.wac_graph_types.specs.Steps.{Steps, Fails}
-use Rattle.wac_ast_uses.specs.Uses.{world_include_item_of}
 use Rattle.wac_ast_uses.specs.declared.includes.WorldIncludeItem.{WorldIncludeItem as CodeWorldIncludeItem}
-use Rattle.wac_resolution_rules.specs.Includes.{Entries, HasEntry}
-use Rattle.wac_resolution_rules.specs.BrokenWorlds.{entry_named}
-use Rattle.wac_resolution_rules.proofs.StepLaws.{steps_on_map, fails_at_map}
 use Rattle.wac_resolution_includes.specs.Entries.{Renamings, entries_of, AreOf, AreAll}
 use Rattle.wac_resolution_includes.proofs.Found.{new_name, entry_found}
 

@@ -1,24 +1,8 @@
 -- Names of an included world, taken in order.
-use Rattle.std.proofs.Common.{◌≡◌, ◌∙◌, ℕ, List, [], ◌∷◌, ◌++◌, Option, Some, None, Bool, true, false, refl, sym, ap, subst, append-nil}
-use Rattle.std.specs.Prelude.{option_map}
-use Rattle.std.proofs.lemmas.List.{map_push}
-use Rattle.wac_lexer.specs.Span.{Span}
-use Rattle.wac_ast_grammar.specs.Tree.{WorldIncludeItem}
-use Rattle.wac_graph_types.specs.declared.kind.ItemKind.{ItemKind}
+use Rattle.wac_resolution_includes.proofs.Common.{◌≡◌, ◌∙◌, ℕ, List, [], ◌∷◌, ◌++◌, Option, Some, None, Bool, true, false, refl, sym, ap, subst, append-nil, option_map, map_push, Span, WorldIncludeItem, ItemKind, Meaning, of_kind, Named, look_up, IsFresh, StandsFor, with_named, without_first, items_mean, Steps, Fails, Names, ItemsNamed, Parts, means, entry_means, Naming, world_include_conflict, Entries, has_colon, Taking, with_missing, name_taken, TakesNamed, Takes, steps_more}
 use Rattle.wac_graph_types.specs.declared.kind.ExternKind.{ExternKind}
 use Rattle.wac_graph_types.specs.declared.entry.Entry.{Entry}
-use Rattle.wac_graph_types.specs.Meaning.{Meaning, of_kind}
-use Rattle.wac_graph_types.specs.Scope.{Named, look_up, IsFresh, StandsFor, with_named, without_first}
-use Rattle.wac_graph_types.specs.Shape.{items_mean}
-use Rattle.wac_graph_types.specs.Steps.{Steps, Fails}
-use Rattle.wac_graph_types.specs.Table.{Names, ItemsNamed}
 use Rattle.wac_graph_types.proofs.Shapes.{items_found}
-use Rattle.wac_graph.specs.Graph.{Parts}
-use Rattle.wac_graph.specs.Means.{means, entry_means}
-use Rattle.wac_graph.specs.Origin.{Naming}
-use Rattle.wac_resolution_errors.specs.Error.{world_include_conflict}
-use Rattle.wac_resolution_rules.specs.Includes.{Entries, has_colon, Taking, with_missing, name_taken, TakesNamed, Takes}
-use Rattle.wac_resolution_rules.proofs.StepLaws.{steps_more}
 use Rattle.wac_resolution_includes.specs.Entries.{Renamings, entries_of, AreOf}
 use Rattle.wac_resolution_includes.specs.Taking.{unless_there, taking_of, NameTaken, NamesTaken}
 use Rattle.wac_resolution_includes.proofs.Found.{left_read, left_of}

@@ -1,25 +1,12 @@
 -- Included worlds, by what is taken of them.
-use Rattle.std.proofs.Common.{◌≡◌, ◌⊎◌, ℕ, List, [], refl, sym, ap, subst, inl, inr}
-use Rattle.wac_ast_grammar.specs.Tree.{WorldInclude, WorldIncludeItem}
+use Rattle.wac_resolution_includes.proofs.Common.{◌≡◌, ◌⊎◌, ℕ, List, [], refl, sym, ap, subst, inl, inr, WorldInclude, WorldIncludeItem, ItemKind, Meaning, Named, IsA, is_world_form, entry_of, imports_of, exports_of, items_mean, Steps, Fails, Names, EachEntryNamed, Parts, means, entry_means, EntriesMean, origin_at, Naming, Error, Entries, Takes, Included, IsIncludeConflict, IsLeftOver, IsNoWorld, TakingBroken}
 use Rattle.wac_graph_types.specs.declared.kind.«Type».TheVariants as types
-use Rattle.wac_graph_types.specs.declared.kind.ItemKind.{ItemKind}
 use Rattle.wac_graph_types.specs.declared.kind.ItemKind.TheVariants as kinds
 use Rattle.wac_graph_types.specs.declared.kind.ExternKind.TheVariants as sides
 use Rattle.wac_graph_types.specs.declared.kind.WorldId.{WorldId}
-use Rattle.wac_graph_types.specs.Meaning.{Meaning}
 use Rattle.wac_graph_types.specs.Readings.{world_imports, world_exports}
-use Rattle.wac_graph_types.specs.Scope.{Named}
-use Rattle.wac_graph_types.specs.Shape.{IsA, is_world_form, entry_of, imports_of, exports_of, items_mean}
-use Rattle.wac_graph_types.specs.Steps.{Steps, Fails}
-use Rattle.wac_graph_types.specs.Table.{Names, EachEntryNamed}
 use Rattle.wac_graph_types.proofs.Found.{world_imports_mean, world_exports_mean, world_imports_named, world_exports_named}
-use Rattle.wac_graph.specs.Graph.{Parts}
-use Rattle.wac_graph.specs.Means.{means, entry_means, EntriesMean, origin_at}
-use Rattle.wac_graph.specs.Origin.{Naming}
-use Rattle.wac_resolution_errors.specs.Error.{Error}
 use Rattle.wac_resolution_rules.specs.Bodies.{Body}
-use Rattle.wac_resolution_rules.specs.Includes.{Entries, Takes, Included}
-use Rattle.wac_resolution_rules.specs.BrokenWorlds.{IsIncludeConflict, IsLeftOver, IsNoWorld, TakingBroken}
 use Rattle.wac_resolution_includes.specs.Entries.{Renamings, entries_of}
 use Rattle.wac_resolution_includes.specs.Taking.{taking_of, NamesTaken, IsWorldKind, with_both, WorldTaken, IsIncluded}
 use Rattle.wac_resolution_state.proofs.Scopes.{memory_told}

@@ -1,14 +1,10 @@
 -- The arguments of an instantiation, from the values.
-use Rattle.std.proofs.Common.{◌≡◌, ◌∙◌, ℕ, List, [], ◌∷◌, ◌++◌, map, flat_map, ap, refl}
+use Rattle.wac_resolution_mentions.proofs.Common.{◌≡◌, ◌∙◌, ℕ, List, [], ◌∷◌, ◌++◌, map, flat_map, ap, refl, Arguments, arguments_from, package_name_of, argument_of, arguments_of_row, new_expr_of, primary_expr_of, argument_mentions, arguments_mentions}
 use mathlib.Core.Former.{Count}
 use Rattle.wac_ast_grammar.specs.Tree as tree
-use Rattle.wac_ast_grammar.specs.Tree.{Arguments, arguments_from}
-use Rattle.wac_ast_base.specs.Names.{package_name_of}
-use Rattle.wac_ast_expressions.specs.Expressions.{argument_of, arguments_of_row, new_expr_of, primary_expr_of}
 use Rattle.wac_ast_expressions.specs.declared.expr.InstantiationArgument.{InstantiationArgument}
 use Rattle.wac_ast_expressions.specs.declared.expr.NewExpr.{NewExpr, Row_of-InstantiationArgument, end_of-InstantiationArgument, more_of-InstantiationArgument, items-the_row-InstantiationArgument, items_hidden-the_row-InstantiationArgument-0}
 use Rattle.wac_ast_expressions.specs.declared.expr.PrimaryExpr.{PrimaryExpr, New, New'}
-use Rattle.wac_resolution_rules.specs.Mentions.{argument_mentions, arguments_mentions}
 
 -- what arguments mention they mention in order
 pub in_a_row : (own : List ℕ) (xs : List InstantiationArgument) → arguments_mentions own (arguments_from (map argument_of xs)) ≡ flat_map (argument_mentions own) (map argument_of xs)

@@ -1,10 +1,7 @@
 -- Mentions between two places.
-use Rattle.std.proofs.Common.{◌≡◌, ◌≤◌, ◌<◌, ◌+◌, ℕ, List, [], ◌∷◌, ◌++◌, Bool, true, false, cond, filter, ap, arith}
-use Rattle.wac_resolution_rules.specs.Mentions.{Mention}
+use Rattle.wac_resolution_mentions.proofs.Common.{◌≡◌, ◌≤◌, ◌<◌, ◌+◌, ℕ, List, [], ◌∷◌, ◌++◌, Bool, true, false, cond, filter, ap, arith, Mention, same_key, not, if◌then◌else◌}
 use Rattle.wac_resolution_mentions.specs.Ascending.{AscendFrom}
 use Rattle.wac_resolution_mentions.specs.FirstMentions.{first_mentions}
-use Rattle.wac_graph.specs.Package.{same_key}
-use Rattle.std.specs.Prelude.{not, if◌then◌else◌}
 
 -- they ascend from the first place on, and all begin before the second
 abbrev pub Between : ℕ → List Mention → ℕ → Type 0

@@ -1,14 +1,9 @@
 -- What the first mentions say.
-use Rattle.std.proofs.Common.{◌≡◌, ◌∙◌, List, [], ◌∷◌, ◌++◌, Option, Some, None, Bool, true, false, cond, not, ◌||◌, filter, refl, sym, ap, append-nil}
-use Rattle.std.specs.List.{AllByRecursion, IsDistinct, list_any}
-use Rattle.std.specs.Map.{keys_of, lookup}
+use Rattle.wac_resolution_mentions.proofs.Common.{◌≡◌, ◌∙◌, List, [], ◌∷◌, ◌++◌, Option, Some, None, Bool, true, false, cond, not, ◌||◌, filter, refl, ap, append-nil, AllByRecursion, IsDistinct, list_any, keys_of, lookup, Span, Key, same_key, Packages, KeyHolds, KeysHold, Mention, kept}
+use Rattle.std.proofs.Common.{sym}
 use Rattle.std.proofs.lemmas.List.Elements.{filter-append, filter_agree}
 use Rattle.std.proofs.lemmas.Map.Views.{any-filter_same}
-use Rattle.wac_lexer.specs.Span.{Span}
-use Rattle.wac_graph.specs.Package.{Key, same_key}
-use Rattle.wac_graph.specs.Packages.{Packages}
 use Rattle.wac_resolution_rules.specs.Composition.{Node}
-use Rattle.wac_resolution_rules.specs.Mentions.{KeyHolds, KeysHold, Mention, kept}
 use Rattle.wac_resolution_rules.specs.Nodes.{key_of_node}
 use Rattle.wac_resolution_mentions.specs.FirstMentions.{first_mentions}
 use Rattle.wac_resolution_mentions.specs.Packages.{AreFirst}

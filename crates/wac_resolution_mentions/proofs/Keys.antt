@@ -1,9 +1,7 @@
 -- Keys of packages are told apart by their texts.
-use Rattle.std.proofs.Common.{◌≡◌, ◌∙◌, List, ℕ, Option, Some, None, Bool, true, false, ◌&&◌, Decides, refl, sym, ap}
-use Rattle.std.specs.Str.{bytes_eq}
-use Rattle.std.proofs.lemmas.Slice.Eq.{bytes_eq-Decides}
+use Rattle.wac_resolution_mentions.proofs.Common.{◌≡◌, ◌∙◌, List, ℕ, Option, Some, None, Bool, true, false, ◌&&◌, Decides, refl, ap, bytes_eq, bytes_eq-Decides, Key, same_key, same_version}
+use Rattle.std.proofs.Common.{sym}
 use Rattle.std.proofs.lemmas.Bool.Decides.{same_from_decides}
-use Rattle.wac_graph.specs.Package.{Key, same_key, same_version}
 
 versions_same : (v w : Option (List ℕ)) → same_version v w ≡ true → v ≡ w
 versions_same None None h = refl

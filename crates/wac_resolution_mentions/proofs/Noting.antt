@@ -1,20 +1,14 @@
 -- Noting mentions, part after part.
-use Rattle.std.proofs.Common.{◌≡◌, ◌∙◌, ℕ, ◌+◌, ◌<◌, ◌≤◌, List, [], ◌∷◌, ◌++◌, Option, Some, None, is_some, Bool, true, false, cond, ◌&&◌, ◌||◌, flat_map, map, take, length, get_or, refl, sym, ap, subst, append-nil, append_assoc}
-use Rattle.std.specs.Prelude.{String, string_bytes, option_map}
+use Rattle.wac_resolution_mentions.proofs.Common.{◌≡◌, ◌∙◌, ℕ, ◌+◌, ◌<◌, ◌≤◌, List, [], ◌∷◌, ◌++◌, Option, Some, None, is_some, Bool, true, false, cond, ◌&&◌, ◌||◌, flat_map, map, take, length, get_or, refl, ap, subst, append-nil, append_assoc, String, string_bytes, option_map, list_any, lookup, bytes_eq, Span, Key, key_of, same_key, same_version, Mention}
+use Rattle.std.proofs.Common.{sym}
 use Rattle.std.specs.declared.alloc.Global.{Global}
-use Rattle.std.specs.List.{list_any}
-use Rattle.std.specs.Map.{lookup}
 use Rattle.std.specs.Option.{option_eq}
-use Rattle.std.specs.Str.{bytes_eq}
 use Rattle.std.specs.String.{string_eq}
 use Rattle.std.proofs.lemmas.List.{map-append, take_all, take_more}
 use Rattle.std.proofs.lemmas.List.Concat.{flat_map-append}
-use Rattle.wac_lexer.specs.Span.{Span}
 use Rattle.indexmap.specs.IndexMap.{insert_entry}
-use Rattle.wac_graph.specs.Package.{Key, key_of, same_key, same_version}
 use Rattle.wac_graph.specs.declared.package_key.PackageKey.{PackageKey}
 use Rattle.wac_graph.specs.contracts.package_key.PackageKeyPartialEq.TheImpl as keys
-use Rattle.wac_resolution_rules.specs.Mentions.{Mention}
 use Rattle.wac_resolution_mentions.specs.FirstMentions.{first_mentions}
 use Rattle.wac_resolution_mentions.specs.Noted.{Noted, Notes, mentions_in}
 use Rattle.wac_resolution_mentions.proofs.FirstMentions.{any_first, first_more, of_key}

@@ -1,21 +1,18 @@
 -- The mentions of a tree are in the order of the items that the tree derives from.
 use Rattle.std.proofs.Common.{◌≡◌, ◌≤◌, ◌+◌, ℕ, zero, suc, List, [], ◌∷◌, ◌++◌, flat_map, inl, inr, refl, sym as back, ap, subst, arith, append-nil}
-use Rattle.std.specs.Str.{bytes_eq}
-use Rattle.std.proofs.lemmas.Slice.Eq.{bytes_eq-Decides}
+use Rattle.wac_resolution_mentions.proofs.Common.{bytes_eq, bytes_eq-Decides, end_of, Document, arguments_from, Mention, path_mentions, name_mentions, use_path_mentions, interface_item_mentions, interface_mentions, extern_type_mentions, extern_mentions, world_ref_mentions, world_item_mentions, type_mentions, expr_mentions, primary_mentions, arguments_mentions, argument_mentions, import_type_mentions, statement_mentions, target_mentions, mentions}
 use Rattle.wac_lexer.specs.declared.token.Token.{Token}
 use Rattle.wac_lexer.specs.declared.token.Token.TheVariants as t
-use Rattle.wac_lexer.specs.Span.{end_of}
 use Rattle.wac_lexer.specs.Item.{Item}
 use Rattle.wac_lexer.specs.Items.{items}
 use Rattle.wac_lexer.specs.Order.{InOrder}
 use Rattle.wac_ast_grammar.specs.Grammar.{Sym, document, directive, statements, statement, import_statement, import_type, let_statement, export_statement, expr, primary_expr, new_expr, arguments, more_arguments, argument, nested_expr, type_statement, interface_decl, inline_interface, interface_items, interface_item, use_statement, use_path, world_decl, world_items, world_item, world_import, world_export, world_item_path, extern_type, world_include, world_ref, package_name, package_path, rule, build, TreeOf, Parts, Grammar, token, sym, then, either, nothing, to_end, docs, not_empty, more, or_told, DerivesIn, DerivesBy}
 use Rattle.wac_ast_grammar.specs.Segments.{package_name_span}
 use Rattle.wac_ast_grammar.specs.TextTree.{IsTreeOf}
-use Rattle.wac_ast_grammar.specs.Tree.{Document, InstantiationArgument, arguments_from}
+use Rattle.wac_ast_grammar.specs.Tree.{InstantiationArgument}
 use Rattle.wac_ast_grammar.proofs.Complete.{Family}
 use Rattle.wac_resolution_rules.specs.Given.{key_named}
 use Rattle.wac_resolution_rules.specs.Paths.{key_of_path}
-use Rattle.wac_resolution_rules.specs.Mentions.{Mention, path_mentions, name_mentions, use_path_mentions, interface_item_mentions, interface_mentions, extern_type_mentions, extern_mentions, world_ref_mentions, world_item_mentions, type_mentions, expr_mentions, primary_mentions, arguments_mentions, argument_mentions, import_type_mentions, statement_mentions, target_mentions, mentions}
 use Rattle.wac_resolution_mentions.specs.Ascending.{Ascend}
 use Rattle.wac_resolution_mentions.proofs.Between.{Between, lower, behind, left_out, perhaps_one, ascending}
 

@@ -1,28 +1,11 @@
 -- The composition as its graph grows.
-use Rattle.std.proofs.Common.{◌≡◌, ◌∙◌, ◌<◌, ℕ, zero, suc, List, [], ◌∷◌, ◌++◌, Option, Some, None, refl, sym, ap, subst, map, length, arith, true, false, Bor}
-use Rattle.std.specs.Prelude.{slice_get, slice_set, option_map, option_and_then, unwrap_or, is_some, IfSome, IsSome}
-use Rattle.std.specs.List.{AllByRecursion, position}
-use Rattle.std.proofs.lemmas.List.{map_push, length-map}
-use Rattle.std.proofs.lemmas.Option.{slice_get-map, slice_get_within}
+use Rattle.wac_resolution_nodes.proofs.Common.{◌≡◌, ◌∙◌, ◌<◌, ℕ, zero, suc, List, [], ◌∷◌, ◌++◌, Option, Some, None, refl, sym, ap, subst, map, length, arith, true, false, Bor, slice_get, slice_set, option_map, option_and_then, unwrap_or, is_some, IfSome, IsSome, AllByRecursion, position, map_push, length-map, slice_get-map, slice_get_within, ItemKind, KeepsNames, Meaning, Named, with_named, Names, HeldPackage, means, declared_count, Naming, IsSound, IsSoundNode, IsPlaced, Composition, Node, NodeForm, imported, definition, aliased, with_node, with_export, with_resources, named_at, first_name, at, is_alias_of, alias_in, alias_number, next_of, with_alias, with_instance, Grows}
 use Rattle.std.proofs.lemmas.List.Quantifiers.{position-Some}
-use Rattle.wac_graph_types.specs.declared.kind.ItemKind.{ItemKind}
-use Rattle.wac_graph_types.specs.Growth.{KeepsNames}
-use Rattle.wac_graph_types.specs.Meaning.{Meaning}
-use Rattle.wac_graph_types.specs.Scope.{Named, with_named}
-use Rattle.wac_graph_types.specs.Table.{Names}
-use Rattle.wac_graph.specs.Package.{HeldPackage}
 use Rattle.wac_graph.specs.Node.{Node as GraphNode, Form, import, definition as defined, alias, instantiation, package_in, arguments_in, is_alias_of as is_alias_in}
 use Rattle.wac_graph.specs.Graph.{Parts, plain_node, with_import, with_definition, with_export as export_too, with_alias as alias_too, with_instantiation, with_argument, with_name, given_too, alias_in as alias_in_nodes, export_kind}
 use Rattle.wac_graph.specs.Aliased.{IsAliased, added as aliased_by}
-use Rattle.wac_graph.specs.Means.{means, declared_count}
-use Rattle.wac_graph.specs.Origin.{Naming}
-use Rattle.wac_graph.specs.Sound.{IsSound, IsSoundNode, IsPlaced}
 use Rattle.wac_graph.proofs.Lists.{get_kept, get_last, map_set, set_read}
 use Rattle.wac_graph.proofs.Calls.{position_map}
-use Rattle.wac_resolution_rules.specs.Composition.{Composition, Node, NodeForm, imported, definition, aliased, with_node, with_export, with_resources, named_at, first_name}
-use Rattle.wac_resolution_rules.specs.Expressions.{at}
-use Rattle.wac_resolution_rules.specs.Nodes.{is_alias_of, alias_in, alias_number, next_of, with_alias, with_instance}
-use Rattle.wac_resolution_state.specs.Growth.{Grows}
 use Rattle.wac_resolution_nodes.specs.Nodes.{instance_form, form_in, node_of, composition_of, kind_in, Stands, NodesStand}
 use Rattle.wac_resolution_nodes.specs.Growth.{GrowsNodes, IsNamed}
 use Rattle.wac_resolution_nodes.specs.Accesses.{AliasStep}

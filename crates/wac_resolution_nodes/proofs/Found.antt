@@ -1,19 +1,9 @@
 -- Names that are found by their last part.
-use Rattle.std.proofs.Common.{◌≡◌, ◌≢◌, ◌∙◌, ◌+◌, ◌<◌, ◌==◌, ℕ, suc, List, [], ◌∷◌, ◌++◌, Option, Some, None, Bool, true, false, cond, refl, sym, ap, subst, map, length, take, drop, reverse, get_or, is_some, arith, append_assoc, not, ◌&&◌, ◌||◌}
-use Rattle.std.specs.Prelude.{option_map, unwrap_or}
-use Rattle.std.specs.List.{before_first, list_any, prefix_len, AllByRecursion}
+use Rattle.wac_resolution_nodes.proofs.Common.{◌≡◌, ◌≢◌, ◌∙◌, ◌+◌, ◌<◌, ◌==◌, ℕ, suc, List, [], ◌∷◌, ◌++◌, Option, Some, None, Bool, true, false, cond, refl, sym, ap, subst, map, length, take, drop, reverse, get_or, is_some, arith, append_assoc, not, ◌&&◌, ◌||◌, option_map, unwrap_or, before_first, list_any, prefix_len, AllByRecursion, bytes_eq, reverse-append, reverse-reverse, take-append-drop, ItemKind, Meaning, of_kind, Named, look_up, items_mean, items_found, after_last_slash, is_short_for, only_one, long_names, names_of, find_name}
 use Rattle.std.specs.Str.Pattern.{RFindsChar}
-use Rattle.std.specs.Str.{bytes_eq}
 use Rattle.std.proofs.lemmas.Bool.{ne_eqb}
 use Rattle.std.proofs.lemmas.Str.Pattern.{NoCharPasses-char, drop_at_char}
-use Rattle.std.proofs.lemmas.List.{reverse-append, reverse-reverse, take-append-drop}
-use Rattle.wac_graph_types.specs.declared.kind.ItemKind.{ItemKind}
-use Rattle.wac_graph_types.specs.Meaning.{Meaning, of_kind}
-use Rattle.wac_graph_types.specs.Scope.{Named, look_up}
-use Rattle.wac_graph_types.specs.Shape.{items_mean}
-use Rattle.wac_graph_types.proofs.Shapes.{items_found}
 use Rattle.wac_ast_grammar.specs.Version.{is_slash, is_at_sign}
-use Rattle.wac_resolution_rules.specs.Find.{after_last_slash, is_short_for, only_one, long_names, names_of, find_name}
 
 -- ---- among meanings
 

@@ -1,34 +1,14 @@
 -- Nodes that are instances, and accesses to their exports.
-use Rattle.std.proofs.Common.{◌≡◌, ◌∙◌, ◌+◌, ◌<◌, ℕ, List, [], ◌∷◌, ◌++◌, Option, Some, None, refl, sym, ap, subst, map, take, length, get_or}
-use Rattle.std.specs.Prelude.{slice_get, option_map, option_and_then, IfSome, IsSome, ◌⊎◌}
-use Rattle.std.proofs.lemmas.List.{take_more, length-map, get_or-map}
-use Rattle.wac_lexer.specs.Span.{Span}
-use Rattle.wac_ast_grammar.specs.Tree.{PostfixExpr}
+use Rattle.wac_resolution_nodes.proofs.Common.{◌≡◌, ◌∙◌, ◌+◌, ◌<◌, ℕ, List, [], ◌∷◌, ◌++◌, Option, Some, None, refl, sym, ap, subst, map, take, length, get_or, slice_get, option_map, option_and_then, IfSome, IsSome, ◌⊎◌, take_more, length-map, get_or-map, Span, PostfixExpr, ItemKind, InterfaceId, Meaning, of_kind, instance_exports, interface_exports, Named, look_up, IsFresh, described, exports_of, items_mean, Names, items_found, word_is, postfix_expr_of, Parts, export_kind, means, entry_means, origin_at, EntriesMean, Naming, Error, Operation, not_an_instance, missing_instance_export, kind_at, at, accessed, alias_at, Accesses, instance_of}
 use Rattle.wac_ast_grammar.specs.Grammar.{postfix_span, last_span}
-use Rattle.wac_graph_types.specs.declared.kind.ItemKind.{ItemKind}
 use Rattle.wac_graph_types.specs.declared.kind.ItemKind.TheVariants as kinds
 use Rattle.wac_graph_types.specs.declared.kind.«Type».TheVariants as types
-use Rattle.wac_graph_types.specs.declared.kind.InterfaceId.{InterfaceId}
-use Rattle.wac_graph_types.specs.Meaning.{Meaning, of_kind}
-use Rattle.wac_graph_types.specs.Readings.{instance_exports, interface_exports}
-use Rattle.wac_graph_types.specs.Scope.{Named, look_up, IsFresh}
-use Rattle.wac_graph_types.specs.Shape.{described, exports_of, items_mean}
 use Rattle.wac_graph_types.specs.Steps.{Fails}
-use Rattle.wac_graph_types.specs.Table.{Names}
 use Rattle.wac_graph_types.specs.Words as words
 use Rattle.wac_graph_types.proofs.Found.{interface_exports_mean}
-use Rattle.wac_graph_types.proofs.Shapes.{items_found, word_is}
-use Rattle.wac_ast_expressions.specs.Expressions.{postfix_expr_of}
 use Rattle.wac_ast_expressions.specs.declared.expr.PostfixExpr.{PostfixExpr as CodePostfixExpr}
 use Rattle.wac_graph.specs.Node.{Node as GraphNode}
-use Rattle.wac_graph.specs.Graph.{Parts, export_kind}
-use Rattle.wac_graph.specs.Means.{means, entry_means, origin_at, EntriesMean}
-use Rattle.wac_graph.specs.Origin.{Naming}
-use Rattle.wac_resolution_errors.specs.Error.{Error, Operation, not_an_instance, missing_instance_export}
 use Rattle.wac_resolution_rules.specs.BrokenExpressions.{IsNotInstance, IsNotExported, AccessBroken}
-use Rattle.wac_resolution_rules.specs.Composition.{kind_at}
-use Rattle.wac_resolution_rules.specs.Expressions.{at, accessed, alias_at, Accesses}
-use Rattle.wac_resolution_rules.specs.Kinds.{instance_of}
 use Rattle.wac_resolution_rules.proofs.StepLaws.{steps_on_map, fails_at_map}
 use Rattle.wac_resolution_nodes.specs.Accesses.{AliasStep, AccessStep, AccessSteps}
 use Rattle.wac_resolution_nodes.specs.Instances.{IsInstance}

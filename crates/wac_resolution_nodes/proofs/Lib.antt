@@ -1,3 +1,4 @@
+pub mod Common
 pub mod Composed
 pub mod Roots
 pub mod Found

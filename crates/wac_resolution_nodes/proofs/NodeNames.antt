@@ -1,34 +1,14 @@
 -- Names of nodes, and of imports.
-use Rattle.std.proofs.Common.{◌≡◌, ◌∙◌, ℕ, suc, List, [], ◌∷◌, Option, Some, None, Bool, true, false, cond, Bor, refl, sym, ap, map, is_some}
-use Rattle.std.specs.Prelude.{slice_get, option_map, option_and_then, string_bytes, filter_map}
+use Rattle.wac_resolution_nodes.proofs.Common.{◌≡◌, ◌∙◌, ℕ, suc, List, [], ◌∷◌, Option, Some, None, Bool, true, false, cond, Bor, refl, sym, ap, map, is_some, slice_get, option_map, option_and_then, string_bytes, filter_map, bytes_eq, slice_get-map, ItemKind, InterfaceId, Meaning, as_interface, Named, look_up, id_of, Names, NodeId, Parts, means, entry_means, origin_at, EntriesMean, Naming, HeldPackage, IsSound, imports_from, Node, instance_id, own_name, instance_of, node_at, import_name, alias_name, import_of, imports}
 use Rattle.std.specs.Option.{option_or}
-use Rattle.std.specs.Str.{bytes_eq}
-use Rattle.std.proofs.lemmas.Option.{slice_get-map}
-use Rattle.wac_graph_types.specs.declared.kind.ItemKind.{ItemKind}
 use Rattle.wac_graph_types.specs.declared.kind.ItemKind.TheVariants as kinds
-use Rattle.wac_graph_types.specs.declared.kind.InterfaceId.{InterfaceId}
 use Rattle.wac_graph_types.specs.declared.kind.Sort.TheVariants as sorts
 use Rattle.wac_graph_types.specs.declared.entry.Entry.{Entry}
 use Rattle.wac_graph_types.specs.declared.entry.Entry.TheVariants as entries
 use Rattle.wac_graph_types.specs.declared.entry.Interface.{Interface}
 use Rattle.wac_graph_types.specs.Entry.{sort_of}
-use Rattle.wac_graph_types.specs.Meaning.{Meaning}
-use Rattle.wac_graph_types.specs.Readings.{as_interface}
-use Rattle.wac_graph_types.specs.Scope.{Named, look_up}
-use Rattle.wac_graph_types.specs.Shape.{id_of}
-use Rattle.wac_graph_types.specs.Table.{Names}
 use Rattle.wac_graph_types.proofs.Parts as parts
-use Rattle.wac_graph.specs.declared.node.NodeId.{NodeId}
 use Rattle.wac_graph.specs.Node.{Node as GraphNode, Form, import, definition as defined, alias, instantiation, import_in, source_in}
-use Rattle.wac_graph.specs.Graph.{Parts}
-use Rattle.wac_graph.specs.Means.{means, entry_means, origin_at, EntriesMean}
-use Rattle.wac_graph.specs.Origin.{Naming}
-use Rattle.wac_graph.specs.Package.{HeldPackage}
-use Rattle.wac_graph.specs.Sound.{IsSound, imports_from}
-use Rattle.wac_resolution_rules.specs.Composition.{Node}
-use Rattle.wac_resolution_rules.specs.Expressions.{instance_id, own_name}
-use Rattle.wac_resolution_rules.specs.Kinds.{instance_of}
-use Rattle.wac_resolution_rules.specs.Nodes.{node_at, import_name, alias_name, import_of, imports}
 use Rattle.wac_resolution_nodes.specs.Instances.{written_id}
 use Rattle.wac_resolution_nodes.specs.Nodes.{form_in, instance_form, node_of, composition_of, kind_in}
 use Rattle.wac_resolution_nodes.proofs.Instances.{no_instance}

@@ -1,29 +1,9 @@
 -- What the names at root denote.
-use Rattle.std.proofs.Common.{◌≡◌, ◌∙◌, ◌<◌, ℕ, zero, suc, List, [], ◌∷◌, ◌++◌, Option, Some, None, Bool, true, false, cond, refl, sym, ap, subst, map, length}
-use Rattle.std.specs.Prelude.{slice_get, option_map}
-use Rattle.std.specs.List.{AllByRecursion}
-use Rattle.std.specs.Str.{bytes_eq}
-use Rattle.std.proofs.lemmas.List.{map_push}
-use Rattle.std.proofs.lemmas.Option.{slice_get-map, slice_get_within}
-use Rattle.wac_lexer.specs.Span.{Span}
-use Rattle.wac_ast_grammar.specs.Tree.{Ident}
-use Rattle.wac_graph_types.specs.declared.kind.ItemKind.{ItemKind}
-use Rattle.wac_graph_types.specs.Growth.{KeepsNames}
-use Rattle.wac_graph_types.specs.Meaning.{Meaning}
-use Rattle.wac_graph_types.specs.Scope.{Named, look_up, IsFresh, StandsFor, with_named}
-use Rattle.wac_graph_types.specs.Table.{Names, ItemsNamed}
-use Rattle.wac_graph.specs.declared.node.NodeId.{NodeId}
-use Rattle.wac_graph.specs.Package.{HeldPackage}
+use Rattle.wac_resolution_nodes.proofs.Common.{◌≡◌, ◌∙◌, ◌<◌, ℕ, zero, suc, List, [], ◌∷◌, ◌++◌, Option, Some, None, Bool, true, false, cond, refl, sym, ap, subst, map, length, slice_get, option_map, AllByRecursion, bytes_eq, map_push, slice_get-map, slice_get_within, Span, Ident, ItemKind, KeepsNames, Meaning, Named, look_up, IsFresh, StandsFor, with_named, Names, ItemsNamed, NodeId, HeldPackage, Parts, means, Naming, Error, duplicate_name, Node, kind_at, root_scope, Grows}
 use Rattle.wac_graph.specs.Node.{Node as GraphNode}
-use Rattle.wac_graph.specs.Graph.{Parts}
-use Rattle.wac_graph.specs.Means.{means}
-use Rattle.wac_graph.specs.Origin.{Naming}
-use Rattle.wac_resolution_errors.specs.Error.{Error, duplicate_name}
 use Rattle.wac_resolution_rules.specs.BrokenWorlds.{IsBound}
-use Rattle.wac_resolution_rules.specs.Composition.{Node, kind_at, root_scope}
 use Rattle.wac_resolution_rules.specs.Places.{Places}
 use Rattle.wac_resolution_state.specs.Bindings.{Bindings, places_of, values_of}
-use Rattle.wac_resolution_state.specs.Growth.{Grows}
 use Rattle.wac_resolution_state.specs.Named.{scope_of}
 use Rattle.wac_resolution_state.proofs.Bound.{read_found}
 use Rattle.wac_resolution_state.proofs.Scopes.{memory_told}

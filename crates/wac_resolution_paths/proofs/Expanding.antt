@@ -1,28 +1,12 @@
 -- What stays as a graph gets more types and packages.
-use Rattle.std.proofs.Common.{◌≡◌, ◌∙◌, ◌⊎◌, inl, inr, ◌≤◌, ◌<◌, ◌-◌, ℕ, List, [], ◌∷◌, Some, None, length, get_or, refl, sym, ap, subst, arith}
-use Rattle.std.specs.Prelude.{slice_get, option_map}
-use Rattle.std.specs.List.{AllByRecursion}
-use Rattle.std.proofs.lemmas.Option.{slice_get_cases}
-use Rattle.wac_graph_types.specs.declared.kind.ItemKind.{ItemKind}
+use Rattle.wac_resolution_paths.proofs.Common.{◌≡◌, ◌∙◌, ◌⊎◌, inl, inr, ◌≤◌, ◌<◌, ◌-◌, ℕ, List, [], ◌∷◌, Some, None, length, get_or, refl, sym, ap, subst, arith, slice_get, option_map, AllByRecursion, slice_get_cases, ItemKind, KeepsNames, Meaning, PackageParts, Named, Names, ItemsNamed, Parts, means, Naming, Key, HeldPackage, IsHeld, Contents, contents_in, all_implies, scope_of}
 use Rattle.wac_graph_types.specs.declared.kind.ItemKind.TheVariants as kinds
 use Rattle.wac_graph_types.specs.declared.kind.«Type».TheVariants as types
 use Rattle.wac_graph_types.specs.declared.kind.ValueType.TheVariants as values
 use Rattle.wac_graph_types.specs.declared.entry.Entry.{Entry}
 use Rattle.wac_graph_types.specs.declared.entry.Entry.TheVariants as entries
 use Rattle.wac_graph_types.specs.Entry.{sort_of}
-use Rattle.wac_graph_types.specs.Growth.{KeepsNames}
-use Rattle.wac_graph_types.specs.Meaning.{Meaning}
-use Rattle.wac_graph_types.specs.Package.{PackageParts}
-use Rattle.wac_graph_types.specs.Scope.{Named}
-use Rattle.wac_graph_types.specs.Table.{Names, ItemsNamed}
-use Rattle.wac_graph.specs.Graph.{Parts}
-use Rattle.wac_graph.specs.Means.{means}
-use Rattle.wac_graph.specs.Origin.{Naming}
-use Rattle.wac_graph.specs.Package.{Key, HeldPackage, IsHeld}
-use Rattle.wac_graph.specs.Packages.{Contents, contents_in}
-use Rattle.wac_graph.proofs.Lists.{all_implies}
 use Rattle.wac_resolution_state.specs.Growth.{Grows}
-use Rattle.wac_resolution_state.specs.Named.{scope_of}
 use Rattle.wac_resolution_paths.specs.Expands.{Expands, IsSuppliedAs, AllSupplied}
 
 pub expands_self : (g : Parts) → Expands g g

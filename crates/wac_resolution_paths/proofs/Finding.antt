@@ -1,25 +1,6 @@
 -- What a path, or an identifier, resolves to.
-use Rattle.std.proofs.Common.{◌≡◌, ◌∙◌, inl, inr, ℕ, List, [], Some, None, Bool, true, false, refl, sym, ap, subst}
-use Rattle.std.specs.Prelude.{slice_get, option_map, Result, IfOk, IfErr}
-use Rattle.std.specs.Str.{bytes_eq}
-use Rattle.std.proofs.lemmas.Result.{IfOk-weaker, IfErr-weaker}
-use Rattle.wac_graph_types.specs.declared.kind.ItemKind.{ItemKind}
-use Rattle.wac_graph_types.specs.Package.{PackageParts}
-use Rattle.wac_graph_types.specs.Scope.{Named, StandsFor}
-use Rattle.wac_graph_types.specs.Table.{ItemsNamed}
-use Rattle.wac_ast_grammar.specs.Segments.{package_name_span}
-use Rattle.wac_ast_grammar.specs.Tree.{Ident, PackagePath}
-use Rattle.wac_graph.specs.Graph.{Parts}
-use Rattle.wac_graph.specs.Origin.{Naming}
-use Rattle.wac_graph.specs.Package.{Key, HeldPackage}
-use Rattle.wac_graph.specs.Packages.{Contents, handed, package_of, contents_in}
-use Rattle.wac_resolution_errors.specs.Error.{Error, unknown_package}
-use Rattle.wac_resolution_errors.specs.Told.{told}
+use Rattle.wac_resolution_paths.proofs.Common.{◌≡◌, ◌∙◌, inl, inr, ℕ, List, [], Some, None, Bool, true, false, refl, sym, ap, subst, slice_get, option_map, Result, IfOk, IfErr, bytes_eq, IfOk-weaker, IfErr-weaker, ItemKind, PackageParts, Named, StandsFor, ItemsNamed, package_name_span, Ident, PackagePath, Parts, Naming, Key, HeldPackage, Contents, handed, package_of, contents_in, Error, unknown_package, told, OwnPathBroken, ForeignPathBroken, path_broken, PathBroken, IsUndefined, key_of_path, segments_of, beginning_of, LeadsTo, scope_of, KindIs}
 use Rattle.wac_resolution_errors.specs.declared.error.Error.{Error as CodeError}
-use Rattle.wac_resolution_rules.specs.BrokenBodies.{OwnPathBroken, ForeignPathBroken, path_broken, PathBroken}
-use Rattle.wac_resolution_rules.specs.BrokenTypes.{IsUndefined}
-use Rattle.wac_resolution_rules.specs.Paths.{key_of_path, segments_of, beginning_of, LeadsTo}
-use Rattle.wac_resolution_state.specs.Named.{scope_of, KindIs}
 use Rattle.wac_resolution_paths.specs.declared.context.Context.{Context}
 use Rattle.wac_resolution_paths.specs.Expands.{AllSupplied, Found, Loads, IsNotSupplied}
 use Rattle.wac_resolution_paths.specs.Segments.{SegmentsLead, LeadsAs}

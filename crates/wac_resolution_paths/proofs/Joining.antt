@@ -1,8 +1,5 @@
 -- Segments that are joined in order.
-use Rattle.std.proofs.Common.{◌≡◌, ◌∙◌, ◌≤◌, ◌<◌, ◌+◌, ℕ, List, [], ◌∷◌, ◌++◌, take, drop, length, get_or, refl, sym, ap, subst, arith}
-use Rattle.std.specs.List.{join_with_byte}
-use Rattle.std.proofs.lemmas.List.{append_assoc, take_more, take_all, length-map, get_or-map}
-use Rattle.wac_lexer.specs.Span.{Span}
+use Rattle.wac_resolution_paths.proofs.Common.{◌≡◌, ◌∙◌, ◌≤◌, ◌<◌, ◌+◌, ℕ, List, [], ◌∷◌, ◌++◌, take, drop, length, get_or, refl, sym, ap, subst, arith, join_with_byte, append_assoc, take_more, take_all, length-map, get_or-map, Span}
 use Rattle.wac_resolution_paths.specs.Segments.{Spans, texts}
 use Rattle.wac_resolution_paths.proofs.Walks.{at_drop, past_drop}
 

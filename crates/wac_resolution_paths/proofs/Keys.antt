@@ -1,16 +1,7 @@
 -- Keys, and what is found under them.
-use Rattle.std.proofs.Common.{◌≡◌, ◌∙◌, List, [], ◌∷◌, Option, Some, None, Bool, true, false, cond, ◌&&◌, refl, sym, ap, map}
-use Rattle.std.specs.Prelude.{string_bytes, String, option_map}
-use Rattle.std.specs.declared.alloc.Global.{Global}
-use Rattle.std.specs.Map.{lookup}
+use Rattle.wac_resolution_paths.proofs.Common.{◌≡◌, ◌∙◌, List, [], ◌∷◌, Option, Some, None, Bool, true, false, cond, ◌&&◌, refl, sym, ap, map, string_bytes, String, option_map, Global, lookup, bytes_eq, PackageParts, Naming, Key, key_of, same_key, same_version, contents_of, handed, package_of, keys_same}
 use Rattle.std.specs.Option.{option_eq}
-use Rattle.std.specs.Str.{bytes_eq}
 use Rattle.std.specs.String.{string_eq}
-use Rattle.wac_graph_types.specs.Package.{PackageParts}
-use Rattle.wac_graph.specs.Origin.{Naming}
-use Rattle.wac_graph.specs.Package.{Key, key_of, same_key, same_version}
-use Rattle.wac_graph.specs.Packages.{contents_of, handed, package_of}
-use Rattle.wac_graph.proofs.Keys.{keys_same}
 use Rattle.wac_graph.specs.declared.package_key.PackageKey.{PackageKey}
 use Rattle.wac_graph.specs.contracts.package_key.PackageKeyPartialEq.TheImpl as keys
 

@@ -1,29 +1,7 @@
 -- What segments resolve to, and where they break.
-use Rattle.std.proofs.Common.{◌≡◌, ◌∙◌, inl, inr, ◌<◌, ℕ, suc, List, [], ◌∷◌, Some, None, take, length, get_or, refl, sym, ap, subst, arith}
-use Rattle.std.specs.Prelude.{slice_get, string_bytes, String, Result, IfOk}
-use Rattle.std.specs.declared.alloc.Global.{Global}
-use Rattle.std.specs.List.{join_with_byte, slice_split}
-use Rattle.std.proofs.lemmas.List.{length-map, length-take, get_or-map}
-use Rattle.std.proofs.lemmas.Option.{slice_get_within, get_or_from_slice_get}
-use Rattle.wac_lexer.specs.Span.{Span}
-use Rattle.wac_graph_types.specs.declared.kind.ItemKind.{ItemKind}
-use Rattle.wac_graph_types.specs.Meaning.{Meaning}
-use Rattle.wac_graph_types.specs.Scope.{Named, Scope, look_up}
-use Rattle.wac_graph_types.specs.Shape.{described}
+use Rattle.wac_resolution_paths.proofs.Common.{◌≡◌, ◌∙◌, inl, inr, ◌<◌, ℕ, suc, List, [], ◌∷◌, Some, None, take, length, get_or, refl, sym, ap, subst, arith, slice_get, string_bytes, String, Result, IfOk, Global, join_with_byte, slice_split, length-map, length-take, get_or-map, slice_get_within, get_or_from_slice_get, Span, ItemKind, Meaning, Named, Scope, look_up, described, behind, located, segment_spans, PackagePath, Parts, means, Naming, Error, package_missing_export, package_path_missing_export, last_of, StandsAt, IsNoExport, IsNoPackageExport, OwnPathBroken, ForeignPathBroken, IsUndefined, segments_of, IsMember, LeadsFrom, fails_at, scope_of, KindIs, kind_fresh}
 use Rattle.wac_graph_types.specs.Steps.{Fails}
-use Rattle.wac_ast_grammar.specs.Segments.{behind, located, segment_spans}
-use Rattle.wac_ast_grammar.specs.Tree.{PackagePath}
 use Rattle.wac_ast_grammar.specs.Version.{is_slash}
-use Rattle.wac_graph.specs.Graph.{Parts}
-use Rattle.wac_graph.specs.Means.{means}
-use Rattle.wac_graph.specs.Origin.{Naming}
-use Rattle.wac_resolution_errors.specs.Error.{Error, package_missing_export, package_path_missing_export}
-use Rattle.wac_resolution_rules.specs.BrokenBodies.{last_of, StandsAt, IsNoExport, IsNoPackageExport, OwnPathBroken, ForeignPathBroken}
-use Rattle.wac_resolution_rules.specs.BrokenTypes.{IsUndefined}
-use Rattle.wac_resolution_rules.specs.Paths.{segments_of, IsMember, LeadsFrom}
-use Rattle.wac_resolution_rules.proofs.StepLaws.{fails_at}
-use Rattle.wac_resolution_state.specs.Named.{scope_of, KindIs}
-use Rattle.wac_resolution_state.proofs.Scopes.{kind_fresh}
 use Rattle.wac_resolution_paths.specs.declared.members.Missing.{Missing}
 use Rattle.wac_resolution_paths.specs.Segments.{Spans, texts, SegmentsLead, MembersLead, Misses}
 

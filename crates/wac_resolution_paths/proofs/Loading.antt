@@ -1,20 +1,7 @@
 -- Packages that a graph gets, or has.
-use Rattle.std.proofs.Common.{◌≡◌, ◌∙◌, ◌<◌, ℕ, List, [], ◌∷◌, ◌++◌, Some, None, zero, suc, length, refl, sym, ap, subst}
-use Rattle.std.specs.Prelude.{slice_get, option_map}
-use Rattle.std.specs.List.{AllByRecursion}
-use Rattle.std.specs.Map.{lookup}
+use Rattle.wac_resolution_paths.proofs.Common.{◌≡◌, ◌∙◌, ◌<◌, ℕ, List, [], ◌∷◌, ◌++◌, Some, None, zero, suc, length, refl, sym, ap, subst, slice_get, option_map, AllByRecursion, lookup, slice_get-get_or, slice_get_within, KeepsNames, PackageParts, Parts, KeepsKinds, Naming, Key, HeldPackage, IsHeld, same_key, package_keyed, moved_package, handed, package_of, contents_in, keys_same, get_kept, get_last, all_more, all_implies}
 use Rattle.std.proofs.lemmas.List.Quantifiers.{position-Some}
-use Rattle.std.proofs.lemmas.Option.{slice_get-get_or, slice_get_within}
-use Rattle.wac_graph_types.specs.Growth.{KeepsNames}
-use Rattle.wac_graph_types.specs.Package.{PackageParts}
 use Rattle.wac_graph.specs.Adds.{AddsPackage}
-use Rattle.wac_graph.specs.Graph.{Parts}
-use Rattle.wac_graph.specs.Means.{KeepsKinds}
-use Rattle.wac_graph.specs.Origin.{Naming}
-use Rattle.wac_graph.specs.Package.{Key, HeldPackage, IsHeld, same_key, package_keyed, moved_package}
-use Rattle.wac_graph.specs.Packages.{handed, package_of, contents_in}
-use Rattle.wac_graph.proofs.Keys.{keys_same}
-use Rattle.wac_graph.proofs.Lists.{get_kept, get_last, all_more, all_implies}
 use Rattle.wac_resolution_paths.specs.Expands.{Expands, IsSuppliedAs, AllSupplied, Loads, IsNotSupplied}
 use Rattle.wac_resolution_paths.proofs.Expanding.{expands_self, handed_expanded}
 use Rattle.wac_resolution_paths.proofs.Keys.{contents_found, none_found}

@@ -1,18 +1,5 @@
 -- Later segments, in order.
-use Rattle.std.proofs.Common.{◌≡◌, ◌∙◌, ◌⊎◌, inl, inr, ◌<◌, ◌≤◌, ◌+◌, ℕ, List, [], ◌∷◌, ◌++◌, Some, None, take, drop, length, get_or, refl, sym, ap, subst, arith}
-use Rattle.std.specs.Prelude.{slice_get}
-use Rattle.std.proofs.lemmas.List.{drop_more, drop_all, take_more, take_all, length-drop, length-map, get_or-map}
-use Rattle.std.proofs.lemmas.Option.{slice_get-get_or, slice_get_cases}
-use Rattle.wac_lexer.specs.Span.{Span}
-use Rattle.wac_graph_types.specs.declared.kind.ItemKind.{ItemKind}
-use Rattle.wac_graph_types.specs.Shape.{export_of}
-use Rattle.wac_graph_types.specs.Table.{Names}
-use Rattle.wac_graph.specs.Graph.{Parts}
-use Rattle.wac_graph.specs.Means.{means}
-use Rattle.wac_graph.specs.Origin.{Naming}
-use Rattle.wac_resolution_rules.specs.BrokenBodies.{last_of}
-use Rattle.wac_resolution_rules.specs.Paths.{IsMember}
-use Rattle.wac_resolution_rules.proofs.StepLaws.{steps_on}
+use Rattle.wac_resolution_paths.proofs.Common.{◌≡◌, ◌∙◌, ◌⊎◌, inl, inr, ◌<◌, ◌≤◌, ◌+◌, ℕ, List, [], ◌∷◌, ◌++◌, Some, None, take, drop, length, get_or, refl, sym, ap, subst, arith, slice_get, drop_more, drop_all, take_more, take_all, length-drop, length-map, get_or-map, slice_get-get_or, slice_get_cases, Span, ItemKind, export_of, Names, Parts, means, Naming, last_of, IsMember, steps_on}
 use Rattle.wac_resolution_paths.specs.declared.members.Missing.{Missing}
 use Rattle.wac_resolution_paths.specs.Segments.{Spans, texts, MembersLead, Misses}
 

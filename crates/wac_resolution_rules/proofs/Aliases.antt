@@ -1,10 +1,5 @@
 -- An alias of an export of a node occurs once.
-use Rattle.std.proofs.Common.{◌≡◌, ℕ, zero, suc, List, [], ◌∷◌, ◌++◌, length, refl, sym, subst, Option, Some, None, Bool, true, false, cond, not, ◌≤◌, ◌+◌, ◌&&◌, nat_eq, nat_lt, arith, eqb-true, eq-eqb, ltb-false}
-use Rattle.std.specs.List.{AllByRecursion, position, position_or_len, prefix_len}
-use Rattle.std.specs.Str.{bytes_eq}
-use Rattle.wac_graph_types.specs.Meaning.{Meaning}
-use Rattle.wac_graph_types.specs.Shape.{promoted}
-use Rattle.wac_ast_grammar.specs.Tree.{Statement}
+use Rattle.wac_resolution_rules.proofs.Common.{◌≡◌, ℕ, zero, suc, List, [], ◌∷◌, ◌++◌, length, refl, sym, subst, Option, Some, None, Bool, true, false, cond, not, ◌≤◌, ◌+◌, ◌&&◌, nat_eq, nat_lt, arith, eqb-true, eq-eqb, ltb-false, AllByRecursion, position, position_or_len, prefix_len, bytes_eq, Meaning, promoted, Statement}
 use Rattle.wac_resolution_rules.specs.Given.{Given}
 use Rattle.wac_resolution_rules.specs.Composition.{NodeForm, imported, definition, aliased, instantiated, Composition, Node, named_at, with_node, with_resources, start}
 use Rattle.wac_resolution_rules.specs.Nodes.{is_alias_of, alias_in, with_alias, next_of}

@@ -1,15 +1,8 @@
 -- Layout carries no meaning.
-use Rattle.std.proofs.Common.{◌≡◌, ℕ, List, sym, ap, ◌∙◌, subst}
-use Rattle.std.specs.Prelude.{◌↔◌}
-use Rattle.std.specs.Str.{IsUtf8}
+use Rattle.wac_resolution_rules.proofs.Common.{◌≡◌, ℕ, List, sym, ap, ◌∙◌, subst, ◌↔◌, IsUtf8, Key, Naming, Document, Keep, bare_document, plain_document}
 use Rattle.wac_graph_types.specs.Package.{PackageParts}
-use Rattle.wac_graph.specs.Package.{Key}
-use Rattle.wac_graph.specs.Origin.{Naming}
-use Rattle.wac_ast_grammar.specs.Tree.{Document}
 use Rattle.wac_ast_grammar.specs.TextTree.{IsTreeOf}
 use Rattle.wac_ast_grammar.specs.Spelled.{DocumentSpelled}
-use Rattle.wac_printer_layout.specs.Bare.{Keep, bare_document}
-use Rattle.wac_printer_layout.specs.PlainTree.{plain_document}
 use Rattle.wac_printer_layout.specs.Reread.{IsReread}
 use Rattle.wac_printer_layout.proofs.PlainTrees.{plain_of_bare, plain_of_reread}
 use Rattle.wac_resolution_rules.specs.Given.{Rules}

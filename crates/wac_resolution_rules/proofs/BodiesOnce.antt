@@ -1,14 +1,5 @@
 -- What paths name, what items of a body declare, and what is included, is unique.
-use Rattle.std.proofs.Common.{◌≡◌, ℕ, List, [], ◌∷◌, ◌++◌, Bool, true, false, refl, sym, ◌∙◌, ap, subst}
-use Rattle.wac_graph_types.specs.declared.kind.ExternKind.{ExternKind}
-use Rattle.wac_graph_types.specs.Kind.{func}
-use Rattle.wac_graph_types.specs.Meaning.{Meaning}
-use Rattle.wac_graph_types.specs.Scope.{Scope}
-use Rattle.wac_graph_types.specs.Steps.{Steps}
-use Rattle.wac_graph_types.specs.Shape.{kind_of, promoted, entry_of, imports_of, exports_of}
-use Rattle.wac_graph.specs.Origin.{Naming}
-use Rattle.wac_graph.specs.Resources.{resource_entry}
-use Rattle.wac_ast_grammar.specs.Tree.{Ident, PackagePath, UsePath, WorldRef, ResourceMethod, ItemTypeDecl}
+use Rattle.wac_resolution_rules.proofs.Common.{◌≡◌, ℕ, List, [], ◌∷◌, ◌++◌, Bool, true, false, refl, sym, ◌∙◌, ap, subst, ExternKind, func, Meaning, Scope, Steps, kind_of, promoted, entry_of, imports_of, exports_of, Naming, resource_entry, Ident, PackagePath, UsePath, WorldRef, ResourceMethod, ItemTypeDecl}
 use Rattle.wac_resolution_rules.specs.Types.{first_params}
 use Rattle.wac_resolution_rules.specs.Declarations.{in_body}
 use Rattle.wac_resolution_rules.specs.Paths.{Context, segments_of, IsMember, LeadsFrom, LeadsTo, UseNames, WorldNames}

@@ -1,16 +1,6 @@
 -- Of the packages only those that a document mentions matter to what fails in it first.
-use Rattle.std.proofs.Common.{◌≡◌, ◌⊎◌, inl, inr, ◌↔◌, ℕ, List, ◌++◌, map, refl, sym, subst, Option, Some, None}
-use Rattle.std.specs.Prelude.{flat_map}
-use Rattle.std.specs.List.{AllByRecursion}
-use Rattle.wac_lexer.specs.Span.{Span}
-use Rattle.wac_graph_types.specs.Meaning.{Meaning}
-use Rattle.wac_graph_types.specs.Scope.{Named, look_up}
-use Rattle.wac_graph_types.specs.Steps.{Steps, Fails}
-use Rattle.wac_graph.specs.Packages.{Packages, Contents, package_of}
+use Rattle.wac_resolution_rules.proofs.Common.{◌≡◌, ◌⊎◌, inl, inr, ◌↔◌, ℕ, List, ◌++◌, map, refl, sym, subst, Option, Some, None, flat_map, AllByRecursion, Span, Meaning, Named, look_up, Steps, Fails, Packages, Contents, package_of, argument_name_span, PackagePath, Expr, PrimaryExpr, Arguments, InstantiationArgument, ImportType, ImportStatement, LetStatement, ExportOptions, ExportStatement, Statement, Document, Error, unknown_package}
 use Rattle.wac_ast_grammar.specs.Grammar.{primary_span}
-use Rattle.wac_ast_grammar.specs.Spans.{argument_name_span}
-use Rattle.wac_ast_grammar.specs.Tree.{PackagePath, Expr, PrimaryExpr, Arguments, InstantiationArgument, ImportType, ImportStatement, LetStatement, ExportOptions, ExportStatement, Statement, Document}
-use Rattle.wac_resolution_errors.specs.Error.{Error, unknown_package}
 use Rattle.wac_resolution_rules.specs.Given.{Given, imports_in}
 use Rattle.wac_resolution_rules.specs.Composition.{Composition, root_scope, start}
 use Rattle.wac_resolution_rules.specs.Nodes.{imports}

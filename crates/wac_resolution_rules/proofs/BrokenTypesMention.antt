@@ -1,17 +1,7 @@
 -- Of the packages only those that paths, bodies and type statements mention matter to which rules these break.
-use Rattle.std.proofs.Common.{◌≡◌, ◌⊎◌, inl, inr, ℕ, List, [], ◌∷◌, ◌++◌, refl, subst, Option, Some, None, Bool, true, false}
-use Rattle.std.specs.Prelude.{flat_map, if◌then◌else◌}
-use Rattle.std.specs.Str.{bytes_eq}
-use Rattle.wac_graph_types.specs.declared.kind.ExternKind.{ExternKind}
+use Rattle.wac_resolution_rules.proofs.Common.{◌≡◌, ◌⊎◌, inl, inr, ℕ, List, [], ◌∷◌, ◌++◌, refl, subst, Option, Some, None, Bool, true, false, flat_map, if◌then◌else◌, bytes_eq, ExternKind, Meaning, Scope, Steps, Fails, IsA, is_interface_form, is_world_form, entry_of, promoted, Packages, Contents, PackagePath, UsePath, Use, InterfaceItem, ExternType, WorldItemPath, WorldRef, WorldInclude, WorldItem, TypeStatement, Error, unknown_package}
 use Rattle.wac_graph_types.specs.declared.kind.ExternKind.TheVariants as sides
-use Rattle.wac_graph_types.specs.Meaning.{Meaning}
-use Rattle.wac_graph_types.specs.Scope.{Scope}
-use Rattle.wac_graph_types.specs.Steps.{Steps, Fails}
-use Rattle.wac_graph_types.specs.Shape.{IsA, is_interface_form, is_world_form, entry_of, promoted}
-use Rattle.wac_graph.specs.Packages.{Packages, Contents}
 use Rattle.wac_ast_grammar.specs.Segments.{package_name_span}
-use Rattle.wac_ast_grammar.specs.Tree.{PackagePath, UsePath, Use, InterfaceItem, ExternType, WorldItemPath, WorldRef, WorldInclude, WorldItem, TypeStatement}
-use Rattle.wac_resolution_errors.specs.Error.{Error, unknown_package}
 use Rattle.wac_resolution_rules.specs.Composition.{Composition, root_scope}
 use Rattle.wac_resolution_rules.specs.Paths.{Context, key_of_path, segments_of}
 use Rattle.wac_resolution_rules.specs.Bodies.{Body, empty_body, UsesItem}

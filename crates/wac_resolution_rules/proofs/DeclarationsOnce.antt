@@ -1,11 +1,5 @@
 -- A declaration declares one kind.
-use Rattle.std.proofs.Common.{◌≡◌, ℕ, List, [], Some, None, Option, sym, ◌∙◌, ap}
-use Rattle.wac_graph_types.specs.Label.{Plain}
-use Rattle.wac_graph_types.specs.Kind.{a_func}
-use Rattle.wac_graph_types.specs.Meaning.{Meaning}
-use Rattle.wac_graph_types.specs.Scope.{Scope, with_named}
-use Rattle.wac_graph_types.specs.Shape.{kind_of, defined_type, naming_each, alias_type}
-use Rattle.wac_ast_grammar.specs.Tree.{Ident, Ty, VariantDecl, RecordDecl, FlagsDecl, EnumDecl, TypeAliasKind, TypeDecl}
+use Rattle.wac_resolution_rules.proofs.Common.{◌≡◌, ℕ, List, [], Some, None, Option, sym, ◌∙◌, ap, Plain, a_func, Meaning, Scope, with_named, kind_of, defined_type, naming_each, alias_type, Ident, Ty, VariantDecl, RecordDecl, FlagsDecl, EnumDecl, TypeAliasKind, TypeDecl}
 use Rattle.wac_resolution_rules.specs.Declarations.{HasOption, HasCase, HasField, HasFlag, HasEnumCase, IsVariant, IsRecord, IsFlags, IsEnum, Aliasing, at_root, alone, IsTypeAlias, IsAlias, IsTypeDecl}
 use Rattle.wac_resolution_rules.proofs.StepLaws.{IsOnce, steps_once}
 use Rattle.wac_resolution_rules.proofs.TypesOnce.{stands_once, type_once, func_once}

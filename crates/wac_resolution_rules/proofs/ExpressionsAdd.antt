@@ -1,11 +1,6 @@
 -- An expression only appends nodes, and denotes a bound node, an alias or a new node.
-use Rattle.std.proofs.Common.{◌≡◌, ℕ, List, [], ◌∷◌, ◌++◌, refl, sym, ◌∙◌, ap, subst, Option, Some, None, Bool, true, false, cond, is_some, append_assoc, append-nil}
+use Rattle.wac_resolution_rules.proofs.Common.{◌≡◌, ℕ, List, [], ◌∷◌, ◌++◌, refl, sym, ◌∙◌, ap, subst, Option, Some, None, Bool, true, false, cond, is_some, append_assoc, append-nil, Meaning, Named, look_up, exports_of, Steps, Ident, PostfixExpr, Expr, PrimaryExpr, Arguments, InstantiationArgument}
 use Rattle.std.specs.List.{fold}
-use Rattle.wac_graph_types.specs.Meaning.{Meaning}
-use Rattle.wac_graph_types.specs.Scope.{Named, look_up}
-use Rattle.wac_graph_types.specs.Shape.{exports_of}
-use Rattle.wac_graph_types.specs.Steps.{Steps}
-use Rattle.wac_ast_grammar.specs.Tree.{Ident, PostfixExpr, Expr, PrimaryExpr, Arguments, InstantiationArgument}
 use Rattle.wac_resolution_rules.specs.Given.{Given, imports_in}
 use Rattle.wac_resolution_rules.specs.Composition.{aliased, Composition, Node, with_node}
 use Rattle.wac_resolution_rules.specs.Nodes.{alias_in, with_alias}

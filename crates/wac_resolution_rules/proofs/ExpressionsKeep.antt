@@ -1,12 +1,6 @@
 -- What expressions and exports keep of the nodes of a composition.
-use Rattle.std.proofs.Common.{ℕ, List, [], ◌∷◌, sym, subst, Option, Some, None, Bool, true, false, cond, is_some}
+use Rattle.wac_resolution_rules.proofs.Common.{ℕ, List, [], ◌∷◌, sym, subst, Option, Some, None, Bool, true, false, cond, is_some, Meaning, Named, look_up, exports_of, Steps, Key, Ident, PostfixExpr, Expr, PrimaryExpr, Arguments, InstantiationArgument, ExportOptions}
 use Rattle.std.specs.Prelude.{fold}
-use Rattle.wac_graph_types.specs.Meaning.{Meaning}
-use Rattle.wac_graph_types.specs.Scope.{Named, look_up}
-use Rattle.wac_graph_types.specs.Shape.{exports_of}
-use Rattle.wac_graph_types.specs.Steps.{Steps}
-use Rattle.wac_graph.specs.Package.{Key}
-use Rattle.wac_ast_grammar.specs.Tree.{Ident, PostfixExpr, Expr, PrimaryExpr, Arguments, InstantiationArgument, ExportOptions}
 use Rattle.wac_resolution_rules.specs.Given.{Given, key_named, imports_in}
 use Rattle.wac_resolution_rules.specs.Composition.{Composition, Node}
 use Rattle.wac_resolution_rules.specs.Nodes.{with_alias, with_instance}

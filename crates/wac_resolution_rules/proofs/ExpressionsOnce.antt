@@ -1,11 +1,5 @@
 -- An expression denotes one node, and a statement yields one composition.
-use Rattle.std.proofs.Common.{◌≡◌, ℕ, sym, ◌∙◌, ap, subst, Some}
-use Rattle.wac_graph_types.specs.Meaning.{Meaning}
-use Rattle.wac_graph_types.specs.Scope.{Named, look_up, StandsFor}
-use Rattle.wac_graph_types.specs.Shape.{exports_of}
-use Rattle.wac_graph_types.specs.Steps.{Steps}
-use Rattle.wac_graph.specs.Packages.{Contents}
-use Rattle.wac_ast_grammar.specs.Tree.{Expr, PrimaryExpr, Arguments, InstantiationArgument}
+use Rattle.wac_resolution_rules.proofs.Common.{◌≡◌, ℕ, sym, ◌∙◌, ap, subst, Some, Meaning, Named, look_up, StandsFor, exports_of, Steps, Contents, Expr, PrimaryExpr, Arguments, InstantiationArgument}
 use Rattle.wac_resolution_rules.specs.Given.{Given, instantiable, key_named, imports_in}
 use Rattle.wac_resolution_rules.specs.Composition.{Composition, Node}
 use Rattle.wac_resolution_rules.specs.Nodes.{node_at, instance_at, next_of, with_instance}

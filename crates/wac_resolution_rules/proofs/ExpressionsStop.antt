@@ -1,18 +1,9 @@
 -- An expression that breaks a rule denotes nothing.
-use Rattle.std.proofs.Common.{◌≡◌, ◌≢◌, ℕ, List, ◌∙◌, ap, subst, Some, None, Bool, false, IsTrue, inl, inr}
-use Rattle.std.specs.List.{AllByRecursion}
-use Rattle.wac_lexer.specs.Span.{Span}
-use Rattle.wac_graph_types.specs.Meaning.{Meaning}
-use Rattle.wac_graph_types.specs.Scope.{Named, look_up, StandsFor, IsFresh}
-use Rattle.wac_graph_types.specs.Shape.{exports_of}
-use Rattle.wac_graph_types.specs.Steps.{Steps}
-use Rattle.wac_graph.specs.Packages.{Contents}
-use Rattle.wac_ast_grammar.specs.Tree.{Ident, PackageName, PostfixExpr, Expr, PrimaryExpr, Arguments, InstantiationArgument}
+use Rattle.wac_resolution_rules.proofs.Common.{◌≡◌, ◌≢◌, ℕ, List, ◌∙◌, ap, subst, Some, None, Bool, false, IsTrue, inl, inr, AllByRecursion, Span, Meaning, Named, look_up, StandsFor, IsFresh, exports_of, Steps, Contents, Ident, PackageName, PostfixExpr, Expr, PrimaryExpr, Arguments, InstantiationArgument, Error, Operation}
 use Rattle.wac_resolution_rules.specs.Given.{Given, instantiable, key_named, imports_in}
 use Rattle.wac_resolution_rules.specs.Composition.{Composition, Node, kind_at}
 use Rattle.wac_resolution_rules.specs.Nodes.{node_at, instance_at}
 use Rattle.wac_resolution_rules.specs.Expressions.{At, accessed, Accesses, Giving, nothing_given, name_meant, name_inferred, spread_from, Spreads, spreads_of, has_fill, Fits, Instantiates, Stands, PrimaryStands, Gives, GivesOne}
-use Rattle.wac_resolution_errors.specs.Error.{Error, Operation}
 use Rattle.wac_resolution_rules.specs.BrokenExpressions.{IsNotInstance, IsNotExported, IsUnknownPackage, IsGivenAlready, IsNoMatch, IsNoImport, IsMismatched, IsLeftOut, AccessBroken, SpreadBroken, InstantiationBroken, ExprBroken, PrimaryBroken, ArgumentsBroken, ArgumentBroken}
 use Rattle.wac_resolution_rules.proofs.StepLaws.{steps_once, fails_stop}
 use Rattle.wac_resolution_rules.proofs.Reached.{reached_holds}

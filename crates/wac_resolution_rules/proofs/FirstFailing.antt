@@ -1,12 +1,9 @@
 -- What follows for whole documents: a document describes one composition, and where it fails it describes none.
-use Rattle.std.proofs.Common.{◌≡◌, List, [], ◌∷◌, ◌++◌, ap, subst, Option, Some, inl, inr}
-use Rattle.wac_graph_types.specs.Steps.{Steps}
-use Rattle.wac_ast_grammar.specs.Tree.{PackagePath, Statement, Document}
+use Rattle.wac_resolution_rules.proofs.Common.{◌≡◌, List, [], ◌∷◌, ◌++◌, ap, subst, Option, Some, inl, inr, Steps, PackagePath, Statement, Document, Error}
 use Rattle.wac_resolution_rules.specs.Given.{Given}
 use Rattle.wac_resolution_rules.specs.Composition.{Composition, start}
 use Rattle.wac_resolution_rules.specs.Statements.{StatementStep, Composes}
 use Rattle.wac_resolution_rules.specs.Target.{MeetsPath, MeetsTarget}
-use Rattle.wac_resolution_errors.specs.Error.{Error}
 use Rattle.wac_resolution_rules.specs.BrokenStatements.{StatementBroken, TargetBroken}
 use Rattle.wac_resolution_rules.specs.ResolvedDocument.{Describes, StatementFails, TargetFails, FirstFailing}
 use Rattle.wac_resolution_rules.specs.Places.{Leads, Placed, placed_start}

@@ -1,14 +1,7 @@
 -- Function types with named results: what one means, and which rules others break.
-use Rattle.std.proofs.Common.{◌+◌, ℕ, List, [], ◌∷◌, refl, false, codes, inl, inr}
-use Rattle.wac_lexer.specs.Span.{span}
+use Rattle.wac_resolution_rules.proofs.Common.{◌+◌, ℕ, List, [], ◌∷◌, refl, false, codes, inl, inr, span, a_resource, Meaning, Scope, kind_of, primitive_value, borrow_of, named_results, func_entry, Ty, NamedType, ResultList, FuncType, duplicate_result, borrow_in_result}
 use Rattle.wac_graph_types.specs.declared.kind.FuncKind.TheVariants as funcs
 use Rattle.wac_graph_types.specs.declared.kind.PrimitiveType.TheVariants as primitives
-use Rattle.wac_graph_types.specs.Kind.{a_resource}
-use Rattle.wac_graph_types.specs.Meaning.{Meaning}
-use Rattle.wac_graph_types.specs.Scope.{Scope}
-use Rattle.wac_graph_types.specs.Shape.{kind_of, primitive_value, borrow_of, named_results, func_entry}
-use Rattle.wac_ast_grammar.specs.Tree.{Ty, NamedType, ResultList, FuncType}
-use Rattle.wac_resolution_errors.specs.Error.{duplicate_result, borrow_in_result}
 use Rattle.wac_resolution_rules.specs.Types.{IsFunc}
 use Rattle.wac_resolution_rules.specs.BrokenTypes.{FuncBroken}
 use Rattle.wac_resolution_rules.proofs.StatementRows.{ident}

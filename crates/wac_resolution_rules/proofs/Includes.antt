@@ -1,12 +1,6 @@
 -- An include loses nothing, and takes each name with a colon as it is.
-use Rattle.std.proofs.Common.{◌≡◌, ℕ, List, [], ◌∷◌, ◌++◌, Some, None, Option, Bool, true, false, cond, refl, sym, ap, subst}
-use Rattle.std.specs.Str.{bytes_eq}
+use Rattle.wac_resolution_rules.proofs.Common.{◌≡◌, ℕ, List, [], ◌∷◌, ◌++◌, Some, None, Option, Bool, true, false, cond, refl, sym, ap, subst, bytes_eq, Meaning, Named, Scope, look_up, StandsFor, IsFresh, with_named, Steps, entry_of, imports_of, exports_of, WorldInclude}
 use Rattle.wac_lexer.proofs.Texts.{bytes_eq_same}
-use Rattle.wac_graph_types.specs.Meaning.{Meaning}
-use Rattle.wac_graph_types.specs.Scope.{Named, Scope, look_up, StandsFor, IsFresh, with_named}
-use Rattle.wac_graph_types.specs.Steps.{Steps}
-use Rattle.wac_graph_types.specs.Shape.{entry_of, imports_of, exports_of}
-use Rattle.wac_ast_grammar.specs.Tree.{WorldInclude}
 use Rattle.wac_resolution_rules.specs.Paths.{Context}
 use Rattle.wac_resolution_rules.specs.Bodies.{Body}
 use Rattle.wac_resolution_rules.specs.Includes.{Entries, has_colon, Taking, with_missing, name_taken, TakesNamed, Takes, Included, HasInclude}

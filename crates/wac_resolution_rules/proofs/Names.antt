@@ -1,14 +1,5 @@
 -- No name is imported, exported or bound twice.
-use Rattle.std.proofs.Common.{◌≡◌, ℕ, zero, suc, List, [], ◌∷◌, ◌++◌, sym, ◌∙◌, ap, subst, refl, Option, Some, None, Bool, true, false, cond}
-use Rattle.std.specs.Prelude.{filter_map}
-use Rattle.std.specs.List.{cons_option}
-use Rattle.std.specs.Str.{bytes_eq}
-use Rattle.std.proofs.lemmas.Slice.Eq.{bytes_eq-Decides}
-use Rattle.wac_graph_types.specs.Meaning.{Meaning}
-use Rattle.wac_graph_types.specs.Scope.{Named, look_up, IsFresh, with_named}
-use Rattle.wac_graph_types.specs.Shape.{promoted}
-use Rattle.wac_graph_types.specs.Steps.{Steps}
-use Rattle.wac_ast_grammar.specs.Tree.{Expr, ExportOptions, Statement}
+use Rattle.wac_resolution_rules.proofs.Common.{◌≡◌, ℕ, zero, suc, List, [], ◌∷◌, ◌++◌, sym, ◌∙◌, ap, subst, refl, Option, Some, None, Bool, true, false, cond, filter_map, cons_option, bytes_eq, bytes_eq-Decides, Meaning, Named, look_up, IsFresh, with_named, promoted, Steps, Expr, ExportOptions, Statement}
 use Rattle.wac_resolution_rules.specs.Given.{Given}
 use Rattle.wac_resolution_rules.specs.Composition.{imported, definition, aliased, Composition, Node, named_at, with_node, with_resources, start}
 use Rattle.wac_resolution_rules.specs.Nodes.{import_of, imports, alias_in, with_alias, next_of}

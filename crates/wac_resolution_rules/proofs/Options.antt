@@ -1,5 +1,5 @@
 -- What an option holds.
-use Rattle.std.proofs.Common.{◌≡◌, Option, Some, None}
+use Rattle.wac_resolution_rules.proofs.Common.{◌≡◌, Option, Some, None}
 
 pub some_back : {X : Type 0} {a b : X} → Some a ≡ Some b → a ≡ b
 some_back h = cc

@@ -1,13 +1,5 @@
 -- Each name that is bound, imported or exported has a place.
-use Rattle.std.proofs.Common.{◌≡◌, ℕ, List, [], ◌∷◌, ◌++◌, length, refl, sym, ◌∙◌, ap, subst, drop, Option, Some, Bool, true, false, cond}
-use Rattle.std.specs.Prelude.{filter_map, option_map}
-use Rattle.std.specs.List.{cons_option}
-use Rattle.std.specs.Str.{bytes_eq}
-use Rattle.wac_lexer.specs.Span.{Span}
-use Rattle.wac_graph_types.specs.Meaning.{Meaning}
-use Rattle.wac_graph_types.specs.Scope.{Named, look_up, StandsFor}
-use Rattle.wac_graph_types.specs.Steps.{Steps}
-use Rattle.wac_ast_grammar.specs.Tree.{Statement}
+use Rattle.wac_resolution_rules.proofs.Common.{◌≡◌, ℕ, List, [], ◌∷◌, ◌++◌, length, refl, sym, ◌∙◌, ap, subst, drop, Option, Some, Bool, true, false, cond, filter_map, option_map, cons_option, bytes_eq, Span, Meaning, Named, look_up, StandsFor, Steps, Statement}
 use Rattle.wac_resolution_rules.specs.Given.{Given}
 use Rattle.wac_resolution_rules.specs.Composition.{Composition, Node, start}
 use Rattle.wac_resolution_rules.specs.Nodes.{import_of, import_name, imports}

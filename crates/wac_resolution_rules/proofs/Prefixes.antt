@@ -1,15 +1,6 @@
 -- A composition begins with that of each prefix of its statements, but an alias node without a name may have one later.
-use Rattle.std.proofs.Common.{◌≡◌, ◌≤◌, ℕ, zero, suc, List, [], ◌∷◌, ◌++◌, length, refl, sym, ◌∙◌, ap, subst, Option, Some, None, unwrap_or, Bool, true, false, cond, arith, append_assoc, append-nil, length-append, le_refl, inl, inr, ◌⊎◌, get_or}
-use Rattle.std.specs.Prelude.{slice_get, slice_set}
-use Rattle.std.specs.Str.{bytes_eq}
-use Rattle.std.specs.List.{AllByRecursion}
+use Rattle.wac_resolution_rules.proofs.Common.{◌≡◌, ◌≤◌, ℕ, zero, suc, List, [], ◌∷◌, ◌++◌, length, refl, sym, ◌∙◌, ap, subst, Option, Some, None, unwrap_or, Bool, true, false, cond, arith, append_assoc, append-nil, length-append, le_refl, inl, inr, ◌⊎◌, get_or, slice_get, slice_set, bytes_eq, AllByRecursion, slice_get-get_or, Meaning, Named, look_up, with_named, exports_of, promoted, Steps, PostfixExpr, Expr, PrimaryExpr, ImportStatement, LetStatement, ExportOptions, ExportStatement, TypeStatement, Statement}
 use Rattle.std.proofs.lemmas.List.Quantifiers.{position-Some}
-use Rattle.std.proofs.lemmas.Option.{slice_get-get_or}
-use Rattle.wac_graph_types.specs.Meaning.{Meaning}
-use Rattle.wac_graph_types.specs.Scope.{Named, look_up, with_named}
-use Rattle.wac_graph_types.specs.Shape.{exports_of, promoted}
-use Rattle.wac_graph_types.specs.Steps.{Steps}
-use Rattle.wac_ast_grammar.specs.Tree.{PostfixExpr, Expr, PrimaryExpr, ImportStatement, LetStatement, ExportOptions, ExportStatement, TypeStatement, Statement}
 use Rattle.wac_resolution_rules.specs.Given.{Given, imports_in}
 use Rattle.wac_resolution_rules.specs.Composition.{NodeForm, imported, definition, aliased, instantiated, Composition, Node, first_name, named_at, binding, with_node, with_export, with_resources, start}
 use Rattle.wac_resolution_rules.specs.Nodes.{is_alias_of, alias_in, next_of}

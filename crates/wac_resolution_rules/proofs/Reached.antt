@@ -1,6 +1,5 @@
 -- What holds of each holds of one that is reached.
-use Rattle.std.proofs.Common.{List, [], ◌∷◌, ◌++◌, subst}
-use Rattle.std.specs.List.{AllByRecursion}
+use Rattle.wac_resolution_rules.proofs.Common.{List, [], ◌∷◌, ◌++◌, subst, AllByRecursion}
 use Rattle.wac_resolution_rules.specs.BrokenExpressions.{ReachedAt}
 
 -- what holds of each holds of one of them

@@ -1,22 +1,11 @@
 -- Documents that break a rule of statements, expressions or targets: at the last statement, or at the target.
-use Rattle.std.proofs.Common.{◌-◌, ℕ, List, [], ◌∷◌, refl, Option, Some, None, false, codes, inl, inr}
-use Rattle.wac_lexer.specs.Span.{span}
+use Rattle.wac_resolution_rules.proofs.Common.{◌-◌, ℕ, List, [], ◌∷◌, refl, Option, Some, None, false, codes, inl, inr, span, Reason, a_resource, an_interface, a_world, func, instance, Meaning, Row, done, more, Named, kind_of, entry_of, row_of, alias_type, primitive_value, func_entry, interface_entry, world_entry, Naming, resource_entry, Contents, PackageName, PackagePath, Ty, TypeAliasKind, TypeDecl, TypeStatement, PostfixExpr, InstantiationArgumentName, InstantiationArgument, Arguments, PrimaryExpr, Expr, ExternName, ImportType, ExportOptions, Statement, Operation, undefined_name, duplicate_name, invalid_alias_type, unknown_package, package_missing_export, package_path_missing_export, missing_component_import, duplicate_instantiation_arg, not_an_instance, missing_instance_export, export_requires_as, export_conflict, duplicate_extern_name, invalid_extern_name, spread_instantiation_no_match, spread_export_no_effect, not_world, import_not_in_target, target_mismatch}
 use Rattle.wac_graph_types.specs.declared.kind.ExternKind.TheVariants as externs
 use Rattle.wac_graph_types.specs.declared.kind.PrimitiveType.TheVariants as primitives
-use Rattle.wac_graph_types.specs.declared.rules.Reason.{Reason}
-use Rattle.wac_graph_types.specs.Kind.{a_resource, an_interface, a_world, func, instance}
-use Rattle.wac_graph_types.specs.Meaning.{Meaning, Row, done, more}
-use Rattle.wac_graph_types.specs.Scope.{Named}
-use Rattle.wac_graph_types.specs.Shape.{kind_of, entry_of, row_of, alias_type, primitive_value, func_entry, interface_entry, world_entry}
-use Rattle.wac_graph.specs.Origin.{Naming}
-use Rattle.wac_graph.specs.Resources.{resource_entry}
-use Rattle.wac_graph.specs.Packages.{Contents}
-use Rattle.wac_ast_grammar.specs.Tree.{PackageName, PackagePath, Ty, TypeAliasKind, TypeDecl, TypeStatement, PostfixExpr, InstantiationArgumentName, InstantiationArgument, Arguments, PrimaryExpr, Expr, ExternName, ImportType, ExportOptions, Statement}
 use Rattle.wac_resolution_rules.specs.Given.{Given}
 use Rattle.wac_resolution_rules.specs.Composition.{Composition, Node, imported, definition, aliased, start}
 use Rattle.wac_resolution_rules.specs.Expressions.{at, Giving}
 use Rattle.wac_resolution_rules.specs.Places.{Places}
-use Rattle.wac_resolution_errors.specs.Error.{Operation, undefined_name, duplicate_name, invalid_alias_type, unknown_package, package_missing_export, package_path_missing_export, missing_component_import, duplicate_instantiation_arg, not_an_instance, missing_instance_export, export_requires_as, export_conflict, duplicate_extern_name, invalid_extern_name, spread_instantiation_no_match, spread_export_no_effect, not_world, import_not_in_target, target_mismatch}
 use Rattle.wac_resolution_rules.specs.BrokenStatements.{StatementBroken, TargetBroken}
 use Rattle.wac_resolution_rules.proofs.StatementRows.{ident, no_params, function, given_in, package_cd, key_cd, name_cd, none_pass, node_i, with_cd}
 

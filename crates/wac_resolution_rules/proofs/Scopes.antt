@@ -1,16 +1,6 @@
 -- In a body each name of the scope is among the externs, so a name that is fresh there is fresh in the scope: a `use` needs no second test.
-use Rattle.std.proofs.Common.{◌≡◌, ℕ, suc, List, [], ◌∷◌, ◌++◌, Some, None, Bool, true, false, cond, refl, sym, ap, subst}
-use Rattle.std.specs.Str.{bytes_eq}
-use Rattle.wac_graph_types.specs.declared.kind.ExternKind.{ExternKind}
+use Rattle.wac_resolution_rules.proofs.Common.{◌≡◌, ℕ, suc, List, [], ◌∷◌, ◌++◌, Some, None, Bool, true, false, cond, refl, sym, ap, subst, bytes_eq, ExternKind, func, a_resource, Meaning, Named, Scope, look_up, IsFresh, with_named, Steps, kind_of, promoted, Naming, resource_entry, ResourceMethod, ItemTypeDecl, UseItem, Use, InterfaceItem, WorldItemPath, WorldItem}
 use Rattle.wac_graph_types.specs.declared.kind.ExternKind.TheVariants as sides
-use Rattle.wac_graph_types.specs.Kind.{func, a_resource}
-use Rattle.wac_graph_types.specs.Meaning.{Meaning}
-use Rattle.wac_graph_types.specs.Scope.{Named, Scope, look_up, IsFresh, with_named}
-use Rattle.wac_graph_types.specs.Steps.{Steps}
-use Rattle.wac_graph_types.specs.Shape.{kind_of, promoted}
-use Rattle.wac_graph.specs.Origin.{Naming}
-use Rattle.wac_graph.specs.Resources.{resource_entry}
-use Rattle.wac_ast_grammar.specs.Tree.{ResourceMethod, ItemTypeDecl, UseItem, Use, InterfaceItem, WorldItemPath, WorldItem}
 use Rattle.wac_resolution_rules.specs.Paths.{Context}
 use Rattle.wac_resolution_rules.specs.Bodies.{Body, empty_body, with_extern, with_type, with_count, constructor_name, name_of_method, HasMethod, with_resource, HasItem, used_as, renamed_from, UsesItem, HasUse, IsCovered}
 use Rattle.wac_resolution_rules.specs.Worlds.{HasInterfaceItem, HasExtern, HasWorldItem, id_or_empty}

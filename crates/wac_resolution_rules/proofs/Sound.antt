@@ -1,16 +1,6 @@
 -- Edges go from earlier nodes to later ones, and each argument names an import of its package once and fits it.
-use Rattle.std.proofs.Common.{◌≡◌, ◌≤◌, ◌<◌, ◌+◌, ℕ, zero, suc, List, [], ◌∷◌, ◌++◌, length, refl, sym, ◌∙◌, ap, subst, Option, Some, None, Bool, true, false, cond, arith, length-append, le_refl, is_some}
+use Rattle.wac_resolution_rules.proofs.Common.{◌≡◌, ◌≤◌, ◌<◌, ◌+◌, ℕ, zero, suc, List, [], ◌∷◌, ◌++◌, length, refl, sym, ◌∙◌, ap, subst, Option, Some, None, Bool, true, false, cond, arith, length-append, le_refl, is_some, AllByRecursion, bytes_eq, slice_get_within, Meaning, EachFrom, Named, look_up, StandsFor, IsFresh, with_named, exports_of, promoted, Steps, Key, Contents, package_of, Ident, PackageName, PostfixExpr, Expr, PrimaryExpr, Arguments, InstantiationArgument, ImportStatement, LetStatement, ExportOptions, ExportStatement, TypeStatement, Statement}
 use Rattle.std.specs.Prelude.{fold}
-use Rattle.std.specs.List.{AllByRecursion}
-use Rattle.std.specs.Str.{bytes_eq}
-use Rattle.std.proofs.lemmas.Option.{slice_get_within}
-use Rattle.wac_graph_types.specs.Meaning.{Meaning, EachFrom}
-use Rattle.wac_graph_types.specs.Scope.{Named, look_up, StandsFor, IsFresh, with_named}
-use Rattle.wac_graph_types.specs.Shape.{exports_of, promoted}
-use Rattle.wac_graph_types.specs.Steps.{Steps}
-use Rattle.wac_graph.specs.Package.{Key}
-use Rattle.wac_graph.specs.Packages.{Contents, package_of}
-use Rattle.wac_ast_grammar.specs.Tree.{Ident, PackageName, PostfixExpr, Expr, PrimaryExpr, Arguments, InstantiationArgument, ImportStatement, LetStatement, ExportOptions, ExportStatement, TypeStatement, Statement}
 use Rattle.wac_resolution_rules.specs.Given.{Given, instantiable, key_named, imports_in}
 use Rattle.wac_resolution_rules.specs.Composition.{NodeForm, imported, definition, aliased, instantiated, Composition, Node, kind_at, named_at, binding, with_node, with_export, with_resources, start}
 use Rattle.wac_resolution_rules.specs.Nodes.{alias_in, with_alias, next_of, key_of_node}

@@ -1,16 +1,6 @@
 -- Documents that are worked out: what they compose, or which rule they break.
-use Rattle.std.proofs.Common.{◌≡◌, ℕ, List, [], ◌∷◌, refl, Option, Some, None, false, codes, inl, inr}
-use Rattle.wac_lexer.specs.Span.{span}
+use Rattle.wac_resolution_rules.proofs.Common.{◌≡◌, ℕ, List, [], ◌∷◌, refl, Option, Some, None, false, codes, inl, inr, span, Reason, func, instance, component, a_world, Meaning, Named, look_up, kind_of, func_entry, interface_entry, world_entry, Key, Naming, Contents, Ident, PackageName, PackagePath, FuncType, InterfaceItem, Expr, Arguments, Statement, ExportOptions, ExternName, ExternType, FuncTypeRef, ImportType, InstantiationArgument, PostfixExpr, PrimaryExpr, ResultList, TypeStatement, WorldItem, WorldItemPath, duplicate_extern_name, fill_argument_not_last, import_not_in_target, mismatched_instantiation_arg, missing_instantiation_arg, missing_target_export, unknown_package}
 use Rattle.wac_graph_types.specs.declared.kind.ExternKind.TheVariants as externs
-use Rattle.wac_graph_types.specs.declared.rules.Reason.{Reason}
-use Rattle.wac_graph_types.specs.Kind.{func, instance, component, a_world}
-use Rattle.wac_graph_types.specs.Meaning.{Meaning}
-use Rattle.wac_graph_types.specs.Scope.{Named, look_up}
-use Rattle.wac_graph_types.specs.Shape.{kind_of, func_entry, interface_entry, world_entry}
-use Rattle.wac_graph.specs.Package.{Key}
-use Rattle.wac_graph.specs.Origin.{Naming}
-use Rattle.wac_graph.specs.Packages.{Contents}
-use Rattle.wac_ast_grammar.specs.Tree.{Ident, PackageName, PackagePath, FuncType, InterfaceItem, Expr, Arguments, Statement, ExportOptions, ExternName, ExternType, FuncTypeRef, ImportType, InstantiationArgument, PostfixExpr, PrimaryExpr, ResultList, TypeStatement, WorldItem, WorldItemPath}
 use Rattle.wac_resolution_rules.specs.Given.{Given, Rules, imports_in}
 use Rattle.wac_resolution_rules.specs.Bodies.{Body}
 use Rattle.wac_resolution_rules.specs.Composition.{Composition, Node, imported, definition, aliased, instantiated, root_scope, start}
@@ -18,7 +8,6 @@ use Rattle.wac_resolution_rules.specs.Find.{find_name}
 use Rattle.wac_resolution_rules.specs.Expressions.{Giving, name_inferred}
 use Rattle.wac_resolution_rules.specs.Statements.{StatementStep, Composes, unnamed_export}
 use Rattle.wac_resolution_rules.specs.Target.{IsAllowed}
-use Rattle.wac_resolution_errors.specs.Error.{duplicate_extern_name, fill_argument_not_last, import_not_in_target, mismatched_instantiation_arg, missing_instantiation_arg, missing_target_export, unknown_package}
 use Rattle.wac_resolution_rules.specs.BrokenStatements.{StatementBroken, TargetWorldBroken, TargetBroken}
 use Rattle.wac_resolution_rules.specs.Places.{Places}
 

@@ -1,18 +1,7 @@
 -- Of the packages only those that a document mentions matter.
-use Rattle.std.proofs.Common.{◌≡◌, ℕ, zero, suc, List, [], ◌∷◌, ◌++◌, refl, sym, ap, subst, Option, Some, None, Bool, true, false, cond, is_some, ◌||◌, ◌↔◌}
-use Rattle.std.specs.Prelude.{flat_map, fold, option_and_then, if◌then◌else◌}
-use Rattle.std.specs.List.{AllByRecursion, list_any}
-use Rattle.std.specs.Str.{bytes_eq}
+use Rattle.wac_resolution_rules.proofs.Common.{◌≡◌, ℕ, zero, suc, List, [], ◌∷◌, ◌++◌, refl, sym, ap, subst, Option, Some, None, Bool, true, false, cond, is_some, ◌||◌, ◌↔◌, flat_map, option_and_then, if◌then◌else◌, AllByRecursion, list_any, bytes_eq, bytes_eq-Decides, instance, Meaning, Named, look_up, IsFresh, Steps, kind_of, promoted, exports_of, Key, same_key, same_version, Packages, Contents, package_of, Ident, PackageName, PackagePath, PostfixExpr, Expr, PrimaryExpr, Arguments, InstantiationArgument, ImportType, ExportOptions, Statement, Document}
+use Rattle.std.specs.Prelude.{fold}
 use Rattle.std.proofs.lemmas.Map.Entries.{lookup-filter-keys}
-use Rattle.std.proofs.lemmas.Slice.Eq.{bytes_eq-Decides}
-use Rattle.wac_graph_types.specs.Kind.{instance}
-use Rattle.wac_graph_types.specs.Meaning.{Meaning}
-use Rattle.wac_graph_types.specs.Scope.{Named, look_up, IsFresh}
-use Rattle.wac_graph_types.specs.Steps.{Steps}
-use Rattle.wac_graph_types.specs.Shape.{kind_of, promoted, exports_of}
-use Rattle.wac_graph.specs.Package.{Key, same_key, same_version}
-use Rattle.wac_graph.specs.Packages.{Packages, Contents, package_of}
-use Rattle.wac_ast_grammar.specs.Tree.{Ident, PackageName, PackagePath, PostfixExpr, Expr, PrimaryExpr, Arguments, InstantiationArgument, ImportType, ExportOptions, Statement, Document}
 use Rattle.wac_resolution_rules.specs.Kinds.{world_of}
 use Rattle.wac_resolution_rules.specs.Given.{Given, instantiable, key_named, imports_in}
 use Rattle.wac_resolution_rules.specs.Composition.{imported, definition, aliased, Composition, Node, named_at, binding, root_scope, with_node, with_resources, start}

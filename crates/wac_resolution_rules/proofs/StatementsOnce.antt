@@ -1,11 +1,5 @@
 -- A statement yields one composition.
-use Rattle.std.proofs.Common.{◌≡◌, ℕ, List, [], sym, ◌∙◌, ap, subst, Some, None}
-use Rattle.wac_graph_types.specs.Kind.{func, instance}
-use Rattle.wac_graph_types.specs.Meaning.{Meaning}
-use Rattle.wac_graph_types.specs.Scope.{Named, look_up}
-use Rattle.wac_graph_types.specs.Shape.{kind_of, exports_of, promoted}
-use Rattle.wac_graph_types.specs.Steps.{Steps}
-use Rattle.wac_ast_grammar.specs.Tree.{ImportType, ImportStatement, LetStatement, ExportOptions, ExportStatement, Statement}
+use Rattle.wac_resolution_rules.proofs.Common.{◌≡◌, ℕ, List, [], sym, ◌∙◌, ap, subst, Some, None, func, instance, Meaning, Named, look_up, kind_of, exports_of, promoted, Steps, ImportType, ImportStatement, LetStatement, ExportOptions, ExportStatement, Statement}
 use Rattle.wac_resolution_rules.specs.Given.{Given}
 use Rattle.wac_resolution_rules.specs.Composition.{Composition, Node, imported, root_scope, with_node, with_export, with_resources, binding}
 use Rattle.wac_resolution_rules.specs.Nodes.{node_at, instance_at, next_of}

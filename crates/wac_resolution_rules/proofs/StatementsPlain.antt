@@ -1,18 +1,5 @@
 -- Of a document only the names and texts matter: layout carries no meaning.
-use Rattle.std.proofs.Common.{◌≡◌, ℕ, List, [], ◌∷◌, ◌++◌, refl, sym, ◌∙◌, ap, Option, Some, None, ◌||◌, map}
-use Rattle.std.specs.Prelude.{option_map}
-use Rattle.wac_graph_types.specs.Kind.{func, instance}
-use Rattle.wac_graph_types.specs.Meaning.{Meaning}
-use Rattle.wac_graph_types.specs.Scope.{Named, IsFresh}
-use Rattle.wac_graph_types.specs.Steps.{Steps}
-use Rattle.wac_graph_types.specs.Shape.{kind_of, promoted}
-use Rattle.wac_graph.specs.Packages.{Contents}
-use Rattle.wac_ast_grammar.specs.Tree.{Ident, PackagePath, ExternName, PostfixExpr, Expr, PrimaryExpr, Arguments, InstantiationArgument, InstantiationArgumentName, ImportType, ImportStatement, LetStatement, ExportOptions, ExportStatement, Statement, Document}
-use Rattle.wac_ast_grammar.specs.Walk.{walk_arguments, walk_export_options, walk_export_statement, walk_expr, walk_extern_name, walk_import_statement, walk_import_type, walk_instantiation_argument, walk_instantiation_argument_name, walk_let_statement, walk_postfix_expr, walk_primary_expr, walk_statement}
-use Rattle.wac_ast_grammar.specs.Leaves.{changed}
-use Rattle.wac_ast_grammar.specs.Spans.{extern_name_text}
-use Rattle.wac_printer_layout.specs.Bare.{no_docs}
-use Rattle.wac_printer_layout.specs.PlainTree.{plain, plain_document}
+use Rattle.wac_resolution_rules.proofs.Common.{◌≡◌, ℕ, List, [], ◌∷◌, ◌++◌, refl, sym, ◌∙◌, ap, Option, Some, None, ◌||◌, map, option_map, func, instance, Meaning, Named, IsFresh, Steps, kind_of, promoted, Contents, Ident, PackagePath, ExternName, PostfixExpr, Expr, PrimaryExpr, Arguments, InstantiationArgument, InstantiationArgumentName, ImportType, ImportStatement, LetStatement, ExportOptions, ExportStatement, Statement, Document, walk_arguments, walk_export_options, walk_export_statement, walk_expr, walk_extern_name, walk_import_statement, walk_import_type, walk_instantiation_argument, walk_instantiation_argument_name, walk_let_statement, walk_postfix_expr, walk_primary_expr, walk_statement, changed, extern_name_text, no_docs, plain, plain_document}
 use Rattle.wac_resolution_rules.specs.Given.{Given, instantiable, key_named, imports_in}
 use Rattle.wac_resolution_rules.specs.Composition.{Composition, imported, root_scope, with_node, with_resources, binding, start}
 use Rattle.wac_resolution_rules.specs.Nodes.{imports, next_of}

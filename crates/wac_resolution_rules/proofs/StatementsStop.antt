@@ -1,16 +1,6 @@
 -- A statement that breaks a rule resolves to nothing, and a target that breaks one isn't met.
-use Rattle.std.proofs.Common.{◌≡◌, ◌≢◌, ℕ, List, [], ◌∷◌, ◌++◌, subst, Option, Some, None, map, inl, inr}
-use Rattle.std.specs.Prelude.{flat_map}
-use Rattle.std.specs.List.{AllByRecursion}
-use Rattle.wac_lexer.specs.Span.{Span}
-use Rattle.wac_graph_types.specs.declared.kind.ExternKind.{ExternKind}
-use Rattle.wac_graph_types.specs.Meaning.{Meaning}
-use Rattle.wac_graph_types.specs.Scope.{Named, look_up, IsFresh}
-use Rattle.wac_graph_types.specs.Kind.{an_interface, a_world}
-use Rattle.wac_graph_types.specs.Shape.{kind_of, exports_of, promoted}
-use Rattle.wac_graph_types.specs.Steps.{Steps}
+use Rattle.wac_resolution_rules.proofs.Common.{◌≡◌, ◌≢◌, ℕ, List, [], ◌∷◌, ◌++◌, subst, Option, Some, None, map, inl, inr, flat_map, AllByRecursion, Span, ExternKind, Meaning, Named, look_up, IsFresh, an_interface, a_world, kind_of, exports_of, promoted, Steps, Ident, PackagePath, ImportType, ImportStatement, LetStatement, Expr, ExportOptions, ExportStatement, TypeStatement, Statement, Error, Operation}
 use Rattle.wac_graph_types.specs.declared.kind.FuncKind.TheVariants as funcs
-use Rattle.wac_ast_grammar.specs.Tree.{Ident, PackagePath, ImportType, ImportStatement, LetStatement, Expr, ExportOptions, ExportStatement, TypeStatement, Statement}
 use Rattle.wac_resolution_rules.specs.Paths.{Context}
 use Rattle.wac_resolution_rules.specs.TypeStatements.{Declares, Defines}
 use Rattle.wac_resolution_rules.specs.Kinds.{world_of}
@@ -20,7 +10,6 @@ use Rattle.wac_resolution_rules.specs.Nodes.{node_at, instance_at, imports}
 use Rattle.wac_resolution_rules.specs.Expressions.{At}
 use Rattle.wac_resolution_rules.specs.Statements.{ImportsKind, name_imported, Imports, Lets, definition_bound, ExportsAs, unnamed_export, unexported, ExportsOne, ExportsBy, Exports, StatementStep}
 use Rattle.wac_resolution_rules.specs.Target.{allowed, open_imports, all_imports, ImportAllowed, ExportMet, IsAllowed, MeetsPath}
-use Rattle.wac_resolution_errors.specs.Error.{Error, Operation}
 use Rattle.wac_resolution_rules.specs.BrokenStatements.{IsImportedAlready, IsExportedAlready, IsInvalidName, IsExportConflict, IsUnnamed, IsNoEffect, IsNotWorld, placed_imports, IsNotInTarget, IsImportMismatch, IsMissingExport, IsExportMismatch, ImportKindBroken, ImportBroken, LetBroken, ExportAsBroken, ExportOneBroken, ExportOptionsBroken, ExportBroken, StatementBroken, TargetWorldBroken, TargetBroken}
 use Rattle.wac_resolution_rules.specs.Spans.{identifier_of}
 use Rattle.wac_resolution_rules.specs.Places.{Places, names_at}

@@ -1,8 +1,7 @@
 -- What holds of items that are taken in order.
-use Rattle.std.proofs.Common.{◌≡◌, ◌<◌, ◌+◌, ℕ, suc, List, [], ◌∷◌, ◌++◌, map, take, drop, length, get_or, refl, sym, ◌∙◌, ap, subst}
+use Rattle.wac_resolution_rules.proofs.Common.{◌≡◌, ◌<◌, ◌+◌, ℕ, suc, List, [], ◌∷◌, ◌++◌, map, take, drop, length, get_or, refl, sym, ◌∙◌, ap, subst, Steps, Fails}
 use Rattle.std.proofs.lemmas.List.{take-append-drop, take_more, length-map, get_or-map}
 use Rattle.std.proofs.Math.Seq.{drop-cons}
-use Rattle.wac_graph_types.specs.Steps.{Steps, Fails}
 
 -- a step yields one state
 abbrev pub IsOnce : {S X : Type 0} → (S → X → S → Type 0) → Type 0

@@ -1,16 +1,6 @@
 -- Of the packages only those that types and declarations mention matter to them.
-use Rattle.std.proofs.Common.{◌≡◌, ℕ, List, [], ◌∷◌, ◌++◌, refl, ap, subst, Option, Some, None, Bool, true, false}
-use Rattle.std.specs.Prelude.{flat_map, option_map, if◌then◌else◌}
-use Rattle.std.specs.Str.{bytes_eq}
-use Rattle.wac_graph_types.specs.declared.kind.ExternKind.{ExternKind}
+use Rattle.wac_resolution_rules.proofs.Common.{◌≡◌, ℕ, List, [], ◌∷◌, ◌++◌, refl, ap, subst, Option, Some, None, Bool, true, false, flat_map, option_map, if◌then◌else◌, bytes_eq, ExternKind, instance, an_interface, a_world, Meaning, Scope, IsFresh, Steps, IsA, is_interface_form, is_world_form, kind_of, entry_of, interface_entry, world_entry, promoted, Packages, Contents, package_of, PackagePath, UsePath, Use, InterfaceItem, ExternType, WorldItemPath, WorldRef, WorldInclude, WorldItem, TypeStatement}
 use Rattle.wac_graph_types.specs.declared.kind.ExternKind.TheVariants as sides
-use Rattle.wac_graph_types.specs.Kind.{instance, an_interface, a_world}
-use Rattle.wac_graph_types.specs.Meaning.{Meaning}
-use Rattle.wac_graph_types.specs.Scope.{Scope, IsFresh}
-use Rattle.wac_graph_types.specs.Steps.{Steps}
-use Rattle.wac_graph_types.specs.Shape.{IsA, is_interface_form, is_world_form, kind_of, entry_of, interface_entry, world_entry, promoted}
-use Rattle.wac_graph.specs.Packages.{Packages, Contents, package_of}
-use Rattle.wac_ast_grammar.specs.Tree.{PackagePath, UsePath, Use, InterfaceItem, ExternType, WorldItemPath, WorldRef, WorldInclude, WorldItem, TypeStatement}
 use Rattle.wac_resolution_rules.specs.Composition.{Composition, root_scope}
 use Rattle.wac_resolution_rules.specs.Paths.{Context, key_of_path, segments_of, beginning_of, LeadsFrom, LeadsTo, UseNames, WorldNames}
 use Rattle.wac_resolution_rules.specs.Bodies.{Body, empty_body, externs, with_extern, with_count, HasUse, UsesItem}

@@ -1,11 +1,5 @@
 -- A type has one meaning in a scope.
-use Rattle.std.proofs.Common.{◌≡◌, ℕ, false, List, [], ◌∷◌, Some, sym, ◌∙◌, ap}
-use Rattle.wac_graph_types.specs.Label.{Plain}
-use Rattle.wac_graph_types.specs.Entry.{Slot}
-use Rattle.wac_graph_types.specs.Meaning.{Meaning}
-use Rattle.wac_graph_types.specs.Scope.{Named, Scope, StandsFor, with_named}
-use Rattle.wac_graph_types.specs.Shape.{entry_of, as_value, borrow_of, own_of, defined_value, in_order, one_child, result_children, one_result, named_results, func_entry}
-use Rattle.wac_ast_grammar.specs.Tree.{Ty, OptionalTy, Types, NamedType, ResultList, FuncType}
+use Rattle.wac_resolution_rules.proofs.Common.{◌≡◌, ℕ, false, List, [], ◌∷◌, Some, sym, ◌∙◌, ap, Plain, Slot, Meaning, Named, Scope, StandsFor, with_named, entry_of, as_value, borrow_of, own_of, defined_value, in_order, one_child, result_children, one_result, named_results, func_entry, Ty, OptionalTy, Types, NamedType, ResultList, FuncType}
 use Rattle.wac_resolution_rules.specs.Types.{HasType, HasOptional, HaveTypes, HasParam, HasResult, HasResults, IsFuncWith, IsConstructor}
 use Rattle.wac_resolution_rules.proofs.StepLaws.{IsOnce, steps_once}
 

@@ -1,18 +1,5 @@
 -- Of a type only the names matter.
-use Rattle.std.proofs.Common.{◌≡◌, ℕ, false, List, [], ◌∷◌, Some, None, Option, refl, ◌∙◌, ap}
-use Rattle.std.specs.Prelude.{map, option_map}
-use Rattle.wac_graph_types.specs.Label.{Plain}
-use Rattle.wac_graph_types.specs.Entry.{Slot}
-use Rattle.wac_graph_types.specs.Kind.{a_func}
-use Rattle.wac_graph_types.specs.Meaning.{Meaning}
-use Rattle.wac_graph_types.specs.Scope.{Named, Scope, IsFresh, with_named}
-use Rattle.wac_graph_types.specs.Steps.{Steps}
-use Rattle.wac_graph_types.specs.Shape.{kind_of, defined_value, defined_type, naming_each, in_order, one_child, result_children, one_result, named_results, own_of, func_entry, contains_borrow, alias_type}
-use Rattle.wac_ast_grammar.specs.Tree.{Ident, Ty, OptionalTy, Types, NamedType, ResultList, FuncType, VariantCase, VariantDecl, Field, RecordDecl, FlagsDecl, EnumDecl, TypeAliasKind, TypeDecl}
-use Rattle.wac_ast_grammar.specs.Walk.{walk_enum_case, walk_enum_decl, walk_field, walk_flag, walk_flags_decl, walk_func_type, walk_named_type, walk_optional_ty, walk_record_decl, walk_result_list, walk_ty, walk_type_alias_kind, walk_type_decl, walk_types, walk_variant_case, walk_variant_decl}
-use Rattle.wac_ast_grammar.specs.Leaves.{changed}
-use Rattle.wac_printer_layout.specs.Bare.{no_docs}
-use Rattle.wac_printer_layout.specs.PlainTree.{plain}
+use Rattle.wac_resolution_rules.proofs.Common.{◌≡◌, ℕ, false, List, [], ◌∷◌, Some, None, Option, refl, ◌∙◌, ap, map, option_map, Plain, Slot, a_func, Meaning, Named, Scope, IsFresh, with_named, Steps, kind_of, defined_value, defined_type, naming_each, in_order, one_child, result_children, one_result, named_results, own_of, func_entry, contains_borrow, alias_type, Ident, Ty, OptionalTy, Types, NamedType, ResultList, FuncType, VariantCase, VariantDecl, Field, RecordDecl, FlagsDecl, EnumDecl, TypeAliasKind, TypeDecl, walk_enum_case, walk_enum_decl, walk_field, walk_flag, walk_flags_decl, walk_func_type, walk_named_type, walk_optional_ty, walk_record_decl, walk_result_list, walk_ty, walk_type_alias_kind, walk_type_decl, walk_types, walk_variant_case, walk_variant_decl, changed, no_docs, plain}
 use Rattle.wac_resolution_rules.specs.Types.{HasType, HasOptional, HaveTypes, HasParam, HasResult, HasResults, IsFuncWith, IsConstructor}
 use Rattle.wac_resolution_rules.specs.Declarations.{HasOption, HasCase, HasField, HasFlag, HasEnumCase, IsVariant, IsRecord, IsFlags, IsEnum, Aliasing, at_root, alone, IsTypeAlias, IsAlias, IsTypeDecl}
 use Rattle.wac_resolution_rules.proofs.StepLaws.{steps_map}

@@ -1,15 +1,7 @@
 -- A type or declaration that breaks a rule has no meaning.
-use Rattle.std.proofs.Common.{◌≡◌, ◌⊎◌, inl, inr, ℕ, List, [], Some, None, Option, Bool, true, false, sym, ◌∙◌, ap, subst}
+use Rattle.wac_resolution_rules.proofs.Common.{◌≡◌, ◌⊎◌, inl, inr, ℕ, List, [], Some, None, Option, Bool, true, false, sym, ◌∙◌, ap, subst, Form, Slot, Meaning, Named, Scope, StandsFor, IsFresh, Steps, IsA, IsNoneOf, contains_borrow, Ident, Ty, OptionalTy, Types, NamedType, ResultList, FuncType, VariantCase, VariantDecl, Field, RecordDecl, Flag, FlagsDecl, EnumCase, EnumDecl, TypeAliasKind, TypeDecl, Error}
 use Rattle.wac_graph_types.specs.declared.kind.FuncKind.{FuncKind}
 use Rattle.wac_graph_types.specs.declared.kind.FuncKind.TheVariants as funcs
-use Rattle.wac_graph_types.specs.Kind.{Form}
-use Rattle.wac_graph_types.specs.Entry.{Slot}
-use Rattle.wac_graph_types.specs.Meaning.{Meaning}
-use Rattle.wac_graph_types.specs.Scope.{Named, Scope, StandsFor, IsFresh}
-use Rattle.wac_graph_types.specs.Steps.{Steps}
-use Rattle.wac_graph_types.specs.Shape.{IsA, IsNoneOf, contains_borrow}
-use Rattle.wac_ast_grammar.specs.Tree.{Ident, Ty, OptionalTy, Types, NamedType, ResultList, FuncType, VariantCase, VariantDecl, Field, RecordDecl, Flag, FlagsDecl, EnumCase, EnumDecl, TypeAliasKind, TypeDecl}
-use Rattle.wac_resolution_errors.specs.Error.{Error}
 use Rattle.wac_resolution_rules.specs.Types.{HasType, HasOptional, HaveTypes, HasParam, HasResultType, HasResult, HasResults, IsFuncWith}
 use Rattle.wac_resolution_rules.specs.Declarations.{HasOption, HasCase, HasField, HasFlag, HasEnumCase, IsVariant, IsRecord, IsFlags, IsEnum, Aliasing, at_root, alone, IsTypeAlias, IsAlias, IsTypeDecl}
 use Rattle.wac_resolution_rules.specs.BrokenTypes.{IsUndefined, IsNoResource, IsNoValue, TypeBroken, OptionalBroken, TypesBroken, ParamBroken, ParamsBroken, ResultTypeBroken, ResultBroken, ResultsBroken, FuncBroken}

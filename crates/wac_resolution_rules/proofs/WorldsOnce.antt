@@ -1,13 +1,6 @@
 -- A body, a world and a type statement each have one result.
-use Rattle.std.proofs.Common.{◌≡◌, ℕ, List, [], ◌++◌, None, Option, sym, ◌∙◌, ap, subst}
-use Rattle.wac_graph_types.specs.declared.kind.ExternKind.{ExternKind}
+use Rattle.wac_resolution_rules.proofs.Common.{◌≡◌, ℕ, List, [], ◌++◌, None, Option, sym, ◌∙◌, ap, subst, ExternKind, func, instance, an_interface, a_world, Meaning, Scope, Steps, kind_of, entry_of, promoted, interface_entry, world_entry, FuncTypeRef, InterfaceItem, ExternType, WorldItemPath, WorldItem, TypeStatement}
 use Rattle.wac_graph_types.specs.declared.kind.ExternKind.TheVariants as sides
-use Rattle.wac_graph_types.specs.Kind.{func, instance, an_interface, a_world}
-use Rattle.wac_graph_types.specs.Meaning.{Meaning}
-use Rattle.wac_graph_types.specs.Scope.{Scope}
-use Rattle.wac_graph_types.specs.Steps.{Steps}
-use Rattle.wac_graph_types.specs.Shape.{kind_of, entry_of, promoted, interface_entry, world_entry}
-use Rattle.wac_ast_grammar.specs.Tree.{FuncTypeRef, InterfaceItem, ExternType, WorldItemPath, WorldItem, TypeStatement}
 use Rattle.wac_resolution_rules.specs.Paths.{Context}
 use Rattle.wac_resolution_rules.specs.Bodies.{Body, empty_body, with_extern, with_count}
 use Rattle.wac_resolution_rules.specs.Includes.{HasInclude}

@@ -1,20 +1,6 @@
 -- Of a type statement only the names matter.
-use Rattle.std.proofs.Common.{◌≡◌, ℕ, List, [], ◌∷◌, Some, None, Option, refl, ◌∙◌, ap}
-use Rattle.std.specs.Prelude.{map}
-use Rattle.wac_graph_types.specs.declared.kind.ExternKind.{ExternKind}
+use Rattle.wac_resolution_rules.proofs.Common.{◌≡◌, ℕ, List, [], ◌∷◌, Some, None, Option, refl, ◌∙◌, ap, map, ExternKind, func, instance, an_interface, a_world, Meaning, Scope, IsFresh, Steps, IsA, is_interface_form, is_world_form, kind_of, entry_of, promoted, interface_entry, world_entry, Naming, resource_entry, Ident, FuncTypeRef, ResourceMethod, ItemTypeDecl, UsePath, UseItem, Use, InterfaceItem, ExternType, WorldItemPath, WorldRef, WorldInclude, WorldItem, TypeDecl, TypeStatement, walk_extern_type, walk_func_type_ref, walk_interface_item, walk_item_type_decl, walk_resource_method, walk_type_decl, walk_type_statement, walk_use, walk_use_item, walk_use_path, walk_world_include, walk_world_include_item, walk_world_item, walk_world_item_path, walk_world_ref, changed, no_docs, plain}
 use Rattle.wac_graph_types.specs.declared.kind.ExternKind.TheVariants as sides
-use Rattle.wac_graph_types.specs.Kind.{func, instance, an_interface, a_world}
-use Rattle.wac_graph_types.specs.Meaning.{Meaning}
-use Rattle.wac_graph_types.specs.Scope.{Scope, IsFresh}
-use Rattle.wac_graph_types.specs.Steps.{Steps}
-use Rattle.wac_graph_types.specs.Shape.{IsA, is_interface_form, is_world_form, kind_of, entry_of, promoted, interface_entry, world_entry}
-use Rattle.wac_graph.specs.Origin.{Naming}
-use Rattle.wac_graph.specs.Resources.{resource_entry}
-use Rattle.wac_ast_grammar.specs.Tree.{Ident, FuncTypeRef, ResourceMethod, ItemTypeDecl, UsePath, UseItem, Use, InterfaceItem, ExternType, WorldItemPath, WorldRef, WorldInclude, WorldItem, TypeDecl, TypeStatement}
-use Rattle.wac_ast_grammar.specs.Walk.{walk_extern_type, walk_func_type_ref, walk_interface_item, walk_item_type_decl, walk_resource_method, walk_type_decl, walk_type_statement, walk_use, walk_use_item, walk_use_path, walk_world_include, walk_world_include_item, walk_world_item, walk_world_item_path, walk_world_ref}
-use Rattle.wac_ast_grammar.specs.Leaves.{changed}
-use Rattle.wac_printer_layout.specs.Bare.{no_docs}
-use Rattle.wac_printer_layout.specs.PlainTree.{plain}
 use Rattle.wac_resolution_rules.specs.Types.{first_params}
 use Rattle.wac_resolution_rules.specs.Declarations.{in_body}
 use Rattle.wac_resolution_rules.specs.Paths.{Context, UseNames, WorldNames}

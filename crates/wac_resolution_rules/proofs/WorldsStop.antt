@@ -1,15 +1,7 @@
 -- A type statement that breaks a rule resolves to nothing.
-use Rattle.std.proofs.Common.{◌≡◌, ◌⊎◌, inl, inr, ℕ, List, [], ◌∷◌, ◌++◌, Some, None, Option, Bool, true, false, sym, ◌∙◌, subst}
-use Rattle.wac_lexer.specs.Span.{Span}
-use Rattle.wac_graph_types.specs.declared.kind.ExternKind.{ExternKind}
+use Rattle.wac_resolution_rules.proofs.Common.{◌≡◌, ◌⊎◌, inl, inr, ℕ, List, [], ◌∷◌, ◌++◌, Some, None, Option, Bool, true, false, sym, ◌∙◌, subst, Span, ExternKind, Meaning, Scope, StandsFor, Steps, IsA, is_world_form, entry_of, imports_of, exports_of, Ident, FuncTypeRef, InterfaceItem, ExternType, WorldItemPath, WorldItem, WorldRef, WorldIncludeItem, WorldInclude, TypeStatement, Error}
 use Rattle.wac_graph_types.specs.declared.kind.ExternKind.TheVariants as sides
 use Rattle.wac_graph_types.specs.declared.kind.FuncKind.TheVariants as funcs
-use Rattle.wac_graph_types.specs.Meaning.{Meaning}
-use Rattle.wac_graph_types.specs.Scope.{Scope, StandsFor}
-use Rattle.wac_graph_types.specs.Steps.{Steps}
-use Rattle.wac_graph_types.specs.Shape.{IsA, is_world_form, entry_of, imports_of, exports_of}
-use Rattle.wac_ast_grammar.specs.Tree.{Ident, FuncTypeRef, InterfaceItem, ExternType, WorldItemPath, WorldItem, WorldRef, WorldIncludeItem, WorldInclude, TypeStatement}
-use Rattle.wac_resolution_errors.specs.Error.{Error}
 use Rattle.wac_resolution_rules.specs.Paths.{Context, WorldNames}
 use Rattle.wac_resolution_rules.specs.Bodies.{Body, empty_body}
 use Rattle.wac_resolution_rules.specs.Includes.{Entries, HasEntry, has_colon, Taking, name_taken, TakesNamed, Takes, Included, HasInclude}

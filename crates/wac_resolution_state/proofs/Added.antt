@@ -1,6 +1,5 @@
 -- What is added to the types of a graph.
-use Rattle.std.proofs.Common.{◌≡◌, ◌∙◌, ℕ, List, [], ◌∷◌, Option, Some, None, refl, sym, ap, subst, arith}
-use Rattle.std.specs.Prelude.{slice_get, option_map, option_and_then, string_bytes, IfSome}
+use Rattle.wac_resolution_state.proofs.Common.{◌≡◌, ◌∙◌, ℕ, List, [], ◌∷◌, Option, Some, None, refl, sym, ap, subst, arith, slice_get, option_map, option_and_then, string_bytes, IfSome, ResourceId, children, sort_of, alias_children, Meaning, node, row, of_child, EachKind, Names, EachEntryNamed, Parts, entry_means, declared_count, origin_at, EntriesMean, Naming, declared}
 use Rattle.wac_graph_types.specs.declared.kind.ItemKind.TheVariants as kinds
 use Rattle.wac_graph_types.specs.declared.kind.«Type».TheVariants as types
 use Rattle.wac_graph_types.specs.declared.kind.ValueType.TheVariants as values
@@ -9,7 +8,6 @@ use Rattle.wac_graph_types.specs.declared.kind.DefinedTypeId.{DefinedTypeId}
 use Rattle.wac_graph_types.specs.declared.kind.FuncTypeId.{FuncTypeId}
 use Rattle.wac_graph_types.specs.declared.kind.InterfaceId.{InterfaceId}
 use Rattle.wac_graph_types.specs.declared.kind.WorldId.{WorldId}
-use Rattle.wac_graph_types.specs.declared.kind.ResourceId.{ResourceId}
 use Rattle.wac_graph_types.specs.declared.entry.Entry.{Entry}
 use Rattle.wac_graph_types.specs.declared.entry.Entry.TheVariants as entries
 use Rattle.wac_graph_types.specs.declared.entry.DefinedType.{DefinedType}
@@ -18,19 +16,13 @@ use Rattle.wac_graph_types.specs.declared.entry.Interface.{Interface}
 use Rattle.wac_graph_types.specs.declared.entry.World.{World}
 use Rattle.wac_graph_types.specs.declared.entry.Resource.{Resource}
 use Rattle.wac_graph_types.specs.declared.entry.ResourceAlias.{ResourceAlias}
-use Rattle.wac_graph_types.specs.Entry.{children, sort_of, alias_children}
 use Rattle.wac_graph_types.specs.Kind.{value, defined}
 use Rattle.wac_graph_types.specs.Label.{resource}
-use Rattle.wac_graph_types.specs.Meaning.{Meaning, node, row, of_child, EachKind}
 use Rattle.wac_graph_types.specs.Names.{by_name}
 use Rattle.wac_graph_types.specs.Readings.{as_resource}
 use Rattle.wac_graph_types.specs.Shape.{kind_of, entry_over, owner_of, func_entry, interface_entry, world_entry, results_mean, values_mean, items_mean, uses_mean}
-use Rattle.wac_graph_types.specs.Table.{Names, EachEntryNamed}
 use Rattle.wac_graph_types.proofs.Parts.{defined_is, func_is, interface_is, world_is}
 use Rattle.wac_graph.specs.Adds.{Adds}
-use Rattle.wac_graph.specs.Graph.{Parts}
-use Rattle.wac_graph.specs.Means.{entry_means, declared_count, origin_at, EntriesMean}
-use Rattle.wac_graph.specs.Origin.{Naming, declared}
 use Rattle.wac_graph.specs.Resources.{resource_entry, alias_entry}
 use Rattle.wac_resolution_state.specs.Growth.{Grows, AddsDefined, AddsFunc, AddsInterface, AddsWorld, AddsResource}
 

@@ -1,10 +1,8 @@
 -- What is found among names that are bound.
-use Rattle.std.proofs.Common.{◌≡◌, ◌∙◌, ℕ, List, [], ◌∷◌, Option, Some, None, Bool, true, false, cond, refl, sym, ap, map, Bor}
-use Rattle.std.specs.Prelude.{option_map}
+use Rattle.wac_resolution_state.proofs.Common.{◌≡◌, ◌∙◌, ℕ, List, [], ◌∷◌, Option, Some, None, Bool, true, false, cond, refl, sym, ap, map, Bor, option_map, Named, look_up, with_named, IsFresh}
 use Rattle.std.specs.Map.{lookup}
 use Rattle.std.specs.Str.{bytes_eq}
 use Rattle.indexmap.specs.IndexMap.{insert_entry}
-use Rattle.wac_graph_types.specs.Scope.{Named, look_up, with_named, IsFresh}
 use Rattle.wac_resolution_state.specs.Bindings.{by_text}
 
 -- what a map has under a text is found by the text

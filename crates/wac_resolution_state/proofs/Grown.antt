@@ -1,14 +1,5 @@
 -- What stays as a graph gets more types.
-use Rattle.std.proofs.Common.{◌≡◌, ◌∙◌, List, [], ◌∷◌, Option, Some, None, refl, ap}
-use Rattle.std.specs.Prelude.{IfSome}
-use Rattle.wac_graph_types.specs.declared.kind.ItemKind.{ItemKind}
-use Rattle.wac_graph_types.specs.Entry.{Slot}
-use Rattle.wac_graph_types.specs.Meaning.{of_child, EachKind}
-use Rattle.wac_graph_types.specs.Scope.{Named}
-use Rattle.wac_graph_types.specs.Table.{Names, ItemsNamed}
-use Rattle.wac_graph.specs.Graph.{Parts}
-use Rattle.wac_graph.specs.Means.{means, entry_means}
-use Rattle.wac_graph.specs.Origin.{Naming}
+use Rattle.wac_resolution_state.proofs.Common.{◌≡◌, ◌∙◌, List, [], ◌∷◌, Option, Some, None, refl, ap, IfSome, ItemKind, Slot, of_child, EachKind, Named, Names, ItemsNamed, Parts, means, entry_means, Naming}
 use Rattle.wac_resolution_state.specs.Growth.{Grows, GrowsPlainly}
 use Rattle.wac_resolution_state.specs.Named.{scope_of}
 

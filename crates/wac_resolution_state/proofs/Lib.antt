@@ -1,3 +1,4 @@
+pub mod Common
 pub mod Bound
 pub mod Added
 pub mod Grown

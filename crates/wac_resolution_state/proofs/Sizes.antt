@@ -1,5 +1,5 @@
 -- Sizes of what a recursive function visits.
-use Rattle.std.proofs.Common.{◌≤◌, ◌<◌, ℕ, zero, suc, List, [], ◌∷◌, length, get_or, arith}
+use Rattle.wac_resolution_state.proofs.Common.{◌≤◌, ◌<◌, ℕ, zero, suc, List, [], ◌∷◌, length, get_or, arith}
 use denote.Param.Weighed.{most}
 
 -- a member of a list is no larger than its largest

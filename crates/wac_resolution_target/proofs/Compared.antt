@@ -1,14 +1,7 @@
 -- Kinds that are compared by rules.
-use Rattle.std.proofs.Common.{◌≡◌, ℕ, List, Option, Result, subst}
-use Rattle.wac_graph_types.specs.declared.rules.Reason.{Reason}
-use Rattle.wac_graph_types.specs.declared.kind.ItemKind.{ItemKind}
-use Rattle.wac_graph_types.specs.declared.entry.Entry.{Entry}
-use Rattle.wac_graph_types.specs.Meaning.{Meaning, meaning}
+use Rattle.wac_resolution_target.proofs.Common.{◌≡◌, ℕ, List, Option, Result, subst, Reason, ItemKind, Entry, Meaning, meaning, Parts, means, origin_at, entry_means_in, OriginsApart, Naming, IsOneToOne}
 use Rattle.wac_graph_types.specs.Meaning as tables
 use Rattle.wac_graph_types.specs.Rules.{Answers}
-use Rattle.wac_graph.specs.Graph.{Parts}
-use Rattle.wac_graph.specs.Means.{means, origin_at, entry_means_in, OriginsApart}
-use Rattle.wac_graph.specs.Origin.{Naming, IsOneToOne}
 
 -- what rules say of two kinds under the table, they say under a naming that is one to one
 pub compared : (g : Parts) (passes : Meaning → Meaning → Option Reason) (es : List Entry) (r : Result (Unit {0}) Reason) (a b : ItemKind) → es ≡ g.types → OriginsApart g

@@ -1,34 +1,14 @@
 -- A composition and the path of its target.
-use Rattle.std.proofs.Common.{◌≡◌, ◌∙◌, inl, inr, ℕ, zero, suc, List, [], ◌∷◌, Some, sym, ap, subst}
-use Rattle.std.specs.Prelude.{slice_get}
-use Rattle.std.specs.List.{AllByRecursion}
-use Rattle.wac_lexer.specs.Span.{Span}
-use Rattle.wac_graph_types.specs.declared.kind.ItemKind.{ItemKind}
+use Rattle.wac_resolution_target.proofs.Common.{◌≡◌, ◌∙◌, inl, inr, ℕ, zero, suc, List, [], ◌∷◌, Some, sym, ap, subst, slice_get, AllByRecursion, Span, ItemKind, Named, Scope, look_up, Names, package_path_of, Parts, means, entry_means, EntriesMean, Naming, IsSound, Error, composition_of, scope_agrees, IsNotWorld, TargetWorldBroken, Composition, root_scope, with_resources, Rules, world_of, LeadsTo, IsAllowed}
 use Rattle.wac_graph_types.specs.declared.kind.ItemKind.TheVariants as kinds
 use Rattle.wac_graph_types.specs.declared.kind.«Type».TheVariants as types
-use Rattle.wac_graph_types.specs.Scope.{Named, Scope, look_up}
-use Rattle.wac_graph_types.specs.Table.{Names}
-use Rattle.wac_ast_base.specs.Names.{package_path_of}
-use Rattle.wac_graph.specs.Graph.{Parts}
-use Rattle.wac_graph.specs.Means.{means, entry_means, EntriesMean}
-use Rattle.wac_graph.specs.Origin.{Naming}
-use Rattle.wac_graph.specs.Sound.{IsSound}
-use Rattle.wac_resolution_errors.specs.Error.{Error}
 use Rattle.wac_resolution_nodes.specs.declared.root.Root.{Root}
-use Rattle.wac_resolution_nodes.specs.Nodes.{composition_of}
 use Rattle.wac_resolution_nodes.specs.Root.{numbers_of, composed, Agrees}
 use Rattle.wac_resolution_nodes.proofs.Composed.{composition_expands}
-use Rattle.wac_resolution_nodes.proofs.Roots.{scope_agrees}
 use Rattle.wac_resolution_paths.specs.declared.context.Context.{Context}
 use Rattle.wac_resolution_paths.specs.Expands.{IsSuppliedAs, AllSupplied, Found}
 use Rattle.wac_resolution_paths.specs.Context.{packages_in, context_of}
 use Rattle.wac_resolution_rules.specs.BrokenBodies.{PathBroken}
-use Rattle.wac_resolution_rules.specs.BrokenStatements.{IsNotWorld, TargetWorldBroken}
-use Rattle.wac_resolution_rules.specs.Composition.{Composition, root_scope, with_resources}
-use Rattle.wac_resolution_rules.specs.Given.{Rules}
-use Rattle.wac_resolution_rules.specs.Kinds.{world_of}
-use Rattle.wac_resolution_rules.specs.Paths.{LeadsTo}
-use Rattle.wac_resolution_rules.specs.Target.{IsAllowed}
 use Rattle.wac_resolution_state.specs.Bindings.{values_of}
 use Rattle.wac_resolution_state.specs.Named.{scope_of}
 use Rattle.wac_resolution_target.specs.declared.target.Target.{Target}

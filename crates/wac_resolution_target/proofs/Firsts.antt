@@ -1,8 +1,5 @@
 -- The first of a list that fails.
-use Rattle.std.proofs.Common.{◌≡◌, ◌∙◌, Result, Ok, Err, OnOk, IfErr, List, [], ◌∷◌, ◌++◌, sym, ap, subst, append-nil}
-use Rattle.std.specs.List.{AllByRecursion}
-use Rattle.std.proofs.lemmas.List.{append_assoc}
-use Rattle.wac_resolution_errors.specs.Error.{Error}
+use Rattle.wac_resolution_target.proofs.Common.{◌≡◌, ◌∙◌, Result, Ok, Err, OnOk, IfErr, List, [], ◌∷◌, ◌++◌, sym, ap, subst, append-nil, AllByRecursion, append_assoc, Error}
 use Rattle.wac_resolution_target.specs.Testing.{FirstFails}
 
 pub all_append : {X : Type 0} (P : X → Type 0) (xs ys : List X) → AllByRecursion P xs → AllByRecursion P ys → AllByRecursion P (xs ++ ys)

@@ -1,20 +1,7 @@
 -- The last of a name.
-use Rattle.std.proofs.Common.{◌≡◌, ◌∙◌, ℕ, List, [], ◌∷◌, ◌++◌, Option, Some, None, Bool, true, false, cond, refl, sym, ap, reverse}
-use Rattle.std.specs.Prelude.{filter_map, flat_map, option_map, option_and_then, slice_get}
-use Rattle.std.specs.List.{cons_option}
-use Rattle.std.specs.Option.{option_or}
-use Rattle.std.specs.Str.{bytes_eq}
-use Rattle.std.proofs.lemmas.List.{reverse-append}
+use Rattle.wac_resolution_target.proofs.Common.{◌≡◌, ◌∙◌, ℕ, List, [], ◌∷◌, ◌++◌, Option, Some, None, Bool, true, false, cond, refl, sym, ap, reverse, filter_map, flat_map, option_map, option_and_then, slice_get, cons_option, option_or, bytes_eq, reverse-append, ItemKind, InterfaceId, Entry, UsedType, by_name, as_world, Named, look_up, written_id}
 use Rattle.std.proofs.lemmas.List.Elements.{filter_map-append}
-use Rattle.wac_graph_types.specs.declared.kind.ItemKind.{ItemKind}
-use Rattle.wac_graph_types.specs.declared.kind.InterfaceId.{InterfaceId}
-use Rattle.wac_graph_types.specs.declared.entry.Entry.{Entry}
-use Rattle.wac_graph_types.specs.declared.entry.UsedType.{UsedType}
 use Rattle.wac_graph_types.specs.declared.entry.World.{World}
-use Rattle.wac_graph_types.specs.Names.{by_name}
-use Rattle.wac_graph_types.specs.Readings.{as_world}
-use Rattle.wac_graph_types.specs.Scope.{Named, look_up}
-use Rattle.wac_resolution_nodes.specs.Instances.{written_id}
 use Rattle.wac_resolution_target.specs.Used.{interfaces_in, import_uses, used_in, with_id, has_id, last_of}
 
 pub or_assoc : {X : Type 0} (a b c : Option X) → option_or a (option_or b c) ≡ option_or (option_or a b) c

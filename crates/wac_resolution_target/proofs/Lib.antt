@@ -1,3 +1,4 @@
+pub mod Common
 pub mod Worlds
 pub mod Last
 pub mod Meanings

@@ -1,35 +1,12 @@
 -- What a world's entry allows is what the world allows.
-use Rattle.std.proofs.Common.{◌≡◌, ◌∙◌, ℕ, List, [], ◌∷◌, ◌++◌, Option, Some, None, Bool, true, false, cond, refl, sym, ap, subst, map, reverse}
-use Rattle.std.specs.Prelude.{flat_map, option_map, option_and_then, slice_get, IfSome, String}
+use Rattle.wac_resolution_target.proofs.Common.{◌≡◌, ◌∙◌, ℕ, List, [], ◌∷◌, ◌++◌, Option, Some, None, Bool, true, false, cond, refl, sym, ap, subst, map, reverse, flat_map, option_map, option_and_then, slice_get, IfSome, String, AllByRecursion, cons_option, option_or, bytes_eq, map-append, ItemKind, InterfaceId, WorldId, Entry, UsedType, Meaning, of_kind, EachKind, by_name, as_interface, as_world, world_imports, Named, look_up, imports_of, uses_mean, items_mean, Names, ItemsNamed, EachEntryNamed, world_imports_mean, world_imports_named, found_named, items_found, Parts, means, entry_means, origin_at, EntriesMean, Naming, used_by, uses_of_import, uses_of_world, under_id, used_under, allowed, written_id}
 use Rattle.std.specs.declared.alloc.Global.{Global}
-use Rattle.std.specs.List.{AllByRecursion, cons_option}
-use Rattle.std.specs.Option.{option_or}
-use Rattle.std.specs.Str.{bytes_eq}
-use Rattle.std.proofs.lemmas.List.{map-append}
-use Rattle.wac_graph_types.specs.declared.kind.ItemKind.{ItemKind}
 use Rattle.wac_graph_types.specs.declared.kind.ItemKind.TheVariants as kinds
 use Rattle.wac_graph_types.specs.declared.kind.«Type».TheVariants as types
-use Rattle.wac_graph_types.specs.declared.kind.InterfaceId.{InterfaceId}
-use Rattle.wac_graph_types.specs.declared.kind.WorldId.{WorldId}
 use Rattle.wac_graph_types.specs.declared.kind.Sort.TheVariants as sorts
-use Rattle.wac_graph_types.specs.declared.entry.Entry.{Entry}
 use Rattle.wac_graph_types.specs.declared.entry.Entry.TheVariants as entries
-use Rattle.wac_graph_types.specs.declared.entry.UsedType.{UsedType}
 use Rattle.wac_graph_types.specs.Entry.{Slot, sort_of, use_children, import_children, export_children}
-use Rattle.wac_graph_types.specs.Meaning.{Meaning, of_kind, EachKind}
-use Rattle.wac_graph_types.specs.Names.{by_name}
-use Rattle.wac_graph_types.specs.Readings.{as_interface, as_world, world_imports}
-use Rattle.wac_graph_types.specs.Scope.{Named, look_up}
-use Rattle.wac_graph_types.specs.Shape.{imports_of, uses_mean, items_mean}
-use Rattle.wac_graph_types.specs.Table.{Names, ItemsNamed, EachEntryNamed}
-use Rattle.wac_graph_types.proofs.Found.{world_imports_mean, world_imports_named, found_named}
 use Rattle.wac_graph_types.proofs.Parts as parts
-use Rattle.wac_graph_types.proofs.Shapes.{items_found}
-use Rattle.wac_graph.specs.Graph.{Parts}
-use Rattle.wac_graph.specs.Means.{means, entry_means, origin_at, EntriesMean}
-use Rattle.wac_graph.specs.Origin.{Naming}
-use Rattle.wac_resolution_rules.specs.Target.{used_by, uses_of_import, uses_of_world, under_id, used_under, allowed}
-use Rattle.wac_resolution_nodes.specs.Instances.{written_id}
 use Rattle.wac_resolution_nodes.proofs.NodeNames.{interface_id_is}
 use Rattle.wac_resolution_target.specs.Used.{world_uses, interface_uses, interfaces_in, import_uses, used_in, with_id, has_id, last_of, allowed_kind}
 use Rattle.wac_resolution_target.proofs.Last.{last_in, last_cons, last_one}

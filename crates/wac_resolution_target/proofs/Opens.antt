@@ -1,13 +1,5 @@
 -- What an instance leaves open, import by import.
-use Rattle.std.proofs.Common.{◌≡◌, ◌∙◌, ℕ, List, [], ◌∷◌, ◌++◌, Option, Some, None, Bool, true, false, cond, Result, Ok, Err, OnOk, IfErr, refl, sym, ap, subst, is_none}
-use Rattle.std.specs.Prelude.{slice_get}
-use Rattle.wac_graph_types.specs.declared.kind.ItemKind.{ItemKind}
-use Rattle.wac_graph_types.specs.Readings.{world_imports}
-use Rattle.wac_graph_types.specs.Scope.{Named, look_up}
-use Rattle.wac_graph.specs.Graph.{Parts, package_of, arguments_of}
-use Rattle.wac_graph.specs.Package.{HeldPackage}
-use Rattle.wac_resolution_errors.specs.Error.{Error}
-use Rattle.wac_resolution_errors.specs.Told.{told}
+use Rattle.wac_resolution_target.proofs.Common.{◌≡◌, ◌∙◌, ℕ, List, [], ◌∷◌, ◌++◌, Option, Some, None, Bool, true, false, cond, Result, Ok, Err, OnOk, IfErr, refl, sym, ap, subst, is_none, slice_get, ItemKind, world_imports, Named, look_up, Parts, package_of, arguments_of, HeldPackage, Error, told}
 use Rattle.wac_resolution_errors.specs.declared.error.Error.{Error as CodeError}
 use Rattle.wac_resolution_target.specs.Imported.{of_kind, left_open, package_imports, open_at}
 use Rattle.wac_resolution_target.specs.Testing.{Testing, Allowed, Denied, AllAllowed, SomeDenied, nowhere}

@@ -1,26 +1,10 @@
 -- One import, or one export, that was tested.
-use Rattle.std.proofs.Common.{◌≡◌, ◌∙◌, ℕ, List, [], ◌∷◌, Option, Some, None, Bool, true, false, cond, inl, inr, sym, ap, subst}
-use Rattle.std.specs.Prelude.{option_map}
-use Rattle.std.specs.Str.{bytes_eq}
-use Rattle.wac_lexer.specs.Span.{Span}
+use Rattle.wac_resolution_target.proofs.Common.{◌≡◌, ◌∙◌, ℕ, List, [], ◌∷◌, Option, Some, None, Bool, true, false, cond, inl, inr, sym, ap, subst, option_map, bytes_eq, Span, Reason, ItemKind, Meaning, Named, look_up, promoted_is, word_is, package_path_of, Parts, means, entry_means, Naming, IsOneToOne, Error, import_not_in_target, missing_target_export, target_mismatch, kind_in, kind_means, Rules}
 use Rattle.wac_graph_types.specs.declared.kind.ExternKind.TheVariants as externs
-use Rattle.wac_graph_types.specs.declared.rules.Reason.{Reason}
-use Rattle.wac_graph_types.specs.declared.kind.ItemKind.{ItemKind}
 use Rattle.wac_graph_types.specs.Kind.{promoted}
-use Rattle.wac_graph_types.specs.Meaning.{Meaning}
-use Rattle.wac_graph_types.specs.Scope.{Named, look_up}
 use Rattle.wac_graph_types.specs.Shape as shapes
 use Rattle.wac_graph_types.specs.Words as words
-use Rattle.wac_graph_types.proofs.Shapes.{promoted_is, word_is}
-use Rattle.wac_ast_base.specs.Names.{package_path_of}
-use Rattle.wac_graph.specs.Graph.{Parts}
-use Rattle.wac_graph.specs.Means.{means, entry_means}
-use Rattle.wac_graph.specs.Origin.{Naming, IsOneToOne}
-use Rattle.wac_resolution_errors.specs.Error.{Error, import_not_in_target, missing_target_export, target_mismatch}
-use Rattle.wac_resolution_nodes.specs.Nodes.{kind_in}
-use Rattle.wac_resolution_nodes.proofs.Roots.{kind_means}
 use Rattle.wac_resolution_rules.specs.Find.{names_of}
-use Rattle.wac_resolution_rules.specs.Given.{Rules}
 use Rattle.wac_resolution_rules.specs.Target.{allowed as allowed_by}
 use Rattle.wac_resolution_target.specs.declared.target.Target.{Target}
 use Rattle.wac_resolution_target.specs.Imported.{of_node, of_kind}

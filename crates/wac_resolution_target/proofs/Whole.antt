@@ -1,35 +1,12 @@
 -- A whole composition that was tested.
-use Rattle.std.proofs.Common.{◌≡◌, ◌∙◌, inl, inr, ℕ, suc, List, [], ◌∷◌, ◌++◌, Option, Some, None, Bool, true, false, cond, refl, sym, ap, subst, map, length}
-use Rattle.std.specs.Prelude.{filter_map, filter, flat_map, option_and_then, slice_get, is_none}
-use Rattle.std.specs.List.{AllByRecursion}
-use Rattle.std.proofs.lemmas.List.{append_assoc, map-append}
-use Rattle.wac_lexer.specs.Span.{Span}
-use Rattle.wac_graph_types.specs.declared.kind.ItemKind.{ItemKind}
+use Rattle.wac_resolution_target.proofs.Common.{◌≡◌, ◌∙◌, inl, inr, ℕ, suc, List, [], ◌∷◌, ◌++◌, Option, Some, None, Bool, true, false, cond, refl, sym, ap, subst, map, length, filter_map, filter, flat_map, option_and_then, slice_get, is_none, AllByRecursion, append_assoc, map-append, Span, ItemKind, Meaning, world_exports, world_imports, Named, look_up, exports_of, items_mean, Names, world_exports_mean, world_imports_mean, Parts, means, entry_means, origin_at, EntriesMean, numbers, Naming, IsOneToOne, HeldPackage, IsHeld, IsSound, imports_from, Error, composition_of, node_of, instance_form, placed_imports, TargetWorldBroken, Composition, kind_at, Given, Rules, open_imports, all_imports, ImportAllowed, ExportMet, IsAllowed}
 use Rattle.wac_graph_types.specs.declared.kind.ItemKind.TheVariants as kinds
-use Rattle.wac_graph_types.specs.Meaning.{Meaning}
-use Rattle.wac_graph_types.specs.Readings.{world_exports, world_imports}
-use Rattle.wac_graph_types.specs.Scope.{Named, look_up}
-use Rattle.wac_graph_types.specs.Shape.{exports_of, items_mean}
-use Rattle.wac_graph_types.specs.Table.{Names}
-use Rattle.wac_graph_types.proofs.Found.{world_exports_mean, world_imports_mean}
-use Rattle.wac_graph.specs.Graph.{Parts}
-use Rattle.wac_graph.specs.Means.{means, entry_means, origin_at, EntriesMean}
 use Rattle.wac_graph.specs.Node.{Node as GraphNode, Form, import, definition as defined, alias, instantiation, package_in, arguments_in}
-use Rattle.wac_graph.specs.Numbers.{numbers}
-use Rattle.wac_graph.specs.Origin.{Naming, IsOneToOne}
-use Rattle.wac_graph.specs.Package.{HeldPackage, IsHeld}
 use Rattle.wac_graph.specs.Packages.{Contents, package_of as handed_as, contents_in}
-use Rattle.wac_graph.specs.Sound.{IsSound, imports_from}
-use Rattle.wac_resolution_errors.specs.Error.{Error}
-use Rattle.wac_resolution_nodes.specs.Nodes.{composition_of, node_of, instance_form}
 use Rattle.wac_resolution_rules.specs.BrokenExpressions.{ReachedAt}
-use Rattle.wac_resolution_rules.specs.BrokenStatements.{placed_imports, TargetWorldBroken}
-use Rattle.wac_resolution_rules.specs.Composition.{Composition, kind_at}
-use Rattle.wac_resolution_rules.specs.Given.{Given, Rules}
 use Rattle.wac_resolution_rules.specs.Nodes.{import_of, imports}
 use Rattle.wac_resolution_rules.specs.Paths.{Context}
 use Rattle.wac_resolution_rules.specs.Places.{Places}
-use Rattle.wac_resolution_rules.specs.Target.{open_imports, all_imports, ImportAllowed, ExportMet, IsAllowed}
 use Rattle.wac_resolution_target.specs.declared.target.Target.{Target}
 use Rattle.wac_resolution_target.specs.Imported.{of_node, of_kind, left_open, package_imports, open_at}
 use Rattle.wac_resolution_target.specs.Testing.{Testing, testing, given_in, world_in, Allowed, IsDenied, Met, IsUnmet, AllAllowed, SomeDenied, nowhere, AllMet, SomeUnmet}

@@ -1,13 +1,7 @@
 -- Kinds that are no world types.
-use Rattle.std.proofs.Common.{◌≡◌, None, refl}
-use Rattle.wac_graph_types.specs.declared.kind.WorldId.{WorldId}
-use Rattle.wac_graph_types.specs.declared.kind.ItemKind.{ItemKind}
+use Rattle.wac_resolution_target.proofs.Common.{◌≡◌, None, refl, WorldId, ItemKind, Parts, means, Naming, world_of}
 use Rattle.wac_graph_types.specs.declared.kind.ItemKind.TheVariants as kinds
 use Rattle.wac_graph_types.specs.declared.kind.«Type».TheVariants as types
-use Rattle.wac_graph.specs.Graph.{Parts}
-use Rattle.wac_graph.specs.Means.{means}
-use Rattle.wac_graph.specs.Origin.{Naming}
-use Rattle.wac_resolution_rules.specs.Kinds.{world_of}
 use Rattle.wac_resolution_state.proofs.Scopes.{memory_told}
 
 -- what is no world type

@@ -1,33 +1,15 @@
 -- Aliases, by what they alias.
-use Rattle.std.proofs.Common.{◌≡◌, ℕ, List, [], Option, Some, None, refl, sym, subst}
-use Rattle.wac_ast_grammar.specs.Tree.{Ident, Ty}
-use Rattle.wac_graph_types.specs.declared.kind.ItemKind.{ItemKind}
+use Rattle.wac_resolution_types.proofs.Common.{◌≡◌, ℕ, List, [], Option, Some, None, refl, sym, subst, Ident, Ty, ItemKind, ValueType, FuncTypeId, Meaning, Named, alias_type, Parts, means, entry_means, declared_count, Naming, ty_of, func_type_of, type_alias_kind_of, Error, HasType, IsFuncWith, alone, IsTypeAlias, IsAlias, FuncBroken, TypeAliasBroken, AliasBroken, scope_of, KindIs}
 use Rattle.wac_graph_types.specs.declared.kind.ItemKind.TheVariants as kinds
 use Rattle.wac_graph_types.specs.declared.kind.«Type».TheVariants as types
-use Rattle.wac_graph_types.specs.declared.kind.ValueType.{ValueType}
-use Rattle.wac_graph_types.specs.declared.kind.FuncTypeId.{FuncTypeId}
 use Rattle.wac_graph_types.specs.declared.kind.FuncKind.TheVariants as funcs
-use Rattle.wac_graph_types.specs.Meaning.{Meaning}
-use Rattle.wac_graph_types.specs.Scope.{Named}
-use Rattle.wac_graph_types.specs.Shape.{alias_type}
-use Rattle.wac_graph.specs.Graph.{Parts}
-use Rattle.wac_graph.specs.Means.{means, entry_means, declared_count}
-use Rattle.wac_graph.specs.Origin.{Naming}
 use Rattle.wac_ast_base.specs.declared.names.Ident.{Ident as CodeIdent}
-use Rattle.wac_ast_types.specs.Types.{ty_of}
-use Rattle.wac_ast_types.specs.Declarations.{func_type_of, type_alias_kind_of}
 use Rattle.wac_ast_types.specs.declared.types.Type as code
 use Rattle.wac_ast_types.specs.declared.types.«Type».{«Type»}
 use Rattle.wac_ast_types.specs.declared.func_type.FuncType.{FuncType}
 use Rattle.wac_ast_types.specs.declared.type_alias.TypeAliasKind.{TypeAliasKind}
 use Rattle.wac_ast_types.specs.declared.type_alias.TypeAliasKind.TheVariants as aliases
-use Rattle.wac_resolution_errors.specs.Error.{Error}
-use Rattle.wac_resolution_rules.specs.Types.{HasType, IsFuncWith}
-use Rattle.wac_resolution_rules.specs.Declarations.{alone, IsTypeAlias, IsAlias}
-use Rattle.wac_resolution_rules.specs.BrokenTypes.{FuncBroken}
-use Rattle.wac_resolution_rules.specs.BrokenDeclarations.{TypeAliasBroken, AliasBroken}
 use Rattle.wac_resolution_types.specs.declared.place.Place.{Place}
-use Rattle.wac_resolution_state.specs.Named.{scope_of, KindIs}
 use Rattle.wac_resolution_types.specs.Funcs.{types_named, FuncIs}
 use Rattle.wac_resolution_types.specs.Declarations.{aliasing_at, made_at, IsAliased, ValueAdded, KindAdded}
 

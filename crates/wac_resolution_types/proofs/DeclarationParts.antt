@@ -1,36 +1,11 @@
 -- Declarations of types, by their parts.
-use Rattle.std.proofs.Common.{◌≡◌, ◌∙◌, ℕ, List, [], ◌∷◌, Option, Some, sym, ap, subst, map}
-use Rattle.std.specs.Prelude.{option_map, string_bytes, String}
-use Rattle.std.specs.declared.alloc.Global.{Global}
-use Rattle.wac_ast_grammar.specs.Tree.{VariantDecl, RecordDecl, FlagsDecl, EnumDecl}
-use Rattle.wac_graph_types.specs.declared.kind.ItemKind.{ItemKind}
-use Rattle.wac_graph_types.specs.declared.kind.ValueType.{ValueType}
+use Rattle.wac_resolution_types.proofs.Common.{◌≡◌, ◌∙◌, ℕ, List, [], ◌∷◌, Option, Some, sym, ap, subst, map, option_map, string_bytes, String, Global, VariantDecl, RecordDecl, FlagsDecl, EnumDecl, ItemKind, ValueType, Entry, Slot, Plain, defined_label, Meaning, EachKind, by_name, Named, Scope, defined_type, defined_parts, as_type, naming_each, name_children, values_mean, cases_mean, Steps, Fails, Names, Parts, entry_means, Naming, ty_of, Error, HasFlag, HasEnumCase, IsVariant, IsRecord, IsFlags, IsEnum, TypeBroken, OptionBroken, GrowsPlainly, AddsDefined, scope_of, grows_self, plainly_on}
 use Rattle.wac_graph_types.specs.declared.entry.DefinedType.{DefinedType}
-use Rattle.wac_graph_types.specs.declared.entry.Entry.{Entry}
 use Rattle.wac_graph_types.specs.Entry as slots
-use Rattle.wac_graph_types.specs.Entry.{Slot}
-use Rattle.wac_graph_types.specs.Label.{Plain, defined_label}
-use Rattle.wac_graph_types.specs.Meaning.{Meaning, EachKind}
-use Rattle.wac_graph_types.specs.Names.{by_name}
-use Rattle.wac_graph_types.specs.Scope.{Named, Scope}
-use Rattle.wac_graph_types.specs.Shape.{defined_type, defined_parts, as_type, naming_each, name_children, values_mean, cases_mean}
-use Rattle.wac_graph_types.specs.Steps.{Steps, Fails}
-use Rattle.wac_graph_types.specs.Table.{Names}
-use Rattle.wac_graph.specs.Graph.{Parts}
-use Rattle.wac_graph.specs.Means.{entry_means}
-use Rattle.wac_graph.specs.Origin.{Naming}
-use Rattle.wac_ast_types.specs.Types.{ty_of}
 use Rattle.wac_ast_types.specs.declared.types.«Type».{«Type»}
-use Rattle.wac_resolution_errors.specs.Error.{Error}
-use Rattle.wac_resolution_rules.specs.Declarations.{HasFlag, HasEnumCase, IsVariant, IsRecord, IsFlags, IsEnum}
-use Rattle.wac_resolution_rules.specs.BrokenTypes.{TypeBroken}
-use Rattle.wac_resolution_rules.specs.BrokenDeclarations.{OptionBroken}
-use Rattle.wac_resolution_state.specs.Growth.{GrowsPlainly, AddsDefined}
-use Rattle.wac_resolution_state.specs.Named.{scope_of}
 use Rattle.wac_resolution_types.specs.NamedParts.{PartRelation, PartSteps, parts_mean}
 use Rattle.wac_resolution_types.specs.Funcs.{types_named}
 use Rattle.wac_resolution_types.specs.Declarations.{cases_named, CaseSteps, FieldSteps, names_alone, ValueAdded}
-use Rattle.wac_resolution_state.proofs.Grown.{grows_self, plainly_on}
 use Rattle.wac_resolution_types.proofs.NamesAlone.{names_each}
 
 -- a defined type, as an item of its own

@@ -1,47 +1,24 @@
 -- Function types, by their parts.
-use Rattle.std.proofs.Common.{◌≡◌, ◌∙◌, ℕ, List, [], ◌∷◌, ◌++◌, Option, Bool, true, false, refl, sym, ap, subst, map, inr}
-use Rattle.std.specs.Prelude.{String, Vec}
-use Rattle.std.specs.declared.alloc.Global.{Global}
-use Rattle.wac_ast_grammar.specs.Tree.{Ty, FuncType, NamedType}
+use Rattle.wac_resolution_types.proofs.Common.{◌≡◌, ◌∙◌, ℕ, List, [], ◌∷◌, ◌++◌, Option, Bool, true, false, refl, sym, ap, subst, map, inr, String, Vec, Global, Ty, ItemKind, ValueType, FuncTypeId, Entry, Slot, named_result_children, value_children, Meaning, meaning, EachKind, by_name, Named, Scope, contains_borrow, entry_of, own_of, one_result, named_results, func_entry, results_mean, values_mean, Fails, Names, ItemsNamed, Parts, means, entry_means, origin_at, Naming, ty_of, named_type_of, result_list_of, Error, borrow_in_result, HasResult, HasResults, IsFuncWith, first_params, ParamsBroken, ResultTypeBroken, ResultBroken, ResultsBroken, FuncBroken, AddsFunc, scope_of, plainly_on, scope_kept}
+use Rattle.wac_ast_grammar.specs.Tree.{FuncType, NamedType}
 use Rattle.wac_ast_grammar.specs.Spans.{ty_span}
-use Rattle.wac_graph_types.specs.declared.kind.ItemKind.{ItemKind}
 use Rattle.wac_graph_types.specs.declared.kind.ItemKind.TheVariants as kinds
 use Rattle.wac_graph_types.specs.declared.kind.«Type».TheVariants as types
-use Rattle.wac_graph_types.specs.declared.kind.ValueType.{ValueType}
 use Rattle.wac_graph_types.specs.declared.kind.ValueType.TheVariants as values
 use Rattle.wac_graph_types.specs.declared.kind.ResourceId.{ResourceId}
 use Rattle.wac_graph_types.specs.declared.kind.FuncKind.TheVariants as funcs
-use Rattle.wac_graph_types.specs.declared.kind.FuncTypeId.{FuncTypeId}
 use Rattle.wac_graph_types.specs.declared.kind.FuncKind.{FuncKind}
-use Rattle.wac_graph_types.specs.declared.entry.Entry.{Entry}
 use Rattle.wac_graph_types.specs.declared.entry.FuncResults.{FuncResults}
 use Rattle.wac_graph_types.specs.declared.entry.FuncResults.TheVariants as given_results
-use Rattle.wac_graph_types.specs.Entry.{Slot, result_children, named_result_children, value_children}
-use Rattle.wac_graph_types.specs.Meaning.{Meaning, meaning, EachKind}
-use Rattle.wac_graph_types.specs.Names.{by_name}
-use Rattle.wac_graph_types.specs.Scope.{Named, Scope}
-use Rattle.wac_graph_types.specs.Shape.{contains_borrow, entry_of, own_of, one_result, named_results, func_entry, results_mean, values_mean}
-use Rattle.wac_graph_types.specs.Steps.{Fails}
-use Rattle.wac_graph_types.specs.Table.{Names, ItemsNamed}
-use Rattle.wac_graph.specs.Graph.{Parts}
-use Rattle.wac_graph.specs.Means.{means, entry_means, origin_at}
-use Rattle.wac_graph.specs.Origin.{Naming}
+use Rattle.wac_graph_types.specs.Entry.{result_children}
 use Rattle.wac_graph.proofs.Origins.{means_is}
-use Rattle.wac_ast_types.specs.Types.{ty_of}
-use Rattle.wac_ast_types.specs.Declarations.{named_type_of, result_list_of}
 use Rattle.wac_ast_types.specs.declared.types.«Type».{«Type»}
 use Rattle.wac_ast_types.specs.declared.func_type.NamedType.{NamedType as CodeNamedType}
 use Rattle.wac_ast_types.specs.declared.func_type.ResultList.{ResultList as CodeResultList}
 use Rattle.wac_ast_types.specs.declared.func_type.ResultList.TheVariants as results
-use Rattle.wac_resolution_errors.specs.Error.{Error, borrow_in_result}
-use Rattle.wac_resolution_rules.specs.Types.{HasResult, HasResults, IsFuncWith, first_params}
-use Rattle.wac_resolution_rules.specs.BrokenTypes.{ParamsBroken, ResultTypeBroken, ResultBroken, ResultsBroken, FuncBroken}
 use Rattle.wac_resolution_rules.specs.BrokenBodies.{method_kind}
-use Rattle.wac_resolution_state.specs.Growth.{AddsFunc}
-use Rattle.wac_resolution_state.specs.Named.{scope_of}
 use Rattle.wac_resolution_types.specs.Types.{TypeIs}
 use Rattle.wac_resolution_types.specs.Funcs.{given, types_named, TypesNamed, ParamSteps, ResultTypeIs, ResultSteps, ResultsAre, FuncAdded, FuncIs, ConstructorIs, own_params}
-use Rattle.wac_resolution_state.proofs.Grown.{plainly_on, scope_kept}
 use Rattle.wac_resolution_types.proofs.NamedParts.{parts_kept, values_named, results_named}
 
 -- ---- results

@@ -1,28 +1,7 @@
 -- Named parts that are taken in order.
-use Rattle.std.proofs.Common.{◌≡◌, ◌∙◌, ◌+◌, ◌<◌, ℕ, List, [], ◌∷◌, Option, Some, refl, sym, ap, subst, map, take, length, get_or}
-use Rattle.std.specs.Prelude.{option_map, IfSome, String}
-use Rattle.std.specs.declared.alloc.Global.{Global}
-use Rattle.std.proofs.lemmas.List.{map_push}
-use Rattle.wac_ast_grammar.specs.Tree.{Ident}
-use Rattle.wac_graph_types.specs.declared.kind.ItemKind.{ItemKind}
-use Rattle.wac_graph_types.specs.declared.kind.ValueType.{ValueType}
-use Rattle.wac_graph_types.specs.declared.entry.Entry.{Entry}
-use Rattle.wac_graph_types.specs.Entry.{optional, value_children, named_result_children, case_children}
-use Rattle.wac_graph_types.specs.Meaning.{Meaning, EachKind}
-use Rattle.wac_graph_types.specs.Names.{by_name}
-use Rattle.wac_graph_types.specs.Scope.{Named, Scope, look_up, StandsFor, IsFresh, with_named}
-use Rattle.wac_graph_types.specs.Shape.{optional_means}
-use Rattle.wac_graph_types.specs.Steps.{Fails}
-use Rattle.wac_graph_types.specs.Table.{Names, ItemsNamed}
-use Rattle.wac_graph.specs.Graph.{Parts}
-use Rattle.wac_graph.specs.Means.{entry_means}
-use Rattle.wac_graph.specs.Origin.{Naming}
-use Rattle.wac_resolution_rules.proofs.StepLaws.{steps_on_map, fails_at_map}
-use Rattle.wac_resolution_state.specs.Growth.{Grows, GrowsPlainly}
-use Rattle.wac_resolution_state.specs.Named.{scope_of}
+use Rattle.wac_resolution_types.proofs.Common.{◌≡◌, ◌∙◌, ◌+◌, ◌<◌, ℕ, List, [], ◌∷◌, Option, Some, refl, sym, ap, subst, map, take, length, get_or, option_map, IfSome, String, Global, map_push, Ident, ItemKind, ValueType, Entry, optional, value_children, named_result_children, case_children, Meaning, EachKind, by_name, Named, Scope, look_up, StandsFor, IsFresh, with_named, optional_means, Fails, Names, ItemsNamed, Parts, entry_means, Naming, steps_on_map, fails_at_map, Grows, GrowsPlainly, scope_of, grows_self, plainly_on, scope_kept, child_kept, child_named}
 use Rattle.wac_resolution_types.specs.NamedParts.{parts_mean, PartsNamed, PartRelation, HasPart, PartStep, PartSteps}
 use Rattle.wac_resolution_state.proofs.Bound.{read_found}
-use Rattle.wac_resolution_state.proofs.Grown.{grows_self, plainly_on, scope_kept, child_kept, child_named}
 
 -- ---- what stays
 

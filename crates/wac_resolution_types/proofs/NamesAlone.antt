@@ -1,18 +1,8 @@
 -- Names alone, in order: flags and the cases of an enum.
-use Rattle.std.proofs.Common.{◌≡◌, ◌∙◌, ◌+◌, ◌<◌, ℕ, List, [], ◌∷◌, ◌++◌, Some, None, Bool, true, false, cond, ◌||◌, refl, sym, ap, subst, map, take, length, get_or}
-use Rattle.std.specs.Prelude.{String, string_bytes}
-use Rattle.std.specs.declared.alloc.Global.{Global}
+use Rattle.wac_resolution_types.proofs.Common.{◌≡◌, ◌∙◌, ◌+◌, ◌<◌, ℕ, List, [], ◌∷◌, ◌++◌, Some, None, Bool, true, false, cond, ◌||◌, refl, sym, ap, subst, map, take, length, get_or, String, string_bytes, Global, map_push, Meaning, Slot, Named, look_up, StandsFor, IsFresh, with_named, nothing, naming_each, name_children, Steps, Fails, steps_on_map, fails_at_map, memory_told}
 use Rattle.std.specs.List.{list_any}
 use Rattle.std.specs.Str.{bytes_eq}
-use Rattle.std.proofs.lemmas.List.{map_push}
-use Rattle.wac_graph_types.specs.Meaning.{Meaning}
-use Rattle.wac_graph_types.specs.Entry.{Slot}
-use Rattle.wac_graph_types.specs.Scope.{Named, look_up, StandsFor, IsFresh, with_named}
-use Rattle.wac_graph_types.specs.Shape.{nothing, naming_each, name_children}
-use Rattle.wac_graph_types.specs.Steps.{Steps, Fails}
-use Rattle.wac_resolution_rules.proofs.StepLaws.{steps_on_map, fails_at_map}
 use Rattle.wac_resolution_types.specs.Declarations.{names_alone}
-use Rattle.wac_resolution_state.proofs.Scopes.{memory_told}
 
 -- whether a text is that of one of the names
 pub any_text : (name : List ℕ) (names : List (String Global)) → list_any (λ k. bytes_eq name (string_bytes k)) names ≡ list_any (bytes_eq name) (map string_bytes names)

@@ -1,20 +1,8 @@
 -- Declarations at root, by what they declare.
-use Rattle.std.proofs.Common.{◌≡◌, ℕ, sym, subst}
-use Rattle.wac_graph_types.specs.declared.kind.ItemKind.{ItemKind}
+use Rattle.wac_resolution_types.proofs.Common.{◌≡◌, ℕ, sym, subst, ItemKind, ValueType, Meaning, Named, Parts, declared_count, Naming, type_decl_of, Error, IsTypeDecl, TypeDeclBroken, scope_of}
 use Rattle.wac_graph_types.specs.declared.kind.ItemKind.TheVariants as kinds
 use Rattle.wac_graph_types.specs.declared.kind.«Type».TheVariants as types
-use Rattle.wac_graph_types.specs.declared.kind.ValueType.{ValueType}
-use Rattle.wac_graph_types.specs.Meaning.{Meaning}
-use Rattle.wac_graph_types.specs.Scope.{Named}
-use Rattle.wac_graph.specs.Graph.{Parts}
-use Rattle.wac_graph.specs.Means.{declared_count}
-use Rattle.wac_graph.specs.Origin.{Naming}
-use Rattle.wac_ast_types.specs.Declarations.{type_decl_of}
 use Rattle.wac_ast_types.specs.declared.type_decl.TypeDecl.{TypeDecl}
-use Rattle.wac_resolution_errors.specs.Error.{Error}
-use Rattle.wac_resolution_rules.specs.Declarations.{IsTypeDecl}
-use Rattle.wac_resolution_rules.specs.BrokenDeclarations.{TypeDeclBroken}
-use Rattle.wac_resolution_state.specs.Named.{scope_of}
 use Rattle.wac_resolution_types.specs.Declarations.{ValueAdded, KindAdded}
 
 -- a declaration of this kind

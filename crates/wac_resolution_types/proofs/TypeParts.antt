@@ -1,36 +1,14 @@
 -- What a type means, by what its parts mean.
-use Rattle.std.proofs.Common.{◌≡◌, ◌∙◌, ◌+◌, ◌<◌, ℕ, zero, suc, List, [], ◌∷◌, ◌++◌, Option, refl, sym, ap, subst, map, inl, inr, take, drop, length, get_or, arith}
-use Rattle.std.proofs.lemmas.List.{take_more, map_push}
-use Rattle.std.specs.Prelude.{Vec, Box}
-use Rattle.std.specs.declared.alloc.Global.{Global}
+use Rattle.wac_resolution_types.proofs.Common.{◌≡◌, ◌∙◌, ◌+◌, ◌<◌, ℕ, zero, suc, List, [], ◌∷◌, ◌++◌, Option, refl, sym, ap, subst, map, inl, inr, take, drop, length, get_or, arith, take_more, map_push, Vec, Box, Global, Ty, Types, OptionalTy, types_from, ItemKind, ValueType, Entry, optional, tuple_children, Plain, Meaning, EachKind, Named, Scope, types_mean, optional_means, defined_value, Names, ItemsNamed, Parts, means, entry_means, Naming, ty_of, optional_of, Error, HasType, HasOptional, HaveTypes, TypeBroken, OptionalBroken, TypesBroken, Grows, AddsDefined, scope_of, ValueIs, grows_self, plainly_on, scope_kept, child_kept, each_still_named}
 use Rattle.wac_lexer.specs.Span.{Span}
 use Rattle.wac_ast_grammar.specs.Tree as tree
-use Rattle.wac_ast_grammar.specs.Tree.{Ty, Types, OptionalTy, types_from}
-use Rattle.wac_graph_types.specs.declared.kind.ItemKind.{ItemKind}
 use Rattle.wac_graph_types.specs.declared.kind.ItemKind.TheVariants as kinds
-use Rattle.wac_graph_types.specs.declared.kind.ValueType.{ValueType}
-use Rattle.wac_graph_types.specs.declared.entry.Entry.{Entry}
 use Rattle.wac_graph_types.specs.declared.entry.DefinedType.TheVariants as defined
-use Rattle.wac_graph_types.specs.Entry.{optional, tuple_children}
-use Rattle.wac_graph_types.specs.Label.{Plain}
-use Rattle.wac_graph_types.specs.Meaning.{Meaning, EachKind}
-use Rattle.wac_graph_types.specs.Scope.{Named, Scope}
-use Rattle.wac_graph_types.specs.Shape.{types_mean, optional_means, defined_value, result_children}
-use Rattle.wac_graph_types.specs.Table.{Names, ItemsNamed}
-use Rattle.wac_graph.specs.Graph.{Parts}
-use Rattle.wac_graph.specs.Means.{means, entry_means}
-use Rattle.wac_graph.specs.Origin.{Naming}
-use Rattle.wac_ast_types.specs.Types.{ty_of, optional_of}
+use Rattle.wac_graph_types.specs.Shape.{result_children}
 use Rattle.wac_ast_types.proofs.TypeParts.{tuple_is as tuple_tree, result_is as result_tree, stream_is as stream_tree, future_is as future_tree}
 use Rattle.wac_ast_types.specs.declared.types.Type as code
 use Rattle.wac_ast_types.specs.declared.types.«Type».{«Type»}
-use Rattle.wac_resolution_errors.specs.Error.{Error}
-use Rattle.wac_resolution_rules.specs.Types.{HasType, HasOptional, HaveTypes}
-use Rattle.wac_resolution_rules.specs.BrokenTypes.{TypeBroken, OptionalBroken, TypesBroken}
-use Rattle.wac_resolution_state.specs.Growth.{Grows, AddsDefined}
-use Rattle.wac_resolution_state.specs.Named.{scope_of, ValueIs}
 use Rattle.wac_resolution_types.specs.Types.{TypeIs, OptionalIs, TypesAre}
-use Rattle.wac_resolution_state.proofs.Grown.{grows_self, plainly_on, scope_kept, child_kept, each_still_named}
 
 -- the type of the tree is that of the value
 pub as_ty : (old new : Parts) (ks : Named ItemKind) (v : ValueType) (x : «Type») (t : Ty) → ty_of x ≡ t → TypeIs old new ks t v → TypeIs old new ks (ty_of x) v

@@ -1,18 +1,9 @@
 -- Interfaces and worlds that the document declares.
-use Rattle.std.proofs.Common.{◌≡◌, ℕ, List, Option, Some, refl, ap, subst}
-use Rattle.wac_ast_grammar.specs.Tree.{InterfaceDecl, WorldItem}
-use Rattle.wac_graph_types.specs.declared.kind.ItemKind.{ItemKind}
+use Rattle.wac_resolution_worlds.proofs.Common.{◌≡◌, ℕ, List, Option, Some, refl, ap, subst, InterfaceDecl, ItemKind, InterfaceId, WorldId, Named, Parts, entry_means, declared_count, IsInterface, IsWorld, scope_of, context_of}
+use Rattle.wac_ast_grammar.specs.Tree.{WorldItem}
 use Rattle.wac_graph_types.specs.declared.kind.ItemKind.TheVariants as kinds
 use Rattle.wac_graph_types.specs.declared.kind.«Type».TheVariants as types
-use Rattle.wac_graph_types.specs.declared.kind.InterfaceId.{InterfaceId}
-use Rattle.wac_graph_types.specs.declared.kind.WorldId.{WorldId}
-use Rattle.wac_graph_types.specs.Scope.{Named}
-use Rattle.wac_graph.specs.Graph.{Parts}
-use Rattle.wac_graph.specs.Means.{entry_means, declared_count}
-use Rattle.wac_resolution_rules.specs.Worlds.{IsInterface, IsWorld}
-use Rattle.wac_resolution_state.specs.Named.{scope_of}
 use Rattle.wac_resolution_paths.specs.declared.context.Context.{Context}
-use Rattle.wac_resolution_paths.specs.Context.{context_of}
 use Rattle.wac_resolution_worlds.specs.Made.{InterfaceMade}
 use Rattle.wac_resolution_worlds.specs.WorldItems.{WorldMade}
 use Rattle.wac_resolution_worlds.specs.Declared.{id_text, InterfaceDeclared, WorldDeclared}

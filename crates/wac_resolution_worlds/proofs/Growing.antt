@@ -1,25 +1,6 @@
 -- Bodies as they take items in order, in a graph that may get packages too.
-use Rattle.std.proofs.Common.{◌≡◌, ◌∙◌, ◌+◌, ◌<◌, ℕ, List, [], ◌∷◌, ◌++◌, refl, sym, ap, subst, map, take, length, get_or, append_assoc, append-nil}
-use Rattle.std.proofs.lemmas.List.{flat_map_more, take_more, length-map, get_or-map}
-use Rattle.std.specs.List.{flat_map}
-use Rattle.wac_lexer.specs.Span.{Span}
-use Rattle.wac_graph_types.specs.declared.kind.ExternKind.{ExternKind}
-use Rattle.wac_graph_types.specs.declared.kind.ItemKind.{ItemKind}
-use Rattle.wac_graph_types.specs.Package.{PackageParts}
-use Rattle.wac_graph_types.specs.Scope.{Named, Scope}
-use Rattle.wac_graph_types.specs.Steps.{Steps, Fails}
-use Rattle.wac_graph_types.specs.Table.{ItemsNamed}
-use Rattle.wac_graph.specs.Graph.{Parts}
-use Rattle.wac_graph.specs.Origin.{Naming}
-use Rattle.wac_graph.specs.Package.{Key}
-use Rattle.wac_resolution_rules.specs.Bodies.{Body}
+use Rattle.wac_resolution_worlds.proofs.Common.{◌≡◌, ◌∙◌, ◌+◌, ◌<◌, ℕ, List, [], ◌∷◌, ◌++◌, refl, sym, ap, subst, map, take, length, get_or, append_assoc, append-nil, flat_map_more, take_more, length-map, get_or-map, flat_map, Span, ExternKind, ItemKind, PackageParts, Named, Scope, Steps, Fails, ItemsNamed, Parts, Naming, Key, Body, places_of, scope_of, AllSupplied, expands_self, expands_on, grows_expands, handed_grown, scope_expanded, Lists, body_in, IsBody, BodyStep}
 use Rattle.wac_resolution_rules.proofs.StepLaws.{steps_on_map, fails_at_map}
-use Rattle.wac_resolution_state.specs.Bindings.{places_of}
-use Rattle.wac_resolution_state.specs.Named.{scope_of}
-use Rattle.wac_resolution_paths.specs.Expands.{AllSupplied}
-use Rattle.wac_resolution_paths.proofs.Expanding.{expands_self, expands_on, grows_expands, handed_grown, scope_expanded}
-use Rattle.wac_resolution_bodies.specs.Lists.{Lists}
-use Rattle.wac_resolution_bodies.specs.Bodies.{body_in, IsBody, BodyStep}
 use Rattle.wac_resolution_worlds.specs.UseStatements.{BodyExpands}
 
 -- how an item takes one body to the next, under a naming and with these names at root

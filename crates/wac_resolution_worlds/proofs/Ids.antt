@@ -1,16 +1,8 @@
 -- The id of an interface of a graph.
-use Rattle.std.proofs.Common.{◌≡◌, ◌∙◌, ℕ, List, [], Option, Some, None, sym, ap}
-use Rattle.std.specs.Prelude.{slice_get, option_map, option_and_then, unwrap_or, string_bytes}
-use Rattle.wac_graph_types.specs.declared.kind.InterfaceId.{InterfaceId}
-use Rattle.wac_graph_types.specs.declared.entry.Entry.{Entry}
+use Rattle.wac_resolution_worlds.proofs.Common.{◌≡◌, ◌∙◌, ℕ, List, [], Option, Some, None, sym, ap, slice_get, option_map, option_and_then, unwrap_or, string_bytes, InterfaceId, Entry, as_interface, id_of, Parts, entry_means, EntriesMean, origin_at, Naming}
 use Rattle.wac_graph_types.specs.declared.entry.Entry.TheVariants as entries
 use Rattle.wac_graph_types.specs.declared.entry.Interface.{Interface}
-use Rattle.wac_graph_types.specs.Readings.{as_interface}
-use Rattle.wac_graph_types.specs.Shape.{id_of}
 use Rattle.wac_graph_types.proofs.Parts as parts
-use Rattle.wac_graph.specs.Graph.{Parts}
-use Rattle.wac_graph.specs.Means.{entry_means, EntriesMean, origin_at}
-use Rattle.wac_graph.specs.Origin.{Naming}
 
 interface_entry_is : (o : Option Entry) (i : Interface) → option_and_then as_interface o ≡ Some i → o ≡ Some (entries.Interface i)
 interface_entry_is None i h = absurd (cc)

@@ -1,36 +1,11 @@
 -- Includes of worlds, in order.
-use Rattle.std.proofs.Common.{◌≡◌, ◌∙◌, ◌+◌, ◌<◌, ◌⊎◌, inl, inr, ℕ, suc, List, [], ◌∷◌, ◌++◌, Option, Some, None, refl, sym, ap, subst, map, take, drop, length, get_or}
-use Rattle.std.specs.List.{cons_option}
-use Rattle.std.proofs.lemmas.List.{take-append-drop, take_more, length-map, get_or-map}
+use Rattle.wac_resolution_worlds.proofs.Common.{◌≡◌, ◌∙◌, ◌+◌, ◌<◌, ◌⊎◌, inl, inr, ℕ, suc, List, [], ◌∷◌, ◌++◌, Option, Some, None, refl, sym, ap, subst, map, take, drop, length, get_or, cons_option, take-append-drop, take_more, length-map, get_or-map, WorldInclude, ItemKind, UsedType, Meaning, Named, Scope, Uses, IsA, is_world_form, entry_of, items_mean, uses_mean, Steps, Fails, ItemsNamed, Parts, means, entry_means, declared_count, Naming, Error, Body, WorldRefBroken, IsNoWorld, TakingBroken, IncludeBroken, Included, HasInclude, include_in, includes_of, values_of, scope_of, Expands, AllSupplied, Found, packages_in, context_of, expands_self, expands_on, items_expanded, scope_expanded, Lists, body_in, UsesNamed, Renamings, entries_of, AreAll}
 use Rattle.std.proofs.lemmas.List.Elements.{filter_map-append}
 use Rattle.std.proofs.Math.Seq.{drop-cons}
-use Rattle.wac_ast_grammar.specs.Tree.{WorldItem, WorldInclude}
-use Rattle.wac_graph_types.specs.declared.kind.ItemKind.{ItemKind}
+use Rattle.wac_ast_grammar.specs.Tree.{WorldItem}
 use Rattle.wac_graph_types.specs.declared.kind.ItemKind.TheVariants as kinds
-use Rattle.wac_graph_types.specs.declared.entry.UsedType.{UsedType}
-use Rattle.wac_graph_types.specs.Meaning.{Meaning}
-use Rattle.wac_graph_types.specs.Scope.{Named, Scope}
-use Rattle.wac_graph_types.specs.Shape.{Uses, IsA, is_world_form, entry_of, items_mean, uses_mean}
-use Rattle.wac_graph_types.specs.Steps.{Steps, Fails}
-use Rattle.wac_graph_types.specs.Table.{ItemsNamed}
-use Rattle.wac_graph.specs.Graph.{Parts}
-use Rattle.wac_graph.specs.Means.{means, entry_means, declared_count}
-use Rattle.wac_graph.specs.Origin.{Naming}
-use Rattle.wac_resolution_errors.specs.Error.{Error}
-use Rattle.wac_resolution_rules.specs.Bodies.{Body}
-use Rattle.wac_resolution_rules.specs.BrokenWorlds.{WorldRefBroken, IsNoWorld, TakingBroken, IncludeBroken}
-use Rattle.wac_resolution_rules.specs.Includes.{Included, HasInclude}
 use Rattle.wac_resolution_rules.specs.Paths as rules
-use Rattle.wac_resolution_rules.specs.Worlds.{include_in, includes_of}
-use Rattle.wac_resolution_state.specs.Bindings.{values_of}
-use Rattle.wac_resolution_state.specs.Named.{scope_of}
 use Rattle.wac_resolution_paths.specs.declared.context.Context.{Context}
-use Rattle.wac_resolution_paths.specs.Expands.{Expands, AllSupplied, Found}
-use Rattle.wac_resolution_paths.specs.Context.{packages_in, context_of}
-use Rattle.wac_resolution_paths.proofs.Expanding.{expands_self, expands_on, items_expanded, scope_expanded}
-use Rattle.wac_resolution_bodies.specs.Lists.{Lists}
-use Rattle.wac_resolution_bodies.specs.Bodies.{body_in, UsesNamed}
-use Rattle.wac_resolution_includes.specs.Entries.{Renamings, entries_of, AreAll}
 use Rattle.wac_resolution_includes.specs.Taking.{with_both, IsIncluded}
 use Rattle.wac_resolution_worlds.specs.WorldItems.{AreNamed, IncludeSteps, IncludeStep}
 

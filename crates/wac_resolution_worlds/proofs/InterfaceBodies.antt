@@ -1,46 +1,12 @@
 -- Items of interfaces.
-use Rattle.std.proofs.Common.{◌≡◌, inr, ℕ, List, [], ◌∷◌, ◌++◌, Option, refl, sym, subst}
-use Rattle.std.specs.Prelude.{Result, IfErr, OnOk, String}
-use Rattle.std.specs.declared.alloc.Global.{Global}
-use Rattle.std.proofs.lemmas.Result.{IfErr-weaker}
-use Rattle.indexmap.proofs.MapLemmas.{OnOk-map}
-use Rattle.wac_lexer.specs.Span.{Span}
-use Rattle.wac_ast_grammar.specs.Tree.{Use, ItemTypeDecl, InterfaceExport, InterfaceItem}
+use Rattle.wac_resolution_worlds.proofs.Common.{◌≡◌, inr, ℕ, List, [], ◌∷◌, ◌++◌, Option, refl, sym, subst, Result, IfErr, OnOk, String, Global, IfErr-weaker, OnOk-map, Span, ItemTypeDecl, InterfaceExport, ItemKind, FuncTypeId, InterfaceId, Entry, UsedType, Slot, use_children, export_children, EachKind, by_name, Named, Scope, IsFresh, Steps, Fails, Names, ItemsNamed, interface_item_of, Parts, entry_means, declared_count, Naming, Error, told, Owner, of_interface, IsConflict, ItemBroken, UseBroken, InterfaceItemBroken, InterfaceBroken, bound_in_interface_item, bound_in_interface, IsFuncRef, HasInterfaceItem, values_of, places_of, scope_of, AllSupplied, packages_in, context_of, expands_on, grows_expands, handed_grown, Lists, with_kind, body_in, UsesNamed, IsBody, DeclarationStep, extern_fresh}
+use Rattle.wac_ast_grammar.specs.Tree.{Use, InterfaceItem}
 use Rattle.wac_graph_types.specs.declared.kind.ExternKind.TheVariants as sides
-use Rattle.wac_graph_types.specs.declared.kind.ItemKind.{ItemKind}
 use Rattle.wac_graph_types.specs.declared.kind.ItemKind.TheVariants as kinds
-use Rattle.wac_graph_types.specs.declared.kind.FuncTypeId.{FuncTypeId}
-use Rattle.wac_graph_types.specs.declared.kind.InterfaceId.{InterfaceId}
-use Rattle.wac_graph_types.specs.declared.entry.Entry.{Entry}
-use Rattle.wac_graph_types.specs.declared.entry.UsedType.{UsedType}
-use Rattle.wac_graph_types.specs.Entry.{Slot, use_children, export_children}
-use Rattle.wac_graph_types.specs.Meaning.{EachKind}
-use Rattle.wac_graph_types.specs.Names.{by_name}
-use Rattle.wac_graph_types.specs.Scope.{Named, Scope, IsFresh}
-use Rattle.wac_graph_types.specs.Steps.{Steps, Fails}
-use Rattle.wac_graph_types.specs.Table.{Names, ItemsNamed}
-use Rattle.wac_ast_worlds.specs.Worlds.{interface_item_of}
 use Rattle.wac_ast_worlds.specs.declared.interface.InterfaceItem.{InterfaceItem as CodeInterfaceItem}
-use Rattle.wac_graph.specs.Graph.{Parts}
-use Rattle.wac_graph.specs.Means.{entry_means, declared_count}
-use Rattle.wac_graph.specs.Origin.{Naming}
-use Rattle.wac_resolution_errors.specs.Error.{Error}
-use Rattle.wac_resolution_errors.specs.Told.{told}
 use Rattle.wac_resolution_errors.specs.declared.error.Error.{Error as CodeError}
-use Rattle.wac_resolution_rules.specs.BrokenBodies.{Owner, of_interface, IsConflict, ItemBroken, UseBroken}
-use Rattle.wac_resolution_rules.specs.BrokenWorlds.{InterfaceItemBroken, InterfaceBroken}
 use Rattle.wac_resolution_rules.specs.Paths as rules
-use Rattle.wac_resolution_rules.specs.Places.{bound_in_interface_item, bound_in_interface}
-use Rattle.wac_resolution_rules.specs.Worlds.{IsFuncRef, HasInterfaceItem}
-use Rattle.wac_resolution_state.specs.Bindings.{values_of, places_of}
-use Rattle.wac_resolution_state.specs.Named.{scope_of}
 use Rattle.wac_resolution_paths.specs.declared.context.Context.{Context}
-use Rattle.wac_resolution_paths.specs.Expands.{AllSupplied}
-use Rattle.wac_resolution_paths.specs.Context.{packages_in, context_of}
-use Rattle.wac_resolution_paths.proofs.Expanding.{expands_on, grows_expands, handed_grown}
-use Rattle.wac_resolution_bodies.specs.Lists.{Lists, with_kind}
-use Rattle.wac_resolution_bodies.specs.Bodies.{body_in, UsesNamed, IsBody, DeclarationStep}
-use Rattle.wac_resolution_bodies.proofs.Lists.{extern_fresh}
 use Rattle.wac_resolution_bodies.proofs.Methods.{func_goes}
 use Rattle.wac_resolution_worlds.specs.Made.{no_lists, FuncExportStep, InterfaceItemStep, InterfaceItemSteps, InterfaceOf, InterfaceMade}
 use Rattle.wac_resolution_worlds.specs.Referred.{FuncRefIs}

@@ -1,3 +1,4 @@
+pub mod Common
 pub mod UsedInterfaces
 pub mod UsedItems
 pub mod UseStatements

@@ -1,36 +1,16 @@
 -- What identifiers denote in bodies and at root.
-use Rattle.std.proofs.Common.{◌≡◌, ◌∙◌, ◌++◌, ℕ, List, [], ◌∷◌, Option, Some, None, Bool, true, false, cond, refl, sym, ap, subst, inr}
-use Rattle.std.specs.Prelude.{option_map}
+use Rattle.wac_resolution_worlds.proofs.Common.{◌≡◌, ◌∙◌, ◌++◌, ℕ, List, [], ◌∷◌, Option, Some, None, Bool, true, false, cond, refl, sym, ap, subst, inr, option_map, Ident, FuncType, FuncTypeRef, ExternType, ItemKind, ValueType, FuncTypeId, InterfaceId, Entry, Meaning, of_kind, Named, look_up, StandsFor, IsFresh, items_mean, ItemsNamed, Parts, means, entry_means, Naming, Error, FuncRefBroken, ExternTypeBroken, func_type_ref_of, scope_of, KindIs, grows_self, memory_told}
 use Rattle.std.specs.Str.{bytes_eq}
-use Rattle.wac_ast_grammar.specs.Tree.{Ident, FuncType, FuncTypeRef, ExternType}
-use Rattle.wac_graph_types.specs.declared.kind.ItemKind.{ItemKind}
 use Rattle.wac_graph_types.specs.declared.kind.ItemKind.TheVariants as kinds
 use Rattle.wac_graph_types.specs.declared.kind.«Type».TheVariants as types
-use Rattle.wac_graph_types.specs.declared.kind.ValueType.{ValueType}
-use Rattle.wac_graph_types.specs.declared.kind.FuncTypeId.{FuncTypeId}
 use Rattle.wac_graph_types.specs.declared.kind.FuncKind.TheVariants as funcs
-use Rattle.wac_graph_types.specs.declared.kind.InterfaceId.{InterfaceId}
-use Rattle.wac_graph_types.specs.declared.entry.Entry.{Entry}
-use Rattle.wac_graph_types.specs.Meaning.{Meaning, of_kind}
-use Rattle.wac_graph_types.specs.Scope.{Named, look_up, StandsFor, IsFresh}
-use Rattle.wac_graph_types.specs.Shape.{items_mean}
-use Rattle.wac_graph_types.specs.Table.{ItemsNamed}
 use Rattle.wac_graph_types.proofs.Shapes.{items_found}
 use Rattle.wac_graph_types.proofs.Found.{found_named}
-use Rattle.wac_graph.specs.Graph.{Parts}
-use Rattle.wac_graph.specs.Means.{means, entry_means}
-use Rattle.wac_graph.specs.Origin.{Naming}
-use Rattle.wac_resolution_errors.specs.Error.{Error}
 use Rattle.wac_resolution_rules.specs.Types.{IsFuncWith}
 use Rattle.wac_resolution_rules.specs.BrokenTypes.{FuncBroken}
-use Rattle.wac_resolution_rules.specs.BrokenWorlds.{FuncRefBroken, ExternTypeBroken}
 use Rattle.wac_resolution_rules.specs.Paths.{Context}
-use Rattle.wac_ast_types.specs.Declarations.{func_type_ref_of}
 use Rattle.wac_ast_types.specs.declared.func_type.FuncTypeRef.{FuncTypeRef as CodeFuncTypeRef}
 use Rattle.wac_resolution_types.specs.Funcs.{types_named, FuncIs}
-use Rattle.wac_resolution_state.specs.Named.{scope_of, KindIs}
-use Rattle.wac_resolution_state.proofs.Grown.{grows_self}
-use Rattle.wac_resolution_state.proofs.Scopes.{memory_told}
 use Rattle.wac_resolution_worlds.specs.Referred.{FuncNamed, NewFunc, FuncRefIs, IsExternKind, IsNoExternKind, ExternNamed}
 use Rattle.wac_resolution_worlds.specs.Instances.{IsInterfaceKind}
 

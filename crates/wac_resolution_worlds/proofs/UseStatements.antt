@@ -1,26 +1,9 @@
 -- The types of an interface that is named.
-use Rattle.std.proofs.Common.{◌≡◌, ◌∙◌, inl, inr, refl, ap, subst}
-use Rattle.wac_ast_grammar.specs.Tree.{UsePath, Use}
-use Rattle.wac_graph_types.specs.declared.kind.ExternKind.{ExternKind}
-use Rattle.wac_graph_types.specs.declared.kind.InterfaceId.{InterfaceId}
-use Rattle.wac_graph_types.specs.declared.kind.ItemKind.{ItemKind}
+use Rattle.wac_resolution_worlds.proofs.Common.{◌≡◌, ◌∙◌, inl, inr, refl, ap, subst, UsePath, ExternKind, InterfaceId, ItemKind, Named, Steps, Fails, Parts, means, Naming, Error, Body, with_count, UsesItem, UseItemBroken, UseBroken, use_path_name, scope_of, context_of, Lists, body_in, IsBody, body_still, body_kept}
+use Rattle.wac_ast_grammar.specs.Tree.{Use}
 use Rattle.wac_graph_types.specs.declared.kind.ItemKind.TheVariants as kinds
 use Rattle.wac_graph_types.specs.declared.kind.«Type».TheVariants as types
-use Rattle.wac_graph_types.specs.Scope.{Named}
-use Rattle.wac_graph_types.specs.Steps.{Steps, Fails}
-use Rattle.wac_graph.specs.Graph.{Parts}
-use Rattle.wac_graph.specs.Means.{means}
-use Rattle.wac_graph.specs.Origin.{Naming}
-use Rattle.wac_resolution_errors.specs.Error.{Error}
-use Rattle.wac_resolution_rules.specs.Bodies.{Body, with_count, UsesItem}
-use Rattle.wac_resolution_rules.specs.BrokenBodies.{UseItemBroken, UseBroken}
-use Rattle.wac_resolution_rules.specs.Spans.{use_path_name}
-use Rattle.wac_resolution_state.specs.Named.{scope_of}
 use Rattle.wac_resolution_paths.specs.declared.context.Context.{Context}
-use Rattle.wac_resolution_paths.specs.Context.{context_of}
-use Rattle.wac_resolution_bodies.specs.Lists.{Lists}
-use Rattle.wac_resolution_bodies.specs.Bodies.{body_in, IsBody}
-use Rattle.wac_resolution_bodies.proofs.Lists.{body_still, body_kept}
 use Rattle.wac_resolution_worlds.specs.Used.{UseSteps}
 use Rattle.wac_resolution_worlds.specs.UseStatements.{IsInterface, IsNoneNamed, UseStatementStep}
 

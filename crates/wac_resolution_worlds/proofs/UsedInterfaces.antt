@@ -1,14 +1,7 @@
 -- Kinds that are no interfaces.
-use Rattle.std.proofs.Common.{◌≡◌, refl}
-use Rattle.wac_graph_types.specs.declared.kind.InterfaceId.{InterfaceId}
-use Rattle.wac_graph_types.specs.declared.kind.ItemKind.{ItemKind}
+use Rattle.wac_resolution_worlds.proofs.Common.{◌≡◌, refl, InterfaceId, ItemKind, IsNoneOf, is_interface_form, Parts, means, Naming, memory_told}
 use Rattle.wac_graph_types.specs.declared.kind.ItemKind.TheVariants as kinds
 use Rattle.wac_graph_types.specs.declared.kind.«Type».TheVariants as types
-use Rattle.wac_graph_types.specs.Shape.{IsNoneOf, is_interface_form}
-use Rattle.wac_graph.specs.Graph.{Parts}
-use Rattle.wac_graph.specs.Means.{means}
-use Rattle.wac_graph.specs.Origin.{Naming}
-use Rattle.wac_resolution_state.proofs.Scopes.{memory_told}
 
 -- what is no interface
 pub not_interface : (naming : Naming) (g : Parts) (k : ItemKind) → ((i : InterfaceId) → k ≡ kinds.Ty (types.Interface i) → ⊥) → IsNoneOf is_interface_form (means naming g k)

@@ -1,39 +1,12 @@
 -- Used types of an interface.
-use Rattle.std.proofs.Common.{◌≡◌, ◌∙◌, ◌⊎◌, inl, inr, ◌+◌, ◌<◌, ℕ, List, [], ◌∷◌, ◌++◌, Option, Some, None, refl, sym, ap, subst, map, take, length, get_or}
-use Rattle.std.specs.Prelude.{option_map, string_bytes}
-use Rattle.std.proofs.lemmas.List.{map_push, take_more, length-map, get_or-map}
-use Rattle.wac_lexer.specs.Span.{Span}
-use Rattle.wac_ast_grammar.specs.Tree.{Ident, UseItem}
-use Rattle.wac_graph_types.specs.declared.kind.ExternKind.{ExternKind}
+use Rattle.wac_resolution_worlds.proofs.Common.{◌≡◌, ◌∙◌, ◌⊎◌, inl, inr, ◌+◌, ◌<◌, ℕ, List, [], ◌∷◌, ◌++◌, Option, Some, None, refl, sym, ap, subst, map, take, length, get_or, option_map, string_bytes, map_push, take_more, length-map, get_or-map, Span, Ident, ExternKind, InterfaceId, ItemKind, ValueType, Entry, UsedType, Meaning, Named, look_up, StandsFor, IsFresh, with_named, Uses, IsNoneOf, is_resource_or_value_form, export_of, uses_mean, Names, Parts, means, entry_means, Naming, Error, use_conflict, Body, externs, with_type, used_as, renamed_from, UsesItem, IsNoTypeThere, IsNoUsableType, IsUseConflict, UseItemBroken, help_of_use, at_ident, used_at, values_of, places_of, grows_self, memory_told, Lists, kinds_of, with_bound, with_used, body_in, UsesNamed, Covers, IsBody, body_with_bound, means_with_bound, extern_fresh, extern_stands, places_append, items_step}
+use Rattle.wac_ast_grammar.specs.Tree.{UseItem}
 use Rattle.wac_graph_types.specs.declared.kind.ExternKind.TheVariants as sides
-use Rattle.wac_graph_types.specs.declared.kind.InterfaceId.{InterfaceId}
-use Rattle.wac_graph_types.specs.declared.kind.ItemKind.{ItemKind}
 use Rattle.wac_graph_types.specs.declared.kind.ItemKind.TheVariants as kinds
 use Rattle.wac_graph_types.specs.declared.kind.«Type».TheVariants as types
 use Rattle.wac_graph_types.specs.declared.kind.ResourceId.{ResourceId}
-use Rattle.wac_graph_types.specs.declared.kind.ValueType.{ValueType}
-use Rattle.wac_graph_types.specs.declared.entry.Entry.{Entry}
-use Rattle.wac_graph_types.specs.declared.entry.UsedType.{UsedType}
-use Rattle.wac_graph_types.specs.Meaning.{Meaning}
-use Rattle.wac_graph_types.specs.Scope.{Named, look_up, StandsFor, IsFresh, with_named}
-use Rattle.wac_graph_types.specs.Shape.{Uses, IsNoneOf, is_resource_or_value_form, export_of, uses_mean}
-use Rattle.wac_graph_types.specs.Table.{Names}
-use Rattle.wac_graph.specs.Graph.{Parts}
-use Rattle.wac_graph.specs.Means.{means, entry_means}
-use Rattle.wac_graph.specs.Origin.{Naming}
-use Rattle.wac_resolution_errors.specs.Error.{Error, use_conflict}
-use Rattle.wac_resolution_rules.specs.Bodies.{Body, externs, with_type, used_as, renamed_from, UsesItem}
-use Rattle.wac_resolution_rules.specs.BrokenBodies.{IsNoTypeThere, IsNoUsableType, IsUseConflict, UseItemBroken, help_of_use}
-use Rattle.wac_resolution_rules.specs.Places.{at_ident, used_at}
-use Rattle.wac_resolution_state.specs.Bindings.{values_of, places_of}
-use Rattle.wac_resolution_state.proofs.Grown.{grows_self}
-use Rattle.wac_resolution_state.proofs.Scopes.{memory_told}
-use Rattle.wac_resolution_bodies.specs.Lists.{Lists, kinds_of, with_bound, with_used}
-use Rattle.wac_resolution_bodies.specs.Bodies.{body_in, UsesNamed, Covers, IsBody}
 use Rattle.wac_resolution_rules.proofs.Scopes.{fresh_before, fresh_after}
 use Rattle.wac_resolution_bodies.proofs.Found.{fresh_value}
-use Rattle.wac_resolution_bodies.proofs.Lists.{body_with_bound, means_with_bound, extern_fresh, extern_stands, places_append}
-use Rattle.wac_resolution_bodies.proofs.Going.{items_step}
 use Rattle.wac_resolution_worlds.specs.Used.{IsThere, IsUsed, UseStep, UseSteps}
 
 -- ---- what an interface exports

@@ -1,43 +1,10 @@
 -- Items of worlds, and worlds.
-use Rattle.std.proofs.Common.{◌≡◌, inl, inr, ℕ, List, [], ◌∷◌, ◌++◌, Option, refl, sym, subst, append-nil}
-use Rattle.std.specs.Prelude.{Result, IfErr, OnOk, String}
-use Rattle.std.specs.declared.alloc.Global.{Global}
-use Rattle.std.proofs.lemmas.Result.{IfErr-weaker}
-use Rattle.indexmap.proofs.MapLemmas.{OnOk-map}
-use Rattle.wac_lexer.specs.Span.{Span}
-use Rattle.wac_ast_grammar.specs.Tree.{Use, ItemTypeDecl, WorldImport, WorldExport, WorldInclude, WorldItem}
+use Rattle.wac_resolution_worlds.proofs.Common.{◌≡◌, inl, inr, ℕ, List, [], ◌∷◌, ◌++◌, Option, refl, sym, subst, append-nil, Result, IfErr, OnOk, String, Global, IfErr-weaker, OnOk-map, Span, ItemTypeDecl, WorldImport, WorldExport, WorldInclude, ItemKind, WorldId, Entry, UsedType, use_children, import_children, export_children, EachKind, by_name, Named, Steps, Fails, Names, ItemsNamed, world_item_of, Parts, declared_count, Naming, Error, told, Owner, of_world, ItemBroken, UseBroken, ExternBroken, WorldItemBroken, IncludeBroken, WorldBroken, HasInclude, bound_in_world_item, bound_in_world, HasWorldItem, includes_of, places_of, scope_of, AllSupplied, packages_in, context_of, expands_self, expands_on, grows_expands, handed_grown, scope_expanded, Lists, body_in, UsesNamed, IsBody, DeclarationStep}
+use Rattle.wac_ast_grammar.specs.Tree.{Use, WorldItem}
 use Rattle.wac_graph_types.specs.declared.kind.ExternKind.TheVariants as sides
-use Rattle.wac_graph_types.specs.declared.kind.ItemKind.{ItemKind}
-use Rattle.wac_graph_types.specs.declared.kind.WorldId.{WorldId}
-use Rattle.wac_graph_types.specs.declared.entry.Entry.{Entry}
-use Rattle.wac_graph_types.specs.declared.entry.UsedType.{UsedType}
-use Rattle.wac_graph_types.specs.Entry.{use_children, import_children, export_children}
-use Rattle.wac_graph_types.specs.Meaning.{EachKind}
-use Rattle.wac_graph_types.specs.Names.{by_name}
-use Rattle.wac_graph_types.specs.Scope.{Named}
-use Rattle.wac_graph_types.specs.Steps.{Steps, Fails}
-use Rattle.wac_graph_types.specs.Table.{Names, ItemsNamed}
-use Rattle.wac_ast_worlds.specs.Worlds.{world_item_of}
 use Rattle.wac_ast_worlds.specs.declared.world.WorldItem.{WorldItem as CodeWorldItem}
-use Rattle.wac_graph.specs.Graph.{Parts}
-use Rattle.wac_graph.specs.Means.{declared_count}
-use Rattle.wac_graph.specs.Origin.{Naming}
-use Rattle.wac_resolution_errors.specs.Error.{Error}
-use Rattle.wac_resolution_errors.specs.Told.{told}
 use Rattle.wac_resolution_errors.specs.declared.error.Error.{Error as CodeError}
-use Rattle.wac_resolution_rules.specs.BrokenBodies.{Owner, of_world, ItemBroken, UseBroken}
-use Rattle.wac_resolution_rules.specs.BrokenWorlds.{ExternBroken, WorldItemBroken, IncludeBroken, WorldBroken}
-use Rattle.wac_resolution_rules.specs.Includes.{HasInclude}
-use Rattle.wac_resolution_rules.specs.Places.{bound_in_world_item, bound_in_world}
-use Rattle.wac_resolution_rules.specs.Worlds.{HasWorldItem, includes_of}
-use Rattle.wac_resolution_state.specs.Bindings.{places_of}
-use Rattle.wac_resolution_state.specs.Named.{scope_of}
 use Rattle.wac_resolution_paths.specs.declared.context.Context.{Context}
-use Rattle.wac_resolution_paths.specs.Expands.{AllSupplied}
-use Rattle.wac_resolution_paths.specs.Context.{packages_in, context_of}
-use Rattle.wac_resolution_paths.proofs.Expanding.{expands_self, expands_on, grows_expands, handed_grown, scope_expanded}
-use Rattle.wac_resolution_bodies.specs.Lists.{Lists}
-use Rattle.wac_resolution_bodies.specs.Bodies.{body_in, UsesNamed, IsBody, DeclarationStep}
 use Rattle.wac_resolution_worlds.specs.Made.{no_lists}
 use Rattle.wac_resolution_worlds.specs.WorldItems.{WorldItemStep, WorldItemSteps, AreNamed, IncludeSteps, WorldOf, WorldMade}
 use Rattle.wac_resolution_worlds.proofs.Growing.{goes_expand}

@@ -1,46 +1,12 @@
 -- Imports and exports of worlds.
-use Rattle.std.proofs.Common.{◌≡◌, ◌∙◌, inr, ℕ, List, [], ◌++◌, None, refl, sym, ap, subst, append-nil}
-use Rattle.std.specs.Prelude.{Result, IfErr, OnOk, unwrap_or}
-use Rattle.std.proofs.lemmas.Result.{IfErr-weaker}
-use Rattle.indexmap.proofs.MapLemmas.{OnOk-map}
-use Rattle.wac_lexer.specs.Span.{Span}
-use Rattle.wac_ast_grammar.specs.Tree.{Ident, PackagePath, FuncType, InlineInterface, ExternType, NamedWorldItem, WorldItemPath}
-use Rattle.wac_graph_types.specs.declared.kind.ExternKind.{ExternKind}
+use Rattle.wac_resolution_worlds.proofs.Common.{◌≡◌, ◌∙◌, inr, ℕ, List, [], ◌++◌, None, refl, sym, ap, subst, append-nil, Result, IfErr, OnOk, unwrap_or, IfErr-weaker, OnOk-map, Span, Ident, PackagePath, FuncType, InlineInterface, ExternType, NamedWorldItem, WorldItemPath, ExternKind, ItemKind, FuncTypeId, InterfaceId, Meaning, PackageParts, Named, IsFresh, id_of, entry_of, Names, ItemsNamed, extern_type_of, world_item_path_of, Parts, means, entry_means, declared_count, Naming, Key, Error, told, Body, externs, with_extern, with_count, Owner, IsConflict, ExternTypeBroken, InstanceBroken, ExternBroken, id_or_empty, HasInstance, HasExtern, values_of, places_of, scope_of, KindIs, grows_self, Expands, AllSupplied, Found, packages_in, context_of, expands_self, grows_expands, handed_grown, Lists, kinds_of, with_kind, body_in, IsBody, body_still, body_kept, body_with_kind, means_with_kind, extern_fresh}
 use Rattle.wac_graph_types.specs.declared.kind.ExternKind.TheVariants as sides
-use Rattle.wac_graph_types.specs.declared.kind.ItemKind.{ItemKind}
 use Rattle.wac_graph_types.specs.declared.kind.ItemKind.TheVariants as kinds
-use Rattle.wac_graph_types.specs.declared.kind.FuncTypeId.{FuncTypeId}
-use Rattle.wac_graph_types.specs.declared.kind.InterfaceId.{InterfaceId}
-use Rattle.wac_graph_types.specs.Meaning.{Meaning}
-use Rattle.wac_graph_types.specs.Package.{PackageParts}
-use Rattle.wac_graph_types.specs.Scope.{Named, IsFresh}
-use Rattle.wac_graph_types.specs.Shape.{id_of, entry_of}
-use Rattle.wac_graph_types.specs.Table.{Names, ItemsNamed}
-use Rattle.wac_ast_worlds.specs.Worlds.{extern_type_of, world_item_path_of}
 use Rattle.wac_ast_worlds.specs.declared.world.ExternType.{ExternType as CodeExternType}
 use Rattle.wac_ast_worlds.specs.declared.world.WorldItemPath.{WorldItemPath as CodeWorldItemPath}
-use Rattle.wac_graph.specs.Graph.{Parts}
-use Rattle.wac_graph.specs.Means.{means, entry_means, declared_count}
-use Rattle.wac_graph.specs.Origin.{Naming}
-use Rattle.wac_graph.specs.Package.{Key}
-use Rattle.wac_resolution_errors.specs.Error.{Error}
-use Rattle.wac_resolution_errors.specs.Told.{told}
 use Rattle.wac_resolution_errors.specs.declared.error.Error.{Error as CodeError}
-use Rattle.wac_resolution_rules.specs.Bodies.{Body, externs, with_extern, with_count}
-use Rattle.wac_resolution_rules.specs.BrokenBodies.{Owner, IsConflict}
-use Rattle.wac_resolution_rules.specs.BrokenWorlds.{ExternTypeBroken, InstanceBroken, ExternBroken}
 use Rattle.wac_resolution_rules.specs.Paths as rules
-use Rattle.wac_resolution_rules.specs.Worlds.{id_or_empty, HasInstance, HasExtern}
-use Rattle.wac_resolution_state.specs.Bindings.{values_of, places_of}
-use Rattle.wac_resolution_state.specs.Named.{scope_of, KindIs}
-use Rattle.wac_resolution_state.proofs.Grown.{grows_self}
 use Rattle.wac_resolution_paths.specs.declared.context.Context.{Context}
-use Rattle.wac_resolution_paths.specs.Expands.{Expands, AllSupplied, Found}
-use Rattle.wac_resolution_paths.specs.Context.{packages_in, context_of}
-use Rattle.wac_resolution_paths.proofs.Expanding.{expands_self, grows_expands, handed_grown}
-use Rattle.wac_resolution_bodies.specs.Lists.{Lists, kinds_of, with_kind}
-use Rattle.wac_resolution_bodies.specs.Bodies.{body_in, IsBody}
-use Rattle.wac_resolution_bodies.proofs.Lists.{body_still, body_kept, body_with_kind, means_with_kind, extern_fresh}
 use Rattle.wac_resolution_worlds.specs.UseStatements.{BodyExpands}
 use Rattle.wac_resolution_worlds.specs.Instances.{IsInterfaceKind}
 use Rattle.wac_resolution_worlds.specs.Made.{InterfaceMade}

@@ -1,8 +1,5 @@
 -- What is returned for a source with a character that no text may have.
-use Rattle.std.proofs.Common.{◌≡◌, ℕ, List, Some, Err, inl, refl}
-use Rattle.std.specs.Prelude.{IsUtf8}
-use Rattle.wac_lexer.specs.Span.{Span}
-use Rattle.wac_lexer.specs.Characters.{refused}
+use Rattle.wac_tool.proofs.Common.{◌≡◌, ℕ, List, Some, Err, inl, refl, IsUtf8, Span, refused}
 use Rattle.wac_lexer.specs.declared.error.Error.{Error as Fault}
 use Rattle.wac_ast_base.specs.declared.error.Error.TheVariants as errors
 use Rattle.wac_tool.specs.Running.{Answers, IsRefusal}

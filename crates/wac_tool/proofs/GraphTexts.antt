@@ -1,10 +1,6 @@
 -- What is written of a graph, and what is returned for an error.
-use Rattle.std.proofs.Common.{◌≡◌, ℕ, suc, List, [], ◌∷◌, ◌++◌, map, ⊎_elim, refl, sym, subst, ap, inr, Ok, Err}
-use Rattle.std.specs.Prelude.{◌⊎◌, Result, IfOk, IfErr, alloc_error}
-use Rattle.wac_ast.specs.Statements.{document_of}
+use Rattle.wac_tool.proofs.Common.{◌≡◌, ℕ, suc, List, [], ◌∷◌, ◌++◌, map, ⊎_elim, refl, sym, subst, ap, inr, Ok, Err, ◌⊎◌, Result, IfOk, IfErr, alloc_error, document_of, IsTreeOf, Document}
 use Rattle.wac_ast.specs.declared.document.Document.{Document as CodeDocument}
-use Rattle.wac_ast_grammar.specs.TextTree.{IsTreeOf}
-use Rattle.wac_ast_grammar.specs.Tree.{Document}
 use Rattle.wac_graph.specs.Graph.{Parts}
 use Rattle.wac_graph.specs.Node.{Node as GraphNode, arguments_in}
 use Rattle.wac_graph.specs.Origin.{Naming}

@@ -1,8 +1,6 @@
 -- What is below blocks that held nothing.
-use Rattle.std.proofs.Common.{◌≡◌, ℕ, true, List, [], ◌++◌, length, sym, ap, ◌∙◌, subst, arith, length-append, Err, inl, inr}
-use Rattle.std.specs.Prelude.{◌&&◌, nat_eq}
-use Rattle.std.proofs.lemmas.List.{append-nil, nil_from_length}
-use Rattle.std.proofs.lemmas.Bool.{and_parts, eqb-true}
+use Rattle.wac_tool.proofs.Common.{◌≡◌, ℕ, true, List, [], ◌++◌, length, sym, ap, ◌∙◌, subst, arith, length-append, Err, inl, inr, ◌&&◌, nat_eq, nil_from_length, and_parts, eqb-true}
+use Rattle.std.proofs.lemmas.List.{append-nil}
 use Rattle.wac_lexer.specs.Blocks.{Holding, given}
 use Rattle.wac_tool.specs.Front.{is_front, Began}
 use Rattle.wac_tool.specs.Blocks.{Fresh, Grown}

@@ -1,6 +1,5 @@
 -- What writing the JSON form of a document, and a line feed behind it, gives.
-use Rattle.std.proofs.Common.{◌≡◌, ◌≤◌, ℕ, true, List, ◌∷◌, ◌++◌, take, drop, append_assoc, length, length-append, arith, ap, ◌∙◌, subst}
-use Rattle.std.proofs.lemmas.List.{take-append-drop}
+use Rattle.wac_tool.proofs.Common.{◌≡◌, ◌≤◌, ℕ, true, List, ◌∷◌, ◌++◌, take, drop, append_assoc, length, length-append, arith, ap, ◌∙◌, subst, take-append-drop}
 use Rattle.wac_json_text.specs.Pieces.{IsBegun}
 use Rattle.wac_tool.specs.Front.{is_front, Began}
 use Rattle.wac_tool.proofs.Fronts.{is_front-append, is_front-longer}

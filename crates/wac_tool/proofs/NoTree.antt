@@ -1,9 +1,5 @@
 -- What is returned for a source that has no tree.
-use Rattle.std.proofs.Common.{◌≡◌, ◌∙◌, ℕ, List, Option, Some, Err, inl, refl, ⊎_elim}
-use Rattle.wac_lexer.specs.Span.{Span}
-use Rattle.std.specs.Prelude.{◌⊎◌, ◌≢◌, IsUtf8, alloc_error, string_bytes}
-use Rattle.wac_ast_grammar.specs.Tree.{Document}
-use Rattle.wac_ast_grammar.specs.TextTree.{IsTreeOf}
+use Rattle.wac_tool.proofs.Common.{◌≡◌, ◌∙◌, ℕ, List, Option, Some, Err, inl, refl, ⊎_elim, Span, ◌⊎◌, ◌≢◌, IsUtf8, alloc_error, string_bytes, Document, IsTreeOf}
 use Rattle.wac_ast.specs.Document.{ErrorOf}
 use Rattle.wac_ast_base.specs.Error.{told_by}
 use Rattle.wac_ast_base.specs.declared.error.Error.{Error}

@@ -1,8 +1,6 @@
 -- What is returned for a document, by whether it is formatted.
-use Rattle.std.proofs.Common.{◌≡◌, ℕ, List, [], Ok, Err, inl, inr, refl, sym, append-nil}
-use Rattle.std.specs.Prelude.{◌≢◌, IsUtf8}
-use Rattle.wac_ast_grammar.specs.Tree.{Document}
-use Rattle.wac_ast_grammar.specs.TextTree.{IsTreeOf}
+use Rattle.wac_tool.proofs.Common.{◌≡◌, ℕ, List, [], Ok, Err, inl, inr, refl, sym, ◌≢◌, IsUtf8, Document, IsTreeOf}
+use Rattle.std.proofs.Common.{append-nil}
 use Rattle.wac_tool.specs.Running.{printed, Answers, IsUnformatted}
 use Rattle.wac_tool.specs.declared.command.Command.TheVariants.{Check}
 use Rattle.wac_tool.specs.declared.error.RunError.{RunError}

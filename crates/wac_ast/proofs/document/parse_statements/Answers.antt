@@ -1,11 +1,7 @@
-use Rattle.std.proofs.Common.{◌≡◌, ◌<◌, ◌++◌, ◌∷◌, [], map, length, refl}
-use Rattle.std.proofs.lemmas.List.{map_push}
-use Rattle.wac_lexer.specs.Reading.{left}
-use Rattle.wac_ast_grammar.specs.Grammar.{statement}
+use Rattle.wac_ast.proofs.Common.{◌≡◌, ◌<◌, ◌++◌, ◌∷◌, [], map, length, refl, map_push, left, statement, star_goes_on, star_fails, star_ends, statements_star}
 use Rattle.wac_ast.specs.Statements.{statement_of}
 use Rattle.wac_ast_grammar.proofs.Fixed.{takes_some}
 use Rattle.wac_ast.proofs.Whole.{none_left}
-use Rattle.wac_ast_base.proofs.Loops.{star_goes_on, star_fails, star_ends, statements_star}
 use Rattle.wac_ast_base.proofs.Exits as x
 use Rattle.wac_ast.proofs.document.parse_statements.Goals as goal
 

@@ -1,9 +1,5 @@
-use Rattle.std.proofs.Common.{map, length}
-use Rattle.wac_lexer.specs.Reading.{left}
-use Rattle.wac_ast_grammar.specs.Grammar.{statements}
-use Rattle.wac_ast_grammar.specs.Reading.{read}
+use Rattle.wac_ast.proofs.Common.{map, length, left, statements, read, SoFar}
 use Rattle.wac_ast.specs.Statements.{statement_of}
-use Rattle.wac_ast_base.proofs.Loops.{SoFar}
 use Rattle.wac_ast.proofs.document.parse_statements.Given as goal
 
 abbrev pub invariant-loop-alloc : goal.invariant-loop-alloc

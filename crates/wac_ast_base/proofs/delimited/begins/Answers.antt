@@ -1,4 +1,5 @@
-use Rattle.std.proofs.Common.{sym, refl}
+use Rattle.wac_ast_base.proofs.Common.{refl}
+use Rattle.std.proofs.Common.{sym}
 use Rattle.wac_ast_base.proofs.Lookaheads.{looks, tests}
 use Rattle.wac_ast_base.proofs.delimited.begins.Goals as goal
 

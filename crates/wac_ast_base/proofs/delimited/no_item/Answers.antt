@@ -1,5 +1,5 @@
-use Rattle.std.proofs.Common.{◌<◌, ◌∷◌, [], ℕ, ap, sym, subst, ◌∙◌}
-use Rattle.wac_lexer.specs.Reading.{left}
+use Rattle.wac_ast_base.proofs.Common.{◌<◌, ◌∷◌, [], ℕ, ap, subst, ◌∙◌, left}
+use Rattle.std.proofs.Common.{sym}
 use Rattle.wac_ast_base.specs.Lookahead.{told_of}
 use Rattle.wac_ast_base.proofs.Lookaheads.{looks, looks_on, peeks_one, none_found, one_test, counted}
 use Rattle.wac_ast_base.proofs.delimited.no_item.Goals as goal

@@ -1,5 +1,4 @@
-use Rattle.std.proofs.Common.{refl, ◌∙◌}
-use Rattle.wac_lexer.specs.Reading.{left}
+use Rattle.wac_ast_base.proofs.Common.{refl, ◌∙◌, left}
 use Rattle.wac_lexer.specs.declared.token.Token.TheVariants as t
 use Rattle.wac_ast_base.specs.Answer.{first_item}
 use Rattle.wac_ast_base.specs.Lists.{body_of}

@@ -1,5 +1,4 @@
-use Rattle.std.proofs.Common.{map, length}
-use Rattle.wac_lexer.specs.Reading.{left}
+use Rattle.wac_ast_base.proofs.Common.{map, length, left}
 use Rattle.wac_ast_base.specs.Lists.{body_of}
 use Rattle.wac_ast_base.proofs.Lists.{ListSoFar}
 use Rattle.wac_ast_base.proofs.delimited.parse_each.Given as goal

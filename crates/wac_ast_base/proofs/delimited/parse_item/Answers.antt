@@ -1,4 +1,4 @@
-use Rattle.std.proofs.Common.{◌∙◌}
+use Rattle.wac_ast_base.proofs.Common.{◌∙◌}
 use Rattle.wac_ast_base.proofs.Lists.{item_there, item_missing, made_fails, same_fails}
 use Rattle.wac_ast_base.proofs.delimited.parse_item.Goals as goal
 

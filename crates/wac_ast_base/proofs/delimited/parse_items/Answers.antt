@@ -1,6 +1,4 @@
-use Rattle.std.proofs.Common.{◌≡◌, ◌<◌, ◌++◌, ◌∷◌, [], map, length, arith}
-use Rattle.std.proofs.lemmas.List.{map_push}
-use Rattle.wac_lexer.specs.Reading.{left}
+use Rattle.wac_ast_base.proofs.Common.{◌≡◌, ◌<◌, ◌++◌, ◌∷◌, [], map, length, arith, map_push, left}
 use Rattle.wac_ast_base.proofs.Exits.{same_error, tested}
 use Rattle.wac_ast_base.proofs.Lists.{comma_list, closes_plain, item_is_some, item_less, item_fails, list_goes_on, list_closed, so_far_fails, step_fails, made_fails}
 use Rattle.wac_ast_base.proofs.delimited.parse_items.Goals as goal

@@ -1,5 +1,4 @@
-use Rattle.std.proofs.Common.{◌∙◌}
-use Rattle.wac_lexer.specs.Reading.{left}
+use Rattle.wac_ast_base.proofs.Common.{◌∙◌, left}
 use Rattle.wac_ast_base.specs.Answer.{first_item}
 use Rattle.wac_ast_base.specs.Lists.{list_of}
 use Rattle.wac_ast_base.proofs.Exits.{same_error}

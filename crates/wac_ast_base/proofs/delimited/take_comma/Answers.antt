@@ -1,5 +1,4 @@
-use Rattle.std.proofs.Common.{◌<◌, length, refl, arith}
-use Rattle.wac_lexer.specs.Reading.{left}
+use Rattle.wac_ast_base.proofs.Common.{◌<◌, length, refl, arith, left}
 use Rattle.wac_lexer.specs.declared.token.Token.TheVariants as t
 use Rattle.wac_ast_base.specs.Lists.{list_of, more_of}
 use Rattle.wac_ast_base.proofs.Lists.{comma_list, none_left, rest_closed, rest_comma, rest_fails, rest_missing, stops_there, token_less}

@@ -1,4 +1,4 @@
-use Rattle.std.proofs.Common.{rules, ◌++◌}
+use Rattle.wac_ast_base.proofs.Common.{rules, ◌++◌}
 use Rattle.std.proofs.Output.{has_written_append}
 use Rattle.wac_ast_base.specs.Messages.{entry}
 use Rattle.wac_ast_base.proofs.Messages.{token_written, place_passed}

@@ -1,6 +1,4 @@
-use Rattle.std.proofs.Common.{ap, ◌∙◌, lit<}
-use Rattle.std.proofs.lemmas.Str.Pattern.{strip_prefix_char, strip_suffix_char}
-use Rattle.wac_ast_grammar.specs.Tree.{without_last_quote}
+use Rattle.wac_ast_base.proofs.Common.{ap, ◌∙◌, lit<, strip_prefix_char, strip_suffix_char, without_last_quote}
 use Rattle.wac_ast_base.proofs.Strips.{front_stripped, last_stripped}
 use Rattle.wac_ast_base.proofs.names.between_quotes.Goals as goal
 

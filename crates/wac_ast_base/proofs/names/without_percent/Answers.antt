@@ -1,4 +1,4 @@
-use Rattle.std.proofs.Common.{ap, ◌∙◌}
+use Rattle.wac_ast_base.proofs.Common.{ap, ◌∙◌}
 use Rattle.wac_ast_base.proofs.Strips.{stripped, unwrapped}
 use Rattle.wac_ast_base.proofs.names.without_percent.Goals as goal
 

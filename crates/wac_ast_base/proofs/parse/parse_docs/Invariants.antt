@@ -1,5 +1,4 @@
-use Rattle.std.proofs.Common.{◌≡◌, map}
-use Rattle.wac_lexer.specs.Item.{doc_of}
+use Rattle.wac_ast_base.proofs.Common.{◌≡◌, map, doc_of}
 use Rattle.wac_ast_base.specs.Names.{doc_comment_of}
 use Rattle.wac_ast_base.proofs.parse.parse_docs.Given as goal
 

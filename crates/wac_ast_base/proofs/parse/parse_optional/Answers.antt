@@ -1,7 +1,5 @@
-use Rattle.std.proofs.Common.{Ok, refl, subst, List}
+use Rattle.wac_ast_base.proofs.Common.{Ok, refl, subst, List, Item, left}
 use Rattle.std.specs.Fn.{FnOnceReturnsAtMut}
-use Rattle.wac_lexer.specs.Item.{Item}
-use Rattle.wac_lexer.specs.Reading.{left}
 use Rattle.wac_ast_grammar.specs.Consumed.{Consumed}
 use Rattle.wac_ast_base.proofs.parse.parse_optional.Goals as goal
 

@@ -1,5 +1,5 @@
-use Rattle.std.proofs.Common.{sym, inr, ◌∙◌}
-use Rattle.std.proofs.lemmas.Result.{err_from_is_err_and}
+use Rattle.wac_ast_base.proofs.Common.{inr, ◌∙◌, err_from_is_err_and}
+use Rattle.std.proofs.Common.{sym}
 use Rattle.wac_ast_base.specs.Error.{told_by}
 use Rattle.wac_ast_base.proofs.Taken.{fault_refused}
 use Rattle.wac_ast_base.proofs.parse.take_optional.Goals as goal

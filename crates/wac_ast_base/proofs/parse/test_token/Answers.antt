@@ -1,4 +1,5 @@
-use Rattle.std.proofs.Common.{Ok, sym, ap, ◌∙◌}
+use Rattle.wac_ast_base.proofs.Common.{Ok, ap, ◌∙◌}
+use Rattle.std.proofs.Common.{sym}
 use Rattle.wac_ast_base.proofs.Taken.{same_token}
 use Rattle.wac_ast_base.proofs.parse.test_token.Goals as goal
 

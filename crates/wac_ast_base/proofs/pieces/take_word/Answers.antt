@@ -1,5 +1,4 @@
-use Rattle.std.proofs.Common.{refl}
-use Rattle.wac_lexer.specs.Reading.{left}
+use Rattle.wac_ast_base.proofs.Common.{refl, left}
 use Rattle.wac_ast_base.proofs.Exits as x
 use Rattle.wac_ast_base.proofs.Yields as y
 use Rattle.wac_ast_base.proofs.pieces.take_word.Goals as goal

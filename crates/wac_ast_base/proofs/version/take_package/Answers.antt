@@ -1,7 +1,5 @@
-use Rattle.std.proofs.Common.{ap, sym, ◌∙◌, Ok}
-use Rattle.std.proofs.lemmas.Result.{err_from_is_err_and}
-use Rattle.wac_lexer.specs.Reading.{left}
-use Rattle.wac_ast_grammar.specs.Version.{reads_version, unversioned, version_of}
+use Rattle.wac_ast_base.proofs.Common.{ap, ◌∙◌, Ok, err_from_is_err_and, left, reads_version, unversioned, version_of}
+use Rattle.std.proofs.Common.{sym}
 use Rattle.wac_ast_base.specs.Answer.{first_item, end_of_input}
 use Rattle.wac_ast_base.proofs.Taken.{token_fails, version_fails, package_taken, span_of}
 use Rattle.wac_ast_base.proofs.version.take_package.Goals as goal

@@ -1,16 +1,7 @@
 use Rattle.std.proofs.Common.{◌≡◌, ◌<◌, ◌^◌, ◌++◌, ◌∷◌, [], map, length, sym as back, refl, subst, ◌∙◌, arith}
-use Rattle.std.proofs.lemmas.List.{map_push}
-use Rattle.wac_lexer.specs.Reading.{left}
+use Rattle.wac_ast_expressions.proofs.Common.{map_push, left, end_of, PrimaryExpr, expr, named_argument, primary_expr, new_expr, nested_expr, argument, arguments, argument_name, package_name, primary_span, read, takes_some, fails_bind, looks, comma_list, item_fails, item_less, item_missing, item_there, list_closed, list_goes_on, so_far_fails, step_fails, token_less, moved_end, same_fails, closed_by, closed_fails, never_fails}
 use Rattle.wac_lexer.specs.declared.token.Token.TheVariants as tokens
-use Rattle.wac_lexer.specs.Span.{end_of}
-use Rattle.wac_ast_grammar.specs.Tree.{PrimaryExpr}
-use Rattle.wac_ast_grammar.specs.Grammar.{expr, named_argument, primary_expr, new_expr, nested_expr, argument, arguments, argument_name, package_name, primary_span}
-use Rattle.wac_ast_grammar.specs.Reading.{read}
 use Rattle.wac_ast_expressions.specs.Expressions.{argument_of, expr_of}
-use Rattle.wac_ast_grammar.proofs.Fixed.{takes_some}
-use Rattle.wac_ast_base.proofs.Loops.{fails_bind}
-use Rattle.wac_ast_base.proofs.Lookaheads.{looks}
-use Rattle.wac_ast_base.proofs.Lists.{comma_list, item_fails, item_less, item_missing, item_there, list_closed, list_goes_on, so_far_fails, step_fails, token_less, moved_end, same_fails, closed_by, closed_fails, never_fails}
 use Rattle.wac_ast_base.proofs.Optional.{gives_behind}
 use Rattle.wac_ast_base.proofs.Exits as x
 use Rattle.wac_ast_base.proofs.Yields as y

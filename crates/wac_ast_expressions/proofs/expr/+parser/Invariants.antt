@@ -1,9 +1,5 @@
-use Rattle.std.proofs.Common.{◌+◌, ◌*◌, ◌≤◌, map, length}
-use Rattle.wac_lexer.specs.Reading.{left}
-use Rattle.wac_ast_grammar.specs.Grammar.{argument}
-use Rattle.wac_ast_base.specs.Lists.{list_of}
+use Rattle.wac_ast_expressions.proofs.Common.{◌+◌, ◌*◌, ◌≤◌, map, length, left, argument, list_of, ListSoFar}
 use Rattle.wac_ast_expressions.specs.Expressions.{argument_of}
-use Rattle.wac_ast_base.proofs.Lists.{ListSoFar}
 use Rattle.wac_ast_expressions.proofs.expr.+parser.Given as goal
 
 abbrev pub decreases-NewExprParse::parse : goal.decreases-NewExprParse::parse

@@ -1,4 +1,4 @@
-use Rattle.std.proofs.Common.{sym, ◌∙◌}
+use Rattle.wac_ast_expressions.proofs.Common.{sym, ◌∙◌}
 use Rattle.wac_ast_expressions.proofs.Spans.{last_is}
 use Rattle.wac_ast_expressions.proofs.expr.last_span.Goals as goal
 

@@ -1,6 +1,4 @@
-use Rattle.std.proofs.Common.{ap, ◌∙◌}
-use Rattle.wac_ast_base.specs.Lookahead.{told_of}
-use Rattle.wac_ast_base.proofs.Lookaheads.{looks, looks_on, none_found}
+use Rattle.wac_ast_expressions.proofs.Common.{ap, ◌∙◌, told_of, looks, looks_on, none_found}
 use Rattle.wac_ast_expressions.proofs.expr.no_argument.Goals as goal
 
 pub returns : goal.returns

@@ -1,5 +1,4 @@
-use Rattle.std.proofs.Common.{refl}
-use Rattle.wac_ast_base.proofs.Loops.{fails_bind}
+use Rattle.wac_ast_expressions.proofs.Common.{refl, fails_bind}
 use Rattle.wac_ast_base.proofs.Exits as x
 use Rattle.wac_ast_expressions.proofs.expr.parse_accesses_after.Goals as goal
 

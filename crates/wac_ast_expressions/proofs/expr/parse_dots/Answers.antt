@@ -1,10 +1,5 @@
-use Rattle.std.proofs.Common.{refl, ◌∙◌}
-use Rattle.wac_lexer.specs.Reading.{left}
+use Rattle.wac_ast_expressions.proofs.Common.{refl, ◌∙◌, left, argument, read, fails_bind, never_fails, same_fails, moved_end}
 use Rattle.wac_lexer.specs.declared.token.Token.TheVariants as tokens
-use Rattle.wac_ast_grammar.specs.Grammar.{argument}
-use Rattle.wac_ast_grammar.specs.Reading.{read}
-use Rattle.wac_ast_base.proofs.Loops.{fails_bind}
-use Rattle.wac_ast_base.proofs.Lists.{never_fails, same_fails, moved_end}
 use Rattle.wac_ast_base.proofs.Exits as x
 use Rattle.wac_ast_expressions.proofs.ArgumentParts.{argument_fill, argument_spread}
 use Rattle.wac_ast_expressions.proofs.expr.parse_dots.Goals as goal

@@ -1,4 +1,4 @@
-use Rattle.wac_lexer.specs.Reading.{left}
+use Rattle.wac_ast_expressions.proofs.Common.{left}
 use Rattle.wac_ast_base.proofs.Exits as x
 use Rattle.wac_ast_expressions.proofs.ArgumentParts.{argument_inferred_ok, argument_inferred_fails}
 use Rattle.wac_ast_expressions.proofs.expr.parse_inferred.Goals as goal

@@ -1,10 +1,5 @@
-use Rattle.std.proofs.Common.{◌≡◌, ◌<◌, ◌++◌, ◌∷◌, [], map, length, refl}
-use Rattle.std.proofs.lemmas.List.{map_push}
-use Rattle.wac_lexer.specs.Reading.{left}
-use Rattle.wac_ast_grammar.specs.Grammar.{postfix_expr}
+use Rattle.wac_ast_expressions.proofs.Common.{◌≡◌, ◌<◌, ◌++◌, ◌∷◌, [], map, length, refl, map_push, left, postfix_expr, takes_some, star_goes_on, star_fails, star_ends, postfixes_star}
 use Rattle.wac_ast_expressions.specs.Expressions.{postfix_expr_of}
-use Rattle.wac_ast_grammar.proofs.Fixed.{takes_some}
-use Rattle.wac_ast_base.proofs.Loops.{star_goes_on, star_fails, star_ends, postfixes_star}
 use Rattle.wac_ast_base.proofs.Exits as x
 use Rattle.wac_ast_expressions.proofs.Spans.{fits_more}
 use Rattle.wac_ast_expressions.proofs.expr.parse_postfixes.Goals as goal

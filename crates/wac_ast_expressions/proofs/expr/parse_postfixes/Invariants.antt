@@ -1,10 +1,5 @@
-use Rattle.std.proofs.Common.{◌<◌, ◌^◌, map, length}
-use Rattle.wac_lexer.specs.Reading.{left}
-use Rattle.wac_lexer.specs.Span.{Span, end_of}
-use Rattle.wac_ast_grammar.specs.Grammar.{postfixes, last_span}
-use Rattle.wac_ast_grammar.specs.Reading.{read}
+use Rattle.wac_ast_expressions.proofs.Common.{◌<◌, ◌^◌, map, length, left, Span, end_of, postfixes, last_span, read, SoFar}
 use Rattle.wac_ast_expressions.specs.Expressions.{postfix_expr_of}
-use Rattle.wac_ast_base.proofs.Loops.{SoFar}
 use Rattle.wac_ast_expressions.proofs.expr.parse_postfixes.Given as goal
 
 abbrev pub invariant-loop-alloc : goal.invariant-loop-alloc

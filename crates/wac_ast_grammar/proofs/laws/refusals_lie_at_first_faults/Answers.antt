@@ -1,4 +1,4 @@
-use Rattle.std.proofs.Common.{◌≡◌, refl, false}
+use Rattle.wac_ast_grammar.proofs.Common.{◌≡◌, refl, false}
 use Rattle.wac_ast_grammar.specs.Grammar.{Sym, argument}
 use Rattle.wac_ast_grammar.proofs.Tables.{needs_more}
 use Rattle.wac_ast_grammar.proofs.Refused.{stopped}

@@ -1,4 +1,4 @@
-use Rattle.std.proofs.Common.{◌≡◌, true}
+use Rattle.wac_ast_grammar.proofs.Common.{◌≡◌, true}
 use Rattle.wac_ast_grammar.proofs.Listed.{document_listed}
 use Rattle.wac_ast_grammar.proofs.laws.trees_are_as_their_leaves.Goals as goal
 

@@ -1,4 +1,4 @@
-use Rattle.std.proofs.Common.{refl, ◌++◌, ◌∷◌}
+use Rattle.wac_ast_grammar.proofs.Common.{refl, ◌++◌, ◌∷◌}
 use Rattle.wac_ast_grammar.proofs.Refused.{stays}
 use Rattle.wac_ast_grammar.proofs.laws.trees_end_where_they_must.Goals as goal
 

@@ -1,6 +1,5 @@
-use Rattle.std.proofs.Common.{refl}
+use Rattle.wac_ast_types.proofs.Common.{refl, result_list, results_of}
 use Rattle.wac_lexer.specs.declared.token.Token.TheVariants as tokens
-use Rattle.wac_ast_grammar.specs.Grammar.{result_list, results_of}
 use Rattle.wac_ast_types.specs.Declarations.{result_list_of}
 use Rattle.wac_ast_base.proofs.Exits as x
 use Rattle.wac_ast_base.proofs.Yields as y

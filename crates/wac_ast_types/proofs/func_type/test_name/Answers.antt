@@ -1,7 +1,5 @@
-use Rattle.std.proofs.Common.{◌≡◌, true}
-use Rattle.wac_lexer.specs.Reading.{left}
+use Rattle.wac_ast_types.proofs.Common.{◌≡◌, true, left, at}
 use Rattle.wac_lexer.specs.declared.token.Token.TheVariants as k
-use Rattle.wac_ast_grammar.specs.Tokens.{at}
 use Rattle.wac_ast_types.proofs.NamedResults.{taken_at}
 use Rattle.wac_ast_types.proofs.func_type.test_name.Goals as goal
 

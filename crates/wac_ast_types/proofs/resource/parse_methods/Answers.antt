@@ -1,6 +1,5 @@
-use Rattle.std.proofs.Common.{refl}
+use Rattle.wac_ast_types.proofs.Common.{refl, looks, peeks_one, tests}
 use Rattle.wac_lexer.specs.declared.token.Token.TheVariants as tokens
-use Rattle.wac_ast_base.proofs.Lookaheads.{looks, peeks_one, tests}
 use Rattle.wac_ast_base.proofs.Exits as x
 use Rattle.wac_ast_base.proofs.Yields as y
 use Rattle.wac_ast_types.proofs.resource.parse_methods.Goals as goal

@@ -1,16 +1,9 @@
-use Rattle.std.proofs.Common.{◌≡◌, ◌<◌, ◌++◌, ◌∷◌, [], map, length, Ok, sym, refl, ap, ◌∙◌, arith}
+use Rattle.wac_ast_types.proofs.Common.{◌≡◌, ◌<◌, ◌++◌, ◌∷◌, [], map, length, Ok, refl, ap, ◌∙◌, arith, left, Span, Ty, read, first_item, takes_some, comma_list, item_fails, item_less, item_missing, item_there, list_closed, list_goes_on, moved_end, never_fails, same_fails, so_far_fails, step_fails, token_less, optional_there}
+use Rattle.std.proofs.Common.{sym}
 use Rattle.std.proofs.lemmas.List.{map_push}
-use Rattle.wac_lexer.specs.Reading.{left}
 use Rattle.wac_lexer.specs.declared.token.Token.TheVariants as k
-use Rattle.wac_lexer.specs.Span.{Span}
-use Rattle.wac_ast_grammar.specs.Tree.{Ty}
 use Rattle.wac_ast_grammar.specs.Grammar as g
-use Rattle.wac_ast_grammar.specs.Reading.{read}
-use Rattle.wac_ast_base.specs.Answer.{first_item}
 use Rattle.wac_ast_types.specs.Types.{ty_of, optional_of, with_payload, second_of}
-use Rattle.wac_ast_grammar.proofs.Fixed.{takes_some}
-use Rattle.wac_ast_base.proofs.Lists.{comma_list, item_fails, item_less, item_missing, item_there, list_closed, list_goes_on, moved_end, never_fails, same_fails, so_far_fails, step_fails, token_less}
-use Rattle.wac_ast_base.proofs.Optional.{optional_there}
 use Rattle.wac_ast_base.proofs.Exits as x
 use Rattle.wac_ast_base.proofs.Yields as y
 use Rattle.wac_ast_types.proofs.TypeParts.{tuple_is, result_is, result_built, stream_is, future_is, tuple_next, result_next, borrow_next, list_next, option_next, stream_held, future_held, held_fails, held_gives, tuple_ends, tuple_list_fails, arm_fails, arm_gives}

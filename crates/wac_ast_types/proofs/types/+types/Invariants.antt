@@ -1,9 +1,6 @@
-use Rattle.std.proofs.Common.{◌≤◌, ◌*◌, ◌+◌, map, length}
-use Rattle.wac_lexer.specs.Reading.{left}
+use Rattle.wac_ast_types.proofs.Common.{◌≤◌, ◌*◌, ◌+◌, map, length, left, read, measure, ListSoFar}
 use Rattle.wac_ast_grammar.specs.Grammar as g
-use Rattle.wac_ast_grammar.specs.Reading.{read, measure}
 use Rattle.wac_ast_types.specs.Types.{ty_of}
-use Rattle.wac_ast_base.proofs.Lists.{ListSoFar}
 use Rattle.wac_ast_types.proofs.types.+types.Given as goal
 
 abbrev pub decreases-TypeParse::parse : goal.decreases-TypeParse::parse

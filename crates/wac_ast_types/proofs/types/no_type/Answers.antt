@@ -1,6 +1,4 @@
-use Rattle.std.proofs.Common.{refl}
-use Rattle.wac_lexer.specs.Reading.{left}
-use Rattle.wac_ast_base.proofs.Lookaheads.{looks, looks_on, looks_fail, none_found}
+use Rattle.wac_ast_types.proofs.Common.{refl, left, looks, looks_on, looks_fail, none_found}
 use Rattle.wac_ast_types.proofs.TypeParts.{no_type_reads}
 use Rattle.wac_ast_types.proofs.types.no_type.Goals as goal
 

@@ -1,4 +1,4 @@
-use Rattle.wac_ast_grammar.specs.Grammar.{borrow_type}
+use Rattle.wac_ast_types.proofs.Common.{borrow_type}
 use Rattle.wac_ast_base.proofs.Exits as x
 use Rattle.wac_ast_base.proofs.Yields as y
 use Rattle.wac_ast_types.proofs.types.parse_borrow.Goals as goal

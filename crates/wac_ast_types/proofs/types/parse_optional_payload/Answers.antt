@@ -1,4 +1,4 @@
-use Rattle.wac_lexer.specs.Reading.{left}
+use Rattle.wac_ast_types.proofs.Common.{left}
 use Rattle.wac_ast_types.proofs.TypeParts.{payload_taken}
 use Rattle.wac_ast_types.proofs.types.parse_optional_payload.Goals as goal
 

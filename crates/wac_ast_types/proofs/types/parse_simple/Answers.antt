@@ -1,9 +1,6 @@
-use Rattle.std.proofs.Common.{refl, Ok, List, sym, ap, ◌∙◌}
-use Rattle.wac_lexer.specs.Item.{Item}
-use Rattle.wac_lexer.specs.Reading.{left}
-use Rattle.wac_ast_grammar.specs.Tree.{Ty}
+use Rattle.wac_ast_types.proofs.Common.{refl, Ok, List, ap, ◌∙◌, Item, left, Ty, read}
+use Rattle.std.proofs.Common.{sym}
 use Rattle.wac_ast_grammar.specs.Grammar as g
-use Rattle.wac_ast_grammar.specs.Reading.{read}
 use Rattle.wac_ast_base.proofs.Exits as x
 use Rattle.wac_ast_types.specs.Types.{ty_of}
 use Rattle.wac_ast_types.proofs.TypeParts.{name_next, word_taken, no_type_next, arm_gives, arm_fails}

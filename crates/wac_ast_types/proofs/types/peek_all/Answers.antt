@@ -1,5 +1,4 @@
-use Rattle.std.proofs.Common.{refl}
-use Rattle.wac_ast_base.proofs.Lookaheads.{tries_on, tries_found, tries_end}
+use Rattle.wac_ast_types.proofs.Common.{refl, tries_on, tries_found, tries_end}
 use Rattle.wac_ast_types.proofs.types.peek_all.Goals as goal
 
 pub loop-token-init : goal.loop-token-init

@@ -1,4 +1,4 @@
-use Rattle.wac_ast_base.proofs.Lookaheads.{TriedSoFar}
+use Rattle.wac_ast_types.proofs.Common.{TriedSoFar}
 use Rattle.wac_ast_types.proofs.types.peek_all.Given as goal
 
 abbrev pub invariant-loop-token : goal.invariant-loop-token

@@ -1,4 +1,4 @@
-use Rattle.std.proofs.Common.{Some, refl, ap}
+use Rattle.wac_ast_types.proofs.Common.{Some, refl, ap}
 use Rattle.wac_ast_base.proofs.Exits as x
 use Rattle.wac_ast_base.proofs.Yields as y
 use Rattle.wac_ast_types.proofs.variant_decl.parse_held.Goals as goal

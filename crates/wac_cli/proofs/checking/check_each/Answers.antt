@@ -1,6 +1,4 @@
-use Rattle.std.proofs.Common.{List, subst, arith, ◌∙◌}
-use Rattle.std.proofs.lemmas.List.{take_all}
-use Rattle.wac_files.specs.declared.walk.Found.{Found}
+use Rattle.wac_cli.proofs.Common.{List, subst, arith, ◌∙◌, take_all, Found}
 use Rattle.wac_cli.specs.Checked.{AreChecks}
 use Rattle.wac_cli.proofs.Checked.{checks_step}
 use Rattle.wac_cli.proofs.checking.check_each.Goals as goal

@@ -1,4 +1,4 @@
-use Rattle.std.proofs.Common.{◌≡◌, take}
+use Rattle.wac_cli.proofs.Common.{◌≡◌, take}
 use Rattle.wac_cli.specs.Checked.{AreChecks}
 use Rattle.wac_cli.proofs.checking.check_each.Given as goal
 

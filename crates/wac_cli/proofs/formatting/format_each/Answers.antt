@@ -1,6 +1,4 @@
-use Rattle.std.proofs.Common.{List, take, subst, arith}
-use Rattle.std.proofs.lemmas.List.{take_all}
-use Rattle.wac_files.specs.declared.walk.Found.{Found}
+use Rattle.wac_cli.proofs.Common.{List, take, subst, arith, take_all, Found}
 use Rattle.wac_cli.specs.Formatted.{ComeTo}
 use Rattle.wac_cli.proofs.Formatted.{come_only, come_step, found_only}
 use Rattle.wac_cli.proofs.Replaced.{both}

@@ -1,4 +1,4 @@
-use Rattle.std.proofs.Common.{take}
+use Rattle.wac_cli.proofs.Common.{take}
 use Rattle.wac_cli.specs.Formatted.{ComeTo}
 use Rattle.wac_cli.proofs.formatting.format_each.Given as goal
 

@@ -1,4 +1,4 @@
-use Rattle.std.proofs.Common.{refl, string_bytes}
+use Rattle.wac_cli.proofs.Common.{refl, string_bytes}
 use Rattle.wac_cli.proofs.Tidied.{tidied}
 use Rattle.wac_cli.proofs.planning.tidy_as_asked.Goals as goal
 

@@ -1,4 +1,4 @@
-use Rattle.std.proofs.Common.{◌≡◌, ◌≤◌, drop}
+use Rattle.wac_comments_layout.proofs.Common.{◌≡◌, ◌≤◌, drop}
 use Rattle.wac_comments_layout.specs.Nesting.{first_among, most}
 use Rattle.wac_comments_layout.specs.Texts.{pieces_of}
 use Rattle.wac_comments_layout.proofs.nesting.first_among.Given as goal

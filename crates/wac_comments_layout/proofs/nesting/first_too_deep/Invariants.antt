@@ -1,5 +1,4 @@
-use Rattle.std.proofs.Common.{◌≡◌, ◌≤◌}
-use Rattle.wac_lexer.specs.Reading.{left}
+use Rattle.wac_comments_layout.proofs.Common.{◌≡◌, ◌≤◌, left}
 use Rattle.wac_comments_layout.specs.Nesting.{first_beyond, most}
 use Rattle.wac_comments_layout.proofs.nesting.first_too_deep.Given as goal
 

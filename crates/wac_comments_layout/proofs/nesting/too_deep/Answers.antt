@@ -1,6 +1,4 @@
-use Rattle.std.proofs.Common.{◌≡◌, sym, ap, ◌∙◌, arith}
-use Rattle.std.specs.Prelude.{count_by}
-use Rattle.wac_lexer.specs.Characters.{refused}
+use Rattle.wac_comments_layout.proofs.Common.{◌≡◌, sym, ap, ◌∙◌, arith, count_by, refused}
 use Rattle.wac_comments_layout.specs.Nesting.{may_open, most}
 use Rattle.wac_comments_layout.proofs.Shallow.{too_few}
 use Rattle.wac_comments_layout.proofs.nesting.too_deep.Goals as goal

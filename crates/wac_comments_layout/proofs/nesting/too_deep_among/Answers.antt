@@ -1,4 +1,4 @@
-use Rattle.std.proofs.Common.{ap, ◌∙◌}
+use Rattle.wac_comments_layout.proofs.Common.{ap, ◌∙◌}
 use Rattle.wac_comments_layout.specs.Nesting.{first_among, most}
 use Rattle.wac_comments_layout.proofs.Pieced.{deep_is}
 use Rattle.wac_comments_layout.proofs.nesting.too_deep_among.Goals as goal

@@ -1,5 +1,4 @@
-use Rattle.std.proofs.Common.{length, ◌-◌, ◌≡◌, ◌≤◌, ◌<◌, ◌+◌, drop}
-use Rattle.wac_lexer.specs.Comments.{behind}
+use Rattle.wac_comments_layout.proofs.Common.{length, ◌-◌, ◌≡◌, ◌≤◌, ◌<◌, ◌+◌, drop, behind}
 use Rattle.wac_comments_layout.proofs.parts.comment_end.Given as goal
 
 abbrev pub invariant-loop-i : goal.invariant-loop-i

@@ -1,4 +1,4 @@
-use Rattle.std.proofs.Common.{map, ap, ◌∙◌}
+use Rattle.wac_comments_layout.proofs.Common.{map, ap, ◌∙◌}
 use Rattle.wac_comments_layout.specs.Pieces.{Piece}
 use Rattle.wac_comments_layout.proofs.Commented.{texts_same}
 use Rattle.wac_comments_layout.proofs.pieces.read.Goals as goal

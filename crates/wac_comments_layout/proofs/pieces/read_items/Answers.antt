@@ -1,6 +1,4 @@
-use Rattle.std.proofs.Common.{◌++◌, ap, ◌∙◌}
-use Rattle.std.proofs.lemmas.Str.{IsCharBoundary-start}
-use Rattle.wac_lexer.specs.Reading.{left}
+use Rattle.wac_comments_layout.proofs.Common.{◌++◌, ap, ◌∙◌, IsCharBoundary-start, left}
 use Rattle.wac_comments_layout.specs.Pieces.{pieces_after}
 use Rattle.wac_comments_layout.specs.Texts.{pieces_of}
 use Rattle.wac_comments_layout.proofs.pieces.read_items.Goals as goal

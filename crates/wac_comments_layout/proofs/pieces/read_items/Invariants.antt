@@ -1,6 +1,4 @@
-use Rattle.std.proofs.Common.{◌≡◌, ◌++◌}
-use Rattle.std.specs.Str.{IsCharBoundary}
-use Rattle.wac_lexer.specs.Reading.{left}
+use Rattle.wac_comments_layout.proofs.Common.{◌≡◌, ◌++◌, IsCharBoundary, left}
 use Rattle.wac_comments_layout.specs.Pieces.{pieces, pieces_after}
 use Rattle.wac_comments_layout.specs.Texts.{pieces_of}
 use Rattle.wac_comments_layout.proofs.pieces.read_items.Given as goal

@@ -1,4 +1,4 @@
-use Rattle.std.proofs.Common.{sym, ap, ◌∙◌}
+use Rattle.wac_comments_layout.proofs.Common.{sym, ap, ◌∙◌}
 use Rattle.wac_comments_layout.specs.Printing.{may_go, now_of}
 use Rattle.wac_comments_layout.proofs.Among.{far_from_nothing, stays}
 use Rattle.wac_comments_layout.proofs.printing.goes.Goals as goal

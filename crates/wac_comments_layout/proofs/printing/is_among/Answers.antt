@@ -1,4 +1,4 @@
-use Rattle.std.proofs.Common.{sym, ◌∙◌}
+use Rattle.wac_comments_layout.proofs.Common.{sym, ◌∙◌}
 use Rattle.wac_comments_layout.specs.Printing.{now_of}
 use Rattle.wac_comments_layout.proofs.Among.{found}
 use Rattle.wac_comments_layout.proofs.printing.is_among.Goals as goal

@@ -1,4 +1,4 @@
-use Rattle.std.proofs.Common.{◌≡◌, false}
+use Rattle.wac_comments_layout.proofs.Common.{◌≡◌, false}
 use Rattle.wac_comments_layout.specs.Printing.{now_of, is_among}
 use Rattle.wac_comments_layout.proofs.printing.is_among.Given as goal
 

@@ -1,4 +1,4 @@
-use Rattle.std.proofs.Common.{sym, ap, ◌∙◌}
+use Rattle.wac_comments_layout.proofs.Common.{sym, ap, ◌∙◌}
 use Rattle.wac_comments_layout.specs.Printing.{may_be_of_with, now_of}
 use Rattle.wac_comments_layout.proofs.Among.{none_of_with}
 use Rattle.wac_comments_layout.proofs.printing.is_of_with.Goals as goal

@@ -1,8 +1,5 @@
-use Rattle.std.proofs.Common.{ℕ, List, ◌<◌, length, sym, ◌∙◌, arith}
+use Rattle.wac_comments_layout.proofs.Common.{ℕ, List, ◌<◌, length, sym, ◌∙◌, arith, nat_eq, length-map, ne_zero}
 use denote.Bor.{Bor}
-use Rattle.std.specs.Prelude.{nat_eq}
-use Rattle.std.proofs.lemmas.List.{length-map}
-use Rattle.wac_lexer.proofs.Boundaries.{ne_zero}
 use Rattle.wac_comments_layout.specs.Printing.{now_of}
 use Rattle.wac_comments_layout.proofs.Among.{other_length}
 use Rattle.wac_comments_layout.proofs.printing.may_stand_at.Goals as goal

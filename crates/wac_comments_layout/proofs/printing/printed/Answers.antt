@@ -1,5 +1,4 @@
-use Rattle.std.proofs.Common.{◌≡◌, ◌+◌, drop, length, sym, ap, ◌∙◌, arith}
-use Rattle.std.proofs.lemmas.List.{length-map}
+use Rattle.wac_comments_layout.proofs.Common.{◌≡◌, ◌+◌, drop, length, sym, ap, ◌∙◌, arith, length-map}
 use Rattle.wac_comments_layout.specs.Printing.{Progress, now_of, tokens_of, with_piece}
 use Rattle.wac_comments_layout.specs.Texts.{texts_of}
 use Rattle.wac_comments_layout.proofs.Progressing.{texts_more, piece_step, tokens_left, token_within, whole}

@@ -1,4 +1,4 @@
-use Rattle.std.proofs.Common.{◌≡◌, drop}
+use Rattle.wac_comments_layout.proofs.Common.{◌≡◌, drop}
 use Rattle.wac_comments_layout.specs.Printing.{now_of, tokens_of, printed}
 use Rattle.wac_comments_layout.specs.Texts.{texts_of}
 use Rattle.wac_comments_layout.proofs.Progressing.{whole}

@@ -1,7 +1,6 @@
-use Rattle.std.proofs.Common.{ℕ, sym, ap, ◌∙◌, List, length, drop, take}
+use Rattle.wac_comments_layout.proofs.Common.{ℕ, sym, ap, ◌∙◌, List, length, drop, take, bytes_eq}
 use denote.Bor.{Bor}
 use lib.Pointwise.{pointwise}
-use Rattle.std.specs.Str.{bytes_eq}
 use Rattle.wac_comments_layout.proofs.Among.{begin_with}
 use Rattle.wac_comments_layout.proofs.printing.stand_at.Goals as goal
 

@@ -1,7 +1,4 @@
-use Rattle.std.proofs.Common.{length, ap, ◌∙◌, arith}
-use Rattle.std.specs.List.{prefix_len}
-use Rattle.std.proofs.lemmas.List.{length-drop}
-use Rattle.wac_lexer.specs.Comments.{is_blank}
+use Rattle.wac_comments_layout.proofs.Common.{length, ap, ◌∙◌, arith, prefix_len, length-drop, is_blank}
 use Rattle.wac_comments_layout.proofs.Guided.{blanks_passed}
 use Rattle.wac_comments_layout.proofs.standing.after_blanks.Goals as goal
 

@@ -1,7 +1,4 @@
-use Rattle.std.proofs.Common.{◌≡◌, ◌+◌, ◌≤◌, take, drop, length, sym, ap, ◌∙◌, arith}
-use Rattle.std.proofs.lemmas.List.{length-drop}
-use Rattle.wac_lexer.specs.Comments.{part_len}
-use Rattle.wac_lexer.proofs.Texts.{bytes_eq_is}
+use Rattle.wac_comments_layout.proofs.Common.{◌≡◌, ◌+◌, ◌≤◌, take, drop, length, sym, ap, ◌∙◌, arith, length-drop, part_len, bytes_eq_is}
 use Rattle.wac_comments_layout.specs.Kept.{kept}
 use Rattle.wac_comments_layout.proofs.Guided.{comment_step}
 use Rattle.wac_comments_layout.proofs.standing.after_comment.Goals as goal

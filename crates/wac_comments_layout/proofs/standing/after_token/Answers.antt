@@ -1,6 +1,4 @@
-use Rattle.std.proofs.Common.{◌≡◌, ◌+◌, ◌≤◌, true, take, drop, length, sym, ap, ◌∙◌, arith}
-use Rattle.std.specs.Str.{bytes_eq}
-use Rattle.std.proofs.lemmas.List.{length-drop}
+use Rattle.wac_comments_layout.proofs.Common.{◌≡◌, ◌+◌, ◌≤◌, true, take, drop, length, sym, ap, ◌∙◌, arith, bytes_eq, length-drop}
 use Rattle.wac_comments_layout.specs.Following.{may_follow}
 use Rattle.wac_comments_layout.proofs.Guided.{token_here}
 use Rattle.wac_comments_layout.proofs.standing.after_token.Goals as goal

@@ -1,4 +1,4 @@
-use Rattle.std.proofs.Common.{[], ◌∷◌, sym, ap, ◌∙◌, arith}
+use Rattle.wac_comments_layout.proofs.Common.{[], ◌∷◌, sym, ap, ◌∙◌, arith}
 use Rattle.wac_comments_layout.proofs.Guided.{is_nil}
 use Rattle.wac_comments_layout.proofs.Stepping.{end_step}
 use Rattle.wac_comments_layout.proofs.standing.is_end.Goals as goal

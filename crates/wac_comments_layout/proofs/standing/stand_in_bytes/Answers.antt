@@ -1,5 +1,4 @@
-use Rattle.std.proofs.Common.{◌∷◌, sym, ap, ◌∙◌, subst}
-use Rattle.std.specs.List.{AllByRecursion}
+use Rattle.wac_comments_layout.proofs.Common.{◌∷◌, sym, ap, ◌∙◌, subst, AllByRecursion}
 use Rattle.wac_comments_layout.specs.Following.{IsPieceText}
 use Rattle.wac_comments_layout.proofs.Guided.{texts_at}
 use Rattle.wac_comments_layout.proofs.standing.stand_in_bytes.Goals as goal

@@ -1,5 +1,4 @@
-use Rattle.std.proofs.Common.{◌≡◌, ◌≤◌, drop, length}
-use Rattle.std.specs.List.{AllByRecursion}
+use Rattle.wac_comments_layout.proofs.Common.{◌≡◌, ◌≤◌, drop, length, AllByRecursion}
 use Rattle.wac_comments_layout.specs.Following.{IsPieceText, texts_from}
 use Rattle.wac_comments_layout.specs.Texts.{texts_of}
 use Rattle.wac_comments_layout.proofs.standing.stand_in_bytes.Given as goal

@@ -1,4 +1,4 @@
-use Rattle.std.proofs.Common.{◌++◌, sym, ap, ◌∙◌}
+use Rattle.wac_comments_layout.proofs.Common.{◌++◌, sym, ap, ◌∙◌}
 use Rattle.wac_comments_layout.proofs.LineEnds.{ends_stay}
 use Rattle.wac_comments_layout.proofs.without_comments.ended_by.Goals as goal
 

@@ -1,4 +1,4 @@
-use Rattle.std.proofs.Common.{◌≡◌, ◌++◌, false, drop}
+use Rattle.wac_comments_layout.proofs.Common.{◌≡◌, ◌++◌, false, drop}
 use Rattle.wac_comments_layout.specs.Plain.{with_line_ends}
 use Rattle.wac_comments_layout.proofs.without_comments.with_line_ends.Given as goal
 

@@ -1,5 +1,4 @@
-use Rattle.std.proofs.Common.{◌≡◌, Err, rules, subst}
-use Rattle.wac_ast.specs.Statements.{document_of}
+use Rattle.wac_declared_packages.proofs.Common.{◌≡◌, Err, rules, subst, document_of}
 use Rattle.wac_ast.specs.declared.document.Document.{Document}
 use Rattle.wac_declared_packages.specs.Declaring.{IsGraphOf, IsRefused}
 use Rattle.wac_declared_packages.proofs.Refuses.{if_err, refused_unmade, refused_unresolved}

@@ -1,5 +1,4 @@
-use Rattle.std.proofs.Common.{[], sym, subst}
-use Rattle.wac_ast.specs.Statements.{document_of}
+use Rattle.wac_declared_packages.proofs.Common.{[], sym, subst, document_of}
 use Rattle.wac_ast.specs.declared.document.Document.{Document}
 use Rattle.wac_graph.specs.Graph.{Parts}
 use Rattle.wac_declared_packages.specs.Declaring.{IsGraphOf, IsUnresolved}

@@ -1,4 +1,4 @@
-use Rattle.std.proofs.Common.{◌≡◌, length}
+use Rattle.wac_declared_packages.proofs.Common.{◌≡◌, length}
 use Rattle.wac_declared_packages.proofs.Texts.{whole_where}
 use Rattle.wac_declared_packages.proofs.ending.first_lacking.Goals as goal
 

@@ -1,5 +1,4 @@
-use Rattle.std.proofs.Common.{◌≡◌, map}
-use Rattle.wac_ast.specs.Statements.{statement_of}
+use Rattle.wac_declared_packages.proofs.Common.{◌≡◌, map, statement_of}
 use Rattle.wac_declared_packages.specs.Refusing.{first_other}
 use Rattle.wac_declared_packages.proofs.First.{first_from}
 use Rattle.wac_declared_packages.proofs.header.first_among.Given as goal

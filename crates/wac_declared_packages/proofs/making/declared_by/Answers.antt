@@ -1,9 +1,5 @@
-use Rattle.std.proofs.Common.{sym, subst}
-use Rattle.std.specs.Prelude.{option_map}
-use Rattle.wac_ast.specs.Statements.{document_of}
+use Rattle.wac_declared_packages.proofs.Common.{sym, subst, option_map, document_of, IsTreeOf, key_of}
 use Rattle.wac_ast.specs.declared.document.Document.{Document}
-use Rattle.wac_ast_grammar.specs.TextTree.{IsTreeOf}
-use Rattle.wac_graph.specs.Package.{key_of}
 use Rattle.wac_declared_packages.specs.Together.{now_of}
 use Rattle.wac_declared_packages.proofs.Declares.{declared_here}
 use Rattle.wac_declared_packages.proofs.making.declared_by.Goals as goal

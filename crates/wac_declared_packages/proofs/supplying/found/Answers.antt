@@ -1,5 +1,4 @@
-use Rattle.std.proofs.Common.{◌∙◌}
-use Rattle.wac_resolution_paths.proofs.Keys.{keyed_found}
+use Rattle.wac_declared_packages.proofs.Common.{◌∙◌, keyed_found}
 use Rattle.wac_declared_packages.proofs.supplying.found.Goals as goal
 
 pub returns : goal.returns

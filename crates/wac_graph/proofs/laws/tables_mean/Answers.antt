@@ -1,4 +1,4 @@
-use Rattle.wac_graph_types.proofs.Found.{interface_exports_mean, world_exports_mean, world_imports_mean}
+use Rattle.wac_graph.proofs.Common.{interface_exports_mean, world_exports_mean, world_imports_mean}
 use Rattle.wac_graph.specs.Means.{entry_means, origin_at}
 use Rattle.wac_graph.proofs.laws.tables_mean.Goals as goal
 

@@ -1,4 +1,4 @@
-use Rattle.std.proofs.Common.{◌∙◌, sym}
+use Rattle.wac_graph_copies.proofs.Common.{◌∙◌, sym}
 use Rattle.wac_graph_copies.proofs.Views.{names_stay}
 use Rattle.wac_graph_copies.proofs.copied.copy_defined.Goals as goal
 

@@ -1,6 +1,4 @@
-use Rattle.std.proofs.Common.{ℕ, List, length, sym, subst, arith}
-use Rattle.wac_graph_types.specs.declared.entry.Entry.{Entry}
-use Rattle.wac_graph_types.specs.Entry.{children}
+use Rattle.wac_graph_copies.proofs.Common.{ℕ, List, length, sym, subst, arith, Entry, children}
 use Rattle.wac_graph_types.proofs.Rows.{stands, earlier_from}
 use Rattle.wac_graph_copies.specs.Copied.{IsCopy, IsGrown}
 use Rattle.wac_graph_copies.proofs.Growing.{growing_step, growing_more}

@@ -1,4 +1,4 @@
-use Rattle.std.proofs.Common.{◌≡◌, length}
+use Rattle.wac_graph_copies.proofs.Common.{◌≡◌, length}
 use Rattle.wac_graph_copies.proofs.Growing.{Growing}
 use Rattle.wac_graph_copies.proofs.copied.copy_entries.Given as goal
 

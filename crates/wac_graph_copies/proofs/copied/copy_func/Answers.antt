@@ -1,5 +1,4 @@
-use Rattle.std.proofs.Common.{refl}
-use Rattle.wac_graph_types.specs.Entry.{result_children, value_children}
+use Rattle.wac_graph_copies.proofs.Common.{refl, result_children, value_children}
 use Rattle.wac_graph_copies.specs.Moved.{Fits}
 use Rattle.wac_graph_copies.proofs.Views.{each_left, each_right, func_copy}
 use Rattle.wac_graph_copies.proofs.copied.copy_func.Goals as goal

@@ -1,4 +1,4 @@
-use Rattle.wac_graph_types.specs.Entry.{use_children, export_children}
+use Rattle.wac_graph_copies.proofs.Common.{use_children, export_children}
 use Rattle.wac_graph_copies.specs.Moved.{Fits}
 use Rattle.wac_graph_copies.proofs.Views.{each_left, each_right, exports_fit, interface_copy}
 use Rattle.wac_graph_copies.proofs.copied.copy_interface.Goals as goal

@@ -1,5 +1,4 @@
-use Rattle.std.proofs.Common.{subst, List}
-use Rattle.wac_graph_types.specs.declared.entry.Entry.{Entry}
+use Rattle.wac_graph_copies.proofs.Common.{subst, List, Entry}
 use Rattle.wac_graph_copies.specs.Copied.{IsGrownBy}
 use Rattle.wac_graph_copies.proofs.Copies.{grown_means}
 use Rattle.wac_graph_copies.proofs.copied.copy_types.Goals as goal

@@ -1,5 +1,4 @@
-use Rattle.std.proofs.Common.{◌++◌}
-use Rattle.wac_graph_types.specs.Entry.{use_children, import_children, export_children}
+use Rattle.wac_graph_copies.proofs.Common.{◌++◌, use_children, import_children, export_children}
 use Rattle.wac_graph_copies.specs.Moved.{Fits}
 use Rattle.wac_graph_copies.proofs.Views.{each_left, each_right, imports_fit, exports_fit, world_copy}
 use Rattle.wac_graph_copies.proofs.copied.copy_world.Goals as goal

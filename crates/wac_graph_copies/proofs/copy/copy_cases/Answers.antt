@@ -1,8 +1,4 @@
-use Rattle.std.proofs.Common.{◌≡◌, ◌∙◌, ℕ, List, [], subst, sym, ap}
-use Rattle.std.specs.Prelude.{string_bytes}
-use Rattle.wac_graph_types.specs.Names.{by_name}
-use Rattle.wac_graph_types.specs.Scope.{IsFresh}
-use Rattle.wac_graph_types.specs.Meaning.{EachKind}
+use Rattle.wac_graph_copies.proofs.Common.{◌≡◌, ◌∙◌, ℕ, List, [], subst, sym, ap, string_bytes, by_name, IsFresh, EachKind}
 use Rattle.wac_graph_copies.specs.Moved.{moved_child, moved_children, Fits, ChildFits}
 use Rattle.wac_graph_copies.proofs.Copying.{copying_start, copying_fits, copying_new, copying_step, copying_end}
 use Rattle.wac_graph_copies.proofs.Views.{case_child, case_view, optional_moved, optional_fits}

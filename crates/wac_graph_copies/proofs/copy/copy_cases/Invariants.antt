@@ -1,4 +1,4 @@
-use Rattle.wac_graph_types.specs.Names.{by_name}
+use Rattle.wac_graph_copies.proofs.Common.{by_name}
 use Rattle.wac_graph_copies.specs.Moved.{moved_child, ChildFits}
 use Rattle.wac_graph_copies.proofs.Copying.{Copying}
 use Rattle.wac_graph_copies.proofs.Views.{case_child}

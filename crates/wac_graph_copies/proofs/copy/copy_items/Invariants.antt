@@ -1,6 +1,4 @@
-use Rattle.std.proofs.Common.{ℕ, List}
-use Rattle.wac_graph_types.specs.declared.kind.ItemKind.{ItemKind}
-use Rattle.wac_graph_types.specs.Names.{by_name}
+use Rattle.wac_graph_copies.proofs.Common.{ℕ, List, ItemKind, by_name}
 use Rattle.wac_graph_copies.specs.Moved.{moved, Fits}
 use Rattle.wac_graph_copies.proofs.Copying.{Copying}
 use Rattle.wac_graph_copies.proofs.copy.copy_items.Given as goal

@@ -1,6 +1,4 @@
-use Rattle.std.proofs.Common.{◌≡◌, ℕ, List, [], false, subst, sym}
-use Rattle.std.specs.List.{list_any}
-use Rattle.std.specs.Str.{bytes_eq}
+use Rattle.wac_graph_copies.proofs.Common.{◌≡◌, ℕ, List, [], false, subst, sym, list_any, bytes_eq}
 use Rattle.wac_graph_copies.proofs.Copying.{texts, texts_start, texts_new, texts_step, texts_end}
 use Rattle.wac_graph_copies.proofs.Views.{same_names}
 use Rattle.wac_graph_copies.proofs.copy.copy_names.Goals as goal

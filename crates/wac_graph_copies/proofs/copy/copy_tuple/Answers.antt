@@ -1,6 +1,4 @@
-use Rattle.std.proofs.Common.{◌∙◌, List, ap, arith}
-use Rattle.wac_graph_types.specs.declared.kind.ValueType.{ValueType}
-use Rattle.wac_graph_types.specs.Entry.{tuple_children}
+use Rattle.wac_graph_copies.proofs.Common.{◌∙◌, List, ap, arith, ValueType, tuple_children}
 use Rattle.wac_graph_copies.specs.Moved.{moved_children}
 use Rattle.wac_graph_copies.proofs.Views.{tuple_start, tuple_fits, tuple_step, taken_all, read_at}
 use Rattle.wac_graph_copies.proofs.copy.copy_tuple.Goals as goal

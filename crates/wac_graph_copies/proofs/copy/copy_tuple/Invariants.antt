@@ -1,5 +1,4 @@
-use Rattle.std.proofs.Common.{◌≡◌, take}
-use Rattle.wac_graph_types.specs.Entry.{tuple_children}
+use Rattle.wac_graph_copies.proofs.Common.{◌≡◌, take, tuple_children}
 use Rattle.wac_graph_copies.specs.Moved.{moved_children}
 use Rattle.wac_graph_copies.proofs.copy.copy_tuple.Given as goal
 

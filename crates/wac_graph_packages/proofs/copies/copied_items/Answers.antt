@@ -1,7 +1,4 @@
-use Rattle.std.proofs.Common.{◌≡◌, ℕ, List, subst}
-use Rattle.std.specs.Prelude.{IfOk}
-use Rattle.wac_graph_types.specs.declared.kind.ItemKind.{ItemKind}
-use Rattle.wac_graph_types.specs.Names.{by_name}
+use Rattle.wac_graph_packages.proofs.Common.{◌≡◌, ℕ, List, subst, IfOk, ItemKind, by_name}
 use Rattle.wac_graph_packages.proofs.Unmoved.{items_stay}
 use Rattle.wac_graph_packages.proofs.copies.copied_items.Goals as goal
 

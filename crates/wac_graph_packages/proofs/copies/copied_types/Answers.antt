@@ -1,6 +1,4 @@
-use Rattle.std.proofs.Common.{◌≡◌, ◌∙◌, List, [], subst}
-use Rattle.wac_graph_types.specs.declared.entry.Entry.{Entry}
-use Rattle.wac_graph_copies.specs.Copied.{IsGrownBy, MeansTheSame}
+use Rattle.wac_graph_packages.proofs.Common.{◌≡◌, ◌∙◌, List, [], subst, Entry, IsGrownBy, MeansTheSame}
 use Rattle.wac_graph_packages.proofs.Unmoved.{copied_length, keeps_copied}
 use Rattle.wac_graph_packages.proofs.copies.copied_types.Goals as goal
 

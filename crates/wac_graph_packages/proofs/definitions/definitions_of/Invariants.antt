@@ -1,4 +1,4 @@
-use Rattle.wac_graph_types.specs.Names.{by_name}
+use Rattle.wac_graph_packages.proofs.Common.{by_name}
 use Rattle.wac_graph_packages.proofs.Defining.{Defining}
 use Rattle.wac_graph_packages.proofs.definitions.definitions_of.Given as goal
 

@@ -1,5 +1,4 @@
-use Rattle.std.proofs.Common.{subst, sym}
-use Rattle.wac_graph_types.specs.Names.{by_name}
+use Rattle.wac_graph_packages.proofs.Common.{subst, sym, by_name}
 use Rattle.wac_graph_packages.specs.Definitions.{AreExported}
 use Rattle.wac_graph_packages.proofs.Assembling.{copy_keeps, has_world}
 use Rattle.wac_graph_packages.proofs.package.package_of.Goals as goal

@@ -1,6 +1,5 @@
-use Rattle.std.proofs.Common.{◌∙◌, ap}
+use Rattle.wac_graph_packages.proofs.Common.{◌∙◌, ap, WorldId}
 use Rattle.wac_graph_types.specs.declared.entry.Entry.TheVariants as entries
-use Rattle.wac_graph_types.specs.declared.kind.WorldId.{WorldId}
 use Rattle.wac_graph_packages.proofs.Assembling.{grown_behind, empty_stays}
 use Rattle.wac_graph_packages.proofs.package.with_empty_world.Goals as goal
 

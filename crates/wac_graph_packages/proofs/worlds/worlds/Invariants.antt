@@ -1,5 +1,4 @@
-use Rattle.std.proofs.Common.{◌≡◌, ◌++◌}
-use Rattle.wac_graph_types.specs.Names.{by_name}
+use Rattle.wac_graph_packages.proofs.Common.{◌≡◌, ◌++◌, by_name}
 use Rattle.wac_graph_packages.specs.Definitions.{worlds_in}
 use Rattle.wac_graph_packages.proofs.worlds.worlds.Given as goal
 

@@ -1,4 +1,4 @@
-use Rattle.std.proofs.Common.{arith, refl, sym}
+use Rattle.wac_graph_types.proofs.Common.{arith, refl, sym}
 use Rattle.wac_graph_types.specs.Entry.{children}
 use Rattle.wac_graph_types.specs.Meaning.{meaning_at}
 use Rattle.wac_graph_types.proofs.Rows.{node_same, same_node, refuted, shown, stands, rest_differs, rest_decides_step, rest_decides_end, lengths_differ, earlier_child, none_within, above_falls, before_more}

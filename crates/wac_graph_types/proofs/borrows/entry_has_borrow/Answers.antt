@@ -1,4 +1,4 @@
-use Rattle.std.proofs.Common.{sym, arith}
+use Rattle.wac_graph_types.proofs.Common.{sym, arith}
 use Rattle.wac_graph_types.specs.Entry.{children, child_view}
 use Rattle.wac_graph_types.specs.Meaning.{look}
 use Rattle.wac_graph_types.proofs.Rows.{none_within}

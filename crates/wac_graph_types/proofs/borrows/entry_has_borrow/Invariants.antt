@@ -1,4 +1,4 @@
-use Rattle.std.proofs.Common.{◌≡◌, List, map}
+use Rattle.wac_graph_types.proofs.Common.{◌≡◌, List, map}
 use Rattle.wac_graph_types.specs.Entry.{children}
 use Rattle.wac_graph_types.specs.Meaning.{Meaning, look}
 use Rattle.wac_graph_types.specs.Shape.{contains_borrow}

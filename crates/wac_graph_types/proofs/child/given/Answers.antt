@@ -1,5 +1,4 @@
-use Rattle.std.proofs.Common.{None, Some}
-use Rattle.std.specs.Prelude.{string_bytes}
+use Rattle.wac_graph_types.proofs.Common.{None, Some, string_bytes}
 use Rattle.wac_graph_types.specs.declared.kind.ItemKind.TheVariants as kinds
 use Rattle.wac_graph_types.specs.Entry.{Slot}
 use Rattle.wac_graph_types.proofs.Views.{mapped_at}

@@ -1,5 +1,4 @@
-use Rattle.std.proofs.Common.{None, Some, sym, arith}
-use Rattle.std.proofs.lemmas.Option.{slice_get_past}
+use Rattle.wac_graph_types.proofs.Common.{None, Some, sym, arith, slice_get_past}
 use Rattle.wac_graph_types.specs.declared.kind.ItemKind.TheVariants as kinds
 use Rattle.wac_graph_types.specs.Entry.{Slot}
 use Rattle.wac_graph_types.proofs.Rows.{stands}

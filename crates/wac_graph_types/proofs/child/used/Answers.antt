@@ -1,5 +1,4 @@
-use Rattle.std.proofs.Common.{◌∙◌, None, Some, ap}
-use Rattle.std.specs.Prelude.{option_map, string_bytes}
+use Rattle.wac_graph_types.proofs.Common.{◌∙◌, None, Some, ap, option_map, string_bytes}
 use Rattle.wac_graph_types.specs.declared.kind.ItemKind.TheVariants as kinds
 use Rattle.wac_graph_types.specs.Entry.{Slot}
 use Rattle.wac_graph_types.proofs.Views.{mapped_at}

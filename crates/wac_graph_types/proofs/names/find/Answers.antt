@@ -1,4 +1,4 @@
-use Rattle.std.proofs.Common.{◌∙◌}
+use Rattle.wac_graph_types.proofs.Common.{◌∙◌}
 use Rattle.wac_graph_types.proofs.Maps.{by_name_found}
 use Rattle.wac_graph_types.proofs.names.find.Goals as goal
 

@@ -1,5 +1,4 @@
-use Rattle.std.proofs.Common.{◌∙◌, None, Some, ap}
-use Rattle.std.specs.Prelude.{string_bytes, option_map}
+use Rattle.wac_graph_types.proofs.Common.{◌∙◌, None, Some, ap, string_bytes, option_map}
 use Rattle.wac_graph_types.proofs.Views.{mapped_at}
 use Rattle.wac_graph_types.proofs.names.name_at.Goals as goal
 

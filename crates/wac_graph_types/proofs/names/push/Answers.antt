@@ -1,4 +1,4 @@
-use Rattle.std.proofs.Common.{◌∙◌, ℕ, List, [], ◌∷◌, ◌++◌, subst, sym, ap}
+use Rattle.wac_graph_types.proofs.Common.{◌∙◌, ℕ, List, [], ◌∷◌, ◌++◌, subst, sym, ap}
 use Rattle.wac_graph_types.specs.Names.{by_name}
 use Rattle.wac_graph_types.specs.Scope.{IsFresh}
 use Rattle.wac_graph_types.proofs.Maps.{inserted}

@@ -1,7 +1,4 @@
-use Rattle.std.proofs.Common.{◌≡◌, ◌∙◌, ℕ, List, [], ◌∷◌, ◌++◌, false, map, subst, sym, ap}
-use Rattle.std.specs.Prelude.{string_bytes}
-use Rattle.std.specs.List.{list_any}
-use Rattle.std.specs.Str.{bytes_eq}
+use Rattle.wac_graph_types.proofs.Common.{◌≡◌, ◌∙◌, ℕ, List, [], ◌∷◌, ◌++◌, false, map, subst, sym, ap, string_bytes, list_any, bytes_eq}
 use Rattle.wac_graph_types.proofs.Maps.{inserted_text}
 use Rattle.wac_graph_types.proofs.names.push_name.Goals as goal
 

@@ -1,4 +1,4 @@
-use Rattle.std.proofs.Common.{refl, arith}
+use Rattle.wac_graph_types.proofs.Common.{refl, arith}
 use Rattle.wac_graph_types.specs.Entry.{children}
 use Rattle.wac_graph_types.specs.Meaning.{EachKind}
 use Rattle.wac_graph_types.specs.Tests.{Passes}

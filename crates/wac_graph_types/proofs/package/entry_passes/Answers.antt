@@ -1,5 +1,4 @@
-use Rattle.std.proofs.Common.{refl, sym, arith}
-use Rattle.std.specs.Prelude.{IfSome}
+use Rattle.wac_graph_types.proofs.Common.{refl, sym, arith, IfSome}
 use Rattle.wac_graph_types.specs.Entry.{children, child_view}
 use Rattle.wac_graph_types.specs.Tests.{Passes}
 use Rattle.wac_graph_types.proofs.Rows.{shown}

@@ -1,4 +1,4 @@
-use Rattle.std.specs.Prelude.{IfSome}
+use Rattle.wac_graph_types.proofs.Common.{IfSome}
 use Rattle.wac_graph_types.specs.Entry.{children}
 use Rattle.wac_graph_types.specs.Tests.{Passes}
 use Rattle.wac_graph_types.proofs.Each.{RestPasses}

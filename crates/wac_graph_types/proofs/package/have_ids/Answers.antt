@@ -1,4 +1,4 @@
-use Rattle.std.proofs.Common.{refl}
+use Rattle.wac_graph_types.proofs.Common.{refl}
 use Rattle.wac_graph_types.specs.Names.{by_name}
 use Rattle.wac_graph_types.proofs.Tested.{ids_pass, pass_ids}
 use Rattle.wac_graph_types.proofs.package.have_ids.Goals as goal

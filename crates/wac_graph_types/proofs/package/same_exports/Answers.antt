@@ -1,4 +1,4 @@
-use Rattle.std.specs.Prelude.{slice_get, option_and_then}
+use Rattle.wac_graph_types.proofs.Common.{slice_get, option_and_then}
 use Rattle.wac_graph_types.specs.declared.entry.Interface.{Interface}
 use Rattle.wac_graph_types.specs.declared.entry.World.{World}
 use Rattle.wac_graph_types.specs.Readings.{as_interface, as_world}

@@ -1,4 +1,4 @@
-use Rattle.std.proofs.Common.{refl, sym, arith}
+use Rattle.wac_graph_types.proofs.Common.{refl, sym, arith}
 use Rattle.wac_graph_types.specs.Entry.{export_children, child_view}
 use Rattle.wac_graph_types.specs.Meaning.{meaning_at}
 use Rattle.wac_graph_types.proofs.Rows.{refuted, shown, child_before, rest_differs, rest_decides_step, rest_decides_end, lengths_differ}

@@ -1,4 +1,4 @@
-use Rattle.std.proofs.Common.{ℕ}
+use Rattle.wac_graph_types.proofs.Common.{ℕ}
 use Rattle.wac_graph_types.specs.Entry.{export_children}
 use Rattle.wac_graph_types.specs.Meaning.{IsOneToOne, meaning_at}
 use Rattle.wac_graph_types.proofs.Rows.{RestDecides}

@@ -1,4 +1,4 @@
-use Rattle.std.proofs.Common.{refl}
+use Rattle.wac_graph_types.proofs.Common.{refl}
 use Rattle.wac_graph_types.proofs.package.test_parts.Goals as goal
 
 pub returns-then-not-ids_in_range-clause-err : goal.returns-then-not-ids_in_range-clause-err

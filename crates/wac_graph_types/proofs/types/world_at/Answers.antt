@@ -1,5 +1,4 @@
-use Rattle.std.proofs.Common.{◌∙◌, None, ap, arith}
-use Rattle.std.specs.Prelude.{option_copied}
+use Rattle.wac_graph_types.proofs.Common.{◌∙◌, None, ap, arith, option_copied}
 use Rattle.wac_graph_types.specs.Readings.{as_world}
 use Rattle.wac_graph_types.proofs.Read.{read_at, read_past, no_world}
 use Rattle.wac_graph_types.proofs.types.world_at.Goals as goal

@@ -1,11 +1,6 @@
-use Rattle.std.proofs.Common.{◌∙◌, ◌≤◌, ap, codes, length, map, rules, sym}
-use Rattle.std.proofs.lemmas.List.{take_all}
-use Rattle.serde_json.specs.Data.{array}
+use Rattle.wac_json.proofs.Common.{◌∙◌, ◌≤◌, ap, codes, length, map, rules, sym, take_all, array, argument_of, primary_expr_of, argument_json, named_argument_json, primary_expr_json, variant, arguments_items}
 use Rattle.serde_json.specs.View.{items_of}
-use Rattle.wac_ast_expressions.specs.Expressions.{argument_of, primary_expr_of}
 use Rattle.wac_ast_expressions.proofs.ExprViews.{new_is}
-use Rattle.wac_json_forms.specs.Forms.{argument_json, named_argument_json, primary_expr_json, variant}
-use Rattle.wac_json_forms.proofs.Lists.{arguments_items}
 use Rattle.wac_json.proofs.Forms.{formed_as, items_are}
 use Rattle.wac_json.proofs.expr.+expressions.Goals as goal
 

@@ -1,7 +1,4 @@
-use Rattle.std.specs.Prelude.{◌≡◌, map, take}
-use Rattle.serde_json.specs.View.{view}
-use Rattle.wac_ast_expressions.specs.Expressions.{argument_of}
-use Rattle.wac_json_forms.specs.Forms.{argument_json}
+use Rattle.wac_json.proofs.Common.{◌≡◌, map, take, view, argument_of, argument_json}
 use Rattle.wac_json.proofs.expr.+expressions.Given as goal
 
 abbrev pub invariant-arguments_value-loop-argument : goal.invariant-arguments_value-loop-argument

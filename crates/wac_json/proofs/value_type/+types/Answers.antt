@@ -1,11 +1,6 @@
-use Rattle.std.proofs.Common.{◌∙◌, ◌≤◌, ap, codes, length, map, rules, sym}
-use Rattle.std.proofs.lemmas.List.{take_all}
-use Rattle.serde_json.specs.Data.{array}
+use Rattle.wac_json.proofs.Common.{◌∙◌, ◌≤◌, ap, codes, length, map, rules, sym, take_all, array, ty_of, pair, span_json, ty_json, variant, types_items}
 use Rattle.serde_json.specs.View.{items_of}
-use Rattle.wac_ast_types.specs.Types.{ty_of}
 use Rattle.wac_ast_types.proofs.TypeParts.{tuple_is}
-use Rattle.wac_json_forms.specs.Forms.{pair, span_json, ty_json, variant}
-use Rattle.wac_json_forms.proofs.Lists.{types_items}
 use Rattle.wac_json.proofs.Forms.{formed_as, items_are}
 use Rattle.wac_json.proofs.value_type.+types.Goals as goal
 

@@ -1,7 +1,4 @@
-use Rattle.std.specs.Prelude.{◌≡◌, map, take}
-use Rattle.serde_json.specs.View.{view}
-use Rattle.wac_ast_types.specs.Types.{ty_of}
-use Rattle.wac_json_forms.specs.Forms.{ty_json}
+use Rattle.wac_json.proofs.Common.{◌≡◌, map, take, view, ty_of, ty_json}
 use Rattle.wac_json.proofs.value_type.+types.Given as goal
 
 abbrev pub invariant-types_value-loop-ty : goal.invariant-types_value-loop-ty

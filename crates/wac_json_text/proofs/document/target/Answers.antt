@@ -1,9 +1,4 @@
-use Rattle.std.proofs.Common.{sym}
-use Rattle.std.specs.Option.{option_map}
-use Rattle.json.specs.Print.{escape_byte}
-use Rattle.wac_ast_base.specs.Names.{package_path_of}
-use Rattle.wac_printer_pieces.proofs.Sequence.{printed_at}
-use Rattle.wac_json_forms.specs.Forms.{target_member}
+use Rattle.wac_json_text.proofs.Common.{sym, option_map, escape_byte, package_path_of, printed_at, target_member}
 use Rattle.wac_json_text.specs.Pieces.{members_pieces}
 use Rattle.wac_json_text.proofs.document.target.Goals as goal
 

@@ -1,18 +1,8 @@
-use Rattle.std.proofs.Common.{◌≡◌, ◌≤◌, [], Err, ap, arith, codes, length, refl, rules, sym}
-use Rattle.std.specs.List.{flat_map}
-use Rattle.json.specs.Print.{escape_byte}
-use Rattle.wac_ast_base.specs.Names.{ident_of}
-use Rattle.wac_ast_expressions.specs.Expressions.{argument_name_of, argument_of, expr_of, new_expr_of, postfix_expr_of}
-use Rattle.wac_ast_expressions.specs.declared.expr.InstantiationArgument.{size-InstantiationArgument}
+use Rattle.wac_json_text.proofs.Common.{◌≡◌, ◌≤◌, [], Err, ap, arith, codes, length, refl, rules, sym, flat_map, escape_byte, ident_of, argument_name_of, argument_of, expr_of, new_expr_of, postfix_expr_of, size-InstantiationArgument, most_rest, first_goes, first_stops, goes_at, none_is, starts, stops_at, first, last, printed_at, argument_json, expr_json, ident_json, list_json, postfix_expr_json, primary_expr_json, span_json, variant, arguments_items, items_of-map}
 use Rattle.wac_ast_expressions.specs.declared.expr.NestedExpr.{out-NestedExpr}
 use Rattle.wac_ast_expressions.proofs.ExprViews.{nested_out, new_is}
-use Rattle.wac_printer.proofs.Trees.{most_rest}
 use Rattle.wac_printer_pieces.proofs.Progress as list
-use Rattle.wac_printer_pieces.proofs.Progress.{first_goes, first_stops, goes_at, none_is, starts, stops_at}
-use Rattle.wac_printer_pieces.proofs.Sequence.{first, last, printed_at}
 use Rattle.wac_json_text.specs.Contents.{named_json, nested_json}
-use Rattle.wac_json_forms.specs.Forms.{argument_json, expr_json, ident_json, list_json, postfix_expr_json, primary_expr_json, span_json, variant}
-use Rattle.wac_json_forms.proofs.Lists.{arguments_items, items_of-map}
 use Rattle.wac_json_text.specs.Pieces.{behind_comma, joined_pieces, pieces}
 use Rattle.wac_json_text.proofs.ExpressionTrees.{as_argument, as_primary}
 use Rattle.wac_json_text.proofs.Joined.{as_form, as_pieces, ends, form, list_then, put, then}

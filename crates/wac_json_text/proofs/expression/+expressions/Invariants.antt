@@ -1,12 +1,7 @@
-use Rattle.std.specs.Prelude.{◌+◌, ◌*◌}
+use Rattle.wac_json_text.proofs.Common.{◌+◌, ◌*◌, argument_of, size-InstantiationArgument, size-PrimaryExpr, IsSoFar, argument_json}
 use denote.Param.Weighed.{most}
-use Rattle.wac_ast_expressions.specs.Expressions.{argument_of}
 use Rattle.wac_ast_expressions.specs.declared.expr.Expr.{size-Expr}
-use Rattle.wac_ast_expressions.specs.declared.expr.InstantiationArgument.{size-InstantiationArgument}
 use Rattle.wac_ast_expressions.specs.declared.expr.NewExpr.{size-NewExpr}
-use Rattle.wac_ast_expressions.specs.declared.expr.PrimaryExpr.{size-PrimaryExpr}
-use Rattle.wac_printer_pieces.proofs.Progress.{IsSoFar}
-use Rattle.wac_json_forms.specs.Forms.{argument_json}
 use Rattle.wac_json_text.specs.Pieces.{behind_comma, pieces}
 use Rattle.wac_json_text.proofs.expression.+expressions.Given as goal
 

@@ -1,5 +1,4 @@
-use Rattle.std.proofs.Common.{◌≡◌, rules, Err, ◌≤◌, length}
-use Rattle.wac_printer_pieces.proofs.Progress.{starts, goes_at, stops_at, ends}
+use Rattle.wac_json_text.proofs.Common.{◌≡◌, rules, Err, ◌≤◌, length, starts, goes_at, stops_at, ends}
 use Rattle.wac_json_text.specs.Pieces.{pieces, behind_comma}
 use Rattle.wac_json_text.proofs.parts.behind_commas.Goals as goal
 

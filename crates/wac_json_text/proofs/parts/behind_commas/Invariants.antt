@@ -1,4 +1,4 @@
-use Rattle.wac_printer_pieces.proofs.Progress.{IsSoFar}
+use Rattle.wac_json_text.proofs.Common.{IsSoFar}
 use Rattle.wac_json_text.specs.Pieces.{pieces, behind_comma}
 use Rattle.wac_json_text.proofs.parts.behind_commas.Given as goal
 

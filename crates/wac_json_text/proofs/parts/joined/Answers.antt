@@ -1,6 +1,4 @@
-use Rattle.std.proofs.Common.{◌≡◌, [], rules, Err, ap}
-use Rattle.std.specs.List.{flat_map}
-use Rattle.wac_printer_pieces.proofs.Progress.{first_stops, first_goes, none_is}
+use Rattle.wac_json_text.proofs.Common.{◌≡◌, [], rules, Err, ap, flat_map, first_stops, first_goes, none_is}
 use Rattle.wac_json_text.specs.Pieces.{pieces, behind_comma, joined_pieces}
 use Rattle.wac_json_text.proofs.Texts.{none_left}
 use Rattle.wac_json_text.proofs.parts.joined.Goals as goal

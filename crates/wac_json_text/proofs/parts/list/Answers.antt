@@ -1,4 +1,5 @@
-use Rattle.wac_printer_pieces.proofs.Sequence.{after, first, last, printed_as}
+use Rattle.wac_json_text.proofs.Common.{first, last, printed_as}
+use Rattle.wac_printer_pieces.proofs.Sequence.{after}
 use Rattle.wac_json_text.proofs.Texts.{list_is}
 use Rattle.wac_json_text.proofs.parts.list.Goals as goal
 

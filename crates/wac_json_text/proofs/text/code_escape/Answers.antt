@@ -1,6 +1,4 @@
-use Rattle.std.proofs.Common.{◌≤◌, ◌*◌, take, drop, length, sym, ap, ◌∙◌, subst, arith}
-use Rattle.std.specs.Str.{IsAscii}
-use Rattle.std.proofs.lemmas.Str.{IsCharBoundary-from_ascii, IsAscii-drop}
+use Rattle.wac_json_text.proofs.Common.{◌≤◌, ◌*◌, take, drop, length, sym, ap, ◌∙◌, subst, arith, IsAscii, IsCharBoundary-from_ascii, IsAscii-drop}
 use Rattle.wac_json_text.specs.declared.text.TheConstants.{CODES}
 use Rattle.wac_json_text.proofs.Escapes.{codes_are_ascii, code_at}
 use Rattle.wac_json_text.proofs.text.code_escape.Goals as goal

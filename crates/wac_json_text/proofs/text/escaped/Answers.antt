@@ -1,10 +1,5 @@
-use Rattle.std.proofs.Common.{◌≡◌, ◌≤◌, ◌<◌, ◌++◌, ◌∷◌, [], ℕ, rules, take, length, ap, ◌∙◌, subst, arith, Err}
-use Rattle.std.specs.Str.{IsCharBoundary}
-use Rattle.std.proofs.lemmas.Str.{IsCharBoundary-start, IsCharBoundary-from_rest}
-use Rattle.json.specs.Print.{escape}
-use Rattle.wac_printer_layout.specs.Printed.{blank}
+use Rattle.wac_json_text.proofs.Common.{◌≡◌, ◌≤◌, ◌<◌, ◌++◌, ◌∷◌, [], ℕ, rules, take, length, ap, ◌∙◌, subst, arith, Err, IsCharBoundary, IsCharBoundary-start, IsCharBoundary-from_rest, escape, blank, stops, wrote_all}
 use Rattle.wac_printer_pieces.specs.Printed.{after}
-use Rattle.wac_printer_pieces.proofs.Printing.{stops, wrote_all}
 use Rattle.wac_json_text.proofs.Escapes.{escape_all, escape_parts, front_goes, nothing_written, then_fails}
 use Rattle.wac_json_text.proofs.text.escaped.Goals as goal
 

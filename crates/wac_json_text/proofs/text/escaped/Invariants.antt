@@ -1,7 +1,4 @@
-use Rattle.std.proofs.Common.{◌≡◌, ◌-◌, ◌∷◌, [], false, length, take}
-use Rattle.std.specs.Str.{IsCharBoundary}
-use Rattle.json.specs.Print.{escape}
-use Rattle.wac_printer_layout.specs.Printed.{blank}
+use Rattle.wac_json_text.proofs.Common.{◌≡◌, ◌-◌, ◌∷◌, [], false, length, take, IsCharBoundary, escape, blank}
 use Rattle.wac_printer_pieces.specs.Printed.{after}
 use Rattle.wac_json_text.proofs.text.escaped.Given as goal
 

@@ -1,10 +1,4 @@
-use Rattle.std.proofs.Common.{◌≡◌, ◌<◌, ◌≤◌, ◌+◌, ◌++◌, ◌∷◌, [], ℕ, rules, drop, take, length, get_or, refl, sym, ap, ◌∙◌, subst, arith, Ok, Err, Some, None}
-use Rattle.std.specs.List.{slice_get}
-use Rattle.std.specs.Str.{IsCharBoundary}
-use Rattle.std.proofs.lemmas.Str.{IsCharBoundary-after_ascii}
-use Rattle.json.specs.Print.{escape}
-use Rattle.wac_printer_layout.specs.Printed.{blank}
-use Rattle.wac_printer_pieces.specs.Printed.{Prints}
+use Rattle.wac_json_text.proofs.Common.{◌≡◌, ◌<◌, ◌≤◌, ◌+◌, ◌++◌, ◌∷◌, [], ℕ, rules, drop, take, length, get_or, refl, sym, ap, ◌∙◌, subst, arith, Ok, Err, Some, None, slice_get, IsCharBoundary, IsCharBoundary-after_ascii, escape, blank, Prints}
 use Rattle.wac_json_text.specs.Pieces.{FrontWritten}
 use Rattle.wac_json_text.proofs.Escapes.{as_ok, behind_at, both, escape_parts, first_fails, front_escaped, none_behind, not_plain_ascii, not_plain_at, plain_boundary, run_front}
 use Rattle.wac_json_text.proofs.text.escaped_front.Goals as goal

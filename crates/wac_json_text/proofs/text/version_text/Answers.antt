@@ -1,8 +1,4 @@
-use Rattle.std.proofs.Common.{◌∷◌, []}
-use Rattle.json.specs.Print.{escape}
-use Rattle.semver.specs.Identifiers.{parts_of, parts_text}
-use Rattle.wac_printer_layout.specs.Printed.{blank}
-use Rattle.wac_printer_pieces.proofs.Indentation.{prints_same}
+use Rattle.wac_json_text.proofs.Common.{◌∷◌, [], escape, parts_of, parts_text, blank, prints_same}
 use Rattle.wac_json_text.specs.Pieces.{version_pieces}
 use Rattle.wac_json_text.proofs.Escapes.{version_is}
 use Rattle.wac_json_text.proofs.text.version_text.Goals as goal

@@ -1,19 +1,10 @@
-use Rattle.std.proofs.Common.{◌≡◌, ◌≤◌, [], Err, ap, arith, codes, length, map, refl, rules, sym}
-use Rattle.std.specs.List.{flat_map}
-use Rattle.json.specs.Print.{escape_byte}
-use Rattle.wac_ast_base.specs.Names.{ident_of}
+use Rattle.wac_json_text.proofs.Common.{◌≡◌, ◌≤◌, [], Err, ap, arith, codes, length, map, refl, rules, sym, flat_map, escape_byte, ident_of, optional_of, ty_of, stops, most_rest, first_goes, first_stops, goes_at, none_is, starts, stops_at, first, last, printed_at, ident_json, optional_ty_json, pair, span_json, ty_json, variant, types_items}
 use Rattle.wac_ast_grammar.specs.Tree as tree
-use Rattle.wac_ast_types.specs.Types.{optional_of, ty_of}
 use Rattle.wac_ast_types.specs.declared.types.«Type».{size-Type}
 use Rattle.wac_ast_types.proofs.TypeParts.{future_is, result_is, stream_is, tuple_is}
-use Rattle.wac_printer_pieces.proofs.Printing.{stops}
-use Rattle.wac_printer.proofs.Trees.{most_rest}
 use Rattle.wac_printer_pieces.proofs.Progress as list
-use Rattle.wac_printer_pieces.proofs.Progress.{first_goes, first_stops, goes_at, none_is, starts, stops_at}
-use Rattle.wac_printer_pieces.proofs.Sequence.{after, first, last, printed_at}
+use Rattle.wac_printer_pieces.proofs.Sequence.{after}
 use Rattle.wac_json_text.specs.Contents.{held_pieces, tuple_json}
-use Rattle.wac_json_forms.specs.Forms.{ident_json, optional_ty_json, pair, span_json, ty_json, variant}
-use Rattle.wac_json_forms.proofs.Lists.{types_items}
 use Rattle.wac_json_text.specs.Pieces.{behind_comma, joined_pieces, pieces}
 use Rattle.wac_json_text.proofs.Joined.{as_form, as_pieces, at_once, ends, list_then, opened, put, then}
 use Rattle.wac_json_text.proofs.Texts.{none_left}

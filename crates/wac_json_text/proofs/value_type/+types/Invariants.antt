@@ -1,11 +1,8 @@
-use Rattle.std.specs.Prelude.{◌+◌, ◌*◌}
+use Rattle.wac_json_text.proofs.Common.{◌+◌, ◌*◌, ty_of, IsSoFar, ty_json}
 use denote.Param.Weighed.{most}
-use Rattle.wac_ast_types.specs.Types.{ty_of}
 use Rattle.wac_ast_types.specs.declared.types.«Type».{size-Type}
 use Rattle.wac_ast_types.specs.declared.types.«Type».TheShapes.{weighed-Type-Result-0}
 use Rattle.wac_ast_types.specs.declared.types.«Type».TheVariants.{the_data}
-use Rattle.wac_printer_pieces.proofs.Progress.{IsSoFar}
-use Rattle.wac_json_forms.specs.Forms.{ty_json}
 use Rattle.wac_json_text.specs.Pieces.{behind_comma, pieces}
 use Rattle.wac_json_text.proofs.value_type.+types.Given as goal
 

@@ -1,6 +1,4 @@
-use Rattle.wac_ast_worlds.specs.Worlds.{world_item_of}
-use Rattle.wac_printer_pieces.proofs.Sequence.{printed_at}
-use Rattle.wac_json_forms.specs.Forms.{list_json, world_item_json}
+use Rattle.wac_json_text.proofs.Common.{world_item_of, printed_at, list_json, world_item_json}
 use Rattle.wac_json_text.specs.Pieces.{pieces}
 use Rattle.wac_json_text.proofs.Steps.{of_items}
 use Rattle.wac_json_text.proofs.world_decl.write_items.Goals as goal

@@ -1,12 +1,6 @@
-use Rattle.std.proofs.Common.{◌≡◌, map, rules, sym}
-use Rattle.json.specs.Print.{escape_byte}
-use Rattle.wac_ast.specs.Statements.{document_of, statement_of}
-use Rattle.wac_ast_base.specs.Names.{doc_comment_of}
-use Rattle.wac_printer_pieces.proofs.Sequence.{printed_at}
-use Rattle.wac_json_forms.specs.Forms.{doc_json, json_of, list_json, statement_json}
+use Rattle.wac_json_text.proofs.Common.{◌≡◌, map, rules, sym, escape_byte, document_of, statement_of, doc_comment_of, printed_at, doc_json, json_of, list_json, statement_json, items_of-map}
 use Rattle.wac_json_text.specs.Pieces.{pieces}
 use Rattle.wac_json_text.proofs.Joined.{as_form, ends, form, list_then, put, then}
-use Rattle.wac_json_forms.proofs.Lists.{items_of-map}
 use Rattle.wac_json_text.proofs.written.document.Goals as goal
 
 pub returns : goal.returns

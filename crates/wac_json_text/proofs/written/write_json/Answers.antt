@@ -1,6 +1,4 @@
-use Rattle.std.proofs.Common.{rules}
-use Rattle.wac_ast.specs.Statements.{document_of}
-use Rattle.wac_json_forms.specs.Forms.{json_of}
+use Rattle.wac_json_text.proofs.Common.{rules, document_of, json_of}
 use Rattle.wac_json_text.proofs.NewSink.{begun_at, wrote_at}
 use Rattle.wac_json_text.proofs.written.write_json.Goals as goal
 

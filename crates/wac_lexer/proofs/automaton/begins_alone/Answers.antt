@@ -1,5 +1,4 @@
-use Rattle.std.proofs.Common.{◌≡◌, ◌∙◌, ◌<◌, sym, subst, take, length, arith}
-use Rattle.std.proofs.lemmas.Bool.{eqb-true}
+use Rattle.wac_lexer.proofs.Common.{◌≡◌, ◌∙◌, ◌<◌, sym, subst, take, length, arith, eqb-true}
 use Rattle.wac_lexer.specs.Automaton.{state_at}
 use Rattle.wac_lexer.specs.Automaton.State.{Start}
 use Rattle.wac_lexer.proofs.Boundaries.{ne_zero}

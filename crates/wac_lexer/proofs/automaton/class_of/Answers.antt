@@ -1,4 +1,4 @@
-use Rattle.std.proofs.Common.{ap, ◌∙◌, arith}
+use Rattle.wac_lexer.proofs.Common.{ap, ◌∙◌, arith}
 use Rattle.wac_lexer.specs.Automaton.{class_of}
 use Rattle.wac_lexer.proofs.Tables.{class_is, class_within}
 use Rattle.wac_lexer.proofs.automaton.class_of.Goals as goal

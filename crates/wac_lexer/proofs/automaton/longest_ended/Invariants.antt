@@ -1,4 +1,4 @@
-use Rattle.std.proofs.Common.{◌≡◌, ◌<◌, take}
+use Rattle.wac_lexer.proofs.Common.{◌≡◌, ◌<◌, take}
 use Rattle.wac_lexer.specs.Automaton.{state_at, state_count}
 use Rattle.wac_lexer.specs.Front.{found_at, longest}
 use Rattle.wac_lexer.proofs.States.{Reads}

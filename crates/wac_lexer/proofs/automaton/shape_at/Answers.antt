@@ -1,4 +1,4 @@
-use Rattle.std.proofs.Common.{sym, arith}
+use Rattle.wac_lexer.proofs.Common.{sym, arith}
 use Rattle.wac_lexer.proofs.Tables.{ends_none}
 use Rattle.wac_lexer.proofs.automaton.shape_at.Goals as goal
 

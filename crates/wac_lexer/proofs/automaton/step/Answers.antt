@@ -1,4 +1,4 @@
-use Rattle.std.proofs.Common.{◌+◌, ◌*◌, ◌<◌, ap, ◌∙◌, arith}
+use Rattle.wac_lexer.proofs.Common.{◌+◌, ◌*◌, ◌<◌, ap, ◌∙◌, arith}
 use Rattle.wac_lexer.specs.Automaton.{class_at, step_of, state_at}
 use Rattle.wac_lexer.proofs.Tables.{step_is, step_within}
 use Rattle.wac_lexer.proofs.automaton.step.Goals as goal

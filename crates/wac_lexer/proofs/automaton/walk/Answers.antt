@@ -1,4 +1,4 @@
-use Rattle.std.proofs.Common.{◌≡◌, ◌+◌, ◌∙◌, length, take, ap, subst, arith}
+use Rattle.wac_lexer.proofs.Common.{◌≡◌, ◌+◌, ◌∙◌, length, take, ap, subst, arith}
 use Rattle.wac_lexer.specs.Automaton.{state_at}
 use Rattle.wac_lexer.specs.Front.{found_at, longest}
 use Rattle.wac_lexer.proofs.States.{Reads, walk_reads, walk_ends}

@@ -1,5 +1,4 @@
-use Rattle.std.proofs.Common.{◌≡◌, ◌&&◌, drop}
-use Rattle.std.specs.List.{list_all}
+use Rattle.wac_lexer.proofs.Common.{◌≡◌, ◌&&◌, drop, list_all}
 use Rattle.wac_lexer.specs.Characters.{is_plain}
 use Rattle.wac_lexer.proofs.characters.are_plain.Given as goal
 

@@ -1,6 +1,4 @@
-use Rattle.std.proofs.Common.{◌≡◌, ◌+◌, drop, sym, ap, ◌∙◌, subst}
-use Rattle.std.specs.List.{prefix_len}
-use Rattle.std.specs.Str.{IsCharBoundary, chars}
+use Rattle.wac_lexer.proofs.Common.{◌≡◌, ◌+◌, drop, sym, ap, ◌∙◌, subst, prefix_len, IsCharBoundary, chars}
 use Rattle.wac_lexer.specs.Characters.{is_plain, refused_from}
 use Rattle.wac_lexer.proofs.Refusals.{plain_boundary, plain_passes}
 use Rattle.wac_lexer.proofs.characters.past_plain.Goals as goal

@@ -1,5 +1,4 @@
-use Rattle.std.proofs.Common.{◌≡◌, ◌≤◌, ◌-◌, true, take, length}
-use Rattle.std.specs.List.{list_all}
+use Rattle.wac_lexer.proofs.Common.{◌≡◌, ◌≤◌, ◌-◌, true, take, length, list_all}
 use Rattle.wac_lexer.specs.Characters.{is_plain}
 use Rattle.wac_lexer.proofs.characters.plain_blocks.Given as goal
 

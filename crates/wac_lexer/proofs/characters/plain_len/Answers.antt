@@ -1,5 +1,4 @@
-use Rattle.std.proofs.Common.{◌+◌, ap, ◌∙◌}
-use Rattle.std.specs.List.{prefix_len}
+use Rattle.wac_lexer.proofs.Common.{◌+◌, ap, ◌∙◌, prefix_len}
 use Rattle.wac_lexer.specs.Characters.{is_plain}
 use Rattle.wac_lexer.proofs.Refusals.{blocks_len}
 use Rattle.wac_lexer.proofs.characters.plain_len.Goals as goal

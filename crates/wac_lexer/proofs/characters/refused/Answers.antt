@@ -1,9 +1,5 @@
-use Rattle.std.proofs.Common.{◌≡◌, ◌+◌, ◌++◌, drop, length, sym, ap, ◌∙◌, subst, arith, Some}
-use Rattle.std.specs.Char.{encode_utf8, len_utf8}
-use Rattle.std.specs.Str.{IsCharBoundary, IsUtf8, chars}
+use Rattle.wac_lexer.proofs.Common.{◌≡◌, ◌+◌, ◌++◌, drop, length, sym, ap, ◌∙◌, subst, arith, Some, encode_utf8, len_utf8, IsCharBoundary, IsUtf8, chars, drop_all, IsCharBoundary-start, IsCharBoundary-past_char, IsUtf8-drop}
 use Rattle.std.specs.Str.Iter.{chars_rest}
-use Rattle.std.proofs.lemmas.List.{drop_all}
-use Rattle.std.proofs.lemmas.Str.{IsCharBoundary-start, IsCharBoundary-past_char, IsUtf8-drop}
 use Rattle.wac_lexer.specs.Span.{span}
 use Rattle.wac_lexer.specs.Characters.{refused_from}
 use Rattle.wac_lexer.proofs.Refusals.{refused_here, passes_char, refused_end}

@@ -1,5 +1,4 @@
-use Rattle.std.proofs.Common.{◌≡◌, ◌-◌, length, drop}
-use Rattle.std.specs.Str.{IsCharBoundary, chars}
+use Rattle.wac_lexer.proofs.Common.{◌≡◌, ◌-◌, length, drop, IsCharBoundary, chars}
 use Rattle.wac_lexer.specs.Characters.{refused, refused_from}
 use Rattle.wac_lexer.proofs.characters.refused.Given as goal
 

@@ -1,5 +1,4 @@
-use Rattle.std.proofs.Common.{◌≡◌, sym, ap, ◌∙◌, arith, drop, Bool, true, ◌-◌, ◌+◌}
-use Rattle.std.proofs.lemmas.List.{length-drop}
+use Rattle.wac_lexer.proofs.Common.{◌≡◌, sym, ap, ◌∙◌, arith, drop, Bool, true, ◌-◌, ◌+◌, length-drop}
 use Rattle.wac_lexer.specs.Comments.{opens, closes, behind}
 use Rattle.wac_lexer.proofs.Pieces.{walk_opens, walk_closes, walk_other, opens_within, closes_within}
 use Rattle.wac_lexer.proofs.comments.comment_end.Goals as goal

@@ -1,4 +1,4 @@
-use Rattle.std.proofs.Common.{length, ◌-◌, ◌≡◌, ◌≤◌, ◌<◌, ◌+◌, drop}
+use Rattle.wac_lexer.proofs.Common.{length, ◌-◌, ◌≡◌, ◌≤◌, ◌<◌, ◌+◌, drop}
 use Rattle.wac_lexer.specs.Comments.{behind}
 use Rattle.wac_lexer.proofs.comments.comment_end.Given as goal
 

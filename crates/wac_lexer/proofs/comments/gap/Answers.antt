@@ -1,5 +1,4 @@
-use Rattle.std.proofs.Common.{◌≡◌, ◌≤◌, ℕ, sym, ap, ◌∙◌, arith, length, drop, zero-add}
-use Rattle.std.proofs.lemmas.List.{length-drop}
+use Rattle.wac_lexer.proofs.Common.{◌≡◌, ◌≤◌, ℕ, sym, ap, ◌∙◌, arith, length, drop, zero-add, length-drop}
 use Rattle.wac_lexer.specs.Comments.{part_len}
 use Rattle.wac_lexer.proofs.Gaps.{gap_done, gap_more, gap_end}
 use Rattle.wac_lexer.proofs.comments.gap.Goals as goal

@@ -1,4 +1,4 @@
-use Rattle.std.proofs.Common.{length, ◌-◌, ◌≡◌, ◌≤◌, ◌+◌, ℕ, drop}
+use Rattle.wac_lexer.proofs.Common.{length, ◌-◌, ◌≡◌, ◌≤◌, ◌+◌, ℕ, drop}
 use Rattle.wac_lexer.specs.Comments.{parts_len, gap}
 use Rattle.wac_lexer.proofs.comments.gap.Given as goal
 

@@ -1,5 +1,4 @@
-use Rattle.std.proofs.Common.{sym, ap, ◌++◌, ◌∙◌, append_assoc, take, arith}
-use Rattle.std.proofs.Math.Seq.{take-add}
+use Rattle.wac_lexer.proofs.Common.{sym, ap, ◌++◌, ◌∙◌, append_assoc, take, arith, take-add}
 use Rattle.wac_lexer.proofs.device.put_until_failure.Goals as goal
 
 pub put-preserved : goal.put-preserved

@@ -1,4 +1,4 @@
-use Rattle.std.proofs.Common.{length, take, ◌-◌, ◌≡◌, ◌++◌, ◌≤◌}
+use Rattle.wac_lexer.proofs.Common.{length, take, ◌-◌, ◌≡◌, ◌++◌, ◌≤◌}
 use Rattle.wac_lexer.proofs.device.put_until_failure.Given as goal
 
 abbrev pub invariant-put : goal.invariant-put

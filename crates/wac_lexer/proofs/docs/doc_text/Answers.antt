@@ -1,5 +1,4 @@
-use Rattle.std.proofs.Common.{◌≡◌, ◌++◌, ◌-◌, take, drop, length, codes, sym, ap, ◌∙◌, subst, Some}
-use Rattle.std.specs.Str.{trim}
+use Rattle.wac_lexer.proofs.Common.{◌≡◌, ◌++◌, ◌-◌, take, drop, length, codes, sym, ap, ◌∙◌, subst, Some, trim}
 use Rattle.wac_lexer.proofs.Trimmed.{block_text, block_none}
 use Rattle.wac_lexer.proofs.docs.doc_text.Goals as goal
 

@@ -1,6 +1,4 @@
-use Rattle.std.proofs.Common.{◌≡◌, ◌+◌, ◌++◌, map, take, drop, length, sym, ap, ◌∙◌, subst, arith, append-nil, append_assoc, zero-add}
-use Rattle.std.specs.Str.{IsCharBoundary}
-use Rattle.std.proofs.lemmas.Str.{IsUtf8-drop, IsCharBoundary-start}
+use Rattle.wac_lexer.proofs.Common.{◌≡◌, ◌+◌, ◌++◌, map, take, drop, length, sym, ap, ◌∙◌, subst, arith, append-nil, append_assoc, zero-add, IsCharBoundary, IsUtf8-drop, IsCharBoundary-start}
 use Rattle.wac_lexer.specs.Comments.{part_len}
 use Rattle.wac_lexer.specs.Docs.{doc_of_part, docs_at, docs_upto}
 use Rattle.wac_lexer.specs.Item.{doc_of}

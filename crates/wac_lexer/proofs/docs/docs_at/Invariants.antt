@@ -1,5 +1,4 @@
-use Rattle.std.proofs.Common.{length, ◌-◌, ◌≡◌, ◌++◌, map, ℕ, ◌+◌, ◌≤◌}
-use Rattle.std.specs.Str.{IsCharBoundary}
+use Rattle.wac_lexer.proofs.Common.{length, ◌-◌, ◌≡◌, ◌++◌, map, ℕ, ◌+◌, ◌≤◌, IsCharBoundary}
 use Rattle.wac_lexer.specs.Item.{doc_of}
 use Rattle.wac_lexer.specs.Docs.{docs_at, docs_upto}
 use Rattle.wac_lexer.proofs.docs.docs_at.Given as goal

@@ -1,4 +1,4 @@
-use Rattle.std.proofs.Common.{◌++◌, ◌≡◌, length, arith}
+use Rattle.wac_lexer.proofs.Common.{◌++◌, ◌≡◌, length, arith}
 use Rattle.wac_lexer.specs.Comments.{gap}
 use Rattle.wac_lexer.proofs.Gaps.{gap_done}
 use Rattle.wac_lexer.proofs.Standing.{stands_alone}

@@ -1,4 +1,4 @@
-use Rattle.std.proofs.Common.{sym, ◌∙◌, [], ◌∷◌}
+use Rattle.wac_lexer.proofs.Common.{sym, ◌∙◌, [], ◌∷◌}
 use Rattle.wac_lexer.specs.Words.{brackets, separators}
 use Rattle.wac_lexer.proofs.Texts.{find_first, find_next}
 use Rattle.wac_lexer.proofs.symbols.of_one.Goals as goal

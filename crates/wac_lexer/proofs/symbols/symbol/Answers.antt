@@ -1,4 +1,4 @@
-use Rattle.std.proofs.Common.{◌≡◌, ◌++◌, ◌∷◌, [], get_or, length, sym, ap, ◌∙◌}
+use Rattle.wac_lexer.proofs.Common.{◌≡◌, ◌++◌, ◌∷◌, [], get_or, length, sym, ap, ◌∙◌}
 use Rattle.wac_lexer.specs.Words.{find, brackets, separators}
 use Rattle.wac_lexer.proofs.Lengths.{one_byte, symbol_of_one, symbol_of_more}
 use Rattle.wac_lexer.proofs.symbols.symbol.Goals as goal

@@ -1,4 +1,4 @@
-use Rattle.std.proofs.Common.{sym, ◌∙◌, arith}
+use Rattle.wac_lexer.proofs.Common.{sym, ◌∙◌, arith}
 use Rattle.wac_lexer.specs.Words.{keywords}
 use Rattle.wac_lexer.proofs.Lengths.{find_with_lengths, find_too_short, find_too_long}
 use Rattle.wac_lexer.proofs.words.keyword.Goals as goal

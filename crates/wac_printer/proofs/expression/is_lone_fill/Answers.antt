@@ -1,4 +1,4 @@
-use Rattle.std.proofs.Common.{ap, ◌∙◌, ◌∷◌}
+use Rattle.wac_printer.proofs.Common.{ap, ◌∙◌, ◌∷◌}
 use Rattle.wac_printer.proofs.Arguments.{lone}
 use Rattle.wac_printer.proofs.expression.is_lone_fill.Goals as goal
 

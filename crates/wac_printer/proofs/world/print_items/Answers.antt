@@ -1,12 +1,5 @@
-use Rattle.std.proofs.Common.{map, sym, subst}
-use Rattle.std.specs.List.{All}
-use Rattle.wac_ast_worlds.specs.Worlds.{world_item_of}
-use Rattle.wac_printer_layout.specs.Bare.{bare_world_item, doc_lines}
-use Rattle.wac_printer_layout.specs.Parts.{body}
-use Rattle.wac_printer_layout.specs.WorldLayout.{world_item_layout}
+use Rattle.wac_printer.proofs.Common.{map, sym, subst, All, world_item_of, bare_world_item, doc_lines, body, world_item_layout, All-of-map, printed_as, printed_at}
 use Rattle.wac_printer.specs.Sliced.{WorldItemSliced}
-use Rattle.wac_printer_pieces.proofs.Progress.{All-of-map}
-use Rattle.wac_printer_pieces.proofs.Sequence.{printed_as, printed_at}
 use Rattle.wac_printer.proofs.BareLists.{body_bare}
 use Rattle.wac_printer.proofs.world.print_items.Goals as goal
 

@@ -1,4 +1,4 @@
-use Rattle.std.proofs.Common.{[]}
+use Rattle.wac_printer_layout.proofs.Common.{[]}
 use Rattle.wac_printer_layout.proofs.StatementsJoin.{document_join, statement_join}
 use Rattle.wac_printer_layout.proofs.laws.documents_join.Goals as goal
 

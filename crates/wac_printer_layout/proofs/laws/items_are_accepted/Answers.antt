@@ -1,4 +1,4 @@
-use Rattle.wac_lexer.specs.Reading.{slice}
+use Rattle.wac_printer_layout.proofs.Common.{slice}
 use Rattle.wac_printer_layout.proofs.Fine.{Fine, fine, accepted}
 use Rattle.wac_printer_layout.proofs.AcceptedItems.{items_accepted, slice_holds}
 use Rattle.wac_printer_layout.proofs.laws.items_are_accepted.Goals as goal

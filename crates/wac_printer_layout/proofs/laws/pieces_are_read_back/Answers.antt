@@ -1,4 +1,4 @@
-use Rattle.std.proofs.Common.{[]}
+use Rattle.wac_printer_layout.proofs.Common.{[]}
 use Rattle.wac_printer_layout.specs.Printed.{text}
 use Rattle.wac_printer_layout.proofs.Accepted.{text_accepted}
 use Rattle.wac_printer_layout.proofs.Bytes.{utf8_bytes}

@@ -1,4 +1,4 @@
-use Rattle.std.proofs.Common.{replicate, sym, ◌∙◌}
+use Rattle.wac_printer_pieces.proofs.Common.{replicate, sym, ◌∙◌}
 use Rattle.std.proofs.lemmas.Str.{IsCharBoundary-from_ascii}
 use Rattle.wac_printer_pieces.proofs.Indentation.{blanks_are_ascii, times_of_blanks}
 use Rattle.wac_printer_pieces.proofs.pieces.blanks.Goals as goal

@@ -1,5 +1,4 @@
-use Rattle.std.proofs.Common.{sym, ap, ◌≡◌, ◌∙◌, length, ◌-◌, Some}
-use Rattle.std.specs.List.{slice_get}
+use Rattle.wac_printer_pieces.proofs.Common.{sym, ap, ◌≡◌, ◌∙◌, length, ◌-◌, Some, slice_get}
 use Rattle.wac_printer_pieces.proofs.Printing.{fresh_after-get}
 use Rattle.wac_printer_pieces.proofs.pieces.is_fresh_behind.Goals as goal
 

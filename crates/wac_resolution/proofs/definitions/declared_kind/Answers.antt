@@ -1,9 +1,4 @@
-use Rattle.std.proofs.Common.{ap}
-use Rattle.wac_ast.specs.Statements.{type_statement_of}
-use Rattle.wac_ast_types.specs.Declarations.{type_decl_of}
-use Rattle.wac_ast_worlds.specs.Worlds.{interface_decl_of, world_decl_of}
-use Rattle.wac_resolution_errors.proofs.Reports.{if_reports}
-use Rattle.wac_resolution_nodes.proofs.Roots.{items_named}
+use Rattle.wac_resolution.proofs.Common.{ap, type_statement_of, type_decl_of, interface_decl_of, world_decl_of, if_reports, items_named}
 use Rattle.wac_resolution.proofs.DeclaredKinds.{interface_kind, world_kind, type_kind, interface_breaks, world_breaks, type_breaks}
 use Rattle.wac_resolution.proofs.definitions.declared_kind.Goals as goal
 

@@ -1,15 +1,4 @@
-use Rattle.std.proofs.Common.{subst}
-use Rattle.std.proofs.lemmas.Result.{err_from_is_err_and}
-use Rattle.wac_ast_grammar.specs.Tree.{Ident}
-use Rattle.wac_ast.specs.Statements.{type_statement_of}
-use Rattle.wac_graph.specs.Origin.{Naming}
-use Rattle.wac_resolution_errors.specs.Told.{told}
-use Rattle.wac_resolution_rules.specs.BrokenWorlds.{DefinitionBroken}
-use Rattle.wac_resolution_nodes.specs.Root.{composed}
-use Rattle.wac_resolution_externs.specs.Externs.{places_in}
-use Rattle.wac_resolution_bindings.specs.Defined.{IsDefined}
-use Rattle.wac_resolution_errors.proofs.Reports.{reports}
-use Rattle.wac_resolution_bindings.proofs.Standing.{agrees_kept, placed_kept}
+use Rattle.wac_resolution.proofs.Common.{subst, err_from_is_err_and, Ident, type_statement_of, Naming, told, DefinitionBroken, composed, places_in, IsDefined, reports, agrees_kept, placed_kept}
 use Rattle.wac_resolution.proofs.Leading.{went, kind_breaks, definition_breaks}
 use Rattle.wac_resolution.proofs.definitions.type_statement.Goals as goal
 

@@ -1,11 +1,6 @@
-use Rattle.std.specs.Prelude.{ℕ, IfOk}
-use Rattle.std.proofs.Common.{subst}
-use Rattle.wac_ast.specs.Statements.{document_of}
+use Rattle.wac_resolution.proofs.Common.{ℕ, IfOk, subst, document_of, Named, rules_of, mentions}
 use Rattle.wac_ast.specs.declared.document.Document.{Document as CodeDocument}
 use Rattle.wac_ast_grammar.specs.Tree.{Document as Tree}
-use Rattle.wac_graph_types.specs.Scope.{Named}
-use Rattle.wac_resolution_rules.specs.Given.{rules_of}
-use Rattle.wac_resolution_rules.specs.Mentions.{mentions}
 use Rattle.wac_resolution.specs.Layout.{DescribedClause, SameBareTree}
 use Rattle.wac_resolution.specs.Resolved.{HoldsMentioned, Promised, call}
 use Rattle.wac_resolution.proofs.documents.resolve.Goals as goal

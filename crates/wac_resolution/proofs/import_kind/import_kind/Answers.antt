@@ -1,19 +1,5 @@
-use Rattle.std.proofs.Common.{List, None, ap, map, subst}
-use Rattle.std.proofs.lemmas.Result.{err_from_is_err_and}
-use Rattle.wac_ast_base.specs.Names.{ident_of, package_path_of}
-use Rattle.wac_ast_types.specs.Declarations.{func_type_of}
-use Rattle.wac_ast_worlds.specs.Worlds.{interface_item_of, inline_interface_of, import_type_of}
+use Rattle.wac_resolution.proofs.Common.{List, None, ap, map, subst, err_from_is_err_and, ident_of, package_path_of, func_type_of, interface_item_of, inline_interface_of, import_type_of, declared_count, Naming, told, InterfaceBroken, values_of, scope_of, reports, items_named, context_of, InterfaceMade}
 use Rattle.wac_ast_worlds.specs.declared.interface.InterfaceItem.{InterfaceItem}
-use Rattle.wac_graph.specs.Means.{declared_count}
-use Rattle.wac_graph.specs.Origin.{Naming}
-use Rattle.wac_resolution_errors.specs.Told.{told}
-use Rattle.wac_resolution_rules.specs.BrokenWorlds.{InterfaceBroken}
-use Rattle.wac_resolution_state.specs.Bindings.{values_of}
-use Rattle.wac_resolution_state.specs.Named.{scope_of}
-use Rattle.wac_resolution_errors.proofs.Reports.{reports}
-use Rattle.wac_resolution_nodes.proofs.Roots.{items_named}
-use Rattle.wac_resolution_paths.specs.Context.{context_of}
-use Rattle.wac_resolution_worlds.specs.Made.{InterfaceMade}
 use Rattle.wac_resolution.proofs.ImportTypes.{func_imported, inline_imported, path_imported, ident_imported, func_breaks, inline_breaks, path_breaks, ident_breaks}
 use Rattle.wac_resolution.proofs.import_kind.import_kind.Goals as goal
 

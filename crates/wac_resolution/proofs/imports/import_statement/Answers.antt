@@ -1,13 +1,6 @@
-use Rattle.std.proofs.Common.{◌∙◌, sym, inl}
-use Rattle.std.proofs.lemmas.Result.{err_from_is_err_and, on_ok_weaker, IfErr-weaker}
-use Rattle.wac_ast_worlds.specs.Worlds.{import_statement_of}
-use Rattle.wac_resolution_errors.specs.Told.{told}
-use Rattle.wac_resolution_rules.specs.Given.{rules_of}
+use Rattle.wac_resolution.proofs.Common.{◌∙◌, sym, inl, err_from_is_err_and, on_ok_weaker, IfErr-weaker, import_statement_of, told, rules_of, reports, memory_told, agrees_kept, placed_kept}
 use Rattle.wac_resolution_errors.proofs.Promoted.{promoted_named}
-use Rattle.wac_resolution_errors.proofs.Reports.{reports}
-use Rattle.wac_resolution_state.proofs.Scopes.{memory_told}
 use Rattle.wac_resolution.proofs.Imported.{type_breaks, name_breaks, statement_went}
-use Rattle.wac_resolution_bindings.proofs.Standing.{agrees_kept, placed_kept}
 use Rattle.wac_resolution.proofs.imports.import_statement.Goals as goal
 
 pub returns-in_err-kind-clause-err : goal.returns-in_err-kind-clause-err

@@ -1,8 +1,5 @@
-use Rattle.std.proofs.Common.{◌∙◌, ap, rules}
+use Rattle.wac_resolution.proofs.Common.{◌∙◌, ap, rules, key_of, mentions_in, is_mentioned}
 use Rattle.indexmap.proofs.CallerLemmas.{filter-RetainsPairs}
-use Rattle.wac_graph.specs.Package.{key_of}
-use Rattle.wac_resolution_mentions.specs.Noted.{mentions_in}
-use Rattle.wac_resolution_rules.specs.Mentions.{is_mentioned}
 use Rattle.wac_resolution.specs.Resolved.{by_key}
 use Rattle.wac_resolution.proofs.Kept.{by_key_kept}
 use Rattle.wac_resolution.proofs.keeping.keep_mentioned.Goals as goal

@@ -1,10 +1,5 @@
-use Rattle.std.proofs.Common.{List, map, subst}
-use Rattle.std.specs.Prelude.{OnOk, IfErr}
+use Rattle.wac_resolution.proofs.Common.{List, map, subst, OnOk, IfErr, statement_of, Reports, told, rules_of}
 use Rattle.wac_ast.specs.declared.statement.Statement.{Statement}
-use Rattle.wac_ast.specs.Statements.{statement_of}
-use Rattle.wac_resolution_errors.specs.Error.{Reports}
-use Rattle.wac_resolution_errors.specs.Told.{told}
-use Rattle.wac_resolution_rules.specs.Given.{rules_of}
 use Rattle.wac_resolution.specs.Sequences.{StatementsRun, OneBreaks}
 use Rattle.wac_resolution.proofs.lent.carry_out.Goals as goal
 

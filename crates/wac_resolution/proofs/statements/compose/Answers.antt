@@ -1,12 +1,7 @@
-use Rattle.std.proofs.Common.{List, map, arith, subst}
-use Rattle.std.proofs.lemmas.Result.{err_from_is_err_and}
+use Rattle.wac_resolution.proofs.Common.{List, map, arith, subst, err_from_is_err_and, statement_of, told, rules_of, reports}
 use Rattle.std.proofs.lemmas.List.{take_all, length-map}
 use Rattle.wac_ast_grammar.specs.Tree.{Statement}
-use Rattle.wac_ast.specs.Statements.{statement_of}
-use Rattle.wac_resolution_errors.specs.Told.{told}
-use Rattle.wac_resolution_rules.specs.Given.{rules_of}
 use Rattle.wac_resolution.specs.Sequences.{StatementsRun}
-use Rattle.wac_resolution_errors.proofs.Reports.{reports}
 use Rattle.wac_resolution.proofs.Sequences.{none_went, next_went, next_breaks}
 use Rattle.wac_resolution.proofs.statements.compose.Goals as goal
 

@@ -1,6 +1,4 @@
-use Rattle.std.proofs.Common.{map, take}
-use Rattle.wac_ast.specs.Statements.{statement_of}
-use Rattle.wac_resolution_rules.specs.Given.{rules_of}
+use Rattle.wac_resolution.proofs.Common.{map, take, statement_of, rules_of}
 use Rattle.wac_resolution.specs.Sequences.{StatementsRun}
 use Rattle.wac_resolution.proofs.statements.compose.Given as goal
 

@@ -1,6 +1,4 @@
-use Rattle.wac_resolution_errors.proofs.Reports.{reports}
-use Rattle.wac_resolution_externs.proofs.Results.{on_ok, if_err}
-use Rattle.wac_resolution_rules.specs.Given.{rules_of}
+use Rattle.wac_resolution.proofs.Common.{reports, on_ok, if_err, rules_of}
 use Rattle.wac_resolution.proofs.statements.statement.Goals as goal
 
 pub returns-in-Import-clause-ok : goal.returns-in-Import-clause-ok

@@ -1,14 +1,7 @@
-use Rattle.std.proofs.Common.{map}
-use Rattle.std.specs.Prelude.{option_map}
-use Rattle.std.proofs.lemmas.Result.{err_from_is_err_and}
-use Rattle.wac_ast.specs.Statements.{statement_of}
-use Rattle.wac_ast_base.specs.Names.{package_path_of}
-use Rattle.wac_resolution_errors.specs.Told.{told}
-use Rattle.wac_resolution_rules.specs.Given.{rules_of}
+use Rattle.wac_resolution.proofs.Common.{map, option_map, err_from_is_err_and, statement_of, package_path_of, told, rules_of, reports}
 use Rattle.wac_resolution.proofs.Starting.{start_stands}
 use Rattle.wac_resolution.proofs.Ending.{all_composed, statement_breaks, target_breaks}
 use Rattle.wac_resolution.proofs.steps.composed.Goals as goal
-use Rattle.wac_resolution_errors.proofs.Reports.{reports}
 
 pub carry_out-requires : goal.carry_out-requires
 carry_out-requires g c =

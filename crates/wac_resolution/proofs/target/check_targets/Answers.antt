@@ -1,8 +1,4 @@
-use Rattle.wac_ast_base.specs.Names.{package_path_of}
-use Rattle.wac_resolution_errors.specs.Told.{told}
-use Rattle.wac_resolution_errors.proofs.Reports.{reports}
-use Rattle.wac_resolution_externs.proofs.Results.{on_ok, if_err}
-use Rattle.wac_resolution_rules.specs.Given.{rules_of}
+use Rattle.wac_resolution.proofs.Common.{package_path_of, told, reports, on_ok, if_err, rules_of}
 use Rattle.wac_resolution.proofs.Ending.{target_met, no_target, target_missed}
 use Rattle.wac_resolution.proofs.target.check_targets.Goals as goal
 

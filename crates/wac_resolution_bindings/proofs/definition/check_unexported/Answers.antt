@@ -1,6 +1,4 @@
-use Rattle.std.proofs.Common.{sym, rules, inr}
-use Rattle.wac_ast_base.specs.Names.{ident_of}
-use Rattle.wac_resolution_externs.proofs.Checks.{unexported_yet}
+use Rattle.wac_resolution_bindings.proofs.Common.{sym, rules, inr, ident_of, unexported_yet}
 use Rattle.wac_resolution_bindings.proofs.Defining.{exported_before}
 use Rattle.wac_resolution_bindings.proofs.definition.check_unexported.Goals as goal
 

@@ -1,10 +1,4 @@
-use Rattle.std.proofs.Common.{inl, inr, refl, sym}
-use Rattle.std.proofs.lemmas.Result.{err_from_is_err_and}
-use Rattle.wac_ast_base.specs.Names.{ident_of}
-use Rattle.wac_resolution_nodes.specs.Root.{numbers_of}
-use Rattle.wac_resolution_externs.specs.Externs.{exported_in, places_in}
-use Rattle.wac_resolution_errors.proofs.Reports.{reports}
-use Rattle.wac_resolution_externs.proofs.Checks.{fresh_too}
+use Rattle.wac_resolution_bindings.proofs.Common.{inl, inr, refl, sym, err_from_is_err_and, ident_of, numbers_of, exported_in, places_in, reports, fresh_too}
 use Rattle.wac_resolution_externs.proofs.Each.{agrees_exports}
 use Rattle.wac_resolution_bindings.proofs.Defining.{definition_grows, definition_there, defined}
 use Rattle.wac_resolution_bindings.proofs.definition.define.Goals as goal

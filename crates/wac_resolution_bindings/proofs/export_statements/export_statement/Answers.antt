@@ -1,12 +1,5 @@
-use Rattle.std.proofs.Common.{refl}
-use Rattle.std.proofs.lemmas.Result.{err_from_is_err_and}
-use Rattle.wac_ast_statements.specs.Statements.{export_statement_of}
+use Rattle.wac_resolution_bindings.proofs.Common.{refl, err_from_is_err_and, export_statement_of, told, numbers_of, rules_of, packages_in, reports}
 use Rattle.wac_ast_expressions.specs.Expressions.{expr_of}
-use Rattle.wac_resolution_errors.specs.Told.{told}
-use Rattle.wac_resolution_nodes.specs.Root.{numbers_of}
-use Rattle.wac_resolution_rules.specs.Given.{rules_of}
-use Rattle.wac_resolution_paths.specs.Context.{packages_in}
-use Rattle.wac_resolution_errors.proofs.Reports.{reports}
 use Rattle.wac_resolution_bindings.proofs.Grown.{agrees_extends}
 use Rattle.wac_resolution_bindings.proofs.ExportsStated.{export_went, export_placed, export_expr_breaks, export_breaks}
 use Rattle.wac_resolution_bindings.proofs.export_statements.export_statement.Goals as goal

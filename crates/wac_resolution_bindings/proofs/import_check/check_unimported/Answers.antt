@@ -1,5 +1,4 @@
-use Rattle.std.proofs.Common.{sym, rules, inr}
-use Rattle.wac_resolution_externs.specs.Externs.{help_of}
+use Rattle.wac_resolution_bindings.proofs.Common.{sym, rules, inr, help_of}
 use Rattle.wac_resolution_bindings.proofs.ImportNames.{unimported_yet, imported_already}
 use Rattle.wac_resolution_bindings.proofs.import_check.check_unimported.Goals as goal
 

@@ -1,5 +1,4 @@
-use Rattle.std.proofs.Common.{◌∙◌}
-use Rattle.std.proofs.lemmas.Result.{IfOk-weaker}
+use Rattle.wac_resolution_bindings.proofs.Common.{◌∙◌, IfOk-weaker}
 use Rattle.wac_resolution_bindings.proofs.import_names.import_name.Goals as goal
 
 pub returns : goal.returns

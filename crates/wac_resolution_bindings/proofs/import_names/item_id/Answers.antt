@@ -1,6 +1,4 @@
-use Rattle.std.proofs.Common.{◌∙◌, sym}
-use Rattle.wac_graph.specs.Means.{entry_means}
-use Rattle.wac_resolution_nodes.proofs.NodeNames.{interface_id_is}
+use Rattle.wac_resolution_bindings.proofs.Common.{◌∙◌, sym, entry_means, interface_id_is}
 use Rattle.wac_resolution_bindings.proofs.ImportNames.{world_id_is, no_id}
 use Rattle.wac_resolution_bindings.proofs.import_names.item_id.Goals as goal
 

@@ -1,6 +1,4 @@
-use Rattle.std.proofs.Common.{refl}
-use Rattle.wac_graph.specs.Means.{means}
-use Rattle.wac_resolution_rules.specs.Statements.{item_id}
+use Rattle.wac_resolution_bindings.proofs.Common.{refl, means, item_id}
 use Rattle.wac_resolution_bindings.proofs.ImportNames.{id_there, id_missing}
 use Rattle.wac_resolution_bindings.proofs.import_names.named_by_id.Goals as goal
 

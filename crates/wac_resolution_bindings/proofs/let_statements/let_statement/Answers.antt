@@ -1,9 +1,4 @@
-use Rattle.std.proofs.lemmas.Result.{err_from_is_err_and}
-use Rattle.wac_ast_statements.specs.Statements.{let_statement_of}
-use Rattle.wac_resolution_errors.specs.Told.{told}
-use Rattle.wac_resolution_rules.specs.Given.{rules_of}
-use Rattle.wac_resolution_paths.specs.Context.{packages_in}
-use Rattle.wac_resolution_errors.proofs.Reports.{reports}
+use Rattle.wac_resolution_bindings.proofs.Common.{err_from_is_err_and, let_statement_of, told, rules_of, packages_in, reports}
 use Rattle.wac_resolution_bindings.proofs.Grown.{agrees_extends}
 use Rattle.wac_resolution_bindings.proofs.Lets.{let_went, let_expr_breaks, let_bound}
 use Rattle.wac_resolution_bindings.proofs.let_statements.let_statement.Goals as goal

@@ -1,9 +1,4 @@
-use Rattle.std.proofs.Common.{sym}
-use Rattle.std.proofs.lemmas.Result.{err_from_is_err_and}
-use Rattle.wac_ast_base.specs.Names.{ident_of}
-use Rattle.wac_resolution_externs.specs.Externs.{imported_in}
-use Rattle.wac_resolution_errors.proofs.Reports.{reports}
-use Rattle.wac_resolution_externs.proofs.Checks.{fresh_too}
+use Rattle.wac_resolution_bindings.proofs.Common.{sym, err_from_is_err_and, ident_of, imported_in, reports, fresh_too}
 use Rattle.wac_resolution_bindings.proofs.Importing.{agrees_imported, import_there, adds_import}
 use Rattle.wac_resolution_bindings.proofs.named_imports.add_import.Goals as goal
 

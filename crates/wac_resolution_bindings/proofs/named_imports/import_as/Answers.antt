@@ -1,8 +1,5 @@
-use Rattle.std.proofs.lemmas.Result.{err_from_is_err_and}
+use Rattle.wac_resolution_bindings.proofs.Common.{err_from_is_err_and, told, help_of, reports}
 use Rattle.wac_ast_worlds.specs.Worlds.{import_statement_of}
-use Rattle.wac_resolution_errors.specs.Told.{told}
-use Rattle.wac_resolution_externs.specs.Externs.{help_of}
-use Rattle.wac_resolution_errors.proofs.Reports.{reports}
 use Rattle.wac_resolution_bindings.proofs.ImportTests.{imported_breaks, invalid_breaks, bound_breaks, imports_as}
 use Rattle.wac_resolution_bindings.proofs.named_imports.import_as.Goals as goal
 

@@ -1,10 +1,5 @@
-use Rattle.std.proofs.Common.{inl, inr}
-use Rattle.std.proofs.lemmas.Result.{err_from_is_err_and}
-use Rattle.wac_ast_grammar.specs.Tree.{ItemTypeDecl}
-use Rattle.wac_ast_types.specs.Declarations.{type_alias_of}
-use Rattle.wac_graph.specs.Means.{means, declared_count}
+use Rattle.wac_resolution_bodies.proofs.Common.{inl, inr, err_from_is_err_and, ItemTypeDecl, type_alias_of, means, declared_count, reports}
 use Rattle.wac_resolution_bodies.specs.Lists.{lists_of}
-use Rattle.wac_resolution_errors.proofs.Reports.{reports}
 use Rattle.wac_resolution_bodies.proofs.Declared.{alias_declared}
 use Rattle.wac_resolution_bodies.proofs.items.alias.Goals as goal
 

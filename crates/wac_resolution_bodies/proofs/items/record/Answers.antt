@@ -1,12 +1,7 @@
-use Rattle.std.proofs.Common.{inl, inr}
-use Rattle.std.proofs.lemmas.Result.{err_from_is_err_and}
-use Rattle.wac_ast_grammar.specs.Tree.{ItemTypeDecl}
+use Rattle.wac_resolution_bodies.proofs.Common.{inl, inr, err_from_is_err_and, ItemTypeDecl, record_decl_of, means, reports}
 use Rattle.wac_graph_types.specs.declared.kind.ItemKind.TheVariants as kinds
 use Rattle.wac_graph_types.specs.declared.kind.«Type».TheVariants as types
-use Rattle.wac_ast_types.specs.Declarations.{record_decl_of}
-use Rattle.wac_graph.specs.Means.{means}
 use Rattle.wac_resolution_bodies.specs.Lists.{lists_of}
-use Rattle.wac_resolution_errors.proofs.Reports.{reports}
 use Rattle.wac_resolution_bodies.proofs.Declared.{value_declared}
 use Rattle.wac_resolution_bodies.proofs.items.record.Goals as goal
 

@@ -1,17 +1,7 @@
-use Rattle.std.proofs.Common.{◌≡◌, ◌∙◌, List, [], inl, map, subst}
-use Rattle.std.proofs.lemmas.Result.{err_from_is_err_and}
+use Rattle.wac_resolution_bodies.proofs.Common.{◌≡◌, ◌∙◌, List, [], inl, map, subst, err_from_is_err_and, named_type_of, constructor_of, Naming, told, constructor_name, ParamsBroken, values_of, ConstructorIs, scope_of, reports}
 use Rattle.wac_graph_types.specs.declared.kind.FuncKind.TheVariants as funcs
-use Rattle.wac_ast_types.specs.Declarations.{named_type_of, constructor_of}
 use Rattle.wac_ast_types.specs.declared.func_type.NamedType.{NamedType}
-use Rattle.wac_graph.specs.Origin.{Naming}
-use Rattle.wac_resolution_errors.specs.Told.{told}
-use Rattle.wac_resolution_rules.specs.Bodies.{constructor_name}
-use Rattle.wac_resolution_rules.specs.BrokenTypes.{ParamsBroken}
-use Rattle.wac_resolution_state.specs.Bindings.{values_of}
-use Rattle.wac_resolution_types.specs.Funcs.{ConstructorIs}
-use Rattle.wac_resolution_state.specs.Named.{scope_of}
 use Rattle.wac_resolution_bodies.specs.Lists.{lists_of}
-use Rattle.wac_resolution_errors.proofs.Reports.{reports}
 use Rattle.wac_resolution_bodies.proofs.Methods.{constructor_goes, params_break}
 use Rattle.wac_resolution_bodies.proofs.method.add_constructor.Goals as goal
 

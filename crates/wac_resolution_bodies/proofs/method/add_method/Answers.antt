@@ -1,10 +1,5 @@
-use Rattle.std.proofs.Common.{◌≡◌, ◌∙◌, inl}
-use Rattle.std.proofs.lemmas.Result.{err_from_is_err_and}
-use Rattle.wac_ast_types.specs.Declarations.{method_of}
-use Rattle.wac_resolution_errors.specs.Told.{told}
-use Rattle.wac_resolution_rules.specs.Bodies.{name_of_method}
+use Rattle.wac_resolution_bodies.proofs.Common.{◌≡◌, ◌∙◌, inl, err_from_is_err_and, method_of, told, name_of_method, reports}
 use Rattle.wac_resolution_bodies.specs.Lists.{lists_of}
-use Rattle.wac_resolution_errors.proofs.Reports.{reports}
 use Rattle.wac_resolution_bodies.proofs.Methods.{method_goes, func_breaks}
 use Rattle.wac_resolution_bodies.proofs.method.add_method.Goals as goal
 

@@ -1,14 +1,7 @@
-use Rattle.std.proofs.Common.{map, take, [], arith}
-use Rattle.std.proofs.lemmas.Result.{err_from_is_err_and}
-use Rattle.std.proofs.lemmas.List.{take_all, length-map}
+use Rattle.wac_resolution_bodies.proofs.Common.{map, take, [], arith, err_from_is_err_and, take_all, length-map, resource_method_of, entry_means, told, HasMethod, reports}
 use Rattle.wac_graph_types.specs.declared.kind.ItemKind.TheVariants as kinds
 use Rattle.wac_graph_types.specs.declared.kind.«Type».TheVariants as types
-use Rattle.wac_ast_types.specs.Declarations.{resource_method_of}
-use Rattle.wac_graph.specs.Means.{entry_means}
-use Rattle.wac_resolution_errors.specs.Told.{told}
-use Rattle.wac_resolution_rules.specs.Bodies.{HasMethod}
 use Rattle.wac_resolution_bodies.specs.Lists.{lists_of}
-use Rattle.wac_resolution_errors.proofs.Reports.{reports}
 use Rattle.wac_resolution_bodies.proofs.Going.{none_go, items_all}
 use Rattle.wac_resolution_bodies.proofs.Methods.{methods_step, methods_break}
 use Rattle.wac_resolution_bodies.proofs.method.add_methods.Goals as goal

@@ -1,5 +1,4 @@
-use Rattle.std.proofs.Common.{map, take}
-use Rattle.wac_ast_types.specs.Declarations.{resource_method_of}
+use Rattle.wac_resolution_bodies.proofs.Common.{map, take, resource_method_of}
 use Rattle.wac_resolution_bodies.specs.Lists.{lists_of}
 use Rattle.wac_resolution_bodies.specs.Bodies.{MethodSteps}
 use Rattle.wac_resolution_bodies.proofs.method.add_methods.Given as goal

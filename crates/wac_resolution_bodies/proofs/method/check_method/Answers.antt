@@ -1,5 +1,4 @@
-use Rattle.std.proofs.Common.{inr, sym, rules}
-use Rattle.wac_graph.specs.Means.{means}
+use Rattle.wac_resolution_bodies.proofs.Common.{inr, sym, rules, means}
 use Rattle.wac_resolution_bodies.specs.Lists.{lists_of}
 use Rattle.wac_resolution_bodies.proofs.Lists.{extern_stands}
 use Rattle.wac_resolution_bodies.proofs.method.check_method.Goals as goal

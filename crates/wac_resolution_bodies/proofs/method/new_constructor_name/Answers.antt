@@ -1,7 +1,4 @@
-use Rattle.std.proofs.Common.{◌≡◌, ◌∙◌, ℕ, List, inr, sym, subst, rules}
-use Rattle.wac_graph_types.specs.Scope.{StandsFor}
-use Rattle.wac_graph.specs.Means.{means}
-use Rattle.wac_resolution_rules.specs.Bodies.{externs, constructor_name}
+use Rattle.wac_resolution_bodies.proofs.Common.{◌≡◌, ◌∙◌, ℕ, List, inr, sym, subst, rules, StandsFor, means, externs, constructor_name}
 use Rattle.wac_resolution_bodies.specs.Bodies.{body_of}
 use Rattle.wac_resolution_bodies.specs.Lists.{lists_of}
 use Rattle.wac_resolution_bodies.proofs.Lists.{extern_stands}

@@ -1,10 +1,5 @@
-use Rattle.std.proofs.Common.{◌≡◌, ◌∙◌}
-use Rattle.std.proofs.lemmas.Result.{err_from_is_err_and}
-use Rattle.wac_ast_base.specs.Names.{ident_of}
-use Rattle.wac_resolution_errors.specs.Told.{told}
-use Rattle.wac_resolution_rules.specs.Bodies.{method_name, static_name}
+use Rattle.wac_resolution_bodies.proofs.Common.{◌≡◌, ◌∙◌, err_from_is_err_and, ident_of, told, method_name, static_name, reports}
 use Rattle.wac_resolution_bodies.specs.Bodies.{body_of}
-use Rattle.wac_resolution_errors.proofs.Reports.{reports}
 use Rattle.wac_resolution_bodies.proofs.Methods.{method_taken, static_taken}
 use Rattle.wac_resolution_bodies.proofs.method.new_method_name.Goals as goal
 

@@ -1,5 +1,4 @@
-use Rattle.std.proofs.Common.{inr, sym}
-use Rattle.wac_graph.specs.Means.{means}
+use Rattle.wac_resolution_bodies.proofs.Common.{inr, sym, means}
 use Rattle.wac_resolution_bodies.specs.Lists.{lists_of}
 use Rattle.wac_resolution_bodies.proofs.Lists.{extern_stands}
 use Rattle.wac_resolution_bodies.proofs.new_name.check_extern.Goals as goal

@@ -1,7 +1,4 @@
-use Rattle.std.proofs.Common.{◌≡◌, Some, inr, sym, rules}
-use Rattle.wac_graph_types.specs.Scope.{look_up}
-use Rattle.wac_graph.specs.Means.{means}
-use Rattle.wac_resolution_state.specs.Bindings.{places_of}
+use Rattle.wac_resolution_bodies.proofs.Common.{◌≡◌, Some, inr, sym, rules, look_up, means, places_of}
 use Rattle.wac_resolution_bodies.proofs.Found.{placed, unplaced}
 use Rattle.wac_resolution_bodies.proofs.Lists.{bound_stands}
 use Rattle.wac_resolution_bodies.proofs.new_name.check_name.Goals as goal

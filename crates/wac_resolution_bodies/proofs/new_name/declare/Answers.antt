@@ -1,7 +1,5 @@
-use Rattle.std.proofs.Common.{inl, inr}
-use Rattle.std.proofs.lemmas.Result.{err_from_is_err_and}
+use Rattle.wac_resolution_bodies.proofs.Common.{inl, inr, err_from_is_err_and, reports}
 use Rattle.wac_resolution_bodies.specs.Lists.{lists_of}
-use Rattle.wac_resolution_errors.proofs.Reports.{reports}
 use Rattle.wac_resolution_bodies.proofs.Lists.{bound_fresh}
 use Rattle.wac_resolution_bodies.proofs.new_name.declare.Goals as goal
 

@@ -1,8 +1,5 @@
-use Rattle.std.proofs.Common.{inl, inr}
-use Rattle.std.proofs.lemmas.Result.{err_from_is_err_and}
-use Rattle.wac_ast_base.specs.Names.{ident_of}
+use Rattle.wac_resolution_bodies.proofs.Common.{inl, inr, err_from_is_err_and, ident_of, reports}
 use Rattle.wac_resolution_bodies.specs.Lists.{lists_of}
-use Rattle.wac_resolution_errors.proofs.Reports.{reports}
 use Rattle.wac_resolution_bodies.proofs.Declared.{resource_goes}
 use Rattle.wac_resolution_bodies.proofs.Lists.{bound_fresh}
 use Rattle.wac_resolution_bodies.proofs.resource.declare_resource.Goals as goal

@@ -1,18 +1,8 @@
-use Rattle.std.proofs.Common.{List, inl, map, subst}
-use Rattle.std.proofs.lemmas.Result.{err_from_is_err_and}
-use Rattle.wac_graph_types.specs.Steps.{Fails}
-use Rattle.wac_ast_types.specs.Declarations.{resource_decl_of, resource_method_of}
+use Rattle.wac_resolution_bodies.proofs.Common.{List, inl, map, subst, err_from_is_err_and, Fails, resource_decl_of, resource_method_of, entry_means, Naming, told, HasMethod, MethodBroken, places_of, reports}
 use Rattle.wac_ast_types.specs.declared.resource.ResourceMethod.{ResourceMethod}
-use Rattle.wac_graph.specs.Means.{entry_means}
-use Rattle.wac_graph.specs.Origin.{Naming}
-use Rattle.wac_resolution_errors.specs.Told.{told}
-use Rattle.wac_resolution_rules.specs.Bodies.{HasMethod}
-use Rattle.wac_resolution_rules.specs.BrokenBodies.{MethodBroken}
-use Rattle.wac_resolution_state.specs.Bindings.{places_of}
 use Rattle.wac_resolution_bodies.specs.Lists.{lists_of}
 use Rattle.wac_resolution_bodies.specs.Bodies.{body_of, MethodSteps}
 use Rattle.wac_resolution_bodies.specs.Owners.{owner_of}
-use Rattle.wac_resolution_errors.proofs.Reports.{reports}
 use Rattle.wac_resolution_bodies.proofs.Declared.{resource_item, methods_broken}
 use Rattle.wac_resolution_bodies.proofs.resource.resource.Goals as goal
 

@@ -1,19 +1,8 @@
-use Rattle.std.proofs.Common.{List, map, subst}
-use Rattle.std.specs.Prelude.{IfErr}
-use Rattle.std.proofs.lemmas.Result.{IfErr-weaker, err_from_is_err_and}
-use Rattle.wac_graph_types.specs.Names.{by_name}
-use Rattle.wac_ast_grammar.specs.Tree.{arguments_from}
-use Rattle.wac_ast_base.specs.Names.{package_name_of}
-use Rattle.wac_ast_expressions.specs.Expressions.{argument_of}
+use Rattle.wac_resolution_expressions.proofs.Common.{List, map, subst, IfErr, IfErr-weaker, err_from_is_err_and, by_name, arguments_from, package_name_of, argument_of, Reports, told, rules_of, numbers_of, reports}
 use Rattle.wac_ast_expressions.specs.declared.expr.InstantiationArgument.{InstantiationArgument}
-use Rattle.wac_resolution_errors.specs.Error.{Reports}
-use Rattle.wac_resolution_errors.specs.Told.{told}
-use Rattle.wac_resolution_rules.specs.Given.{rules_of}
-use Rattle.wac_resolution_nodes.specs.Root.{numbers_of}
 use Rattle.wac_resolution_expressions.specs.Arguments.{given_nodes}
 use Rattle.wac_resolution_expressions.specs.Incomplete.{IsIncomplete}
 use Rattle.wac_resolution_expressions.specs.Completing.{AreWrong}
-use Rattle.wac_resolution_errors.proofs.Reports.{reports}
 use Rattle.wac_resolution_expressions.proofs.Checking.{left_wrong}
 use Rattle.wac_resolution_expressions.proofs.completing.check_arguments.Goals as goal
 

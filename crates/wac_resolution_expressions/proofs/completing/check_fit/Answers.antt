@@ -1,15 +1,5 @@
-use Rattle.std.proofs.Common.{map, inr, ◌≡◌, List, subst}
-use Rattle.wac_graph_types.specs.Names.{by_name}
-use Rattle.wac_ast_grammar.specs.Tree.{arguments_from}
-use Rattle.wac_ast_base.specs.Names.{package_name_of}
-use Rattle.wac_ast_expressions.specs.Expressions.{argument_of}
+use Rattle.wac_resolution_expressions.proofs.Common.{map, inr, ◌≡◌, List, subst, by_name, arguments_from, package_name_of, argument_of, Naming, look_up, told, argument_places, rules_of, numbers_of, composed}
 use Rattle.wac_ast_expressions.specs.declared.expr.InstantiationArgument.{InstantiationArgument}
-use Rattle.wac_graph.specs.Origin.{Naming}
-use Rattle.wac_graph_types.specs.Scope.{look_up}
-use Rattle.wac_resolution_errors.specs.Told.{told}
-use Rattle.wac_resolution_rules.specs.BrokenExpressions.{argument_places}
-use Rattle.wac_resolution_rules.specs.Given.{rules_of}
-use Rattle.wac_resolution_nodes.specs.Root.{numbers_of, composed}
 use Rattle.wac_resolution_expressions.specs.Spreads.{imports_at}
 use Rattle.wac_resolution_expressions.proofs.Checking.{misfit_wrong}
 use Rattle.wac_resolution_expressions.proofs.completing.check_fit.Goals as goal

@@ -1,22 +1,7 @@
-use Rattle.std.proofs.Common.{List, map, subst}
-use Rattle.std.proofs.lemmas.Result.{err_from_is_err_and}
-use Rattle.wac_graph_types.specs.Names.{by_name}
-use Rattle.wac_ast_grammar.specs.Tree.{arguments_from}
-use Rattle.wac_ast_base.specs.Names.{package_name_of}
-use Rattle.wac_ast_expressions.specs.Expressions.{argument_of}
+use Rattle.wac_resolution_expressions.proofs.Common.{List, map, subst, err_from_is_err_and, by_name, arguments_from, package_name_of, argument_of, Fails, Naming, Spreads, spreads_of, SpreadBroken, told, rules_of, numbers_of, reports, agrees_nodes, slice_get_within}
 use Rattle.wac_ast_expressions.specs.declared.expr.InstantiationArgument.{InstantiationArgument}
-use Rattle.wac_graph_types.specs.Steps.{Fails}
-use Rattle.wac_graph.specs.Origin.{Naming}
-use Rattle.wac_resolution_rules.specs.Expressions.{Spreads, spreads_of}
-use Rattle.wac_resolution_rules.specs.BrokenExpressions.{SpreadBroken}
 use Rattle.wac_resolution_expressions.specs.Spreads.{giving_of, imports_at}
-use Rattle.wac_resolution_errors.specs.Told.{told}
-use Rattle.wac_resolution_rules.specs.Given.{rules_of}
-use Rattle.wac_resolution_nodes.specs.Root.{numbers_of}
-use Rattle.wac_resolution_errors.proofs.Reports.{reports}
-use Rattle.wac_resolution_nodes.proofs.Roots.{agrees_nodes}
 use Rattle.wac_resolution_expressions.proofs.Checking.{SpreadsGive, somewhere, wrong_after, spreads_fail, loaded_nodes, imports_named, completes}
-use Rattle.std.proofs.lemmas.Option.{slice_get_within}
 use Rattle.wac_resolution_expressions.proofs.completing.complete.Goals as goal
 
 pub check_arguments-requires-clause-agrees : goal.check_arguments-requires-clause-agrees

@@ -1,26 +1,12 @@
-use Rattle.std.proofs.Common.{◌≡◌, ◌∙◌, ◌-◌, suc, List, map, sym, ap, subst, length, arith, rules, inr}
+use Rattle.wac_resolution_expressions.proofs.Common.{◌≡◌, ◌∙◌, ◌-◌, suc, List, map, sym, ap, subst, length, arith, rules, inr, IfOk, IfErr, OnOk, nat_eq, err_from_is_err_and, IfOk-weaker, IfErr-weaker, on_ok_weaker, Span, PrimaryExpr, arguments_from, by_name, ident_of, package_name_of, argument_of, argument_name_of, expr_of, new_expr_of, primary_expr_of, postfix_expr_of, size_is-NewExpr, Reports, told, rules_of, reports, if_reports, AccessSteps, numbers_of, NodeIs, packages_in}
 use denote.Param.Weighed.{most}
-use Rattle.std.specs.Prelude.{IfOk, IfErr, OnOk, nat_eq}
-use Rattle.std.proofs.lemmas.Result.{err_from_is_err_and, IfOk-weaker, IfErr-weaker, on_ok_weaker}
-use Rattle.wac_lexer.specs.Span.{Span}
-use Rattle.wac_ast_grammar.specs.Tree.{PrimaryExpr, InstantiationArgument, arguments_from}
-use Rattle.wac_graph_types.specs.Names.{by_name}
-use Rattle.wac_ast_base.specs.Names.{ident_of, package_name_of}
-use Rattle.wac_ast_expressions.specs.Expressions.{argument_of, argument_name_of, expr_of, new_expr_of, primary_expr_of, postfix_expr_of}
+use Rattle.wac_ast_grammar.specs.Tree.{InstantiationArgument}
 use Rattle.wac_ast_expressions.specs.declared.expr.InstantiationArgument.{InstantiationArgument as CodeArgument, size-InstantiationArgument}
 use Rattle.wac_ast_expressions.specs.declared.expr.NestedExpr.{out-NestedExpr}
-use Rattle.wac_ast_expressions.specs.declared.expr.NewExpr.{size_is-NewExpr}
 use Rattle.wac_ast_expressions.specs.declared.expr.PostfixExpr.{PostfixExpr as CodePostfixExpr}
 use Rattle.wac_ast_expressions.proofs.ExprViews.{nested_out, new_is}
-use Rattle.wac_resolution_errors.specs.Error.{Reports}
-use Rattle.wac_resolution_errors.specs.Told.{told}
 use Rattle.wac_resolution_rules.specs.BrokenTypes.{IsUndefined}
-use Rattle.wac_resolution_rules.specs.Given.{rules_of}
-use Rattle.wac_resolution_errors.proofs.Reports.{reports, if_reports}
 use Rattle.wac_resolution_state.proofs.Sizes.{most_at}
-use Rattle.wac_resolution_nodes.specs.Accesses.{AccessSteps}
-use Rattle.wac_resolution_nodes.specs.Root.{numbers_of, NodeIs}
-use Rattle.wac_resolution_paths.specs.Context.{packages_in}
 use Rattle.wac_resolution_expressions.specs.Spreads.{GivenThere}
 use Rattle.wac_resolution_expressions.specs.Completing.{Completes, FailsToComplete}
 use Rattle.wac_resolution_expressions.specs.Giving.{ArgumentStep, ArgumentBreaks, ArgumentSteps, ArgumentsBreak}

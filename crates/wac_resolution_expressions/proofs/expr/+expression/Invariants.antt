@@ -1,12 +1,7 @@
-use Rattle.std.proofs.Common.{◌+◌, ◌*◌}
+use Rattle.wac_resolution_expressions.proofs.Common.{◌+◌, ◌*◌, by_name, size-InstantiationArgument, size-NewExpr, rules_of, numbers_of}
 use denote.Param.Weighed.{most}
-use Rattle.wac_graph_types.specs.Names.{by_name}
 use Rattle.wac_ast_expressions.specs.declared.expr.Expr.{size-Expr}
-use Rattle.wac_ast_expressions.specs.declared.expr.InstantiationArgument.{size-InstantiationArgument}
-use Rattle.wac_ast_expressions.specs.declared.expr.NewExpr.{size-NewExpr}
 use Rattle.wac_ast_expressions.specs.declared.expr.PrimaryExpr.{size-PrimaryExpr}
-use Rattle.wac_resolution_rules.specs.Given.{rules_of}
-use Rattle.wac_resolution_nodes.specs.Root.{numbers_of}
 use Rattle.wac_resolution_expressions.proofs.Standing.{InLoop}
 use Rattle.wac_resolution_expressions.proofs.expr.+expression.Given as goal
 

@@ -1,4 +1,4 @@
-use Rattle.wac_resolution_rules.specs.Given.{rules_of}
+use Rattle.wac_resolution_expressions.proofs.Common.{rules_of}
 use Rattle.wac_resolution_expressions.proofs.Fitting.{import_named, fits_there, unfit_there, for_none}
 use Rattle.wac_resolution_expressions.proofs.fits.fits.Goals as goal
 

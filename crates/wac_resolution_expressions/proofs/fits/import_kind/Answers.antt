@@ -1,7 +1,4 @@
-use Rattle.std.proofs.Common.{◌∙◌, List, ap}
-use Rattle.wac_graph_types.specs.declared.entry.Entry.{Entry}
-use Rattle.wac_graph_types.specs.Readings.{world_imports}
-use Rattle.wac_graph_types.specs.Scope.{look_up}
+use Rattle.wac_resolution_expressions.proofs.Common.{◌∙◌, List, ap, Entry, world_imports, look_up}
 use Rattle.wac_resolution_expressions.proofs.fits.import_kind.Goals as goal
 
 pub returns-in-Some : goal.returns-in-Some

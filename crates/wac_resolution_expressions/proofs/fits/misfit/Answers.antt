@@ -1,7 +1,4 @@
-use Rattle.std.proofs.Common.{List, ap, subst, ℕ}
-use Rattle.std.specs.Prelude.{string_bytes}
-use Rattle.wac_graph_types.specs.Names.{by_name}
-use Rattle.wac_resolution_rules.specs.Given.{rules_of}
+use Rattle.wac_resolution_expressions.proofs.Common.{List, ap, subst, ℕ, string_bytes, by_name, rules_of}
 use Rattle.wac_resolution_expressions.specs.Fits.{IsFit}
 use Rattle.wac_resolution_expressions.proofs.Fitting.{none_fit, next_there, fit_next, fit_end, misfit_first}
 use Rattle.wac_resolution_expressions.proofs.fits.misfit.Goals as goal

@@ -1,5 +1,4 @@
-use Rattle.wac_graph_types.specs.Names.{by_name}
-use Rattle.wac_resolution_rules.specs.Given.{rules_of}
+use Rattle.wac_resolution_expressions.proofs.Common.{by_name, rules_of}
 use Rattle.wac_resolution_expressions.proofs.Fitting.{FitSoFar}
 use Rattle.wac_resolution_expressions.proofs.fits.misfit.Given as goal
 

@@ -1,5 +1,4 @@
-use Rattle.std.proofs.Common.{◌∙◌, sym, rules, inr}
-use Rattle.wac_graph_types.specs.Names.{by_name}
+use Rattle.wac_resolution_expressions.proofs.Common.{◌∙◌, sym, rules, inr, by_name}
 use Rattle.wac_resolution_expressions.proofs.GivingNodes.{given_already}
 use Rattle.wac_resolution_expressions.proofs.given.give.Goals as goal
 

@@ -1,8 +1,4 @@
-use Rattle.std.proofs.Common.{◌∙◌, Some, sym, ap, inl}
-use Rattle.std.proofs.lemmas.Result.{err_from_is_err_and, on_ok_weaker}
-use Rattle.wac_graph_types.specs.Names.{by_name}
-use Rattle.wac_ast_base.specs.Names.{ident_of}
-use Rattle.wac_resolution_errors.proofs.Reports.{reports, if_reports}
+use Rattle.wac_resolution_expressions.proofs.Common.{◌∙◌, Some, sym, ap, inl, err_from_is_err_and, on_ok_weaker, by_name, ident_of, reports, if_reports}
 use Rattle.wac_resolution_expressions.proofs.GivingNodes.{inferred_goes, inferred_breaks}
 use Rattle.wac_resolution_expressions.proofs.given.give_inferred.Goals as goal
 

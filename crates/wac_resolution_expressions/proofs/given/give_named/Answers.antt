@@ -1,10 +1,5 @@
-use Rattle.std.proofs.Common.{◌∙◌}
-use Rattle.wac_graph_types.specs.Names.{by_name}
-use Rattle.wac_ast_grammar.specs.Spans.{argument_name_span}
-use Rattle.wac_ast_expressions.specs.Expressions.{argument_name_of}
-use Rattle.wac_resolution_rules.specs.Expressions.{name_meant}
+use Rattle.wac_resolution_expressions.proofs.Common.{◌∙◌, by_name, argument_name_span, argument_name_of, name_meant, if_reports}
 use Rattle.wac_resolution_expressions.specs.Spreads.{imports_at}
-use Rattle.wac_resolution_errors.proofs.Reports.{if_reports}
 use Rattle.wac_resolution_expressions.proofs.GivingNodes.{given_for}
 use Rattle.wac_resolution_expressions.proofs.given.give_named.Goals as goal
 

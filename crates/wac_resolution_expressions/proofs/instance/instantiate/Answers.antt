@@ -1,8 +1,4 @@
-use Rattle.std.proofs.Common.{sym, ap, subst, List, ℕ, ◌∙◌}
-use Rattle.std.specs.Prelude.{string_bytes, IsSome}
-use Rattle.wac_graph_types.specs.Names.{by_name}
-use Rattle.wac_graph_types.specs.Scope.{IsFresh}
-use Rattle.wac_graph.specs.Graph.{with_argument, parameter_kind, arguments_of}
+use Rattle.wac_resolution_expressions.proofs.Common.{sym, ap, subst, List, ℕ, ◌∙◌, string_bytes, IsSome, by_name, IsFresh, with_argument, parameter_kind, arguments_of}
 use Rattle.wac_resolution_expressions.proofs.Making.{making_start, making_import, making_open, making_earlier, making_next, making_end}
 use Rattle.wac_resolution_expressions.proofs.instance.instantiate.Goals as goal
 

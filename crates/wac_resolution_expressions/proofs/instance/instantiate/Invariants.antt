@@ -1,4 +1,4 @@
-use Rattle.wac_graph_types.specs.Names.{by_name}
+use Rattle.wac_resolution_expressions.proofs.Common.{by_name}
 use Rattle.wac_resolution_expressions.proofs.Making.{Making}
 use Rattle.wac_resolution_expressions.proofs.instance.instantiate.Given as goal
 

@@ -1,11 +1,4 @@
-use Rattle.std.proofs.Common.{◌∙◌, ℕ, List, map, sym, ap, inr}
-use Rattle.std.specs.Prelude.{string_bytes}
-use Rattle.wac_graph_types.specs.Names.{by_name}
-use Rattle.wac_ast_grammar.specs.Tree.{arguments_from}
-use Rattle.wac_ast_base.specs.Names.{package_name_of}
-use Rattle.wac_ast_expressions.specs.Expressions.{argument_of}
-use Rattle.wac_resolution_errors.specs.Error.{missing_instantiation_arg}
-use Rattle.wac_resolution_rules.specs.Expressions.{has_fill}
+use Rattle.wac_resolution_expressions.proofs.Common.{◌∙◌, ℕ, List, map, sym, ap, inr, string_bytes, by_name, arguments_from, package_name_of, argument_of, missing_instantiation_arg, has_fill}
 use Rattle.wac_resolution_expressions.specs.Arguments.{given_nodes}
 use Rattle.wac_resolution_expressions.proofs.LeavingOut.{complete_filled, complete_given, incomplete}
 use Rattle.wac_resolution_expressions.proofs.left_out.check_complete.Goals as goal

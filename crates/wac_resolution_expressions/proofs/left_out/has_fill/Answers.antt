@@ -1,8 +1,5 @@
-use Rattle.std.proofs.Common.{◌≡◌, ◌∙◌, List, map, sym, subst, false, arith}
-use Rattle.std.proofs.lemmas.List.{take_all, length-map}
-use Rattle.wac_ast_grammar.specs.Tree.{InstantiationArgument, arguments_from}
-use Rattle.wac_ast_expressions.specs.Expressions.{argument_of}
-use Rattle.wac_resolution_rules.specs.Expressions.{has_fill}
+use Rattle.wac_resolution_expressions.proofs.Common.{◌≡◌, ◌∙◌, List, map, sym, subst, false, arith, take_all, length-map, arguments_from, argument_of, has_fill}
+use Rattle.wac_ast_grammar.specs.Tree.{InstantiationArgument}
 use Rattle.wac_resolution_expressions.proofs.LeavingOut.{no_fill_next, fill_found}
 use Rattle.wac_resolution_expressions.proofs.left_out.has_fill.Goals as goal
 

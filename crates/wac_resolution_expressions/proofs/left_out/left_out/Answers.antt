@@ -1,8 +1,4 @@
-use Rattle.std.proofs.Common.{◌∙◌, List, refl, ap}
-use Rattle.std.specs.Prelude.{option_map}
-use Rattle.wac_graph_types.specs.declared.entry.Entry.{Entry}
-use Rattle.wac_graph_types.specs.Names.{by_name}
-use Rattle.wac_graph_types.specs.Readings.{world_imports}
+use Rattle.wac_resolution_expressions.proofs.Common.{◌∙◌, List, refl, ap, option_map, Entry, by_name, world_imports}
 use Rattle.wac_resolution_expressions.specs.Arguments.{given_nodes}
 use Rattle.wac_resolution_expressions.proofs.LeavingOut.{left_here}
 use Rattle.wac_resolution_expressions.proofs.left_out.left_out.Goals as goal

@@ -1,8 +1,4 @@
-use Rattle.std.proofs.Common.{◌∙◌, ℕ, List, Option, sym, ap}
-use Rattle.std.specs.Prelude.{unwrap_or}
-use Rattle.wac_graph_types.specs.Names.{by_name}
-use Rattle.wac_graph_types.specs.Shape.{items_mean}
-use Rattle.wac_resolution_rules.specs.Find.{find_name}
+use Rattle.wac_resolution_expressions.proofs.Common.{◌∙◌, ℕ, List, Option, sym, ap, unwrap_or, by_name, items_mean, find_name}
 use Rattle.wac_resolution_nodes.proofs.Found.{found_meant}
 use Rattle.wac_resolution_expressions.proofs.meant.inferred.Goals as goal
 

@@ -1,8 +1,4 @@
-use Rattle.std.proofs.Common.{◌∙◌, List, ap}
-use Rattle.std.specs.Prelude.{option_map}
-use Rattle.wac_graph_types.specs.declared.entry.Entry.{Entry}
-use Rattle.wac_graph_types.specs.Names.{by_name}
-use Rattle.wac_graph_types.specs.Readings.{world_imports}
+use Rattle.wac_resolution_expressions.proofs.Common.{◌∙◌, List, ap, option_map, Entry, by_name, world_imports}
 use Rattle.wac_resolution_expressions.proofs.Imports.{inferred_here, inferred_nowhere}
 use Rattle.wac_resolution_expressions.proofs.meant.inferred_import.Goals as goal
 

@@ -1,4 +1,4 @@
-use Rattle.std.proofs.Common.{◌∙◌, Some, sym, ap}
+use Rattle.wac_resolution_expressions.proofs.Common.{◌∙◌, Some, sym, ap}
 use Rattle.wac_resolution_expressions.proofs.meant.inferred_name.Goals as goal
 
 pub returns : goal.returns

@@ -1,9 +1,4 @@
-use Rattle.std.proofs.Common.{◌∙◌, List, [], ap}
-use Rattle.std.specs.Prelude.{option_map, unwrap_or}
-use Rattle.wac_graph_types.specs.declared.entry.Entry.{Entry}
-use Rattle.wac_graph_types.specs.Names.{by_name}
-use Rattle.wac_graph_types.specs.Readings.{world_imports}
-use Rattle.wac_ast_expressions.specs.Expressions.{argument_name_of}
+use Rattle.wac_resolution_expressions.proofs.Common.{◌∙◌, List, [], ap, option_map, unwrap_or, Entry, by_name, world_imports, argument_name_of}
 use Rattle.wac_resolution_expressions.proofs.Imports.{written_here}
 use Rattle.wac_resolution_expressions.proofs.meant.written_import.Goals as goal
 

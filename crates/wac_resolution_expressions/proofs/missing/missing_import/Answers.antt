@@ -1,7 +1,4 @@
-use Rattle.std.proofs.Common.{◌≡◌, ◌∙◌, ℕ, List, Some, true, false, sym, ap, is_none, rules}
-use Rattle.std.specs.Prelude.{string_bytes}
-use Rattle.wac_graph_types.specs.Names.{by_name}
-use Rattle.wac_graph_types.specs.Scope.{look_up}
+use Rattle.wac_resolution_expressions.proofs.Common.{◌≡◌, ◌∙◌, ℕ, List, Some, true, false, sym, ap, is_none, rules, string_bytes, by_name, look_up}
 use Rattle.wac_resolution_expressions.proofs.Imports.{first_left, skip_given}
 use Rattle.wac_resolution_expressions.proofs.missing.missing_import.Goals as goal
 

@@ -1,4 +1,4 @@
-use Rattle.wac_graph_types.specs.Names.{by_name}
+use Rattle.wac_resolution_expressions.proofs.Common.{by_name}
 use Rattle.wac_resolution_expressions.specs.Arguments.{given_nodes}
 use Rattle.wac_resolution_expressions.proofs.Imports.{Skipping}
 use Rattle.wac_resolution_expressions.proofs.missing.missing_import.Given as goal

@@ -1,10 +1,5 @@
-use Rattle.std.proofs.Common.{◌≡◌, None, List, map, subst, arith}
-use Rattle.std.proofs.lemmas.List.{take_all, length-map}
-use Rattle.wac_ast_grammar.specs.Tree.{InstantiationArgument, arguments_from}
-use Rattle.wac_graph_types.specs.Scope.{look_up}
-use Rattle.wac_ast_expressions.specs.Expressions.{argument_of}
-use Rattle.wac_resolution_rules.specs.BrokenExpressions.{own_places}
-use Rattle.wac_resolution_nodes.specs.Root.{composed}
+use Rattle.wac_resolution_expressions.proofs.Common.{◌≡◌, None, List, map, subst, arith, take_all, length-map, arguments_from, look_up, argument_of, own_places, composed}
+use Rattle.wac_ast_grammar.specs.Tree.{InstantiationArgument}
 use Rattle.wac_resolution_expressions.specs.Spreads.{imports_at}
 use Rattle.wac_resolution_expressions.proofs.OwnPlaces.{open_next, found_here}
 use Rattle.wac_resolution_expressions.proofs.named_place.own_places.Goals as goal

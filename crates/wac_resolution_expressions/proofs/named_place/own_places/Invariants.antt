@@ -1,10 +1,4 @@
-use Rattle.std.proofs.Common.{◌≡◌, None, map, take}
-use Rattle.wac_ast_grammar.specs.Tree.{arguments_from}
-use Rattle.wac_graph_types.specs.Scope.{look_up}
-use Rattle.wac_ast_expressions.specs.Expressions.{argument_of}
-use Rattle.wac_graph.specs.Origin.{Naming}
-use Rattle.wac_resolution_rules.specs.BrokenExpressions.{own_places}
-use Rattle.wac_resolution_nodes.specs.Root.{composed}
+use Rattle.wac_resolution_expressions.proofs.Common.{◌≡◌, None, map, take, arguments_from, look_up, argument_of, Naming, own_places, composed}
 use Rattle.wac_resolution_expressions.specs.Spreads.{imports_at}
 use Rattle.wac_resolution_expressions.proofs.named_place.own_places.Given as goal
 

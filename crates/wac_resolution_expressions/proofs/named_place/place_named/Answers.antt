@@ -1,5 +1,4 @@
-use Rattle.std.proofs.Common.{◌∙◌, ap}
-use Rattle.wac_graph_types.specs.Scope.{look_up}
+use Rattle.wac_resolution_expressions.proofs.Common.{◌∙◌, ap, look_up}
 use Rattle.wac_resolution_expressions.proofs.named_place.place_named.Goals as goal
 
 pub returns-in-Some : goal.returns-in-Some

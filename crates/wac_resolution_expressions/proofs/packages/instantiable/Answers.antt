@@ -1,5 +1,4 @@
-use Rattle.std.proofs.Common.{◌∙◌, sym}
-use Rattle.wac_ast_base.specs.Names.{package_name_of}
+use Rattle.wac_resolution_expressions.proofs.Common.{◌∙◌, sym, package_name_of}
 use Rattle.wac_graph.specs.Readings.{held_of}
 use Rattle.wac_resolution_expressions.proofs.Instantiating.{instantiable_is}
 use Rattle.wac_resolution_expressions.proofs.packages.instantiable.Goals as goal

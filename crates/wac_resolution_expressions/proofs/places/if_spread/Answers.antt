@@ -1,10 +1,5 @@
-use Rattle.std.proofs.Common.{◌∙◌, ap, append-nil}
-use Rattle.wac_graph_types.specs.Scope.{look_up}
-use Rattle.wac_ast_base.specs.Names.{ident_of}
-use Rattle.wac_ast_expressions.specs.Expressions.{argument_of}
+use Rattle.wac_resolution_expressions.proofs.Common.{◌∙◌, ap, append-nil, look_up, ident_of, argument_of, spread_places, composed}
 use Rattle.wac_ast_expressions.specs.declared.expr.InstantiationArgument.{InstantiationArgument}
-use Rattle.wac_resolution_rules.specs.BrokenExpressions.{spread_places}
-use Rattle.wac_resolution_nodes.specs.Root.{composed}
 use Rattle.wac_resolution_expressions.proofs.SpreadPlaces.{place_of}
 use Rattle.wac_resolution_expressions.proofs.places.if_spread.Goals as goal
 

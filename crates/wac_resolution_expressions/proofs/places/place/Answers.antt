@@ -1,8 +1,4 @@
-use Rattle.std.proofs.Common.{◌∙◌, map}
-use Rattle.wac_ast_grammar.specs.Tree.{arguments_from}
-use Rattle.wac_ast_expressions.specs.Expressions.{argument_of}
-use Rattle.wac_resolution_rules.specs.BrokenExpressions.{own_places}
-use Rattle.wac_resolution_nodes.specs.Root.{composed}
+use Rattle.wac_resolution_expressions.proofs.Common.{◌∙◌, map, arguments_from, argument_of, own_places, composed}
 use Rattle.wac_resolution_expressions.specs.Spreads.{imports_at}
 use Rattle.wac_resolution_expressions.proofs.SpreadPlaces.{places, after_none, first_found}
 use Rattle.wac_resolution_expressions.proofs.places.place.Goals as goal

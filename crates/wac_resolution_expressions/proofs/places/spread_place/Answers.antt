@@ -1,7 +1,4 @@
-use Rattle.std.proofs.Common.{sym}
-use Rattle.wac_ast_base.specs.Names.{ident_of}
-use Rattle.wac_resolution_nodes.specs.Root.{numbers_of, composed}
-use Rattle.wac_resolution_nodes.proofs.Roots.{node_is, number_fresh}
+use Rattle.wac_resolution_expressions.proofs.Common.{sym, ident_of, numbers_of, composed, node_is, number_fresh}
 use Rattle.wac_resolution_expressions.proofs.SpreadPlaces.{spread_at, spread_nowhere}
 use Rattle.wac_resolution_expressions.proofs.places.spread_place.Goals as goal
 

@@ -1,9 +1,5 @@
-use Rattle.std.proofs.Common.{◌≡◌, None, List, map, subst, arith}
-use Rattle.std.proofs.lemmas.List.{take_all, length-map}
+use Rattle.wac_resolution_expressions.proofs.Common.{◌≡◌, None, List, map, subst, arith, take_all, length-map, look_up, argument_of, composed}
 use Rattle.wac_ast_grammar.specs.Tree.{InstantiationArgument}
-use Rattle.wac_graph_types.specs.Scope.{look_up}
-use Rattle.wac_ast_expressions.specs.Expressions.{argument_of}
-use Rattle.wac_resolution_nodes.specs.Root.{composed}
 use Rattle.wac_resolution_expressions.proofs.SpreadPlaces.{places, open_next, found_here}
 use Rattle.wac_resolution_expressions.proofs.places.spread_places.Goals as goal
 

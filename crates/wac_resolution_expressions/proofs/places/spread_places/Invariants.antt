@@ -1,8 +1,4 @@
-use Rattle.std.proofs.Common.{◌≡◌, None, map, take}
-use Rattle.wac_graph_types.specs.Scope.{look_up}
-use Rattle.wac_ast_expressions.specs.Expressions.{argument_of}
-use Rattle.wac_graph.specs.Origin.{Naming}
-use Rattle.wac_resolution_nodes.specs.Root.{composed}
+use Rattle.wac_resolution_expressions.proofs.Common.{◌≡◌, None, map, take, look_up, argument_of, Naming, composed}
 use Rattle.wac_resolution_expressions.proofs.SpreadPlaces.{places}
 use Rattle.wac_resolution_expressions.proofs.places.spread_places.Given as goal
 

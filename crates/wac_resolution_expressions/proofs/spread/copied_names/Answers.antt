@@ -1,6 +1,4 @@
-use Rattle.std.proofs.Common.{◌∙◌, refl, ap}
-use Rattle.std.specs.Prelude.{string_bytes}
-use Rattle.wac_graph_types.specs.Names.{by_name}
+use Rattle.wac_resolution_expressions.proofs.Common.{◌∙◌, refl, ap, string_bytes, by_name}
 use Rattle.wac_resolution_expressions.proofs.Spreading.{copied_next, copied_end}
 use Rattle.wac_resolution_expressions.proofs.spread.copied_names.Goals as goal
 

@@ -1,10 +1,4 @@
-use Rattle.std.proofs.Common.{◌≡◌, ◌∙◌, List, ap, subst, map}
-use Rattle.std.specs.Prelude.{IfOk, string_bytes}
-use Rattle.wac_graph_types.specs.declared.entry.Entry.{Entry}
-use Rattle.wac_graph_types.specs.declared.kind.ItemKind.{ItemKind}
-use Rattle.wac_graph_types.specs.Readings.{world_imports}
-use Rattle.wac_graph_types.specs.Scope.{Named}
-use Rattle.wac_resolution_rules.specs.Find.{names_of}
+use Rattle.wac_resolution_expressions.proofs.Common.{◌≡◌, ◌∙◌, List, ap, subst, map, IfOk, string_bytes, Entry, ItemKind, world_imports, Named, names_of}
 use Rattle.wac_resolution_expressions.proofs.spread.import_names.Goals as goal
 
 pub returns-in-Some : goal.returns-in-Some

@@ -1,6 +1,4 @@
-use Rattle.std.proofs.Common.{◌∙◌, map, ap}
-use Rattle.std.specs.Prelude.{string_bytes}
-use Rattle.wac_graph_types.specs.Names.{by_name}
+use Rattle.wac_resolution_expressions.proofs.Common.{◌∙◌, map, ap, string_bytes, by_name}
 use Rattle.wac_resolution_expressions.proofs.Spreading.{spread_over}
 use Rattle.wac_resolution_expressions.proofs.spread.spread_from.Goals as goal
 

@@ -1,5 +1,4 @@
-use Rattle.std.proofs.Common.{◌≡◌, ◌∙◌, true, false, sym, ap, is_some, is_none, rules}
-use Rattle.wac_graph_types.specs.Names.{by_name}
+use Rattle.wac_resolution_expressions.proofs.Common.{◌≡◌, ◌∙◌, true, false, sym, ap, is_some, is_none, rules, by_name}
 use Rattle.wac_resolution_expressions.proofs.Spreading.{name_given, name_missing, name_exported}
 use Rattle.wac_resolution_expressions.proofs.spread.spread_name.Goals as goal
 

@@ -1,7 +1,4 @@
-use Rattle.std.proofs.Common.{map, take, arith}
-use Rattle.std.specs.Prelude.{string_bytes}
-use Rattle.std.proofs.lemmas.List.{take_all, length-map}
-use Rattle.wac_graph_types.specs.Names.{by_name}
+use Rattle.wac_resolution_expressions.proofs.Common.{map, take, arith, string_bytes, take_all, length-map, by_name}
 use Rattle.wac_resolution_expressions.proofs.Spreading.{no_names, names_next, names_all}
 use Rattle.wac_resolution_expressions.proofs.spread.spread_names.Goals as goal
 

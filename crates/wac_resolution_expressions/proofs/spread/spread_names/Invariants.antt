@@ -1,6 +1,4 @@
-use Rattle.std.proofs.Common.{map, take}
-use Rattle.std.specs.Prelude.{string_bytes}
-use Rattle.wac_graph_types.specs.Names.{by_name}
+use Rattle.wac_resolution_expressions.proofs.Common.{map, take, string_bytes, by_name}
 use Rattle.wac_resolution_expressions.specs.Spreads.{NamesSpread}
 use Rattle.wac_resolution_expressions.proofs.spread.spread_names.Given as goal
 

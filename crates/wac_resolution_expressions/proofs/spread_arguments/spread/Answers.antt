@@ -1,9 +1,4 @@
-use Rattle.std.proofs.Common.{inl, inr}
-use Rattle.std.proofs.lemmas.Result.{err_from_is_err_and}
-use Rattle.wac_ast_base.specs.Names.{ident_of}
-use Rattle.wac_resolution_errors.specs.Told.{told}
-use Rattle.wac_resolution_nodes.specs.Root.{numbers_of}
-use Rattle.wac_resolution_errors.proofs.Reports.{reports}
+use Rattle.wac_resolution_expressions.proofs.Common.{inl, inr, err_from_is_err_and, ident_of, told, numbers_of, reports}
 use Rattle.wac_resolution_expressions.proofs.SpreadSteps.{spread_goes, spread_matches_none}
 use Rattle.wac_resolution_expressions.proofs.spread_arguments.spread.Goals as goal
 

@@ -1,13 +1,5 @@
-use Rattle.std.proofs.Common.{ap}
-use Rattle.std.proofs.lemmas.Result.{err_from_is_err_and}
-use Rattle.wac_graph_types.specs.Names.{by_name}
-use Rattle.wac_ast_base.specs.Names.{ident_of}
-use Rattle.wac_ast_expressions.specs.Expressions.{argument_of}
+use Rattle.wac_resolution_expressions.proofs.Common.{ap, err_from_is_err_and, by_name, ident_of, argument_of, told, spread_of, numbers_of, reports}
 use Rattle.wac_ast_expressions.specs.declared.expr.InstantiationArgument.{InstantiationArgument}
-use Rattle.wac_resolution_errors.specs.Told.{told}
-use Rattle.wac_resolution_rules.specs.Expressions.{spread_of}
-use Rattle.wac_resolution_nodes.specs.Root.{numbers_of}
-use Rattle.wac_resolution_errors.proofs.Reports.{reports}
 use Rattle.wac_resolution_expressions.proofs.SpreadSteps.{gave_none, gave_one, breaks_one, not_spread}
 use Rattle.wac_resolution_expressions.proofs.spread_arguments.spread_argument.Goals as goal
 

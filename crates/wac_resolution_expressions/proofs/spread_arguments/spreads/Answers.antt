@@ -1,14 +1,5 @@
-use Rattle.std.proofs.Common.{refl, map, subst, arith, List}
-use Rattle.std.proofs.lemmas.Result.{err_from_is_err_and}
-use Rattle.std.proofs.lemmas.List.{take_all, length-map}
-use Rattle.wac_ast_grammar.specs.Tree.{InstantiationArgument, arguments_from}
-use Rattle.wac_graph_types.specs.Names.{by_name}
-use Rattle.wac_ast_expressions.specs.Expressions.{argument_of}
-use Rattle.wac_resolution_errors.specs.Told.{told}
-use Rattle.wac_resolution_rules.specs.Expressions.{spreads_of}
-use Rattle.wac_resolution_nodes.specs.Root.{numbers_of}
-use Rattle.wac_resolution_errors.proofs.Reports.{reports}
-use Rattle.wac_resolution_nodes.proofs.Roots.{agrees_nodes}
+use Rattle.wac_resolution_expressions.proofs.Common.{refl, map, subst, arith, List, err_from_is_err_and, take_all, length-map, arguments_from, by_name, argument_of, told, spreads_of, numbers_of, reports, agrees_nodes}
+use Rattle.wac_ast_grammar.specs.Tree.{InstantiationArgument}
 use Rattle.wac_resolution_expressions.proofs.SpreadSteps.{SpreadsGave, gave_none, world_kept, spreads_next, spreads_break}
 use Rattle.wac_resolution_expressions.proofs.spread_arguments.spreads.Goals as goal
 

@@ -1,9 +1,4 @@
-use Rattle.std.proofs.Common.{map, take}
-use Rattle.wac_ast_grammar.specs.Tree.{arguments_from}
-use Rattle.wac_graph_types.specs.Names.{by_name}
-use Rattle.wac_ast_expressions.specs.Expressions.{argument_of}
-use Rattle.wac_resolution_rules.specs.Expressions.{spreads_of}
-use Rattle.wac_resolution_nodes.specs.Root.{numbers_of}
+use Rattle.wac_resolution_expressions.proofs.Common.{map, take, arguments_from, by_name, argument_of, spreads_of, numbers_of}
 use Rattle.wac_resolution_expressions.proofs.SpreadSteps.{SpreadsGave}
 use Rattle.wac_resolution_expressions.proofs.spread_arguments.spreads.Given as goal
 

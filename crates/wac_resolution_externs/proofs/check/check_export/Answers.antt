@@ -1,8 +1,5 @@
-use Rattle.std.proofs.Common.{inl, inr, refl}
-use Rattle.std.proofs.lemmas.Result.{err_from_is_err_and}
-use Rattle.wac_resolution_nodes.specs.Root.{numbers_of}
+use Rattle.wac_resolution_externs.proofs.Common.{inl, inr, refl, err_from_is_err_and, numbers_of, reports}
 use Rattle.wac_resolution_externs.specs.Externs.{places_in}
-use Rattle.wac_resolution_errors.proofs.Reports.{reports}
 use Rattle.wac_resolution_externs.proofs.check.check_export.Goals as goal
 
 pub returns-in_err-check_undefined-clause-err : goal.returns-in_err-check_undefined-clause-err

@@ -1,4 +1,4 @@
-use Rattle.std.proofs.Common.{sym, rules, inr}
+use Rattle.wac_resolution_externs.proofs.Common.{sym, rules, inr}
 use Rattle.wac_resolution_externs.specs.Externs.{help_of}
 use Rattle.wac_resolution_externs.proofs.Checks.{conflict_is}
 use Rattle.wac_resolution_externs.proofs.check.check_undefined.Goals as goal

@@ -1,4 +1,4 @@
-use Rattle.std.proofs.Common.{sym, rules, inr}
+use Rattle.wac_resolution_externs.proofs.Common.{sym, rules, inr}
 use Rattle.wac_resolution_externs.specs.Externs.{help_of}
 use Rattle.wac_resolution_externs.proofs.Checks.{exported_already, unexported_yet}
 use Rattle.wac_resolution_externs.proofs.check.check_unexported.Goals as goal

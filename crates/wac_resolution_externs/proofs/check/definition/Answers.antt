@@ -1,9 +1,4 @@
-use Rattle.std.proofs.Common.{◌≡◌, ◌∙◌, None, sym, ap, rules}
-use Rattle.std.specs.Prelude.{option_map}
-use Rattle.wac_lexer.specs.Span.{Span}
-use Rattle.wac_graph_types.specs.declared.kind.ItemKind.{ItemKind}
-use Rattle.wac_graph.specs.Means.{means}
-use Rattle.wac_graph.specs.Node.{sort_of}
+use Rattle.wac_resolution_externs.proofs.Common.{◌≡◌, ◌∙◌, None, sym, ap, rules, option_map, Span, ItemKind, means, sort_of}
 use Rattle.wac_resolution_externs.proofs.Checks.{node_there, defined_here, not_defined, is_definition_sort, unbound, unplaced}
 use Rattle.wac_resolution_externs.proofs.check.definition.Goals as goal
 

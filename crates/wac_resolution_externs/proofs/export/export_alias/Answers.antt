@@ -1,8 +1,4 @@
-use Rattle.std.proofs.lemmas.Result.{err_from_is_err_and}
-use Rattle.wac_graph.specs.Graph.{export_kind}
-use Rattle.wac_resolution_errors.specs.Told.{told}
-use Rattle.wac_resolution_errors.proofs.Reports.{reports}
-use Rattle.wac_resolution_nodes.proofs.Roots.{agrees_nodes}
+use Rattle.wac_resolution_externs.proofs.Common.{err_from_is_err_and, export_kind, told, reports, agrees_nodes}
 use Rattle.wac_resolution_externs.specs.Externs.{help_of}
 use Rattle.wac_resolution_externs.proofs.Exporting.{alias_there, alias_rejected, exports_alias}
 use Rattle.wac_resolution_externs.proofs.export.export_alias.Goals as goal

@@ -1,5 +1,4 @@
-use Rattle.std.proofs.Common.{sym}
-use Rattle.std.proofs.lemmas.Result.{err_from_is_err_and}
+use Rattle.wac_resolution_externs.proofs.Common.{sym, err_from_is_err_and}
 use Rattle.wac_resolution_externs.specs.Externs.{exported_in}
 use Rattle.wac_resolution_externs.proofs.Checks.{fresh_too}
 use Rattle.wac_resolution_externs.proofs.Exporting.{exports_as}

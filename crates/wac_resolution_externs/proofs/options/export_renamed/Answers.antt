@@ -1,7 +1,5 @@
-use Rattle.std.proofs.lemmas.Result.{err_from_is_err_and}
+use Rattle.wac_resolution_externs.proofs.Common.{err_from_is_err_and, told, reports}
 use Rattle.wac_ast_base.specs.Names.{extern_name_of}
-use Rattle.wac_resolution_errors.specs.Told.{told}
-use Rattle.wac_resolution_errors.proofs.Reports.{reports}
 use Rattle.wac_resolution_externs.proofs.Unnamed.{exports_renamed, renamed_broken}
 use Rattle.wac_resolution_externs.proofs.options.export_renamed.Goals as goal
 

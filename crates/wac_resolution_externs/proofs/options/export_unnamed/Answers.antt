@@ -1,7 +1,4 @@
-use Rattle.std.proofs.Common.{◌∙◌, Some, sym, ap}
-use Rattle.std.proofs.lemmas.Result.{err_from_is_err_and}
-use Rattle.wac_resolution_errors.specs.Told.{told}
-use Rattle.wac_resolution_errors.proofs.Reports.{reports}
+use Rattle.wac_resolution_externs.proofs.Common.{◌∙◌, Some, sym, ap, err_from_is_err_and, told, reports}
 use Rattle.wac_resolution_externs.proofs.Unnamed.{exports_unnamed, unnamed_broken, own_name_broken}
 use Rattle.wac_resolution_externs.proofs.options.export_unnamed.Goals as goal
 

@@ -1,5 +1,4 @@
-use Rattle.wac_resolution_rules.specs.Nodes.{node_at}
-use Rattle.wac_resolution_nodes.specs.Nodes.{composition_of}
+use Rattle.wac_resolution_externs.proofs.Common.{node_at, composition_of}
 use Rattle.wac_resolution_externs.proofs.Unnamed.{by_id, by_own}
 use Rattle.wac_resolution_externs.proofs.options.unnamed.Goals as goal
 

@@ -1,5 +1,4 @@
-use Rattle.std.proofs.Common.{◌≡◌, ◌∙◌, Some, sym, ap, rules, inr}
-use Rattle.std.specs.Prelude.{string_bytes}
+use Rattle.wac_resolution_externs.proofs.Common.{◌≡◌, ◌∙◌, Some, sym, ap, rules, inr, string_bytes}
 use Rattle.wac_resolution_externs.proofs.Unnamed.{is_unnamed}
 use Rattle.wac_resolution_externs.proofs.options.unnamed_name.Goals as goal
 

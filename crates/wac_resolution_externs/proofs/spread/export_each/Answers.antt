@@ -1,13 +1,6 @@
-use Rattle.std.proofs.Common.{map, take, arith}
-use Rattle.std.specs.Prelude.{string_bytes}
-use Rattle.std.proofs.lemmas.Result.{err_from_is_err_and}
-use Rattle.std.proofs.lemmas.List.{take_all, length-map}
-use Rattle.wac_graph_types.specs.Steps.{Steps}
-use Rattle.wac_resolution_errors.specs.Told.{told}
-use Rattle.wac_resolution_rules.specs.Statements.{ExportsOne}
+use Rattle.wac_resolution_externs.proofs.Common.{map, take, arith, string_bytes, err_from_is_err_and, take_all, length-map, Steps, told, ExportsOne, reports}
 use Rattle.wac_resolution_externs.specs.Externs.{Under}
 use Rattle.wac_resolution_externs.specs.Spreads.{exported_item}
-use Rattle.wac_resolution_errors.proofs.Reports.{reports}
 use Rattle.wac_resolution_externs.proofs.Each.{none_yet, each_next, each_breaks, each_all, each_there, agrees_exports}
 use Rattle.wac_resolution_externs.proofs.Exporting.{placed_more}
 use Rattle.wac_resolution_externs.proofs.spread.export_each.Goals as goal

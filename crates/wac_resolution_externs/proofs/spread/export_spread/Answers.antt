@@ -1,11 +1,5 @@
-use Rattle.std.proofs.Common.{◌≡◌, ◌∙◌, List, sym, subst, map, inr}
-use Rattle.std.specs.Prelude.{string_bytes, String}
-use Rattle.std.specs.declared.alloc.Global.{Global}
-use Rattle.std.proofs.lemmas.Result.{err_from_is_err_and}
-use Rattle.wac_graph_types.specs.Readings.{interface_exports}
-use Rattle.wac_resolution_errors.specs.Told.{told}
+use Rattle.wac_resolution_externs.proofs.Common.{◌≡◌, ◌∙◌, List, sym, subst, map, inr, string_bytes, String, Global, err_from_is_err_and, interface_exports, told, reports}
 use Rattle.wac_resolution_externs.specs.Spreads.{AreUnexported}
-use Rattle.wac_resolution_errors.proofs.Reports.{reports}
 use Rattle.wac_resolution_externs.proofs.Spreading.{open_exported, none_left, some_left}
 use Rattle.wac_resolution_externs.proofs.Each.{spreads, no_effect, spread_of_other, spread_breaks}
 use Rattle.wac_resolution_externs.proofs.spread.export_spread.Goals as goal

@@ -1,6 +1,4 @@
-use Rattle.std.proofs.Common.{map, ap}
-use Rattle.std.specs.Prelude.{string_bytes}
-use Rattle.wac_graph_types.specs.Names.{by_name}
+use Rattle.wac_resolution_externs.proofs.Common.{map, ap, string_bytes, by_name}
 use Rattle.wac_resolution_externs.proofs.Spreading.{gathered}
 use Rattle.wac_resolution_externs.proofs.spread.unexported_names.Goals as goal
 

@@ -1,6 +1,4 @@
-use Rattle.std.proofs.Common.{map}
-use Rattle.std.specs.Prelude.{string_bytes}
-use Rattle.wac_graph_types.specs.Names.{by_name}
+use Rattle.wac_resolution_externs.proofs.Common.{map, string_bytes, by_name}
 use Rattle.wac_resolution_externs.proofs.Spreading.{Gathering}
 use Rattle.wac_resolution_externs.proofs.spread.unexported_names.Given as goal
 

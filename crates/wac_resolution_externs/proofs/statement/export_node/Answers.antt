@@ -1,11 +1,6 @@
-use Rattle.std.proofs.Common.{sym, subst}
-use Rattle.wac_lexer.specs.Span.{Span}
-use Rattle.wac_ast_grammar.specs.Tree.{ExportOptions}
-use Rattle.wac_resolution_rules.specs.Expressions.{at}
-use Rattle.wac_resolution_rules.specs.Statements.{ExportsBy}
+use Rattle.wac_resolution_externs.proofs.Common.{sym, subst, Span, ExportOptions, at, ExportsBy, reports}
 use Rattle.wac_resolution_externs.specs.Externs.{Under}
 use Rattle.wac_resolution_externs.specs.Exports.{Exported}
-use Rattle.wac_resolution_errors.proofs.Reports.{reports}
 use Rattle.wac_resolution_externs.proofs.Results.{on_ok, if_err}
 use Rattle.wac_resolution_externs.proofs.statement.export_node.Goals as goal
 

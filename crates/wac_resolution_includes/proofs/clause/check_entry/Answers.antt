@@ -1,5 +1,4 @@
-use Rattle.std.proofs.Common.{inr, sym, rules}
-use Rattle.wac_graph_types.specs.Names.{by_name}
+use Rattle.wac_resolution_includes.proofs.Common.{inr, sym, rules, by_name}
 use Rattle.wac_resolution_includes.proofs.Found.{new_name}
 use Rattle.wac_resolution_includes.proofs.Read.{second_entry}
 use Rattle.wac_resolution_includes.proofs.clause.check_entry.Goals as goal

@@ -1,11 +1,4 @@
-use Rattle.std.proofs.Common.{map, arith}
-use Rattle.std.proofs.lemmas.Result.{err_from_is_err_and}
-use Rattle.std.proofs.lemmas.List.{take_all, length-map}
-use Rattle.wac_graph_types.specs.Names.{by_name}
-use Rattle.wac_ast_uses.specs.Uses.{world_include_item_of}
-use Rattle.wac_resolution_errors.specs.Told.{told}
-use Rattle.wac_resolution_rules.specs.BrokenWorlds.{IsSecondEntry}
-use Rattle.wac_resolution_errors.proofs.Reports.{reports}
+use Rattle.wac_resolution_includes.proofs.Common.{map, arith, err_from_is_err_and, take_all, length-map, by_name, world_include_item_of, told, IsSecondEntry, reports}
 use Rattle.wac_resolution_includes.proofs.Read.{read_step, read_break, all_read}
 use Rattle.wac_resolution_includes.proofs.clause.entries.Goals as goal
 

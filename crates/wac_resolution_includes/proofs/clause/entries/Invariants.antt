@@ -1,4 +1,4 @@
-use Rattle.wac_graph_types.specs.Names.{by_name}
+use Rattle.wac_resolution_includes.proofs.Common.{by_name}
 use Rattle.wac_resolution_includes.proofs.Read.{AreRead}
 use Rattle.wac_resolution_includes.proofs.clause.entries.Given as goal
 

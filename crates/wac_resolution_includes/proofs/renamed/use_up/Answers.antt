@@ -1,5 +1,4 @@
-use Rattle.std.proofs.Common.{◌∙◌, sym, ap}
-use Rattle.wac_graph_types.specs.Names.{by_name}
+use Rattle.wac_resolution_includes.proofs.Common.{◌∙◌, sym, ap, by_name}
 use Rattle.wac_graph_types.proofs.Maps.{by_name_found}
 use Rattle.wac_resolution_includes.proofs.Found.{name_renamed, name_kept, removed}
 use Rattle.wac_resolution_includes.proofs.renamed.use_up.Goals as goal

@@ -1,8 +1,4 @@
-use Rattle.std.proofs.Common.{◌∙◌, flat_map, map}
-use Rattle.std.specs.Prelude.{option_map}
-use Rattle.wac_ast.specs.Statements.{statement_of}
-use Rattle.wac_ast_base.specs.Names.{package_path_of}
-use Rattle.wac_resolution_rules.specs.Mentions.{statement_mentions, target_mentions}
+use Rattle.wac_resolution_mentions.proofs.Common.{◌∙◌, flat_map, map, option_map, statement_of, package_path_of, statement_mentions, target_mentions}
 use Rattle.wac_resolution_mentions.proofs.Noting.{in_all}
 use Rattle.wac_resolution_mentions.proofs.document.mentioned.Goals as goal
 

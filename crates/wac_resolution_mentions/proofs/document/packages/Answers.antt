@@ -1,6 +1,6 @@
-use Rattle.std.proofs.Common.{◌≡◌, ◌∙◌, List, ap, map, sym, subst}
+use Rattle.wac_resolution_mentions.proofs.Common.{◌≡◌, ◌∙◌, List, ap, map, subst, document_of, statement_of}
+use Rattle.std.proofs.Common.{sym}
 use Rattle.std.proofs.lemmas.Result.{IfOk-weaker}
-use Rattle.wac_ast.specs.Statements.{document_of, statement_of}
 use Rattle.wac_ast_statements.specs.Statements.{directive_of}
 use Rattle.wac_ast.specs.declared.statement.Statement.{Statement}
 use Rattle.wac_resolution_mentions.specs.Ascending.{AscendInTexts}

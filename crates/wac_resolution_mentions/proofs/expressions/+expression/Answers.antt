@@ -1,8 +1,6 @@
-use Rattle.std.proofs.Common.{ap, sym, subst, ◌∙◌, rules}
-use Rattle.std.specs.Prelude.{OnOk}
+use Rattle.wac_resolution_mentions.proofs.Common.{ap, subst, ◌∙◌, rules, OnOk, argument_of, primary_expr_of, argument_mentions, primary_mentions}
+use Rattle.std.proofs.Common.{sym}
 use Rattle.wac_ast_grammar.specs.Tree.{PrimaryExpr}
-use Rattle.wac_ast_expressions.specs.Expressions.{argument_of, primary_expr_of}
-use Rattle.wac_resolution_rules.specs.Mentions.{argument_mentions, primary_mentions}
 use Rattle.wac_resolution_mentions.specs.Noted.{Notes}
 use Rattle.wac_resolution_mentions.proofs.Arguments.{in_a_row, new_is}
 use Rattle.wac_resolution_mentions.proofs.Noting.{all}

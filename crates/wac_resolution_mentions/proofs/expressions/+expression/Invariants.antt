@@ -1,6 +1,4 @@
-use Rattle.std.proofs.Common.{take, map, flat_map}
-use Rattle.wac_ast_expressions.specs.Expressions.{argument_of}
-use Rattle.wac_resolution_rules.specs.Mentions.{argument_mentions}
+use Rattle.wac_resolution_mentions.proofs.Common.{take, map, flat_map, argument_of, argument_mentions}
 use Rattle.wac_resolution_mentions.specs.Noted.{Notes}
 use Rattle.wac_resolution_mentions.proofs.expressions.+expression.Given as goal
 

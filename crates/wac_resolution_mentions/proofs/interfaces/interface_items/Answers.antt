@@ -1,5 +1,4 @@
-use Rattle.wac_ast_worlds.specs.Worlds.{interface_item_of}
-use Rattle.wac_resolution_rules.specs.Mentions.{interface_item_mentions}
+use Rattle.wac_resolution_mentions.proofs.Common.{interface_item_of, interface_item_mentions}
 use Rattle.wac_resolution_mentions.proofs.Noting.{none, next, all}
 use Rattle.wac_resolution_mentions.proofs.interfaces.interface_items.Goals as goal
 

@@ -1,6 +1,4 @@
-use Rattle.std.proofs.Common.{take, map, flat_map}
-use Rattle.wac_ast_worlds.specs.Worlds.{interface_item_of}
-use Rattle.wac_resolution_rules.specs.Mentions.{interface_item_mentions}
+use Rattle.wac_resolution_mentions.proofs.Common.{take, map, flat_map, interface_item_of, interface_item_mentions}
 use Rattle.wac_resolution_mentions.specs.Noted.{Notes}
 use Rattle.wac_resolution_mentions.proofs.interfaces.interface_items.Given as goal
 

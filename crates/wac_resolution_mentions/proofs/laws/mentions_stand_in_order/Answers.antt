@@ -1,4 +1,4 @@
-use Rattle.wac_resolution_rules.specs.Mentions.{mentions}
+use Rattle.wac_resolution_mentions.proofs.Common.{mentions}
 use Rattle.wac_resolution_mentions.proofs.Between.{first_ones}
 use Rattle.wac_resolution_mentions.proofs.Places.{mentions_ascend}
 use Rattle.wac_resolution_mentions.proofs.laws.mentions_stand_in_order.Goals as goal

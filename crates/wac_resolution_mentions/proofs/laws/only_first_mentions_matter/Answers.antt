@@ -1,7 +1,5 @@
-use Rattle.std.proofs.Common.{◌∙◌, sym, subst}
-use Rattle.std.specs.Prelude.{◌↔◌}
-use Rattle.wac_graph.specs.Packages.{Packages}
-use Rattle.wac_resolution_rules.specs.Mentions.{IsMentioned, given_over, mentions}
+use Rattle.wac_resolution_mentions.proofs.Common.{◌∙◌, subst, ◌↔◌, Packages, IsMentioned, given_over, mentions}
+use Rattle.std.proofs.Common.{sym}
 use Rattle.wac_resolution_rules.specs.ResolvedDocument.{Describes, FirstFailing}
 use Rattle.wac_resolution_mentions.specs.FirstMentions.{first_mentions}
 use Rattle.wac_resolution_mentions.proofs.FirstMentions.{any_first, are_first, kept_first, keys_hold}

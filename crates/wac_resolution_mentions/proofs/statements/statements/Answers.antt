@@ -1,5 +1,4 @@
-use Rattle.wac_ast.specs.Statements.{statement_of}
-use Rattle.wac_resolution_rules.specs.Mentions.{statement_mentions}
+use Rattle.wac_resolution_mentions.proofs.Common.{statement_of, statement_mentions}
 use Rattle.wac_resolution_mentions.proofs.Noting.{none, next, all}
 use Rattle.wac_resolution_mentions.proofs.statements.statements.Goals as goal
 

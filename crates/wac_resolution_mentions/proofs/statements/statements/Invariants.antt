@@ -1,6 +1,4 @@
-use Rattle.std.proofs.Common.{take, map, flat_map}
-use Rattle.wac_ast.specs.Statements.{statement_of}
-use Rattle.wac_resolution_rules.specs.Mentions.{statement_mentions}
+use Rattle.wac_resolution_mentions.proofs.Common.{take, map, flat_map, statement_of, statement_mentions}
 use Rattle.wac_resolution_mentions.specs.Noted.{Notes}
 use Rattle.wac_resolution_mentions.proofs.statements.statements.Given as goal
 

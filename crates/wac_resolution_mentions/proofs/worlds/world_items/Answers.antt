@@ -1,5 +1,4 @@
-use Rattle.wac_ast_worlds.specs.Worlds.{world_item_of}
-use Rattle.wac_resolution_rules.specs.Mentions.{world_item_mentions}
+use Rattle.wac_resolution_mentions.proofs.Common.{world_item_of, world_item_mentions}
 use Rattle.wac_resolution_mentions.proofs.Noting.{none, next, all}
 use Rattle.wac_resolution_mentions.proofs.worlds.world_items.Goals as goal
 

@@ -1,5 +1,4 @@
-use Rattle.std.proofs.Common.{◌∙◌, ap}
-use Rattle.std.specs.Str.{bytes_eq}
+use Rattle.wac_resolution_nodes.proofs.Common.{◌∙◌, ap, bytes_eq}
 use Rattle.wac_resolution_nodes.proofs.Found.{short_last, short_none}
 use Rattle.wac_resolution_nodes.proofs.find.is_short_for.Goals as goal
 

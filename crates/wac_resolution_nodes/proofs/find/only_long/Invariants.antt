@@ -1,6 +1,5 @@
-use Rattle.std.specs.Prelude.{option_map}
+use Rattle.wac_resolution_nodes.proofs.Common.{option_map, names_of}
 use Rattle.wac_graph_types.specs.Names.{by_name}
-use Rattle.wac_resolution_rules.specs.Find.{names_of}
 use Rattle.wac_resolution_nodes.proofs.Found.{Finding}
 use Rattle.wac_resolution_nodes.proofs.find.only_long.Given as goal
 

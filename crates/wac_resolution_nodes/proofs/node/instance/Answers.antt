@@ -1,4 +1,4 @@
-use Rattle.wac_resolution_errors.specs.Told.{operation_of}
+use Rattle.wac_resolution_nodes.proofs.Common.{operation_of}
 use Rattle.wac_resolution_nodes.proofs.Instances.{is_instance, not_instance}
 use Rattle.wac_resolution_nodes.proofs.node.instance.Goals as goal
 

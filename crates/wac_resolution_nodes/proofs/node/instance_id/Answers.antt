@@ -1,4 +1,4 @@
-use Rattle.std.proofs.Common.{◌∙◌, sym}
+use Rattle.wac_resolution_nodes.proofs.Common.{◌∙◌, sym}
 use Rattle.wac_resolution_nodes.proofs.NodeNames.{instance_named, other_unnamed}
 use Rattle.wac_resolution_nodes.proofs.node.instance_id.Goals as goal
 

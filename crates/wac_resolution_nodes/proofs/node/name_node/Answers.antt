@@ -1,4 +1,4 @@
-use Rattle.std.proofs.Common.{◌∙◌, sym}
+use Rattle.wac_resolution_nodes.proofs.Common.{◌∙◌, sym}
 use Rattle.wac_resolution_nodes.proofs.Composed.{already_named, newly_named}
 use Rattle.wac_resolution_nodes.proofs.node.name_node.Goals as goal
 

@@ -1,8 +1,4 @@
-use Rattle.std.proofs.Common.{◌≡◌, ◌∙◌, inl, inr, rules}
-use Rattle.std.proofs.lemmas.Result.{err_from_is_err_and}
-use Rattle.std.specs.Prelude.{string_bytes, IsSome, None}
-use Rattle.wac_ast_expressions.specs.Expressions.{postfix_expr_of}
-use Rattle.wac_graph.specs.Graph.{export_kind}
+use Rattle.wac_resolution_nodes.proofs.Common.{◌≡◌, ◌∙◌, inl, inr, rules, err_from_is_err_and, string_bytes, IsSome, None, postfix_expr_of, export_kind}
 use Rattle.wac_resolution_nodes.proofs.Instances.{not_exported, access_goes}
 use Rattle.wac_resolution_nodes.proofs.postfix.access.Goals as goal
 

@@ -1,6 +1,4 @@
-use Rattle.std.proofs.lemmas.Result.{err_from_is_err_and}
-use Rattle.wac_resolution_errors.specs.Told.{told}
-use Rattle.wac_resolution_errors.proofs.Reports.{reports}
+use Rattle.wac_resolution_nodes.proofs.Common.{err_from_is_err_and, told, reports}
 use Rattle.wac_resolution_nodes.proofs.Instances.{access_next, access_breaks}
 use Rattle.wac_resolution_nodes.proofs.postfix.accesses.Goals as goal
 

@@ -1,5 +1,4 @@
-use Rattle.std.proofs.Common.{map, take}
-use Rattle.wac_ast_expressions.specs.Expressions.{postfix_expr_of}
+use Rattle.wac_resolution_nodes.proofs.Common.{map, take, postfix_expr_of}
 use Rattle.wac_resolution_nodes.proofs.Instances.{SoFar}
 use Rattle.wac_resolution_nodes.proofs.postfix.accesses.Given as goal
 

@@ -1,16 +1,6 @@
-use Rattle.std.proofs.Common.{◌≡◌, ◌∙◌, [], ◌∷◌, None, sym, subst, rules, inr}
-use Rattle.std.specs.Prelude.{string_bytes}
-use Rattle.std.proofs.lemmas.Result.{err_from_is_err_and}
-use Rattle.wac_lexer.specs.Span.{Span}
+use Rattle.wac_resolution_paths.proofs.Common.{◌≡◌, ◌∙◌, [], ◌∷◌, None, sym, subst, rules, inr, string_bytes, err_from_is_err_and, Span, look_up, package_path_of, segment_spans, package_missing_export, told, reports, kind_is}
 use Rattle.wac_graph_types.specs.Names.{by_name}
-use Rattle.wac_graph_types.specs.Scope.{look_up}
 use Rattle.wac_graph_types.proofs.Found.{found_named}
-use Rattle.wac_ast_base.specs.Names.{package_path_of}
-use Rattle.wac_ast_grammar.specs.Segments.{segment_spans}
-use Rattle.wac_resolution_errors.specs.Error.{package_missing_export}
-use Rattle.wac_resolution_errors.specs.Told.{told}
-use Rattle.wac_resolution_errors.proofs.Reports.{reports}
-use Rattle.wac_resolution_state.proofs.Scopes.{kind_is}
 use Rattle.wac_resolution_paths.proofs.Leading.{segments_lead, foreign_misses, foreign_undefined}
 use Rattle.wac_resolution_paths.proofs.foreign.defined_path.Goals as goal
 

@@ -1,9 +1,4 @@
-use Rattle.std.proofs.Common.{refl, inr}
-use Rattle.wac_ast_base.specs.Names.{package_path_of}
-use Rattle.wac_graph.specs.Readings.{held_of}
-use Rattle.wac_resolution_errors.specs.Told.{told}
-use Rattle.wac_resolution_rules.specs.Paths.{key_of_path}
-use Rattle.wac_resolution_errors.proofs.Reports.{if_reports}
+use Rattle.wac_resolution_paths.proofs.Common.{refl, inr, package_path_of, held_of, told, key_of_path, if_reports}
 use Rattle.wac_resolution_paths.proofs.Finding.{foreign_found, foreign_broken, foreign_unknown}
 use Rattle.wac_resolution_paths.proofs.foreign.foreign_path.Goals as goal
 

@@ -1,5 +1,4 @@
-use Rattle.std.proofs.Common.{arith}
-use Rattle.std.specs.Prelude.{string_bytes}
+use Rattle.wac_resolution_paths.proofs.Common.{arith, string_bytes}
 use Rattle.wac_resolution_paths.proofs.Joining.{joins_more, joins_short}
 use Rattle.wac_resolution_paths.proofs.foreign.joined.Goals as goal
 

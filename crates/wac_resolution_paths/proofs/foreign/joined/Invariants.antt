@@ -1,4 +1,4 @@
-use Rattle.std.specs.Prelude.{string_bytes}
+use Rattle.wac_resolution_paths.proofs.Common.{string_bytes}
 use Rattle.wac_resolution_paths.proofs.Joining.{Joins}
 use Rattle.wac_resolution_paths.proofs.foreign.joined.Given as goal
 

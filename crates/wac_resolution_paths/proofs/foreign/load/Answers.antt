@@ -1,6 +1,4 @@
-use Rattle.std.proofs.Common.{subst}
-use Rattle.std.specs.Prelude.{IfOk, MatchOption}
-use Rattle.wac_graph.specs.Package.{Key}
+use Rattle.wac_resolution_paths.proofs.Common.{subst, IfOk, MatchOption, Key}
 use Rattle.wac_resolution_paths.specs.Expands.{Loads, IsNotSupplied}
 use Rattle.wac_resolution_paths.specs.Context.{packages_in}
 use Rattle.wac_resolution_paths.proofs.foreign.load.Goals as goal

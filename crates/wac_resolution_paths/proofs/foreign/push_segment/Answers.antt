@@ -1,6 +1,4 @@
-use Rattle.std.proofs.Common.{◌∙◌, ◌∷◌, ◌++◌, [], List, ℕ, ap}
-use Rattle.std.specs.Prelude.{string_bytes}
-use Rattle.std.proofs.lemmas.List.{append_assoc}
+use Rattle.wac_resolution_paths.proofs.Common.{◌∙◌, ◌∷◌, ◌++◌, [], List, ℕ, ap, string_bytes, append_assoc}
 use Rattle.wac_resolution_paths.proofs.foreign.push_segment.Goals as goal
 
 pub returns : goal.returns

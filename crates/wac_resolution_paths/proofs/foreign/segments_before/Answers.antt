@@ -1,5 +1,4 @@
-use Rattle.std.proofs.Common.{◌∙◌, sym}
-use Rattle.wac_ast_base.specs.Names.{package_path_of}
+use Rattle.wac_resolution_paths.proofs.Common.{◌∙◌, sym, package_path_of}
 use Rattle.wac_resolution_paths.proofs.Leading.{first_joined}
 use Rattle.wac_resolution_paths.proofs.foreign.segments_before.Goals as goal
 

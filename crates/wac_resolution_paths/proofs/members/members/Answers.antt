@@ -1,4 +1,4 @@
-use Rattle.std.proofs.Common.{rules, sym}
+use Rattle.wac_resolution_paths.proofs.Common.{rules, sym}
 use Rattle.wac_resolution_paths.proofs.Walks.{walk_on, walk_misses, walk_ends}
 use Rattle.wac_resolution_paths.proofs.members.members.Goals as goal
 

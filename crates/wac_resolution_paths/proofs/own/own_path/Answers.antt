@@ -1,14 +1,4 @@
-use Rattle.std.proofs.Common.{◌≡◌, ◌∙◌, ◌∷◌, ℕ, List, Option, Bor, sym, ap, subst, rules, inr}
-use Rattle.std.specs.Prelude.{unwrap_or}
-use Rattle.std.proofs.lemmas.Result.{err_from_is_err_and}
-use Rattle.wac_lexer.specs.Span.{Span}
-use Rattle.wac_ast_base.specs.Names.{package_path_of}
-use Rattle.wac_ast_grammar.specs.Segments.{segment_spans}
-use Rattle.wac_resolution_errors.specs.Told.{told}
-use Rattle.wac_resolution_rules.specs.BrokenTypes.{IsUndefined}
-use Rattle.wac_resolution_state.specs.Bindings.{values_of}
-use Rattle.wac_resolution_state.specs.Named.{scope_of, KindIs}
-use Rattle.wac_resolution_errors.proofs.Reports.{reports}
+use Rattle.wac_resolution_paths.proofs.Common.{◌≡◌, ◌∙◌, ◌∷◌, ℕ, List, Option, Bor, sym, ap, subst, rules, inr, unwrap_or, err_from_is_err_and, Span, package_path_of, segment_spans, told, IsUndefined, values_of, scope_of, KindIs, reports}
 use Rattle.wac_resolution_paths.proofs.Leading.{segments_lead, own_misses, own_undefined}
 use Rattle.wac_resolution_paths.proofs.own.own_path.Goals as goal
 

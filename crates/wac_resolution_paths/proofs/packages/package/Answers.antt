@@ -1,6 +1,4 @@
-use Rattle.std.proofs.Common.{sym}
-use Rattle.wac_graph.specs.Package.{key_of}
-use Rattle.wac_graph.specs.Readings.{held_of}
+use Rattle.wac_resolution_paths.proofs.Common.{sym, key_of, held_of}
 use Rattle.wac_resolution_paths.specs.Context.{packages_in}
 use Rattle.wac_resolution_paths.proofs.Loading.{loads_held, loads_added, not_handed}
 use Rattle.wac_resolution_paths.proofs.packages.package.Goals as goal

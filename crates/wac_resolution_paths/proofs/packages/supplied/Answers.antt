@@ -1,4 +1,4 @@
-use Rattle.std.proofs.Common.{◌∙◌}
+use Rattle.wac_resolution_paths.proofs.Common.{◌∙◌}
 use Rattle.wac_resolution_paths.proofs.Keys.{keyed_found}
 use Rattle.wac_resolution_paths.proofs.packages.supplied.Goals as goal
 

@@ -1,7 +1,4 @@
-use Rattle.std.proofs.Common.{◌∙◌, sym}
-use Rattle.wac_ast_base.specs.Names.{package_path_of}
-use Rattle.wac_resolution_state.specs.Bindings.{values_of}
-use Rattle.wac_resolution_errors.proofs.Reports.{if_reports}
+use Rattle.wac_resolution_paths.proofs.Common.{◌∙◌, sym, package_path_of, values_of, if_reports}
 use Rattle.wac_resolution_paths.proofs.Finding.{own_found, own_broken, other_found, other_broken}
 use Rattle.wac_resolution_paths.proofs.paths.path.Goals as goal
 

@@ -1,18 +1,7 @@
-use Rattle.std.proofs.Common.{sym, subst}
-use Rattle.std.specs.Prelude.{IfOk, IfErr}
-use Rattle.wac_ast_base.specs.Names.{ident_of}
-use Rattle.wac_ast_uses.specs.Uses.{use_path_of}
+use Rattle.wac_resolution_paths.proofs.Common.{sym, subst, IfOk, IfErr, ident_of, use_path_of, Naming, Reports, told, UsePathBroken, UseNames, values_of, scope_of, if_reports}
 use Rattle.wac_ast_uses.specs.declared.uses.UsePath.{UsePath}
-use Rattle.wac_graph.specs.Origin.{Naming}
-use Rattle.wac_resolution_errors.specs.Error.{Reports}
-use Rattle.wac_resolution_errors.specs.Told.{told}
-use Rattle.wac_resolution_rules.specs.BrokenBodies.{UsePathBroken}
-use Rattle.wac_resolution_rules.specs.Paths.{UseNames}
-use Rattle.wac_resolution_state.specs.Bindings.{values_of}
-use Rattle.wac_resolution_state.specs.Named.{scope_of}
 use Rattle.wac_resolution_paths.specs.Expands.{Found}
 use Rattle.wac_resolution_paths.specs.Context.{packages_in, context_of}
-use Rattle.wac_resolution_errors.proofs.Reports.{if_reports}
 use Rattle.wac_resolution_paths.proofs.Finding.{ident_broken}
 use Rattle.wac_resolution_paths.proofs.paths.use_path.Goals as goal
 

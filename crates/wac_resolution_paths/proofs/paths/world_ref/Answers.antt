@@ -1,18 +1,8 @@
-use Rattle.std.proofs.Common.{sym, subst}
-use Rattle.std.specs.Prelude.{IfOk, IfErr}
-use Rattle.wac_ast_base.specs.Names.{ident_of}
-use Rattle.wac_ast_uses.specs.Uses.{world_ref_of}
+use Rattle.wac_resolution_paths.proofs.Common.{sym, subst, IfOk, IfErr, ident_of, world_ref_of, Naming, Reports, told, WorldNames, values_of, scope_of, if_reports}
 use Rattle.wac_ast_uses.specs.declared.includes.WorldRef.{WorldRef}
-use Rattle.wac_graph.specs.Origin.{Naming}
-use Rattle.wac_resolution_errors.specs.Error.{Reports}
-use Rattle.wac_resolution_errors.specs.Told.{told}
 use Rattle.wac_resolution_rules.specs.BrokenWorlds.{WorldRefBroken}
-use Rattle.wac_resolution_rules.specs.Paths.{WorldNames}
-use Rattle.wac_resolution_state.specs.Bindings.{values_of}
-use Rattle.wac_resolution_state.specs.Named.{scope_of}
 use Rattle.wac_resolution_paths.specs.Expands.{Found}
 use Rattle.wac_resolution_paths.specs.Context.{packages_in, context_of}
-use Rattle.wac_resolution_errors.proofs.Reports.{if_reports}
 use Rattle.wac_resolution_paths.proofs.Finding.{ident_broken}
 use Rattle.wac_resolution_paths.proofs.paths.world_ref.Goals as goal
 

@@ -1,9 +1,4 @@
-use Rattle.std.proofs.Common.{◌∙◌, List, Option, sym, ap, subst}
-use Rattle.std.specs.Prelude.{option_map, IfSome}
-use Rattle.wac_graph_types.specs.declared.entry.Entry.{Entry}
-use Rattle.wac_graph_types.specs.declared.kind.ItemKind.{ItemKind}
-use Rattle.wac_graph_types.specs.Table.{Names}
-use Rattle.wac_graph.specs.Means.{means}
+use Rattle.wac_resolution_target.proofs.Common.{◌∙◌, List, Option, sym, ap, subst, option_map, IfSome, Entry, ItemKind, Names, means}
 use Rattle.wac_resolution_target.specs.Used.{allowed_kind}
 use Rattle.wac_resolution_target.proofs.Meanings.{allowed_means, allowed_named}
 use Rattle.wac_resolution_target.proofs.allowed.allowed.Goals as goal

@@ -1,16 +1,9 @@
-use Rattle.std.proofs.lemmas.Result.{err_from_is_err_and}
-use Rattle.wac_graph_types.specs.Names.{by_name}
-use Rattle.wac_ast_base.specs.Names.{package_path_of}
-use Rattle.wac_resolution_errors.specs.Error.{Reports}
-use Rattle.wac_resolution_errors.specs.Told.{told}
-use Rattle.wac_resolution_errors.proofs.Reports.{reports}
-use Rattle.wac_resolution_nodes.proofs.Roots.{items_named}
+use Rattle.wac_resolution_target.proofs.Common.{err_from_is_err_and, by_name, package_path_of, Reports, told, reports, items_named, rules_of}
 use Rattle.wac_resolution_target.specs.Outcome.{WorldMet, WorldUnmet, Meets, Unmeets}
 use Rattle.wac_resolution_target.specs.Testing.{testing}
 use Rattle.wac_resolution_target.proofs.Firsts.{as_ok, as_err}
 use Rattle.wac_resolution_target.proofs.Ending.{path_broken, no_world, target_met, target_unmet}
 use Rattle.wac_resolution_target.proofs.check.check_target.Goals as goal
-use Rattle.wac_resolution_rules.specs.Given.{rules_of}
 
 pub path-requires-clause-root : goal.path-requires-clause-root
 path-requires-clause-root g c = items_named c.args.state.now.graph c.args.root.now c.requires.agrees

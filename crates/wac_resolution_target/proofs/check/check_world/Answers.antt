@@ -1,16 +1,9 @@
-use Rattle.std.proofs.Common.{inl, inr}
-use Rattle.std.proofs.lemmas.Result.{err_from_is_err_and}
-use Rattle.wac_graph_types.specs.Names.{by_name}
-use Rattle.wac_graph_types.specs.Readings.{world_exports}
-use Rattle.wac_resolution_errors.specs.Error.{Reports}
-use Rattle.wac_resolution_errors.specs.Told.{told}
+use Rattle.wac_resolution_target.proofs.Common.{inl, inr, err_from_is_err_and, by_name, world_exports, Reports, told, reports, rules_of}
 use Rattle.wac_resolution_target.specs.Imported.{of_kind}
 use Rattle.wac_resolution_target.specs.Outcome.{WorldMet, WorldUnmet}
 use Rattle.wac_resolution_target.specs.Testing.{testing, AllMet, SomeUnmet}
-use Rattle.wac_resolution_errors.proofs.Reports.{reports}
 use Rattle.wac_resolution_target.proofs.Firsts.{as_ok, as_err}
 use Rattle.wac_resolution_target.proofs.check.check_world.Goals as goal
-use Rattle.wac_resolution_rules.specs.Given.{rules_of}
 
 pub returns-in_err-check_imports-clause-err : goal.returns-in_err-check_imports-clause-err
 returns-in_err-check_imports-clause-err g c =

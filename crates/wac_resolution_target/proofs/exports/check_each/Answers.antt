@@ -1,16 +1,8 @@
-use Rattle.std.proofs.Common.{List, ℕ, ap, subst}
-use Rattle.std.specs.Prelude.{string_bytes}
-use Rattle.std.proofs.lemmas.Result.{err_from_is_err_and}
-use Rattle.wac_graph_types.specs.declared.kind.ItemKind.{ItemKind}
-use Rattle.wac_graph_types.specs.Names.{by_name}
-use Rattle.wac_graph_types.specs.Table.{Names}
-use Rattle.wac_resolution_errors.specs.Told.{told}
+use Rattle.wac_resolution_target.proofs.Common.{List, ℕ, ap, subst, string_bytes, err_from_is_err_and, ItemKind, by_name, Names, told, reports, rules_of}
 use Rattle.wac_resolution_target.specs.Imported.{of_kind}
 use Rattle.wac_resolution_target.specs.Testing.{testing, Met, Unmet}
-use Rattle.wac_resolution_errors.proofs.Reports.{reports}
 use Rattle.wac_resolution_target.proofs.Firsts.{through_next, through_all, fails_here, first_there, left_there}
 use Rattle.wac_resolution_target.proofs.exports.check_each.Goals as goal
-use Rattle.wac_resolution_rules.specs.Given.{rules_of}
 
 pub check_export-requires-clause-named : goal.check_export-requires-clause-named
 check_export-requires-clause-named g c =

@@ -1,10 +1,8 @@
-use Rattle.wac_graph_types.specs.Names.{by_name}
-use Rattle.wac_graph_types.specs.Table.{ItemsNamed}
+use Rattle.wac_resolution_target.proofs.Common.{by_name, ItemsNamed, rules_of}
 use Rattle.wac_resolution_target.specs.Imported.{of_kind}
 use Rattle.wac_resolution_target.specs.Testing.{testing, Met}
 use Rattle.wac_resolution_target.proofs.Firsts.{Through}
 use Rattle.wac_resolution_target.proofs.exports.check_each.Given as goal
-use Rattle.wac_resolution_rules.specs.Given.{rules_of}
 
 abbrev pub invariant-loop-name : goal.invariant-loop-name
 invariant-loop-name g l =

@@ -1,16 +1,7 @@
-use Rattle.std.proofs.Common.{◌≡◌, ◌∙◌, Option, Some, inr, sym, ap, subst}
-use Rattle.wac_lexer.specs.Span.{Span}
+use Rattle.wac_resolution_target.proofs.Common.{◌≡◌, ◌∙◌, Option, Some, inr, sym, ap, subst, Span, ItemKind, by_name, package_path_of, means, Naming, IsOneToOne, target_mismatch, told, rules_of}
 use Rattle.wac_graph_types.specs.declared.kind.ExternKind.TheVariants as externs
-use Rattle.wac_graph_types.specs.declared.kind.ItemKind.{ItemKind}
-use Rattle.wac_graph_types.specs.Names.{by_name}
-use Rattle.wac_ast_base.specs.Names.{package_path_of}
-use Rattle.wac_graph.specs.Means.{means}
-use Rattle.wac_graph.specs.Origin.{Naming, IsOneToOne}
-use Rattle.wac_resolution_errors.specs.Error.{target_mismatch}
-use Rattle.wac_resolution_errors.specs.Told.{told}
 use Rattle.wac_resolution_target.proofs.Tested.{export_mismatched}
 use Rattle.wac_resolution_target.proofs.exports.check_export.Goals as goal
-use Rattle.wac_resolution_rules.specs.Given.{rules_of}
 
 pub returns-in_ok-mismatch-in-Err-clause-err : goal.returns-in_ok-mismatch-in-Err-clause-err
 returns-in_ok-mismatch-in-Err-clause-err g c =

@@ -1,18 +1,7 @@
-use Rattle.std.proofs.Common.{◌∙◌, List, sym, ap, subst}
-use Rattle.std.specs.Prelude.{OnOk, IfErr}
-use Rattle.wac_graph_types.specs.declared.entry.Entry.{Entry}
-use Rattle.wac_graph_types.specs.declared.kind.ItemKind.{ItemKind}
-use Rattle.wac_graph_types.specs.Names.{by_name}
-use Rattle.wac_graph_types.specs.Readings.{world_exports}
-use Rattle.wac_graph_types.specs.Scope.{Named}
-use Rattle.wac_graph_types.specs.Table.{ItemsNamed}
-use Rattle.wac_graph_types.proofs.Found.{world_exports_named}
-use Rattle.wac_resolution_errors.specs.Error.{Reports}
-use Rattle.wac_resolution_errors.specs.Told.{told}
+use Rattle.wac_resolution_target.proofs.Common.{◌∙◌, List, sym, ap, subst, OnOk, IfErr, Entry, ItemKind, by_name, world_exports, Named, ItemsNamed, world_exports_named, Reports, told, rules_of}
 use Rattle.wac_resolution_target.specs.Imported.{of_kind}
 use Rattle.wac_resolution_target.specs.Testing.{testing, AllMet, SomeUnmet}
 use Rattle.wac_resolution_target.proofs.exports.check_exports.Goals as goal
-use Rattle.wac_resolution_rules.specs.Given.{rules_of}
 
 pub check_each-requires-clause-named : goal.check_each-requires-clause-named
 check_each-requires-clause-named g c =

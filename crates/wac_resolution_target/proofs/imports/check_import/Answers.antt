@@ -1,11 +1,6 @@
-use Rattle.std.proofs.Common.{◌≡◌, Some, None, inr, subst}
-use Rattle.wac_graph_types.specs.declared.kind.ItemKind.{ItemKind}
-use Rattle.wac_graph.specs.Means.{means}
-use Rattle.wac_graph.specs.Origin.{Naming, IsOneToOne}
-use Rattle.wac_resolution_errors.specs.Told.{told}
+use Rattle.wac_resolution_target.proofs.Common.{◌≡◌, Some, None, inr, subst, ItemKind, means, Naming, IsOneToOne, told, rules_of}
 use Rattle.wac_resolution_target.proofs.Tested.{import_allowed, import_mismatched}
 use Rattle.wac_resolution_target.proofs.imports.check_import.Goals as goal
-use Rattle.wac_resolution_rules.specs.Given.{rules_of}
 
 pub returns-in-Ok-clause-ok : goal.returns-in-Ok-clause-ok
 returns-in-Ok-clause-ok g c =

@@ -1,15 +1,9 @@
-use Rattle.std.proofs.Common.{◌<◌, List, ℕ, length}
-use Rattle.std.proofs.lemmas.Result.{err_from_is_err_and}
-use Rattle.wac_graph_types.specs.Names.{by_name}
-use Rattle.wac_graph_types.specs.Scope.{look_up}
-use Rattle.wac_resolution_errors.specs.Told.{told}
+use Rattle.wac_resolution_target.proofs.Common.{◌<◌, List, ℕ, length, err_from_is_err_and, by_name, look_up, told, reports, rules_of}
 use Rattle.wac_resolution_target.specs.Imported.{of_node}
 use Rattle.wac_resolution_target.specs.Testing.{testing, Allowed, Denied}
-use Rattle.wac_resolution_errors.proofs.Reports.{reports}
 use Rattle.wac_resolution_target.proofs.Firsts.{through_next, through_all, fails_here, first_there, left_there}
 use Rattle.wac_resolution_target.proofs.Tested.{node_allowed, node_fails}
 use Rattle.wac_resolution_target.proofs.imports.check_imports.Goals as goal
-use Rattle.wac_resolution_rules.specs.Given.{rules_of}
 
 pub kind-kind-requires : goal.kind-kind-requires
 kind-kind-requires g c = first_there (λ (x : List ℕ × ℕ). x.1 < length c.args.state.now.graph.nodes) _ c.next.new.self (c.in-Some.name.now, c.in-Some.node.0) c.in-Some.ensures.steps c.loop-name.invariant.there

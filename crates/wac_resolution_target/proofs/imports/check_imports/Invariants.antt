@@ -1,10 +1,8 @@
-use Rattle.std.proofs.Common.{length}
-use Rattle.wac_graph.specs.Sound.{NamesNodes}
+use Rattle.wac_resolution_target.proofs.Common.{length, NamesNodes, rules_of}
 use Rattle.wac_resolution_target.specs.Imported.{of_node}
 use Rattle.wac_resolution_target.specs.Testing.{testing, Allowed}
 use Rattle.wac_resolution_target.proofs.Firsts.{Through}
 use Rattle.wac_resolution_target.proofs.imports.check_imports.Given as goal
-use Rattle.wac_resolution_rules.specs.Given.{rules_of}
 
 abbrev pub invariant-loop-name : goal.invariant-loop-name
 invariant-loop-name g l =

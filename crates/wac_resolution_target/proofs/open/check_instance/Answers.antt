@@ -1,20 +1,9 @@
-use Rattle.std.proofs.Common.{◌∙◌, List, sym, ap, subst}
-use Rattle.std.specs.Prelude.{OnOk, IfErr}
-use Rattle.wac_graph_types.specs.declared.entry.Entry.{Entry}
-use Rattle.wac_graph_types.specs.declared.kind.ItemKind.{ItemKind}
-use Rattle.wac_graph_types.specs.Readings.{world_imports}
-use Rattle.wac_graph_types.specs.Scope.{Named}
-use Rattle.wac_graph_types.specs.Table.{ItemsNamed}
-use Rattle.wac_graph_types.proofs.Found.{world_imports_named}
-use Rattle.wac_graph.specs.Graph.{arguments_of}
+use Rattle.wac_resolution_target.proofs.Common.{◌∙◌, List, sym, ap, subst, OnOk, IfErr, Entry, ItemKind, world_imports, Named, ItemsNamed, world_imports_named, arguments_of, Reports, told, rules_of}
 use Rattle.wac_graph.specs.Readings.{held_of}
-use Rattle.wac_resolution_errors.specs.Error.{Reports}
-use Rattle.wac_resolution_errors.specs.Told.{told}
 use Rattle.wac_resolution_target.specs.Imported.{of_kind, left_open}
 use Rattle.wac_resolution_target.specs.Testing.{testing, AllAllowed, SomeDenied, nowhere}
 use Rattle.wac_resolution_target.proofs.Opens.{held_imports}
 use Rattle.wac_resolution_target.proofs.open.check_instance.Goals as goal
-use Rattle.wac_resolution_rules.specs.Given.{rules_of}
 
 pub check_left_open-requires-clause-named : goal.check_left_open-requires-clause-named
 check_left_open-requires-clause-named g c =

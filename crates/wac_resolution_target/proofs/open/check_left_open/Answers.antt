@@ -1,18 +1,9 @@
-use Rattle.std.proofs.Common.{List, [], ◌∷◌, ℕ, ap, subst}
-use Rattle.std.specs.Prelude.{string_bytes}
-use Rattle.std.proofs.lemmas.Result.{err_from_is_err_and}
-use Rattle.wac_graph_types.specs.declared.kind.ItemKind.{ItemKind}
-use Rattle.wac_graph_types.specs.Names.{by_name}
-use Rattle.wac_graph_types.specs.Table.{Names}
-use Rattle.wac_graph.specs.Graph.{arguments_of}
-use Rattle.wac_resolution_errors.specs.Told.{told}
+use Rattle.wac_resolution_target.proofs.Common.{List, [], ◌∷◌, ℕ, ap, subst, string_bytes, err_from_is_err_and, ItemKind, by_name, Names, arguments_of, told, reports, rules_of}
 use Rattle.wac_resolution_target.specs.Imported.{of_kind, left_open}
 use Rattle.wac_resolution_target.specs.Testing.{testing, Allowed, Denied, AllAllowed, SomeDenied, nowhere}
-use Rattle.wac_resolution_errors.proofs.Reports.{reports}
 use Rattle.wac_resolution_target.proofs.Firsts.{through_more, through_all, fails_within, first_there, left_there}
 use Rattle.wac_resolution_target.proofs.Opens.{open_rest}
 use Rattle.wac_resolution_target.proofs.open.check_left_open.Goals as goal
-use Rattle.wac_resolution_rules.specs.Given.{rules_of}
 
 pub check_open_import-requires-clause-named : goal.check_open_import-requires-clause-named
 check_open_import-requires-clause-named g c =

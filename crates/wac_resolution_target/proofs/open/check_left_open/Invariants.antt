@@ -1,11 +1,8 @@
-use Rattle.wac_graph_types.specs.Names.{by_name}
-use Rattle.wac_graph_types.specs.Table.{ItemsNamed}
-use Rattle.wac_graph.specs.Graph.{arguments_of}
+use Rattle.wac_resolution_target.proofs.Common.{by_name, ItemsNamed, arguments_of, rules_of}
 use Rattle.wac_resolution_target.specs.Imported.{of_kind, left_open}
 use Rattle.wac_resolution_target.specs.Testing.{testing, Allowed}
 use Rattle.wac_resolution_target.proofs.Firsts.{Through}
 use Rattle.wac_resolution_target.proofs.open.check_left_open.Given as goal
-use Rattle.wac_resolution_rules.specs.Given.{rules_of}
 
 abbrev pub invariant-loop-name : goal.invariant-loop-name
 invariant-loop-name g l =

@@ -1,14 +1,8 @@
-use Rattle.std.proofs.Common.{sym, subst}
-use Rattle.std.specs.Prelude.{OnOk, IfErr}
-use Rattle.wac_graph_types.specs.declared.kind.ItemKind.{ItemKind}
-use Rattle.wac_graph_types.specs.Scope.{Named}
-use Rattle.wac_resolution_errors.specs.Error.{Reports}
-use Rattle.wac_resolution_errors.specs.Told.{told}
+use Rattle.wac_resolution_target.proofs.Common.{sym, subst, OnOk, IfErr, ItemKind, Named, Reports, told, rules_of}
 use Rattle.wac_resolution_target.specs.Imported.{of_kind}
 use Rattle.wac_resolution_target.specs.Testing.{testing, AllAllowed, SomeDenied, nowhere}
 use Rattle.wac_resolution_target.proofs.Opens.{instance_opens, other_opens}
 use Rattle.wac_resolution_target.proofs.open.check_node.Goals as goal
-use Rattle.wac_resolution_rules.specs.Given.{rules_of}
 
 pub returns-in-Some-clause-ok : goal.returns-in-Some-clause-ok
 returns-in-Some-clause-ok g c = subst (λ (l : Named ItemKind). OnOk c.check_instance.result (AllAllowed (testing c.args.state.now.graph (rules_of g.R.Rules c.args.rules.now) c.args.target.now) (of_kind c.args.state.now.graph) l)) (sym (instance_opens c.args.state.now.graph c.args.node.0 c.in-Some.«package».0 (sym c.in-Some.ensures.of))) c.check_instance.ensures.ok

@@ -1,10 +1,7 @@
-use Rattle.std.proofs.Common.{sym}
-use Rattle.wac_graph.specs.Graph.{arguments_of}
+use Rattle.wac_resolution_target.proofs.Common.{sym, arguments_of, if_reports, rules_of}
 use Rattle.wac_resolution_target.specs.Testing.{testing}
-use Rattle.wac_resolution_errors.proofs.Reports.{if_reports}
 use Rattle.wac_resolution_target.proofs.Opens.{given_allowed, all_open, some_open}
 use Rattle.wac_resolution_target.proofs.open.check_open_import.Goals as goal
-use Rattle.wac_resolution_rules.specs.Given.{rules_of}
 
 pub returns-in-Some-clause-ok : goal.returns-in-Some-clause-ok
 returns-in-Some-clause-ok g c = given_allowed (testing c.args.state.now.graph (rules_of g.R.Rules c.args.rules.now) c.args.target.now) (arguments_of c.args.state.now.graph c.args.node.0) (c.args.name.now, c.args.kind) _ (sym c.in-Some.ensures.node)

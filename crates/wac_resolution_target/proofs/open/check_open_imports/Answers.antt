@@ -1,15 +1,8 @@
-use Rattle.std.proofs.Common.{◌<◌, List, ℕ, length, ap}
-use Rattle.std.specs.Prelude.{flat_map}
-use Rattle.std.proofs.lemmas.Result.{err_from_is_err_and}
-use Rattle.wac_graph_types.specs.declared.kind.ItemKind.{ItemKind}
-use Rattle.wac_graph.specs.Numbers.{numbers}
-use Rattle.wac_resolution_errors.specs.Told.{told}
+use Rattle.wac_resolution_target.proofs.Common.{◌<◌, List, ℕ, length, ap, flat_map, err_from_is_err_and, ItemKind, numbers, told, reports, rules_of}
 use Rattle.wac_resolution_target.specs.Imported.{of_kind, open_at}
 use Rattle.wac_resolution_target.specs.Testing.{testing, Allowed, Denied, nowhere}
-use Rattle.wac_resolution_errors.proofs.Reports.{reports}
 use Rattle.wac_resolution_target.proofs.Firsts.{through_more, through_all, fails_within, first_there, left_there}
 use Rattle.wac_resolution_target.proofs.open.check_open_imports.Goals as goal
-use Rattle.wac_resolution_rules.specs.Given.{rules_of}
 
 pub check_node-requires-clause-there : goal.check_node-requires-clause-there
 check_node-requires-clause-there g c = first_there (λ (i : ℕ). i < length c.args.state.now.graph.nodes) _ c.next.new.self c.in-Some.node.0 c.in-Some.ensures.steps c.loop-node.invariant.there

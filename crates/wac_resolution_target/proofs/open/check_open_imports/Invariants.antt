@@ -1,12 +1,8 @@
-use Rattle.std.proofs.Common.{◌<◌, length}
-use Rattle.std.specs.Prelude.{flat_map}
-use Rattle.std.specs.List.{AllByRecursion}
-use Rattle.wac_graph.specs.Numbers.{numbers}
+use Rattle.wac_resolution_target.proofs.Common.{◌<◌, length, flat_map, AllByRecursion, numbers, rules_of}
 use Rattle.wac_resolution_target.specs.Imported.{of_kind, open_at}
 use Rattle.wac_resolution_target.specs.Testing.{testing, Allowed}
 use Rattle.wac_resolution_target.proofs.Firsts.{Through}
 use Rattle.wac_resolution_target.proofs.open.check_open_imports.Given as goal
-use Rattle.wac_resolution_rules.specs.Given.{rules_of}
 
 abbrev pub invariant-loop-node : goal.invariant-loop-node
 invariant-loop-node g l =

@@ -1,8 +1,4 @@
-use Rattle.std.proofs.Common.{◌∙◌, List, ap}
-use Rattle.std.specs.Prelude.{string_bytes}
-use Rattle.std.specs.Option.{option_or}
-use Rattle.wac_graph_types.specs.declared.kind.InterfaceId.{InterfaceId}
-use Rattle.wac_graph_types.specs.Names.{by_name}
+use Rattle.wac_resolution_target.proofs.Common.{◌∙◌, List, ap, string_bytes, option_or, InterfaceId, by_name}
 use Rattle.wac_resolution_target.specs.Used.{last_of}
 use Rattle.wac_resolution_target.proofs.Last.{interface_in, each_interface, look_further, looked}
 use Rattle.wac_resolution_target.proofs.used.last_used.Goals as goal

@@ -1,4 +1,4 @@
-use Rattle.wac_graph_types.specs.Names.{by_name}
+use Rattle.wac_resolution_target.proofs.Common.{by_name}
 use Rattle.wac_resolution_target.proofs.Last.{Looking, interface_in}
 use Rattle.wac_resolution_target.proofs.used.last_used.Given as goal
 

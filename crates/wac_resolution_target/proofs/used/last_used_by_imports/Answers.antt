@@ -1,6 +1,4 @@
-use Rattle.std.proofs.Common.{ap}
-use Rattle.std.specs.Prelude.{string_bytes}
-use Rattle.wac_graph_types.specs.Names.{by_name}
+use Rattle.wac_resolution_target.proofs.Common.{ap, string_bytes, by_name}
 use Rattle.wac_resolution_target.proofs.Last.{of_import, look_further, looked}
 use Rattle.wac_resolution_target.proofs.used.last_used_by_imports.Goals as goal
 

@@ -1,4 +1,4 @@
-use Rattle.wac_graph_types.specs.Names.{by_name}
+use Rattle.wac_resolution_target.proofs.Common.{by_name}
 use Rattle.wac_resolution_target.proofs.Last.{Looking, of_import}
 use Rattle.wac_resolution_target.proofs.used.last_used_by_imports.Given as goal
 

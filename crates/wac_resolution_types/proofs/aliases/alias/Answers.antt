@@ -1,9 +1,4 @@
-use Rattle.std.proofs.Common.{◌≡◌, [], rules}
-use Rattle.std.proofs.lemmas.Result.{err_from_is_err_and}
-use Rattle.wac_graph_types.specs.Names.{by_name}
-use Rattle.wac_resolution_errors.specs.Told.{told}
-use Rattle.wac_resolution_state.specs.Bindings.{values_of}
-use Rattle.wac_resolution_errors.proofs.Reports.{reports}
+use Rattle.wac_resolution_types.proofs.Common.{◌≡◌, [], rules, err_from_is_err_and, by_name, told, values_of, reports}
 use Rattle.wac_resolution_types.proofs.DeclarationParts.{none_named}
 use Rattle.wac_resolution_types.proofs.Aliasing.{func_aliased, func_alias_breaks, type_aliased, type_alias_breaks}
 use Rattle.wac_resolution_types.proofs.aliases.alias.Goals as goal

@@ -1,13 +1,6 @@
-use Rattle.std.proofs.Common.{◌≡◌, refl}
+use Rattle.wac_resolution_types.proofs.Common.{◌≡◌, refl, Meaning, alias_type, ty_of, means, HasType, values_of, scope_of}
 use Rattle.wac_graph_types.specs.declared.kind.ItemKind.TheVariants as kinds
 use Rattle.wac_graph_types.specs.declared.entry.DefinedType.TheVariants as types
-use Rattle.wac_graph_types.specs.Meaning.{Meaning}
-use Rattle.wac_graph_types.specs.Shape.{alias_type}
-use Rattle.wac_ast_types.specs.Types.{ty_of}
-use Rattle.wac_graph.specs.Means.{means}
-use Rattle.wac_resolution_rules.specs.Types.{HasType}
-use Rattle.wac_resolution_state.specs.Bindings.{values_of}
-use Rattle.wac_resolution_state.specs.Named.{scope_of}
 use Rattle.wac_resolution_types.proofs.DeclarationParts.{value_added}
 use Rattle.wac_resolution_types.proofs.aliases.alias_of_expression.Goals as goal
 

@@ -1,8 +1,4 @@
-use Rattle.std.proofs.Common.{inl}
-use Rattle.std.proofs.lemmas.Result.{err_from_is_err_and}
-use Rattle.wac_ast_base.specs.Names.{ident_of}
-use Rattle.wac_resolution_state.specs.Bindings.{values_of}
-use Rattle.wac_resolution_errors.proofs.Reports.{reports}
+use Rattle.wac_resolution_types.proofs.Common.{inl, err_from_is_err_and, ident_of, values_of, reports}
 use Rattle.wac_resolution_types.proofs.Aliasing.{name_aliased}
 use Rattle.wac_resolution_types.proofs.aliases.alias_of_name.Goals as goal
 

@@ -1,10 +1,4 @@
-use Rattle.std.proofs.lemmas.Result.{err_from_is_err_and}
-use Rattle.wac_ast_base.specs.Names.{ident_of}
-use Rattle.wac_ast_types.specs.Types.{ty_of}
-use Rattle.wac_resolution_errors.specs.Told.{told}
-use Rattle.wac_resolution_rules.specs.Declarations.{alone}
-use Rattle.wac_resolution_state.specs.Bindings.{values_of}
-use Rattle.wac_resolution_errors.proofs.Reports.{reports}
+use Rattle.wac_resolution_types.proofs.Common.{err_from_is_err_and, ident_of, ty_of, told, alone, values_of, reports}
 use Rattle.wac_resolution_types.proofs.Aliasing.{as_alone, alone_breaks, expression_aliased, expression_breaks}
 use Rattle.wac_resolution_types.proofs.aliases.alias_of_type.Goals as goal
 

@@ -1,7 +1,5 @@
-use Rattle.std.proofs.Common.{sym, ap}
-use Rattle.wac_ast_types.specs.Types.{ty_of}
+use Rattle.wac_resolution_types.proofs.Common.{sym, ap, ty_of, alone}
 use Rattle.wac_ast_types.specs.declared.types.«Type».{«Type»}
-use Rattle.wac_resolution_rules.specs.Declarations.{alone}
 use Rattle.wac_resolution_types.proofs.Aliasing.{not_alone}
 use Rattle.wac_resolution_types.proofs.aliases.identifier.Goals as goal
 

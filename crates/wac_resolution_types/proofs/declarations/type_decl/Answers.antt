@@ -1,11 +1,5 @@
-use Rattle.std.proofs.lemmas.Result.{err_from_is_err_and}
-use Rattle.wac_ast_types.specs.Declarations.{variant_decl_of, record_decl_of, flags_decl_of, enum_decl_of}
+use Rattle.wac_resolution_types.proofs.Common.{err_from_is_err_and, variant_decl_of, record_decl_of, flags_decl_of, enum_decl_of, told, IsVariant, IsRecord, IsFlags, IsEnum, values_of, scope_of, reports}
 use Rattle.wac_ast_types.specs.declared.type_decl.TypeDecl.TheVariants as decls
-use Rattle.wac_resolution_errors.specs.Told.{told}
-use Rattle.wac_resolution_rules.specs.Declarations.{IsVariant, IsRecord, IsFlags, IsEnum}
-use Rattle.wac_resolution_state.specs.Bindings.{values_of}
-use Rattle.wac_resolution_state.specs.Named.{scope_of}
-use Rattle.wac_resolution_errors.proofs.Reports.{reports}
 use Rattle.wac_resolution_types.proofs.TypeDecls.{value_declared, declared, declaration_breaks}
 use Rattle.wac_resolution_types.proofs.declarations.type_decl.Goals as goal
 

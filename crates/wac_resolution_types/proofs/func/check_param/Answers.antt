@@ -1,6 +1,4 @@
-use Rattle.std.proofs.Common.{inr, ◌≡◌, Some, sym, rules}
-use Rattle.wac_graph_types.specs.Names.{by_name}
-use Rattle.wac_graph_types.specs.Scope.{look_up}
+use Rattle.wac_resolution_types.proofs.Common.{inr, ◌≡◌, Some, sym, rules, by_name, look_up}
 use Rattle.wac_resolution_types.specs.Funcs.{given}
 use Rattle.wac_resolution_types.proofs.NamedParts.{repeated}
 use Rattle.wac_resolution_types.proofs.func.check_param.Goals as goal

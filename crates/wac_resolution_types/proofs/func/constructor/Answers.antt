@@ -1,14 +1,8 @@
-use Rattle.std.proofs.Common.{map, [], ◌≡◌, rules}
-use Rattle.std.proofs.lemmas.Result.{err_from_is_err_and}
+use Rattle.wac_resolution_types.proofs.Common.{map, [], ◌≡◌, rules, err_from_is_err_and, by_name, named_type_of, told, values_of, reports}
 use Rattle.wac_graph_types.specs.declared.kind.ItemKind.TheVariants as kinds
 use Rattle.wac_graph_types.specs.declared.kind.«Type».TheVariants as types
 use Rattle.wac_graph_types.specs.declared.kind.ValueType.TheVariants as values
 use Rattle.wac_graph_types.specs.declared.entry.FuncResults.TheVariants as given_results
-use Rattle.wac_graph_types.specs.Names.{by_name}
-use Rattle.wac_ast_types.specs.Declarations.{named_type_of}
-use Rattle.wac_resolution_errors.specs.Told.{told}
-use Rattle.wac_resolution_state.specs.Bindings.{values_of}
-use Rattle.wac_resolution_errors.proofs.Reports.{reports}
 use Rattle.wac_resolution_types.proofs.FuncParts.{func_kinds, constructor_is, constructor_breaks}
 use Rattle.wac_resolution_types.proofs.DeclarationParts.{none_named}
 use Rattle.wac_resolution_types.proofs.func.constructor.Goals as goal

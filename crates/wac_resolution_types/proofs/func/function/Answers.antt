@@ -1,14 +1,6 @@
-use Rattle.std.proofs.Common.{map, List, subst, inl}
-use Rattle.std.proofs.lemmas.Result.{err_from_is_err_and}
-use Rattle.wac_graph_types.specs.Names.{by_name}
-use Rattle.wac_ast_types.specs.Declarations.{named_type_of, func_type_of}
+use Rattle.wac_resolution_types.proofs.Common.{map, List, subst, inl, err_from_is_err_and, by_name, named_type_of, func_type_of, told, ParamsBroken, values_of, scope_of, reports}
 use Rattle.wac_ast_types.specs.declared.func_type.NamedType.{NamedType}
-use Rattle.wac_resolution_errors.specs.Told.{told}
-use Rattle.wac_resolution_rules.specs.BrokenTypes.{ParamsBroken}
-use Rattle.wac_resolution_state.specs.Bindings.{values_of}
-use Rattle.wac_resolution_state.specs.Named.{scope_of}
 use Rattle.wac_resolution_types.specs.Funcs.{given, types_named, ParamSteps}
-use Rattle.wac_resolution_errors.proofs.Reports.{reports}
 use Rattle.wac_resolution_types.proofs.NamedParts.{parts_still_named}
 use Rattle.wac_resolution_types.proofs.FuncParts.{func_is, func_kinds, func_results_break}
 use Rattle.wac_resolution_types.proofs.func.function.Goals as goal

@@ -1,9 +1,4 @@
-use Rattle.std.proofs.lemmas.Result.{IfOk-weaker, MatchResult-weaker}
-use Rattle.wac_graph_types.specs.Names.{by_name}
-use Rattle.wac_ast_types.specs.Declarations.{func_type_of}
-use Rattle.wac_resolution_errors.specs.Told.{told}
-use Rattle.wac_resolution_state.specs.Bindings.{values_of}
-use Rattle.wac_resolution_errors.proofs.Reports.{reports}
+use Rattle.wac_resolution_types.proofs.Common.{IfOk-weaker, MatchResult-weaker, by_name, func_type_of, told, values_of, reports}
 use Rattle.wac_resolution_types.proofs.FuncParts.{first_named, method_is, method_breaks}
 use Rattle.wac_resolution_types.proofs.func.method.Goals as goal
 

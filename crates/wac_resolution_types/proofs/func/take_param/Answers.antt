@@ -1,13 +1,6 @@
-use Rattle.std.proofs.Common.{inr, inl}
-use Rattle.std.proofs.lemmas.Result.{err_from_is_err_and}
+use Rattle.wac_resolution_types.proofs.Common.{inr, inl, err_from_is_err_and, by_name, named_type_of, means, HasType, values_of, reports}
 use Rattle.wac_graph_types.specs.declared.kind.ItemKind.TheVariants as kinds
-use Rattle.wac_graph_types.specs.Names.{by_name}
-use Rattle.wac_ast_types.specs.Declarations.{named_type_of}
-use Rattle.wac_graph.specs.Means.{means}
-use Rattle.wac_resolution_rules.specs.Types.{HasType}
-use Rattle.wac_resolution_state.specs.Bindings.{values_of}
 use Rattle.wac_resolution_types.specs.Funcs.{given}
-use Rattle.wac_resolution_errors.proofs.Reports.{reports}
 use Rattle.wac_resolution_types.proofs.NamedParts.{part_goes}
 use Rattle.wac_resolution_types.proofs.func.take_param.Goals as goal
 

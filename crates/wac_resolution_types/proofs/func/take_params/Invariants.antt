@@ -1,7 +1,4 @@
-use Rattle.std.proofs.Common.{map, take}
-use Rattle.wac_graph_types.specs.Names.{by_name}
-use Rattle.wac_ast_types.specs.Declarations.{named_type_of}
-use Rattle.wac_resolution_state.specs.Bindings.{values_of}
+use Rattle.wac_resolution_types.proofs.Common.{map, take, by_name, named_type_of, values_of}
 use Rattle.wac_resolution_types.specs.Funcs.{ParamSteps}
 use Rattle.wac_resolution_types.proofs.func.take_params.Given as goal
 

@@ -1,5 +1,4 @@
-use Rattle.std.proofs.Common.{◌∙◌, sym, inr, rules}
-use Rattle.wac_graph_types.specs.Shape.{nothing}
+use Rattle.wac_resolution_types.proofs.Common.{◌∙◌, sym, inr, rules, nothing}
 use Rattle.wac_resolution_types.proofs.NamesAlone.{name_stands}
 use Rattle.wac_resolution_types.proofs.names_alone.check_flag.Goals as goal
 

@@ -1,15 +1,6 @@
-use Rattle.std.proofs.Common.{List, map, arith, subst}
-use Rattle.std.proofs.lemmas.Result.{err_from_is_err_and}
-use Rattle.std.proofs.lemmas.List.{take_all, length-map}
+use Rattle.wac_resolution_types.proofs.Common.{List, map, arith, subst, err_from_is_err_and, take_all, length-map, Steps, ident_of, flag_of, told, HasFlag, IsRepeatedFlag, reports}
 use Rattle.wac_ast_grammar.specs.Tree as tree
-use Rattle.wac_graph_types.specs.Steps.{Steps}
-use Rattle.wac_ast_base.specs.Names.{ident_of}
-use Rattle.wac_ast_types.specs.Declarations.{flag_of}
-use Rattle.wac_resolution_errors.specs.Told.{told}
-use Rattle.wac_resolution_rules.specs.Declarations.{HasFlag}
-use Rattle.wac_resolution_rules.specs.BrokenDeclarations.{IsRepeatedFlag}
 use Rattle.wac_resolution_types.specs.Declarations.{names_alone}
-use Rattle.wac_resolution_errors.proofs.Reports.{reports}
 use Rattle.wac_resolution_types.proofs.NamesAlone.{names_step, names_break}
 use Rattle.wac_resolution_types.proofs.names_alone.each_flag.Goals as goal
 

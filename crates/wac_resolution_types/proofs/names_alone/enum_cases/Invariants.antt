@@ -1,7 +1,4 @@
-use Rattle.std.proofs.Common.{map, take}
-use Rattle.wac_graph_types.specs.Steps.{Steps}
-use Rattle.wac_ast_types.specs.Declarations.{enum_case_of}
-use Rattle.wac_resolution_rules.specs.Declarations.{HasEnumCase}
+use Rattle.wac_resolution_types.proofs.Common.{map, take, Steps, enum_case_of, HasEnumCase}
 use Rattle.wac_resolution_types.specs.Declarations.{names_alone}
 use Rattle.wac_resolution_types.proofs.names_alone.enum_cases.Given as goal
 

@@ -1,13 +1,6 @@
-use Rattle.std.proofs.Common.{◌≡◌, [], map, ap, refl, rules}
-use Rattle.std.proofs.lemmas.Result.{err_from_is_err_and}
+use Rattle.wac_resolution_types.proofs.Common.{◌≡◌, [], map, ap, refl, rules, err_from_is_err_and, ident_of, flag_of, flags_decl_of, told, HasFlag, IsRepeatedFlag, reports}
 use Rattle.wac_graph_types.specs.declared.entry.DefinedType.TheVariants as types
-use Rattle.wac_ast_base.specs.Names.{ident_of}
-use Rattle.wac_ast_types.specs.Declarations.{flag_of, flags_decl_of}
-use Rattle.wac_resolution_errors.specs.Told.{told}
-use Rattle.wac_resolution_rules.specs.Declarations.{HasFlag}
-use Rattle.wac_resolution_rules.specs.BrokenDeclarations.{IsRepeatedFlag}
 use Rattle.wac_resolution_types.specs.Declarations.{names_alone}
-use Rattle.wac_resolution_errors.proofs.Reports.{reports}
 use Rattle.wac_resolution_types.proofs.DeclarationParts.{names_from, names_fail_from, flags_are, alone_kinds}
 use Rattle.wac_resolution_types.proofs.names_alone.flags.Goals as goal
 

@@ -1,4 +1,4 @@
-use Rattle.std.proofs.Common.{◌∙◌}
+use Rattle.wac_resolution_types.proofs.Common.{◌∙◌}
 use Rattle.wac_resolution_types.proofs.NamesAlone.{any_text}
 use Rattle.wac_resolution_types.proofs.names_alone.has_name.Goals as goal
 

@@ -1,15 +1,6 @@
-use Rattle.std.proofs.Common.{◌≡◌, [], map, ap, refl, rules}
-use Rattle.std.proofs.lemmas.Result.{err_from_is_err_and}
+use Rattle.wac_resolution_types.proofs.Common.{◌≡◌, [], map, ap, refl, rules, err_from_is_err_and, by_name, ident_of, field_of, record_decl_of, told, HasField, FieldBroken, values_of, reports}
 use Rattle.wac_graph_types.specs.declared.entry.DefinedType.TheVariants as types
-use Rattle.wac_graph_types.specs.Names.{by_name}
-use Rattle.wac_ast_base.specs.Names.{ident_of}
-use Rattle.wac_ast_types.specs.Declarations.{field_of, record_decl_of}
-use Rattle.wac_resolution_errors.specs.Told.{told}
-use Rattle.wac_resolution_rules.specs.Declarations.{HasField}
-use Rattle.wac_resolution_rules.specs.BrokenDeclarations.{FieldBroken}
-use Rattle.wac_resolution_state.specs.Bindings.{values_of}
 use Rattle.wac_resolution_types.specs.Funcs.{given}
-use Rattle.wac_resolution_errors.proofs.Reports.{reports}
 use Rattle.wac_resolution_types.proofs.NamedParts.{values_named}
 use Rattle.wac_resolution_types.proofs.DeclarationParts.{none_named, parts_from, parts_fail_from, record_is}
 use Rattle.wac_resolution_types.proofs.records.record.Goals as goal

@@ -1,7 +1,4 @@
-use Rattle.std.proofs.Common.{map, take}
-use Rattle.wac_graph_types.specs.Names.{by_name}
-use Rattle.wac_ast_types.specs.Declarations.{field_of}
-use Rattle.wac_resolution_state.specs.Bindings.{values_of}
+use Rattle.wac_resolution_types.proofs.Common.{map, take, by_name, field_of, values_of}
 use Rattle.wac_resolution_types.specs.Declarations.{FieldSteps}
 use Rattle.wac_resolution_types.proofs.records.take_fields.Given as goal
 

@@ -1,4 +1,4 @@
-use Rattle.std.proofs.Common.{◌∙◌}
+use Rattle.wac_resolution_types.proofs.Common.{◌∙◌}
 use Rattle.wac_resolution_types.proofs.FuncParts.{borrow_is}
 use Rattle.wac_resolution_types.proofs.results.check_result.Goals as goal
 

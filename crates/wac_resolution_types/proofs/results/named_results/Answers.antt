@@ -1,17 +1,5 @@
-use Rattle.std.proofs.Common.{◌≡◌, [], sym, subst, map, take, arith, rules}
-use Rattle.std.proofs.lemmas.Result.{err_from_is_err_and}
-use Rattle.std.proofs.lemmas.List.{take_all, length-map}
-use Rattle.wac_graph_types.specs.Names.{by_name}
-use Rattle.wac_graph_types.specs.Scope.{Named}
-use Rattle.wac_graph_types.specs.declared.kind.ValueType.{ValueType}
-use Rattle.wac_ast_types.specs.Declarations.{named_type_of}
-use Rattle.wac_resolution_errors.specs.Told.{told}
-use Rattle.wac_resolution_rules.specs.Types.{HasResult}
-use Rattle.wac_resolution_rules.specs.BrokenTypes.{ResultBroken}
-use Rattle.wac_resolution_state.specs.Bindings.{values_of}
+use Rattle.wac_resolution_types.proofs.Common.{◌≡◌, [], sym, subst, map, take, arith, rules, err_from_is_err_and, take_all, length-map, by_name, Named, ValueType, named_type_of, told, HasResult, ResultBroken, values_of, reports, still_named}
 use Rattle.wac_resolution_types.specs.Funcs.{given, ResultSteps}
-use Rattle.wac_resolution_errors.proofs.Reports.{reports}
-use Rattle.wac_resolution_state.proofs.Grown.{still_named}
 use Rattle.wac_resolution_types.proofs.NamedParts.{no_parts, parts_step, parts_all, parts_break}
 use Rattle.wac_resolution_types.proofs.DeclarationParts.{none_named}
 use Rattle.wac_resolution_types.proofs.results.named_results.Goals as goal

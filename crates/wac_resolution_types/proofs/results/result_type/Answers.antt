@@ -1,9 +1,4 @@
-use Rattle.std.proofs.Common.{inl, inr}
-use Rattle.std.proofs.lemmas.Result.{err_from_is_err_and}
-use Rattle.wac_ast_types.specs.Types.{ty_of}
-use Rattle.wac_resolution_errors.specs.Told.{told}
-use Rattle.wac_resolution_state.specs.Bindings.{values_of}
-use Rattle.wac_resolution_errors.proofs.Reports.{reports}
+use Rattle.wac_resolution_types.proofs.Common.{inl, inr, err_from_is_err_and, ty_of, told, values_of, reports}
 use Rattle.wac_resolution_types.proofs.FuncParts.{result_type_is, borrow_breaks}
 use Rattle.wac_resolution_types.proofs.results.result_type.Goals as goal
 

@@ -1,10 +1,5 @@
-use Rattle.std.proofs.Common.{map, ap, refl}
-use Rattle.std.proofs.lemmas.Result.{err_from_is_err_and}
+use Rattle.wac_resolution_types.proofs.Common.{map, ap, refl, err_from_is_err_and, named_type_of, told, values_of, reports}
 use Rattle.wac_graph_types.specs.declared.entry.FuncResults.TheVariants as given_results
-use Rattle.wac_ast_types.specs.Declarations.{named_type_of}
-use Rattle.wac_resolution_errors.specs.Told.{told}
-use Rattle.wac_resolution_state.specs.Bindings.{values_of}
-use Rattle.wac_resolution_errors.proofs.Reports.{reports}
 use Rattle.wac_resolution_types.proofs.FuncParts.{scalar_is, scalar_breaks, named_are, named_break}
 use Rattle.wac_resolution_types.proofs.results.results.Goals as goal
 

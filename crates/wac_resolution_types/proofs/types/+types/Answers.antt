@@ -1,21 +1,8 @@
-use Rattle.std.proofs.Common.{◌≡◌, List, map, take, sym, ap, subst, arith, inl}
-use Rattle.std.proofs.lemmas.Result.{err_from_is_err_and}
-use Rattle.std.proofs.lemmas.List.{take_all}
-use Rattle.wac_ast_grammar.specs.Tree.{Ty, Types, types_from}
-use Rattle.wac_graph_types.specs.declared.kind.ValueType.{ValueType}
+use Rattle.wac_resolution_types.proofs.Common.{◌≡◌, List, map, take, sym, ap, subst, arith, inl, err_from_is_err_and, take_all, Ty, Types, types_from, ValueType, ident_of, ty_of, TypeBroken, told, scope_of, values_of, reports, memory_told, still_named, child_named}
 use Rattle.wac_graph_types.specs.declared.kind.ValueType.TheVariants as values
-use Rattle.wac_ast_base.specs.Names.{ident_of}
-use Rattle.wac_ast_types.specs.Types.{ty_of}
 use Rattle.wac_ast_types.specs.declared.types.«Type».{«Type», size-Type}
 use Rattle.wac_ast_types.specs.declared.types.«Type».TheViews.{sized-Result}
-use Rattle.wac_resolution_rules.specs.BrokenTypes.{TypeBroken}
-use Rattle.wac_resolution_errors.specs.Told.{told}
-use Rattle.wac_resolution_state.specs.Named.{scope_of}
 use Rattle.wac_resolution_types.specs.Types.{TypesAre}
-use Rattle.wac_resolution_state.specs.Bindings.{values_of}
-use Rattle.wac_resolution_errors.proofs.Reports.{reports}
-use Rattle.wac_resolution_state.proofs.Scopes.{memory_told}
-use Rattle.wac_resolution_state.proofs.Grown.{still_named, child_named}
 use Rattle.wac_resolution_state.proofs.Sizes.{most_at}
 use Rattle.wac_resolution_types.proofs.TypeParts.{as_ty, value_type_is, no_types, types_step, types_break, tuple_type_is, tuple_breaks, result_type_is, result_breaks, result_breaks_later, stream_breaks, future_breaks}
 use Rattle.wac_resolution_types.proofs.types.+types.Goals as goal

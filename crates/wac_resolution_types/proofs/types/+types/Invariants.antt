@@ -1,7 +1,4 @@
-use Rattle.wac_resolution_state.specs.Bindings.{values_of}
-use Rattle.std.proofs.Common.{map, take}
-use Rattle.wac_ast_types.specs.Types.{ty_of}
-use Rattle.wac_ast_grammar.specs.Tree.{types_from}
+use Rattle.wac_resolution_types.proofs.Common.{values_of, map, take, ty_of, types_from}
 use Rattle.wac_resolution_types.specs.Types.{TypesAre}
 use Rattle.wac_resolution_types.proofs.types.+types.Given as goal
 

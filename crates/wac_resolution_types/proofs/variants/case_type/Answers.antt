@@ -1,7 +1,4 @@
-use Rattle.std.proofs.lemmas.Result.{err_from_is_err_and}
-use Rattle.wac_resolution_errors.specs.Told.{told}
-use Rattle.wac_resolution_state.specs.Bindings.{values_of}
-use Rattle.wac_resolution_errors.proofs.Reports.{reports}
+use Rattle.wac_resolution_types.proofs.Common.{err_from_is_err_and, told, values_of, reports}
 use Rattle.wac_resolution_types.proofs.DeclarationParts.{case_type_breaks}
 use Rattle.wac_resolution_types.proofs.variants.case_type.Goals as goal
 

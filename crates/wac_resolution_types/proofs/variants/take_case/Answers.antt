@@ -1,13 +1,5 @@
-use Rattle.std.proofs.Common.{inl, inr}
-use Rattle.std.proofs.lemmas.Result.{err_from_is_err_and}
-use Rattle.wac_graph_types.specs.Names.{by_name}
-use Rattle.wac_graph_types.specs.Shape.{optional_means}
-use Rattle.wac_ast_types.specs.Declarations.{variant_case_of}
-use Rattle.wac_graph.specs.Means.{entry_means}
-use Rattle.wac_resolution_rules.specs.Declarations.{HasOption}
-use Rattle.wac_resolution_state.specs.Bindings.{values_of}
+use Rattle.wac_resolution_types.proofs.Common.{inl, inr, err_from_is_err_and, by_name, optional_means, variant_case_of, entry_means, HasOption, values_of, reports}
 use Rattle.wac_resolution_types.specs.Declarations.{perhaps}
-use Rattle.wac_resolution_errors.proofs.Reports.{reports}
 use Rattle.wac_resolution_types.proofs.NamedParts.{part_goes}
 use Rattle.wac_resolution_types.proofs.variants.take_case.Goals as goal
 

@@ -1,16 +1,5 @@
-use Rattle.std.proofs.Common.{map, take, arith}
-use Rattle.std.proofs.lemmas.Result.{err_from_is_err_and}
-use Rattle.std.proofs.lemmas.List.{take_all, length-map}
-use Rattle.wac_graph_types.specs.Names.{by_name}
-use Rattle.wac_ast_types.specs.Declarations.{variant_case_of}
-use Rattle.wac_ast_base.specs.Names.{ident_of}
-use Rattle.wac_resolution_errors.specs.Told.{told}
-use Rattle.wac_resolution_rules.specs.Declarations.{HasCase}
-use Rattle.wac_resolution_rules.specs.BrokenDeclarations.{CaseBroken}
-use Rattle.wac_resolution_state.specs.Bindings.{values_of}
+use Rattle.wac_resolution_types.proofs.Common.{map, take, arith, err_from_is_err_and, take_all, length-map, by_name, variant_case_of, ident_of, told, HasCase, CaseBroken, values_of, reports, still_named}
 use Rattle.wac_resolution_types.specs.Declarations.{perhaps}
-use Rattle.wac_resolution_errors.proofs.Reports.{reports}
-use Rattle.wac_resolution_state.proofs.Grown.{still_named}
 use Rattle.wac_resolution_types.proofs.NamedParts.{no_parts, parts_step, parts_all, parts_break}
 use Rattle.wac_resolution_types.proofs.variants.take_cases.Goals as goal
 

@@ -1,7 +1,4 @@
-use Rattle.std.proofs.Common.{map, take}
-use Rattle.wac_graph_types.specs.Names.{by_name}
-use Rattle.wac_ast_types.specs.Declarations.{variant_case_of}
-use Rattle.wac_resolution_state.specs.Bindings.{values_of}
+use Rattle.wac_resolution_types.proofs.Common.{map, take, by_name, variant_case_of, values_of}
 use Rattle.wac_resolution_types.specs.Declarations.{CaseSteps}
 use Rattle.wac_resolution_types.proofs.variants.take_cases.Given as goal
 

@@ -1,16 +1,6 @@
-use Rattle.std.proofs.Common.{◌≡◌, [], map, ap, inl, refl, rules}
-use Rattle.std.proofs.lemmas.Result.{err_from_is_err_and}
+use Rattle.wac_resolution_types.proofs.Common.{◌≡◌, [], map, ap, inl, refl, rules, err_from_is_err_and, by_name, ident_of, variant_case_of, variant_decl_of, told, HasCase, CaseBroken, values_of, reports, memory_told}
 use Rattle.wac_graph_types.specs.declared.entry.DefinedType.TheVariants as types
-use Rattle.wac_graph_types.specs.Names.{by_name}
-use Rattle.wac_ast_base.specs.Names.{ident_of}
-use Rattle.wac_ast_types.specs.Declarations.{variant_case_of, variant_decl_of}
-use Rattle.wac_resolution_errors.specs.Told.{told}
-use Rattle.wac_resolution_rules.specs.Declarations.{HasCase}
-use Rattle.wac_resolution_rules.specs.BrokenDeclarations.{CaseBroken}
-use Rattle.wac_resolution_state.specs.Bindings.{values_of}
 use Rattle.wac_resolution_types.specs.Declarations.{perhaps}
-use Rattle.wac_resolution_errors.proofs.Reports.{reports}
-use Rattle.wac_resolution_state.proofs.Scopes.{memory_told}
 use Rattle.wac_resolution_types.proofs.NamedParts.{cases_named}
 use Rattle.wac_resolution_types.proofs.DeclarationParts.{none_named, parts_from, parts_fail_from, variant_is}
 use Rattle.wac_resolution_types.proofs.variants.variant.Goals as goal

@@ -1,17 +1,6 @@
-use Rattle.std.proofs.Common.{List, Some, map, subst}
-use Rattle.std.specs.Prelude.{string_bytes}
-use Rattle.std.proofs.lemmas.Result.{err_from_is_err_and}
-use Rattle.wac_ast_worlds.specs.Worlds.{interface_item_of, interface_decl_of}
+use Rattle.wac_resolution_worlds.proofs.Common.{List, Some, map, subst, string_bytes, err_from_is_err_and, interface_item_of, interface_decl_of, declared_count, Naming, told, InterfaceBroken, values_of, scope_of, context_of, reports}
 use Rattle.wac_ast_worlds.specs.declared.interface.InterfaceItem.{InterfaceItem}
-use Rattle.wac_graph.specs.Means.{declared_count}
-use Rattle.wac_graph.specs.Origin.{Naming}
-use Rattle.wac_resolution_errors.specs.Told.{told}
-use Rattle.wac_resolution_rules.specs.BrokenWorlds.{InterfaceBroken}
-use Rattle.wac_resolution_state.specs.Bindings.{values_of}
-use Rattle.wac_resolution_state.specs.Named.{scope_of}
-use Rattle.wac_resolution_paths.specs.Context.{context_of}
 use Rattle.wac_resolution_worlds.specs.Made.{InterfaceMade}
-use Rattle.wac_resolution_errors.proofs.Reports.{reports}
 use Rattle.wac_resolution_worlds.proofs.Declaring.{interface_declared}
 use Rattle.wac_resolution_worlds.proofs.declared.interface_decl.Goals as goal
 

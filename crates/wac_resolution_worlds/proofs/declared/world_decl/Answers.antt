@@ -1,15 +1,5 @@
-use Rattle.std.proofs.Common.{List, map, subst}
-use Rattle.std.specs.Prelude.{IfOk, IfErr}
-use Rattle.wac_ast_worlds.specs.Worlds.{world_item_of}
+use Rattle.wac_resolution_worlds.proofs.Common.{List, map, subst, IfOk, IfErr, world_item_of, declared_count, Naming, Reports, told, WorldBroken, values_of, scope_of, context_of}
 use Rattle.wac_ast_worlds.specs.declared.world.WorldItem.{WorldItem}
-use Rattle.wac_graph.specs.Means.{declared_count}
-use Rattle.wac_graph.specs.Origin.{Naming}
-use Rattle.wac_resolution_errors.specs.Error.{Reports}
-use Rattle.wac_resolution_errors.specs.Told.{told}
-use Rattle.wac_resolution_rules.specs.BrokenWorlds.{WorldBroken}
-use Rattle.wac_resolution_state.specs.Bindings.{values_of}
-use Rattle.wac_resolution_state.specs.Named.{scope_of}
-use Rattle.wac_resolution_paths.specs.Context.{context_of}
 use Rattle.wac_resolution_worlds.specs.Declared.{WorldDeclared}
 use Rattle.wac_resolution_worlds.proofs.declared.world_decl.Goals as goal
 

@@ -1,8 +1,4 @@
-use Rattle.std.proofs.Common.{map}
-use Rattle.std.specs.Prelude.{string_bytes}
-use Rattle.std.proofs.lemmas.Result.{err_from_is_err_and}
-use Rattle.wac_ast_worlds.specs.Worlds.{world_item_of}
-use Rattle.wac_resolution_state.specs.Bindings.{values_of}
+use Rattle.wac_resolution_worlds.proofs.Common.{map, string_bytes, err_from_is_err_and, world_item_of, values_of}
 use Rattle.wac_resolution_worlds.proofs.Declaring.{world_declared}
 use Rattle.wac_resolution_worlds.proofs.declared.world_of.Goals as goal
 

@@ -1,10 +1,4 @@
-use Rattle.std.proofs.Common.{ap}
-use Rattle.wac_ast_base.specs.Names.{ident_of}
-use Rattle.wac_ast_worlds.specs.Worlds.{world_item_path_of}
-use Rattle.wac_resolution_state.specs.Bindings.{values_of}
-use Rattle.wac_resolution_bodies.specs.Lists.{lists_of}
-use Rattle.wac_resolution_bodies.specs.Owners.{owner_of}
-use Rattle.wac_resolution_errors.proofs.Reports.{if_reports}
+use Rattle.wac_resolution_worlds.proofs.Common.{ap, ident_of, world_item_path_of, values_of, lists_of, owner_of, if_reports}
 use Rattle.wac_resolution_worlds.proofs.WorldItems.{ident_item_goes, ident_item_breaks}
 use Rattle.wac_resolution_worlds.proofs.extern_items.extern_item.Goals as goal
 

@@ -1,19 +1,6 @@
-use Rattle.std.proofs.Common.{List, None, ap, map, subst}
-use Rattle.std.proofs.lemmas.Result.{err_from_is_err_and}
-use Rattle.wac_ast_grammar.specs.Tree.{ExternType}
-use Rattle.wac_ast_base.specs.Names.{ident_of}
-use Rattle.wac_ast_types.specs.Declarations.{func_type_of}
-use Rattle.wac_ast_worlds.specs.Worlds.{interface_item_of, inline_interface_of, extern_type_of}
+use Rattle.wac_resolution_worlds.proofs.Common.{List, None, ap, map, subst, err_from_is_err_and, ExternType, ident_of, func_type_of, interface_item_of, inline_interface_of, extern_type_of, declared_count, Naming, told, InterfaceBroken, values_of, scope_of, context_of, reports}
 use Rattle.wac_ast_worlds.specs.declared.interface.InterfaceItem.{InterfaceItem}
-use Rattle.wac_graph.specs.Means.{declared_count}
-use Rattle.wac_graph.specs.Origin.{Naming}
-use Rattle.wac_resolution_errors.specs.Told.{told}
-use Rattle.wac_resolution_rules.specs.BrokenWorlds.{InterfaceBroken}
-use Rattle.wac_resolution_state.specs.Bindings.{values_of}
-use Rattle.wac_resolution_state.specs.Named.{scope_of}
-use Rattle.wac_resolution_paths.specs.Context.{context_of}
 use Rattle.wac_resolution_worlds.specs.Made.{InterfaceMade}
-use Rattle.wac_resolution_errors.proofs.Reports.{reports}
 use Rattle.wac_resolution_worlds.proofs.WorldItems.{named_made, func_made, inline_made, extern_breaks}
 use Rattle.wac_resolution_worlds.proofs.extern_items.extern_type.Goals as goal
 

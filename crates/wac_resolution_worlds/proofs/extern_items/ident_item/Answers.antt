@@ -1,10 +1,4 @@
-use Rattle.std.proofs.Common.{inl, inr}
-use Rattle.std.proofs.lemmas.Result.{err_from_is_err_and}
-use Rattle.wac_ast_base.specs.Names.{ident_of}
-use Rattle.wac_graph.specs.Means.{means}
-use Rattle.wac_resolution_state.specs.Bindings.{values_of}
-use Rattle.wac_resolution_bodies.specs.Lists.{lists_of}
-use Rattle.wac_resolution_errors.proofs.Reports.{reports}
+use Rattle.wac_resolution_worlds.proofs.Common.{inl, inr, err_from_is_err_and, ident_of, means, values_of, lists_of, reports}
 use Rattle.wac_resolution_worlds.proofs.WorldItems.{ident_goes}
 use Rattle.wac_resolution_worlds.proofs.extern_items.ident_item.Goals as goal
 

@@ -1,10 +1,4 @@
-use Rattle.std.proofs.Common.{inl, inr}
-use Rattle.std.proofs.lemmas.Result.{err_from_is_err_and}
-use Rattle.wac_ast_worlds.specs.Worlds.{named_world_item_of}
-use Rattle.wac_resolution_state.specs.Bindings.{values_of}
-use Rattle.wac_resolution_bodies.specs.Lists.{lists_of}
-use Rattle.wac_resolution_errors.proofs.Reports.{reports}
-use Rattle.wac_resolution_bodies.proofs.Lists.{extern_fresh}
+use Rattle.wac_resolution_worlds.proofs.Common.{inl, inr, err_from_is_err_and, named_world_item_of, values_of, lists_of, reports, extern_fresh}
 use Rattle.wac_resolution_worlds.proofs.WorldItems.{named_goes}
 use Rattle.wac_resolution_worlds.proofs.extern_items.named_item.Goals as goal
 

@@ -1,12 +1,4 @@
-use Rattle.std.proofs.Common.{inl}
-use Rattle.std.proofs.lemmas.Result.{err_from_is_err_and}
-use Rattle.wac_ast_base.specs.Names.{package_path_of}
-use Rattle.wac_resolution_errors.specs.Told.{told}
-use Rattle.wac_resolution_state.specs.Bindings.{values_of}
-use Rattle.wac_resolution_paths.specs.Context.{packages_in}
-use Rattle.wac_resolution_bodies.specs.Lists.{lists_of}
-use Rattle.wac_resolution_bodies.specs.Owners.{owner_of}
-use Rattle.wac_resolution_errors.proofs.Reports.{reports}
+use Rattle.wac_resolution_worlds.proofs.Common.{inl, err_from_is_err_and, package_path_of, told, values_of, packages_in, lists_of, owner_of, reports}
 use Rattle.wac_resolution_worlds.proofs.WorldItems.{body_there, path_goes, path_breaks}
 use Rattle.wac_resolution_worlds.proofs.extern_items.path_item.Goals as goal
 

@@ -1,9 +1,4 @@
-use Rattle.std.proofs.Common.{sym}
-use Rattle.std.proofs.lemmas.Result.{err_from_is_err_and}
-use Rattle.wac_ast_base.specs.Names.{ident_of}
-use Rattle.wac_resolution_errors.specs.Told.{told}
-use Rattle.wac_resolution_state.specs.Bindings.{values_of}
-use Rattle.wac_resolution_errors.proofs.Reports.{reports}
+use Rattle.wac_resolution_worlds.proofs.Common.{sym, err_from_is_err_and, ident_of, told, values_of, reports}
 use Rattle.wac_resolution_worlds.proofs.Refer.{extern_named, extern_breaks}
 use Rattle.wac_resolution_worlds.proofs.externs.named_extern.Goals as goal
 

@@ -1,10 +1,5 @@
-use Rattle.std.proofs.lemmas.Result.{err_from_is_err_and}
-use Rattle.wac_ast_base.specs.Names.{ident_of}
-use Rattle.wac_ast_types.specs.Declarations.{func_type_of}
+use Rattle.wac_resolution_worlds.proofs.Common.{err_from_is_err_and, ident_of, func_type_of, told, values_of, reports}
 use Rattle.wac_ast_types.specs.declared.func_type.FuncTypeRef.TheVariants as references
-use Rattle.wac_resolution_errors.specs.Told.{told}
-use Rattle.wac_resolution_state.specs.Bindings.{values_of}
-use Rattle.wac_resolution_errors.proofs.Reports.{reports}
 use Rattle.wac_resolution_worlds.proofs.Refer.{ref_is, ref_breaks, new_ref_is, named_ref_is}
 use Rattle.wac_resolution_worlds.proofs.functions.func_ref.Goals as goal
 

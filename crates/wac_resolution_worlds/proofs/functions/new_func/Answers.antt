@@ -1,10 +1,4 @@
-use Rattle.std.proofs.Common.{ap}
-use Rattle.std.proofs.lemmas.Result.{err_from_is_err_and}
-use Rattle.wac_graph_types.specs.Names.{by_name}
-use Rattle.wac_ast_types.specs.Declarations.{func_type_of}
-use Rattle.wac_resolution_errors.specs.Told.{told}
-use Rattle.wac_resolution_state.specs.Bindings.{values_of}
-use Rattle.wac_resolution_errors.proofs.Reports.{reports}
+use Rattle.wac_resolution_worlds.proofs.Common.{ap, err_from_is_err_and, by_name, func_type_of, told, values_of, reports}
 use Rattle.wac_resolution_worlds.proofs.Refer.{new_func_is, new_func_breaks}
 use Rattle.wac_resolution_worlds.proofs.functions.new_func.Goals as goal
 

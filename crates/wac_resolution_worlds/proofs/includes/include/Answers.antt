@@ -1,16 +1,5 @@
-use Rattle.std.proofs.Common.{List, [], inl, map, refl, subst}
-use Rattle.std.proofs.lemmas.Result.{err_from_is_err_and}
-use Rattle.wac_graph_types.specs.Names.{by_name}
-use Rattle.wac_graph_types.specs.Steps.{Fails}
-use Rattle.wac_ast_uses.specs.Uses.{world_include_item_of, world_include_of}
+use Rattle.wac_resolution_worlds.proofs.Common.{List, [], inl, map, refl, subst, err_from_is_err_and, by_name, Fails, world_include_item_of, world_include_of, told, IsSecondEntry, HasEntry, values_of, lists_of, AreAll, reports}
 use Rattle.wac_ast_uses.specs.declared.includes.WorldIncludeItem.{WorldIncludeItem}
-use Rattle.wac_resolution_errors.specs.Told.{told}
-use Rattle.wac_resolution_rules.specs.BrokenWorlds.{IsSecondEntry}
-use Rattle.wac_resolution_rules.specs.Includes.{HasEntry}
-use Rattle.wac_resolution_state.specs.Bindings.{values_of}
-use Rattle.wac_resolution_bodies.specs.Lists.{lists_of}
-use Rattle.wac_resolution_includes.specs.Entries.{AreAll}
-use Rattle.wac_resolution_errors.proofs.Reports.{reports}
 use Rattle.wac_resolution_worlds.proofs.Including.{include_goes, world_breaks, taking_breaks}
 use Rattle.wac_resolution_worlds.proofs.includes.include.Goals as goal
 

@@ -1,10 +1,4 @@
-use Rattle.std.proofs.Common.{sym}
-use Rattle.std.proofs.lemmas.Result.{err_from_is_err_and}
-use Rattle.wac_ast_worlds.specs.Worlds.{world_item_of}
-use Rattle.wac_ast_uses.specs.Uses.{world_include_of}
-use Rattle.wac_resolution_state.specs.Bindings.{values_of}
-use Rattle.wac_resolution_bodies.specs.Lists.{lists_of}
-use Rattle.wac_resolution_errors.proofs.Reports.{reports}
+use Rattle.wac_resolution_worlds.proofs.Common.{sym, err_from_is_err_and, world_item_of, world_include_of, values_of, lists_of, reports}
 use Rattle.wac_resolution_worlds.proofs.Including.{no_include, one_include}
 use Rattle.wac_resolution_worlds.proofs.includes.include_item.Goals as goal
 

@@ -1,14 +1,4 @@
-use Rattle.std.proofs.Common.{List, map, ap, subst, arith}
-use Rattle.std.proofs.lemmas.Result.{err_from_is_err_and}
-use Rattle.std.proofs.lemmas.List.{take_all, length-map}
-use Rattle.wac_ast_grammar.specs.Tree.{WorldInclude}
-use Rattle.wac_ast_worlds.specs.Worlds.{world_item_of}
-use Rattle.wac_resolution_errors.specs.Told.{told}
-use Rattle.wac_resolution_rules.specs.Worlds.{includes_of}
-use Rattle.wac_resolution_state.specs.Bindings.{values_of}
-use Rattle.wac_resolution_errors.proofs.Reports.{reports}
-use Rattle.wac_resolution_paths.proofs.Expanding.{items_expanded}
-use Rattle.wac_resolution_bodies.specs.Lists.{lists_of}
+use Rattle.wac_resolution_worlds.proofs.Common.{List, map, ap, subst, arith, err_from_is_err_and, take_all, length-map, WorldInclude, world_item_of, told, includes_of, values_of, reports, items_expanded, lists_of}
 use Rattle.wac_resolution_worlds.specs.WorldItems.{IncludeSteps}
 use Rattle.wac_resolution_worlds.proofs.Including.{none_include, includes_step, includes_break}
 use Rattle.wac_resolution_worlds.proofs.includes.includes.Goals as goal

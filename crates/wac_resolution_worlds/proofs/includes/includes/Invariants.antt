@@ -1,8 +1,4 @@
-use Rattle.std.proofs.Common.{map, take}
-use Rattle.wac_ast_worlds.specs.Worlds.{world_item_of}
-use Rattle.wac_resolution_rules.specs.Worlds.{includes_of}
-use Rattle.wac_resolution_state.specs.Bindings.{values_of}
-use Rattle.wac_resolution_bodies.specs.Lists.{lists_of}
+use Rattle.wac_resolution_worlds.proofs.Common.{map, take, world_item_of, includes_of, values_of, lists_of}
 use Rattle.wac_resolution_worlds.specs.WorldItems.{IncludeSteps}
 use Rattle.wac_resolution_worlds.proofs.includes.includes.Given as goal
 

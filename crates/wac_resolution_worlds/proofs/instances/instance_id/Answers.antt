@@ -1,7 +1,4 @@
-use Rattle.std.proofs.Common.{◌≡◌, List, Some, subst}
-use Rattle.std.specs.Prelude.{slice_get, option_and_then}
-use Rattle.wac_graph_types.specs.declared.entry.Entry.{Entry}
-use Rattle.wac_graph_types.specs.Readings.{as_interface}
+use Rattle.wac_resolution_worlds.proofs.Common.{◌≡◌, List, Some, subst, slice_get, option_and_then, Entry, as_interface}
 use Rattle.wac_resolution_worlds.proofs.Ids.{id_is}
 use Rattle.wac_resolution_worlds.proofs.instances.instance_id.Goals as goal
 

@@ -1,5 +1,4 @@
-use Rattle.std.proofs.Common.{refl}
-use Rattle.wac_resolution_bodies.specs.Lists.{lists_of}
+use Rattle.wac_resolution_worlds.proofs.Common.{refl, lists_of}
 use Rattle.wac_resolution_worlds.proofs.InterfaceBodies.{interface_kinds}
 use Rattle.wac_resolution_worlds.proofs.interfaces.finish_interface.Goals as goal
 

@@ -1,11 +1,4 @@
-use Rattle.std.proofs.Common.{map}
-use Rattle.std.specs.Prelude.{option_map, string_bytes}
-use Rattle.std.proofs.lemmas.Result.{err_from_is_err_and}
-use Rattle.wac_ast_worlds.specs.Worlds.{interface_item_of}
-use Rattle.wac_resolution_errors.specs.Told.{told}
-use Rattle.wac_resolution_state.specs.Bindings.{values_of}
-use Rattle.wac_resolution_bodies.specs.Lists.{lists_of}
-use Rattle.wac_resolution_errors.proofs.Reports.{reports}
+use Rattle.wac_resolution_worlds.proofs.Common.{map, option_map, string_bytes, err_from_is_err_and, interface_item_of, told, values_of, lists_of, reports}
 use Rattle.wac_resolution_worlds.proofs.InterfaceBodies.{interface_made, items_broken}
 use Rattle.wac_resolution_worlds.proofs.interfaces.interface.Goals as goal
 

@@ -1,11 +1,4 @@
-use Rattle.std.proofs.Common.{inl}
-use Rattle.std.proofs.lemmas.Result.{err_from_is_err_and}
-use Rattle.wac_ast_worlds.specs.Worlds.{interface_export_of}
-use Rattle.wac_resolution_errors.specs.Told.{told}
-use Rattle.wac_resolution_errors.proofs.Reports.{reports}
-use Rattle.wac_resolution_state.proofs.Scopes.{memory_told}
-use Rattle.wac_resolution_bodies.specs.Lists.{lists_of}
-use Rattle.wac_resolution_bodies.specs.Owners.{owner_of}
+use Rattle.wac_resolution_worlds.proofs.Common.{inl, err_from_is_err_and, interface_export_of, told, reports, memory_told, lists_of, owner_of}
 use Rattle.wac_resolution_worlds.proofs.InterfaceBodies.{export_goes, export_conflicts}
 use Rattle.wac_resolution_worlds.proofs.interfaces.interface_export.Goals as goal
 

@@ -1,22 +1,7 @@
-use Rattle.std.proofs.Common.{ap, subst}
-use Rattle.std.specs.Prelude.{IfErr, OnOk}
+use Rattle.wac_resolution_worlds.proofs.Common.{ap, subst, IfErr, OnOk, item_type_decl_of, interface_export_of, interface_item_of, use_of, Naming, Reports, told, UseBroken, values_of, scope_of, context_of, body_of, lists_of, owner_of, if_reports}
 use Rattle.wac_graph_types.specs.declared.kind.ExternKind.TheVariants as sides
-use Rattle.wac_ast_types.specs.Declarations.{item_type_decl_of}
-use Rattle.wac_ast_worlds.specs.Worlds.{interface_export_of, interface_item_of}
-use Rattle.wac_ast_uses.specs.Uses.{use_of}
 use Rattle.wac_ast_uses.specs.declared.uses.Use.{Use}
-use Rattle.wac_graph.specs.Origin.{Naming}
-use Rattle.wac_resolution_errors.specs.Error.{Reports}
-use Rattle.wac_resolution_errors.specs.Told.{told}
-use Rattle.wac_resolution_rules.specs.BrokenBodies.{UseBroken}
-use Rattle.wac_resolution_state.specs.Bindings.{values_of}
-use Rattle.wac_resolution_state.specs.Named.{scope_of}
-use Rattle.wac_resolution_paths.specs.Context.{context_of}
-use Rattle.wac_resolution_bodies.specs.Bodies.{body_of}
 use Rattle.wac_resolution_worlds.specs.UseStatements.{UseStatementStep}
-use Rattle.wac_resolution_bodies.specs.Lists.{lists_of}
-use Rattle.wac_resolution_bodies.specs.Owners.{owner_of}
-use Rattle.wac_resolution_errors.proofs.Reports.{if_reports}
 use Rattle.wac_resolution_worlds.proofs.InterfaceBodies.{use_breaks, export_breaks, declaration_breaks, export_item, declaration_item}
 use Rattle.wac_resolution_worlds.proofs.interfaces.interface_item.Goals as goal
 

@@ -1,18 +1,5 @@
-use Rattle.std.proofs.Common.{map, take, ap, arith}
-use Rattle.std.proofs.lemmas.Result.{err_from_is_err_and}
-use Rattle.std.proofs.lemmas.List.{take_all, length-map}
+use Rattle.wac_resolution_worlds.proofs.Common.{map, take, ap, arith, err_from_is_err_and, take_all, length-map, interface_item_of, told, InterfaceItemBroken, bound_in_interface_item, HasInterfaceItem, values_of, places_of, packages_in, context_of, reports, items_expanded, lists_of, owner_of}
 use Rattle.wac_graph_types.specs.declared.kind.ExternKind.TheVariants as sides
-use Rattle.wac_ast_worlds.specs.Worlds.{interface_item_of}
-use Rattle.wac_resolution_errors.specs.Told.{told}
-use Rattle.wac_resolution_rules.specs.BrokenWorlds.{InterfaceItemBroken}
-use Rattle.wac_resolution_rules.specs.Places.{bound_in_interface_item}
-use Rattle.wac_resolution_rules.specs.Worlds.{HasInterfaceItem}
-use Rattle.wac_resolution_state.specs.Bindings.{values_of, places_of}
-use Rattle.wac_resolution_paths.specs.Context.{packages_in, context_of}
-use Rattle.wac_resolution_errors.proofs.Reports.{reports}
-use Rattle.wac_resolution_paths.proofs.Expanding.{items_expanded}
-use Rattle.wac_resolution_bodies.specs.Lists.{lists_of}
-use Rattle.wac_resolution_bodies.specs.Owners.{owner_of}
 use Rattle.wac_resolution_worlds.proofs.Growing.{none_expand, items_step, items_all, items_break}
 use Rattle.wac_resolution_worlds.proofs.InterfaceBodies.{empty_is_body}
 use Rattle.wac_resolution_worlds.proofs.interfaces.interface_items.Goals as goal

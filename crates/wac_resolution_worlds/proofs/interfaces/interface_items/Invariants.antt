@@ -1,7 +1,4 @@
-use Rattle.std.proofs.Common.{map, take}
-use Rattle.wac_ast_worlds.specs.Worlds.{interface_item_of}
-use Rattle.wac_resolution_state.specs.Bindings.{values_of}
-use Rattle.wac_resolution_bodies.specs.Lists.{lists_of}
+use Rattle.wac_resolution_worlds.proofs.Common.{map, take, interface_item_of, values_of, lists_of}
 use Rattle.wac_resolution_worlds.specs.Made.{InterfaceItemSteps}
 use Rattle.wac_resolution_worlds.proofs.interfaces.interface_items.Given as goal
 

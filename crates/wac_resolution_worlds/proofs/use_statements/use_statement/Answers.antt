@@ -1,19 +1,7 @@
-use Rattle.std.proofs.Common.{ℕ, List, map, subst}
-use Rattle.std.proofs.lemmas.Result.{err_from_is_err_and}
+use Rattle.wac_resolution_worlds.proofs.Common.{ℕ, List, map, subst, err_from_is_err_and, Fails, use_item_of, use_of, use_path_of, means, Naming, told, UsesItem, UseItemBroken, values_of, body_of, lists_of, reports}
 use Rattle.wac_graph_types.specs.declared.kind.ItemKind.TheVariants as kinds
-use Rattle.wac_graph_types.specs.Steps.{Fails}
 use Rattle.wac_ast_uses.specs.declared.uses.UseItem.{UseItem}
-use Rattle.wac_ast_uses.specs.Uses.{use_item_of, use_of, use_path_of}
-use Rattle.wac_graph.specs.Means.{means}
-use Rattle.wac_graph.specs.Origin.{Naming}
-use Rattle.wac_resolution_errors.specs.Told.{told}
-use Rattle.wac_resolution_rules.specs.Bodies.{UsesItem}
-use Rattle.wac_resolution_rules.specs.BrokenBodies.{UseItemBroken}
-use Rattle.wac_resolution_state.specs.Bindings.{values_of}
-use Rattle.wac_resolution_bodies.specs.Bodies.{body_of}
-use Rattle.wac_resolution_bodies.specs.Lists.{lists_of}
 use Rattle.wac_resolution_worlds.specs.Used.{UseSteps}
-use Rattle.wac_resolution_errors.proofs.Reports.{reports}
 use Rattle.wac_resolution_worlds.proofs.UseStatements.{body_there, statement_goes, none_named, uses_broken}
 use Rattle.wac_resolution_worlds.proofs.use_statements.use_statement.Goals as goal
 

@@ -1,18 +1,4 @@
-use Rattle.std.proofs.Common.{ℕ, List, inl, inr, subst}
-use Rattle.std.proofs.lemmas.Result.{err_from_is_err_and}
-use Rattle.wac_graph_types.specs.declared.kind.ItemKind.{ItemKind}
-use Rattle.wac_ast_uses.specs.Uses.{use_path_of}
-use Rattle.wac_graph.specs.Means.{means}
-use Rattle.wac_lexer.specs.Span.{Span}
-use Rattle.wac_resolution_errors.specs.Told.{told}
-use Rattle.wac_resolution_rules.specs.BrokenBodies.{IsNoInterface}
-use Rattle.wac_resolution_rules.specs.Paths.{UseNames}
-use Rattle.wac_resolution_rules.specs.Spans.{use_path_name}
-use Rattle.wac_resolution_state.specs.Bindings.{values_of}
-use Rattle.wac_resolution_state.specs.Named.{scope_of}
-use Rattle.wac_resolution_paths.specs.Expands.{Found}
-use Rattle.wac_resolution_paths.specs.Context.{packages_in, context_of}
-use Rattle.wac_resolution_errors.proofs.Reports.{reports}
+use Rattle.wac_resolution_worlds.proofs.Common.{ℕ, List, inl, inr, subst, err_from_is_err_and, ItemKind, use_path_of, means, Span, told, IsNoInterface, UseNames, use_path_name, values_of, scope_of, Found, packages_in, context_of, reports}
 use Rattle.wac_resolution_worlds.proofs.use_statements.used_interface.Goals as goal
 
 pub returns-in_err-kind-clause-err : goal.returns-in_err-kind-clause-err

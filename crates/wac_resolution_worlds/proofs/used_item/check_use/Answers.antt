@@ -1,10 +1,4 @@
-use Rattle.std.proofs.Common.{sym, rules, inr}
-use Rattle.std.specs.Prelude.{option_map}
-use Rattle.wac_ast_base.specs.Names.{ident_of}
-use Rattle.wac_ast_uses.specs.Uses.{use_item_of}
-use Rattle.wac_graph.specs.Means.{means}
-use Rattle.wac_resolution_bodies.specs.Lists.{lists_of}
-use Rattle.wac_resolution_bodies.specs.Bodies.{body_of}
+use Rattle.wac_resolution_worlds.proofs.Common.{sym, rules, inr, option_map, ident_of, use_item_of, means, lists_of, body_of}
 use Rattle.wac_resolution_worlds.proofs.UsedItems.{use_stands, use_conflicts}
 use Rattle.wac_resolution_worlds.proofs.used_item.check_use.Goals as goal
 

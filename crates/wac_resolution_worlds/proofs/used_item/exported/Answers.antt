@@ -1,5 +1,4 @@
-use Rattle.std.proofs.Common.{inr, rules}
-use Rattle.wac_ast_uses.specs.Uses.{use_item_of}
+use Rattle.wac_resolution_worlds.proofs.Common.{inr, rules, use_item_of}
 use Rattle.wac_resolution_worlds.proofs.UsedItems.{kind_there, nothing_there}
 use Rattle.wac_resolution_worlds.proofs.used_item.exported.Goals as goal
 

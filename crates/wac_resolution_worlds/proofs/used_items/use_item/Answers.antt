@@ -1,12 +1,4 @@
-use Rattle.std.proofs.Common.{inr, refl}
-use Rattle.std.proofs.lemmas.Result.{err_from_is_err_and}
-use Rattle.wac_ast_base.specs.Names.{ident_of}
-use Rattle.wac_ast_uses.specs.Uses.{use_item_of}
-use Rattle.wac_graph.specs.Means.{means}
-use Rattle.wac_resolution_errors.specs.Told.{told}
-use Rattle.wac_resolution_bodies.specs.Lists.{lists_of}
-use Rattle.wac_resolution_bodies.specs.Bodies.{body_of}
-use Rattle.wac_resolution_errors.proofs.Reports.{reports}
+use Rattle.wac_resolution_worlds.proofs.Common.{inr, refl, err_from_is_err_and, ident_of, use_item_of, means, told, lists_of, body_of, reports}
 use Rattle.wac_resolution_worlds.proofs.UsedItems.{kind_breaks, use_unused, use_bound, use_fresh, use_goes}
 use Rattle.wac_resolution_worlds.proofs.used_items.use_item.Goals as goal
 

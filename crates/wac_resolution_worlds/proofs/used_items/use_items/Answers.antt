@@ -1,16 +1,5 @@
-use Rattle.std.proofs.Common.{map, take, arith}
-use Rattle.std.proofs.lemmas.Result.{err_from_is_err_and}
-use Rattle.std.proofs.lemmas.List.{take_all, length-map}
+use Rattle.wac_resolution_worlds.proofs.Common.{map, take, arith, err_from_is_err_and, take_all, length-map, use_item_of, means, told, UsesItem, UseItemBroken, used_at, lists_of, reports, none_go, items_break}
 use Rattle.wac_graph_types.specs.declared.kind.ItemKind.TheVariants as kinds
-use Rattle.wac_ast_uses.specs.Uses.{use_item_of}
-use Rattle.wac_graph.specs.Means.{means}
-use Rattle.wac_resolution_errors.specs.Told.{told}
-use Rattle.wac_resolution_rules.specs.Bodies.{UsesItem}
-use Rattle.wac_resolution_rules.specs.BrokenBodies.{UseItemBroken}
-use Rattle.wac_resolution_rules.specs.Places.{used_at}
-use Rattle.wac_resolution_bodies.specs.Lists.{lists_of}
-use Rattle.wac_resolution_errors.proofs.Reports.{reports}
-use Rattle.wac_resolution_bodies.proofs.Going.{none_go, items_break}
 use Rattle.wac_resolution_worlds.proofs.UsedItems.{uses_step, uses_all}
 use Rattle.wac_resolution_worlds.proofs.used_items.use_items.Goals as goal
 

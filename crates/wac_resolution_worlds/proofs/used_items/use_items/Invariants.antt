@@ -1,6 +1,4 @@
-use Rattle.std.proofs.Common.{map, take}
-use Rattle.wac_ast_uses.specs.Uses.{use_item_of}
-use Rattle.wac_resolution_bodies.specs.Lists.{lists_of}
+use Rattle.wac_resolution_worlds.proofs.Common.{map, take, use_item_of, lists_of}
 use Rattle.wac_resolution_worlds.specs.Used.{UseSteps}
 use Rattle.wac_resolution_worlds.proofs.used_items.use_items.Given as goal
 

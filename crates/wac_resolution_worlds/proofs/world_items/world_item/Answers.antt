@@ -1,11 +1,4 @@
-use Rattle.std.proofs.Common.{ap}
-use Rattle.wac_ast_types.specs.Declarations.{item_type_decl_of}
-use Rattle.wac_ast_worlds.specs.Worlds.{world_import_of, world_export_of, world_item_of}
-use Rattle.wac_ast_uses.specs.Uses.{use_of, world_include_of}
-use Rattle.wac_resolution_state.specs.Bindings.{values_of}
-use Rattle.wac_resolution_bodies.specs.Lists.{lists_of}
-use Rattle.wac_resolution_bodies.specs.Owners.{owner_of}
-use Rattle.wac_resolution_errors.proofs.Reports.{if_reports}
+use Rattle.wac_resolution_worlds.proofs.Common.{ap, item_type_decl_of, world_import_of, world_export_of, world_item_of, use_of, world_include_of, values_of, lists_of, owner_of, if_reports}
 use Rattle.wac_resolution_worlds.proofs.WorldBodies.{use_breaks, import_breaks, export_breaks, declaration_breaks, declaration_item, include_item}
 use Rattle.wac_resolution_worlds.proofs.world_items.world_item.Goals as goal
 

@@ -1,7 +1,4 @@
-use Rattle.std.proofs.Common.{map, take}
-use Rattle.wac_ast_worlds.specs.Worlds.{world_item_of}
-use Rattle.wac_resolution_state.specs.Bindings.{values_of}
-use Rattle.wac_resolution_bodies.specs.Lists.{lists_of}
+use Rattle.wac_resolution_worlds.proofs.Common.{map, take, world_item_of, values_of, lists_of}
 use Rattle.wac_resolution_worlds.specs.WorldItems.{WorldItemSteps}
 use Rattle.wac_resolution_worlds.proofs.world_items.world_items.Given as goal
 

@@ -1,5 +1,4 @@
-use Rattle.std.proofs.Common.{refl}
-use Rattle.wac_resolution_bodies.specs.Lists.{lists_of}
+use Rattle.wac_resolution_worlds.proofs.Common.{refl, lists_of}
 use Rattle.wac_resolution_worlds.proofs.WorldBodies.{world_kinds}
 use Rattle.wac_resolution_worlds.proofs.worlds.finish_world.Goals as goal
 

@@ -1,12 +1,4 @@
-use Rattle.std.proofs.Common.{map}
-use Rattle.std.specs.Prelude.{option_map, string_bytes}
-use Rattle.std.proofs.lemmas.Result.{err_from_is_err_and}
-use Rattle.wac_ast_worlds.specs.Worlds.{world_item_of}
-use Rattle.wac_resolution_errors.specs.Told.{told}
-use Rattle.wac_resolution_state.specs.Bindings.{values_of}
-use Rattle.wac_resolution_errors.proofs.Reports.{reports}
-use Rattle.wac_resolution_paths.proofs.Expanding.{items_expanded}
-use Rattle.wac_resolution_bodies.specs.Lists.{lists_of}
+use Rattle.wac_resolution_worlds.proofs.Common.{map, option_map, string_bytes, err_from_is_err_and, world_item_of, told, values_of, reports, items_expanded, lists_of}
 use Rattle.wac_resolution_worlds.proofs.WorldBodies.{body_named, world_made, items_broken, includes_broken}
 use Rattle.wac_resolution_worlds.proofs.worlds.world.Goals as goal
 

@@ -1,5 +1,4 @@
-use Rattle.std.proofs.Common.{◌∙◌, inl, sym}
-use Rattle.std.specs.Prelude.{◌≢◌}
+use Rattle.wac_tool.proofs.Common.{◌∙◌, inl, sym, ◌≢◌}
 use Rattle.std.proofs.lemmas.Slice.Eq.{bytes_eq-Decides}
 use Rattle.wac_tool.specs.Running.{printed}
 use Rattle.wac_tool.specs.declared.command.Command.TheVariants.{Check}

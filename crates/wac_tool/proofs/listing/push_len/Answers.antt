@@ -1,4 +1,4 @@
-use Rattle.std.proofs.Common.{◌≡◌, ◌++◌, OnOk, string_bytes, subst, sym}
+use Rattle.wac_tool.proofs.Common.{◌≡◌, ◌++◌, OnOk, string_bytes, subst, sym}
 use Rattle.std.proofs.lemmas.Fmt.{decimal_digit}
 use Rattle.wac_tool.proofs.listing.push_len.Goals as goal
 

@@ -1,4 +1,5 @@
-use Rattle.std.proofs.Common.{◌≡◌, ◌++◌, ◌∙◌, ap, append-nil, arith, length, length-append, take, string_bytes}
+use Rattle.wac_tool.proofs.Common.{◌≡◌, ◌++◌, ◌∙◌, ap, arith, length, length-append, take, string_bytes}
+use Rattle.std.proofs.Common.{append-nil}
 use Rattle.wac_tool.specs.Front.{Began}
 use Rattle.wac_tool.proofs.Fronts.{began_at}
 use Rattle.wac_tool.proofs.listing.put_part.Goals as goal

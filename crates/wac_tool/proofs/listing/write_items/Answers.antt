@@ -1,6 +1,4 @@
-use Rattle.std.proofs.Common.{◌≡◌, ◌++◌, ◌∙◌, ap, refl, rules, arith, take, string_bytes, Err}
-use Rattle.std.specs.Prelude.{alloc_error}
-use Rattle.wac_lexer.specs.Reading.{left}
+use Rattle.wac_tool.proofs.Common.{◌≡◌, ◌++◌, ◌∙◌, ap, refl, rules, arith, take, string_bytes, Err, alloc_error, left}
 use Rattle.wac_tool.specs.Running.{item_lines}
 use Rattle.wac_tool.specs.declared.error.RunError.TheVariants.{Memory}
 use Rattle.wac_tool.proofs.Faults.{not_listed}

@@ -1,5 +1,5 @@
-use Rattle.std.proofs.Common.{◌∙◌, ◌++◌, sym, ap, append-nil, string_bytes}
-use Rattle.wac_resolution_mentions.specs.Noted.{mentions_in}
+use Rattle.wac_tool.proofs.Common.{◌∙◌, ◌++◌, sym, ap, string_bytes, mentions_in}
+use Rattle.std.proofs.Common.{append-nil}
 use Rattle.wac_tool.specs.Running.{package_lines}
 use Rattle.wac_tool.proofs.ItemLines.{lines_go}
 use Rattle.wac_tool.proofs.packages.keys.Goals as goal

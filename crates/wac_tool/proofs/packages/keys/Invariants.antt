@@ -1,5 +1,4 @@
-use Rattle.std.proofs.Common.{◌≡◌, ◌++◌, string_bytes}
-use Rattle.wac_resolution_mentions.specs.Noted.{mentions_in}
+use Rattle.wac_tool.proofs.Common.{◌≡◌, ◌++◌, string_bytes, mentions_in}
 use Rattle.wac_tool.specs.Running.{package_lines}
 use Rattle.wac_tool.proofs.packages.keys.Given as goal
 

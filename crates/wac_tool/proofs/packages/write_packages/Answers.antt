@@ -1,4 +1,4 @@
-use Rattle.std.proofs.Common.{subst, string_bytes}
+use Rattle.wac_tool.proofs.Common.{subst, string_bytes}
 use Rattle.wac_tool.specs.Front.{Began}
 use Rattle.wac_tool.proofs.Fronts.{began_at}
 use Rattle.wac_tool.proofs.packages.write_packages.Goals as goal

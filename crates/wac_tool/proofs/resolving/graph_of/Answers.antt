@@ -1,4 +1,4 @@
-use Rattle.std.proofs.Common.{inl}
+use Rattle.wac_tool.proofs.Common.{inl}
 use Rattle.wac_tool.specs.declared.command.Command.TheVariants.{Resolve}
 use Rattle.wac_tool.proofs.GraphTexts.{has_graph, rejects_document}
 use Rattle.wac_tool.proofs.NoTree.{rejects}

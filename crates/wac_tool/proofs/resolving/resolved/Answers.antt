@@ -1,4 +1,4 @@
-use Rattle.wac_ast.specs.Statements.{document_of}
+use Rattle.wac_tool.proofs.Common.{document_of}
 use Rattle.wac_tool.proofs.GraphTexts.{is_graph, is_rejected}
 use Rattle.wac_tool.proofs.resolving.resolved.Goals as goal
 

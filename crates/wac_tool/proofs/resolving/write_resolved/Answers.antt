@@ -1,4 +1,4 @@
-use Rattle.std.proofs.Common.{[], ◌∙◌, sym, add-zero}
+use Rattle.wac_tool.proofs.Common.{[], ◌∙◌, sym, add-zero}
 use Rattle.wac_tool.proofs.Fronts.{began_at}
 use Rattle.wac_tool.proofs.GraphTexts.{any_naming, lines_of, writes_graph}
 use Rattle.wac_tool.proofs.resolving.write_resolved.Goals as goal

@@ -1,6 +1,5 @@
-use Rattle.std.proofs.Common.{◌∙◌, ◌+◌, ap, codes}
+use Rattle.wac_tool.proofs.Common.{◌∙◌, ◌+◌, ap, codes, document_of}
 use Rattle.serde_json.specs.Written.{compact_text}
-use Rattle.wac_ast.specs.Statements.{document_of}
 use Rattle.wac_json_forms.specs.Forms.{json_of}
 use Rattle.wac_tool.proofs.JsonLines.{begun_before, cut_behind, put_both}
 use Rattle.wac_tool.proofs.running.json_line.Goals as goal

@@ -1,5 +1,4 @@
-use Rattle.std.proofs.Common.{rules}
-use Rattle.wac_ast.specs.Statements.{document_of}
+use Rattle.wac_tool.proofs.Common.{rules, document_of}
 use Rattle.wac_tool.proofs.Printing.{began}
 use Rattle.wac_tool.proofs.running.print.Goals as goal
 

@@ -1,4 +1,4 @@
-use Rattle.std.proofs.Common.{rules, ◌≡◌, Err, sym, subst}
+use Rattle.wac_tool.proofs.Common.{rules, ◌≡◌, Err, sym, subst}
 use Rattle.wac_tool.specs.Running.{Answers}
 use Rattle.wac_tool.proofs.InBlocks.{stopped, stopped_same, held_on}
 use Rattle.wac_tool.proofs.running.write_and_flush.Goals as goal

@@ -1,4 +1,5 @@
-use Rattle.std.proofs.Common.{◌≡◌, ◌+◌, ◌-◌, ◌^◌, inl, inr, min, ◌∷◌, [], ap, sym, ◌∙◌}
+use Rattle.wac_ast_base.proofs.Common.{◌≡◌, ◌+◌, ◌-◌, ◌^◌, inl, inr, min, ◌∷◌, [], ap, ◌∙◌}
+use Rattle.std.proofs.Common.{sym}
 use Rattle.wac_ast_base.specs.Lookahead.{tried}
 use Rattle.wac_ast_base.proofs.Places.{Keeps, keeps}
 use Rattle.wac_ast_base.proofs.lookahead.Lookahead.keep.Goals.{then-self-lt-KEPT, else-self-lt-KEPT}

@@ -1,5 +1,4 @@
-use Rattle.std.proofs.Common.{refl}
-use Rattle.wac_ast_grammar.specs.Grammar.{extern_name}
+use Rattle.wac_ast_base.proofs.Common.{refl, extern_name}
 use Rattle.wac_ast_base.proofs.Lookaheads.{looks}
 use Rattle.wac_ast_base.proofs.Exits as x
 use Rattle.wac_ast_base.proofs.Yields as y

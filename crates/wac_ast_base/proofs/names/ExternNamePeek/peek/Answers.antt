@@ -1,4 +1,4 @@
-use Rattle.std.proofs.Common.{refl}
+use Rattle.wac_ast_base.proofs.Common.{refl}
 use Rattle.wac_ast_base.proofs.Lookaheads.{peeks_on}
 use Rattle.wac_ast_base.proofs.names.ExternNamePeek.peek.Goals as goal
 

@@ -1,4 +1,4 @@
-use Rattle.wac_ast_grammar.specs.Grammar.{access_expr}
+use Rattle.wac_ast_expressions.proofs.Common.{access_expr}
 use Rattle.wac_ast_base.proofs.Exits as x
 use Rattle.wac_ast_base.proofs.Yields as y
 use Rattle.wac_ast_expressions.proofs.expr.AccessExprParse.parse.Goals as goal

@@ -1,6 +1,4 @@
-use Rattle.std.proofs.Common.{refl}
-use Rattle.wac_ast_grammar.specs.Grammar.{argument_name}
-use Rattle.wac_ast_base.proofs.Lookaheads.{looks}
+use Rattle.wac_ast_expressions.proofs.Common.{refl, argument_name, looks}
 use Rattle.wac_ast_base.proofs.Exits as x
 use Rattle.wac_ast_base.proofs.Yields as y
 use Rattle.wac_ast_expressions.proofs.expr.InstantiationArgumentNameParse.parse.Goals as goal

@@ -1,6 +1,5 @@
-use Rattle.std.proofs.Common.{refl}
+use Rattle.wac_ast_expressions.proofs.Common.{refl, peeks_one, peeks_on}
 use Rattle.wac_lexer.specs.declared.token.Token.TheVariants as tokens
-use Rattle.wac_ast_base.proofs.Lookaheads.{peeks_one, peeks_on}
 use Rattle.wac_ast_expressions.proofs.expr.InstantiationArgumentPeek.peek.Goals as goal
 
 pub returns-else-peek : goal.returns-else-peek

@@ -1,4 +1,4 @@
-use Rattle.wac_ast_grammar.specs.Grammar.{named_access_expr}
+use Rattle.wac_ast_expressions.proofs.Common.{named_access_expr}
 use Rattle.wac_ast_base.proofs.Exits as x
 use Rattle.wac_ast_base.proofs.Yields as y
 use Rattle.wac_ast_expressions.proofs.expr.NamedAccessExprParse.parse.Goals as goal

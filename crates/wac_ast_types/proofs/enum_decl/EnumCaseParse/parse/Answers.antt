@@ -1,5 +1,4 @@
-use Rattle.std.proofs.Common.{refl}
-use Rattle.wac_ast_grammar.specs.Grammar.{enum_case}
+use Rattle.wac_ast_types.proofs.Common.{refl, enum_case}
 use Rattle.wac_ast_base.proofs.Exits as x
 use Rattle.wac_ast_base.proofs.Yields as y
 use Rattle.wac_ast_types.proofs.enum_decl.EnumCaseParse.parse.Goals as goal

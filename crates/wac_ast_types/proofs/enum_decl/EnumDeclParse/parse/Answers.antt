@@ -1,4 +1,4 @@
-use Rattle.wac_ast_grammar.specs.Grammar.{enum_decl}
+use Rattle.wac_ast_types.proofs.Common.{enum_decl}
 use Rattle.wac_ast_base.proofs.Exits as x
 use Rattle.wac_ast_base.proofs.Yields as y
 use Rattle.wac_ast_types.proofs.enum_decl.EnumDeclParse.parse.Goals as goal

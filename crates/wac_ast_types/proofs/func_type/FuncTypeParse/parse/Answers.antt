@@ -1,6 +1,5 @@
 use Rattle.wac_lexer.specs.declared.token.Token.TheVariants as tokens
-use Rattle.wac_ast_grammar.specs.Grammar.{func_type}
-use Rattle.wac_ast_base.proofs.Optional.{optional_token}
+use Rattle.wac_ast_types.proofs.Common.{func_type, optional_token}
 use Rattle.wac_ast_base.proofs.Exits as x
 use Rattle.wac_ast_base.proofs.Yields as y
 use Rattle.wac_ast_types.proofs.func_type.FuncTypeParse.parse.Goals as goal

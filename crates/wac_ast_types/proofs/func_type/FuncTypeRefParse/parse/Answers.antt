@@ -1,6 +1,4 @@
-use Rattle.std.proofs.Common.{refl}
-use Rattle.wac_ast_grammar.specs.Grammar.{func_type_ref}
-use Rattle.wac_ast_base.proofs.Lookaheads.{looks}
+use Rattle.wac_ast_types.proofs.Common.{refl, func_type_ref, looks}
 use Rattle.wac_ast_base.proofs.Exits as x
 use Rattle.wac_ast_base.proofs.Yields as y
 use Rattle.wac_ast_types.proofs.func_type.FuncTypeRefParse.parse.Goals as goal

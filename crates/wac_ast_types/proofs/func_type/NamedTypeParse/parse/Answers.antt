@@ -1,5 +1,4 @@
-use Rattle.std.proofs.Common.{refl}
-use Rattle.wac_ast_grammar.specs.Grammar.{named_type}
+use Rattle.wac_ast_types.proofs.Common.{refl, named_type}
 use Rattle.wac_ast_base.proofs.Exits as x
 use Rattle.wac_ast_base.proofs.Yields as y
 use Rattle.wac_ast_types.proofs.func_type.NamedTypeParse.parse.Goals as goal

@@ -1,8 +1,5 @@
-use Rattle.std.proofs.Common.{refl, ap}
-use Rattle.wac_lexer.specs.Reading.{left}
+use Rattle.wac_ast_types.proofs.Common.{refl, ap, left, ResultList, result_list}
 use Rattle.wac_lexer.specs.declared.token.Token.TheVariants as k
-use Rattle.wac_ast_grammar.specs.Tree.{ResultList}
-use Rattle.wac_ast_grammar.specs.Grammar.{result_list}
 use Rattle.wac_ast_base.proofs.Exits as x
 use Rattle.wac_ast_base.proofs.Yields as y
 use Rattle.wac_ast_types.proofs.func_type.ResultListParse.parse.Goals as goal

@@ -1,4 +1,4 @@
-use Rattle.wac_ast_grammar.specs.Grammar.{constructor}
+use Rattle.wac_ast_types.proofs.Common.{constructor}
 use Rattle.wac_ast_base.proofs.Exits as x
 use Rattle.wac_ast_base.proofs.Yields as y
 use Rattle.wac_ast_types.proofs.resource.ConstructorParse.parse.Goals as goal

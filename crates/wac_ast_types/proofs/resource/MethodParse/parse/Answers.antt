@@ -1,6 +1,5 @@
-use Rattle.std.proofs.Common.{refl}
+use Rattle.wac_ast_types.proofs.Common.{refl, method}
 use Rattle.wac_ast_types.proofs.Built.{method_built}
-use Rattle.wac_ast_grammar.specs.Grammar.{method}
 use Rattle.wac_ast_base.proofs.Exits as x
 use Rattle.wac_ast_base.proofs.Yields as y
 use Rattle.wac_ast_types.proofs.resource.MethodParse.parse.Goals as goal

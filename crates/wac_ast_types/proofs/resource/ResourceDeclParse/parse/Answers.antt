@@ -1,5 +1,5 @@
 use Rattle.wac_ast_types.proofs.Built.{resource_built}
-use Rattle.wac_ast_grammar.specs.Grammar.{resource_decl}
+use Rattle.wac_ast_types.proofs.Common.{resource_decl}
 use Rattle.wac_ast_base.proofs.Exits as x
 use Rattle.wac_ast_base.proofs.Yields as y
 use Rattle.wac_ast_types.proofs.Heads.{head_fails, head_past, head_and, head_docs, head_id}

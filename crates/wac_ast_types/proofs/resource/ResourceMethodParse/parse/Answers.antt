@@ -1,6 +1,4 @@
-use Rattle.std.proofs.Common.{refl}
-use Rattle.wac_ast_grammar.specs.Grammar.{resource_method}
-use Rattle.wac_ast_base.proofs.Lookaheads.{looks}
+use Rattle.wac_ast_types.proofs.Common.{refl, resource_method, looks}
 use Rattle.wac_ast_base.proofs.Exits as x
 use Rattle.wac_ast_base.proofs.Yields as y
 use Rattle.wac_ast_types.proofs.resource.ResourceMethodParse.parse.Goals as goal

@@ -1,5 +1,4 @@
-use Rattle.std.proofs.Common.{refl}
-use Rattle.wac_ast_base.proofs.Lookaheads.{peeks_on}
+use Rattle.wac_ast_types.proofs.Common.{refl, peeks_on}
 use Rattle.wac_ast_types.proofs.resource.ResourceMethodPeek.peek.Goals as goal
 
 pub returns-else-peek : goal.returns-else-peek

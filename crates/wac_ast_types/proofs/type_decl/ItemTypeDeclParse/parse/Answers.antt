@@ -1,6 +1,4 @@
-use Rattle.std.proofs.Common.{refl}
-use Rattle.wac_ast_grammar.specs.Grammar.{item_type_decl}
-use Rattle.wac_ast_base.proofs.Lookaheads.{looks}
+use Rattle.wac_ast_types.proofs.Common.{refl, item_type_decl, looks}
 use Rattle.wac_ast_base.proofs.Exits as x
 use Rattle.wac_ast_base.proofs.Yields as y
 use Rattle.wac_ast_types.proofs.type_decl.ItemTypeDeclParse.parse.Goals as goal

@@ -1,6 +1,5 @@
-use Rattle.std.proofs.Common.{refl}
+use Rattle.wac_ast_types.proofs.Common.{refl, variant_case}
 use Rattle.wac_ast_types.proofs.Built.{case_built}
-use Rattle.wac_ast_grammar.specs.Grammar.{variant_case}
 use Rattle.wac_ast_base.proofs.Exits as x
 use Rattle.wac_ast_base.proofs.Yields as y
 use Rattle.wac_ast_types.proofs.variant_decl.VariantCaseParse.parse.Goals as goal

@@ -1,5 +1,5 @@
 use Rattle.wac_ast_worlds.proofs.Built.{import_built}
-use Rattle.wac_ast_grammar.specs.Grammar.{import_statement}
+use Rattle.wac_ast_worlds.proofs.Common.{import_statement}
 use Rattle.wac_ast_base.proofs.Exits as x
 use Rattle.wac_ast_base.proofs.Yields as y
 use Rattle.wac_ast_worlds.proofs.import.ImportStatementParse.parse.Goals as goal

@@ -1,5 +1,4 @@
-use Rattle.std.proofs.Common.{refl}
-use Rattle.wac_ast_grammar.specs.Grammar.{inline_interface}
+use Rattle.wac_ast_worlds.proofs.Common.{refl, inline_interface}
 use Rattle.wac_ast_base.proofs.Exits as x
 use Rattle.wac_ast_base.proofs.Yields as y
 use Rattle.wac_ast_worlds.proofs.interface.InlineInterfaceParse.parse.Goals as goal

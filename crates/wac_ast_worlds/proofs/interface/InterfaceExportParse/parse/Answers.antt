@@ -1,5 +1,4 @@
-use Rattle.std.proofs.Common.{refl}
-use Rattle.wac_ast_grammar.specs.Grammar.{interface_export}
+use Rattle.wac_ast_worlds.proofs.Common.{refl, interface_export}
 use Rattle.wac_ast_base.proofs.Exits as x
 use Rattle.wac_ast_base.proofs.Yields as y
 use Rattle.wac_ast_worlds.proofs.interface.InterfaceExportParse.parse.Goals as goal

@@ -1,7 +1,5 @@
-use Rattle.std.proofs.Common.{refl, [], ◌∷◌, ◌∙◌}
+use Rattle.wac_ast_worlds.proofs.Common.{refl, [], ◌∷◌, ◌∙◌, Peeks, peeks_met, peeks_on}
 use Rattle.wac_lexer.specs.declared.token.Token.TheVariants as tokens
-use Rattle.wac_ast_base.specs.Lookahead.{Peeks}
-use Rattle.wac_ast_base.proofs.Lookaheads.{peeks_met, peeks_on}
 use Rattle.wac_ast_worlds.proofs.interface.InterfaceItemPeek.peek.Goals as goal
 use Rattle.wac_ast_worlds.proofs.interface.InterfaceItemPeek.peek.Goals.{then-peek, else-peek}
 

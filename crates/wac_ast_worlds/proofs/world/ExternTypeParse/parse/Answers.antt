@@ -1,6 +1,4 @@
-use Rattle.std.proofs.Common.{refl}
-use Rattle.wac_ast_grammar.specs.Grammar.{extern_type}
-use Rattle.wac_ast_base.proofs.Lookaheads.{looks}
+use Rattle.wac_ast_worlds.proofs.Common.{refl, extern_type, looks}
 use Rattle.wac_ast_base.proofs.Exits as x
 use Rattle.wac_ast_base.proofs.Yields as y
 use Rattle.wac_ast_worlds.proofs.world.ExternTypeParse.parse.Goals as goal

@@ -1,5 +1,4 @@
-use Rattle.std.proofs.Common.{refl}
-use Rattle.wac_ast_grammar.specs.Grammar.{named_world_item}
+use Rattle.wac_ast_worlds.proofs.Common.{refl, named_world_item}
 use Rattle.wac_ast_base.proofs.Exits as x
 use Rattle.wac_ast_base.proofs.Yields as y
 use Rattle.wac_ast_worlds.proofs.world.NamedWorldItemParse.parse.Goals as goal

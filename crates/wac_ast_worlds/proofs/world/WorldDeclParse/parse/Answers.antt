@@ -1,5 +1,4 @@
-use Rattle.std.proofs.Common.{refl}
-use Rattle.wac_ast_grammar.specs.Grammar.{world_decl}
+use Rattle.wac_ast_worlds.proofs.Common.{refl, world_decl}
 use Rattle.wac_ast_base.proofs.Exits as x
 use Rattle.wac_ast_base.proofs.Yields as y
 use Rattle.wac_ast_worlds.proofs.world.WorldDeclParse.parse.Goals as goal

@@ -1,4 +1,4 @@
-use Rattle.wac_ast_grammar.specs.Grammar.{world_export}
+use Rattle.wac_ast_worlds.proofs.Common.{world_export}
 use Rattle.wac_ast_base.proofs.Exits as x
 use Rattle.wac_ast_base.proofs.Yields as y
 use Rattle.wac_ast_worlds.proofs.world.WorldExportParse.parse.Goals as goal

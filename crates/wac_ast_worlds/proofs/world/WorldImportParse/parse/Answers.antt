@@ -1,4 +1,4 @@
-use Rattle.wac_ast_grammar.specs.Grammar.{world_import}
+use Rattle.wac_ast_worlds.proofs.Common.{world_import}
 use Rattle.wac_ast_base.proofs.Exits as x
 use Rattle.wac_ast_base.proofs.Yields as y
 use Rattle.wac_ast_worlds.proofs.world.WorldImportParse.parse.Goals as goal

@@ -1,9 +1,4 @@
-use Rattle.std.proofs.Common.{refl, ap, ◌∙◌}
-use Rattle.wac_lexer.specs.Reading.{left}
-use Rattle.wac_ast_grammar.specs.Tree.{Ident, NamedWorldItem, WorldItemPath}
-use Rattle.wac_ast_grammar.specs.Grammar.{world_item_path}
-use Rattle.wac_ast_grammar.specs.Reading.{mapped}
-use Rattle.wac_ast_base.proofs.Lookaheads.{looks}
+use Rattle.wac_ast_worlds.proofs.Common.{refl, ap, ◌∙◌, left, Ident, NamedWorldItem, WorldItemPath, world_item_path, mapped, looks}
 use Rattle.wac_ast_base.proofs.Loops.{fails_bind}
 use Rattle.wac_ast_base.proofs.Lists.{same_fails}
 use Rattle.wac_ast_base.proofs.Exits as x

@@ -1,5 +1,4 @@
-use Rattle.std.proofs.Common.{sym, ap, ◌∙◌, subst}
-use Rattle.std.specs.Str.{IsCharBoundary}
+use Rattle.wac_comments_layout.proofs.Common.{sym, ap, ◌∙◌, subst, IsCharBoundary}
 use Rattle.wac_comments_layout.specs.Kept.{kept_len}
 use Rattle.wac_comments_layout.proofs.Trimming.{kept_boundary}
 use Rattle.wac_comments_layout.proofs.pieces.Reader.add_part.Goals as goal

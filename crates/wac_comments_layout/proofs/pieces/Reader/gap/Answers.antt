@@ -1,6 +1,4 @@
-use Rattle.std.proofs.Common.{◌+◌, ◌++◌, take, drop, length, sym, refl, ap, ◌∙◌, subst, arith, append-nil, append_assoc}
-use Rattle.std.specs.Str.{IsCharBoundary}
-use Rattle.wac_lexer.proofs.Boundaries.{part_boundary}
+use Rattle.wac_comments_layout.proofs.Common.{◌+◌, ◌++◌, take, drop, length, sym, refl, ap, ◌∙◌, subst, arith, append-nil, append_assoc, IsCharBoundary, part_boundary}
 use Rattle.wac_comments_layout.specs.Pieces.{comment_of_part, comments_at, comments_upto}
 use Rattle.wac_comments_layout.specs.Texts.{pieces_of}
 use Rattle.wac_comments_layout.proofs.Commented.{comments_done, comments_end, comments_more, short_part}

@@ -1,5 +1,4 @@
-use Rattle.std.proofs.Common.{length, ◌-◌, ◌≡◌, ◌++◌, ℕ, ◌+◌, ◌≤◌}
-use Rattle.std.specs.Str.{IsCharBoundary}
+use Rattle.wac_comments_layout.proofs.Common.{length, ◌-◌, ◌≡◌, ◌++◌, ℕ, ◌+◌, ◌≤◌, IsCharBoundary}
 use Rattle.wac_comments_layout.specs.Pieces.{comments_at, comments_upto}
 use Rattle.wac_comments_layout.specs.Texts.{pieces_of}
 use Rattle.wac_comments_layout.proofs.pieces.Reader.gap.Given as goal

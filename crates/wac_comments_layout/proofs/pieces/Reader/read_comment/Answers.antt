@@ -1,8 +1,4 @@
-use Rattle.std.proofs.Common.{drop, sym, ap, ◌∙◌, subst, zero-add}
-use Rattle.std.specs.Str.{IsCharBoundary}
-use Rattle.std.proofs.lemmas.Str.{IsUtf8-drop, IsCharBoundary-start}
-use Rattle.wac_lexer.specs.Comments.{part_len}
-use Rattle.wac_lexer.proofs.Boundaries.{part_boundary}
+use Rattle.wac_comments_layout.proofs.Common.{drop, sym, ap, ◌∙◌, subst, zero-add, IsCharBoundary, IsUtf8-drop, IsCharBoundary-start, part_len, part_boundary}
 use Rattle.wac_comments_layout.proofs.pieces.Reader.read_comment.Goals as goal
 
 pub split_at-requires-2 : goal.split_at-requires-2

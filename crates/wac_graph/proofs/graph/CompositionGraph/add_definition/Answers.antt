@@ -1,4 +1,4 @@
-use Rattle.std.proofs.Common.{◌≡◌, rules, sym, subst}
+use Rattle.wac_graph.proofs.Common.{◌≡◌, rules, sym, subst}
 use Rattle.wac_graph.specs.Graph.{Parts, with_definition}
 use Rattle.wac_graph.specs.Sound.{IsSound}
 use Rattle.wac_graph.proofs.Sound.{sound_definition}

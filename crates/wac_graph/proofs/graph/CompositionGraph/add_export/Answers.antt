@@ -1,6 +1,4 @@
-use Rattle.std.proofs.Common.{◌≡◌, ℕ, sym, subst}
-use Rattle.std.specs.Prelude.{Result, Ok, Err, OnOk, OnErr}
-use Rattle.wac_graph_types.specs.Scope.{Named, with_named}
+use Rattle.wac_graph.proofs.Common.{◌≡◌, ℕ, sym, subst, Result, Ok, Err, OnOk, OnErr, Named, with_named}
 use Rattle.wac_graph.specs.Graph.{Parts, with_export}
 use Rattle.wac_graph.specs.Sound.{IsSound}
 use Rattle.wac_graph.proofs.Sound.{sound_export}

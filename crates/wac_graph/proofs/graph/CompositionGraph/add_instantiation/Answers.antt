@@ -1,5 +1,4 @@
-use Rattle.std.proofs.Common.{◌≡◌, Option, rules, Some, sym, subst}
-use Rattle.std.specs.Prelude.{slice_get, IfSome}
+use Rattle.wac_graph.proofs.Common.{◌≡◌, Option, rules, Some, sym, subst, slice_get, IfSome}
 use Rattle.wac_graph_types.specs.declared.kind.ItemKind.TheVariants as kinds
 use Rattle.wac_graph.specs.Package.{HeldPackage}
 use Rattle.wac_graph.specs.Readings.{held_of}

@@ -1,5 +1,4 @@
-use Rattle.std.proofs.Common.{◌≡◌, Some}
-use Rattle.std.specs.Prelude.{slice_get}
+use Rattle.wac_graph.proofs.Common.{◌≡◌, Some, slice_get}
 use Rattle.wac_graph.specs.Graph.{Parts}
 use Rattle.wac_graph.specs.Node.{source_in}
 use Rattle.wac_graph.specs.Sound.{IsSoundNode}

@@ -1,4 +1,4 @@
-use Rattle.std.proofs.Common.{◌≡◌, ◌∙◌, rules, Some, sym, subst}
+use Rattle.wac_graph.proofs.Common.{◌≡◌, ◌∙◌, rules, Some, sym, subst}
 use Rattle.wac_graph.specs.Graph.{Parts, with_alias, export_kind}
 use Rattle.wac_graph.specs.Sound.{IsSound}
 use Rattle.wac_graph.proofs.Sound.{sound_alias}

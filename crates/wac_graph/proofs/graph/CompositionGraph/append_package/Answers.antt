@@ -1,7 +1,4 @@
-use Rattle.std.proofs.Common.{◌≡◌, ◌∙◌, None, List, [], ◌∷◌, ◌++◌, length, sym, ap, subst}
-use Rattle.wac_graph_types.specs.declared.entry.Entry.{Entry}
-use Rattle.wac_graph_types.specs.Growth.{KeepsMeanings}
-use Rattle.wac_graph_copies.specs.Copied.{IsGrown, IsGrownBy}
+use Rattle.wac_graph.proofs.Common.{◌≡◌, ◌∙◌, None, List, [], ◌∷◌, ◌++◌, length, sym, ap, subst, Entry, KeepsMeanings, IsGrown, IsGrownBy}
 use Rattle.wac_graph.specs.Graph.{Parts, with_package}
 use Rattle.wac_graph.specs.Sound.{IsSound}
 use Rattle.wac_graph.specs.Package.{Key, HeldPackage, IsHeld, key_of, moved_package, package_keyed}

@@ -1,6 +1,4 @@
-use Rattle.std.proofs.Common.{◌≡◌, ◌∙◌, Some, sym, ap, subst}
-use Rattle.std.specs.Prelude.{slice_get}
-use Rattle.wac_graph_types.specs.Scope.{look_up}
+use Rattle.wac_graph.proofs.Common.{◌≡◌, ◌∙◌, Some, sym, ap, subst, slice_get, look_up}
 use Rattle.wac_graph.specs.Graph.{Parts, arguments_of}
 use Rattle.wac_graph.specs.Sound.{IsSoundNode, NamesNodes}
 use Rattle.wac_graph.proofs.Reading.{arguments_earlier, arguments_are, named_there}

@@ -1,12 +1,4 @@
-use Rattle.std.proofs.Common.{◌≡◌, ◌∙◌, ℕ, List, Option, Some, None, sym, ap, subst}
-use Rattle.std.specs.Prelude.{IfSome}
-use Rattle.wac_graph_types.specs.declared.kind.ItemKind.{ItemKind}
-use Rattle.wac_graph_types.specs.declared.entry.Entry.{Entry}
-use Rattle.wac_graph_types.specs.Readings.{kind_exports}
-use Rattle.wac_graph_types.specs.Scope.{look_up}
-use Rattle.wac_graph_types.specs.Table.{Names, IsTable}
-use Rattle.wac_graph_types.proofs.Found.{found_named, kind_exports_named}
-use Rattle.wac_graph_types.proofs.Tables.{each_entry_named}
+use Rattle.wac_graph.proofs.Common.{◌≡◌, ◌∙◌, ℕ, List, Option, Some, None, sym, ap, subst, IfSome, ItemKind, Entry, kind_exports, look_up, Names, IsTable, found_named, kind_exports_named, each_entry_named}
 use Rattle.wac_graph.specs.Graph.{Parts}
 use Rattle.wac_graph.specs.Sound.{IsSound}
 use Rattle.wac_graph.proofs.Origins.{export_means}

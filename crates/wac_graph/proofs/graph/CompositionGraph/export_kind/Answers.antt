@@ -1,11 +1,5 @@
-use Rattle.std.proofs.Common.{◌≡◌, ◌∙◌, Some, None, sym, ap, subst}
-use Rattle.std.specs.Prelude.{slice_get, IfSome}
+use Rattle.wac_graph.proofs.Common.{◌≡◌, ◌∙◌, Some, None, sym, ap, subst, slice_get, IfSome, instance_exports, look_up, Names, instance_exports_named, found_named, each_entry_named}
 use Rattle.wac_graph_types.specs.declared.kind.ItemKind.TheVariants as kinds
-use Rattle.wac_graph_types.specs.Readings.{instance_exports}
-use Rattle.wac_graph_types.specs.Scope.{look_up}
-use Rattle.wac_graph_types.specs.Table.{Names}
-use Rattle.wac_graph_types.proofs.Found.{instance_exports_named, found_named}
-use Rattle.wac_graph_types.proofs.Tables.{each_entry_named}
 use Rattle.wac_graph.specs.Graph.{Parts, export_kind}
 use Rattle.wac_graph.proofs.Exported.{each_named, no_exports, exported_is}
 use Rattle.wac_graph.proofs.graph.CompositionGraph.export_kind.Goals as goal

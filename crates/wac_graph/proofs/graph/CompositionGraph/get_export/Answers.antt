@@ -1,5 +1,4 @@
-use Rattle.std.proofs.Common.{◌<◌, length, subst}
-use Rattle.std.specs.Prelude.{IfSome}
+use Rattle.wac_graph.proofs.Common.{◌<◌, length, subst, IfSome}
 use Rattle.wac_graph.specs.Graph.{Parts}
 use Rattle.wac_graph.proofs.Reading.{named_there}
 use Rattle.wac_graph.proofs.graph.CompositionGraph.get_export.Goals as goal

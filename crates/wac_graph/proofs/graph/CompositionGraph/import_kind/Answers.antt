@@ -1,9 +1,4 @@
-use Rattle.std.proofs.Common.{◌≡◌, ◌∙◌, ℕ, List, Option, Some, None, sym, ap, subst}
-use Rattle.std.specs.Prelude.{slice_get, option_and_then, IfSome}
-use Rattle.wac_graph_types.specs.declared.kind.ItemKind.{ItemKind}
-use Rattle.wac_graph_types.specs.Readings.{world_imports}
-use Rattle.wac_graph_types.specs.Scope.{look_up}
-use Rattle.wac_graph_types.specs.Table.{Names, IsTable}
+use Rattle.wac_graph.proofs.Common.{◌≡◌, ◌∙◌, ℕ, List, Option, Some, None, sym, ap, subst, slice_get, option_and_then, IfSome, ItemKind, world_imports, look_up, Names, IsTable}
 use Rattle.wac_graph.specs.Graph.{Parts, import_kind}
 use Rattle.wac_graph.specs.Package.{HeldPackage}
 use Rattle.wac_graph.specs.Readings.{held_of}

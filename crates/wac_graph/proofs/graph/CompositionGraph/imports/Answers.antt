@@ -1,4 +1,4 @@
-use Rattle.std.proofs.Common.{length, subst, sym}
+use Rattle.wac_graph.proofs.Common.{length, subst, sym}
 use Rattle.wac_graph.specs.Graph.{Parts}
 use Rattle.wac_graph.specs.Sound.{NamesNodes}
 use Rattle.wac_graph.proofs.Sound.{imports_there}

@@ -1,5 +1,4 @@
-use Rattle.std.proofs.Common.{◌≡◌, ◌∙◌, ◌<◌, Some, length, sym, subst}
-use Rattle.std.specs.Prelude.{slice_get, option_map, IfSome}
+use Rattle.wac_graph.proofs.Common.{◌≡◌, ◌∙◌, ◌<◌, Some, length, sym, subst, slice_get, option_map, IfSome}
 use Rattle.wac_graph.specs.Graph.{Parts, package_of}
 use Rattle.wac_graph.specs.Node.{package_in}
 use Rattle.wac_graph.specs.Sound.{IsSoundNode}

@@ -1,6 +1,4 @@
-use Rattle.std.proofs.Common.{◌≡◌, Some, sym, subst}
-use Rattle.std.specs.Prelude.{slice_get}
-use Rattle.wac_graph_types.specs.Table.{Names}
+use Rattle.wac_graph.proofs.Common.{◌≡◌, Some, sym, subst, slice_get, Names}
 use Rattle.wac_graph.specs.Graph.{Parts}
 use Rattle.wac_graph.specs.Sound.{IsSoundNode}
 use Rattle.wac_graph.proofs.graph.CompositionGraph.kind.Goals as goal

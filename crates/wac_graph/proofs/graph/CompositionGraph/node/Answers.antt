@@ -1,5 +1,4 @@
-use Rattle.std.proofs.Common.{◌≡◌, Some, length, sym, subst}
-use Rattle.std.specs.Prelude.{slice_get}
+use Rattle.wac_graph.proofs.Common.{◌≡◌, Some, length, sym, subst, slice_get}
 use Rattle.wac_graph.specs.Graph.{Parts}
 use Rattle.wac_graph.specs.Node.{sort_of, HasPackage}
 use Rattle.wac_graph.specs.Sound.{IsSoundNode}

@@ -1,5 +1,4 @@
-use Rattle.std.proofs.Common.{◌≡◌, ◌<◌, ℕ, List, length, rules, sym, subst}
-use Rattle.std.specs.List.{AllByRecursion}
+use Rattle.wac_graph.proofs.Common.{◌≡◌, ◌<◌, ℕ, List, length, rules, sym, subst, AllByRecursion}
 use Rattle.wac_graph.specs.Numbers.{numbers}
 use Rattle.wac_graph.proofs.Numbers.{numbers_below}
 use Rattle.wac_graph.proofs.graph.CompositionGraph.nodes.Goals as goal

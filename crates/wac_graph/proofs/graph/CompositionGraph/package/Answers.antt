@@ -1,4 +1,4 @@
-use Rattle.std.proofs.Common.{subst}
+use Rattle.wac_graph.proofs.Common.{subst}
 use Rattle.wac_graph.specs.Graph.{Parts}
 use Rattle.wac_graph.specs.Package.{IsHeld}
 use Rattle.wac_graph.specs.Readings.{held_of}

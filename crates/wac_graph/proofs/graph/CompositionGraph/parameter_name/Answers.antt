@@ -1,7 +1,4 @@
-use Rattle.std.proofs.Common.{◌≡◌, ◌∙◌, List, ℕ, Option, Some, sym, ap, subst}
-use Rattle.std.specs.Prelude.{slice_get, option_map, option_and_then, string_bytes, IfOk}
-use Rattle.wac_graph_types.specs.declared.kind.ItemKind.{ItemKind}
-use Rattle.wac_graph_types.specs.Readings.{world_imports}
+use Rattle.wac_graph.proofs.Common.{◌≡◌, ◌∙◌, List, ℕ, Option, Some, sym, ap, subst, slice_get, option_map, option_and_then, string_bytes, IfOk, ItemKind, world_imports}
 use Rattle.wac_graph.specs.Graph.{Parts}
 use Rattle.wac_graph.specs.Package.{HeldPackage}
 use Rattle.wac_graph.specs.Readings.{held_of}

@@ -1,6 +1,4 @@
-use Rattle.std.proofs.Common.{◌≡◌, ◌∙◌, List, sym, ap, subst}
-use Rattle.std.specs.Prelude.{IsSome}
-use Rattle.wac_graph_types.specs.Scope.{IsFresh}
+use Rattle.wac_graph.proofs.Common.{◌≡◌, ◌∙◌, List, sym, ap, subst, IsSome, IsFresh}
 use Rattle.wac_graph.specs.Node.{Node}
 use Rattle.wac_graph.specs.Graph.{Parts, with_argument, parameter_kind, arguments_of}
 use Rattle.wac_graph.specs.Sound.{IsSound}

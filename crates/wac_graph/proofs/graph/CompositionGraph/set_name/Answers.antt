@@ -1,4 +1,4 @@
-use Rattle.std.proofs.Common.{◌≡◌, ◌∙◌, ℕ, List, Some, sym, ap, subst}
+use Rattle.wac_graph.proofs.Common.{◌≡◌, ◌∙◌, ℕ, List, Some, sym, ap, subst}
 use Rattle.wac_graph.specs.Node.{Node}
 use Rattle.wac_graph.specs.Graph.{Parts, with_name}
 use Rattle.wac_graph.specs.HeldNodes.{changed_in}

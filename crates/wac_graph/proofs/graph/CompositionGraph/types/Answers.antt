@@ -1,6 +1,4 @@
-use Rattle.std.proofs.Common.{subst}
-use Rattle.wac_graph_types.specs.Table.{EachEntryNamed}
-use Rattle.wac_graph_types.proofs.Tables.{each_entry_named}
+use Rattle.wac_graph.proofs.Common.{subst, EachEntryNamed, each_entry_named}
 use Rattle.wac_graph.specs.Graph.{Parts}
 use Rattle.wac_graph.specs.Means.{EntriesMean, OriginsApart}
 use Rattle.wac_graph.proofs.Apart.{origins_apart}

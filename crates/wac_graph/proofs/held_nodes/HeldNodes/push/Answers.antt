@@ -1,5 +1,4 @@
-use Rattle.std.proofs.Common.{◌∙◌, ℕ, List, [], ◌∷◌, ◌++◌, sym, ap, subst}
-use Rattle.wac_graph_types.specs.Scope.{Named}
+use Rattle.wac_graph.proofs.Common.{◌∙◌, ℕ, List, [], ◌∷◌, ◌++◌, sym, ap, subst, Named}
 use Rattle.wac_graph.specs.Node.{Node}
 use Rattle.wac_graph.specs.HeldNodes.{AreIndexed}
 use Rattle.wac_graph.proofs.Indexed.{plain_indexed}

@@ -1,7 +1,4 @@
-use Rattle.std.proofs.Common.{◌≡◌, ◌∙◌, ◌<◌, ℕ, List, [], ◌∷◌, ◌++◌, None, Some, length, sym, ap, subst, arith, rules}
-use Rattle.std.specs.Prelude.{slice_get, slice_set}
-use Rattle.wac_graph_types.specs.Scope.{Named, with_named}
-use Rattle.wac_graph_types.proofs.Rows.{stands}
+use Rattle.wac_graph.proofs.Common.{◌≡◌, ◌∙◌, ◌<◌, ℕ, List, [], ◌∷◌, ◌++◌, None, Some, length, sym, ap, subst, arith, rules, slice_get, slice_set, Named, with_named, stands}
 use Rattle.wac_graph.specs.Node.{Node, alias}
 use Rattle.wac_graph.specs.Graph.{alias_in, plain_node}
 use Rattle.wac_graph.specs.HeldNodes.{NodeList, AreIndexed}

@@ -1,7 +1,4 @@
-use Rattle.std.proofs.Common.{◌≡◌, ◌∙◌, ◌<◌, Some, List, length, sym, ap, subst}
-use Rattle.std.specs.Prelude.{slice_get, option_and_then, IsSome}
-use Rattle.wac_graph_types.specs.Scope.{IsFresh}
-use Rattle.wac_graph_types.proofs.Rows.{stands}
+use Rattle.wac_graph.proofs.Common.{◌≡◌, ◌∙◌, ◌<◌, Some, List, length, sym, ap, subst, slice_get, option_and_then, IsSome, IsFresh, stands}
 use Rattle.wac_graph.specs.Node.{Node, package_in, is_alias_of}
 use Rattle.wac_graph.specs.Graph.{given_too}
 use Rattle.wac_graph.specs.HeldNodes.{NodeList, arguments_at, changed_in}

@@ -1,6 +1,4 @@
-use Rattle.std.proofs.Common.{◌≡◌, ◌∙◌, ◌<◌, Some, List, length, sym, ap, subst}
-use Rattle.std.specs.Prelude.{slice_get, string_bytes}
-use Rattle.wac_graph_types.proofs.Rows.{stands}
+use Rattle.wac_graph.proofs.Common.{◌≡◌, ◌∙◌, ◌<◌, Some, List, length, sym, ap, subst, slice_get, string_bytes, stands}
 use Rattle.wac_graph.specs.Node.{Node, is_alias_of}
 use Rattle.wac_graph.specs.HeldNodes.{NodeList, changed_in}
 use Rattle.wac_graph.proofs.Changed.{changed_here}

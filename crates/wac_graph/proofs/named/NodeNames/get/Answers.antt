@@ -1,7 +1,4 @@
-use Rattle.std.proofs.Common.{◌∙◌, ap}
-use Rattle.std.specs.Prelude.{option_map}
-use Rattle.wac_graph_types.specs.Names.{by_name}
-use Rattle.wac_graph_types.specs.Scope.{look_up}
+use Rattle.wac_graph.proofs.Common.{◌∙◌, ap, option_map, by_name, look_up}
 use Rattle.wac_graph.proofs.NamedNodes.{number_found}
 use Rattle.wac_graph.specs.declared.node.NodeId.{NodeId}
 use Rattle.wac_graph.proofs.named.NodeNames.get.Goals as goal

@@ -1,7 +1,5 @@
-use Rattle.std.proofs.Common.{◌≡◌, ◌∙◌, sym, ap, subst, ℕ}
+use Rattle.wac_graph.proofs.Common.{◌≡◌, ◌∙◌, sym, ap, subst, ℕ, by_name, Named, IsFresh, with_named}
 use Rattle.std.proofs.lemmas.Result.{on_ok_weaker, on_err_weaker}
-use Rattle.wac_graph_types.specs.Names.{by_name}
-use Rattle.wac_graph_types.specs.Scope.{Named, IsFresh, with_named}
 use Rattle.wac_graph.specs.declared.node.NodeId.{NodeId}
 use Rattle.wac_graph.specs.NodeNames.{numbers_of}
 use Rattle.wac_graph.proofs.NamedNodes.{no_number, one_more_number}

@@ -1,4 +1,4 @@
-use Rattle.std.proofs.Common.{◌∙◌, ap}
+use Rattle.wac_graph.proofs.Common.{◌∙◌, ap}
 use Rattle.wac_graph.specs.Package.{key_of, package_keyed}
 use Rattle.wac_graph.proofs.Keyed.{keyed_place}
 use Rattle.wac_graph.proofs.packages.HeldPackages.find.Goals as goal

@@ -1,4 +1,4 @@
-use Rattle.std.proofs.Common.{◌≡◌, ◌∙◌, None, List, [], ◌∷◌, ◌++◌, sym, subst, ap}
+use Rattle.wac_graph.proofs.Common.{◌≡◌, ◌∙◌, None, List, [], ◌∷◌, ◌++◌, sym, subst, ap}
 use Rattle.wac_graph.specs.Package.{Key, HeldPackage, key_of, package_keyed}
 use Rattle.wac_graph.specs.PackageCopies.{held_under, held_in}
 use Rattle.wac_graph.proofs.Keyed.{keyed_last}

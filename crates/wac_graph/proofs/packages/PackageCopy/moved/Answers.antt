@@ -1,7 +1,4 @@
-use Rattle.std.proofs.Common.{◌≡◌, ◌<◌, length, ap, subst, sym, arith}
-use Rattle.wac_graph_types.specs.declared.kind.WorldId.{WorldId}
-use Rattle.wac_graph_types.specs.declared.kind.InterfaceId.{InterfaceId}
-use Rattle.wac_graph_copies.specs.Moved.{ItemsFit}
+use Rattle.wac_graph.proofs.Common.{◌≡◌, ◌<◌, length, ap, subst, sym, arith, WorldId, InterfaceId, ItemsFit}
 use Rattle.wac_graph_copies.proofs.Fitting.{items_fit}
 use Rattle.wac_graph.proofs.packages.PackageCopy.moved.Goals as goal
 

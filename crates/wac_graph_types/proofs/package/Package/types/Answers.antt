@@ -1,4 +1,4 @@
-use Rattle.std.proofs.Common.{subst}
+use Rattle.wac_graph_types.proofs.Common.{subst}
 use Rattle.wac_graph_types.specs.Package.{IsPackage}
 use Rattle.wac_graph_types.proofs.Packages.{package_table}
 use Rattle.wac_graph_types.proofs.package.Package.types.Goals as goal

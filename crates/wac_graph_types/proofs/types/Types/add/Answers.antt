@@ -1,4 +1,4 @@
-use Rattle.std.proofs.Common.{◌≡◌, ◌∙◌, List, [], ◌∷◌, ◌++◌, Bool, sym, ap, subst}
+use Rattle.wac_graph_types.proofs.Common.{◌≡◌, ◌∙◌, List, [], ◌∷◌, ◌++◌, Bool, sym, ap, subst}
 use Rattle.wac_graph_types.specs.declared.entry.Entry.{Entry}
 use Rattle.wac_graph_types.specs.Borrows.{AreBorrows}
 use Rattle.wac_graph_types.proofs.Borrowing.{borrows_added}

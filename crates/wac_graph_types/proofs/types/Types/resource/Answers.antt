@@ -1,5 +1,4 @@
-use Rattle.std.proofs.Common.{◌∙◌, None, ap, arith}
-use Rattle.std.specs.Prelude.{option_copied, option_and_then, slice_get}
+use Rattle.wac_graph_types.proofs.Common.{◌∙◌, None, ap, arith, option_copied, option_and_then, slice_get}
 use Rattle.wac_graph_types.specs.Readings.{as_resource}
 use Rattle.wac_graph_types.proofs.Read.{read_at, read_past, no_resource}
 use Rattle.wac_graph_types.proofs.types.Types.resource.Goals as goal

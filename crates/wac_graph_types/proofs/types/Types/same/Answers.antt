@@ -1,5 +1,4 @@
-use Rattle.std.proofs.Common.{◌≡◌, ℕ, List, ◌∙◌, subst}
-use Rattle.std.specs.Prelude.{IsTrue, ◌↔◌}
+use Rattle.wac_graph_types.proofs.Common.{◌≡◌, ℕ, List, ◌∙◌, subst, IsTrue, ◌↔◌}
 use Rattle.wac_graph_types.specs.declared.entry.Entry.{Entry}
 use Rattle.wac_graph_types.specs.Meaning.{IsOneToOne, meaning}
 use Rattle.wac_graph_types.proofs.types.Types.same.Goals as goal

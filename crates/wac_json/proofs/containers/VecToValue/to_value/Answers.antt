@@ -1,6 +1,4 @@
-use Rattle.std.proofs.Common.{◌∙◌, ◌≤◌, ap, length, map, rules}
-use Rattle.std.proofs.lemmas.List.{take_all}
-use Rattle.serde_json.specs.Data.{array}
+use Rattle.wac_json.proofs.Common.{◌∙◌, ◌≤◌, ap, length, map, rules, take_all, array}
 use Rattle.serde_json.specs.View.{items_of}
 use Rattle.wac_json.proofs.Forms.{list_of_items}
 use Rattle.wac_json.proofs.containers.VecToValue.to_value.Goals as goal

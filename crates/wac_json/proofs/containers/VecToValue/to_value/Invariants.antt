@@ -1,5 +1,4 @@
-use Rattle.std.specs.Prelude.{◌≡◌, map, take}
-use Rattle.serde_json.specs.View.{view}
+use Rattle.wac_json.proofs.Common.{◌≡◌, map, take, view}
 use Rattle.wac_json.proofs.containers.VecToValue.to_value.Given as goal
 
 abbrev pub invariant-loop-item : goal.invariant-loop-item

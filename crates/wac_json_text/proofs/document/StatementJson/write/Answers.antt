@@ -1,9 +1,5 @@
-use Rattle.json.specs.Print.{escape_byte}
-use Rattle.std.proofs.Common.{sym}
-use Rattle.wac_ast.specs.Statements.{statement_of}
-use Rattle.wac_json_forms.specs.Forms.{statement_json}
+use Rattle.wac_json_text.proofs.Common.{escape_byte, sym, statement_of, statement_json, printed_at}
 use Rattle.wac_json_text.specs.Pieces.{pieces}
-use Rattle.wac_printer_pieces.proofs.Sequence.{printed_at}
 use Rattle.wac_json_text.proofs.document.StatementJson.write.Goals as goal
 
 pub returns-in-Import : goal.returns-in-Import

@@ -1,10 +1,5 @@
-use Rattle.json.specs.Print.{escape_byte}
-use Rattle.std.proofs.Common.{sym}
-use Rattle.wac_ast_base.specs.Names.{doc_comment_of}
-use Rattle.wac_ast_types.specs.Declarations.{enum_case_of}
-use Rattle.wac_json_forms.specs.Forms.{doc_json, enum_case_json, ident_json, list_json, span_json}
+use Rattle.wac_json_text.proofs.Common.{escape_byte, sym, doc_comment_of, enum_case_of, doc_json, enum_case_json, ident_json, list_json, span_json, items_of-map}
 use Rattle.wac_json_text.proofs.Joined.{as_form, ends, list_then, put, then}
-use Rattle.wac_json_forms.proofs.Lists.{items_of-map}
 use Rattle.wac_json_text.proofs.enum_decl.EnumCaseJson.write.Goals as goal
 
 pub returns : goal.returns

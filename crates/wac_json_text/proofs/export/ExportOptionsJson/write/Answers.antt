@@ -1,10 +1,6 @@
-use Rattle.json.specs.Print.{escape_byte}
-use Rattle.std.proofs.Common.{codes, refl, sym}
-use Rattle.wac_ast_statements.specs.Statements.{export_options_of}
+use Rattle.wac_json_text.proofs.Common.{escape_byte, codes, refl, sym, export_options_of, export_options_json, span_json, variant, printed_at}
 use Rattle.wac_json_text.proofs.Joined.{as_pieces}
-use Rattle.wac_json_forms.specs.Forms.{export_options_json, span_json, variant}
 use Rattle.wac_json_text.specs.Pieces.{pieces}
-use Rattle.wac_printer_pieces.proofs.Sequence.{printed_at}
 use Rattle.wac_json_text.proofs.export.ExportOptionsJson.write.Goals as goal
 
 pub returns-in-None : goal.returns-in-None

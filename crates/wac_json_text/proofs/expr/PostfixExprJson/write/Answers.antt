@@ -1,9 +1,5 @@
-use Rattle.json.specs.Print.{escape_byte}
-use Rattle.std.proofs.Common.{sym}
-use Rattle.wac_ast_expressions.specs.Expressions.{postfix_expr_of}
-use Rattle.wac_json_forms.specs.Forms.{postfix_expr_json}
+use Rattle.wac_json_text.proofs.Common.{escape_byte, sym, postfix_expr_of, postfix_expr_json, printed_at}
 use Rattle.wac_json_text.specs.Pieces.{pieces}
-use Rattle.wac_printer_pieces.proofs.Sequence.{printed_at}
 use Rattle.wac_json_text.proofs.expr.PostfixExprJson.write.Goals as goal
 
 pub returns-in-Access : goal.returns-in-Access

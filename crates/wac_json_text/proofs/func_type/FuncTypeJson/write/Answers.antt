@@ -1,10 +1,5 @@
-use Rattle.json.specs.Print.{escape_byte}
-use Rattle.serde_json.specs.Data.{boolean}
-use Rattle.std.proofs.Common.{sym}
-use Rattle.wac_ast_types.specs.Declarations.{func_type_of, named_type_of}
-use Rattle.wac_json_forms.specs.Forms.{func_type_json, list_json, named_type_json}
+use Rattle.wac_json_text.proofs.Common.{escape_byte, boolean, sym, func_type_of, named_type_of, func_type_json, list_json, named_type_json, items_of-map}
 use Rattle.wac_json_text.proofs.Joined.{as_form, ends, form, list_then, put, then}
-use Rattle.wac_json_forms.proofs.Lists.{items_of-map}
 use Rattle.wac_json_text.proofs.func_type.FuncTypeJson.write.Goals as goal
 
 pub returns : goal.returns

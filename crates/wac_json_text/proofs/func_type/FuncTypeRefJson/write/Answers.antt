@@ -1,11 +1,6 @@
-use Rattle.json.specs.Print.{escape_byte}
-use Rattle.std.proofs.Common.{codes, refl, sym}
-use Rattle.wac_ast_types.specs.Declarations.{func_type_ref_of}
-use Rattle.wac_ast_base.specs.Names.{ident_of}
+use Rattle.wac_json_text.proofs.Common.{escape_byte, codes, refl, sym, func_type_ref_of, ident_of, func_type_ref_json, ident_json, span_json, variant, printed_at}
 use Rattle.wac_json_text.proofs.Joined.{as_pieces}
-use Rattle.wac_json_forms.specs.Forms.{func_type_ref_json, ident_json, span_json, variant}
 use Rattle.wac_json_text.specs.Pieces.{pieces}
-use Rattle.wac_printer_pieces.proofs.Sequence.{printed_at}
 use Rattle.wac_json_text.proofs.func_type.FuncTypeRefJson.write.Goals as goal
 
 pub returns-in-Func : goal.returns-in-Func

@@ -1,11 +1,5 @@
-use Rattle.json.specs.Print.{escape_byte}
-use Rattle.std.proofs.Common.{sym, ◌∷◌, ◌++◌, [], codes}
-use Rattle.wac_ast_types.specs.Declarations.{result_list_of, named_type_of}
-use Rattle.wac_json_forms.proofs.Lists.{list_of-map}
-use Rattle.wac_json_forms.specs.Forms.{result_list_json, named_type_json}
+use Rattle.wac_json_text.proofs.Common.{escape_byte, sym, ◌∷◌, ◌++◌, [], codes, result_list_of, named_type_of, list_of-map, result_list_json, named_type_json, blank, printed_at}
 use Rattle.wac_json_text.specs.Pieces.{pieces}
-use Rattle.wac_printer_layout.specs.Printed.{blank}
-use Rattle.wac_printer_pieces.proofs.Sequence.{printed_at}
 use Rattle.wac_json_text.proofs.func_type.ResultListJson.write.Goals as goal
 
 pub returns-in-Empty : goal.returns-in-Empty

@@ -1,11 +1,6 @@
-use Rattle.json.specs.Print.{escape_byte}
-use Rattle.std.proofs.Common.{codes, refl, sym}
-use Rattle.wac_ast_uses.specs.Uses.{world_ref_of}
-use Rattle.wac_ast_base.specs.Names.{ident_of}
+use Rattle.wac_json_text.proofs.Common.{escape_byte, codes, refl, sym, world_ref_of, ident_of, ident_json, span_json, variant, world_ref_json, printed_at}
 use Rattle.wac_json_text.proofs.Joined.{as_pieces}
-use Rattle.wac_json_forms.specs.Forms.{ident_json, span_json, variant, world_ref_json}
 use Rattle.wac_json_text.specs.Pieces.{pieces}
-use Rattle.wac_printer_pieces.proofs.Sequence.{printed_at}
 use Rattle.wac_json_text.proofs.include.WorldRefJson.write.Goals as goal
 
 pub returns-in-Ident : goal.returns-in-Ident

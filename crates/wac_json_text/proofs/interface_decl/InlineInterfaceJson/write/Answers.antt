@@ -1,9 +1,5 @@
-use Rattle.json.specs.Print.{escape_byte}
-use Rattle.std.proofs.Common.{sym}
-use Rattle.wac_ast_worlds.specs.Worlds.{inline_interface_of, interface_item_of}
-use Rattle.wac_json_forms.specs.Forms.{inline_interface_json, interface_item_json, list_json}
+use Rattle.wac_json_text.proofs.Common.{escape_byte, sym, inline_interface_of, interface_item_of, inline_interface_json, interface_item_json, list_json, items_of-map}
 use Rattle.wac_json_text.proofs.Joined.{as_form, list_ends, put}
-use Rattle.wac_json_forms.proofs.Lists.{items_of-map}
 use Rattle.wac_json_text.proofs.interface_decl.InlineInterfaceJson.write.Goals as goal
 
 pub returns : goal.returns

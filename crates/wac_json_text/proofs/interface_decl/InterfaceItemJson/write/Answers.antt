@@ -1,11 +1,6 @@
-use Rattle.json.specs.Print.{escape_byte}
-use Rattle.std.proofs.Common.{codes, sym}
-use Rattle.wac_ast_worlds.specs.Worlds.{interface_item_of}
-use Rattle.wac_ast_uses.specs.Uses.{use_of}
+use Rattle.wac_json_text.proofs.Common.{escape_byte, codes, sym, interface_item_of, use_of, interface_item_json, use_json, printed_at}
 use Rattle.wac_json_text.specs.Contents.{variant_pieces}
-use Rattle.wac_json_forms.specs.Forms.{interface_item_json, use_json}
 use Rattle.wac_json_text.specs.Pieces.{pieces}
-use Rattle.wac_printer_pieces.proofs.Sequence.{printed_at}
 use Rattle.wac_json_text.proofs.interface_decl.InterfaceItemJson.write.Goals as goal
 
 pub returns-in-Use : goal.returns-in-Use

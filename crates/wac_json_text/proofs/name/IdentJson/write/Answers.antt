@@ -1,7 +1,4 @@
-use Rattle.json.specs.Print.{escape_byte}
-use Rattle.std.proofs.Common.{refl}
-use Rattle.wac_ast_base.specs.Names.{ident_of}
-use Rattle.wac_json_forms.specs.Forms.{ident_json, span_json}
+use Rattle.wac_json_text.proofs.Common.{escape_byte, refl, ident_of, ident_json, span_json}
 use Rattle.wac_json_text.proofs.Joined.{as_pieces}
 use Rattle.wac_json_text.proofs.name.IdentJson.write.Goals as goal
 

@@ -1,4 +1,5 @@
-use Rattle.wac_printer_pieces.proofs.Sequence.{after, first, last}
+use Rattle.wac_json_text.proofs.Common.{first, last}
+use Rattle.wac_printer_pieces.proofs.Sequence.{after}
 use Rattle.wac_json_text.proofs.name.StringEnclosed.write_inside.Goals as goal
 
 pub returns : goal.returns

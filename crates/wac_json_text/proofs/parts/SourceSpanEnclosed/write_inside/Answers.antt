@@ -1,6 +1,5 @@
-use Rattle.std.specs.Prelude.{[], ◌∷◌, decimal}
-use Rattle.wac_printer_layout.specs.Printed.{blank}
-use Rattle.wac_printer_pieces.proofs.Sequence.{after, first, last, printed_at}
+use Rattle.wac_json_text.proofs.Common.{[], ◌∷◌, decimal, blank, first, last, printed_at}
+use Rattle.wac_printer_pieces.proofs.Sequence.{after}
 use Rattle.wac_json_text.proofs.parts.SourceSpanEnclosed.write_inside.Goals as goal
 
 pub returns : goal.returns

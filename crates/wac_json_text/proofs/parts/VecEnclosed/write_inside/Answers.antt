@@ -1,4 +1,4 @@
-use Rattle.wac_printer_pieces.proofs.Sequence.{printed_at}
+use Rattle.wac_json_text.proofs.Common.{printed_at}
 use Rattle.wac_json_text.specs.Pieces.{joined_pieces, pieces}
 use Rattle.wac_json_text.proofs.parts.VecEnclosed.write_inside.Goals as goal
 

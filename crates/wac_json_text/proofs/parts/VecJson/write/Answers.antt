@@ -1,4 +1,4 @@
-use Rattle.wac_printer_pieces.proofs.Sequence.{printed_as}
+use Rattle.wac_json_text.proofs.Common.{printed_as}
 use Rattle.wac_json_text.proofs.Texts.{list_is}
 use Rattle.wac_json_text.proofs.parts.VecJson.write.Goals as goal
 

@@ -1,10 +1,5 @@
-use Rattle.json.specs.Print.{escape_byte}
-use Rattle.std.proofs.Common.{sym}
-use Rattle.wac_ast_base.specs.Names.{doc_comment_of}
-use Rattle.wac_ast_types.specs.Declarations.{constructor_of, named_type_of}
-use Rattle.wac_json_forms.specs.Forms.{constructor_json, doc_json, list_json, named_type_json, span_json}
+use Rattle.wac_json_text.proofs.Common.{escape_byte, sym, doc_comment_of, constructor_of, named_type_of, constructor_json, doc_json, list_json, named_type_json, span_json, items_of-map}
 use Rattle.wac_json_text.proofs.Joined.{as_form, ends, list_then, put, then}
-use Rattle.wac_json_forms.proofs.Lists.{items_of-map}
 use Rattle.wac_json_text.proofs.resource_decl.ConstructorJson.write.Goals as goal
 
 pub returns : goal.returns

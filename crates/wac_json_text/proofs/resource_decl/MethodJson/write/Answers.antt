@@ -1,11 +1,5 @@
-use Rattle.json.specs.Print.{escape_byte}
-use Rattle.serde_json.specs.Data.{boolean}
-use Rattle.std.proofs.Common.{sym}
-use Rattle.wac_ast_base.specs.Names.{doc_comment_of}
-use Rattle.wac_ast_types.specs.Declarations.{method_of}
-use Rattle.wac_json_forms.specs.Forms.{doc_json, ident_json, list_json, method_json, span_json}
+use Rattle.wac_json_text.proofs.Common.{escape_byte, boolean, sym, doc_comment_of, method_of, doc_json, ident_json, list_json, method_json, span_json, items_of-map}
 use Rattle.wac_json_text.proofs.Joined.{as_form, ends, form, list_then, put, then}
-use Rattle.wac_json_forms.proofs.Lists.{items_of-map}
 use Rattle.wac_json_text.proofs.resource_decl.MethodJson.write.Goals as goal
 
 pub returns : goal.returns

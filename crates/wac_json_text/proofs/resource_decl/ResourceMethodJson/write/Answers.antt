@@ -1,9 +1,5 @@
-use Rattle.json.specs.Print.{escape_byte}
-use Rattle.std.proofs.Common.{sym}
-use Rattle.wac_ast_types.specs.Declarations.{resource_method_of}
-use Rattle.wac_json_forms.specs.Forms.{resource_method_json}
+use Rattle.wac_json_text.proofs.Common.{escape_byte, sym, resource_method_of, resource_method_json, printed_at}
 use Rattle.wac_json_text.specs.Pieces.{pieces}
-use Rattle.wac_printer_pieces.proofs.Sequence.{printed_at}
 use Rattle.wac_json_text.proofs.resource_decl.ResourceMethodJson.write.Goals as goal
 
 pub returns-in-Constructor : goal.returns-in-Constructor

@@ -1,9 +1,5 @@
-use Rattle.json.specs.Print.{escape_byte}
-use Rattle.std.proofs.Common.{sym}
-use Rattle.wac_ast_types.specs.Declarations.{type_alias_kind_of}
-use Rattle.wac_json_forms.specs.Forms.{type_alias_kind_json}
+use Rattle.wac_json_text.proofs.Common.{escape_byte, sym, type_alias_kind_of, type_alias_kind_json, printed_at}
 use Rattle.wac_json_text.specs.Pieces.{pieces}
-use Rattle.wac_printer_pieces.proofs.Sequence.{printed_at}
 use Rattle.wac_json_text.proofs.type_alias.TypeAliasKindJson.write.Goals as goal
 
 pub returns-in-Func : goal.returns-in-Func

@@ -1,9 +1,5 @@
-use Rattle.json.specs.Print.{escape_byte}
-use Rattle.std.proofs.Common.{sym}
-use Rattle.wac_ast_types.specs.Declarations.{item_type_decl_of}
-use Rattle.wac_json_forms.specs.Forms.{item_type_decl_json}
+use Rattle.wac_json_text.proofs.Common.{escape_byte, sym, item_type_decl_of, item_type_decl_json, printed_at}
 use Rattle.wac_json_text.specs.Pieces.{pieces}
-use Rattle.wac_printer_pieces.proofs.Sequence.{printed_at}
 use Rattle.wac_json_text.proofs.type_statement.ItemTypeDeclJson.write.Goals as goal
 
 pub returns-in-Resource : goal.returns-in-Resource

@@ -1,10 +1,5 @@
-use Rattle.json.specs.Print.{escape_byte}
-use Rattle.std.proofs.Common.{sym}
-use Rattle.wac_ast_base.specs.Names.{doc_comment_of}
-use Rattle.wac_ast_uses.specs.Uses.{use_item_of, use_of}
-use Rattle.wac_json_forms.specs.Forms.{doc_json, list_json, use_item_json, use_json}
+use Rattle.wac_json_text.proofs.Common.{escape_byte, sym, doc_comment_of, use_item_of, use_of, doc_json, list_json, use_item_json, use_json, items_of-map}
 use Rattle.wac_json_text.proofs.Joined.{as_form, ends, form, list_then, put, then}
-use Rattle.wac_json_forms.proofs.Lists.{items_of-map}
 use Rattle.wac_json_text.proofs.use_decl.UseJson.write.Goals as goal
 
 pub returns : goal.returns

@@ -1,10 +1,5 @@
-use Rattle.json.specs.Print.{escape_byte}
-use Rattle.std.proofs.Common.{sym}
-use Rattle.wac_ast_base.specs.Names.{doc_comment_of}
-use Rattle.wac_ast_types.specs.Declarations.{variant_case_of, variant_decl_of}
-use Rattle.wac_json_forms.specs.Forms.{doc_json, ident_json, list_json, span_json, variant_case_json, variant_decl_json}
+use Rattle.wac_json_text.proofs.Common.{escape_byte, sym, doc_comment_of, variant_case_of, variant_decl_of, doc_json, ident_json, list_json, span_json, variant_case_json, variant_decl_json, items_of-map}
 use Rattle.wac_json_text.proofs.Joined.{as_form, ends, list_then, put, then}
-use Rattle.wac_json_forms.proofs.Lists.{items_of-map}
 use Rattle.wac_json_text.proofs.variant_decl.VariantDeclJson.write.Goals as goal
 
 pub returns : goal.returns

@@ -1,11 +1,6 @@
-use Rattle.json.specs.Print.{escape_byte}
-use Rattle.std.proofs.Common.{codes, refl, sym}
-use Rattle.wac_ast_worlds.specs.Worlds.{extern_type_of}
-use Rattle.wac_ast_base.specs.Names.{ident_of}
+use Rattle.wac_json_text.proofs.Common.{escape_byte, codes, refl, sym, extern_type_of, ident_of, extern_type_json, ident_json, span_json, variant, printed_at}
 use Rattle.wac_json_text.proofs.Joined.{as_pieces}
-use Rattle.wac_json_forms.specs.Forms.{extern_type_json, ident_json, span_json, variant}
 use Rattle.wac_json_text.specs.Pieces.{pieces}
-use Rattle.wac_printer_pieces.proofs.Sequence.{printed_at}
 use Rattle.wac_json_text.proofs.world_decl.ExternTypeJson.write.Goals as goal
 
 pub returns-in-Ident : goal.returns-in-Ident

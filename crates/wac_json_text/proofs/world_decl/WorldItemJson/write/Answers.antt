@@ -1,9 +1,5 @@
-use Rattle.json.specs.Print.{escape_byte}
-use Rattle.std.proofs.Common.{sym}
-use Rattle.wac_ast_worlds.specs.Worlds.{world_item_of}
-use Rattle.wac_json_forms.specs.Forms.{world_item_json}
+use Rattle.wac_json_text.proofs.Common.{escape_byte, sym, world_item_of, world_item_json, printed_at}
 use Rattle.wac_json_text.specs.Pieces.{pieces}
-use Rattle.wac_printer_pieces.proofs.Sequence.{printed_at}
 use Rattle.wac_json_text.proofs.world_decl.WorldItemJson.write.Goals as goal
 
 pub returns-in-Use : goal.returns-in-Use

@@ -1,11 +1,6 @@
-use Rattle.json.specs.Print.{escape_byte}
-use Rattle.std.proofs.Common.{codes, refl, sym}
-use Rattle.wac_ast_worlds.specs.Worlds.{world_item_path_of}
-use Rattle.wac_ast_base.specs.Names.{ident_of}
+use Rattle.wac_json_text.proofs.Common.{escape_byte, codes, refl, sym, world_item_path_of, ident_of, ident_json, span_json, variant, world_item_path_json, printed_at}
 use Rattle.wac_json_text.proofs.Joined.{as_pieces}
-use Rattle.wac_json_forms.specs.Forms.{ident_json, span_json, variant, world_item_path_json}
 use Rattle.wac_json_text.specs.Pieces.{pieces}
-use Rattle.wac_printer_pieces.proofs.Sequence.{printed_at}
 use Rattle.wac_json_text.proofs.world_decl.WorldItemPathJson.write.Goals as goal
 
 pub returns-in-Named : goal.returns-in-Named

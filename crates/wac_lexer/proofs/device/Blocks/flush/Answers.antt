@@ -1,4 +1,4 @@
-use Rattle.std.proofs.Common.{rules, ◌≡◌, ◌≤◌, ◌++◌, ◌∙◌, ap, subst, take, drop, length}
+use Rattle.wac_lexer.proofs.Common.{rules, ◌≡◌, ◌≤◌, ◌++◌, ◌∙◌, ap, subst, take, drop, length}
 use Rattle.wac_lexer.proofs.Passing.{passed_on, all_passed_on, same_before, alike}
 use Rattle.wac_lexer.proofs.device.Blocks.flush.Goals as goal
 

@@ -1,5 +1,4 @@
-use Rattle.std.proofs.Common.{rules, arith, length, take, drop, ◌≡◌, ◌+◌, ◌++◌, ◌∙◌, ap}
-use Rattle.std.proofs.lemmas.List.{length-take-le}
+use Rattle.wac_lexer.proofs.Common.{rules, arith, length, take, drop, ◌≡◌, ◌+◌, ◌++◌, ◌∙◌, ap, length-take-le}
 use Rattle.wac_lexer.proofs.Passing.{written_behind, holding_more}
 use Rattle.wac_lexer.proofs.device.Blocks.hold.Goals as goal
 

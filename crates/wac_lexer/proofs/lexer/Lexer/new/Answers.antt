@@ -1,5 +1,4 @@
-use Rattle.std.proofs.Common.{arith}
-use Rattle.std.proofs.lemmas.Str.{IsCharBoundary-start}
+use Rattle.wac_lexer.proofs.Common.{arith, IsCharBoundary-start}
 use Rattle.wac_lexer.proofs.Unfolded.{between_start}
 use Rattle.wac_lexer.proofs.lexer.Lexer.new.Goals as goal
 

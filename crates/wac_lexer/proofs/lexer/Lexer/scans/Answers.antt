@@ -1,4 +1,4 @@
-use Rattle.std.proofs.Common.{arith}
+use Rattle.wac_lexer.proofs.Common.{arith}
 use Rattle.wac_lexer.proofs.Found.{before_within}
 use Rattle.wac_lexer.proofs.lexer.Lexer.scans.Goals as goal
 

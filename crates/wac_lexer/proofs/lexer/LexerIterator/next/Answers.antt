@@ -1,4 +1,4 @@
-use Rattle.std.proofs.Common.{◌<◌, ◌≤◌, length, arith, rules}
+use Rattle.wac_lexer.proofs.Common.{◌<◌, ◌≤◌, length, arith, rules}
 use Rattle.wac_lexer.specs.Span.{end_of}
 use Rattle.wac_lexer.proofs.Found.{found_ends}
 use Rattle.wac_lexer.proofs.Ahead.{counts, within_next, ahead_next, steps_next, within_end, ahead_end, steps_end}

@@ -1,7 +1,4 @@
-use Rattle.std.proofs.Common.{sym, ◌∙◌, subst}
-use Rattle.std.specs.Char.{encode_utf8}
-use Rattle.std.specs.Str.{IsCharBoundary}
-use Rattle.std.proofs.lemmas.Str.{IsCharBoundary-at_seam, IsUtf8-past_char}
+use Rattle.wac_lexer.proofs.Common.{sym, ◌∙◌, subst, encode_utf8, IsCharBoundary, IsCharBoundary-at_seam, IsUtf8-past_char}
 use Rattle.wac_lexer.proofs.lexer.items.first_char_len.Goals as goal
 
 pub returns-in-Some-clause-within : goal.returns-in-Some-clause-within

@@ -1,5 +1,4 @@
-use Rattle.std.proofs.Common.{◌≡◌, ◌+◌, length, drop, sym, ap, ◌∙◌, subst}
-use Rattle.std.specs.Str.{IsCharBoundary}
+use Rattle.wac_lexer.proofs.Common.{◌≡◌, ◌+◌, length, drop, sym, ap, ◌∙◌, subst, IsCharBoundary}
 use Rattle.wac_lexer.specs.Comments.{gap}
 use Rattle.wac_lexer.proofs.Boundaries.{gap_boundary}
 use Rattle.wac_lexer.proofs.lexer.items.start_of.Goals as goal

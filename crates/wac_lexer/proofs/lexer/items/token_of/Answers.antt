@@ -1,4 +1,4 @@
-use Rattle.std.proofs.Common.{sym, ◌∙◌, ap, Some, refl}
+use Rattle.wac_lexer.proofs.Common.{sym, ◌∙◌, ap, Some, refl}
 use Rattle.wac_lexer.proofs.Texts.{word_found, word_not_found, symbol_found, symbol_is_found, other_not_found}
 use Rattle.wac_lexer.proofs.Fronts.{token_fixed, token_plain}
 use Rattle.wac_lexer.specs.declared.shape.Shape.TheVariants.{Word, Name, Path, Quoted}

@@ -1,26 +1,10 @@
-use Rattle.std.proofs.Common.{arith, rules, ap, refl, sym, subst, map, ◌∙◌, ◌≡◌, ◌≤◌, ◌<◌, ◌++◌, ◌∷◌, [], codes, length, true, false, Err}
-use Rattle.std.specs.List.{flat_map}
-use Rattle.wac_ast_grammar.specs.Tree.{arguments_from}
-use Rattle.wac_ast_expressions.specs.Expressions.{argument_of, expr_of, primary_expr_of, postfix_expr_of}
-use Rattle.wac_ast_expressions.specs.declared.expr.InstantiationArgument.{size-InstantiationArgument}
-use Rattle.wac_ast_expressions.specs.declared.expr.PrimaryExpr.{size-PrimaryExpr}
+use Rattle.wac_printer.proofs.Common.{arith, rules, ap, refl, sym, subst, map, ◌∙◌, ◌≡◌, ◌≤◌, ◌<◌, ◌++◌, ◌∷◌, [], codes, length, true, false, Err, flat_map, arguments_from, argument_of, expr_of, primary_expr_of, postfix_expr_of, size-InstantiationArgument, size-PrimaryExpr, out-NestedExpr, new_is, token, line, deeper, space, bare_argument, bare_expr, bare_primary_expr, bare_arguments, bare_postfix_expr, argument_layout, arguments_layout, expr_layout, primary_expr_layout, postfix_expr_layout, ending_layout, Prints, part_at, starts, goes_at, stops_at, ends, first_stops, first_goes, none_is, deeper_part, fail, fails, parts, piece, printed_as, printed_at, there, slice}
 use Rattle.wac_ast_expressions.specs.declared.expr.InstantiationArgument.TheViews.{sized-New}
-use Rattle.wac_ast_expressions.specs.declared.expr.NestedExpr.{out-NestedExpr}
-use Rattle.wac_ast_expressions.proofs.ExprViews.{new_is}
-use Rattle.wac_printer_layout.specs.Printed.{token, line, deeper}
-use Rattle.wac_printer_layout.specs.Parts.{space}
-use Rattle.wac_printer_layout.specs.Bare.{bare_argument, bare_expr, bare_primary_expr, bare_arguments, bare_postfix_expr}
-use Rattle.wac_printer_layout.specs.ExpressionLayout.{argument_layout, arguments_layout, expr_layout, primary_expr_layout, postfix_expr_layout}
-use Rattle.wac_printer_pieces.specs.Arguments.{ending_layout}
 use Rattle.wac_printer.specs.Arguments.{braces_layout}
-use Rattle.wac_printer_pieces.specs.Printed.{Prints}
 use Rattle.wac_printer.specs.Sliced.{ArgumentSliced, PrimaryExprSliced}
 use Rattle.wac_printer.proofs.Arguments.{bared, its_line, arguments_lines, no_arguments, braces_none, braces_lone, braces_lines, ending_bare, front_sliced, last_sliced, most_front, most_last, named_is, nested_layout}
 use Rattle.wac_printer.proofs.PartsOf.{no_items}
-use Rattle.wac_printer_pieces.proofs.Progress.{part_at, starts, goes_at, stops_at, ends, first_stops, first_goes, none_is, deeper_part}
 use Rattle.wac_printer.proofs.Trees.{most_at}
-use Rattle.wac_printer_pieces.proofs.Sequence.{fail, fails, parts, piece, printed_as, printed_at, there}
-use Rattle.wac_lexer.specs.Reading.{slice}
 use Rattle.wac_printer.proofs.printer.DocumentPrinter.+expr.Goals as goal
 
 -- ---- the lines of arguments

@@ -1,11 +1,8 @@
-use Rattle.std.specs.Prelude.{◌+◌, ◌*◌, false}
+use Rattle.wac_printer.proofs.Common.{◌+◌, ◌*◌, false, size-InstantiationArgument, size-PrimaryExpr, IsSoFar}
 use denote.Param.Weighed.{most}
 use Rattle.wac_ast_expressions.specs.declared.expr.Expr.{size-Expr}
-use Rattle.wac_ast_expressions.specs.declared.expr.InstantiationArgument.{size-InstantiationArgument}
 use Rattle.wac_ast_expressions.specs.declared.expr.NewExpr.{size-NewExpr}
-use Rattle.wac_ast_expressions.specs.declared.expr.PrimaryExpr.{size-PrimaryExpr}
 use Rattle.wac_printer.proofs.Arguments.{its_line}
-use Rattle.wac_printer_pieces.proofs.Progress.{IsSoFar}
 use Rattle.wac_printer.proofs.printer.DocumentPrinter.+expr.Given as goal
 
 abbrev pub invariant-front_arguments-loop-argument : goal.invariant-front_arguments-loop-argument

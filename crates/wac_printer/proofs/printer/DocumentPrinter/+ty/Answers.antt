@@ -1,20 +1,10 @@
-use Rattle.std.proofs.Common.{arith, ℕ, List, ap, sym, subst, ◌∙◌, ◌≡◌, ◌≤◌, [], ◌∷◌, ◌++◌, codes, length, rules, Err, Result}
-use Rattle.wac_printer_pieces.specs.declared.error.PrintError.{PrintError}
-use Rattle.std.specs.List.{flat_map, All}
+use Rattle.wac_printer.proofs.Common.{arith, ℕ, List, ap, sym, subst, ◌∙◌, ◌≡◌, ◌≤◌, [], ◌∷◌, ◌++◌, codes, length, rules, Err, Result, PrintError, flat_map, All, ty_of, Piece, token, bare_ty, space, joined, ty_layout, Printer, Prints, part_at, starts, goes_at, stops_at, ends, first_stops, first_goes, none_is, others_sliced, fail, fails, piece, parts, printed_at}
 use denote.Param.Weighed.{most}
-use Rattle.wac_ast_types.specs.Types.{ty_of}
-use Rattle.wac_printer_layout.specs.Printed.{Piece, token}
-use Rattle.wac_printer_layout.specs.Bare.{bare_ty}
 use Rattle.wac_printer.specs.Sliced.{TySliced}
-use Rattle.wac_printer_layout.specs.Parts.{space, joined}
-use Rattle.wac_printer_layout.specs.TypeLayout.{ty_layout}
 use Rattle.wac_ast_types.specs.declared.types.«Type» as code
 use Rattle.wac_ast_types.specs.declared.types.«Type».{«Type», size-Type}
-use Rattle.wac_printer_pieces.specs.Printed.{Printer, Prints}
 use Rattle.wac_printer.proofs.Trees.{most_at, most_rest, tuple_sliced, size_tuple, tuple_printed}
 use Rattle.wac_printer.proofs.PartsOf.{joined-none, joined-some, All-rest, no_items}
-use Rattle.wac_printer_pieces.proofs.Progress.{part_at, starts, goes_at, stops_at, ends, first_stops, first_goes, none_is, others_sliced}
-use Rattle.wac_printer_pieces.proofs.Sequence.{fail, fails, piece, parts, printed_at}
 use Rattle.wac_printer.proofs.printer.DocumentPrinter.+ty.Goals as goal
 
 abbrev angled : List ℕ → List ℕ → «Type» → List Piece

@@ -1,12 +1,6 @@
-use Rattle.std.specs.Prelude.{◌+◌, ◌*◌, [], ◌∷◌, ◌++◌, codes}
+use Rattle.wac_printer.proofs.Common.{◌+◌, ◌*◌, [], ◌∷◌, ◌++◌, codes, ty_of, token, bare_ty, space, ty_layout, IsSoFar}
 use denote.Param.Weighed.{most}
 use Rattle.wac_ast_types.specs.declared.types.«Type».{size-Type}
-use Rattle.wac_ast_types.specs.Types.{ty_of}
-use Rattle.wac_printer_layout.specs.Printed.{token}
-use Rattle.wac_printer_layout.specs.Bare.{bare_ty}
-use Rattle.wac_printer_layout.specs.Parts.{space}
-use Rattle.wac_printer_layout.specs.TypeLayout.{ty_layout}
-use Rattle.wac_printer_pieces.proofs.Progress.{IsSoFar}
 use Rattle.wac_printer.proofs.printer.DocumentPrinter.+ty.Given as goal
 
 abbrev pub invariant-further_types-loop-ty : goal.invariant-further_types-loop-ty

@@ -1,7 +1,4 @@
-use Rattle.wac_printer_pieces.proofs.Sequence.{first, last, printed_at}
-use Rattle.std.proofs.Common.{[], ◌∷◌}
-use Rattle.wac_lexer.specs.Reading.{slice}
-use Rattle.wac_printer_layout.specs.Printed.{token}
+use Rattle.wac_printer.proofs.Common.{first, last, printed_at, [], ◌∷◌, slice, token}
 use Rattle.wac_printer.proofs.printer.DocumentPrinter.access_expr.Goals as goal
 
 pub returns : goal.returns

@@ -1,11 +1,5 @@
-use Rattle.wac_printer_pieces.proofs.Sequence.{after, first, last, printed_at}
-use Rattle.std.proofs.Common.{[], sym, ◌∙◌, ◌∷◌}
-use Rattle.std.specs.Option.{option_map}
-use Rattle.wac_lexer.specs.Reading.{slice}
-use Rattle.wac_printer_layout.specs.Bare.{bare_ident}
-use Rattle.wac_ast_base.specs.Names.{ident_of}
-use Rattle.wac_printer_layout.specs.InterfaceLayout.{as_layout}
-use Rattle.wac_printer_layout.specs.Printed.{token}
+use Rattle.wac_printer.proofs.Common.{first, last, printed_at, [], sym, ◌∙◌, ◌∷◌, option_map, slice, bare_ident, ident_of, as_layout, token}
+use Rattle.wac_printer_pieces.proofs.Sequence.{after}
 use Rattle.wac_printer.proofs.printer.DocumentPrinter.as_ident.Goals as goal
 
 pub returns-in-Some : goal.returns-in-Some

@@ -1,5 +1,5 @@
-use Rattle.std.proofs.Common.{◌∙◌}
-use Rattle.wac_printer_pieces.proofs.Sequence.{after, first, last, there}
+use Rattle.wac_printer.proofs.Common.{◌∙◌, first, last, there}
+use Rattle.wac_printer_pieces.proofs.Sequence.{after}
 use Rattle.wac_printer.proofs.printer.DocumentPrinter.behind_comma.Goals as goal
 
 pub returns : goal.returns

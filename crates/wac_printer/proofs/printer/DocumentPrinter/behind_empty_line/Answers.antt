@@ -1,6 +1,4 @@
-use Rattle.wac_printer_pieces.proofs.Sequence.{first, last, there}
-use Rattle.std.proofs.Common.{[], ◌++◌, ◌∷◌}
-use Rattle.wac_printer_layout.specs.Parts.{newline}
+use Rattle.wac_printer.proofs.Common.{first, last, there, [], ◌++◌, ◌∷◌, newline}
 use Rattle.wac_printer.proofs.printer.DocumentPrinter.behind_empty_line.Goals as goal
 
 pub returns : goal.returns

@@ -1,7 +1,4 @@
-use Rattle.std.proofs.Common.{◌≡◌, rules, Err, ◌≤◌, length}
-use Rattle.std.specs.Prelude.{[], ◌∷◌, ◌++◌}
-use Rattle.wac_printer_layout.specs.Parts.{newline}
-use Rattle.wac_printer_pieces.proofs.Progress.{part_at, starts, goes_at, stops_at, ends}
+use Rattle.wac_printer.proofs.Common.{◌≡◌, rules, Err, ◌≤◌, length, [], ◌∷◌, ◌++◌, newline, part_at, starts, goes_at, stops_at, ends}
 use Rattle.wac_printer.proofs.printer.DocumentPrinter.behind_empty_lines.Goals as goal
 
 pub loop-item-init : goal.loop-item-init

@@ -1,6 +1,4 @@
-use Rattle.std.specs.Prelude.{[], ◌∷◌, ◌++◌}
-use Rattle.wac_printer_layout.specs.Parts.{newline}
-use Rattle.wac_printer_pieces.proofs.Progress.{IsSoFar}
+use Rattle.wac_printer.proofs.Common.{[], ◌∷◌, ◌++◌, newline, IsSoFar}
 use Rattle.wac_printer.proofs.printer.DocumentPrinter.behind_empty_lines.Given as goal
 
 abbrev pub invariant-loop-item : goal.invariant-loop-item

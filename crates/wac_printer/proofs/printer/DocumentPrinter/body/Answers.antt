@@ -1,8 +1,6 @@
-use Rattle.wac_printer_layout.specs.Printed.{deeper}
-use Rattle.std.proofs.Common.{sym, ◌∙◌}
-use Rattle.wac_printer_pieces.proofs.Sequence.{after, first, last, printed_as, printed_at, there}
+use Rattle.wac_printer.proofs.Common.{deeper, sym, ◌∙◌, first, last, printed_as, printed_at, there, close_body, spaced}
+use Rattle.wac_printer_pieces.proofs.Sequence.{after}
 use Rattle.wac_printer.proofs.PartsOf.{body-is}
-use Rattle.wac_printer_layout.specs.Parts.{close_body, spaced}
 use Rattle.wac_printer.proofs.printer.DocumentPrinter.body.Goals as goal
 
 pub returns : goal.returns

@@ -1,10 +1,6 @@
-use Rattle.wac_ast_types.specs.Declarations.{named_type_of}
-use Rattle.std.proofs.Common.{[], codes, map, ◌++◌, ◌∙◌, ◌∷◌}
-use Rattle.wac_printer_pieces.proofs.Sequence.{after, first, last, printed_at}
+use Rattle.wac_printer.proofs.Common.{named_type_of, [], codes, map, ◌++◌, ◌∙◌, ◌∷◌, first, last, printed_at, line, token, params_layout, bare_named_type}
+use Rattle.wac_printer_pieces.proofs.Sequence.{after}
 use Rattle.wac_printer.proofs.BareLists.{of_docs}
-use Rattle.wac_printer_layout.specs.Printed.{line, token}
-use Rattle.wac_printer_layout.specs.TypeLayout.{params_layout}
-use Rattle.wac_printer_layout.specs.Bare.{bare_named_type}
 use Rattle.wac_printer.proofs.printer.DocumentPrinter.constructor.Goals as goal
 
 pub returns : goal.returns

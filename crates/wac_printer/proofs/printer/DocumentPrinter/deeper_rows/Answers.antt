@@ -1,8 +1,4 @@
-use Rattle.std.specs.Prelude.{[], ◌∷◌, ◌++◌, codes}
-use Rattle.std.specs.List.{flat_map}
-use Rattle.wac_printer_layout.specs.Printed.{token}
-use Rattle.wac_printer_layout.specs.Parts.{newline}
-use Rattle.wac_printer_pieces.proofs.Progress.{deeper_part}
+use Rattle.wac_printer.proofs.Common.{[], ◌∷◌, ◌++◌, codes, flat_map, token, newline, deeper_part}
 use Rattle.wac_printer.proofs.printer.DocumentPrinter.deeper_rows.Goals as goal
 
 pub returns : goal.returns

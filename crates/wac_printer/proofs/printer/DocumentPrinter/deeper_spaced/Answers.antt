@@ -1,5 +1,4 @@
-use Rattle.wac_printer_layout.specs.Parts.{spaced}
-use Rattle.wac_printer_pieces.proofs.Progress.{deeper_part}
+use Rattle.wac_printer.proofs.Common.{spaced, deeper_part}
 use Rattle.wac_printer.proofs.printer.DocumentPrinter.deeper_spaced.Goals as goal
 
 pub returns : goal.returns

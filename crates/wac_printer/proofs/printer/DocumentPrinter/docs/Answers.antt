@@ -1,5 +1,4 @@
-use Rattle.std.proofs.Common.{sym, subst}
-use Rattle.wac_printer_pieces.specs.Printed.{Prints}
+use Rattle.wac_printer.proofs.Common.{sym, subst, Prints}
 use Rattle.wac_printer.proofs.PartsOf.{docs-of}
 use Rattle.wac_printer.proofs.printer.DocumentPrinter.docs.Goals as goal
 

@@ -1,4 +1,4 @@
-use Rattle.wac_ast.specs.Statements.{document_of}
+use Rattle.wac_printer.proofs.Common.{document_of}
 use Rattle.wac_printer.proofs.printer.DocumentPrinter.document.Goals as goal
 
 pub returns-clause-reads_back : goal.returns-clause-reads_back

@@ -1,5 +1,4 @@
-use Rattle.std.proofs.Common.{◌≡◌, rules, Err, ◌≤◌, length}
-use Rattle.wac_printer_pieces.proofs.Progress.{part_at, starts, goes_at, stops_at, ends}
+use Rattle.wac_printer.proofs.Common.{◌≡◌, rules, Err, ◌≤◌, length, part_at, starts, goes_at, stops_at, ends}
 use Rattle.wac_printer.proofs.printer.DocumentPrinter.each.Goals as goal
 
 pub loop-item-init : goal.loop-item-init

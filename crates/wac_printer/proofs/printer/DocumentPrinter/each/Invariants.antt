@@ -1,4 +1,4 @@
-use Rattle.wac_printer_pieces.proofs.Progress.{IsSoFar}
+use Rattle.wac_printer.proofs.Common.{IsSoFar}
 use Rattle.wac_printer.proofs.printer.DocumentPrinter.each.Given as goal
 
 abbrev pub invariant-loop-item : goal.invariant-loop-item

@@ -1,8 +1,4 @@
-use Rattle.std.proofs.Common.{◌≡◌, rules, Err, ◌≤◌, length}
-use Rattle.std.specs.Prelude.{[], ◌∷◌, ◌++◌, codes}
-use Rattle.wac_printer_layout.specs.Printed.{token}
-use Rattle.wac_printer_layout.specs.Parts.{newline}
-use Rattle.wac_printer_pieces.proofs.Progress.{part_at, starts, goes_at, stops_at, ends}
+use Rattle.wac_printer.proofs.Common.{◌≡◌, rules, Err, ◌≤◌, length, [], ◌∷◌, ◌++◌, codes, token, newline, part_at, starts, goes_at, stops_at, ends}
 use Rattle.wac_printer.proofs.printer.DocumentPrinter.each_row.Goals as goal
 
 pub loop-item-init : goal.loop-item-init

@@ -1,7 +1,4 @@
-use Rattle.std.specs.Prelude.{[], ◌∷◌, ◌++◌, codes}
-use Rattle.wac_printer_layout.specs.Printed.{token}
-use Rattle.wac_printer_layout.specs.Parts.{newline}
-use Rattle.wac_printer_pieces.proofs.Progress.{IsSoFar}
+use Rattle.wac_printer.proofs.Common.{[], ◌∷◌, ◌++◌, codes, token, newline, IsSoFar}
 use Rattle.wac_printer.proofs.printer.DocumentPrinter.each_row.Given as goal
 
 abbrev pub invariant-loop-item : goal.invariant-loop-item

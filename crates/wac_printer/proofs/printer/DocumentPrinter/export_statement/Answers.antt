@@ -1,12 +1,6 @@
-use Rattle.wac_printer_pieces.proofs.Sequence.{after, first, last, printed_at, there}
+use Rattle.wac_printer.proofs.Common.{first, last, printed_at, there, export_options_layout, [], ◌∙◌, ◌∷◌, expr_layout, line, bare_export_options, bare_expr, export_options_of, expr_of}
+use Rattle.wac_printer_pieces.proofs.Sequence.{after}
 use Rattle.wac_printer.proofs.BareLists.{of_docs}
-use Rattle.wac_printer_layout.specs.StatementLayout.{export_options_layout}
-use Rattle.std.proofs.Common.{[], ◌∙◌, ◌∷◌}
-use Rattle.wac_printer_layout.specs.ExpressionLayout.{expr_layout}
-use Rattle.wac_printer_layout.specs.Printed.{line}
-use Rattle.wac_printer_layout.specs.Bare.{bare_export_options, bare_expr}
-use Rattle.wac_ast_statements.specs.Statements.{export_options_of}
-use Rattle.wac_ast_expressions.specs.Expressions.{expr_of}
 use Rattle.wac_printer.proofs.printer.DocumentPrinter.export_statement.Goals as goal
 
 pub returns : goal.returns

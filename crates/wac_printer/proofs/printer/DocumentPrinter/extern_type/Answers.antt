@@ -1,9 +1,5 @@
-use Rattle.std.proofs.Common.{sym, subst}
-use Rattle.wac_ast_worlds.specs.Worlds.{extern_type_of}
-use Rattle.wac_printer_pieces.specs.Printed.{Prints}
+use Rattle.wac_printer.proofs.Common.{sym, subst, extern_type_of, Prints, bare_extern_type, doc_lines, extern_type_layout}
 use Rattle.wac_printer.specs.Sliced.{ExternTypeSliced}
-use Rattle.wac_printer_layout.specs.Bare.{bare_extern_type, doc_lines}
-use Rattle.wac_printer_layout.specs.WorldLayout.{extern_type_layout}
 use Rattle.wac_printer.proofs.printer.DocumentPrinter.extern_type.Goals as goal
 
 pub ident-requires : goal.ident-requires

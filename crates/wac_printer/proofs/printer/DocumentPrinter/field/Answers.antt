@@ -1,11 +1,6 @@
-use Rattle.wac_printer_layout.specs.DeclarationLayout.{label_layout}
-use Rattle.wac_printer_layout.specs.Bare.{bare_ident, bare_ty}
-use Rattle.std.proofs.Common.{◌∙◌}
-use Rattle.wac_printer_pieces.proofs.Sequence.{after, first, last, printed_at, there}
+use Rattle.wac_printer.proofs.Common.{label_layout, bare_ident, bare_ty, ◌∙◌, first, last, printed_at, there, ty_of, ty_layout, ident_of}
+use Rattle.wac_printer_pieces.proofs.Sequence.{after}
 use Rattle.wac_printer.proofs.BareLists.{of_docs}
-use Rattle.wac_ast_types.specs.Types.{ty_of}
-use Rattle.wac_printer_layout.specs.TypeLayout.{ty_layout}
-use Rattle.wac_ast_base.specs.Names.{ident_of}
 use Rattle.wac_printer.proofs.printer.DocumentPrinter.field.Goals as goal
 
 pub returns : goal.returns

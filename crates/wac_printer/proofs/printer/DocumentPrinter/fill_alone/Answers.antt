@@ -1,4 +1,5 @@
-use Rattle.wac_printer_pieces.proofs.Sequence.{after, first, last}
+use Rattle.wac_printer.proofs.Common.{first, last}
+use Rattle.wac_printer_pieces.proofs.Sequence.{after}
 use Rattle.wac_printer.proofs.printer.DocumentPrinter.fill_alone.Goals as goal
 
 pub returns : goal.returns

@@ -1,8 +1,6 @@
-use Rattle.wac_printer_layout.specs.Printed.{line, token}
-use Rattle.wac_printer_pieces.proofs.Sequence.{after, first, last, printed_at}
+use Rattle.wac_printer.proofs.Common.{line, token, first, last, printed_at, [], ◌∙◌, ◌∷◌, slice}
+use Rattle.wac_printer_pieces.proofs.Sequence.{after}
 use Rattle.wac_printer.proofs.BareLists.{of_docs}
-use Rattle.std.proofs.Common.{[], ◌∙◌, ◌∷◌}
-use Rattle.wac_lexer.specs.Reading.{slice}
 use Rattle.wac_printer.proofs.printer.DocumentPrinter.flag.Goals as goal
 
 pub returns : goal.returns

@@ -1,8 +1,5 @@
-use Rattle.wac_ast_types.specs.Declarations.{named_type_of, result_list_of}
-use Rattle.std.proofs.Common.{map, ◌∙◌}
-use Rattle.wac_printer_pieces.proofs.Sequence.{after, first, last, printed_at}
-use Rattle.wac_printer_layout.specs.Bare.{bare_named_type, bare_result_list}
-use Rattle.wac_printer_layout.specs.TypeLayout.{params_layout, results_layout}
+use Rattle.wac_printer.proofs.Common.{named_type_of, result_list_of, map, ◌∙◌, first, last, printed_at, bare_named_type, bare_result_list, params_layout, results_layout}
+use Rattle.wac_printer_pieces.proofs.Sequence.{after}
 use Rattle.wac_printer.proofs.printer.DocumentPrinter.func_type.Goals as goal
 
 pub returns : goal.returns

@@ -1,12 +1,6 @@
-use Rattle.wac_printer_layout.specs.StatementLayout.{import_name_layout, import_type_layout}
-use Rattle.wac_printer_pieces.proofs.Sequence.{after, first, last, printed_at, there}
+use Rattle.wac_printer.proofs.Common.{import_name_layout, import_type_layout, first, last, printed_at, there, bare_extern_name, bare_ident, bare_import_type, doc_lines, extern_name_of, ident_of, head_layout, option_map, codes, ◌∙◌, import_type_of}
+use Rattle.wac_printer_pieces.proofs.Sequence.{after}
 use Rattle.wac_printer.proofs.BareLists.{of_docs}
-use Rattle.wac_printer_layout.specs.Bare.{bare_extern_name, bare_ident, bare_import_type, doc_lines}
-use Rattle.wac_ast_base.specs.Names.{extern_name_of, ident_of}
-use Rattle.wac_printer_layout.specs.DeclarationLayout.{head_layout}
-use Rattle.std.specs.Option.{option_map}
-use Rattle.std.proofs.Common.{codes, ◌∙◌}
-use Rattle.wac_ast_worlds.specs.Worlds.{import_type_of}
 use Rattle.wac_printer.proofs.printer.DocumentPrinter.import_statement.Goals as goal
 
 pub returns : goal.returns

@@ -1,9 +1,5 @@
-use Rattle.std.proofs.Common.{sym, subst}
-use Rattle.wac_ast_worlds.specs.Worlds.{import_type_of}
-use Rattle.wac_printer_pieces.specs.Printed.{Prints}
+use Rattle.wac_printer.proofs.Common.{sym, subst, import_type_of, Prints, bare_import_type, doc_lines, import_type_layout}
 use Rattle.wac_printer.specs.Sliced.{ImportTypeSliced}
-use Rattle.wac_printer_layout.specs.Bare.{bare_import_type, doc_lines}
-use Rattle.wac_printer_layout.specs.StatementLayout.{import_type_layout}
 use Rattle.wac_printer.proofs.printer.DocumentPrinter.import_type.Goals as goal
 
 pub package_path-requires : goal.package_path-requires

@@ -1,12 +1,6 @@
-use Rattle.std.proofs.Common.{codes, map, ◌∙◌}
-use Rattle.wac_printer_layout.specs.DeclarationLayout.{head_layout}
-use Rattle.wac_printer_layout.specs.Bare.{bare_ident, bare_interface_item, doc_lines}
-use Rattle.wac_printer_pieces.proofs.Sequence.{after, first, last, printed_at, there}
+use Rattle.wac_printer.proofs.Common.{codes, map, ◌∙◌, head_layout, bare_ident, bare_interface_item, doc_lines, first, last, printed_at, there, body, interface_item_of, interface_item_layout, ident_of}
+use Rattle.wac_printer_pieces.proofs.Sequence.{after}
 use Rattle.wac_printer.proofs.BareLists.{of_docs}
-use Rattle.wac_printer_layout.specs.Parts.{body}
-use Rattle.wac_ast_worlds.specs.Worlds.{interface_item_of}
-use Rattle.wac_printer_layout.specs.InterfaceLayout.{interface_item_layout}
-use Rattle.wac_ast_base.specs.Names.{ident_of}
 use Rattle.wac_printer.proofs.printer.DocumentPrinter.interface_decl.Goals as goal
 
 pub returns : goal.returns

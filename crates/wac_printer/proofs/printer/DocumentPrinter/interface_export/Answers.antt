@@ -1,11 +1,6 @@
-use Rattle.wac_printer_layout.specs.DeclarationLayout.{label_layout}
-use Rattle.std.proofs.Common.{◌∙◌}
-use Rattle.wac_printer_pieces.proofs.Sequence.{after, first, last, printed_at, there}
+use Rattle.wac_printer.proofs.Common.{label_layout, ◌∙◌, first, last, printed_at, there, bare_func_type_ref, bare_ident, func_type_ref_of, func_type_ref_layout, ident_of}
+use Rattle.wac_printer_pieces.proofs.Sequence.{after}
 use Rattle.wac_printer.proofs.BareLists.{of_docs}
-use Rattle.wac_printer_layout.specs.Bare.{bare_func_type_ref, bare_ident}
-use Rattle.wac_ast_types.specs.Declarations.{func_type_ref_of}
-use Rattle.wac_printer_layout.specs.TypeLayout.{func_type_ref_layout}
-use Rattle.wac_ast_base.specs.Names.{ident_of}
 use Rattle.wac_printer.proofs.printer.DocumentPrinter.interface_export.Goals as goal
 
 pub returns : goal.returns

@@ -1,10 +1,5 @@
-use Rattle.std.proofs.Common.{sym, subst}
-use Rattle.wac_ast_worlds.specs.Worlds.{interface_item_of}
-use Rattle.wac_ast_uses.specs.Uses.{use_of}
-use Rattle.wac_printer_pieces.specs.Printed.{Prints}
+use Rattle.wac_printer.proofs.Common.{sym, subst, interface_item_of, use_of, Prints, bare_interface_item, bare_use, doc_lines, interface_item_layout, use_layout}
 use Rattle.wac_printer.specs.Sliced.{InterfaceItemSliced, UseSliced}
-use Rattle.wac_printer_layout.specs.Bare.{bare_interface_item, bare_use, doc_lines}
-use Rattle.wac_printer_layout.specs.InterfaceLayout.{interface_item_layout, use_layout}
 use Rattle.wac_printer.proofs.printer.DocumentPrinter.interface_item.Goals as goal
 
 pub use_type-requires : goal.use_type-requires

@@ -1,11 +1,6 @@
-use Rattle.std.proofs.Common.{map, sym, subst, ◌∙◌}
-use Rattle.wac_ast_worlds.specs.Worlds.{interface_item_of}
-use Rattle.wac_printer_pieces.specs.Printed.{Prints}
+use Rattle.wac_printer.proofs.Common.{map, sym, subst, ◌∙◌, interface_item_of, Prints, bare_interface_item, doc_lines, interface_item_layout, All-of-map}
 use Rattle.wac_printer.specs.Sliced.{InterfaceItemSliced}
-use Rattle.wac_printer_layout.specs.Bare.{bare_interface_item, doc_lines}
-use Rattle.wac_printer_layout.specs.InterfaceLayout.{interface_item_layout}
 use Rattle.wac_printer.proofs.PartsOf.{body-of}
-use Rattle.wac_printer_pieces.proofs.Progress.{All-of-map}
 use Rattle.wac_printer.proofs.printer.DocumentPrinter.interface_items.Goals as goal
 
 pub body-requires : goal.body-requires

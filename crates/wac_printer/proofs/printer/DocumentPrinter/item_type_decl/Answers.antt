@@ -1,9 +1,5 @@
-use Rattle.std.proofs.Common.{sym, subst}
-use Rattle.wac_ast_types.specs.Declarations.{item_type_decl_of}
-use Rattle.wac_printer_pieces.specs.Printed.{Prints}
+use Rattle.wac_printer.proofs.Common.{sym, subst, item_type_decl_of, Prints, bare_item_type_decl, doc_lines, item_type_decl_layout}
 use Rattle.wac_printer.specs.Sliced.{ItemTypeDeclSliced}
-use Rattle.wac_printer_layout.specs.Bare.{bare_item_type_decl, doc_lines}
-use Rattle.wac_printer_layout.specs.DeclarationLayout.{item_type_decl_layout}
 use Rattle.wac_printer.proofs.printer.DocumentPrinter.item_type_decl.Goals as goal
 
 pub resource_decl-requires : goal.resource_decl-requires

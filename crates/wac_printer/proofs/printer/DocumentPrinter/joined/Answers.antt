@@ -1,11 +1,6 @@
-use Rattle.std.proofs.Common.{◌≡◌, rules, Err}
-use Rattle.std.specs.Prelude.{[], ◌∷◌, ◌++◌, codes}
-use Rattle.std.specs.List.{flat_map}
-use Rattle.wac_printer_layout.specs.Printed.{token}
-use Rattle.wac_printer_layout.specs.Parts.{space}
+use Rattle.wac_printer.proofs.Common.{◌≡◌, rules, Err, [], ◌∷◌, ◌++◌, codes, flat_map, token, space, first_stops, first_goes, none_is, others_sliced}
 use Rattle.wac_printer.proofs.PartsOf.{no_items}
 use Rattle.wac_printer.proofs.PartsOf.{joined-none, joined-some, All-rest}
-use Rattle.wac_printer_pieces.proofs.Progress.{first_stops, first_goes, none_is, others_sliced}
 use Rattle.wac_printer.proofs.printer.DocumentPrinter.joined.Goals as goal
 
 pub returns-in_err-print-in-Some : goal.returns-in_err-print-in-Some

@@ -1,11 +1,6 @@
-use Rattle.wac_printer_pieces.proofs.Sequence.{after, first, last, there}
+use Rattle.wac_printer.proofs.Common.{first, last, there, head_layout, codes, ◌∙◌, expr_layout, expr_of, bare_expr, bare_ident, ident_of}
+use Rattle.wac_printer_pieces.proofs.Sequence.{after}
 use Rattle.wac_printer.proofs.BareLists.{of_docs}
-use Rattle.wac_printer_layout.specs.DeclarationLayout.{head_layout}
-use Rattle.std.proofs.Common.{codes, ◌∙◌}
-use Rattle.wac_printer_layout.specs.ExpressionLayout.{expr_layout}
-use Rattle.wac_ast_expressions.specs.Expressions.{expr_of}
-use Rattle.wac_printer_layout.specs.Bare.{bare_expr, bare_ident}
-use Rattle.wac_ast_base.specs.Names.{ident_of}
 use Rattle.wac_printer.proofs.printer.DocumentPrinter.let_statement.Goals as goal
 
 pub returns : goal.returns

@@ -1,8 +1,5 @@
-use Rattle.wac_printer_pieces.proofs.Sequence.{after, first, last, printed_at}
-use Rattle.wac_printer_layout.specs.Bare.{bare_ty}
-use Rattle.std.proofs.Common.{◌∙◌}
-use Rattle.wac_ast_types.specs.Types.{ty_of}
-use Rattle.wac_printer_layout.specs.TypeLayout.{ty_layout}
+use Rattle.wac_printer.proofs.Common.{first, last, printed_at, bare_ty, ◌∙◌, ty_of, ty_layout}
+use Rattle.wac_printer_pieces.proofs.Sequence.{after}
 use Rattle.wac_printer.proofs.printer.DocumentPrinter.named_type.Goals as goal
 
 pub returns : goal.returns

@@ -1,11 +1,5 @@
-use Rattle.wac_printer_pieces.proofs.Sequence.{after, first, last, printed_at}
-use Rattle.wac_ast_base.specs.Names.{package_path_of}
-use Rattle.std.proofs.Common.{[], ◌∙◌, ◌∷◌}
-use Rattle.std.specs.Option.{option_map}
-use Rattle.wac_printer_layout.specs.Bare.{bare_package_path}
-use Rattle.wac_printer_layout.specs.StatementLayout.{targets_layout}
-use Rattle.wac_lexer.specs.Reading.{slice}
-use Rattle.wac_printer_layout.specs.Printed.{token}
+use Rattle.wac_printer.proofs.Common.{first, last, printed_at, package_path_of, [], ◌∙◌, ◌∷◌, option_map, bare_package_path, targets_layout, slice, token}
+use Rattle.wac_printer_pieces.proofs.Sequence.{after}
 use Rattle.wac_printer.proofs.printer.DocumentPrinter.package_directive.Goals as goal
 
 pub returns : goal.returns

@@ -1,11 +1,6 @@
-use Rattle.std.proofs.Common.{map, ◌∙◌}
-use Rattle.wac_printer_layout.specs.Bare.{bare_directive, bare_document, bare_statement, doc_lines}
-use Rattle.wac_printer_layout.specs.StatementLayout.{directive_layout, document_layout, statement_layout}
-use Rattle.wac_ast.specs.Statements.{document_of, statement_of}
-use Rattle.wac_ast_statements.specs.Statements.{directive_of}
-use Rattle.wac_printer_pieces.proofs.Sequence.{after, first, last, printed_at, there}
+use Rattle.wac_printer.proofs.Common.{map, ◌∙◌, bare_directive, bare_document, bare_statement, doc_lines, directive_layout, document_layout, statement_layout, document_of, statement_of, directive_of, first, last, printed_at, there, spaced}
+use Rattle.wac_printer_pieces.proofs.Sequence.{after}
 use Rattle.wac_printer.proofs.BareLists.{of_docs}
-use Rattle.wac_printer_layout.specs.Parts.{spaced}
 use Rattle.wac_printer.proofs.printer.DocumentPrinter.page.Goals as goal
 
 pub returns : goal.returns

@@ -1,11 +1,7 @@
-use Rattle.wac_ast_types.specs.Declarations.{named_type_of}
+use Rattle.wac_printer.proofs.Common.{named_type_of, All-at, first, last, printed_as, printed_at, named_type_layout, bare_named_type, joined}
 use Rattle.wac_printer.specs.Sliced.{NamedTypeSliced}
-use Rattle.wac_printer_pieces.proofs.Progress.{All-at}
-use Rattle.wac_printer_pieces.proofs.Sequence.{after, first, last, printed_as, printed_at}
+use Rattle.wac_printer_pieces.proofs.Sequence.{after}
 use Rattle.wac_printer.proofs.BareLists.{joined_bare}
-use Rattle.wac_printer_layout.specs.TypeLayout.{named_type_layout}
-use Rattle.wac_printer_layout.specs.Bare.{bare_named_type}
-use Rattle.wac_printer_layout.specs.Parts.{joined}
 use Rattle.wac_printer.proofs.printer.DocumentPrinter.params.Goals as goal
 
 pub joined-requires : goal.joined-requires

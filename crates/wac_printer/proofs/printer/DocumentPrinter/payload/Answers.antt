@@ -1,10 +1,5 @@
-use Rattle.wac_printer_pieces.proofs.Sequence.{after, first, last, printed_at}
-use Rattle.wac_printer_layout.specs.Bare.{bare_ty}
-use Rattle.std.specs.Option.{option_map}
-use Rattle.std.proofs.Common.{sym}
-use Rattle.wac_printer_layout.specs.DeclarationLayout.{payload_layout}
-use Rattle.wac_ast_types.specs.Types.{ty_of}
-use Rattle.wac_printer_layout.specs.TypeLayout.{ty_layout}
+use Rattle.wac_printer.proofs.Common.{first, last, printed_at, bare_ty, option_map, sym, payload_layout, ty_of, ty_layout}
+use Rattle.wac_printer_pieces.proofs.Sequence.{after}
 use Rattle.wac_printer.proofs.printer.DocumentPrinter.payload.Goals as goal
 
 pub returns-in-Some : goal.returns-in-Some

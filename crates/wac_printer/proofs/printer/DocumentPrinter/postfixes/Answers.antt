@@ -1,6 +1,5 @@
-use Rattle.wac_ast_expressions.specs.Expressions.{postfix_expr_of}
+use Rattle.wac_printer.proofs.Common.{postfix_expr_of, All-of-map}
 use Rattle.wac_printer.specs.Sliced.{PostfixExprSliced}
-use Rattle.wac_printer_pieces.proofs.Progress.{All-of-map}
 use Rattle.wac_printer.proofs.printer.DocumentPrinter.postfixes.Goals as goal
 
 pub each-requires : goal.each-requires

@@ -1,14 +1,7 @@
-use Rattle.std.proofs.Common.{map, sym, subst, ◌∙◌, codes}
-use Rattle.std.specs.List.{All}
-use Rattle.wac_ast_types.specs.Declarations.{field_of}
+use Rattle.wac_printer.proofs.Common.{map, sym, subst, ◌∙◌, codes, All, field_of, All-at, first, last, printed_as, printed_at, there, field_layout, head_layout, bare_field, bare_ident, doc_lines, rows, ident_of}
 use Rattle.wac_printer.specs.Sliced.{FieldSliced}
-use Rattle.wac_printer_pieces.proofs.Progress.{All-at}
-use Rattle.wac_printer_pieces.proofs.Sequence.{after, first, last, printed_as, printed_at, there}
+use Rattle.wac_printer_pieces.proofs.Sequence.{after}
 use Rattle.wac_printer.proofs.BareLists.{of_docs, rows_bare}
-use Rattle.wac_printer_layout.specs.DeclarationLayout.{field_layout, head_layout}
-use Rattle.wac_printer_layout.specs.Bare.{bare_field, bare_ident, doc_lines}
-use Rattle.wac_printer_layout.specs.Parts.{rows}
-use Rattle.wac_ast_base.specs.Names.{ident_of}
 use Rattle.wac_printer.proofs.printer.DocumentPrinter.record_decl.Goals as goal
 
 pub rows-requires : goal.rows-requires

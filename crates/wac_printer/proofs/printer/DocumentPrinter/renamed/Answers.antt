@@ -1,8 +1,5 @@
-use Rattle.wac_ast_base.specs.Names.{extern_name_of}
-use Rattle.wac_printer_pieces.proofs.Sequence.{after, first, last, printed_at}
-use Rattle.std.proofs.Common.{◌∙◌}
-use Rattle.wac_printer_layout.specs.Bare.{bare_extern_name}
-use Rattle.wac_printer_layout.specs.TypeLayout.{extern_name_layout}
+use Rattle.wac_printer.proofs.Common.{extern_name_of, first, last, printed_at, ◌∙◌, bare_extern_name, extern_name_layout}
+use Rattle.wac_printer_pieces.proofs.Sequence.{after}
 use Rattle.wac_printer.proofs.printer.DocumentPrinter.renamed.Goals as goal
 
 pub returns : goal.returns

@@ -1,9 +1,5 @@
-use Rattle.std.proofs.Common.{sym, subst}
-use Rattle.wac_ast_types.specs.Declarations.{resource_method_of}
-use Rattle.wac_printer_pieces.specs.Printed.{Prints}
+use Rattle.wac_printer.proofs.Common.{sym, subst, resource_method_of, Prints, bare_resource_method, doc_lines, resource_method_layout}
 use Rattle.wac_printer.specs.Sliced.{ResourceMethodSliced}
-use Rattle.wac_printer_layout.specs.Bare.{bare_resource_method, doc_lines}
-use Rattle.wac_printer_layout.specs.DeclarationLayout.{resource_method_layout}
 use Rattle.wac_printer.proofs.printer.DocumentPrinter.resource_method.Goals as goal
 
 pub constructor-requires : goal.constructor-requires

@@ -1,11 +1,5 @@
-use Rattle.std.proofs.Common.{map, subst, sym}
-use Rattle.std.specs.List.{All}
-use Rattle.wac_ast_types.specs.Types.{ty_of}
-use Rattle.wac_ast_types.specs.Declarations.{named_type_of, result_list_of}
-use Rattle.wac_printer_layout.specs.Bare.{bare_named_type, bare_result_list, bare_ty}
-use Rattle.wac_printer_layout.specs.TypeLayout.{params_layout, results_layout, ty_layout}
+use Rattle.wac_printer.proofs.Common.{map, subst, sym, All, ty_of, named_type_of, result_list_of, bare_named_type, bare_result_list, bare_ty, params_layout, results_layout, ty_layout, first, last, printed_at}
 use Rattle.wac_printer.specs.Sliced.{NamedTypeSliced, ResultListSliced}
-use Rattle.wac_printer_pieces.proofs.Sequence.{first, last, printed_at}
 use Rattle.wac_printer.proofs.printer.DocumentPrinter.result_list.Goals as goal
 
 pub returns-in-Scalar : goal.returns-in-Scalar

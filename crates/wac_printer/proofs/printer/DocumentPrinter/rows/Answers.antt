@@ -1,10 +1,6 @@
-use Rattle.std.proofs.Common.{sym, ◌∙◌}
-use Rattle.std.specs.Prelude.{[], ◌∷◌, ◌++◌, codes}
-use Rattle.std.specs.List.{flat_map}
-use Rattle.wac_printer_layout.specs.Printed.{token, deeper}
-use Rattle.wac_printer_layout.specs.Parts.{newline, close_body}
+use Rattle.wac_printer.proofs.Common.{sym, ◌∙◌, [], ◌∷◌, ◌++◌, codes, flat_map, token, deeper, newline, close_body, first, last, printed_as, printed_at, there}
 use Rattle.wac_printer.proofs.PartsOf.{rows-is}
-use Rattle.wac_printer_pieces.proofs.Sequence.{after, first, last, printed_as, printed_at, there}
+use Rattle.wac_printer_pieces.proofs.Sequence.{after}
 use Rattle.wac_printer.proofs.printer.DocumentPrinter.rows.Goals as goal
 
 pub returns : goal.returns

@@ -1,4 +1,4 @@
-use Rattle.wac_printer_pieces.proofs.Sequence.{first, last}
+use Rattle.wac_printer.proofs.Common.{first, last}
 use Rattle.wac_printer.proofs.printer.DocumentPrinter.signature.Goals as goal
 
 pub returns : goal.returns

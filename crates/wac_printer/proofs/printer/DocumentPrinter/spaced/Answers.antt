@@ -1,10 +1,6 @@
-use Rattle.std.proofs.Common.{◌≡◌, rules, Err}
-use Rattle.std.specs.Prelude.{[], ◌∷◌, ◌++◌}
-use Rattle.std.specs.List.{flat_map}
-use Rattle.wac_printer_layout.specs.Parts.{newline}
+use Rattle.wac_printer.proofs.Common.{◌≡◌, rules, Err, [], ◌∷◌, ◌++◌, flat_map, newline, first_stops, first_goes, none_is, others_sliced}
 use Rattle.wac_printer.proofs.PartsOf.{no_items}
 use Rattle.wac_printer.proofs.PartsOf.{spaced-none, spaced-some, All-rest}
-use Rattle.wac_printer_pieces.proofs.Progress.{first_stops, first_goes, none_is, others_sliced}
 use Rattle.wac_printer.proofs.printer.DocumentPrinter.spaced.Goals as goal
 
 pub returns-in_err-ended-in-Some : goal.returns-in_err-ended-in-Some

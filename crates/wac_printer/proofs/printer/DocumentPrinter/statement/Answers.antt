@@ -1,9 +1,5 @@
-use Rattle.std.proofs.Common.{sym, subst}
-use Rattle.wac_ast.specs.Statements.{statement_of}
-use Rattle.wac_printer_pieces.specs.Printed.{Prints}
+use Rattle.wac_printer.proofs.Common.{sym, subst, statement_of, Prints, bare_statement, doc_lines, statement_layout}
 use Rattle.wac_printer.specs.Sliced.{StatementSliced}
-use Rattle.wac_printer_layout.specs.Bare.{bare_statement, doc_lines}
-use Rattle.wac_printer_layout.specs.StatementLayout.{statement_layout}
 use Rattle.wac_printer.proofs.printer.DocumentPrinter.statement.Goals as goal
 
 pub import_statement-requires : goal.import_statement-requires

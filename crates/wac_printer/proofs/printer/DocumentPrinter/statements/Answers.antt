@@ -1,11 +1,6 @@
-use Rattle.std.proofs.Common.{map, sym, subst, ◌∙◌}
-use Rattle.wac_ast.specs.Statements.{statement_of}
-use Rattle.wac_printer_pieces.specs.Printed.{Prints}
+use Rattle.wac_printer.proofs.Common.{map, sym, subst, ◌∙◌, statement_of, Prints, bare_statement, doc_lines, statement_layout, All-of-map}
 use Rattle.wac_printer.specs.Sliced.{StatementSliced}
-use Rattle.wac_printer_layout.specs.Bare.{bare_statement, doc_lines}
-use Rattle.wac_printer_layout.specs.StatementLayout.{statement_layout}
 use Rattle.wac_printer.proofs.PartsOf.{spaced-of}
-use Rattle.wac_printer_pieces.proofs.Progress.{All-of-map}
 use Rattle.wac_printer.proofs.printer.DocumentPrinter.statements.Goals as goal
 
 pub spaced-requires : goal.spaced-requires

@@ -1,11 +1,5 @@
-use Rattle.wac_printer_pieces.proofs.Sequence.{after, first, last, printed_at}
-use Rattle.wac_ast_base.specs.Names.{package_path_of}
-use Rattle.std.proofs.Common.{[], sym, ◌∙◌, ◌∷◌}
-use Rattle.wac_printer_layout.specs.Bare.{bare_package_path}
-use Rattle.std.specs.Option.{option_map}
-use Rattle.wac_printer_layout.specs.StatementLayout.{targets_layout}
-use Rattle.wac_lexer.specs.Reading.{slice}
-use Rattle.wac_printer_layout.specs.Printed.{token}
+use Rattle.wac_printer.proofs.Common.{first, last, printed_at, package_path_of, [], sym, ◌∙◌, ◌∷◌, bare_package_path, option_map, targets_layout, slice, token}
+use Rattle.wac_printer_pieces.proofs.Sequence.{after}
 use Rattle.wac_printer.proofs.printer.DocumentPrinter.targets.Goals as goal
 
 pub returns-in-Some : goal.returns-in-Some

@@ -1,10 +1,6 @@
-use Rattle.wac_printer_pieces.proofs.Sequence.{after, first, last, printed_at, there}
+use Rattle.wac_printer.proofs.Common.{first, last, printed_at, there, bare_alias_kind, bare_ident, alias_kind_layout, head_layout, codes, ◌∙◌, type_alias_kind_of, ident_of}
+use Rattle.wac_printer_pieces.proofs.Sequence.{after}
 use Rattle.wac_printer.proofs.BareLists.{of_docs}
-use Rattle.wac_printer_layout.specs.Bare.{bare_alias_kind, bare_ident}
-use Rattle.wac_printer_layout.specs.DeclarationLayout.{alias_kind_layout, head_layout}
-use Rattle.std.proofs.Common.{codes, ◌∙◌}
-use Rattle.wac_ast_types.specs.Declarations.{type_alias_kind_of}
-use Rattle.wac_ast_base.specs.Names.{ident_of}
 use Rattle.wac_printer.proofs.printer.DocumentPrinter.type_alias.Goals as goal
 
 pub returns : goal.returns

@@ -1,9 +1,5 @@
-use Rattle.std.proofs.Common.{sym, subst}
-use Rattle.wac_ast_types.specs.Declarations.{type_decl_of}
-use Rattle.wac_printer_pieces.specs.Printed.{Prints}
+use Rattle.wac_printer.proofs.Common.{sym, subst, type_decl_of, Prints, bare_type_decl, doc_lines, type_decl_layout}
 use Rattle.wac_printer.specs.Sliced.{TypeDeclSliced}
-use Rattle.wac_printer_layout.specs.Bare.{bare_type_decl, doc_lines}
-use Rattle.wac_printer_layout.specs.DeclarationLayout.{type_decl_layout}
 use Rattle.wac_printer.proofs.printer.DocumentPrinter.type_decl.Goals as goal
 
 pub variant_decl-requires : goal.variant_decl-requires

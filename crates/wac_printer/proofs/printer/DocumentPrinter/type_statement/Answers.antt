@@ -1,9 +1,5 @@
-use Rattle.std.proofs.Common.{sym, subst}
-use Rattle.wac_ast.specs.Statements.{type_statement_of}
-use Rattle.wac_printer_pieces.specs.Printed.{Prints}
+use Rattle.wac_printer.proofs.Common.{sym, subst, type_statement_of, Prints, bare_type_statement, doc_lines, type_statement_layout}
 use Rattle.wac_printer.specs.Sliced.{TypeStatementSliced}
-use Rattle.wac_printer_layout.specs.Bare.{bare_type_statement, doc_lines}
-use Rattle.wac_printer_layout.specs.StatementLayout.{type_statement_layout}
 use Rattle.wac_printer.proofs.printer.DocumentPrinter.type_statement.Goals as goal
 
 pub interface_decl-requires : goal.interface_decl-requires

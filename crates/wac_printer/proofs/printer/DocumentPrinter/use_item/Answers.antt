@@ -1,8 +1,4 @@
-use Rattle.wac_printer_pieces.proofs.Sequence.{first, last, printed_at}
-use Rattle.std.specs.Option.{option_map}
-use Rattle.wac_printer_layout.specs.Bare.{bare_ident}
-use Rattle.wac_ast_base.specs.Names.{ident_of}
-use Rattle.wac_printer_layout.specs.InterfaceLayout.{as_layout}
+use Rattle.wac_printer.proofs.Common.{first, last, printed_at, option_map, bare_ident, ident_of, as_layout}
 use Rattle.wac_printer.proofs.printer.DocumentPrinter.use_item.Goals as goal
 
 pub returns : goal.returns

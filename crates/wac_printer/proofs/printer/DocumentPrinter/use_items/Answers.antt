@@ -1,12 +1,7 @@
-use Rattle.std.proofs.Common.{◌∙◌}
-use Rattle.wac_ast_uses.specs.Uses.{use_item_of}
+use Rattle.wac_printer.proofs.Common.{◌∙◌, use_item_of, All-at, first, last, printed_as, printed_at, use_item_layout, bare_use_item, joined}
 use Rattle.wac_printer.specs.Sliced.{UseItemSliced}
-use Rattle.wac_printer_pieces.proofs.Progress.{All-at}
-use Rattle.wac_printer_pieces.proofs.Sequence.{after, first, last, printed_as, printed_at}
+use Rattle.wac_printer_pieces.proofs.Sequence.{after}
 use Rattle.wac_printer.proofs.BareLists.{joined_bare}
-use Rattle.wac_printer_layout.specs.InterfaceLayout.{use_item_layout}
-use Rattle.wac_printer_layout.specs.Bare.{bare_use_item}
-use Rattle.wac_printer_layout.specs.Parts.{joined}
 use Rattle.wac_printer.proofs.printer.DocumentPrinter.use_items.Goals as goal
 
 pub joined-requires : goal.joined-requires

@@ -1,10 +1,6 @@
-use Rattle.std.proofs.Common.{[], map, ◌∙◌, ◌∷◌}
-use Rattle.wac_printer_pieces.proofs.Sequence.{after, first, last, printed_at}
+use Rattle.wac_printer.proofs.Common.{[], map, ◌∙◌, ◌∷◌, first, last, printed_at, use_item_of, use_path_of, line, bare_use_item, bare_use_path, use_items_layout, use_path_layout}
+use Rattle.wac_printer_pieces.proofs.Sequence.{after}
 use Rattle.wac_printer.proofs.BareLists.{of_docs}
-use Rattle.wac_ast_uses.specs.Uses.{use_item_of, use_path_of}
-use Rattle.wac_printer_layout.specs.Printed.{line}
-use Rattle.wac_printer_layout.specs.Bare.{bare_use_item, bare_use_path}
-use Rattle.wac_printer_layout.specs.InterfaceLayout.{use_items_layout, use_path_layout}
 use Rattle.wac_printer.proofs.printer.DocumentPrinter.use_type.Goals as goal
 
 pub returns : goal.returns

@@ -1,12 +1,6 @@
-use Rattle.wac_printer_layout.specs.Printed.{line, token}
-use Rattle.wac_printer_pieces.proofs.Sequence.{after, first, last, printed_at}
+use Rattle.wac_printer.proofs.Common.{line, token, first, last, printed_at, bare_ty, [], ◌∙◌, ◌∷◌, payload_layout, option_map, ty_of, slice}
+use Rattle.wac_printer_pieces.proofs.Sequence.{after}
 use Rattle.wac_printer.proofs.BareLists.{of_docs}
-use Rattle.wac_printer_layout.specs.Bare.{bare_ty}
-use Rattle.std.proofs.Common.{[], ◌∙◌, ◌∷◌}
-use Rattle.wac_printer_layout.specs.DeclarationLayout.{payload_layout}
-use Rattle.std.specs.Option.{option_map}
-use Rattle.wac_ast_types.specs.Types.{ty_of}
-use Rattle.wac_lexer.specs.Reading.{slice}
 use Rattle.wac_printer.proofs.printer.DocumentPrinter.variant_case.Goals as goal
 
 pub returns : goal.returns

@@ -1,14 +1,7 @@
-use Rattle.std.proofs.Common.{map, sym, subst, ◌∙◌, codes}
-use Rattle.std.specs.List.{All}
-use Rattle.wac_ast_types.specs.Declarations.{variant_case_of}
+use Rattle.wac_printer.proofs.Common.{map, sym, subst, ◌∙◌, codes, All, variant_case_of, All-at, first, last, printed_as, printed_at, there, head_layout, variant_case_layout, bare_ident, bare_variant_case, doc_lines, rows, ident_of}
 use Rattle.wac_printer.specs.Sliced.{VariantCaseSliced}
-use Rattle.wac_printer_pieces.proofs.Progress.{All-at}
-use Rattle.wac_printer_pieces.proofs.Sequence.{after, first, last, printed_as, printed_at, there}
+use Rattle.wac_printer_pieces.proofs.Sequence.{after}
 use Rattle.wac_printer.proofs.BareLists.{of_docs, rows_bare}
-use Rattle.wac_printer_layout.specs.DeclarationLayout.{head_layout, variant_case_layout}
-use Rattle.wac_printer_layout.specs.Bare.{bare_ident, bare_variant_case, doc_lines}
-use Rattle.wac_printer_layout.specs.Parts.{rows}
-use Rattle.wac_ast_base.specs.Names.{ident_of}
 use Rattle.wac_printer.proofs.printer.DocumentPrinter.variant_decl.Goals as goal
 
 pub rows-requires : goal.rows-requires

@@ -1,6 +1,5 @@
-use Rattle.std.proofs.Common.{◌≡◌, ◌<◌, length, sym, subst, arith}
+use Rattle.wac_printer.proofs.Common.{◌≡◌, ◌<◌, length, sym, subst, arith, Prints}
 use Rattle.std.proofs.lemmas.Bool.Decides.{nat_tests}
-use Rattle.wac_printer_pieces.specs.Printed.{Prints}
 use Rattle.wac_printer.proofs.PartsOf.{with-none, with-some}
 use Rattle.wac_printer.proofs.printer.DocumentPrinter.with_items.Goals as goal
 

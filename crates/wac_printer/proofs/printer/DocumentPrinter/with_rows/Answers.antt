@@ -1,12 +1,7 @@
-use Rattle.std.proofs.Common.{◌∙◌}
-use Rattle.wac_ast_uses.specs.Uses.{world_include_item_of}
+use Rattle.wac_printer.proofs.Common.{◌∙◌, world_include_item_of, All-at, first, last, printed_as, there, rows, world_include_item_layout, bare_world_include_item}
 use Rattle.wac_printer.specs.Sliced.{WorldIncludeItemSliced}
-use Rattle.wac_printer_pieces.proofs.Progress.{All-at}
-use Rattle.wac_printer_pieces.proofs.Sequence.{after, first, last, printed_as, there}
+use Rattle.wac_printer_pieces.proofs.Sequence.{after}
 use Rattle.wac_printer.proofs.BareLists.{rows_bare}
-use Rattle.wac_printer_layout.specs.Parts.{rows}
-use Rattle.wac_printer_layout.specs.WorldLayout.{world_include_item_layout}
-use Rattle.wac_printer_layout.specs.Bare.{bare_world_include_item}
 use Rattle.wac_printer.proofs.printer.DocumentPrinter.with_rows.Goals as goal
 
 pub rows-requires : goal.rows-requires

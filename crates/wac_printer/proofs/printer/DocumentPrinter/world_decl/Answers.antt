@@ -1,12 +1,6 @@
-use Rattle.wac_printer_layout.specs.Bare.{bare_ident, bare_world_item, doc_lines}
-use Rattle.std.proofs.Common.{codes, map, ◌∙◌}
-use Rattle.wac_printer_layout.specs.DeclarationLayout.{head_layout}
-use Rattle.wac_printer_pieces.proofs.Sequence.{after, first, last, there}
+use Rattle.wac_printer.proofs.Common.{bare_ident, bare_world_item, doc_lines, codes, map, ◌∙◌, head_layout, first, last, there, body, world_item_of, world_item_layout, ident_of}
+use Rattle.wac_printer_pieces.proofs.Sequence.{after}
 use Rattle.wac_printer.proofs.BareLists.{of_docs}
-use Rattle.wac_printer_layout.specs.Parts.{body}
-use Rattle.wac_ast_worlds.specs.Worlds.{world_item_of}
-use Rattle.wac_printer_layout.specs.WorldLayout.{world_item_layout}
-use Rattle.wac_ast_base.specs.Names.{ident_of}
 use Rattle.wac_printer.proofs.printer.DocumentPrinter.world_decl.Goals as goal
 
 pub returns : goal.returns

@@ -1,10 +1,6 @@
-use Rattle.std.proofs.Common.{[], map, ◌∙◌, ◌∷◌}
-use Rattle.wac_printer_pieces.proofs.Sequence.{after, first, last, printed_at, there}
+use Rattle.wac_printer.proofs.Common.{[], map, ◌∙◌, ◌∷◌, first, last, printed_at, there, with_layout, world_ref_layout, bare_world_include_item, bare_world_ref, line, world_include_item_of, world_ref_of}
+use Rattle.wac_printer_pieces.proofs.Sequence.{after}
 use Rattle.wac_printer.proofs.BareLists.{of_docs}
-use Rattle.wac_printer_layout.specs.WorldLayout.{with_layout, world_ref_layout}
-use Rattle.wac_printer_layout.specs.Bare.{bare_world_include_item, bare_world_ref}
-use Rattle.wac_printer_layout.specs.Printed.{line}
-use Rattle.wac_ast_uses.specs.Uses.{world_include_item_of, world_ref_of}
 use Rattle.wac_printer.proofs.printer.DocumentPrinter.world_include.Goals as goal
 
 pub returns : goal.returns

@@ -1,9 +1,5 @@
-use Rattle.std.proofs.Common.{sym, subst}
-use Rattle.wac_ast_worlds.specs.Worlds.{world_item_path_of}
-use Rattle.wac_printer_pieces.specs.Printed.{Prints}
+use Rattle.wac_printer.proofs.Common.{sym, subst, world_item_path_of, Prints, bare_world_item_path, doc_lines, world_item_path_layout}
 use Rattle.wac_printer.specs.Sliced.{WorldItemPathSliced}
-use Rattle.wac_printer_layout.specs.Bare.{bare_world_item_path, doc_lines}
-use Rattle.wac_printer_layout.specs.WorldLayout.{world_item_path_layout}
 use Rattle.wac_printer.proofs.printer.DocumentPrinter.world_item_path.Goals as goal
 
 pub named_world_item-requires : goal.named_world_item-requires

@@ -1,4 +1,4 @@
-use Rattle.std.proofs.Common.{false, refl, ap, ◌++◌, ◌≡◌, ◌≤◌, ◌∙◌, subst, true, take, length, length-append, arith}
+use Rattle.wac_printer_pieces.proofs.Common.{false, refl, ap, ◌++◌, ◌≡◌, ◌≤◌, ◌∙◌, subst, true, take, length, length-append, arith}
 use Rattle.wac_printer_pieces.proofs.Printing.{refused, stuck, wrote, record_wrote}
 use Rattle.wac_printer_pieces.specs.Printed.{is_front}
 use Rattle.wac_printer_pieces.proofs.Fronts.{is_front-begun}

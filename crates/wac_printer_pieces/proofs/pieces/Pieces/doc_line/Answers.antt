@@ -1,6 +1,5 @@
 use Rattle.wac_printer_pieces.proofs.Sequence.{after, first, last, printed_at}
-use Rattle.wac_printer_layout.specs.Printed.{doc}
-use Rattle.std.proofs.Common.{[], ◌∷◌}
+use Rattle.wac_printer_pieces.proofs.Common.{doc, [], ◌∷◌}
 use Rattle.wac_printer_pieces.proofs.pieces.Pieces.doc_line.Goals as goal
 
 pub returns : goal.returns

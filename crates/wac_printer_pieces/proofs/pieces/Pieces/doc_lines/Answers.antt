@@ -1,13 +1,9 @@
-use Rattle.std.proofs.Common.{◌≡◌, sym, subst, rules, Err, arith}
-use Rattle.std.specs.Str.Lines.{lines}
-use Rattle.wac_printer_layout.specs.Bare.{doc_line}
-use Rattle.wac_printer_layout.specs.Parts.{doc_layout, docs_layout}
+use Rattle.wac_printer_pieces.proofs.Common.{◌≡◌, sym, subst, rules, Err, arith, lines, doc_line, doc_layout, docs_layout, length_push}
 use Rattle.wac_printer_pieces.specs.Printed.{Prints}
 use Rattle.wac_printer_pieces.proofs.Progress.{IsSoFar, starts, goes_at, stops_at, ends}
 use Rattle.wac_printer_pieces.proofs.Printing.{flat_map-of}
 use Rattle.std.proofs.lemmas.Iterator.Splits.{YieldsList-from_lines}
 use Rattle.std.proofs.lemmas.Iterator.Consumers.{YieldsList-turn, YieldsList-end}
-use Rattle.std.proofs.lemmas.List.{length_push}
 use Rattle.wac_printer_pieces.proofs.pieces.Pieces.doc_lines.Goals as goal
 
 pub loop-line-init : goal.loop-line-init

@@ -1,7 +1,4 @@
-use Rattle.std.specs.Prelude.{length}
-use Rattle.std.specs.Str.Lines.{lines}
-use Rattle.wac_printer_layout.specs.Bare.{doc_line}
-use Rattle.wac_printer_layout.specs.Parts.{doc_layout}
+use Rattle.wac_printer_pieces.proofs.Common.{length, lines, doc_line, doc_layout}
 use Rattle.wac_printer_pieces.proofs.Progress.{IsSoFar}
 use Rattle.wac_printer_pieces.proofs.pieces.Pieces.doc_lines.Given as goal
 

@@ -1,5 +1,4 @@
-use Rattle.std.proofs.Common.{ap, ◌∙◌}
-use Rattle.wac_printer_layout.specs.Printed.{times}
+use Rattle.wac_printer_pieces.proofs.Common.{ap, ◌∙◌, times}
 use Rattle.wac_printer_pieces.specs.Printed.{Printer}
 use Rattle.wac_printer_pieces.proofs.Indentation.{at_once, prints_same}
 use Rattle.wac_printer_pieces.proofs.pieces.Pieces.indentation.Goals as goal

@@ -1,5 +1,4 @@
-use Rattle.std.proofs.Common.{◌≡◌, ◌∙◌, ap, sym, subst, rules, Err, arith, ◌∷◌, []}
-use Rattle.wac_printer_layout.specs.Printed.{blank}
+use Rattle.wac_printer_pieces.proofs.Common.{◌≡◌, ◌∙◌, ap, sym, subst, rules, Err, arith, ◌∷◌, [], blank}
 use Rattle.wac_printer_pieces.specs.Printed.{after, Prints, spaces, Printer}
 use Rattle.wac_printer_pieces.proofs.Printing.{wrote_all}
 use Rattle.wac_printer_pieces.proofs.Indentation.{many_stops, spaces-more}

@@ -1,4 +1,4 @@
-use Rattle.std.proofs.Common.{◌≡◌, false}
+use Rattle.wac_printer_pieces.proofs.Common.{◌≡◌, false}
 use Rattle.wac_printer_pieces.specs.Printed.{after, spaces}
 use Rattle.wac_printer_pieces.proofs.pieces.Pieces.many.Given as goal
 

@@ -1,4 +1,4 @@
-use Rattle.std.proofs.Common.{refl}
+use Rattle.wac_printer_pieces.proofs.Common.{refl}
 use Rattle.wac_printer_pieces.proofs.Printing.{refused}
 use Rattle.wac_printer_pieces.proofs.pieces.Pieces.ready.Goals as goal
 

@@ -1,9 +1,5 @@
-use Rattle.std.proofs.Common.{IfOk, subst}
+use Rattle.wac_resolution.proofs.Common.{IfOk, subst, document_of, mentions_in, AreFirst, mentions}
 use Rattle.wac_ast.specs.declared.document.Document.{Document}
-use Rattle.wac_ast.specs.Statements.{document_of}
-use Rattle.wac_resolution_mentions.specs.Noted.{mentions_in}
-use Rattle.wac_resolution_mentions.specs.Packages.{AreFirst}
-use Rattle.wac_resolution_rules.specs.Mentions.{mentions}
 use Rattle.wac_resolution.proofs.resolver.AstResolver.first_mentions.Goals as goal
 
 pub returns-clause-first : goal.returns-clause-first

@@ -1,10 +1,4 @@
-use Rattle.std.proofs.Common.{◌∙◌, inl}
-use Rattle.std.proofs.lemmas.Result.{IfOk-weaker, err_from_is_err_and}
-use Rattle.wac_ast.specs.Statements.{document_of}
-use Rattle.wac_resolution_mentions.specs.Noted.{mentions_in}
-use Rattle.wac_resolution_rules.specs.Given.{rules_of}
-use Rattle.wac_resolution_rules.specs.Mentions.{mentions}
-use Rattle.wac_resolution_state.proofs.Scopes.{memory_told}
+use Rattle.wac_resolution.proofs.Common.{◌∙◌, inl, IfOk-weaker, err_from_is_err_and, document_of, mentions_in, rules_of, mentions, memory_told}
 use Rattle.wac_resolution.specs.Resolved.{HoldsMentioned, HoldsSupplied}
 use Rattle.wac_resolution.proofs.Alike.{error_is_right, result_is_right}
 use Rattle.wac_resolution.proofs.Kept.{holds_mentioned, holds_supplied, kept_for, promised_first, promised_graph, promised_only}

@@ -1,10 +1,4 @@
-use Rattle.std.proofs.Common.{sym, subst}
-use Rattle.std.proofs.lemmas.Result.{err_from_is_err_and}
-use Rattle.wac_ast.specs.Statements.{document_of}
-use Rattle.wac_graph.specs.Graph.{Parts}
-use Rattle.wac_resolution_errors.specs.Told.{told}
-use Rattle.wac_resolution_paths.specs.Expands.{AllSupplied}
-use Rattle.wac_resolution_rules.specs.Given.{rules_of}
+use Rattle.wac_resolution.proofs.Common.{sym, subst, err_from_is_err_and, document_of, Parts, told, AllSupplied, rules_of}
 use Rattle.wac_resolution.specs.Resolved.{by_key}
 use Rattle.wac_resolution.proofs.Ending.{Described, lent_described, lent_handed, lent_fails, lent_only}
 use Rattle.wac_resolution.proofs.resolver.AstResolver.resolve_with.Goals as goal

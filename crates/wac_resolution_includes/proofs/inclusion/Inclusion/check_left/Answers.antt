@@ -1,4 +1,4 @@
-use Rattle.std.proofs.Common.{◌∙◌, inr}
+use Rattle.wac_resolution_includes.proofs.Common.{◌∙◌, inr}
 use Rattle.wac_resolution_includes.specs.Taking.{tree_of}
 use Rattle.wac_resolution_includes.proofs.Found.{left_over}
 use Rattle.wac_resolution_includes.proofs.inclusion.Inclusion.check_left.Goals as goal

@@ -1,10 +1,4 @@
-use Rattle.std.proofs.Common.{◌≡◌, ◌∙◌, ℕ, List, Some, sym, subst, inr}
-use Rattle.wac_graph_types.specs.Names.{by_name}
-use Rattle.wac_graph_types.specs.Scope.{look_up}
-use Rattle.wac_graph.specs.Means.{means}
-use Rattle.wac_resolution_rules.specs.Includes.{name_taken}
-use Rattle.wac_resolution_rules.specs.BrokenWorlds.{span_taken, help_of_include}
-use Rattle.wac_ast_grammar.specs.Spans.{world_ref_name}
+use Rattle.wac_resolution_includes.proofs.Common.{◌≡◌, ◌∙◌, ℕ, List, Some, sym, subst, inr, by_name, look_up, means, name_taken, span_taken, help_of_include, world_ref_name}
 use Rattle.wac_resolution_includes.specs.Taking.{tree_of, clause_of}
 use Rattle.wac_resolution_includes.specs.Entries.{entries_of}
 use Rattle.wac_resolution_includes.proofs.Taken.{conflicts, conflict_told}

@@ -1,10 +1,6 @@
-use Rattle.std.proofs.Common.{inl}
-use Rattle.std.proofs.lemmas.Result.{err_from_is_err_and}
-use Rattle.wac_graph_types.specs.Names.{by_name}
-use Rattle.wac_resolution_errors.specs.Told.{told}
+use Rattle.wac_resolution_includes.proofs.Common.{inl, err_from_is_err_and, by_name, told, reports}
 use Rattle.wac_resolution_includes.specs.Entries.{entries_of}
 use Rattle.wac_resolution_includes.specs.Taking.{tree_of}
-use Rattle.wac_resolution_errors.proofs.Reports.{reports}
 use Rattle.wac_resolution_includes.proofs.Worlds.{is_included, world_breaks}
 use Rattle.wac_resolution_includes.proofs.inclusion.Inclusion.take.Goals as goal
 

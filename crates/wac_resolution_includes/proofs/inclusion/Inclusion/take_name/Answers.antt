@@ -1,9 +1,5 @@
-use Rattle.std.proofs.Common.{◌∙◌, sym}
-use Rattle.std.proofs.lemmas.Result.{err_from_is_err_and}
-use Rattle.wac_graph_types.specs.Names.{by_name}
-use Rattle.wac_graph.specs.Means.{means}
+use Rattle.wac_resolution_includes.proofs.Common.{◌∙◌, sym, err_from_is_err_and, by_name, means, reports}
 use Rattle.wac_resolution_includes.specs.Taking.{clause_of}
-use Rattle.wac_resolution_errors.proofs.Reports.{reports}
 use Rattle.wac_resolution_includes.proofs.Taken.{kept_taken, renamed_taken}
 use Rattle.wac_resolution_includes.proofs.inclusion.Inclusion.take_name.Goals as goal
 

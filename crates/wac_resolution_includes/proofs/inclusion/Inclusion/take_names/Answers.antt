@@ -1,12 +1,5 @@
-use Rattle.std.proofs.Common.{ℕ, List, ap, subst}
-use Rattle.std.specs.Prelude.{string_bytes}
-use Rattle.std.proofs.lemmas.Result.{err_from_is_err_and}
-use Rattle.wac_graph_types.specs.Names.{by_name}
-use Rattle.wac_graph.specs.Means.{means}
-use Rattle.wac_resolution_errors.specs.Told.{told}
-use Rattle.wac_resolution_rules.specs.BrokenWorlds.{IsIncludeConflict}
+use Rattle.wac_resolution_includes.proofs.Common.{ℕ, List, ap, subst, string_bytes, err_from_is_err_and, by_name, means, told, IsIncludeConflict, reports}
 use Rattle.wac_resolution_includes.specs.Taking.{tree_of, clause_of, taking_of, NameTaken}
-use Rattle.wac_resolution_errors.proofs.Reports.{reports}
 use Rattle.wac_resolution_includes.proofs.Taken.{taken_step, taken_break}
 use Rattle.wac_resolution_includes.proofs.inclusion.Inclusion.take_names.Goals as goal
 

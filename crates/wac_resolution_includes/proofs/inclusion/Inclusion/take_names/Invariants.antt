@@ -1,4 +1,4 @@
-use Rattle.wac_graph_types.specs.Names.{by_name}
+use Rattle.wac_resolution_includes.proofs.Common.{by_name}
 use Rattle.wac_resolution_includes.specs.Taking.{clause_of}
 use Rattle.wac_resolution_includes.proofs.Taken.{TakenTo}
 use Rattle.wac_resolution_includes.proofs.inclusion.Inclusion.take_names.Given as goal

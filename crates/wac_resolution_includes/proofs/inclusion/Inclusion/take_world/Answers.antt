@@ -1,8 +1,5 @@
-use Rattle.std.proofs.lemmas.Result.{err_from_is_err_and}
-use Rattle.wac_graph_types.specs.Names.{by_name}
-use Rattle.wac_resolution_errors.specs.Told.{told}
+use Rattle.wac_resolution_includes.proofs.Common.{err_from_is_err_and, by_name, told, reports}
 use Rattle.wac_resolution_includes.specs.Taking.{tree_of, clause_of}
-use Rattle.wac_resolution_errors.proofs.Reports.{reports}
 use Rattle.wac_resolution_includes.proofs.Worlds.{world_taken, imports_break, exports_break, left_breaks}
 use Rattle.wac_resolution_includes.proofs.inclusion.Inclusion.take_world.Goals as goal
 

@@ -1,4 +1,5 @@
-use Rattle.std.proofs.Common.{◌∙◌, sym}
+use Rattle.wac_resolution_mentions.proofs.Common.{◌∙◌}
+use Rattle.std.proofs.Common.{sym}
 use Rattle.wac_resolution_mentions.proofs.Noting.{added, stays}
 use Rattle.wac_resolution_mentions.proofs.mentions.Mentions.note.Goals as goal
 

@@ -1,6 +1,4 @@
-use Rattle.std.proofs.lemmas.Result.{err_from_is_err_and}
-use Rattle.wac_ast_base.specs.Names.{ident_of}
-use Rattle.wac_resolution_errors.proofs.Reports.{reports}
+use Rattle.wac_resolution_nodes.proofs.Common.{err_from_is_err_and, ident_of, reports}
 use Rattle.wac_resolution_nodes.proofs.Composed.{still_there}
 use Rattle.wac_resolution_nodes.proofs.Roots.{binds, kinds_fresh}
 use Rattle.wac_resolution_nodes.proofs.root.Root.bind.Goals as goal

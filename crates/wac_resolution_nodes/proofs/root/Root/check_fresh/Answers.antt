@@ -1,5 +1,4 @@
-use Rattle.std.proofs.Common.{sym, rules, inr}
-use Rattle.wac_ast_base.specs.Names.{ident_of}
+use Rattle.wac_resolution_nodes.proofs.Common.{sym, rules, inr, ident_of}
 use Rattle.wac_resolution_nodes.proofs.Roots.{bound_already}
 use Rattle.wac_resolution_nodes.proofs.root.Root.check_fresh.Goals as goal
 

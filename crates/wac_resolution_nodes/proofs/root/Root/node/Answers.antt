@@ -1,5 +1,4 @@
-use Rattle.std.proofs.Common.{sym}
-use Rattle.wac_ast_base.specs.Names.{ident_of}
+use Rattle.wac_resolution_nodes.proofs.Common.{sym, ident_of}
 use Rattle.wac_resolution_nodes.proofs.Roots.{node_is}
 use Rattle.wac_resolution_nodes.proofs.root.Root.node.Goals as goal
 

@@ -1,5 +1,4 @@
-use Rattle.std.proofs.Common.{◌∙◌, subst, sym, ap}
-use Rattle.wac_graph_types.specs.Scope.{IsFresh, with_named}
+use Rattle.wac_resolution_state.proofs.Common.{◌∙◌, subst, sym, ap, IsFresh, with_named}
 use Rattle.wac_resolution_state.specs.Bindings.{Bindings, by_text}
 use Rattle.wac_resolution_state.proofs.Bound.{text_bound}
 use Rattle.wac_resolution_state.proofs.names.Names.bind.Goals as goal

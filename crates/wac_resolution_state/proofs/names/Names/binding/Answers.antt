@@ -1,5 +1,4 @@
-use Rattle.std.proofs.Common.{◌∙◌, ap}
-use Rattle.wac_graph_types.specs.Scope.{look_up}
+use Rattle.wac_resolution_state.proofs.Common.{◌∙◌, ap, look_up}
 use Rattle.wac_resolution_state.proofs.Bound.{text_found}
 use Rattle.wac_resolution_state.proofs.names.Names.binding.Goals as goal
 

@@ -1,4 +1,4 @@
-use Rattle.std.proofs.Common.{◌≡◌, None, rules}
+use Rattle.wac_resolution_state.proofs.Common.{◌≡◌, None, rules}
 use Rattle.wac_resolution_state.proofs.Bound.{read_some, read_none}
 use Rattle.wac_resolution_state.proofs.names.Names.place.Goals as goal
 

@@ -1,6 +1,5 @@
-use Rattle.std.proofs.Common.{◌≡◌, length, sym, ap, ◌∙◌, subst, Some, None, Option, ℕ, Err, false, get_or, arith, ◌<◌}
+use Rattle.wac_lexer.proofs.Common.{◌≡◌, length, sym, ap, ◌∙◌, subst, Some, None, Option, ℕ, Err, false, get_or, arith, ◌<◌, IsCharBoundary}
 use Rattle.wac_lexer.specs.declared.error.Error.TheVariants.{UnexpectedToken}
-use Rattle.std.specs.Str.{IsCharBoundary}
 use Rattle.wac_lexer.specs.Comments.{opens}
 use Rattle.wac_lexer.specs.Tokens.{token_of, longest_token}
 use Rattle.wac_lexer.specs.Front.{longest}

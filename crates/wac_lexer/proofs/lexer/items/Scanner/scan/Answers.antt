@@ -1,6 +1,4 @@
-use Rattle.std.proofs.Common.{arith, ◌≡◌, ◌+◌, ◌<◌, ◌^◌, [], ◌∷◌, ap, sym, ◌∙◌, subst, drop, Some}
-use Rattle.std.specs.Str.{IsCharBoundary}
-use Rattle.std.proofs.lemmas.Str.{IsCharBoundary-from_rest}
+use Rattle.wac_lexer.proofs.Common.{arith, ◌≡◌, ◌+◌, ◌<◌, ◌^◌, [], ◌∷◌, ap, sym, ◌∙◌, subst, drop, Some, IsCharBoundary, IsCharBoundary-from_rest}
 use Rattle.wac_lexer.specs.Span.{span, end_of}
 use Rattle.wac_lexer.specs.Item.{handed}
 use Rattle.wac_lexer.specs.Items.{first_item, items_from}

@@ -1,4 +1,4 @@
-use Rattle.std.proofs.Common.{◌∙◌, refl}
+use Rattle.wac_resolution.proofs.Common.{◌∙◌, refl}
 use Rattle.wac_resolution_mentions.proofs.Noting.{has_key}
 use Rattle.wac_resolution.proofs.keeping.fn.keep_mentioned.retain.Goals as goal
 

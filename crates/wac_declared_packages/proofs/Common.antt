@@ -1,0 +1,10 @@
+-- The words of other crates that proofs of this crate cite, given on from one place. It declares nothing.
+pub use Rattle.std.proofs.Common.{Bool, Err, List, None, Ok, Option, Result, Some, [], ap, arith, cond, drop, false, get_or, inl, inr, is_some, length, ltb, map, refl, rules, subst, suc, sym, true, zero, ℕ, ◌+◌, ◌<◌, ◌∙◌, ◌∷◌, ◌≡◌, ◌≤◌, ◌⊎◌}
+pub use Rattle.std.specs.Prelude.{IfErr, IfOk, OnOk, String, option_map, slice_get}
+pub use Rattle.wac_ast.specs.Statements.{document_of, statement_of}
+pub use Rattle.wac_ast_grammar.specs.TextTree.{IsTreeOf}
+pub use Rattle.wac_graph.proofs.Keys.{keys_same, other_key}
+pub use Rattle.wac_graph.specs.Package.{Key, key_of, same_key}
+pub use Rattle.wac_graph.specs.declared.package_key.PackageKey.{PackageKey}
+pub use Rattle.wac_graph_types.specs.Package.{PackageParts}
+pub use Rattle.wac_resolution_paths.proofs.Keys.{keyed_found}
