@@ -4,7 +4,7 @@ pub use Rattle.std.proofs.lemmas.List.{append-nil, map_push}
 pub use Rattle.std.specs.Prelude.{IfErr, IfOk, MatchResult, OnOk, alloc_error}
 pub use Rattle.wac_ast_base.proofs.Lookaheads.{looks, peeks_met, peeks_on}
 pub use Rattle.wac_ast_base.proofs.Loops.{SoFar, star_ends, star_fails, star_goes_on, statements_star}
-pub use Rattle.wac_ast_base.specs.Answer.{End, Gives, end_of_input, final_span, has_more, told_in}
+pub use Rattle.wac_ast_base.specs.Answer.{End, Gives, final_span, has_more, told_in}
 pub use Rattle.wac_ast_base.specs.declared.error.Error.{Error}
 pub use Rattle.wac_ast_grammar.specs.Grammar.{Derives, document, statement, statements, type_statement}
 pub use Rattle.wac_ast_grammar.specs.Reading.{read}

@@ -1,5 +1,6 @@
 -- Parsing a whole text.
-use Rattle.wac_ast.proofs.Common.{◌≡◌, ℕ, List, [], ◌∷◌, None, Result, Ok, Err, false, refl, sym, ap, ◌∙◌, inl, inr, OnOk, Span, span, Item, items, Reading, left, Error, End, end_of_input, Gives, has_more, final_span, told_in, Document, document, read}
+use Rattle.wac_ast.proofs.Common.{◌≡◌, ℕ, List, [], ◌∷◌, None, Result, Ok, Err, false, refl, sym, ap, ◌∙◌, inl, inr, OnOk, Span, span, Item, items, Reading, left, Error, End, Gives, has_more, final_span, told_in, Document, document, read}
+use Rattle.wac_ast_base.specs.Answer.{end_of_input}
 use Rattle.wac_lexer.specs.Characters.{refused}
 use Rattle.wac_ast.specs.Document.{end_of_text, Parses}
 

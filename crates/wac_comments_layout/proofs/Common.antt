@@ -16,7 +16,7 @@ pub use Rattle.wac_lexer.specs.Characters.{refused}
 pub use Rattle.wac_lexer.specs.Comments.{begins, behind, closes, gap, is_blank, opens, part_len}
 pub use Rattle.wac_lexer.specs.Follow.{Follows}
 pub use Rattle.wac_lexer.specs.Item.{Handed, Item, OnFirst, behind_first, handed}
-pub use Rattle.wac_lexer.specs.Items.{fault_of, first_char_len, first_item, items, items_from, items_upto, with_fault}
+pub use Rattle.wac_lexer.specs.Items.{fault_of, first_char_len, first_item, items, items_upto, with_fault}
 pub use Rattle.wac_lexer.specs.Reading.{Nexts, Reading, left, slice}
 pub use Rattle.wac_lexer.specs.Span.{Span, end_of, span}
 pub use Rattle.wac_lexer.specs.Tokens.{InTable, IsToken, longest_token, token_of}

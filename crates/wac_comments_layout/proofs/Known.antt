@@ -1,5 +1,6 @@
 -- Each text of a source whose items are tokens begins with a slash, as comments do, is empty, or is a token's.
-use Rattle.wac_comments_layout.proofs.Common.{◌≡◌, ℕ, ◌+◌, Bool, true, false, cond, List, [], ◌∷◌, map, take, drop, length, sym, refl, ap, ◌∙◌, Option, Some, None, Ok, Err, Result, inl, inr, ◌==◌, nat_eq, slice_index, AllByRecursion, cond_both, opens, Item, first_char_len, fault_of, first_item, items, items_from, with_fault, end_of, token_of, longest_token, Error, Token, made, start_of, items_none, items_some}
+use Rattle.wac_comments_layout.proofs.Common.{◌≡◌, ℕ, ◌+◌, Bool, true, false, cond, List, [], ◌∷◌, map, take, drop, length, sym, refl, ap, ◌∙◌, Option, Some, None, Ok, Err, Result, inl, inr, ◌==◌, nat_eq, slice_index, AllByRecursion, cond_both, opens, Item, first_char_len, fault_of, first_item, items, with_fault, end_of, token_of, longest_token, Error, Token, made, start_of, items_none, items_some}
+use Rattle.wac_lexer.specs.Items.{items_from}
 use Rattle.wac_lexer.specs.declared.error.Error.TheVariants.{UnexpectedToken, UnterminatedComment, UnterminatedString}
 use Rattle.wac_lexer.specs.declared.token.Token.TheVariants as tokens
 use Rattle.wac_lexer.proofs.Longest.{Longest, longest_is}

@@ -1,5 +1,6 @@
 -- A text with few opening brackets has none that is nested deeply.
-use Rattle.wac_comments_layout.proofs.Common.{◌≡◌, ℕ, zero, suc, ◌+◌, ◌-◌, ◌≤◌, Bool, true, false, cond, List, [], ◌∷◌, take, drop, length, sym, refl, ap, ◌∙◌, subst, arith, Option, Some, None, Result, codes, ⊎_elim, ◌||◌, count_by, nat_le, bytes_eq, or_cases, lt-leb, drop-drop, sum_by-take-drop, gap, Item, first_item, items, items_from, items_upto, Span, Token, Error, bytes_eq_is, before_others, item_is, start_of}
+use Rattle.wac_comments_layout.proofs.Common.{◌≡◌, ℕ, zero, suc, ◌+◌, ◌-◌, ◌≤◌, Bool, true, false, cond, List, [], ◌∷◌, take, drop, length, sym, refl, ap, ◌∙◌, subst, arith, Option, Some, None, Result, codes, ⊎_elim, ◌||◌, count_by, nat_le, bytes_eq, or_cases, lt-leb, drop-drop, sum_by-take-drop, gap, Item, first_item, items, items_upto, Span, Token, Error, bytes_eq_is, before_others, item_is, start_of}
+use Rattle.wac_lexer.specs.Items.{items_from}
 use Rattle.wac_comments_layout.specs.Brackets.{is_opening, is_closing}
 use Rattle.wac_comments_layout.specs.Nesting.{first_beyond, may_open}
 

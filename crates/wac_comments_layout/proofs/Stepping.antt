@@ -1,5 +1,6 @@
 -- The texts of the pieces from a place on: one step over a token, and over a blank or a comment.
-use Rattle.wac_comments_layout.proofs.Common.{◌≡◌, ℕ, zero, suc, ◌+◌, ◌<◌, ◌≤◌, cond, List, [], ◌∷◌, ◌++◌, map, take, drop, length, sym, refl, ap, ◌∙◌, arith, Ok, Option, Some, None, Result, append_assoc, ◌==◌, drop-drop, length-drop, map-append, part_len, gap, Follows, first_item, items_from, span, Token, Error, stands_alone, start_of, items_some, items_none, items_end}
+use Rattle.wac_comments_layout.proofs.Common.{◌≡◌, ℕ, zero, suc, ◌+◌, ◌<◌, ◌≤◌, cond, List, [], ◌∷◌, ◌++◌, map, take, drop, length, sym, refl, ap, ◌∙◌, arith, Ok, Option, Some, None, Result, append_assoc, ◌==◌, drop-drop, length-drop, map-append, part_len, gap, Follows, first_item, span, Token, Error, stands_alone, start_of, items_some, items_none, items_end}
+use Rattle.wac_lexer.specs.Items.{items_from}
 use Rattle.std.proofs.Math.Seq.{take-append_seam}
 use Rattle.wac_lexer.proofs.Gaps.{gap_done, gap_part}
 use Rattle.wac_comments_layout.specs.Pieces.{Piece, comment_of_part, comments_at, comments_upto, end_piece, piece, pieces_after}

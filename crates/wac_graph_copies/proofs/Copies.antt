@@ -1,11 +1,11 @@
 -- A copied table means what it meant, under the origins of its new numbers.
-use Rattle.wac_graph_copies.proofs.Common.{◌≡◌, ◌+◌, ◌<◌, ℕ, zero, suc, List, [], ◌∷◌, ◌++◌, length, refl, sym, ◌∙◌, ap, arith, length-append, Option, Some, None, subst, ◌⊎◌, inl, inr, IfSome, option_map, ItemKind, Entry, Form, form, named_by, sort_named, Slot, children, Label, plain, kind, dangling, label, Meaning, node, done, look, of_kind, of_child, row, over, meanings_from, meaning_at, meaning, NamesBefore, ChildrenBefore, EarlierFrom, IsEarlier}
+use Rattle.wac_graph_copies.proofs.Common.{◌≡◌, ◌+◌, ◌<◌, ℕ, zero, suc, List, [], ◌∷◌, ◌++◌, length, refl, sym, ◌∙◌, ap, arith, length-append, Option, Some, None, subst, ◌⊎◌, inl, inr, IfSome, option_map, ItemKind, Entry, Form, form, named_by, sort_named, Slot, children, Label, plain, kind, dangling, label, Meaning, node, done, look, of_kind, of_child, row, over, meanings_from, meaning, NamesBefore, ChildrenBefore, EarlierFrom, IsEarlier}
 use Rattle.std.proofs.lemmas.List.{get_or_append_left}
 use Rattle.std.proofs.Math.Seq.{get_or-append_seam}
 use Rattle.wac_graph_types.specs.declared.kind.ItemKind.TheVariants as kinds
 use Rattle.wac_graph_types.specs.declared.kind.«Type».TheVariants as types
 use Rattle.wac_graph_types.specs.declared.kind.ValueType.TheVariants as values
-use Rattle.wac_graph_types.specs.Meaning.{named}
+use Rattle.wac_graph_types.specs.Meaning.{named, meaning_at}
 use Rattle.wac_graph_copies.specs.Moved.{moved, moved_children}
 use Rattle.wac_graph_copies.specs.Copied.{AreCopies, IsGrownBy, MeansTheSame}
 use Rattle.wac_graph_types.proofs.Meanings.{split, meanings_length}

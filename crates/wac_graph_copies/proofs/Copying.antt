@@ -1,5 +1,6 @@
 -- A map or set is copied entry by entry, with new numbers.
-use Rattle.wac_graph_copies.proofs.Common.{◌≡◌, ◌∙◌, ℕ, List, [], ◌∷◌, ◌++◌, refl, sym, ap, subst, map, Bool, false, append_assoc, append-nil, ◌||◌, string_bytes, String, Global, list_any, IsDistinct, AllByRecursion, bytes_eq, by_name, IsFresh}
+use Rattle.wac_graph_copies.proofs.Common.{◌≡◌, ◌∙◌, ℕ, List, [], ◌∷◌, ◌++◌, refl, sym, ap, subst, map, Bool, false, append_assoc, append-nil, ◌||◌, string_bytes, String, Global, list_any, AllByRecursion, bytes_eq, by_name, IsFresh}
+use Rattle.std.specs.List.{IsDistinct}
 use Rattle.std.specs.Bool.{one_answer}
 use Rattle.std.specs.String.{string_eq}
 use Rattle.std.specs.Map.{keys_of}

@@ -8,4 +8,4 @@ pub use Rattle.std.specs.Prelude.{take}
 pub use Rattle.wac_ast_expressions.specs.Expressions.{argument_of, primary_expr_of}
 pub use Rattle.wac_ast_types.specs.Types.{ty_of}
 pub use Rattle.wac_json_forms.proofs.Lists.{arguments_items, list_of-map, optional-map, types_items}
-pub use Rattle.wac_json_forms.specs.Forms.{argument_json, list_json, named_argument_json, pair, primary_expr_json, span_json, ty_json, variant}
+pub use Rattle.wac_json_forms.specs.Forms.{pair, span_json, variant}

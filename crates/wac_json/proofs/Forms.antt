@@ -1,7 +1,7 @@
 -- Forms of lists and of optional parts.
-use Rattle.wac_json.proofs.Common.{◌≡◌, ◌∙◌, List, [], ◌∷◌, map, refl, ap, Result, Ok, Err, IfOk, Data, array, item, Value, list_json, list_of-map, optional-map}
+use Rattle.wac_json.proofs.Common.{◌≡◌, ◌∙◌, List, [], ◌∷◌, map, refl, ap, Result, Ok, Err, IfOk, Data, array, item, Value, list_of-map, optional-map}
 use Rattle.serde_json.specs.View as view
-use Rattle.wac_json_forms.specs.Forms.{items_of}
+use Rattle.wac_json_forms.specs.Forms.{items_of, list_json}
 
 -- the items of a list's form, as the data of each
 pub items_are : {X : Type 0} (form : X → Data) (xs : List X) → view.items_of (map form xs) ≡ items_of form xs

@@ -1,5 +1,5 @@
 -- The words of other crates that proofs of this crate cite, given on from one place. It declares nothing.
-pub use Rattle.json.specs.Print.{escape, escape_byte, quoted}
+pub use Rattle.json.specs.Print.{escape, quoted}
 pub use Rattle.semver.specs.Identifiers.{marked, parts_of, parts_text}
 pub use Rattle.serde_json.specs.Data.{Data, Items, Members, array, boolean, item, member, no_items, no_members, null, number, object, string}
 pub use Rattle.serde_json.specs.Written.{comma_if, compact_text, items_text, members_text, number_text}
@@ -20,7 +20,7 @@ pub use Rattle.wac_ast_types.specs.Types.{optional_of, ty_of}
 pub use Rattle.wac_ast_uses.specs.Uses.{use_item_of, use_of, use_path_of, world_include_item_of, world_include_of, world_ref_of}
 pub use Rattle.wac_ast_worlds.specs.Worlds.{extern_type_of, import_statement_of, import_type_of, inline_interface_of, interface_decl_of, interface_export_of, interface_item_of, named_world_item_of, world_decl_of, world_export_of, world_import_of, world_item_of, world_item_path_of}
 pub use Rattle.wac_json_forms.proofs.Lists.{arguments_items, items_of-map, list_of-map, optional-map, types_items}
-pub use Rattle.wac_json_forms.specs.Forms.{access_expr_json, argument_json, argument_name_json, constructor_json, directive_json, doc_json, enum_case_json, enum_decl_json, export_options_json, export_statement_json, expr_json, extern_name_json, extern_type_json, field_json, flag_json, flags_decl_json, func_type_json, func_type_ref_json, ident_json, import_statement_json, import_type_json, inline_interface_json, interface_decl_json, interface_export_json, interface_item_json, item_type_decl_json, items_of, json_of, let_statement_json, list_json, method_json, named_access_expr_json, named_type_json, named_world_item_json, optional, optional_ty_json, package_name_json, package_path_json, pair, postfix_expr_json, primary_expr_json, record_decl_json, resource_decl_json, resource_method_json, result_list_json, span_json, statement_json, string_json, target_member, ty_json, type_alias_json, type_alias_kind_json, type_decl_json, type_statement_json, use_item_json, use_json, use_path_json, variant, variant_case_json, variant_decl_json, version_json, world_decl_json, world_export_json, world_import_json, world_include_item_json, world_include_json, world_item_json, world_item_path_json, world_ref_json}
+pub use Rattle.wac_json_forms.specs.Forms.{items_of, optional, pair, target_member, variant, version_json}
 pub use Rattle.wac_printer.proofs.Trees.{most_rest}
 pub use Rattle.wac_printer_layout.specs.Printed.{Piece, blank, fresh_after, text, text_of}
 pub use Rattle.wac_printer_pieces.proofs.Indentation.{prints_same}

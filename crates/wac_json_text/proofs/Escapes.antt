@@ -1,5 +1,6 @@
 -- Texts with the escapes of a JSON string.
-use Rattle.wac_json_text.proofs.Common.{◌≡◌, ◌≤◌, ◌<◌, ◌+◌, ◌*◌, ℕ, zero, suc, inl, inr, one-add, Bool, codes, decimal, Some, None, true, false, cond, List, [], ◌∷◌, ◌++◌, take, drop, length, get_or, append-nil, refl, sym, ap, ◌∙◌, subst, arith, ⊎_elim, Result, Ok, Err, ◌||◌, ◌&&◌, ◌⊎◌, not, nat_eq, nat_le, nat_lt, prefix_len, slice_get, AllByRecursion, IsAscii, IsUtf8, IsCharBoundary, bytes_eq, IsCharBoundary-before_ascii, IsCharBoundary-end, escape, escape_byte, marked, parts_text, Piece, blank, text, fresh_after, Printer, Prints, PrintError, prints_same, after-append, after-blank, goes, stops, wrote_all}
+use Rattle.wac_json_text.proofs.Common.{◌≡◌, ◌≤◌, ◌<◌, ◌+◌, ◌*◌, ℕ, zero, suc, inl, inr, one-add, Bool, codes, decimal, Some, None, true, false, cond, List, [], ◌∷◌, ◌++◌, take, drop, length, get_or, append-nil, refl, sym, ap, ◌∙◌, subst, arith, ⊎_elim, Result, Ok, Err, ◌||◌, ◌&&◌, ◌⊎◌, not, nat_eq, nat_le, nat_lt, prefix_len, slice_get, AllByRecursion, IsAscii, IsUtf8, IsCharBoundary, bytes_eq, IsCharBoundary-before_ascii, IsCharBoundary-end, escape, marked, parts_text, Piece, blank, text, fresh_after, Printer, Prints, PrintError, prints_same, after-append, after-blank, goes, stops, wrote_all}
+use Rattle.json.specs.Print.{escape_byte}
 use Rattle.std.proofs.Math.Seq.{take-add}
 use Rattle.std.proofs.lemmas.Bool.{eqb-true, leb-false, ltb-true}
 use Rattle.std.proofs.lemmas.List.{take-append-drop, take_all, take_more}

@@ -1,5 +1,6 @@
 -- The trees of expressions, which hold others of their kind, as JSON.
-use Rattle.wac_json_text.proofs.Common.{◌≡◌, sym, Result, argument_of, expr_of, primary_expr_of, InstantiationArgument, PrimaryExpr, Printer, Prints, PrintError, printed_at, argument_json, primary_expr_json}
+use Rattle.wac_json_text.proofs.Common.{◌≡◌, sym, Result, argument_of, expr_of, primary_expr_of, InstantiationArgument, PrimaryExpr, Printer, Prints, PrintError, printed_at}
+use Rattle.wac_json_forms.specs.Forms.{argument_json, primary_expr_json}
 use Rattle.wac_ast_grammar.specs.Tree as tree
 use Rattle.wac_json_text.specs.Pieces.{pieces}
 

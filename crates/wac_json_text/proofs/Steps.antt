@@ -1,5 +1,6 @@
 -- What the writer's functions cite.
-use Rattle.wac_json_text.proofs.Common.{List, map, sym, Result, Option, option_map, Data, Printer, Prints, PrintError, seq, printed_at, list_json, optional, list_of-map, optional-map}
+use Rattle.wac_json_text.proofs.Common.{List, map, sym, Result, Option, option_map, Data, Printer, Prints, PrintError, seq, printed_at, optional, list_of-map, optional-map}
+use Rattle.wac_json_forms.specs.Forms.{list_json}
 use Rattle.wac_json_text.specs.Pieces.{pieces}
 
 pub ruleset steps = (seq, list_of-map, optional-map)

@@ -1,5 +1,6 @@
 -- The parts that are put for a value are its compact text.
-use Rattle.wac_json_text.proofs.Common.{◌≡◌, ℕ, Bool, true, false, List, [], ◌∷◌, ◌++◌, map, length, codes, append_assoc, append-nil, refl, sym, ap, ◌∙◌, arith, Result, Ok, Err, OnErr, flat_map, quoted, Data, null, boolean, number, string, array, object, Items, no_items, item, Members, no_members, member, compact_text, items_text, members_text, number_text, Piece, blank, text, fresh_after, Printer, Prints, is_front, has_failed, PrintError, text-append, after-blank, fresh_after-append, items_of, list_json, optional}
+use Rattle.wac_json_text.proofs.Common.{◌≡◌, ℕ, Bool, true, false, List, [], ◌∷◌, ◌++◌, map, length, codes, append_assoc, append-nil, refl, sym, ap, ◌∙◌, arith, Result, Ok, Err, OnErr, flat_map, quoted, Data, null, boolean, number, string, array, object, Items, no_items, item, Members, no_members, member, compact_text, items_text, members_text, number_text, Piece, blank, text, fresh_after, Printer, Prints, is_front, has_failed, PrintError, text-append, after-blank, fresh_after-append, items_of, optional}
+use Rattle.wac_json_forms.specs.Forms.{list_json}
 use Rattle.wac_printer_pieces.specs.Printed.{after}
 use Rattle.wac_json_text.specs.Pieces.{pieces, items_pieces, others_pieces, members_pieces, behind_comma, joined_pieces, list_pieces, IsBegun}
 

@@ -1,5 +1,6 @@
 -- The trees of types and of expressions, which hold others of their kind, as JSON.
-use Rattle.wac_json_text.proofs.Common.{◌≡◌, ℕ, List, [], ◌∷◌, ◌++◌, codes, decimal, sym, Result, Data, blank, ty_of, Printer, Prints, PrintError, printed_at, ty_json}
+use Rattle.wac_json_text.proofs.Common.{◌≡◌, ℕ, List, [], ◌∷◌, ◌++◌, codes, decimal, sym, Result, Data, blank, ty_of, Printer, Prints, PrintError, printed_at}
+use Rattle.wac_json_forms.specs.Forms.{ty_json}
 use Rattle.wac_lexer.specs.Span.{Span}
 use Rattle.wac_ast_grammar.specs.Tree as tree
 use Rattle.wac_ast_types.specs.declared.types.«Type» as code

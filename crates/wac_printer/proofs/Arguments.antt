@@ -1,5 +1,6 @@
 -- The arguments of an instantiation, printed from the values.
-use Rattle.wac_printer.proofs.Common.{rules, ◌≡◌, ℕ, Bool, true, false, List, [], ◌∷◌, ◌++◌, codes, map, length, append_assoc, refl, sym, ap, ◌∙◌, zero, suc, arith, ◌<◌, ◌≤◌, subst, All, flat_map, Span, Arguments, arguments_from, argument_name_of, argument_of, expr_of, primary_expr_of, InstantiationArgument, Fill, Named, PrimaryExpr, Nested, NestedExpr, out-NestedExpr, nested_out, bare_argument, bare_argument_name, bare_arguments, bare_expr, bare_primary_expr, Piece, token, line, deeper, space, newline, argument_layout, argument_name_layout, arguments_layout, braced_layout, comma_layout, expr_layout, primary_expr_layout, ending_layout}
+use Rattle.wac_printer.proofs.Common.{rules, ◌≡◌, ℕ, Bool, true, false, List, [], ◌∷◌, ◌++◌, codes, map, length, append_assoc, refl, sym, ap, ◌∙◌, zero, suc, arith, ◌<◌, ◌≤◌, subst, All, flat_map, Span, Arguments, arguments_from, argument_name_of, argument_of, expr_of, primary_expr_of, InstantiationArgument, Fill, Named, PrimaryExpr, Nested, NestedExpr, out-NestedExpr, nested_out, bare_argument, bare_argument_name, bare_arguments, bare_expr, bare_primary_expr, Piece, token, line, deeper, space, newline, argument_name_layout, braced_layout, comma_layout, ending_layout}
+use Rattle.wac_printer_layout.specs.ExpressionLayout.{argument_layout, arguments_layout, expr_layout, primary_expr_layout}
 use Rattle.std.specs.Bool.{◌==◌}
 use Rattle.wac_ast_grammar.specs.Tree as tree
 use denote.Param.Weighed.{most}

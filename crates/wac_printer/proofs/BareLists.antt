@@ -1,5 +1,7 @@
 -- Docs and lists of trees of values, printed from the values.
-use Rattle.wac_printer.proofs.Common.{◌≡◌, ℕ, List, Result, map, sym, ◌∙◌, doc_comment_of, DocComment, doc_lines, body, docs_layout, joined, rows, Piece, PrintError, Printer, Prints, printed_at}
+use Rattle.wac_printer.proofs.Common.{◌≡◌, ℕ, List, Result, map, sym, ◌∙◌, doc_comment_of, DocComment, Piece, PrintError, Printer, Prints, printed_at}
+use Rattle.wac_printer_layout.specs.Parts.{body, docs_layout, joined, rows}
+use Rattle.wac_printer_layout.specs.Bare.{doc_lines}
 use Rattle.wac_printer.proofs.PartsOf.{body-of, joined-of, rows-of}
 
 -- the docs of a vector

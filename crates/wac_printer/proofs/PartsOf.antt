@@ -1,5 +1,7 @@
 -- Lists of trees of values, printed from the values.
-use Rattle.wac_printer.proofs.Common.{◌≡◌, ℕ, List, [], ◌∷◌, ◌++◌, map, refl, ap, ◌∙◌, suc, subst, arith, ◌<◌, length, codes, flat_map, All, Piece, deeper, token, between, joined, spaced, body, rows, open_body, close_body, doc_layout, docs_layout, space, newline, doc_comment_of, DocComment, world_include_item_of, with_layout, world_include_item_layout, doc_line, doc_lines, bare_world_include_item, flat_map-of, flat_map-append}
+use Rattle.wac_printer.proofs.Common.{◌≡◌, ℕ, List, [], ◌∷◌, ◌++◌, map, refl, ap, ◌∙◌, suc, subst, arith, ◌<◌, length, codes, flat_map, All, Piece, deeper, token, between, open_body, close_body, doc_layout, space, newline, doc_comment_of, DocComment, world_include_item_of, with_layout, world_include_item_layout, doc_line, bare_world_include_item, flat_map-of, flat_map-append}
+use Rattle.wac_printer_layout.specs.Bare.{doc_lines}
+use Rattle.wac_printer_layout.specs.Parts.{joined, spaced, body, rows, docs_layout}
 use Rattle.std.specs.Str.Lines.{lines}
 use Rattle.wac_lexer.specs.Item.{Doc}
 use Rattle.wac_ast_uses.specs.declared.includes.WorldIncludeItem.{WorldIncludeItem}

@@ -1,5 +1,6 @@
 -- What is printed of a document reads back.
-use Rattle.wac_printer.proofs.Common.{◌≡◌, ℕ, Bool, true, List, ◌++◌, ap, ◌∙◌, refl, Result, Ok, Err, Document, bare_document, doc_lines, Piece, text, document_layout, PrintError, Printer, Prints}
+use Rattle.wac_printer.proofs.Common.{◌≡◌, ℕ, Bool, true, List, ◌++◌, ap, ◌∙◌, refl, Result, Ok, Err, Document, bare_document, Piece, text, document_layout, PrintError, Printer, Prints}
+use Rattle.wac_printer_layout.specs.Bare.{doc_lines}
 use Rattle.wac_printer_layout.proofs.TreesBack.{reads_back}
 use Rattle.wac_printer_pieces.specs.Printed.{after}
 use Rattle.wac_printer.specs.ReadBack.{IsReadBack}

@@ -1,5 +1,6 @@
 -- The trees of values that hold themselves.
-use Rattle.wac_printer.proofs.Common.{◌≡◌, ℕ, ◌≤◌, ◌<◌, List, [], ◌∷◌, ◌++◌, codes, map, subst, Global, get_or, length, zero, suc, refl, ap, ◌∙◌, arith, Vec, All, flat_map, token, space, joined, bare_ty, bare_types, ty_layout, types_layout, further_types_layout, Span, types_from, ty_of, types_of_row}
+use Rattle.wac_printer.proofs.Common.{◌≡◌, ℕ, ◌≤◌, ◌<◌, List, [], ◌∷◌, ◌++◌, codes, map, subst, Global, get_or, length, zero, suc, refl, ap, ◌∙◌, arith, Vec, All, flat_map, token, space, bare_ty, bare_types, ty_layout, types_layout, further_types_layout, Span, types_from, ty_of, types_of_row}
+use Rattle.wac_printer_layout.specs.Parts.{joined}
 use mathlib.Core.Former.{Count}
 use denote.Param.Weighed.{most}
 use Rattle.wac_printer.specs.Sliced.{TySliced, TypesSliced}

@@ -1,5 +1,7 @@
 -- The texts and the docs of a source's items have no rejected character where the source has none.
-use Rattle.wac_printer_layout.proofs.Common.{◌≡◌, ℕ, suc, ◌+◌, ◌-◌, ◌<◌, true, List, [], ◌∷◌, ◌++◌, take, drop, length, get_or, sym, refl, ap, ◌∙◌, subst, arith, inl, inr, Option, Some, None, Result, length-append, codes, ◌&&◌, AllByRecursion, IsUtf8, IsCharBoundary, trim, bytes_eq, get_or-append_seam, take-append_seam, drop-append_seam, and_parts, cond_both, take-append-drop, length-take-le, length-drop, get_or-drop, IsCharBoundary-end, IsCharBoundary-start, IsCharBoundary-before_ascii, IsCharBoundary-after_ascii, Span, span, end_of, gap, begins_with, ends_with, doc_text, doc_of_part, docs_at, IsPart, Gap, docs_among, Item, Doc, OnFirst, first_item, items_from, items, InOrder, slice, Slices, Token, Error, blank_ascii, ordered, longest_gap, docs_in_gap, made, start_of, items_none, items_some, first_docs}
+use Rattle.wac_printer_layout.proofs.Common.{◌≡◌, ℕ, suc, ◌+◌, ◌-◌, ◌<◌, true, List, [], ◌∷◌, ◌++◌, take, drop, length, get_or, sym, refl, ap, ◌∙◌, subst, arith, inl, inr, Option, Some, None, Result, length-append, codes, ◌&&◌, AllByRecursion, IsUtf8, IsCharBoundary, trim, bytes_eq, get_or-append_seam, take-append_seam, drop-append_seam, and_parts, cond_both, take-append-drop, length-take-le, length-drop, get_or-drop, IsCharBoundary-end, IsCharBoundary-start, IsCharBoundary-before_ascii, IsCharBoundary-after_ascii, Span, span, end_of, gap, begins_with, ends_with, doc_text, doc_of_part, IsPart, Gap, docs_among, Item, Doc, OnFirst, first_item, items_from, items, InOrder, slice, Slices, Token, Error, blank_ascii, ordered, longest_gap, docs_in_gap, start_of, items_none, items_some, first_docs}
+use Rattle.wac_lexer.proofs.Unfolded.{made}
+use Rattle.wac_lexer.specs.Docs.{docs_at}
 use Rattle.wac_lexer.proofs.Pieces.{inside_front}
 use Rattle.wac_lexer.proofs.Texts.{bytes_eq_is}
 use Rattle.wac_printer_layout.specs.Accepted.{IsAccepted, ItemIsAccepted}

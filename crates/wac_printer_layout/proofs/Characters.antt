@@ -1,5 +1,6 @@
 -- Texts each of whose characters passes.
-use Rattle.wac_printer_layout.proofs.Common.{◌≡◌, ℕ, Bool, true, false, cond, List, [], ◌∷◌, ◌++◌, take, drop, length, sym, refl, ap, ◌∙◌, subst, ⊎_elim, ◌&&◌, ◌==◌, AllByRecursion, is_whitespace, IsUtf8, IsAscii, IsCharBoundary, chars, trim, trim_start, trim_end, skip_leading_whitespace, drop_trailing_whitespace, and_parts, cases_Bool, cond_both, take-append-drop, chars-append, chars-IsAscii, chars-encodes, scalars-chars, IsUtf8-append, IsUtf8-from_ascii, IsUtf8-take, IsUtf8-drop}
+use Rattle.wac_printer_layout.proofs.Common.{◌≡◌, ℕ, Bool, true, false, cond, List, [], ◌∷◌, ◌++◌, take, drop, length, sym, refl, ap, ◌∙◌, subst, ⊎_elim, ◌&&◌, ◌==◌, AllByRecursion, is_whitespace, IsUtf8, IsAscii, IsCharBoundary, chars, trim, skip_leading_whitespace, drop_trailing_whitespace, and_parts, cases_Bool, cond_both, take-append-drop, chars-append, chars-IsAscii, chars-encodes, scalars-chars, IsUtf8-append, IsUtf8-from_ascii, IsUtf8-take, IsUtf8-drop}
+use Rattle.std.specs.Str.{trim_start, trim_end}
 use lib.Utf8.{scalar, scalars, encodes}
 
 module _ (P : ℕ → Type 0) where

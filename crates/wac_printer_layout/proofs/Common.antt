@@ -9,7 +9,7 @@ pub use Rattle.std.specs.Char.{is_whitespace, len_utf8}
 pub use Rattle.std.specs.List.{AllByRecursion, concat, filter, flat_map, onto_first, slice_split}
 pub use Rattle.std.specs.Option.{option_map}
 pub use Rattle.std.specs.Prelude.{MatchOption, if◌then◌else◌, is_none, nat_eq, nat_le, nat_lt, not, slice_index, ◌&&◌, ◌==◌, ◌||◌, ◌⊎◌}
-pub use Rattle.std.specs.Str.{IsAscii, IsCharBoundary, IsUtf8, bytes_eq, chars, drop_trailing_whitespace, encode_utf8_all, skip_leading_whitespace, trim, trim_end, trim_start}
+pub use Rattle.std.specs.Str.{IsAscii, IsCharBoundary, IsUtf8, bytes_eq, chars, drop_trailing_whitespace, encode_utf8_all, skip_leading_whitespace, trim}
 pub use Rattle.std.specs.Str.Lines.{lines, lines_of_parts, strip_carriage_return}
 pub use Rattle.wac_ast_grammar.proofs.Completed.{by_rule}
 pub use Rattle.wac_ast_grammar.proofs.Walked.{Gives, agree, document_agreeing, document_any_spans, document_asked, document_composed, document_implied}
@@ -28,10 +28,10 @@ pub use Rattle.wac_lexer.proofs.Ordered.{ordered}
 pub use Rattle.wac_lexer.proofs.Parts.{docs_in_gap, longest_gap, part_takes}
 pub use Rattle.wac_lexer.proofs.Sorts.{AreBytes, token_found, token_meant}
 pub use Rattle.wac_lexer.proofs.Standing.{stands_alone, walk_follows}
-pub use Rattle.wac_lexer.proofs.Unfolded.{first_docs, items_end, items_none, items_some, made, start_of}
+pub use Rattle.wac_lexer.proofs.Unfolded.{first_docs, items_end, items_none, items_some, start_of}
 pub use Rattle.wac_lexer.specs.Characters.{IsFirstRefused, fault_of, refused_from}
 pub use Rattle.wac_lexer.specs.Comments.{gap, is_blank, part_len}
-pub use Rattle.wac_lexer.specs.Docs.{begins_with, doc_of_part, doc_text, docs_at, ends_with}
+pub use Rattle.wac_lexer.specs.Docs.{begins_with, doc_of_part, doc_text, ends_with}
 pub use Rattle.wac_lexer.specs.Gap.{EndsLine, Gap, IsPart, docs_among}
 pub use Rattle.wac_lexer.specs.Item.{Doc, Item, OnFirst}
 pub use Rattle.wac_lexer.specs.Items.{first_item, items, items_from}

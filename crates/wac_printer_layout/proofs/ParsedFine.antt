@@ -1,5 +1,6 @@
 -- The items of a source without rejected characters are what a derivation needs to be printed.
-use Rattle.wac_printer_layout.proofs.Common.{◌≡◌, ℕ, ◌+◌, List, [], ◌∷◌, ◌++◌, map, take, drop, sym, refl, ap, ◌∙◌, subst, Option, Some, None, Result, Ok, AllByRecursion, trim, lines, take-append-drop, Item, Doc, first_item, items_from, items, slice, token_of, Token, Error, bytes_back, ordered, AreBytes, token_found, made, start_of, items_none, items_some, Document, Derives, document}
+use Rattle.wac_printer_layout.proofs.Common.{◌≡◌, ℕ, ◌+◌, List, [], ◌∷◌, ◌++◌, map, take, drop, sym, refl, ap, ◌∙◌, subst, Option, Some, None, Result, Ok, AllByRecursion, trim, lines, take-append-drop, Item, Doc, first_item, items_from, items, slice, token_of, Token, Error, bytes_back, ordered, AreBytes, token_found, start_of, items_none, items_some, Document, Derives, document}
+use Rattle.wac_lexer.proofs.Unfolded.{made}
 use Rattle.wac_lexer.specs.First.{IsFirst}
 use Rattle.wac_lexer.specs.First.IsFirst.{comment, quote, token, character}
 use Rattle.wac_lexer.proofs.Firsts.{first_meant}

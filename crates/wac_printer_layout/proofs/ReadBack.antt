@@ -1,5 +1,6 @@
 -- Pieces that join are read back, with their places and docs.
-use Rattle.wac_printer_layout.proofs.Common.{◌≡◌, ℕ, zero, suc, ◌+◌, Bool, true, false, List, [], ◌∷◌, ◌++◌, take, drop, length, sym, ap, ◌∙◌, subst, arith, Some, None, Ok, Err, append_assoc, append-nil, take-append_seam, drop-append_seam, drop-drop, length-drop, span, part_len, docs_at, first_item, items_from, items, token_of, IsToken, Token, gap_done, start_of, items_some, items_end, AreBytes, token_found, bytes_back, stands_alone}
+use Rattle.wac_printer_layout.proofs.Common.{◌≡◌, ℕ, zero, suc, ◌+◌, Bool, true, false, List, [], ◌∷◌, ◌++◌, take, drop, length, sym, ap, ◌∙◌, subst, arith, Some, None, Ok, Err, append_assoc, append-nil, take-append_seam, drop-append_seam, drop-drop, length-drop, span, part_len, first_item, items_from, items, token_of, IsToken, Token, gap_done, start_of, items_some, items_end, AreBytes, token_found, bytes_back, stands_alone}
+use Rattle.wac_lexer.specs.Docs.{docs_at}
 use Rattle.wac_lexer.specs.Follow.{Follows}
 use Rattle.wac_lexer.specs.declared.error.Error.TheVariants.{UnexpectedToken}
 use Rattle.wac_lexer.proofs.Trimmed.{docs_done}

@@ -1,5 +1,7 @@
 -- Reading past a blank or a comment: the items after it, with its doc.
-use Rattle.wac_printer_layout.proofs.Common.{◌≡◌, ◌≢◌, ℕ, suc, ◌+◌, ◌-◌, ◌<◌, Bool, true, false, cond, List, [], ◌∷◌, ◌++◌, take, drop, length, sym, refl, ap, ◌∙◌, subst, inl, inr, arith, Option, Some, None, Result, length-append, add-zero, ◌&&◌, nat_eq, IsUtf8, trim, trim_start, trim_end, chars, skip_leading_whitespace, encode_utf8_all, drop-append_seam, drop-drop, chars-append, chars-IsAscii, IsUtf8-from_ascii, IsAscii-nil, IsAscii-cons, span, Item, Doc, part_len, gap, doc_text, doc_of_part, docs_at, IsPart, Gap, EndsLine, docs_among, first_item, items_from, Token, Error, gap_part, part_takes, longest_gap, docs_in_gap, start_of, items_none, items_some}
+use Rattle.wac_printer_layout.proofs.Common.{◌≡◌, ◌≢◌, ℕ, suc, ◌+◌, ◌-◌, ◌<◌, Bool, true, false, cond, List, [], ◌∷◌, ◌++◌, take, drop, length, sym, refl, ap, ◌∙◌, subst, inl, inr, arith, Option, Some, None, Result, length-append, add-zero, ◌&&◌, nat_eq, IsUtf8, trim, chars, skip_leading_whitespace, encode_utf8_all, drop-append_seam, drop-drop, chars-append, chars-IsAscii, IsUtf8-from_ascii, IsAscii-nil, IsAscii-cons, span, Item, Doc, part_len, gap, doc_text, doc_of_part, IsPart, Gap, EndsLine, docs_among, first_item, items_from, Token, Error, gap_part, part_takes, longest_gap, docs_in_gap, start_of, items_none, items_some}
+use Rattle.wac_lexer.specs.Docs.{docs_at}
+use Rattle.std.specs.Str.{trim_start, trim_end}
 use Rattle.wac_printer_layout.specs.Joins.{AreBlanks, IsDocLine}
 use Rattle.wac_printer_layout.specs.Placed.{with_docs}
 

@@ -6,5 +6,5 @@ pub use Rattle.std.specs.List.{All, flat_map, list_all, slice_get}
 pub use Rattle.std.specs.Prelude.{nat_eq, ◌⊎◌}
 pub use Rattle.std.specs.Str.Lines.{lines}
 pub use Rattle.wac_printer_layout.specs.Bare.{doc_line}
-pub use Rattle.wac_printer_layout.specs.Parts.{doc_layout, docs_layout}
+pub use Rattle.wac_printer_layout.specs.Parts.{doc_layout}
 pub use Rattle.wac_printer_layout.specs.Printed.{Piece, blank, deeper, doc, fresh_after, line, text, text_of, times, token}

@@ -11,7 +11,7 @@ pub use Rattle.wac_ast_types.specs.Declarations.{func_type_of, type_decl_of}
 pub use Rattle.wac_ast_worlds.specs.Worlds.{import_statement_of, import_type_of, inline_interface_of, interface_decl_of, interface_item_of, world_decl_of}
 pub use Rattle.wac_graph.proofs.Lists.{all_implies, get_last}
 pub use Rattle.wac_graph.specs.Graph.{Parts, empty}
-pub use Rattle.wac_graph.specs.Means.{declared_count, entry_means, means, own_from}
+pub use Rattle.wac_graph.specs.Means.{declared_count, entry_means, means}
 pub use Rattle.wac_graph.specs.Origin.{IsOneToOne, Naming}
 pub use Rattle.wac_graph.specs.Package.{HeldPackage, Key, key_of, same_key}
 pub use Rattle.wac_graph.specs.Packages.{Contents, Packages, contents_in, contents_of, handed, package_of}

@@ -1,5 +1,6 @@
 -- What resolving begins with: an empty graph, no names and no places.
-use Rattle.wac_resolution.proofs.Common.{◌≡◌, ◌∙◌, ℕ, [], refl, sym, ap, subst, Span, Named, Parts, empty, declared_count, own_from, Naming, start, placed_start, Bindings, places_of, Root, composition_of, numbers_of, composed, Agrees, Context, AllSupplied, packages_in, Externs, imported_in, exported_in, Stand, placed_in}
+use Rattle.wac_resolution.proofs.Common.{◌≡◌, ◌∙◌, ℕ, [], refl, sym, ap, subst, Span, Named, Parts, empty, declared_count, Naming, start, placed_start, Bindings, places_of, Root, composition_of, numbers_of, composed, Agrees, Context, AllSupplied, packages_in, Externs, imported_in, exported_in, Stand, placed_in}
+use Rattle.wac_graph.specs.Means.{own_from}
 use Rattle.wac_graph.specs.declared.node.NodeId.{NodeId}
 use Rattle.wac_resolution_rules.specs.Find.{names_of}
 

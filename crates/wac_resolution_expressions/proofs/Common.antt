@@ -16,7 +16,7 @@ pub use Rattle.wac_ast_grammar.specs.Spans.{argument_name_span}
 pub use Rattle.wac_ast_grammar.specs.Tree.{Arguments, Expr, Ident, InstantiationArgumentName, PackageName, PostfixExpr, PrimaryExpr, arguments_from}
 pub use Rattle.wac_graph.proofs.Lists.{all_implies, all_more, get_kept, get_last}
 pub use Rattle.wac_graph.specs.Graph.{Parts, arguments_of, export_kind, import_kind, parameter_kind, with_argument, with_instantiation}
-pub use Rattle.wac_graph.specs.Means.{EntriesMean, OriginsApart, declared_count, entry_means, entry_means_in, means, origin_at}
+pub use Rattle.wac_graph.specs.Means.{EntriesMean, OriginsApart, declared_count, entry_means, means, origin_at}
 pub use Rattle.wac_graph.specs.Origin.{IsOneToOne, Naming}
 pub use Rattle.wac_graph.specs.Package.{HeldPackage, IsHeld, Key}
 pub use Rattle.wac_graph.specs.Packages.{Contents, contents_in, handed, package_of}

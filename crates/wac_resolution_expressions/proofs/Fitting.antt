@@ -1,5 +1,6 @@
 -- Arguments that fit.
-use Rattle.wac_resolution_expressions.proofs.Common.{◌≡◌, ◌∙◌, ◌<◌, ℕ, List, [], ◌∷◌, ◌++◌, Option, Some, None, Result, refl, sym, ap, subst, length, append_assoc, append-nil, option_map, IfSome, IsSome, AllByRecursion, Entry, ItemKind, WorldId, Reason, Meaning, meaning, world_imports, Named, look_up, Names, EachEntryNamed, world_imports_named, found_named, items_found, NodeId, Parts, means, entry_means, entry_means_in, origin_at, EntriesMean, OriginsApart, Naming, IsOneToOne, kind_at, Fits, Rules, composition_of, kind_in, kind_means}
+use Rattle.wac_resolution_expressions.proofs.Common.{◌≡◌, ◌∙◌, ◌<◌, ℕ, List, [], ◌∷◌, ◌++◌, Option, Some, None, Result, refl, sym, ap, subst, length, append_assoc, append-nil, option_map, IfSome, IsSome, AllByRecursion, Entry, ItemKind, WorldId, Reason, Meaning, meaning, world_imports, Named, look_up, Names, EachEntryNamed, world_imports_named, found_named, items_found, NodeId, Parts, means, entry_means, origin_at, EntriesMean, OriginsApart, Naming, IsOneToOne, kind_at, Fits, Rules, composition_of, kind_in, kind_means}
+use Rattle.wac_graph.specs.Means.{entry_means_in}
 use Rattle.wac_graph_types.specs.declared.kind.ItemKind.TheVariants as kinds
 use Rattle.wac_graph_types.specs.Meaning as tables
 use Rattle.wac_graph_types.specs.Rules.{Answers}

@@ -3,7 +3,7 @@ pub use Rattle.std.proofs.Common.{Bool, List, None, Option, Some, [], ap, append
 pub use Rattle.std.proofs.lemmas.List.{get_or-map, length-map, map_push, take_all, take_more}
 pub use Rattle.std.proofs.lemmas.Option.{slice_get-map}
 pub use Rattle.std.proofs.lemmas.Result.{err_from_is_err_and}
-pub use Rattle.std.specs.List.{AllByRecursion, IsDistinct}
+pub use Rattle.std.specs.List.{AllByRecursion}
 pub use Rattle.std.specs.Prelude.{Err, IfErr, IfSome, IsSome, Ok, OnOk, Result, String, option_and_then, option_map, slice_get, string_bytes, unwrap_or}
 pub use Rattle.std.specs.Str.{bytes_eq}
 pub use Rattle.std.specs.declared.alloc.Global.{Global}

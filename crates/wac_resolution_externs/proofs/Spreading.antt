@@ -1,5 +1,6 @@
 -- Exports of an instance, in order.
-use Rattle.wac_resolution_externs.proofs.Common.{◌≡◌, ◌==◌, length, suc, arith, ◌∙◌, ℕ, List, [], ◌∷◌, ◌++◌, Option, Some, None, Bool, true, false, cond, refl, sym, ap, subst, map, is_none, append-nil, append_assoc, slice_get, option_map, option_and_then, unwrap_or, IsSome, string_bytes, String, Global, IsDistinct, AllByRecursion, bytes_eq, ItemKind, InterfaceId, Meaning, of_kind, by_name, instance_exports, interface_exports, Named, look_up, exports_of, items_mean, nothing, Parts, export_kind, means, entry_means, Naming, names_of, unexported, IsInstance}
+use Rattle.wac_resolution_externs.proofs.Common.{◌≡◌, ◌==◌, length, suc, arith, ◌∙◌, ℕ, List, [], ◌∷◌, ◌++◌, Option, Some, None, Bool, true, false, cond, refl, sym, ap, subst, map, is_none, append-nil, append_assoc, slice_get, option_map, option_and_then, unwrap_or, IsSome, string_bytes, String, Global, AllByRecursion, bytes_eq, ItemKind, InterfaceId, Meaning, of_kind, by_name, instance_exports, interface_exports, Named, look_up, exports_of, items_mean, nothing, Parts, export_kind, means, entry_means, Naming, names_of, unexported, IsInstance}
+use Rattle.std.specs.List.{IsDistinct}
 use Rattle.std.specs.Bool.{one_answer}
 use Rattle.std.specs.Map.{keys_of}
 use Rattle.std.specs.String.{string_eq}

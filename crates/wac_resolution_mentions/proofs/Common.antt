@@ -1,7 +1,7 @@
 -- The words of other crates that proofs of this crate cite, given on from one place. It declares nothing.
 pub use Rattle.std.proofs.Common.{Bool, Decides, List, None, Option, Some, [], ap, append-nil, append_assoc, arith, cond, false, filter, flat_map, get_or, is_some, length, map, not, refl, rules, subst, take, true, ℕ, ◌&&◌, ◌++◌, ◌+◌, ◌<◌, ◌||◌, ◌∙◌, ◌∷◌, ◌≡◌, ◌≤◌}
 pub use Rattle.std.proofs.lemmas.Slice.Eq.{bytes_eq-Decides}
-pub use Rattle.std.specs.List.{AllByRecursion, IsDistinct, list_any}
+pub use Rattle.std.specs.List.{AllByRecursion, list_any}
 pub use Rattle.std.specs.Map.{keys_of, lookup}
 pub use Rattle.std.specs.Prelude.{OnOk, String, if◌then◌else◌, option_map, string_bytes, ◌↔◌}
 pub use Rattle.std.specs.Str.{bytes_eq}

@@ -1,5 +1,6 @@
 -- What the first mentions say.
-use Rattle.wac_resolution_mentions.proofs.Common.{◌≡◌, ◌∙◌, List, [], ◌∷◌, ◌++◌, Option, Some, None, Bool, true, false, cond, not, ◌||◌, filter, refl, ap, append-nil, AllByRecursion, IsDistinct, list_any, keys_of, lookup, Span, Key, same_key, Packages, KeyHolds, KeysHold, Mention, kept}
+use Rattle.wac_resolution_mentions.proofs.Common.{◌≡◌, ◌∙◌, List, [], ◌∷◌, ◌++◌, Option, Some, None, Bool, true, false, cond, not, ◌||◌, filter, refl, ap, append-nil, AllByRecursion, list_any, keys_of, lookup, Span, Key, same_key, Packages, KeyHolds, KeysHold, Mention, kept}
+use Rattle.std.specs.List.{IsDistinct}
 use Rattle.std.proofs.Common.{sym}
 use Rattle.std.proofs.lemmas.List.Elements.{filter-append, filter_agree}
 use Rattle.std.proofs.lemmas.Map.Views.{any-filter_same}

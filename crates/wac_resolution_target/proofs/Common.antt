@@ -8,7 +8,7 @@ pub use Rattle.std.specs.Prelude.{IfSome, String, filter, filter_map, flat_map, 
 pub use Rattle.std.specs.Str.{bytes_eq}
 pub use Rattle.wac_ast_base.specs.Names.{package_path_of}
 pub use Rattle.wac_graph.specs.Graph.{Parts, arguments_of, package_of}
-pub use Rattle.wac_graph.specs.Means.{EntriesMean, OriginsApart, entry_means, entry_means_in, means, origin_at}
+pub use Rattle.wac_graph.specs.Means.{EntriesMean, OriginsApart, entry_means, means, origin_at}
 pub use Rattle.wac_graph.specs.Numbers.{numbers}
 pub use Rattle.wac_graph.specs.Origin.{IsOneToOne, Naming}
 pub use Rattle.wac_graph.specs.Package.{HeldPackage, IsHeld}

@@ -1,5 +1,6 @@
 -- Kinds that are compared by rules.
-use Rattle.wac_resolution_target.proofs.Common.{◌≡◌, ℕ, List, Option, Result, subst, Reason, ItemKind, Entry, Meaning, meaning, Parts, means, origin_at, entry_means_in, OriginsApart, Naming, IsOneToOne}
+use Rattle.wac_resolution_target.proofs.Common.{◌≡◌, ℕ, List, Option, Result, subst, Reason, ItemKind, Entry, Meaning, meaning, Parts, means, origin_at, OriginsApart, Naming, IsOneToOne}
+use Rattle.wac_graph.specs.Means.{entry_means_in}
 use Rattle.wac_graph_types.specs.Meaning as tables
 use Rattle.wac_graph_types.specs.Rules.{Answers}
 

@@ -1,4 +1,5 @@
-use Rattle.wac_json.proofs.Common.{◌≡◌, map, take, view, argument_of, argument_json}
+use Rattle.wac_json.proofs.Common.{◌≡◌, map, take, view, argument_of}
+use Rattle.wac_json_forms.specs.Forms.{argument_json}
 use Rattle.wac_json.proofs.expr.+expressions.Given as goal
 
 abbrev pub invariant-arguments_value-loop-argument : goal.invariant-arguments_value-loop-argument

@@ -1,4 +1,5 @@
-use Rattle.wac_json.proofs.Common.{◌∙◌, ◌≤◌, ap, codes, length, map, rules, sym, take_all, array, ty_of, pair, span_json, ty_json, variant, types_items}
+use Rattle.wac_json.proofs.Common.{◌∙◌, ◌≤◌, ap, codes, length, map, rules, sym, take_all, array, ty_of, pair, span_json, variant, types_items}
+use Rattle.wac_json_forms.specs.Forms.{ty_json}
 use Rattle.serde_json.specs.View.{items_of}
 use Rattle.wac_ast_types.proofs.TypeParts.{tuple_is}
 use Rattle.wac_json.proofs.Forms.{formed_as, items_are}

@@ -1,4 +1,5 @@
-use Rattle.wac_json.proofs.Common.{◌≡◌, map, take, view, ty_of, ty_json}
+use Rattle.wac_json.proofs.Common.{◌≡◌, map, take, view, ty_of}
+use Rattle.wac_json_forms.specs.Forms.{ty_json}
 use Rattle.wac_json.proofs.value_type.+types.Given as goal
 
 abbrev pub invariant-types_value-loop-ty : goal.invariant-types_value-loop-ty

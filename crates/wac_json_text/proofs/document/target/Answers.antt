@@ -1,4 +1,5 @@
-use Rattle.wac_json_text.proofs.Common.{sym, option_map, escape_byte, package_path_of, printed_at, target_member}
+use Rattle.wac_json_text.proofs.Common.{sym, option_map, package_path_of, printed_at, target_member}
+use Rattle.json.specs.Print.{escape_byte}
 use Rattle.wac_json_text.specs.Pieces.{members_pieces}
 use Rattle.wac_json_text.proofs.document.target.Goals as goal
 

@@ -1,4 +1,5 @@
-use Rattle.wac_json_text.proofs.Common.{◌+◌, ◌*◌, argument_of, size-InstantiationArgument, size-PrimaryExpr, IsSoFar, argument_json}
+use Rattle.wac_json_text.proofs.Common.{◌+◌, ◌*◌, argument_of, size-InstantiationArgument, size-PrimaryExpr, IsSoFar}
+use Rattle.wac_json_forms.specs.Forms.{argument_json}
 use denote.Param.Weighed.{most}
 use Rattle.wac_ast_expressions.specs.declared.expr.Expr.{size-Expr}
 use Rattle.wac_ast_expressions.specs.declared.expr.NewExpr.{size-NewExpr}

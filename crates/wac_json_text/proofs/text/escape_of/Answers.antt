@@ -1,4 +1,5 @@
-use Rattle.wac_json_text.proofs.Common.{sym, ap, ◌∙◌, arith, escape_byte}
+use Rattle.wac_json_text.proofs.Common.{sym, ap, ◌∙◌, arith}
+use Rattle.json.specs.Print.{escape_byte}
 use Rattle.wac_json_text.proofs.Escapes.{coded, is_control}
 use Rattle.wac_json_text.proofs.text.escape_of.Goals as goal
 

@@ -1,4 +1,6 @@
-use Rattle.wac_json_text.proofs.Common.{◌≡◌, ◌≤◌, [], Err, ap, arith, codes, length, map, refl, rules, sym, flat_map, escape_byte, ident_of, optional_of, ty_of, stops, most_rest, first_goes, first_stops, goes_at, none_is, starts, stops_at, first, last, printed_at, ident_json, optional_ty_json, pair, span_json, ty_json, variant, types_items}
+use Rattle.wac_json_text.proofs.Common.{◌≡◌, ◌≤◌, [], Err, ap, arith, codes, length, map, refl, rules, sym, flat_map, ident_of, optional_of, ty_of, stops, most_rest, first_goes, first_stops, goes_at, none_is, starts, stops_at, first, last, printed_at, pair, variant, types_items}
+use Rattle.wac_json_forms.specs.Forms.{ident_json, optional_ty_json, span_json, ty_json}
+use Rattle.json.specs.Print.{escape_byte}
 use Rattle.wac_ast_grammar.specs.Tree as tree
 use Rattle.wac_ast_types.specs.declared.types.«Type».{size-Type}
 use Rattle.wac_ast_types.proofs.TypeParts.{future_is, result_is, stream_is, tuple_is}

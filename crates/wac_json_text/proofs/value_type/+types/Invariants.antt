@@ -1,4 +1,5 @@
-use Rattle.wac_json_text.proofs.Common.{◌+◌, ◌*◌, ty_of, IsSoFar, ty_json}
+use Rattle.wac_json_text.proofs.Common.{◌+◌, ◌*◌, ty_of, IsSoFar}
+use Rattle.wac_json_forms.specs.Forms.{ty_json}
 use denote.Param.Weighed.{most}
 use Rattle.wac_ast_types.specs.declared.types.«Type».{size-Type}
 use Rattle.wac_ast_types.specs.declared.types.«Type».TheShapes.{weighed-Type-Result-0}

@@ -1,4 +1,6 @@
-use Rattle.wac_json_text.proofs.Common.{escape_byte, ident_of, ident_json, span_json, ty_json}
+use Rattle.wac_json_text.proofs.Common.{ident_of}
+use Rattle.wac_json_forms.specs.Forms.{ident_json, span_json, ty_json}
+use Rattle.json.specs.Print.{escape_byte}
 use Rattle.wac_ast_grammar.specs.Tree as tree
 use Rattle.wac_json_text.proofs.Joined.{as_form, ends, put, then}
 use Rattle.wac_json_text.proofs.value_type.borrowed.Goals as goal

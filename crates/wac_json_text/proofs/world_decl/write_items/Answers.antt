@@ -1,4 +1,5 @@
-use Rattle.wac_json_text.proofs.Common.{world_item_of, printed_at, list_json, world_item_json}
+use Rattle.wac_json_text.proofs.Common.{world_item_of, printed_at}
+use Rattle.wac_json_forms.specs.Forms.{list_json, world_item_json}
 use Rattle.wac_json_text.specs.Pieces.{pieces}
 use Rattle.wac_json_text.proofs.Steps.{of_items}
 use Rattle.wac_json_text.proofs.world_decl.write_items.Goals as goal

@@ -1,4 +1,6 @@
-use Rattle.wac_json_text.proofs.Common.{◌≡◌, map, rules, sym, escape_byte, document_of, statement_of, doc_comment_of, printed_at, doc_json, json_of, list_json, statement_json, items_of-map}
+use Rattle.wac_json_text.proofs.Common.{◌≡◌, map, rules, sym, document_of, statement_of, doc_comment_of, printed_at, items_of-map}
+use Rattle.wac_json_forms.specs.Forms.{doc_json, json_of, list_json, statement_json}
+use Rattle.json.specs.Print.{escape_byte}
 use Rattle.wac_json_text.specs.Pieces.{pieces}
 use Rattle.wac_json_text.proofs.Joined.{as_form, ends, form, list_then, put, then}
 use Rattle.wac_json_text.proofs.written.document.Goals as goal

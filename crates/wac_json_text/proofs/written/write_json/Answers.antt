@@ -1,4 +1,5 @@
-use Rattle.wac_json_text.proofs.Common.{rules, document_of, json_of}
+use Rattle.wac_json_text.proofs.Common.{rules, document_of}
+use Rattle.wac_json_forms.specs.Forms.{json_of}
 use Rattle.wac_json_text.proofs.NewSink.{begun_at, wrote_at}
 use Rattle.wac_json_text.proofs.written.write_json.Goals as goal
 

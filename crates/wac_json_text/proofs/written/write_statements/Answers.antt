@@ -1,4 +1,5 @@
-use Rattle.wac_json_text.proofs.Common.{statement_of, statement_json}
+use Rattle.wac_json_text.proofs.Common.{statement_of}
+use Rattle.wac_json_forms.specs.Forms.{statement_json}
 use Rattle.wac_json_text.proofs.Steps.{of_items}
 use Rattle.wac_json_text.proofs.written.write_statements.Goals as goal
 

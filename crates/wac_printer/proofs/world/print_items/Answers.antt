@@ -1,4 +1,7 @@
-use Rattle.wac_printer.proofs.Common.{map, sym, subst, All, world_item_of, bare_world_item, doc_lines, body, world_item_layout, All-of-map, printed_as, printed_at}
+use Rattle.wac_printer.proofs.Common.{map, sym, subst, All, world_item_of, bare_world_item, All-of-map, printed_as, printed_at}
+use Rattle.wac_printer_layout.specs.WorldLayout.{world_item_layout}
+use Rattle.wac_printer_layout.specs.Parts.{body}
+use Rattle.wac_printer_layout.specs.Bare.{doc_lines}
 use Rattle.wac_printer.specs.Sliced.{WorldItemSliced}
 use Rattle.wac_printer.proofs.BareLists.{body_bare}
 use Rattle.wac_printer.proofs.world.print_items.Goals as goal

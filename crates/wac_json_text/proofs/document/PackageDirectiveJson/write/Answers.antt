@@ -1,4 +1,6 @@
-use Rattle.wac_json_text.proofs.Common.{escape_byte, directive_json, first, last}
+use Rattle.wac_json_text.proofs.Common.{first, last}
+use Rattle.wac_json_forms.specs.Forms.{directive_json}
+use Rattle.json.specs.Print.{escape_byte}
 use Rattle.wac_printer_pieces.proofs.Sequence.{after}
 use Rattle.wac_json_text.proofs.document.PackageDirectiveJson.write.Goals as goal
 

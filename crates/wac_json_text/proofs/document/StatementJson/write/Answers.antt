@@ -1,4 +1,6 @@
-use Rattle.wac_json_text.proofs.Common.{escape_byte, sym, statement_of, statement_json, printed_at}
+use Rattle.wac_json_text.proofs.Common.{sym, statement_of, printed_at}
+use Rattle.wac_json_forms.specs.Forms.{statement_json}
+use Rattle.json.specs.Print.{escape_byte}
 use Rattle.wac_json_text.specs.Pieces.{pieces}
 use Rattle.wac_json_text.proofs.document.StatementJson.write.Goals as goal
 

@@ -1,4 +1,6 @@
-use Rattle.wac_json_text.proofs.Common.{escape_byte, codes, refl, sym, export_options_of, export_options_json, span_json, variant, printed_at}
+use Rattle.wac_json_text.proofs.Common.{codes, refl, sym, export_options_of, variant, printed_at}
+use Rattle.wac_json_forms.specs.Forms.{export_options_json, span_json}
+use Rattle.json.specs.Print.{escape_byte}
 use Rattle.wac_json_text.proofs.Joined.{as_pieces}
 use Rattle.wac_json_text.specs.Pieces.{pieces}
 use Rattle.wac_json_text.proofs.export.ExportOptionsJson.write.Goals as goal

@@ -1,4 +1,6 @@
-use Rattle.wac_json_text.proofs.Common.{escape_byte, access_expr_of, access_expr_json, ident_json, span_json}
+use Rattle.wac_json_text.proofs.Common.{access_expr_of}
+use Rattle.wac_json_forms.specs.Forms.{access_expr_json, ident_json, span_json}
+use Rattle.json.specs.Print.{escape_byte}
 use Rattle.wac_json_text.proofs.Joined.{as_form, ends, put, then}
 use Rattle.wac_json_text.proofs.expr.AccessExprJson.write.Goals as goal
 

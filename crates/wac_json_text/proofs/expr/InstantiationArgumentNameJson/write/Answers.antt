@@ -1,4 +1,6 @@
-use Rattle.wac_json_text.proofs.Common.{escape_byte, codes, refl, sym, argument_name_of, ident_of, string_of, argument_name_json, ident_json, span_json, string_json, variant, printed_at}
+use Rattle.wac_json_text.proofs.Common.{codes, refl, sym, argument_name_of, ident_of, string_of, variant, printed_at}
+use Rattle.wac_json_forms.specs.Forms.{argument_name_json, ident_json, span_json, string_json}
+use Rattle.json.specs.Print.{escape_byte}
 use Rattle.wac_json_text.proofs.Joined.{as_pieces}
 use Rattle.wac_json_text.specs.Pieces.{pieces}
 use Rattle.wac_json_text.proofs.expr.InstantiationArgumentNameJson.write.Goals as goal

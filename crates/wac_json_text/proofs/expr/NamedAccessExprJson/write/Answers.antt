@@ -1,4 +1,6 @@
-use Rattle.wac_json_text.proofs.Common.{escape_byte, named_access_expr_of, named_access_expr_json, span_json, string_json}
+use Rattle.wac_json_text.proofs.Common.{named_access_expr_of}
+use Rattle.wac_json_forms.specs.Forms.{named_access_expr_json, span_json, string_json}
+use Rattle.json.specs.Print.{escape_byte}
 use Rattle.wac_json_text.proofs.Joined.{as_form, ends, put, then}
 use Rattle.wac_json_text.proofs.expr.NamedAccessExprJson.write.Goals as goal
 

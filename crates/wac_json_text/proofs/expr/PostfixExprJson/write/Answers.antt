@@ -1,4 +1,6 @@
-use Rattle.wac_json_text.proofs.Common.{escape_byte, sym, postfix_expr_of, postfix_expr_json, printed_at}
+use Rattle.wac_json_text.proofs.Common.{sym, postfix_expr_of, printed_at}
+use Rattle.wac_json_forms.specs.Forms.{postfix_expr_json}
+use Rattle.json.specs.Print.{escape_byte}
 use Rattle.wac_json_text.specs.Pieces.{pieces}
 use Rattle.wac_json_text.proofs.expr.PostfixExprJson.write.Goals as goal
 

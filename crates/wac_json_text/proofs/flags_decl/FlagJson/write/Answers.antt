@@ -1,4 +1,6 @@
-use Rattle.wac_json_text.proofs.Common.{escape_byte, sym, doc_comment_of, flag_of, doc_json, flag_json, ident_json, list_json, span_json, items_of-map}
+use Rattle.wac_json_text.proofs.Common.{sym, doc_comment_of, flag_of, items_of-map}
+use Rattle.wac_json_forms.specs.Forms.{doc_json, flag_json, ident_json, list_json, span_json}
+use Rattle.json.specs.Print.{escape_byte}
 use Rattle.wac_json_text.proofs.Joined.{as_form, ends, list_then, put, then}
 use Rattle.wac_json_text.proofs.flags_decl.FlagJson.write.Goals as goal
 

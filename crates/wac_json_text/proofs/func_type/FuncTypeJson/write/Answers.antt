@@ -1,4 +1,6 @@
-use Rattle.wac_json_text.proofs.Common.{escape_byte, boolean, sym, func_type_of, named_type_of, func_type_json, list_json, named_type_json, items_of-map}
+use Rattle.wac_json_text.proofs.Common.{boolean, sym, func_type_of, named_type_of, items_of-map}
+use Rattle.wac_json_forms.specs.Forms.{func_type_json, list_json, named_type_json}
+use Rattle.json.specs.Print.{escape_byte}
 use Rattle.wac_json_text.proofs.Joined.{as_form, ends, form, list_then, put, then}
 use Rattle.wac_json_text.proofs.func_type.FuncTypeJson.write.Goals as goal
 

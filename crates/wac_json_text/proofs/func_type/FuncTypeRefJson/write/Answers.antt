@@ -1,4 +1,6 @@
-use Rattle.wac_json_text.proofs.Common.{escape_byte, codes, refl, sym, func_type_ref_of, ident_of, func_type_ref_json, ident_json, span_json, variant, printed_at}
+use Rattle.wac_json_text.proofs.Common.{codes, refl, sym, func_type_ref_of, ident_of, variant, printed_at}
+use Rattle.wac_json_forms.specs.Forms.{func_type_ref_json, ident_json, span_json}
+use Rattle.json.specs.Print.{escape_byte}
 use Rattle.wac_json_text.proofs.Joined.{as_pieces}
 use Rattle.wac_json_text.specs.Pieces.{pieces}
 use Rattle.wac_json_text.proofs.func_type.FuncTypeRefJson.write.Goals as goal

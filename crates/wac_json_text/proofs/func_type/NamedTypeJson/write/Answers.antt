@@ -1,4 +1,6 @@
-use Rattle.wac_json_text.proofs.Common.{escape_byte, named_type_of, ident_json, named_type_json, span_json}
+use Rattle.wac_json_text.proofs.Common.{named_type_of}
+use Rattle.wac_json_forms.specs.Forms.{ident_json, named_type_json, span_json}
+use Rattle.json.specs.Print.{escape_byte}
 use Rattle.wac_json_text.proofs.Joined.{as_form, ends, form, put, then}
 use Rattle.wac_json_text.proofs.func_type.NamedTypeJson.write.Goals as goal
 

@@ -1,4 +1,6 @@
-use Rattle.wac_json_text.proofs.Common.{escape_byte, sym, ◌∷◌, ◌++◌, [], codes, result_list_of, named_type_of, list_of-map, result_list_json, named_type_json, blank, printed_at}
+use Rattle.wac_json_text.proofs.Common.{sym, ◌∷◌, ◌++◌, [], codes, result_list_of, named_type_of, list_of-map, blank, printed_at}
+use Rattle.wac_json_forms.specs.Forms.{result_list_json, named_type_json}
+use Rattle.json.specs.Print.{escape_byte}
 use Rattle.wac_json_text.specs.Pieces.{pieces}
 use Rattle.wac_json_text.proofs.func_type.ResultListJson.write.Goals as goal
 

@@ -1,4 +1,6 @@
-use Rattle.wac_json_text.proofs.Common.{escape_byte, world_include_item_of, ident_json, span_json, world_include_item_json}
+use Rattle.wac_json_text.proofs.Common.{world_include_item_of}
+use Rattle.wac_json_forms.specs.Forms.{ident_json, span_json, world_include_item_json}
+use Rattle.json.specs.Print.{escape_byte}
 use Rattle.wac_json_text.proofs.Joined.{as_form, ends, put, then}
 use Rattle.wac_json_text.proofs.include.WorldIncludeItemJson.write.Goals as goal
 

@@ -1,4 +1,6 @@
-use Rattle.wac_json_text.proofs.Common.{escape_byte, sym, doc_comment_of, world_include_item_of, world_include_of, doc_json, list_json, world_include_item_json, world_include_json, items_of-map}
+use Rattle.wac_json_text.proofs.Common.{sym, doc_comment_of, world_include_item_of, world_include_of, items_of-map}
+use Rattle.wac_json_forms.specs.Forms.{doc_json, list_json, world_include_item_json, world_include_json}
+use Rattle.json.specs.Print.{escape_byte}
 use Rattle.wac_json_text.proofs.Joined.{as_form, ends, form, list_then, put, then}
 use Rattle.wac_json_text.proofs.include.WorldIncludeJson.write.Goals as goal
 

@@ -1,4 +1,6 @@
-use Rattle.wac_json_text.proofs.Common.{escape_byte, codes, refl, sym, world_ref_of, ident_of, ident_json, span_json, variant, world_ref_json, printed_at}
+use Rattle.wac_json_text.proofs.Common.{codes, refl, sym, world_ref_of, ident_of, variant, printed_at}
+use Rattle.wac_json_forms.specs.Forms.{ident_json, span_json, world_ref_json}
+use Rattle.json.specs.Print.{escape_byte}
 use Rattle.wac_json_text.proofs.Joined.{as_pieces}
 use Rattle.wac_json_text.specs.Pieces.{pieces}
 use Rattle.wac_json_text.proofs.include.WorldRefJson.write.Goals as goal

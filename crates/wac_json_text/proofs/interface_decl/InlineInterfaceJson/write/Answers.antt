@@ -1,4 +1,6 @@
-use Rattle.wac_json_text.proofs.Common.{escape_byte, sym, inline_interface_of, interface_item_of, inline_interface_json, interface_item_json, list_json, items_of-map}
+use Rattle.wac_json_text.proofs.Common.{sym, inline_interface_of, interface_item_of, items_of-map}
+use Rattle.wac_json_forms.specs.Forms.{inline_interface_json, interface_item_json, list_json}
+use Rattle.json.specs.Print.{escape_byte}
 use Rattle.wac_json_text.proofs.Joined.{as_form, list_ends, put}
 use Rattle.wac_json_text.proofs.interface_decl.InlineInterfaceJson.write.Goals as goal
 

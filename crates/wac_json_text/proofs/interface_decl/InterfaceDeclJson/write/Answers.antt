@@ -1,4 +1,6 @@
-use Rattle.wac_json_text.proofs.Common.{escape_byte, sym, doc_comment_of, interface_decl_of, interface_item_of, doc_json, ident_json, interface_decl_json, interface_item_json, list_json, span_json, items_of-map}
+use Rattle.wac_json_text.proofs.Common.{sym, doc_comment_of, interface_decl_of, interface_item_of, items_of-map}
+use Rattle.wac_json_forms.specs.Forms.{doc_json, ident_json, interface_decl_json, interface_item_json, list_json, span_json}
+use Rattle.json.specs.Print.{escape_byte}
 use Rattle.wac_json_text.proofs.Joined.{as_form, list_ends, list_then, put, then}
 use Rattle.wac_json_text.proofs.interface_decl.InterfaceDeclJson.write.Goals as goal
 

@@ -1,4 +1,6 @@
-use Rattle.wac_json_text.proofs.Common.{escape_byte, codes, sym, interface_item_of, use_of, interface_item_json, use_json, printed_at}
+use Rattle.wac_json_text.proofs.Common.{codes, sym, interface_item_of, use_of, printed_at}
+use Rattle.wac_json_forms.specs.Forms.{interface_item_json, use_json}
+use Rattle.json.specs.Print.{escape_byte}
 use Rattle.wac_json_text.specs.Contents.{variant_pieces}
 use Rattle.wac_json_text.specs.Pieces.{pieces}
 use Rattle.wac_json_text.proofs.interface_decl.InterfaceItemJson.write.Goals as goal

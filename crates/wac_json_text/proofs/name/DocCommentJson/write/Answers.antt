@@ -1,4 +1,6 @@
-use Rattle.wac_json_text.proofs.Common.{escape_byte, doc_comment_of, doc_json, span_json}
+use Rattle.wac_json_text.proofs.Common.{doc_comment_of}
+use Rattle.wac_json_forms.specs.Forms.{doc_json, span_json}
+use Rattle.json.specs.Print.{escape_byte}
 use Rattle.wac_json_text.proofs.Joined.{as_form, ends, put, then}
 use Rattle.wac_json_text.proofs.name.DocCommentJson.write.Goals as goal
 

@@ -1,4 +1,6 @@
-use Rattle.wac_json_text.proofs.Common.{escape_byte, refl, string_of, string_json, span_json}
+use Rattle.wac_json_text.proofs.Common.{refl, string_of}
+use Rattle.wac_json_forms.specs.Forms.{string_json, span_json}
+use Rattle.json.specs.Print.{escape_byte}
 use Rattle.wac_json_text.proofs.Joined.{as_pieces}
 use Rattle.wac_json_text.proofs.name.StringJson.write.Goals as goal
 

@@ -1,4 +1,6 @@
-use Rattle.wac_json_text.proofs.Common.{escape_byte, parts_of, package_name_of, package_name_json, span_json, version_json}
+use Rattle.wac_json_text.proofs.Common.{parts_of, package_name_of, version_json}
+use Rattle.wac_json_forms.specs.Forms.{package_name_json, span_json}
+use Rattle.json.specs.Print.{escape_byte}
 use Rattle.wac_json_text.proofs.Joined.{as_form, ends, form, put, then}
 use Rattle.wac_json_text.proofs.Steps.{of_option}
 use Rattle.wac_json_text.proofs.package.PackageNameJson.write.Goals as goal

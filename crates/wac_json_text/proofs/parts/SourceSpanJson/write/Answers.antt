@@ -1,4 +1,6 @@
-use Rattle.wac_json_text.proofs.Common.{escape_byte, refl, span_json}
+use Rattle.wac_json_text.proofs.Common.{refl}
+use Rattle.wac_json_forms.specs.Forms.{span_json}
+use Rattle.json.specs.Print.{escape_byte}
 use Rattle.wac_json_text.proofs.Joined.{as_pieces}
 use Rattle.wac_json_text.proofs.parts.SourceSpanJson.write.Goals as goal
 

@@ -1,4 +1,6 @@
-use Rattle.wac_json_text.proofs.Common.{escape_byte, sym, doc_comment_of, field_of, record_decl_of, doc_json, field_json, ident_json, list_json, record_decl_json, span_json, items_of-map}
+use Rattle.wac_json_text.proofs.Common.{sym, doc_comment_of, field_of, record_decl_of, items_of-map}
+use Rattle.wac_json_forms.specs.Forms.{doc_json, field_json, ident_json, list_json, record_decl_json, span_json}
+use Rattle.json.specs.Print.{escape_byte}
 use Rattle.wac_json_text.proofs.Joined.{as_form, ends, list_then, put, then}
 use Rattle.wac_json_text.proofs.record_decl.RecordDeclJson.write.Goals as goal
 

@@ -1,4 +1,6 @@
-use Rattle.wac_json_text.proofs.Common.{escape_byte, sym, doc_comment_of, constructor_of, named_type_of, constructor_json, doc_json, list_json, named_type_json, span_json, items_of-map}
+use Rattle.wac_json_text.proofs.Common.{sym, doc_comment_of, constructor_of, named_type_of, items_of-map}
+use Rattle.wac_json_forms.specs.Forms.{constructor_json, doc_json, list_json, named_type_json, span_json}
+use Rattle.json.specs.Print.{escape_byte}
 use Rattle.wac_json_text.proofs.Joined.{as_form, ends, list_then, put, then}
 use Rattle.wac_json_text.proofs.resource_decl.ConstructorJson.write.Goals as goal
 

@@ -1,4 +1,6 @@
-use Rattle.wac_json_text.proofs.Common.{escape_byte, boolean, sym, doc_comment_of, method_of, doc_json, ident_json, list_json, method_json, span_json, items_of-map}
+use Rattle.wac_json_text.proofs.Common.{boolean, sym, doc_comment_of, method_of, items_of-map}
+use Rattle.wac_json_forms.specs.Forms.{doc_json, ident_json, list_json, method_json, span_json}
+use Rattle.json.specs.Print.{escape_byte}
 use Rattle.wac_json_text.proofs.Joined.{as_form, ends, form, list_then, put, then}
 use Rattle.wac_json_text.proofs.resource_decl.MethodJson.write.Goals as goal
 

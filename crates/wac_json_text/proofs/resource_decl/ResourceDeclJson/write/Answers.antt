@@ -1,4 +1,6 @@
-use Rattle.wac_json_text.proofs.Common.{escape_byte, sym, doc_comment_of, resource_decl_of, resource_method_of, doc_json, ident_json, list_json, resource_decl_json, resource_method_json, span_json, items_of-map}
+use Rattle.wac_json_text.proofs.Common.{sym, doc_comment_of, resource_decl_of, resource_method_of, items_of-map}
+use Rattle.wac_json_forms.specs.Forms.{doc_json, ident_json, list_json, resource_decl_json, resource_method_json, span_json}
+use Rattle.json.specs.Print.{escape_byte}
 use Rattle.wac_json_text.proofs.Joined.{as_form, list_ends, list_then, put, then}
 use Rattle.wac_json_text.proofs.resource_decl.ResourceDeclJson.write.Goals as goal
 

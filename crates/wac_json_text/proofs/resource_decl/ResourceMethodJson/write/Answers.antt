@@ -1,4 +1,6 @@
-use Rattle.wac_json_text.proofs.Common.{escape_byte, sym, resource_method_of, resource_method_json, printed_at}
+use Rattle.wac_json_text.proofs.Common.{sym, resource_method_of, printed_at}
+use Rattle.wac_json_forms.specs.Forms.{resource_method_json}
+use Rattle.json.specs.Print.{escape_byte}
 use Rattle.wac_json_text.specs.Pieces.{pieces}
 use Rattle.wac_json_text.proofs.resource_decl.ResourceMethodJson.write.Goals as goal
 

@@ -1,4 +1,6 @@
-use Rattle.wac_json_text.proofs.Common.{escape_byte, sym, type_alias_kind_of, type_alias_kind_json, printed_at}
+use Rattle.wac_json_text.proofs.Common.{sym, type_alias_kind_of, printed_at}
+use Rattle.wac_json_forms.specs.Forms.{type_alias_kind_json}
+use Rattle.json.specs.Print.{escape_byte}
 use Rattle.wac_json_text.specs.Pieces.{pieces}
 use Rattle.wac_json_text.proofs.type_alias.TypeAliasKindJson.write.Goals as goal
 

@@ -1,4 +1,6 @@
-use Rattle.wac_json_text.proofs.Common.{escape_byte, sym, item_type_decl_of, item_type_decl_json, printed_at}
+use Rattle.wac_json_text.proofs.Common.{sym, item_type_decl_of, printed_at}
+use Rattle.wac_json_forms.specs.Forms.{item_type_decl_json}
+use Rattle.json.specs.Print.{escape_byte}
 use Rattle.wac_json_text.specs.Pieces.{pieces}
 use Rattle.wac_json_text.proofs.type_statement.ItemTypeDeclJson.write.Goals as goal
 

@@ -1,4 +1,6 @@
-use Rattle.wac_json_text.proofs.Common.{escape_byte, sym, type_decl_of, type_decl_json, printed_at}
+use Rattle.wac_json_text.proofs.Common.{sym, type_decl_of, printed_at}
+use Rattle.wac_json_forms.specs.Forms.{type_decl_json}
+use Rattle.json.specs.Print.{escape_byte}
 use Rattle.wac_json_text.specs.Pieces.{pieces}
 use Rattle.wac_json_text.proofs.type_statement.TypeDeclJson.write.Goals as goal
 

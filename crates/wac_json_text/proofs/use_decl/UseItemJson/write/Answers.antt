@@ -1,4 +1,6 @@
-use Rattle.wac_json_text.proofs.Common.{escape_byte, ident_of, use_item_of, ident_json, span_json, use_item_json}
+use Rattle.wac_json_text.proofs.Common.{ident_of, use_item_of}
+use Rattle.wac_json_forms.specs.Forms.{ident_json, span_json, use_item_json}
+use Rattle.json.specs.Print.{escape_byte}
 use Rattle.wac_json_text.proofs.Joined.{as_form, ends, form, put, then}
 use Rattle.wac_json_text.proofs.Steps.{of_option}
 use Rattle.wac_json_text.proofs.use_decl.UseItemJson.write.Goals as goal

@@ -1,4 +1,6 @@
-use Rattle.wac_json_text.proofs.Common.{escape_byte, sym, doc_comment_of, use_item_of, use_of, doc_json, list_json, use_item_json, use_json, items_of-map}
+use Rattle.wac_json_text.proofs.Common.{sym, doc_comment_of, use_item_of, use_of, items_of-map}
+use Rattle.wac_json_forms.specs.Forms.{doc_json, list_json, use_item_json, use_json}
+use Rattle.json.specs.Print.{escape_byte}
 use Rattle.wac_json_text.proofs.Joined.{as_form, ends, form, list_then, put, then}
 use Rattle.wac_json_text.proofs.use_decl.UseJson.write.Goals as goal
 

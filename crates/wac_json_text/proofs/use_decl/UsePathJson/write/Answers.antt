@@ -1,4 +1,6 @@
-use Rattle.wac_json_text.proofs.Common.{escape_byte, codes, refl, sym, use_path_of, ident_of, ident_json, span_json, use_path_json, variant, printed_at}
+use Rattle.wac_json_text.proofs.Common.{codes, refl, sym, use_path_of, ident_of, variant, printed_at}
+use Rattle.wac_json_forms.specs.Forms.{ident_json, span_json, use_path_json}
+use Rattle.json.specs.Print.{escape_byte}
 use Rattle.wac_json_text.proofs.Joined.{as_pieces}
 use Rattle.wac_json_text.specs.Pieces.{pieces}
 use Rattle.wac_json_text.proofs.use_decl.UsePathJson.write.Goals as goal

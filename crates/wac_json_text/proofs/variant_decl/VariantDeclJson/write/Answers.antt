@@ -1,4 +1,6 @@
-use Rattle.wac_json_text.proofs.Common.{escape_byte, sym, doc_comment_of, variant_case_of, variant_decl_of, doc_json, ident_json, list_json, span_json, variant_case_json, variant_decl_json, items_of-map}
+use Rattle.wac_json_text.proofs.Common.{sym, doc_comment_of, variant_case_of, variant_decl_of, items_of-map}
+use Rattle.wac_json_forms.specs.Forms.{doc_json, ident_json, list_json, span_json, variant_case_json, variant_decl_json}
+use Rattle.json.specs.Print.{escape_byte}
 use Rattle.wac_json_text.proofs.Joined.{as_form, ends, list_then, put, then}
 use Rattle.wac_json_text.proofs.variant_decl.VariantDeclJson.write.Goals as goal
 

@@ -1,4 +1,6 @@
-use Rattle.wac_json_text.proofs.Common.{escape_byte, map, sym, doc_comment_of, world_decl_of, world_item_of, doc_json, ident_json, list_json, span_json, world_decl_json, world_item_json, items_of-map}
+use Rattle.wac_json_text.proofs.Common.{map, sym, doc_comment_of, world_decl_of, world_item_of, items_of-map}
+use Rattle.wac_json_forms.specs.Forms.{doc_json, ident_json, list_json, span_json, world_decl_json, world_item_json}
+use Rattle.json.specs.Print.{escape_byte}
 use Rattle.wac_json_text.proofs.Joined.{as_form, ends, form, list_then, put, then}
 use Rattle.wac_json_text.proofs.world_decl.WorldDeclJson.write.Goals as goal
 

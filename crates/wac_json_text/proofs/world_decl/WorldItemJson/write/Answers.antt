@@ -1,4 +1,6 @@
-use Rattle.wac_json_text.proofs.Common.{escape_byte, sym, world_item_of, world_item_json, printed_at}
+use Rattle.wac_json_text.proofs.Common.{sym, world_item_of, printed_at}
+use Rattle.wac_json_forms.specs.Forms.{world_item_json}
+use Rattle.json.specs.Print.{escape_byte}
 use Rattle.wac_json_text.specs.Pieces.{pieces}
 use Rattle.wac_json_text.proofs.world_decl.WorldItemJson.write.Goals as goal
 

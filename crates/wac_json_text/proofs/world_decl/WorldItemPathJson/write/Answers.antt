@@ -1,4 +1,6 @@
-use Rattle.wac_json_text.proofs.Common.{escape_byte, codes, refl, sym, world_item_path_of, ident_of, ident_json, span_json, variant, world_item_path_json, printed_at}
+use Rattle.wac_json_text.proofs.Common.{codes, refl, sym, world_item_path_of, ident_of, variant, printed_at}
+use Rattle.wac_json_forms.specs.Forms.{ident_json, span_json, world_item_path_json}
+use Rattle.json.specs.Print.{escape_byte}
 use Rattle.wac_json_text.proofs.Joined.{as_pieces}
 use Rattle.wac_json_text.specs.Pieces.{pieces}
 use Rattle.wac_json_text.proofs.world_decl.WorldItemPathJson.write.Goals as goal

@@ -1,4 +1,5 @@
-use Rattle.wac_printer.proofs.Common.{arith, rules, ap, refl, sym, subst, map, ◌∙◌, ◌≡◌, ◌≤◌, ◌<◌, ◌++◌, ◌∷◌, [], codes, length, true, false, Err, flat_map, arguments_from, argument_of, expr_of, primary_expr_of, postfix_expr_of, size-InstantiationArgument, size-PrimaryExpr, out-NestedExpr, new_is, token, line, deeper, space, bare_argument, bare_expr, bare_primary_expr, bare_arguments, bare_postfix_expr, argument_layout, arguments_layout, expr_layout, primary_expr_layout, postfix_expr_layout, ending_layout, Prints, part_at, starts, goes_at, stops_at, ends, first_stops, first_goes, none_is, deeper_part, fail, fails, parts, piece, printed_as, printed_at, there, slice}
+use Rattle.wac_printer.proofs.Common.{arith, rules, ap, refl, sym, subst, map, ◌∙◌, ◌≡◌, ◌≤◌, ◌<◌, ◌++◌, ◌∷◌, [], codes, length, true, false, Err, flat_map, arguments_from, argument_of, expr_of, primary_expr_of, postfix_expr_of, size-InstantiationArgument, size-PrimaryExpr, out-NestedExpr, new_is, token, line, deeper, space, bare_argument, bare_expr, bare_primary_expr, bare_arguments, bare_postfix_expr, postfix_expr_layout, ending_layout, Prints, part_at, starts, goes_at, stops_at, ends, first_stops, first_goes, none_is, deeper_part, fail, fails, parts, piece, printed_as, printed_at, there, slice}
+use Rattle.wac_printer_layout.specs.ExpressionLayout.{argument_layout, arguments_layout, expr_layout, primary_expr_layout}
 use Rattle.wac_ast_expressions.specs.declared.expr.InstantiationArgument.TheViews.{sized-New}
 use Rattle.wac_printer.specs.Arguments.{braces_layout}
 use Rattle.wac_printer.specs.Sliced.{ArgumentSliced, PrimaryExprSliced}

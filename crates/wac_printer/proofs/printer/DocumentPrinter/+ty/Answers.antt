@@ -1,4 +1,5 @@
-use Rattle.wac_printer.proofs.Common.{arith, ℕ, List, ap, sym, subst, ◌∙◌, ◌≡◌, ◌≤◌, [], ◌∷◌, ◌++◌, codes, length, rules, Err, Result, PrintError, flat_map, All, ty_of, Piece, token, bare_ty, space, joined, ty_layout, Printer, Prints, part_at, starts, goes_at, stops_at, ends, first_stops, first_goes, none_is, others_sliced, fail, fails, piece, parts, printed_at}
+use Rattle.wac_printer.proofs.Common.{arith, ℕ, List, ap, sym, subst, ◌∙◌, ◌≡◌, ◌≤◌, [], ◌∷◌, ◌++◌, codes, length, rules, Err, Result, PrintError, flat_map, All, ty_of, Piece, token, bare_ty, space, ty_layout, Printer, Prints, part_at, starts, goes_at, stops_at, ends, first_stops, first_goes, none_is, others_sliced, fail, fails, piece, parts, printed_at}
+use Rattle.wac_printer_layout.specs.Parts.{joined}
 use denote.Param.Weighed.{most}
 use Rattle.wac_printer.specs.Sliced.{TySliced}
 use Rattle.wac_ast_types.specs.declared.types.«Type» as code

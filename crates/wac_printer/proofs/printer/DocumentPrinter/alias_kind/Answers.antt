@@ -1,4 +1,5 @@
-use Rattle.wac_printer.proofs.Common.{sym, subst, type_alias_kind_of, Prints, bare_alias_kind, alias_kind_layout}
+use Rattle.wac_printer.proofs.Common.{sym, subst, type_alias_kind_of, Prints, bare_alias_kind}
+use Rattle.wac_printer_layout.specs.DeclarationLayout.{alias_kind_layout}
 use Rattle.wac_printer.specs.Sliced.{TypeAliasKindSliced}
 use Rattle.wac_printer.proofs.printer.DocumentPrinter.alias_kind.Goals as goal
 

@@ -1,4 +1,5 @@
-use Rattle.wac_printer.proofs.Common.{deeper, sym, ◌∙◌, first, last, printed_as, printed_at, there, close_body, spaced}
+use Rattle.wac_printer.proofs.Common.{deeper, sym, ◌∙◌, first, last, printed_as, printed_at, there, close_body}
+use Rattle.wac_printer_layout.specs.Parts.{spaced}
 use Rattle.wac_printer_pieces.proofs.Sequence.{after}
 use Rattle.wac_printer.proofs.PartsOf.{body-is}
 use Rattle.wac_printer.proofs.printer.DocumentPrinter.body.Goals as goal

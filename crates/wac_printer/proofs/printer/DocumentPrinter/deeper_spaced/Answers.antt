@@ -1,4 +1,5 @@
-use Rattle.wac_printer.proofs.Common.{spaced, deeper_part}
+use Rattle.wac_printer.proofs.Common.{deeper_part}
+use Rattle.wac_printer_layout.specs.Parts.{spaced}
 use Rattle.wac_printer.proofs.printer.DocumentPrinter.deeper_spaced.Goals as goal
 
 pub returns : goal.returns

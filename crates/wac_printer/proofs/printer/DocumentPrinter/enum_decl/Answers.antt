@@ -1,4 +1,6 @@
-use Rattle.wac_printer.proofs.Common.{map, sym, subst, ◌∙◌, codes, All, enum_case_of, All-at, first, last, printed_as, printed_at, there, bare_enum_case, bare_ident, doc_lines, enum_case_layout, head_layout, rows, ident_of}
+use Rattle.wac_printer.proofs.Common.{map, sym, subst, ◌∙◌, codes, All, enum_case_of, All-at, first, last, printed_as, printed_at, there, bare_enum_case, bare_ident, enum_case_layout, head_layout, ident_of}
+use Rattle.wac_printer_layout.specs.Parts.{rows}
+use Rattle.wac_printer_layout.specs.Bare.{doc_lines}
 use Rattle.wac_printer.specs.Sliced.{EnumCaseSliced}
 use Rattle.wac_printer_pieces.proofs.Sequence.{after}
 use Rattle.wac_printer.proofs.BareLists.{of_docs, rows_bare}

@@ -1,4 +1,5 @@
-use Rattle.wac_printer.proofs.Common.{first, last, printed_at, there, export_options_layout, [], ◌∙◌, ◌∷◌, expr_layout, line, bare_export_options, bare_expr, export_options_of, expr_of}
+use Rattle.wac_printer.proofs.Common.{first, last, printed_at, there, export_options_layout, [], ◌∙◌, ◌∷◌, line, bare_export_options, bare_expr, export_options_of, expr_of}
+use Rattle.wac_printer_layout.specs.ExpressionLayout.{expr_layout}
 use Rattle.wac_printer_pieces.proofs.Sequence.{after}
 use Rattle.wac_printer.proofs.BareLists.{of_docs}
 use Rattle.wac_printer.proofs.printer.DocumentPrinter.export_statement.Goals as goal

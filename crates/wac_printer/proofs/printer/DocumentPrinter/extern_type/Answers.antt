@@ -1,4 +1,6 @@
-use Rattle.wac_printer.proofs.Common.{sym, subst, extern_type_of, Prints, bare_extern_type, doc_lines, extern_type_layout}
+use Rattle.wac_printer.proofs.Common.{sym, subst, extern_type_of, Prints, bare_extern_type}
+use Rattle.wac_printer_layout.specs.WorldLayout.{extern_type_layout}
+use Rattle.wac_printer_layout.specs.Bare.{doc_lines}
 use Rattle.wac_printer.specs.Sliced.{ExternTypeSliced}
 use Rattle.wac_printer.proofs.printer.DocumentPrinter.extern_type.Goals as goal
 

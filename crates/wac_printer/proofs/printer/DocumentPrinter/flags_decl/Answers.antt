@@ -1,4 +1,6 @@
-use Rattle.wac_printer.proofs.Common.{map, sym, subst, ◌∙◌, codes, All, flag_of, All-at, first, last, printed_as, printed_at, there, flag_layout, head_layout, bare_flag, bare_ident, doc_lines, rows, ident_of}
+use Rattle.wac_printer.proofs.Common.{map, sym, subst, ◌∙◌, codes, All, flag_of, All-at, first, last, printed_as, printed_at, there, flag_layout, head_layout, bare_flag, bare_ident, ident_of}
+use Rattle.wac_printer_layout.specs.Parts.{rows}
+use Rattle.wac_printer_layout.specs.Bare.{doc_lines}
 use Rattle.wac_printer.specs.Sliced.{FlagSliced}
 use Rattle.wac_printer_pieces.proofs.Sequence.{after}
 use Rattle.wac_printer.proofs.BareLists.{of_docs, rows_bare}

@@ -1,4 +1,5 @@
-use Rattle.wac_printer.proofs.Common.{sym, subst, func_type_ref_of, Prints, bare_func_type_ref, func_type_ref_layout}
+use Rattle.wac_printer.proofs.Common.{sym, subst, func_type_ref_of, Prints, bare_func_type_ref}
+use Rattle.wac_printer_layout.specs.TypeLayout.{func_type_ref_layout}
 use Rattle.wac_printer.specs.Sliced.{FuncTypeRefSliced}
 use Rattle.wac_printer.proofs.printer.DocumentPrinter.func_type_ref.Goals as goal
 

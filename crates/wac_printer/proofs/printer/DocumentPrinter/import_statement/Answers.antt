@@ -1,4 +1,6 @@
-use Rattle.wac_printer.proofs.Common.{import_name_layout, import_type_layout, first, last, printed_at, there, bare_extern_name, bare_ident, bare_import_type, doc_lines, extern_name_of, ident_of, head_layout, option_map, codes, ◌∙◌, import_type_of}
+use Rattle.wac_printer.proofs.Common.{import_name_layout, first, last, printed_at, there, bare_extern_name, bare_ident, bare_import_type, extern_name_of, ident_of, head_layout, option_map, codes, ◌∙◌, import_type_of}
+use Rattle.wac_printer_layout.specs.Bare.{doc_lines}
+use Rattle.wac_printer_layout.specs.StatementLayout.{import_type_layout}
 use Rattle.wac_printer_pieces.proofs.Sequence.{after}
 use Rattle.wac_printer.proofs.BareLists.{of_docs}
 use Rattle.wac_printer.proofs.printer.DocumentPrinter.import_statement.Goals as goal

@@ -1,4 +1,6 @@
-use Rattle.wac_printer.proofs.Common.{sym, subst, import_type_of, Prints, bare_import_type, doc_lines, import_type_layout}
+use Rattle.wac_printer.proofs.Common.{sym, subst, import_type_of, Prints, bare_import_type}
+use Rattle.wac_printer_layout.specs.StatementLayout.{import_type_layout}
+use Rattle.wac_printer_layout.specs.Bare.{doc_lines}
 use Rattle.wac_printer.specs.Sliced.{ImportTypeSliced}
 use Rattle.wac_printer.proofs.printer.DocumentPrinter.import_type.Goals as goal
 

@@ -1,4 +1,7 @@
-use Rattle.wac_printer.proofs.Common.{codes, map, ◌∙◌, head_layout, bare_ident, bare_interface_item, doc_lines, first, last, printed_at, there, body, interface_item_of, interface_item_layout, ident_of}
+use Rattle.wac_printer.proofs.Common.{codes, map, ◌∙◌, head_layout, bare_ident, bare_interface_item, first, last, printed_at, there, interface_item_of, ident_of}
+use Rattle.wac_printer_layout.specs.InterfaceLayout.{interface_item_layout}
+use Rattle.wac_printer_layout.specs.Parts.{body}
+use Rattle.wac_printer_layout.specs.Bare.{doc_lines}
 use Rattle.wac_printer_pieces.proofs.Sequence.{after}
 use Rattle.wac_printer.proofs.BareLists.{of_docs}
 use Rattle.wac_printer.proofs.printer.DocumentPrinter.interface_decl.Goals as goal

@@ -1,4 +1,5 @@
-use Rattle.wac_printer.proofs.Common.{label_layout, ◌∙◌, first, last, printed_at, there, bare_func_type_ref, bare_ident, func_type_ref_of, func_type_ref_layout, ident_of}
+use Rattle.wac_printer.proofs.Common.{label_layout, ◌∙◌, first, last, printed_at, there, bare_func_type_ref, bare_ident, func_type_ref_of, ident_of}
+use Rattle.wac_printer_layout.specs.TypeLayout.{func_type_ref_layout}
 use Rattle.wac_printer_pieces.proofs.Sequence.{after}
 use Rattle.wac_printer.proofs.BareLists.{of_docs}
 use Rattle.wac_printer.proofs.printer.DocumentPrinter.interface_export.Goals as goal

@@ -1,4 +1,6 @@
-use Rattle.wac_printer.proofs.Common.{sym, subst, interface_item_of, use_of, Prints, bare_interface_item, bare_use, doc_lines, interface_item_layout, use_layout}
+use Rattle.wac_printer.proofs.Common.{sym, subst, interface_item_of, use_of, Prints, bare_interface_item, bare_use, use_layout}
+use Rattle.wac_printer_layout.specs.InterfaceLayout.{interface_item_layout}
+use Rattle.wac_printer_layout.specs.Bare.{doc_lines}
 use Rattle.wac_printer.specs.Sliced.{InterfaceItemSliced, UseSliced}
 use Rattle.wac_printer.proofs.printer.DocumentPrinter.interface_item.Goals as goal
 

@@ -1,4 +1,6 @@
-use Rattle.wac_printer.proofs.Common.{map, sym, subst, ◌∙◌, interface_item_of, Prints, bare_interface_item, doc_lines, interface_item_layout, All-of-map}
+use Rattle.wac_printer.proofs.Common.{map, sym, subst, ◌∙◌, interface_item_of, Prints, bare_interface_item, All-of-map}
+use Rattle.wac_printer_layout.specs.InterfaceLayout.{interface_item_layout}
+use Rattle.wac_printer_layout.specs.Bare.{doc_lines}
 use Rattle.wac_printer.specs.Sliced.{InterfaceItemSliced}
 use Rattle.wac_printer.proofs.PartsOf.{body-of}
 use Rattle.wac_printer.proofs.printer.DocumentPrinter.interface_items.Goals as goal

@@ -1,4 +1,6 @@
-use Rattle.wac_printer.proofs.Common.{sym, subst, item_type_decl_of, Prints, bare_item_type_decl, doc_lines, item_type_decl_layout}
+use Rattle.wac_printer.proofs.Common.{sym, subst, item_type_decl_of, Prints, bare_item_type_decl}
+use Rattle.wac_printer_layout.specs.DeclarationLayout.{item_type_decl_layout}
+use Rattle.wac_printer_layout.specs.Bare.{doc_lines}
 use Rattle.wac_printer.specs.Sliced.{ItemTypeDeclSliced}
 use Rattle.wac_printer.proofs.printer.DocumentPrinter.item_type_decl.Goals as goal
 

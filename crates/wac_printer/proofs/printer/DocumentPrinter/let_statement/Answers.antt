@@ -1,4 +1,5 @@
-use Rattle.wac_printer.proofs.Common.{first, last, there, head_layout, codes, ◌∙◌, expr_layout, expr_of, bare_expr, bare_ident, ident_of}
+use Rattle.wac_printer.proofs.Common.{first, last, there, head_layout, codes, ◌∙◌, expr_of, bare_expr, bare_ident, ident_of}
+use Rattle.wac_printer_layout.specs.ExpressionLayout.{expr_layout}
 use Rattle.wac_printer_pieces.proofs.Sequence.{after}
 use Rattle.wac_printer.proofs.BareLists.{of_docs}
 use Rattle.wac_printer.proofs.printer.DocumentPrinter.let_statement.Goals as goal

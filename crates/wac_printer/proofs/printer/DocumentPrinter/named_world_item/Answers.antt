@@ -1,4 +1,6 @@
-use Rattle.wac_printer.proofs.Common.{first, last, there, extern_type_layout, extern_type_of, bare_extern_type, doc_lines, ◌∙◌}
+use Rattle.wac_printer.proofs.Common.{first, last, there, extern_type_of, bare_extern_type, ◌∙◌}
+use Rattle.wac_printer_layout.specs.Bare.{doc_lines}
+use Rattle.wac_printer_layout.specs.WorldLayout.{extern_type_layout}
 use Rattle.wac_printer_pieces.proofs.Sequence.{after}
 use Rattle.wac_printer.proofs.printer.DocumentPrinter.named_world_item.Goals as goal
 

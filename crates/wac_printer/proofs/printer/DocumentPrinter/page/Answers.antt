@@ -1,4 +1,7 @@
-use Rattle.wac_printer.proofs.Common.{map, ◌∙◌, bare_directive, bare_document, bare_statement, doc_lines, directive_layout, document_layout, statement_layout, document_of, statement_of, directive_of, first, last, printed_at, there, spaced}
+use Rattle.wac_printer.proofs.Common.{map, ◌∙◌, bare_directive, bare_document, bare_statement, directive_layout, document_layout, document_of, statement_of, directive_of, first, last, printed_at, there}
+use Rattle.wac_printer_layout.specs.Parts.{spaced}
+use Rattle.wac_printer_layout.specs.StatementLayout.{statement_layout}
+use Rattle.wac_printer_layout.specs.Bare.{doc_lines}
 use Rattle.wac_printer_pieces.proofs.Sequence.{after}
 use Rattle.wac_printer.proofs.BareLists.{of_docs}
 use Rattle.wac_printer.proofs.printer.DocumentPrinter.page.Goals as goal

@@ -1,4 +1,5 @@
-use Rattle.wac_printer.proofs.Common.{named_type_of, All-at, first, last, printed_as, printed_at, named_type_layout, bare_named_type, joined}
+use Rattle.wac_printer.proofs.Common.{named_type_of, All-at, first, last, printed_as, printed_at, named_type_layout, bare_named_type}
+use Rattle.wac_printer_layout.specs.Parts.{joined}
 use Rattle.wac_printer.specs.Sliced.{NamedTypeSliced}
 use Rattle.wac_printer_pieces.proofs.Sequence.{after}
 use Rattle.wac_printer.proofs.BareLists.{joined_bare}

@@ -1,4 +1,7 @@
-use Rattle.wac_printer.proofs.Common.{codes, map, ◌∙◌, head_layout, resource_method_layout, bare_ident, bare_resource_method, doc_lines, first, last, printed_at, there, body, resource_method_of, ident_of}
+use Rattle.wac_printer.proofs.Common.{codes, map, ◌∙◌, head_layout, bare_ident, bare_resource_method, first, last, printed_at, there, resource_method_of, ident_of}
+use Rattle.wac_printer_layout.specs.Parts.{body}
+use Rattle.wac_printer_layout.specs.Bare.{doc_lines}
+use Rattle.wac_printer_layout.specs.DeclarationLayout.{resource_method_layout}
 use Rattle.wac_printer_pieces.proofs.Sequence.{after}
 use Rattle.wac_printer.proofs.BareLists.{of_docs}
 use Rattle.wac_printer.proofs.printer.DocumentPrinter.resource_decl.Goals as goal

@@ -1,4 +1,6 @@
-use Rattle.wac_printer.proofs.Common.{map, sym, subst, ◌∙◌, resource_method_of, Prints, bare_resource_method, doc_lines, resource_method_layout, All-of-map}
+use Rattle.wac_printer.proofs.Common.{map, sym, subst, ◌∙◌, resource_method_of, Prints, bare_resource_method, All-of-map}
+use Rattle.wac_printer_layout.specs.DeclarationLayout.{resource_method_layout}
+use Rattle.wac_printer_layout.specs.Bare.{doc_lines}
 use Rattle.wac_printer.specs.Sliced.{ResourceMethodSliced}
 use Rattle.wac_printer.proofs.PartsOf.{body-of}
 use Rattle.wac_printer.proofs.printer.DocumentPrinter.resource_methods.Goals as goal

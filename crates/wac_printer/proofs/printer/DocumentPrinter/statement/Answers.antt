@@ -1,4 +1,6 @@
-use Rattle.wac_printer.proofs.Common.{sym, subst, statement_of, Prints, bare_statement, doc_lines, statement_layout}
+use Rattle.wac_printer.proofs.Common.{sym, subst, statement_of, Prints, bare_statement}
+use Rattle.wac_printer_layout.specs.StatementLayout.{statement_layout}
+use Rattle.wac_printer_layout.specs.Bare.{doc_lines}
 use Rattle.wac_printer.specs.Sliced.{StatementSliced}
 use Rattle.wac_printer.proofs.printer.DocumentPrinter.statement.Goals as goal
 

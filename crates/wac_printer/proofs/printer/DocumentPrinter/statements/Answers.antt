@@ -1,4 +1,6 @@
-use Rattle.wac_printer.proofs.Common.{map, sym, subst, ◌∙◌, statement_of, Prints, bare_statement, doc_lines, statement_layout, All-of-map}
+use Rattle.wac_printer.proofs.Common.{map, sym, subst, ◌∙◌, statement_of, Prints, bare_statement, All-of-map}
+use Rattle.wac_printer_layout.specs.StatementLayout.{statement_layout}
+use Rattle.wac_printer_layout.specs.Bare.{doc_lines}
 use Rattle.wac_printer.specs.Sliced.{StatementSliced}
 use Rattle.wac_printer.proofs.PartsOf.{spaced-of}
 use Rattle.wac_printer.proofs.printer.DocumentPrinter.statements.Goals as goal

@@ -1,4 +1,5 @@
-use Rattle.wac_printer.proofs.Common.{first, last, printed_at, there, bare_alias_kind, bare_ident, alias_kind_layout, head_layout, codes, ◌∙◌, type_alias_kind_of, ident_of}
+use Rattle.wac_printer.proofs.Common.{first, last, printed_at, there, bare_alias_kind, bare_ident, head_layout, codes, ◌∙◌, type_alias_kind_of, ident_of}
+use Rattle.wac_printer_layout.specs.DeclarationLayout.{alias_kind_layout}
 use Rattle.wac_printer_pieces.proofs.Sequence.{after}
 use Rattle.wac_printer.proofs.BareLists.{of_docs}
 use Rattle.wac_printer.proofs.printer.DocumentPrinter.type_alias.Goals as goal

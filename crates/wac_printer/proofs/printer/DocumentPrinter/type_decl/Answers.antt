@@ -1,4 +1,6 @@
-use Rattle.wac_printer.proofs.Common.{sym, subst, type_decl_of, Prints, bare_type_decl, doc_lines, type_decl_layout}
+use Rattle.wac_printer.proofs.Common.{sym, subst, type_decl_of, Prints, bare_type_decl}
+use Rattle.wac_printer_layout.specs.DeclarationLayout.{type_decl_layout}
+use Rattle.wac_printer_layout.specs.Bare.{doc_lines}
 use Rattle.wac_printer.specs.Sliced.{TypeDeclSliced}
 use Rattle.wac_printer.proofs.printer.DocumentPrinter.type_decl.Goals as goal
 

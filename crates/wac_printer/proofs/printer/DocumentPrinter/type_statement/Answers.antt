@@ -1,4 +1,6 @@
-use Rattle.wac_printer.proofs.Common.{sym, subst, type_statement_of, Prints, bare_type_statement, doc_lines, type_statement_layout}
+use Rattle.wac_printer.proofs.Common.{sym, subst, type_statement_of, Prints, bare_type_statement}
+use Rattle.wac_printer_layout.specs.StatementLayout.{type_statement_layout}
+use Rattle.wac_printer_layout.specs.Bare.{doc_lines}
 use Rattle.wac_printer.specs.Sliced.{TypeStatementSliced}
 use Rattle.wac_printer.proofs.printer.DocumentPrinter.type_statement.Goals as goal
 

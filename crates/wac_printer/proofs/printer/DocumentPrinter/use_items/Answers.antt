@@ -1,4 +1,5 @@
-use Rattle.wac_printer.proofs.Common.{◌∙◌, use_item_of, All-at, first, last, printed_as, printed_at, use_item_layout, bare_use_item, joined}
+use Rattle.wac_printer.proofs.Common.{◌∙◌, use_item_of, All-at, first, last, printed_as, printed_at, use_item_layout, bare_use_item}
+use Rattle.wac_printer_layout.specs.Parts.{joined}
 use Rattle.wac_printer.specs.Sliced.{UseItemSliced}
 use Rattle.wac_printer_pieces.proofs.Sequence.{after}
 use Rattle.wac_printer.proofs.BareLists.{joined_bare}

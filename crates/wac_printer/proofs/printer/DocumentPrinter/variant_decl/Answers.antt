@@ -1,4 +1,6 @@
-use Rattle.wac_printer.proofs.Common.{map, sym, subst, ◌∙◌, codes, All, variant_case_of, All-at, first, last, printed_as, printed_at, there, head_layout, variant_case_layout, bare_ident, bare_variant_case, doc_lines, rows, ident_of}
+use Rattle.wac_printer.proofs.Common.{map, sym, subst, ◌∙◌, codes, All, variant_case_of, All-at, first, last, printed_as, printed_at, there, head_layout, variant_case_layout, bare_ident, bare_variant_case, ident_of}
+use Rattle.wac_printer_layout.specs.Parts.{rows}
+use Rattle.wac_printer_layout.specs.Bare.{doc_lines}
 use Rattle.wac_printer.specs.Sliced.{VariantCaseSliced}
 use Rattle.wac_printer_pieces.proofs.Sequence.{after}
 use Rattle.wac_printer.proofs.BareLists.{of_docs, rows_bare}

@@ -1,4 +1,5 @@
-use Rattle.wac_printer.proofs.Common.{◌∙◌, world_include_item_of, All-at, first, last, printed_as, there, rows, world_include_item_layout, bare_world_include_item}
+use Rattle.wac_printer.proofs.Common.{◌∙◌, world_include_item_of, All-at, first, last, printed_as, there, world_include_item_layout, bare_world_include_item}
+use Rattle.wac_printer_layout.specs.Parts.{rows}
 use Rattle.wac_printer.specs.Sliced.{WorldIncludeItemSliced}
 use Rattle.wac_printer_pieces.proofs.Sequence.{after}
 use Rattle.wac_printer.proofs.BareLists.{rows_bare}

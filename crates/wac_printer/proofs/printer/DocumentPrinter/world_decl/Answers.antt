@@ -1,4 +1,7 @@
-use Rattle.wac_printer.proofs.Common.{bare_ident, bare_world_item, doc_lines, codes, map, ◌∙◌, head_layout, first, last, there, body, world_item_of, world_item_layout, ident_of}
+use Rattle.wac_printer.proofs.Common.{bare_ident, bare_world_item, codes, map, ◌∙◌, head_layout, first, last, there, world_item_of, ident_of}
+use Rattle.wac_printer_layout.specs.WorldLayout.{world_item_layout}
+use Rattle.wac_printer_layout.specs.Parts.{body}
+use Rattle.wac_printer_layout.specs.Bare.{doc_lines}
 use Rattle.wac_printer_pieces.proofs.Sequence.{after}
 use Rattle.wac_printer.proofs.BareLists.{of_docs}
 use Rattle.wac_printer.proofs.printer.DocumentPrinter.world_decl.Goals as goal

@@ -1,4 +1,6 @@
-use Rattle.wac_printer.proofs.Common.{first, last, printed_at, there, world_item_path_layout, bare_world_item_path, doc_lines, [], ◌∙◌, ◌∷◌, line, world_item_path_of}
+use Rattle.wac_printer.proofs.Common.{first, last, printed_at, there, bare_world_item_path, [], ◌∙◌, ◌∷◌, line, world_item_path_of}
+use Rattle.wac_printer_layout.specs.Bare.{doc_lines}
+use Rattle.wac_printer_layout.specs.WorldLayout.{world_item_path_layout}
 use Rattle.wac_printer_pieces.proofs.Sequence.{after}
 use Rattle.wac_printer.proofs.BareLists.{of_docs}
 use Rattle.wac_printer.proofs.printer.DocumentPrinter.world_export.Goals as goal

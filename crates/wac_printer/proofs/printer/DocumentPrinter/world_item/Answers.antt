@@ -1,4 +1,6 @@
-use Rattle.wac_printer.proofs.Common.{sym, subst, world_item_of, Prints, bare_world_item, doc_lines, world_item_layout}
+use Rattle.wac_printer.proofs.Common.{sym, subst, world_item_of, Prints, bare_world_item}
+use Rattle.wac_printer_layout.specs.WorldLayout.{world_item_layout}
+use Rattle.wac_printer_layout.specs.Bare.{doc_lines}
 use Rattle.wac_printer.specs.Sliced.{WorldItemSliced}
 use Rattle.wac_printer.proofs.printer.DocumentPrinter.world_item.Goals as goal
 

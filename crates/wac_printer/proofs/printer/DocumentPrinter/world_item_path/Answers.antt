@@ -1,4 +1,6 @@
-use Rattle.wac_printer.proofs.Common.{sym, subst, world_item_path_of, Prints, bare_world_item_path, doc_lines, world_item_path_layout}
+use Rattle.wac_printer.proofs.Common.{sym, subst, world_item_path_of, Prints, bare_world_item_path}
+use Rattle.wac_printer_layout.specs.WorldLayout.{world_item_path_layout}
+use Rattle.wac_printer_layout.specs.Bare.{doc_lines}
 use Rattle.wac_printer.specs.Sliced.{WorldItemPathSliced}
 use Rattle.wac_printer.proofs.printer.DocumentPrinter.world_item_path.Goals as goal
 

@@ -1,4 +1,5 @@
-use Rattle.wac_printer_pieces.proofs.Common.{◌≡◌, sym, subst, rules, Err, arith, lines, doc_line, doc_layout, docs_layout, length_push}
+use Rattle.wac_printer_pieces.proofs.Common.{◌≡◌, sym, subst, rules, Err, arith, lines, doc_line, doc_layout, length_push}
+use Rattle.wac_printer_layout.specs.Parts.{docs_layout}
 use Rattle.wac_printer_pieces.specs.Printed.{Prints}
 use Rattle.wac_printer_pieces.proofs.Progress.{IsSoFar, starts, goes_at, stops_at, ends}
 use Rattle.wac_printer_pieces.proofs.Printing.{flat_map-of}
