@@ -19,7 +19,7 @@ pub use Rattle.wac_ast_uses.specs.Uses.{use_item_of, use_of, use_path_of, world_
 pub use Rattle.wac_ast_worlds.specs.Worlds.{extern_type_of, import_type_of, interface_item_of, world_item_of, world_item_path_of}
 pub use Rattle.wac_lexer.specs.Reading.{Slices, slice}
 pub use Rattle.wac_lexer.specs.Span.{Span}
-pub use Rattle.wac_printer_layout.specs.Bare.{bare_alias_kind, bare_argument, bare_argument_name, bare_arguments, bare_directive, bare_document, bare_enum_case, bare_export_options, bare_expr, bare_extern_name, bare_extern_type, bare_field, bare_flag, bare_func_type, bare_func_type_ref, bare_ident, bare_import_type, bare_interface_item, bare_item_type_decl, bare_named_type, bare_package_path, bare_postfix_expr, bare_primary_expr, bare_resource_method, bare_result_list, bare_statement, bare_ty, bare_type_decl, bare_type_statement, bare_types, bare_use, bare_use_item, bare_use_path, bare_variant_case, bare_world_include_item, bare_world_item, bare_world_item_path, bare_world_ref, doc_line}
+pub use Rattle.wac_printer_layout.specs.Bare.{bare_document, bare_ident, bare_package_path, doc_line}
 pub use Rattle.wac_printer_layout.specs.DeclarationLayout.{enum_case_layout, field_layout, flag_layout, head_layout, label_layout, payload_layout, variant_case_layout}
 pub use Rattle.wac_printer_layout.specs.ExpressionLayout.{argument_name_layout, braced_layout, comma_layout, postfix_expr_layout}
 pub use Rattle.wac_printer_layout.specs.InterfaceLayout.{as_layout, use_item_layout, use_items_layout, use_layout, use_path_layout}

@@ -1,6 +1,7 @@
 -- Lists of trees of values, printed from the values.
-use Rattle.wac_printer.proofs.Common.{◌≡◌, ℕ, List, [], ◌∷◌, ◌++◌, map, refl, ap, ◌∙◌, suc, subst, arith, ◌<◌, length, codes, flat_map, All, Piece, deeper, token, between, open_body, close_body, doc_layout, space, newline, doc_comment_of, DocComment, world_include_item_of, with_layout, world_include_item_layout, doc_line, bare_world_include_item, flat_map-of, flat_map-append}
-use Rattle.wac_printer_layout.specs.Bare.{doc_lines}
+use Rattle.wac_ast_grammar.specs.Walk.{walk_world_include_item}
+use Rattle.wac_printer.proofs.Common.{◌≡◌, ℕ, List, [], ◌∷◌, ◌++◌, map, refl, ap, ◌∙◌, suc, subst, arith, ◌<◌, length, codes, flat_map, All, Piece, deeper, token, between, open_body, close_body, doc_layout, space, newline, doc_comment_of, DocComment, world_include_item_of, with_layout, world_include_item_layout, doc_line, flat_map-of, flat_map-append}
+use Rattle.wac_printer_layout.specs.Bare.{doc_lines, bare}
 use Rattle.wac_printer_layout.specs.Parts.{joined, spaced, body, rows, docs_layout}
 use Rattle.std.specs.Str.Lines.{lines}
 use Rattle.wac_lexer.specs.Item.{Doc}
@@ -74,11 +75,11 @@ docs-of depth docs =
     ∙ flat_map-of doc_comment_of (λ (d : Doc). docs_layout depth (map doc_line (lines d.comment))) docs
 
 -- the renamed items of an include
-pub with-none : (depth : ℕ) (source : List ℕ) (xs : List WorldIncludeItem) → length xs ≡ 0 → with_layout depth (map (bare_world_include_item source) (map world_include_item_of xs)) ≡ []
+pub with-none : (depth : ℕ) (source : List ℕ) (xs : List WorldIncludeItem) → length xs ≡ 0 → with_layout depth (map (walk_world_include_item (bare source)) (map world_include_item_of xs)) ≡ []
 with-none depth source [] h = refl
 with-none depth source (x ∷ xs) h = absurd (omega arith)
 
-pub with-some : (depth : ℕ) (source : List ℕ) (xs : List WorldIncludeItem) → 0 < length xs → with_layout depth (map (bare_world_include_item source) (map world_include_item_of xs))
-    ≡ space ∷ token (codes "with") ∷ rows world_include_item_layout depth (map (bare_world_include_item source) (map world_include_item_of xs))
+pub with-some : (depth : ℕ) (source : List ℕ) (xs : List WorldIncludeItem) → 0 < length xs → with_layout depth (map (walk_world_include_item (bare source)) (map world_include_item_of xs))
+    ≡ space ∷ token (codes "with") ∷ rows world_include_item_layout depth (map (walk_world_include_item (bare source)) (map world_include_item_of xs))
 with-some depth source [] h = absurd (omega arith)
 with-some depth source (x ∷ xs) h = refl

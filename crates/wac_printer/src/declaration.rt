@@ -2,6 +2,7 @@
 ghost use Rattle.std.specs.List.{All};
 ghost use Rattle.std.specs.Prelude.{List, [], ◌∷◌, ◌++◌, codes, map};
 ghost use Rattle.std.specs.Option.{option_map};
+ghost use Rattle.wac_ast_grammar.specs.Walk.{walk_constructor, walk_enum_case, walk_enum_decl, walk_field, walk_flag, walk_flags_decl, walk_item_type_decl, walk_method, walk_named_type, walk_record_decl, walk_resource_decl, walk_resource_method, walk_ty, walk_type_alias, walk_type_alias_kind, walk_type_decl, walk_variant_case, walk_variant_decl};
 ghost use Rattle.wac_ast_types.specs.Declarations.{named_type_of, type_alias_kind_of, field_of, record_decl_of, type_alias_of, variant_case_of, variant_decl_of};
 ghost use Rattle.wac_ast_types.specs.Declarations.{constructor_of, item_type_decl_of, method_of, resource_decl_of, resource_method_of, type_decl_of};
 ghost use Rattle.wac_ast_types.specs.Declarations.{enum_case_of, enum_decl_of, flag_of, flags_decl_of};
@@ -10,8 +11,8 @@ ghost use Rattle.wac_ast_types.specs.Types.{ty_of};
 ghost use Rattle.wac_printer_layout.specs.Printed.{token};
 ghost use Rattle.wac_printer_pieces.specs.Printed.{Prints};
 ghost use Rattle.wac_ast_grammar.specs.Leaves.{IfThere};
-ghost use Rattle.wac_printer.specs.Sliced.{NamedTypeSliced, ConstructorSliced, EnumCaseSliced, EnumDeclSliced, FieldSliced, FlagSliced, FlagsDeclSliced, IdentSliced, ItemTypeDeclSliced, MethodSliced, RecordDeclSliced, ResourceDeclSliced, ResourceMethodSliced, TySliced, TypeAliasKindSliced, TypeAliasSliced, TypeDeclSliced, VariantCaseSliced, VariantDeclSliced};
-ghost use Rattle.wac_printer_layout.specs.Bare.{bare_named_type, bare_alias_kind, bare_constructor, bare_enum_case, bare_enum_decl, bare_field, bare_flag, bare_flags_decl, bare_ident, bare_item_type_decl, bare_method, bare_record_decl, bare_resource_decl, bare_resource_method, bare_ty, bare_type_alias, bare_type_decl, bare_variant_case, bare_variant_decl, doc_lines};
+ghost use Rattle.wac_printer.specs.Sliced.{IdentSliced, any_docs, printable};
+ghost use Rattle.wac_printer_layout.specs.Bare.{bare_ident, doc_lines, bare};
 ghost use Rattle.wac_printer_layout.specs.DeclarationLayout.{alias_kind_layout, constructor_layout, enum_case_layout, enum_decl_layout, field_layout, flag_layout, flags_decl_layout, head_layout, item_type_decl_layout, label_layout, method_layout, payload_layout, record_decl_layout, resource_decl_layout, resource_method_layout, static_layout, type_alias_layout, type_decl_layout, variant_case_layout, variant_decl_layout};
 ghost use Rattle.wac_printer_layout.specs.TypeLayout.{params_layout};
 ghost use Rattle.wac_printer_layout.specs.Parts.{body};
@@ -27,9 +28,9 @@ use wac_lexer::Sink;
 use wac_printer_pieces::PrintResult;
 
 impl Node for Flag<'_> {
-    ghost layout = { λ source depth x. flag_layout depth (bare_flag doc_lines source (flag_of x)) };
+    ghost layout = { λ source depth x. flag_layout depth (walk_flag (bare source) doc_lines (flag_of x)) };
 
-    ghost sliced = { λ source x. FlagSliced source (flag_of x) };
+    ghost sliced = { λ source x. walk_flag (printable source) any_docs (flag_of x) };
 
     fn print<S: Sink>(&self, printer: &mut DocumentPrinter<'_, S>) -> PrintResult {
         printer.flag(self)
@@ -37,9 +38,9 @@ impl Node for Flag<'_> {
 }
 
 impl Node for EnumCase<'_> {
-    ghost layout = { λ source depth x. enum_case_layout depth (bare_enum_case doc_lines source (enum_case_of x)) };
+    ghost layout = { λ source depth x. enum_case_layout depth (walk_enum_case (bare source) doc_lines (enum_case_of x)) };
 
-    ghost sliced = { λ source x. EnumCaseSliced source (enum_case_of x) };
+    ghost sliced = { λ source x. walk_enum_case (printable source) any_docs (enum_case_of x) };
 
     fn print<S: Sink>(&self, printer: &mut DocumentPrinter<'_, S>) -> PrintResult {
         printer.enum_case(self)
@@ -47,9 +48,9 @@ impl Node for EnumCase<'_> {
 }
 
 impl Node for Field<'_> {
-    ghost layout = { λ source depth x. field_layout depth (bare_field doc_lines source (field_of x)) };
+    ghost layout = { λ source depth x. field_layout depth (walk_field (bare source) doc_lines (field_of x)) };
 
-    ghost sliced = { λ source x. FieldSliced source (field_of x) };
+    ghost sliced = { λ source x. walk_field (printable source) any_docs (field_of x) };
 
     fn print<S: Sink>(&self, printer: &mut DocumentPrinter<'_, S>) -> PrintResult {
         printer.field(self)
@@ -57,9 +58,9 @@ impl Node for Field<'_> {
 }
 
 impl Node for VariantCase<'_> {
-    ghost layout = { λ source depth x. variant_case_layout depth (bare_variant_case doc_lines source (variant_case_of x)) };
+    ghost layout = { λ source depth x. variant_case_layout depth (walk_variant_case (bare source) doc_lines (variant_case_of x)) };
 
-    ghost sliced = { λ source x. VariantCaseSliced source (variant_case_of x) };
+    ghost sliced = { λ source x. walk_variant_case (printable source) any_docs (variant_case_of x) };
 
     fn print<S: Sink>(&self, printer: &mut DocumentPrinter<'_, S>) -> PrintResult {
         printer.variant_case(self)
@@ -67,9 +68,9 @@ impl Node for VariantCase<'_> {
 }
 
 impl Node for ResourceMethod<'_> {
-    ghost layout = { λ source depth x. resource_method_layout depth (bare_resource_method doc_lines source (resource_method_of x)) };
+    ghost layout = { λ source depth x. resource_method_layout depth (walk_resource_method (bare source) doc_lines (resource_method_of x)) };
 
-    ghost sliced = { λ source x. ResourceMethodSliced source (resource_method_of x) };
+    ghost sliced = { λ source x. walk_resource_method (printable source) any_docs (resource_method_of x) };
 
     fn print<S: Sink>(&self, printer: &mut DocumentPrinter<'_, S>) -> PrintResult {
         printer.resource_method(self)
@@ -102,8 +103,8 @@ impl<'a, S: Sink> DocumentPrinter<'a, S> {
 
     /// Prints the declaration of a type in an interface or a world.
     pub fn item_type_decl(&mut self, decl: &ItemTypeDecl<'_>) -> PrintResult
-        requires { ItemTypeDeclSliced self.old.source (item_type_decl_of decl.now) }
-        ensures { Prints self.old result self.new (item_type_decl_layout self.old.depth (bare_item_type_decl doc_lines self.old.source (item_type_decl_of decl.now))) }
+        requires { walk_item_type_decl (printable self.old.source) any_docs (item_type_decl_of decl.now) }
+        ensures { Prints self.old result self.new (item_type_decl_layout self.old.depth (walk_item_type_decl (bare self.old.source) doc_lines (item_type_decl_of decl.now))) }
     {
         match decl {
             ItemTypeDecl::Resource(decl) => self.resource_decl(decl),
@@ -117,8 +118,8 @@ impl<'a, S: Sink> DocumentPrinter<'a, S> {
 
     /// Prints the declaration of a type in a document.
     pub fn type_decl(&mut self, decl: &TypeDecl<'_>) -> PrintResult
-        requires { TypeDeclSliced self.old.source (type_decl_of decl.now) }
-        ensures { Prints self.old result self.new (type_decl_layout self.old.depth (bare_type_decl doc_lines self.old.source (type_decl_of decl.now))) }
+        requires { walk_type_decl (printable self.old.source) any_docs (type_decl_of decl.now) }
+        ensures { Prints self.old result self.new (type_decl_layout self.old.depth (walk_type_decl (bare self.old.source) doc_lines (type_decl_of decl.now))) }
     {
         match decl {
             TypeDecl::Variant(decl) => self.variant_decl(decl),
@@ -132,8 +133,8 @@ impl<'a, S: Sink> DocumentPrinter<'a, S> {
     /// Prints a resource. One that was ended by `;` gets an empty body.
     #[tactic(auto, using(crate::proofs::Steps::steps))]
     pub fn resource_decl(&mut self, decl: &ResourceDecl<'_>) -> PrintResult
-        requires { ResourceDeclSliced self.old.source (resource_decl_of decl.now) }
-        ensures { Prints self.old result self.new (resource_decl_layout self.old.depth (bare_resource_decl doc_lines self.old.source (resource_decl_of decl.now))) }
+        requires { walk_resource_decl (printable self.old.source) any_docs (resource_decl_of decl.now) }
+        ensures { Prints self.old result self.new (resource_decl_layout self.old.depth (walk_resource_decl (bare self.old.source) doc_lines (resource_decl_of decl.now))) }
     {
         self.docs(&decl.docs)
             .and(self.resource_head(&decl.id))
@@ -141,16 +142,16 @@ impl<'a, S: Sink> DocumentPrinter<'a, S> {
     }
 
     fn resource_methods(&mut self, items: &[ResourceMethod<'_>]) -> PrintResult
-        requires { All (ResourceMethodSliced self.old.source) (map resource_method_of items.now) }
-        ensures { Prints self.old result self.new (body resource_method_layout self.old.depth (map (bare_resource_method doc_lines self.old.source) (map resource_method_of items.now))) }
+        requires { All (walk_resource_method (printable self.old.source) any_docs) (map resource_method_of items.now) }
+        ensures { Prints self.old result self.new (body resource_method_layout self.old.depth (map (walk_resource_method (bare self.old.source) doc_lines) (map resource_method_of items.now))) }
     {
         self.body(items)
     }
 
     /// Prints a constructor or a method.
     pub fn resource_method(&mut self, method: &ResourceMethod<'_>) -> PrintResult
-        requires { ResourceMethodSliced self.old.source (resource_method_of method.now) }
-        ensures { Prints self.old result self.new (resource_method_layout self.old.depth (bare_resource_method doc_lines self.old.source (resource_method_of method.now))) }
+        requires { walk_resource_method (printable self.old.source) any_docs (resource_method_of method.now) }
+        ensures { Prints self.old result self.new (resource_method_layout self.old.depth (walk_resource_method (bare self.old.source) doc_lines (resource_method_of method.now))) }
     {
         match method {
             ResourceMethod::Constructor(constructor) => self.constructor(constructor),
@@ -161,8 +162,8 @@ impl<'a, S: Sink> DocumentPrinter<'a, S> {
     /// Prints a constructor: `constructor(x: u8);`.
     #[tactic(auto, using(crate::proofs::Steps::steps))]
     pub fn constructor(&mut self, constructor: &Constructor<'_>) -> PrintResult
-        requires { ConstructorSliced self.old.source (constructor_of constructor.now) }
-        ensures { Prints self.old result self.new (constructor_layout self.old.depth (bare_constructor doc_lines self.old.source (constructor_of constructor.now))) }
+        requires { walk_constructor (printable self.old.source) any_docs (constructor_of constructor.now) }
+        ensures { Prints self.old result self.new (constructor_layout self.old.depth (walk_constructor (bare self.old.source) doc_lines (constructor_of constructor.now))) }
     {
         self.docs(&constructor.docs)
             .and(self.line())
@@ -185,16 +186,16 @@ impl<'a, S: Sink> DocumentPrinter<'a, S> {
 
     /// Prints parameters in parentheses and a semicolon.
     fn signature(&mut self, params: &[NamedType<'_>]) -> PrintResult
-        requires { All (NamedTypeSliced self.old.source) (map named_type_of params.now) }
-        ensures { Prints self.old result self.new (params_layout (map (bare_named_type self.old.source) (map named_type_of params.now)) ++ token (codes ";") ∷ []) }
+        requires { All (walk_named_type (printable self.old.source)) (map named_type_of params.now) }
+        ensures { Prints self.old result self.new (params_layout (map (walk_named_type (bare self.old.source)) (map named_type_of params.now)) ++ token (codes ";") ∷ []) }
     {
         self.params(params).and(self.token(";"))
     }
 
     /// Prints a method: `m: static func();`.
     pub fn method(&mut self, method: &Method<'_>) -> PrintResult
-        requires { MethodSliced self.old.source (method_of method.now) }
-        ensures { Prints self.old result self.new (method_layout self.old.depth (bare_method doc_lines self.old.source (method_of method.now))) }
+        requires { walk_method (printable self.old.source) any_docs (method_of method.now) }
+        ensures { Prints self.old result self.new (method_layout self.old.depth (walk_method (bare self.old.source) doc_lines (method_of method.now))) }
     {
         self.docs(&method.docs)
             .and(self.label(&method.id))
@@ -216,8 +217,8 @@ impl<'a, S: Sink> DocumentPrinter<'a, S> {
 
     /// Prints a variant.
     pub fn variant_decl(&mut self, decl: &VariantDecl<'_>) -> PrintResult
-        requires { VariantDeclSliced self.old.source (variant_decl_of decl.now) }
-        ensures { Prints self.old result self.new (variant_decl_layout self.old.depth (bare_variant_decl doc_lines self.old.source (variant_decl_of decl.now))) }
+        requires { walk_variant_decl (printable self.old.source) any_docs (variant_decl_of decl.now) }
+        ensures { Prints self.old result self.new (variant_decl_layout self.old.depth (walk_variant_decl (bare self.old.source) doc_lines (variant_decl_of decl.now))) }
     {
         self.docs(&decl.docs)
             .and(self.head("variant", &decl.id))
@@ -226,8 +227,8 @@ impl<'a, S: Sink> DocumentPrinter<'a, S> {
 
     /// Prints a case of a variant: `a`, or `b(u8)`.
     pub fn variant_case(&mut self, case: &VariantCase<'_>) -> PrintResult
-        requires { VariantCaseSliced self.old.source (variant_case_of case.now) }
-        ensures { Prints self.old result self.new (variant_case_layout self.old.depth (bare_variant_case doc_lines self.old.source (variant_case_of case.now))) }
+        requires { walk_variant_case (printable self.old.source) any_docs (variant_case_of case.now) }
+        ensures { Prints self.old result self.new (variant_case_layout self.old.depth (walk_variant_case (bare self.old.source) doc_lines (variant_case_of case.now))) }
     {
         self.docs(&case.docs)
             .and(self.line())
@@ -236,8 +237,8 @@ impl<'a, S: Sink> DocumentPrinter<'a, S> {
     }
 
     fn payload(&mut self, ty: &Option<Type<'_>>) -> PrintResult
-        requires { IfThere (TySliced self.old.source) (option_map ty_of ty.now) }
-        ensures { Prints self.old result self.new (payload_layout (option_map (bare_ty self.old.source) (option_map ty_of ty.now))) }
+        requires { IfThere (walk_ty (printable self.old.source)) (option_map ty_of ty.now) }
+        ensures { Prints self.old result self.new (payload_layout (option_map (walk_ty (bare self.old.source)) (option_map ty_of ty.now))) }
     {
         match ty {
             None => self.ready(),
@@ -247,8 +248,8 @@ impl<'a, S: Sink> DocumentPrinter<'a, S> {
 
     /// Prints a record.
     pub fn record_decl(&mut self, decl: &RecordDecl<'_>) -> PrintResult
-        requires { RecordDeclSliced self.old.source (record_decl_of decl.now) }
-        ensures { Prints self.old result self.new (record_decl_layout self.old.depth (bare_record_decl doc_lines self.old.source (record_decl_of decl.now))) }
+        requires { walk_record_decl (printable self.old.source) any_docs (record_decl_of decl.now) }
+        ensures { Prints self.old result self.new (record_decl_layout self.old.depth (walk_record_decl (bare self.old.source) doc_lines (record_decl_of decl.now))) }
     {
         self.docs(&decl.docs)
             .and(self.head("record", &decl.id))
@@ -256,8 +257,8 @@ impl<'a, S: Sink> DocumentPrinter<'a, S> {
     }
 
     fn field(&mut self, field: &Field<'_>) -> PrintResult
-        requires { FieldSliced self.old.source (field_of field.now) }
-        ensures { Prints self.old result self.new (field_layout self.old.depth (bare_field doc_lines self.old.source (field_of field.now))) }
+        requires { walk_field (printable self.old.source) any_docs (field_of field.now) }
+        ensures { Prints self.old result self.new (field_layout self.old.depth (walk_field (bare self.old.source) doc_lines (field_of field.now))) }
     {
         self.docs(&field.docs)
             .and(self.label(&field.id))
@@ -266,8 +267,8 @@ impl<'a, S: Sink> DocumentPrinter<'a, S> {
 
     /// Prints flags.
     pub fn flags_decl(&mut self, decl: &FlagsDecl<'_>) -> PrintResult
-        requires { FlagsDeclSliced self.old.source (flags_decl_of decl.now) }
-        ensures { Prints self.old result self.new (flags_decl_layout self.old.depth (bare_flags_decl doc_lines self.old.source (flags_decl_of decl.now))) }
+        requires { walk_flags_decl (printable self.old.source) any_docs (flags_decl_of decl.now) }
+        ensures { Prints self.old result self.new (flags_decl_layout self.old.depth (walk_flags_decl (bare self.old.source) doc_lines (flags_decl_of decl.now))) }
     {
         self.docs(&decl.docs)
             .and(self.head("flags", &decl.id))
@@ -275,8 +276,8 @@ impl<'a, S: Sink> DocumentPrinter<'a, S> {
     }
 
     fn flag(&mut self, flag: &Flag<'_>) -> PrintResult
-        requires { FlagSliced self.old.source (flag_of flag.now) }
-        ensures { Prints self.old result self.new (flag_layout self.old.depth (bare_flag doc_lines self.old.source (flag_of flag.now))) }
+        requires { walk_flag (printable self.old.source) any_docs (flag_of flag.now) }
+        ensures { Prints self.old result self.new (flag_layout self.old.depth (walk_flag (bare self.old.source) doc_lines (flag_of flag.now))) }
     {
         self.docs(&flag.docs)
             .and(self.line())
@@ -285,8 +286,8 @@ impl<'a, S: Sink> DocumentPrinter<'a, S> {
 
     /// Prints an enum.
     pub fn enum_decl(&mut self, decl: &EnumDecl<'_>) -> PrintResult
-        requires { EnumDeclSliced self.old.source (enum_decl_of decl.now) }
-        ensures { Prints self.old result self.new (enum_decl_layout self.old.depth (bare_enum_decl doc_lines self.old.source (enum_decl_of decl.now))) }
+        requires { walk_enum_decl (printable self.old.source) any_docs (enum_decl_of decl.now) }
+        ensures { Prints self.old result self.new (enum_decl_layout self.old.depth (walk_enum_decl (bare self.old.source) doc_lines (enum_decl_of decl.now))) }
     {
         self.docs(&decl.docs)
             .and(self.head("enum", &decl.id))
@@ -294,8 +295,8 @@ impl<'a, S: Sink> DocumentPrinter<'a, S> {
     }
 
     fn enum_case(&mut self, case: &EnumCase<'_>) -> PrintResult
-        requires { EnumCaseSliced self.old.source (enum_case_of case.now) }
-        ensures { Prints self.old result self.new (enum_case_layout self.old.depth (bare_enum_case doc_lines self.old.source (enum_case_of case.now))) }
+        requires { walk_enum_case (printable self.old.source) any_docs (enum_case_of case.now) }
+        ensures { Prints self.old result self.new (enum_case_layout self.old.depth (walk_enum_case (bare self.old.source) doc_lines (enum_case_of case.now))) }
     {
         self.docs(&case.docs)
             .and(self.line())
@@ -304,8 +305,8 @@ impl<'a, S: Sink> DocumentPrinter<'a, S> {
 
     /// Prints a type alias: `type t = u8;`.
     pub fn type_alias(&mut self, alias: &TypeAlias<'_>) -> PrintResult
-        requires { TypeAliasSliced self.old.source (type_alias_of alias.now) }
-        ensures { Prints self.old result self.new (type_alias_layout self.old.depth (bare_type_alias doc_lines self.old.source (type_alias_of alias.now))) }
+        requires { walk_type_alias (printable self.old.source) any_docs (type_alias_of alias.now) }
+        ensures { Prints self.old result self.new (type_alias_layout self.old.depth (walk_type_alias (bare self.old.source) doc_lines (type_alias_of alias.now))) }
     {
         self.docs(&alias.docs)
             .and(self.head("type", &alias.id))
@@ -317,8 +318,8 @@ impl<'a, S: Sink> DocumentPrinter<'a, S> {
     }
 
     fn alias_kind(&mut self, kind: &TypeAliasKind<'_>) -> PrintResult
-        requires { TypeAliasKindSliced self.old.source (type_alias_kind_of kind.now) }
-        ensures { Prints self.old result self.new (alias_kind_layout (bare_alias_kind self.old.source (type_alias_kind_of kind.now))) }
+        requires { walk_type_alias_kind (printable self.old.source) (type_alias_kind_of kind.now) }
+        ensures { Prints self.old result self.new (alias_kind_layout (walk_type_alias_kind (bare self.old.source) (type_alias_kind_of kind.now))) }
     {
         match kind {
             TypeAliasKind::Func(ty) => self.func_type(ty),

@@ -1,13 +1,14 @@
 //! Printing expressions.
 ghost use Rattle.std.specs.Prelude.{◌≡◌, true, false, List, [], ◌∷◌, ◌++◌, codes, map};
 ghost use Rattle.std.specs.List.{All, flat_map};
+ghost use Rattle.wac_ast_grammar.specs.Walk.{walk_access_expr, walk_arguments, walk_expr, walk_instantiation_argument, walk_instantiation_argument_name, walk_named_access_expr, walk_postfix_expr, walk_primary_expr};
 ghost use Rattle.wac_ast_grammar.specs.Tree.{arguments_from};
 ghost use Rattle.wac_ast_expressions.specs.Expressions.{access_expr_of, argument_name_of, argument_of, expr_of, named_access_expr_of, new_expr_of, postfix_expr_of, primary_expr_of};
 ghost use Rattle.wac_ast_base.specs.Names.{package_name_of};
 ghost use Rattle.wac_printer_layout.specs.Printed.{token, line, deeper};
 ghost use Rattle.wac_printer_pieces.specs.Printed.{Prints};
-ghost use Rattle.wac_printer.specs.Sliced.{AccessExprSliced, ArgumentNameSliced, ArgumentSliced, ArgumentsSliced, ExprSliced, NamedAccessExprSliced, PackageNameSliced, PostfixExprSliced, PrimaryExprSliced};
-ghost use Rattle.wac_printer_layout.specs.Bare.{bare_access_expr, bare_argument, bare_argument_name, bare_arguments, bare_expr, bare_named_access_expr, bare_package_name, bare_postfix_expr, bare_primary_expr};
+ghost use Rattle.wac_printer.specs.Sliced.{PackageNameSliced, printable};
+ghost use Rattle.wac_printer_layout.specs.Bare.{bare_package_name, bare};
 ghost use Rattle.wac_printer_layout.specs.Parts.{space, newline};
 ghost use Rattle.wac_printer_layout.specs.ExpressionLayout.{access_expr_layout, argument_layout, argument_name_layout, arguments_layout, expr_layout, named_access_expr_layout, postfix_expr_layout, primary_expr_layout};
 ghost use Rattle.wac_printer_pieces.specs.Arguments.{ending_layout};
@@ -23,9 +24,9 @@ use wac_lexer::Sink;
 use wac_printer_pieces::PrintResult;
 
 impl Node for PostfixExpr<'_> {
-    ghost layout = { λ source depth x. postfix_expr_layout (bare_postfix_expr source (postfix_expr_of x)) };
+    ghost layout = { λ source depth x. postfix_expr_layout (walk_postfix_expr (bare source) (postfix_expr_of x)) };
 
-    ghost sliced = { λ source x. PostfixExprSliced source (postfix_expr_of x) };
+    ghost sliced = { λ source x. walk_postfix_expr (printable source) (postfix_expr_of x) };
 
     fn print<S: Sink>(&self, printer: &mut DocumentPrinter<'_, S>) -> PrintResult {
         printer.postfix_expr(self)
@@ -36,8 +37,8 @@ impl Node for PostfixExpr<'_> {
 impl<'a, S: Sink> DocumentPrinter<'a, S> {
     /// Prints an access.
     pub fn postfix_expr(&mut self, postfix: &PostfixExpr<'_>) -> PrintResult
-        requires { PostfixExprSliced self.old.source (postfix_expr_of postfix.now) }
-        ensures { Prints self.old result self.new (postfix_expr_layout (bare_postfix_expr self.old.source (postfix_expr_of postfix.now))) }
+        requires { walk_postfix_expr (printable self.old.source) (postfix_expr_of postfix.now) }
+        ensures { Prints self.old result self.new (postfix_expr_layout (walk_postfix_expr (bare self.old.source) (postfix_expr_of postfix.now))) }
     {
         match postfix {
             PostfixExpr::Access(access) => self.access_expr(access),
@@ -47,24 +48,24 @@ impl<'a, S: Sink> DocumentPrinter<'a, S> {
 
     #[tactic(auto, using(crate::proofs::Steps::lists))]
     fn postfixes(&mut self, postfixes: &[PostfixExpr<'_>]) -> PrintResult
-        requires { All (PostfixExprSliced self.old.source) (map postfix_expr_of postfixes.now) }
-        ensures { Prints self.old result self.new (flat_map postfix_expr_layout (map (bare_postfix_expr self.old.source) (map postfix_expr_of postfixes.now))) }
+        requires { All (walk_postfix_expr (printable self.old.source)) (map postfix_expr_of postfixes.now) }
+        ensures { Prints self.old result self.new (flat_map postfix_expr_layout (map (walk_postfix_expr (bare self.old.source)) (map postfix_expr_of postfixes.now))) }
     {
         self.each(postfixes)
     }
 
     /// Prints an access by identifier: `.x`.
     pub fn access_expr(&mut self, access: &AccessExpr<'_>) -> PrintResult
-        requires { AccessExprSliced self.old.source (access_expr_of access.now) }
-        ensures { Prints self.old result self.new (access_expr_layout (bare_access_expr self.old.source (access_expr_of access.now))) }
+        requires { walk_access_expr (printable self.old.source) (access_expr_of access.now) }
+        ensures { Prints self.old result self.new (access_expr_layout (walk_access_expr (bare self.old.source) (access_expr_of access.now))) }
     {
         self.token(".").and(self.ident(&access.id))
     }
 
     /// Prints an access by string: `["x"]`.
     pub fn named_access_expr(&mut self, access: &NamedAccessExpr<'_>) -> PrintResult
-        requires { NamedAccessExprSliced self.old.source (named_access_expr_of access.now) }
-        ensures { Prints self.old result self.new (named_access_expr_layout (bare_named_access_expr self.old.source (named_access_expr_of access.now))) }
+        requires { walk_named_access_expr (printable self.old.source) (named_access_expr_of access.now) }
+        ensures { Prints self.old result self.new (named_access_expr_layout (walk_named_access_expr (bare self.old.source) (named_access_expr_of access.now))) }
     {
         self.token("[")
             .and(self.string(&access.string))
@@ -72,8 +73,8 @@ impl<'a, S: Sink> DocumentPrinter<'a, S> {
     }
 
     fn argument_name(&mut self, name: &InstantiationArgumentName<'_>) -> PrintResult
-        requires { ArgumentNameSliced self.old.source (argument_name_of name.now) }
-        ensures { Prints self.old result self.new (argument_name_layout (bare_argument_name self.old.source (argument_name_of name.now))) }
+        requires { walk_instantiation_argument_name (printable self.old.source) (argument_name_of name.now) }
+        ensures { Prints self.old result self.new (argument_name_layout (walk_instantiation_argument_name (bare self.old.source) (argument_name_of name.now))) }
     {
         match name {
             InstantiationArgumentName::Ident(id) => self.ident(id),
@@ -95,22 +96,22 @@ fn is_lone_fill(arguments: &[InstantiationArgument<'_>]) -> bool
 #[tactic(auto, using(crate::proofs::Steps::steps))]
 impl<'a, S: Sink> DocumentPrinter<'a, S> {
     /// Prints an expression.
-    #[tactic(auto, using(crate::proofs::Steps::steps), unfolding(wac_printer_layout::specs::ExpressionLayout::expr_layout, wac_printer_layout::specs::ExpressionLayout::primary_expr_layout, wac_printer_layout::specs::ExpressionLayout::argument_layout, wac_printer_layout::specs::Bare::bare_expr, wac_printer_layout::specs::Bare::bare_primary_expr, wac_printer_layout::specs::Bare::bare_argument))]
+    #[tactic(auto, using(crate::proofs::Steps::steps), unfolding(wac_printer_layout::specs::ExpressionLayout::expr_layout, wac_printer_layout::specs::ExpressionLayout::primary_expr_layout, wac_printer_layout::specs::ExpressionLayout::argument_layout, wac_ast_grammar::specs::Walk::walk_expr, wac_ast_grammar::specs::Walk::walk_primary_expr, wac_ast_grammar::specs::Walk::walk_instantiation_argument))]
     #[cycle(expr)]
     pub fn expr(&mut self, expr: &Expr<'_>) -> PrintResult
-        requires { ExprSliced self.old.source (expr_of expr.now) }
-        ensures { Prints self.old result self.new (expr_layout self.old.depth (bare_expr self.old.source (expr_of expr.now))) }
+        requires { walk_expr (printable self.old.source) (expr_of expr.now) }
+        ensures { Prints self.old result self.new (expr_layout self.old.depth (walk_expr (bare self.old.source) (expr_of expr.now))) }
     {
         self.primary_expr(&expr.primary)?;
         self.postfixes(&expr.postfix)
     }
 
     /// Prints what an expression begins with.
-    #[tactic(auto, using(crate::proofs::Steps::steps), unfolding(wac_printer_layout::specs::ExpressionLayout::expr_layout, wac_printer_layout::specs::ExpressionLayout::primary_expr_layout, wac_printer_layout::specs::ExpressionLayout::argument_layout, wac_printer_layout::specs::Bare::bare_expr, wac_printer_layout::specs::Bare::bare_primary_expr, wac_printer_layout::specs::Bare::bare_argument))]
+    #[tactic(auto, using(crate::proofs::Steps::steps), unfolding(wac_printer_layout::specs::ExpressionLayout::expr_layout, wac_printer_layout::specs::ExpressionLayout::primary_expr_layout, wac_printer_layout::specs::ExpressionLayout::argument_layout, wac_ast_grammar::specs::Walk::walk_expr, wac_ast_grammar::specs::Walk::walk_primary_expr, wac_ast_grammar::specs::Walk::walk_instantiation_argument))]
     #[cycle(expr)]
     pub fn primary_expr(&mut self, expr: &PrimaryExpr<'_>) -> PrintResult
-        requires { PrimaryExprSliced self.old.source (primary_expr_of expr.now) }
-        ensures { Prints self.old result self.new (primary_expr_layout self.old.depth (bare_primary_expr self.old.source (primary_expr_of expr.now))) }
+        requires { walk_primary_expr (printable self.old.source) (primary_expr_of expr.now) }
+        ensures { Prints self.old result self.new (primary_expr_layout self.old.depth (walk_primary_expr (bare self.old.source) (primary_expr_of expr.now))) }
     {
         match expr {
             PrimaryExpr::New(expr) => self.new_expr(expr),
@@ -124,11 +125,11 @@ impl<'a, S: Sink> DocumentPrinter<'a, S> {
     }
 
     /// Prints an instantiation: `new a:b {}`, `new a:b { ... }`, or each argument on a line of its own.
-    #[tactic(auto, using(crate::proofs::Steps::steps), unfolding(wac_printer_layout::specs::ExpressionLayout::expr_layout, wac_printer_layout::specs::ExpressionLayout::primary_expr_layout, wac_printer_layout::specs::ExpressionLayout::argument_layout, wac_printer_layout::specs::Bare::bare_expr, wac_printer_layout::specs::Bare::bare_primary_expr, wac_printer_layout::specs::Bare::bare_argument))]
+    #[tactic(auto, using(crate::proofs::Steps::steps), unfolding(wac_printer_layout::specs::ExpressionLayout::expr_layout, wac_printer_layout::specs::ExpressionLayout::primary_expr_layout, wac_printer_layout::specs::ExpressionLayout::argument_layout, wac_ast_grammar::specs::Walk::walk_expr, wac_ast_grammar::specs::Walk::walk_primary_expr, wac_ast_grammar::specs::Walk::walk_instantiation_argument))]
     #[cycle(expr)]
     pub fn new_expr(&mut self, expr: &NewExpr<'_>) -> PrintResult
-        requires { PrimaryExprSliced self.old.source (new_expr_of expr.now) }
-        ensures { Prints self.old result self.new (primary_expr_layout self.old.depth (bare_primary_expr self.old.source (new_expr_of expr.now))) }
+        requires { walk_primary_expr (printable self.old.source) (new_expr_of expr.now) }
+        ensures { Prints self.old result self.new (primary_expr_layout self.old.depth (walk_primary_expr (bare self.old.source) (new_expr_of expr.now))) }
     {
         self.new_head(&expr.package)?;
         self.braced(&expr.arguments)?;
@@ -155,8 +156,8 @@ impl<'a, S: Sink> DocumentPrinter<'a, S> {
     /// Prints what is between the braces of an instantiation.
     #[cycle(expr)]
     fn braced(&mut self, arguments: &[InstantiationArgument<'_>]) -> PrintResult
-        requires { ArgumentsSliced self.old.source (arguments_from (map argument_of arguments.now)) }
-        ensures { Prints self.old result self.new (braces_layout self.old.depth (bare_arguments self.old.source (arguments_from (map argument_of arguments.now)))) }
+        requires { walk_arguments (printable self.old.source) (arguments_from (map argument_of arguments.now)) }
+        ensures { Prints self.old result self.new (braces_layout self.old.depth (walk_arguments (bare self.old.source) (arguments_from (map argument_of arguments.now)))) }
     {
         if arguments.is_empty() {
             return self.ready();
@@ -169,8 +170,8 @@ impl<'a, S: Sink> DocumentPrinter<'a, S> {
 
     #[cycle(expr)]
     fn argument_lines(&mut self, arguments: &[InstantiationArgument<'_>]) -> PrintResult
-        requires { ArgumentsSliced self.old.source (arguments_from (map argument_of arguments.now)) }
-        ensures { Prints self.old result self.new (newline ∷ (arguments_layout (deeper self.old.depth) (bare_arguments self.old.source (arguments_from (map argument_of arguments.now))) ++ line self.old.depth ∷ [])) }
+        requires { walk_arguments (printable self.old.source) (arguments_from (map argument_of arguments.now)) }
+        ensures { Prints self.old result self.new (newline ∷ (arguments_layout (deeper self.old.depth) (walk_arguments (bare self.old.source) (arguments_from (map argument_of arguments.now))) ++ line self.old.depth ∷ [])) }
     {
         self.blank("\n")?;
         self.deeper_arguments(arguments)?;
@@ -179,8 +180,8 @@ impl<'a, S: Sink> DocumentPrinter<'a, S> {
 
     #[cycle(expr)]
     fn deeper_arguments(&mut self, arguments: &[InstantiationArgument<'_>]) -> PrintResult
-        requires { ArgumentsSliced self.old.source (arguments_from (map argument_of arguments.now)) }
-        ensures { Prints self.old result self.new (arguments_layout (deeper self.old.depth) (bare_arguments self.old.source (arguments_from (map argument_of arguments.now)))) }
+        requires { walk_arguments (printable self.old.source) (arguments_from (map argument_of arguments.now)) }
+        ensures { Prints self.old result self.new (arguments_layout (deeper self.old.depth) (walk_arguments (bare self.old.source) (arguments_from (map argument_of arguments.now)))) }
     {
         let depth = self.indent();
         let printed = self.arguments(arguments);
@@ -191,8 +192,8 @@ impl<'a, S: Sink> DocumentPrinter<'a, S> {
     /// Prints arguments, each on a line of its own.
     #[cycle(expr)]
     fn arguments(&mut self, arguments: &[InstantiationArgument<'_>]) -> PrintResult
-        requires { ArgumentsSliced self.old.source (arguments_from (map argument_of arguments.now)) }
-        ensures { Prints self.old result self.new (arguments_layout self.old.depth (bare_arguments self.old.source (arguments_from (map argument_of arguments.now)))) }
+        requires { walk_arguments (printable self.old.source) (arguments_from (map argument_of arguments.now)) }
+        ensures { Prints self.old result self.new (arguments_layout self.old.depth (walk_arguments (bare self.old.source) (arguments_from (map argument_of arguments.now)))) }
     {
         match arguments.split_last() {
             None => self.ready(),
@@ -205,8 +206,8 @@ impl<'a, S: Sink> DocumentPrinter<'a, S> {
 
     #[cycle(expr)]
     fn front_arguments(&mut self, arguments: &[InstantiationArgument<'_>]) -> PrintResult
-        requires { All (λ x. ArgumentSliced self.old.source (argument_of x)) arguments.now }
-        ensures { Prints self.old result self.new (flat_map (λ x. argument_line_layout self.old.depth false (bare_argument self.old.source (argument_of x))) arguments.now) }
+        requires { All (λ x. walk_instantiation_argument (printable self.old.source) (argument_of x)) arguments.now }
+        ensures { Prints self.old result self.new (flat_map (λ x. argument_line_layout self.old.depth false (walk_instantiation_argument (bare self.old.source) (argument_of x))) arguments.now) }
     {
         self.ready()?;
         for argument in arguments {
@@ -217,8 +218,8 @@ impl<'a, S: Sink> DocumentPrinter<'a, S> {
 
     #[cycle(expr)]
     fn argument_line(&mut self, argument: &InstantiationArgument<'_>, is_last: bool) -> PrintResult
-        requires { ArgumentSliced self.old.source (argument_of argument.now) }
-        ensures { Prints self.old result self.new (argument_line_layout self.old.depth is_last (bare_argument self.old.source (argument_of argument.now))) }
+        requires { walk_instantiation_argument (printable self.old.source) (argument_of argument.now) }
+        ensures { Prints self.old result self.new (argument_line_layout self.old.depth is_last (walk_instantiation_argument (bare self.old.source) (argument_of argument.now))) }
     {
         self.line()?;
         self.argument(argument)?;
@@ -232,11 +233,11 @@ impl<'a, S: Sink> DocumentPrinter<'a, S> {
         self.pieces.ending(argument, is_last)
     }
 
-    #[tactic(auto, using(crate::proofs::Steps::steps), unfolding(wac_printer_layout::specs::ExpressionLayout::expr_layout, wac_printer_layout::specs::ExpressionLayout::primary_expr_layout, wac_printer_layout::specs::ExpressionLayout::argument_layout, wac_printer_layout::specs::Bare::bare_expr, wac_printer_layout::specs::Bare::bare_primary_expr, wac_printer_layout::specs::Bare::bare_argument))]
+    #[tactic(auto, using(crate::proofs::Steps::steps), unfolding(wac_printer_layout::specs::ExpressionLayout::expr_layout, wac_printer_layout::specs::ExpressionLayout::primary_expr_layout, wac_printer_layout::specs::ExpressionLayout::argument_layout, wac_ast_grammar::specs::Walk::walk_expr, wac_ast_grammar::specs::Walk::walk_primary_expr, wac_ast_grammar::specs::Walk::walk_instantiation_argument))]
     #[cycle(expr)]
     fn argument(&mut self, argument: &InstantiationArgument<'_>) -> PrintResult
-        requires { ArgumentSliced self.old.source (argument_of argument.now) }
-        ensures { Prints self.old result self.new (argument_layout self.old.depth (bare_argument self.old.source (argument_of argument.now))) }
+        requires { walk_instantiation_argument (printable self.old.source) (argument_of argument.now) }
+        ensures { Prints self.old result self.new (argument_layout self.old.depth (walk_instantiation_argument (bare self.old.source) (argument_of argument.now))) }
     {
         match argument {
             InstantiationArgument::Inferred(id) => self.ident(id),

@@ -2,14 +2,15 @@
 ghost use Rattle.std.specs.Prelude.{map, List, [], ◌∷◌, ◌++◌, codes};
 ghost use Rattle.std.specs.List.{All};
 ghost use Rattle.std.specs.Option.{option_map};
+ghost use Rattle.wac_ast_grammar.specs.Walk.{walk_inline_interface, walk_interface_decl, walk_interface_export, walk_interface_item, walk_use, walk_use_item, walk_use_path};
 ghost use Rattle.wac_ast_base.specs.Names.{ident_of};
 ghost use Rattle.wac_ast_uses.specs.Uses.{use_item_of, use_of, use_path_of};
 ghost use Rattle.wac_ast_worlds.specs.Worlds.{inline_interface_of, interface_decl_of, interface_export_of, interface_item_of};
 ghost use Rattle.wac_printer_layout.specs.Printed.{token};
 ghost use Rattle.wac_printer_pieces.specs.Printed.{Prints};
 ghost use Rattle.wac_ast_grammar.specs.Leaves.{IfThere};
-ghost use Rattle.wac_printer.specs.Sliced.{IdentSliced, InlineInterfaceSliced, InterfaceDeclSliced, InterfaceExportSliced, InterfaceItemSliced, UseItemSliced, UsePathSliced, UseSliced};
-ghost use Rattle.wac_printer_layout.specs.Bare.{bare_ident, bare_inline_interface, bare_interface_decl, bare_interface_export, bare_interface_item, bare_use, bare_use_item, bare_use_path, doc_lines};
+ghost use Rattle.wac_printer.specs.Sliced.{IdentSliced, any_docs, printable};
+ghost use Rattle.wac_printer_layout.specs.Bare.{bare_ident, doc_lines, bare};
 ghost use Rattle.wac_printer_layout.specs.InterfaceLayout.{as_layout, inline_interface_layout, interface_decl_layout, interface_export_layout, interface_item_layout, use_item_layout, use_items_layout, use_layout, use_path_layout};
 ghost use Rattle.wac_printer_layout.specs.Parts.{body};
 ghost use Rattle.wac_printer_layout.specs.DeclarationLayout.{head_layout};
@@ -23,9 +24,9 @@ use wac_lexer::Sink;
 use wac_printer_pieces::PrintResult;
 
 impl Node for UseItem<'_> {
-    ghost layout = { λ source depth x. use_item_layout (bare_use_item source (use_item_of x)) };
+    ghost layout = { λ source depth x. use_item_layout (walk_use_item (bare source) (use_item_of x)) };
 
-    ghost sliced = { λ source x. UseItemSliced source (use_item_of x) };
+    ghost sliced = { λ source x. walk_use_item (printable source) (use_item_of x) };
 
     fn print<S: Sink>(&self, printer: &mut DocumentPrinter<'_, S>) -> PrintResult {
         printer.use_item(self)
@@ -33,9 +34,9 @@ impl Node for UseItem<'_> {
 }
 
 impl Node for InterfaceItem<'_> {
-    ghost layout = { λ source depth x. interface_item_layout depth (bare_interface_item doc_lines source (interface_item_of x)) };
+    ghost layout = { λ source depth x. interface_item_layout depth (walk_interface_item (bare source) doc_lines (interface_item_of x)) };
 
-    ghost sliced = { λ source x. InterfaceItemSliced source (interface_item_of x) };
+    ghost sliced = { λ source x. walk_interface_item (printable source) any_docs (interface_item_of x) };
 
     fn print<S: Sink>(&self, printer: &mut DocumentPrinter<'_, S>) -> PrintResult {
         printer.interface_item(self)
@@ -47,8 +48,8 @@ impl<'a, S: Sink> DocumentPrinter<'a, S> {
     /// Prints an interface.
     #[tactic(auto, using(crate::proofs::Steps::steps))]
     pub fn interface_decl(&mut self, decl: &InterfaceDecl<'_>) -> PrintResult
-        requires { InterfaceDeclSliced self.old.source (interface_decl_of decl.now) }
-        ensures { Prints self.old result self.new (interface_decl_layout self.old.depth (bare_interface_decl doc_lines self.old.source (interface_decl_of decl.now))) }
+        requires { walk_interface_decl (printable self.old.source) any_docs (interface_decl_of decl.now) }
+        ensures { Prints self.old result self.new (interface_decl_layout self.old.depth (walk_interface_decl (bare self.old.source) doc_lines (interface_decl_of decl.now))) }
     {
         self.docs(&decl.docs)
             .and(self.interface_head(&decl.id))
@@ -58,16 +59,16 @@ impl<'a, S: Sink> DocumentPrinter<'a, S> {
     /// Prints an interface that has no name.
     #[tactic(auto, using(crate::proofs::Steps::steps))]
     pub fn inline_interface(&mut self, interface: &InlineInterface<'_>) -> PrintResult
-        requires { InlineInterfaceSliced self.old.source (inline_interface_of interface.now) }
-        ensures { Prints self.old result self.new (inline_interface_layout self.old.depth (bare_inline_interface doc_lines self.old.source (inline_interface_of interface.now))) }
+        requires { walk_inline_interface (printable self.old.source) any_docs (inline_interface_of interface.now) }
+        ensures { Prints self.old result self.new (inline_interface_layout self.old.depth (walk_inline_interface (bare self.old.source) doc_lines (inline_interface_of interface.now))) }
     {
         self.interface_keyword()?;
         self.interface_items(&interface.items)
     }
 
     fn interface_items(&mut self, items: &[InterfaceItem<'_>]) -> PrintResult
-        requires { All (InterfaceItemSliced self.old.source) (map interface_item_of items.now) }
-        ensures { Prints self.old result self.new (body interface_item_layout self.old.depth (map (bare_interface_item doc_lines self.old.source) (map interface_item_of items.now))) }
+        requires { All (walk_interface_item (printable self.old.source) any_docs) (map interface_item_of items.now) }
+        ensures { Prints self.old result self.new (body interface_item_layout self.old.depth (map (walk_interface_item (bare self.old.source) doc_lines) (map interface_item_of items.now))) }
     {
         self.body(items)
     }
@@ -87,8 +88,8 @@ impl<'a, S: Sink> DocumentPrinter<'a, S> {
 
     /// Prints an item of an interface.
     pub fn interface_item(&mut self, item: &InterfaceItem<'_>) -> PrintResult
-        requires { InterfaceItemSliced self.old.source (interface_item_of item.now) }
-        ensures { Prints self.old result self.new (interface_item_layout self.old.depth (bare_interface_item doc_lines self.old.source (interface_item_of item.now))) }
+        requires { walk_interface_item (printable self.old.source) any_docs (interface_item_of item.now) }
+        ensures { Prints self.old result self.new (interface_item_layout self.old.depth (walk_interface_item (bare self.old.source) doc_lines (interface_item_of item.now))) }
     {
         match item {
             InterfaceItem::Use(decl) => self.use_type(decl),
@@ -99,8 +100,8 @@ impl<'a, S: Sink> DocumentPrinter<'a, S> {
 
     /// Prints an export of an interface: `f: func();`.
     pub fn interface_export(&mut self, export: &InterfaceExport<'_>) -> PrintResult
-        requires { InterfaceExportSliced self.old.source (interface_export_of export.now) }
-        ensures { Prints self.old result self.new (interface_export_layout self.old.depth (bare_interface_export doc_lines self.old.source (interface_export_of export.now))) }
+        requires { walk_interface_export (printable self.old.source) any_docs (interface_export_of export.now) }
+        ensures { Prints self.old result self.new (interface_export_layout self.old.depth (walk_interface_export (bare self.old.source) doc_lines (interface_export_of export.now))) }
     {
         self.docs(&export.docs)
             .and(self.label(&export.id))
@@ -110,8 +111,8 @@ impl<'a, S: Sink> DocumentPrinter<'a, S> {
 
     /// Prints a `use`: `use a:b/c.{ t, u as v };`.
     pub fn use_type(&mut self, decl: &Use<'_>) -> PrintResult
-        requires { UseSliced self.old.source (use_of decl.now) }
-        ensures { Prints self.old result self.new (use_layout self.old.depth (bare_use doc_lines self.old.source (use_of decl.now))) }
+        requires { walk_use (printable self.old.source) any_docs (use_of decl.now) }
+        ensures { Prints self.old result self.new (use_layout self.old.depth (walk_use (bare self.old.source) doc_lines (use_of decl.now))) }
     {
         self.docs(&decl.docs)
             .and(self.line())
@@ -123,8 +124,8 @@ impl<'a, S: Sink> DocumentPrinter<'a, S> {
     }
 
     fn use_items(&mut self, items: &[UseItem<'_>]) -> PrintResult
-        requires { All (UseItemSliced self.old.source) (map use_item_of items.now) }
-        ensures { Prints self.old result self.new (use_items_layout (map (bare_use_item self.old.source) (map use_item_of items.now))) }
+        requires { All (walk_use_item (printable self.old.source)) (map use_item_of items.now) }
+        ensures { Prints self.old result self.new (use_items_layout (map (walk_use_item (bare self.old.source)) (map use_item_of items.now))) }
     {
         self.token(".")
             .and(self.token("{"))
@@ -136,8 +137,8 @@ impl<'a, S: Sink> DocumentPrinter<'a, S> {
 
     /// Prints the path of a `use`.
     pub fn use_path(&mut self, path: &UsePath<'_>) -> PrintResult
-        requires { UsePathSliced self.old.source (use_path_of path.now) }
-        ensures { Prints self.old result self.new (use_path_layout (bare_use_path self.old.source (use_path_of path.now))) }
+        requires { walk_use_path (printable self.old.source) (use_path_of path.now) }
+        ensures { Prints self.old result self.new (use_path_layout (walk_use_path (bare self.old.source) (use_path_of path.now))) }
     {
         match path {
             UsePath::Package(path) => self.package_path(path),
@@ -146,8 +147,8 @@ impl<'a, S: Sink> DocumentPrinter<'a, S> {
     }
 
     fn use_item(&mut self, item: &UseItem<'_>) -> PrintResult
-        requires { UseItemSliced self.old.source (use_item_of item.now) }
-        ensures { Prints self.old result self.new (use_item_layout (bare_use_item self.old.source (use_item_of item.now))) }
+        requires { walk_use_item (printable self.old.source) (use_item_of item.now) }
+        ensures { Prints self.old result self.new (use_item_layout (walk_use_item (bare self.old.source) (use_item_of item.now))) }
     {
         self.ident(&item.id).and(self.as_ident(&item.as_id))
     }

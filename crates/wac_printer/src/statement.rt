@@ -2,6 +2,7 @@
 ghost use Rattle.std.specs.List.{All};
 ghost use Rattle.std.specs.Prelude.{◌≡◌, map};
 ghost use Rattle.std.specs.Option.{option_map};
+ghost use Rattle.wac_ast_grammar.specs.Walk.{walk_export_options, walk_export_statement, walk_extern_name, walk_import_statement, walk_import_type, walk_let_statement, walk_package_directive, walk_statement, walk_type_statement};
 ghost use Rattle.wac_ast_statements.specs.Statements.{directive_of, export_options_of, export_statement_of, let_statement_of};
 ghost use Rattle.wac_ast_base.specs.Names.{extern_name_of, package_path_of};
 ghost use Rattle.wac_ast.specs.Statements.{document_of, statement_of};
@@ -10,8 +11,8 @@ ghost use Rattle.wac_ast.specs.Statements.{type_statement_of};
 ghost use Rattle.wac_printer_pieces.specs.Printed.{Prints};
 ghost use Rattle.wac_printer.specs.ReadBack.{IsReadBack};
 ghost use Rattle.wac_ast_grammar.specs.Leaves.{IfThere};
-ghost use Rattle.wac_printer.specs.Sliced.{DirectiveSliced, DocumentSliced, ExportOptionsSliced, ExportStatementSliced, ExternNameSliced, ImportStatementSliced, ImportTypeSliced, LetStatementSliced, PackagePathSliced, StatementSliced, TypeStatementSliced};
-ghost use Rattle.wac_printer_layout.specs.Bare.{bare_directive, bare_document, bare_export_options, bare_export_statement, bare_extern_name, bare_import_statement, bare_import_type, bare_let_statement, bare_package_path, bare_statement, bare_type_statement, doc_lines};
+ghost use Rattle.wac_printer.specs.Sliced.{DocumentSliced, PackagePathSliced, any_docs, printable};
+ghost use Rattle.wac_printer_layout.specs.Bare.{bare_document, bare_package_path, doc_lines, bare};
 ghost use Rattle.wac_printer_layout.specs.StatementLayout.{directive_layout, document_layout, export_options_layout, export_statement_layout, import_name_layout, import_statement_layout, import_type_layout, let_statement_layout, renamed_layout, statement_layout, targets_layout, type_statement_layout};
 ghost use Rattle.wac_printer_layout.specs.Parts.{spaced};
 
@@ -27,9 +28,9 @@ use wac_lexer::Sink;
 use wac_printer_pieces::PrintResult;
 
 impl Node for Statement<'_> {
-    ghost layout = { λ source depth x. statement_layout depth (bare_statement doc_lines source (statement_of x)) };
+    ghost layout = { λ source depth x. statement_layout depth (walk_statement (bare source) doc_lines (statement_of x)) };
 
-    ghost sliced = { λ source x. StatementSliced source (statement_of x) };
+    ghost sliced = { λ source x. walk_statement (printable source) any_docs (statement_of x) };
 
     fn print<S: Sink>(&self, printer: &mut DocumentPrinter<'_, S>) -> PrintResult {
         printer.statement(self)
@@ -133,16 +134,16 @@ impl<'a, S: Sink> DocumentPrinter<'a, S> {
     }
 
     fn statements(&mut self, statements: &[Statement<'_>]) -> PrintResult
-        requires { All (StatementSliced self.old.source) (map statement_of statements.now) }
-        ensures { Prints self.old result self.new (spaced (statement_layout self.old.depth) (map (bare_statement doc_lines self.old.source) (map statement_of statements.now))) }
+        requires { All (walk_statement (printable self.old.source) any_docs) (map statement_of statements.now) }
+        ensures { Prints self.old result self.new (spaced (statement_layout self.old.depth) (map (walk_statement (bare self.old.source) doc_lines) (map statement_of statements.now))) }
     {
         self.spaced(statements)
     }
 
     /// Prints the directive that names the package, and an empty line.
     pub fn package_directive(&mut self, directive: &PackageDirective<'_>) -> PrintResult
-        requires { DirectiveSliced self.old.source (directive_of directive.now) }
-        ensures { Prints self.old result self.new (directive_layout self.old.depth (bare_directive self.old.source (directive_of directive.now))) }
+        requires { walk_package_directive (printable self.old.source) (directive_of directive.now) }
+        ensures { Prints self.old result self.new (directive_layout self.old.depth (walk_package_directive (bare self.old.source) (directive_of directive.now))) }
     {
         self.line()
             .and(self.token("package"))
@@ -170,8 +171,8 @@ impl<'a, S: Sink> DocumentPrinter<'a, S> {
 
     /// Prints a statement.
     pub fn statement(&mut self, statement: &Statement<'_>) -> PrintResult
-        requires { StatementSliced self.old.source (statement_of statement.now) }
-        ensures { Prints self.old result self.new (statement_layout self.old.depth (bare_statement doc_lines self.old.source (statement_of statement.now))) }
+        requires { walk_statement (printable self.old.source) any_docs (statement_of statement.now) }
+        ensures { Prints self.old result self.new (statement_layout self.old.depth (walk_statement (bare self.old.source) doc_lines (statement_of statement.now))) }
     {
         match statement {
             Statement::Import(statement) => self.import_statement(statement),
@@ -183,8 +184,8 @@ impl<'a, S: Sink> DocumentPrinter<'a, S> {
 
     /// Prints the declaration of an interface, a world or a type.
     pub fn type_statement(&mut self, statement: &TypeStatement<'_>) -> PrintResult
-        requires { TypeStatementSliced self.old.source (type_statement_of statement.now) }
-        ensures { Prints self.old result self.new (type_statement_layout self.old.depth (bare_type_statement doc_lines self.old.source (type_statement_of statement.now))) }
+        requires { walk_type_statement (printable self.old.source) any_docs (type_statement_of statement.now) }
+        ensures { Prints self.old result self.new (type_statement_layout self.old.depth (walk_type_statement (bare self.old.source) doc_lines (type_statement_of statement.now))) }
     {
         match statement {
             TypeStatement::Interface(decl) => self.interface_decl(decl),
@@ -195,8 +196,8 @@ impl<'a, S: Sink> DocumentPrinter<'a, S> {
 
     /// Prints an import.
     pub fn import_statement(&mut self, statement: &ImportStatement<'_>) -> PrintResult
-        requires { ImportStatementSliced self.old.source (import_statement_of statement.now) }
-        ensures { Prints self.old result self.new (import_statement_layout self.old.depth (bare_import_statement doc_lines self.old.source (import_statement_of statement.now))) }
+        requires { walk_import_statement (printable self.old.source) any_docs (import_statement_of statement.now) }
+        ensures { Prints self.old result self.new (import_statement_layout self.old.depth (walk_import_statement (bare self.old.source) doc_lines (import_statement_of statement.now))) }
     {
         self.docs(&statement.docs)
             .and(self.head("import", &statement.id))
@@ -208,8 +209,8 @@ impl<'a, S: Sink> DocumentPrinter<'a, S> {
     }
 
     fn import_name(&mut self, name: &Option<ExternName<'_>>) -> PrintResult
-        requires { IfThere (ExternNameSliced self.old.source) (option_map extern_name_of name.now) }
-        ensures { Prints self.old result self.new (import_name_layout (option_map (bare_extern_name self.old.source) (option_map extern_name_of name.now))) }
+        requires { IfThere (walk_extern_name (printable self.old.source)) (option_map extern_name_of name.now) }
+        ensures { Prints self.old result self.new (import_name_layout (option_map (walk_extern_name (bare self.old.source)) (option_map extern_name_of name.now))) }
     {
         match name {
             None => self.ready(),
@@ -218,8 +219,8 @@ impl<'a, S: Sink> DocumentPrinter<'a, S> {
     }
 
     fn renamed(&mut self, name: &ExternName<'_>) -> PrintResult
-        requires { ExternNameSliced self.old.source (extern_name_of name.now) }
-        ensures { Prints self.old result self.new (renamed_layout (bare_extern_name self.old.source (extern_name_of name.now))) }
+        requires { walk_extern_name (printable self.old.source) (extern_name_of name.now) }
+        ensures { Prints self.old result self.new (renamed_layout (walk_extern_name (bare self.old.source) (extern_name_of name.now))) }
     {
         self.blank(" ")
             .and(self.token("as"))
@@ -229,8 +230,8 @@ impl<'a, S: Sink> DocumentPrinter<'a, S> {
 
     /// Prints the type of an import.
     pub fn import_type(&mut self, ty: &ImportType<'_>) -> PrintResult
-        requires { ImportTypeSliced self.old.source (import_type_of ty.now) }
-        ensures { Prints self.old result self.new (import_type_layout self.old.depth (bare_import_type doc_lines self.old.source (import_type_of ty.now))) }
+        requires { walk_import_type (printable self.old.source) any_docs (import_type_of ty.now) }
+        ensures { Prints self.old result self.new (import_type_layout self.old.depth (walk_import_type (bare self.old.source) doc_lines (import_type_of ty.now))) }
     {
         match ty {
             ImportType::Package(path) => self.package_path(path),
@@ -242,8 +243,8 @@ impl<'a, S: Sink> DocumentPrinter<'a, S> {
 
     /// Prints a `let`.
     pub fn let_statement(&mut self, statement: &LetStatement<'_>) -> PrintResult
-        requires { LetStatementSliced self.old.source (let_statement_of statement.now) }
-        ensures { Prints self.old result self.new (let_statement_layout self.old.depth (bare_let_statement doc_lines self.old.source (let_statement_of statement.now))) }
+        requires { walk_let_statement (printable self.old.source) any_docs (let_statement_of statement.now) }
+        ensures { Prints self.old result self.new (let_statement_layout self.old.depth (walk_let_statement (bare self.old.source) doc_lines (let_statement_of statement.now))) }
     {
         self.docs(&statement.docs)
             .and(self.head("let", &statement.id))
@@ -256,8 +257,8 @@ impl<'a, S: Sink> DocumentPrinter<'a, S> {
 
     /// Prints an export.
     pub fn export_statement(&mut self, statement: &ExportStatement<'_>) -> PrintResult
-        requires { ExportStatementSliced self.old.source (export_statement_of statement.now) }
-        ensures { Prints self.old result self.new (export_statement_layout self.old.depth (bare_export_statement doc_lines self.old.source (export_statement_of statement.now))) }
+        requires { walk_export_statement (printable self.old.source) any_docs (export_statement_of statement.now) }
+        ensures { Prints self.old result self.new (export_statement_layout self.old.depth (walk_export_statement (bare self.old.source) doc_lines (export_statement_of statement.now))) }
     {
         self.docs(&statement.docs)
             .and(self.line())
@@ -269,8 +270,8 @@ impl<'a, S: Sink> DocumentPrinter<'a, S> {
     }
 
     fn export_options(&mut self, options: &ExportOptions<'_>) -> PrintResult
-        requires { ExportOptionsSliced self.old.source (export_options_of options.now) }
-        ensures { Prints self.old result self.new (export_options_layout (bare_export_options self.old.source (export_options_of options.now))) }
+        requires { walk_export_options (printable self.old.source) (export_options_of options.now) }
+        ensures { Prints self.old result self.new (export_options_layout (walk_export_options (bare self.old.source) (export_options_of options.now))) }
     {
         match options {
             ExportOptions::None => self.ready(),

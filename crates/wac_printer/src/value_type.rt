@@ -1,13 +1,14 @@
 //! Printing types.
 ghost use Rattle.std.specs.Prelude.{◌≡◌, List, [], ◌∷◌, ◌++◌, codes, map};
 ghost use Rattle.std.specs.List.{All, flat_map};
+ghost use Rattle.wac_ast_grammar.specs.Walk.{walk_extern_name, walk_func_type, walk_func_type_ref, walk_named_type, walk_result_list, walk_ty};
+ghost use Rattle.wac_printer_layout.specs.Bare.{bare};
 ghost use Rattle.wac_ast_base.specs.Names.{extern_name_of, ident_of};
 ghost use Rattle.wac_ast_types.specs.Declarations.{func_type_of, func_type_ref_of, named_type_of, result_list_of};
 ghost use Rattle.wac_ast_types.specs.Types.{ty_of};
 ghost use Rattle.wac_printer_layout.specs.Printed.{token};
 ghost use Rattle.wac_printer_pieces.specs.Printed.{Prints};
-ghost use Rattle.wac_printer.specs.Sliced.{IdentSliced, ExternNameSliced, FuncTypeRefSliced, FuncTypeSliced, NamedTypeSliced, ResultListSliced, TySliced};
-ghost use Rattle.wac_printer_layout.specs.Bare.{bare_extern_name, bare_func_type, bare_func_type_ref, bare_named_type, bare_result_list, bare_ty};
+ghost use Rattle.wac_printer.specs.Sliced.{IdentSliced, printable};
 ghost use Rattle.wac_lexer.specs.Reading.{slice};
 ghost use Rattle.wac_printer_layout.specs.Parts.{space, joined};
 ghost use Rattle.wac_printer_layout.specs.TypeLayout.{async_layout, extern_name_layout, func_type_layout, func_type_ref_layout, named_type_layout, params_layout, results_layout, ty_layout};
@@ -19,9 +20,9 @@ use wac_lexer::Sink;
 use wac_printer_pieces::PrintResult;
 
 impl Node for NamedType<'_> {
-    ghost layout = { λ source depth x. named_type_layout (bare_named_type source (named_type_of x)) };
+    ghost layout = { λ source depth x. named_type_layout (walk_named_type (bare source) (named_type_of x)) };
 
-    ghost sliced = { λ source x. NamedTypeSliced source (named_type_of x) };
+    ghost sliced = { λ source x. walk_named_type (printable source) (named_type_of x) };
 
     fn print<S: Sink>(&self, printer: &mut DocumentPrinter<'_, S>) -> PrintResult {
         printer.named_type(self)
@@ -31,8 +32,8 @@ impl Node for NamedType<'_> {
 #[tactic(auto, using(crate::proofs::Steps::lists))]
 impl<'a, S: Sink> DocumentPrinter<'a, S> {
     pub(crate) fn extern_name(&mut self, name: &ExternName<'_>) -> PrintResult
-        requires { ExternNameSliced self.old.source (extern_name_of name.now) }
-        ensures { Prints self.old result self.new (extern_name_layout (bare_extern_name self.old.source (extern_name_of name.now))) }
+        requires { walk_extern_name (printable self.old.source) (extern_name_of name.now) }
+        ensures { Prints self.old result self.new (extern_name_layout (walk_extern_name (bare self.old.source) (extern_name_of name.now))) }
     {
         match name {
             ExternName::Ident(id) => self.ident(id),
@@ -42,8 +43,8 @@ impl<'a, S: Sink> DocumentPrinter<'a, S> {
 
     /// Prints a function type: `async func(x: u8) -> u8`.
     pub fn func_type(&mut self, ty: &FuncType<'_>) -> PrintResult
-        requires { FuncTypeSliced self.old.source (func_type_of ty.now) }
-        ensures { Prints self.old result self.new (func_type_layout (bare_func_type self.old.source (func_type_of ty.now))) }
+        requires { walk_func_type (printable self.old.source) (func_type_of ty.now) }
+        ensures { Prints self.old result self.new (func_type_layout (walk_func_type (bare self.old.source) (func_type_of ty.now))) }
     {
         self.async_keyword(ty.is_async)
             .and(self.token("func"))
@@ -53,8 +54,8 @@ impl<'a, S: Sink> DocumentPrinter<'a, S> {
 
     /// Prints a function type, or the name of one.
     pub fn func_type_ref(&mut self, ty: &FuncTypeRef<'_>) -> PrintResult
-        requires { FuncTypeRefSliced self.old.source (func_type_ref_of ty.now) }
-        ensures { Prints self.old result self.new (func_type_ref_layout (bare_func_type_ref self.old.source (func_type_ref_of ty.now))) }
+        requires { walk_func_type_ref (printable self.old.source) (func_type_ref_of ty.now) }
+        ensures { Prints self.old result self.new (func_type_ref_layout (walk_func_type_ref (bare self.old.source) (func_type_ref_of ty.now))) }
     {
         match ty {
             FuncTypeRef::Func(ty) => self.func_type(ty),
@@ -75,8 +76,8 @@ impl<'a, S: Sink> DocumentPrinter<'a, S> {
 
     /// Prints parameters, or results with names, in parentheses.
     pub(crate) fn params(&mut self, params: &[NamedType<'_>]) -> PrintResult
-        requires { All (NamedTypeSliced self.old.source) (map named_type_of params.now) }
-        ensures { Prints self.old result self.new (params_layout (map (bare_named_type self.old.source) (map named_type_of params.now))) }
+        requires { All (walk_named_type (printable self.old.source)) (map named_type_of params.now) }
+        ensures { Prints self.old result self.new (params_layout (map (walk_named_type (bare self.old.source)) (map named_type_of params.now))) }
     {
         self.token("(")
             .and(self.joined(params))
@@ -84,8 +85,8 @@ impl<'a, S: Sink> DocumentPrinter<'a, S> {
     }
 
     fn named_type(&mut self, named: &NamedType<'_>) -> PrintResult
-        requires { NamedTypeSliced self.old.source (named_type_of named.now) }
-        ensures { Prints self.old result self.new (named_type_layout (bare_named_type self.old.source (named_type_of named.now))) }
+        requires { walk_named_type (printable self.old.source) (named_type_of named.now) }
+        ensures { Prints self.old result self.new (named_type_layout (walk_named_type (bare self.old.source) (named_type_of named.now))) }
     {
         self.ident(&named.id)
             .and(self.token(":"))
@@ -94,8 +95,8 @@ impl<'a, S: Sink> DocumentPrinter<'a, S> {
     }
 
     fn result_list(&mut self, results: &ResultList<'_>) -> PrintResult
-        requires { ResultListSliced self.old.source (result_list_of results.now) }
-        ensures { Prints self.old result self.new (results_layout (bare_result_list self.old.source (result_list_of results.now))) }
+        requires { walk_result_list (printable self.old.source) (result_list_of results.now) }
+        ensures { Prints self.old result self.new (results_layout (walk_result_list (bare self.old.source) (result_list_of results.now))) }
     {
         match results {
             ResultList::Empty => self.ready(),
@@ -118,8 +119,8 @@ impl<'a, S: Sink> DocumentPrinter<'a, S> {
     /// Prints a type.
     #[cycle(ty)]
     pub fn ty(&mut self, ty: &Type<'_>) -> PrintResult
-        requires { TySliced self.old.source (ty_of ty.now) }
-        ensures { Prints self.old result self.new (ty_layout (bare_ty self.old.source (ty_of ty.now))) }
+        requires { walk_ty (printable self.old.source) (ty_of ty.now) }
+        ensures { Prints self.old result self.new (ty_layout (walk_ty (bare self.old.source) (ty_of ty.now))) }
     {
         match ty {
             Type::U8(_) => self.token("u8"),
@@ -168,8 +169,8 @@ impl<'a, S: Sink> DocumentPrinter<'a, S> {
     /// Prints a keyword and a type in angle brackets.
     #[cycle(ty)]
     fn bracketed(&mut self, keyword: &str, ty: &Type<'_>) -> PrintResult
-        requires { TySliced self.old.source (ty_of ty.now) }
-        ensures { Prints self.old result self.new (token keyword.now ∷ token (codes "<") ∷ (ty_layout (bare_ty self.old.source (ty_of ty.now)) ++ token (codes ">") ∷ [])) }
+        requires { walk_ty (printable self.old.source) (ty_of ty.now) }
+        ensures { Prints self.old result self.new (token keyword.now ∷ token (codes "<") ∷ (ty_layout (walk_ty (bare self.old.source) (ty_of ty.now)) ++ token (codes ">") ∷ [])) }
     {
         self.token(keyword)?;
         self.token("<")?;
@@ -180,8 +181,8 @@ impl<'a, S: Sink> DocumentPrinter<'a, S> {
     /// Prints a result that has only an error type.
     #[cycle(ty)]
     fn failing(&mut self, err: &Type<'_>) -> PrintResult
-        requires { TySliced self.old.source (ty_of err.now) }
-        ensures { Prints self.old result self.new (token (codes "result") ∷ token (codes "<") ∷ token (codes "_") ∷ token (codes ",") ∷ space ∷ (ty_layout (bare_ty self.old.source (ty_of err.now)) ++ token (codes ">") ∷ [])) }
+        requires { walk_ty (printable self.old.source) (ty_of err.now) }
+        ensures { Prints self.old result self.new (token (codes "result") ∷ token (codes "<") ∷ token (codes "_") ∷ token (codes ",") ∷ space ∷ (ty_layout (walk_ty (bare self.old.source) (ty_of err.now)) ++ token (codes ">") ∷ [])) }
     {
         self.token("result")?;
         self.token("<")?;
@@ -195,8 +196,8 @@ impl<'a, S: Sink> DocumentPrinter<'a, S> {
     /// Prints the first half of a result that has both types.
     #[cycle(ty)]
     fn first_side(&mut self, ok: &Type<'_>) -> PrintResult
-        requires { TySliced self.old.source (ty_of ok.now) }
-        ensures { Prints self.old result self.new (token (codes "result") ∷ token (codes "<") ∷ ty_layout (bare_ty self.old.source (ty_of ok.now))) }
+        requires { walk_ty (printable self.old.source) (ty_of ok.now) }
+        ensures { Prints self.old result self.new (token (codes "result") ∷ token (codes "<") ∷ ty_layout (walk_ty (bare self.old.source) (ty_of ok.now))) }
     {
         self.token("result")?;
         self.token("<")?;
@@ -206,8 +207,8 @@ impl<'a, S: Sink> DocumentPrinter<'a, S> {
     /// Prints the second half of a result that has both types.
     #[cycle(ty)]
     fn second_side(&mut self, err: &Type<'_>) -> PrintResult
-        requires { TySliced self.old.source (ty_of err.now) }
-        ensures { Prints self.old result self.new (token (codes ",") ∷ space ∷ (ty_layout (bare_ty self.old.source (ty_of err.now)) ++ token (codes ">") ∷ [])) }
+        requires { walk_ty (printable self.old.source) (ty_of err.now) }
+        ensures { Prints self.old result self.new (token (codes ",") ∷ space ∷ (ty_layout (walk_ty (bare self.old.source) (ty_of err.now)) ++ token (codes ">") ∷ [])) }
     {
         self.token(",")?;
         self.blank(" ")?;
@@ -218,8 +219,8 @@ impl<'a, S: Sink> DocumentPrinter<'a, S> {
     /// Prints a tuple of types.
     #[cycle(ty)]
     fn tuple(&mut self, types: &[Type<'_>]) -> PrintResult
-        requires { All (λ x. TySliced self.old.source (ty_of x)) types.now }
-        ensures { Prints self.old result self.new (token (codes "tuple") ∷ token (codes "<") ∷ (joined (λ x. ty_layout (bare_ty self.old.source (ty_of x))) types.now ++ token (codes ">") ∷ [])) }
+        requires { All (λ x. walk_ty (printable self.old.source) (ty_of x)) types.now }
+        ensures { Prints self.old result self.new (token (codes "tuple") ∷ token (codes "<") ∷ (joined (λ x. ty_layout (walk_ty (bare self.old.source) (ty_of x))) types.now ++ token (codes ">") ∷ [])) }
     {
         self.token("tuple")?;
         self.token("<")?;
@@ -230,8 +231,8 @@ impl<'a, S: Sink> DocumentPrinter<'a, S> {
     /// Prints types joined by a comma and a blank.
     #[cycle(ty)]
     fn types(&mut self, types: &[Type<'_>]) -> PrintResult
-        requires { All (λ x. TySliced self.old.source (ty_of x)) types.now }
-        ensures { Prints self.old result self.new (joined (λ x. ty_layout (bare_ty self.old.source (ty_of x))) types.now) }
+        requires { All (λ x. walk_ty (printable self.old.source) (ty_of x)) types.now }
+        ensures { Prints self.old result self.new (joined (λ x. ty_layout (walk_ty (bare self.old.source) (ty_of x))) types.now) }
     {
         match types.split_first() {
             None => self.ready(),
@@ -244,8 +245,8 @@ impl<'a, S: Sink> DocumentPrinter<'a, S> {
 
     #[cycle(ty)]
     fn further_types(&mut self, types: &[Type<'_>]) -> PrintResult
-        requires { All (λ x. TySliced self.old.source (ty_of x)) types.now }
-        ensures { Prints self.old result self.new (flat_map (λ x. (token (codes ",") ∷ space ∷ []) ++ ty_layout (bare_ty self.old.source (ty_of x))) types.now) }
+        requires { All (λ x. walk_ty (printable self.old.source) (ty_of x)) types.now }
+        ensures { Prints self.old result self.new (flat_map (λ x. (token (codes ",") ∷ space ∷ []) ++ ty_layout (walk_ty (bare self.old.source) (ty_of x))) types.now) }
     {
         self.ready()?;
         for ty in types {
@@ -256,8 +257,8 @@ impl<'a, S: Sink> DocumentPrinter<'a, S> {
 
     #[cycle(ty)]
     fn further_type(&mut self, ty: &Type<'_>) -> PrintResult
-        requires { TySliced self.old.source (ty_of ty.now) }
-        ensures { Prints self.old result self.new ((token (codes ",") ∷ space ∷ []) ++ ty_layout (bare_ty self.old.source (ty_of ty.now))) }
+        requires { walk_ty (printable self.old.source) (ty_of ty.now) }
+        ensures { Prints self.old result self.new ((token (codes ",") ∷ space ∷ []) ++ ty_layout (walk_ty (bare self.old.source) (ty_of ty.now))) }
     {
         self.token(",")?;
         self.blank(" ")?;

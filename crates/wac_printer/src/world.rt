@@ -1,13 +1,14 @@
 //! Printing worlds.
 ghost use Rattle.std.specs.Prelude.{◌≡◌, List, ◌∷◌, codes, map};
 ghost use Rattle.std.specs.List.{All};
+ghost use Rattle.wac_ast_grammar.specs.Walk.{walk_extern_type, walk_named_world_item, walk_world_decl, walk_world_export, walk_world_import, walk_world_include, walk_world_include_item, walk_world_item, walk_world_item_path, walk_world_ref};
+ghost use Rattle.wac_printer.specs.Sliced.{any_docs, printable};
 ghost use Rattle.wac_ast_worlds.specs.Worlds.{extern_type_of, named_world_item_of, world_decl_of, world_export_of, world_import_of, world_item_of, world_item_path_of};
 ghost use Rattle.wac_ast_uses.specs.Uses.{world_include_of};
 ghost use Rattle.wac_ast_uses.specs.Uses.{world_include_item_of, world_ref_of};
 ghost use Rattle.wac_printer_layout.specs.Printed.{token};
 ghost use Rattle.wac_printer_pieces.specs.Printed.{Prints};
-ghost use Rattle.wac_printer.specs.Sliced.{ExternTypeSliced, NamedWorldItemSliced, WorldDeclSliced, WorldExportSliced, WorldImportSliced, WorldIncludeItemSliced, WorldIncludeSliced, WorldItemPathSliced, WorldItemSliced, WorldRefSliced};
-ghost use Rattle.wac_printer_layout.specs.Bare.{bare_extern_type, bare_named_world_item, bare_world_decl, bare_world_export, bare_world_import, bare_world_include, bare_world_include_item, bare_world_item, bare_world_item_path, bare_world_ref, doc_lines};
+ghost use Rattle.wac_printer_layout.specs.Bare.{doc_lines, bare};
 ghost use Rattle.wac_printer_layout.specs.Parts.{space, rows, body};
 ghost use Rattle.wac_printer_layout.specs.WorldLayout.{extern_type_layout, named_world_item_layout, with_layout, world_decl_layout, world_export_layout, world_import_layout, world_include_item_layout, world_include_layout, world_item_layout, world_item_path_layout, world_ref_layout};
 
@@ -21,9 +22,9 @@ use wac_lexer::Sink;
 use wac_printer_pieces::PrintResult;
 
 impl Node for WorldItem<'_> {
-    ghost layout = { λ source depth x. world_item_layout depth (bare_world_item doc_lines source (world_item_of x)) };
+    ghost layout = { λ source depth x. world_item_layout depth (walk_world_item (bare source) doc_lines (world_item_of x)) };
 
-    ghost sliced = { λ source x. WorldItemSliced source (world_item_of x) };
+    ghost sliced = { λ source x. walk_world_item (printable source) any_docs (world_item_of x) };
 
     fn print<S: Sink>(&self, printer: &mut DocumentPrinter<'_, S>) -> PrintResult {
         printer.world_item(self)
@@ -31,9 +32,9 @@ impl Node for WorldItem<'_> {
 }
 
 impl Node for WorldIncludeItem<'_> {
-    ghost layout = { λ source depth x. world_include_item_layout depth (bare_world_include_item source (world_include_item_of x)) };
+    ghost layout = { λ source depth x. world_include_item_layout depth (walk_world_include_item (bare source) (world_include_item_of x)) };
 
-    ghost sliced = { λ source x. WorldIncludeItemSliced source (world_include_item_of x) };
+    ghost sliced = { λ source x. walk_world_include_item (printable source) (world_include_item_of x) };
 
     fn print<S: Sink>(&self, printer: &mut DocumentPrinter<'_, S>) -> PrintResult {
         printer.world_include_item(self)
@@ -49,8 +50,8 @@ fn items_of<'t, 'a>(decl: &'t WorldDecl<'a>) -> &'t [WorldItem<'a>]
 /// Prints the items of a world, which comes first: the prover's work grows with the number of lifetimes before its own.
 #[tactic(auto, using(crate::proofs::Steps::lists))]
 fn print_items<S: Sink>(decl: &WorldDecl<'_>, printer: &mut DocumentPrinter<'_, S>) -> PrintResult
-    requires { All (WorldItemSliced printer.old.source) (map world_item_of decl.now.items.items) }
-    ensures { Prints printer.old result printer.new (body world_item_layout printer.old.depth (map (bare_world_item doc_lines printer.old.source) (map world_item_of decl.now.items.items))) }
+    requires { All (walk_world_item (printable printer.old.source) any_docs) (map world_item_of decl.now.items.items) }
+    ensures { Prints printer.old result printer.new (body world_item_layout printer.old.depth (map (walk_world_item (bare printer.old.source) doc_lines) (map world_item_of decl.now.items.items))) }
 {
     printer.body(items_of(decl))
 }
@@ -59,8 +60,8 @@ fn print_items<S: Sink>(decl: &WorldDecl<'_>, printer: &mut DocumentPrinter<'_, 
 impl<'a, S: Sink> DocumentPrinter<'a, S> {
     /// Prints a world.
     pub fn world_decl(&mut self, decl: &WorldDecl<'_>) -> PrintResult
-        requires { WorldDeclSliced self.old.source (world_decl_of decl.now) }
-        ensures { Prints self.old result self.new (world_decl_layout self.old.depth (bare_world_decl doc_lines self.old.source (world_decl_of decl.now))) }
+        requires { walk_world_decl (printable self.old.source) any_docs (world_decl_of decl.now) }
+        ensures { Prints self.old result self.new (world_decl_layout self.old.depth (walk_world_decl (bare self.old.source) doc_lines (world_decl_of decl.now))) }
     {
         self.docs(&decl.docs)
             .and(self.head("world", &decl.id))
@@ -69,8 +70,8 @@ impl<'a, S: Sink> DocumentPrinter<'a, S> {
 
     /// Prints an item of a world.
     pub fn world_item(&mut self, item: &WorldItem<'_>) -> PrintResult
-        requires { WorldItemSliced self.old.source (world_item_of item.now) }
-        ensures { Prints self.old result self.new (world_item_layout self.old.depth (bare_world_item doc_lines self.old.source (world_item_of item.now))) }
+        requires { walk_world_item (printable self.old.source) any_docs (world_item_of item.now) }
+        ensures { Prints self.old result self.new (world_item_layout self.old.depth (walk_world_item (bare self.old.source) doc_lines (world_item_of item.now))) }
     {
         match item {
             WorldItem::Use(decl) => self.use_type(decl),
@@ -83,8 +84,8 @@ impl<'a, S: Sink> DocumentPrinter<'a, S> {
 
     /// Prints an import of a world.
     pub fn world_import(&mut self, import: &WorldImport<'_>) -> PrintResult
-        requires { WorldImportSliced self.old.source (world_import_of import.now) }
-        ensures { Prints self.old result self.new (world_import_layout self.old.depth (bare_world_import doc_lines self.old.source (world_import_of import.now))) }
+        requires { walk_world_import (printable self.old.source) any_docs (world_import_of import.now) }
+        ensures { Prints self.old result self.new (world_import_layout self.old.depth (walk_world_import (bare self.old.source) doc_lines (world_import_of import.now))) }
     {
         self.docs(&import.docs)
             .and(self.line())
@@ -96,8 +97,8 @@ impl<'a, S: Sink> DocumentPrinter<'a, S> {
 
     /// Prints an export of a world.
     pub fn world_export(&mut self, export: &WorldExport<'_>) -> PrintResult
-        requires { WorldExportSliced self.old.source (world_export_of export.now) }
-        ensures { Prints self.old result self.new (world_export_layout self.old.depth (bare_world_export doc_lines self.old.source (world_export_of export.now))) }
+        requires { walk_world_export (printable self.old.source) any_docs (world_export_of export.now) }
+        ensures { Prints self.old result self.new (world_export_layout self.old.depth (walk_world_export (bare self.old.source) doc_lines (world_export_of export.now))) }
     {
         self.docs(&export.docs)
             .and(self.line())
@@ -109,8 +110,8 @@ impl<'a, S: Sink> DocumentPrinter<'a, S> {
 
     /// Prints what a world imports or exports.
     pub fn world_item_path(&mut self, path: &WorldItemPath<'_>) -> PrintResult
-        requires { WorldItemPathSliced self.old.source (world_item_path_of path.now) }
-        ensures { Prints self.old result self.new (world_item_path_layout self.old.depth (bare_world_item_path doc_lines self.old.source (world_item_path_of path.now))) }
+        requires { walk_world_item_path (printable self.old.source) any_docs (world_item_path_of path.now) }
+        ensures { Prints self.old result self.new (world_item_path_layout self.old.depth (walk_world_item_path (bare self.old.source) doc_lines (world_item_path_of path.now))) }
     {
         match path {
             WorldItemPath::Named(item) => self.named_world_item(item),
@@ -121,8 +122,8 @@ impl<'a, S: Sink> DocumentPrinter<'a, S> {
 
     /// Prints a name with its type: `f: func()`.
     pub fn named_world_item(&mut self, item: &NamedWorldItem<'_>) -> PrintResult
-        requires { NamedWorldItemSliced self.old.source (named_world_item_of item.now) }
-        ensures { Prints self.old result self.new (named_world_item_layout self.old.depth (bare_named_world_item doc_lines self.old.source (named_world_item_of item.now))) }
+        requires { walk_named_world_item (printable self.old.source) any_docs (named_world_item_of item.now) }
+        ensures { Prints self.old result self.new (named_world_item_layout self.old.depth (walk_named_world_item (bare self.old.source) doc_lines (named_world_item_of item.now))) }
     {
         self.ident(&item.id)
             .and(self.token(":"))
@@ -132,8 +133,8 @@ impl<'a, S: Sink> DocumentPrinter<'a, S> {
 
     /// Prints the type of an item of a world.
     pub fn extern_type(&mut self, ty: &ExternType<'_>) -> PrintResult
-        requires { ExternTypeSliced self.old.source (extern_type_of ty.now) }
-        ensures { Prints self.old result self.new (extern_type_layout self.old.depth (bare_extern_type doc_lines self.old.source (extern_type_of ty.now))) }
+        requires { walk_extern_type (printable self.old.source) any_docs (extern_type_of ty.now) }
+        ensures { Prints self.old result self.new (extern_type_layout self.old.depth (walk_extern_type (bare self.old.source) doc_lines (extern_type_of ty.now))) }
     {
         match ty {
             ExternType::Ident(id) => self.ident(id),
@@ -144,8 +145,8 @@ impl<'a, S: Sink> DocumentPrinter<'a, S> {
 
     /// Prints an `include`, with the names that change, if there are any.
     pub fn world_include(&mut self, include: &WorldInclude<'_>) -> PrintResult
-        requires { WorldIncludeSliced self.old.source (world_include_of include.now) }
-        ensures { Prints self.old result self.new (world_include_layout self.old.depth (bare_world_include doc_lines self.old.source (world_include_of include.now))) }
+        requires { walk_world_include (printable self.old.source) any_docs (world_include_of include.now) }
+        ensures { Prints self.old result self.new (world_include_layout self.old.depth (walk_world_include (bare self.old.source) doc_lines (world_include_of include.now))) }
     {
         self.docs(&include.docs)
             .and(self.line())
@@ -158,8 +159,8 @@ impl<'a, S: Sink> DocumentPrinter<'a, S> {
 
     /// Prints the world that is included.
     pub fn world_ref(&mut self, world: &WorldRef<'_>) -> PrintResult
-        requires { WorldRefSliced self.old.source (world_ref_of world.now) }
-        ensures { Prints self.old result self.new (world_ref_layout (bare_world_ref self.old.source (world_ref_of world.now))) }
+        requires { walk_world_ref (printable self.old.source) (world_ref_of world.now) }
+        ensures { Prints self.old result self.new (world_ref_layout (walk_world_ref (bare self.old.source) (world_ref_of world.now))) }
     {
         match world {
             WorldRef::Ident(id) => self.ident(id),
@@ -168,8 +169,8 @@ impl<'a, S: Sink> DocumentPrinter<'a, S> {
     }
 
     fn with_items(&mut self, items: &[WorldIncludeItem<'_>]) -> PrintResult
-        requires { All (WorldIncludeItemSliced self.old.source) (map world_include_item_of items.now) }
-        ensures { Prints self.old result self.new (with_layout self.old.depth (map (bare_world_include_item self.old.source) (map world_include_item_of items.now))) }
+        requires { All (walk_world_include_item (printable self.old.source)) (map world_include_item_of items.now) }
+        ensures { Prints self.old result self.new (with_layout self.old.depth (map (walk_world_include_item (bare self.old.source)) (map world_include_item_of items.now))) }
     {
         if items.is_empty() {
             return self.ready();
@@ -178,8 +179,8 @@ impl<'a, S: Sink> DocumentPrinter<'a, S> {
     }
 
     fn with_rows(&mut self, items: &[WorldIncludeItem<'_>]) -> PrintResult
-        requires { All (WorldIncludeItemSliced self.old.source) (map world_include_item_of items.now) }
-        ensures { Prints self.old result self.new (space ∷ token (codes "with") ∷ rows world_include_item_layout self.old.depth (map (bare_world_include_item self.old.source) (map world_include_item_of items.now))) }
+        requires { All (walk_world_include_item (printable self.old.source)) (map world_include_item_of items.now) }
+        ensures { Prints self.old result self.new (space ∷ token (codes "with") ∷ rows world_include_item_layout self.old.depth (map (walk_world_include_item (bare self.old.source)) (map world_include_item_of items.now))) }
     {
         self.blank(" ")
             .and(self.token("with"))
@@ -187,8 +188,8 @@ impl<'a, S: Sink> DocumentPrinter<'a, S> {
     }
 
     fn world_include_item(&mut self, item: &WorldIncludeItem<'_>) -> PrintResult
-        requires { WorldIncludeItemSliced self.old.source (world_include_item_of item.now) }
-        ensures { Prints self.old result self.new (world_include_item_layout self.old.depth (bare_world_include_item self.old.source (world_include_item_of item.now))) }
+        requires { walk_world_include_item (printable self.old.source) (world_include_item_of item.now) }
+        ensures { Prints self.old result self.new (world_include_item_layout self.old.depth (walk_world_include_item (bare self.old.source) (world_include_item_of item.now))) }
     {
         self.line()
             .and(self.ident(&item.from))

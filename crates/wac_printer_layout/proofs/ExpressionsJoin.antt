@@ -1,15 +1,16 @@
 -- The pieces of expressions join.
+use Rattle.wac_ast_grammar.specs.Walk.{walk_arguments, walk_expr, walk_instantiation_argument, walk_instantiation_argument_name, walk_postfix_expr, walk_primary_expr}
 use Rattle.wac_printer_layout.proofs.Common.{◌≡◌, ℕ, Bool, true, List, [], ◌∷◌, ◌++◌, refl, AllByRecursion, flat_map, follows, PostfixExpr, InstantiationArgumentName, Expr, PrimaryExpr, Arguments, InstantiationArgument}
 use Rattle.wac_lexer.specs.declared.token.Token.TheVariants as kinds
 use Rattle.wac_ast_grammar.specs.Tree as tree
 use Rattle.wac_printer_layout.specs.Printed.{Piece, line, text, deeper}
 use Rattle.wac_printer_layout.specs.Parts.{newline}
-use Rattle.wac_printer_layout.specs.Texts.{Spelled, PostfixExprHas, ArgumentNameHas, ExprHas, PrimaryExprHas, ArgumentsHas, ArgumentHas}
+use Rattle.wac_printer_layout.specs.Texts.{Spelled, has}
 use Rattle.wac_printer_layout.specs.ExpressionLayout.{postfix_expr_layout, argument_name_layout, comma_layout, braced_layout, expr_layout, primary_expr_layout, arguments_layout, argument_layout}
 use Rattle.wac_printer_layout.proofs.Joints.{J, also, known, dot, word, string, name, colon, comma, ellipsis, open_paren, close_paren, open_brace, close_brace, open_bracket, close_bracket}
 
 module _ (gap : List ℕ) where
-  postfix_join : (x : PostfixExpr) (rest : List ℕ) (fresh : Bool) → PostfixExprHas Spelled x → follows kinds.Ident rest ≡ true → J gap rest fresh (postfix_expr_layout x)
+  postfix_join : (x : PostfixExpr) (rest : List ℕ) (fresh : Bool) → walk_postfix_expr (has Spelled) x → follows kinds.Ident rest ≡ true → J gap rest fresh (postfix_expr_layout x)
   postfix_join (tree.PostfixExpr.access x) rest fresh is h = (known _ refl _ (dot x.id.string [] rest is), (word _ _ is h, tt))
   postfix_join (tree.PostfixExpr.named_access x) rest fresh is h = (open_bracket _, (string _ _ is, (close_bracket _, tt)))
 
@@ -18,7 +19,7 @@ module _ (gap : List ℕ) where
   postfixes_follow (tree.PostfixExpr.access x ∷ xs) rest fresh h = refl
   postfixes_follow (tree.PostfixExpr.named_access x ∷ xs) rest fresh h = refl
 
-  postfixes_join : (xs : List PostfixExpr) (rest : List ℕ) (fresh : Bool) → AllByRecursion (PostfixExprHas Spelled) xs → follows kinds.Ident rest ≡ true → J gap rest fresh (flat_map postfix_expr_layout xs)
+  postfixes_join : (xs : List PostfixExpr) (rest : List ℕ) (fresh : Bool) → AllByRecursion (walk_postfix_expr (has Spelled)) xs → follows kinds.Ident rest ≡ true → J gap rest fresh (flat_map postfix_expr_layout xs)
   postfixes_join [] rest fresh is h = tt
   postfixes_join (x ∷ xs) rest fresh is h =
       also gap rest fresh (postfix_expr_layout x) (flat_map postfix_expr_layout xs) (postfix_join x _ fresh is.0 (postfixes_follow xs rest _ h)) (postfixes_join xs rest _ is.1 h)
@@ -49,18 +50,18 @@ module _ (gap : List ℕ) where
   braced_join depth (tree.Arguments.more (tree.InstantiationArgument.named n x) xs) lines rest fresh is = lines_join depth lines rest fresh is
   braced_join depth (tree.Arguments.more (tree.InstantiationArgument.inferred x) xs) lines rest fresh is = lines_join depth lines rest fresh is
 
-  argument_name_join : (x : InstantiationArgumentName) (rest : List ℕ) (fresh : Bool) → ArgumentNameHas Spelled x → follows kinds.Ident rest ≡ true → J gap rest fresh (argument_name_layout x)
+  argument_name_join : (x : InstantiationArgumentName) (rest : List ℕ) (fresh : Bool) → walk_instantiation_argument_name (has Spelled) x → follows kinds.Ident rest ≡ true → J gap rest fresh (argument_name_layout x)
   argument_name_join (tree.InstantiationArgumentName.ident x) rest fresh is h = (word _ _ is h, tt)
   argument_name_join (tree.InstantiationArgumentName.string x) rest fresh is h = (string _ _ is, tt)
 
   mutual
     unfolding expr_layout primary_expr_layout arguments_layout argument_layout
 
-    pub expr_join : (depth : ℕ) (x : Expr) (rest : List ℕ) (fresh : Bool) → ExprHas Spelled x → follows kinds.Ident rest ≡ true → J gap rest fresh (expr_layout depth x)
+    pub expr_join : (depth : ℕ) (x : Expr) (rest : List ℕ) (fresh : Bool) → walk_expr (has Spelled) x → follows kinds.Ident rest ≡ true → J gap rest fresh (expr_layout depth x)
     expr_join depth (tree.Expr.expr s first others) rest fresh is h =
         also gap rest fresh (primary_expr_layout depth first) (flat_map postfix_expr_layout others) (primary_join depth first _ fresh is.0 (postfixes_follow others rest _ h)) (postfixes_join others rest _ is.1 h)
 
-    primary_join : (depth : ℕ) (x : PrimaryExpr) (rest : List ℕ) (fresh : Bool) → PrimaryExprHas Spelled x → follows kinds.Ident rest ≡ true → J gap rest fresh (primary_expr_layout depth x)
+    primary_join : (depth : ℕ) (x : PrimaryExpr) (rest : List ℕ) (fresh : Bool) → walk_primary_expr (has Spelled) x → follows kinds.Ident rest ≡ true → J gap rest fresh (primary_expr_layout depth x)
     primary_join depth (tree.PrimaryExpr.new s n xs) rest fresh is h = (
       known _ refl _ refl,
       (
@@ -80,7 +81,7 @@ module _ (gap : List ℕ) where
     primary_join depth (tree.PrimaryExpr.nested s x) rest fresh is h = (open_paren _, also gap _ _ (expr_layout depth x) _ (expr_join depth x _ _ is refl) (close_paren _, tt))
     primary_join depth (tree.PrimaryExpr.ident x) rest fresh is h = (word _ _ is h, tt)
 
-    arguments_join : (depth : ℕ) (xs : Arguments) (rest : List ℕ) (fresh : Bool) → ArgumentsHas Spelled xs → J gap rest fresh (arguments_layout depth xs)
+    arguments_join : (depth : ℕ) (xs : Arguments) (rest : List ℕ) (fresh : Bool) → walk_arguments (has Spelled) xs → J gap rest fresh (arguments_layout depth xs)
     arguments_join depth tree.Arguments.none rest fresh is = tt
     arguments_join depth (tree.Arguments.more x xs) rest fresh is = (
       tt,
@@ -88,7 +89,7 @@ module _ (gap : List ℕ) where
           (also gap _ _ (comma_layout x xs) _ (comma_join x xs _ _) ((refl, tt), arguments_join depth xs rest _ is.1)),
     )
 
-    argument_join : (depth : ℕ) (x : InstantiationArgument) (rest : List ℕ) (fresh : Bool) → ArgumentHas Spelled x → follows kinds.Ident rest ≡ true → J gap rest fresh (argument_layout depth x)
+    argument_join : (depth : ℕ) (x : InstantiationArgument) (rest : List ℕ) (fresh : Bool) → walk_instantiation_argument (has Spelled) x → follows kinds.Ident rest ≡ true → J gap rest fresh (argument_layout depth x)
     argument_join depth (tree.InstantiationArgument.fill s) rest fresh is h = (ellipsis _, tt)
     argument_join depth (tree.InstantiationArgument.spread x) rest fresh is h = (ellipsis _, (word _ _ is h, tt))
     argument_join depth (tree.InstantiationArgument.named n x) rest fresh is h =

@@ -5,8 +5,8 @@ use Rattle.wac_lexer.specs.declared.token.Token.TheVariants as kinds
 use Rattle.wac_ast_grammar.specs.Grammar.{package_name, package_path}
 use Rattle.wac_ast_grammar.proofs.Derived.{Made, derived_document}
 use Rattle.wac_printer_layout.specs.Accepted.{IsAccepted}
-use Rattle.wac_printer_layout.specs.Bare.{doc_lines, bare, bare_package_name, bare_package_path, bare_document}
-use Rattle.wac_printer_layout.specs.Texts.{Spelled, DocsHave, PackageNameHas, PackagePathHas, DocumentHas, has}
+use Rattle.wac_printer_layout.specs.Bare.{doc_lines, bare_leaves, bare_package_name, bare_package_path, bare_document}
+use Rattle.wac_printer_layout.specs.Texts.{Spelled, DocsHave, PackageNameHas, PackagePathHas, DocumentHas, leaves_have}
 
 module _ (S : List ℕ) where
   -- what is known of an item: its token's text, its place, and the lines of its docs
@@ -60,7 +60,7 @@ module _ (S : List ℕ) where
   unfolding doc_lines
   no_docs_fine = tt
 
-  made : Made (asked_after (has Spelled) (bare S)) DocsFine
+  made : Made (asked_after (leaves_have Spelled) (bare_leaves S)) DocsFine
   made =
       record {
         Known = ItemFine;
@@ -76,4 +76,4 @@ module _ (S : List ℕ) where
   pub derived_fine : (xs : List Item) (x : Document) → AllByRecursion ItemFine xs → Derives document xs x → DocumentHas Spelled (bare_document doc_lines S x)
   unfolding made
   derived_fine xs x h d =
-      subst (λ A. A) (back (document_asked (has Spelled) (DocsHave Spelled) (bare S) doc_lines x)) (derived_document (asked_after (has Spelled) (bare S)) DocsFine made xs x h d)
+      subst (λ A. A) (back (document_asked (leaves_have Spelled) (DocsHave Spelled) (bare_leaves S) doc_lines x)) (derived_document (asked_after (leaves_have Spelled) (bare_leaves S)) DocsFine made xs x h d)

@@ -1,22 +1,23 @@
 -- Functions are read back.
 use Rattle.std.proofs.Common.{◌≡◌, ℕ, Bool, true, false, List, [], ◌∷◌, ◌++◌, map, sym as back, refl, ap, subst, inl, inr, codes}
+use Rattle.wac_ast_grammar.specs.Walk.{walk_func_type, walk_func_type_ref, walk_named_type, walk_result_list}
+use Rattle.wac_printer_layout.specs.Bare.{bare}
 use Rattle.wac_printer_layout.proofs.Common.{◌⊎◌, AllByRecursion, Item, is_token, Ident, NamedType, ResultList, FuncType, FuncTypeRef, by_rule}
 use Rattle.wac_lexer.specs.declared.token.Token.TheVariants as kinds
 use Rattle.wac_ast_grammar.specs.Tree as tree
 use Rattle.wac_ast_grammar.specs.Grammar.{token as one_token, sym as one_sym, then, optional, build, is_there, results_of, DerivesIn, Derives, identifier, named_type, params, more_params, result_list, func_type, func_type_ref}
 use Rattle.wac_printer_layout.specs.Printed.{token}
-use Rattle.wac_printer_layout.specs.Bare.{bare_named_type, bare_result_list, bare_func_type, bare_func_type_ref}
 use Rattle.wac_printer_layout.specs.Parts.{joined}
 use Rattle.wac_printer_layout.specs.TypeLayout.{named_type_layout, results_layout, async_layout, func_type_layout, func_type_ref_layout}
-use Rattle.wac_printer_layout.specs.Texts.{Spelled, NamedTypeHas, ResultListHas, FuncTypeHas, FuncTypeRefHas}
+use Rattle.wac_printer_layout.specs.Texts.{Spelled, has}
 use Rattle.wac_printer_layout.proofs.Means.{Means, split}
 use Rattle.wac_printer_layout.proofs.NamesBack.{alone, word_back}
 use Rattle.wac_printer_layout.proofs.TypesBack.{ty_back}
 use Rattle.wac_printer_layout.proofs.ListsBack.{joined_back, joined_first}
 
 module _ (S P : List ℕ) where
-  pub named_type_back : (x : NamedType) (ys : List Item) → NamedTypeHas Spelled (bare_named_type S x) → Means P [] ys (named_type_layout (bare_named_type S x))
-      → (u : NamedType) × Derives named_type ys u × (bare_named_type P u ≡ bare_named_type S x)
+  pub named_type_back : (x : NamedType) (ys : List Item) → walk_named_type (has Spelled) (walk_named_type (bare S) x) → Means P [] ys (named_type_layout (walk_named_type (bare S) x))
+      → (u : NamedType) × Derives named_type ys u × (walk_named_type (bare P) u ≡ walk_named_type (bare S) x)
   named_type_back x ys is h =
       let w = word_back S P x.id _ h.0 is.0 h.3 in
       let h1 = h.4 in
@@ -24,33 +25,33 @@ module _ (S P : List ℕ) where
       let r = ty_back S P x.ty _ _ is.1 h2 in
       (build named_type (w.0, (h1.0, r.0)), by_rule named_type ys (w.0, (h1.0, r.0)) (h.0 ∷ [], h.1, h.2, w.1, (h1.0 ∷ [], h1.1, h1.2, (refl, ap (is_token kinds.Colon) h1.3.0, refl), r.1)), (λ i. record { id = w.2 i; ty = r.2 i }))
 
-  params_nil : (ds : List (List ℕ)) (ys : List Item) → Means P ds ys (token (codes ")") ∷ []) → (q : List NamedType × Item) × Derives params ys q × (map (bare_named_type P) q.0 ≡ [])
+  params_nil : (ds : List (List ℕ)) (ys : List Item) → Means P ds ys (token (codes ")") ∷ []) → (q : List NamedType × Item) × Derives params ys q × (map (walk_named_type (bare P)) q.0 ≡ [])
   params_nil ds ys h = (([], h.0), by_rule params ys (inl h.0) (alone h.0 h.1 ys h.2 h.4, ap (is_token kinds.CloseParen) h.3.0, refl), refl)
 
-  more_params_nil : (ds : List (List ℕ)) (ys : List Item) → Means P ds ys (token (codes ")") ∷ []) → (q : List NamedType × Item) × Derives more_params ys q × (map (bare_named_type P) q.0 ≡ [])
+  more_params_nil : (ds : List (List ℕ)) (ys : List Item) → Means P ds ys (token (codes ")") ∷ []) → (q : List NamedType × Item) × Derives more_params ys q × (map (walk_named_type (bare P)) q.0 ≡ [])
   more_params_nil ds ys h = (([], h.0), by_rule more_params ys (inl h.0) (alone h.0 h.1 ys h.2 h.4, ap (is_token kinds.CloseParen) h.3.0, refl), refl)
 
-  pub params_back : (xs : List NamedType) (ys : List Item) → AllByRecursion (NamedTypeHas Spelled) (map (bare_named_type S) xs) → Means P [] ys (joined named_type_layout (map (bare_named_type S) xs) ++ token (codes ")") ∷ [])
-      → (q : List NamedType × Item) × Derives params ys q × (map (bare_named_type P) q.0 ≡ map (bare_named_type S) xs)
+  pub params_back : (xs : List NamedType) (ys : List Item) → AllByRecursion (walk_named_type (has Spelled)) (map (walk_named_type (bare S)) xs) → Means P [] ys (joined named_type_layout (map (walk_named_type (bare S)) xs) ++ token (codes ")") ∷ [])
+      → (q : List NamedType × Item) × Derives params ys q × (map (walk_named_type (bare P)) q.0 ≡ map (walk_named_type (bare S)) xs)
   params_back xs ys is h =
-      joined_back P (bare_named_type S) (bare_named_type P) (NamedTypeHas Spelled) named_type_layout (Derives named_type) (Derives params) (λ q. q.0) (token (codes ")") ∷ []) named_type_back params_nil
+      joined_back P (walk_named_type (bare S)) (walk_named_type (bare P)) (walk_named_type (has Spelled)) named_type_layout (Derives named_type) (Derives params) (λ q. q.0) (token (codes ")") ∷ []) named_type_back params_nil
       (Derives more_params) more_params_nil
       (λ zs front rest u q e d m. ((u ∷ q.0, q.1), by_rule params zs (inr (u, q)) (front, rest, e, d, m), refl))
       (λ c zs rest q e t l. (q, by_rule more_params zs (inr (c, q)) (c ∷ [], rest, e, (refl, t, refl), l), refl))
       xs [] ys is h
 
   -- at least one name
-  names_back : (x : NamedType) (xs : List NamedType) (ys : List Item) → AllByRecursion (NamedTypeHas Spelled) (map (bare_named_type S) (x ∷ xs)) → Means P [] ys (joined named_type_layout (map (bare_named_type S) (x ∷ xs)) ++ token (codes ")") ∷ [])
-      → (front : List Item) × (rest : List Item) × (u : NamedType) × (q : List NamedType × Item) × (ys ≡ front ++ rest) × Derives named_type front u × Derives more_params rest q × (bare_named_type P u ≡ bare_named_type S x) × (map (bare_named_type P) q.0 ≡ map (bare_named_type S) xs)
+  names_back : (x : NamedType) (xs : List NamedType) (ys : List Item) → AllByRecursion (walk_named_type (has Spelled)) (map (walk_named_type (bare S)) (x ∷ xs)) → Means P [] ys (joined named_type_layout (map (walk_named_type (bare S)) (x ∷ xs)) ++ token (codes ")") ∷ [])
+      → (front : List Item) × (rest : List Item) × (u : NamedType) × (q : List NamedType × Item) × (ys ≡ front ++ rest) × Derives named_type front u × Derives more_params rest q × (walk_named_type (bare P) u ≡ walk_named_type (bare S) x) × (map (walk_named_type (bare P)) q.0 ≡ map (walk_named_type (bare S)) xs)
   names_back x xs ys is h =
-      joined_first P (bare_named_type S) (bare_named_type P) (NamedTypeHas Spelled) named_type_layout (Derives named_type) (Derives params) (λ q. q.0) (token (codes ")") ∷ []) named_type_back params_nil
+      joined_first P (walk_named_type (bare S)) (walk_named_type (bare P)) (walk_named_type (has Spelled)) named_type_layout (Derives named_type) (Derives params) (λ q. q.0) (token (codes ")") ∷ []) named_type_back params_nil
       (Derives more_params) more_params_nil
       (λ zs front rest u q e d m. ((u ∷ q.0, q.1), by_rule params zs (inr (u, q)) (front, rest, e, d, m), refl))
       (λ c zs rest q e t l. (q, by_rule more_params zs (inr (c, q)) (c ∷ [], rest, e, (refl, t, refl), l), refl))
       x xs ys is h
 
-  results_back : (x : ResultList) (ds : List (List ℕ)) (ys : List Item) → ResultListHas Spelled (bare_result_list S x) → Means P ds ys (results_layout (bare_result_list S x))
-      → (p : (Item × ResultList) ⊎ Unit {0}) × DerivesIn Derives (optional (then (one_token kinds.Arrow) (one_sym result_list))) ys p × (bare_result_list P (results_of p) ≡ bare_result_list S x)
+  results_back : (x : ResultList) (ds : List (List ℕ)) (ys : List Item) → walk_result_list (has Spelled) (walk_result_list (bare S) x) → Means P ds ys (results_layout (walk_result_list (bare S) x))
+      → (p : (Item × ResultList) ⊎ Unit {0}) × DerivesIn Derives (optional (then (one_token kinds.Arrow) (one_sym result_list))) ys p × (walk_result_list (bare P) (results_of p) ≡ walk_result_list (bare S) x)
   results_back tree.ResultList.empty ds ys is h = (inr tt, h, refl)
   results_back (tree.ResultList.scalar x) ds ys is h =
       let r = ty_back S P x _ h.1 is h.4 in
@@ -65,14 +66,14 @@ module _ (S P : List ℕ) where
   async_back true ds ys h = (inl h.0, (alone h.0 h.1 ys h.2 h.4, ap (is_token kinds.AsyncKeyword) h.3.0, refl), refl)
   async_back false ds ys h = (inr tt, h, refl)
 
-  pub func_type_back : (x : FuncType) (ds : List (List ℕ)) (ys : List Item) → FuncTypeHas Spelled (bare_func_type S x) → Means P ds ys (func_type_layout (bare_func_type S x))
-      → (u : FuncType) × Derives func_type ys u × (bare_func_type P u ≡ bare_func_type S x)
+  pub func_type_back : (x : FuncType) (ds : List (List ℕ)) (ys : List Item) → walk_func_type (has Spelled) (walk_func_type (bare S) x) → Means P ds ys (func_type_layout (walk_func_type (bare S) x))
+      → (u : FuncType) × Derives func_type ys u × (walk_func_type (bare P) u ≡ walk_func_type (bare S) x)
   func_type_back x ds ys is h =
       let c = split P _ _ (async_layout x.is_async) _ h in
       let a = async_back x.is_async _ c.0 c.3 in
       let h1 = c.4 in
       let h2 = h1.4 in
-      let e = split P [] h2.1 (joined named_type_layout (map (bare_named_type S) x.params) ++ token (codes ")") ∷ []) (results_layout (bare_result_list S x.results)) h2.4 in
+      let e = split P [] h2.1 (joined named_type_layout (map (walk_named_type (bare S)) x.params) ++ token (codes ")") ∷ []) (results_layout (walk_result_list (bare S) x.results)) h2.4 in
       let q = params_back x.params e.0 is.0 e.3 in
       let r = results_back x.results _ e.1 is.1 e.4 in (
         build func_type (a.0, (h1.0, (h2.0, (q.0, r.0)))),
@@ -81,8 +82,8 @@ module _ (S P : List ℕ) where
         (λ i. record { is_async = a.2 i; params = q.2 i; results = r.2 i }),
       )
 
-  pub func_type_ref_back : (x : FuncTypeRef) (ds : List (List ℕ)) (ys : List Item) → FuncTypeRefHas Spelled (bare_func_type_ref S x) → Means P ds ys (func_type_ref_layout (bare_func_type_ref S x))
-      → (u : FuncTypeRef) × Derives func_type_ref ys u × (bare_func_type_ref P u ≡ bare_func_type_ref S x)
+  pub func_type_ref_back : (x : FuncTypeRef) (ds : List (List ℕ)) (ys : List Item) → walk_func_type_ref (has Spelled) (walk_func_type_ref (bare S) x) → Means P ds ys (func_type_ref_layout (walk_func_type_ref (bare S) x))
+      → (u : FuncTypeRef) × Derives func_type_ref ys u × (walk_func_type_ref (bare P) u ≡ walk_func_type_ref (bare S) x)
   unfolding func_type_ref_layout
   func_type_ref_back (tree.FuncTypeRef.func x) ds ys is h = let r = func_type_back x ds ys is h in (tree.FuncTypeRef.func r.0, by_rule func_type_ref ys (inl r.0) r.1, ap tree.FuncTypeRef.func r.2)
   func_type_ref_back (tree.FuncTypeRef.ident x) ds ys is h =

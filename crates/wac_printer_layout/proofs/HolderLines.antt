@@ -4,8 +4,8 @@ use Rattle.wac_ast_grammar.proofs.Listed.{document_listed}
 use Rattle.wac_printer_layout.specs.Printed.{text}
 use Rattle.wac_printer_layout.specs.StatementLayout.{document_layout}
 use Rattle.wac_printer_layout.specs.Joins.{IsDocLine, AreBlanks}
-use Rattle.wac_printer_layout.specs.Bare.{nowhere, Keep, no_docs, doc_lines, bare, bare_document}
-use Rattle.wac_printer_layout.specs.Texts.{Spelled, DocsHave, DocumentHas, has}
+use Rattle.wac_printer_layout.specs.Bare.{nowhere, Keep, no_docs, doc_lines, bare, bare_document, bare_leaves}
+use Rattle.wac_printer_layout.specs.Texts.{Spelled, DocsHave, DocumentHas, leaves_have}
 use Rattle.wac_printer_layout.specs.Settled.{settle_document}
 use Rattle.wac_printer_layout.specs.Reread.{read_docs, printed, IsReread}
 use Rattle.wac_printer_layout.specs.TreeLines.{bare_tree, docs_among, docs_in, lines_of, tree_lines, texts_of, tree_docs, is_not_empty, settled}
@@ -71,10 +71,10 @@ settles docs h =
 -- without docs, whatever was kept of them
 pub dropped : (keep : Keep) (source : List ℕ) (x : Document) → walk_document (changed unchanged) no_docs (bare_document keep source x) ≡ bare_tree source x
 dropped keep source x =
-    document_composed unchanged (bare source) (bare source) no_docs keep no_docs (record { ident = λ x. refl; string = λ x. refl; name = λ x. refl; path = λ x. refl; span = λ x. refl }) (λ ds. refl) x
+    document_composed unchanged (bare_leaves source) (bare_leaves source) no_docs keep no_docs (record { ident = λ x. refl; string = λ x. refl; name = λ x. refl; path = λ x. refl; span = λ x. refl }) (λ ds. refl) x
 
 docs_kept : (keep : Keep) (source : List ℕ) (x : Document) → docs_in (bare_document keep source x) ≡ map keep (docs_in x)
-docs_kept keep source x = docs_of_changed keep (bare source) x
+docs_kept keep source x = docs_of_changed keep (bare_leaves source) x
 
 -- the bare tree and the lines are all
 filled_lines : (source : List ℕ) (x : Document) → fill (bare_tree source x) (map bare_docs (tree_lines x)) ≡ bare_document doc_lines source x
@@ -128,12 +128,12 @@ module _ (D : List Doc → Type 0) where
   among (Leaf.path x ∷ ls) h = among ls h.1
   among (Leaf.span x ∷ ls) h = among ls h.1
 
-  docs_alone : Gives (has Spelled) (of_leaves of_docs)
+  docs_alone : Gives (leaves_have Spelled) (of_leaves of_docs)
   docs_alone = record { ident = λ x h. tt; string = λ x h. tt; name = λ x h. tt; path = λ x h. tt; filled = λ b h. tt }
 
   each_holder : (x : Document) → ((ds : List Doc) → DocsHave Spelled ds → D ds) → DocumentHas Spelled x → AllByRecursion D (docs_in x)
   each_holder x give h =
-      let asked = document_implied (has Spelled) (of_leaves of_docs) (DocsHave Spelled) D docs_alone give x h in
+      let asked = document_implied (leaves_have Spelled) (of_leaves of_docs) (DocsHave Spelled) D docs_alone give x h in
       among (walk_document leaves docs_leaf x) ((document_listed of_docs x).0 (document_any_spans (of_leaves of_docs) (λ s. Unit {0}) (λ s. tt) D x asked))
 
 all_settle : (holders : List (List Doc)) → AllByRecursion (DocsHave Spelled) (map doc_lines holders) → map texts_of (map doc_lines (map doc_lines holders)) ≡ settled (map lines_of holders)

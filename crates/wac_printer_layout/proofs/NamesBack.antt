@@ -1,15 +1,16 @@
 -- Names are read back.
 use Rattle.std.proofs.Common.{◌≡◌, ℕ, List, [], ◌∷◌, ◌++◌, map, sym as back, refl, ap, ◌∙◌, subst, Some, Ok, inl, inr, append_assoc, append-nil}
+use Rattle.wac_ast_grammar.specs.Walk.{walk_extern_name}
 use Rattle.wac_printer_layout.proofs.Common.{lines, Item, Doc, slice, token_of, Token, unversioned, path_name, path_segments, version_of, reads_version, is_token, Ident, String, PackageName, PackagePath, ExternName, build, Derives, extern_name, docs_of, by_rule}
 use Rattle.wac_lexer.specs.declared.token.Token.TheVariants as kinds
 use Rattle.wac_ast_grammar.specs.Tree as tree
 use Rattle.wac_ast_grammar.specs.Grammar.{identifier, string, package_name, package_path}
 use Rattle.wac_printer_layout.specs.Printed.{Piece}
-use Rattle.wac_printer_layout.specs.Bare.{nowhere, doc_line, doc_lines, bare_ident, bare_string, bare_package_name, bare_package_path, bare_extern_name}
+use Rattle.wac_printer_layout.specs.Bare.{nowhere, doc_line, doc_lines, bare_ident, bare_string, bare_package_name, bare_package_path, bare}
 use Rattle.wac_printer_layout.specs.Reread.{read_docs}
 use Rattle.wac_printer_layout.specs.Parts.{docs_layout}
 use Rattle.wac_printer_layout.specs.TypeLayout.{extern_name_layout}
-use Rattle.wac_printer_layout.specs.Texts.{Spelled, IdentHas, StringHas, PackageNameHas, PackagePathHas, ExternNameHas}
+use Rattle.wac_printer_layout.specs.Texts.{Spelled, IdentHas, StringHas, PackageNameHas, PackagePathHas, has}
 use Rattle.wac_printer_layout.proofs.ReadBack.{kind_is}
 use Rattle.wac_printer_layout.proofs.Means.{texts_of, Says, Means}
 
@@ -51,8 +52,8 @@ module _ (S P : List ℕ) where
         (λ i. record { span = nowhere; string = says.2 i; name = n i; segments = g i; version = v i }),
       )
 
-  pub extern_name_back : (x : ExternName) (ds : List (List ℕ)) (ys : List Item) → ExternNameHas Spelled (bare_extern_name S x) → Means P ds ys (extern_name_layout (bare_extern_name S x))
-      → (u : ExternName) × Derives extern_name ys u × (bare_extern_name P u ≡ bare_extern_name S x)
+  pub extern_name_back : (x : ExternName) (ds : List (List ℕ)) (ys : List Item) → walk_extern_name (has Spelled) (walk_extern_name (bare S) x) → Means P ds ys (extern_name_layout (walk_extern_name (bare S) x))
+      → (u : ExternName) × Derives extern_name ys u × (walk_extern_name (bare P) u ≡ walk_extern_name (bare S) x)
   extern_name_back (tree.ExternName.ident x) ds ys is h =
       let r = word_back x ds h.0 is h.3 in
       (tree.ExternName.ident r.0, by_rule extern_name ys (inl r.0) (subst (λ zs. Derives identifier zs r.0) (back (alone h.0 h.1 ys h.2 h.4)) r.1), ap tree.ExternName.ident r.2)

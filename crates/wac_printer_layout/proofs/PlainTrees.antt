@@ -2,7 +2,7 @@
 use Rattle.wac_printer_layout.proofs.Common.{◌≡◌, ℕ, List, refl, sym, ap, ◌∙◌, IsUtf8, ordered, without_percent, between_quotes, Document, IsTreeOf, walk_document, Change, changed, Gives, agree, document_agreeing, document_implied}
 use Rattle.wac_ast_grammar.specs.Spelled.{spelled, DocumentSpelled}
 use Rattle.wac_ast_grammar.proofs.Ordered.{document_spelled}
-use Rattle.wac_printer_layout.specs.Bare.{nowhere, Keep, no_docs, bare, bare_document}
+use Rattle.wac_printer_layout.specs.Bare.{nowhere, Keep, no_docs, bare, bare_document, bare_leaves}
 use Rattle.wac_printer_layout.specs.PlainTree.{plain, plain_document}
 use Rattle.wac_printer_layout.specs.Reread.{IsReread}
 
@@ -18,7 +18,7 @@ read =
     }
 
 -- where a leaf is spelled in the source, its plain form is read off its bare one
-leaves_read : (source : List ℕ) → Gives (spelled source) (agree read (bare source) plain)
+leaves_read : (source : List ℕ) → Gives (spelled source) (agree read (bare_leaves source) plain)
 leaves_read source =
     record {
       ident = λ x h. λ i. record { string = sym h i; span = nowhere };
@@ -30,8 +30,8 @@ leaves_read source =
 
 document_read : (keep : Keep) (source : List ℕ) (x : Document) → DocumentSpelled source x → walk_document (changed read) no_docs (bare_document keep source x) ≡ plain_document x
 document_read keep source x h =
-    document_agreeing read (bare source) plain (λ s. refl) no_docs keep no_docs x
-    (document_implied (spelled source) (agree read (bare source) plain) (λ ds. Unit {0}) (λ ds. no_docs (keep ds) ≡ no_docs ds) (leaves_read source) (λ ds h. refl) x h)
+    document_agreeing read (bare_leaves source) plain (λ s. refl) no_docs keep no_docs x
+    (document_implied (spelled source) (agree read (bare_leaves source) plain) (λ ds. Unit {0}) (λ ds. no_docs (keep ds) ≡ no_docs ds) (leaves_read source) (λ ds h. refl) x h)
 
 -- documents with equal bare trees have equal plain trees, whatever is kept of their docs
 pub plain_of_bare : (keep other : Keep) (source text : List ℕ) (x y : Document) → DocumentSpelled source x → DocumentSpelled text y → bare_document keep source x ≡ bare_document other text y → plain_document x ≡ plain_document y

@@ -1,7 +1,7 @@
 -- A bare tree is made of the bare tree without docs and of the docs of its holders, in order: each holder takes the next.
 use Rattle.wac_printer_layout.proofs.Common.{◌≡◌, ℕ, List, [], ◌∷◌, ◌++◌, map, Option, Some, None, refl, sym, ap, ◌∙◌, option_map, flat_map, Span, Doc, Document, Walk, walk_document, Leaf, Change, changed, leaves, docs_leaf, of_option, unchanged}
 use Rattle.wac_ast_grammar.proofs.Linked.{Link, link_document}
-use Rattle.wac_printer_layout.specs.Bare.{Keep, no_docs, bare, bare_document}
+use Rattle.wac_printer_layout.specs.Bare.{Keep, no_docs, bare, bare_document, bare_leaves}
 use Rattle.wac_printer_layout.specs.TreeLines.{bare_tree, docs_among, docs_in}
 
 -- the docs of holders
@@ -135,7 +135,7 @@ module _ (keep : Keep) where
   filled_again source x =
       let ls = walk_document leaves docs_leaf x in
       ap (λ docs. fill (bare_tree source x) docs) (sym (before_is ls))
-      ∙ ap (λ p. p.0) (link_document filling (changed (bare source)) leaves (bare source) (takes (bare source)) no_docs take_next keep docs_leaf (λ ds later. refl) x [])
+      ∙ ap (λ p. p.0) (link_document filling (bare source) leaves (bare_leaves source) (takes (bare_leaves source)) no_docs take_next keep docs_leaf (λ ds later. refl) x [])
 
 -- ---- the docs of a changed tree
 

@@ -1,8 +1,8 @@
 -- Docs are settled from the second time on.
 use Rattle.wac_printer_layout.proofs.Common.{◌≡◌, ℕ, Bool, true, false, cond, List, [], ◌∷◌, ◌++◌, map, length, sym, refl, ap, ◌∙◌, ◌==◌, trim, lines, Doc, Document, unchanged, Gives, agree, document_composed, document_agreeing, document_implied}
 use Rattle.wac_printer_layout.specs.Joins.{IsDocLine}
-use Rattle.wac_printer_layout.specs.Bare.{nowhere, doc_line, doc_lines, bare, bare_document}
-use Rattle.wac_printer_layout.specs.Texts.{Spelled, DocsHave, DocumentHas, has}
+use Rattle.wac_printer_layout.specs.Bare.{nowhere, doc_line, doc_lines, bare, bare_document, bare_leaves}
+use Rattle.wac_printer_layout.specs.Texts.{Spelled, DocsHave, DocumentHas, leaves_have}
 use Rattle.wac_printer_layout.specs.Settled.{settle_document}
 use Rattle.wac_printer_layout.specs.Reread.{read_docs}
 use Rattle.wac_printer_layout.proofs.DocLines.{lines_again}
@@ -46,13 +46,13 @@ docs_twice (d ∷ docs) h =
 -- a bare tree with settled docs is the tree, barely read, and settled
 pub settled_document : (S : List ℕ) (x : Document) → settle_document (bare_document read_docs S x) ≡ bare_document doc_lines S x
 settled_document S x =
-    document_composed unchanged (bare S) (bare S) doc_lines read_docs doc_lines (record { ident = λ x. refl; string = λ x. refl; name = λ x. refl; path = λ x. refl; span = λ x. refl }) docs_again x
+    document_composed unchanged (bare_leaves S) (bare_leaves S) doc_lines read_docs doc_lines (record { ident = λ x. refl; string = λ x. refl; name = λ x. refl; path = λ x. refl; span = λ x. refl }) docs_again x
 
-any_leaf : Gives (has Spelled) (agree unchanged unchanged unchanged)
+any_leaf : Gives (leaves_have Spelled) (agree unchanged unchanged unchanged)
 any_leaf = record { ident = λ x h. refl; string = λ x h. refl; name = λ x h. refl; path = λ x h. refl; filled = λ b h. tt }
 
 -- settling twice is settling once
 pub twice_document : (x : Document) → DocumentHas Spelled x → settle_document (settle_document x) ≡ settle_document x
 twice_document x h =
-    let docs = document_implied (has Spelled) (agree unchanged unchanged unchanged) (DocsHave Spelled) (λ ds. doc_lines (doc_lines ds) ≡ doc_lines ds) any_leaf docs_twice x h in
+    let docs = document_implied (leaves_have Spelled) (agree unchanged unchanged unchanged) (DocsHave Spelled) (λ ds. doc_lines (doc_lines ds) ≡ doc_lines ds) any_leaf docs_twice x h in
     document_agreeing unchanged unchanged unchanged (λ s. refl) doc_lines doc_lines doc_lines x docs

@@ -1,10 +1,11 @@
 -- The pieces of statements and of documents join.
+use Rattle.wac_ast_grammar.specs.Walk.{walk_export_options, walk_export_statement, walk_extern_name, walk_import_statement, walk_import_type, walk_let_statement, walk_package_directive, walk_statement, walk_type_statement}
 use Rattle.wac_printer_layout.proofs.Common.{◌≡◌, ℕ, Bool, true, List, [], ◌∷◌, ◌++◌, refl, Option, Some, None, codes, follows, ExternName, PackagePath, ImportType, ImportStatement, LetStatement, ExportOptions, ExportStatement, TypeStatement, Statement, PackageDirective, Document, IfThere}
 use Rattle.wac_lexer.specs.declared.token.Token.TheVariants as kinds
 use Rattle.wac_ast_grammar.specs.Tree as tree
 use Rattle.wac_printer_layout.specs.Printed.{Piece, token, text}
 use Rattle.wac_printer_layout.specs.Parts.{space, spaced}
-use Rattle.wac_printer_layout.specs.Texts.{Spelled, ExternNameHas, PackagePathHas, ImportTypeHas, ImportStatementHas, LetStatementHas, ExportOptionsHas, ExportStatementHas, TypeStatementHas, StatementHas, DirectiveHas, DocumentHas}
+use Rattle.wac_printer_layout.specs.Texts.{Spelled, PackagePathHas, DocumentHas, DocsHave, has}
 use Rattle.wac_printer_layout.specs.ExpressionLayout.{expr_layout}
 use Rattle.wac_printer_layout.specs.StatementLayout.{import_type_layout, renamed_layout, import_name_layout, import_statement_layout, let_statement_layout, export_options_layout, export_statement_layout, type_statement_layout, statement_layout, targets_layout, directive_layout, document_layout}
 use Rattle.wac_printer_layout.proofs.Joints.{J, also, documented, known, word, path, name, colon, equals, semicolon, ellipsis, spaced_join}
@@ -15,25 +16,25 @@ use Rattle.wac_printer_layout.proofs.WorldsJoin.{world_decl_join}
 use Rattle.wac_printer_layout.proofs.ExpressionsJoin.{expr_join}
 
 module _ (gap : List ℕ) where
-  import_type_join : (depth : ℕ) (x : ImportType) (rest : List ℕ) (fresh : Bool) → ImportTypeHas Spelled x → follows kinds.Ident rest ≡ true → follows kinds.PackagePath rest ≡ true → J gap rest fresh (import_type_layout depth x)
+  import_type_join : (depth : ℕ) (x : ImportType) (rest : List ℕ) (fresh : Bool) → walk_import_type (has Spelled) (DocsHave Spelled) x → follows kinds.Ident rest ≡ true → follows kinds.PackagePath rest ≡ true → J gap rest fresh (import_type_layout depth x)
   unfolding import_type_layout
   import_type_join depth (tree.ImportType.func x) rest fresh is h k = func_type_join gap x rest fresh is h
   import_type_join depth (tree.ImportType.interface x) rest fresh is h k = inline_interface_join gap depth x rest fresh is
   import_type_join depth (tree.ImportType.path x) rest fresh is h k = (path _ _ is.0.0 k, tt)
   import_type_join depth (tree.ImportType.ident x) rest fresh is h k = (word _ _ is h, tt)
 
-  renamed_join : (x : ExternName) (rest : List ℕ) (fresh : Bool) → ExternNameHas Spelled x → follows kinds.Ident rest ≡ true → J gap rest fresh (renamed_layout x)
+  renamed_join : (x : ExternName) (rest : List ℕ) (fresh : Bool) → walk_extern_name (has Spelled) x → follows kinds.Ident rest ≡ true → J gap rest fresh (renamed_layout x)
   renamed_join x rest fresh is h = ((refl, tt), (known _ refl _ refl, ((refl, tt), extern_name_join gap x rest _ is h)))
 
   import_name_follows : (x : Option ExternName) (more : List Piece) (rest : List ℕ) (fresh : Bool) → follows kinds.Ident (text gap fresh (import_name_layout x ++ token (codes ":") ∷ space ∷ more) ++ rest) ≡ true
   import_name_follows None more rest fresh = refl
   import_name_follows (Some x) more rest fresh = refl
 
-  import_name_join : (x : Option ExternName) (rest : List ℕ) (fresh : Bool) → IfThere (ExternNameHas Spelled) x → follows kinds.Ident rest ≡ true → J gap rest fresh (import_name_layout x)
+  import_name_join : (x : Option ExternName) (rest : List ℕ) (fresh : Bool) → IfThere (walk_extern_name (has Spelled)) x → follows kinds.Ident rest ≡ true → J gap rest fresh (import_name_layout x)
   import_name_join None rest fresh is h = tt
   import_name_join (Some x) rest fresh is h = renamed_join x rest fresh is h
 
-  import_join : (depth : ℕ) (x : ImportStatement) (rest : List ℕ) (fresh : Bool) → ImportStatementHas Spelled x → J gap rest fresh (import_statement_layout depth x)
+  import_join : (depth : ℕ) (x : ImportStatement) (rest : List ℕ) (fresh : Bool) → walk_import_statement (has Spelled) (DocsHave Spelled) x → J gap rest fresh (import_statement_layout depth x)
   import_join depth x rest fresh is =
       documented gap depth x.docs _ rest fresh is.0 (λ later. (
         tt,
@@ -50,7 +51,7 @@ module _ (gap : List ℕ) where
         ),
       ))
 
-  let_join : (depth : ℕ) (x : LetStatement) (rest : List ℕ) (fresh : Bool) → LetStatementHas Spelled x → J gap rest fresh (let_statement_layout depth x)
+  let_join : (depth : ℕ) (x : LetStatement) (rest : List ℕ) (fresh : Bool) → walk_let_statement (has Spelled) (DocsHave Spelled) x → J gap rest fresh (let_statement_layout depth x)
   let_join depth x rest fresh is =
       documented gap depth x.docs _ rest fresh is.0 (λ later. (
         tt,
@@ -80,12 +81,12 @@ module _ (gap : List ℕ) where
   options_follow (tree.ExportOptions.rename x) rest fresh = refl
   options_follow tree.ExportOptions.none rest fresh = refl
 
-  options_join : (x : ExportOptions) (rest : List ℕ) (fresh : Bool) → ExportOptionsHas Spelled x → follows kinds.Ident rest ≡ true → J gap rest fresh (export_options_layout x)
+  options_join : (x : ExportOptions) (rest : List ℕ) (fresh : Bool) → walk_export_options (has Spelled) x → follows kinds.Ident rest ≡ true → J gap rest fresh (export_options_layout x)
   options_join (tree.ExportOptions.spread s) rest fresh is h = (ellipsis _, tt)
   options_join (tree.ExportOptions.rename x) rest fresh is h = renamed_join x rest fresh is h
   options_join tree.ExportOptions.none rest fresh is h = tt
 
-  export_join : (depth : ℕ) (x : ExportStatement) (rest : List ℕ) (fresh : Bool) → ExportStatementHas Spelled x → J gap rest fresh (export_statement_layout depth x)
+  export_join : (depth : ℕ) (x : ExportStatement) (rest : List ℕ) (fresh : Bool) → walk_export_statement (has Spelled) (DocsHave Spelled) x → J gap rest fresh (export_statement_layout depth x)
   export_join depth x rest fresh is =
       documented gap depth x.docs _ rest fresh is.0 (λ later. (
         tt,
@@ -99,13 +100,13 @@ module _ (gap : List ℕ) where
         ),
       ))
 
-  type_statement_join : (depth : ℕ) (x : TypeStatement) (rest : List ℕ) (fresh : Bool) → TypeStatementHas Spelled x → J gap rest fresh (type_statement_layout depth x)
+  type_statement_join : (depth : ℕ) (x : TypeStatement) (rest : List ℕ) (fresh : Bool) → walk_type_statement (has Spelled) (DocsHave Spelled) x → J gap rest fresh (type_statement_layout depth x)
   unfolding type_statement_layout
   type_statement_join depth (tree.TypeStatement.interface x) rest fresh is = interface_decl_join gap depth x rest fresh is
   type_statement_join depth (tree.TypeStatement.world x) rest fresh is = world_decl_join gap depth x rest fresh is
   type_statement_join depth (tree.TypeStatement.ty x) rest fresh is = type_decl_join gap depth x rest fresh is
 
-  pub statement_join : (depth : ℕ) (x : Statement) (rest : List ℕ) (fresh : Bool) → StatementHas Spelled x → J gap rest fresh (statement_layout depth x)
+  pub statement_join : (depth : ℕ) (x : Statement) (rest : List ℕ) (fresh : Bool) → walk_statement (has Spelled) (DocsHave Spelled) x → J gap rest fresh (statement_layout depth x)
   unfolding statement_layout
   statement_join depth (tree.Statement.import_statement x) rest fresh is = import_join depth x rest fresh is
   statement_join depth (tree.Statement.let_statement x) rest fresh is = let_join depth x rest fresh is
@@ -120,7 +121,7 @@ module _ (gap : List ℕ) where
   targets_join None rest fresh is k = tt
   targets_join (Some x) rest fresh is k = ((refl, tt), (known _ refl _ refl, ((refl, tt), (path _ _ is.0.0 k, tt))))
 
-  directive_join : (depth : ℕ) (x : PackageDirective) (rest : List ℕ) (fresh : Bool) → DirectiveHas Spelled x → J gap rest fresh (directive_layout depth x)
+  directive_join : (depth : ℕ) (x : PackageDirective) (rest : List ℕ) (fresh : Bool) → walk_package_directive (has Spelled) x → J gap rest fresh (directive_layout depth x)
   directive_join depth x rest fresh is = (
     tt,
     (
@@ -138,4 +139,4 @@ module _ (gap : List ℕ) where
   pub document_join : (depth : ℕ) (x : Document) (rest : List ℕ) (fresh : Bool) → DocumentHas Spelled x → J gap rest fresh (document_layout depth x)
   document_join depth x rest fresh is =
       documented gap depth x.docs _ rest fresh is.0 (λ later. also gap rest later (directive_layout depth x.directive) (spaced (statement_layout depth) x.statements) (directive_join depth x.directive _ later is.1)
-      (spaced_join gap (statement_layout depth) (StatementHas Spelled) (statement_join depth) x.statements rest _ is.2))
+      (spaced_join gap (statement_layout depth) (walk_statement (has Spelled) (DocsHave Spelled)) (statement_join depth) x.statements rest _ is.2))

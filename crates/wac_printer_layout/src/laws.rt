@@ -3,6 +3,7 @@ ghost use Rattle.std.specs.Prelude.{◌≡◌, ◌↔◌, ◌++◌, ◌==◌, �
 ghost use Rattle.std.specs.List.{AllByRecursion};
 ghost use Rattle.std.specs.Str.{IsUtf8, trim};
 ghost use Rattle.std.specs.Str.Lines.{lines};
+ghost use Rattle.wac_ast_grammar.specs.Walk.{walk_statement};
 ghost use Rattle.wac_lexer.specs.Follow.{Follows};
 ghost use Rattle.wac_lexer.specs.Items.{items};
 ghost use Rattle.wac_lexer.specs.Reading.{slice, Slices};
@@ -20,7 +21,7 @@ ghost use Rattle.wac_ast_grammar.specs.TextTree.{IsTreeOf};
 ghost use Rattle.wac_printer_layout.specs.Reread.{IsFixed, IsReread, printed, ReadsBack, RereadAs, WasPrinted};
 ghost use Rattle.wac_printer_layout.specs.StatementLayout.{document_layout, statement_layout};
 ghost use Rattle.wac_printer_layout.specs.TreeLines.{bare_tree, settled, tree_docs, tree_lines};
-ghost use Rattle.wac_printer_layout.specs.Texts.{DocumentHas, StatementHas, Spelled};
+ghost use Rattle.wac_printer_layout.specs.Texts.{DocumentHas, Spelled, DocsHave, has};
 
 /// What pieces that join write is read back: a lexer accepts the text, and its items are the token pieces
 /// at their places, with the doc pieces before them as docs.
@@ -42,7 +43,7 @@ pub fn pieces_are_put_together()
 /// The pieces of a document join where each of its texts is spelled as its sort: an identifier, a string, a package's name or path, a line of docs.
 pub fn documents_join()
     ensures document { (space : List ℕ) (fresh : Bool) (depth : ℕ) (document : Document) → DocumentHas Spelled document → Joins space fresh (document_layout depth document) }
-    ensures statement { (rest space : List ℕ) (fresh : Bool) (depth : ℕ) (statement : Statement) → StatementHas Spelled statement → JoinsBefore rest space fresh (statement_layout depth statement) }
+    ensures statement { (rest space : List ℕ) (fresh : Bool) (depth : ℕ) (statement : Statement) → walk_statement (has Spelled) (DocsHave Spelled) statement → JoinsBefore rest space fresh (statement_layout depth statement) }
 {}
 
 /// The texts and docs of the items of a text have no rejected character, where the text has none.

@@ -1,10 +1,12 @@
-use Rattle.wac_printer.proofs.Common.{◌+◌, ◌*◌, [], ◌∷◌, ◌++◌, codes, ty_of, token, bare_ty, space, ty_layout, IsSoFar}
+use Rattle.wac_ast_grammar.specs.Walk.{walk_ty}
+use Rattle.wac_printer_layout.specs.Bare.{bare}
+use Rattle.wac_printer.proofs.Common.{◌+◌, ◌*◌, [], ◌∷◌, ◌++◌, codes, ty_of, token, space, ty_layout, IsSoFar}
 use denote.Param.Weighed.{most}
 use Rattle.wac_ast_types.specs.declared.types.«Type».{size-Type}
 use Rattle.wac_printer.proofs.printer.DocumentPrinter.+ty.Given as goal
 
 abbrev pub invariant-further_types-loop-ty : goal.invariant-further_types-loop-ty
-invariant-further_types-loop-ty g l = IsSoFar (λ source depth x. (token (codes ",") ∷ space ∷ []) ++ ty_layout (bare_ty source (ty_of x))) l.types l.ty-index l.fn.self l.self
+invariant-further_types-loop-ty g l = IsSoFar (λ source depth x. (token (codes ",") ∷ space ∷ []) ++ ty_layout (walk_ty (bare source) (ty_of x))) l.types l.ty-index l.fn.self l.self
 
 abbrev pub decreases-ty : goal.decreases-ty
 decreases-ty g l = 6 * size-Type l.ty.now + 0
