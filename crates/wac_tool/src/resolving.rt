@@ -52,7 +52,7 @@ fn resolved<'d, 'a: 'd>(
     ensures ok { IfOk result (λ graph. IsGraphOf (document_of resolver.entry) graph) }
     ensures err { IfErr result (λ error. IsErrorOf (document_of resolver.entry) error) }
 {
-    match resolver.resolve(alloc, IndexMap::new(alloc), &SameRules) {
+    match resolver.resolve(alloc, IndexMap::new(alloc), &SameRules::new(alloc)) {
         Ok(resolution) => Ok(resolution.into_graph()),
         Err(error) => Err(rejection(alloc, error)),
     }

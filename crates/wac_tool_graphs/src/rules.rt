@@ -1,10 +1,27 @@
 //! The rules by which `wac resolve` tests.
 
+use std::alloc::Global;
+use wac_graph_sameness::same;
 use wac_graph_types::{ItemKind, Reason, Rules, Types};
 
 /// Rules under which a kind fits one that means the same, and no other; each name may be used.
+///
+/// Comparing kinds takes no stack for types that nest, but memory from an allocator for as long as a comparison takes.
+///
+/// ```text
+/// match resolve(alloc, document, IndexMap::new(alloc), &SameRules::new(alloc)) { .. }
+/// ```
 #[derive(Clone, Copy, Debug)]
-pub struct SameRules;
+pub struct SameRules {
+    alloc: Global,
+}
+
+impl SameRules {
+    /// The rules, which take the memory for comparing from `alloc`.
+    pub fn new(alloc: Global) -> Self {
+        SameRules { alloc }
+    }
+}
 
 impl Rules for SameRules {
     ghost use Rattle.std.specs.Prelude.{None};
@@ -18,7 +35,7 @@ impl Rules for SameRules {
     ghost alike_renamed = { λ _ f a b apart. equal_or-renamed (record { 0 = 1 }) f a b apart };
 
     fn subtype(&self, types: &Types, a: ItemKind, b: ItemKind) -> Result<(), Reason> {
-        if types.same(a, b) {
+        if same(self.alloc, types, a, b) {
             Ok(())
         } else {
             Err(Reason(1))

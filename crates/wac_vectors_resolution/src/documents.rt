@@ -73,7 +73,7 @@ fn resolved(
         With::Nothing | With::Packages => fixed(None, None),
         With::NothingFits => fixed(Some(Reason(7)), None),
         With::NoNames => fixed(None, Some(Reason(8))),
-        With::SameFits => return composed(alloc, packages, &SameRules, resolver),
+        With::SameFits => return composed(alloc, packages, &SameRules::new(alloc), resolver),
     };
     composed(alloc, packages, &rules, resolver)
 }

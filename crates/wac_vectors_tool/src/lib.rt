@@ -6,6 +6,8 @@
 #[cfg(test)]
 mod answers;
 #[cfg(test)]
+mod chains;
+#[cfg(test)]
 mod checking;
 #[cfg(test)]
 mod choices;

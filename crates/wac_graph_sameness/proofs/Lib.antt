@@ -1,0 +1,5 @@
+pub mod Common
+pub mod Agreeing
+pub mod Forms
+pub mod Levels
+pub mod Reaching

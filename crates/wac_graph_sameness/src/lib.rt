@@ -1,0 +1,14 @@
+//! Whether two kinds mean the same, found without recursion.
+//!
+//! [`Types::same`](wac_graph_types::Types::same) recurses as deep as types nest, and a text from a stranger may have a
+//! chain of thousands, `type b = list<a>; type c = list<b>;`. Here the pairs of entries that have to mean the same stand
+//! in a list, each once, and each is compared one level deep.
+#![tactic(auto)]
+
+mod comparing;
+mod kinds;
+mod labels;
+mod pairs;
+mod parts;
+
+pub use comparing::same;
