@@ -25,6 +25,7 @@ use Rattle.wac_graph_types.specs.Table.{IsTable, IsOfSort, Names}
 use Rattle.wac_graph_types.proofs.Tables.{entry_names, each_entry_named}
 use Rattle.wac_component_rules.specs.Seen as view
 use Rattle.wac_component_rules.specs.Seen.{Seen, What, seen, what, entry_seen, items, entry_what, seen_through, through}
+use Rattle.wac_component_rules.specs.Compared.{SeenAs, type_kind}
 use Rattle.wac_component_rules.specs.Parts.{aliased_in}
 use Rattle.std.specs.Str.{bytes_eq}
 use Rattle.wac_component_rules.specs.Fits.{stands}
@@ -235,3 +236,31 @@ source_sort es i r a table is h =
 pub resources_stand : (o : ℕ → ℕ) (es : List Entry) (i j : ℕ) (n m : List ℕ) → what (meaning_at o es i) ≡ view.named_resource n → what (meaning_at o es j) ≡ view.named_resource m
     → stands (what (meaning_at o es i)) (what (meaning_at o es j)) ≡ bytes_eq n m
 resources_stand o es i j n m a b = ap (λ (w : What). stands w (what (meaning_at o es j))) a ∙ ap (λ (w : What). stands (view.named_resource n) w) b
+
+-- ---- along aliases
+
+-- what the second type is seen as, the first one is
+abbrev pub StandsFor : List Entry → ValueType → ValueType → Type 0
+StandsFor es v w = (o : ℕ → ℕ) (r : ValueType) → SeenAs o es (kinds.Value w) (kinds.Value r) × SeenAs o es (type_kind w) (type_kind r)
+    → SeenAs o es (kinds.Value v) (kinds.Value r) × SeenAs o es (type_kind v) (type_kind r)
+
+pub stands_for_itself : (es : List Entry) (v : ValueType) → StandsFor es v v
+stands_for_itself es v = λ o r h. h
+
+pub stands_for_source : (es : List Entry) (v w : ValueType) (id : DefinedTypeId) (e : Entry) (t : ValueType) → IsEarlier es → StandsFor es v w → w ≡ values.Defined id → slice_get es id.0 ≡ Some e → Some t ≡ aliased_in e → StandsFor es v t
+stands_for_source es v w id e t earlier before is at h = λ o r there. before o r (
+  defined_alias o es w id e t (forms.value (value_form w)) earlier is at h ∙ ap (through (forms.value (value_form w))) there.0,
+  defined_alias o es w id e t (forms.a_value (value_form w)) earlier is at h ∙ ap (through (forms.a_value (value_form w))) there.0,
+)
+
+pub stands_for_whole : (es : List Entry) (v w : ValueType) → IsTable es → Names es (kinds.Value w) → ((id : DefinedTypeId) → w ≡ values.Defined id → ⊥) → StandsFor es v w
+    → (o : ℕ → ℕ) → SeenAs o es (kinds.Value v) (kinds.Value w) × SeenAs o es (type_kind v) (type_kind w)
+stands_for_whole es v w table names n before = λ o. before o w (whole_value o es w (forms.value (value_form w)) table names n, whole_value o es w (forms.a_value (value_form w)) table names n)
+
+pub stands_for_unaliased : (es : List Entry) (v w : ValueType) (id : DefinedTypeId) (e : Entry) → IsEarlier es → w ≡ values.Defined id → slice_get es id.0 ≡ Some e → None ≡ aliased_in e → StandsFor es v w
+    → (o : ℕ → ℕ) → SeenAs o es (kinds.Value v) (kinds.Value (values.Defined id)) × SeenAs o es (type_kind v) (type_kind (values.Defined id))
+stands_for_unaliased es v w id e earlier is at h before = λ o. before o (values.Defined id) (whole_defined o es w id e forms.value earlier is at (sym h), whole_defined o es w id e forms.a_value earlier is at (sym h))
+
+-- the name of the second resource's source is that of the first one's
+abbrev pub NamedAfter : List Entry → ℕ → ℕ → Type 0
+NamedAfter es i j = (o : ℕ → ℕ) (name : List ℕ) → what (meaning_at o es j) ≡ view.named_resource name → what (meaning_at o es i) ≡ view.named_resource name

@@ -8,11 +8,13 @@ ghost use Rattle.wac_component_rules.specs.Found.{AllFit};
 ghost use Rattle.wac_component_rules.specs.Parts.{OfOneSort};
 ghost use Rattle.wac_component_rules.specs.Seen.{seen};
 
+use crate::ahead::compare_ahead;
 use crate::found::Found;
 use crate::kinds::{is_type, number, same_form, value_kind};
 use crate::parts::{part_at, part_count, same_constructor};
 use crate::sides::{Side, items};
 use crate::sources::{plain_kind, source_name};
+use std::alloc::Global;
 use wac_graph_types::names::find;
 use wac_graph_types::{Entry, ItemKind};
 
@@ -83,7 +85,7 @@ fn plain_fits(entries: &[Entry], found: &mut Found, a: ItemKind, b: ItemKind) ->
 /// The same of entries. A pair in `found` isn't compared again, and a pair that fits is added, so that types that name
 /// others twice aren't traversed twice.
 #[cycle(fitting)]
-fn entry_fits(entries: &[Entry], found: &mut Found, i: usize, j: usize) -> bool
+pub(crate) fn entry_fits(entries: &[Entry], found: &mut Found, i: usize, j: usize) -> bool
     requires table { IsTable entries.now }
     requires first { i < length entries.now }
     requires second { j < length entries.now }
@@ -94,6 +96,9 @@ fn entry_fits(entries: &[Entry], found: &mut Found, i: usize, j: usize) -> bool
 {
     if found.has(i, j) {
         return true;
+    }
+    if let Some(fits) = found.answer(i, j) {
+        return fits;
     }
     if compared(entries, found, i, j) {
         found.add(i, j);
@@ -206,13 +211,29 @@ fn parts_fit(entries: &[Entry], found: &mut Found, i: usize, j: usize) -> bool
     true
 }
 
-/// Whether the first kind of a table may stand where the second is expected.
-pub fn fitting(entries: &[Entry], a: ItemKind, b: ItemKind) -> bool
+/// Whether the first kind of a table may stand where the second is expected. What was found of other kinds of the table
+/// isn't compared again.
+pub fn fits_after(entries: &[Entry], found: &mut Found, a: ItemKind, b: ItemKind) -> bool
+    requires table { IsTable entries.now }
+    requires first { Names entries.now a }
+    requires second { Names entries.now b }
+    requires found { AllFit entries.now found.old }
+    ensures fits { (o : ℕ → ℕ) → result ≡ fits (seen (meaning o entries.now a)) (seen (meaning o entries.now b)) }
+    ensures found { AllFit entries.now found.new }
+{
+    // Where memory runs out, the pairs that are left are compared by calls within calls.
+    let _is_complete = compare_ahead(entries, found, a, b).is_ok();
+    kind_fits(entries, found, Some(a), Some(b))
+}
+
+/// Whether the first kind of a table may stand where the second is expected. Each pair of entries that
+/// is compared takes memory.
+pub fn fitting(alloc: Global, entries: &[Entry], a: ItemKind, b: ItemKind) -> bool
     requires table { IsTable entries.now }
     requires first { Names entries.now a }
     requires second { Names entries.now b }
     ensures { (o : ℕ → ℕ) → result ≡ fits (seen (meaning o entries.now a)) (seen (meaning o entries.now b)) }
 {
-    let mut found = Found::new();
-    kind_fits(entries, &mut found, Some(a), Some(b))
+    let mut found = Found::new(alloc);
+    fits_after(entries, &mut found, a, b)
 }

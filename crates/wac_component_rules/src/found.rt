@@ -1,25 +1,33 @@
-//! Pairs of entries of which the first was found to fit the second, so that few are compared again.
-ghost use Rattle.std.specs.Prelude.{ℕ, ◌<◌, List, IsTrue};
+//! Pairs of entries that were compared, so that few are compared again.
+ghost use Rattle.std.specs.Prelude.{ℕ, ◌<◌, List, IsTrue, IfSome, Bool};
 ghost use Rattle.wac_graph_types.specs.declared.entry.Entry.{Entry};
-ghost use Rattle.wac_component_rules.specs.Found.{AllFit, EntryFits};
+ghost use Rattle.wac_component_rules.specs.Found.{AllFit, EntryFits, EntryTells};
 
+use indexmap::IndexMap;
+use std::alloc::{AllocError, Global};
 use std::marker::Model;
 
-/// How many pairs there is room for.
+/// How many pairs that fit there is room for without memory.
 const ROOM: usize = 1024;
 
-/// Some of the pairs that were found: each is in a slot of its own, until another one takes that. It takes no memory.
+/// Pairs that were compared.
+///
+/// Of those that fit some are in slots, each in one of its own until another one takes that, which takes no memory.
+/// Pairs that were compared ahead, and whether they fit, are kept for as long as kinds are compared.
 #[derive(Drop)]
-pub(crate) struct Found {
+pub struct Found {
     slots: [Option<(usize, usize)>; ROOM],
+    answers: Vec<((usize, usize), bool)>,
+    /// Where each pair's answer is. The pair at that place is read before its answer is used.
+    places: IndexMap<(usize, usize), usize>,
 }
 
 impl Model for Found {
-    ghost use Rattle.std.specs.Prelude.{ℕ, List, Option};
+    ghost use Rattle.std.specs.Prelude.{ℕ, List, Option, Bool};
 
-    ghost Value = { List (Option (ℕ × ℕ)) };
+    ghost Value = { List (Option (ℕ × ℕ)) × List ((ℕ × ℕ) × Bool) };
 
-    ghost view = { λ p. p.slots };
+    ghost view = { λ p. (p.slots, p.answers.items) };
 }
 
 fn slot(i: usize, j: usize) -> usize
@@ -29,17 +37,23 @@ fn slot(i: usize, j: usize) -> usize
 }
 
 impl Found {
-    /// No pair.
-    pub fn new() -> Self
+    /// No pair. Those that are kept take memory from `alloc`.
+    pub fn new(alloc: Global) -> Self
         ensures { (es : List Entry) → AllFit es result }
     {
         Found {
             slots: [None; ROOM],
+            answers: Vec::new(alloc),
+            places: IndexMap::new(alloc),
         }
     }
 
-    /// Whether a pair is held.
-    pub fn has(&self, i: usize, j: usize) -> bool
+    pub(crate) fn allocator(&self) -> Global {
+        *self.answers.allocator()
+    }
+
+    /// Whether a pair that fits is in its slot.
+    pub(crate) fn has(&self, i: usize, j: usize) -> bool
         ensures { (es : List Entry) → AllFit es self.now → IsTrue result → EntryFits es i j }
     {
         match self.slots.get(slot(i, j)) {
@@ -48,10 +62,40 @@ impl Found {
         }
     }
 
-    /// Adds a pair. Of the others only the one in its slot is lost.
-    pub fn add(&mut self, i: usize, j: usize)
+    /// Puts a pair that fits into its slot. Of the others only the one in that slot is lost.
+    pub(crate) fn add(&mut self, i: usize, j: usize)
         ensures { (es : List Entry) → AllFit es self.old → EntryFits es i j → AllFit es self.new }
     {
         self.slots[slot(i, j)] = Some((i, j));
+    }
+
+    /// Whether a pair fits, if its answer is kept.
+    pub(crate) fn answer(&self, i: usize, j: usize) -> Option<bool>
+        ensures { (es : List Entry) → AllFit es self.now → IfSome result (EntryTells es i j) }
+    {
+        let place = match self.places.get(&(i, j)) {
+            None => return None,
+            Some(place) => *place,
+        };
+        match self.answers.get(place) {
+            None => None,
+            Some(((a, b), fits)) => {
+                if *a == i && *b == j {
+                    Some(*fits)
+                } else {
+                    None
+                }
+            }
+        }
+    }
+
+    /// Keeps whether a pair fits.
+    pub(crate) fn keep(&mut self, i: usize, j: usize, fits: bool) -> Result<(), AllocError>
+        ensures { (es : List Entry) → AllFit es self.old → EntryTells es i j fits → AllFit es self.new }
+    {
+        let place = self.answers.len();
+        self.answers.push(((i, j), fits))?;
+        self.places.insert((i, j), place)?;
+        Ok(())
     }
 }

@@ -1,6 +1,7 @@
-//! What `wac_component_mismatch` reads of kinds. It is of no use to others, and may change.
+//! What `wac_component_mismatch` and `wac_composition_warnings` read of kinds. It is of no use to others, and may change.
 
-pub use crate::fitting::fitting;
+pub use crate::fitting::{fits_after, fitting};
+pub use crate::found::Found;
 pub use crate::kinds::{number, same_form};
 pub use crate::parts::{Part, PartSlot, part_at, part_count, same_constructor};
 pub use crate::sides::{Side, items};

@@ -1,10 +1,10 @@
 //! What is read of a kind without a table.
 ghost use Rattle.std.specs.Prelude.{◌≡◌, IsTrue, ◌↔◌};
-ghost use Rattle.wac_graph_types.specs.Entry.{optional};
+ghost use Rattle.wac_graph_types.specs.Entry.{optional, sort_of};
 ghost use Rattle.wac_graph_types.specs.Kind.{form, named_by, value_form, value_named_by};
 ghost use Rattle.wac_component_rules.specs.Fits.{is_type as is_type_form};
 
-use wac_graph_types::{ItemKind, Type, ValueType};
+use wac_graph_types::{Entry, ItemKind, Type, ValueType};
 
 fn same_value_form(a: ValueType, b: ValueType) -> bool
     ensures { IsTrue result ↔ (value_form a ≡ value_form b) }
@@ -93,6 +93,20 @@ pub fn is_type(kind: ItemKind) -> bool
         ItemKind::Component(_) => false,
         ItemKind::Module(_) => false,
         ItemKind::Value(_) => false,
+    }
+}
+
+/// Whether two entries are of one sort.
+pub fn same_sort(a: &Entry, b: &Entry) -> bool
+    ensures { IsTrue result → sort_of a.now ≡ sort_of b.now }
+{
+    match (a, b) {
+        (Entry::Defined(_), Entry::Defined(_)) => true,
+        (Entry::Resource(_), Entry::Resource(_)) => true,
+        (Entry::Func(_), Entry::Func(_)) => true,
+        (Entry::Interface(_), Entry::Interface(_)) => true,
+        (Entry::World(_), Entry::World(_)) => true,
+        _ => false,
     }
 }
 

@@ -1,6 +1,7 @@
 //! The component model's rules: which kind may stand where another is expected, and which names externs may have.
 #![tactic(auto)]
 
+mod ahead;
 mod fitting;
 mod found;
 pub mod internals;

@@ -30,12 +30,15 @@ pub fn source_name(entries: &[Entry], number: usize) -> &str
     requires sort { option_map sort_of (slice_get entries.now number) ≡ Some sorts.Resource }
     ensures { (o : ℕ → ℕ) → what (meaning_at o entries.now number) ≡ What.named_resource result.now }
 {
-    match resource_of(&entries[number]) {
-        None => "",
-        Some(resource) => match resource.alias {
-            None => resource.name.as_str(),
-            Some(alias) => source_name(entries, alias.source.0),
-        },
+    let mut at = number;
+    loop {
+        match resource_of(&entries[at]) {
+            None => return "",
+            Some(resource) => match resource.alias {
+                None => return resource.name.as_str(),
+                Some(alias) => at = alias.source.0,
+            },
+        }
     }
 }
 
@@ -48,14 +51,17 @@ pub fn plain_value(entries: &[Entry], value: ValueType) -> ValueType
     ensures value { (o : ℕ → ℕ) → SeenAs o entries.now (ItemKind.Value value) (ItemKind.Value result) }
     ensures typed { (o : ℕ → ℕ) → SeenAs o entries.now (type_kind value) (type_kind result) }
 {
-    match value {
-        ValueType::Primitive(_) => value,
-        ValueType::Own(_) => value,
-        ValueType::Borrow(_) => value,
-        ValueType::Defined(id) => match aliased(&entries[id.0]) {
-            None => value,
-            Some(source) => plain_value(entries, source),
-        },
+    let mut at = value;
+    loop {
+        match at {
+            ValueType::Primitive(_) => return at,
+            ValueType::Own(_) => return at,
+            ValueType::Borrow(_) => return at,
+            ValueType::Defined(id) => match aliased(&entries[id.0]) {
+                None => return at,
+                Some(source) => at = source,
+            },
+        }
     }
 }
 

@@ -1,4 +1,4 @@
 use Rattle.wac_component_rules.proofs.fitting.fitting.Goals as goal
 
-pub kind_fits-requires-clause-found : goal.kind_fits-requires-clause-found
-kind_fits-requires-clause-found c = c.new-found.ensures c.args.entries.now
+pub fits_after-requires-clause-found : goal.fits_after-requires-clause-found
+fits_after-requires-clause-found c = c.new-found.ensures c.args.entries.now
