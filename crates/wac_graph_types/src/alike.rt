@@ -42,7 +42,7 @@ impl DefinedType {
 }
 
 /// Whether two entries are alike apart from the kinds in them. No two resources are.
-fn same_label(first: &Entry, second: &Entry) -> bool
+pub fn same_label(first: &Entry, second: &Entry) -> bool
     ensures { (p q : ℕ) → (IsResource first.now → IsResource second.now → p ≢ q) → (IsTrue result ↔ (label p first.now ≡ label q second.now)) }
 {
     match (first, second) {

@@ -41,7 +41,8 @@ fn same_text(a: Option<&str>, b: Option<&str>) -> bool
 }
 
 impl<'a> Place<'a> {
-    pub(crate) fn same(self, other: Place<'_>) -> bool
+    /// Whether both are one place.
+    pub fn same(self, other: Place<'_>) -> bool
         ensures { IsTrue result ↔ (slot_of self.entry ≡ slot_of other.entry) }
     {
         match (self, other) {
@@ -382,7 +383,7 @@ impl Entry {
     }
 
     /// The number of kinds in it, which a `usize` need not hold.
-    pub(crate) fn len(&self) -> u128
+    pub fn len(&self) -> u128
         ensures { result ≡ length (children self.now) }
     {
         match self {
@@ -395,7 +396,7 @@ impl Entry {
     }
 
     /// The kind at a place.
-    pub(crate) fn child(&self, at: u128) -> Option<Child<'_>>
+    pub fn child(&self, at: u128) -> Option<Child<'_>>
         requires { at < length (children self.now) }
         ensures { option_map child_view result ≡ slice_get (children self.now) at }
     {

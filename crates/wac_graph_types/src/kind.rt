@@ -148,7 +148,7 @@ fn same_type_form(a: Type, b: Type) -> bool
 
 impl ItemKind {
     /// Whether both have one form, apart from the entries that they name.
-    pub(crate) fn same_form(self, other: ItemKind) -> bool
+    pub fn same_form(self, other: ItemKind) -> bool
         ensures { IsTrue result ↔ (form self ≡ form other) }
     {
         match (self, other) {
@@ -163,7 +163,7 @@ impl ItemKind {
     }
 
     /// The number of the entry that it names.
-    pub(crate) fn id(self) -> Option<usize>
+    pub fn id(self) -> Option<usize>
         ensures { result ≡ named_by self }
     {
         match self {

@@ -34,3 +34,9 @@ pub use kind::{
 pub use package::{Package, PackageError};
 pub use rules::{Reason, Rules};
 pub use types::Types;
+
+/// What an entry is made of, for crates that compare entries as [`Types::same`] does.
+pub mod internals {
+    pub use crate::alike::same_label;
+    pub use crate::child::{Child, Place};
+}
