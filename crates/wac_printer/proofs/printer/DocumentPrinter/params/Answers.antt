@@ -8,7 +8,7 @@ use Rattle.wac_printer.proofs.BareLists.{joined_bare}
 use Rattle.wac_printer.proofs.printer.DocumentPrinter.params.Goals as goal
 
 pub joined-requires : goal.joined-requires
-joined-requires g c = All-at walk_named_type (printable named_type_of) c.args.params.now _ _ (c.token.ensures.keeps.0) c.requires
+joined-requires g c = All-at (λ source. walk_named_type (printable source)) named_type_of c.args.params.now _ _ (c.token.ensures.keeps.0) c.requires
 
 pub returns : goal.returns
 returns g c = last c.and-2.ensures (after c.and.ensures (first c.token.ensures) (printed_as (joined_bare named_type_layout (walk_named_type (bare c.args.self.now.source)) named_type_of c.args.params.now) (printed_at (λ source. joined (λ x. named_type_layout (walk_named_type (bare source) (named_type_of x))) c.args.params.now) (c.token.ensures.keeps.0) c.joined.ensures))) c.token-2.ensures
