@@ -1,12 +1,10 @@
 -- Kinds and entries mean the same where their forms are the same and what they name means the same.
-use Rattle.wac_graph_sameness.proofs.Common.{◌≡◌, ◌≢◌, ℕ, List, Bool, true, false, Some, refl, sym, ap, ◌∙◌, slice_get, Meaning, node, plain, dangling, done, named, label, row, children, entry_over, Entry, ItemKind, IsResource}
+use Rattle.wac_graph_sameness.proofs.Common.{◌≡◌, ◌≢◌, ℕ, List, Bool, true, false, Some, refl, sym, ap, ◌∙◌, slice_get, Meaning, node, plain, dangling, done, named, label, row, children, entry_over, Entry, ItemKind}
 use Rattle.std.specs.Prelude.{Result, Ok, Err, IfOk}
-use Rattle.wac_graph_types.specs.declared.entry.Entry.TheVariants as entries
 use Rattle.wac_graph_types.specs.Kind.{form, named_by}
 use Rattle.wac_graph_types.specs.Label.{Label, kind}
 use Rattle.wac_graph_types.specs.Meaning.{Row, more, of_kind}
 use Rattle.wac_graph_sameness.specs.Pairs.{AreAlikeOver, Reduces}
-use Rattle.wac_graph_sameness.specs.Parts.{parts_of}
 use Rattle.wac_graph_sameness.proofs.Agreeing.{denied}
 
 abbrev label_in : Meaning → Label
@@ -34,22 +32,13 @@ kinds_reduce a b i j old new forms first second r = record {
 pub labels_deny : (d e : Entry) (p q : ℕ) (old : List (ℕ × ℕ)) → label p d ≢ label q e → Reduces (λ means. entry_over means p d ≡ entry_over means q e) false old old
 labels_deny d e p q old differ = denied (λ means. entry_over means p d ≡ entry_over means q e) old old (λ k x is. is) (λ means h same. differ (ap label_in same))
 
-pub parts_are_children : (e : Entry) → (IsResource e → ⊥) → parts_of e ≡ children e
-parts_are_children (entries.Defined d) other = refl
-parts_are_children (entries.Resource r) other = absurd (other tt)
-parts_are_children (entries.Func f) other = refl
-parts_are_children (entries.Interface i) other = refl
-parts_are_children (entries.World w) other = refl
-
 -- two entries of one label
-pub entries_reduce : (d e : Entry) (p q : ℕ) (same : Bool) (old new : List (ℕ × ℕ)) → label p d ≡ label q e → parts_of d ≡ children d → parts_of e ≡ children e
-    → Reduces (λ means. row means (parts_of d) ≡ row means (parts_of e)) same old new → Reduces (λ means. entry_over means p d ≡ entry_over means q e) same old new
-entries_reduce d e p q same old new labels first second r = record {
+pub entries_reduce : (d e : Entry) (p q : ℕ) (same : Bool) (old new : List (ℕ × ℕ)) → label p d ≡ label q e
+    → Reduces (λ means. row means (children d) ≡ row means (children e)) same old new → Reduces (λ means. entry_over means p d ≡ entry_over means q e) same old new
+entries_reduce d e p q same old new labels r = record {
   keeps = r.keeps;
-  needed = λ means h alike. r.needed means h (ap (row means) first ∙ ap row_in alike ∙ sym (ap (row means) second));
-  enough = λ means yes h.
-      let rows : row means (children d) ≡ row means (children e) = sym (ap (row means) first) ∙ r.enough means yes h ∙ ap (row means) second in
-      ap (λ l. node l (row means (children d))) labels ∙ ap (node (label q e)) rows;
+  needed = λ means h alike. r.needed means h (ap row_in alike);
+  enough = λ means yes h. ap (λ l. node l (row means (children d))) labels ∙ ap (node (label q e)) (r.enough means yes h);
 }
 
 -- an entry and itself

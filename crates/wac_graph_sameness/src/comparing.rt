@@ -5,13 +5,10 @@ ghost use Rattle.wac_graph_types.specs.Meaning.{IsEarlier, IsOneToOne, IsResourc
 ghost use Rattle.wac_graph_types.specs.Shape.{entry_over};
 ghost use Rattle.wac_graph_types.specs.Table.{IsTable, Names};
 ghost use Rattle.wac_graph_sameness.specs.Pairs.{Agree, AreAlikeOver, Reduces};
-ghost use Rattle.wac_graph_sameness.specs.Parts.{parts_of};
 
-use crate::kinds::{number, same_form};
-use crate::labels::same_label;
 use crate::pairs::{Pairs, Unanswered};
-use crate::parts::{part_at, part_count};
 use std::alloc::Global;
+use wac_graph_types::internals::same_label;
 use wac_graph_types::{Entry, ItemKind, Types};
 
 /// Of two kinds of which one names an entry below this one, the recursion of `Types::same` is no deeper than this.
@@ -28,10 +25,10 @@ fn add_kinds(
     match (a, b) {
         (None, None) => Ok(true),
         (Some(a), Some(b)) => {
-            if !same_form(a, b) {
+            if !a.same_form(b) {
                 return Ok(false);
             }
-            match (number(a), number(b)) {
+            match (a.id(), b.id()) {
                 (Some(first), Some(second)) => {
                     pairs.add(first, second)?;
                     Ok(true)
@@ -46,15 +43,15 @@ fn add_kinds(
 
 /// Whether the parts of two entries may mean the same, where the pairs that have to do so for it are added.
 fn add_parts(pairs: &mut Pairs, first: &Entry, second: &Entry) -> Result<bool, Unanswered>
-    ensures { IfOk result (λ same. Reduces (λ means. row means (parts_of first.now) ≡ row means (parts_of second.now))
+    ensures { IfOk result (λ same. Reduces (λ means. row means (children first.now) ≡ row means (children second.now))
         same pairs.old pairs.new) }
 {
-    let count = part_count(first);
-    if part_count(second) != count {
+    let count = first.len();
+    if second.len() != count {
         return Ok(false);
     }
     for at in 0..count {
-        match (part_at(first, at), part_at(second, at)) {
+        match (first.child(at), second.child(at)) {
             (Some(c), Some(d)) => {
                 if !c.place.same(d.place) {
                     return Ok(false);
@@ -143,7 +140,7 @@ fn same_by_pairs(
 
 /// Whether the types in a kind nest no deeper than calls may.
 fn is_shallow(kind: ItemKind) -> bool {
-    match number(kind) {
+    match kind.id() {
         None => true,
         Some(number) => number < SHALLOW,
     }

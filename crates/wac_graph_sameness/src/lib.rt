@@ -6,9 +6,6 @@
 #![tactic(auto)]
 
 mod comparing;
-mod kinds;
-mod labels;
 mod pairs;
-mod parts;
 
 pub use comparing::same;
