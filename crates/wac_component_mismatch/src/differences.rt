@@ -1,12 +1,13 @@
 //! What differs in a pair of kinds: the kinds themselves, or a part of them.
 
 ghost use Rattle.wac_graph_types.specs.Table.{IsTable};
+ghost use Rattle.wac_component_rules.specs.Found.{AllFit};
 
 use crate::groups::{Group, group_of};
 use crate::known::{entry_of, known_fits, plain};
 use crate::places::Topic;
 use crate::words::Step;
-use wac_component_rules::internals::{Part, Side, items, same_form};
+use wac_component_rules::internals::{Found, Part, Side, items, same_form};
 use wac_graph_types::names::find;
 use wac_graph_types::{Entry, ItemKind, Type};
 
@@ -25,8 +26,14 @@ pub(crate) enum Difference<'a> {
 }
 
 /// What differs in a pair that doesn't fit.
-pub(crate) fn first_difference(entries: &[Entry], pair: Pair) -> Difference<'_>
+pub(crate) fn first_difference<'a>(
+    entries: &'a [Entry],
+    found: &mut Found,
+    pair: Pair,
+) -> Difference<'a>
     requires table { IsTable entries.now }
+    requires found { AllFit entries.now found.old }
+    ensures found { AllFit entries.now found.new }
 {
     let given = plain(entries, pair.given);
     let expected = plain(entries, pair.expected);
@@ -38,31 +45,40 @@ pub(crate) fn first_difference(entries: &[Entry], pair: Pair) -> Difference<'_>
         }
         (ItemKind::Value(_), ItemKind::Value(_)) => {
             let pair = Pair { given, expected };
-            form_difference(entries, pair, Topic::Type)
+            form_difference(entries, found, pair, Topic::Type)
         }
         _ => {
             let pair = Pair { given, expected };
-            form_difference(entries, pair, Topic::Kind)
+            form_difference(entries, found, pair, Topic::Kind)
         }
     }
 }
 
 /// The same of kinds that aren't both types of values. If all of their parts fit, the topic differs.
-fn form_difference(entries: &[Entry], pair: Pair, topic: Topic) -> Difference<'_>
+fn form_difference<'a>(
+    entries: &'a [Entry],
+    found: &mut Found,
+    pair: Pair,
+    topic: Topic,
+) -> Difference<'a>
     requires table { IsTable entries.now }
+    requires found { AllFit entries.now found.old }
+    ensures found { AllFit entries.now found.new }
 {
     if !same_form(pair.given, pair.expected) {
         return Difference::Here(None, topic);
     }
     match pair.given {
         ItemKind::Ty(Type::Resource(_)) => Difference::Here(None, topic),
-        ItemKind::Ty(_) => type_difference(entries, pair),
+        ItemKind::Ty(_) => type_difference(entries, found, pair),
         _ => match (
             entry_of(entries, pair.given),
             entry_of(entries, pair.expected),
         ) {
-            (Some(given), Some(expected)) => match entry_difference(entries, given, expected) {
-                Some(found) => found,
+            (Some(given), Some(expected)) => match entry_difference(
+                entries, found, given, expected,
+            ) {
+                Some(difference) => difference,
                 None => Difference::Here(None, topic),
             },
             _ => Difference::Here(None, topic),
@@ -71,12 +87,14 @@ fn form_difference(entries: &[Entry], pair: Pair, topic: Topic) -> Difference<'_
 }
 
 /// Types are compared both ways: this way first.
-fn type_difference(entries: &[Entry], pair: Pair) -> Difference<'_>
+fn type_difference<'a>(entries: &'a [Entry], found: &mut Found, pair: Pair) -> Difference<'a>
     requires table { IsTable entries.now }
+    requires found { AllFit entries.now found.old }
+    ensures found { AllFit entries.now found.new }
 {
     let given = pair.given.promote();
     let expected = pair.expected.promote();
-    if known_fits(entries, given, expected) {
+    if known_fits(entries, found, given, expected) {
         Difference::At(
             None,
             Pair {
@@ -92,28 +110,33 @@ fn type_difference(entries: &[Entry], pair: Pair) -> Difference<'_>
 /// What differs in two entries, if it is a part of them.
 fn entry_difference<'a>(
     entries: &'a [Entry],
+    found: &mut Found,
     given: &'a Entry,
     expected: &'a Entry,
 ) -> Option<Difference<'a>>
     requires table { IsTable entries.now }
+    requires found { AllFit entries.now found.old }
+    ensures found { AllFit entries.now found.new }
 {
     match (given, expected) {
         (Entry::Defined(ty), Entry::Defined(other)) => {
             if ty.same_shape(other) {
-                runs_difference(entries, group_of(ty), given, expected)
+                runs_difference(entries, found, group_of(ty), given, expected)
             } else {
                 None
             }
         }
         (Entry::Func(func), Entry::Func(other)) => {
             if func.is_async == other.is_async {
-                func_difference(entries, given, expected)
+                func_difference(entries, found, given, expected)
             } else {
                 Some(Difference::Here(None, Topic::Async))
             }
         }
-        (Entry::Interface(_), Entry::Interface(_)) => export_difference(entries, given, expected),
-        (Entry::World(_), Entry::World(_)) => world_difference(entries, given, expected),
+        (Entry::Interface(_), Entry::Interface(_)) => export_difference(
+            entries, found, given, expected,
+        ),
+        (Entry::World(_), Entry::World(_)) => world_difference(entries, found, given, expected),
         _ => None,
     }
 }
@@ -121,47 +144,56 @@ fn entry_difference<'a>(
 /// Parameters, then results.
 fn func_difference<'a>(
     entries: &'a [Entry],
+    found: &mut Found,
     given: &'a Entry,
     expected: &'a Entry,
 ) -> Option<Difference<'a>>
     requires table { IsTable entries.now }
+    requires found { AllFit entries.now found.old }
+    ensures found { AllFit entries.now found.new }
 {
-    match runs_difference(entries, Group::Parameters, given, expected) {
-        Some(found) => Some(found),
-        None => runs_difference(entries, Group::Results, given, expected),
+    match runs_difference(entries, found, Group::Parameters, given, expected) {
+        Some(difference) => Some(difference),
+        None => runs_difference(entries, found, Group::Results, given, expected),
     }
 }
 
 /// Imports, then exports.
 fn world_difference<'a>(
     entries: &'a [Entry],
+    found: &mut Found,
     given: &'a Entry,
     expected: &'a Entry,
 ) -> Option<Difference<'a>>
     requires table { IsTable entries.now }
+    requires found { AllFit entries.now found.old }
+    ensures found { AllFit entries.now found.new }
 {
-    match import_difference(entries, given, expected) {
-        Some(found) => Some(found),
-        None => export_difference(entries, given, expected),
+    match import_difference(entries, found, given, expected) {
+        Some(difference) => Some(difference),
+        None => export_difference(entries, found, given, expected),
     }
 }
 
 /// Parts pair by pair, name, then type, then their number.
 fn runs_difference<'a>(
     entries: &'a [Entry],
+    found: &mut Found,
     group: Group,
     given: &'a Entry,
     expected: &'a Entry,
 ) -> Option<Difference<'a>>
     requires table { IsTable entries.now }
+    requires found { AllFit entries.now found.old }
+    ensures found { AllFit entries.now found.new }
 {
     let first = group.run(given);
     let second = group.run(expected);
     for at in 0..first.count.min(second.count) {
         match (first.part(at), second.part(at)) {
             (Some(c), Some(d)) => {
-                if let Some(found) = part_difference(entries, group, at, (c, d)) {
-                    return Some(found);
+                if let Some(difference) = part_difference(entries, found, group, at, (c, d)) {
+                    return Some(difference);
                 }
             }
             _ => return None,
@@ -177,11 +209,14 @@ fn runs_difference<'a>(
 /// The same of one part of each.
 fn part_difference<'a>(
     entries: &'a [Entry],
+    found: &mut Found,
     group: Group,
     at: usize,
     parts: (Part<'a>, Part<'a>),
 ) -> Option<Difference<'a>>
     requires table { IsTable entries.now }
+    requires found { AllFit entries.now found.old }
+    ensures found { AllFit entries.now found.new }
 {
     let (given, expected) = parts;
     if !given.slot.same(expected.slot) {
@@ -193,7 +228,7 @@ fn part_difference<'a>(
         (Some(a), Some(b)) => {
             let given = ItemKind::Value(a);
             let expected = ItemKind::Value(b);
-            if known_fits(entries, given, expected) {
+            if known_fits(entries, found, given, expected) {
                 None
             } else {
                 Some(Difference::At(step, Pair { given, expected }))
@@ -206,10 +241,13 @@ fn part_difference<'a>(
 /// The first export that is expected and isn't there, or doesn't fit.
 fn export_difference<'a>(
     entries: &'a [Entry],
+    found: &mut Found,
     given: &'a Entry,
     expected: &'a Entry,
 ) -> Option<Difference<'a>>
     requires table { IsTable entries.now }
+    requires found { AllFit entries.now found.old }
+    ensures found { AllFit entries.now found.new }
 {
     let offered = items(given, Side::Exports)?;
     let asked = items(expected, Side::Exports)?;
@@ -218,7 +256,7 @@ fn export_difference<'a>(
         match find(offered, name.as_str()) {
             None => return Some(Difference::Here(step, Topic::Kind)),
             Some(offer) => {
-                if !known_fits(entries, offer, *kind) {
+                if !known_fits(entries, found, offer, *kind) {
                     let pair = Pair {
                         given: offer,
                         expected: *kind,
@@ -234,10 +272,13 @@ fn export_difference<'a>(
 /// The first import of the given one that the expected one hasn't, or that doesn't fit: the other way round.
 fn import_difference<'a>(
     entries: &'a [Entry],
+    found: &mut Found,
     given: &'a Entry,
     expected: &'a Entry,
 ) -> Option<Difference<'a>>
     requires table { IsTable entries.now }
+    requires found { AllFit entries.now found.old }
+    ensures found { AllFit entries.now found.new }
 {
     let asked = items(given, Side::Imports)?;
     let offered = items(expected, Side::Imports)?;
@@ -246,7 +287,7 @@ fn import_difference<'a>(
         match find(offered, name.as_str()) {
             None => return Some(Difference::Here(step, Topic::Kind)),
             Some(offer) => {
-                if !known_fits(entries, offer, *kind) {
+                if !known_fits(entries, found, offer, *kind) {
                     let pair = Pair {
                         given: offer,
                         expected: *kind,

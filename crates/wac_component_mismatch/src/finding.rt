@@ -1,20 +1,22 @@
 //! Where two kinds differ first.
 ghost use Rattle.std.specs.Prelude.{ℕ, IfOk, IfSome};
 ghost use Rattle.wac_graph_types.specs.Table.{IsTable, Names};
+ghost use Rattle.wac_component_rules.specs.Found.{AllFit};
 ghost use Rattle.wac_component_mismatch.specs.Told.{IsThereUnlessFits, LeadsInBoth};
 
 use crate::differences::{Difference, Pair, first_difference};
 use crate::places::{Topic, place};
 use crate::words::{Mismatch, Step};
 use std::alloc::{AllocError, Global};
-use wac_component_rules::internals::fitting;
+use wac_component_rules::internals::{Found, fits_after};
 use wac_graph_types::{Entry, ItemKind, Types};
 
 /// Where the first kind of a table differs from the second one, if it may not stand where the second is expected.
 ///
 /// Parts are compared in this order: `async`; parameters pair by pair, name, then type, then their number; results
 /// the same way; a component's imports in its own order, then its exports in the expected one's. Types are compared
-/// both ways, this way first. Only the path takes memory.
+/// both ways, this way first. The path takes
+/// memory, and so do long chains of types: for each pair of types at most 200 bytes, and no stack.
 ///
 /// ```text
 /// match mismatch(alloc, types, given, expected)? {
@@ -34,29 +36,36 @@ pub fn mismatch<'a>(
     ensures there { (o : ℕ → ℕ) → IfOk result (λ m. IsThereUnlessFits o types.now a b m) }
     ensures leads { IfOk result (λ m. IfSome m (LeadsInBoth types.now a b)) }
 {
-    if fitting(types.entries(), a, b) {
+    let mut found = Found::new(alloc);
+    if fits_after(types.entries(), &mut found, a, b) {
         return Ok(None);
     }
     let pair = Pair {
         given: a,
         expected: b,
     };
-    match located(alloc, types.entries(), pair) {
+    match located(alloc, types.entries(), &mut found, pair) {
         Err(e) => Err(e),
-        Ok(found) => Ok(Some(found)),
+        Ok(mismatch) => Ok(Some(mismatch)),
     }
 }
 
 /// The first place where a pair differs.
-fn located<'a>(alloc: Global, entries: &'a [Entry], pair: Pair) -> Result<Mismatch<'a>, AllocError>
+fn located<'a>(
+    alloc: Global,
+    entries: &'a [Entry],
+    found: &mut Found,
+    pair: Pair,
+) -> Result<Mismatch<'a>, AllocError>
     requires table { IsTable entries.now }
+    requires found { AllFit entries.now found.old }
     ensures { IfOk result (LeadsInBoth entries.now pair.given pair.expected) }
 {
     let mut path = Vec::new(alloc);
     let mut at = pair;
     // Each step leads to earlier entries, and a pair is turned at most once before the next.
     for _ in 0..(entries.len() as u128 * 2 + 2) {
-        match first_difference(entries, at) {
+        match first_difference(entries, found, at) {
             Difference::Here(step, topic) => {
                 push(&mut path, step)?;
                 return Ok(told(entries, path, pair, topic));

@@ -5,10 +5,11 @@ ghost use Rattle.wac_graph_types.specs.Entry.{sort_of};
 ghost use Rattle.wac_graph_types.specs.Kind.{sort_named};
 ghost use Rattle.wac_graph_types.specs.declared.kind.Sort.TheVariants as sorts;
 ghost use Rattle.wac_graph_types.specs.Table.{IsTable, Names};
+ghost use Rattle.wac_component_rules.specs.Found.{AllFit};
 ghost use Rattle.wac_component_mismatch.specs.Paths.{IsPlainly, entry_named};
 
 use crate::words::Words;
-use wac_component_rules::internals::{fitting, number, plain_kind};
+use wac_component_rules::internals::{Found, fits_after, number, plain_kind};
 use wac_graph_types::{DefinedType, Entry, ItemKind, PrimitiveType, ResourceId, Type, ValueType};
 
 /// Whether an entry is of the sort that a kind names.
@@ -90,11 +91,17 @@ fn is_known(entries: &[Entry], kind: ItemKind) -> bool
     }
 }
 
-/// Whether the table has both kinds, and the first fits the second.
-pub(crate) fn known_fits(entries: &[Entry], a: ItemKind, b: ItemKind) -> bool
+/// Whether the table has both kinds, and the first fits the second. What was found of other kinds isn't compared again.
+pub(crate) fn known_fits(entries: &[Entry], found: &mut Found, a: ItemKind, b: ItemKind) -> bool
     requires table { IsTable entries.now }
+    requires found { AllFit entries.now found.old }
+    ensures found { AllFit entries.now found.new }
 {
-    is_known(entries, a) && is_known(entries, b) && fitting(entries, a, b)
+    if is_known(entries, a) && is_known(entries, b) {
+        fits_after(entries, found, a, b)
+    } else {
+        false
+    }
 }
 
 /// A kind with aliases seen through, if the table has it.
