@@ -105,7 +105,8 @@ pub fn fits(package: &Package, a: &str, b: &str) -> Option<bool> {
     let definitions = package.definitions();
     let first = find(definitions, a)?;
     let second = find(definitions, b)?;
-    Some(ComponentRules.subtype(types, first, second).is_ok())
+    let rules = ComponentRules::new(*definitions.allocator());
+    Some(rules.subtype(types, first, second).is_ok())
 }
 
 /// A pair of definitions, and whether the first fits the second.

@@ -26,6 +26,8 @@ mod items;
 #[cfg(test)]
 mod kinds;
 #[cfg(test)]
+mod long_chains;
+#[cfg(test)]
 mod modules;
 #[cfg(test)]
 mod names;

@@ -77,9 +77,9 @@ static FUNCTIONS: &[Row] = &[
     ("file.read", false),
 ];
 
-fn hold(rt: &impl Abort, rows: &[Row]) {
+fn hold(rt: &impl Abort, rules: ComponentRules, rows: &[Row]) {
     for (name, expected) in rows {
-        let found = ComponentRules.extern_name(name);
+        let found = rules.extern_name(name);
         let wanted = if *expected { Ok(()) } else { Err(NO_NAME) };
         assert!(rt; found == wanted, "of {name}");
     }
@@ -87,8 +87,9 @@ fn hold(rt: &impl Abort, rows: &[Row]) {
 
 #[test]
 fn names_have_a_syntax(rt: HostRuntime) -> Result<(), Fail> {
-    hold(&rt, WORDS);
-    hold(&rt, INTERFACES);
-    hold(&rt, FUNCTIONS);
+    let rules = ComponentRules::new(rt.alloc());
+    hold(&rt, rules, WORDS);
+    hold(&rt, rules, INTERFACES);
+    hold(&rt, rules, FUNCTIONS);
     Ok(())
 }

@@ -28,7 +28,7 @@ pub type Row = (Of, &'static str, &'static str);
 
 /// What a document describes, if it describes anything.
 fn described(alloc: Global, resolver: AstResolver<'_, '_>) -> Option<CompositionGraph> {
-    match resolver.resolve(alloc, IndexMap::new(alloc), &ComponentRules) {
+    match resolver.resolve(alloc, IndexMap::new(alloc), &ComponentRules::new(alloc)) {
         Err(_) => None,
         Ok(resolution) => Some(resolution.into_graph()),
     }
@@ -80,7 +80,7 @@ fn compared(
     let a = kind_of(graph, nodes.0, of);
     let b = kind_of(graph, nodes.1, of);
     let types = graph.types();
-    let fits = ComponentRules.subtype(types, a, b).is_ok();
+    let fits = ComponentRules::new(alloc).subtype(types, a, b).is_ok();
     match mismatch(alloc, types, a, b)? {
         None if fits => Ok(String::new(alloc)),
         Some(found) if !fits => found.to_string(alloc),

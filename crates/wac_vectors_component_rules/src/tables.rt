@@ -270,7 +270,7 @@ fn difference(
     requires first { Names types.now a }
     requires second { Names types.now b }
 {
-    let fits = ComponentRules.subtype(types, a, b).is_ok();
+    let fits = ComponentRules::new(alloc).subtype(types, a, b).is_ok();
     match mismatch(alloc, types, a, b)? {
         None if fits => Ok(Some(String::new(alloc))),
         Some(found) if !fits => Ok(Some(found.to_string(alloc)?)),

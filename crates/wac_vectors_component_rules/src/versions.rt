@@ -47,7 +47,11 @@ static VERSIONS: &[(&str, bool)] = &[
 /// Whether the interface `a:b/c` may have a version.
 fn is_accepted(alloc: Global, version: &str) -> Result<bool, AllocError> {
     let name = format!(in alloc; "a:b/c@{version}")?;
-    Ok(ComponentRules.extern_name(name.as_str()).is_ok())
+    Ok(
+        ComponentRules::new(alloc)
+            .extern_name(name.as_str())
+            .is_ok(),
+    )
 }
 
 #[test]
