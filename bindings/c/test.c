@@ -232,6 +232,35 @@ static uint32_t run_chains(void) {
     return answer.status;
 }
 
+#define LINKS 5000
+
+/* Appends a chain of types, whose names begin with a letter. */
+static char *chain(char *end, char letter, const char *first) {
+    end += sprintf(end, "type %c0 = %s; ", letter, first);
+    for (int at = 1; at <= LINKS; at++)
+        end += sprintf(end, "type %c%d = list<%c%d>; ", letter, at, letter, at - 1);
+    return end;
+}
+
+/* Resolves a text that imports a function of a chain of types where its target has one of a chain of its own. */
+static uint32_t run_target(uint32_t word, const char *first) {
+    uint8_t none[1];
+    wac_answer answer;
+    char *text = malloc(400000);
+    char *end = chain(stpcpy(text, "package a:b targets a:b/w; world w { "), 'a', "u8");
+    end += sprintf(end, "import x: func(y: a%d); } ", LINKS);
+    end = chain(end, 'b', first);
+    end += sprintf(end, "import x: func(y: b%d);", LINKS);
+    wac_run(word, 0, (const uint8_t *)text, (size_t)(end - text), none, 0, none, 0, &answer);
+    free(text);
+    return answer.status;
+}
+
+static int targets_are_wanted(void) {
+    return run_target(WAC_RESOLVE, "u8") == WAC_WELL && run_target(WAC_RESOLVE, "u16") == WAC_REJECTED &&
+           run_target(WAC_ERRORS, "u8") == WAC_WELL;
+}
+
 /* Makes instances that are arguments of one another, as deep as the usual limit allows. */
 static uint32_t run_instances(void) {
     static const char package[] = "package c:d; world w { import e: func(); export f: func(); }";
@@ -245,7 +274,7 @@ static uint32_t run_instances(void) {
 }
 
 static void *run_deep(void *status) {
-    if (run_chains() != WAC_WELL || run_instances() != WAC_WELL)
+    if (run_chains() != WAC_WELL || run_instances() != WAC_WELL || !targets_are_wanted())
         *(int *)status = 1;
     uint8_t out[1], message[1];
     wac_answer answer;

@@ -1,7 +1,9 @@
 -- What pairs agree on, place by place, and as more are added.
-use Rattle.wac_graph_sameness.proofs.Common.{◌≡◌, ℕ, zero, suc, List, [], ◌∷◌, ◌++◌, Bool, true, false, cond, ◌&&◌, ◌||◌, Some, refl, sym, ap, ◌∙◌, subst, nat_eq, slice_get, list_any, Meaning, eqb-true}
+use Rattle.wac_graph_sameness.proofs.Common.{◌≡◌, ℕ, zero, suc, List, [], ◌∷◌, ◌++◌, Bool, true, false, cond, Option, Some, None, IfSome, refl, sym, ap, ◌∙◌, subst, nat_eq, slice_get, Meaning, eqb-true}
 use Rattle.wac_graph_sameness.specs.Pairs.{Agree, Keeps, Reduces}
-use Rattle.indexmap.specs.IndexSet.{insert_key}
+use Rattle.std.specs.Map.{lookup}
+use Rattle.std.specs.Prelude.{Result, Ok, Err, OnOk}
+use Rattle.indexmap.specs.IndexMap.{insert_entry}
 
 pub agree_at : (means : ℕ → Meaning) (ps : List (ℕ × ℕ)) (k : ℕ) (p : ℕ × ℕ) → Agree means ps → slice_get ps k ≡ Some p → means p.0 ≡ means p.1
 agree_at means [] k p h is = absurd (cc)
@@ -20,46 +22,70 @@ agree_last : (means : ℕ → Meaning) (ps : List (ℕ × ℕ)) (i j : ℕ) → 
 agree_last means [] i j h last = (last, tt)
 agree_last means (p ∷ ps) i j h last = (h.0, agree_last means ps i j h.1 last)
 
-last_agrees : (means : ℕ → Meaning) (ps : List (ℕ × ℕ)) (i j : ℕ) → Agree means (ps ++ (i, j) ∷ []) → means i ≡ means j
-last_agrees means [] i j h = h.0
-last_agrees means (p ∷ ps) i j h = last_agrees means ps i j h.1
+last_of : (means : ℕ → Meaning) (ps : List (ℕ × ℕ)) (i j : ℕ) → Agree means (ps ++ (i, j) ∷ []) → means i ≡ means j
+last_of means [] i j h = h.0
+last_of means (p ∷ ps) i j h = last_of means ps i j h.1
+
+pub last_agrees : (means : ℕ → Meaning) (ps new : List (ℕ × ℕ)) (i j : ℕ) → new ≡ ps ++ (i, j) ∷ [] → Agree means new → means i ≡ means j
+last_agrees means ps new i j is h = last_of means ps i j (subst (λ (l : List (ℕ × ℕ)). Agree means l) is h)
 
 keeps_more : (ps qs : List (ℕ × ℕ)) → Keeps ps (ps ++ qs)
 keeps_more [] qs k p is = absurd (cc)
 keeps_more (q ∷ ps) qs zero p is = is
 keeps_more (q ∷ ps) qs (suc k) p is = keeps_more ps qs k p is
 
--- a pair that is there agrees with the others
-there_agrees : (means : ℕ → Meaning) (i j : ℕ) (ps : List (ℕ × ℕ)) → list_any (λ (p : ℕ × ℕ). nat_eq i p.0 && nat_eq j p.1) ps ≡ true → Agree means ps → means i ≡ means j
-there_agrees means i j [] there h = absurd (cc)
-there_agrees means i j (p ∷ ps) there h = go (there_agrees means i j ps) (nat_eq i p.0) (nat_eq j p.1) refl refl there
-  where
-    rest : Bool
-    rest = list_any (λ (q : ℕ × ℕ). nat_eq i q.0 && nat_eq j q.1) ps
+-- what agrees on the pairs behind a push agrees on those before
+pub pushed_before : (means : ℕ → Meaning) (ps new : List (ℕ × ℕ)) (i j : ℕ) (b : Bool) → new ≡ cond b (ps ++ (i, j) ∷ []) ps → Agree means new → Agree means ps
+pushed_before means ps new i j true is h = agree_before means ps (ps ++ (i, j) ∷ []) (keeps_more ps ((i, j) ∷ [])) (subst (λ (l : List (ℕ × ℕ)). Agree means l) is h)
+pushed_before means ps new i j false is h = subst (λ (l : List (ℕ × ℕ)). Agree means l) is h
 
-    go : (list_any (λ (q : ℕ × ℕ). nat_eq i q.0 && nat_eq j q.1) ps ≡ true → Agree means ps → means i ≡ means j)
-        → (b c : Bool) → nat_eq i p.0 ≡ b → nat_eq j p.1 ≡ c
-        → ((b && c) || list_any (λ (q : ℕ × ℕ). nat_eq i q.0 && nat_eq j q.1) ps) ≡ true → means i ≡ means j
-    go later true true first second found = ap means (eqb-true i p.0 first) ∙ h.0 ∙ sym (ap means (eqb-true j p.1 second))
-    go later true false first second found = later found h.1
-    go later false c first second found = later found h.1
+-- a pair of entries that mean the same where the others do
+pub there : (old ps : List (ℕ × ℕ)) (i j : ℕ) → ps ≡ old → ((means : ℕ → Meaning) → Agree means ps → means i ≡ means j) → Reduces (λ means. means i ≡ means j) true old ps
+there old ps i j is same = record {
+  keeps = (let P : List (ℕ × ℕ) → Type 0 = λ l. Keeps l ps in subst P is (λ k p at. at));
+  needed = λ means h alike. (refl, subst (λ (l : List (ℕ × ℕ)). Agree means l) (sym is) h);
+  enough = λ means yes h. same means h;
+}
 
--- adding a pair
-pub added : (old ps : List (ℕ × ℕ)) (i j : ℕ) → ps ≡ old → Reduces (λ means. means i ≡ means j) true old (insert_key (λ (x y : ℕ × ℕ). nat_eq x.0 y.0 && nat_eq x.1 y.1) ps (i, j))
-added old ps i j is = let P : List (ℕ × ℕ) → Type 0 = λ l. Reduces (λ means. means i ≡ means j) true l (insert_key (λ (x y : ℕ × ℕ). nat_eq x.0 y.0 && nat_eq x.1 y.1) ps (i, j)) in subst P is (go (list_any (λ (p : ℕ × ℕ). nat_eq i p.0 && nat_eq j p.1) ps) refl)
+added : (ps : List (ℕ × ℕ)) (i j : ℕ) → Reduces (λ means. means i ≡ means j) true ps (ps ++ (i, j) ∷ [])
+added ps i j = record {
+  keeps = keeps_more ps ((i, j) ∷ []);
+  needed = λ means h same. (refl, agree_last means ps i j h same);
+  enough = λ means yes h. last_of means ps i j h;
+}
+
+-- a new pair
+pub added_after : (old ps new : List (ℕ × ℕ)) (i j : ℕ) → ps ≡ old → new ≡ ps ++ (i, j) ∷ [] → Reduces (λ means. means i ≡ means j) true old new
+added_after old ps new i j first last =
+    let P : List (ℕ × ℕ) → Type 0 = λ l. Reduces (λ means. means i ≡ means j) true l new in
+    let Q : List (ℕ × ℕ) → Type 0 = λ l. Reduces (λ means. means i ≡ means j) true ps l in
+    subst P first (subst Q (sym last) (added ps i j))
+
+pub on_ok : {X E : Type 0} {P : Type 0} (r : Result X E) → P → OnOk r P
+on_ok (Ok x) p = p
+on_ok (Err e) p = tt
+
+-- ---- leaders
+
+pub leads : (means : ℕ → Meaning) (es : List (ℕ × ℕ)) (x l : ℕ) → lookup (nat_eq x) es ≡ Some l → Agree means es → means x ≡ means l
+leads means [] x l is h = absurd (cc)
+leads means (e ∷ es) x l is h = go (leads means es x l) (nat_eq x e.0) refl is
   where
-    go : (b : Bool) → list_any (λ (p : ℕ × ℕ). nat_eq i p.0 && nat_eq j p.1) ps ≡ b
-        → Reduces (λ means. means i ≡ means j) true ps (cond b ps (ps ++ (i, j) ∷ []))
-    go true there = record {
-      keeps = λ k p is. is;
-      needed = λ means h same. (refl, h);
-      enough = λ means yes h. there_agrees means i j ps there h;
-    }
-    go false there = record {
-      keeps = keeps_more ps ((i, j) ∷ []);
-      needed = λ means h same. (refl, agree_last means ps i j h same);
-      enough = λ means yes h. last_agrees means ps i j h;
-    }
+    go : (lookup (nat_eq x) es ≡ Some l → Agree means es → means x ≡ means l) → (b : Bool) → nat_eq x e.0 ≡ b → cond b (Some e.1) (lookup (nat_eq x) es) ≡ Some l → means x ≡ means l
+    go later true at found = (let one : e.1 ≡ l = cc in ap means (eqb-true x e.0 at) ∙ h.0 ∙ ap means one)
+    go later false at found = later found h.1
+
+pub if_led : (es : List (ℕ × ℕ)) (x : ℕ) (o : Option ℕ) → o ≡ lookup (nat_eq x) es → IfSome o (λ l. (means : ℕ → Meaning) → Agree means es → means x ≡ means l)
+if_led es x None is = tt
+if_led es x (Some l) is = λ means h. leads means es x l (sym is) h
+
+pub led : (means : ℕ → Meaning) (es : List (ℕ × ℕ)) (x l : ℕ) → Agree means es → means x ≡ means l → Agree means (insert_entry nat_eq es x l)
+led means [] x l h same = (same, tt)
+led means (e ∷ es) x l h same = go (led means es x l h.1 same) (nat_eq x e.0) refl
+  where
+    go : Agree means (insert_entry nat_eq es x l) → (b : Bool) → nat_eq x e.0 ≡ b → Agree means (cond b ((e.0, l) ∷ es) (e ∷ insert_entry nat_eq es x l))
+    go later true at = (sym (ap means (eqb-true x e.0 at)) ∙ same, h.1)
+    go later false at = (h.0, later)
 
 -- what holds of no meanings
 pub denied : (P : (ℕ → Meaning) → Type 0) (old new : List (ℕ × ℕ)) → Keeps old new → ((means : ℕ → Meaning) → Agree means old → P means → ⊥) → Reduces P false old new

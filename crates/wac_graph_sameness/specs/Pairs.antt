@@ -9,6 +9,10 @@ use Rattle.wac_graph_types.specs.Shape.{entry_over}
 abbrev pub Agree : (ℕ → Meaning) → List (ℕ × ℕ) → Type 0
 Agree means pairs = AllByRecursion (λ p. means p.0 ≡ means p.1) pairs
 
+-- what agrees on these pairs agrees on the others
+abbrev pub Follow : List (ℕ × ℕ) → List (ℕ × ℕ) → Type 0
+Follow pairs others = (means : ℕ → Meaning) → Agree means pairs → Agree means others
+
 -- each pair stays in its place
 abbrev pub Keeps : List (ℕ × ℕ) → List (ℕ × ℕ) → Type 0
 Keeps old new = (k : ℕ) (p : ℕ × ℕ) → slice_get old k ≡ Some p → slice_get new k ≡ Some p

@@ -148,9 +148,10 @@ fn is_shallow(kind: ItemKind) -> bool {
 
 /// Whether two kinds mean the same, whatever the origins of resources are, as [`Types::same`] says it.
 ///
-/// It takes no stack for types that nest: where both kinds name an entry beyond the first 256, the pairs of entries that
-/// have to mean the same stand in a list from `alloc`, of some 40 bytes each, and each is compared once. Where there is
-/// no memory for it, the answer is that of [`Types::same`], which recurses.
+/// It takes no stack for types that nest. Where both kinds name an entry beyond the first 256, pairs of entries that have
+/// to mean the same stand in a list, whose memory is from `alloc` and goes back at the end; there are fewer of them than
+/// entries, and each is compared once. Where there is no memory for it, the answer is that of [`Types::same`], which
+/// recurses.
 pub fn same(alloc: Global, types: &Types, a: ItemKind, b: ItemKind) -> bool
     requires table { IsTable types.now }
     requires first { Names types.now a }

@@ -20,12 +20,6 @@ static ROWS: [Link; 7] = [
     ("variant ", " { c(", ") }"),
 ];
 
-/// What ends each document: its target world, and an import of it.
-const ENDING: (&str, &str) = (
-    "world w { import x: func(y: a20000); }\nimport ",
-    "x: func(y: b20000);",
-);
-
 /// Appends a chain of types, whose names begin with a letter.
 fn push_chain(text: &mut String, link: Link, letter: &str, first: &str) -> Result<(), AllocError> {
     let (before, between, after) = link;
@@ -37,64 +31,44 @@ fn push_chain(text: &mut String, link: Link, letter: &str, first: &str) -> Resul
     Ok(())
 }
 
-/// A document with two chains, of which the second begins with this type, and an import of the second where the target
-/// has the first.
-fn document(alloc: Global, link: Link, first: &str) -> Result<String, AllocError> {
-    let (world, import) = ENDING;
-    let mut text = String::from_str(alloc, "package a:b targets a:b/w;\n")?;
+/// A document without its end: a target that imports a function of a chain of its own, and a chain at root that begins with
+/// this type.
+fn beginning(alloc: Global, link: Link, first: &str) -> Result<String, AllocError> {
+    let mut text = String::from_str(alloc, "package a:b targets a:b/w;\nworld w {\n")?;
     push_chain(&mut text, link, "a", "u8")?;
+    write!(text, "import x: func(y: a{LINKS});\n}}\n")?;
     push_chain(&mut text, link, "b", first)?;
-    text.push_str(world)?;
-    text.push_str(import)?;
+    text.push_str("import ")?;
     Ok(text)
 }
 
-/// A line for each type of a chain, with the numbers from a first one on.
-fn push_lines(
-    text: &mut String,
-    line: (&str, &str, &str),
-    letter: &str,
-    number: usize,
-) -> Result<(), AllocError> {
-    let (before, between, after) = line;
-    for at in 0..LINKS + 1 {
-        let node = number.wrapping_add(at);
-        match before {
-            "" => write!(text, "{node}{between}{letter}{at}{after}\n")?,
-            _ => write!(text, "{before}{letter}{at}{between}{node}{after}\n")?,
-        }
-    }
+/// Appends the end of such a document: an import of a function of the chain at root.
+fn push_import(text: &mut String) -> Result<(), AllocError> {
+    write!(text, "x: func(y: b{LINKS});")?;
     Ok(())
 }
 
 /// The lines of the graph of such a document.
 fn graph(alloc: Global) -> Result<String, AllocError> {
-    let types = LINKS + 1;
-    let world = types + types;
-    let mut text = String::new(alloc);
-    push_lines(&mut text, ("", " definition: value type [", "]"), "a", 0)?;
-    push_lines(
-        &mut text,
-        ("", " definition: value type [", "]"),
-        "b",
-        types,
-    )?;
-    let import = world + 1;
-    write!(
-        text,
-        "{world} definition: world [w]\n{import} import x: function [x]\n"
-    )?;
-    push_lines(&mut text, ("export ", " = ", ""), "a", 0)?;
-    push_lines(&mut text, ("export ", " = ", ""), "b", types)?;
-    write!(text, "export w = {world}\n")?;
-    Ok(text)
+    let mut nodes = String::from_str(alloc, "0 definition: world [w]\n")?;
+    let mut exports = String::from_str(alloc, "export w = 0\n")?;
+    for at in 0..LINKS + 1 {
+        let node = at + 1;
+        write!(nodes, "{node} definition: value type [b{at}]\n")?;
+        write!(exports, "export b{at} = {node}\n")?;
+    }
+    let import = LINKS + 2;
+    write!(nodes, "{import} import x: function [x]\n")?;
+    nodes.push_str(&exports)?;
+    Ok(nodes)
 }
 
 #[test]
 fn equal_chains_pass(rt: HostRuntime) -> Result<(), Fail> {
     let graph = graph(rt.alloc())?;
     for link in ROWS {
-        let source = document(rt.alloc(), link, "u8")?;
+        let mut source = beginning(rt.alloc(), link, "u8")?;
+        push_import(&mut source)?;
         writes(&rt, rt.alloc(), "resolve", &source, &graph)?;
     }
     Ok(())
@@ -102,10 +76,10 @@ fn equal_chains_pass(rt: HostRuntime) -> Result<(), Fail> {
 
 #[test]
 fn chains_that_begin_otherwise_are_rejected(rt: HostRuntime) -> Result<(), Fail> {
-    let (_, import) = ENDING;
     for link in ROWS {
-        let source = document(rt.alloc(), link, "u16")?;
-        let at = source.len().wrapping_sub(import.len());
+        let mut source = beginning(rt.alloc(), link, "u16")?;
+        let at = source.len();
+        push_import(&mut source)?;
         let line = format!(in rt.alloc();
             "error at {at}+1: import `x` has a mismatched type for target world `a:b/w`\n"
         )?;
