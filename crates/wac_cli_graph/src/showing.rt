@@ -89,7 +89,7 @@ fn shown_text(alloc: Global, text: &str, form: Form) -> Result<Shown, AllocError
 fn shown_document(page: Page<'_, '_>, alloc: Global, form: Form) -> Result<Shown, AllocError> {
     let Page { document } = page;
     let none = IndexMap::new(alloc);
-    match graph_with(Page { document }, alloc, none, &ComponentRules) {
+    match graph_with(Page { document }, alloc, none, &ComponentRules::new(alloc)) {
         Ok(graph) => {
             let statements = Statements {
                 all: &document.statements,

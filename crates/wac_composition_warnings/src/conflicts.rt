@@ -99,7 +99,7 @@ fn conflict(
             "`{name}` is left open beside an import of that name, which an encoder refuses"
         )?));
     }
-    if has_other(graph, id, name, kind) {
+    if has_other(alloc, graph, id, name, kind) {
         return Ok(Some(format!(in alloc;
             "`{name}` is left open twice, and neither kind fits the other, which an encoder refuses"
         )?));
@@ -108,13 +108,19 @@ fn conflict(
 }
 
 /// Whether an earlier node leaves a name open whose kind doesn't fit, either way.
-fn has_other(graph: &CompositionGraph, id: NodeId, name: &str, kind: ItemKind) -> bool
+fn has_other(
+    alloc: Global,
+    graph: &CompositionGraph,
+    id: NodeId,
+    name: &str,
+    kind: ItemKind,
+) -> bool
     requires { Names graph.now.types kind }
 {
     for other in graph.nodes() {
         if other.0 < id.0 {
             if let Some(earlier) = open_kind(graph, other, name) {
-                if !fit(graph, earlier, kind) {
+                if !fit(alloc, graph, earlier, kind) {
                     return true;
                 }
             }
@@ -124,10 +130,10 @@ fn has_other(graph: &CompositionGraph, id: NodeId, name: &str, kind: ItemKind) -
 }
 
 /// Whether one of two kinds may stand where the other is expected.
-fn fit(graph: &CompositionGraph, a: ItemKind, b: ItemKind) -> bool
+fn fit(alloc: Global, graph: &CompositionGraph, a: ItemKind, b: ItemKind) -> bool
     requires first { Names graph.now.types a }
     requires second { Names graph.now.types b }
 {
     let entries = graph.types().entries();
-    fitting(entries, a, b) || fitting(entries, b, a)
+    fitting(alloc, entries, a, b) || fitting(alloc, entries, b, a)
 }

@@ -105,7 +105,7 @@ fn resolved(
     context: Context<'_>,
 ) -> Result<Composed, AllocError> {
     let packages = context.supplied(alloc)?;
-    match graph_with(page, alloc, packages, &ComponentRules) {
+    match graph_with(page, alloc, packages, &ComponentRules::new(alloc)) {
         Ok(graph) => with_worlds(alloc, context, graph),
         Err(error) => rejected(alloc, context, &error),
     }
