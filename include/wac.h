@@ -68,8 +68,7 @@ typedef struct {
  *
  * Brackets may nest as deep as the limit, a brace counting as two levels and each other bracket as one. A limit of 0
  * stands for 256, for which a thread with a stack of 512 KB suffices. Types that name one another in a chain, as in
- * type b = list<a>; type c = list<b>; are no such nesting: comparing two of them takes 700 bytes of stack for each type
- * of the chain (bench/README.md).
+ * type b = list<a>; type c = list<b>; take memory and no stack where they are compared (bench/README.md).
  *
  * The text, `out`, `message` and *answer don't overlap. No pointer is null, not where its length is 0 either, and none
  * is used after the call. Bytes of `out` and `message` that aren't written stay as they are, and what *answer holds
