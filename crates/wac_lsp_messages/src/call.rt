@@ -1,5 +1,5 @@
 //! Requests of a client.
-use crate::fields::{field, owned_text, uri};
+use crate::fields::{field, owned_text, text, uri};
 use crate::question::{INVALID_PARAMS, Question, read_question};
 use crate::refusal::Refusal;
 use serde_json::Value;
@@ -67,10 +67,16 @@ fn nests_symbols(capabilities: &Value) -> Option<bool> {
     field(symbol, "hierarchicalDocumentSymbolSupport")?.as_bool()
 }
 
+/// The page that a client's options name, if they name one. An empty text names none.
+fn page_in(options: &Value) -> Option<&str> {
+    let page = text(options, "errorsPage")?;
+    if page.is_empty() { None } else { Some(page) }
+}
+
 /// The page that explains the codes of errors, if the client's options name one.
 fn errors_page(alloc: Global, params: &Value) -> Result<Option<String>, AllocError> {
-    match field(params, "initializationOptions") {
-        Some(options) => owned_text(alloc, options, "errorsPage"),
+    match field(params, "initializationOptions").and_then(page_in) {
+        Some(page) => Ok(Some(String::from_str(alloc, page)?)),
         None => Ok(None),
     }
 }

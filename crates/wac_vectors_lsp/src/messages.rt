@@ -47,7 +47,7 @@ static WRONG: [Row; 15] = [
 ];
 
 /// Requests, and those that are refused.
-static REQUESTS: [Row; 43] = [
+static REQUESTS: [Row; 44] = [
     (
         "{\"id\":8,\"method\":\"textDocument/definition\",\"params\":{\"textDocument\":{\"uri\":\"x\"},\"position\":{\"line\":2,\"character\":7}}}",
         "request 8 definition x 2 7",
@@ -130,6 +130,10 @@ static REQUESTS: [Row; 43] = [
     ),
     (
         "{\"id\":1,\"method\":\"initialize\",\"params\":{\"capabilities\":{},\"initializationOptions\":{\"errorsPage\":7}}}",
+        "request 1 initialize - utf-16 flat -",
+    ),
+    (
+        "{\"id\":1,\"method\":\"initialize\",\"params\":{\"capabilities\":{},\"initializationOptions\":{\"errorsPage\":\"\"}}}",
         "request 1 initialize - utf-16 flat -",
     ),
     (
@@ -223,7 +227,7 @@ static REQUESTS: [Row; 43] = [
 ];
 
 /// Notifications, and those that lack something.
-static NOTIFICATIONS: [Row; 14] = [
+static NOTIFICATIONS: [Row; 19] = [
     ("{\"method\":\"initialized\",\"params\":{}}", "initialized"),
     ("{\"method\":\"exit\"}", "exit"),
     (
