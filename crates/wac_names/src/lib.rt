@@ -2,9 +2,10 @@
 //!
 //! ```text
 //! let source = "package a:b; import log: func(); export log;";
-//! let names = Names::of_text(alloc, source)?.unwrap();      // `None` where the text is no document
-//! let name = names.definition_at(40);             // `log` of the import, at 20+3
-//! let uses = names.references_at(alloc, 20)?;     // `log` of the export, at 40+3
+//! if let Some(names) = Names::of_text(alloc, source)? {    // `None` where the text is no document
+//!     let name = names.definition_at(40);                 // `log` of the import, at 20+3
+//!     let uses = names.references_at(alloc, 20)?;         // `log` of the export, at 40+3
+//! }
 //! ```
 //!
 //! Offsets are in bytes. One just behind a name's last letter is at the name.
