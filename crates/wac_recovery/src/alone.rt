@@ -1,8 +1,8 @@
 //! Faults of statements that stand alone.
-ghost use Rattle.std.specs.Prelude.{◌≡◌, IfOk, IfSome};
+ghost use Rattle.std.specs.Prelude.{◌≡◌, IfOk, option_map};
 ghost use Rattle.wac_lexer.specs.Reading.{Slices};
-ghost use Rattle.wac_recovery.specs.Alone.{IsFaultAt, IsFaultBehind};
-ghost use Rattle.wac_recovery.specs.Faults.{place_of, wrong_of};
+ghost use Rattle.wac_recovery.specs.Alone.{IsFirstBehind, IsFoundAt, at_place};
+ghost use Rattle.wac_recovery.specs.Faults.{wrong_of};
 
 use crate::attempt::STAND_IN;
 use crate::blanked::blanked;
@@ -13,7 +13,7 @@ use wac_lexer::SourceSpan;
 
 /// A fault, if it lies at a place.
 fn at_place(fault: Fault, place: usize) -> Option<Fault>
-    ensures { IfSome result (λ it. (it ≡ fault) × ((place_of (wrong_of fault)).offset ≡ place)) }
+    ensures { option_map wrong_of result ≡ at_place place (Some (wrong_of fault)) }
 {
     if fault.span().offset() == place {
         Some(fault)
@@ -26,8 +26,7 @@ fn at_place(fault: Fault, place: usize) -> Option<Fault>
 #[tactic(auto, using(crate::proofs::Standing::before, crate::proofs::Standing::behind))]
 fn fault_behind(alloc: Global, source: &str, part: SourceSpan) -> Result<Option<Fault>, AllocError>
     requires { Slices source.now part }
-    ensures { IfOk result (λ found. IfSome found
-        (λ fault. IsFaultBehind source.now part.offset (wrong_of fault))) }
+    ensures { IfOk result (λ found. IsFirstBehind source.now part.offset (option_map wrong_of found)) }
 {
     let text = blanked(alloc, STAND_IN, source, SourceSpan::new(0, part.offset()))?;
     match first_fault(alloc, text.as_str()) {
@@ -44,10 +43,10 @@ fn fault_behind(alloc: Global, source: &str, part: SourceSpan) -> Result<Option<
 /// ```text
 /// fault_at(alloc, "package a:b; let = c; export d;", 17)?      // at 17+1: expected identifier, found `=`
 /// ```
-#[tactic(auto, using(crate::proofs::Standing::at))]
+#[tactic(auto, using(crate::proofs::Standing::nothing_there))]
 pub fn fault_at(alloc: Global, source: &str, place: usize) -> Result<Option<Fault>, AllocError>
-    // It is wrong first with the source when all before some offset is blanked, and lies at the place.
-    ensures { IfOk result (λ found. IfSome found (λ fault. IsFaultAt source.now place (wrong_of fault))) }
+    // What is wrong first with the source when all before its part at the place is blanked, if that lies at the place.
+    ensures { IfOk result (λ found. IsFoundAt source.now place (option_map wrong_of found)) }
 {
     let Some(part) = part_at(source, place) else {
         return Ok(None);
