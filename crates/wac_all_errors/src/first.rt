@@ -2,6 +2,7 @@
 ghost use Rattle.std.specs.Prelude.{IfOk};
 ghost use Rattle.wac_all_errors.specs.Telling.{SaysSame};
 
+use crate::codes::is_fault;
 use crate::finding::{Finding, diagnostic_of, hint_of, with_hint};
 use crate::resolving::with_name_hint;
 use std::alloc::{AllocError, Global};
@@ -15,25 +16,6 @@ pub(crate) struct First {
     /// The text without the statement of the error: nothing where nothing can be blanked, where the text is a document, or
     /// where no later error is asked for.
     pub(crate) next: Option<Attempt>,
-}
-
-/// Whether a code is that of a text that is no document. All others are those of rules.
-fn is_fault(code: &str) -> bool {
-    matches!(
-        code,
-        "wac::unexpected-token"
-            | "wac::unterminated-string"
-            | "wac::unterminated-comment"
-            | "wac::disallowed-bidirectional-override"
-            | "wac::discouraged-unicode-codepoint"
-            | "wac::disallowed-control-code"
-            | "wac::nested-too-deep"
-            | "wac::expected"
-            | "wac::expected-either"
-            | "wac::expected-multiple"
-            | "wac::empty-type"
-            | "wac::invalid-version"
-    )
 }
 
 /// The first error of a text, which is known, with its hint. What is tried then is made unless it is the last.

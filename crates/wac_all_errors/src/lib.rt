@@ -8,6 +8,7 @@
 #![tactic(auto)]
 
 mod blanking;
+mod codes;
 mod collecting;
 mod finding;
 mod first;
