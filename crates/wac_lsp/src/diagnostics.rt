@@ -17,6 +17,24 @@ const MOST_BYTES: usize = 1048576;
 /// The notification that has the diagnostics of a document.
 const PUBLISH: &str = "textDocument/publishDiagnostics";
 
+/// A diagnostic, alone or with the edit that mends what it says.
+pub(crate) trait HasDiagnostic {
+    /// The diagnostic.
+    fn diagnostic(&self) -> &Diagnostic;
+}
+
+impl HasDiagnostic for Diagnostic {
+    fn diagnostic(&self) -> &Diagnostic {
+        self
+    }
+}
+
+impl HasDiagnostic for Finding {
+    fn diagnostic(&self) -> &Diagnostic {
+        &self.diagnostic
+    }
+}
+
 /// How many errors of a text are told: fewer of long ones, since each costs a parse.
 fn most_errors(text: &str) -> usize {
     match MOST_BYTES.checked_div(text.len()) {
@@ -136,30 +154,16 @@ pub(crate) fn diagnostic_value(
     Ok(value)
 }
 
-/// The diagnostics of errors, as a value.
-fn diagnostics_value(
-    alloc: Global,
-    about: &Subject<'_>,
-    found: &[Finding],
-) -> Result<Value, AllocError> {
-    let view = View::new(alloc, about.text, about.unit)?;
-    let mut all = Vec::new(alloc);
-    for finding in found {
-        all.push(diagnostic_value(alloc, &view, about, &finding.diagnostic)?)?;
-    }
-    Ok(Value::Array(all))
-}
-
 /// Diagnostics as a value.
-fn others_value(
+fn diagnostics_value<D: HasDiagnostic>(
     alloc: Global,
     about: &Subject<'_>,
-    found: &[Diagnostic],
+    found: &[D],
 ) -> Result<Value, AllocError> {
     let view = View::new(alloc, about.text, about.unit)?;
     let mut all = Vec::new(alloc);
-    for diagnostic in found {
-        all.push(diagnostic_value(alloc, &view, about, diagnostic)?)?;
+    for one in found {
+        all.push(diagnostic_value(alloc, &view, about, one.diagnostic())?)?;
     }
     Ok(Value::Array(all))
 }
@@ -175,23 +179,12 @@ fn publication_of(
     notification(alloc, PUBLISH, params)
 }
 
-/// Other diagnostics of a document than those of its text alone, as a notification.
-pub(crate) fn published_others(
+/// Diagnostics of a document, as a notification.
+pub(crate) fn published_all<D: HasDiagnostic>(
     alloc: Global,
     about: &Subject<'_>,
     version: i64,
-    found: &[Diagnostic],
-) -> Result<String, AllocError> {
-    let diagnostics = others_value(alloc, about, found)?;
-    publication_of(alloc, about.uri, version, diagnostics)
-}
-
-/// The errors of the text of a document, as a notification.
-pub(crate) fn published_errors(
-    alloc: Global,
-    about: &Subject<'_>,
-    version: i64,
-    found: &[Finding],
+    found: &[D],
 ) -> Result<String, AllocError> {
     let diagnostics = diagnostics_value(alloc, about, found)?;
     publication_of(alloc, about.uri, version, diagnostics)
@@ -204,7 +197,7 @@ pub(crate) fn published(
     version: i64,
 ) -> Result<String, AllocError> {
     match errors(alloc, about.text) {
-        Ok(found) => published_errors(alloc, about, version, found.as_slice()),
+        Ok(found) => published_all(alloc, about, version, found.as_slice()),
         Err(_) => Err(AllocError),
     }
 }

@@ -1,6 +1,6 @@
 //! What a caller that knows more than the open documents tells of them.
 use crate::completing::{Suggestion, completed};
-use crate::diagnostics::{errors, published_errors, published_others};
+use crate::diagnostics::{errors, published_all};
 use crate::documents::Document;
 use crate::navigation::location;
 use crate::places::View;
@@ -34,9 +34,9 @@ impl Server {
         let about = self.about(document.uri(), document.text());
         match errors(alloc, about.text) {
             Ok(found) if found.is_empty() => {
-                published_others(alloc, &about, document.version, others)
+                published_all(alloc, &about, document.version, others)
             }
-            Ok(found) => published_errors(alloc, &about, document.version, found.as_slice()),
+            Ok(found) => published_all(alloc, &about, document.version, found.as_slice()),
             Err(_) => Err(AllocError),
         }
     }
