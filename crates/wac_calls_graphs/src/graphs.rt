@@ -65,7 +65,12 @@ fn shown_with(
     ensures { IfErr result IsErrorOfDocument }
 {
     let Page { document } = page;
-    match graph_with(Page { document }, alloc, packages, &ComponentRules::new(alloc)) {
+    match graph_with(
+        Page { document },
+        alloc,
+        packages,
+        &ComponentRules::new(alloc),
+    ) {
         Ok(graph) => {
             let statements = Statements {
                 all: &document.statements,

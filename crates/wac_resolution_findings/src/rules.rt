@@ -30,7 +30,12 @@ pub fn broken_rule(alloc: Global, page: Page<'_, '_>) -> ResolutionResult<()>
     ensures breaks { IfErr result (λ e. (e ≡ Memory alloc_error) ⊎ BreaksRule (document_of page.entry) (told e)) }
 {
     let Page { document } = page;
-    match resolve(alloc, document, IndexMap::new(alloc), &SameRules::new(alloc)) {
+    match resolve(
+        alloc,
+        document,
+        IndexMap::new(alloc),
+        &SameRules::new(alloc),
+    ) {
         Ok(_) => Ok(()),
         Err(error) => Err(error),
     }
