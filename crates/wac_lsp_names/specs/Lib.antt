@@ -1,2 +1,3 @@
 pub mod Occurrences
+pub mod Read
 pub mod Edits

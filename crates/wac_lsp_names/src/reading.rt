@@ -1,4 +1,7 @@
 //! A document as it is read: its text without faulty statements, its tokens and its names.
+ghost use Rattle.std.specs.Prelude.{◌≤◌, IfOk, IfSome};
+ghost use Rattle.wac_lsp_names.specs.Read.{AreNamesOf, IsLeft, IsRead, attempt_of, read_of};
+
 use crate::lexed::{Lexed, number_at, tokens_of};
 use std::alloc::{AllocError, Global};
 use wac_lexer::SourceSpan;
@@ -26,7 +29,9 @@ pub(crate) struct Reading {
 }
 
 /// How many faulty statements of a text are blanked: fewer of a long one, since each costs a parse.
-fn most_faults(text: &str) -> usize {
+fn most_faults(text: &str) -> usize
+    ensures { 16 ≤ result }
+{
     match MOST_BYTES.checked_div(text.len()) {
         Some(count) => count.min(MOST).max(LEAST),
         None => MOST,
@@ -41,7 +46,9 @@ struct Left {
 }
 
 /// Blanks the faulty statements of a text.
-fn blanked(alloc: Global, source: &str) -> Result<Left, AllocError> {
+fn blanked(alloc: Global, source: &str) -> Result<Left, AllocError>
+    ensures { IfOk result (λ left. IsLeft source.now (attempt_of left)) }
+{
     let recovery = recover(alloc, source, most_faults(source))?;
     let Recovery {
         faults: _,
@@ -52,7 +59,9 @@ fn blanked(alloc: Global, source: &str) -> Result<Left, AllocError> {
 }
 
 /// Reads what is left of a text, if it is a document.
-fn read_left(alloc: Global, left: Left) -> Result<Option<Reading>, AllocError> {
+fn read_left(alloc: Global, left: Left) -> Result<Option<Reading>, AllocError>
+    ensures { IfOk result (λ found. IfSome found (λ reading. AreNamesOf (attempt_of left) (read_of reading))) }
+{
     let Left { text, skip } = left;
     let Some(names) = Names::of_text(alloc, text.as_str())? else {
         return Ok(None);
@@ -67,7 +76,9 @@ fn read_left(alloc: Global, left: Left) -> Result<Option<Reading>, AllocError> {
 }
 
 /// Reads a text. There is nothing to read where too many statements are faulty.
-pub(crate) fn read(alloc: Global, source: &str) -> Result<Option<Reading>, AllocError> {
+pub(crate) fn read(alloc: Global, source: &str) -> Result<Option<Reading>, AllocError>
+    ensures { IfOk result (λ found. IfSome found (λ reading. IsRead source.now (read_of reading))) }
+{
     read_left(alloc, blanked(alloc, source)?)
 }
 
