@@ -382,7 +382,10 @@ impl Server {
             }
             Notice::FilesChanged => Ok(self.refreshed(alloc)?),
             Notice::Exit => Ok(sends_nothing(alloc, Some(1))),
-            Notice::Initialized | Notice::Other => Ok(sends_nothing(alloc, None)),
+            // A server by itself knows no folders.
+            Notice::Initialized | Notice::FoldersChanged { .. } | Notice::Other => {
+                Ok(sends_nothing(alloc, None))
+            }
         }
     }
 }
