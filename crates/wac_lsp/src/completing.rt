@@ -60,6 +60,8 @@ pub struct Suggestion<'s> {
     pub detail: &'s str,
     /// What it is, by the protocol's number of such completions.
     pub kind: u8,
+    /// Where what it replaces begins, in bytes, if that isn't the beginning of the word before the place.
+    pub start: Option<usize>,
 }
 
 /// The part of a text that completions replace.
@@ -71,9 +73,9 @@ struct Replaced<'v, 'a> {
 }
 
 impl Replaced<'_, '_> {
-    /// The edit that puts a text there.
-    fn edit(&self, alloc: Global, text: &str) -> Result<Value, AllocError> {
-        let range = self.view.range(alloc, self.start, self.end)?;
+    /// The edit that puts a text there, in the place of what begins at an offset.
+    fn edit(&self, alloc: Global, start: usize, text: &str) -> Result<Value, AllocError> {
+        let range = self.view.range(alloc, start, self.end)?;
         json!(in alloc; {"range": range, "newText": text})
     }
 
@@ -81,7 +83,7 @@ impl Replaced<'_, '_> {
     fn item(&self, alloc: Global, completion: &Completion) -> Result<Value, AllocError> {
         let label = completion.label.as_str();
         let kind = kind_of(completion);
-        let edit = self.edit(alloc, label)?;
+        let edit = self.edit(alloc, self.start, label)?;
         json!(in alloc; {"label": label, "kind": kind, "textEdit": edit})
     }
 
@@ -90,7 +92,8 @@ impl Replaced<'_, '_> {
         let label = suggestion.label;
         let detail = suggestion.detail;
         let kind = suggestion.kind;
-        let edit = self.edit(alloc, label)?;
+        let start = suggestion.start.unwrap_or(self.start);
+        let edit = self.edit(alloc, start, label)?;
         json!(in alloc; {"label": label, "kind": kind, "detail": detail, "textEdit": edit})
     }
 
@@ -132,7 +135,8 @@ fn items(
     Ok(Value::Array(items))
 }
 
-/// What can stand at a place of a text, each with the edit that replaces the word before the place: suggestions first.
+/// What can stand at a place of a text, each with the edit that replaces the word before the place, or what a suggestion
+/// says: suggestions first.
 pub(crate) fn completed(
     alloc: Global,
     text: &str,

@@ -3,7 +3,7 @@ use crate::named::{named_in, segments_of};
 use crate::workspace::Workspace;
 use indexmap::IndexMap;
 use std::alloc::{AllocError, Global};
-use wac_completion::{Foreign, foreign_at};
+use wac_completion::{Foreign, foreign_at, package_at};
 use wac_components_words::identifier;
 use wac_graph::{ItemKind, Package, PackageKey};
 use wac_package_names::key_named;
@@ -17,6 +17,8 @@ pub enum Offered {
     Instance,
     /// A type.
     Type,
+    /// A package, or a world of one.
+    Package,
     /// Something else.
     Other,
 }
@@ -32,8 +34,17 @@ pub struct Offer {
     pub what: Offered,
 }
 
+/// The names of packages that can stand at an offset.
+#[derive(Drop)]
+pub struct Offers {
+    /// Where what they replace begins, if that isn't the beginning of the word at the offset.
+    pub start: Option<usize>,
+    /// The names.
+    pub all: Vec<Offer>,
+}
+
 /// What a name of this kind stands for.
-fn sort_of(kind: ItemKind) -> Offered {
+pub(crate) fn sort_of(kind: ItemKind) -> Offered {
     match kind {
         ItemKind::Func(_) => Offered::Function,
         ItemKind::Instance(_) => Offered::Instance,
@@ -130,7 +141,7 @@ impl Wanted<'_> {
 }
 
 /// What is exported along a path of names with `/` between them, from the definitions of a package on.
-fn exports_along<'p>(
+pub(crate) fn exports_along<'p>(
     package: &'p Package,
     segments: &str,
 ) -> Option<&'p IndexMap<String, ItemKind>> {
@@ -207,26 +218,48 @@ impl Workspace {
         }
     }
 
+    /// What of a package can stand at an offset.
+    fn foreign(&self, alloc: Global, foreign: Foreign<'_>) -> Result<Vec<Offer>, AllocError> {
+        match foreign {
+            Foreign::Argument { package, given } => {
+                self.arguments(alloc, package, given.as_slice())
+            }
+            Foreign::Export { package } => self.exports(alloc, package),
+            Foreign::UsedType { path, given } => self.types(alloc, path, given.as_slice()),
+        }
+    }
+
+    /// The names of packages and the paths that can stand at an offset.
+    fn packages_at(&self, alloc: Global, text: &str, offset: usize) -> Result<Offers, AllocError> {
+        match package_at(alloc, text, offset)? {
+            Some(word) => self.named_packages(alloc, word),
+            None => Ok(Offers {
+                start: None,
+                all: Vec::new(alloc),
+            }),
+        }
+    }
+
     /// The names of packages of the folders that can stand at an offset of a text, in bytes: in the braces of an instance
     /// the imports of its package that have no argument yet, behind a dot the exports of an instance that `let` binds, and
     /// in the braces of a `use` the types of the interface. All of them are returned, whatever word is at the offset.
     ///
+    /// Where the name of a package can stand, they are the packages with their versions, and where a path can, the paths
+    /// of all that they define: those of one package, where its name and a slash are written. They replace all that is
+    /// written of the name.
+    ///
     /// ```text
     /// workspace.names_at(alloc, "package a:b; let x = new c:d { ", 31)?;      // `log`, if c:d imports it
+    /// workspace.names_at(alloc, "package a:b; let x = new c:", 27)?;          // `c:d`, from 25 on
+    /// workspace.names_at(alloc, "package a:b; import x: c:d/", 27)?;          // `c:d/log`, from 23 on
     /// ```
-    pub fn names_at(
-        &self,
-        alloc: Global,
-        text: &str,
-        offset: usize,
-    ) -> Result<Vec<Offer>, AllocError> {
+    pub fn names_at(&self, alloc: Global, text: &str, offset: usize) -> Result<Offers, AllocError> {
         match foreign_at(alloc, text, offset)? {
-            Some(Foreign::Argument { package, given }) => {
-                self.arguments(alloc, package, given.as_slice())
-            }
-            Some(Foreign::Export { package }) => self.exports(alloc, package),
-            Some(Foreign::UsedType { path, given }) => self.types(alloc, path, given.as_slice()),
-            None => Ok(Vec::new(alloc)),
+            Some(foreign) => Ok(Offers {
+                start: None,
+                all: self.foreign(alloc, foreign)?,
+            }),
+            None => self.packages_at(alloc, text, offset),
         }
     }
 }

@@ -29,7 +29,7 @@ const BEGINS: &str =
     "{\"id\":1,\"jsonrpc\":\"2.0\",\"method\":\"initialize\",\"params\":{\"capabilities\":{\"workspace\":{\"didChangeWatchedFiles\":{\"dynamicRegistration\":true}}},\"workspaceFolders\":[{\"name\":\"p\",\"uri\":\"file:///my%20project\"}]}}";
 
 /// A composition with `a:b` is opened, and the document of `a:b` is opened, changed, changed back and closed.
-static ROWS: [Row; 11] = [
+static ROWS: [Row; 12] = [
     (
         "{\"jsonrpc\":\"2.0\",\"method\":\"initialized\",\"params\":{}}",
         "{\"id\":\"files\",\"jsonrpc\":\"2.0\",\"method\":\"client/registerCapability\",\"params\":{\"registrations\":[{\"id\":\"files\",\"method\":\"workspace/didChangeWatchedFiles\",\"registerOptions\":{\"watchers\":[{\"globPattern\":\"**/*.{wac,wasm}\"}]}}]}}\n",
@@ -62,6 +62,11 @@ static ROWS: [Row; 11] = [
         "{\"id\":3,\"jsonrpc\":\"2.0\",\"method\":\"textDocument/definition\",\"params\":{\"position\":{\"character\":7,\"line\":2},\"textDocument\":{\"uri\":\"file:///my%20project/app.wac\"}}}",
         "{\"id\":3,\"jsonrpc\":\"2.0\",\"result\":{\"range\":{\"end\":{\"character\":5,\"line\":1},\"start\":{\"character\":4,\"line\":1}},\"uri\":\"file:///my%20project/app.wac\"}}\n",
     ),
+    // Behind `new a:`, what is written of the name is replaced.
+    (
+        "{\"id\":5,\"jsonrpc\":\"2.0\",\"method\":\"textDocument/completion\",\"params\":{\"position\":{\"character\":14,\"line\":1},\"textDocument\":{\"uri\":\"file:///my%20project/app.wac\"}}}",
+        "{\"id\":5,\"jsonrpc\":\"2.0\",\"result\":{\"isIncomplete\":false,\"items\":[{\"detail\":\"a:b\",\"kind\":9,\"label\":\"a:b\",\"textEdit\":{\"newText\":\"a:b\",\"range\":{\"end\":{\"character\":14,\"line\":1},\"start\":{\"character\":12,\"line\":1}}}},{\"detail\":\"a:c\",\"kind\":9,\"label\":\"a:c\",\"textEdit\":{\"newText\":\"a:c\",\"range\":{\"end\":{\"character\":14,\"line\":1},\"start\":{\"character\":12,\"line\":1}}}}]}}\n",
+    ),
     // Its file stands for itself again.
     (
         "{\"jsonrpc\":\"2.0\",\"method\":\"textDocument/didClose\",\"params\":{\"textDocument\":{\"uri\":\"file:///my%20project/%62.wac\"}}}",
@@ -78,11 +83,6 @@ static ROWS: [Row; 11] = [
     ),
 ];
 
-/// What is sent after a message, a line each. Folders are read where the session says so.
-fn sent_after(
-    alloc: Global,
-    session: &mut Session,
-    files: &mut MemoryFiles,
 /// A client begins that has no folder open, and can be asked to watch files.
 const BEGINS_ALONE: &str =
     "{\"id\":1,\"jsonrpc\":\"2.0\",\"method\":\"initialize\",\"params\":{\"capabilities\":{\"workspace\":{\"didChangeWatchedFiles\":{\"dynamicRegistration\":true}}},\"workspaceFolders\":null}}";
@@ -132,6 +132,11 @@ static FOLDERS: [Row; 8] = [
     ),
 ];
 
+/// What is sent after a message, a line each. Folders are read where the session says so.
+fn sent_after(
+    alloc: Global,
+    session: &mut Session,
+    files: &mut MemoryFiles,
     body: &str,
 ) -> Result<String, ChangeError> {
     let Stepped {
