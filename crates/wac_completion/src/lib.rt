@@ -16,6 +16,7 @@ mod closed;
 mod completions;
 mod copies;
 mod foreign;
+mod foreign_names;
 mod front;
 mod kind;
 mod kinds;
@@ -25,7 +26,8 @@ mod word;
 mod written;
 
 pub use completions::{Completed, Completion, Completions, completions_at};
-pub use foreign::{Foreign, foreign_at};
+pub use foreign::{Asked, Foreign, Origin, foreign_at};
+pub use foreign_names::{ForeignName, foreign_name_at};
 pub use kinds::{kinds_after, kinds_at};
 pub use names::{Candidate, names_at};
 pub use packages::{PackageWord, package_at};

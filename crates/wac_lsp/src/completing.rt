@@ -64,19 +64,39 @@ pub struct Suggestion<'s> {
     pub start: Option<usize>,
 }
 
+/// Whether a text begins with a word, or does without its `%` or its quote.
+fn begins_with(text: &str, word: &str) -> bool {
+    let bare = text.strip_prefix('%').unwrap_or(text);
+    let bare = bare.strip_prefix('"').unwrap_or(bare);
+    text.starts_with(word) || bare.starts_with(word)
+}
+
 /// The part of a text that completions replace.
 #[derive(Clone, Copy)]
 struct Replaced<'v, 'a> {
+    text: &'a str,
     view: &'v View<'a>,
     start: usize,
     end: usize,
 }
 
+/// What is put behind a text: a blank comes first behind a colon, which would make it the name of a package otherwise,
+/// together with the word before.
+fn put_behind(alloc: Global, front: &str, text: &str) -> Result<String, AllocError> {
+    if front.ends_with(':') {
+        return format!(in alloc; " {text}");
+    }
+    String::from_str(alloc, text)
+}
+
 impl Replaced<'_, '_> {
-    /// The edit that puts a text there, in the place of what begins at an offset.
+    /// The edit that puts a text there, in the place of what begins at an offset. A name of a package is replaced from its
+    /// beginning on, so that no colon is before it.
     fn edit(&self, alloc: Global, start: usize, text: &str) -> Result<Value, AllocError> {
         let range = self.view.range(alloc, start, self.end)?;
-        json!(in alloc; {"range": range, "newText": text})
+        let put = put_behind(alloc, self.text.get(..start).unwrap_or(""), text)?;
+        let new = put.as_str();
+        json!(in alloc; {"range": range, "newText": new})
     }
 
     /// A completion.
@@ -97,7 +117,17 @@ impl Replaced<'_, '_> {
         json!(in alloc; {"label": label, "kind": kind, "detail": detail, "textEdit": edit})
     }
 
-    /// Adds suggestions.
+    /// What is there of the word.
+    fn word(&self) -> &str {
+        self.text.get(self.start..self.end).unwrap_or("")
+    }
+
+    /// Whether a suggestion is one for the word that is there: a client compares what replaces more than that.
+    fn takes(&self, suggestion: &Suggestion<'_>) -> bool {
+        suggestion.start.is_some() || begins_with(suggestion.label, self.word())
+    }
+
+    /// Adds the suggestions for the word that is there.
     fn add_suggested(
         &self,
         alloc: Global,
@@ -105,7 +135,9 @@ impl Replaced<'_, '_> {
         suggestions: &[Suggestion<'_>],
     ) -> Result<(), AllocError> {
         for suggestion in suggestions {
-            items.push(self.suggested(alloc, suggestion)?)?;
+            if self.takes(suggestion) {
+                items.push(self.suggested(alloc, suggestion)?)?;
+            }
         }
         Ok(())
     }
@@ -136,7 +168,7 @@ fn items(
 }
 
 /// What can stand at a place of a text, each with the edit that replaces the word before the place, or what a suggestion
-/// says: suggestions first.
+/// says: suggestions first, of which those that replace the word begin with it.
 pub(crate) fn completed(
     alloc: Global,
     text: &str,
@@ -151,6 +183,7 @@ pub(crate) fn completed(
     let found = completions_at(alloc, text, end)?;
     let view = View::new(alloc, text, unit)?;
     let replaced = Replaced {
+        text,
         view: &view,
         start: found.start,
         end,

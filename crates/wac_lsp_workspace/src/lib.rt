@@ -16,6 +16,7 @@
 
 mod contents;
 mod declarations;
+mod denoting;
 mod kinds;
 mod named;
 mod offering;

@@ -42,7 +42,7 @@ fn line_of(alloc: Global, workspace: &Workspace, marked: &str) -> Result<String,
 }
 
 /// Texts with a mark, and the names there.
-static ROWS: [(&str, &str); 12] = [
+static ROWS: [(&str, &str); 26] = [
     (
         "package a:b; let x = new shop:pricing@2.0.0 { |",
         "i:sink f:vat",
@@ -85,6 +85,56 @@ static ROWS: [(&str, &str); 12] = [
         "",
     ),
     ("package a:b; export |", ""),
+    ("package a:b; let x = new shop:pricing@2.0.0 { // s|", ""),
+    ("package a:b; let x = new shop:pricing@2.0.0 { /* s|", ""),
+    (
+        "package a:b; let x = new shop:pricing@2.0.0 { \"s|",
+        "46 i:\"shop:logging/sink@0.3.0\" f:\"vat\"",
+    ),
+    (
+        "package a:b; let x = new shop:pricing@2.0.0 { \"|\"",
+        "46 i:\"shop:logging/sink@0.3.0 f:\"vat",
+    ),
+    (
+        "package a:b; import x: shop:logging/sink@0.3.0; export x.|",
+        "t:level f:write",
+    ),
+    (
+        "package a:b; let x = new shop:cache@1.2.0 { ... }; let y = x; export y.|",
+        "i:api i:metrics",
+    ),
+    (
+        "package a:b; let x = new shop:cache@1.2.0 { ... }; let y = x.metrics; export y.|",
+        "f:hits",
+    ),
+    (
+        "package a:b; let x = new shop:cache@1.2.0 { ... }; export x[\"shop:carts/metrics@1.0.0\"].h|",
+        "f:hits",
+    ),
+    (
+        "package a:b; let x = new shop:cache@1.2.0 { ... }; export x[\"|",
+        "60 i:\"shop:carts/api@1.0.0\" i:\"shop:carts/metrics@1.0.0\"",
+    ),
+    (
+        "package a:b; let x = new shop:cache@1.2.0 { ... }; export x[\"shop:carts/m|\"];",
+        "60 i:\"shop:carts/api@1.0.0 i:\"shop:carts/metrics@1.0.0",
+    ),
+    (
+        "package a:b; let x = new shop:cache@1.2.0 { ... }; export x.none.|",
+        "",
+    ),
+    (
+        "package a:b; import x: shop:edge/service@1.0.0; export x.|",
+        "",
+    ),
+    (
+        "package a:b; import x: shop:logging/none@0.3.0; export x.|",
+        "",
+    ),
+    (
+        "package a:b; import x: shop:none/sink@0.3.0; export x.|",
+        "",
+    ),
 ];
 
 /// Packages with names that are alike, and with one that is a keyword.
