@@ -5,11 +5,11 @@ ghost use Rattle.wac_lsp_sessions.specs.Answering.{Answers};
 
 use crate::completions::completed_at;
 use crate::definitions::declared_at;
-use crate::refreshing::{all_published, logged, said_of};
+use crate::refreshing::{all_published, logged, published};
 use crate::watching::{Touched, touched_by, watch_request, watches_files};
 use serde_json::Value;
 use std::alloc::{AllocError, Global};
-use wac_lsp::{Document, Outcome, Sent, Server, answer, sends_reply};
+use wac_lsp::{Document, Outcome, Sent, Server, answer, follow, sends_reply};
 use wac_lsp_folders::{client_folders, path_of_uri};
 use wac_lsp_messages::{Call, Id, Message, Notice, Question, Refusal, read_message, reply};
 use wac_lsp_texts::ChangeError;
@@ -78,6 +78,16 @@ fn with_messages(outcome: Outcome, messages: Vec<Sent>) -> Outcome
 {
     let Outcome { status, .. } = outcome;
     Outcome { messages, status }
+}
+
+/// An outcome in which messages are sent, and the server goes on.
+fn sends(messages: Vec<Sent>) -> Outcome
+    ensures { result.messages ≡ messages }
+{
+    Outcome {
+        messages,
+        status: None,
+    }
 }
 
 /// Has a workspace take the texts of open documents.
@@ -233,7 +243,42 @@ impl Session {
         ensures ids { IfOk result (λ stepped. replies stepped.outcome.messages.items ≡ []) }
         ensures written { IfOk result (λ stepped. AreReplies stepped.outcome.messages.items) }
     {
-        let touched = touched_by(alloc, &notice)?;
+        match touched_by(alloc, &notice)? {
+            Touched::Text(uri) => self.text_noticed(alloc, uri.as_str(), notice),
+            touched => self.other_noticed(alloc, touched, notice),
+        }
+    }
+
+    /// What the session does after a document was opened or changed. Where the client has folders, no errors are looked for
+    /// before the folders are asked.
+    fn text_noticed(
+        &mut self,
+        alloc: Global,
+        uri: &str,
+        notice: Notice,
+    ) -> Result<Stepped, ChangeError>
+        ensures ids { IfOk result (λ stepped. replies stepped.outcome.messages.items ≡ []) }
+        ensures written { IfOk result (λ stepped. AreReplies stepped.outcome.messages.items) }
+    {
+        if !self.server.is_running() || self.folders().is_empty() {
+            let message = Message::Notification(notice);
+            return Ok(stays(answer(alloc, &mut self.server, message)?));
+        }
+        follow(alloc, &mut self.server, notice)?;
+        let messages = self.text_taken(alloc, uri)?;
+        Ok(stays(sends(messages)))
+    }
+
+    /// What the session does after another notification.
+    fn other_noticed(
+        &mut self,
+        alloc: Global,
+        touched: Touched,
+        notice: Notice,
+    ) -> Result<Stepped, ChangeError>
+        ensures ids { IfOk result (λ stepped. replies stepped.outcome.messages.items ≡ []) }
+        ensures written { IfOk result (λ stepped. AreReplies stepped.outcome.messages.items) }
+    {
         let outcome = answer(alloc, &mut self.server, Message::Notification(notice))?;
         if !self.server.is_running() || !self.concerns(&touched) {
             return Ok(stays(outcome));
@@ -259,8 +304,8 @@ impl Session {
         ensures written { IfOk result (λ stepped. AreReplies stepped.outcome.messages.items) }
     {
         match touched {
-            Touched::Nothing => Ok(stays(outcome)),
-            Touched::Text(uri) => Ok(stays(self.text_taken(alloc, uri.as_str(), outcome)?)),
+            // Texts are taken by `text_noticed`.
+            Touched::Nothing | Touched::Text(_) => Ok(stays(outcome)),
             Touched::Closed(uri) => self.closed(alloc, uri.as_str(), outcome),
             Touched::Begun => Ok(Stepped {
                 outcome: self.begun(alloc, outcome)?,
@@ -321,36 +366,26 @@ impl Session {
 
     /// What is told after a document was opened or changed: what is wrong with it, and where packages were made anew what is
     /// wrong with each.
-    fn text_taken(
-        &mut self,
-        alloc: Global,
-        uri: &str,
-        outcome: Outcome,
-    ) -> Result<Outcome, AllocError>
-        requires ids { replies outcome.messages.items ≡ [] }
-        requires written { AreReplies outcome.messages.items }
-        ensures ids { IfOk result (λ outcome. replies outcome.messages.items ≡ []) }
-        ensures written { IfOk result (λ outcome. AreReplies outcome.messages.items) }
+    fn text_taken(&mut self, alloc: Global, uri: &str) -> Result<Vec<Sent>, AllocError>
+        ensures ids { IfOk result (λ messages. replies messages.items ≡ []) }
+        ensures written { IfOk result (λ messages. AreReplies messages.items) }
     {
         if self.take_text(alloc, uri)? {
-            return Ok(with_messages(outcome, self.refreshed(alloc)?));
+            return self.refreshed(alloc);
         }
         match self.said(alloc, uri)? {
-            Some(body) => Ok(with_messages(outcome, sends_one(alloc, body)?)),
-            None => Ok(outcome),
+            Some(body) => sends_one(alloc, body),
+            None => Ok(Vec::new(alloc)),
         }
     }
 
-    /// What is told of a document of which the workspace says something.
+    /// What is told of a document, if it is open.
     fn said(&self, alloc: Global, uri: &str) -> Result<Option<String>, AllocError> {
         let Some(document) = self.server.document(uri) else {
             return Ok(None);
         };
-        let said = said_of(alloc, &self.workspace, document)?;
-        if said.is_empty() {
-            return Ok(None);
-        }
-        Ok(Some(self.server.publication(alloc, document, said.as_slice())?))
+        let body = published(alloc, &self.server, &self.workspace, document)?;
+        Ok(Some(body))
     }
 
     /// What is told of each open document.

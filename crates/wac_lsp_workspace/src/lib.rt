@@ -32,4 +32,5 @@ pub use contents::{FolderContents, read_folders};
 pub use declarations::Declaration;
 pub use kinds::is_declaration;
 pub use offering::{Offer, Offered, Offers};
+pub use telling::Said;
 pub use workspace::Workspace;

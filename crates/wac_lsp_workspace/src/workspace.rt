@@ -1,11 +1,10 @@
 //! The packages of the folders that a client has open.
-use crate::contents::{ComponentPackage, DocumentFile, FolderContents, declaration_in};
+use crate::contents::{ComponentPackage, DocumentFile, FolderContents, declaration_of};
 use crate::packages::{Packages, behind};
 use crate::sources::{Opened, Source, place_of, put_closed, put_open};
-use crate::telling::{composition_fault, declaration_fault};
+use crate::telling::{Said, composition_fault, declaration_fault};
 use indexmap::IndexMap;
 use std::alloc::{AllocError, Global};
-use wac_diagnostics::Diagnostic;
 use wac_graph::{Package, PackageKey};
 
 /// The folders that a client has open, and the packages that their documents and components have.
@@ -209,7 +208,7 @@ impl Workspace {
         }
         let opened = Opened {
             uri: String::from_str(alloc, uri)?,
-            text: declaration_in(alloc, text.as_bytes())?,
+            text: declaration_of(alloc, text)?,
         };
         put_open(alloc, &mut self.sources, path, opened)
     }
@@ -255,9 +254,9 @@ impl Workspace {
         alloc: Global,
         path: &str,
         text: &str,
-    ) -> Result<Vec<Diagnostic>, AllocError> {
+    ) -> Result<Said, AllocError> {
         if !self.resolves(path) {
-            return Ok(Vec::new(alloc));
+            return Ok(Said::nothing(alloc));
         }
         match self.document_of(path) {
             Some(document) => declaration_fault(alloc, &self.packages, document, text),
