@@ -17,11 +17,6 @@ pub fn warnings_of(
     text: &str,
     graph: &CompositionGraph,
 ) -> Result<Vec<Diagnostic>, AllocError> {
-    // The text is parsed for places only where there is something to tell.
-    let found = warnings(alloc, graph, &IndexMap::new(alloc))?;
-    if found.is_empty() {
-        return Ok(found);
-    }
     let places = places_of(alloc, text)?;
     warnings(alloc, graph, &places)
 }

@@ -53,7 +53,6 @@ Leaves unit (notices.Closed uri) old new = new ≡ others (string_bytes uri) old
 Leaves unit notices.Initialized old new = new ≡ old
 Leaves unit notices.Exit old new = new ≡ old
 Leaves unit notices.FilesChanged old new = new ≡ old
-Leaves unit (notices.FoldersChanged added removed) old new = new ≡ old
 Leaves unit notices.Other old new = new ≡ old
 
 -- the same in each phase: all stay before initialize and after shutdown

@@ -13,14 +13,12 @@ pub(crate) fn capabilities(alloc: Global, counts_bytes: bool) -> Result<Value, A
     let actions = json!(in alloc; {"codeActionKinds": ["quickfix"]})?;
     let completion = completion_provider(alloc)?;
     let tokens = tokens_provider(alloc)?;
-    let workspace = workspace_capabilities(alloc)?;
     json!(in alloc; {
         "positionEncoding": encoding,
         "textDocumentSync": sync,
         "documentFormattingProvider": true,
         "documentRangeFormattingProvider": true,
         "documentSymbolProvider": true,
-        "workspace": workspace,
         "workspaceSymbolProvider": true,
         "foldingRangeProvider": true,
         "selectionRangeProvider": true,
@@ -33,11 +31,6 @@ pub(crate) fn capabilities(alloc: Global, counts_bytes: bool) -> Result<Value, A
         "completionProvider": completion,
         "semanticTokensProvider": tokens
     })
-}
-
-/// What the server takes of folders: that the client opens and closes them.
-fn workspace_capabilities(alloc: Global) -> Result<Value, AllocError> {
-    json!(in alloc; {"workspaceFolders": {"supported": true, "changeNotifications": true}})
 }
 
 /// How the kinds of tokens are told: of a whole document at once.

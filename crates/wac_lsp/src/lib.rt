@@ -29,4 +29,4 @@ mod tokens;
 
 pub use completing::Suggestion;
 pub use documents::Document;
-pub use server::{Outcome, Sent, Server, answer, follow, sends_reply, step};
+pub use server::{Outcome, Sent, Server, answer, sends_reply, step};

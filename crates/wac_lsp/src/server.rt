@@ -337,59 +337,6 @@ impl Server {
         }
     }
 
-    /// Takes a document that was opened or changed, and tells nothing of it.
-    #[tactic(auto, using(crate::proofs::Remade::put_last))]
-    fn taken(&mut self, uri: String, version: i64, text: String) -> Result<(), AllocError>
-        ensures unit { self.new.unit ≡ self.old.unit }
-        ensures puts { OnOk result
-            (Puts (string_bytes uri) (string_bytes text) self.old.documents.items self.new.documents.items) }
-    {
-        put(&mut self.documents, Document { uri, version, text })?;
-        Ok(())
-    }
-
-    /// Changes a document, and tells nothing of it. Changes of one that isn't open are passed over.
-    #[tactic(auto, using(crate::proofs::Remade::remade, crate::proofs::Remade::none_remade))]
-    fn edited(
-        &mut self,
-        alloc: Global,
-        uri: String,
-        version: i64,
-        changes: &[Change],
-    ) -> Result<(), ChangeError>
-        ensures { IfOk result (λ _.
-            Remakes self.old.unit (string_bytes uri) changes.now self.old.documents.items self.new.documents.items) }
-    {
-        match self.text_after(alloc, uri.as_str(), changes)? {
-            Some(text) => Ok(self.taken(uri, version, text)?),
-            None => Ok(()),
-        }
-    }
-
-    /// Takes what a notification says of open documents while the server runs.
-    fn followed(&mut self, alloc: Global, notice: Notice) -> Result<(), ChangeError>
-        ensures { IfOk result (λ _.
-            Leaves self.old.unit notice self.old.documents.items self.new.documents.items) }
-    {
-        match notice {
-            Notice::Opened { uri, version, text } => Ok(self.taken(uri, version, text)?),
-            Notice::Changed {
-                uri,
-                version,
-                changes,
-            } => self.edited(alloc, uri, version, changes.as_slice()),
-            Notice::Closed { uri } => {
-                close(&mut self.documents, uri.as_str());
-                Ok(())
-            }
-            Notice::FilesChanged
-            | Notice::Exit
-            | Notice::Initialized
-            | Notice::FoldersChanged { .. }
-            | Notice::Other => Ok(()),
-        }
-    }
-
     /// Tells again what is wrong with each document.
     #[tactic(auto, using(crate::proofs::Sending::notified, crate::proofs::Sending::still_replies))]
     fn refreshed(&self, alloc: Global) -> Result<Outcome, AllocError>
@@ -435,10 +382,7 @@ impl Server {
             }
             Notice::FilesChanged => Ok(self.refreshed(alloc)?),
             Notice::Exit => Ok(sends_nothing(alloc, Some(1))),
-            // A server by itself knows no folders.
-            Notice::Initialized | Notice::FoldersChanged { .. } | Notice::Other => {
-                Ok(sends_nothing(alloc, None))
-            }
+            Notice::Initialized | Notice::Other => Ok(sends_nothing(alloc, None)),
         }
     }
 }
@@ -525,22 +469,6 @@ pub fn answer(alloc: Global, server: &mut Server, message: Message) -> Result<Ou
             let body = refused(alloc, None, why)?;
             Ok(sends_reply(alloc, None, body)?)
         }
-    }
-}
-
-/// Takes what a notification says of open documents, as `answer` does, and finds no errors of their texts: for a caller
-/// that tells more of a document than its text says, by `publication` or `publication_of` of the server. The errors are
-/// those of `answer`.
-pub fn follow(alloc: Global, server: &mut Server, notice: Notice) -> Result<(), ChangeError>
-    // The text of a document is that with which it was opened, after all changes that came since.
-    ensures { IfOk result (λ _.
-        LeavesIn server.old.phase server.old.unit notice server.old.documents.items server.new.documents.items) }
-{
-    let phase = server.phase;
-    match phase {
-        Phase::New => Ok(()),
-        Phase::Running => server.followed(alloc, notice),
-        Phase::ShutDown => Ok(()),
     }
 }
 

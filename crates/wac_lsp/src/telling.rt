@@ -41,17 +41,6 @@ impl Server {
         }
     }
 
-    /// The notification that has these diagnostics of an open document, and no others.
-    pub fn publication_of(
-        &self,
-        alloc: Global,
-        document: &Document,
-        found: &[Diagnostic],
-    ) -> Result<String, AllocError> {
-        let about = self.about(document.uri(), document.text());
-        published_all(alloc, &about, document.version, found)
-    }
-
     /// A span of a text as a place of the document of a name, as the answer to the question where something is declared.
     pub fn location(
         &self,

@@ -54,13 +54,6 @@ pub enum Notice {
     },
     /// Files of the client's folders were changed.
     FilesChanged,
-    /// The client has other folders open than before.
-    FoldersChanged {
-        /// The URIs of those that it opened.
-        added: Vec<String>,
-        /// The URIs of those that it closed.
-        removed: Vec<String>,
-    },
     /// Something that the server does nothing about, or a notice without what it needs.
     Other,
 }
@@ -159,39 +152,6 @@ fn read_closed(alloc: Global, params: &Value) -> Result<Option<Notice>, AllocErr
     }
 }
 
-/// The URIs of the folders that a field lists, if each value there has one.
-fn read_folders(
-    alloc: Global,
-    event: &Value,
-    name: &str,
-) -> Result<Option<Vec<String>>, AllocError> {
-    let Some(Value::Array(folders)) = field(event, name) else {
-        return Ok(None);
-    };
-    let mut all = Vec::new(alloc);
-    for folder in folders {
-        match owned_text(alloc, folder, "uri")? {
-            Some(uri) => all.push(uri)?,
-            None => return Ok(None),
-        }
-    }
-    Ok(Some(all))
-}
-
-/// That the client has other folders open.
-fn read_folders_changed(alloc: Global, params: &Value) -> Result<Option<Notice>, AllocError> {
-    let Some(event) = field(params, "event") else {
-        return Ok(None);
-    };
-    let Some(added) = read_folders(alloc, event, "added")? else {
-        return Ok(None);
-    };
-    match read_folders(alloc, event, "removed")? {
-        Some(removed) => Ok(Some(Notice::FoldersChanged { added, removed })),
-        None => Ok(None),
-    }
-}
-
 /// What a notification of this method tells.
 pub(crate) fn read_notice(
     alloc: Global,
@@ -205,7 +165,6 @@ pub(crate) fn read_notice(
         "textDocument/didChange" => read_changed(alloc, params)?,
         "textDocument/didClose" => read_closed(alloc, params)?,
         "workspace/didChangeWatchedFiles" => Some(Notice::FilesChanged),
-        "workspace/didChangeWorkspaceFolders" => read_folders_changed(alloc, params)?,
         _ => None,
     };
     Ok(found.unwrap_or(Notice::Other))

@@ -3,7 +3,7 @@ ghost use Rattle.std.specs.Prelude.{◌≡◌, IfOk, IfSome};
 ghost use Rattle.wac_lsp_names.specs.Occurrences.{IsNameAt};
 
 use crate::declarations::{Declaration, declaration_of};
-use crate::occurrences::{Occurrences, inner, occurrences_in};
+use crate::occurrences::{Occurrences, occurrences_in};
 use crate::reading::{Reading, read};
 use std::alloc::{AllocError, Global};
 use wac_lexer::{Lexer, SourceSpan};
@@ -170,9 +170,9 @@ pub fn hover_at(alloc: Global, source: &str, offset: usize) -> Result<Option<Hov
     let Some(reading) = read(alloc, source)? else {
         return Ok(None);
     };
-    let within = inner(&reading, offset);
+    let inner = offset.saturating_add(reading.skip);
     match occurrences_in(alloc, &reading, source, offset)? {
-        Some(found) => hover_in(alloc, &reading, &found, within),
+        Some(found) => hover_in(alloc, &reading, &found, inner),
         None => Ok(None),
     }
 }

@@ -1,7 +1,4 @@
 //! A document as it is read: its text without faulty statements, its tokens and its names.
-ghost use Rattle.std.specs.Prelude.{◌≤◌, IfOk, IfSome};
-ghost use Rattle.wac_lsp_names.specs.Read.{AreNamesOf, IsLeft, IsRead, attempt_of, read_of};
-
 use crate::lexed::{Lexed, number_at, tokens_of};
 use std::alloc::{AllocError, Global};
 use wac_lexer::SourceSpan;
@@ -29,9 +26,7 @@ pub(crate) struct Reading {
 }
 
 /// How many faulty statements of a text are blanked: fewer of a long one, since each costs a parse.
-fn most_faults(text: &str) -> usize
-    ensures { 16 ≤ result }
-{
+fn most_faults(text: &str) -> usize {
     match MOST_BYTES.checked_div(text.len()) {
         Some(count) => count.min(MOST).max(LEAST),
         None => MOST,
@@ -46,9 +41,7 @@ struct Left {
 }
 
 /// Blanks the faulty statements of a text.
-fn blanked(alloc: Global, source: &str) -> Result<Left, AllocError>
-    ensures { IfOk result (λ left. IsLeft source.now (attempt_of left)) }
-{
+fn blanked(alloc: Global, source: &str) -> Result<Left, AllocError> {
     let recovery = recover(alloc, source, most_faults(source))?;
     let Recovery {
         faults: _,
@@ -59,9 +52,7 @@ fn blanked(alloc: Global, source: &str) -> Result<Left, AllocError>
 }
 
 /// Reads what is left of a text, if it is a document.
-fn read_left(alloc: Global, left: Left) -> Result<Option<Reading>, AllocError>
-    ensures { IfOk result (λ found. IfSome found (λ reading. AreNamesOf (attempt_of left) (read_of reading))) }
-{
+fn read_left(alloc: Global, left: Left) -> Result<Option<Reading>, AllocError> {
     let Left { text, skip } = left;
     let Some(names) = Names::of_text(alloc, text.as_str())? else {
         return Ok(None);
@@ -76,9 +67,7 @@ fn read_left(alloc: Global, left: Left) -> Result<Option<Reading>, AllocError>
 }
 
 /// Reads a text. There is nothing to read where too many statements are faulty.
-pub(crate) fn read(alloc: Global, source: &str) -> Result<Option<Reading>, AllocError>
-    ensures { IfOk result (λ found. IfSome found (λ reading. IsRead source.now (read_of reading))) }
-{
+pub(crate) fn read(alloc: Global, source: &str) -> Result<Option<Reading>, AllocError> {
     read_left(alloc, blanked(alloc, source)?)
 }
 

@@ -8,7 +8,7 @@ use crate::applied::test_edits;
 use crate::edits::Edit;
 use crate::entries::entries_of;
 use crate::forms::Renaming;
-use crate::occurrences::{Occurrences, inner, occurrences_in};
+use crate::occurrences::{Occurrences, occurrences_in};
 use crate::reading::{Reading, read};
 use crate::refusals::{RenameError, Stopped};
 use crate::sound::{Change, are_sound};
@@ -121,7 +121,8 @@ fn given_at(
     let Some(found) = occurrences_in(alloc, reading, source, offset)? else {
         return Err(Stopped::Refused(RenameError::NoName));
     };
-    let Some(number) = reading.names.binding_at(inner(reading, offset)) else {
+    let inner = offset.saturating_add(reading.skip);
+    let Some(number) = reading.names.binding_at(inner) else {
         return Err(Stopped::Refused(RenameError::NoName));
     };
     let Some(old) = name_in(source, found.bound) else {

@@ -4,43 +4,36 @@ ghost use Rattle.wac_lsp.specs.Replies.{AreReplies, replies};
 
 use serde_json::json;
 use std::alloc::{AllocError, Global};
+use wac_diagnostics::Diagnostic;
 use wac_lsp::{Document, Sent, Server};
 use wac_lsp_folders::path_of_uri;
 use wac_lsp_messages::notification;
-use wac_lsp_workspace::{Said, Workspace};
+use wac_lsp_workspace::Workspace;
 
 /// The number of a warning among the messages of a log.
 const WARNING: u8 = 2;
 
-/// What the workspace says of a document, if it may be in a folder.
-fn said_of(
+/// What the workspace says of a document.
+pub(crate) fn said_of(
     alloc: Global,
     workspace: &Workspace,
     document: &Document,
-) -> Result<Option<Said>, AllocError> {
+) -> Result<Vec<Diagnostic>, AllocError> {
     match path_of_uri(alloc, document.uri())? {
-        Some(path) => Ok(Some(
-            workspace.diagnose(alloc, path.as_str(), document.text())?,
-        )),
-        None => Ok(None),
+        Some(path) => workspace.diagnose(alloc, path.as_str(), document.text()),
+        None => Ok(Vec::new(alloc)),
     }
 }
 
-/// What is told of a document: what is wrong with its text alone, or else what the workspace says. The errors of the text
-/// are looked for where the workspace leaves open whether it has some.
-pub(crate) fn published(
+/// What is told of a document: what is wrong with its text alone, or else what the workspace says.
+fn published(
     alloc: Global,
     server: &Server,
     workspace: &Workspace,
     document: &Document,
 ) -> Result<String, AllocError> {
-    match said_of(alloc, workspace, document)? {
-        Some(said) if said.is_of_packages => {
-            server.publication_of(alloc, document, said.found.as_slice())
-        }
-        Some(said) => server.publication(alloc, document, said.found.as_slice()),
-        None => server.publication(alloc, document, &[]),
-    }
+    let said = said_of(alloc, workspace, document)?;
+    server.publication(alloc, document, said.as_slice())
 }
 
 /// What is told of each open document.

@@ -5,11 +5,11 @@ ghost use Rattle.wac_lsp_sessions.specs.Answering.{Answers};
 
 use crate::completions::completed_at;
 use crate::definitions::declared_at;
-use crate::refreshing::{all_published, logged, published};
+use crate::refreshing::{all_published, logged, said_of};
 use crate::watching::{Touched, touched_by, watch_request, watches_files};
 use serde_json::Value;
 use std::alloc::{AllocError, Global};
-use wac_lsp::{Document, Outcome, Sent, Server, answer, follow, sends_reply};
+use wac_lsp::{Outcome, Sent, Server, answer, sends_reply};
 use wac_lsp_folders::{client_folders, path_of_uri};
 use wac_lsp_messages::{Call, Id, Message, Notice, Question, Refusal, read_message, reply};
 use wac_lsp_texts::ChangeError;
@@ -19,7 +19,7 @@ use wac_lsp_workspace::{FolderContents, Workspace};
 pub struct Session {
     server: Server,
     workspace: Workspace,
-    /// Whether the client takes that it is asked to watch files, and wasn't asked.
+    /// Whether the client takes that it is asked to watch files.
     watches_files: bool,
 }
 
@@ -78,30 +78,6 @@ fn with_messages(outcome: Outcome, messages: Vec<Sent>) -> Outcome
 {
     let Outcome { status, .. } = outcome;
     Outcome { messages, status }
-}
-
-/// An outcome in which messages are sent, and the server goes on.
-fn sends(messages: Vec<Sent>) -> Outcome
-    ensures { result.messages ≡ messages }
-{
-    Outcome {
-        messages,
-        status: None,
-    }
-}
-
-/// Has a workspace take the texts of open documents.
-fn put_all(
-    alloc: Global,
-    workspace: &mut Workspace,
-    documents: &[Document],
-) -> Result<(), AllocError> {
-    for document in documents {
-        if let Some(path) = path_of_uri(alloc, document.uri())? {
-            let _ = workspace.put(alloc, path.as_str(), document.uri(), document.text())?;
-        }
-    }
-    Ok(())
 }
 
 /// A message that replies to nothing.
@@ -243,52 +219,12 @@ impl Session {
         ensures ids { IfOk result (λ stepped. replies stepped.outcome.messages.items ≡ []) }
         ensures written { IfOk result (λ stepped. AreReplies stepped.outcome.messages.items) }
     {
-        match touched_by(alloc, &notice)? {
-            Touched::Text(uri) => self.text_noticed(alloc, uri.as_str(), notice),
-            touched => self.other_noticed(alloc, touched, notice),
-        }
-    }
-
-    /// What the session does after a document was opened or changed. Where the client has folders, no errors are looked for
-    /// before the folders are asked.
-    fn text_noticed(
-        &mut self,
-        alloc: Global,
-        uri: &str,
-        notice: Notice,
-    ) -> Result<Stepped, ChangeError>
-        ensures ids { IfOk result (λ stepped. replies stepped.outcome.messages.items ≡ []) }
-        ensures written { IfOk result (λ stepped. AreReplies stepped.outcome.messages.items) }
-    {
-        if !self.server.is_running() || self.folders().is_empty() {
-            let message = Message::Notification(notice);
-            return Ok(stays(answer(alloc, &mut self.server, message)?));
-        }
-        follow(alloc, &mut self.server, notice)?;
-        let messages = self.text_taken(alloc, uri)?;
-        Ok(stays(sends(messages)))
-    }
-
-    /// What the session does after another notification.
-    fn other_noticed(
-        &mut self,
-        alloc: Global,
-        touched: Touched,
-        notice: Notice,
-    ) -> Result<Stepped, ChangeError>
-        ensures ids { IfOk result (λ stepped. replies stepped.outcome.messages.items ≡ []) }
-        ensures written { IfOk result (λ stepped. AreReplies stepped.outcome.messages.items) }
-    {
+        let touched = touched_by(alloc, &notice)?;
         let outcome = answer(alloc, &mut self.server, Message::Notification(notice))?;
-        if !self.server.is_running() || !self.concerns(&touched) {
+        if !self.server.is_running() || self.folders().is_empty() {
             return Ok(stays(outcome));
         }
         Ok(self.touched(alloc, touched, outcome)?)
-    }
-
-    /// Whether there are folders for which a notification changes something, or it changes which there are.
-    fn concerns(&self, touched: &Touched) -> bool {
-        !self.folders().is_empty() || matches!(touched, Touched::Folders { .. })
     }
 
     /// What the session does after a notification of a client with folders.
@@ -304,8 +240,8 @@ impl Session {
         ensures written { IfOk result (λ stepped. AreReplies stepped.outcome.messages.items) }
     {
         match touched {
-            // Texts are taken by `text_noticed`.
-            Touched::Nothing | Touched::Text(_) => Ok(stays(outcome)),
+            Touched::Nothing => Ok(stays(outcome)),
+            Touched::Text(uri) => Ok(stays(self.text_taken(alloc, uri.as_str(), outcome)?)),
             Touched::Closed(uri) => self.closed(alloc, uri.as_str(), outcome),
             Touched::Begun => Ok(Stepped {
                 outcome: self.begun(alloc, outcome)?,
@@ -315,38 +251,19 @@ impl Session {
                 outcome: with_messages(outcome, Vec::new(alloc)),
                 reads_folders: true,
             }),
-            Touched::Folders { added, removed } => {
-                self.change_folders(alloc, added, removed.as_slice())?;
-                Ok(Stepped {
-                    outcome: self.begun(alloc, outcome)?,
-                    reads_folders: true,
-                })
-            }
         }
     }
 
-    /// Takes that a client has other folders open. The documents in them that are open stand before their files.
-    fn change_folders(
-        &mut self,
-        alloc: Global,
-        added: Vec<String>,
-        removed: &[String],
-    ) -> Result<(), AllocError> {
-        self.workspace.change_folders(alloc, added, removed)?;
-        put_all(alloc, &mut self.workspace, self.server.documents())
-    }
-
-    /// Asks a client to watch files, if it has folders, takes that and wasn't asked.
-    fn begun(&mut self, alloc: Global, outcome: Outcome) -> Result<Outcome, AllocError>
+    /// Asks a client to watch files, if it takes that.
+    fn begun(&self, alloc: Global, outcome: Outcome) -> Result<Outcome, AllocError>
         requires ids { replies outcome.messages.items ≡ [] }
         requires written { AreReplies outcome.messages.items }
         ensures ids { IfOk result (λ outcome. replies outcome.messages.items ≡ []) }
         ensures written { IfOk result (λ outcome. AreReplies outcome.messages.items) }
     {
-        if !self.watches_files || self.folders().is_empty() {
+        if !self.watches_files {
             return Ok(outcome);
         }
-        self.watches_files = false;
         let body = watch_request(alloc)?;
         Ok(with_messages(outcome, sends_one(alloc, body)?))
     }
@@ -366,26 +283,36 @@ impl Session {
 
     /// What is told after a document was opened or changed: what is wrong with it, and where packages were made anew what is
     /// wrong with each.
-    fn text_taken(&mut self, alloc: Global, uri: &str) -> Result<Vec<Sent>, AllocError>
-        ensures ids { IfOk result (λ messages. replies messages.items ≡ []) }
-        ensures written { IfOk result (λ messages. AreReplies messages.items) }
+    fn text_taken(
+        &mut self,
+        alloc: Global,
+        uri: &str,
+        outcome: Outcome,
+    ) -> Result<Outcome, AllocError>
+        requires ids { replies outcome.messages.items ≡ [] }
+        requires written { AreReplies outcome.messages.items }
+        ensures ids { IfOk result (λ outcome. replies outcome.messages.items ≡ []) }
+        ensures written { IfOk result (λ outcome. AreReplies outcome.messages.items) }
     {
         if self.take_text(alloc, uri)? {
-            return self.refreshed(alloc);
+            return Ok(with_messages(outcome, self.refreshed(alloc)?));
         }
         match self.said(alloc, uri)? {
-            Some(body) => sends_one(alloc, body),
-            None => Ok(Vec::new(alloc)),
+            Some(body) => Ok(with_messages(outcome, sends_one(alloc, body)?)),
+            None => Ok(outcome),
         }
     }
 
-    /// What is told of a document, if it is open.
+    /// What is told of a document of which the workspace says something.
     fn said(&self, alloc: Global, uri: &str) -> Result<Option<String>, AllocError> {
         let Some(document) = self.server.document(uri) else {
             return Ok(None);
         };
-        let body = published(alloc, &self.server, &self.workspace, document)?;
-        Ok(Some(body))
+        let said = said_of(alloc, &self.workspace, document)?;
+        if said.is_empty() {
+            return Ok(None);
+        }
+        Ok(Some(self.server.publication(alloc, document, said.as_slice())?))
     }
 
     /// What is told of each open document.

@@ -1,7 +1,6 @@
 //! What a message means for the folders of a client.
 use serde_json::{Value, json};
 use std::alloc::{AllocError, Global};
-use wac_lsp_folders::folder_paths;
 use wac_lsp_messages::Notice;
 
 /// What a notification changes of what is known of folders.
@@ -17,11 +16,6 @@ pub(crate) enum Touched {
     Begun,
     /// The files.
     Files,
-    /// The folders that the client has open, by their paths.
-    Folders {
-        added: Vec<String>,
-        removed: Vec<String>,
-    },
 }
 
 /// What a notification changes of what is known of folders.
@@ -33,10 +27,6 @@ pub(crate) fn touched_by(alloc: Global, notice: &Notice) -> Result<Touched, Allo
         Notice::Closed { uri } => Ok(Touched::Closed(String::from_str(alloc, uri.as_str())?)),
         Notice::Initialized => Ok(Touched::Begun),
         Notice::FilesChanged => Ok(Touched::Files),
-        Notice::FoldersChanged { added, removed } => Ok(Touched::Folders {
-            added: folder_paths(alloc, added.as_slice())?,
-            removed: folder_paths(alloc, removed.as_slice())?,
-        }),
         Notice::Exit | Notice::Other => Ok(Touched::Nothing),
     }
 }

@@ -81,16 +81,6 @@ pub(crate) fn declaration_in(alloc: Global, bytes: &[u8]) -> Result<Option<Strin
     }
 }
 
-/// A copy of a text, if it declares a package and its brackets aren't nested too deeply. Of a composition no more is read
-/// than its first statement that composes.
-pub(crate) fn declaration_of(alloc: Global, text: &str) -> Result<Option<String>, AllocError> {
-    if is_declaration(text) {
-        declaration_in(alloc, text.as_bytes())
-    } else {
-        Ok(None)
-    }
-}
-
 /// A copy of a text, if it declares a package.
 fn declared_text(alloc: Global, text: &str) -> Result<Option<String>, AllocError> {
     if is_declaration(text) {

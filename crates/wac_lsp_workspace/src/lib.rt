@@ -8,7 +8,7 @@
 //! let changed = workspace.open(alloc, path, uri, text)?;              // an open text stands before its file
 //! let found = workspace.diagnose(alloc, path, text)?;                 // as `wacx check --packages` says it
 //! let declared = workspace.declaration_at(text, offset);              // of `new a:b`, of `a:b/i`, of `use a:b/i.{t}`
-//! let names = workspace.names_at(alloc, text, offset)?;               // in `new a:b { `, behind `x.`, `new ` and `use `
+//! let names = workspace.names_at(alloc, text, offset)?;               // in `new a:b { `, behind `x.`, in `use a:b/i.{`
 //! ```
 //!
 //! A document has a package if it has no target and no statement but those of types; every other one is a composition.
@@ -16,12 +16,10 @@
 
 mod contents;
 mod declarations;
-mod denoting;
 mod kinds;
 mod named;
 mod offering;
 mod packages;
-mod paths;
 mod searching;
 mod sources;
 mod telling;
@@ -31,6 +29,5 @@ mod workspace;
 pub use contents::{FolderContents, read_folders};
 pub use declarations::Declaration;
 pub use kinds::is_declaration;
-pub use offering::{Offer, Offered, Offers};
-pub use telling::Said;
+pub use offering::{Offer, Offered};
 pub use workspace::Workspace;

@@ -91,7 +91,9 @@ impl<'t> Finder<'t> {
         if self.before == Token::AsKeyword || !is_at(span, self.offset) {
             return None;
         }
-        let mut named = whole(text_at(self.text, self.used?));
+        let path = text_at(self.text, self.used?);
+        let mut named = named_in(path, path.len());
+        named.segments = segments_of(path);
         named.item = Some(text_at(self.text, span));
         Some(named)
     }
@@ -122,13 +124,6 @@ pub(crate) fn segments_of(path: &str) -> &str {
         Some((_, segments)) => segments,
         None => "",
     }
-}
-
-/// What a whole path names.
-pub(crate) fn whole(path: &str) -> Named<'_> {
-    let mut named = named_in(path, path.len());
-    named.segments = segments_of(path);
-    named
 }
 
 /// What of a package a text names at an offset, by its tokens up to its first rejected character.

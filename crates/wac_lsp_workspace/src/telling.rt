@@ -4,7 +4,6 @@ use std::alloc::{AllocError, Global};
 use wac_composition_warnings::warnings_of;
 use wac_diagnostics::Diagnostic;
 use wac_error_diagnostics::Reading;
-use wac_graph::CompositionGraph;
 use wac_package_errors::{
     Composed, KnownPackages, declaration_diagnostic, first_error_with, flat_text,
 };
@@ -18,39 +17,13 @@ const NO_FILE_OF_FOLDERS: &str = "no file of the folders has it";
 /// The code of an instantiation of a package of which no world is chosen.
 const NO_WORLD: &str = "wac::no-world";
 
-/// What the folders say of a document.
-#[derive(Drop)]
-pub struct Said {
-    /// What is wrong with it first, or what of it may not be meant.
-    pub found: Vec<Diagnostic>,
-    /// Whether its text alone has no error, as `all_errors` tells them: it is a document that mentions packages. Else that is
-    /// left open.
-    pub is_of_packages: bool,
-}
-
-impl Said {
-    /// Nothing is said.
-    pub(crate) fn nothing(alloc: Global) -> Said {
-        Said {
-            found: Vec::new(alloc),
-            is_of_packages: false,
-        }
-    }
-}
-
-/// Whether a graph has packages, so that its document mentions some.
-fn has_packages(graph: &CompositionGraph) -> bool {
-    let mut packages = graph.packages();
-    packages.next().is_some()
-}
-
 /// What is wrong with the document of this number, which declares a package or is to.
 pub(crate) fn declaration_fault(
     alloc: Global,
     packages: &Packages,
     document: usize,
     text: &str,
-) -> Result<Said, AllocError> {
+) -> Result<Vec<Diagnostic>, AllocError> {
     let known = packages.known();
     for fault in known.declared.faults.as_slice() {
         if fault.text == document {
@@ -58,7 +31,7 @@ pub(crate) fn declaration_fault(
             return told(alloc, diagnostic);
         }
     }
-    Ok(Said::nothing(alloc))
+    Ok(Vec::new(alloc))
 }
 
 /// What is wrong with a composition first, or what of it may not be meant.
@@ -66,7 +39,7 @@ pub(crate) fn composition_fault(
     alloc: Global,
     known: KnownPackages<'_>,
     text: &str,
-) -> Result<Said, AllocError> {
+) -> Result<Vec<Diagnostic>, AllocError> {
     match flat_text(alloc, text.as_bytes()) {
         Ok(Reading::Text(text)) => judged(alloc, known, text),
         Ok(Reading::Rejected(diagnostic)) => told(alloc, diagnostic),
@@ -75,25 +48,15 @@ pub(crate) fn composition_fault(
 }
 
 /// The same of a text whose brackets aren't nested too deeply.
-fn judged(alloc: Global, known: KnownPackages<'_>, text: &str) -> Result<Said, AllocError> {
+fn judged(
+    alloc: Global,
+    known: KnownPackages<'_>,
+    text: &str,
+) -> Result<Vec<Diagnostic>, AllocError> {
     match first_error_with(alloc, text, known) {
-        Ok(Composed::Resolved(graph)) => warned(alloc, text, &graph),
-        Ok(Composed::Unresolved) => Ok(Said {
-            found: Vec::new(alloc),
-            is_of_packages: true,
-        }),
+        Ok(Composed::Resolved(graph)) => warnings_of(alloc, text, &graph),
+        Ok(Composed::Unresolved) => Ok(Vec::new(alloc)),
         Ok(Composed::Rejected(diagnostic)) => told(alloc, diagnostic),
-        Err(_) => Err(AllocError),
-    }
-}
-
-/// What may not be meant of a composition without an error.
-fn warned(alloc: Global, text: &str, graph: &CompositionGraph) -> Result<Said, AllocError> {
-    match warnings_of(alloc, text, graph) {
-        Ok(found) => Ok(Said {
-            found,
-            is_of_packages: has_packages(graph),
-        }),
         Err(_) => Err(AllocError),
     }
 }
@@ -104,12 +67,12 @@ fn asks_for_option(diagnostic: &Diagnostic) -> bool {
 }
 
 /// What an editor shows of a diagnostic. That no world of several is chosen is no error there, since none can be.
-fn told(alloc: Global, diagnostic: Diagnostic) -> Result<Said, AllocError> {
-    let mut said = Said::nothing(alloc);
+fn told(alloc: Global, diagnostic: Diagnostic) -> Result<Vec<Diagnostic>, AllocError> {
+    let mut all = Vec::new(alloc);
     if !asks_for_option(&diagnostic) {
-        said.found.push(for_editor(alloc, diagnostic)?)?;
+        all.push(for_editor(alloc, diagnostic)?)?;
     }
-    Ok(said)
+    Ok(all)
 }
 
 /// Whether the help of a diagnostic says that no file of the command has a package.

@@ -1,10 +1,11 @@
 //! The packages of the folders that a client has open.
-use crate::contents::{ComponentPackage, DocumentFile, FolderContents, declaration_of};
+use crate::contents::{ComponentPackage, DocumentFile, FolderContents, declaration_in};
 use crate::packages::{Packages, behind};
 use crate::sources::{Opened, Source, place_of, put_closed, put_open};
-use crate::telling::{Said, composition_fault, declaration_fault};
+use crate::telling::{composition_fault, declaration_fault};
 use indexmap::IndexMap;
 use std::alloc::{AllocError, Global};
+use wac_diagnostics::Diagnostic;
 use wac_graph::{Package, PackageKey};
 
 /// The folders that a client has open, and the packages that their documents and components have.
@@ -63,59 +64,6 @@ fn add_all_open(
     Ok(())
 }
 
-/// Whether a path is in one of some folders.
-fn is_within(folders: &[String], path: &str) -> bool {
-    for folder in folders {
-        if behind(folder.as_str(), path).is_some() {
-            return true;
-        }
-    }
-    false
-}
-
-/// Whether a folder is one of some.
-fn is_among(folders: &[String], folder: &str) -> bool {
-    folders.iter().any(|other| other.as_str() == folder)
-}
-
-/// Folders without others.
-fn without(
-    alloc: Global,
-    folders: Vec<String>,
-    removed: &[String],
-) -> Result<Vec<String>, AllocError> {
-    let mut left = Vec::new(alloc);
-    for folder in folders {
-        if !is_among(removed, folder.as_str()) {
-            left.push(folder)?;
-        }
-    }
-    Ok(left)
-}
-
-/// Adds a folder, unless it is there.
-fn add_folder(folders: &mut Vec<String>, folder: String) -> Result<(), AllocError> {
-    if !is_among(folders.as_slice(), folder.as_str()) {
-        folders.push(folder)?;
-    }
-    Ok(())
-}
-
-/// The sources that are in one of some folders.
-fn within(
-    alloc: Global,
-    folders: &[String],
-    sources: Vec<Source>,
-) -> Result<Vec<Source>, AllocError> {
-    let mut left = Vec::new(alloc);
-    for source in sources {
-        if is_within(folders, source.path.as_str()) {
-            left.push(source)?;
-        }
-    }
-    Ok(left)
-}
-
 impl Workspace {
     /// The workspace of folders of which nothing was read. Their paths end with no slash.
     pub fn new(alloc: Global, folders: Vec<String>) -> Workspace {
@@ -134,7 +82,12 @@ impl Workspace {
 
     /// Whether a path is in one of the folders.
     pub fn holds(&self, path: &str) -> bool {
-        is_within(self.folders.as_slice(), path)
+        for folder in self.folders.as_slice() {
+            if behind(folder.as_str(), path).is_some() {
+                return true;
+            }
+        }
+        false
     }
 
     /// Makes the packages anew.
@@ -175,44 +128,6 @@ impl Workspace {
         Ok(passed_over)
     }
 
-    /// Takes that the client opened folders and closed others, of which it may have been told before. Their paths end with
-    /// no slash. What was open in a folder that was closed is forgotten, unless it is in another one too. Packages are made
-    /// anew once the folders are read, and given to `take`; texts that are open in a folder that was opened are to be given
-    /// to `put` before.
-    pub fn change_folders(
-        &mut self,
-        alloc: Global,
-        added: Vec<String>,
-        removed: &[String],
-    ) -> Result<(), AllocError> {
-        let folders = std::mem::replace(&mut self.folders, Vec::new(alloc));
-        self.folders = without(alloc, folders, removed)?;
-        for folder in added {
-            add_folder(&mut self.folders, folder)?;
-        }
-        let sources = std::mem::replace(&mut self.sources, Vec::new(alloc));
-        self.sources = within(alloc, self.folders.as_slice(), sources)?;
-        Ok(())
-    }
-
-    /// Takes the text of an open document as `open` does, and makes no packages. Returns whether they are to be made anew.
-    pub fn put(
-        &mut self,
-        alloc: Global,
-        path: &str,
-        uri: &str,
-        text: &str,
-    ) -> Result<bool, AllocError> {
-        if !self.holds(path) {
-            return Ok(false);
-        }
-        let opened = Opened {
-            uri: String::from_str(alloc, uri)?,
-            text: declaration_of(alloc, text)?,
-        };
-        put_open(alloc, &mut self.sources, path, opened)
-    }
-
     /// Takes the text of a document that was opened or changed, which stands before its file. Returns whether packages
     /// were made anew. Documents in no folder are passed over.
     ///
@@ -224,7 +139,14 @@ impl Workspace {
         uri: &str,
         text: &str,
     ) -> Result<bool, AllocError> {
-        let changes = self.put(alloc, path, uri, text)?;
+        if !self.holds(path) {
+            return Ok(false);
+        }
+        let opened = Opened {
+            uri: String::from_str(alloc, uri)?,
+            text: declaration_in(alloc, text.as_bytes())?,
+        };
+        let changes = put_open(alloc, &mut self.sources, path, opened)?;
         if changes {
             self.renew(alloc)?;
         }
@@ -254,9 +176,9 @@ impl Workspace {
         alloc: Global,
         path: &str,
         text: &str,
-    ) -> Result<Said, AllocError> {
+    ) -> Result<Vec<Diagnostic>, AllocError> {
         if !self.resolves(path) {
-            return Ok(Said::nothing(alloc));
+            return Ok(Vec::new(alloc));
         }
         match self.document_of(path) {
             Some(document) => declaration_fault(alloc, &self.packages, document, text),

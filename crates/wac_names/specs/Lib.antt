@@ -1,5 +1,1 @@
-pub mod LookUps
-pub mod LookedUp
 pub mod Places
-pub mod Steps
-pub mod Traced

@@ -1,16 +1,11 @@
 //! Names in expressions.
-ghost use Rattle.std.specs.Prelude.{◌≡◌, OnOk, map};
-ghost use Rattle.wac_ast_grammar.specs.Tree.{arguments_from};
-ghost use Rattle.wac_ast_expressions.specs.Expressions.{argument_of, expr_of, new_expr_of, primary_expr_of};
-ghost use Rattle.wac_names.specs.Steps.{argument_steps, arguments_steps, expr_steps, primary_steps};
-ghost use Rattle.wac_names.specs.Traced.{Takes};
 
 use crate::finder::Finder;
 use crate::paths::at_root;
-use crate::place::behind;
+use crate::place::{Part, behind};
 use std::alloc::AllocError;
 use wac_ast_base::{Ident, String};
-use wac_ast_expressions::{Expr, InstantiationArgument, NewExpr, PostfixExpr, PrimaryExpr};
+use wac_ast_expressions::{Expr, InstantiationArgument, PostfixExpr, PrimaryExpr};
 use wac_lexer::SourceSpan;
 
 /// Notes the names of an expression, and returns the scope behind it.
@@ -18,9 +13,7 @@ use wac_lexer::SourceSpan;
 pub(crate) fn expression<'a>(
     finder: &mut Finder<'a>,
     expr: &Expr<'a>,
-) -> Result<Option<usize>, AllocError>
-    ensures { OnOk result (Takes finder.old finder.new (expr_steps (expr_of expr.now))) }
-{
+) -> Result<Option<usize>, AllocError> {
     let scope = primary(finder, &expr.primary)?;
     accesses(finder, scope, &expr.postfix)
 }
@@ -31,12 +24,10 @@ pub(crate) fn expression<'a>(
 fn primary<'a>(
     finder: &mut Finder<'a>,
     expr: &PrimaryExpr<'a>,
-) -> Result<Option<usize>, AllocError>
-    ensures { OnOk result (Takes finder.old finder.new (primary_steps (primary_expr_of expr.now))) }
-{
+) -> Result<Option<usize>, AllocError> {
     match expr {
         PrimaryExpr::New(new) => {
-            instantiation(finder, new)?;
+            arguments(finder, &new.arguments)?;
             Ok(None)
         }
         PrimaryExpr::Nested(nested) => expression(finder, &nested.inner),
@@ -44,23 +35,12 @@ fn primary<'a>(
     }
 }
 
-/// Notes the names of a `new`.
-#[cycle(expression)]
-fn instantiation<'a>(finder: &mut Finder<'a>, new: &NewExpr<'a>) -> Result<(), AllocError>
-    ensures { OnOk result (Takes finder.old finder.new (primary_steps (new_expr_of new.now))) }
-{
-    arguments(finder, &new.arguments)
-}
-
 /// Notes the names of arguments.
 #[cycle(expression)]
 fn arguments<'a>(
     finder: &mut Finder<'a>,
     arguments: &[InstantiationArgument<'a>],
-) -> Result<(), AllocError>
-    ensures { OnOk result (Takes finder.old finder.new
-        (arguments_steps (arguments_from (map argument_of arguments.now)))) }
-{
+) -> Result<(), AllocError> {
     for one in arguments {
         argument(finder, one)?;
     }
@@ -72,9 +52,7 @@ fn arguments<'a>(
 fn argument<'a>(
     finder: &mut Finder<'a>,
     argument: &InstantiationArgument<'a>,
-) -> Result<(), AllocError>
-    ensures { OnOk result (Takes finder.old finder.new (argument_steps (argument_of argument.now))) }
-{
+) -> Result<(), AllocError> {
     match argument {
         InstantiationArgument::Inferred(id) | InstantiationArgument::Spread(id) => {
             at_root(finder, id)?;
@@ -113,13 +91,11 @@ fn accesses<'a>(
     finder: &mut Finder<'a>,
     scope: Option<usize>,
     accesses: &[PostfixExpr<'a>],
-) -> Result<Option<usize>, AllocError>
-    ensures { OnOk result (finder.new ≡ finder.old) }
-{
+) -> Result<Option<usize>, AllocError> {
     let mut scope = scope;
     for access in accesses {
         let id = accessed(access);
-        let found = finder.member(scope, &id)?;
+        let found = finder.refer(scope, Part::Exports, &id)?;
         scope = behind(found);
     }
     Ok(scope)

@@ -3,5 +3,4 @@ pub mod ImportTypes
 pub mod Sequences
 pub mod Layout
 pub mod Resolved
-pub mod Resolves
 pub mod Steps

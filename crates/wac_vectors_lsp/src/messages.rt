@@ -278,26 +278,6 @@ static NOTIFICATIONS: [Row; 19] = [
         "{\"method\":\"textDocument/didClose\",\"params\":{\"textDocument\":{\"uri\":\"x\"}}}",
         "closed x",
     ),
-    (
-        "{\"method\":\"workspace/didChangeWorkspaceFolders\",\"params\":{\"event\":{\"added\":[{\"name\":\"p\",\"uri\":\"file:///p\"}],\"removed\":[{\"name\":\"q\",\"uri\":\"file:///q\"},{\"name\":\"r\",\"uri\":\"file:///r\"}]}}}",
-        "folders +file:///p -file:///q -file:///r",
-    ),
-    (
-        "{\"method\":\"workspace/didChangeWorkspaceFolders\",\"params\":{\"event\":{\"added\":[],\"removed\":[]}}}",
-        "folders",
-    ),
-    (
-        "{\"method\":\"workspace/didChangeWorkspaceFolders\",\"params\":{\"event\":{\"added\":[{\"name\":\"p\",\"uri\":\"file:///p\"}]}}}",
-        "other",
-    ),
-    (
-        "{\"method\":\"workspace/didChangeWorkspaceFolders\",\"params\":{\"event\":{\"added\":[{\"name\":\"p\",\"uri\":3}],\"removed\":[]}}}",
-        "other",
-    ),
-    (
-        "{\"method\":\"workspace/didChangeWorkspaceFolders\",\"params\":{\"added\":[],\"removed\":[]}}",
-        "other",
-    ),
 ];
 
 /// An id in words.
@@ -413,25 +393,12 @@ fn change_words(alloc: Global, change: &Change) -> Result<String, AllocError> {
     }
 }
 
-/// The folders that were opened and closed, in words.
-fn folder_words(alloc: Global, added: &[String], removed: &[String]) -> Result<String, AllocError> {
-    let mut words = String::from_str(alloc, "folders")?;
-    for uri in added {
-        words.push_str(format!(in alloc; " +{uri}")?.as_str())?;
-    }
-    for uri in removed {
-        words.push_str(format!(in alloc; " -{uri}")?.as_str())?;
-    }
-    Ok(words)
-}
-
 /// A notification in words.
 fn notice_words(alloc: Global, notice: &Notice) -> Result<String, AllocError> {
     match notice {
         Notice::Initialized => String::from_str(alloc, "initialized"),
         Notice::Exit => String::from_str(alloc, "exit"),
         Notice::FilesChanged => String::from_str(alloc, "files changed"),
-        Notice::FoldersChanged { added, removed } => folder_words(alloc, added, removed),
         Notice::Opened { uri, version, text } => {
             format!(in alloc; "opened {uri} {version} \"{text}\"")
         }

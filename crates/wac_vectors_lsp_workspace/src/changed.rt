@@ -97,7 +97,7 @@ fn texts_in_no_folder_are_passed_over(rt: HostRuntime) -> Result<(), Fail> {
             !workspace.open(alloc, path, "file:///b.wac", WITHOUT)?,
             "{path}"
         );
-        assert!(rt; workspace.diagnose(alloc, path, APP)?.found.is_empty(), "{path}");
+        assert!(rt; workspace.diagnose(alloc, path, APP)?.is_empty(), "{path}");
         assert!(rt; !workspace.resolves(path), "{path}");
     }
     assert!(rt; workspace.resolves("/project/b.wac"));

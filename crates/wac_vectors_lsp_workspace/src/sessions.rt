@@ -29,7 +29,7 @@ const BEGINS: &str =
     "{\"id\":1,\"jsonrpc\":\"2.0\",\"method\":\"initialize\",\"params\":{\"capabilities\":{\"workspace\":{\"didChangeWatchedFiles\":{\"dynamicRegistration\":true}}},\"workspaceFolders\":[{\"name\":\"p\",\"uri\":\"file:///my%20project\"}]}}";
 
 /// A composition with `a:b` is opened, and the document of `a:b` is opened, changed, changed back and closed.
-static ROWS: [Row; 12] = [
+static ROWS: [Row; 11] = [
     (
         "{\"jsonrpc\":\"2.0\",\"method\":\"initialized\",\"params\":{}}",
         "{\"id\":\"files\",\"jsonrpc\":\"2.0\",\"method\":\"client/registerCapability\",\"params\":{\"registrations\":[{\"id\":\"files\",\"method\":\"workspace/didChangeWatchedFiles\",\"registerOptions\":{\"watchers\":[{\"globPattern\":\"**/*.{wac,wasm}\"}]}}]}}\n",
@@ -62,11 +62,6 @@ static ROWS: [Row; 12] = [
         "{\"id\":3,\"jsonrpc\":\"2.0\",\"method\":\"textDocument/definition\",\"params\":{\"position\":{\"character\":7,\"line\":2},\"textDocument\":{\"uri\":\"file:///my%20project/app.wac\"}}}",
         "{\"id\":3,\"jsonrpc\":\"2.0\",\"result\":{\"range\":{\"end\":{\"character\":5,\"line\":1},\"start\":{\"character\":4,\"line\":1}},\"uri\":\"file:///my%20project/app.wac\"}}\n",
     ),
-    // Behind `new a:`, what is written of the name is replaced.
-    (
-        "{\"id\":5,\"jsonrpc\":\"2.0\",\"method\":\"textDocument/completion\",\"params\":{\"position\":{\"character\":14,\"line\":1},\"textDocument\":{\"uri\":\"file:///my%20project/app.wac\"}}}",
-        "{\"id\":5,\"jsonrpc\":\"2.0\",\"result\":{\"isIncomplete\":false,\"items\":[{\"detail\":\"a:b\",\"kind\":9,\"label\":\"a:b\",\"textEdit\":{\"newText\":\"a:b\",\"range\":{\"end\":{\"character\":14,\"line\":1},\"start\":{\"character\":12,\"line\":1}}}},{\"detail\":\"a:c\",\"kind\":9,\"label\":\"a:c\",\"textEdit\":{\"newText\":\"a:c\",\"range\":{\"end\":{\"character\":14,\"line\":1},\"start\":{\"character\":12,\"line\":1}}}}]}}\n",
-    ),
     // Its file stands for itself again.
     (
         "{\"jsonrpc\":\"2.0\",\"method\":\"textDocument/didClose\",\"params\":{\"textDocument\":{\"uri\":\"file:///my%20project/%62.wac\"}}}",
@@ -80,55 +75,6 @@ static ROWS: [Row; 12] = [
     (
         "{\"jsonrpc\":\"2.0\",\"method\":\"workspace/didChangeWatchedFiles\",\"params\":{\"changes\":[]}}",
         "{\"jsonrpc\":\"2.0\",\"method\":\"textDocument/publishDiagnostics\",\"params\":{\"diagnostics\":[],\"uri\":\"file:///my%20project/app.wac\",\"version\":2}}\n",
-    ),
-];
-
-/// A client begins that has no folder open, and can be asked to watch files.
-const BEGINS_ALONE: &str =
-    "{\"id\":1,\"jsonrpc\":\"2.0\",\"method\":\"initialize\",\"params\":{\"capabilities\":{\"workspace\":{\"didChangeWatchedFiles\":{\"dynamicRegistration\":true}}},\"workspaceFolders\":null}}";
-
-/// The composition and a document of `a:b` without its export are opened; then their folder is opened, closed, and opened
-/// again.
-static FOLDERS: [Row; 8] = [
-    (
-        "{\"jsonrpc\":\"2.0\",\"method\":\"initialized\",\"params\":{}}",
-        "",
-    ),
-    (
-        "{\"jsonrpc\":\"2.0\",\"method\":\"textDocument/didOpen\",\"params\":{\"textDocument\":{\"languageId\":\"wac\",\"text\":\"package a:app;\\nlet x = new a:b { };\\nexport x.f;\\n\",\"uri\":\"file:///my%20project/app.wac\",\"version\":1}}}",
-        "{\"jsonrpc\":\"2.0\",\"method\":\"textDocument/publishDiagnostics\",\"params\":{\"diagnostics\":[],\"uri\":\"file:///my%20project/app.wac\",\"version\":1}}\n",
-    ),
-    (
-        "{\"jsonrpc\":\"2.0\",\"method\":\"textDocument/didOpen\",\"params\":{\"textDocument\":{\"languageId\":\"wac\",\"text\":\"package a:b;\\nworld w { }\\n\",\"uri\":\"file:///my%20project/%62.wac\",\"version\":1}}}",
-        "{\"jsonrpc\":\"2.0\",\"method\":\"textDocument/publishDiagnostics\",\"params\":{\"diagnostics\":[],\"uri\":\"file:///my%20project/%62.wac\",\"version\":1}}\n",
-    ),
-    // The client is asked to watch files now, and what is open stands before its file.
-    (
-        "{\"jsonrpc\":\"2.0\",\"method\":\"workspace/didChangeWorkspaceFolders\",\"params\":{\"event\":{\"added\":[{\"name\":\"p\",\"uri\":\"file:///my%20project/\"},{\"name\":\"p\",\"uri\":\"file:///my%20project\"}],\"removed\":[]}}}",
-        "{\"id\":\"files\",\"jsonrpc\":\"2.0\",\"method\":\"client/registerCapability\",\"params\":{\"registrations\":[{\"id\":\"files\",\"method\":\"workspace/didChangeWatchedFiles\",\"registerOptions\":{\"watchers\":[{\"globPattern\":\"**/*.{wac,wasm}\"}]}}]}}\n\
-         {\"jsonrpc\":\"2.0\",\"method\":\"textDocument/publishDiagnostics\",\"params\":{\"diagnostics\":[{\"code\":\"wac::missing-instance-export\",\"message\":\"the instance has no export named `f`\\n`x` has nothing\",\"range\":{\"end\":{\"character\":10,\"line\":2},\"start\":{\"character\":8,\"line\":2}},\"relatedInformation\":[],\"severity\":1,\"source\":\"wac\"}],\"uri\":\"file:///my%20project/app.wac\",\"version\":1}}\n\
-         {\"jsonrpc\":\"2.0\",\"method\":\"textDocument/publishDiagnostics\",\"params\":{\"diagnostics\":[],\"uri\":\"file:///my%20project/%62.wac\",\"version\":1}}\n",
-    ),
-    // A folder without a URI: nothing is done.
-    (
-        "{\"jsonrpc\":\"2.0\",\"method\":\"workspace/didChangeWorkspaceFolders\",\"params\":{\"event\":{\"added\":[{\"name\":\"p\",\"uri\":3}],\"removed\":[{\"name\":\"p\",\"uri\":\"file:///my%20project\"}]}}}",
-        "",
-    ),
-    (
-        "{\"jsonrpc\":\"2.0\",\"method\":\"workspace/didChangeWorkspaceFolders\",\"params\":{\"event\":{\"added\":[{\"name\":\"p\",\"uri\":\"https://example.org/p\"}],\"removed\":[{\"name\":\"p\",\"uri\":\"file:///my%20project\"}]}}}",
-        "{\"jsonrpc\":\"2.0\",\"method\":\"textDocument/publishDiagnostics\",\"params\":{\"diagnostics\":[],\"uri\":\"file:///my%20project/app.wac\",\"version\":1}}\n\
-         {\"jsonrpc\":\"2.0\",\"method\":\"textDocument/publishDiagnostics\",\"params\":{\"diagnostics\":[],\"uri\":\"file:///my%20project/%62.wac\",\"version\":1}}\n",
-    ),
-    // It was asked before.
-    (
-        "{\"jsonrpc\":\"2.0\",\"method\":\"workspace/didChangeWorkspaceFolders\",\"params\":{\"event\":{\"added\":[{\"name\":\"p\",\"uri\":\"file:///my%20project\"}],\"removed\":[]}}}",
-        "{\"jsonrpc\":\"2.0\",\"method\":\"textDocument/publishDiagnostics\",\"params\":{\"diagnostics\":[{\"code\":\"wac::missing-instance-export\",\"message\":\"the instance has no export named `f`\\n`x` has nothing\",\"range\":{\"end\":{\"character\":10,\"line\":2},\"start\":{\"character\":8,\"line\":2}},\"relatedInformation\":[],\"severity\":1,\"source\":\"wac\"}],\"uri\":\"file:///my%20project/app.wac\",\"version\":1}}\n\
-         {\"jsonrpc\":\"2.0\",\"method\":\"textDocument/publishDiagnostics\",\"params\":{\"diagnostics\":[],\"uri\":\"file:///my%20project/%62.wac\",\"version\":1}}\n",
-    ),
-    (
-        "{\"jsonrpc\":\"2.0\",\"method\":\"textDocument/didClose\",\"params\":{\"textDocument\":{\"uri\":\"file:///my%20project/%62.wac\"}}}",
-        "{\"jsonrpc\":\"2.0\",\"method\":\"textDocument/publishDiagnostics\",\"params\":{\"diagnostics\":[],\"uri\":\"file:///my%20project/%62.wac\"}}\n\
-         {\"jsonrpc\":\"2.0\",\"method\":\"textDocument/publishDiagnostics\",\"params\":{\"diagnostics\":[],\"uri\":\"file:///my%20project/app.wac\",\"version\":1}}\n",
     ),
 ];
 
@@ -158,11 +104,11 @@ fn sent_after(
     Ok(lines)
 }
 
-/// The first message after which something else is sent, with that, of a client that begins with a message.
-fn difference(alloc: Global, begins: &str, rows: &[Row]) -> Result<String, ChangeError> {
+/// The first message after which something else is sent, with that.
+fn difference(alloc: Global, rows: &[Row]) -> Result<String, ChangeError> {
     let mut files = files_of(alloc)?;
     let mut session = Session::new(alloc, "1.2.3");
-    let _ = sent_after(alloc, &mut session, &mut files, begins)?;
+    let _ = sent_after(alloc, &mut session, &mut files, BEGINS)?;
     for (body, wanted) in rows {
         let found = sent_after(alloc, &mut session, &mut files, body)?;
         if found.as_str() != *wanted {
@@ -174,16 +120,7 @@ fn difference(alloc: Global, begins: &str, rows: &[Row]) -> Result<String, Chang
 
 #[test]
 fn a_session_follows_the_packages_of_its_folder(rt: HostRuntime) -> Result<(), Fail> {
-    match difference(rt.alloc(), BEGINS, ROWS.as_slice()) {
-        Ok(found) => assert!(rt; found.is_empty(), "{found}"),
-        Err(error) => assert!(rt; false, "{error:?}"),
-    }
-    Ok(())
-}
-
-#[test]
-fn a_session_follows_the_folders_of_its_client(rt: HostRuntime) -> Result<(), Fail> {
-    match difference(rt.alloc(), BEGINS_ALONE, FOLDERS.as_slice()) {
+    match difference(rt.alloc(), ROWS.as_slice()) {
         Ok(found) => assert!(rt; found.is_empty(), "{found}"),
         Err(error) => assert!(rt; false, "{error:?}"),
     }

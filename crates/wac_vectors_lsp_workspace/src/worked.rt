@@ -87,8 +87,8 @@ pub(crate) fn told(
     text: &str,
 ) -> Result<String, AllocError> {
     let path = path_of(alloc, name)?;
-    let said = workspace.diagnose(alloc, path.as_str(), text)?;
-    lines_of(alloc, said.found.as_slice())
+    let found = workspace.diagnose(alloc, path.as_str(), text)?;
+    lines_of(alloc, found.as_slice())
 }
 
 /// Opens a text at a name in the folder. Returns whether packages were made anew.
