@@ -227,7 +227,7 @@ static REQUESTS: [Row; 44] = [
 ];
 
 /// Notifications, and those that lack something.
-static NOTIFICATIONS: [Row; 19] = [
+static NOTIFICATIONS: [Row; 14] = [
     ("{\"method\":\"initialized\",\"params\":{}}", "initialized"),
     ("{\"method\":\"exit\"}", "exit"),
     (
