@@ -1,9 +1,19 @@
 //! Which names of foreign packages an offset asks for.
 
-use crate::front::before;
+use crate::begun::can_follow;
+use crate::front::{before, recover};
 use crate::names::text_of;
 use std::alloc::{AllocError, Global};
-use wac_lexer::{Lexer, Token};
+use wac_lexer::{Error, Lexer, Token};
+
+/// Where an instance comes from that isn't of the text itself.
+#[derive(Clone, Copy, Debug)]
+pub enum Origin<'t> {
+    /// It is an instance of a package, whose name is this, with its version.
+    Package(&'t str),
+    /// It is imported, and this is the path of its interface.
+    Interface(&'t str),
+}
 
 /// What of a foreign package can stand at an offset.
 #[derive(Drop)]
@@ -15,10 +25,12 @@ pub enum Foreign<'t> {
         /// The names that have an argument already, as they are written there, without quotes.
         given: Vec<&'t str>,
     },
-    /// An export of an instance of the package.
+    /// An export of an instance.
     Export {
-        /// The package, with its version.
-        package: &'t str,
+        /// Where the instance comes from, or the one that has it.
+        origin: Origin<'t>,
+        /// The exports that lead from there to the instance, as they are written, without quotes.
+        along: Vec<&'t str>,
     },
     /// A type of an interface.
     UsedType {
@@ -27,6 +39,15 @@ pub enum Foreign<'t> {
         /// The types that are used already.
         given: Vec<&'t str>,
     },
+}
+
+/// What is asked for at an offset.
+#[derive(Drop)]
+pub struct Asked<'t> {
+    /// What can stand there.
+    pub foreign: Foreign<'t>,
+    /// Where the quote is with which it begins, if it is to be a string.
+    pub quote: Option<usize>,
 }
 
 /// What an open brace encloses.
@@ -50,18 +71,30 @@ struct Brace<'t> {
     begins: bool,
 }
 
-/// A name that `let` binds to an instance of a package.
+/// What an expression denotes: an instance, or what one exports.
 #[derive(Clone, Copy)]
-struct Instance<'t> {
+enum Value<'t> {
+    Origin(Origin<'t>),
+    Export {
+        /// The number of the value that exports it.
+        of: usize,
+        name: &'t str,
+    },
+}
+
+/// A name that `let` or `import` binds to a value.
+#[derive(Clone, Copy)]
+struct Binding<'t> {
     name: &'t str,
-    package: &'t str,
+    /// The number of the value.
+    value: usize,
 }
 
 /// A token with its text.
 #[derive(Clone, Copy)]
-struct Lexeme<'t> {
-    token: Token,
-    text: &'t str,
+pub(crate) struct Lexeme<'t> {
+    pub(crate) token: Token,
+    pub(crate) text: &'t str,
 }
 
 /// The text of a token, if it is of this kind.
@@ -105,6 +138,16 @@ impl<'t> Recent<'t> {
         }
     }
 
+    /// Whether a name that is bound comes next.
+    fn binds(self) -> bool {
+        self.ends_with(Token::LetKeyword) || self.ends_with(Token::ImportKeyword)
+    }
+
+    /// Whether the name of an export of a value comes next.
+    fn takes_export(self) -> bool {
+        self.ends_with(Token::Dot) || self.ends_with(Token::OpenBracket)
+    }
+
     /// Whether the last one is of this kind.
     fn ends_with(self, token: Token) -> bool {
         text_if(self.last, token).is_some()
@@ -112,7 +155,7 @@ impl<'t> Recent<'t> {
 }
 
 /// The text of a string without its quotes.
-fn unquoted(text: &str) -> &str {
+pub(crate) fn unquoted(text: &str) -> &str {
     match text.strip_prefix('"') {
         Some(rest) => rest.strip_suffix('"').unwrap_or(rest),
         None => text,
@@ -121,19 +164,27 @@ fn unquoted(text: &str) -> &str {
 
 /// What was read of a text.
 #[derive(Drop)]
-struct Reader<'t> {
+pub(crate) struct Reader<'t> {
     alloc: Global,
     recent: Recent<'t>,
     braces: Vec<Brace<'t>>,
-    /// The package of the instance whose arguments the last brace closed.
-    closed: Option<&'t str>,
-    /// The name of the `let` statement that goes on.
+    /// All values that were met.
+    values: Vec<Value<'t>>,
+    /// The number of the value that the tokens end with, if they end with one.
+    value: Option<usize>,
+    /// The name of the `let` or `import` that goes on.
     bound: Option<&'t str>,
-    instances: Vec<Instance<'t>>,
+    bindings: Vec<Binding<'t>>,
+}
+
+/// The number of the value that the last binding of a name has.
+fn value_of(bindings: &[Binding<'_>], name: &str) -> Option<usize> {
+    let found = bindings.iter().rev().find(|binding| binding.name == name)?;
+    Some(found.value)
 }
 
 impl<'t> Reader<'t> {
-    fn new(alloc: Global) -> Reader<'t> {
+    pub(crate) fn new(alloc: Global) -> Reader<'t> {
         Reader {
             alloc,
             recent: Recent {
@@ -142,9 +193,10 @@ impl<'t> Reader<'t> {
                 last: None,
             },
             braces: Vec::new(alloc),
-            closed: None,
+            values: Vec::new(alloc),
+            value: None,
             bound: None,
-            instances: Vec::new(alloc),
+            bindings: Vec::new(alloc),
         }
     }
 
@@ -160,13 +212,29 @@ impl<'t> Reader<'t> {
         Ok(())
     }
 
-    /// Takes a brace that closes something.
-    fn close(&mut self) {
-        self.closed = None;
-        if let Some(brace) = self.braces.pop() {
-            if let Opened::Arguments(package) = brace.opened {
-                self.closed = Some(package);
-            }
+    /// Keeps a value, and returns its number.
+    fn keep(&mut self, value: Value<'t>) -> Result<Option<usize>, AllocError> {
+        let number = self.values.len();
+        self.values.push(value)?;
+        Ok(Some(number))
+    }
+
+    /// What the last value exports under a name.
+    fn exported(&mut self, name: &'t str) -> Result<Option<usize>, AllocError> {
+        match self.value {
+            Some(of) => self.keep(Value::Export { of, name }),
+            None => Ok(None),
+        }
+    }
+
+    /// Takes a brace that closes something: behind arguments there is an instance.
+    fn close(&mut self) -> Result<Option<usize>, AllocError> {
+        match self.braces.pop() {
+            Some(brace) => match brace.opened {
+                Opened::Arguments(package) => self.keep(Value::Origin(Origin::Package(package))),
+                _ => Ok(None),
+            },
+            None => Ok(None),
         }
     }
 
@@ -186,38 +254,57 @@ impl<'t> Reader<'t> {
         Ok(())
     }
 
-    /// Takes the end of a statement: where `let` bound an instance, its name is kept.
+    /// Takes the end of a statement: the name that it binds is kept with its value.
     fn end(&mut self) -> Result<(), AllocError> {
-        let recent = self.recent;
         let bound = self.bound;
-        let closed = self.closed;
+        let value = self.value;
         self.bound = None;
-        if !recent.ends_with(Token::CloseBrace) {
-            return Ok(());
-        }
-        if let (Some(name), Some(package)) = (bound, closed) {
-            self.instances.push(Instance { name, package })?;
+        if let (Some(name), Some(value)) = (bound, value) {
+            self.bindings.push(Binding { name, value })?;
         }
         Ok(())
     }
 
-    /// Takes an identifier: behind `let` it is a name that is bound.
-    fn name(&mut self, text: &'t str) {
+    /// Takes an identifier, which behind `let` or `import` is bound, unless that is in braces, and behind a dot names an
+    /// export.
+    fn name(&mut self, text: &'t str) -> Result<Option<usize>, AllocError> {
         let recent = self.recent;
-        if recent.ends_with(Token::LetKeyword) {
+        if recent.ends_with(Token::Dot) {
+            return self.exported(text);
+        }
+        if recent.binds() && self.braces.is_empty() {
             self.bound = Some(text);
+        }
+        Ok(value_of(self.bindings.as_slice(), text))
+    }
+
+    /// The number of the value that the tokens end with, with one more.
+    fn value_with(&mut self, lexeme: Lexeme<'t>) -> Result<Option<usize>, AllocError> {
+        let recent = self.recent;
+        let text = lexeme.text;
+        match lexeme.token {
+            Token::CloseBrace => self.close(),
+            Token::Ident => self.name(text),
+            Token::String if recent.ends_with(Token::OpenBracket) => self.exported(unquoted(text)),
+            Token::PackagePath if recent.ends_with(Token::Colon) => {
+                self.keep(Value::Origin(Origin::Interface(text)))
+            }
+            Token::Dot | Token::OpenBracket | Token::CloseBracket | Token::CloseParen => {
+                Ok(self.value)
+            }
+            _ => Ok(None),
         }
     }
 
     /// Takes a token.
-    fn take(&mut self, lexeme: Lexeme<'t>) -> Result<(), AllocError> {
+    pub(crate) fn take(&mut self, lexeme: Lexeme<'t>) -> Result<(), AllocError> {
         match lexeme.token {
             Token::OpenBrace => self.open()?,
-            Token::CloseBrace => self.close(),
             Token::Semicolon => self.end()?,
-            Token::Ident => self.name(lexeme.text),
             _ => {}
         }
+        let value = self.value_with(lexeme)?;
+        self.value = value;
         if !matches!(lexeme.token, Token::OpenBrace | Token::CloseBrace) {
             self.part(lexeme)?;
         }
@@ -227,30 +314,29 @@ impl<'t> Reader<'t> {
     }
 }
 
-/// The package that the last of some instances of a name is of.
-fn package_of<'t>(instances: &[Instance<'t>], name: &str) -> Option<&'t str> {
-    let found = instances
-        .iter()
-        .rev()
-        .find(|instance| instance.name == name)?;
-    Some(found.package)
-}
-
-/// The package whose exports can stand behind some tokens: behind a dot, and an instance or the name of one.
-fn exporting<'t>(
-    recent: Recent<'t>,
-    closed: Option<&'t str>,
-    instances: &[Instance<'t>],
-) -> Option<&'t str> {
-    text_if(recent.last, Token::Dot)?;
-    if text_if(recent.second, Token::CloseBrace).is_some() {
-        return closed;
+/// The exports of the value of a number.
+fn exports_of<'t>(
+    alloc: Global,
+    values: &[Value<'t>],
+    number: usize,
+) -> Result<Option<Foreign<'t>>, AllocError> {
+    let mut along = Vec::new(alloc);
+    let mut wanted = number;
+    for _ in values {
+        match values.get(wanted) {
+            Some(Value::Export { of, name }) => {
+                along.push(*name)?;
+                wanted = *of;
+            }
+            Some(Value::Origin(origin)) => {
+                along.reverse();
+                let origin = *origin;
+                return Ok(Some(Foreign::Export { origin, along }));
+            }
+            None => return Ok(None),
+        }
     }
-    let name = text_if(recent.second, Token::Ident)?;
-    if text_if(recent.first, Token::Dot).is_some() {
-        return None;
-    }
-    package_of(instances, name)
+    Ok(None)
 }
 
 /// What can stand in a brace, where a part of it begins.
@@ -271,48 +357,116 @@ fn within(brace: Brace<'_>) -> Option<Foreign<'_>> {
 }
 
 /// What of a foreign package can stand behind what was read.
-fn asked(reader: Reader<'_>) -> Option<Foreign<'_>> {
+pub(crate) fn foreign_behind<'t>(
+    alloc: Global,
+    reader: Reader<'t>,
+) -> Result<Option<Foreign<'t>>, AllocError> {
     let Reader {
         recent,
         mut braces,
-        closed,
-        instances,
+        values,
+        value,
         ..
     } = reader;
-    if let Some(package) = exporting(recent, closed, instances.as_slice()) {
-        return Some(Foreign::Export { package });
+    if recent.takes_export() {
+        return match value {
+            Some(number) => exports_of(alloc, values.as_slice(), number),
+            None => Ok(None),
+        };
     }
-    within(braces.pop()?)
+    match braces.pop() {
+        Some(brace) => Ok(within(brace)),
+        None => Ok(None),
+    }
 }
 
-/// Which names of a foreign package can stand at an offset in bytes, as its tokens say it. A word that touches the offset
-/// from the left is cut off first.
-///
-/// `None` where no name of a foreign package is asked for, and where the offset isn't between two characters. Whether
-/// there is such a package isn't known here. The error is that memory ran out.
-///
-/// ```text
-/// foreign_at(alloc, "package a:b; let x = new c:d { log, s", 37)?;       // an argument of c:d, where `log` is given
-/// foreign_at(alloc, "package a:b; let x = new c:d {}; export x.", 42)?;   // an export of c:d
-/// foreign_at(alloc, "package a:b; interface i { use c:d/e.{", 38)?;       // a type of c:d/e
-/// ```
-pub fn foreign_at<'t>(
-    alloc: Global,
-    source: &'t str,
-    offset: usize,
-) -> Result<Option<Foreign<'t>>, AllocError> {
-    let Some((text, _)) = before(source, offset) else {
-        return Ok(None);
-    };
+/// Whether a token of a kind can stand behind a text, of which faulty statements are blanked.
+fn takes(alloc: Global, text: &str, kind: Token) -> Result<bool, AllocError> {
+    match recover(alloc, text)? {
+        Some(recovered) => can_follow(alloc, recovered.text(), kind),
+        None => Ok(false),
+    }
+}
+
+/// Where the quote of a string is that the end of a text is in.
+fn open_quote(text: &str) -> Option<usize> {
     let Ok(mut lexer) = Lexer::new(text) else {
-        return Ok(None);
+        return None;
     };
+    while let Some((item, span)) = lexer.next() {
+        if matches!(item, Err(Error::UnterminatedString)) {
+            return Some(span.offset());
+        }
+    }
+    None
+}
+
+/// What is asked for behind a text where a token of a kind can stand, by the text's tokens.
+fn asked_behind<'t>(
+    alloc: Global,
+    text: &'t str,
+    kind: Token,
+) -> Result<Option<Foreign<'t>>, AllocError> {
+    if !takes(alloc, text, kind)? {
+        return Ok(None);
+    }
+    foreign_behind(alloc, read(alloc, text)?)
+}
+
+/// What is asked for, with where the quote is.
+fn with_quote<'t>(
+    foreign: Result<Option<Foreign<'t>>, AllocError>,
+    quote: Option<usize>,
+) -> Result<Option<Asked<'t>>, AllocError> {
+    match foreign {
+        Ok(Some(foreign)) => Ok(Some(Asked { foreign, quote })),
+        Ok(None) => Ok(None),
+        Err(error) => Err(error),
+    }
+}
+
+/// What was read of a text up to its end.
+fn read(alloc: Global, text: &str) -> Result<Reader<'_>, AllocError> {
     let mut reader = Reader::new(alloc);
+    let Ok(mut lexer) = Lexer::new(text) else {
+        return Ok(reader);
+    };
     while let Some((item, span)) = lexer.next() {
         if let Ok(token) = item {
             let text = text_of(text, span);
             reader.take(Lexeme { token, text })?;
         }
     }
-    Ok(asked(reader))
+    Ok(reader)
+}
+
+/// Which names of a foreign package can stand at an offset in bytes, as the tokens before it say: arguments and types in
+/// braces, and exports behind a dot or a bracket, of an instance or of a name that `let` or `import` binds to one. A word
+/// that touches the offset from the left is cut off first, and so is a string that is open there.
+///
+/// `None` where no name of a foreign package is asked for, where no such name can stand, as in a comment, and where the
+/// offset isn't between two characters. Faulty statements before it are blanked for that. Whether there is such a package
+/// isn't known here. The error is that memory ran out.
+///
+/// ```text
+/// foreign_at(alloc, "package a:b; let x = new c:d { log, s", 37)?;       // an argument of c:d, where `log` is given
+/// foreign_at(alloc, "package a:b; let x = new c:d {}; export x.", 42)?;   // an export of c:d
+/// foreign_at(alloc, "package a:b; import x: c:d/e; export x[\"", 40)?;    // an export of c:d/e, from the quote on
+/// foreign_at(alloc, "package a:b; interface i { use c:d/e.{", 38)?;       // a type of c:d/e
+/// ```
+pub fn foreign_at<'t>(
+    alloc: Global,
+    source: &'t str,
+    offset: usize,
+) -> Result<Option<Asked<'t>>, AllocError> {
+    let Some((text, _)) = before(source, offset) else {
+        return Ok(None);
+    };
+    match open_quote(text) {
+        Some(at) => {
+            let front = text.get(..at).unwrap_or("");
+            with_quote(asked_behind(alloc, front, Token::String), Some(at))
+        }
+        None => with_quote(asked_behind(alloc, text, Token::Ident), None),
+    }
 }

@@ -1,4 +1,4 @@
-//! Tests of `wac_completion`: which kinds of tokens can stand at an offset.
+//! Tests of `wac_completion`: which kinds of tokens, and which names, can stand at an offset.
 #![tactic(auto)]
 
 #[cfg(test)]
@@ -9,6 +9,8 @@ mod marked;
 mod names;
 #[cfg(test)]
 mod outside;
+#[cfg(test)]
+mod packages;
 #[cfg(test)]
 mod statements;
 #[cfg(test)]
