@@ -13,8 +13,10 @@ use wac_lexer::{Lexer, SourceSpan};
 pub struct Hover {
     /// Where the name is at the offset.
     pub at: SourceSpan,
-    /// What is said, as Markdown.
-    pub text: String,
+    /// The lines that declare it, as far to the left as their first, with `\n` between them.
+    pub declaration: String,
+    /// Its documentation, with `\n` between its lines: empty where it has none.
+    pub docs: String,
 }
 
 /// How many lines of a declaration are shown.
@@ -43,51 +45,31 @@ fn outdented(line: &str, indent: usize) -> &str {
     line.get(cut..).unwrap_or(line).trim_end()
 }
 
+/// Adds a line behind others.
+fn push_line(found: &mut String, line: &str) -> Result<(), AllocError> {
+    if !found.is_empty() {
+        found.push('\n')?;
+    }
+    found.push_str(line)
+}
+
 /// Adds the lines of a declaration, as far to the left as its first.
 fn push_lines(found: &mut String, lines: &str, indent: usize) -> Result<(), AllocError> {
     for (number, line) in lines.split('\n').enumerate() {
         if number == MOST_LINES {
-            return found.push_str("// ...\n");
+            return push_line(found, "// ...");
         }
-        found.push_str(outdented(line, indent))?;
-        found.push('\n')?;
+        push_line(found, outdented(line, indent))?;
     }
     Ok(())
 }
 
-/// The longest row of backticks in a text.
-fn longest_row(text: &str) -> usize {
-    let mut longest: usize = 0;
-    let mut row: usize = 0;
-    for byte in text.as_bytes() {
-        row = if *byte == b'`' {
-            row.saturating_add(1)
-        } else {
-            0
-        };
-        longest = longest.max(row);
-    }
-    longest
-}
-
-/// What begins and ends a block of code: more backticks than a text has in a row, and at least three.
-fn fence(alloc: Global, text: &str) -> Result<String, AllocError> {
-    let count = longest_row(text).saturating_add(1).max(3);
-    let mut fence = String::new(alloc);
-    for _ in 0..count {
-        fence.push('`')?;
-    }
-    Ok(fence)
-}
-
-/// A declaration as a block of code.
-fn code(alloc: Global, reading: &Reading, span: SourceSpan) -> Result<String, AllocError> {
+/// The lines of a declaration.
+fn lines_of(alloc: Global, reading: &Reading, span: SourceSpan) -> Result<String, AllocError> {
     let lines = reading.slice(span).trim_end();
     let indent = indent_of(line_before(reading.text.as_str(), span.offset()));
-    let fence = fence(alloc, lines)?;
-    let mut found = format!(in alloc; "{fence}wac\n")?;
+    let mut found = String::new(alloc);
     push_lines(&mut found, lines, indent)?;
-    found.push_str(fence.as_str())?;
     Ok(found)
 }
 
@@ -105,41 +87,44 @@ fn lexer_behind(text: &str, count: usize) -> Option<Lexer<'_>> {
 /// Adds the lines of documentation.
 fn push_docs(found: &mut String, docs: &str) -> Result<(), AllocError> {
     for line in docs.split('\n') {
-        found.push_str(line.trim())?;
-        found.push('\n')?;
+        push_line(found, line.trim())?;
     }
     Ok(())
 }
 
-/// Adds the documentation before the token of a number, behind an empty line.
-fn push_all_docs(
-    alloc: Global,
-    found: &mut String,
-    text: &str,
-    token: usize,
-) -> Result<(), AllocError> {
+/// The documentation before the token of a number.
+pub(crate) fn docs_before(alloc: Global, text: &str, token: usize) -> Result<String, AllocError> {
+    let mut found = String::new(alloc);
     let Some(lexer) = lexer_behind(text, token) else {
-        return Ok(());
+        return Ok(found);
     };
     let docs = lexer.comments(alloc)?;
-    if !docs.is_empty() {
-        found.push_str("\n\n")?;
-    }
     for (text, _) in &docs {
-        push_docs(found, text)?;
+        push_docs(&mut found, text)?;
     }
-    Ok(())
+    Ok(found)
 }
 
-/// What is said of the name of a number: the lines that declare it as a block of code, and its documentation.
-fn said(alloc: Global, reading: &Reading, number: usize) -> Result<Option<String>, AllocError> {
+/// What is said of the name of a number, which is at a place.
+fn said(
+    alloc: Global,
+    reading: &Reading,
+    number: usize,
+    at: SourceSpan,
+) -> Result<Option<Hover>, AllocError>
+    ensures { IfOk result (λ hover. IfSome hover (λ h. h.at ≡ at)) }
+{
     let Some(found) = declaration_of(reading, number) else {
         return Ok(None);
     };
     let Declaration { first, span } = found;
-    let mut found = code(alloc, reading, span)?;
-    push_all_docs(alloc, &mut found, reading.text.as_str(), first)?;
-    Ok(Some(found))
+    let declaration = lines_of(alloc, reading, span)?;
+    let docs = docs_before(alloc, reading.text.as_str(), first)?;
+    Ok(Some(Hover {
+        at,
+        declaration,
+        docs,
+    }))
 }
 
 /// What is said of a name at an offset of what was read.
@@ -151,18 +136,14 @@ fn hover_in(
 ) -> Result<Option<Hover>, AllocError>
     ensures { IfOk result (λ hover. IfSome hover (λ h. h.at ≡ found.now.at)) }
 {
-    let at = found.at;
-    let Some(number) = reading.names.binding_at(inner) else {
-        return Ok(None);
-    };
-    match said(alloc, reading, number)? {
-        Some(text) => Ok(Some(Hover { at, text })),
+    match reading.names.binding_at(inner) {
+        Some(number) => said(alloc, reading, number, found.at),
         None => Ok(None),
     }
 }
 
-/// What is said of the name at an offset: the lines that declare it, as a block of code, and below it its documentation.
-/// At most 24 lines are shown. The error is that memory ran out.
+/// What is said of the name at an offset: the lines that declare it, and its documentation. At most 24 lines are shown. The
+/// error is that memory ran out.
 #[tactic(auto, using(crate::proofs::Spans::name_is_at))]
 pub fn hover_at(alloc: Global, source: &str, offset: usize) -> Result<Option<Hover>, AllocError>
     ensures { IfOk result (λ hover. IfSome hover (λ h. IsNameAt source.now offset h.at)) }

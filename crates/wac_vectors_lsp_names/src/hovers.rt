@@ -6,102 +6,125 @@ use std::process::Abort;
 use std::test::Fail;
 use wac_lsp_names::hover_at;
 
-/// A text with a mark, and what is said there: nothing where that is empty.
-type Row = (&'static str, &'static str);
+/// A text with a mark, and what is said there, the lines that declare the name and its docs: nothing where both are empty.
+type Row = (&'static str, &'static str, &'static str);
 
 static ROWS: [Row; 21] = [
     (
         "package a:b;\n/// Writes a line.\nimport log: func(line: string);\nexport ^log;",
-        "```wac\nimport log: func(line: string);\n```\n\nWrites a line.\n",
+        "import log: func(line: string);",
+        "Writes a line.",
     ),
     (
         "package a:b; /* \u{1f600} */ let ^x = new c:d { ... }; export x...;",
-        "```wac\nlet x = new c:d { ... };\n```",
+        "let x = new c:d { ... };",
+        "",
     ),
     (
         "package a:b;\n\n/// One.\n///\n/// Two.\n// three\nlet ^x = y;",
-        "```wac\nlet x = y;\n```\n\nOne.\n\nTwo.\n",
+        "let x = y;",
+        "One.\n\nTwo.",
     ),
     (
         "package a:b;\ninterface clock {\n    /** The time. */\n    now: func() -> u64;\n}\nimport c: clock;\nexport c.^now;\n",
-        "```wac\nnow: func() -> u64;\n```\n\nThe time.\n",
+        "now: func() -> u64;",
+        "The time.",
     ),
     (
         "package a:b;\ninterface i {\n\t/// A point.\n\trecord p {\n\t\t/// Right.\n\t\tx: u8,   \n\t\ty: u8,\n\t}\n\tf: func(x: ^p);\n}\n",
-        "```wac\nrecord p {\n\t/// Right.\n\tx: u8,\n\ty: u8,\n}\n```\n\nA point.\n",
+        "record p {\n\t/// Right.\n\tx: u8,\n\ty: u8,\n}",
+        "A point.",
     ),
     (
         "package a:b; record p { ^x: tuple<u8, list<u8>>, y: u8 }",
-        "```wac\nx: tuple<u8, list<u8>>\n```",
+        "x: tuple<u8, list<u8>>",
+        "",
     ),
     (
         "package a:b; record p { x: u8, /// Up.\n^y: u8 }",
-        "```wac\ny: u8\n```\n\nUp.\n",
+        "y: u8",
+        "Up.",
     ),
-    ("package a:b; enum e { x, ^y }", "```wac\ny\n```"),
+    ("package a:b; enum e { x, ^y }", "y", ""),
     (
         "package a:b; variant v { ^x(list<u8>), y }",
-        "```wac\nx(list<u8>)\n```",
+        "x(list<u8>)",
+        "",
     ),
     (
         "package a:b; import f: func(a: u8, ^b: option<u8>) -> u8;",
-        "```wac\nb: option<u8>\n```",
+        "b: option<u8>",
+        "",
     ),
     (
         "package a:b; interface i { resource r; f: func(x: borrow<^r>); }",
-        "```wac\nresource r;\n```",
+        "resource r;",
+        "",
     ),
     (
         "package a:b; interface i { resource r { ^m: static func() -> r; } }",
-        "```wac\nm: static func() -> r;\n```",
+        "m: static func() -> r;",
+        "",
     ),
     (
         "package a:b; interface i { /// From there.\nuse c:d/j.{s, t}; f: func(x: ^t); }",
-        "```wac\nuse c:d/j.{s, t};\n```\n\nFrom there.\n",
+        "use c:d/j.{s, t};",
+        "From there.",
     ),
     (
         "package a:b; world v { import p: func(); } world w { include v with { p as ^q }; }",
-        "```wac\ninclude v with { p as q };\n```",
+        "include v with { p as q };",
+        "",
     ),
     (
         "package a:b; world w { /// Runs.\nexport ^run: func(); }",
-        "```wac\nexport run: func();\n```\n\nRuns.\n",
+        "export run: func();",
+        "Runs.",
     ),
     (
         "package a:b; import x: interface { f: func(); }; export ^x.f;",
-        "```wac\nimport x: interface { f: func(); };\n```",
+        "import x: interface { f: func(); };",
+        "",
     ),
     (
         "package a:b; enum ^e { /* ``` */ x }",
-        "````wac\nenum e { /* ``` */ x }\n````",
+        "enum e { /* ``` */ x }",
+        "",
     ),
     (
         "package a:b;\nenum ^e {\na, b,\nc,\nd,\ne,\nf,\ng,\nh,\ni,\nj,\nk,\nl,\nm,\nn,\no,\np,\nq,\nr,\ns,\nt,\nu,\nv,\nw,\nx,\ny,\nz\n}\n",
-        "```wac\nenum e {\na, b,\nc,\nd,\ne,\nf,\ng,\nh,\ni,\nj,\nk,\nl,\nm,\nn,\no,\np,\nq,\nr,\ns,\nt,\nu,\nv,\nw,\nx,\n// ...\n```",
+        "enum e {\na, b,\nc,\nd,\ne,\nf,\ng,\nh,\ni,\nj,\nk,\nl,\nm,\nn,\no,\np,\nq,\nr,\ns,\nt,\nu,\nv,\nw,\nx,\n// ...",
+        "",
     ),
     // A faulty statement is passed over.
     (
         "package a:b; let = 1;\n/// Writes.\nimport ^log: func();",
-        "```wac\nimport log: func();\n```\n\nWrites.\n",
+        "import log: func();",
+        "Writes.",
     ),
-    ("^package a:b; import log: func();", ""),
-    ("package a:b; import log: func(^);", ""),
+    ("^package a:b; import log: func();", "", ""),
+    ("package a:b; import log: func(^);", "", ""),
 ];
 
-/// What is said at the mark of a text: nothing where no name is there.
+/// What is said at the mark of a text, a line of signs before the docs: nothing where no name is there.
 fn said(alloc: Global, source: &str) -> Result<String, AllocError> {
     let marked = Marked::of(alloc, source)?;
     match hover_at(alloc, marked.text.as_str(), marked.asked())? {
-        Some(hover) => Ok(hover.text),
-        None => Ok(String::new(alloc)),
+        Some(hover) => {
+            let declaration = hover.declaration.as_str();
+            let docs = hover.docs.as_str();
+            format!(in alloc; "{declaration}\n====\n{docs}")
+        }
+        None => String::from_str(alloc, "\n====\n"),
     }
 }
 
 #[test]
 fn names_are_described(rt: HostRuntime) -> Result<(), Fail> {
-    for (source, expected) in &ROWS {
+    for (source, declaration, docs) in &ROWS {
         let found = said(rt.alloc(), source)?;
-        assert!(rt; found.as_str() == *expected, "{source}: {found}");
+        let expected = format!(in rt.alloc(); "{declaration}\n====\n{docs}")?;
+        assert!(rt; found.as_str() == expected.as_str(), "{source}: {found}");
     }
     Ok(())
 }
