@@ -33,6 +33,16 @@ fn push_uri(alloc: Global, folders: &mut Vec<String>, uri: Option<&str>) -> Resu
     }
 }
 
+/// The paths of the folders of some URIs, as `client_folders` has them: those that are no folders of this machine, and the
+/// root of all files, are left out.
+pub fn folder_paths(alloc: Global, uris: &[String]) -> Result<Vec<String>, AllocError> {
+    let mut folders = Vec::new(alloc);
+    for uri in uris {
+        push_uri(alloc, &mut folders, Some(uri.as_str()))?;
+    }
+    Ok(folders)
+}
+
 /// The folders of a list.
 fn listed(alloc: Global, list: &[Value]) -> Result<Vec<String>, AllocError> {
     let mut folders = Vec::new(alloc);

@@ -1,5 +1,5 @@
 -- What replies are.
-use Rattle.std.specs.Prelude.{◌≡◌, ◌≤◌, ℕ, List, Option, Some, None, codes, string_bytes}
+use Rattle.std.specs.Prelude.{◌≡◌, ◌≤◌, ℕ, List, Option, Some, None, IsSome, codes, string_bytes}
 use Rattle.serde_json.specs.Data.{Data, null, number, string, depth}
 use Rattle.serde_json.specs.Find.{get, of_integer}
 use Rattle.serde_json.specs.Read.{read, max_depth}
@@ -20,4 +20,18 @@ reply_id (Some id) = id_data id
 pub record IsReplyTo (id : Option Id) (text : List ℕ) : Type 0 where
   pub message : Data
   pub names : get (codes "id") message ≡ Some (reply_id id)
+  pub reads_back : depth message ≤ max_depth → read text ≡ Some message
+
+-- The text is a reply with this result, and with no error, in the same way.
+pub record IsResult (result : Data) (text : List ℕ) : Type 0 where
+  pub message : Data
+  pub has : get (codes "result") message ≡ Some result
+  pub no_error : get (codes "error") message ≡ None
+  pub reads_back : depth message ≤ max_depth → read text ≡ Some message
+
+-- The text is a reply with an error, and with no result, in the same way.
+pub record IsRefusal (text : List ℕ) : Type 0 where
+  pub message : Data
+  pub has : IsSome (get (codes "error") message)
+  pub no_result : get (codes "result") message ≡ None
   pub reads_back : depth message ≤ max_depth → read text ≡ Some message

@@ -1,4 +1,5 @@
 //! Requests of a client.
+use crate::features::{Features, read_features};
 use crate::fields::{field, owned_text, text, uri};
 use crate::question::{INVALID_PARAMS, Question, read_question};
 use crate::refusal::Refusal;
@@ -12,8 +13,8 @@ pub struct Initialize {
     pub process_id: Option<i64>,
     /// Whether columns are counted in bytes: where the client offers UTF-8 before UTF-16.
     pub counts_bytes: bool,
-    /// Whether the client takes symbols within symbols.
-    pub nests_symbols: bool,
+    /// What the client takes of answers.
+    pub features: Features,
     /// The URI of the page that explains the codes of errors, if the client's options name one as `errorsPage`.
     pub errors_page: Option<String>,
 }
@@ -60,13 +61,6 @@ fn counts_bytes(capabilities: &Value) -> bool {
     false
 }
 
-/// Whether a client takes symbols within symbols.
-fn nests_symbols(capabilities: &Value) -> Option<bool> {
-    let document = field(capabilities, "textDocument")?;
-    let symbol = field(document, "documentSymbol")?;
-    field(symbol, "hierarchicalDocumentSymbolSupport")?.as_bool()
-}
-
 /// The page that a client's options name, if they name one. An empty text names none.
 fn page_in(options: &Value) -> Option<&str> {
     let page = text(options, "errorsPage")?;
@@ -99,7 +93,7 @@ fn read_initialize(alloc: Global, params: &Value) -> Result<Option<Initialize>, 
     Ok(Some(Initialize {
         process_id: field(params, "processId").and_then(Value::as_i64),
         counts_bytes: counts_bytes(capabilities),
-        nests_symbols: nests_symbols(capabilities).unwrap_or(false),
+        features: read_features(capabilities),
         errors_page: errors_page(alloc, params)?,
     }))
 }

@@ -12,10 +12,12 @@
 #![tactic(auto)]
 
 mod call;
+mod features;
 mod fields;
 mod frame;
 mod header;
 mod id;
+mod markup;
 mod message;
 mod navigation;
 mod notice;
@@ -26,9 +28,11 @@ mod replies;
 mod surrogates;
 
 pub use call::{Call, Initialize};
+pub use features::Features;
 pub use frame::{Frame, frame_in};
 pub use header::HeaderError;
 pub use id::Id;
+pub use markup::Markup;
 pub use message::{Message, read_message};
 pub use notice::{Change, Notice, Range};
 pub use question::{FormattingOptions, Question};

@@ -47,6 +47,11 @@ pub enum Notice {
         /// The changes, each of the text that the one before leaves.
         changes: Vec<Change>,
     },
+    /// A document was changed, and how can't be read, so that its text isn't known.
+    Lost {
+        /// Its name.
+        uri: String,
+    },
     /// A document was closed.
     Closed {
         /// Its name.
@@ -54,6 +59,13 @@ pub enum Notice {
     },
     /// Files of the client's folders were changed.
     FilesChanged,
+    /// The client has other folders open than before.
+    FoldersChanged {
+        /// The URIs of those that it opened.
+        added: Vec<String>,
+        /// The URIs of those that it closed.
+        removed: Vec<String>,
+    },
     /// Something that the server does nothing about, or a notice without what it needs.
     Other,
 }
@@ -126,20 +138,25 @@ fn read_opened(alloc: Global, params: &Value) -> Result<Option<Notice>, AllocErr
     }
 }
 
-/// That a document was changed.
-fn read_changed(alloc: Global, params: &Value) -> Result<Option<Notice>, AllocError> {
+/// That a document of this name was changed: lost, where the version or one of the changes is none.
+fn read_changes_of(alloc: Global, params: &Value, uri: String) -> Result<Notice, AllocError> {
     let Some(version) = read_version(params) else {
-        return Ok(None);
+        return Ok(Notice::Lost { uri });
     };
-    let Some(changes) = read_changes(alloc, params)? else {
-        return Ok(None);
-    };
-    match uri(alloc, params)? {
-        Some(uri) => Ok(Some(Notice::Changed {
+    match read_changes(alloc, params)? {
+        Some(changes) => Ok(Notice::Changed {
             uri,
             version,
             changes,
-        })),
+        }),
+        None => Ok(Notice::Lost { uri }),
+    }
+}
+
+/// That a document was changed.
+fn read_changed(alloc: Global, params: &Value) -> Result<Option<Notice>, AllocError> {
+    match uri(alloc, params)? {
+        Some(uri) => Ok(Some(read_changes_of(alloc, params, uri)?)),
         None => Ok(None),
     }
 }
@@ -148,6 +165,39 @@ fn read_changed(alloc: Global, params: &Value) -> Result<Option<Notice>, AllocEr
 fn read_closed(alloc: Global, params: &Value) -> Result<Option<Notice>, AllocError> {
     match uri(alloc, params)? {
         Some(uri) => Ok(Some(Notice::Closed { uri })),
+        None => Ok(None),
+    }
+}
+
+/// The URIs of the folders that a field lists, if each value there has one.
+fn read_folders(
+    alloc: Global,
+    event: &Value,
+    name: &str,
+) -> Result<Option<Vec<String>>, AllocError> {
+    let Some(Value::Array(folders)) = field(event, name) else {
+        return Ok(None);
+    };
+    let mut all = Vec::new(alloc);
+    for folder in folders {
+        match owned_text(alloc, folder, "uri")? {
+            Some(uri) => all.push(uri)?,
+            None => return Ok(None),
+        }
+    }
+    Ok(Some(all))
+}
+
+/// That the client has other folders open.
+fn read_folders_changed(alloc: Global, params: &Value) -> Result<Option<Notice>, AllocError> {
+    let Some(event) = field(params, "event") else {
+        return Ok(None);
+    };
+    let Some(added) = read_folders(alloc, event, "added")? else {
+        return Ok(None);
+    };
+    match read_folders(alloc, event, "removed")? {
+        Some(removed) => Ok(Some(Notice::FoldersChanged { added, removed })),
         None => Ok(None),
     }
 }
@@ -165,6 +215,7 @@ pub(crate) fn read_notice(
         "textDocument/didChange" => read_changed(alloc, params)?,
         "textDocument/didClose" => read_closed(alloc, params)?,
         "workspace/didChangeWatchedFiles" => Some(Notice::FilesChanged),
+        "workspace/didChangeWorkspaceFolders" => read_folders_changed(alloc, params)?,
         _ => None,
     };
     Ok(found.unwrap_or(Notice::Other))

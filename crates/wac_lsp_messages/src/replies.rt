@@ -1,8 +1,8 @@
 //! The messages of the server.
-ghost use Rattle.std.specs.Prelude.{◌≡◌, Some, IfOk, codes, option_map, string_bytes};
+ghost use Rattle.std.specs.Prelude.{◌≡◌, Some, None, IfOk, IsSome, codes, option_map, string_bytes};
 ghost use Rattle.serde_json.specs.Find.{get};
 ghost use Rattle.serde_json.specs.View.{view};
-ghost use Rattle.wac_lsp_messages.specs.Replying.{id_data, reply_id, IsReplyTo};
+ghost use Rattle.wac_lsp_messages.specs.Replying.{id_data, reply_id, IsRefusal, IsReplyTo, IsResult};
 
 use crate::id::Id;
 use crate::refusal::Refusal;
@@ -21,7 +21,9 @@ fn id_value(alloc: Global, id: Option<&Id>) -> Result<Value, AllocError>
 
 /// The reply to a request, as a value.
 fn reply_value(alloc: Global, id: &Id, value: Value) -> Result<Value, AllocError>
-    ensures { IfOk result (λ message. get (codes "id") (view message) ≡ Some (id_data id.now)) }
+    ensures id { IfOk result (λ message. get (codes "id") (view message) ≡ Some (id_data id.now)) }
+    ensures has { IfOk result (λ message. get (codes "result") (view message) ≡ Some (view value)) }
+    ensures no_error { IfOk result (λ message. get (codes "error") (view message) ≡ None) }
 {
     let given = id.to_value(alloc)?;
     let message = json!(in alloc; {"jsonrpc": "2.0", "id": given, "result": value})?;
@@ -30,7 +32,8 @@ fn reply_value(alloc: Global, id: &Id, value: Value) -> Result<Value, AllocError
 
 /// The reply to a request, with what it asked for.
 pub fn reply(alloc: Global, id: &Id, value: Value) -> Result<String, AllocError>
-    ensures { IfOk result (λ text. IsReplyTo (Some id.now) (string_bytes text)) }
+    ensures id { IfOk result (λ text. IsReplyTo (Some id.now) (string_bytes text)) }
+    ensures result { IfOk result (λ text. IsResult (view value) (string_bytes text)) }
 {
     let message = reply_value(alloc, id, value)?;
     message.to_string(alloc)
@@ -45,8 +48,10 @@ fn error_value(alloc: Global, refusal: Refusal) -> Result<Value, AllocError> {
 
 /// The reply to a request that is refused, as a value.
 fn refused_value(alloc: Global, id: Option<&Id>, refusal: Refusal) -> Result<Value, AllocError>
-    ensures { IfOk result (λ message.
+    ensures id { IfOk result (λ message.
         get (codes "id") (view message) ≡ Some (reply_id (option_map (λ it. it.now) id.entry))) }
+    ensures has { IfOk result (λ message. IsSome (get (codes "error") (view message))) }
+    ensures no_result { IfOk result (λ message. get (codes "result") (view message) ≡ None) }
 {
     let given = id_value(alloc, id)?;
     let error = error_value(alloc, refusal)?;
@@ -56,7 +61,8 @@ fn refused_value(alloc: Global, id: Option<&Id>, refusal: Refusal) -> Result<Val
 
 /// The reply to a request that is refused, or to what is no message.
 pub fn refused(alloc: Global, id: Option<&Id>, refusal: Refusal) -> Result<String, AllocError>
-    ensures { IfOk result (λ text. IsReplyTo (option_map (λ it. it.now) id.entry) (string_bytes text)) }
+    ensures id { IfOk result (λ text. IsReplyTo (option_map (λ it. it.now) id.entry) (string_bytes text)) }
+    ensures error { IfOk result (λ text. IsRefusal (string_bytes text)) }
 {
     let message = refused_value(alloc, id, refusal)?;
     message.to_string(alloc)

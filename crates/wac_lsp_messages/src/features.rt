@@ -1,0 +1,106 @@
+//! What a client takes of answers.
+use crate::fields::field;
+use crate::markup::{Markup, hover_markup};
+use serde_json::Value;
+
+/// What a client takes of answers, by its capabilities. What they don't name it doesn't take.
+#[derive(Clone, Copy, Debug, PartialEq, Eq)]
+pub struct Features {
+    /// Symbols within symbols: `documentSymbol.hierarchicalDocumentSymbolSupport`.
+    pub nested_symbols: bool,
+    /// Edits of a version of a document: `workspaceEdit.documentChanges`.
+    pub versioned_edits: bool,
+    /// Actions that are no commands: `codeAction.codeActionLiteralSupport`.
+    pub action_literals: bool,
+    /// Whole lines alone as folds: `foldingRange.lineFoldingOnly`.
+    pub folds_lines: bool,
+    /// Other places of diagnostics: `publishDiagnostics.relatedInformation`.
+    pub related_information: bool,
+    /// Where the codes of diagnostics are explained: `publishDiagnostics.codeDescriptionSupport`.
+    pub code_descriptions: bool,
+    /// That it is asked which name is renamed before that is: `rename.prepareSupport`.
+    pub prepared_renames: bool,
+    /// The format of what is said of a name: the first of `hover.contentFormat` that the protocol has.
+    pub hover_markup: Markup,
+}
+
+impl Features {
+    /// Those of a client that names none.
+    pub fn none() -> Features {
+        Features {
+            nested_symbols: false,
+            versioned_edits: false,
+            action_literals: false,
+            folds_lines: false,
+            related_information: false,
+            code_descriptions: false,
+            prepared_renames: false,
+            hover_markup: Markup::PlainText,
+        }
+    }
+}
+
+/// A capability of a client, if it names that.
+fn capability<'v>(
+    capabilities: &'v Value,
+    group: &str,
+    method: &str,
+    name: &str,
+) -> Option<&'v Value> {
+    let group = field(capabilities, group)?;
+    let method = field(group, method)?;
+    field(method, name)
+}
+
+/// Whether a client says that it has a capability.
+fn has(capabilities: &Value, group: &str, method: &str, name: &str) -> bool {
+    match capability(capabilities, group, method, name) {
+        Some(value) => value.as_bool().unwrap_or(false),
+        None => false,
+    }
+}
+
+/// The same of a capability of documents.
+fn of_documents(capabilities: &Value, method: &str, name: &str) -> bool {
+    has(capabilities, "textDocument", method, name)
+}
+
+/// Whether a client describes which actions it takes that are no commands.
+fn takes_action_literals(capabilities: &Value) -> bool {
+    match capability(
+        capabilities,
+        "textDocument",
+        "codeAction",
+        "codeActionLiteralSupport",
+    ) {
+        Some(value) => value.is_object(),
+        None => false,
+    }
+}
+
+/// What a client takes of answers, by its capabilities.
+pub(crate) fn read_features(capabilities: &Value) -> Features {
+    Features {
+        nested_symbols: of_documents(
+            capabilities,
+            "documentSymbol",
+            "hierarchicalDocumentSymbolSupport",
+        ),
+        versioned_edits: has(
+            capabilities,
+            "workspace",
+            "workspaceEdit",
+            "documentChanges",
+        ),
+        action_literals: takes_action_literals(capabilities),
+        folds_lines: of_documents(capabilities, "foldingRange", "lineFoldingOnly"),
+        related_information: of_documents(capabilities, "publishDiagnostics", "relatedInformation"),
+        code_descriptions: of_documents(
+            capabilities,
+            "publishDiagnostics",
+            "codeDescriptionSupport",
+        ),
+        prepared_renames: of_documents(capabilities, "rename", "prepareSupport"),
+        hover_markup: hover_markup(capabilities),
+    }
+}
